@@ -1,0 +1,135 @@
+-- The first line and the others together, and how a replay ends.
+use Rattle.std.proofs.Common.{◌≡◌, ℕ, ◌<◌, List, [], ◌∷◌, ◌++◌, length, refl, sym, ap, ◌∙◌, subst, inl, inr, ◌⊎◌, arith, Option, Some, None, Result, Ok, Err, IfSome, IsErrOf}
+use Rattle.std.proofs.lemmas.List.{append-nil}
+use Rattle.std.specs.Io.KnownBytes.{Appends, Keeps}
+use Rattle.std.specs.Option.{OnSome}
+use Rattle.std.proofs.KnownBytes.{Appends-nil, Appends-kept, Consumes-nil}
+use Rattle.lru_replay.specs.declared.call.Limit.{Limit}
+use Rattle.lru_replay.specs.declared.call.Limit.TheVariants as limits
+use Rattle.lru_replay.specs.declared.line.Ending.{Ending}
+use Rattle.lru_replay.specs.declared.line.Ending.TheVariants as endings
+use Rattle.lru_replay.specs.declared.outcome.ReplayEnd.{ReplayEnd}
+use Rattle.lru_replay.specs.declared.outcome.ReplayEnd.TheVariants as ends
+use Rattle.lru_replay.specs.declared.outcome.ReplayError.{ReplayError}
+use Rattle.lru_replay.specs.declared.outcome.ReplayError.TheVariants as errors
+use Rattle.lru_replay.specs.Grammar.{SpellsLimit}
+use Rattle.lru_replay.specs.Lines.{lines_of, TakesFed, TakesRest, TakesLine, TakesLines}
+use Rattle.lru_replay.specs.Output.{IsBeginning, Fails, no_limiter_text}
+use Rattle.lru_replay.specs.Replay.{IsReplay, NamesNoLimit, IsCut, IsTextSoFar, WritesReplay, WritesCut, WritesSoFar}
+use Rattle.lru_replay.specs.Runs.{IsRun}
+use Rattle.lru_replay.specs.State.{State, empty_map}
+use Rattle.lru_replay.proofs.AnsweredLines.{WritesRun, BeginsRun}
+use Rattle.lru_replay.proofs.LineLists.{lines_of-fed, lines_of-last, lines_at_end, lines_left, takes_line_before, if_some_map}
+use Rattle.lru_replay.proofs.RunLists.{run-append, some_run}
+use Rattle.lru_replay.proofs.Spelled.{limit_or}
+
+-- what is said of the lines after the first is said of all
+after_first : (a b : Option (List ℕ)) (first : List ℕ) (P Q : List ℕ → Type 0) → TakesFed a b first → ((rest input : List ℕ) → lines_of input ≡ first ∷ lines_of rest → P rest → Q input) → IfSome b P → IfSome a Q
+after_first None b first P Q taken f h = tt
+after_first (Some x) None first P Q (lacks, p) f h = absurd p
+after_first (Some x) (Some y) first P Q (lacks, p) f h = f y x (ap lines_of p ∙ lines_of-fed first y lacks) h
+
+-- the input is what its end ends
+only_first : (a b : Option (List ℕ)) (first : List ℕ) (Q : List ℕ → Type 0) → TakesRest a b first → ((input : List ℕ) → lines_of input ≡ lines_of first → Q input) → IfSome a Q
+only_first a b first Q taken f = if_some_map a f (lines_at_end a a b [] first (tt, tt, Consumes-nil a) taken)
+
+-- The first line names no limit, or there is none.
+none_first : (lines : List (List ℕ)) → lines ≡ [] → NamesNoLimit lines
+none_first lines e limit first others is spells = let h : [] ≡ first ∷ others = sym e ∙ is in absurd (cc)
+
+none_named : (lines others : List (List ℕ)) (first : List ℕ) → lines ≡ first ∷ others → ((limit : Limit) → SpellsLimit first limit → ⊥) → NamesNoLimit lines
+none_named lines others first e none limit other more is spells =
+    let same : first ≡ other = (let h : first ∷ others ≡ other ∷ more = sym e ∙ is in cc) in
+    none limit (subst (λ l. SpellsLimit l limit) (sym same) spells)
+
+pub no_limit : (a b : Option (List ℕ)) (ending : Ending) (first : List ℕ) → TakesLine a b ending first → ((limit : Limit) → SpellsLimit first limit → ⊥) → IfSome a (λ input. NamesNoLimit (lines_of input))
+no_limit None b ending first taken none = tt
+no_limit (Some x) None endings.Feed first taken none = absurd taken.1
+no_limit (Some x) (Some y) endings.Feed first taken none = none_named (lines_of x) (lines_of y) first (ap lines_of taken.1 ∙ lines_of-fed first y taken.0) none
+no_limit (Some x) b endings.InputEnd first (taken, some) none = only_first (Some x) b first (λ input. NamesNoLimit (lines_of input)) taken
+    (λ input same. none_named (lines_of input) [] first (same ∙ lines_of-last first taken.0 some) none)
+no_limit (Some x) b endings.Nothing first (taken, nothing) none = only_first (Some x) b first (λ input. NamesNoLimit (lines_of input)) taken
+    (λ input same. none_first (lines_of input) (same ∙ ap lines_of nothing))
+
+-- Each list of lines has something written of it.
+some_text : (lines : List (List ℕ)) → (text : List ℕ) × (IsReplay lines text ⊎ (NamesNoLimit lines × (text ≡ no_limiter_text)))
+some_text [] = (no_limiter_text, inr (none_first [] refl, refl))
+some_text (first ∷ lines) = by (limit_or first)
+  where
+    by : ((limit : Limit) × SpellsLimit first limit) ⊎ ((limit : Limit) → SpellsLimit first limit → ⊥) → (text : List ℕ) × (IsReplay (first ∷ lines) text ⊎ (NamesNoLimit (first ∷ lines) × (text ≡ no_limiter_text)))
+    by (inl (limit, spells)) = let (text, new, run) = some_run (empty_map limit) lines in (text, inl (limit, first, lines, refl, spells, (new, run)))
+    by (inr none) = (no_limiter_text, inr (none_named (first ∷ lines) lines first refl none, refl))
+
+-- The text of the first so many lines is a beginning of what is written of all.
+so_far_is_cut : (lines more : List (List ℕ)) (text : List ℕ) → IsTextSoFar lines text → IsCut (lines ++ more) text
+so_far_is_cut [] more text none = let (whole, is) = some_text more in (whole, (whole, sym (ap (λ l. l ++ whole) none)), is)
+so_far_is_cut (first ∷ others) more text (limit, spells, (new, run)) =
+    let (u, last, rest) = some_run new more in
+    (text ++ u, (u, refl), inl (limit, first, others ++ more, refl, spells, (last, run-append (empty_map limit) others text new more u last run rest)))
+
+-- What was written after a failed flush, by what stood before it.
+cut_after_done : (a w v : Option (List ℕ)) → WritesReplay a w v → WritesCut a w v
+cut_after_done a w v h = if_some_map a (λ input (text, is, wrote). (text, (text, ([], sym (append-nil text)), inl is), wrote)) h
+
+cut_after_no_limiter : (a w v : Option (List ℕ)) → IfSome a (λ input. NamesNoLimit (lines_of input)) → Appends w v no_limiter_text → WritesCut a w v
+cut_after_no_limiter a w v none wrote = if_some_map a (λ input is. (no_limiter_text, (no_limiter_text, ([], sym (append-nil no_limiter_text)), inr (is, refl)), wrote)) none
+
+cut_after_read : (a b w v : Option (List ℕ)) → WritesSoFar a b w v → WritesCut a w v
+cut_after_read None b w v h = tt
+cut_after_read (Some x) None w v (lines, text, part, reads, so_far, wrote) = absurd reads.2
+cut_after_read (Some x) (Some y) w v (lines, text, part, reads, so_far, wrote) =
+    (text, subst (λ l. IsCut l text) (sym (lines_left x y lines part reads)) (so_far_is_cut lines (lines_of (part ++ y)) text so_far), wrote)
+
+-- The flush failed: what is written stays a beginning of what may be written.
+pub flush_failed : (a b w v u : Option (List ℕ)) (end : Result ReplayEnd ReplayError)
+    → (end ≡ Ok ends.Done → WritesReplay a w v)
+    → (end ≡ Ok ends.NoLimiter → IfSome a (λ input. NamesNoLimit (lines_of input)))
+    → (end ≡ Ok ends.NoLimiter → Appends w v no_limiter_text)
+    → (IsErrOf end errors.Read → WritesSoFar a b w v)
+    → (IsErrOf end errors.Write → WritesCut a w v)
+    → Keeps v u → WritesCut a w u
+flush_failed a b w v u end done none text read write keeps = if_some_map a (λ input (part, is, wrote). (part, is, Appends-kept w v u part wrote keeps)) (by end done none text read write)
+  where
+    by : (end : Result ReplayEnd ReplayError)
+        → (end ≡ Ok ends.Done → WritesReplay a w v)
+        → (end ≡ Ok ends.NoLimiter → IfSome a (λ input. NamesNoLimit (lines_of input)))
+        → (end ≡ Ok ends.NoLimiter → Appends w v no_limiter_text)
+        → (IsErrOf end errors.Read → WritesSoFar a b w v)
+        → (IsErrOf end errors.Write → WritesCut a w v)
+        → WritesCut a w v
+    by (Ok ends.Done) p q r s t = cut_after_done a w v (p refl)
+    by (Ok ends.NoLimiter) p q r s t = cut_after_no_limiter a w v (q refl) (r refl)
+    by (Err errors.Read) p q r s t = cut_after_read a b w v (s refl)
+    by (Err errors.Write) p q r s t = t refl
+
+-- Writing that no limiter is named failed.
+pub no_limiter_cut : (a b w v : Option (List ℕ)) (ending : Ending) (first : List ℕ) (e : ReplayError) → TakesLine a b ending first → ((limit : Limit) → SpellsLimit first limit → ⊥) → Fails e w v no_limiter_text → WritesCut a w v
+no_limiter_cut a b w v ending first e taken none (same, part, begins, wrote) = if_some_map a (λ input is. (part, (no_limiter_text, begins, inr (is, refl)), wrote)) (no_limit a b ending first taken none)
+
+spelled_some : (line : List ℕ) (limit : Limit) → SpellsLimit line limit → 0 < length line
+spelled_some line (limits.Length n) (fits, is) = omega (arith, ap length is)
+spelled_some line limits.Compact (fits, is) = omega (arith, ap length is)
+
+-- a line that no line feed ended is all that was left
+pub rest_taken : (a b : Option (List ℕ)) (ending : Ending) (line : List ℕ) → (ending ≡ endings.Feed → ⊥) → TakesLine a b ending line → TakesRest a b line
+rest_taken a b endings.Feed line not_fed taken = absurd (not_fed refl)
+rest_taken a b endings.InputEnd line not_fed taken = taken.0
+rest_taken a b endings.Nothing line not_fed taken = taken.0
+
+-- The first line is all there is.
+pub done_first : (a b w : Option (List ℕ)) (first : List ℕ) (limit : Limit) → SpellsLimit first limit → TakesRest a b first → WritesReplay a w w
+done_first a b w first limit spells taken = only_first a b first (λ input. (text : List ℕ) × IsReplay (lines_of input) text × Appends w w text) taken
+    (λ input same. ([], (limit, first, [], same ∙ lines_of-last first taken.0 (spelled_some first limit spells), spells, (empty_map limit, (refl, refl))), Appends-nil w))
+
+module _ (a b w v : Option (List ℕ)) (first : List ℕ) (limit : Limit) (spells : SpellsLimit first limit) (taken : TakesFed a b first) where
+  -- the others were answered
+  pub done_others : (new : State) → WritesRun (empty_map limit) b w v new → WritesReplay a w v
+  done_others new = after_first a b first _ _ taken (λ rest input all (text, run, wrote). (text, (limit, first, lines_of rest, all, spells, (new, run)), wrote))
+
+  -- a write failed among them
+  pub cut_others : BeginsRun (empty_map limit) b w v → WritesCut a w v
+  cut_others = after_first a b first _ _ taken (λ rest input all (text, part, new, run, begins, wrote). (part, (text, begins, inl (limit, first, lines_of rest, all, spells, (new, run))), wrote))
+
+  -- a read failed among them
+  pub read_others : (c : Option (List ℕ)) (lines : List (List ℕ)) (text part : List ℕ) (new : State) → IsRun (empty_map limit) lines text new → TakesLines b c lines part → Appends w v text → WritesSoFar a c w v
+  read_others c lines text part new run reads wrote = (first ∷ lines, text, part, takes_line_before a b c first lines part taken reads, (limit, spells, (new, run)), wrote)

@@ -1,0 +1,138 @@
+-- Whether a line says something can be told: what it may say is read off it, and spelled again.
+use Rattle.std.proofs.Common.{◌≡◌, ℕ, ◌<◌, ◌≤◌, ◌^◌, Bool, true, false, List, [], ◌∷◌, ◌++◌, drop, refl, sym, ap, ◌∙◌, subst, inl, inr, arith, ◌⊎◌, decimal, ◌==◌, if◌then◌else◌}
+use Rattle.std.proofs.lemmas.Bool.{ne_eqb}
+use Rattle.std.proofs.lemmas.Bool.Decides.{leb_tells}
+use Rattle.std.proofs.Math.Dec.{leb}
+use Rattle.std.proofs.lemmas.Fmt.{decimal_is_IsNumeral}
+use Rattle.std.proofs.lemmas.Slice.Eq.{bytes_eq-Decides}
+use Rattle.std.specs.List.{AllByRecursion}
+use Rattle.std.specs.Str.{bytes_eq}
+use Rattle.std.specs.Str.Parse.{digits_value}
+use Rattle.lru_replay.specs.declared.call.Call.{Call}
+use Rattle.lru_replay.specs.declared.call.Call.TheVariants as calls
+use Rattle.lru_replay.specs.declared.call.Limit.{Limit}
+use Rattle.lru_replay.specs.declared.call.Limit.TheVariants as limits
+use Rattle.lru_replay.specs.Grammar.{SpellsCall, SpellsLimit, call_spelling, limit_spelling, FitsCall, FitsLimit}
+use Rattle.lru_replay.specs.Lines.{Lacks}
+use Rattle.lru_replay.proofs.Numbers.{decimal_lacks_space}
+
+abbrev pub front_word : List ℕ → List ℕ
+front_word [] = []
+front_word (b ∷ bytes) = if b == 32 then [] else b ∷ front_word bytes
+
+abbrev pub after_word : List ℕ → List ℕ
+after_word [] = []
+after_word (b ∷ bytes) = if b == 32 then bytes else after_word bytes
+
+front_word_is : (a b : List ℕ) → Lacks 32 a → front_word (a ++ 32 ∷ b) ≡ a
+front_word_is [] b lacks = refl
+front_word_is (x ∷ a) b lacks = rw (ne_eqb x 32 lacks.0) (ap (λ l. x ∷ l) (front_word_is a b lacks.1))
+
+after_word_is : (a b : List ℕ) → Lacks 32 a → after_word (a ++ 32 ∷ b) ≡ b
+after_word_is [] b lacks = refl
+after_word_is (x ∷ a) b lacks = rw (ne_eqb x 32 lacks.0) (after_word_is a b lacks.1)
+
+value_of_decimal : (n : ℕ) → n < 2 ^ 64 → digits_value 10 (decimal n) ≡ n
+value_of_decimal n h = (decimal_is_IsNumeral n h).1
+
+-- the calls that the line may spell
+abbrev pub guesses : List ℕ → List Call
+guesses line = calls.Insert (digits_value 10 (front_word (drop 7 line))) (digits_value 10 (after_word (drop 7 line)))
+    ∷ calls.Get (digits_value 10 (drop 4 line)) ∷ calls.Peek (digits_value 10 (drop 5 line)) ∷ calls.List ∷ []
+
+abbrev pub Spelled : List ℕ → Type 0
+Spelled line = (call : Call) × SpellsCall line call
+
+fits_or : (n : ℕ) → (n < 2 ^ 64) ⊎ (n < 2 ^ 64 → ⊥)
+fits_or n = go (leb_tells (2 ^ 64) n)
+  where
+    go : ((leb (2 ^ 64) n ≡ true) × (2 ^ 64 ≤ n)) ⊎ ((leb (2 ^ 64) n ≡ false) × (n < 2 ^ 64)) → (n < 2 ^ 64) ⊎ (n < 2 ^ 64 → ⊥)
+    go (inl h) = inr (λ s. omega (arith, h.1, s))
+    go (inr h) = inl h.1
+
+fits_call : (call : Call) → FitsCall call ⊎ (FitsCall call → ⊥)
+fits_call (calls.Insert k v) = both (fits_or k) (fits_or v)
+  where
+    both : {P Q : Type 0} → P ⊎ (P → ⊥) → Q ⊎ (Q → ⊥) → (P × Q) ⊎ ((P × Q) → ⊥)
+    both (inl p) (inl q) = inl (p, q)
+    both (inl p) (inr q) = inr (λ h. q h.1)
+    both (inr p) q = inr (λ h. p h.0)
+fits_call (calls.Get k) = fits_or k
+fits_call (calls.Peek k) = fits_or k
+fits_call calls.List = inl tt
+
+same_or : (xs ys : List ℕ) → (xs ≡ ys) ⊎ (xs ≡ ys → ⊥)
+same_or xs ys = go (bytes_eq xs ys) refl
+  where
+    go : (b : Bool) → bytes_eq xs ys ≡ b → (xs ≡ ys) ⊎ (xs ≡ ys → ⊥)
+    go true e = inl ((bytes_eq-Decides xs ys).0 e)
+    go false e = inr (λ same. let yes = (bytes_eq-Decides xs ys).1 same in cc)
+
+spells_or : (line : List ℕ) (call : Call) → SpellsCall line call ⊎ (SpellsCall line call → ⊥)
+spells_or line call = both (fits_call call) (same_or line (call_spelling call))
+  where
+    both : {P Q : Type 0} → P ⊎ (P → ⊥) → Q ⊎ (Q → ⊥) → (P × Q) ⊎ ((P × Q) → ⊥)
+    both (inl p) (inl q) = inl (p, q)
+    both (inl p) (inr q) = inr (λ h. q h.1)
+    both (inr p) q = inr (λ h. p h.0)
+
+-- a call that the line spells is among the guesses
+guessed : (line : List ℕ) (P : Call → Type 0) → AllByRecursion P (guesses line) → (call : Call) → SpellsCall line call → P call
+guessed line P all (calls.Insert k v) (fits, is) =
+    let rest : drop 7 line ≡ decimal k ++ 32 ∷ decimal v = ap (drop 7) is in
+    let lacks = decimal_lacks_space k fits.0 in
+    let key : digits_value 10 (front_word (drop 7 line)) ≡ k = ap (λ l. digits_value 10 (front_word l)) rest ∙ ap (digits_value 10) (front_word_is (decimal k) (decimal v) lacks) ∙ value_of_decimal k fits.0 in
+    let value : digits_value 10 (after_word (drop 7 line)) ≡ v = ap (λ l. digits_value 10 (after_word l)) rest ∙ ap (digits_value 10) (after_word_is (decimal k) (decimal v) lacks) ∙ value_of_decimal v fits.1 in
+    subst (λ n. P (calls.Insert k n)) value (subst (λ n. P (calls.Insert n (digits_value 10 (after_word (drop 7 line))))) key all.0)
+guessed line P all (calls.Get k) (fits, is) = subst (λ n. P (calls.Get n)) (ap (λ l. digits_value 10 (drop 4 l)) is ∙ value_of_decimal k fits) all.1.0
+guessed line P all (calls.Peek k) (fits, is) = subst (λ n. P (calls.Peek n)) (ap (λ l. digits_value 10 (drop 5 l)) is ∙ value_of_decimal k fits) all.1.1.0
+guessed line P all calls.List s = all.1.1.1.0
+
+-- some call of the list is spelled, or none is
+any_or : (line : List ℕ) (calls : List Call) → Spelled line ⊎ AllByRecursion (λ call. SpellsCall line call → ⊥) calls
+any_or line [] = inr tt
+any_or line (call ∷ calls) = both (spells_or line call) (any_or line calls)
+  where
+    both : SpellsCall line call ⊎ (SpellsCall line call → ⊥) → Spelled line ⊎ AllByRecursion (λ call. SpellsCall line call → ⊥) calls → Spelled line ⊎ AllByRecursion (λ call. SpellsCall line call → ⊥) (call ∷ calls)
+    both (inl found) more = inl (call, found)
+    both (inr refused) (inl found) = inl found
+    both (inr refused) (inr none) = inr (refused, none)
+
+-- each line spells a call, or spells none
+pub spelled_or : (line : List ℕ) → Spelled line ⊎ ((call : Call) → SpellsCall line call → ⊥)
+spelled_or line = both (any_or line (guesses line))
+  where
+    both : Spelled line ⊎ AllByRecursion (λ call. SpellsCall line call → ⊥) (guesses line) → Spelled line ⊎ ((call : Call) → SpellsCall line call → ⊥)
+    both (inl found) = inl found
+    both (inr none) = inr (λ call spells. guessed line (λ call. SpellsCall line call → ⊥) none call spells spells)
+
+limit_spells_or : (line : List ℕ) (limit : Limit) → SpellsLimit line limit ⊎ (SpellsLimit line limit → ⊥)
+limit_spells_or line limit = both (fits limit) (same_or line (limit_spelling limit))
+  where
+    lt_or : (n : ℕ) → ((leb (2 ^ 32) n ≡ true) × (2 ^ 32 ≤ n)) ⊎ ((leb (2 ^ 32) n ≡ false) × (n < 2 ^ 32)) → (n < 2 ^ 32) ⊎ (n < 2 ^ 32 → ⊥)
+    lt_or n (inl h) = inr (λ s. omega (arith, h.1, s))
+    lt_or n (inr h) = inl h.1
+
+    fits : (limit : Limit) → FitsLimit limit ⊎ (FitsLimit limit → ⊥)
+    fits (limits.Length n) = lt_or n (leb_tells (2 ^ 32) n)
+    fits limits.Compact = inl tt
+
+    both : {P Q : Type 0} → P ⊎ (P → ⊥) → Q ⊎ (Q → ⊥) → (P × Q) ⊎ ((P × Q) → ⊥)
+    both (inl p) (inl q) = inl (p, q)
+    both (inl p) (inr q) = inr (λ h. q h.1)
+    both (inr p) q = inr (λ h. p h.0)
+
+-- each line names a limit, or names none
+pub limit_or : (line : List ℕ) → ((limit : Limit) × SpellsLimit line limit) ⊎ ((limit : Limit) → SpellsLimit line limit → ⊥)
+limit_or line = by (limit_spells_or line (limits.Length (digits_value 10 (drop 7 line)))) (limit_spells_or line limits.Compact)
+  where
+    by : SpellsLimit line (limits.Length (digits_value 10 (drop 7 line))) ⊎ (SpellsLimit line (limits.Length (digits_value 10 (drop 7 line))) → ⊥)
+        → SpellsLimit line limits.Compact ⊎ (SpellsLimit line limits.Compact → ⊥)
+        → ((limit : Limit) × SpellsLimit line limit) ⊎ ((limit : Limit) → SpellsLimit line limit → ⊥)
+    by (inl found) q = inl (limits.Length (digits_value 10 (drop 7 line)), found)
+    by (inr p) (inl found) = inl (limits.Compact, found)
+    by (inr p) (inr q) = inr none
+      where
+        none : (limit : Limit) → SpellsLimit line limit → ⊥
+        none (limits.Length n) (fits, is) = p (subst (λ k. SpellsLimit line (limits.Length k)) (sym (ap (λ l. digits_value 10 (drop 7 l)) is ∙ value_of_decimal n (omega (arith, fits)))) (fits, is))
+        none limits.Compact spells = q spells

@@ -1,0 +1,9 @@
+pub mod State
+pub mod Pairs
+pub mod Limits
+pub mod Steps
+pub mod Grammar
+pub mod Lines
+pub mod Output
+pub mod Runs
+pub mod Replay

@@ -1,0 +1,52 @@
+-- What is written: the text of an answer, or a beginning of it where a write fails.
+use Rattle.std.specs.Prelude.{◌≡◌, ℕ, Bool, true, false, List, [], ◌∷◌, ◌++◌, Option, Some, None, Result, Ok, Err, decimal, codes}
+use Rattle.std.specs.Io.KnownBytes.{Appends}
+use Rattle.lru_replay.specs.declared.outcome.ReplayError.{ReplayError}
+use Rattle.lru_replay.specs.declared.outcome.ReplayError.TheVariants as errors
+use Rattle.lru_replay.specs.Steps.{Answer, flag, value, listed, no_memory, bad}
+
+-- the text begins so
+abbrev pub IsBeginning : List ℕ → List ℕ → Type 0
+IsBeginning part text = (rest : List ℕ) × (text ≡ part ++ rest)
+
+-- a write failed, and a beginning of the text was written
+abbrev pub Fails : ReplayError → Option (List ℕ) → Option (List ℕ) → List ℕ → Type 0
+Fails e old new text = (e ≡ errors.Write) × (part : List ℕ) × IsBeginning part text × Appends old new part
+
+-- the text was written, or a beginning of it where a write failed
+abbrev pub Writes : {A : Type 0} → Option (List ℕ) → Option (List ℕ) → Result A ReplayError → List ℕ → Type 0
+Writes old new (Ok _) text = Appends old new text
+Writes old new (Err e) text = Fails e old new text
+
+-- as `3:30`
+abbrev pub pair_text : ℕ × ℕ → List ℕ
+pair_text p = decimal p.0 ++ 58 ∷ decimal p.1
+
+-- each with a space before it
+abbrev pub rest_text : List (ℕ × ℕ) → List ℕ
+rest_text [] = []
+rest_text (p ∷ pairs) = 32 ∷ pair_text p ++ rest_text pairs
+
+-- as `3:30 2:20 1:10`, and `-` for none
+abbrev pub pairs_text : List (ℕ × ℕ) → List ℕ
+pairs_text [] = codes "-"
+pairs_text (p ∷ pairs) = pair_text p ++ rest_text pairs
+
+abbrev pub value_text : Option ℕ → List ℕ
+value_text None = codes "none"
+value_text (Some v) = decimal v
+
+abbrev pub flag_text : Bool → List ℕ
+flag_text true = codes "true"
+flag_text false = codes "false"
+
+abbrev pub answer_text : Answer → List ℕ
+answer_text (flag there) = flag_text there
+answer_text (value v) = value_text v
+answer_text (listed pairs) = pairs_text pairs
+answer_text no_memory = codes "no memory"
+answer_text bad = codes "bad"
+
+-- what is written where no limiter is named
+abbrev pub no_limiter_text : List ℕ
+no_limiter_text = codes "no limiter" ++ 10 ∷ []

@@ -1,0 +1,32 @@
+-- A run over lines: what each line is answered, the state after it, and the text of the answers.
+use Rattle.std.specs.Prelude.{◌≡◌, ℕ, List, [], ◌∷◌, ◌++◌, ◌⊎◌, Option, Result}
+use Rattle.lru_replay.specs.declared.call.Call.{Call}
+use Rattle.lru_replay.specs.declared.outcome.ReplayError.{ReplayError}
+use Rattle.lru_replay.specs.Grammar.{SpellsCall}
+use Rattle.lru_replay.specs.Lines.{fed}
+use Rattle.lru_replay.specs.Output.{answer_text, Writes}
+use Rattle.lru_replay.specs.State.{State}
+use Rattle.lru_replay.specs.Steps.{Answer, bad, Step}
+
+-- The line spells a call and is answered as the call is, or it spells none, is bad, and changes nothing.
+abbrev pub LineStep : State → List ℕ → Answer → State → Type 0
+LineStep old line answer new = ((call : Call) × SpellsCall line call × Step old call answer new)
+    ⊎ (((call : Call) → SpellsCall line call → ⊥) × (answer ≡ bad) × (new ≡ old))
+
+-- an answer and its line feed
+abbrev pub answer_line : Answer → List ℕ
+answer_line answer = fed (answer_text answer)
+
+-- The line is answered, and its answer line written, or a beginning of it where a write failed.
+abbrev pub AnswersLine : State → List ℕ → State → Option (List ℕ) → Option (List ℕ) → Result (Unit {0}) ReplayError → Type 0
+AnswersLine old line new from to result = (answer : Answer) × LineStep old line answer new × Writes from to result (answer_line answer)
+
+-- The lines are answered one after another: their answer lines are this text, and the last leaves the state new.
+abbrev pub IsRun : State → List (List ℕ) → List ℕ → State → Type 0
+IsRun old [] text new = (text ≡ []) × (new ≡ old)
+IsRun old (line ∷ lines) text new = (answer : Answer) × (middle : State) × (rest : List ℕ)
+    × LineStep old line answer middle × (text ≡ answer_line answer ++ rest) × IsRun middle lines rest new
+
+-- some run over the lines, from this state, has the text
+abbrev pub IsTextOf : State → List (List ℕ) → List ℕ → Type 0
+IsTextOf old lines text = (new : State) × IsRun old lines text new

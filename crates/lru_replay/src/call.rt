@@ -1,0 +1,116 @@
+//! The calls, and how a line spells one.
+ghost use Rattle.std.specs.Prelude.{◌≡◌, ◌≢◌, ℕ, List, ◌++◌, IfSome, IfNone, true, false};
+ghost use Rattle.lru_replay.specs.Grammar.{SpellsCall, SpellsLimit, SpellsPair, SpellsNumber, StartsAsNumber};
+
+use crate::bytes::index_of;
+
+/// A call on the cache.
+#[derive(Clone, Copy, Debug, PartialEq, Eq)]
+pub enum Call {
+    Insert(u64, u64),
+    Get(u64),
+    Peek(u64),
+    List,
+}
+
+/// What limits the cache.
+#[derive(Clone, Copy, Debug, PartialEq, Eq)]
+pub enum Limit {
+    /// At most so many pairs.
+    Length(u32),
+    Compact,
+}
+
+/// What stands after the word, if the line begins with it.
+fn after<'a>(line: &'a [u8], word: &[u8]) -> Option<&'a [u8]>
+    ensures some { IfSome result (λ rest. line.now ≡ word.now ++ rest.now) }
+    ensures none { IfNone result ((rest : List ℕ) → line.now ≢ word.now ++ rest) }
+{
+    line.strip_prefix(word)
+}
+
+/// Whether the word can begin a number: not by a sign, nor by a zero in front of another digit.
+fn starts_as_number(word: &[u8]) -> bool
+    ensures yes { result ≡ true → StartsAsNumber word.now }
+    ensures no { result ≡ false → StartsAsNumber word.now → ⊥ }
+{
+    if word.is_empty() {
+        return false;
+    }
+    if word[0] == b'+' {
+        return false;
+    }
+    word[0] != b'0' || word.len() == 1
+}
+
+/// A number in decimal digits, with no zero in front of another digit.
+fn number(word: &[u8]) -> Option<u64>
+    ensures some { IfSome result (λ n. SpellsNumber word.now n) }
+    ensures none { IfNone result ((n : ℕ) → SpellsNumber word.now n → ⊥) }
+{
+    if !starts_as_number(word) {
+        return None;
+    }
+    let Ok(text) = str::from_utf8(word) else {
+        return None;
+    };
+    match text.parse::<u64>() {
+        Ok(n) => Some(n),
+        Err(_) => None,
+    }
+}
+
+/// Two numbers with one space between them.
+fn number_pair(words: &[u8]) -> Option<(u64, u64)>
+    ensures some { IfSome result (λ pair. SpellsPair words.now pair.0 pair.1) }
+    ensures none { IfNone result ((k v : ℕ) → SpellsPair words.now k v → ⊥) }
+{
+    let at = index_of(words, b' ');
+    if at == words.len() {
+        return None;
+    }
+    let first = number(&words[..at])?;
+    let second = number(&words[at + 1..])?;
+    Some((first, second))
+}
+
+/// The call that the line spells.
+pub fn call_of(line: &[u8]) -> Option<Call>
+    ensures some { IfSome result (λ call. SpellsCall line.now call) }
+    ensures none { IfNone result ((call : Call) → SpellsCall line.now call → ⊥) }
+{
+    if let Some(rest) = after(line, b"insert ") {
+        let (key, value) = number_pair(rest)?;
+        return Some(Call::Insert(key, value));
+    }
+    if let Some(rest) = after(line, b"get ") {
+        let key = number(rest)?;
+        return Some(Call::Get(key));
+    }
+    if let Some(rest) = after(line, b"peek ") {
+        let key = number(rest)?;
+        return Some(Call::Peek(key));
+    }
+    if line == b"list".as_slice() {
+        return Some(Call::List);
+    }
+    None
+}
+
+/// The limit that the line names.
+pub fn limit_of(line: &[u8]) -> Option<Limit>
+    ensures some { IfSome result (λ limit. SpellsLimit line.now limit) }
+    ensures none { IfNone result ((limit : Limit) → SpellsLimit line.now limit → ⊥) }
+{
+    if let Some(rest) = after(line, b"length ") {
+        let n = number(rest)?;
+        if n > u32::MAX as u64 {
+            return None;
+        }
+        return Some(Limit::Length(n as u32));
+    }
+    if line == b"compact".as_slice() {
+        return Some(Limit::Compact);
+    }
+    None
+}

@@ -1,0 +1,31 @@
+//! `lru_replay`: replays lines of calls on an LRU map, from standard input to standard output.
+#![tactic(auto)]
+
+mod bytes;
+mod call;
+mod line;
+mod map;
+mod outcome;
+mod output;
+mod replay;
+#[cfg(test)]
+mod tests;
+
+use crate::outcome::status;
+use crate::replay::replay;
+use std::io::{self, BufReader, BufWriter};
+use std::process::ExitCode;
+
+/// The exit status where a buffer finds no memory, and nothing was read.
+const NO_BUFFER: u8 = 3;
+
+fn main(rt: HostRuntime) -> ExitCode {
+    let Ok(mut reader) = BufReader::new(rt.alloc(), rt.reader()) else {
+        return ExitCode::from(NO_BUFFER);
+    };
+    let Ok(mut writer) = BufWriter::new(rt.alloc(), io::writer(&rt)) else {
+        return ExitCode::from(NO_BUFFER);
+    };
+    let end = replay(rt.alloc(), &mut reader, &mut writer);
+    ExitCode::from(status(&end))
+}

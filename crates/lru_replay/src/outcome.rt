@@ -1,0 +1,38 @@
+//! How a replay ends, and the exit status of each end.
+ghost use Rattle.std.specs.Prelude.{◌≡◌};
+
+use thiserror::Error;
+
+/// How a replay ends in which no read and no write failed.
+#[derive(Clone, Copy, Debug, PartialEq, Eq)]
+pub enum ReplayEnd {
+    /// All lines were carried out.
+    Done,
+    /// The first line names no limiter, or there is no line.
+    NoLimiter,
+}
+
+/// What cuts a replay off. The numbers are those of the refusals in the documentation.
+#[derive(Clone, Copy, Debug, PartialEq, Eq, Error)]
+pub enum ReplayError {
+    /// A read failed, or the reader gave `u64::MAX` reads without an end.
+    #[error("read failed")]
+    Read = 1,
+    /// A write or the flush failed; a write that takes 0 bytes is one.
+    #[error("write failed")]
+    Write = 2,
+}
+
+ghost use Rattle.lru_replay.specs.Replay.{status_of};
+
+/// The exit status: 0 where the lines were carried out, 1 where none names a limiter, and 2 where a read
+/// or a write failed.
+pub fn status(end: &Result<ReplayEnd, ReplayError>) -> u8
+    ensures { result ≡ status_of end.now }
+{
+    match end {
+        Ok(ReplayEnd::Done) => 0,
+        Ok(ReplayEnd::NoLimiter) => 1,
+        Err(_) => 2,
+    }
+}

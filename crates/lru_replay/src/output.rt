@@ -1,0 +1,95 @@
+//! The texts of answers, written piece by piece.
+ghost use Rattle.std.specs.Prelude.{◌≡◌, ℕ, Bool, Option, [], ◌∷◌, decimal};
+ghost use Rattle.lru_replay.specs.Output.{Writes, flag_text, value_text, pair_text, rest_text, pairs_text};
+
+use crate::outcome::ReplayError;
+use std::io::{ErrorKind, Write};
+
+/// Writes all the bytes. A write that was interrupted is tried again.
+pub fn write_bytes<W: Write>(writer: &mut W, bytes: &[u8]) -> Result<(), ReplayError>
+    ensures { Writes (W.contents writer.old) (W.contents writer.new) result bytes.now }
+{
+    let mut rest = bytes;
+    for _ in 0..u64::MAX {
+        if rest.is_empty() {
+            return Ok(());
+        }
+        match writer.write(rest) {
+            Ok(0) => return Err(ReplayError::Write),
+            Ok(n) => rest = &rest[n..],
+            Err(e) => {
+                if e.kind() != ErrorKind::Interrupted {
+                    return Err(ReplayError::Write);
+                }
+            }
+        }
+    }
+    Err(ReplayError::Write)
+}
+
+/// Writes `true` or `false`.
+pub fn write_flag<W: Write>(writer: &mut W, flag: bool) -> Result<(), ReplayError>
+    ensures { Writes (W.contents writer.old) (W.contents writer.new) result (flag_text flag) }
+{
+    if flag {
+        write_bytes(writer, b"true")
+    } else {
+        write_bytes(writer, b"false")
+    }
+}
+
+/// Writes the value, or `none`.
+pub fn write_value<W: Write>(writer: &mut W, value: Option<u64>) -> Result<(), ReplayError>
+    ensures { Writes (W.contents writer.old) (W.contents writer.new) result (value_text value) }
+{
+    match value {
+        Some(value) => write_number(writer, value),
+        None => write_bytes(writer, b"none"),
+    }
+}
+
+/// Writes the pairs with one space between them, or `-` for none.
+pub fn write_pairs<W: Write>(writer: &mut W, pairs: &[(u64, u64)]) -> Result<(), ReplayError>
+    ensures { Writes (W.contents writer.old) (W.contents writer.new) result (pairs_text pairs.now) }
+{
+    let Some((first, rest)) = pairs.split_first() else {
+        return write_bytes(writer, b"-");
+    };
+    write_pair(writer, *first)?;
+    write_rest(writer, rest)
+}
+
+fn write_rest<W: Write>(writer: &mut W, pairs: &[(u64, u64)]) -> Result<(), ReplayError>
+    ensures { Writes (W.contents writer.old) (W.contents writer.new) result (rest_text pairs.now) }
+{
+    for pair in pairs {
+        write_bytes(writer, b" ")?;
+        write_pair(writer, *pair)?;
+    }
+    Ok(())
+}
+
+fn write_pair<W: Write>(writer: &mut W, pair: (u64, u64)) -> Result<(), ReplayError>
+    ensures { Writes (W.contents writer.old) (W.contents writer.new) result (pair_text pair) }
+{
+    write_number(writer, pair.0)?;
+    write_bytes(writer, b":")?;
+    write_number(writer, pair.1)
+}
+
+/// Writes a number in decimal digits, which are made from the last to the first.
+fn write_number<W: Write>(writer: &mut W, number: u64) -> Result<(), ReplayError>
+    ensures { Writes (W.contents writer.old) (W.contents writer.new) result (decimal number) }
+{
+    let mut digits = [0u8; 20];
+    let mut at = 20;
+    let mut rest = number;
+    while rest >= 10 {
+        at -= 1;
+        digits[at] = b'0' + (rest % 10) as u8;
+        rest /= 10;
+    }
+    at -= 1;
+    digits[at] = b'0' + rest as u8;
+    write_bytes(writer, &digits[at..])
+}

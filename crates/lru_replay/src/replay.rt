@@ -1,0 +1,134 @@
+//! A replay, from the lines of a reader to the answer lines of a writer.
+ghost use Rattle.std.specs.Prelude.{◌≡◌, ℕ, List, IfOk, IfSome, OnOk, OnSome, IsErrOf};
+ghost use Rattle.std.specs.Io.KnownBytes.{Appends, IsAtEnd};
+ghost use Rattle.lru_replay.specs.Lines.{lines_of, TakesLines};
+ghost use Rattle.lru_replay.specs.Output.{Writes, IsBeginning, no_limiter_text};
+ghost use Rattle.lru_replay.specs.Replay.{NamesNoLimit, WritesReplay, WritesSoFar, WritesCut};
+ghost use Rattle.lru_replay.specs.Runs.{LineStep, AnswersLine, IsRun};
+ghost use Rattle.lru_replay.specs.Steps.{Answer};
+ghost use Rattle.lru_replay.specs.Output.{answer_text};
+ghost use Rattle.lru_replay.specs.State.{State};
+
+use crate::call::{Call, call_of, limit_of};
+use crate::line::{Ending, Line, read_line};
+use crate::map::PairMap;
+use crate::outcome::{ReplayEnd, ReplayError};
+use crate::output::{write_bytes, write_flag, write_pairs, write_value};
+use std::alloc::Global;
+use std::io::{BufRead, Write};
+
+/// Carries out what a line says, and writes the answer.
+fn carry_out<W: Write>(map: &mut PairMap, line: &[u8], writer: &mut W) -> Result<(), ReplayError>
+    ensures { (answer : Answer) × LineStep map.old line.now answer map.new × Writes (W.contents writer.old) (W.contents writer.new) result (answer_text answer) }
+{
+    match call_of(line) {
+        Some(Call::Insert(key, value)) => match map.insert(key, value) {
+            Ok(there) => write_flag(writer, there),
+            Err(_) => write_bytes(writer, b"no memory"),
+        },
+        Some(Call::Get(key)) => {
+            let value = map.get(key);
+            write_value(writer, value)
+        }
+        Some(Call::Peek(key)) => {
+            let value = map.peek(key);
+            write_value(writer, value)
+        }
+        Some(Call::List) => write_pairs(writer, map.iter()),
+        None => write_bytes(writer, b"bad"),
+    }
+}
+
+/// Carries out what a line says, and writes the answer line.
+fn answer_line<W: Write>(map: &mut PairMap, line: &[u8], writer: &mut W) -> Result<(), ReplayError>
+    ensures { AnswersLine map.old line.now map.new (W.contents writer.old) (W.contents writer.new) result }
+{
+    carry_out(map, line, writer)?;
+    write_bytes(writer, b"\n")
+}
+
+/// Answers the lines up to the reader's end.
+fn answer_lines<R: BufRead, W: Write>(
+    map: &mut PairMap,
+    reader: &mut R,
+    writer: &mut W,
+) -> Result<(), ReplayError>
+    ensures done { OnOk result (IfSome (R.remaining reader.old) (λ input. (text : List ℕ) × IsRun map.old (lines_of input) text map.new
+        × Appends (W.contents writer.old) (W.contents writer.new) text)) }
+    ensures at_end { OnOk result (OnSome (R.remaining reader.old) (IsAtEnd (R.remaining reader.new))) }
+    ensures read { IsErrOf result ReplayError.Read → (lines : List (List ℕ)) × (text part : List ℕ) × IsRun map.old lines text map.new
+        × TakesLines (R.remaining reader.old) (R.remaining reader.new) lines part
+        × Appends (W.contents writer.old) (W.contents writer.new) text }
+    ensures write { IsErrOf result ReplayError.Write → IfSome (R.remaining reader.old) (λ input. (text part : List ℕ) × (after : State)
+        × IsRun map.old (lines_of input) text after
+        × IsBeginning part text × Appends (W.contents writer.old) (W.contents writer.new) part) }
+{
+    let mut line = Line::new();
+    for _ in 0..u64::MAX {
+        match read_line(reader, &mut line)? {
+            Ending::Feed => answer_line(map, line.as_slice(), writer)?,
+            Ending::InputEnd => return answer_line(map, line.as_slice(), writer),
+            Ending::Nothing => return Ok(()),
+        }
+    }
+    Err(ReplayError::Read)
+}
+
+/// Reads the first line, and answers the others where it names a limit.
+fn answer_all<R: BufRead, W: Write>(
+    alloc: Global,
+    reader: &mut R,
+    writer: &mut W,
+) -> Result<ReplayEnd, ReplayError>
+    ensures done { result ≡ Ok ReplayEnd.Done → WritesReplay (R.remaining reader.old) (W.contents writer.old) (W.contents writer.new) }
+    ensures at_end { result ≡ Ok ReplayEnd.Done → OnSome (R.remaining reader.old) (IsAtEnd (R.remaining reader.new)) }
+    ensures no_limiter { result ≡ Ok ReplayEnd.NoLimiter → IfSome (R.remaining reader.old) (λ input. NamesNoLimit (lines_of input)) }
+    ensures no_limiter_text { result ≡ Ok ReplayEnd.NoLimiter → Appends (W.contents writer.old) (W.contents writer.new) no_limiter_text }
+    ensures read { IsErrOf result ReplayError.Read → WritesSoFar (R.remaining reader.old) (R.remaining reader.new) (W.contents writer.old) (W.contents writer.new) }
+    ensures write { IsErrOf result ReplayError.Write → WritesCut (R.remaining reader.old) (W.contents writer.old) (W.contents writer.new) }
+{
+    let mut line = Line::new();
+    let ending = read_line(reader, &mut line)?;
+    let Some(limit) = limit_of(line.as_slice()) else {
+        write_bytes(writer, b"no limiter\n")?;
+        return Ok(ReplayEnd::NoLimiter);
+    };
+    let Ending::Feed = ending else {
+        return Ok(ReplayEnd::Done);
+    };
+    let mut map = PairMap::new(alloc, limit);
+    answer_lines(&mut map, reader, writer)?;
+    Ok(ReplayEnd::Done)
+}
+
+/// Carries out the lines of the reader on an LRU map, and writes the answer lines. The first line names the
+/// limiter and has no answer; docs/REPLAY.md has the lines and their answers. What is written is flushed
+/// once, at the end, unless a write failed.
+///
+/// In the clauses, a reader's bytes and a writer's bytes are those that they tell, however they are cut
+/// into reads and writes; of one that tells nothing they say nothing.
+pub fn replay<R: BufRead, W: Write>(
+    alloc: Global,
+    reader: &mut R,
+    writer: &mut W,
+) -> Result<ReplayEnd, ReplayError>
+    // The first line names a limit, and all lines after it were answered: what was written is the text of a
+    // run over them, from the empty map.
+    ensures done { result ≡ Ok ReplayEnd.Done → WritesReplay (R.remaining reader.old) (W.contents writer.old) (W.contents writer.new) }
+    ensures done_at_the_end { result ≡ Ok ReplayEnd.Done → OnSome (R.remaining reader.old) (IsAtEnd (R.remaining reader.new)) }
+    ensures no_limiter { result ≡ Ok ReplayEnd.NoLimiter → IfSome (R.remaining reader.old) (λ input. NamesNoLimit (lines_of input)) }
+    ensures no_limiter_text { result ≡ Ok ReplayEnd.NoLimiter → Appends (W.contents writer.old) (W.contents writer.new) no_limiter_text }
+    // The lines that were read whole are answered, and nothing else is written.
+    ensures read_failed { IsErrOf result ReplayError.Read → WritesSoFar (R.remaining reader.old) (R.remaining reader.new) (W.contents writer.old) (W.contents writer.new) }
+    // What was written is a beginning of what a replay of these lines writes.
+    ensures write_failed { IsErrOf result ReplayError.Write → WritesCut (R.remaining reader.old) (W.contents writer.old) (W.contents writer.new) }
+{
+    let end = answer_all(alloc, reader, writer);
+    if let Err(ReplayError::Write) = end {
+        return end;
+    }
+    match writer.flush() {
+        Ok(()) => end,
+        Err(_) => Err(ReplayError::Write),
+    }
+}
