@@ -44,7 +44,7 @@ module _ (old now new : State) (r₀ r₁ r₂ w₀ w₁ w₂ : Option (List ℕ
       if_some_map r₀ (λ input all. (
         text ++ answer_line answer,
         subst (λ ls. IsRun old ls (text ++ answer_line answer) new) (sym (all ∙ ap (λ l. lines ++ l) (lines_of-last line taken.0 some)))
-        (run-append old lines text now (line ∷ []) (answer_line answer) new run (run-one now line answer new step)),
+            (run-append old lines text now (line ∷ []) (answer_line answer) new run (run-one now line answer new step)),
         Appends-trans w₀ w₁ w₂ text (answer_line answer) wrote answered,
       )) (lines_at_end r₀ r₁ r₂ lines line reads taken)
   last_answered (Err e) so_far taken some answered = tt
@@ -65,18 +65,18 @@ module _ (old now new : State) (r₀ r₁ r₂ w₀ w₁ w₂ : Option (List ℕ
   -- a write failed within the answer line
   cut_short : (lines : List (List ℕ)) (text : List ℕ) (e : ReplayError) → IsRun old lines text now → Appends w₀ w₁ text → GoesOn r₀ (lines ++ line ∷ []) → AnswersLine now line new w₁ w₂ (Err e) → BeginsRun old r₀ w₀ w₂
   cut_short lines text e run wrote goes (answer, step, (same, part, (rest, is), written)) = if_some_map r₀ (λ input (more, all).
-    let so_far = run-append old lines text now (line ∷ []) (answer_line answer) new run (run-one now line answer new step) in
-    let (u, last, others) = some_run new more in
-    let whole = run-append old (lines ++ line ∷ []) (text ++ answer_line answer) new more u last so_far others in
-    let begins : (text ++ answer_line answer) ++ u ≡ (text ++ part) ++ (rest ++ u) =
-    ap (λ l. (text ++ l) ++ u) is ∙ ap (λ l. l ++ u) (sym (append_assoc text part rest)) ∙ append_assoc (text ++ part) rest u in (
-      (text ++ answer_line answer) ++ u,
-      text ++ part,
-      last,
-      subst (λ l. IsRun old l ((text ++ answer_line answer) ++ u) last) (sym all) whole,
-      (rest ++ u, begins),
-      Appends-trans w₀ w₁ w₂ text part wrote written,
-    )) goes
+      let so_far = run-append old lines text now (line ∷ []) (answer_line answer) new run (run-one now line answer new step) in
+      let (u, last, others) = some_run new more in
+      let whole = run-append old (lines ++ line ∷ []) (text ++ answer_line answer) new more u last so_far others in
+      let begins : (text ++ answer_line answer) ++ u ≡ (text ++ part) ++ (rest ++ u) =
+      ap (λ l. (text ++ l) ++ u) is ∙ ap (λ l. l ++ u) (sym (append_assoc text part rest)) ∙ append_assoc (text ++ part) rest u in (
+        (text ++ answer_line answer) ++ u,
+        text ++ part,
+        last,
+        subst (λ l. IsRun old l ((text ++ answer_line answer) ++ u) last) (sym all) whole,
+        (rest ++ u, begins),
+        Appends-trans w₀ w₁ w₂ text part wrote written,
+      )) goes
 
   pub line_cut : (e : ReplayError) → RunsSoFar old r₀ r₁ w₀ w₁ now → TakesFed r₁ r₂ line → AnswersLine now line new w₁ w₂ (Err e) → BeginsRun old r₀ w₀ w₂
   line_cut e (lines, text, run, reads, wrote) taken answered = cut_short lines text e run wrote (fed_goes_on lines reads taken) answered

@@ -9,12 +9,10 @@ pub fn index_of(bytes: &[u8], byte: u8) -> usize
     ensures found { result < length bytes.now → bytes.now ≡ take result bytes.now ++ byte ∷ drop (result + 1) bytes.now }
     ensures through { result < length bytes.now → take (result + 1) bytes.now ≡ take result bytes.now ++ byte ∷ [] }
 {
-    let mut i = 0;
-    while i < bytes.len() {
-        if bytes[i] == byte {
+    for (i, b) in bytes.iter().enumerate() {
+        if *b == byte {
             return i;
         }
-        i += 1;
     }
-    i
+    bytes.len()
 }

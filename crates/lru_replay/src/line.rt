@@ -19,11 +19,14 @@ pub struct Line {
 }
 
 impl Model for Line {
+    ghost use Rattle.std.specs.Prelude.{ℕ, ◌≤◌, List, take};
+    ghost use Rattle.lru_replay.specs.declared.line.TheConstants.{HELD};
+
     ghost Value = { List ℕ };
 
     ghost view = { λ l. take l.len l.bytes };
 
-    ghost invariant = { λ l. l.len ≤ 49 };
+    ghost invariant = { λ l. l.len ≤ HELD };
 }
 
 impl Line {
@@ -61,7 +64,7 @@ impl Line {
     }
 
     fn push(&mut self, byte: u8)
-        requires { length self.old < 49 }
+        requires { length self.old < HELD }
         ensures { self.new ≡ self.old ++ byte ∷ [] }
     {
         self.bytes[self.len] = byte;
@@ -70,8 +73,8 @@ impl Line {
 
     /// Adds bytes at the end, as far as the array has room.
     fn extend(&mut self, piece: &[u8])
-        requires { length self.old ≤ 49 }
-        ensures { self.new ≡ take 49 (self.old ++ piece.now) }
+        requires { length self.old ≤ HELD }
+        ensures { self.new ≡ take HELD (self.old ++ piece.now) }
     {
         for byte in piece {
             if self.len() == HELD {
@@ -95,9 +98,9 @@ pub enum Piece {
 
 /// Takes what the reader's buffer has of the line. A look that was interrupted gives no byte.
 fn take_piece<R: BufRead>(reader: &mut R, line: &mut Line) -> Result<Piece, ReplayError>
-    requires { length line.old ≤ 49 }
+    requires { length line.old ≤ HELD }
     ensures ok { IfOk result (λ piece. (bytes : List ℕ) × TakesPiece (R.remaining reader.old) (R.remaining reader.new) piece bytes
-        × (line.new ≡ take 49 (line.old ++ bytes))) }
+        × (line.new ≡ take HELD (line.old ++ bytes))) }
     ensures err { OnErr result (TakesPart (R.remaining reader.old) (R.remaining reader.new) []) }
 {
     let available = match reader.fill_buf() {
@@ -140,7 +143,7 @@ pub enum Ending {
 /// memory. A look at the reader's buffer that was interrupted is tried again.
 pub fn read_line<R: BufRead>(reader: &mut R, line: &mut Line) -> Result<Ending, ReplayError>
     ensures ok { IfOk result (λ ending. (bytes : List ℕ) × TakesLine (R.remaining reader.old) (R.remaining reader.new) ending bytes
-        × (line.new ≡ take 49 bytes)) }
+        × (line.new ≡ take HELD bytes)) }
     ensures err { OnErr result ((bytes : List ℕ) × TakesPart (R.remaining reader.old) (R.remaining reader.new) bytes) }
     ensures failed { IfErr result (λ e. e ≡ ReplayError.Read) }
 {

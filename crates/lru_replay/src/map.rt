@@ -28,12 +28,10 @@ fn place_of(pairs: &[(u64, u64)], key: u64) -> Option<usize>
     ensures others { IfSome result (λ i. without pairs.now key ≡ remove pairs.now i) }
     ensures absent { IfNone result (value_of pairs.now key ≡ None) }
 {
-    let mut i = 0;
-    while i < pairs.len() {
-        if pairs[i].0 == key {
+    for (i, pair) in pairs.iter().enumerate() {
+        if pair.0 == key {
             return Some(i);
         }
-        i += 1;
     }
     None
 }

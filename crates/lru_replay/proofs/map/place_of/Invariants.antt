@@ -1,10 +1,10 @@
 -- The key is not among the pairs so far.
-use Rattle.std.proofs.Common.{◌≡◌, ◌≤◌, ◌++◌, ◌-◌, length, take, drop}
+use Rattle.std.proofs.Common.{◌≡◌, ◌++◌, take, drop}
 use Rattle.lru_replay.specs.Pairs.{value_of, without}
 use Rattle.lru_replay.proofs.map.place_of.Given as goal
 
 abbrev pub invariant-loop-i : goal.invariant-loop-i
-invariant-loop-i l = record { within : l.i ≤ length l.pairs; value : value_of l.pairs l.key ≡ value_of (drop l.i l.pairs) l.key; others : without l.pairs l.key ≡ take l.i l.pairs ++ without (drop l.i l.pairs) l.key }
-
-abbrev pub decreases-loop-i : goal.decreases-loop-i
-decreases-loop-i l = length l.pairs - l.i
+invariant-loop-i l = record {
+  value : value_of l.pairs l.key ≡ value_of (drop l.i l.pairs) l.key;
+  others : without l.pairs l.key ≡ take l.i l.pairs ++ without (drop l.i l.pairs) l.key;
+}

@@ -48,10 +48,10 @@ returns-in_err-answer_lines-clause-read g c =
     let spells = whole_limit bytes limit (subst (λ l. SpellsLimit l limit) (c.as_slice.ensures ∙ held) c.in-Some.ensures.some) in
     let fed = subst (λ e. TakesLine from to e bytes) c.in-Feed.is taken in
     rw (p.1, p.2) (λ is.
-      let same : c.in_err-answer_lines.field-0.0 ≡ errors.Read = cc is in
-      let (lines, text, part, run, reads, wrote) = c.in_err-answer_lines.ensures.read (ap Err same) in
-      read_others from to (g.W.Write.contents c.args.writer.now) (g.W.Write.contents c.answer_lines.new.writer) bytes limit spells fed (g.R.Read.remaining c.answer_lines.new.reader)
-      lines text part c.answer_lines.new.map (subst (λ old. IsRun old lines text c.answer_lines.new.map) c.new-map.ensures run) reads wrote)
+    let same : c.in_err-answer_lines.field-0.0 ≡ errors.Read = cc is in
+    let (lines, text, part, run, reads, wrote) = c.in_err-answer_lines.ensures.read (ap Err same) in
+    read_others from to (g.W.Write.contents c.args.writer.now) (g.W.Write.contents c.answer_lines.new.writer) bytes limit spells fed (g.R.Read.remaining c.answer_lines.new.reader)
+    lines text part c.answer_lines.new.map (subst (λ old. IsRun old lines text c.answer_lines.new.map) c.new-map.ensures run) reads wrote)
 
 pub returns-in_err-answer_lines-clause-write : goal.returns-in_err-answer_lines-clause-write
 returns-in_err-answer_lines-clause-write g c =
@@ -63,9 +63,9 @@ returns-in_err-answer_lines-clause-write g c =
     let spells = whole_limit bytes limit (subst (λ l. SpellsLimit l limit) (c.as_slice.ensures ∙ held) c.in-Some.ensures.some) in
     let fed = subst (λ e. TakesLine from to e bytes) c.in-Feed.is taken in
     rw (p.1, p.2) (λ is.
-      let same : c.in_err-answer_lines.field-0.0 ≡ errors.Write = cc is in
-      cut_others from to (g.W.Write.contents c.args.writer.now) (g.W.Write.contents c.answer_lines.new.writer) bytes limit spells fed
-      (subst (λ old. BeginsRun old to (g.W.Write.contents c.args.writer.now) (g.W.Write.contents c.answer_lines.new.writer)) c.new-map.ensures (c.in_err-answer_lines.ensures.write (ap Err same))))
+    let same : c.in_err-answer_lines.field-0.0 ≡ errors.Write = cc is in
+    cut_others from to (g.W.Write.contents c.args.writer.now) (g.W.Write.contents c.answer_lines.new.writer) bytes limit spells fed
+    (subst (λ old. BeginsRun old to (g.W.Write.contents c.args.writer.now) (g.W.Write.contents c.answer_lines.new.writer)) c.new-map.ensures (c.in_err-answer_lines.ensures.write (ap Err same))))
 
 pub returns-clause-done : goal.returns-clause-done
 returns-clause-done g c _ =

@@ -1,0 +1,131 @@
+//! Reads and writes that are cut, interrupted, or fail.
+use super::rows::{EXAMPLE, EXAMPLE_TEXT};
+use super::streams::{Failure, Narrow, Slow};
+use crate::outcome::{ReplayEnd, ReplayError};
+use crate::replay::replay;
+use std::io::BufReader;
+use std::process::Abort;
+use std::test::Fail;
+
+/// The front of the text up to its line feed of a number.
+fn front_lines(text: &[u8], lines: usize) -> &[u8] {
+    let mut left = lines;
+    for (i, byte) in text.iter().enumerate() {
+        if left == 0 {
+            return &text[..i];
+        }
+        if *byte == b'\n' {
+            left -= 1;
+        }
+    }
+    text
+}
+
+#[test]
+fn cuts_do_not_matter(rt: HostRuntime) -> Result<(), Fail> {
+    for most in [1, 2, 3, 7, 10, 11, 12, 100] {
+        let mut reader = BufReader::new(rt.alloc(), Slow::new(EXAMPLE, most))?;
+        let mut writer = Narrow::new(rt.alloc(), most);
+        let end = replay(rt.alloc(), &mut reader, &mut writer);
+        assert_eq!(rt; end, Ok(ReplayEnd::Done));
+        assert!(rt; writer.bytes.as_slice() == EXAMPLE_TEXT);
+        assert_eq!(rt; writer.flushes, 1);
+    }
+    Ok(())
+}
+
+#[test]
+fn interrupted_calls_are_tried_again(rt: HostRuntime) -> Result<(), Fail> {
+    for at in 0..20 {
+        let mut slow = Slow::new(EXAMPLE, 5);
+        slow.failure = Failure::Interrupted;
+        slow.fails_at = at;
+        let mut reader = BufReader::new(rt.alloc(), slow)?;
+        let mut writer = Narrow::new(rt.alloc(), 3);
+        writer.failure = Failure::Interrupted;
+        writer.fails_at = at;
+        let end = replay(rt.alloc(), &mut reader, &mut writer);
+        assert_eq!(rt; end, Ok(ReplayEnd::Done));
+        assert!(rt; writer.bytes.as_slice() == EXAMPLE_TEXT);
+    }
+    Ok(())
+}
+
+#[test]
+fn each_read_fails(rt: HostRuntime) -> Result<(), Fail> {
+    for most in [1, 10] {
+        // The last read that can fail is the one that shows the end.
+        for at in 0..=EXAMPLE.len().div_ceil(most) {
+            let mut slow = Slow::new(EXAMPLE, most);
+            slow.fails_at = at;
+            let mut reader = BufReader::new(rt.alloc(), slow)?;
+            let mut writer = Narrow::new(rt.alloc(), 100);
+            let end = replay(rt.alloc(), &mut reader, &mut writer);
+            assert_eq!(rt; end, Err(ReplayError::Read), "at read {at}");
+            let given = at.saturating_mul(most).min(EXAMPLE.len());
+            let feeds = EXAMPLE[..given].iter().filter(|b| **b == b'\n').count();
+            let want = front_lines(EXAMPLE_TEXT, feeds.saturating_sub(1));
+            assert!(rt; writer.bytes.as_slice() == want, "at read {at}");
+            assert_eq!(rt; writer.flushes, 1);
+        }
+    }
+    Ok(())
+}
+
+/// Replays the input onto a writer of one byte a call that fails at a write of a number.
+fn fail_write(
+    rt: &(impl Abort + AllocGlobal),
+    input: &[u8],
+    text: &[u8],
+    at: usize,
+    failure: Failure,
+) {
+    let mut reader = input;
+    let mut writer = Narrow::new(rt.alloc(), 1);
+    writer.failure = failure;
+    writer.fails_at = at;
+    let end = replay(rt.alloc(), &mut reader, &mut writer);
+    assert_eq!(rt; end, Err(ReplayError::Write), "at write {at}");
+    let want = &text[..at.min(text.len())];
+    assert!(rt; writer.bytes.as_slice() == want, "at write {at}");
+    assert_eq!(rt; writer.flushes, 0);
+}
+
+#[test]
+fn each_write_fails(rt: HostRuntime) {
+    for at in 0..EXAMPLE_TEXT.len() {
+        fail_write(&rt, EXAMPLE, EXAMPLE_TEXT, at, Failure::Broken);
+        fail_write(&rt, EXAMPLE, EXAMPLE_TEXT, at, Failure::Full);
+    }
+    let text = b"no limiter\n".as_slice();
+    for at in 0..text.len() {
+        fail_write(&rt, b"list\n", text, at, Failure::Broken);
+        fail_write(&rt, b"list\n", text, at, Failure::Full);
+    }
+}
+
+#[test]
+fn the_flush_fails(rt: HostRuntime) -> Result<(), Fail> {
+    for (input, text) in [
+        (EXAMPLE, EXAMPLE_TEXT),
+        (b"".as_slice(), b"no limiter\n".as_slice()),
+    ] {
+        let mut reader = input;
+        let mut writer = Narrow::new(rt.alloc(), 100);
+        writer.flush_fails = true;
+        let end = replay(rt.alloc(), &mut reader, &mut writer);
+        assert_eq!(rt; end, Err(ReplayError::Write));
+        assert!(rt; writer.bytes.as_slice() == text);
+        assert_eq!(rt; writer.flushes, 1);
+    }
+    // After a read that failed too.
+    let mut slow = Slow::new(EXAMPLE, 100);
+    slow.fails_at = 1;
+    let mut reader = BufReader::new(rt.alloc(), slow)?;
+    let mut writer = Narrow::new(rt.alloc(), 100);
+    writer.flush_fails = true;
+    let end = replay(rt.alloc(), &mut reader, &mut writer);
+    assert_eq!(rt; end, Err(ReplayError::Write));
+    assert_eq!(rt; writer.flushes, 1);
+    Ok(())
+}

@@ -1,0 +1,151 @@
+//! Inputs, with the text and the status that each must give.
+use super::streams::Repeated;
+use crate::outcome::{ReplayEnd, ReplayError, status};
+use crate::replay::replay;
+use std::io::BufReader;
+use std::process::Abort;
+use std::test::Fail;
+
+/// The example of the README.
+pub const EXAMPLE: &[u8] =
+    b"length 3\ninsert 1 10\ninsert 2 20\ninsert 3 30\nlist\nget 1\nlist\ninsert 4 40\npeek 2\nlist\n";
+
+/// The answers of the example.
+pub const EXAMPLE_TEXT: &[u8] =
+    b"true\ntrue\ntrue\n3:30 2:20 1:10\n10\n1:10 3:30 2:20\ntrue\nnone\n4:40 1:10 3:30\n";
+
+/// Replays the input, and compares what is written and the status.
+fn expect(rt: &(impl Abort + AllocGlobal), input: &[u8], want: &[u8], code: u8) {
+    let mut reader = input;
+    let mut writer = Vec::new(rt.alloc());
+    let end = replay(rt.alloc(), &mut reader, &mut writer);
+    assert_eq!(rt; status(&end), code);
+    assert!(rt; writer.as_slice() == want);
+}
+
+#[test]
+fn answers_examples(rt: HostRuntime) {
+    expect(&rt, EXAMPLE, EXAMPLE_TEXT, 0);
+    // A key that is there becomes the newest when it is inserted, and the oldest go.
+    expect(
+        &rt,
+        b"length 3\ninsert 1 10\ninsert 2 20\ninsert 3 30\ninsert 4 40\ninsert 5 50\ninsert 6 60\ninsert 5 500\ninsert 4 400\nlist\n",
+        b"true\ntrue\ntrue\ntrue\ntrue\ntrue\ntrue\ntrue\n4:400 5:500 6:60\n",
+        0,
+    );
+    // The last line lacks its line feed.
+    expect(
+        &rt,
+        b"compact\nlist\nget 1 2\ninsert 1 10\nlist",
+        b"-\nbad\ntrue\n1:10\n",
+        0,
+    );
+    expect(&rt, b"length 0\ninsert 1 10\nlist\n", b"false\n-\n", 0);
+    expect(&rt, b"compact", b"", 0);
+}
+
+#[test]
+fn refuses_first_lines(rt: HostRuntime) {
+    expect(&rt, b"", b"no limiter\n", 1);
+    expect(&rt, b"length 4294967296\nlist\n", b"no limiter\n", 1);
+    expect(&rt, b"\ncompact\nlist\n", b"no limiter\n", 1);
+    expect(&rt, b" compact\n", b"no limiter\n", 1);
+    expect(&rt, b"length\n", b"no limiter\n", 1);
+    expect(&rt, b"length 03\n", b"no limiter\n", 1);
+    expect(&rt, b"list\n", b"no limiter\n", 1);
+    // Lines of later crates of the workspace.
+    expect(&rt, b"memory 152 16\n", b"no limiter\n", 1);
+    expect(&rt, b"cost 3\n", b"no limiter\n", 1);
+}
+
+#[test]
+fn answers_bad_lines(rt: HostRuntime) {
+    expect(
+        &rt,
+        b"length 2\ninsert 01 1\ninsert 1 18446744073709551616\n\nlist \ndrain 5\ninsert 1 10\ndrain 0\nlist\n",
+        b"bad\nbad\nbad\nbad\nbad\ntrue\nbad\n1:10\n",
+        0,
+    );
+    expect(
+        &rt,
+        b"compact\ninsert 18446744073709551615 18446744073709551615\ninsert 18446744073709551615 18446744073709551615 \nlist\r\nlist\n",
+        b"true\nbad\nbad\n18446744073709551615:18446744073709551615\n",
+        0,
+    );
+    for line in [
+        b"insert +1 1\n".as_slice(),
+        b"insert 1  1\n",
+        b" insert 1 1\n",
+        b"insert 1 1 1\n",
+        b"insert 1\n",
+        b"insert \n",
+        b"insert 1 00\n",
+        b"insert 1 -1\n",
+        b"insert 0x1 1\n",
+        b"INSERT 1 1\n",
+        b"get\n",
+        b"get \n",
+        b"get 1\t\n",
+        b"peek 1x\n",
+        b"peek \xff\n",
+        b"list list\n",
+        b"lists\n",
+        b"length 3\n",
+        b"compact\n",
+        b"stats\n",
+    ] {
+        expect_bad(&rt, line);
+    }
+}
+
+/// The line answers `bad`, and changes nothing.
+fn expect_bad(rt: &(impl Abort + AllocGlobal), line: &[u8]) {
+    let mut input = Vec::new(rt.alloc());
+    let written = input.extend_from_slice(b"compact\ninsert 1 10\n").is_ok()
+        && input.extend_from_slice(line).is_ok()
+        && input.extend_from_slice(b"list\n").is_ok();
+    assert!(rt; written);
+    expect(rt, input.as_slice(), b"true\nbad\n1:10\n", 0);
+}
+
+#[test]
+fn reads_long_lines_through(rt: HostRuntime) -> Result<(), Fail> {
+    let long = Repeated {
+        byte: b'1',
+        left: 1_000_000,
+        others: b"\nlist\n",
+    };
+    let mut before = BufReader::new(rt.alloc(), long)?;
+    let mut writer = Vec::new(rt.alloc());
+    let end = replay(rt.alloc(), &mut before, &mut writer);
+    assert_eq!(rt; end, Ok(ReplayEnd::NoLimiter));
+    assert!(rt; writer.as_slice() == b"no limiter\n".as_slice());
+
+    let long = Repeated {
+        byte: b'1',
+        left: 1_000_000,
+        others: b"\nlist\n",
+    };
+    let mut after = std::io::Read::chain(b"compact\ninsert 1 10\n".as_slice(), long);
+    let mut reader = BufReader::new(rt.alloc(), after)?;
+    let mut writer = Vec::new(rt.alloc());
+    let end = replay(rt.alloc(), &mut reader, &mut writer);
+    assert_eq!(rt; end, Ok(ReplayEnd::Done));
+    assert!(rt; writer.as_slice() == b"true\nbad\n1:10\n".as_slice());
+    Ok(())
+}
+
+#[test]
+fn prints_errors(rt: HostRuntime) -> Result<(), Fail> {
+    let read = format!(in rt.alloc(); "{}", ReplayError::Read)?;
+    assert_eq!(rt; read.as_str(), "read failed");
+    let write = format!(in rt.alloc(); "{}", ReplayError::Write)?;
+    assert_eq!(rt; write.as_str(), "write failed");
+    assert_eq!(rt; ReplayError::Read as u8, 1);
+    assert_eq!(rt; ReplayError::Write as u8, 2);
+    assert_eq!(rt; status(&Ok(ReplayEnd::Done)), 0);
+    assert_eq!(rt; status(&Ok(ReplayEnd::NoLimiter)), 1);
+    assert_eq!(rt; status(&Err(ReplayError::Read)), 2);
+    assert_eq!(rt; status(&Err(ReplayError::Write)), 2);
+    Ok(())
+}
