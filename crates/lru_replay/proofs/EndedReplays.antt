@@ -2,7 +2,6 @@
 use Rattle.std.proofs.Common.{◌≡◌, ℕ, ◌<◌, List, [], ◌∷◌, ◌++◌, length, refl, sym, ap, ◌∙◌, subst, inl, inr, ◌⊎◌, arith, Option, Some, None, Result, Ok, Err, IfSome, IsErrOf}
 use Rattle.std.proofs.lemmas.List.{append-nil}
 use Rattle.std.specs.Io.KnownBytes.{Appends, Keeps}
-use Rattle.std.specs.Option.{OnSome}
 use Rattle.std.proofs.KnownBytes.{Appends-nil, Appends-kept, Consumes-nil}
 use Rattle.lru_replay.specs.declared.call.Limit.{Limit}
 use Rattle.lru_replay.specs.declared.call.Limit.TheVariants as limits
@@ -14,7 +13,7 @@ use Rattle.lru_replay.specs.declared.outcome.ReplayError.{ReplayError}
 use Rattle.lru_replay.specs.declared.outcome.ReplayError.TheVariants as errors
 use Rattle.lru_replay.specs.Grammar.{SpellsLimit}
 use Rattle.lru_replay.specs.Lines.{lines_of, TakesFed, TakesRest, TakesLine, TakesLines}
-use Rattle.lru_replay.specs.Output.{IsBeginning, Fails, no_limiter_text}
+use Rattle.lru_replay.specs.Output.{Fails, no_limiter_text}
 use Rattle.lru_replay.specs.Replay.{IsReplay, NamesNoLimit, IsCut, IsTextSoFar, WritesReplay, WritesCut, WritesSoFar}
 use Rattle.lru_replay.specs.Runs.{IsRun}
 use Rattle.lru_replay.specs.State.{State, empty_map}

@@ -1,4 +1,4 @@
-use Rattle.std.proofs.Common.{◌≡◌, inl, ap, refl, subst}
+use Rattle.std.proofs.Common.{inl, ap, refl, subst}
 use Rattle.lru_replay.specs.declared.call.Call.TheVariants as calls
 use Rattle.lru_replay.specs.Grammar.{SpellsCall}
 use Rattle.lru_replay.specs.Output.{Writes, pairs_text}
