@@ -1,5 +1,5 @@
 -- The first line and the others together, and how a replay ends.
-use Rattle.std.proofs.Common.{◌≡◌, ℕ, ◌<◌, List, [], ◌∷◌, ◌++◌, length, refl, sym, ap, ◌∙◌, subst, inl, inr, ◌⊎◌, arith, Option, Some, None, Result, Ok, Err, IfSome, IsErrOf}
+use Rattle.std.proofs.Common.{◌≡◌, ℕ, ◌<◌, List, [], ◌∷◌, ◌++◌, length, refl, sym, ap, ◌∙◌, subst, inl, inr, ◌⊎◌, arith, Option, Some, None, Result, Ok, Err, IfSome, OnOk, IsErrOf, ◌↔◌}
 use Rattle.std.proofs.lemmas.List.{append-nil}
 use Rattle.std.specs.Io.KnownBytes.{Appends, Keeps}
 use Rattle.std.proofs.KnownBytes.{Appends-nil, Appends-kept, Consumes-nil}
@@ -100,6 +100,19 @@ flush_failed a b w v u end done none text read write keeps = if_some_map a (λ i
     by (Ok ends.NoLimiter) p q r s t = cut_after_no_limiter a w v (q refl) (r refl)
     by (Err errors.Read) p q r s t = cut_after_read a b w v (s refl)
     by (Err errors.Write) p q r s t = t refl
+
+-- `NoLimiter` comes exactly where no limit is named.
+pub exactly_no_limiter : (a w v : Option (List ℕ)) (end : Result ReplayEnd ReplayError)
+    → (end ≡ Ok ends.Done → WritesReplay a w v)
+    → (end ≡ Ok ends.NoLimiter → IfSome a (λ input. NamesNoLimit (lines_of input)))
+    → OnOk end (IfSome a (λ input. (end ≡ Ok ends.NoLimiter) ↔ NamesNoLimit (lines_of input)))
+exactly_no_limiter a w v (Ok ends.Done) done none = if_some_map a (λ input (text, (limit, first, others, is, spells, run), wrote).
+    (λ other. absurd (done_is_done other), λ names. absurd (names limit first others is spells))) (done refl)
+  where
+    done_is_done : (let done : Result ReplayEnd ReplayError = Ok ends.Done in done) ≡ Ok ends.NoLimiter → ⊥
+    done_is_done e = cc
+exactly_no_limiter a w v (Ok ends.NoLimiter) done none = if_some_map a (λ input is. (λ same. is, λ names. refl)) (none refl)
+exactly_no_limiter a w v (Err e) done none = tt
 
 -- Writing that no limiter is named failed.
 pub no_limiter_cut : (a b w v : Option (List ℕ)) (ending : Ending) (first : List ℕ) (e : ReplayError) → TakesLine a b ending first → ((limit : Limit) → SpellsLimit first limit → ⊥) → Fails e w v no_limiter_text → WritesCut a w v

@@ -1,5 +1,5 @@
 //! A replay, from the lines of a reader to the answer lines of a writer.
-ghost use Rattle.std.specs.Prelude.{◌≡◌, ℕ, List, IfOk, IfSome, OnOk, OnSome, IsErrOf};
+ghost use Rattle.std.specs.Prelude.{◌≡◌, ◌↔◌, ℕ, List, IfOk, IfSome, OnOk, OnSome, IsErrOf};
 ghost use Rattle.std.specs.Io.KnownBytes.{Appends, IsAtEnd};
 ghost use Rattle.lru_replay.specs.Lines.{lines_of, TakesLines};
 ghost use Rattle.lru_replay.specs.Output.{Writes, IsBeginning, no_limiter_text};
@@ -116,7 +116,8 @@ pub fn replay<R: BufRead, W: Write>(
     // run over them, from the empty map.
     ensures done { result ≡ Ok ReplayEnd.Done → WritesReplay (R.remaining reader.old) (W.contents writer.old) (W.contents writer.new) }
     ensures done_at_the_end { result ≡ Ok ReplayEnd.Done → OnSome (R.remaining reader.old) (IsAtEnd (R.remaining reader.new)) }
-    ensures no_limiter { result ≡ Ok ReplayEnd.NoLimiter → IfSome (R.remaining reader.old) (λ input. NamesNoLimit (lines_of input)) }
+    // Otherwise the first line names no limit, or there is none, and that was written.
+    ensures no_limiter { OnOk result (IfSome (R.remaining reader.old) (λ input. (result ≡ Ok ReplayEnd.NoLimiter) ↔ NamesNoLimit (lines_of input))) }
     ensures no_limiter_text { result ≡ Ok ReplayEnd.NoLimiter → Appends (W.contents writer.old) (W.contents writer.new) no_limiter_text }
     // The lines that were read whole are answered, and nothing else is written.
     ensures read_failed { IsErrOf result ReplayError.Read → WritesSoFar (R.remaining reader.old) (R.remaining reader.new) (W.contents writer.old) (W.contents writer.new) }
