@@ -5,19 +5,10 @@ use Rattle.std.specs.Io.KnownBytes.{Appends}
 use Rattle.std.proofs.KnownBytes.{Appends-trans}
 use Rattle.lru_replay.specs.declared.outcome.ReplayError.{ReplayError}
 use Rattle.lru_replay.specs.Lines.{lines_of, TakesFed, TakesRest, TakesLines}
-use Rattle.lru_replay.specs.Output.{IsBeginning}
-use Rattle.lru_replay.specs.Runs.{AnswersLine, IsRun, answer_line}
+use Rattle.lru_replay.specs.Runs.{AnswersLine, IsRun, answer_line, WritesRun, BeginsRun}
 use Rattle.lru_replay.specs.State.{State}
 use Rattle.lru_replay.proofs.LineLists.{takes_line_more, lines_at_end, lines_left, lines_of-last, if_some_map}
 use Rattle.lru_replay.proofs.RunLists.{run-append, run-one, some_run}
-
--- a run over all the lines that the reader had was written
-abbrev pub WritesRun : State → Option (List ℕ) → Option (List ℕ) → Option (List ℕ) → State → Type 0
-WritesRun old from w₀ w₁ new = IfSome from (λ input. (text : List ℕ) × IsRun old (lines_of input) text new × Appends w₀ w₁ text)
-
--- a beginning of the text of such a run was written
-abbrev pub BeginsRun : State → Option (List ℕ) → Option (List ℕ) → Option (List ℕ) → Type 0
-BeginsRun old from w₀ w₁ = IfSome from (λ input. (text part : List ℕ) × (new : State) × IsRun old (lines_of input) text new × IsBeginning part text × Appends w₀ w₁ part)
 
 -- these lines were read whole, and the text of a run over them was written
 abbrev pub RunsSoFar : State → Option (List ℕ) → Option (List ℕ) → Option (List ℕ) → Option (List ℕ) → State → Type 0

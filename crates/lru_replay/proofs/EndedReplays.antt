@@ -15,9 +15,8 @@ use Rattle.lru_replay.specs.Grammar.{SpellsLimit}
 use Rattle.lru_replay.specs.Lines.{lines_of, TakesFed, TakesRest, TakesLine, TakesLines}
 use Rattle.lru_replay.specs.Output.{Fails, no_limiter_text}
 use Rattle.lru_replay.specs.Replay.{IsReplay, NamesNoLimit, IsCut, IsTextSoFar, WritesReplay, WritesCut, WritesSoFar}
-use Rattle.lru_replay.specs.Runs.{IsRun}
 use Rattle.lru_replay.specs.State.{State, empty_map}
-use Rattle.lru_replay.proofs.AnsweredLines.{WritesRun, BeginsRun}
+use Rattle.lru_replay.specs.Runs.{IsRun, WritesRun, BeginsRun}
 use Rattle.lru_replay.proofs.LineLists.{lines_of-fed, lines_of-last, lines_at_end, lines_left, takes_line_before, if_some_map}
 use Rattle.lru_replay.proofs.RunLists.{run-append, some_run}
 use Rattle.lru_replay.proofs.Spelled.{limit_or}

@@ -1,9 +1,10 @@
 -- Numbers in decimal digits.
-use Rattle.std.proofs.Common.{◌≡◌, ℕ, zero, suc, ◌<◌, ◌≤◌, ◌^◌, List, [], ◌∷◌, ◌++◌, length, get_or, sym, ap, ◌∙◌, subst, arith, Result, Ok, Err, decimal, codes, IsUtf8}
+use Rattle.std.proofs.Common.{◌≡◌, ℕ, zero, suc, ◌<◌, ◌≤◌, ◌^◌, List, [], ◌∷◌, ◌++◌, length, get_or, refl, sym, ap, ◌∙◌, subst, arith, Result, Ok, Err, IfSome, IfNone, decimal, codes, IsUtf8}
 use Rattle.std.proofs.lemmas.Fmt.{decimal_nonempty, decimal_is_IsNumeral, first_decimal, decimal_digit, decimal-digits_value, parse-decimal, IsAscii-decimal, decimal_injective}
 use Rattle.std.proofs.lemmas.Str.Parse.{digit_at, digit_from_value, without_leading_plus_none, numerals_by_value, tells_digits}
 use Rattle.std.proofs.lemmas.Result.{OkIff-at_ok}
 use Rattle.std.proofs.lemmas.Str.{IsUtf8-from_ascii}
+use Rattle.std.specs.Result.{result_ok}
 use Rattle.std.specs.Str.Parse.{ParsesUnsigned, IsNumeral, digits_value, AllDigits}
 use Rattle.lru_replay.specs.Grammar.{SpellsNumber, StartsAsNumber, SpellsPair, SpellsLimit}
 use Rattle.lru_replay.specs.declared.call.Limit.{Limit}
@@ -24,17 +25,21 @@ decimal_starts n h =
 pub starts_of : (word : List ℕ) (n : ℕ) → SpellsNumber word n → StartsAsNumber word
 starts_of word n h = subst StartsAsNumber (sym h.1) (decimal_starts n h.0)
 
-pub parsed : {E : Type 0} (word : List ℕ) (r : Result ℕ E) (n : ℕ) → StartsAsNumber word → ParsesUnsigned 64 10 word r → r ≡ Ok n → SpellsNumber word n
-parsed word r n start h is =
+-- what parses is spelled so
+pub IfSome-parsed : {E : Type 0} (word : List ℕ) (r : Result ℕ E) → StartsAsNumber word → ParsesUnsigned 64 10 word r → IfSome (result_ok r) (λ n. SpellsNumber word n)
+IfSome-parsed {E} word (Err e) start h = tt
+IfSome-parsed {E} word (Ok n) start h =
     let bare = without_leading_plus_none word start.1 in
-    let read = OkIff-at_ok r _ _ n h is in
+    let read = OkIff-at_ok {E = E} (Ok n) _ _ n h refl in
     let numeral : IsNumeral 10 word = subst (IsNumeral 10) bare read.0.0 in
     let value : n ≡ digits_value 10 word = read.1 ∙ ap (digits_value 10) bare in
     let small : digits_value 10 word < 2 ^ 64 = subst (λ l. digits_value 10 l < 2 ^ 64) bare read.0.1 in
     (subst (λ k. k < 2 ^ 64) (sym value) small, sym (ap decimal value ∙ decimal-digits_value (numerals_by_value _ tells_digits) word numeral.1 numeral.0 start.2 small))
 
-pub not_parsed : {E : Type 0} (word : List ℕ) (r : Result ℕ E) (e : E) → ParsesUnsigned 64 10 word r → r ≡ Err e → (n : ℕ) → SpellsNumber word n → ⊥
-not_parsed word r e h is n s = let ok = parse-decimal 64 n word r s.0 s.0 s.1 h in cc
+-- and what does not spells no number
+pub IfNone-parsed : {E : Type 0} (word : List ℕ) (r : Result ℕ E) → ParsesUnsigned 64 10 word r → IfNone (result_ok r) ((n : ℕ) → SpellsNumber word n → ⊥)
+IfNone-parsed word (Ok m) h = tt
+IfNone-parsed word (Err e) h = λ n s. let ok = parse-decimal 64 n word (Err e) s.0 s.0 s.1 h in cc
 
 pub number_is_text : (word : List ℕ) (n : ℕ) → SpellsNumber word n → IsUtf8 word
 number_is_text word n s = subst IsUtf8 (sym s.1) (IsUtf8-from_ascii (decimal n) (IsAscii-decimal n s.0))

@@ -1,23 +1,28 @@
-//! The calls, and how a line spells one.
+//! What a line says: a call on the map, or, the first line, what limits the map.
 ghost use Rattle.std.specs.Prelude.{◌≡◌, ◌≢◌, ℕ, List, ◌++◌, IfSome, IfNone, true, false};
 ghost use Rattle.lru_replay.specs.Grammar.{SpellsCall, SpellsLimit, SpellsPair, SpellsNumber, StartsAsNumber};
 
 use crate::bytes::index_of;
 
-/// A call on the cache.
+/// A call on the map.
 #[derive(Clone, Copy, Debug, PartialEq, Eq)]
 pub enum Call {
+    /// `insert K V`: makes the pair of this key and value the newest.
     Insert(u64, u64),
+    /// `get K`: gives the value of the key, and makes its pair the newest.
     Get(u64),
+    /// `peek K`: gives the value of the key.
     Peek(u64),
+    /// `list`: gives all pairs.
     List,
 }
 
-/// What limits the cache.
+/// What limits the map.
 #[derive(Clone, Copy, Debug, PartialEq, Eq)]
 pub enum Limit {
-    /// At most so many pairs.
+    /// `length N`: at most so many pairs.
     Length(u32),
+    /// `compact`: nothing does.
     Compact,
 }
 
@@ -34,10 +39,7 @@ fn starts_as_number(word: &[u8]) -> bool
     ensures yes { result ≡ true → StartsAsNumber word.now }
     ensures no { result ≡ false → StartsAsNumber word.now → ⊥ }
 {
-    if word.is_empty() {
-        return false;
-    }
-    if word[0] == b'+' {
+    if word.is_empty() || word[0] == b'+' {
         return false;
     }
     word[0] != b'0' || word.len() == 1
@@ -51,13 +53,8 @@ fn number(word: &[u8]) -> Option<u64>
     if !starts_as_number(word) {
         return None;
     }
-    let Ok(text) = str::from_utf8(word) else {
-        return None;
-    };
-    match text.parse::<u64>() {
-        Ok(n) => Some(n),
-        Err(_) => None,
-    }
+    let text = str::from_utf8(word).ok()?;
+    text.parse().ok()
 }
 
 /// Two numbers with one space between them.

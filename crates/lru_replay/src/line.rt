@@ -99,7 +99,8 @@ pub enum Piece {
 /// Takes what the reader's buffer has of the line. A look that was interrupted gives no byte.
 fn take_piece<R: BufRead>(reader: &mut R, line: &mut Line) -> Result<Piece, ReplayError>
     requires { length line.old ≤ HELD }
-    ensures ok { IfOk result (λ piece. (bytes : List ℕ) × TakesPiece (R.remaining reader.old) (R.remaining reader.new) piece bytes
+    ensures ok { IfOk result (λ piece. (bytes : List ℕ)
+        × TakesPiece (R.remaining reader.old) (R.remaining reader.new) piece bytes
         × (line.new ≡ take HELD (line.old ++ bytes))) }
     ensures err { OnErr result (TakesPart (R.remaining reader.old) (R.remaining reader.new) []) }
 {
@@ -142,9 +143,11 @@ pub enum Ending {
 /// Reads the next line, and holds its first bytes: a line of any length is read through, in constant
 /// memory. A look at the reader's buffer that was interrupted is tried again.
 pub fn read_line<R: BufRead>(reader: &mut R, line: &mut Line) -> Result<Ending, ReplayError>
-    ensures ok { IfOk result (λ ending. (bytes : List ℕ) × TakesLine (R.remaining reader.old) (R.remaining reader.new) ending bytes
+    ensures ok { IfOk result (λ ending. (bytes : List ℕ)
+        × TakesLine (R.remaining reader.old) (R.remaining reader.new) ending bytes
         × (line.new ≡ take HELD bytes)) }
-    ensures err { OnErr result ((bytes : List ℕ) × TakesPart (R.remaining reader.old) (R.remaining reader.new) bytes) }
+    ensures err { OnErr result ((bytes : List ℕ)
+        × TakesPart (R.remaining reader.old) (R.remaining reader.new) bytes) }
     ensures failed { IfErr result (λ e. e ≡ ReplayError.Read) }
 {
     line.clear();

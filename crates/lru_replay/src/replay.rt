@@ -1,13 +1,12 @@
 //! A replay, from the lines of a reader to the answer lines of a writer.
-ghost use Rattle.std.specs.Prelude.{◌≡◌, ◌↔◌, ℕ, List, IfOk, IfSome, OnOk, OnSome, IsErrOf};
+ghost use Rattle.std.specs.Prelude.{◌≡◌, ◌↔◌, IfSome, OnOk, IsErrOf};
 ghost use Rattle.std.specs.Io.KnownBytes.{Appends, IsAtEnd};
-ghost use Rattle.lru_replay.specs.Lines.{lines_of, TakesLines};
-ghost use Rattle.lru_replay.specs.Output.{Writes, IsBeginning, no_limiter_text};
+ghost use Rattle.std.specs.Option.{OnSome};
+ghost use Rattle.lru_replay.specs.Lines.{lines_of};
+ghost use Rattle.lru_replay.specs.Output.{Writes, answer_text, no_limiter_text};
 ghost use Rattle.lru_replay.specs.Replay.{NamesNoLimit, WritesReplay, WritesSoFar, WritesCut};
-ghost use Rattle.lru_replay.specs.Runs.{LineStep, AnswersLine, IsRun};
+ghost use Rattle.lru_replay.specs.Runs.{LineStep, AnswersLine, WritesRun, WritesRunSoFar, BeginsRun};
 ghost use Rattle.lru_replay.specs.Steps.{Answer};
-ghost use Rattle.lru_replay.specs.Output.{answer_text};
-ghost use Rattle.lru_replay.specs.State.{State};
 
 use crate::call::{Call, call_of, limit_of};
 use crate::line::{Ending, Line, read_line};
@@ -19,7 +18,8 @@ use std::io::{BufRead, Write};
 
 /// Carries out what a line says, and writes the answer.
 fn carry_out<W: Write>(map: &mut PairMap, line: &[u8], writer: &mut W) -> Result<(), ReplayError>
-    ensures { (answer : Answer) × LineStep map.old line.now answer map.new × Writes (W.contents writer.old) (W.contents writer.new) result (answer_text answer) }
+    ensures { (answer : Answer) × LineStep map.old line.now answer map.new
+        × Writes (W.contents writer.old) (W.contents writer.new) result (answer_text answer) }
 {
     match call_of(line) {
         Some(Call::Insert(key, value)) => match map.insert(key, value) {
@@ -53,15 +53,14 @@ fn answer_lines<R: BufRead, W: Write>(
     reader: &mut R,
     writer: &mut W,
 ) -> Result<(), ReplayError>
-    ensures done { OnOk result (IfSome (R.remaining reader.old) (λ input. (text : List ℕ) × IsRun map.old (lines_of input) text map.new
-        × Appends (W.contents writer.old) (W.contents writer.new) text)) }
+    ensures done { OnOk result
+        (WritesRun map.old (R.remaining reader.old) (W.contents writer.old) (W.contents writer.new) map.new) }
     ensures at_end { OnOk result (OnSome (R.remaining reader.old) (IsAtEnd (R.remaining reader.new))) }
-    ensures read { IsErrOf result ReplayError.Read → (lines : List (List ℕ)) × (text part : List ℕ) × IsRun map.old lines text map.new
-        × TakesLines (R.remaining reader.old) (R.remaining reader.new) lines part
-        × Appends (W.contents writer.old) (W.contents writer.new) text }
-    ensures write { IsErrOf result ReplayError.Write → IfSome (R.remaining reader.old) (λ input. (text part : List ℕ) × (after : State)
-        × IsRun map.old (lines_of input) text after
-        × IsBeginning part text × Appends (W.contents writer.old) (W.contents writer.new) part) }
+    ensures read { IsErrOf result ReplayError.Read →
+        WritesRunSoFar map.old (R.remaining reader.old) (R.remaining reader.new)
+        (W.contents writer.old) (W.contents writer.new) map.new }
+    ensures write { IsErrOf result ReplayError.Write →
+        BeginsRun map.old (R.remaining reader.old) (W.contents writer.old) (W.contents writer.new) }
 {
     let mut line = Line::new();
     for _ in 0..u64::MAX {
@@ -80,12 +79,19 @@ fn answer_all<R: BufRead, W: Write>(
     reader: &mut R,
     writer: &mut W,
 ) -> Result<ReplayEnd, ReplayError>
-    ensures done { result ≡ Ok ReplayEnd.Done → WritesReplay (R.remaining reader.old) (W.contents writer.old) (W.contents writer.new) }
-    ensures at_end { result ≡ Ok ReplayEnd.Done → OnSome (R.remaining reader.old) (IsAtEnd (R.remaining reader.new)) }
-    ensures no_limiter { result ≡ Ok ReplayEnd.NoLimiter → IfSome (R.remaining reader.old) (λ input. NamesNoLimit (lines_of input)) }
-    ensures no_limiter_text { result ≡ Ok ReplayEnd.NoLimiter → Appends (W.contents writer.old) (W.contents writer.new) no_limiter_text }
-    ensures read { IsErrOf result ReplayError.Read → WritesSoFar (R.remaining reader.old) (R.remaining reader.new) (W.contents writer.old) (W.contents writer.new) }
-    ensures write { IsErrOf result ReplayError.Write → WritesCut (R.remaining reader.old) (W.contents writer.old) (W.contents writer.new) }
+    ensures done { result ≡ Ok ReplayEnd.Done →
+        WritesReplay (R.remaining reader.old) (W.contents writer.old) (W.contents writer.new) }
+    ensures at_end { result ≡ Ok ReplayEnd.Done →
+        OnSome (R.remaining reader.old) (IsAtEnd (R.remaining reader.new)) }
+    ensures no_limiter { result ≡ Ok ReplayEnd.NoLimiter →
+        IfSome (R.remaining reader.old) (λ input. NamesNoLimit (lines_of input)) }
+    ensures no_limiter_text { result ≡ Ok ReplayEnd.NoLimiter →
+        Appends (W.contents writer.old) (W.contents writer.new) no_limiter_text }
+    ensures read { IsErrOf result ReplayError.Read →
+        WritesSoFar (R.remaining reader.old) (R.remaining reader.new)
+        (W.contents writer.old) (W.contents writer.new) }
+    ensures write { IsErrOf result ReplayError.Write →
+        WritesCut (R.remaining reader.old) (W.contents writer.old) (W.contents writer.new) }
 {
     let mut line = Line::new();
     let ending = read_line(reader, &mut line)?;
@@ -114,15 +120,22 @@ pub fn replay<R: BufRead, W: Write>(
 ) -> Result<ReplayEnd, ReplayError>
     // The first line names a limit, and all lines after it were answered: what was written is the text of a
     // run over them, from the empty map.
-    ensures done { result ≡ Ok ReplayEnd.Done → WritesReplay (R.remaining reader.old) (W.contents writer.old) (W.contents writer.new) }
-    ensures done_at_the_end { result ≡ Ok ReplayEnd.Done → OnSome (R.remaining reader.old) (IsAtEnd (R.remaining reader.new)) }
+    ensures done { result ≡ Ok ReplayEnd.Done →
+        WritesReplay (R.remaining reader.old) (W.contents writer.old) (W.contents writer.new) }
+    ensures done_at_the_end { result ≡ Ok ReplayEnd.Done →
+        OnSome (R.remaining reader.old) (IsAtEnd (R.remaining reader.new)) }
     // Otherwise the first line names no limit, or there is none, and that was written.
-    ensures no_limiter { OnOk result (IfSome (R.remaining reader.old) (λ input. (result ≡ Ok ReplayEnd.NoLimiter) ↔ NamesNoLimit (lines_of input))) }
-    ensures no_limiter_text { result ≡ Ok ReplayEnd.NoLimiter → Appends (W.contents writer.old) (W.contents writer.new) no_limiter_text }
+    ensures no_limiter { OnOk result (IfSome (R.remaining reader.old)
+        (λ input. (result ≡ Ok ReplayEnd.NoLimiter) ↔ NamesNoLimit (lines_of input))) }
+    ensures no_limiter_text { result ≡ Ok ReplayEnd.NoLimiter →
+        Appends (W.contents writer.old) (W.contents writer.new) no_limiter_text }
     // The lines that were read whole are answered, and nothing else is written.
-    ensures read_failed { IsErrOf result ReplayError.Read → WritesSoFar (R.remaining reader.old) (R.remaining reader.new) (W.contents writer.old) (W.contents writer.new) }
+    ensures read_failed { IsErrOf result ReplayError.Read →
+        WritesSoFar (R.remaining reader.old) (R.remaining reader.new)
+        (W.contents writer.old) (W.contents writer.new) }
     // What was written is a beginning of what a replay of these lines writes.
-    ensures write_failed { IsErrOf result ReplayError.Write → WritesCut (R.remaining reader.old) (W.contents writer.old) (W.contents writer.new) }
+    ensures write_failed { IsErrOf result ReplayError.Write →
+        WritesCut (R.remaining reader.old) (W.contents writer.old) (W.contents writer.new) }
 {
     let end = answer_all(alloc, reader, writer);
     if let Err(ReplayError::Write) = end {

@@ -5,8 +5,7 @@ use Rattle.lru_replay.specs.declared.call.Limit.{Limit}
 use Rattle.lru_replay.specs.declared.outcome.ReplayError.TheVariants as errors
 use Rattle.lru_replay.specs.Grammar.{SpellsLimit}
 use Rattle.lru_replay.specs.Lines.{TakesLine}
-use Rattle.lru_replay.specs.Runs.{IsRun}
-use Rattle.lru_replay.proofs.AnsweredLines.{WritesRun, BeginsRun}
+use Rattle.lru_replay.specs.Runs.{IsRun, WritesRun, BeginsRun}
 use Rattle.lru_replay.proofs.EndedReplays.{no_limit, no_limiter_cut, rest_taken, done_first, done_others, cut_others, read_others}
 use Rattle.lru_replay.proofs.Held.{whole_limit, held_limit}
 use Rattle.lru_replay.proofs.replay.answer_all.Goals as goal
