@@ -1,0 +1,36 @@
+#!/usr/bin/env bash
+# Times the program on a million lines, on maps of 3 and of 100 pairs, and on one line of 100 MB.
+# It builds the program first, which proves it.
+set -euo pipefail
+cd "$(dirname "$0")/../crates/lru_replay"
+rt run <stdin >/dev/null 2>&1
+
+lines() { # the greatest length, and how many keys
+    awk -v most="$1" -v keys="$2" 'BEGIN {
+        srand(1); print "length " most
+        for (i = 0; i < 1000000; i++) {
+            r = rand(); k = int(rand() * keys)
+            if (r < 0.5) print "insert " k " " i; else if (r < 0.8) print "get " k; else print "peek " k
+        }
+    }'
+}
+
+long_line() {
+    echo compact
+    head -c 100000000 /dev/zero | tr '\0' 1
+    printf '\nlist\n'
+}
+
+measure() { # a name, and the file of the input
+    local start end
+    start=$(date +%s%N)
+    out/lru_replay <"$2" >/dev/null
+    end=$(date +%s%N)
+    printf '%-32s %5d ms\n' "$1" $(((end - start) / 1000000))
+}
+
+input=$(mktemp)
+trap 'rm -f "$input"' EXIT
+lines 3 6 >"$input" && measure "a million lines, 3 pairs" "$input"
+lines 100 150 >"$input" && measure "a million lines, 100 pairs" "$input"
+long_line >"$input" && measure "a line of 100 MB" "$input"
