@@ -1,0 +1,11 @@
+pub mod SizeLemmas
+pub mod PowerLemmas
+pub mod Circle
+pub mod Triangle
+pub mod ProbeLemmas
+pub mod BucketLemmas
+pub mod FirstFree
+pub mod SearchLemmas
+pub mod LayoutLemmas
+pub mod FindLemmas
+pub mod TableLemmas
