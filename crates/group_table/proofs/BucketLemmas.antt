@@ -1,5 +1,5 @@
 -- Buckets, their marks, and how many there are of each kind.
-use Rattle.std.proofs.Common.{◌≡◌, ◌≢◌, ℕ, suc, ◌+◌, ◌-◌, ◌<◌, ◌≤◌, Bool, true, false, cond, List, [], ◌∷◌, length, map, set, get_or, refl, ap, sym, ◌∙◌, arith, count_by, length-set}
+use Rattle.std.proofs.Common.{◌≡◌, ◌≢◌, ℕ, suc, ◌+◌, ◌-◌, ◌<◌, ◌≤◌, Bool, true, false, cond, List, [], ◌∷◌, length, map, set, get_or, refl, ap, sym, ◌∙◌, arith, count_by, length-set, get_or-set_same, get_or-set_other}
 use Rattle.std.proofs.lemmas.Bool.{false≢true}
 use Rattle.std.proofs.lemmas.List.{get_or_past, map-set, length-map}
 use Rattle.std.proofs.lemmas.List.Sums.{sum_by-cons, sum_by-set, get_or-le-sum_by}
@@ -86,6 +86,13 @@ module _ {A : Type 0} where
 
   count_by-cons : (p : Bucket A → Bool) (s : Bucket A) (rest : List (Bucket A)) → count_by p (s ∷ rest) ≡ cond (p s) 1 0 + count_by p rest
   count_by-cons p s rest = sum_by-cons (λ x. cond (p x) 1 0) s rest
+
+  -- one bucket is written
+  pub bucket_at-set_same : (buckets : List (Bucket A)) (b k : ℕ) (s : Bucket A) → k ≡ b → b < length buckets → bucket_at (set buckets b s) k ≡ s
+  bucket_at-set_same buckets b k s e within = rw e (get_or-set_same buckets b s empty within)
+
+  pub bucket_at-set_other : (buckets : List (Bucket A)) (b k : ℕ) (s : Bucket A) → k ≢ b → bucket_at (set buckets b s) k ≡ bucket_at buckets k
+  bucket_at-set_other buckets b k s p = get_or-set_other buckets b k s empty p
 
   -- what writing one bucket does to a count
   pub count_by-set : (p : Bucket A → Bool) (buckets : List (Bucket A)) (b : ℕ) (s : Bucket A) → b < length buckets → count_by p (set buckets b s) + cond (p (bucket_at buckets b)) 1 0 ≡ count_by p buckets + cond (p s) 1 0

@@ -8,4 +8,11 @@ pub mod FirstFree
 pub mod SearchLemmas
 pub mod LayoutLemmas
 pub mod FindLemmas
+pub mod WriteLemmas
+pub mod PlaceLemmas
+pub mod FitsLemmas
+pub mod RunLemmas
+pub mod RemoveLemmas
+pub mod RefillLemmas
+pub mod FreshLemmas
 pub mod TableLemmas

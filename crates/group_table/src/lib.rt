@@ -2,7 +2,9 @@
 #![tactic(auto)]
 
 mod control;
+mod fields;
 mod link;
+mod neighbours;
 mod probe;
 mod sizes;
 mod table;

@@ -1,0 +1,73 @@
+-- The fields of a table whose buckets are all empty.
+use Rattle.std.proofs.Common.{◌≡◌, ◌≢◌, ℕ, zero, suc, ◌+◌, ◌^◌, ◌<◌, ◌≤◌, ◌∷◌, [], length, get_or, replicate, Option, None, ◌⊎◌, refl, ap, sym, ◌∙◌, arith, inl, inr, count_by, cond, Bool, false}
+use Rattle.std.proofs.lemmas.List.Sums.{sum_by-cons}
+use native.Mathlib.Decide.{dec_lt}
+use Rattle.group_table.specs.Sizes.{IsPowerFromFour, full_capacity}
+use Rattle.group_table.specs.Bucket.{Bucket, Slot, Tagged, empty, deleted, is_used, is_full, bucket_at, entry_count}
+use Rattle.group_table.specs.Fits.{Fits}
+use Rattle.group_table.specs.Layout.{slots_of, byte_of, byte_at, IsValid}
+use Rattle.group_table.proofs.SizeLemmas.{full_capacity-small}
+use Rattle.group_table.proofs.BucketLemmas.{empty_not_deleted}
+use Rattle.group_table.proofs.FitsLemmas.{Fits-none}
+use Rattle.group_table.proofs.WriteLemmas.{byte_at-bucket, byte_at-between, byte_at-again}
+
+length_copies : {X : Type 0} (n : ℕ) (x : X) → length (replicate n x) ≡ n
+length_copies zero x = refl
+length_copies (suc n) x = ap suc (length_copies n x)
+
+copy_at : {X : Type 0} (n k : ℕ) (x : X) → get_or (replicate n x) k x ≡ x
+copy_at zero k x = refl
+copy_at (suc n) zero x = refl
+copy_at (suc n) (suc k) x = copy_at n k x
+
+byte_copy : (m k : ℕ) → k < m → ◌≡◌ {A = ℕ} (get_or (replicate m 255) k 0) 255
+byte_copy zero k p = absurd (omega arith)
+byte_copy (suc m) zero p = refl
+byte_copy (suc m) (suc k) p = byte_copy m k (omega arith)
+
+module _ {A : Type 0} (p : Bucket A → Bool) (no : p empty ≡ false) where
+  none_counted : (n : ℕ) → count_by p (replicate n empty) ≡ 0
+  none_counted zero = refl
+  none_counted (suc n) =
+      let one : ◌≡◌ {A = ℕ} (cond (p empty) 1 0) 0 = ap (λ t. cond {A = ℕ} t 1 0) no in
+      omega (arith, sum_by-cons (λ s. cond (p s) 1 0) empty (replicate n empty), one, none_counted n)
+
+module _ (T : Type 0) where
+  abbrev no_entry : Option T
+  no_entry = None
+
+  pub slots_of-fresh : (n m : ℕ) → n ≤ m → slots_of {T = T} (replicate m 255) (replicate n None) ≡ replicate n empty
+  slots_of-fresh zero m p = refl
+  slots_of-fresh (suc n) zero p = absurd (omega arith)
+  slots_of-fresh (suc n) (suc m) p = ap (λ s. empty ∷ s) (slots_of-fresh n m (omega arith))
+
+  bytes_empty : (n p : ℕ) → byte_at {T = T} (replicate n empty) p ≡ 255
+  bytes_empty n p =
+      elim (dec_lt p (length (replicate {A = Slot T} n empty))) [
+        | yes q ↦ byte_at-bucket (replicate n empty) p q ∙ ap byte_of (copy_at n p empty)
+        | no q ↦ elim (dec_lt p 16) [
+          | yes r ↦ byte_at-between (replicate n empty) p (omega arith) r
+          | no r ↦ byte_at-again (replicate n empty) p (omega arith) (omega arith) ∙ ap byte_of (copy_at n _ empty)
+        ]
+      ]
+
+  -- so the invariant holds of a fresh table of any number of buckets
+  pub IsValid-fresh : (n m : ℕ) → ((n ≡ 0) × (m ≡ 0)) ⊎ (IsPowerFromFour n × (m ≡ n + 16)) → m < 2 ^ 63 → IsValid {T = T} (replicate m 255) (replicate n None) (full_capacity n)
+  IsValid-fresh n m s p =
+      let within : n ≤ m = elim s [ inl w ↦ omega arith | inr w ↦ omega arith ] in
+      record {
+        laid_out = record {
+          counts = rw (length_copies n no_entry, length_copies {X = ℕ} m 255) s;
+          fits = rw (length_copies {X = ℕ} m 255) p;
+          agrees = λ b q. rw (byte_copy m b (let r = rw length_copies at q in omega arith)) (rw copy_at (inr refl));
+          bytes = λ k q. byte_copy m k (rw length_copies at q) ∙ sym (rw (slots_of-fresh n m within) (bytes_empty n k));
+        };
+        room_left = rw (slots_of-fresh n m within, none_counted {A = Tagged T} is_used refl, length_copies) (omega arith);
+        none_deleted = λ q b e. absurd (empty_not_deleted _ (copy_at n b empty) (rw (slots_of-fresh n m within) at e));
+      }
+
+  pub entry_count-fresh : (n m : ℕ) → n ≤ m → entry_count (slots_of {T = T} (replicate m 255) (replicate n None)) ≡ 0
+  entry_count-fresh n m p = rw (slots_of-fresh n m p) (none_counted {A = Tagged T} is_full refl n)
+
+  pub Fits-fresh : (n : ℕ) (hash_of : ℕ → ℕ) → Fits {T = T} (replicate n empty) hash_of
+  Fits-fresh n hash_of = Fits-none (replicate n empty) hash_of (λ b. copy_at n b empty)
