@@ -1,5 +1,6 @@
 -- The fields of a table whose buckets are all empty.
 use Rattle.std.proofs.Common.{◌≡◌, ◌≢◌, ℕ, zero, suc, ◌+◌, ◌^◌, ◌<◌, ◌≤◌, ◌∷◌, [], length, get_or, replicate, Option, None, ◌⊎◌, refl, ap, sym, ◌∙◌, arith, inl, inr, count_by, cond, Bool, false}
+use Rattle.std.proofs.lemmas.List.{length-replicate, get_or-replicate}
 use Rattle.std.proofs.lemmas.List.Sums.{sum_by-cons}
 use native.Mathlib.Decide.{dec_lt}
 use Rattle.group_table.specs.Sizes.{IsPowerFromFour, full_capacity}
@@ -8,22 +9,9 @@ use Rattle.group_table.specs.Fits.{Fits}
 use Rattle.group_table.specs.Layout.{slots_of, byte_of, byte_at, IsValid}
 use Rattle.group_table.proofs.SizeLemmas.{full_capacity-small}
 use Rattle.group_table.proofs.BucketLemmas.{empty_not_deleted}
+use Rattle.group_table.proofs.CopyLemmas.{copy_at}
 use Rattle.group_table.proofs.FitsLemmas.{Fits-none}
 use Rattle.group_table.proofs.WriteLemmas.{byte_at-bucket, byte_at-between, byte_at-again}
-
-length_copies : {X : Type 0} (n : ℕ) (x : X) → length (replicate n x) ≡ n
-length_copies zero x = refl
-length_copies (suc n) x = ap suc (length_copies n x)
-
-copy_at : {X : Type 0} (n k : ℕ) (x : X) → get_or (replicate n x) k x ≡ x
-copy_at zero k x = refl
-copy_at (suc n) zero x = refl
-copy_at (suc n) (suc k) x = copy_at n k x
-
-byte_copy : (m k : ℕ) → k < m → ◌≡◌ {A = ℕ} (get_or (replicate m 255) k 0) 255
-byte_copy zero k p = absurd (omega arith)
-byte_copy (suc m) zero p = refl
-byte_copy (suc m) (suc k) p = byte_copy m k (omega arith)
 
 module _ {A : Type 0} (p : Bucket A → Bool) (no : p empty ≡ false) where
   none_counted : (n : ℕ) → count_by p (replicate n empty) ≡ 0
@@ -57,12 +45,12 @@ module _ (T : Type 0) where
       let within : n ≤ m = elim s [ inl w ↦ omega arith | inr w ↦ omega arith ] in
       record {
         laid_out = record {
-          counts = rw (length_copies n no_entry, length_copies {X = ℕ} m 255) s;
-          fits = rw (length_copies {X = ℕ} m 255) p;
-          agrees = λ b q. rw (byte_copy m b (let r = rw length_copies at q in omega arith)) (rw copy_at (inr refl));
-          bytes = λ k q. byte_copy m k (rw length_copies at q) ∙ sym (rw (slots_of-fresh n m within) (bytes_empty n k));
+          counts = rw (length-replicate n no_entry, length-replicate {A = ℕ} m 255) s;
+          fits = rw (length-replicate {A = ℕ} m 255) p;
+          agrees = λ b q. rw (get_or-replicate {A = ℕ} m b 255 0 (let r = rw length-replicate at q in omega arith)) (rw copy_at (inr refl));
+          bytes = λ k q. get_or-replicate {A = ℕ} m k 255 0 (rw length-replicate at q) ∙ sym (rw (slots_of-fresh n m within) (bytes_empty n k));
         };
-        room_left = rw (slots_of-fresh n m within, none_counted {A = Tagged T} is_used refl, length_copies) (omega arith);
+        room_left = rw (slots_of-fresh n m within, none_counted {A = Tagged T} is_used refl, length-replicate) (omega arith);
         none_deleted = λ q b e. absurd (empty_not_deleted _ (copy_at n b empty) (rw (slots_of-fresh n m within) at e));
       }
 

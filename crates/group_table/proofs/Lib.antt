@@ -14,5 +14,6 @@ pub mod FitsLemmas
 pub mod RunLemmas
 pub mod RemoveLemmas
 pub mod RefillLemmas
+pub mod CopyLemmas
 pub mod FreshLemmas
 pub mod TableLemmas
