@@ -73,11 +73,19 @@ module _ {T : Type 0} (control : List ℕ) (entries : List (Option T)) (r : ℕ)
   pub place_none : get_or entries b None ≡ None
   place_none = elim (cases_eq read 255) [ inl h ↦ (place_empty h).1 | inr h ↦ (place_deleted h).1 ]
 
-  pub place_spends : (read ≡ 255 → 0 < r) → Spends (bucket_at (slots_of control entries) b) r (bool_byte (nat_eq read 255))
+  pub place_spends : bool_byte (nat_eq read 255) ≤ r → Spends (bucket_at (slots_of control entries) b) r (bool_byte (nat_eq read 255))
   place_spends enough =
       elim (cases_eq read 255) [
-        | inl h ↦ inl ((place_empty h).0, enough h, rw (eq-eqb read 255 h))
-        | inr h ↦ inr ((place_deleted h).0, rw (ne_eqb read 255 h))
+        | inl h ↦ let one : bool_byte (nat_eq read 255) ≡ 1 = ap bool_byte (eq-eqb read 255 h) in inl ((place_empty h).0, omega (arith, one, enough), one)
+        | inr h ↦ inr ((place_deleted h).0, ap bool_byte (ne_eqb read 255 h))
+      ]
+
+  -- where the room is less than that, there is none, and the bucket is empty
+  pub no_place_left : r < bool_byte (nat_eq read 255) → (r ≡ 0) × (bucket_at (slots_of control entries) b ≡ empty)
+  no_place_left less =
+      elim (cases_eq read 255) [
+        | inl h ↦ let one : bool_byte (nat_eq read 255) ≡ 1 = ap bool_byte (eq-eqb read 255 h) in (omega (arith, one, less), (place_empty h).0)
+        | inr h ↦ let none : bool_byte (nat_eq read 255) ≡ 0 = ap bool_byte (ne_eqb read 255 h) in absurd (omega (arith, none, less))
       ]
 
 module _ {T : Type 0} (control : List ℕ) (entries : List (Option T)) (r spent : ℕ) (valid : IsValid control entries r) (b : ℕ) (spends : Spends (bucket_at (slots_of control entries) b) r spent) where

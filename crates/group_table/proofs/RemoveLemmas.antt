@@ -14,6 +14,10 @@ use Rattle.group_table.proofs.LayoutLemmas.{length-laid_out, length-marks_by, fu
 use Rattle.group_table.proofs.TableLemmas.{used_lt}
 use Rattle.group_table.proofs.WriteLemmas.{slots_of-written, IsValid-written, entry_count-written}
 
+pub bool_byte-le : (t : Bool) → bool_byte t ≤ 1
+bool_byte-le true = omega arith
+bool_byte-le false = omega arith
+
 -- up to 16 buckets, 16 neighbours are all, and one of them is empty
 hemmed_in_small : (marks : List Mark) (b : ℕ) → IsHemmedIn marks b → length marks ≤ 16 → count_by is_used marks < length marks → ⊥
 hemmed_in_small marks b hemmed p q =

@@ -1,5 +1,5 @@
 -- The buckets that a search asks about.
-use Rattle.std.proofs.Common.{◌≡◌, ◌≢◌, ℕ, zero, suc, ◌+◌, ◌%◌, ◌<◌, ◌≤◌, Bool, true, false, cond, List, [], ◌∷◌, ◌++◌, length, map, get_or, refl, ap, sym, ◌∙◌, subst, arith, append_assoc, add-one, add-zero, eq-eqb, AllPairs, IsTrue}
+use Rattle.std.proofs.Common.{◌≡◌, ◌≢◌, ℕ, zero, suc, ◌+◌, ◌%◌, ◌<◌, ◌≤◌, Bool, true, false, cond, List, [], ◌∷◌, ◌++◌, length, map, get_or, refl, ap, sym, ◌∙◌, subst, arith, append_assoc, add-one, add-zero, eq-eqb, AllPairs, Option, Some, None, IfSome, IfNone}
 use Rattle.std.specs.List.{range_with_len, FoldsTo, Contains}
 use Rattle.std.specs.Borrow.{Bor}
 use Rattle.std.specs.Fn.{Mut, Called}
@@ -27,6 +27,12 @@ module _ {T : Type 0} where
   held_by empty e = absurd (cc)
   held_by deleted e = absurd (cc)
   held_by (full held) e = (held, refl)
+
+  -- a bucket with an entry is full
+  pub full_by_entry : (s : Slot T) (entry : T) → entry_of s ≡ Some entry → is_full s ≡ true
+  full_by_entry empty entry e = absurd (cc)
+  full_by_entry deleted entry e = absurd (cc)
+  full_by_entry (full held) entry e = refl
 
   pub has_tag-full : (s : Slot T) (held : Tagged T) (tag : ℕ) → s ≡ full held → held.tag ≡ tag → has_tag tag s ≡ true
   has_tag-full s held tag e f = rw e (eq-eqb held.tag tag f)
@@ -103,3 +109,11 @@ module _ {T F : Type 0} (closure : Mut F (Bor T × Unit {0}) Bool) (slots : List
     -- a lane with no such tag
     pub RefusesEach-skip : (f between : F) → RefusesEach closure slots f (tagged_lanes slots tag start lane) between → has_tag tag (bucket_at slots ((start + lane) % length slots)) ≡ false → RefusesEach closure slots f (tagged_lanes slots tag start (lane + 1)) between
     RefusesEach-skip f between before e = rw (tagged_lanes-skip slots tag start lane e) before
+
+pub if_some : {T : Type 0} {P Q : T → Type 0} (r : Option T) → ((x : T) → P x → Q x) → IfSome r P → IfSome r Q
+if_some None h p = p
+if_some (Some x) h p = h x p
+
+pub if_none : {T : Type 0} {P Q : Type 0} (r : Option T) → (P → Q) → IfNone r P → IfNone r Q
+if_none None h p = h p
+if_none (Some x) h p = p

@@ -24,6 +24,13 @@ module _ {T : Type 0} (control : List ℕ) (entries : List (Option T)) (r : ℕ)
   room_by = let e = room_is (marks_by control entries) in let same = length-marks_by control entries valid.laid_out in
       (let f : r ≡ full_capacity (length entries) - count_by is_used (marks_by control entries) = omega (arith, used_is) in f) ∙ ap (λ n. full_capacity n - count_by is_used (marks_by control entries)) (sym same) ∙ sym e
 
+  -- there is less room than 2 ^ 63
+  pub room_within : r ≤ length entries
+  room_within = elim valid.laid_out.counts [
+    | inl w ↦ let none : full_capacity (length entries) ≡ full_capacity 0 = ap full_capacity w.0 in omega (arith, used_is, none, full_capacity-small 0 (omega arith))
+    | inr w ↦ omega (arith, used_is, full_capacity-lt (length entries) w.0)
+  ]
+
   pub used_lt : 0 < length entries → count_by is_used (marks_by control entries) < length entries
   used_lt pos = omega (arith, used_is, full_capacity-lt (length entries) (power_of control entries valid.laid_out pos))
 

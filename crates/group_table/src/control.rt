@@ -18,6 +18,14 @@ pub(crate) fn tag_of(hash: u64) -> u8
     (hash >> 57) as u8
 }
 
+// The control byte of a bucket whose entry has left, by whether that gives its room back.
+#[inline]
+pub(crate) fn emptied_byte(gives_room: bool) -> u8
+    ensures { result ≡ (if gives_room then 255 else 128) }
+{
+    if gives_room { EMPTY } else { DELETED }
+}
+
 // The bucket at a place on the circle.
 #[inline]
 pub(crate) fn wrap(place: usize, buckets: usize) -> usize

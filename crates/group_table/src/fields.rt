@@ -8,6 +8,13 @@ use crate::control::{EMPTY, set_byte};
 use std::alloc::{AllocError, Global};
 use std::mem;
 
+// The control bytes of so many empty buckets, or of more.
+pub(crate) fn empty_bytes(alloc: Global, count: usize) -> Result<Vec<u8>, AllocError>
+    ensures { IfOk result (λ v. v.items ≡ replicate count 255) }
+{
+    vec![in alloc; EMPTY; count]
+}
+
 // So many places with no entry.
 pub(crate) fn no_entries<T>(alloc: Global, count: usize) -> Result<Vec<Option<T>>, AllocError>
     ensures { IfOk result (λ v. v.items ≡ replicate count None) }
@@ -23,18 +30,18 @@ pub(crate) fn no_entries<T>(alloc: Global, count: usize) -> Result<Vec<Option<T>
 }
 
 // Makes every byte that of an empty bucket.
-pub(crate) fn free_bytes(control: &mut [u8])
-    ensures { control.new ≡ replicate (length control.old) 255 }
+pub(crate) fn free_bytes(control: &mut Vec<u8>)
+    ensures { control.new.items ≡ replicate (length control.old.items) 255 }
 {
     control.fill(EMPTY);
 }
 
 // Drops every entry.
-pub(crate) fn free_entries<T: Drop>(entries: &mut [Option<T>])
-    ensures { entries.new ≡ replicate (length entries.old) None }
+pub(crate) fn free_entries<T: Drop>(entries: &mut Vec<Option<T>>)
+    ensures { entries.new.items ≡ replicate (length entries.old.items) None }
 {
-    for entry in entries.iter_mut() {
-        *entry = None;
+    for b in 0..entries.len() {
+        entries[b] = None;
     }
 }
 

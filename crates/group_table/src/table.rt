@@ -8,8 +8,8 @@ ghost use Rattle.group_table.specs.Fits.{Fits, with_hash};
 ghost use Rattle.group_table.specs.Search.{Finds, FindsNone};
 ghost use Rattle.group_table.specs.Change.{Places, MayFill, HasNoPlace, Removes};
 
-use crate::control::{DELETED, EMPTY, tag_of};
-use crate::fields::{empty_bucket, entry_mut, fill_bucket, free_bytes, free_entries, no_entries};
+use crate::control::{DELETED, EMPTY, emptied_byte, tag_of};
+use crate::fields::{empty_bucket, empty_bytes, entry_mut, fill_bucket, free_bytes, free_entries, no_entries};
 use crate::neighbours::has_empty_neighbours;
 use crate::probe::{find_bucket, first_free};
 use crate::sizes::full_capacity;
@@ -75,7 +75,7 @@ impl<T> Table<T> {
         if buckets == 0 {
             return Ok(Table::new(alloc));
         }
-        let control = vec![in alloc; EMPTY; buckets + 16]?;
+        let control = empty_bytes(alloc, buckets + 16)?;
         let entries = no_entries(alloc, buckets)?;
         Ok(Table {
             control,
@@ -193,8 +193,8 @@ impl<T> Table<T> {
             return Err(entry);
         }
         let b = first_free(self.control.as_slice(), buckets, hash);
-        let takes_room = self.control[b] == EMPTY;
-        if takes_room && self.room == 0 {
+        let spent = (self.control[b] == EMPTY) as usize;
+        if self.room < spent {
             return Err(entry);
         }
         fill_bucket(
@@ -204,7 +204,7 @@ impl<T> Table<T> {
             tag_of(hash),
             entry,
         );
-        self.room -= takes_room as usize;
+        self.room -= spent;
         self.len += 1;
         self.placings = self.placings.saturating_add(1);
         Ok(b)
@@ -225,12 +225,8 @@ impl<T> Table<T> {
         let gives_room = has_empty_neighbours(self.control.as_slice(), self.entries.len(), b);
         self.room += gives_room as usize;
         self.len -= 1;
-        empty_bucket(
-            &mut self.control,
-            &mut self.entries,
-            b,
-            if gives_room { EMPTY } else { DELETED },
-        )
+        let byte = emptied_byte(gives_room);
+        empty_bucket(&mut self.control, &mut self.entries, b, byte)
     }
 }
 
@@ -242,8 +238,8 @@ impl<T: Drop> Table<T> {
         ensures table { IsTable (marks_of self.new.slots) }
         ensures fits { (hash_of : ℕ → ℕ) → Fits self.new.slots hash_of }
     {
-        free_bytes(self.control.as_mut_slice());
-        free_entries(self.entries.as_mut_slice());
+        free_bytes(&mut self.control);
+        free_entries(&mut self.entries);
         self.room = full_capacity(self.entries.len());
         self.len = 0;
     }
