@@ -16,4 +16,5 @@ pub mod RemoveLemmas
 pub mod RefillLemmas
 pub mod CopyLemmas
 pub mod FreshLemmas
+pub mod CallerLemmas
 pub mod TableLemmas

@@ -3,7 +3,7 @@ use Rattle.std.proofs.Common.{◌≡◌, ◌≢◌, ℕ, ◌+◌, ◌-◌, ◌<�
 use Rattle.std.proofs.lemmas.Bool.{lt-ltb, le-ltb, cases_eq, ne_eqb}
 use Rattle.std.proofs.lemmas.List.{get_or_read}
 use mir.Val.{bool_byte}
-use Rattle.group_table.specs.Bucket.{Slot, Tagged, empty, deleted, full, bucket_at, is_full, is_used, entry_count, room}
+use Rattle.group_table.specs.Bucket.{Slot, Tagged, empty, deleted, full, bucket_at, is_full, is_used, entry_count, mark_of, room, room_at}
 use Rattle.group_table.specs.Probe.{IsFirstFree}
 use Rattle.group_table.specs.Change.{MayFill}
 use Rattle.group_table.specs.Layout.{slot_of, slots_of, marks_by, Agrees, IsLaidOut, IsValid, written}
@@ -95,6 +95,13 @@ module _ {T : Type 0} (control : List ℕ) (entries : List (Option T)) (r spent 
     | inr w ↦ inr (bucket_at-marks_of (slots_of control entries) b ∙ rw w.0)
   ]
 
+  -- the room that it takes is what the bucket counted
+  room_spent : room_at (marks_by control entries) b ≡ spent
+  room_spent = elim spends [
+    | inl w ↦ ap (λ m. cond {A = ℕ} (is_used m) 0 1) (bucket_at-marks_of (slots_of control entries) b ∙ ap mark_of w.0) ∙ sym w.2
+    | inr w ↦ ap (λ m. cond {A = ℕ} (is_used m) 0 1) (bucket_at-marks_of (slots_of control entries) b ∙ ap mark_of w.0) ∙ sym w.1
+  ]
+
   module _ (tag : ℕ) (entry : T) (within : b < length entries) (tag_fits : tag < 128) where
     pub IsValid-placed : IsValid (written control entries b tag) (set entries b (Some entry)) (r - spent)
     IsValid-placed =
@@ -106,3 +113,8 @@ module _ {T : Type 0} (control : List ℕ) (entries : List (Option T)) (r spent 
         let frees = free_of (bucket_at (slots_of control entries) b) r spent spends in
         let none : ◌≡◌ {A = ℕ} (cond (is_full (bucket_at (slots_of control entries) b)) 1 0) 0 = ap (λ t. cond {A = ℕ} t 1 0) frees.0 in
         omega (arith, none, entry_count-written control entries r valid b tag (Some entry) within tag_fits)
+
+    pub room-placed : room (marks_by (written control entries b tag) (set entries b (Some entry))) + room_at (marks_by control entries) b ≡ room (marks_by control entries)
+    room-placed =
+        let frees = free_of (bucket_at (slots_of control entries) b) r spent spends in
+        omega (arith, frees.2, room_spent, room_by _ _ _ IsValid-placed, room_by control entries r valid)

@@ -56,7 +56,7 @@ module _ {T : Type 0} (control : List ℕ) (entries : List (Option T)) (r : ℕ)
       let capacity : full_capacity (length (marks_by control entries)) ≡ full_capacity (length entries) = ap full_capacity same in
       record {
         count = rw same bucket_count;
-        fits = elim valid.laid_out.counts [ inl w ↦ omega (arith, w.0, same) | inr w ↦ omega (arith, w.1, same, valid.laid_out.fits) ];
+        addressable = elim valid.laid_out.counts [ inl w ↦ omega (arith, w.0, same) | inr w ↦ omega (arith, w.1, same, valid.laid_out.fits) ];
         used_within = omega (arith, used_is, capacity);
         within = omega (arith, left, split, capacity);
         exact = λ small. omega (arith, left, split, capacity, none_deleted_small (omega (arith, small, same)));

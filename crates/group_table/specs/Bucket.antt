@@ -1,5 +1,5 @@
 -- What stands in the buckets of a table: in full (slots), or less the tags and entries (marks).
-use Rattle.std.specs.Prelude.{ℕ, ◌-◌, Bool, true, false, List, length, map, count_by, slice_index_or, nat_eq, Option, Some, None, IsTrue}
+use Rattle.std.specs.Prelude.{ℕ, ◌-◌, if◌then◌else◌, Bool, true, false, List, length, map, count_by, slice_index_or, nat_eq, Option, Some, None, IsTrue}
 use Rattle.group_table.specs.Sizes.{full_capacity}
 
 -- a bucket is empty, deleted (a removal emptied it, and searches go on past it), or full
@@ -61,6 +61,10 @@ module _ {A : Type 0} where
 -- how many more entries are sure to find an empty bucket
 unfoldable pub room : List Mark → ℕ
 room marks = full_capacity (length marks) - count_by is_used marks
+
+-- what a bucket counts in the room: one where it is empty
+abbrev pub room_at : List Mark → ℕ → ℕ
+room_at marks b = if is_used (bucket_at marks b) then 0 else 1
 
 module _ {T : Type 0} where
   abbrev pub entry_of : Slot T → Option T

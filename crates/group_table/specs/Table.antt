@@ -16,7 +16,7 @@ with_entry t b entry = record t { slots = slice_set t.slots b (refilled (bucket_
 -- what holds of the marks of every table
 pub record IsTable (marks : List Mark) : Type 0 where
   pub count : IsBucketCount (length marks)
-  pub fits : length marks + 16 < 2 ^ 63
+  pub addressable : length marks + 16 < 2 ^ 63
   pub used_within : count_by is_used marks ≤ full_capacity (length marks)
   pub within : entry_count marks + room marks ≤ full_capacity (length marks)
   -- up to 16 buckets none is deleted, so that each entry that leaves gives its room back

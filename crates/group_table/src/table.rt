@@ -2,7 +2,7 @@
 ghost use Rattle.std.specs.Prelude.{◌≡◌, ◌↔◌, ℕ, ◌+◌, ◌^◌, ◌<◌, [], length, replicate, Some, IfSome, IfNone, IfOk, IfErr, OnErr, IsOk, IsTrue};
 ghost use Rattle.std.specs.Borrow.{sem};
 ghost use Rattle.group_table.specs.Sizes.{IsBucketCount};
-ghost use Rattle.group_table.specs.Bucket.{empty, marks_of, IsFull, entry_at, entry_count, room};
+ghost use Rattle.group_table.specs.Bucket.{empty, marks_of, IsFull, entry_at, entry_count, room, room_at};
 ghost use Rattle.group_table.specs.Table.{IsTable, with_entry};
 ghost use Rattle.group_table.specs.Fits.{Fits, with_hash};
 ghost use Rattle.group_table.specs.Search.{Finds, FindsNone};
@@ -180,6 +180,7 @@ impl<T> Table<T> {
     pub fn try_place(&mut self, hash: u64, entry: T) -> Result<usize, T>
         ensures placed { IfOk result (Places self.old self.new hash entry) }
         ensures may_fill { IfOk result (MayFill (marks_of self.old.slots)) }
+        ensures room { IfOk result (λ b. room (marks_of self.new.slots) + room_at (marks_of self.old.slots) b ≡ room (marks_of self.old.slots)) }
         ensures fits { IfOk result (λ b. (hash_of : ℕ → ℕ) → Fits self.old.slots hash_of → Fits self.new.slots (with_hash hash_of b hash)) }
         ensures table { IsTable (marks_of self.new.slots) }
 
@@ -218,6 +219,7 @@ impl<T> Table<T> {
         requires { IsFull self.old.slots b }
         ensures entry { entry_at self.old.slots b ≡ Some result }
         ensures removed { Removes self.old.slots self.new.slots b }
+        ensures room { room (marks_of self.new.slots) ≡ room (marks_of self.old.slots) + room_at (marks_of self.new.slots) b }
         ensures placings { self.new.placings ≡ self.old.placings }
         ensures fits { (hash_of : ℕ → ℕ) → Fits self.old.slots hash_of → Fits self.new.slots hash_of }
         ensures table { IsTable (marks_of self.new.slots) }

@@ -1,7 +1,7 @@
 use Rattle.std.proofs.Common.{◌≡◌, ◌<◌, length, arith}
 use Rattle.group_table.specs.Layout.{slots_of}
 use Rattle.group_table.proofs.LayoutLemmas.{length-laid_out, entries_within, power_of, full_within, is_some_entry, entry_at-full}
-use Rattle.group_table.proofs.RemoveLemmas.{bool_byte-le, removed, entry_count-pos, full_byte}
+use Rattle.group_table.proofs.RemoveLemmas.{bool_byte-le, removed, room-removed, entry_count-pos, full_byte}
 use Rattle.group_table.proofs.FitsLemmas.{Fits-removed}
 use Rattle.group_table.proofs.TableLemmas.{IsTable-by, room_within}
 use Rattle.group_table.proofs.table.Table.take.Goals as goal
@@ -54,6 +54,14 @@ returns-clause-removed g c =
     let told = rw (c.as_slice.ensures.value, n) at c.has_empty_neighbours-gives_room.ensures in
     let r = removed _ _ _ c.self.invariant.0 c.args.b there c.has_empty_neighbours-gives_room.result told in
     rw (← c.self.view_is, c.empty_bucket.ensures.control, c.empty_bucket.ensures.entries, c.emptied_byte-byte.ensures) r.removes
+
+pub returns-clause-room : goal.returns-clause-room
+returns-clause-room g c =
+    let there = rw (← c.self.view_is) at c.requires in
+    let n : c.len.result ≡ length c.self.inside.entries.items = omega arith in
+    let told = rw (c.as_slice.ensures.value, n) at c.has_empty_neighbours-gives_room.ensures in
+    let r = removed _ _ _ c.self.invariant.0 c.args.b there c.has_empty_neighbours-gives_room.result told in
+    rw (← c.self.view_is, c.empty_bucket.ensures.control, c.empty_bucket.ensures.entries, c.emptied_byte-byte.ensures) (room-removed _ _ _ c.self.invariant.0 c.args.b there _ _ r)
 
 pub returns-clause-fits : goal.returns-clause-fits
 returns-clause-fits g c hash_of fits =

@@ -7,7 +7,7 @@ use Rattle.group_table.proofs.BucketLemmas.{bucket_at-marks_of}
 use Rattle.group_table.proofs.LayoutLemmas.{length-laid_out, entries_within, power_of}
 use Rattle.group_table.proofs.TableLemmas.{IsTable-by, room_by}
 use Rattle.group_table.proofs.WriteLemmas.{slots_of-written}
-use Rattle.group_table.proofs.PlaceLemmas.{some_free_byte, place_first, place_within, no_place_left, place_none, place_spends, MayFill-from, IsValid-placed, entry_count-placed}
+use Rattle.group_table.proofs.PlaceLemmas.{some_free_byte, place_first, place_within, no_place_left, place_none, place_spends, MayFill-from, IsValid-placed, entry_count-placed, room-placed}
 use Rattle.group_table.proofs.FitsLemmas.{Fits-placed}
 use Rattle.group_table.proofs.table.Table.try_place.Goals as goal
 
@@ -88,3 +88,12 @@ returns-clause-table g c =
     let spends = place_spends _ _ _ valid c.args.hash c.first_free-b.result c.len-buckets.result c.index.result.now (omega arith) (omega arith) first c.index.ensures (omega arith) in
     rw (c.fill_bucket.ensures.control, c.fill_bucket.ensures.entries)
     (IsTable-by _ _ _ (IsValid-placed _ _ _ _ valid c.first_free-b.result spends c.tag_of.result c.args.entry within c.tag_of.ensures.bound))
+
+pub returns-clause-room : goal.returns-clause-room
+returns-clause-room g c =
+    let valid = c.self.invariant.0 in
+    let first = rw c.as_slice.ensures.value at c.first_free-b.ensures in
+    let within = place_within _ _ _ valid c.args.hash c.first_free-b.result c.len-buckets.result c.index.result.now (omega arith) (omega arith) first c.index.ensures in
+    let spends = place_spends _ _ _ valid c.args.hash c.first_free-b.result c.len-buckets.result c.index.result.now (omega arith) (omega arith) first c.index.ensures (omega arith) in
+    rw (← c.self.view_is, c.fill_bucket.ensures.control, c.fill_bucket.ensures.entries)
+    (room-placed _ _ _ _ valid c.first_free-b.result spends c.tag_of.result c.args.entry within c.tag_of.ensures.bound)
