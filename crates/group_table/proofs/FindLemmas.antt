@@ -78,7 +78,7 @@ module _ {T F : Type 0} (closure : Mut F (Bor T × Unit {0}) Bool) (slots : List
   Finds-from b here =
       let fits : s + here.lanes ≤ length slots = omega (arith, here.in_group, group_within (length slots) s power whole within) in
       let order : (candidates slots hash s ++ here.asked) ++ b ∷ [] ≡ candidates slots hash (s + here.lanes) =
-          append_assoc (candidates slots hash s) here.asked (b ∷ []) ∙ ap (λ xs. candidates slots hash s ++ xs) here.in_order ∙ sym (candidates-group slots hash s here.lanes whole (omega (arith, here.in_group))) in
+      append_assoc (candidates slots hash s) here.asked (b ∷ []) ∙ ap (λ xs. candidates slots hash s ++ xs) here.in_order ∙ sym (candidates-group slots hash s here.lanes whole (omega (arith, here.in_group))) in
       record {
         asked = candidates slots hash s ++ here.asked;
         search = record { steps = s + here.lanes; within = fits; in_order = order; distinct = rw order (candidates-distinct slots hash (s + here.lanes) power fits) };
@@ -147,8 +147,8 @@ module _ {T : Type 0} (control : List ℕ) (entries : List (Option T)) (laid_out
       let same = length-laid_out control entries laid_out in
       let marks = length-marks_of (slots_of control entries) in
       up_to_lane (length entries) hash s whole (λ b. bucket_at (marks_by control entries) b ≢ empty) (min 16 (length entries)) (omega arith)
-        (λ t p. rw (marks, same) at (none_before t p))
-        (rw same at none_here)
+      (λ t p. rw (marks, same) at (none_before t p))
+      (rw same at none_here)
 
   pub not_ended : (b : ℕ) → b < length entries → bucket_at (marks_by control entries) b ≡ empty → s + 16 < length entries
   not_ended b p e = elim (dec_lt (s + 16) (length entries)) [

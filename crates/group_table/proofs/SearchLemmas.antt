@@ -80,11 +80,11 @@ module _ {T : Type 0} (slots : List (Slot T)) (hash : ℕ) where
   pub candidates-distinct : (steps : ℕ) → IsPowerFromFour (length slots) → steps ≤ length slots → AllPairs ◌≢◌ (candidates slots hash steps)
   candidates-distinct steps power p =
       AllPairs-filter ◌≢◌ _ (map (probed (length slots) hash) (range_with_len 0 steps)) (λ i j d l m e.
-        let in_list : j < steps = rw (length-map-range_with_len (probed (length slots) hash) 0 steps) at m in
-        let first = get_or-map-range_with_len (probed (length slots) hash) 0 steps i i d (omega arith) (omega arith) in
-        let second = get_or-map-range_with_len (probed (length slots) hash) 0 steps j j d in_list (omega arith) in
-        let same = probed-apart (length slots) hash i j power (omega arith) (omega arith) (sym first ∙ e ∙ second) in
-        omega (arith, same))
+      let in_list : j < steps = rw (length-map-range_with_len (probed (length slots) hash) 0 steps) at m in
+      let first = get_or-map-range_with_len (probed (length slots) hash) 0 steps i i d (omega arith) (omega arith) in
+      let second = get_or-map-range_with_len (probed (length slots) hash) 0 steps j j d in_list (omega arith) in
+      let same = probed-apart (length slots) hash i j power (omega arith) (omega arith) (sym first ∙ e ∙ second) in
+      omega (arith, same))
 
   -- a bucket with the tag that is visited is among them
   pub Contains-candidates : (s steps : ℕ) → s < steps → has_tag (hash_tag hash) (bucket_at slots (probed (length slots) hash s)) ≡ true → Contains (candidates slots hash steps) (probed (length slots) hash s)

@@ -37,8 +37,8 @@ module _ {T : Type 0} (control : List ℕ) (entries : List (Option T)) (r : ℕ)
   none_deleted_small : length entries ≤ 16 → count_by is_deleted (marks_by control entries) ≡ 0
   none_deleted_small small =
       deleted_count-marks_of (slots_of control entries) ∙ deleted_count-none (slots_of control entries) (λ b e.
-        let none : length entries ≡ 0 = valid.none_deleted small b e in
-        empty_not_deleted _ (bucket_at-past (slots_of control entries) b (omega (arith, none, length-laid_out control entries valid.laid_out))) e)
+      let none : length entries ≡ 0 = valid.none_deleted small b e in
+      empty_not_deleted _ (bucket_at-past (slots_of control entries) b (omega (arith, none, length-laid_out control entries valid.laid_out))) e)
 
   pub empty_there : 0 < length entries → (b : ℕ) × (b < length (marks_by control entries)) × (bucket_at (marks_by control entries) b ≡ empty)
   empty_there pos = some_empty (marks_by control entries) (omega (arith, used_lt pos, length-marks_by control entries valid.laid_out))

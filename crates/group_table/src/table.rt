@@ -8,13 +8,17 @@ ghost use Rattle.group_table.specs.Fits.{Fits, with_hash};
 ghost use Rattle.group_table.specs.Search.{Finds, FindsNone};
 ghost use Rattle.group_table.specs.Change.{Places, MayFill, HasNoPlace, Removes};
 
-use crate::control::{DELETED, EMPTY, emptied_byte, tag_of};
-use crate::fields::{empty_bucket, empty_bytes, entry_mut, fill_bucket, free_bytes, free_entries, no_entries};
+use crate::control::{EMPTY, emptied_byte, tag_of};
+use crate::fields::{
+    empty_bucket, empty_bytes, entry_mut, fill_bucket, free_bytes, free_entries, no_entries,
+};
 use crate::neighbours::has_empty_neighbours;
 use crate::probe::{find_bucket, first_free};
 use crate::sizes::full_capacity;
 use std::alloc::{AllocError, Global};
 use std::marker::Model;
+
+mod figures;
 
 /// A hash table of numbered buckets, each of which is empty, deleted or full.
 ///
@@ -86,51 +90,6 @@ impl<T> Table<T> {
         })
     }
 
-    /// The number of buckets.
-    #[inline]
-    pub fn buckets(&self) -> usize
-        ensures value { result ≡ length self.now.slots }
-        ensures table { IsTable (marks_of self.now.slots) }
-    {
-        self.entries.len()
-    }
-
-    /// The number of entries.
-    #[inline]
-    pub fn len(&self) -> usize
-        ensures value { result ≡ entry_count self.now.slots }
-        ensures table { IsTable (marks_of self.now.slots) }
-    {
-        self.len
-    }
-
-    /// How many more entries are sure to find an empty bucket.
-    #[inline]
-    pub fn room(&self) -> usize
-        ensures value { result ≡ room (marks_of self.now.slots) }
-        ensures table { IsTable (marks_of self.now.slots) }
-    {
-        self.room
-    }
-
-    /// How many placings the table has made; a count that reaches `u64::MAX` stays there.
-    #[inline]
-    pub fn placings(&self) -> u64
-        ensures value { result ≡ self.now.placings }
-        ensures table { IsTable (marks_of self.now.slots) }
-    {
-        self.placings
-    }
-
-    /// Whether the bucket is there and holds an entry.
-    #[inline]
-    pub fn is_full(&self, b: usize) -> bool
-        ensures full { IsTrue result ↔ IsFull self.now.slots b }
-        ensures table { IsTable (marks_of self.now.slots) }
-    {
-        b < self.entries.len() && self.control[b] < DELETED
-    }
-
     /// The bucket of the first entry that `f` accepts, of those with the tag of the hash, its top 7 bits.
     ///
     /// `f` is asked about one entry after another in the order of the search, about each at most once, and no more
@@ -198,13 +157,7 @@ impl<T> Table<T> {
         if self.room < spent {
             return Err(entry);
         }
-        fill_bucket(
-            &mut self.control,
-            &mut self.entries,
-            b,
-            tag_of(hash),
-            entry,
-        );
+        fill_bucket(&mut self.control, &mut self.entries, b, tag_of(hash), entry);
         self.room -= spent;
         self.len += 1;
         self.placings = self.placings.saturating_add(1);

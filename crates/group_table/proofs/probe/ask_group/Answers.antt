@@ -12,7 +12,7 @@ returns-then-f-clause-asked g c =
     let l = c.loop-lane in
     let slot = bucket_at-read c.args.control.now c.args.entries.now c.requires.laid_out c.wrap-b.result c.wrap-b.ensures.bound c.args.tag _ c.in-Some.entry c.if-byte-tag.true c.index-entries-b.is c.in-Some.is in
     AcceptsIn-from _ _ c.requires.laid_out c.args.start l.lane _ c.wrap-b.ensures.value c.wrap-b.ensures.bound g.F.FnMut c.args.tag _ l.f l.invariant.refused c.in-Some.entry slot _ (omega arith)
-      (Answers-from_call g.F.FnMut _ _ _ _ _ _ _ c.in-Some.entry _ slot refl c.f.ensures c.if-f.true)
+    (Answers-from_call g.F.FnMut _ _ _ _ _ _ _ c.in-Some.entry _ slot refl c.f.ensures c.if-f.true)
 
 pub loop-lane-preserved : goal.loop-lane-preserved
 loop-lane-preserved g c =
@@ -23,19 +23,19 @@ loop-lane-preserved g c =
           record {
             callable = search of_calls;
             refused = refused_asked _ _ c.requires.laid_out c.args.start l.lane _ c.wrap-b.ensures.value c.wrap-b.ensures.bound g.F.FnMut c.args.tag _ l.f l.invariant.refused w.in-Some.entry slot _
-              (Answers-from_call g.F.FnMut _ _ _ _ _ _ _ w.in-Some.entry _ slot refl w.f.ensures w.if-f.false);
+                (Answers-from_call g.F.FnMut _ _ _ _ _ _ _ w.in-Some.entry _ slot refl w.f.ensures w.if-f.false);
             ended = ended_as_before _ _ c.requires.laid_out c.args.start l.lane _ c.wrap-b.ensures.value c.wrap-b.ensures.bound _ l.invariant.ended (λ e. omega (arith, e, w.if-byte-tag.true, c.requires.tag));
           })
       | else-byte-tag+then-byte w ↦ rw (w.f-is, w.ended-is) record {
-          callable = l.invariant.callable;
-          refused = refused_passed _ _ c.requires.laid_out c.args.start l.lane _ c.wrap-b.ensures.value c.wrap-b.ensures.bound g.F.FnMut c.args.tag _ l.f l.invariant.refused w.if-byte-tag.false;
-          ended = ended_here _ _ c.requires.laid_out c.args.start l.lane _ c.wrap-b.ensures.value c.wrap-b.ensures.bound w.if-byte.true;
-        }
+        callable = l.invariant.callable;
+        refused = refused_passed _ _ c.requires.laid_out c.args.start l.lane _ c.wrap-b.ensures.value c.wrap-b.ensures.bound g.F.FnMut c.args.tag _ l.f l.invariant.refused w.if-byte-tag.false;
+        ended = ended_here _ _ c.requires.laid_out c.args.start l.lane _ c.wrap-b.ensures.value c.wrap-b.ensures.bound w.if-byte.true;
+      }
       | else-byte-tag+else-byte w ↦ rw (w.f-is, w.ended-is) record {
-          callable = l.invariant.callable;
-          refused = refused_passed _ _ c.requires.laid_out c.args.start l.lane _ c.wrap-b.ensures.value c.wrap-b.ensures.bound g.F.FnMut c.args.tag _ l.f l.invariant.refused w.if-byte-tag.false;
-          ended = ended_as_before _ _ c.requires.laid_out c.args.start l.lane _ c.wrap-b.ensures.value c.wrap-b.ensures.bound _ l.invariant.ended w.if-byte.false;
-        }
+        callable = l.invariant.callable;
+        refused = refused_passed _ _ c.requires.laid_out c.args.start l.lane _ c.wrap-b.ensures.value c.wrap-b.ensures.bound g.F.FnMut c.args.tag _ l.f l.invariant.refused w.if-byte-tag.false;
+        ended = ended_as_before _ _ c.requires.laid_out c.args.start l.lane _ c.wrap-b.ensures.value c.wrap-b.ensures.bound _ l.invariant.ended w.if-byte.false;
+      }
     ]
 
 pub returns-then-ended-clause-asked : goal.returns-then-ended-clause-asked

@@ -31,7 +31,7 @@ returns-in-Accepted-clause-found g c =
     let slots = slots_of c.args.control.now c.args.entries.now in
     let same = length-laid_out _ _ c.requires.laid_out in
     Finds-from g.F.FnMut slots c.args.hash l.stride (rw same (power_of _ _ c.requires.laid_out (omega arith))) l.invariant.whole (rw same l.invariant.within) c.args.f l.f _ l.invariant.refused c.in-Accepted.b
-      (rw (l.invariant.start, c.tag_of-tag.ensures.value) at c.in-Accepted.ensures.asked)
+    (rw (l.invariant.start, c.tag_of-tag.ensures.value) at c.in-Accepted.ensures.asked)
 
 pub returns-in-Ended-clause-none : goal.returns-in-Ended-clause-none
 returns-in-Ended-clause-none g c =

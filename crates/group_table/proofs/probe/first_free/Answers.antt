@@ -14,7 +14,7 @@ returns-in-Some c =
       there = probed-lane n c.args.hash l.stride here.lane l.invariant.whole here.in_group ∙ ap (λ s. (s + here.lane) % n) (sym l.invariant.start) ∙ here.there;
       free_there = here.free_there;
       full_before = up_to_lane n c.args.hash l.stride l.invariant.whole (λ b. slice_index c.args.control.now b < 128) here.lane (omega (arith, here.in_group)) l.invariant.full_before
-        (subst (λ s. (lane : _) → lane < here.lane → slice_index c.args.control.now ((s + lane) % n) < 128) l.invariant.start here.full_before);
+          (subst (λ s. (lane : _) → lane < here.lane → slice_index c.args.control.now ((s + lane) % n) < 128) l.invariant.start here.full_before);
     }
 
 pub groups-preserved : goal.groups-preserved
