@@ -37,3 +37,6 @@ pub fn buckets_for_capacity(capacity: usize, max: usize) -> Option<usize>
     let buckets = (capacity.checked_mul(8)? / 7).next_power_of_two();
     if buckets < max { Some(buckets) } else { None }
 }
+
+#[cfg(test)]
+mod tests;

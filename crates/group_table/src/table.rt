@@ -199,3 +199,6 @@ impl<T: Drop> Table<T> {
         self.len = 0;
     }
 }
+
+#[cfg(test)]
+mod tests;
