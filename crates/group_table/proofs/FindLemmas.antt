@@ -1,13 +1,12 @@
 -- What the code learns lane by lane and group by group of a search that asks a closure.
-use Rattle.std.proofs.Common.{◌≡◌, ◌≢◌, ℕ, zero, suc, ◌+◌, ◌%◌, ◌/◌, ◌*◌, ◌<◌, ◌≤◌, min, Bool, true, false, cond, List, [], ◌∷◌, ◌++◌, length, get_or, Option, None, Some, MatchBool, refl, ap, sym, ◌∙◌, subst, arith, append_assoc, nat_eq}
-use Rattle.std.specs.List.{FoldsTo, Contains}
+use Rattle.std.proofs.Common.{◌≡◌, ◌≢◌, ℕ, ◌+◌, ◌%◌, ◌/◌, ◌<◌, ◌≤◌, min, Bool, true, false, cond, List, [], ◌∷◌, ◌++◌, length, get_or, Option, None, Some, MatchBool, refl, ap, sym, ◌∙◌, subst, arith, append_assoc, nat_eq}
+use Rattle.std.specs.List.{Contains}
 use Rattle.std.specs.Borrow.{Bor}
 use Rattle.std.specs.Fn.{Mut}
 use Rattle.std.proofs.lemmas.Bool.{ne_eqb}
-use Rattle.std.proofs.Math.Nat.{mod-lt}
 use native.Mathlib.Decide.{dec_lt}
 use Rattle.group_table.specs.Sizes.{IsPowerFromFour}
-use Rattle.group_table.specs.Bucket.{Slot, Tagged, empty, deleted, full, bucket_at, is_full, IsFull, has_tag, marks_of}
+use Rattle.group_table.specs.Bucket.{Slot, empty, deleted, full, bucket_at, IsFull, has_tag, marks_of}
 use Rattle.group_table.specs.Probe.{hash_tag, probed, mark_probed}
 use Rattle.group_table.specs.Fits.{Fits}
 use Rattle.group_table.specs.Search.{candidates, Answers, RefusesEach, Finds, FindsNone}

@@ -1,13 +1,12 @@
 -- The fields of a table whose buckets are all empty.
-use Rattle.std.proofs.Common.{◌≡◌, ◌≢◌, ℕ, zero, suc, ◌+◌, ◌^◌, ◌<◌, ◌≤◌, ◌∷◌, [], length, get_or, replicate, Option, None, ◌⊎◌, refl, ap, sym, ◌∙◌, arith, inl, inr, count_by, cond, Bool, false}
+use Rattle.std.proofs.Common.{◌≡◌, ℕ, zero, suc, ◌+◌, ◌^◌, ◌<◌, ◌≤◌, ◌∷◌, length, replicate, Option, None, ◌⊎◌, refl, ap, sym, ◌∙◌, arith, inl, inr, count_by, cond, Bool, false}
 use Rattle.std.proofs.lemmas.List.{length-replicate, get_or-replicate}
 use Rattle.std.proofs.lemmas.List.Sums.{sum_by-cons}
 use native.Mathlib.Decide.{dec_lt}
 use Rattle.group_table.specs.Sizes.{IsPowerFromFour, full_capacity}
-use Rattle.group_table.specs.Bucket.{Bucket, Slot, Tagged, empty, deleted, is_used, is_full, bucket_at, entry_count}
+use Rattle.group_table.specs.Bucket.{Bucket, Slot, Tagged, empty, is_used, is_full, entry_count}
 use Rattle.group_table.specs.Fits.{Fits}
 use Rattle.group_table.specs.Layout.{slots_of, byte_of, byte_at, IsValid}
-use Rattle.group_table.proofs.SizeLemmas.{full_capacity-small}
 use Rattle.group_table.proofs.BucketLemmas.{empty_not_deleted}
 use Rattle.group_table.proofs.CopyLemmas.{copy_at}
 use Rattle.group_table.proofs.FitsLemmas.{Fits-none}

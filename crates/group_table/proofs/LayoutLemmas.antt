@@ -1,9 +1,8 @@
 -- The buckets by their control bytes and entries.
-use Rattle.std.proofs.Common.{◌≡◌, ◌≢◌, ℕ, zero, suc, ◌<◌, ◌≤◌, List, [], ◌∷◌, length, get_or, set, Option, Some, None, refl, ap, arith, inl, inr, nat_lt, nat_eq, cond, sym, ◌∙◌, Bool, true, false, IsSome}
-use native.Mathlib.Decide.{dec_lt}
+use Rattle.std.proofs.Common.{◌≡◌, ℕ, zero, suc, ◌<◌, ◌≤◌, List, [], ◌∷◌, length, get_or, set, Option, Some, None, refl, ap, arith, inl, inr, nat_lt, nat_eq, cond, sym, ◌∙◌, Bool, true, false, IsSome}
 use Rattle.std.proofs.lemmas.Bool.{lt-ltb, false≢true}
 use Rattle.std.proofs.lemmas.List.{get_or_read}
-use Rattle.group_table.specs.Bucket.{Slot, Tagged, Mark, empty, deleted, full, bucket_at, is_full, IsFull, entry_of, entry_at, marks_of, mark_of}
+use Rattle.group_table.specs.Bucket.{Tagged, empty, deleted, full, bucket_at, is_full, IsFull, entry_of, entry_at, mark_of}
 use Rattle.group_table.specs.Sizes.{IsPowerFromFour}
 use Rattle.group_table.specs.Layout.{slot_of, slots_of, marks_by, IsLaidOut, Agrees}
 use Rattle.group_table.proofs.BucketLemmas.{empty_not_deleted, full_lt, bucket_at-marks_of, length-marks_of, empty_mark, is_full-marks_of}

@@ -1,16 +1,16 @@
 -- An entry goes into the first free bucket.
-use Rattle.std.proofs.Common.{◌≡◌, ◌≢◌, ℕ, ◌+◌, ◌-◌, ◌<◌, ◌≤◌, cond, List, length, get_or, set, ◌⊎◌, Option, Some, None, false, true, refl, ap, sym, ◌∙◌, subst, arith, inl, inr, nat_eq, eq-eqb, nat_lt, length-set}
+use Rattle.std.proofs.Common.{◌≡◌, ◌≢◌, ℕ, ◌+◌, ◌-◌, ◌<◌, ◌≤◌, cond, List, length, get_or, set, ◌⊎◌, Option, Some, None, false, refl, ap, sym, ◌∙◌, subst, arith, inl, inr, nat_eq, eq-eqb}
 use Rattle.std.proofs.lemmas.Bool.{lt-ltb, le-ltb, cases_eq, ne_eqb}
 use Rattle.std.proofs.lemmas.List.{get_or_read}
 use mir.Val.{bool_byte}
 use Rattle.group_table.specs.Bucket.{Slot, Tagged, empty, deleted, full, bucket_at, is_full, is_used, entry_count, mark_of, room, room_at}
 use Rattle.group_table.specs.Probe.{IsFirstFree}
 use Rattle.group_table.specs.Change.{MayFill}
-use Rattle.group_table.specs.Layout.{slot_of, slots_of, marks_by, Agrees, IsLaidOut, IsValid, written}
+use Rattle.group_table.specs.Layout.{slot_of, slots_of, marks_by, Agrees, IsValid, written}
 use Rattle.group_table.specs.Group.{IsFirstFreeByte}
 use Rattle.group_table.proofs.BucketLemmas.{bucket_at-marks_of, full_not_deleted}
 use Rattle.group_table.proofs.ProbeLemmas.{probed-lt}
-use Rattle.group_table.proofs.LayoutLemmas.{length-laid_out, length-marks_by, bucket_at-laid_out, is_full-byte, byte_from_mark, entries_within}
+use Rattle.group_table.proofs.LayoutLemmas.{length-marks_by, bucket_at-laid_out, is_full-byte, byte_from_mark, entries_within}
 use Rattle.group_table.proofs.WriteLemmas.{IsValid-written, entry_count-written}
 use Rattle.group_table.proofs.TableLemmas.{empty_there, room_by}
 

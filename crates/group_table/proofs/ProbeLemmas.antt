@@ -1,11 +1,10 @@
 -- The order in which a search visits the buckets: group by group, each bucket, and each only once.
-use Rattle.std.proofs.Common.{◌≡◌, ◌≢◌, ℕ, suc, ◌+◌, ◌-◌, ◌*◌, ◌/◌, ◌%◌, ◌^◌, ◌<◌, ◌≤◌, min, refl, ap, sym, ◌∙◌, subst, arith, pow-suc}
+use Rattle.std.proofs.Common.{◌≡◌, ℕ, suc, ◌+◌, ◌-◌, ◌*◌, ◌/◌, ◌%◌, ◌^◌, ◌<◌, ◌≤◌, min, refl, ap, sym, ◌∙◌, subst, arith, pow-suc}
 use Rattle.std.proofs.Math.Nat.{mod-add-mod, add-mul-mod_self_left, mod-eq_of_lt, mod-lt, div-add-mod}
 use Rattle.std.proofs.lemmas.Nat.{pow-add, div-add-mod'}
 use native.Mathlib.Decide.{dec_lt}
 use Rattle.group_table.specs.Sizes.{IsPowerFromFour}
 use Rattle.group_table.specs.Probe.{probed}
-use Rattle.group_table.proofs.SizeLemmas.{power_pos}
 use Rattle.group_table.proofs.Circle.{distance, mod_cancel}
 use Rattle.group_table.proofs.Triangle.{IsTriangle, triangle_meets, triangles_apart, product_even}
 

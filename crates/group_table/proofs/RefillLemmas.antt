@@ -1,12 +1,11 @@
 -- The entry of a full bucket is written, and its tag stays.
-use Rattle.std.proofs.Common.{◌≡◌, ◌≢◌, ℕ, zero, suc, ◌-◌, ◌<◌, ◌≤◌, max, cond, List, [], ◌∷◌, length, get_or, set, Option, Some, None, refl, ap, sym, ◌∙◌, arith, inl, inr, true, IsTrue, get_or-set_other, get_or-set_same, length-set}
+use Rattle.std.proofs.Common.{◌≡◌, ℕ, zero, suc, ◌-◌, ◌<◌, ◌≤◌, max, cond, List, [], ◌∷◌, length, get_or, set, Option, Some, None, refl, ap, sym, ◌∙◌, arith, inl, inr, get_or-set_other, get_or-set_same, length-set}
 use Rattle.std.proofs.lemmas.Bool.{cases_eq}
 use native.Mathlib.Decide.{dec_lt}
-use Rattle.group_table.specs.Bucket.{Bucket, Slot, Tagged, empty, deleted, full, bucket_at, is_used, is_full, refilled, IsFull, entry_count, mark_of, marks_of}
-use Rattle.group_table.specs.Probe.{Reaches}
+use Rattle.group_table.specs.Bucket.{Slot, empty, deleted, full, bucket_at, is_used, is_full, refilled, IsFull, entry_count, mark_of, marks_of}
 use Rattle.group_table.specs.Fits.{Fits}
 use Rattle.group_table.specs.Layout.{slot_of, slots_of, byte_of, byte_at, Agrees, IsValid}
-use Rattle.group_table.proofs.BucketLemmas.{bucket_at-set_same, bucket_at-set_other, count_by-set, is_full-of, full_not_deleted, full_lt, marks_of-set, bucket_at-marks_of}
+use Rattle.group_table.proofs.BucketLemmas.{bucket_at-set_same, bucket_at-set_other, count_by-set, full_not_deleted, full_lt, marks_of-set, bucket_at-marks_of}
 use Rattle.group_table.proofs.LayoutLemmas.{bucket_at-laid_out, length-laid_out, full_within, full_entry}
 use Rattle.group_table.proofs.SearchLemmas.{held_by}
 use Rattle.group_table.proofs.FitsLemmas.{one_held}

@@ -1,12 +1,12 @@
 -- The entry of a full bucket leaves.
-use Rattle.std.proofs.Common.{◌≡◌, ◌≢◌, ℕ, ◌+◌, ◌%◌, ◌<◌, ◌≤◌, Bool, true, false, cond, List, length, get_or, set, Option, None, refl, ap, sym, ◌∙◌, arith, inl, inr, count_by, MatchBool}
+use Rattle.std.proofs.Common.{◌≡◌, ℕ, ◌+◌, ◌%◌, ◌<◌, ◌≤◌, Bool, true, false, cond, List, length, get_or, set, Option, None, refl, ap, sym, ◌∙◌, arith, inl, inr, count_by, MatchBool}
 use Rattle.std.proofs.lemmas.Bool.{ltb-true}
 use Rattle.std.proofs.Math.Nat.{mod-add-mod, mod-lt}
 use mir.Val.{bool_byte}
-use Rattle.group_table.specs.Bucket.{Slot, Tagged, Mark, empty, deleted, full, bucket_at, is_used, is_full, IsFull, entry_count, room, room_at, mark_of}
+use Rattle.group_table.specs.Bucket.{Slot, Tagged, Mark, empty, deleted, bucket_at, is_used, is_full, IsFull, entry_count, room, room_at}
 use Rattle.group_table.specs.Neighbours.{HasEmptyNeighbours, IsHemmedIn}
 use Rattle.group_table.specs.Change.{Removes}
-use Rattle.group_table.specs.Layout.{slot_of, slots_of, marks_by, Agrees, IsLaidOut, IsValid, written}
+use Rattle.group_table.specs.Layout.{slot_of, slots_of, marks_by, IsLaidOut, IsValid, written}
 use Rattle.group_table.specs.Group.{EmptyNeighbourBytes, HemmedInBytes}
 use Rattle.group_table.proofs.BucketLemmas.{some_empty, used_from_full, count_by-pos, empty_not_deleted, bucket_at-set_same, bucket_at-marks_of, mark_of-used}
 use Rattle.group_table.proofs.Circle.{distance}

@@ -1,13 +1,12 @@
 -- What holds of every table, from the invariant of its fields.
-use Rattle.std.proofs.Common.{◌≡◌, ◌≢◌, ℕ, ◌+◌, ◌-◌, ◌<◌, ◌≤◌, List, length, Option, false, ap, sym, ◌∙◌, arith, inl, inr, count_by}
-use native.Mathlib.Decide.{dec_lt}
+use Rattle.std.proofs.Common.{◌≡◌, ℕ, ◌+◌, ◌-◌, ◌<◌, ◌≤◌, List, length, Option, ap, sym, ◌∙◌, arith, inl, inr, count_by}
 use Rattle.group_table.specs.Sizes.{full_capacity, IsBucketCount}
-use Rattle.group_table.specs.Bucket.{Mark, empty, deleted, bucket_at, is_full, is_used, is_deleted, entry_count, room}
+use Rattle.group_table.specs.Bucket.{empty, bucket_at, is_full, is_used, is_deleted, room}
 use Rattle.group_table.specs.Table.{IsTable}
 use Rattle.group_table.specs.Probe.{IsFirstFree}
-use Rattle.group_table.specs.Layout.{slots_of, marks_by, IsLaidOut, IsValid}
+use Rattle.group_table.specs.Layout.{slots_of, marks_by, IsValid}
 use Rattle.group_table.proofs.SizeLemmas.{full_capacity-lt, full_capacity-small}
-use Rattle.group_table.proofs.BucketLemmas.{some_empty, room_is, used_count-marks_of, entry_count-marks_of, deleted_count-marks_of, used_count-split, deleted_count-none, empty_not_deleted, bucket_at-past, length-marks_of, empty_mark}
+use Rattle.group_table.proofs.BucketLemmas.{some_empty, room_is, used_count-marks_of, deleted_count-marks_of, used_count-split, deleted_count-none, empty_not_deleted, bucket_at-past}
 use Rattle.group_table.proofs.ProbeLemmas.{probed-lt}
 use Rattle.group_table.proofs.FirstFree.{first_free_there}
 use Rattle.group_table.proofs.LayoutLemmas.{length-laid_out, length-marks_by, power_of}

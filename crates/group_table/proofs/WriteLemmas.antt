@@ -2,7 +2,7 @@
 use Rattle.std.proofs.Common.{◌≡◌, ◌≢◌, ℕ, zero, suc, ◌+◌, ◌-◌, ◌<◌, ◌≤◌, max, cond, List, [], ◌∷◌, length, get_or, set, Option, Some, None, refl, ap, sym, ◌∙◌, arith, inl, inr, get_or-set_other, get_or-set_same, length-set}
 use Rattle.std.proofs.lemmas.Bool.{lt-ltb, le-ltb, cases_eq}
 use native.Mathlib.Decide.{dec_lt}
-use Rattle.group_table.specs.Bucket.{Slot, empty, deleted, full, bucket_at, is_full, is_used, entry_count}
+use Rattle.group_table.specs.Bucket.{Slot, empty, deleted, bucket_at, is_full, is_used, entry_count}
 use Rattle.group_table.specs.Layout.{slot_of, slots_of, byte_of, byte_at, Agrees, IsLaidOut, IsValid, written}
 use Rattle.group_table.proofs.BucketLemmas.{bucket_at-set_same, bucket_at-set_other, count_by-set}
 use Rattle.group_table.proofs.LayoutLemmas.{length-laid_out, slots_of-set}

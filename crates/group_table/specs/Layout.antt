@@ -1,5 +1,5 @@
 -- How the fields of a `Table` lay out its buckets. No public clause cites this module.
-use Rattle.std.specs.Prelude.{◌≡◌, ◌≢◌, ℕ, ◌+◌, ◌-◌, ◌%◌, ◌^◌, ◌<◌, ◌≤◌, ◌⊎◌, max, List, [], ◌∷◌, length, Option, Some, None, if◌then◌else◌, nat_lt, nat_eq, slice_index, slice_index_or, slice_set, count_by}
+use Rattle.std.specs.Prelude.{◌≡◌, ℕ, ◌+◌, ◌-◌, ◌^◌, ◌<◌, ◌≤◌, ◌⊎◌, max, List, [], ◌∷◌, length, Option, Some, None, if◌then◌else◌, nat_lt, nat_eq, slice_index, slice_index_or, slice_set, count_by}
 use Rattle.group_table.specs.Sizes.{IsPowerFromFour, full_capacity}
 use Rattle.group_table.specs.Bucket.{Slot, Mark, empty, deleted, full, bucket_at, is_used, marks_of}
 

@@ -1,7 +1,7 @@
 -- What a contract sees of a `Table`, and what it knows of any.
 use Rattle.std.specs.Prelude.{◌≡◌, ℕ, ◌+◌, ◌^◌, ◌<◌, ◌≤◌, List, length, count_by, slice_set}
 use Rattle.group_table.specs.Sizes.{IsBucketCount, full_capacity}
-use Rattle.group_table.specs.Bucket.{Bucket, Slot, Mark, empty, bucket_at, refilled, is_deleted, is_used, entry_count, room}
+use Rattle.group_table.specs.Bucket.{Slot, Mark, empty, bucket_at, refilled, is_deleted, is_used, entry_count, room}
 use Rattle.group_table.specs.Probe.{IsFirstFree}
 
 -- what stands in each bucket, and how many placings the table has made

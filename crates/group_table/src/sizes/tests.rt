@@ -23,7 +23,11 @@ const LIMITS: [(usize, usize, usize); 3] = [
 fn sizes_of_small_tables(rt: HostRuntime) {
     for (from, to, buckets, full) in SIZES {
         for capacity in from..=to {
-            assert_eq!(rt; buckets_for_capacity(capacity, usize::MAX), Some(buckets), "for {capacity}");
+            assert_eq!(rt;
+                buckets_for_capacity(capacity, usize::MAX),
+                Some(buckets),
+                "for {capacity}"
+            );
         }
         assert_eq!(rt; full_capacity(buckets), full, "of {buckets}");
     }
@@ -32,14 +36,25 @@ fn sizes_of_small_tables(rt: HostRuntime) {
 #[test]
 fn sizes_that_links_end(rt: HostRuntime) {
     for (max, capacity, buckets) in LIMITS {
-        assert_eq!(rt; buckets_for_capacity(capacity, max), Some(buckets), "below {max}");
+        assert_eq!(rt;
+            buckets_for_capacity(capacity, max),
+            Some(buckets),
+            "below {max}"
+        );
         assert_eq!(rt; full_capacity(buckets), capacity, "below {max}");
-        assert_eq!(rt; buckets_for_capacity(capacity.saturating_add(1), max), None, "below {max}");
+        assert_eq!(rt;
+            buckets_for_capacity(capacity.saturating_add(1), max),
+            None,
+            "below {max}"
+        );
     }
 }
 
 #[test]
 fn sizes_that_overflow(rt: HostRuntime) {
-    assert_eq!(rt; buckets_for_capacity(2_305_843_009_213_693_952, usize::MAX), None);
+    assert_eq!(rt;
+        buckets_for_capacity(2_305_843_009_213_693_952, usize::MAX),
+        None
+    );
     assert_eq!(rt; buckets_for_capacity(usize::MAX, usize::MAX), None);
 }

@@ -5,6 +5,17 @@ use std::test::Fail;
 mod bytes;
 mod orders;
 
+// An empty table of 4, 8, 16, 32 or, for any other number, 64 buckets.
+fn table_of(alloc: Global, buckets: usize) -> Result<Table<u64>, AllocError> {
+    match buckets {
+        4 => Table::with_buckets(alloc, 4),
+        8 => Table::with_buckets(alloc, 8),
+        16 => Table::with_buckets(alloc, 16),
+        32 => Table::with_buckets(alloc, 32),
+        _ => Table::with_buckets(alloc, 64),
+    }
+}
+
 #[test]
 fn figures_of_a_table(rt: HostRuntime) -> Result<(), Fail> {
     let none: Table<u64> = Table::with_buckets(rt.alloc(), 0)?;
@@ -12,7 +23,7 @@ fn figures_of_a_table(rt: HostRuntime) -> Result<(), Fail> {
     assert_eq!(rt; none.find(0, |_| true), None);
     let mut none: Table<u64> = Table::new(rt.alloc());
     assert_eq!(rt; none.try_place(0, 10), Err(10));
-    let mut table: Table<u64> = Table::with_buckets(rt.alloc(), 8)?;
+    let mut table = table_of(rt.alloc(), 8)?;
     assert_eq!(rt; (table.buckets(), table.len(), table.room()), (8, 0, 7));
     let b = table.try_place(3, 30).ok().ok_or("room")?;
     assert_eq!(rt; (table.len(), table.room(), table.placings()), (1, 6, 1));
@@ -22,14 +33,17 @@ fn figures_of_a_table(rt: HostRuntime) -> Result<(), Fail> {
     assert_eq!(rt; *table.get(b), 31);
     assert!(rt; !table.is_full(7) && !table.is_full(8));
     table.clear();
-    assert_eq!(rt; (table.buckets(), table.len(), table.room(), table.placings()), (8, 0, 7, 1));
+    assert_eq!(rt;
+        (table.buckets(), table.len(), table.room(), table.placings()),
+        (8, 0, 7, 1)
+    );
     Ok(())
 }
 
 #[test]
 fn asks_the_tag_alone(rt: HostRuntime) -> Result<(), Fail> {
     // Entries of two tags from bucket 0 on; the first five bits of the lower half are the same.
-    let mut table: Table<u64> = Table::with_buckets(rt.alloc(), 32)?;
+    let mut table = table_of(rt.alloc(), 32)?;
     for key in 0..6u64 {
         let hash = if key % 2 == 0 { 0 } else { 9 << 57 };
         assert!(rt; table.try_place(hash, key).is_ok());

@@ -1,4 +1,4 @@
-use Rattle.std.proofs.Common.{◌-◌, ◌+◌, ◌%◌, ◌^◌, bit_and, sym, ap, ◌∙◌}
+use Rattle.std.proofs.Common.{◌-◌, ◌+◌, ◌%◌, bit_and, sym, ap, ◌∙◌}
 use Rattle.std.proofs.lemmas.Nat.{and_mask}
 use Rattle.group_table.proofs.SizeLemmas.{power_is}
 use Rattle.group_table.proofs.control.wrap.Goals as goal

@@ -1,4 +1,4 @@
-use Rattle.std.proofs.Common.{length, replicate, None, ap, ◌∙◌, arith}
+use Rattle.std.proofs.Common.{replicate, None, ap, ◌∙◌, arith}
 use Rattle.group_table.proofs.CopyLemmas.{replicate-from}
 use Rattle.group_table.proofs.fields.free_entries.Goals as goal
 

@@ -1,4 +1,4 @@
-use Rattle.std.proofs.Common.{◌≡◌, ◌+◌, ◌-◌, ◌%◌, arith, sym, ap, ◌∙◌, slice_index}
+use Rattle.std.proofs.Common.{◌≡◌, ◌+◌, ◌%◌, arith, sym, ap, ◌∙◌, slice_index}
 use native.Mathlib.Decide.{dec_lt}
 use Rattle.group_table.proofs.Circle.{same_place}
 use Rattle.group_table.proofs.RunLemmas.{step_back}

@@ -1,4 +1,4 @@
-use Rattle.std.proofs.Common.{◌≡◌, length, arith, of_calls, refl, rules, true, false, MatchBool, ◌<◌, min, subst}
+use Rattle.std.proofs.Common.{◌≡◌, arith, of_calls, refl, MatchBool, subst}
 use Rattle.group_table.specs.Layout.{slots_of}
 use Rattle.group_table.specs.Group.{HasEmptyLane, HasNoEmptyLane, width}
 use Rattle.group_table.proofs.LayoutLemmas.{bucket_at-read, length-laid_out}

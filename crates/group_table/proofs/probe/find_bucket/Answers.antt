@@ -1,8 +1,5 @@
-use Rattle.std.proofs.Common.{◌≡◌, length, arith, of_calls, refl, ap, ◌%◌, ◌+◌, ◌<◌, ◌∙◌, subst, min}
-use Rattle.group_table.specs.Probe.{hash_tag, probed}
+use Rattle.std.proofs.Common.{◌≡◌, length, arith, of_calls, refl, ap, ◌%◌, ◌+◌, ◌<◌, ◌∙◌, min}
 use Rattle.group_table.specs.Layout.{slots_of}
-use Rattle.group_table.specs.Search.{candidates, RefusesEach}
-use Rattle.group_table.specs.Group.{AcceptsIn, RefusesGroup, HasEmptyLane, HasNoEmptyLane, width}
 use Rattle.group_table.proofs.LayoutLemmas.{length-laid_out, power_of, entries_within}
 use Rattle.group_table.proofs.ProbeLemmas.{probed-first, probed-lt, probed-next_group}
 use Rattle.group_table.proofs.FindLemmas.{Finds-from, FindsNone-from, refused_group, not_ended, none_on}

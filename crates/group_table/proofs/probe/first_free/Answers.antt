@@ -1,6 +1,5 @@
-use Rattle.std.proofs.Common.{◌+◌, ◌%◌, ◌<◌, ◌≤◌, ◌*◌, ◌/◌, min, slice_index, ap, sym, subst, ◌∙◌, arith}
+use Rattle.std.proofs.Common.{◌+◌, ◌%◌, ◌<◌, slice_index, ap, sym, subst, ◌∙◌, arith}
 use native.Mathlib.Decide.{dec_lt}
-use Rattle.group_table.specs.Probe.{probed}
 use Rattle.group_table.proofs.ProbeLemmas.{probed-lane, probed-next_group, up_to_lane, up_to_end}
 use Rattle.group_table.proofs.probe.first_free.Goals as goal
 

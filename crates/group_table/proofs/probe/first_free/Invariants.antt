@@ -1,4 +1,4 @@
-use Rattle.std.proofs.Common.{◌≡◌, ℕ, ◌+◌, ◌-◌, ◌%◌, ◌<◌, slice_index}
+use Rattle.std.proofs.Common.{◌≡◌, ℕ, ◌-◌, ◌%◌, ◌<◌, slice_index}
 use Rattle.group_table.specs.Probe.{probed}
 use Rattle.group_table.proofs.probe.first_free.Given as goal
 

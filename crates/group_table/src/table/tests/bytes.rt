@@ -7,11 +7,8 @@ fn of_hash_zero(
     alloc: Global,
     buckets: usize,
     entries: u64,
-) -> Result<Table<u64>, Fail>
-    requires count { IsBucketCount buckets }
-    requires addressable { buckets + 16 < 2 ^ 63 }
-{
-    let mut table = Table::with_buckets(alloc, buckets)?;
+) -> Result<Table<u64>, Fail> {
+    let mut table = table_of(alloc, buckets)?;
     for key in 0..entries {
         assert_eq!(rt; table.try_place(0, key), Ok(key as usize));
     }
@@ -24,7 +21,11 @@ fn taken_leaves(rt: &impl Abort, table: &mut Table<u64>, b: usize, byte: u8, roo
     assert_eq!(rt; table.take(b), b as u64);
     assert_eq!(rt; table.control.get(b), Some(&byte), "at {b}");
     if b < 16 {
-        assert_eq!(rt; table.control.get(b.wrapping_add(table.buckets().max(16))), Some(&byte), "at {b}");
+        assert_eq!(rt;
+            table.control.get(b.wrapping_add(table.buckets().max(16))),
+            Some(&byte),
+            "at {b}"
+        );
     }
     assert_eq!(rt; table.room(), room, "after {b}");
 }
@@ -33,19 +34,23 @@ fn taken_leaves(rt: &impl Abort, table: &mut Table<u64>, b: usize, byte: u8, roo
 fn four_buckets(rt: HostRuntime) -> Result<(), Fail> {
     let mut table = of_hash_zero(&rt, rt.alloc(), 4, 2)?;
     let bytes = [
-        0, 0, 255, 255, 255, 255, 255, 255, 255, 255, 255, 255, 255, 255, 255, 255, 0, 0, 255, 255u8,
+        0, 0, 255, 255, 255, 255, 255, 255, 255, 255, 255, 255, 255, 255, 255, 255, 0, 0, 255,
+        255u8,
     ];
     assert_eq!(rt; table.control.as_slice(), bytes.as_slice());
     assert_eq!(rt; table.room(), 1);
     assert_eq!(rt; table.try_place((5 << 57) + 2, 2), Ok(2));
-    assert_eq!(rt; (table.control.get(2), table.control.get(18)), (Some(&5), Some(&5)));
+    assert_eq!(rt;
+        (table.control.get(2), table.control.get(18)),
+        (Some(&5), Some(&5))
+    );
     assert_eq!(rt; table.room(), 0);
     Ok(())
 }
 
 #[test]
 fn four_buckets_round_the_end(rt: HostRuntime) -> Result<(), Fail> {
-    let mut table: Table<u64> = Table::with_buckets(rt.alloc(), 4)?;
+    let mut table = table_of(rt.alloc(), 4)?;
     assert_eq!(rt; table.try_place(0, 0), Ok(0));
     assert_eq!(rt; table.try_place(3, 3), Ok(3));
     assert_eq!(rt; table.try_place(7, 7), Ok(1));
@@ -74,7 +79,13 @@ fn removals_of_16_buckets(rt: HostRuntime) -> Result<(), Fail> {
     for entries in 1..15u64 {
         for b in 0..entries as usize {
             let mut table = of_hash_zero(&rt, rt.alloc(), 16, entries)?;
-            taken_leaves(&rt, &mut table, b, 255, 15usize.saturating_sub(entries as usize));
+            taken_leaves(
+                &rt,
+                &mut table,
+                b,
+                255,
+                15usize.saturating_sub(entries as usize),
+            );
         }
     }
     Ok(())

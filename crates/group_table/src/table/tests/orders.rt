@@ -61,7 +61,13 @@ fn fill(rt: &impl Abort, table: &mut Table<u64>, hashes: Hashes) -> u64 {
 }
 
 // Takes all keys in the order.
-fn empty_in_order(rt: &impl Abort, table: &mut Table<u64>, hashes: Hashes, order: Order, keys: u64) {
+fn empty_in_order(
+    rt: &impl Abort,
+    table: &mut Table<u64>,
+    hashes: Hashes,
+    order: Order,
+    keys: u64,
+) {
     for step in 0..keys {
         let key = key_at(order, step, keys);
         match table.find(hash_of(hashes, key), |entry| *entry == key) {
@@ -70,7 +76,11 @@ fn empty_in_order(rt: &impl Abort, table: &mut Table<u64>, hashes: Hashes, order
         }
         for other in 0..keys {
             let left = other > step;
-            assert_eq!(rt; is_found(table, hashes, key_at(order, other, keys)), left, "{other} at {step}");
+            assert_eq!(rt;
+                is_found(table, hashes, key_at(order, other, keys)),
+                left,
+                "{other} at {step}"
+            );
         }
     }
     assert_eq!(rt; table.len(), 0);
@@ -80,28 +90,30 @@ fn empty_in_order(rt: &impl Abort, table: &mut Table<u64>, hashes: Hashes, order
 fn fills_and_empties(rt: HostRuntime) -> Result<(), Fail> {
     for (buckets, full) in [(4, 3), (8, 7), (16, 14), (32, 28), (64, 56)] {
         for hashes in [Hashes::Constant, Hashes::Sequential, Hashes::Scattered] {
-            for order in [Order::FirstToLast, Order::LastToFirst, Order::EverySecond, Order::FromTheMiddle] {
-                let mut table = empty_table(rt.alloc(), buckets)?;
-                assert_eq!(rt; fill(&rt, &mut table, hashes), full, "{hashes:?} in {buckets}");
+            for order in [
+                Order::FirstToLast,
+                Order::LastToFirst,
+                Order::EverySecond,
+                Order::FromTheMiddle,
+            ] {
+                let mut table = table_of(rt.alloc(), buckets)?;
+                assert_eq!(rt;
+                    fill(&rt, &mut table, hashes),
+                    full,
+                    "{hashes:?} in {buckets}"
+                );
                 empty_in_order(&rt, &mut table, hashes, order, full);
                 if buckets <= 16 {
                     assert_eq!(rt; table.room() as u64, full);
                 }
                 table.clear();
-                assert_eq!(rt; fill(&rt, &mut table, hashes), full, "{hashes:?} in {buckets}, cleared");
+                assert_eq!(rt;
+                    fill(&rt, &mut table, hashes),
+                    full,
+                    "{hashes:?} in {buckets}, cleared"
+                );
             }
         }
     }
     Ok(())
-}
-
-// A table of one of the numbers of buckets that the tests use.
-fn empty_table(alloc: Global, buckets: usize) -> Result<Table<u64>, AllocError> {
-    match buckets {
-        4 => Table::with_buckets(alloc, 4),
-        8 => Table::with_buckets(alloc, 8),
-        16 => Table::with_buckets(alloc, 16),
-        32 => Table::with_buckets(alloc, 32),
-        _ => Table::with_buckets(alloc, 64),
-    }
 }

@@ -1,4 +1,4 @@
-use Rattle.std.proofs.Common.{◌≡◌, length, replicate, sym, ap, ◌∙◌, arith}
+use Rattle.std.proofs.Common.{◌≡◌, length, sym, ap, ◌∙◌, arith}
 use Rattle.std.proofs.lemmas.List.{length-replicate}
 use Rattle.group_table.proofs.LayoutLemmas.{entries_within, length-laid_out}
 use Rattle.group_table.proofs.TableLemmas.{IsTable-by}

@@ -1,4 +1,4 @@
-use Rattle.std.proofs.Common.{sym, ◌∙◌, ◌≡◌, ◌<◌, arith, length}
+use Rattle.std.proofs.Common.{sym, ◌∙◌, arith}
 use Rattle.std.proofs.lemmas.Bool.{eqb-true, eqb-false}
 use Rattle.group_table.proofs.LayoutLemmas.{length-laid_out, length-marks_by}
 use Rattle.group_table.proofs.TableLemmas.{IsTable-by, empty_there}

@@ -1,10 +1,10 @@
-use Rattle.std.proofs.Common.{◌≡◌, ◌+◌, ◌<◌, length, arith, sym, ap, ◌∙◌, inr, Some}
+use Rattle.std.proofs.Common.{◌+◌, ◌<◌, length, arith, sym, ap, ◌∙◌, inr, Some}
 use Rattle.std.proofs.lemmas.List.Sums.{count_by-le-length}
 use Rattle.group_table.specs.Bucket.{is_full, mark_of}
 use Rattle.group_table.specs.Probe.{hash_tag}
 use Rattle.group_table.specs.Layout.{slots_of}
 use Rattle.group_table.proofs.BucketLemmas.{bucket_at-marks_of}
-use Rattle.group_table.proofs.LayoutLemmas.{length-laid_out, entries_within, power_of}
+use Rattle.group_table.proofs.LayoutLemmas.{length-laid_out, entries_within}
 use Rattle.group_table.proofs.TableLemmas.{IsTable-by, room_by}
 use Rattle.group_table.proofs.WriteLemmas.{slots_of-written}
 use Rattle.group_table.proofs.PlaceLemmas.{some_free_byte, place_first, place_within, no_place_left, place_none, place_spends, MayFill-from, IsValid-placed, entry_count-placed, room-placed}

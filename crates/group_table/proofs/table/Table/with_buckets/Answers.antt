@@ -1,4 +1,4 @@
-use Rattle.std.proofs.Common.{◌≡◌, ◌+◌, ◌≤◌, ◌⊎◌, ℕ, refl, inl, inr, sym, arith}
+use Rattle.std.proofs.Common.{◌≡◌, ◌+◌, ◌⊎◌, ℕ, refl, inl, inr, sym, arith}
 use Rattle.group_table.specs.Sizes.{IsBucketCount, IsPowerFromFour}
 use Rattle.group_table.proofs.TableLemmas.{IsTable-by}
 use Rattle.group_table.proofs.FreshLemmas.{IsValid-fresh, entry_count-fresh, slots_of-fresh, Fits-fresh}
