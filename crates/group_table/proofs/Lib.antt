@@ -16,5 +16,6 @@ pub mod RemoveLemmas
 pub mod RefillLemmas
 pub mod CopyLemmas
 pub mod FreshLemmas
+pub mod ChangeLemmas
 pub mod CallerLemmas
 pub mod TableLemmas

@@ -2,7 +2,7 @@
 use Rattle.std.specs.Prelude.{◌≡◌, ℕ, ◌+◌, ◌^◌, ◌<◌, ◌≤◌, List, length, count_by, slice_set}
 use Rattle.group_table.specs.Sizes.{IsBucketCount, full_capacity}
 use Rattle.group_table.specs.Bucket.{Slot, Mark, empty, bucket_at, refilled, is_deleted, is_used, entry_count, room}
-use Rattle.group_table.specs.Probe.{IsFirstFree}
+use Rattle.group_table.specs.Probe.{probed, IsFirstFree}
 
 -- what stands in each bucket, and how many placings the table has made
 pub record Table (T : Type 0) : Type 0 where
@@ -25,3 +25,5 @@ pub record IsTable (marks : List Mark) : Type 0 where
   -- with buckets, one is empty, and a search for any hash finds a free one
   pub some_empty : 0 < length marks → (b : ℕ) × (b < length marks) × (bucket_at marks b ≡ empty)
   pub some_free : 0 < length marks → (hash : ℕ) → (b : ℕ) × (b < length marks) × IsFirstFree marks hash b
+  -- in as many steps as there are buckets, a search visits each
+  pub visits_each : (hash b : ℕ) → b < length marks → (step : ℕ) × (step < length marks) × (probed (length marks) hash step ≡ b)

@@ -30,14 +30,14 @@ pub(crate) fn no_entries<T>(alloc: Global, count: usize) -> Result<Vec<Option<T>
 }
 
 // Makes every byte that of an empty bucket.
-pub(crate) fn free_bytes(control: &mut Vec<u8>)
+pub(crate) fn clear_bytes(control: &mut Vec<u8>)
     ensures { control.new.items ≡ replicate (length control.old.items) 255 }
 {
     control.fill(EMPTY);
 }
 
 // Drops every entry.
-pub(crate) fn free_entries<T: Drop>(entries: &mut Vec<Option<T>>)
+pub(crate) fn drop_entries<T: Drop>(entries: &mut Vec<Option<T>>)
     ensures { entries.new.items ≡ replicate (length entries.old.items) None }
 {
     for b in 0..entries.len() {

@@ -10,7 +10,7 @@ ghost use Rattle.group_table.specs.Change.{Places, MayFill, HasNoPlace, Removes}
 
 use crate::control::{EMPTY, emptied_byte, tag_of};
 use crate::fields::{
-    empty_bucket, empty_bytes, entry_mut, fill_bucket, free_bytes, free_entries, no_entries,
+    clear_bytes, drop_entries, empty_bucket, empty_bytes, entry_mut, fill_bucket, no_entries,
 };
 use crate::neighbours::has_empty_neighbours;
 use crate::probe::{find_bucket, first_free};
@@ -193,8 +193,8 @@ impl<T: Drop> Table<T> {
         ensures table { IsTable (marks_of self.new.slots) }
         ensures fits { (hash_of : ℕ → ℕ) → Fits self.new.slots hash_of }
     {
-        free_bytes(&mut self.control);
-        free_entries(&mut self.entries);
+        clear_bytes(&mut self.control);
+        drop_entries(&mut self.entries);
         self.room = full_capacity(self.entries.len());
         self.len = 0;
     }

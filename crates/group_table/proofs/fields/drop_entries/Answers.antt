@@ -1,6 +1,6 @@
 use Rattle.std.proofs.Common.{replicate, None, ap, ◌∙◌, arith}
 use Rattle.group_table.proofs.CopyLemmas.{replicate-from}
-use Rattle.group_table.proofs.fields.free_entries.Goals as goal
+use Rattle.group_table.proofs.fields.drop_entries.Goals as goal
 
 pub returns : goal.returns
 returns g c =
