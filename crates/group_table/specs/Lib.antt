@@ -1,0 +1,12 @@
+pub mod Sizes
+pub mod Bucket
+pub mod Table
+pub mod Probe
+pub mod Neighbours
+pub mod Fits
+pub mod Search
+pub mod Change
+pub mod Lends
+pub mod LendsSome
+pub mod Layout
+pub mod Group

@@ -1,0 +1,21 @@
+-- Lists of one element many times.
+use Rattle.std.proofs.Common.{◌≡◌, ℕ, zero, suc, ◌+◌, ◌<◌, List, [], ◌∷◌, ◌++◌, length, get_or, replicate, refl, ap, sym, ◌∙◌, arith, add-one}
+
+module _ {X : Type 0} where
+  -- also past the end, where it is the default
+  pub copy_at : (n k : ℕ) (x : X) → get_or (replicate n x) k x ≡ x
+  copy_at zero k x = refl
+  copy_at (suc n) zero x = refl
+  copy_at (suc n) (suc k) x = copy_at n k x
+
+  push_copy : (n : ℕ) (x : X) → replicate n x ++ x ∷ [] ≡ replicate (suc n) x
+  push_copy zero x = refl
+  push_copy (suc n) x = ap (λ xs. x ∷ xs) (push_copy n x)
+
+  pub replicate-push : (n : ℕ) (x : X) → replicate n x ++ x ∷ [] ≡ replicate (n + 1) x
+  replicate-push n x = push_copy n x ∙ ap (λ k. replicate k x) (sym (add-one n))
+
+  -- a list of the same elements
+  pub replicate-from : (xs : List X) (x d : X) → ((k : ℕ) → k < length xs → get_or xs k d ≡ x) → xs ≡ replicate (length xs) x
+  replicate-from [] x d h = refl
+  replicate-from (y ∷ xs) x d h = ap (λ z. z ∷ xs) (h 0 (omega arith)) ∙ ap (λ zs. x ∷ zs) (replicate-from xs x d (λ k p. h (suc k) (omega arith)))

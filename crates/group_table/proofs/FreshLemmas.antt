@@ -1,0 +1,60 @@
+-- The fields of a table whose buckets are all empty.
+use Rattle.std.proofs.Common.{◌≡◌, ℕ, zero, suc, ◌+◌, ◌^◌, ◌<◌, ◌≤◌, ◌∷◌, length, replicate, Option, None, ◌⊎◌, refl, ap, sym, ◌∙◌, arith, inl, inr, count_by, cond, Bool, false}
+use Rattle.std.proofs.lemmas.List.{length-replicate, get_or-replicate}
+use Rattle.std.proofs.lemmas.List.Sums.{sum_by-cons}
+use native.Mathlib.Decide.{dec_lt}
+use Rattle.group_table.specs.Sizes.{IsPowerFromFour, full_capacity}
+use Rattle.group_table.specs.Bucket.{Bucket, Slot, Tagged, empty, is_used, is_full, entry_count}
+use Rattle.group_table.specs.Fits.{Fits}
+use Rattle.group_table.specs.Layout.{slots_of, byte_of, byte_at, IsValid}
+use Rattle.group_table.proofs.BucketLemmas.{empty_not_deleted}
+use Rattle.group_table.proofs.CopyLemmas.{copy_at}
+use Rattle.group_table.proofs.FitsLemmas.{Fits-none}
+use Rattle.group_table.proofs.WriteLemmas.{byte_at-bucket, byte_at-between, byte_at-again}
+
+module _ {A : Type 0} (p : Bucket A → Bool) (no : p empty ≡ false) where
+  none_counted : (n : ℕ) → count_by p (replicate n empty) ≡ 0
+  none_counted zero = refl
+  none_counted (suc n) =
+      let one : ◌≡◌ {A = ℕ} (cond (p empty) 1 0) 0 = ap (λ t. cond {A = ℕ} t 1 0) no in
+      omega (arith, sum_by-cons (λ s. cond (p s) 1 0) empty (replicate n empty), one, none_counted n)
+
+module _ (T : Type 0) where
+  abbrev no_entry : Option T
+  no_entry = None
+
+  pub slots_of-fresh : (n m : ℕ) → n ≤ m → slots_of {T = T} (replicate m 255) (replicate n None) ≡ replicate n empty
+  slots_of-fresh zero m p = refl
+  slots_of-fresh (suc n) zero p = absurd (omega arith)
+  slots_of-fresh (suc n) (suc m) p = ap (λ s. empty ∷ s) (slots_of-fresh n m (omega arith))
+
+  bytes_empty : (n p : ℕ) → byte_at {T = T} (replicate n empty) p ≡ 255
+  bytes_empty n p =
+      elim (dec_lt p (length (replicate {A = Slot T} n empty))) [
+        | yes q ↦ byte_at-bucket (replicate n empty) p q ∙ ap byte_of (copy_at n p empty)
+        | no q ↦ elim (dec_lt p 16) [
+          | yes r ↦ byte_at-between (replicate n empty) p (omega arith) r
+          | no r ↦ byte_at-again (replicate n empty) p (omega arith) (omega arith) ∙ ap byte_of (copy_at n _ empty)
+        ]
+      ]
+
+  -- so the invariant holds of a fresh table of any number of buckets
+  pub IsValid-fresh : (n m : ℕ) → ((n ≡ 0) × (m ≡ 0)) ⊎ (IsPowerFromFour n × (m ≡ n + 16)) → m < 2 ^ 63 → IsValid {T = T} (replicate m 255) (replicate n None) (full_capacity n)
+  IsValid-fresh n m s p =
+      let within : n ≤ m = elim s [ inl w ↦ omega arith | inr w ↦ omega arith ] in
+      record {
+        laid_out = record {
+          counts = rw (length-replicate n no_entry, length-replicate {A = ℕ} m 255) s;
+          fits = rw (length-replicate {A = ℕ} m 255) p;
+          agrees = λ b q. rw (get_or-replicate {A = ℕ} m b 255 0 (let r = rw length-replicate at q in omega arith)) (rw copy_at (inr refl));
+          bytes = λ k q. get_or-replicate {A = ℕ} m k 255 0 (rw length-replicate at q) ∙ sym (rw (slots_of-fresh n m within) (bytes_empty n k));
+        };
+        room_left = rw (slots_of-fresh n m within, none_counted {A = Tagged T} is_used refl, length-replicate) (omega arith);
+        none_deleted = λ q b e. absurd (empty_not_deleted _ (copy_at n b empty) (rw (slots_of-fresh n m within) at e));
+      }
+
+  pub entry_count-fresh : (n m : ℕ) → n ≤ m → entry_count (slots_of {T = T} (replicate m 255) (replicate n None)) ≡ 0
+  entry_count-fresh n m p = rw (slots_of-fresh n m p) (none_counted {A = Tagged T} is_full refl n)
+
+  pub Fits-fresh : (n : ℕ) (hash_of : ℕ → ℕ) → Fits {T = T} (replicate n empty) hash_of
+  Fits-fresh n hash_of = Fits-none (replicate n empty) hash_of (λ b. copy_at n b empty)

@@ -1,0 +1,116 @@
+-- The buckets by their control bytes and entries.
+use Rattle.std.proofs.Common.{◌≡◌, ℕ, zero, suc, ◌<◌, ◌≤◌, List, [], ◌∷◌, length, get_or, set, Option, Some, None, refl, ap, arith, inl, inr, nat_lt, nat_eq, cond, sym, ◌∙◌, Bool, true, false, IsSome}
+use Rattle.std.proofs.lemmas.Bool.{lt-ltb, false≢true}
+use Rattle.std.proofs.lemmas.List.{get_or_read}
+use Rattle.group_table.specs.Bucket.{Tagged, empty, deleted, full, bucket_at, is_full, IsFull, entry_of, entry_at, mark_of}
+use Rattle.group_table.specs.Sizes.{IsPowerFromFour}
+use Rattle.group_table.specs.Layout.{slot_of, slots_of, marks_by, IsLaidOut, Agrees}
+use Rattle.group_table.proofs.BucketLemmas.{empty_not_deleted, full_lt, bucket_at-marks_of, length-marks_of, empty_mark, is_full-marks_of}
+
+module _ {T : Type 0} where
+  length-slots_of : (bytes : List ℕ) (entries : List (Option T)) → length entries ≤ length bytes → length (slots_of bytes entries) ≡ length entries
+  length-slots_of bytes [] p = refl
+  length-slots_of [] (e ∷ entries) p = absurd (omega arith)
+  length-slots_of (b ∷ bytes) (e ∷ entries) p = ap suc (length-slots_of bytes entries (omega arith))
+
+  bucket_at-slots_of : (bytes : List ℕ) (entries : List (Option T)) (b : ℕ) → length entries ≤ length bytes → b < length entries → bucket_at (slots_of bytes entries) b ≡ slot_of (get_or bytes b 0) (get_or entries b None)
+  bucket_at-slots_of bytes [] b p q = absurd (omega arith)
+  bucket_at-slots_of [] (e ∷ entries) b p q = absurd (omega arith)
+  bucket_at-slots_of (x ∷ bytes) (e ∷ entries) zero p q = refl
+  bucket_at-slots_of (x ∷ bytes) (e ∷ entries) (suc b) p q = bucket_at-slots_of bytes entries b (omega arith) (omega arith)
+
+  pub slots_of-set : (bytes : List ℕ) (entries : List (Option T)) (b byte : ℕ) (e : Option T) → slots_of (set bytes b byte) (set entries b e) ≡ set (slots_of bytes entries) b (slot_of byte e)
+  slots_of-set bytes [] b byte e = refl
+  slots_of-set [] (x ∷ entries) zero byte e = refl
+  slots_of-set [] (x ∷ entries) (suc b) byte e = refl
+  slots_of-set (y ∷ bytes) (x ∷ entries) zero byte e = refl
+  slots_of-set (y ∷ bytes) (x ∷ entries) (suc b) byte e = ap (λ s. slot_of y x ∷ s) (slots_of-set bytes entries b byte e)
+
+  -- a byte below 128 tells of an entry
+  is_full-slot_of : (byte : ℕ) (e : Option T) → Agrees byte e → is_full (slot_of byte e) ≡ nat_lt byte 128
+  is_full-slot_of byte (Some entry) p = sym (lt-ltb byte 128 p)
+  is_full-slot_of byte None (inl e) = rw e
+  is_full-slot_of byte None (inr e) = rw e
+
+  -- a bucket is empty exactly if its byte is 255
+  pub slot_of-empty : (byte : ℕ) (e : Option T) → Agrees byte e → byte ≡ 255 → slot_of byte e ≡ empty
+  slot_of-empty byte (Some entry) p e = absurd (omega arith)
+  slot_of-empty byte None p e = rw e
+
+  slot_of-deleted : (byte : ℕ) (e : Option T) → e ≡ None → byte ≡ 128 → slot_of byte e ≡ deleted
+  slot_of-deleted byte e n p = rw (n, p)
+
+  pub empty_byte : (byte : ℕ) (e : Option T) → Agrees byte e → slot_of byte e ≡ empty → byte ≡ 255
+  empty_byte byte (Some entry) p e = absurd (cc)
+  empty_byte byte None (inl e) f = absurd (empty_not_deleted _ f (slot_of-deleted byte None refl e))
+  empty_byte byte None (inr e) f = e
+
+is_full-test : (T : Type 0) (t : Bool) → is_full {A = Tagged T} (cond t deleted empty) ≡ false
+is_full-test T true = refl
+is_full-test T false = refl
+
+filled : {T : Type 0} (byte : ℕ) (o : Option T) → is_full (slot_of byte o) ≡ true → (entry : T) × (o ≡ Some entry)
+filled byte (Some entry) h = (entry, refl)
+filled {T} byte None h = absurd (false≢true (sym (is_full-test T (nat_eq byte 128)) ∙ h))
+
+module _ {T : Type 0} (control : List ℕ) (entries : List (Option T)) (laid_out : IsLaidOut control entries) where
+  pub entries_within : length entries ≤ length control
+  entries_within = elim laid_out.counts [ inl w ↦ omega arith | inr w ↦ omega arith ]
+
+  -- a table with buckets has a power of two of them
+  pub power_of : 0 < length entries → IsPowerFromFour (length entries)
+  power_of p = elim laid_out.counts [ inl w ↦ absurd (omega arith) | inr w ↦ w.0 ]
+
+  pub length-laid_out : length (slots_of control entries) ≡ length entries
+  length-laid_out = length-slots_of control entries entries_within
+
+  pub length-marks_by : length (marks_by control entries) ≡ length entries
+  length-marks_by = length-marks_of (slots_of control entries) ∙ length-laid_out
+
+  module _ (b : ℕ) (within : b < length entries) where
+    pub bucket_at-laid_out : bucket_at (slots_of control entries) b ≡ slot_of (get_or control b 0) (get_or entries b None)
+    bucket_at-laid_out = bucket_at-slots_of control entries b entries_within within
+
+    pub is_full-laid_out : is_full (bucket_at (slots_of control entries) b) ≡ nat_lt (get_or control b 0) 128
+    is_full-laid_out = rw bucket_at-laid_out (is_full-slot_of _ _ (laid_out.agrees b within))
+
+    pub is_full-byte : is_full (bucket_at (marks_by control entries) b) ≡ nat_lt (get_or control b 0) 128
+    is_full-byte = is_full-marks_of (slots_of control entries) b ∙ is_full-laid_out
+
+    -- what the code reads as EMPTY
+    pub mark_from_byte : get_or control b 0 ≡ 255 → bucket_at (marks_by control entries) b ≡ empty
+    mark_from_byte e = bucket_at-marks_of (slots_of control entries) b ∙ ap mark_of (bucket_at-laid_out ∙ slot_of-empty _ _ (laid_out.agrees b within) e)
+
+    pub byte_from_mark : bucket_at (marks_by control entries) b ≡ empty → get_or control b 0 ≡ 255
+    byte_from_mark e = empty_byte _ _ (laid_out.agrees b within) (sym bucket_at-laid_out ∙ empty_mark (slots_of control entries) b e)
+
+    -- what the code reads of a bucket with a tag
+    pub bucket_at-read : (tag : ℕ) (r : Option T) (entry : T) → get_or control b 0 ≡ tag → r ≡ get_or entries b r → r ≡ Some entry → bucket_at (slots_of control entries) b ≡ full (record { tag = tag; entry = entry })
+    bucket_at-read tag r entry e f h =
+        let found : get_or entries b None ≡ Some entry = sym (get_or_read entries b r within f None) ∙ h in
+        bucket_at-laid_out ∙ ap (λ o. slot_of (get_or control b 0) o) found ∙ ap (λ t. full (record { tag = t; entry = entry })) e
+
+    -- a byte below 128 is a tag, so that there is an entry
+    pub entry_by_byte : get_or control b 0 < 128 → (entry : T) × (get_or entries b None ≡ Some entry)
+    entry_by_byte p = filled (get_or control b 0) (get_or entries b None) (sym (ap is_full bucket_at-laid_out) ∙ is_full-laid_out ∙ lt-ltb _ 128 p)
+
+  module _ (b : ℕ) (there : IsFull (slots_of control entries) b) where
+    pub full_within : b < length entries
+    full_within = let p = full_lt (slots_of control entries) b there in rw length-laid_out at p
+
+    -- a full bucket has an entry
+    pub full_entry : (entry : T) × (get_or entries b None ≡ Some entry)
+    full_entry = filled (get_or control b 0) (get_or entries b None) (rw (bucket_at-laid_out b full_within) at there)
+
+    pub is_some_entry : IsSome (get_or entries b None)
+    is_some_entry = let w = full_entry in rw w.1 refl
+
+    pub entry_at-full : (entry : T) → get_or entries b None ≡ Some entry → entry_at (slots_of control entries) b ≡ Some entry
+    entry_at-full entry e = ap entry_of (bucket_at-laid_out b full_within) ∙ ap (λ o. entry_of (slot_of (get_or control b 0) o)) e
+
+-- what was read is not None where there is an entry
+pub not_read_none : {T : Type 0} (entries : List (Option T)) (b : ℕ) (r : Option T) (entry : T) → b < length entries → get_or entries b None ≡ Some entry → r ≡ get_or entries b r → r ≡ None → ⊥
+not_read_none entries b r entry within some e h =
+    let found : r ≡ get_or entries b None = get_or_read entries b r within e None in
+    let wrong : Some entry ≡ None = sym some ∙ sym found ∙ h in
+    cc

@@ -1,0 +1,67 @@
+-- What holds of every table, from the invariant of its fields.
+use Rattle.std.proofs.Common.{◌≡◌, ℕ, ◌+◌, ◌-◌, ◌<◌, ◌≤◌, List, length, Option, ap, sym, ◌∙◌, arith, inl, inr, count_by}
+use Rattle.group_table.specs.Sizes.{full_capacity, IsBucketCount}
+use Rattle.group_table.specs.Bucket.{empty, bucket_at, is_full, is_used, is_deleted, room}
+use Rattle.group_table.specs.Table.{IsTable}
+use Rattle.group_table.specs.Probe.{IsFirstFree}
+use Rattle.group_table.specs.Layout.{slots_of, marks_by, IsValid}
+use Rattle.group_table.proofs.SizeLemmas.{full_capacity-lt, full_capacity-small}
+use Rattle.group_table.proofs.BucketLemmas.{some_empty, room_is, used_count-marks_of, deleted_count-marks_of, used_count-split, deleted_count-none, empty_not_deleted, bucket_at-past}
+use Rattle.group_table.proofs.ProbeLemmas.{probed-lt, probed-meets}
+use Rattle.group_table.proofs.FirstFree.{first_free_there}
+use Rattle.group_table.proofs.LayoutLemmas.{length-laid_out, length-marks_by, power_of}
+
+module _ {T : Type 0} (control : List ℕ) (entries : List (Option T)) (r : ℕ) (valid : IsValid control entries r) where
+  bucket_count : IsBucketCount (length entries)
+  bucket_count = elim valid.laid_out.counts [ inl w ↦ inl w.0 | inr w ↦ inr w.0 ]
+
+  used_is : count_by is_used (marks_by control entries) + r ≡ full_capacity (length entries)
+  used_is = omega (arith, used_count-marks_of (slots_of control entries), valid.room_left)
+
+  -- the field is the room
+  pub room_by : r ≡ room (marks_by control entries)
+  room_by = let e = room_is (marks_by control entries) in let same = length-marks_by control entries valid.laid_out in
+      (let f : r ≡ full_capacity (length entries) - count_by is_used (marks_by control entries) = omega (arith, used_is) in f) ∙ ap (λ n. full_capacity n - count_by is_used (marks_by control entries)) (sym same) ∙ sym e
+
+  -- there is less room than 2 ^ 63
+  pub room_within : r ≤ length entries
+  room_within = elim valid.laid_out.counts [
+    | inl w ↦ let none : full_capacity (length entries) ≡ full_capacity 0 = ap full_capacity w.0 in omega (arith, used_is, none, full_capacity-small 0 (omega arith))
+    | inr w ↦ omega (arith, used_is, full_capacity-lt (length entries) w.0)
+  ]
+
+  pub used_lt : 0 < length entries → count_by is_used (marks_by control entries) < length entries
+  used_lt pos = omega (arith, used_is, full_capacity-lt (length entries) (power_of control entries valid.laid_out pos))
+
+  none_deleted_small : length entries ≤ 16 → count_by is_deleted (marks_by control entries) ≡ 0
+  none_deleted_small small =
+      deleted_count-marks_of (slots_of control entries) ∙ deleted_count-none (slots_of control entries) (λ b e.
+      let none : length entries ≡ 0 = valid.none_deleted small b e in
+      empty_not_deleted _ (bucket_at-past (slots_of control entries) b (omega (arith, none, length-laid_out control entries valid.laid_out))) e)
+
+  pub empty_there : 0 < length entries → (b : ℕ) × (b < length (marks_by control entries)) × (bucket_at (marks_by control entries) b ≡ empty)
+  empty_there pos = some_empty (marks_by control entries) (omega (arith, used_lt pos, length-marks_by control entries valid.laid_out))
+
+  pub free_there : 0 < length entries → (hash : ℕ) → (b : ℕ) × IsFirstFree (marks_by control entries) hash b
+  free_there pos hash =
+      let w = empty_there pos in
+      first_free_there (marks_by control entries) hash (rw (length-marks_by control entries valid.laid_out) (power_of control entries valid.laid_out pos)) w.0 w.1 (ap is_full w.2)
+
+  pub IsTable-by : IsTable (marks_by control entries)
+  IsTable-by =
+      let same = length-marks_by control entries valid.laid_out in
+      let left : count_by is_used (marks_by control entries) + room (marks_by control entries) ≡ full_capacity (length entries) = ap (λ n. count_by is_used (marks_by control entries) + n) (sym room_by) ∙ used_is in
+      let split = used_count-split (marks_by control entries) in
+      let capacity : full_capacity (length (marks_by control entries)) ≡ full_capacity (length entries) = ap full_capacity same in
+      record {
+        count = rw same bucket_count;
+        addressable = elim valid.laid_out.counts [ inl w ↦ omega (arith, w.0, same) | inr w ↦ omega (arith, w.1, same, valid.laid_out.fits) ];
+        used_within = omega (arith, used_is, capacity);
+        within = omega (arith, left, split, capacity);
+        exact = λ small. omega (arith, left, split, capacity, none_deleted_small (omega (arith, small, same)));
+        none_deleted = λ small. none_deleted_small (omega (arith, small, same));
+        some_empty = λ pos. empty_there (omega (arith, pos, same));
+        some_free = λ pos hash. let w = free_there (omega (arith, pos, same)) hash in
+            (w.0, rw (← w.1.there) (probed-lt (length (marks_by control entries)) hash w.1.step pos), w.1);
+        visits_each = λ hash b p. rw same (probed-meets (length entries) hash b (power_of control entries valid.laid_out (omega (arith, p, same))) (omega (arith, p, same)));
+      }

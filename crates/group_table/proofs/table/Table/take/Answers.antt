@@ -1,0 +1,78 @@
+use Rattle.std.proofs.Common.{◌≡◌, ◌<◌, length, arith}
+use Rattle.group_table.specs.Layout.{slots_of}
+use Rattle.group_table.proofs.LayoutLemmas.{length-laid_out, entries_within, power_of, full_within, is_some_entry, entry_at-full}
+use Rattle.group_table.proofs.RemoveLemmas.{bool_byte-le, removed, room-removed, entry_count-pos, full_byte}
+use Rattle.group_table.proofs.FitsLemmas.{Fits-removed}
+use Rattle.group_table.proofs.TableLemmas.{IsTable-by, room_within}
+use Rattle.group_table.proofs.table.Table.take.Goals as goal
+
+pub has_empty_neighbours-gives_room-requires-clause-count : goal.has_empty_neighbours-gives_room-requires-clause-count
+has_empty_neighbours-gives_room-requires-clause-count g c =
+    let within = full_within _ _ c.self.invariant.0.laid_out c.args.b (rw (← c.self.view_is) at c.requires) in
+    let n : c.len.result ≡ length c.self.inside.entries.items = omega arith in
+    rw n (power_of _ _ c.self.invariant.0.laid_out (omega (arith, within)))
+
+pub has_empty_neighbours-gives_room-requires-clause-bucket : goal.has_empty_neighbours-gives_room-requires-clause-bucket
+has_empty_neighbours-gives_room-requires-clause-bucket g c =
+    omega (arith, full_within _ _ c.self.invariant.0.laid_out c.args.b (rw (← c.self.view_is) at c.requires))
+
+pub has_empty_neighbours-gives_room-requires-clause-used : goal.has_empty_neighbours-gives_room-requires-clause-used
+has_empty_neighbours-gives_room-requires-clause-used g c =
+    let byte = full_byte _ _ _ c.self.invariant.0 c.args.b (rw (← c.self.view_is) at c.requires) in
+    rw c.as_slice.ensures.value (λ e. omega (arith, byte, e))
+
+pub overflow_add-self : goal.overflow_add-self
+overflow_add-self g c =
+    let valid = c.self.invariant.0 in
+    omega (arith, bool_byte-le c.has_empty_neighbours-gives_room.result, room_within _ _ _ valid, entries_within _ _ valid.laid_out, valid.laid_out.fits)
+
+pub overflow_sub-self : goal.overflow_sub-self
+overflow_sub-self g c = omega (arith, entry_count-pos _ _ _ c.self.invariant.0 c.args.b (rw (← c.self.view_is) at c.requires), c.self.invariant.1)
+
+pub empty_bucket-requires-clause-bucket : goal.empty_bucket-requires-clause-bucket
+empty_bucket-requires-clause-bucket g c = full_within _ _ c.self.invariant.0.laid_out c.args.b (rw (← c.self.view_is) at c.requires)
+
+pub empty_bucket-requires-clause-full : goal.empty_bucket-requires-clause-full
+empty_bucket-requires-clause-full g c = is_some_entry _ _ c.self.invariant.0.laid_out c.args.b (rw (← c.self.view_is) at c.requires)
+
+pub invariant_of-self : goal.invariant_of-self
+invariant_of-self g c =
+    let there = rw (← c.self.view_is) at c.requires in
+    let n : c.len.result ≡ length c.self.inside.entries.items = omega arith in
+    let told = rw (c.as_slice.ensures.value, n) at c.has_empty_neighbours-gives_room.ensures in
+    let r = removed _ _ _ c.self.invariant.0 c.args.b there c.has_empty_neighbours-gives_room.result told in
+    rw (c.empty_bucket.ensures.control, c.empty_bucket.ensures.entries, c.emptied_byte-byte.ensures) (r.is_valid, omega (arith, r.count, c.self.invariant.1))
+
+pub returns-clause-entry : goal.returns-clause-entry
+returns-clause-entry g c =
+    rw (← c.self.view_is) (entry_at-full _ _ c.self.invariant.0.laid_out c.args.b (rw (← c.self.view_is) at c.requires) _ c.empty_bucket.ensures.entry)
+
+pub returns-clause-removed : goal.returns-clause-removed
+returns-clause-removed g c =
+    let there = rw (← c.self.view_is) at c.requires in
+    let n : c.len.result ≡ length c.self.inside.entries.items = omega arith in
+    let told = rw (c.as_slice.ensures.value, n) at c.has_empty_neighbours-gives_room.ensures in
+    let r = removed _ _ _ c.self.invariant.0 c.args.b there c.has_empty_neighbours-gives_room.result told in
+    rw (← c.self.view_is, c.empty_bucket.ensures.control, c.empty_bucket.ensures.entries, c.emptied_byte-byte.ensures) r.removes
+
+pub returns-clause-room : goal.returns-clause-room
+returns-clause-room g c =
+    let there = rw (← c.self.view_is) at c.requires in
+    let n : c.len.result ≡ length c.self.inside.entries.items = omega arith in
+    let told = rw (c.as_slice.ensures.value, n) at c.has_empty_neighbours-gives_room.ensures in
+    let r = removed _ _ _ c.self.invariant.0 c.args.b there c.has_empty_neighbours-gives_room.result told in
+    rw (← c.self.view_is, c.empty_bucket.ensures.control, c.empty_bucket.ensures.entries, c.emptied_byte-byte.ensures) (room-removed _ _ _ c.self.invariant.0 c.args.b there _ _ r)
+
+pub returns-clause-fits : goal.returns-clause-fits
+returns-clause-fits g c hash_of fits =
+    let within = full_within _ _ c.self.invariant.0.laid_out c.args.b (rw (← c.self.view_is) at c.requires) in
+    let in_slots : c.args.b < length (slots_of c.self.inside.control.items c.self.inside.entries.items) = omega (arith, within, length-laid_out _ _ c.self.invariant.0.laid_out) in
+    Fits-removed _ _ hash_of c.args.b (rw (← c.self.view_is) in_slots) (returns-clause-removed g c) fits
+
+pub returns-clause-table : goal.returns-clause-table
+returns-clause-table g c =
+    let there = rw (← c.self.view_is) at c.requires in
+    let n : c.len.result ≡ length c.self.inside.entries.items = omega arith in
+    let told = rw (c.as_slice.ensures.value, n) at c.has_empty_neighbours-gives_room.ensures in
+    let r = removed _ _ _ c.self.invariant.0 c.args.b there c.has_empty_neighbours-gives_room.result told in
+    rw (c.empty_bucket.ensures.control, c.empty_bucket.ensures.entries, c.emptied_byte-byte.ensures) (IsTable-by _ _ _ r.is_valid)

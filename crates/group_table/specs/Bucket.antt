@@ -1,0 +1,88 @@
+-- What stands in the buckets of a table: in full (slots), or less the tags and entries (marks).
+use Rattle.std.specs.Prelude.{ℕ, ◌-◌, if◌then◌else◌, Bool, true, false, List, length, map, count_by, slice_index_or, nat_eq, Option, Some, None, IsTrue}
+use Rattle.group_table.specs.Sizes.{full_capacity}
+
+-- a bucket is empty, deleted (a removal emptied it, and searches go on past it), or full
+pub data Bucket (A : Type 0) : Type 0 where
+  empty deleted : Bucket A
+  full : A → Bucket A
+
+-- an entry with the tag of its hash
+pub record Tagged (T : Type 0) : Type 0 where
+  pub tag : ℕ
+  pub entry : T
+
+-- a bucket with what a full one holds
+abbrev pub Slot : Type 0 → Type 0
+Slot T = Bucket (Tagged T)
+
+-- a bucket without it
+abbrev pub Mark : Type 0
+Mark = Bucket (Unit {0})
+
+module _ {A : Type 0} where
+  abbrev pub is_full : Bucket A → Bool
+  is_full empty = false
+  is_full deleted = false
+  is_full (full held) = true
+
+  abbrev pub is_deleted : Bucket A → Bool
+  is_deleted empty = false
+  is_deleted deleted = true
+  is_deleted (full held) = false
+
+  -- full or deleted
+  abbrev pub is_used : Bucket A → Bool
+  is_used empty = false
+  is_used deleted = true
+  is_used (full held) = true
+
+  -- what stands in a bucket
+  abbrev pub bucket_at : List (Bucket A) → ℕ → Bucket A
+  bucket_at buckets b = slice_index_or buckets b empty
+
+  -- the bucket is full
+  abbrev pub IsFull : List (Bucket A) → ℕ → Type 0
+  IsFull buckets b = IsTrue (is_full (bucket_at buckets b))
+
+  -- how many buckets are full
+  abbrev pub entry_count : List (Bucket A) → ℕ
+  entry_count buckets = count_by is_full buckets
+
+  abbrev pub mark_of : Bucket A → Mark
+  mark_of empty = empty
+  mark_of deleted = deleted
+  mark_of (full held) = full tt
+
+  -- the marks of a table's buckets
+  abbrev pub marks_of : List (Bucket A) → List Mark
+  marks_of buckets = map mark_of buckets
+
+-- how many more entries are sure to find an empty bucket
+unfoldable pub room : List Mark → ℕ
+room marks = full_capacity (length marks) - count_by is_used marks
+
+-- what a bucket counts in the room: one where it is empty
+abbrev pub room_at : List Mark → ℕ → ℕ
+room_at marks b = if is_used (bucket_at marks b) then 0 else 1
+
+module _ {T : Type 0} where
+  abbrev pub entry_of : Slot T → Option T
+  entry_of empty = None
+  entry_of deleted = None
+  entry_of (full held) = Some held.entry
+
+  -- the entry in a bucket
+  abbrev pub entry_at : List (Slot T) → ℕ → Option T
+  entry_at slots b = entry_of (bucket_at slots b)
+
+  abbrev pub has_tag : ℕ → Slot T → Bool
+  has_tag tag empty = false
+  has_tag tag deleted = false
+  has_tag tag (full held) = nat_eq held.tag tag
+
+  -- the bucket as it is with another entry in it
+  abbrev pub refilled : Slot T → T → Slot T
+  refilled empty entry = empty
+  refilled deleted entry = deleted
+  refilled (full held) entry = full (record held { entry = entry })

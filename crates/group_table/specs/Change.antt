@@ -1,0 +1,31 @@
+-- How a placing and a removal change a table.
+use Rattle.std.specs.Prelude.{◌≡◌, ℕ, ◌+◌, ◌-◌, ◌^◌, ◌<◌, ◌⊎◌, min, List, length, slice_set}
+use Rattle.group_table.specs.Bucket.{Slot, Mark, empty, deleted, full, bucket_at, marks_of, room}
+use Rattle.group_table.specs.Probe.{hash_tag, IsFirstFree}
+use Rattle.group_table.specs.Neighbours.{HasEmptyNeighbours, IsHemmedIn}
+use Rattle.group_table.specs.Table.{Table}
+
+-- a count that stops at u64::MAX
+abbrev pub count_up : ℕ → ℕ → ℕ
+count_up n more = min (n + more) (2 ^ 64 - 1)
+
+-- an entry may go into this free bucket: there is room, or the bucket is deleted
+abbrev pub MayFill : List Mark → ℕ → Type 0
+MayFill marks b = (0 < room marks) ⊎ (bucket_at marks b ≡ deleted)
+
+-- there is no bucket, or no room and the first free bucket is empty
+abbrev pub HasNoPlace : List Mark → ℕ → Type 0
+HasNoPlace marks hash = (length marks ≡ 0) ⊎ ((room marks ≡ 0) × (b : ℕ) × IsFirstFree marks hash b × (bucket_at marks b ≡ empty))
+
+module _ {T : Type 0} where
+  -- the entry went into the first free bucket with the tag of its hash, and each other bucket stays
+  pub record Places (old new : Table T) (hash : ℕ) (entry : T) (b : ℕ) : Type 0 where
+    pub first : IsFirstFree (marks_of old.slots) hash b
+    pub slots : new.slots ≡ slice_set old.slots b (full (record { tag = hash_tag hash; entry = entry }))
+    pub placings : new.placings ≡ count_up old.placings 1
+
+  -- the bucket is emptied where every 16 neighbours hold an empty one, and else it is deleted
+  abbrev pub Removes : List (Slot T) → List (Slot T) → ℕ → Type 0
+  Removes old new b =
+      (HasEmptyNeighbours (marks_of old) b × (new ≡ slice_set old b empty))
+      ⊎ (IsHemmedIn (marks_of old) b × (new ≡ slice_set old b deleted))

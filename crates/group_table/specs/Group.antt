@@ -1,0 +1,92 @@
+-- What the code reads in the group of buckets that begins at a place. No public clause cites this module.
+use Rattle.std.specs.Prelude.{◌≡◌, ◌≢◌, ℕ, ◌+◌, ◌%◌, ◌<◌, ◌≤◌, min, Bool, true, List, [], ◌∷◌, ◌++◌, length, map, filter, slice_index}
+use Rattle.std.specs.List.{range_with_len}
+use Rattle.std.specs.Borrow.{Bor}
+use Rattle.std.specs.Fn.{Mut}
+use Rattle.group_table.specs.Bucket.{Slot, empty, bucket_at, has_tag, marks_of}
+use Rattle.group_table.specs.Probe.{probed}
+use Rattle.group_table.specs.Search.{Answers, RefusesEach}
+use Rattle.group_table.specs.declared.probe.Asked.{Asked}
+use Rattle.group_table.specs.declared.probe.Asked.TheVariants.{Accepted, Ended, GoesOn}
+
+module _ {T : Type 0} (slots : List (Slot T)) where
+  -- how many lanes of a group are buckets of their own
+  abbrev pub width : ℕ
+  width = min 16 (length slots)
+
+  -- the buckets with the tag among the first lanes
+  abbrev pub tagged_lanes : ℕ → ℕ → ℕ → List ℕ
+  tagged_lanes tag start lanes = filter (λ b. has_tag tag (bucket_at slots b)) (map (λ lane. (start + lane) % length slots) (range_with_len 0 lanes))
+
+  -- the bucket at the lane is empty
+  abbrev pub IsEmptyLane : ℕ → ℕ → Type 0
+  IsEmptyLane start lane = bucket_at (marks_of slots) ((start + lane) % length slots) ≡ empty
+
+  -- some of the first lanes is empty
+  abbrev pub HasEmptyLane : ℕ → ℕ → Type 0
+  HasEmptyLane start lanes = (lane : ℕ) × (lane < lanes) × IsEmptyLane start lane
+
+  -- none of the first lanes is empty
+  abbrev pub HasNoEmptyLane : ℕ → ℕ → Type 0
+  HasNoEmptyLane start lanes = (lane : ℕ) → lane < lanes → bucket_at (marks_of slots) ((start + lane) % length slots) ≢ empty
+
+module _ {T F : Type 0} (closure : Mut F (Bor T × Unit {0}) Bool) (slots : List (Slot T)) (tag start : ℕ) (f : F) where
+  -- f was asked about the buckets with the tag, in the order of the lanes, and refused all but the last, which is b
+  pub record AcceptsIn (b : ℕ) (g : F) : Type 0 where
+    pub lanes : ℕ
+    pub in_group : lanes ≤ width slots
+    pub asked : List ℕ
+    pub in_order : asked ++ b ∷ [] ≡ tagged_lanes slots tag start lanes
+    pub between : F
+    pub refused : RefusesEach closure slots f asked between
+    pub accepted : Answers closure slots between b true g
+
+  -- f refused all buckets with the tag
+  abbrev pub RefusesGroup : F → Type 0
+  RefusesGroup g = RefusesEach closure slots f (tagged_lanes slots tag start (width slots)) g
+
+  -- what came of it: an accepted bucket, the end of the search at an empty bucket, or neither
+  abbrev pub AsksGroup : Asked → F → Type 0
+  AsksGroup (Accepted b) g = AcceptsIn b g
+  AsksGroup Ended g = RefusesGroup g × HasEmptyLane slots start (width slots)
+  AsksGroup GoesOn g = RefusesGroup g × HasNoEmptyLane slots start (width slots)
+
+-- the byte of the bucket at some lane is that of an empty or a deleted bucket, and those at the lanes before are not
+pub record IsFreeLane (control : List ℕ) (buckets start b : ℕ) : Type 0 where
+  pub lane : ℕ
+  pub in_group : lane < 16
+  pub there : (start + lane) % buckets ≡ b
+  pub free_there : 128 ≤ slice_index control b
+  pub full_before : (before : ℕ) → before < lane → slice_index control ((start + before) % buckets) < 128
+
+-- the same over the steps of a search for the hash
+pub record IsFirstFreeByte (control : List ℕ) (buckets hash b : ℕ) : Type 0 where
+  pub step : ℕ
+  pub there : probed buckets hash step ≡ b
+  pub free_there : 128 ≤ slice_index control b
+  pub full_before : (before : ℕ) → before < step → slice_index control (probed buckets hash before) < 128
+
+-- so many used buckets stand directly before this one: 16, or up to an empty one
+pub record IsRunBefore (control : List ℕ) (buckets b run : ℕ) : Type 0 where
+  pub bound : run ≤ 16
+  pub used : (x steps : ℕ) → x < buckets → 0 < steps → steps ≤ run → (x + steps) % buckets ≡ b → slice_index control x ≢ 255
+  pub ends : run < 16 → (x : ℕ) → x < buckets → (x + (run + 1)) % buckets ≡ b → slice_index control x ≡ 255
+
+-- so many used buckets stand from this one on: 16, or up to an empty one
+pub record IsRunFrom (control : List ℕ) (buckets b run : ℕ) : Type 0 where
+  pub bound : run ≤ 16
+  pub used : (steps : ℕ) → steps < run → slice_index control ((b + steps) % buckets) ≢ 255
+  pub ends : run < 16 → slice_index control ((b + run) % buckets) ≡ 255
+
+-- every 16 neighbouring buckets that hold this one have the byte of an empty one
+abbrev pub EmptyNeighbourBytes : List ℕ → ℕ → ℕ → Type 0
+EmptyNeighbourBytes control buckets b = (start at : ℕ) → at < 16 → (start + at) % buckets ≡ b
+    → (lane : ℕ) × (lane < 16) × (slice_index control ((start + lane) % buckets) ≡ 255)
+
+-- some 16 neighbouring buckets that hold this one have none
+pub record HemmedInBytes (control : List ℕ) (buckets b : ℕ) : Type 0 where
+  pub start : ℕ
+  pub at : ℕ
+  pub within : at < 16
+  pub there : (start + at) % buckets ≡ b
+  pub none_empty : (lane : ℕ) → lane < 16 → slice_index control ((start + lane) % buckets) ≢ 255

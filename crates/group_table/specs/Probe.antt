@@ -1,0 +1,30 @@
+-- In which order a search for a hash visits the buckets.
+use Rattle.std.specs.Prelude.{◌≡◌, ◌≢◌, ℕ, ◌+◌, ◌*◌, ◌/◌, ◌%◌, ◌^◌, ◌<◌, false, List, length}
+use Rattle.group_table.specs.Bucket.{Mark, empty, bucket_at, is_full, IsFull}
+
+-- the top 7 bits of a hash
+abbrev pub hash_tag : ℕ → ℕ
+hash_tag hash = hash / 2 ^ 57
+
+-- the bucket that a search visits at a step: it goes by groups of 16, the first of which begins at the hash,
+-- and each other one 16, 32, 48, .. buckets after the one before
+abbrev pub probed : ℕ → ℕ → ℕ → ℕ
+probed buckets hash step = (hash + 8 * (step / 16) * (step / 16 + 1) + step % 16) % buckets
+
+module _ (marks : List Mark) (hash : ℕ) where
+  -- what stands in the bucket that a search visits at a step
+  abbrev pub mark_probed : ℕ → Mark
+  mark_probed step = bucket_at marks (probed (length marks) hash step)
+
+  -- a search reaches the bucket: it ends at a group with an empty bucket, and no group before has one
+  pub record Reaches (b : ℕ) : Type 0 where
+    pub step : ℕ
+    pub there : probed (length marks) hash step ≡ b
+    pub goes_on : (before : ℕ) → before / 16 < step / 16 → mark_probed before ≢ empty
+
+  -- the first bucket in the order of a search that is empty or deleted
+  pub record IsFirstFree (b : ℕ) : Type 0 where
+    pub step : ℕ
+    pub there : probed (length marks) hash step ≡ b
+    pub free_there : is_full (bucket_at marks b) ≡ false
+    pub full_before : (before : ℕ) → before < step → IsFull marks (probed (length marks) hash before)

@@ -1,0 +1,49 @@
+-- Which entries a search asks its closure about, and what the closure answers.
+use Rattle.std.specs.Prelude.{◌≡◌, ◌≢◌, ℕ, ◌≤◌, Bool, true, false, List, [], ◌∷◌, ◌++◌, length, map, filter, Some, Contains, AllPairs}
+use Rattle.std.specs.List.{range_with_len, FoldsTo}
+use Rattle.std.specs.Borrow.{Bor}
+use Rattle.std.specs.Fn.{Mut, CalledAt}
+use Rattle.group_table.specs.Bucket.{Slot, bucket_at, entry_at, has_tag, IsFull}
+use Rattle.group_table.specs.Probe.{hash_tag, probed}
+use Rattle.group_table.specs.Fits.{Fits}
+
+module _ {T : Type 0} (slots : List (Slot T)) (hash : ℕ) where
+  -- the buckets with the tag of the hash, among those of the first steps of a search, in its order
+  abbrev pub candidates : ℕ → List ℕ
+  candidates steps = filter (λ b. has_tag (hash_tag hash) (bucket_at slots b)) (map (probed (length slots) hash) (range_with_len 0 steps))
+
+  -- these are the candidates of so many steps, and each stands once
+  pub record IsSearch (asked : List ℕ) : Type 0 where
+    pub steps : ℕ
+    pub within : steps ≤ length slots
+    pub in_order : asked ≡ candidates steps
+    pub distinct : AllPairs ◌≢◌ asked
+
+module _ {T F : Type 0} (closure : Mut F (Bor T × Unit {0}) Bool) (slots : List (Slot T)) where
+  -- a call of f about the entry in the bucket may answer so, and leave f as g
+  pub record Answers (f : F) (b : ℕ) (answer : Bool) (g : F) : Type 0 where
+    pub entry : T
+    pub there : entry_at slots b ≡ Some entry
+    pub called : CalledAt closure f entry answer g
+
+  -- f was called about the entries in these buckets, one after another, refused each, and is then g
+  abbrev pub RefusesEach : F → List ℕ → F → Type 0
+  RefusesEach f asked g = FoldsTo (λ p b q. Answers p b false q) f asked g
+
+  -- a search for the hash asked f about these buckets, and f refused all but the last, which is b
+  pub record Finds (hash : ℕ) (f : F) (b : ℕ) : Type 0 where
+    pub asked : List ℕ
+    pub search : IsSearch slots hash (asked ++ b ∷ [])
+    pub between : F
+    pub refused : RefusesEach f asked between
+    pub last : F
+    pub accepted : Answers between b true last
+
+  -- a search for the hash asked f about these buckets, f refused all, and among them is each with an entry of
+  -- that hash, whatever hashes fit
+  pub record FindsNone (hash : ℕ) (f : F) : Type 0 where
+    pub asked : List ℕ
+    pub search : IsSearch slots hash asked
+    pub last : F
+    pub refused : RefusesEach f asked last
+    pub complete : (hash_of : ℕ → ℕ) → Fits slots hash_of → (b : ℕ) → IsFull slots b → hash_of b ≡ hash → Contains asked b

@@ -1,0 +1,37 @@
+-- How many entries a number of buckets takes, and how many buckets entries need. Quotients are rounded down.
+use Rattle.std.specs.Prelude.{◌≡◌, ◌⊎◌, ℕ, zero, suc, ◌-◌, ◌*◌, ◌/◌, ◌^◌, ◌==◌, nat_lt, nat_le, if◌then◌else◌, Option, Some, None}
+
+-- a power of two from 4 on
+abbrev pub IsPowerFromFour : ℕ → Type 0
+IsPowerFromFour buckets = (k : ℕ) × (buckets ≡ 4 * 2 ^ k)
+
+-- none, or a power of two from 4 on
+abbrev pub IsBucketCount : ℕ → Type 0
+IsBucketCount buckets = (buckets ≡ 0) ⊎ IsPowerFromFour buckets
+
+-- the most entries that so many buckets take: all but one of 4 or 8, and seven eighths of more
+unfoldable pub full_capacity : ℕ → ℕ
+full_capacity buckets = if nat_le buckets 8 then buckets - 1 else buckets / 8 * 7
+
+-- the first of power, 2 * power, 4 * power, .. that is n or more, among so many
+abbrev pub first_power_from : ℕ → ℕ → ℕ → ℕ
+first_power_from zero n power = power
+first_power_from (suc tries) n power = if nat_le n power then power else first_power_from tries n (2 * power)
+
+-- the least power of two that is n or more, for n up to 2 ^ 64
+unfoldable pub least_power : ℕ → ℕ
+least_power n = first_power_from 64 n 1
+
+-- n, where it is below the limit
+abbrev pub below : ℕ → ℕ → Option ℕ
+below limit n = if nat_lt n limit then Some n else None
+
+-- the buckets for so many entries, where links reach that many: none for none, then 4, then 8, and else the
+-- least power of two that is at least eight sevenths of the entries
+unfoldable pub buckets_for : ℕ → ℕ → Option ℕ
+buckets_for max entries =
+    if entries == 0 then Some 0
+    else (if nat_lt entries 4 then below max 4
+    else (if nat_lt entries 8 then below max 8
+    else (if nat_lt (8 * entries) (2 ^ 64) then below max (least_power (8 * entries / 7))
+    else None)))

@@ -1,0 +1,119 @@
+//! Searches for a hash, group by group, over the control bytes and the entries as two slices.
+ghost use Rattle.std.specs.Prelude.{◌≡◌, ℕ, ◌+◌, ◌%◌, ◌^◌, ◌<◌, ◌≤◌, length, slice_index, IfSome, IfNone};
+ghost use Rattle.group_table.specs.Sizes.{IsPowerFromFour};
+ghost use Rattle.group_table.specs.Bucket.{bucket_at, empty};
+ghost use Rattle.group_table.specs.Search.{Finds, FindsNone};
+ghost use Rattle.group_table.specs.Group.{AsksGroup, IsFreeLane, IsFirstFreeByte};
+ghost use Rattle.group_table.specs.Layout.{IsLaidOut, slots_of, marks_by};
+
+use crate::control::{EMPTY, tag_of, wrap};
+
+// What came of asking about one group: a bucket whose entry was accepted, the end of the search at an empty
+// bucket, or neither.
+enum Asked {
+    Accepted(usize),
+    Ended,
+    GoesOn,
+}
+
+// Asks about the entries with the tag in the group that begins here, until one is accepted.
+#[inline]
+fn ask_group<T, F: FnMut(&T) -> bool>(
+    control: &[u8],
+    entries: &[Option<T>],
+    start: usize,
+    tag: u8,
+    f: &mut F,
+) -> Asked
+    requires laid_out { IsLaidOut control.now entries.now }
+    requires start { start < length entries.now }
+    requires tag { tag < 128 }
+    requires callable { F.IsAlwaysCallable f.old }
+    ensures callable { F.IsAlwaysCallable f.new }
+    ensures asked { AsksGroup F.FnMut (slots_of control.now entries.now) tag start f.old result f.new }
+{
+    let buckets = entries.len();
+    let mut ended = false;
+    for lane in 0..buckets.min(16) {
+        let b = wrap(start + lane, buckets);
+        let byte = control[b];
+        if byte == tag {
+            match &entries[b] {
+                Some(entry) => {
+                    if f(entry) {
+                        return Asked::Accepted(b);
+                    }
+                }
+                None => unreachable!(),
+            }
+        } else if byte == EMPTY {
+            ended = true;
+        }
+    }
+    if ended { Asked::Ended } else { Asked::GoesOn }
+}
+
+// Asks about the entries with the tag of the hash, group by group, until one is accepted.
+pub(crate) fn find_bucket<T, F: FnMut(&T) -> bool>(
+    control: &[u8],
+    entries: &[Option<T>],
+    hash: u64,
+    mut f: F,
+) -> Option<usize>
+    requires laid_out { IsLaidOut control.now entries.now }
+    requires some_empty { (b : ℕ) × (b < length entries.now) × (bucket_at (marks_by control.now entries.now) b ≡ empty) }
+    requires callable { F.IsAlwaysCallable f }
+    ensures found { IfSome result (Finds F.FnMut (slots_of control.now entries.now) hash f) }
+    ensures none { IfNone result (FindsNone F.FnMut (slots_of control.now entries.now) hash f) }
+{
+    let buckets = entries.len();
+    let tag = tag_of(hash);
+    let mut start = wrap(hash as usize, buckets);
+    let mut stride = 0;
+    'groups: loop {
+        match ask_group(control, entries, start, tag, &mut f) {
+            Asked::Accepted(b) => return Some(b),
+            Asked::Ended => return None,
+            Asked::GoesOn => {}
+        }
+        stride += 16;
+        start = wrap(start + stride, buckets);
+    }
+}
+
+// The first bucket of the group that begins here that is empty or deleted.
+#[inline]
+fn free_in_group(control: &[u8], buckets: usize, start: usize) -> Option<usize>
+    requires count { IsPowerFromFour buckets }
+    requires within { buckets + 16 ≤ length control.now }
+    requires start { start < buckets }
+    ensures found { IfSome result (IsFreeLane control.now buckets start) }
+    ensures none { IfNone result ((lane : ℕ) → lane < 16 → slice_index control.now ((start + lane) % buckets) < 128) }
+{
+    for lane in 0..16 {
+        let b = wrap(start + lane, buckets);
+        if control[b] >= 128 {
+            return Some(b);
+        }
+    }
+    None
+}
+
+// The first bucket in the order of a search for the hash that is empty or deleted.
+pub(crate) fn first_free(control: &[u8], buckets: usize, hash: u64) -> usize
+    requires count { IsPowerFromFour buckets }
+    requires within { buckets + 16 ≤ length control.now }
+    requires fits { length control.now < 2 ^ 63 }
+    requires some_free { (b : ℕ) × (b < buckets) × (128 ≤ slice_index control.now b) }
+    ensures { IsFirstFreeByte control.now buckets hash result }
+{
+    let mut start = wrap(hash as usize, buckets);
+    let mut stride = 0;
+    'groups: loop {
+        if let Some(b) = free_in_group(control, buckets, start) {
+            return b;
+        }
+        stride += 16;
+        start = wrap(start + stride, buckets);
+    }
+}

@@ -1,0 +1,42 @@
+//! How many entries a number of buckets takes, and how many buckets a number of entries needs.
+ghost use Rattle.std.specs.Prelude.{◌≡◌, ◌≤◌, IfSome};
+ghost use Rattle.group_table.specs.Sizes.{IsBucketCount, full_capacity, buckets_for};
+
+/// The most entries that so many buckets take: none of none, all but one of 4 or 8, and seven eighths of more.
+#[inline]
+#[tactic(auto, unfolding(crate::specs::Sizes::full_capacity))]
+pub fn full_capacity(buckets: usize) -> usize
+    ensures { result ≡ full_capacity buckets }
+{
+    if buckets <= 8 {
+        buckets.saturating_sub(1)
+    } else {
+        buckets / 8 * 7
+    }
+}
+
+/// The number of buckets for so many entries, which is 0 or below `max`, one more than the greatest bucket number
+/// that a link can name; `None` where there is no such number, or eight times the capacity overflows.
+#[tactic(auto, unfolding(crate::specs::Sizes::buckets_for))]
+pub fn buckets_for_capacity(capacity: usize, max: usize) -> Option<usize>
+    ensures value { result ≡ buckets_for max capacity }
+
+    // So many buckets are a number that a table can have, and take so many entries.
+    ensures valid { IfSome result IsBucketCount }
+    ensures holds { IfSome result (λ b. capacity ≤ full_capacity b) }
+{
+    if capacity == 0 {
+        return Some(0);
+    }
+    if capacity < 4 {
+        return if 4 < max { Some(4) } else { None };
+    }
+    if capacity < 8 {
+        return if 8 < max { Some(8) } else { None };
+    }
+    let buckets = (capacity.checked_mul(8)? / 7).next_power_of_two();
+    if buckets < max { Some(buckets) } else { None }
+}
+
+#[cfg(test)]
+mod tests;

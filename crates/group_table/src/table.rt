@@ -1,0 +1,204 @@
+//! `Table`. A clause sees a table as its `slots`, one a bucket, and its `placings`.
+ghost use Rattle.std.specs.Prelude.{◌≡◌, ◌↔◌, ℕ, ◌+◌, ◌^◌, ◌<◌, [], length, replicate, Some, IfSome, IfNone, IfOk, IfErr, OnErr, IsOk, IsTrue};
+ghost use Rattle.std.specs.Borrow.{sem};
+ghost use Rattle.group_table.specs.Sizes.{IsBucketCount};
+ghost use Rattle.group_table.specs.Bucket.{empty, marks_of, IsFull, entry_at, entry_count, room, room_at};
+ghost use Rattle.group_table.specs.Table.{IsTable, with_entry};
+ghost use Rattle.group_table.specs.Fits.{Fits, with_hash};
+ghost use Rattle.group_table.specs.Search.{Finds, FindsNone};
+ghost use Rattle.group_table.specs.Change.{Places, MayFill, HasNoPlace, Removes};
+
+use crate::control::{EMPTY, emptied_byte, tag_of};
+use crate::fields::{
+    clear_bytes, drop_entries, empty_bucket, empty_bytes, entry_mut, fill_bucket, no_entries,
+};
+use crate::neighbours::has_empty_neighbours;
+use crate::probe::{find_bucket, first_free};
+use crate::sizes::full_capacity;
+use std::alloc::{AllocError, Global};
+use std::marker::Model;
+
+mod figures;
+
+/// A hash table of numbered buckets, each of which is empty, deleted or full.
+///
+/// It sees no key and stores no hash: the hash of an entry is what its placing was given, and a search asks its
+/// caller about each entry that may be the one. A bucket keeps its number and its entry until the entry is taken.
+#[derive(Drop)]
+pub struct Table<T> {
+    control: Vec<u8>,
+    entries: Vec<Option<T>>,
+    room: usize,
+    len: usize,
+    placings: u64,
+}
+
+impl<T> Model for Table<T> {
+    ghost use Rattle.group_table.specs.Table.{Table as Seen};
+
+    ghost Value = { Seen T };
+
+    ghost use Rattle.std.specs.Prelude.{◌≡◌};
+    ghost use Rattle.group_table.specs.Bucket.{entry_count};
+    ghost use Rattle.group_table.specs.Layout.{slots_of, IsValid};
+
+    ghost view = { λ t. record { slots = slots_of t.control.items t.entries.items; placings = t.placings } };
+
+    ghost invariant = { λ t. IsValid t.control.items t.entries.items t.room × (t.len ≡ entry_count (slots_of t.control.items t.entries.items)) };
+}
+
+impl<T> Table<T> {
+    ghost use Rattle.group_table.specs.Lends.{lends_entry};
+
+    /// A table of no buckets, which takes no memory.
+    pub fn new(alloc: Global) -> Self
+        ensures slots { result.slots ≡ [] }
+        ensures placings { result.placings ≡ 0 }
+        ensures table { IsTable (marks_of result.slots) }
+        ensures fits { (hash_of : ℕ → ℕ) → Fits result.slots hash_of }
+    {
+        Table {
+            control: Vec::new(alloc),
+            entries: Vec::new(alloc),
+            room: 0,
+            len: 0,
+            placings: 0,
+        }
+    }
+
+    /// A table of so many buckets, all empty. The one error is want of memory; no buckets take none.
+    pub fn with_buckets(alloc: Global, buckets: usize) -> Result<Self, AllocError>
+        requires count { IsBucketCount buckets }
+        requires addressable { buckets + 16 < 2 ^ 63 }
+        ensures slots { IfOk result (λ t. t.slots ≡ replicate buckets empty) }
+        ensures placings { IfOk result (λ t. t.placings ≡ 0) }
+        ensures table { IfOk result (λ t. IsTable (marks_of t.slots)) }
+        ensures fits { IfOk result (λ t. (hash_of : ℕ → ℕ) → Fits t.slots hash_of) }
+        ensures succeeds { buckets ≡ 0 → IsOk result }
+    {
+        if buckets == 0 {
+            return Ok(Table::new(alloc));
+        }
+        let control = empty_bytes(alloc, buckets + 16)?;
+        let entries = no_entries(alloc, buckets)?;
+        Ok(Table {
+            control,
+            entries,
+            room: full_capacity(buckets),
+            len: 0,
+            placings: 0,
+        })
+    }
+
+    /// The bucket of the first entry that `f` accepts, of those with the tag of the hash, its top 7 bits.
+    ///
+    /// `f` is asked about one entry after another in the order of the search, about each at most once, and no more
+    /// after it accepted one. `None` says that it refused each entry of that hash.
+    pub fn find<F: FnMut(&T) -> bool>(&self, hash: u64, f: F) -> Option<usize>
+        requires { F.IsAlwaysCallable f }
+        ensures found { IfSome result (Finds F.FnMut self.now.slots hash f) }
+        ensures full { IfSome result (IsFull self.now.slots) }
+        ensures none { IfNone result (FindsNone F.FnMut self.now.slots hash f) }
+        ensures table { IsTable (marks_of self.now.slots) }
+    {
+        if self.entries.is_empty() {
+            return None;
+        }
+        find_bucket(self.control.as_slice(), self.entries.as_slice(), hash, f)
+    }
+
+    /// The entry in a full bucket.
+    #[inline]
+    pub fn get(&self, b: usize) -> &T
+        requires { IsFull self.now.slots b }
+        ensures entry { entry_at self.now.slots b ≡ Some result.now }
+        ensures table { IsTable (marks_of self.now.slots) }
+    {
+        match &self.entries[b] {
+            Some(entry) => entry,
+            None => unreachable!(),
+        }
+    }
+
+    /// The entry in a full bucket for writing. What is written there keeps the hash of the entry before.
+    #[inline]
+    pub fn get_mut(&mut self, b: usize) -> &mut T
+        requires { IsFull self.old.slots b }
+        ensures* writes_back { sem 𝓛 (lends_entry T.row self.entry b result) }
+        ensures entry { entry_at self.old.slots b ≡ Some result.now }
+        ensures table { IsTable (marks_of self.old.slots) }
+        ensures fits { (hash_of : ℕ → ℕ) → Fits self.old.slots hash_of → (last : T) → Fits (with_entry self.old b last).slots hash_of }
+    {
+        entry_mut(&mut self.entries[b])
+    }
+
+    /// Puts an entry with this hash into the first free bucket in the order of a search, and gives its number.
+    ///
+    /// An empty bucket takes one of the room, a deleted one none. The entry comes back, and nothing has changed, where
+    /// there are no buckets, or there is no room and the first free bucket is empty.
+    pub fn try_place(&mut self, hash: u64, entry: T) -> Result<usize, T>
+        ensures placed { IfOk result (Places self.old self.new hash entry) }
+        ensures may_fill { IfOk result (MayFill (marks_of self.old.slots)) }
+        ensures room { IfOk result (λ b. room (marks_of self.new.slots) + room_at (marks_of self.old.slots) b ≡ room (marks_of self.old.slots)) }
+        ensures fits { IfOk result (λ b. (hash_of : ℕ → ℕ) → Fits self.old.slots hash_of → Fits self.new.slots (with_hash hash_of b hash)) }
+        ensures table { IsTable (marks_of self.new.slots) }
+
+        // An entry that found no place comes back, and the table stays.
+        ensures returned { IfErr result (λ back. back ≡ entry) }
+        ensures unchanged { OnErr result (self.new ≡ self.old) }
+        ensures no_place { OnErr result (HasNoPlace (marks_of self.old.slots) hash) }
+    {
+        let buckets = self.entries.len();
+        if buckets == 0 {
+            return Err(entry);
+        }
+        let b = first_free(self.control.as_slice(), buckets, hash);
+        let spent = (self.control[b] == EMPTY) as usize;
+        if self.room < spent {
+            return Err(entry);
+        }
+        fill_bucket(&mut self.control, &mut self.entries, b, tag_of(hash), entry);
+        self.room -= spent;
+        self.len += 1;
+        self.placings = self.placings.saturating_add(1);
+        Ok(b)
+    }
+
+    /// Takes the entry out of a full bucket.
+    ///
+    /// The bucket is then empty, which gives the room back, if every 16 neighbouring buckets that hold it hold an empty
+    /// one; else it is deleted, so that no search that went on past it ends there. Up to 16 buckets it is always empty.
+    pub fn take(&mut self, b: usize) -> T
+        requires { IsFull self.old.slots b }
+        ensures entry { entry_at self.old.slots b ≡ Some result }
+        ensures removed { Removes self.old.slots self.new.slots b }
+        ensures room { room (marks_of self.new.slots) ≡ room (marks_of self.old.slots) + room_at (marks_of self.new.slots) b }
+        ensures placings { self.new.placings ≡ self.old.placings }
+        ensures fits { (hash_of : ℕ → ℕ) → Fits self.old.slots hash_of → Fits self.new.slots hash_of }
+        ensures table { IsTable (marks_of self.new.slots) }
+    {
+        let gives_room = has_empty_neighbours(self.control.as_slice(), self.entries.len(), b);
+        self.room += gives_room as usize;
+        self.len -= 1;
+        let byte = emptied_byte(gives_room);
+        empty_bucket(&mut self.control, &mut self.entries, b, byte)
+    }
+}
+
+impl<T: Drop> Table<T> {
+    /// Drops all entries. Every bucket is then empty; there are as many as before, and the placings stay.
+    pub fn clear(&mut self)
+        ensures slots { self.new.slots ≡ replicate (length self.old.slots) empty }
+        ensures placings { self.new.placings ≡ self.old.placings }
+        ensures table { IsTable (marks_of self.new.slots) }
+        ensures fits { (hash_of : ℕ → ℕ) → Fits self.new.slots hash_of }
+    {
+        clear_bytes(&mut self.control);
+        drop_entries(&mut self.entries);
+        self.room = full_capacity(self.entries.len());
+        self.len = 0;
+    }
+}
+
+#[cfg(test)]
+mod tests;
