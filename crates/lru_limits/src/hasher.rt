@@ -127,11 +127,10 @@ fn short_number(bytes: &[u8]) -> u64
         let above = last as u64 >> (8 * (8 - len));
         first as u64 + (above << 32)
     } else if len > 0 {
-        let middle = len / 2;
-        let last = len - 1;
-        bytes[0] as u64
-            | (bytes[middle] as u64) << (8 * middle)
-            | (bytes[last] as u64) << (8 * last)
+        // One, two or three bytes are the first, the middle and the last one: some of these are the same.
+        let middle = (bytes[len / 2] as u64) << (8 * (len / 2));
+        let last = (bytes[len - 1] as u64) << (8 * (len - 1));
+        bytes[0] as u64 | (middle | last)
     } else {
         0
     }
