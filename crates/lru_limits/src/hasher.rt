@@ -1,10 +1,10 @@
 //! A fast seeded hasher: each eight bytes of a write are one multiplication. Which hashes it gives is not promised.
 ghost use Rattle.std.specs.Prelude.{◌≡◌, ◌+◌, ◌*◌, ◌^◌, ◌<◌, length, fold};
 ghost use Rattle.std.specs.Int.{w64, from_le_bytes};
-ghost use Rattle.lru_limits.specs.Hashing.{hash_by};
 ghost use Rattle.lru_limits.specs.Mixing.{folded, joined, written, closed, seeded};
 
-use std::hash::{BuildHasher, Hash, Hasher};
+use std::fmt::{Debug, Formatter, Result, Write};
+use std::hash::{BuildHasher, Hasher};
 use std::marker::Model;
 
 // The first 64 fractional bits of the square roots of 2, 3, 5 and 7.
@@ -21,7 +21,7 @@ const END_KEY: u64 = 0xa54f_f53a_5f1d_36f1;
 /// Hashers of equal words give equal hashes after equal writes. The default has the words 1, 2, 3, 4: nothing is drawn
 /// at random here. Words that nobody can guess make it hard to guess which keys share a hash, but strength against
 /// chosen keys is not claimed.
-#[derive(Clone, Debug, Drop)]
+#[derive(Clone, Drop)]
 pub struct RandomState {
     state: u64,
     word_key: u64,
@@ -61,6 +61,13 @@ impl Default for RandomState {
 
     fn default() -> RandomState {
         RandomState::with_seeds([1, 2, 3, 4])
+    }
+}
+
+/// Shows nothing of the words.
+impl Debug for RandomState {
+    fn fmt<W: Write>(&self, f: &mut Formatter<W>) -> Result {
+        f.debug_struct("RandomState").finish_non_exhaustive()
     }
 }
 
@@ -208,15 +215,4 @@ impl Hasher for DefaultHasher {
     fn finish(&self) -> u64 {
         folded(self.state ^ self.rest_key, self.end_key)
     }
-}
-
-/// The hash of a key, or of what names one, by a hasher that the builder makes: equal builders and equal writes give
-/// equal hashes, so a value that names a key has the hash of that key.
-#[inline]
-pub fn hash_of<S: BuildHasher, Q: Hash>(builder: &S, key: &Q) -> u64
-    ensures { result ≡ hash_by Q.hash_input S.BuildHasher S.Hasher.Hasher builder.now key.now }
-{
-    let mut state = builder.build_hasher();
-    key.hash(&mut state);
-    state.finish()
 }

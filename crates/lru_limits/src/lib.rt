@@ -17,7 +17,7 @@ pub mod limiters;
 
 pub use accounts::{ByCost, Costed, Summing};
 pub use group_table::LinkType;
-pub use hasher::{DefaultHasher, RandomState, hash_of};
+pub use hasher::{DefaultHasher, RandomState};
 pub use keys::LookupKey;
 pub use limiter::{Insertion, Limiter};
 pub use limiters::{ByLength, ByMemoryUsage, Unlimited, UnlimitedCompact};
