@@ -113,7 +113,7 @@ fn folded(a: u64, b: u64) -> u64
     ensures { result ≡ folded a b }
 {
     let product = a as u128 * b as u128;
-    (product % (1 << 64)) as u64 ^ (product >> 64) as u64
+    (product & u64::MAX as u128) as u64 ^ (product >> 64) as u64
 }
 
 // Fewer than eight bytes as a number, the lowest first, by two or three loads that may overlap.
@@ -202,7 +202,7 @@ impl Hasher for DefaultHasher {
 
     #[inline]
     fn write_u128(&mut self, i: u128) {
-        self.join_word((i % (1 << 64)) as u64);
+        self.join_word((i & u64::MAX as u128) as u64);
         self.join_word((i >> 64) as u64);
     }
 
