@@ -53,7 +53,7 @@ module _ {K V : Type 0} (cost : V → ℕ) where
 
 pub charges-lawful : {K V : Type 0} (eq : K → K → Bool) → IsEquivalence eq → (cost : V → ℕ) → IsInsertion eq eq (charges cost)
 charges-lawful eq e cost = record {
-  names_given = λ b n i v. given-names eq e.refl (can_add b.limit b.cost (cost v)) (charged b (cost v)) i v;
+  names_given = λ b n i v t k w given. given-names eq e.refl given;
   keeps_key = λ b n k i v w named. e.refl k;
 }
 

@@ -47,12 +47,12 @@ given-is true s k v t p h = ap (λ o. unwrap_or o (k, v)) h.pair
 given-is false s k v t p h = let e = h.pair in cc
 
 -- so a test that holds of each key and itself holds of the key that is given
-pub given-names : {S K V : Type 0} (E : K → K → Bool) → ((x : K) → IsTrue (E x x)) → (accepts : Bool) (s : S) (i : K) (v : V) (t : S) (k : K) (w : V) → HandsOver accepts s i v t (Some (k, w)) → IsTrue (E i k)
-given-names E reflexive accepts s i v t k w h =
+pub given-names : {S K V : Type 0} {accepts : Bool} {s t : S} {i k : K} {v w : V} (E : K → K → Bool) → ((x : K) → IsTrue (E x x)) → HandsOver accepts s i v t (Some (k, w)) → IsTrue (E i k)
+given-names {accepts} {s} {t} {i} {k} {v} {w} E reflexive h =
     subst (λ x. IsTrue (E i x)) (sym (ap (λ p. p.0) (given-is accepts s i v t (k, w) h))) (reflexive i)
 
 pub hands_over-lawful : {K V S : Type 0} (eq : K → K → Bool) → IsEquivalence eq → (admits : S → K → V → Bool) → IsInsertion eq eq (hands_over admits)
 hands_over-lawful eq e admits = record {
-  names_given = λ s n i v. given-names eq e.refl (admits s i v) s i v;
+  names_given = λ s n i v t k w given. given-names eq e.refl given;
   keeps_key = λ s n k i v w named. e.refl k;
 }

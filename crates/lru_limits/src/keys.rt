@@ -1,10 +1,7 @@
 //! What a key may be looked up by.
-ghost use Rattle.std.specs.Prelude.{◌≡◌, Bool, string_bytes};
-ghost use Rattle.std.proofs.Common.{ap};
-ghost use Rattle.std.specs.Hash as fed;
-ghost use Rattle.std.specs.Cmp.Lexicographic.{bytes_decides, nat_list_eq_equiv};
-ghost use Rattle.std.specs.Str.{bytes_eq};
+ghost use Rattle.std.specs.Prelude.{◌≡◌, Bool};
 ghost use Rattle.lru_limits.specs.Laws.{IsLookup};
+ghost use Rattle.lru_limits.specs.Texts.{names_text, names_text-lawful};
 
 use std::hash::Hash;
 
@@ -43,12 +40,9 @@ impl<K: Eq + Hash> LookupKey<K> for K {
 
 /// A text names the `String` of its bytes.
 impl LookupKey<String> for &str {
-    ghost names = { λ q k. bytes_eq q.now (string_bytes k) };
+    ghost names = { λ q k. names_text q.now k };
 
-    ghost laws = { record {
-      writes = λ q k named. ap fed.str ((bytes_decides q.now (string_bytes k)).0 named);
-      one = λ q x y. nat_list_eq_equiv.congr q.now (string_bytes x) (string_bytes y);
-    } };
+    ghost laws = { names_text-lawful (λ q. q.now) };
 
     #[inline]
     fn is_key(&self, key: &String) -> bool {
