@@ -3,6 +3,7 @@
 --     names_text-lawful text      the laws of a look-up key that names the `String` of the bytes that text gives of it
 --     GivesText bytes v given     a pair is given to be stored whose key has these bytes, with the value v
 --     given-names_text            so these bytes name its key
+--     same_text k                 a key equals itself
 use Rattle.std.specs.Prelude.{◌≡◌, ℕ, Bool, List, Option, Some, IsTrue, IsSomeAnd, string_bytes}
 use Rattle.std.specs.declared.string.String.{String}
 use Rattle.std.specs.declared.alloc.Global.{Global}
@@ -26,3 +27,6 @@ GivesText bytes v given = IsSomeAnd given (λ p. (string_bytes p.0 ≡ bytes) ×
 
 pub given-names_text : {V : Type 0} (bytes : List ℕ) (v : V) (k : String Global) (w : V) → GivesText bytes v (Some (k, w)) → IsTrue (names_text bytes k)
 given-names_text bytes v k w given = (bytes_decides bytes (string_bytes k)).1 (sym given.0)
+
+pub same_text : (k : String Global) → IsTrue (names_text (string_bytes k) k)
+same_text k = nat_list_eq_equiv.refl (string_bytes k)
