@@ -59,7 +59,8 @@ impl<V> Limiter<u64, V> for RemovedKeys {
     fn on_removed(&mut self, key: &mut u64, _value: &mut V) {
         if self.keys.len() < MOST {
             // There is room for it, so no memory is asked for.
-            prove!(self.keys.push(*key).is_ok());
+            let has_room = self.keys.push(*key).is_ok();
+            prove!(has_room);
         }
     }
 

@@ -1,5 +1,5 @@
 //! The limiters that look at no element, and the texts of all limiters.
-ghost use Rattle.std.specs.Prelude.{IfOk};
+ghost use Rattle.std.specs.Prelude.{◌≡◌, IfOk};
 
 use crate::tests::bounds::copy_of;
 use crate::{
