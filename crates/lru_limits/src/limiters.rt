@@ -2,7 +2,9 @@
 mod by_length;
 mod by_memory_usage;
 mod unlimited;
+mod unlimited_compact;
 
 pub use by_length::ByLength;
 pub use by_memory_usage::ByMemoryUsage;
-pub use unlimited::{Unlimited, UnlimitedCompact};
+pub use unlimited::Unlimited;
+pub use unlimited_compact::UnlimitedCompact;
