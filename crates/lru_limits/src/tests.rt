@@ -4,6 +4,6 @@ mod by_text_length;
 mod costs;
 mod hashing;
 mod insert_key;
+mod limiters;
 mod removed_keys;
-mod rows;
 mod spread;
