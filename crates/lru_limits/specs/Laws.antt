@@ -1,14 +1,14 @@
 -- The laws of the traits.
---     IsLookup names eq fed feeds                    the laws of `LookupKey`
+--     IsLookup names eq query_input key_input        the laws of `LookupKey`: what a query and a key write to a hasher
 --     IsInsertion names eq offers                    the laws of `Insertion`
 --     IsAccount rules offers cost account            the laws of `Summing`
 --     kept_value r                                   the value that stays after a replacement was asked for
 use Rattle.std.specs.Prelude.{◌≡◌, ◌≤◌, ◌+◌, ◌-◌, ℕ, Bool, List, Some, None, IsTrue, if◌then◌else◌}
 use Rattle.lru_limits.specs.Rules.{Rules, Offers, Replaced}
 
-pub record IsLookup {Q K : Type 0} (names : Q → K → Bool) (eq : K → K → Bool) (fed : Q → List (List ℕ)) (feeds : K → List (List ℕ)) : Type 0 where
+pub record IsLookup {Q K : Type 0} (names : Q → K → Bool) (eq : K → K → Bool) (query_input : Q → List (List ℕ)) (key_input : K → List (List ℕ)) : Type 0 where
   -- a value that names a key writes to a hasher what the key writes
-  pub writes : (q : Q) (k : K) → IsTrue (names q k) → fed q ≡ feeds k
+  pub writes : (q : Q) (k : K) → IsTrue (names q k) → query_input q ≡ key_input k
   -- a value that names a key names the keys that are equal to it, and no other
   pub one : (q : Q) (x y : K) → IsTrue (names q x) → names q y ≡ eq x y
 

@@ -1,4 +1,7 @@
 //! What a limiter is: the callbacks of a map, and what they promise it.
+//!
+//! A `ghost` member of a trait is a term that only the prover sees: each impl gives its own, the code of the impl is
+//! proved to compute it, and the contracts of the map cite it. `docs/LIMITERS.md` goes through two impls line by line.
 ghost use Rattle.std.specs.Prelude.{◌≡◌, IfOk, OnErr};
 ghost use Rattle.lru_limits.specs.Laws.{IsInsertion};
 ghost use Rattle.lru_limits.specs.Rules.{Rules, Offers};
