@@ -18,9 +18,9 @@ const END_KEY: u64 = 0xa54f_f53a_5f1d_36f1;
 
 /// Makes hashers that are seeded by four words. A clause sees it as the hasher before the first write.
 ///
-/// Hashers of equal words give equal hashes after equal writes. The default has the words 1, 2, 3, 4: nothing is drawn
-/// at random here. Words that nobody can guess make it hard to guess which keys share a hash, but strength against
-/// chosen keys is not claimed.
+/// Hashers of equal words give equal hashes after equal writes, so `state.hash_one(&key)` is the hash that a map with an
+/// equal state has of the key, and of all that names it. The default has the words 1, 2, 3, 4: nothing is drawn at random
+/// here, and strength against chosen keys is not claimed.
 #[derive(Clone, Drop)]
 pub struct RandomState {
     state: u64,

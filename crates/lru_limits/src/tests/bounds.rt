@@ -1,10 +1,24 @@
 //! Generic callers: each is proved from the bounds alone.
-ghost use Rattle.std.specs.Prelude.{◌≡◌, IfOk, IfSome, OnErr, IsTrue};
+ghost use Rattle.std.specs.Prelude.{◌≡◌, ◌+◌, ◌-◌, ◌^◌, IfOk, IfSome, OnErr, IsTrue, min};
 ghost use Rattle.lru_limits.specs.Hashing.{hash_by};
 
-use crate::{Insertion, Limiter, LookupKey, RandomState, Summing};
+use crate::{Costed, Insertion, Limiter, LinkType, LookupKey, RandomState, Summing};
 use std::alloc::{AllocError, Global};
 use std::hash::{BuildHasher, Hash};
+
+// The number of the links of a map under this limiter that stands for no bucket.
+pub fn number_of_no_link<L: Limiter<u64, u64>>() -> usize
+    ensures { result ≡ L.LinkType.number L.LinkType.MAX }
+{
+    L::LinkType::MAX.into_usize()
+}
+
+// The cost of both.
+pub fn cost_of_both<V: Costed>(a: &V, b: &V) -> u64
+    ensures { result ≡ min (V.cost a.now + V.cost b.now) (2 ^ 64 - 1) }
+{
+    a.cost().saturating_add(b.cost())
+}
 
 // Tells the limiter of a pair that left.
 pub fn tell_removed<K, V, L: Limiter<K, V>>(limiter: &mut L, key: &mut K, value: &mut V)

@@ -1,5 +1,5 @@
 //! The edges of the limiter by a cost, and its worked sequences.
-use crate::tests::bounds::offer_and_remove;
+use crate::tests::bounds::{cost_of_both, offer_and_remove};
 use crate::{ByCost, Costed, Insertion, Limiter, Summing};
 use std::alloc::{AllocError, Global};
 use std::test::Fail;
@@ -137,9 +137,12 @@ fn at_the_ends_of_u64(rt: HostRuntime) -> Result<(), Fail> {
 
 #[test]
 fn numbers_cost_themselves(rt: HostRuntime) {
-    assert_eq!(rt;
-        (u8::MAX.cost(), u16::MAX.cost(), u32::MAX.cost()),
-        (255, 65_535, 4_294_967_295)
-    );
-    assert_eq!(rt; (u64::MAX.cost(), usize::MAX.cost()), (u64::MAX, u64::MAX));
+    let costs = [
+        cost_of_both(&200u8, &55),
+        cost_of_both(&65_000u16, &535),
+        cost_of_both(&4_294_967_295u32, &1),
+        cost_of_both(&7u64, &8),
+        cost_of_both(&9usize, &usize::MAX),
+    ];
+    assert_eq!(rt; costs, [255, 65_535, 4_294_967_296, 15, u64::MAX]);
 }

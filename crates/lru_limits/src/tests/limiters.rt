@@ -1,7 +1,7 @@
 //! The limiters that look at no element, and the texts of all limiters.
 ghost use Rattle.std.specs.Prelude.{◌≡◌, IfOk};
 
-use crate::tests::bounds::copy_of;
+use crate::tests::bounds::{copy_of, number_of_no_link};
 use crate::{
     ByCost, ByLength, ByMemoryUsage, Insertion, Limiter, RandomState, Unlimited, UnlimitedCompact,
 };
@@ -72,6 +72,18 @@ fn what_limiters_say(rt: HostRuntime) -> Result<(), Fail> {
         (7, 7)
     );
     Ok(())
+}
+
+#[test]
+fn widths_of_links(rt: HostRuntime) {
+    assert_eq!(rt; number_of_no_link::<ByLength>(), 4_294_967_295);
+    assert_eq!(rt; number_of_no_link::<ByMemoryUsage>(), 4_294_967_295);
+    assert_eq!(rt; number_of_no_link::<UnlimitedCompact>(), 4_294_967_295);
+    assert_eq!(rt;
+        number_of_no_link::<Unlimited>(),
+        18_446_744_073_709_551_615
+    );
+    assert_eq!(rt; number_of_no_link::<ByCost>(), 18_446_744_073_709_551_615);
 }
 
 // A limiter that is copied is the same limiter.
