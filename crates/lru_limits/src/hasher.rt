@@ -116,9 +116,11 @@ fn folded(a: u64, b: u64) -> u64
     (product & u64::MAX as u128) as u64 ^ (product >> 64) as u64
 }
 
-// Fewer than eight bytes as a number, the lowest first, by two or three loads that may overlap.
+// One to seven bytes as a number, the lowest first, by two or three loads that may overlap.
+#[inline]
 fn short_number(bytes: &[u8]) -> u64
-    requires { length bytes.now < 8 }
+    requires some { 0 < length bytes.now }
+    requires few { length bytes.now < 8 }
     ensures { result ≡ from_le_bytes w64 bytes.now }
 {
     let len = bytes.len();
@@ -133,13 +135,11 @@ fn short_number(bytes: &[u8]) -> u64
         // Of the last four bytes those that are not among the first four.
         let above = last as u64 >> (8 * (8 - len));
         first as u64 + (above << 32)
-    } else if len > 0 {
+    } else {
         // One, two or three bytes are the first, the middle and the last one: some of these are the same.
         let middle = (bytes[len / 2] as u64) << (8 * (len / 2));
         let last = (bytes[len - 1] as u64) << (8 * (len - 1));
         bytes[0] as u64 | (middle | last)
-    } else {
-        0
     }
 }
 
