@@ -1,3 +1,4 @@
+pub mod Link
 pub mod Sizes
 pub mod Bucket
 pub mod Table

@@ -1,38 +1,45 @@
-//! `LinkType`: in how many bits the number of a bucket is kept.
-ghost use Rattle.std.specs.Prelude.{◌≡◌, ◌≢◌, ◌≤◌, ◌<◌, ℕ};
+//! `LinkType`: in how many bits a link keeps the number of a bucket.
+ghost use Rattle.std.specs.Prelude.{◌≡◌, ◌<◌, ℕ};
+ghost use Rattle.group_table.specs.Link.{IsLinkType};
 
 use std::fmt::Debug;
 
-/// A number below `MAX`, which itself stands for "no bucket".
+/// The type of a link: the number of a bucket, below `MAX`, or `MAX` itself, which stands for no bucket.
+///
+/// A table whose buckets are numbered by an `N` has fewer than `N::MAX` of them, so the width of the links limits its
+/// size. It is there for `u8`, `u16`, `u32` and `usize`. A type of one's own is a width too: it says which number a link
+/// has and which link a number, and proves the laws.
 pub trait LinkType: Copy + Eq + Debug {
+    /// No bucket. As a number, it is one more than the greatest number that a link may have, and at least 255.
     const MAX: Self;
 
+    /// `MAX`, as clauses have it.
     ghost MAX: { Self };
 
-    /// The number of a link; of `MAX` it is one more than the greatest number that a link may have.
+    /// The number of a link.
     ghost number: { Self → ℕ };
 
     /// The link of a number below that of `MAX`.
     ghost link: { ℕ → Self };
 
+    /// The link of this number, which no bits are cut from.
     fn from_usize(value: usize) -> Self
         requires { value < number MAX }
         ensures { result ≡ link value };
 
+    /// The number of this link.
     fn into_usize(self) -> usize
         ensures { result ≡ number self };
 
-    ghost number_of_link: { (n : ℕ) → n < number MAX → number (link n) ≡ n };
-
-    ghost equal_by_number: { (a b : Self) → number a ≡ number b → a ≡ b };
-
-    ghost wide_enough: { 255 ≤ number MAX };
+    /// Numbers below that of `MAX` come back from their links, `==` compares the numbers, and no width is below 8 bits.
+    ghost laws: { IsLinkType number link MAX Self.PartialEq.eq };
 }
 
 impl LinkType for u8 {
     const MAX: u8 = u8::MAX;
 
-    ghost use Rattle.std.proofs.Common.{refl, lit≤};
+    ghost use Rattle.std.proofs.Common.{lit≤};
+    ghost use Rattle.group_table.specs.Link.{numbers_are_links};
 
     ghost MAX = { 255 };
 
@@ -48,17 +55,14 @@ impl LinkType for u8 {
         self as usize
     }
 
-    ghost number_of_link = { λ n below. refl };
-
-    ghost equal_by_number = { λ a b same. same };
-
-    ghost wide_enough = { lit≤ tt };
+    ghost laws = { numbers_are_links 255 (lit≤ tt) };
 }
 
 impl LinkType for u16 {
     const MAX: u16 = u16::MAX;
 
-    ghost use Rattle.std.proofs.Common.{refl, lit≤};
+    ghost use Rattle.std.proofs.Common.{lit≤};
+    ghost use Rattle.group_table.specs.Link.{numbers_are_links};
 
     ghost MAX = { 65535 };
 
@@ -74,17 +78,14 @@ impl LinkType for u16 {
         self as usize
     }
 
-    ghost number_of_link = { λ n below. refl };
-
-    ghost equal_by_number = { λ a b same. same };
-
-    ghost wide_enough = { lit≤ tt };
+    ghost laws = { numbers_are_links 65535 (lit≤ tt) };
 }
 
 impl LinkType for u32 {
     const MAX: u32 = u32::MAX;
 
-    ghost use Rattle.std.proofs.Common.{refl, lit≤};
+    ghost use Rattle.std.proofs.Common.{lit≤};
+    ghost use Rattle.group_table.specs.Link.{numbers_are_links};
 
     ghost MAX = { 4294967295 };
 
@@ -100,17 +101,14 @@ impl LinkType for u32 {
         self as usize
     }
 
-    ghost number_of_link = { λ n below. refl };
-
-    ghost equal_by_number = { λ a b same. same };
-
-    ghost wide_enough = { lit≤ tt };
+    ghost laws = { numbers_are_links 4294967295 (lit≤ tt) };
 }
 
 impl LinkType for usize {
     const MAX: usize = usize::MAX;
 
-    ghost use Rattle.std.proofs.Common.{refl, lit≤};
+    ghost use Rattle.std.proofs.Common.{lit≤};
+    ghost use Rattle.group_table.specs.Link.{numbers_are_links};
 
     ghost MAX = { 18446744073709551615 };
 
@@ -119,16 +117,15 @@ impl LinkType for usize {
     ghost link = { λ n. n };
 
     fn from_usize(value: usize) -> usize {
-        value as usize
+        value
     }
 
     fn into_usize(self) -> usize {
-        self as usize
+        self
     }
 
-    ghost number_of_link = { λ n below. refl };
-
-    ghost equal_by_number = { λ a b same. same };
-
-    ghost wide_enough = { lit≤ tt };
+    ghost laws = { numbers_are_links 18446744073709551615 (lit≤ tt) };
 }
+
+#[cfg(test)]
+mod tests;

@@ -1,0 +1,2 @@
+pub mod ByteLemmas
+pub mod MixingLemmas

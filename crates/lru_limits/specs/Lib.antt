@@ -1,0 +1,7 @@
+pub mod Rules
+pub mod Laws
+pub mod Stores
+pub mod Texts
+pub mod Budget
+pub mod Mixing
+pub mod Hashing

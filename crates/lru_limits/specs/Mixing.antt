@@ -1,0 +1,46 @@
+-- The hasher as functions.
+--     Mixer                   the state, and the keys of a word, of the bytes that are left of a write, and of the end
+--     folded a b              the 128 bits of a * b, their two halves joined by xor
+--     joined key state word   the state after a word
+--     rest_word bytes         fewer than eight bytes as a word, with their count as its top byte
+--     written h bytes         the hasher after a write: a word for each eight bytes, and one for those that are left
+--     closed h                the hash
+--     seeded words            the hasher before the first write
+use Rattle.std.specs.Prelude.{ℕ, ◌+◌, ◌*◌, ◌/◌, ◌%◌, ◌^◌, ◌==◌, List, length, drop, fold, bit_xor, slice_index, if◌then◌else◌}
+use Rattle.std.specs.Int.{w64, from_le_bytes}
+use Rattle.std.specs.Simd.{first_chunks}
+
+pub record Mixer : Type 0 where
+  pub state : ℕ
+  pub word_key : ℕ
+  pub rest_key : ℕ
+  pub end_key : ℕ
+
+abbrev pub folded : ℕ → ℕ → ℕ
+folded a b = bit_xor (a * b % 2 ^ 64) (a * b / 2 ^ 64)
+
+abbrev pub joined : ℕ → ℕ → ℕ → ℕ
+joined key state word = folded (bit_xor state word) key
+
+-- a byte past the end counts as 0
+abbrev pub rest_word : List ℕ → ℕ
+rest_word bytes = from_le_bytes w64 bytes + length bytes * 2 ^ 56
+
+abbrev pub written : Mixer → List ℕ → Mixer
+written h bytes =
+    let words = first_chunks 8 (length bytes / 8) bytes in
+    let rest = drop (length bytes / 8 * 8) bytes in
+    let state = fold (λ s word. joined h.word_key s (from_le_bytes w64 word)) h.state words in
+    record h { state = if length rest == 0 then state else joined h.rest_key state (rest_word rest) }
+
+abbrev pub closed : Mixer → ℕ
+closed h = joined h.end_key h.state h.rest_key
+
+-- each word of the seed is joined to a constant of its own
+abbrev pub seeded : List ℕ → Mixer
+seeded words = record {
+  state = bit_xor (slice_index words 0) 0x6a09_e667_f3bc_c908;
+  word_key = bit_xor (slice_index words 1) 0xbb67_ae85_84ca_a73b;
+  rest_key = bit_xor (slice_index words 2) 0x3c6e_f372_fe94_f82b;
+  end_key = bit_xor (slice_index words 3) 0xa54f_f53a_5f1d_36f1;
+}

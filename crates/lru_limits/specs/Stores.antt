@@ -1,0 +1,58 @@
+-- Words for limiters that store a pair as it was handed over.
+--     plain over grants                    the rules of a limiter that never changes
+--     hands_over admits                    its offers: an element is stored where admits says so, a new value always
+--     HandsOver accepts s k v t given      the limiter is left as s, which is t, and the pair is given exactly if it is accepted
+--     unmoved s k v                        a pair that left, and the limiter is now s
+--     answers s b                          the answer b on growth, and the limiter is now s
+--     replaces s k v w                     the new value is taken, and the limiter is now s
+--     given-is, given-names                what a pair that was handed over is
+--     hands_over-lawful                    the laws of `hands_over`
+use Rattle.std.specs.Prelude.{◌≡◌, ℕ, Bool, true, false, Option, Some, None, IsTrue, if◌then◌else◌, unwrap_or}
+use Rattle.std.specs.Cmp.{IsEquivalence}
+use Rattle.std.proofs.Common.{ap, sym, subst}
+use Rattle.lru_limits.specs.Rules.{Told, Replaced, Allowed, Rules, Offers}
+use Rattle.lru_limits.specs.Laws.{IsInsertion}
+
+pub record HandsOver {S K V : Type 0} (accepts : Bool) (s : S) (k : K) (v : V) (t : S) (given : Option (K × V)) : Type 0 where
+  pub limiter : t ≡ s
+  pub pair : given ≡ (if accepts then Some (k, v) else None)
+
+abbrev pub unmoved : {K V S : Type 0} → S → K → V → Told K V S
+unmoved s k v = record { limiter = s; key = k; value = v }
+
+abbrev pub answers : {S : Type 0} → S → Bool → Allowed S
+answers s b = record { limiter = s; allowed = b }
+
+abbrev pub replaces : {K V S : Type 0} → S → K → V → V → Replaced K V S
+replaces s k v w = record { limiter = s; taken = true; key = k; old_value = v; new_value = w }
+
+abbrev pub plain : {K V S : Type 0} → (S → ℕ → Bool) → (S → ℕ → Bool) → Rules K V S
+plain over grants = record {
+  is_over_the_limit = over;
+  on_removed = unmoved;
+  on_cleared = λ s. s;
+  on_grow = λ s bytes. answers s (grants s bytes);
+}
+
+abbrev pub hands_over : {K V S : Type 0} → (S → K → V → Bool) → Offers K V S K
+hands_over admits = record {
+  on_insert = λ s n k v t given. HandsOver (admits s k v) s k v t given;
+  may_lack = λ s n k v. ⊥;
+  on_replace = λ s n k i v w. replaces s k v w;
+}
+
+-- the pair that is given is the one that was handed over
+pub given-is : {S K V : Type 0} (accepts : Bool) (s : S) (k : K) (v : V) (t : S) (p : K × V) → HandsOver accepts s k v t (Some p) → p ≡ (k, v)
+given-is true s k v t p h = ap (λ o. unwrap_or o (k, v)) h.pair
+given-is false s k v t p h = let e = h.pair in cc
+
+-- so a test that holds of each key and itself holds of the key that is given
+pub given-names : {S K V : Type 0} {accepts : Bool} {s t : S} {i k : K} {v w : V} (E : K → K → Bool) → ((x : K) → IsTrue (E x x)) → HandsOver accepts s i v t (Some (k, w)) → IsTrue (E i k)
+given-names {accepts} {s} {t} {i} {k} {v} {w} E reflexive h =
+    subst (λ x. IsTrue (E i x)) (sym (ap (λ p. p.0) (given-is accepts s i v t (k, w) h))) (reflexive i)
+
+pub hands_over-lawful : {K V S : Type 0} (eq : K → K → Bool) → IsEquivalence eq → (admits : S → K → V → Bool) → IsInsertion eq eq (hands_over admits)
+hands_over-lawful eq e admits = record {
+  names_given = λ s n i v t k w given. given-names eq e.refl given;
+  keeps_key = λ s n k i v w named. e.refl k;
+}

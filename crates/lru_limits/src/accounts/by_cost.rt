@@ -1,0 +1,151 @@
+//! The limiter by the sum of the costs of the values.
+ghost use Rattle.std.specs.Prelude.{◌≡◌, ◌+◌, Some, None, if◌then◌else◌};
+ghost use Rattle.lru_limits.specs.Budget.{can_add, by_cost, charges, charges-lawful, charges-sums};
+
+use crate::accounts::{Costed, Summing};
+use crate::keys::LookupKey;
+use crate::limiter::{Insertion, Limiter};
+use std::alloc::{AllocError, Global};
+use std::hash::Hash;
+use std::marker::Model;
+
+/// Limits the sum of the costs of the values. A clause sees it as its limit and that sum.
+///
+/// It refuses an element, or a replacement, whose own cost is above the limit, or where the sum would pass `u64::MAX`.
+/// Otherwise it takes it in, and the map then gives up its oldest pairs until the sum is within the limit again.
+#[derive(Clone, Copy, Debug)]
+pub struct ByCost {
+    limit: u64,
+    cost: u64,
+}
+
+impl Model for ByCost {
+    ghost use Rattle.lru_limits.specs.Budget.{Budget};
+
+    ghost Value = { Budget };
+
+    ghost view = { λ b. record { limit = b.limit; cost = b.cost } };
+
+    ghost inverse = { λ b. record { limit = b.limit; cost = b.cost } };
+}
+
+impl ByCost {
+    /// The limiter to this sum, which is 0 so far.
+    pub fn new(limit: u64) -> ByCost
+        ensures { result ≡ record { limit = limit; cost = 0 } }
+    {
+        ByCost { limit, cost: 0 }
+    }
+
+    /// The greatest sum that a map may have.
+    pub fn limit(&self) -> u64
+        ensures { result ≡ self.now.limit }
+    {
+        self.limit
+    }
+
+    /// The sum of the costs so far.
+    pub fn cost(&self) -> u64
+        ensures { result ≡ self.now.cost }
+    {
+        self.cost
+    }
+
+    // The sum with this cost added, where the cost alone is within the limit and the sum fits.
+    #[inline]
+    fn sum_with(&self, sum: u64, cost: u64) -> Option<u64>
+        ensures { result ≡ (if can_add self.now.limit sum cost then Some (sum + cost) else None) }
+    {
+        if cost <= self.limit {
+            sum.checked_add(cost)
+        } else {
+            None
+        }
+    }
+}
+
+impl<K, V: Costed> Limiter<K, V> for ByCost {
+    type LinkType = usize;
+
+    ghost rules = { by_cost V.cost };
+
+    #[inline]
+    fn is_over_the_limit(&self, _length: usize) -> bool {
+        self.cost > self.limit
+    }
+
+    #[inline]
+    fn on_removed(&mut self, _key: &mut K, value: &mut V) {
+        self.cost = self.cost.saturating_sub(value.cost());
+    }
+
+    #[inline]
+    fn on_cleared(&mut self) {
+        self.cost = 0;
+    }
+
+    #[inline]
+    fn on_grow(&mut self, _new_memory_usage: usize) -> bool {
+        true
+    }
+}
+
+impl<K: Eq + Hash + Drop, V: Costed + Drop> Insertion<K, V, K> for ByCost {
+    ghost offers = { charges V.cost };
+
+    #[inline]
+    fn on_insert(
+        &mut self,
+        _alloc: Global,
+        _length: usize,
+        key: K,
+        value: V,
+    ) -> Result<Option<(K, V)>, AllocError> {
+        match self.sum_with(self.cost, value.cost()) {
+            Some(sum) => {
+                self.cost = sum;
+                Ok(Some((key, value)))
+            }
+            None => Ok(None),
+        }
+    }
+
+    #[inline]
+    fn on_replace(
+        &mut self,
+        _length: usize,
+        _old_key: &mut K,
+        _new_key: K,
+        old_value: &mut V,
+        new_value: &mut V,
+    ) -> bool {
+        let without_old = self.cost.saturating_sub(old_value.cost());
+        match self.sum_with(without_old, new_value.cost()) {
+            Some(sum) => {
+                self.cost = sum;
+                true
+            }
+            None => false,
+        }
+    }
+
+    ghost laws = { charges-lawful K.eq K.Eq.laws V.cost };
+}
+
+impl<K: Eq + Hash + Drop, V: Costed + Drop> Summing<K, V, K> for ByCost {
+    ghost cost_of = { λ _ v. V.cost v };
+
+    ghost account = { λ b. b.cost };
+
+    #[inline]
+    fn cost_of(_key: &K, value: &V) -> u64 {
+        value.cost()
+    }
+
+    #[inline]
+    fn account(&self) -> u64 {
+        self.cost
+    }
+
+    ghost laws = { charges-sums V.cost };
+}

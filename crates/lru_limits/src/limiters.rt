@@ -1,0 +1,10 @@
+//! The limiters that look at no element: by the number of pairs, by the size of the table, and without a limit.
+mod by_length;
+mod by_memory_usage;
+mod unlimited;
+mod unlimited_compact;
+
+pub use by_length::ByLength;
+pub use by_memory_usage::ByMemoryUsage;
+pub use unlimited::Unlimited;
+pub use unlimited_compact::UnlimitedCompact;

@@ -1,0 +1,108 @@
+//! The limiter by the number of pairs.
+ghost use Rattle.std.specs.Prelude.{◌≡◌, true, nat_lt};
+ghost use Rattle.lru_limits.specs.Stores.{plain, hands_over, hands_over-lawful};
+
+use crate::keys::LookupKey;
+use crate::limiter::{Insertion, Limiter};
+use std::alloc::{AllocError, Global};
+use std::hash::Hash;
+use std::marker::Model;
+
+/// Limits the number of pairs. A clause sees it as that number.
+///
+/// A map under it never has more than `max_length` pairs after a call. It refuses an element only where `max_length`
+/// is 0.
+#[derive(Clone, Copy, Debug)]
+pub struct ByLength {
+    max_length: u32,
+}
+
+impl Model for ByLength {
+    ghost use Rattle.std.specs.Prelude.{ℕ};
+
+    ghost Value = { ℕ };
+
+    ghost view = { λ l. l.max_length };
+
+    ghost inverse = { λ n. record { max_length = n } };
+}
+
+impl ByLength {
+    /// The limiter to so many pairs.
+    pub fn new(max_length: u32) -> ByLength
+        ensures { result ≡ max_length }
+    {
+        ByLength { max_length }
+    }
+
+    /// The number of pairs that a map may have.
+    pub fn max_length(&self) -> u32
+        ensures { result ≡ self.now }
+    {
+        self.max_length
+    }
+}
+
+/// As `ByLength::new`.
+impl From<u32> for ByLength {
+    ghost from_gives = { λ n limiter. limiter ≡ n };
+
+    fn from(max_length: u32) -> ByLength {
+        ByLength::new(max_length)
+    }
+}
+
+impl<K, V> Limiter<K, V> for ByLength {
+    type LinkType = u32;
+
+    ghost rules = { plain (λ most length. nat_lt most length) (λ _ _. true) };
+
+    #[inline]
+    fn is_over_the_limit(&self, length: usize) -> bool {
+        length > self.max_length as usize
+    }
+
+    #[inline]
+    fn on_removed(&mut self, _key: &mut K, _value: &mut V) {}
+
+    #[inline]
+    fn on_cleared(&mut self) {}
+
+    #[inline]
+    fn on_grow(&mut self, _new_memory_usage: usize) -> bool {
+        true
+    }
+}
+
+impl<K: Eq + Hash + Drop, V: Drop> Insertion<K, V, K> for ByLength {
+    ghost offers = { hands_over (λ most _ _. nat_lt 0 most) };
+
+    #[inline]
+    fn on_insert(
+        &mut self,
+        _alloc: Global,
+        _length: usize,
+        key: K,
+        value: V,
+    ) -> Result<Option<(K, V)>, AllocError> {
+        if self.max_length > 0 {
+            Ok(Some((key, value)))
+        } else {
+            Ok(None)
+        }
+    }
+
+    #[inline]
+    fn on_replace(
+        &mut self,
+        _length: usize,
+        _old_key: &mut K,
+        _new_key: K,
+        _old_value: &mut V,
+        _new_value: &mut V,
+    ) -> bool {
+        true
+    }
+
+    ghost laws = { hands_over-lawful K.eq K.Eq.laws (λ most _ _. nat_lt 0 most) };
+}

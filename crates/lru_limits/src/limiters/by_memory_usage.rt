@@ -1,0 +1,104 @@
+//! The limiter by the size of the table.
+ghost use Rattle.std.specs.Prelude.{◌≡◌, true, false, nat_le};
+ghost use Rattle.lru_limits.specs.Stores.{plain, hands_over, hands_over-lawful};
+
+use crate::keys::LookupKey;
+use crate::limiter::{Insertion, Limiter};
+use std::alloc::{AllocError, Global};
+use std::hash::Hash;
+use std::marker::Model;
+
+/// Limits the bytes of the table. A clause sees it as that number.
+///
+/// It permits a growth exactly where the grown table has at most so many bytes; after a refusal the map gives up its
+/// oldest pairs. What a growth needs while the old table is still there is not counted, nor what keys and values own.
+#[derive(Clone, Copy, Debug)]
+pub struct ByMemoryUsage {
+    max_bytes: usize,
+}
+
+impl Model for ByMemoryUsage {
+    ghost use Rattle.std.specs.Prelude.{ℕ};
+
+    ghost Value = { ℕ };
+
+    ghost view = { λ l. l.max_bytes };
+
+    ghost inverse = { λ n. record { max_bytes = n } };
+}
+
+impl ByMemoryUsage {
+    /// The limiter to a table of so many bytes.
+    pub fn new(max_bytes: usize) -> ByMemoryUsage
+        ensures { result ≡ max_bytes }
+    {
+        ByMemoryUsage { max_bytes }
+    }
+
+    /// The number of bytes that the table may have.
+    pub fn max_memory_usage(&self) -> usize
+        ensures { result ≡ self.now }
+    {
+        self.max_bytes
+    }
+}
+
+/// As `ByMemoryUsage::new`.
+impl From<usize> for ByMemoryUsage {
+    ghost from_gives = { λ n limiter. limiter ≡ n };
+
+    fn from(max_bytes: usize) -> ByMemoryUsage {
+        ByMemoryUsage::new(max_bytes)
+    }
+}
+
+impl<K, V> Limiter<K, V> for ByMemoryUsage {
+    type LinkType = u32;
+
+    ghost rules = { plain (λ _ _. false) (λ most bytes. nat_le bytes most) };
+
+    #[inline]
+    fn is_over_the_limit(&self, _length: usize) -> bool {
+        false
+    }
+
+    #[inline]
+    fn on_removed(&mut self, _key: &mut K, _value: &mut V) {}
+
+    #[inline]
+    fn on_cleared(&mut self) {}
+
+    #[inline]
+    fn on_grow(&mut self, new_memory_usage: usize) -> bool {
+        new_memory_usage <= self.max_bytes
+    }
+}
+
+impl<K: Eq + Hash + Drop, V: Drop> Insertion<K, V, K> for ByMemoryUsage {
+    ghost offers = { hands_over (λ _ _ _. true) };
+
+    #[inline]
+    fn on_insert(
+        &mut self,
+        _alloc: Global,
+        _length: usize,
+        key: K,
+        value: V,
+    ) -> Result<Option<(K, V)>, AllocError> {
+        Ok(Some((key, value)))
+    }
+
+    #[inline]
+    fn on_replace(
+        &mut self,
+        _length: usize,
+        _old_key: &mut K,
+        _new_key: K,
+        _old_value: &mut V,
+        _new_value: &mut V,
+    ) -> bool {
+        true
+    }
+
+    ghost laws = { hands_over-lawful K.eq K.Eq.laws (λ _ _ _. true) };
+}

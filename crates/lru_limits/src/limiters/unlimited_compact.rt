@@ -1,0 +1,63 @@
+//! The limiter that limits nothing, with links of 32 bits.
+ghost use Rattle.std.specs.Prelude.{true, false};
+ghost use Rattle.lru_limits.specs.Stores.{plain, hands_over, hands_over-lawful};
+
+use crate::keys::LookupKey;
+use crate::limiter::{Insertion, Limiter};
+use std::alloc::{AllocError, Global};
+use std::hash::Hash;
+
+/// Limits nothing but by its links of 32 bits: at most 1,879,048,192 pairs, with smaller buckets than under `Unlimited`.
+#[derive(Clone, Copy, Debug, Default)]
+pub struct UnlimitedCompact;
+
+impl<K, V> Limiter<K, V> for UnlimitedCompact {
+    type LinkType = u32;
+
+    ghost rules = { plain (λ _ _. false) (λ _ _. true) };
+
+    #[inline]
+    fn is_over_the_limit(&self, _length: usize) -> bool {
+        false
+    }
+
+    #[inline]
+    fn on_removed(&mut self, _key: &mut K, _value: &mut V) {}
+
+    #[inline]
+    fn on_cleared(&mut self) {}
+
+    #[inline]
+    fn on_grow(&mut self, _new_memory_usage: usize) -> bool {
+        true
+    }
+}
+
+impl<K: Eq + Hash + Drop, V: Drop> Insertion<K, V, K> for UnlimitedCompact {
+    ghost offers = { hands_over (λ _ _ _. true) };
+
+    #[inline]
+    fn on_insert(
+        &mut self,
+        _alloc: Global,
+        _length: usize,
+        key: K,
+        value: V,
+    ) -> Result<Option<(K, V)>, AllocError> {
+        Ok(Some((key, value)))
+    }
+
+    #[inline]
+    fn on_replace(
+        &mut self,
+        _length: usize,
+        _old_key: &mut K,
+        _new_key: K,
+        _old_value: &mut V,
+        _new_value: &mut V,
+    ) -> bool {
+        true
+    }
+
+    ghost laws = { hands_over-lawful K.eq K.Eq.laws (λ _ _ _. true) };
+}

@@ -1,0 +1,9 @@
+//! Each trait through its bound at concrete types, limiters and keys of one's own, and what no clause says.
+mod bounds;
+mod by_text_length;
+mod costs;
+mod hashing;
+mod insert_key;
+mod limiters;
+mod removed_keys;
+mod spread;
