@@ -1,5 +1,5 @@
 //! How many entries a number of buckets takes, and how many buckets a number of entries needs.
-ghost use Rattle.std.specs.Prelude.{◌≡◌, ◌≤◌, IfSome};
+ghost use Rattle.std.specs.Prelude.{◌≡◌, ◌<◌, ◌≤◌, IfSome};
 ghost use Rattle.group_table.specs.Sizes.{IsBucketCount, full_capacity, buckets_for};
 
 /// The most entries that so many buckets take: none of none, all but one of 4 or 8, and seven eighths of more.
@@ -21,7 +21,8 @@ pub fn full_capacity(buckets: usize) -> usize
 pub fn buckets_for_capacity(capacity: usize, max: usize) -> Option<usize>
     ensures value { result ≡ buckets_for max capacity }
 
-    // So many buckets are a number that a table can have, and take so many entries.
+    // So many buckets are below the limit, are a number that a table can have, and take so many entries.
+    ensures below { IfSome result (λ b. 0 < b → b < max) }
     ensures valid { IfSome result IsBucketCount }
     ensures holds { IfSome result (λ b. capacity ≤ full_capacity b) }
 {

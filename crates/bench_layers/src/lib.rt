@@ -1,0 +1,80 @@
+//! Loops over the layers below the map that a Rust program times, each inside one call.
+#![tactic(auto)]
+
+use group_table::{Table, buckets_for_capacity};
+use lru_limits::RandomState;
+use std::alloc::{AllocError, Global};
+use std::hash::{BuildHasher, Hasher};
+
+/// The hash of a number.
+#[inline]
+fn hash_of(state: &RandomState, number: u64) -> u64 {
+    let mut hasher = state.build_hasher();
+    hasher.write_u64(number);
+    hasher.finish()
+}
+
+/// The sum of the hashes of the numbers below `count`.
+#[unsafe(no_mangle)]
+pub extern "C" fn rattle_hash_numbers(count: u64) -> u64 {
+    let state = RandomState::default();
+    let mut sum = 0u64;
+    for number in 0..count {
+        sum = sum.wrapping_add(hash_of(&state, number));
+    }
+    sum
+}
+
+/// The sum of the hashes of the text's front parts, over and over.
+#[unsafe(no_mangle)]
+pub extern "C" fn rattle_hash_texts(text: &[u8], rounds: u64) -> u64 {
+    let state = RandomState::default();
+    let mut sum = 0u64;
+    for round in 0..rounds {
+        let end = (round as usize).min(text.len());
+        let mut hasher = state.build_hasher();
+        hasher.write(&text[..end]);
+        hasher.write_u64(round);
+        sum = sum.wrapping_add(hasher.finish());
+    }
+    sum
+}
+
+/// Carries out an operation, which its two lowest bits name, on the key that the others are.
+#[inline]
+fn carry_out(table: &mut Table<(u64, u64)>, state: &RandomState, operation: u64, sum: u64) -> u64 {
+    let key = operation >> 2;
+    let hash = hash_of(state, key);
+    match (operation & 3, table.find(hash, |entry| entry.0 == key)) {
+        (0 | 1, Some(b)) => {
+            table.get_mut(b).1 = operation;
+            sum
+        }
+        (0 | 1, None) => {
+            let _ = table.try_place(hash, (key, operation));
+            sum
+        }
+        (2, Some(b)) => sum.wrapping_mul(31).wrapping_add(table.get(b).1),
+        (3, Some(b)) => sum ^ table.take(b).1,
+        _ => sum,
+    }
+}
+
+/// Carries out the operations on a table with room for so many entries.
+fn run_on(alloc: Global, capacity: usize, operations: &[u64]) -> Result<u64, AllocError> {
+    let Some(buckets) = buckets_for_capacity(capacity, 1 << 40) else {
+        return Ok(0);
+    };
+    let state = RandomState::default();
+    let mut table = Table::with_buckets(alloc, buckets)?;
+    let mut sum = 0;
+    for operation in operations {
+        sum = carry_out(&mut table, &state, *operation, sum);
+    }
+    Ok(sum)
+}
+
+#[unsafe(no_mangle)]
+pub extern "C" fn rattle_table(alloc: Global, capacity: usize, operations: &[u64]) -> u64 {
+    run_on(alloc, capacity, operations).unwrap_or(0)
+}
