@@ -1,14 +1,15 @@
 -- The fields of a table whose buckets are all empty.
-use Rattle.std.proofs.Common.{◌≡◌, ℕ, zero, suc, ◌+◌, ◌^◌, ◌<◌, ◌≤◌, ◌∷◌, length, replicate, Option, None, ◌⊎◌, refl, ap, sym, ◌∙◌, arith, inl, inr, count_by, cond, Bool, false}
+use Rattle.std.proofs.Common.{◌≡◌, ℕ, zero, suc, ◌+◌, ◌^◌, ◌<◌, ◌≤◌, ◌∷◌, length, replicate, Option, None, ◌⊎◌, refl, ap, sym, ◌∙◌, arith, inl, inr, count_by, cond, Bool, false, List, Some, true, get_or}
 use Rattle.std.proofs.lemmas.List.{length-replicate, get_or-replicate}
 use Rattle.std.proofs.lemmas.List.Sums.{sum_by-cons}
 use native.Mathlib.Decide.{dec_lt}
 use Rattle.group_table.specs.Sizes.{IsPowerFromFour, full_capacity}
-use Rattle.group_table.specs.Bucket.{Bucket, Slot, Tagged, empty, is_used, is_full, entry_count}
+use Rattle.group_table.specs.Bucket.{Bucket, Slot, Tagged, empty, is_used, is_full, bucket_at, entry_count}
 use Rattle.group_table.specs.Fits.{Fits}
-use Rattle.group_table.specs.Layout.{slots_of, byte_of, byte_at, IsValid}
-use Rattle.group_table.proofs.BucketLemmas.{empty_not_deleted}
-use Rattle.group_table.proofs.CopyLemmas.{copy_at}
+use Rattle.group_table.specs.Layout.{slot_of, slots_of, byte_of, byte_at, IsLaidOut, IsValid}
+use Rattle.group_table.proofs.BucketLemmas.{empty_not_deleted, count_by-pos}
+use Rattle.group_table.proofs.LayoutLemmas.{bucket_at-laid_out, length-laid_out}
+use Rattle.group_table.proofs.CopyLemmas.{copy_at, replicate-from}
 use Rattle.group_table.proofs.FitsLemmas.{Fits-none}
 use Rattle.group_table.proofs.WriteLemmas.{byte_at-bucket, byte_at-between, byte_at-again}
 
@@ -58,3 +59,13 @@ module _ (T : Type 0) where
 
   pub Fits-fresh : (n : ℕ) (hash_of : ℕ → ℕ) → Fits {T = T} (replicate n empty) hash_of
   Fits-fresh n hash_of = Fits-none (replicate n empty) hash_of (λ b. copy_at n b empty)
+
+-- where no bucket is full, there is no entry
+pub none_left : {T : Type 0} (control : List ℕ) (entries : List (Option T)) → IsLaidOut control entries → entry_count (slots_of control entries) ≡ 0 → entries ≡ replicate (length entries) None
+none_left {T} control entries laid_out none = replicate-from entries None None (λ b within. at b within (get_or entries b None) refl)
+  where
+    at : (b : ℕ) → b < length entries → (e : Option T) → get_or entries b None ≡ e → e ≡ None
+    at b within None is = refl
+    at b within (Some entry) is =
+        let there : is_full (bucket_at (slots_of control entries) b) ≡ true = ap is_full (bucket_at-laid_out control entries laid_out b within) ∙ ap (λ o. is_full (slot_of (get_or control b 0) o)) is in
+        absurd (omega (arith, none, count_by-pos is_full (slots_of control entries) b (omega (arith, length-laid_out control entries laid_out)) there))

@@ -36,10 +36,14 @@ pub(crate) fn clear_bytes(control: &mut Vec<u8>)
     control.fill(EMPTY);
 }
 
-// Drops every entry.
-pub(crate) fn drop_entries<T: Drop>(entries: &mut Vec<Option<T>>)
+// Drops every entry, of which there are so many.
+pub(crate) fn drop_entries<T: Drop>(entries: &mut Vec<Option<T>>, len: usize)
+    requires { len ≡ 0 → entries.old.items ≡ replicate (length entries.old.items) None }
     ensures { entries.new.items ≡ replicate (length entries.old.items) None }
 {
+    if len == 0 {
+        return;
+    }
     for b in 0..entries.len() {
         entries[b] = None;
     }

@@ -24,6 +24,12 @@ mod figures;
 ///
 /// It sees no key and stores no hash: the hash of an entry is what its placing was given, and a search asks its
 /// caller about each entry that may be the one. A bucket keeps its number and its entry until the entry is taken.
+///
+/// ```
+/// let mut table = Table::with_buckets(alloc, 8)?;
+/// let b = table.try_place(hash_of(&"a"), "a").ok().ok_or("no room")?;
+/// assert_eq!(rt; table.find(hash_of(&"a"), |entry| *entry == "a"), Some(b));
+/// ```
 #[derive(Drop)]
 pub struct Table<T> {
     control: Vec<u8>,
@@ -66,7 +72,8 @@ impl<T> Table<T> {
         }
     }
 
-    /// A table of so many buckets, all empty. The one error is want of memory; no buckets take none.
+    /// A table of so many buckets, all empty: none, or a power of two from 4 on, and with 16 more at most `isize::MAX`.
+    /// The one error is want of memory; no buckets take none.
     pub fn with_buckets(alloc: Global, buckets: usize) -> Result<Self, AllocError>
         requires count { IsBucketCount buckets }
         requires addressable { buckets + 16 < 2 ^ 63 }
@@ -194,7 +201,7 @@ impl<T: Drop> Table<T> {
         ensures fits { (hash_of : ℕ → ℕ) → Fits self.new.slots hash_of }
     {
         clear_bytes(&mut self.control);
-        drop_entries(&mut self.entries);
+        drop_entries(&mut self.entries, self.len);
         self.room = full_capacity(self.entries.len());
         self.len = 0;
     }

@@ -2,8 +2,11 @@ use Rattle.std.proofs.Common.{◌≡◌, length, sym, ap, ◌∙◌, arith}
 use Rattle.std.proofs.lemmas.List.{length-replicate}
 use Rattle.group_table.proofs.LayoutLemmas.{entries_within, length-laid_out}
 use Rattle.group_table.proofs.TableLemmas.{IsTable-by}
-use Rattle.group_table.proofs.FreshLemmas.{IsValid-fresh, entry_count-fresh, slots_of-fresh, Fits-fresh}
+use Rattle.group_table.proofs.FreshLemmas.{none_left, IsValid-fresh, entry_count-fresh, slots_of-fresh, Fits-fresh}
 use Rattle.group_table.proofs.table.Table.clear.Goals as goal
+
+pub drop_entries-requires : goal.drop_entries-requires
+drop_entries-requires g c none = none_left _ _ c.self.invariant.0.laid_out (sym c.self.invariant.1 ∙ none)
 
 pub invariant_of-self : goal.invariant_of-self
 invariant_of-self g c =
