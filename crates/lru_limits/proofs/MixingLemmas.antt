@@ -1,4 +1,6 @@
 -- What a write of the bytes of a number leaves.
+--     written-le_bytes_N      where the number has N bytes
+--     number_writes           those that are one step
 use Rattle.std.proofs.Common.{◌≡◌, ◌<◌, ◌+◌, ◌*◌, ◌/◌, ◌%◌, ◌^◌, ℕ, ap, arith, ◌∙◌}
 use Rattle.std.specs.Hash.{le_bytes}
 use Rattle.lru_limits.specs.Mixing.{Mixer, joined, written}
@@ -22,3 +24,6 @@ pub written-le_bytes_16 : (h : Mixer) (n : ℕ) → n < 2 ^ 128 → written h (l
 unfolding le_bytes
 written-le_bytes_16 h n fits =
     rw (word-low_bytes_8 n, word-high_bytes n fits)
+
+-- those of one step
+pub ruleset number_writes = (written-le_bytes_2, written-le_bytes_4, written-le_bytes_8)

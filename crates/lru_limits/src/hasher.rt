@@ -186,16 +186,19 @@ impl Hasher for DefaultHasher {
     }
 
     #[inline]
+    #[tactic(auto, using(crate::proofs::MixingLemmas::number_writes))]
     fn write_u16(&mut self, i: u16) {
         self.join_rest(i as u64, 2);
     }
 
     #[inline]
+    #[tactic(auto, using(crate::proofs::MixingLemmas::number_writes))]
     fn write_u32(&mut self, i: u32) {
         self.join_rest(i as u64, 4);
     }
 
     #[inline]
+    #[tactic(auto, using(crate::proofs::MixingLemmas::number_writes))]
     fn write_u64(&mut self, i: u64) {
         self.join_word(i);
     }
@@ -207,6 +210,7 @@ impl Hasher for DefaultHasher {
     }
 
     #[inline]
+    #[tactic(auto, using(crate::proofs::MixingLemmas::number_writes))]
     fn write_usize(&mut self, i: usize) {
         self.join_word(i as u64);
     }
