@@ -72,7 +72,11 @@ module _ {T : Type 0} (control : List ℕ) (entries : List (Option T)) (laid_out
       }
 
 -- a group, from its first step on
-module _ {T F : Type 0} (closure : Mut F (Bor T × Unit {0}) Bool) (slots : List (Slot T)) (hash s : ℕ) (power : IsPowerFromFour (length slots)) (whole : s % 16 ≡ 0) (within : s < length slots) (f between g : F) (before : RefusesEach closure slots f (candidates slots hash s) between) where
+module _ {T F : Type 0} (closure : Mut F (Bor T × Unit {0}) Bool) (slots : List (Slot T)) (hash s : ℕ) (power : IsPowerFromFour (length slots)) (whole : s % 16 ≡ 0) (within : s < length slots) (none_before : (t : ℕ) → t < s → mark_probed (marks_of slots) hash t ≢ empty) (f between g : F) (before : RefusesEach closure slots f (candidates slots hash s) between) where
+  -- a search reaches each step of this group
+  reached_here : (lanes : ℕ) → lanes ≤ 16 → (step earlier : ℕ) → step < s + lanes → earlier / 16 < step / 16 → mark_probed (marks_of slots) hash earlier ≢ empty
+  reached_here lanes small step earlier p q = none_before earlier (omega arith)
+
   pub Finds-from : (b : ℕ) → AcceptsIn closure slots (hash_tag hash) (probed (length slots) hash s) between b g → Finds closure slots hash f b
   Finds-from b here =
       let fits : s + here.lanes ≤ length slots = omega (arith, here.in_group, group_within (length slots) s power whole within) in
@@ -80,7 +84,7 @@ module _ {T F : Type 0} (closure : Mut F (Bor T × Unit {0}) Bool) (slots : List
       append_assoc (candidates slots hash s) here.asked (b ∷ []) ∙ ap (λ xs. candidates slots hash s ++ xs) here.in_order ∙ sym (candidates-group slots hash s here.lanes whole (omega (arith, here.in_group))) in
       record {
         asked = candidates slots hash s ++ here.asked;
-        search = record { steps = s + here.lanes; within = fits; in_order = order; distinct = rw order (candidates-distinct slots hash (s + here.lanes) power fits) };
+        search = record { steps = s + here.lanes; within = fits; reached = reached_here here.lanes (omega (arith, here.in_group)); in_order = order; distinct = rw order (candidates-distinct slots hash (s + here.lanes) power fits) };
         between = here.between;
         refused = FoldsTo-append _ _ _ _ _ _ before here.refused;
         last = g;
@@ -119,7 +123,7 @@ module _ {T F : Type 0} (closure : Mut F (Bor T × Unit {0}) Bool) (slots : List
       let fits = group_within (length slots) s power whole within in
       record {
         asked = candidates slots hash last;
-        search = record { steps = last; within = fits; in_order = refl; distinct = candidates-distinct slots hash last power fits };
+        search = record { steps = last; within = fits; reached = reached_here (min 16 (length slots)) (omega arith); in_order = refl; distinct = candidates-distinct slots hash last power fits };
         last = g;
         refused = refused_group here;
         complete = λ hash_of fitting b there e.
@@ -133,7 +137,7 @@ module _ {T F : Type 0} (closure : Mut F (Bor T × Unit {0}) Bool) (slots : List
 pub FindsNone-empty : {T F : Type 0} (closure : Mut F (Bor T × Unit {0}) Bool) (slots : List (Slot T)) (hash : ℕ) (f : F) → length slots ≡ 0 → FindsNone closure slots hash f
 FindsNone-empty closure slots hash f e = record {
   asked = [];
-  search = record { steps = 0; within = omega arith; in_order = refl; distinct = λ i j d l m. absurd (omega arith) };
+  search = record { steps = 0; within = omega arith; reached = λ step before p. absurd (omega arith); in_order = refl; distinct = λ i j d l m. absurd (omega arith) };
   last = f;
   refused = refl;
   complete = λ hash_of fits b there same. absurd (empty_not_full _ (bucket_at-past slots b (omega (arith, e))) there);
