@@ -6,9 +6,8 @@ use Rattle.std.specs.Fn.{Mut}
 use Rattle.std.proofs.lemmas.Bool.{ne_eqb}
 use native.Mathlib.Decide.{dec_lt}
 use Rattle.group_table.specs.Sizes.{IsPowerFromFour}
-use Rattle.group_table.specs.Bucket.{Slot, empty, deleted, full, bucket_at, IsFull, has_tag, marks_of}
+use Rattle.group_table.specs.Bucket.{Slot, empty, deleted, full, bucket_at, has_tag, marks_of}
 use Rattle.group_table.specs.Probe.{hash_tag, probed, mark_probed, Reaches}
-use Rattle.group_table.specs.Fits.{Fits}
 use Rattle.group_table.specs.Search.{candidates, Answers, RefusesEach, Finds, FindsNone}
 use Rattle.group_table.specs.Layout.{slot_of, slots_of, marks_by, IsLaidOut}
 use Rattle.group_table.specs.Group.{width, tagged_lanes, IsEmptyLane, HasEmptyLane, HasNoEmptyLane, AcceptsIn, RefusesGroup}
