@@ -1,7 +1,7 @@
 -- What a placing and a removal make of the buckets, seen by their numbers and as marks.
-use Rattle.std.proofs.Common.{◌≡◌, ◌≢◌, ℕ, ◌+◌, ◌<◌, cond, List, length, set, Option, None, Some, ◌⊎◌, inl, inr, refl, ap, sym, ◌∙◌, arith}
+use Rattle.std.proofs.Common.{◌≡◌, ◌≢◌, ℕ, ◌+◌, ◌<◌, cond, List, length, set, None, Some, ◌⊎◌, inl, inr, refl, ap, sym, ◌∙◌, arith}
 use Rattle.group_table.specs.Bucket.{Slot, Tagged, empty, deleted, full, bucket_at, is_full, IsFull, entry_at, entry_of, entry_count, marks_of}
-use Rattle.group_table.specs.Probe.{hash_tag, IsFirstFree}
+use Rattle.group_table.specs.Probe.{hash_tag}
 use Rattle.group_table.specs.Neighbours.{HasEmptyNeighbours, IsHemmedIn}
 use Rattle.group_table.specs.Table.{Table, IsTable}
 use Rattle.group_table.specs.Change.{Places, Removes}

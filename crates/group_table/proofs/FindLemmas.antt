@@ -6,16 +6,15 @@ use Rattle.std.specs.Fn.{Mut}
 use Rattle.std.proofs.lemmas.Bool.{ne_eqb}
 use native.Mathlib.Decide.{dec_lt}
 use Rattle.group_table.specs.Sizes.{IsPowerFromFour}
-use Rattle.group_table.specs.Bucket.{Slot, empty, deleted, full, bucket_at, IsFull, has_tag, marks_of}
-use Rattle.group_table.specs.Probe.{hash_tag, probed, mark_probed}
-use Rattle.group_table.specs.Fits.{Fits}
+use Rattle.group_table.specs.Bucket.{Slot, empty, deleted, full, bucket_at, has_tag, marks_of}
+use Rattle.group_table.specs.Probe.{hash_tag, probed, mark_probed, Reaches}
 use Rattle.group_table.specs.Search.{candidates, Answers, RefusesEach, Finds, FindsNone}
 use Rattle.group_table.specs.Layout.{slot_of, slots_of, marks_by, IsLaidOut}
 use Rattle.group_table.specs.Group.{width, tagged_lanes, IsEmptyLane, HasEmptyLane, HasNoEmptyLane, AcceptsIn, RefusesGroup}
-use Rattle.group_table.proofs.BucketLemmas.{empty_not_full, bucket_at-past, length-marks_of}
+use Rattle.group_table.proofs.BucketLemmas.{full_lt, empty_not_full, bucket_at-past, length-marks_of}
 use Rattle.group_table.proofs.ProbeLemmas.{probed-meets, probed-lane, up_to_lane, up_to_end, group_within}
 use Rattle.group_table.proofs.LayoutLemmas.{length-laid_out, bucket_at-laid_out, mark_from_byte, byte_from_mark, power_of}
-use Rattle.group_table.proofs.SearchLemmas.{FoldsTo-append, held_by, has_tag-full, tagged_lanes-more, RefusesEach-more, RefusesEach-skip, candidates-group, candidates-distinct, Contains-candidates}
+use Rattle.group_table.proofs.SearchLemmas.{FoldsTo-append, full_by_tag, held_by, has_tag-full, tagged_lanes-more, RefusesEach-more, RefusesEach-skip, candidates-group, candidates-distinct, Contains-candidates}
 
 has_tag-test : (T : Type 0) (tag : ℕ) (b : Bool) → has_tag {T = T} tag (cond b deleted empty) ≡ false
 has_tag-test T tag true = refl
@@ -72,7 +71,11 @@ module _ {T : Type 0} (control : List ℕ) (entries : List (Option T)) (laid_out
       }
 
 -- a group, from its first step on
-module _ {T F : Type 0} (closure : Mut F (Bor T × Unit {0}) Bool) (slots : List (Slot T)) (hash s : ℕ) (power : IsPowerFromFour (length slots)) (whole : s % 16 ≡ 0) (within : s < length slots) (f between g : F) (before : RefusesEach closure slots f (candidates slots hash s) between) where
+module _ {T F : Type 0} (closure : Mut F (Bor T × Unit {0}) Bool) (slots : List (Slot T)) (hash s : ℕ) (power : IsPowerFromFour (length slots)) (whole : s % 16 ≡ 0) (within : s < length slots) (none_before : (t : ℕ) → t < s → mark_probed (marks_of slots) hash t ≢ empty) (f between g : F) (before : RefusesEach closure slots f (candidates slots hash s) between) where
+  -- a search reaches each step of this group
+  reached_here : (lanes : ℕ) → lanes ≤ 16 → (step earlier : ℕ) → step < s + lanes → earlier / 16 < step / 16 → mark_probed (marks_of slots) hash earlier ≢ empty
+  reached_here lanes small step earlier p q = none_before earlier (omega arith)
+
   pub Finds-from : (b : ℕ) → AcceptsIn closure slots (hash_tag hash) (probed (length slots) hash s) between b g → Finds closure slots hash f b
   Finds-from b here =
       let fits : s + here.lanes ≤ length slots = omega (arith, here.in_group, group_within (length slots) s power whole within) in
@@ -80,7 +83,7 @@ module _ {T F : Type 0} (closure : Mut F (Bor T × Unit {0}) Bool) (slots : List
       append_assoc (candidates slots hash s) here.asked (b ∷ []) ∙ ap (λ xs. candidates slots hash s ++ xs) here.in_order ∙ sym (candidates-group slots hash s here.lanes whole (omega (arith, here.in_group))) in
       record {
         asked = candidates slots hash s ++ here.asked;
-        search = record { steps = s + here.lanes; within = fits; in_order = order; distinct = rw order (candidates-distinct slots hash (s + here.lanes) power fits) };
+        search = record { steps = s + here.lanes; within = fits; reached = reached_here here.lanes (omega (arith, here.in_group)); in_order = order; distinct = rw order (candidates-distinct slots hash (s + here.lanes) power fits) };
         between = here.between;
         refused = FoldsTo-append _ _ _ _ _ _ before here.refused;
         last = g;
@@ -92,26 +95,28 @@ module _ {T F : Type 0} (closure : Mut F (Bor T × Unit {0}) Bool) (slots : List
   refused_group here = rw (candidates-group slots hash s (min 16 (length slots)) whole (omega arith)) (FoldsTo-append _ _ _ _ _ _ before here)
 
   -- an empty bucket ends the search: what a search reaches was among the groups before, or in this one
-  reached_by : (lane : ℕ) → lane < min 16 (length slots) → IsEmptyLane slots (probed (length slots) hash s) lane → (hash_of : ℕ → ℕ) → Fits slots hash_of → (b : ℕ) → IsFull slots b → hash_of b ≡ hash → (t : ℕ) × (t < s + min 16 (length slots)) × (probed (length slots) hash t ≡ b)
-  reached_by lane p ends hash_of fits b there e =
+  reached_by : (lane : ℕ) → lane < min 16 (length slots) → IsEmptyLane slots (probed (length slots) hash s) lane → (b : ℕ) → b < length slots → Reaches (marks_of slots) hash b → (t : ℕ) × (t < s + min 16 (length slots)) × (probed (length slots) hash t ≡ b)
+  reached_by lane p ends b small r =
       let n = length slots in
       let same = length-marks_of slots in
       elim (dec_lt 16 n) [
         | yes q ↦
-            let r = fits.reached b there in
-            let at : probed n hash r.step ≡ b = rw (same, e) at r.there in
+            let at : probed n hash r.step ≡ b = rw same at r.there in
             elim (dec_lt (s / 16) (r.step / 16)) [
               | yes past ↦
                   let group : (s + lane) / 16 ≡ s / 16 = omega arith in
                   let met : bucket_at (marks_of slots) (probed n hash (s + lane)) ≡ empty = rw (probed-lane n hash s lane whole (omega arith)) ends in
-                  absurd (r.goes_on (s + lane) (omega arith) (rw (same, e) met))
+                  absurd (r.goes_on (s + lane) (omega arith) (rw same met))
               | no past ↦ (r.step, omega arith, at)
             ]
-        | no q ↦
-            let small : b < n = elim (dec_lt b n) [ yes l ↦ l | no l ↦ absurd (empty_not_full _ (bucket_at-past slots b (omega arith)) there) ] in
-            let met = probed-meets n hash b power small in
-            (met.0, omega (arith, met.1), met.2)
+        | no q ↦ let met = probed-meets n hash b power small in (met.0, omega (arith, met.1), met.2)
       ]
+
+  all_asked : HasEmptyLane slots (probed (length slots) hash s) (min 16 (length slots)) → (b : ℕ) → has_tag (hash_tag hash) (bucket_at slots b) ≡ true → Reaches (marks_of slots) hash b → Contains (candidates slots hash (s + min 16 (length slots))) b
+  all_asked ends b tagged reached =
+      let last = s + min 16 (length slots) in
+      let r = reached_by ends.0 ends.1 ends.2 b (full_lt slots b (full_by_tag (bucket_at slots b) (hash_tag hash) tagged)) reached in
+      subst (Contains (candidates slots hash last)) r.2 (Contains-candidates slots hash r.0 last r.1 (subst (λ k. has_tag (hash_tag hash) (bucket_at slots k) ≡ true) (sym r.2) tagged))
 
   pub FindsNone-from : RefusesGroup closure slots (hash_tag hash) (probed (length slots) hash s) between g → HasEmptyLane slots (probed (length slots) hash s) (min 16 (length slots)) → FindsNone closure slots hash f
   FindsNone-from here ends =
@@ -119,23 +124,23 @@ module _ {T F : Type 0} (closure : Mut F (Bor T × Unit {0}) Bool) (slots : List
       let fits = group_within (length slots) s power whole within in
       record {
         asked = candidates slots hash last;
-        search = record { steps = last; within = fits; in_order = refl; distinct = candidates-distinct slots hash last power fits };
+        search = record { steps = last; within = fits; reached = reached_here (min 16 (length slots)) (omega arith); in_order = refl; distinct = candidates-distinct slots hash last power fits };
         last = g;
         refused = refused_group here;
+        all_reached = all_asked ends;
         complete = λ hash_of fitting b there e.
-            let r = reached_by ends.0 ends.1 ends.2 hash_of fitting b there e in
             let held = held_by (bucket_at slots b) there in
-            let tagged : has_tag (hash_tag hash) (bucket_at slots b) ≡ true = has_tag-full _ held.0 _ held.1 (fitting.tags b held.0 held.1 ∙ ap hash_tag e) in
-            subst (Contains (candidates slots hash last)) r.2 (Contains-candidates slots hash r.0 last r.1 (subst (λ k. has_tag (hash_tag hash) (bucket_at slots k) ≡ true) (sym r.2) tagged));
+            all_asked ends b (has_tag-full _ held.0 _ held.1 (fitting.tags b held.0 held.1 ∙ ap hash_tag e)) (subst (λ h. Reaches (marks_of slots) h b) e (fitting.reached b there));
       }
 
 -- with no buckets there is nothing to ask about
 pub FindsNone-empty : {T F : Type 0} (closure : Mut F (Bor T × Unit {0}) Bool) (slots : List (Slot T)) (hash : ℕ) (f : F) → length slots ≡ 0 → FindsNone closure slots hash f
 FindsNone-empty closure slots hash f e = record {
   asked = [];
-  search = record { steps = 0; within = omega arith; in_order = refl; distinct = λ i j d l m. absurd (omega arith) };
+  search = record { steps = 0; within = omega arith; reached = λ step before p. absurd (omega arith); in_order = refl; distinct = λ i j d l m. absurd (omega arith) };
   last = f;
   refused = refl;
+  all_reached = λ b tagged r. absurd (empty_not_full _ (bucket_at-past slots b (omega (arith, e))) (full_by_tag _ (hash_tag hash) tagged));
   complete = λ hash_of fits b there same. absurd (empty_not_full _ (bucket_at-past slots b (omega (arith, e))) there);
 }
 

@@ -33,6 +33,11 @@ module _ {T : Type 0} where
   full_by_entry deleted entry e = absurd (cc)
   full_by_entry (full held) entry e = refl
 
+  pub full_by_tag : (s : Slot T) (tag : ℕ) → has_tag tag s ≡ true → is_full s ≡ true
+  full_by_tag empty tag e = absurd (cc)
+  full_by_tag deleted tag e = absurd (cc)
+  full_by_tag (full held) tag e = refl
+
   pub has_tag-full : (s : Slot T) (held : Tagged T) (tag : ℕ) → s ≡ full held → held.tag ≡ tag → has_tag tag s ≡ true
   has_tag-full s held tag e f = rw e (eq-eqb held.tag tag f)
 

@@ -1,10 +1,10 @@
 -- Which entries a search asks its closure about, and what the closure answers.
-use Rattle.std.specs.Prelude.{◌≡◌, ◌≢◌, ℕ, ◌≤◌, Bool, true, false, List, [], ◌∷◌, ◌++◌, length, map, filter, Some, Contains, AllPairs}
+use Rattle.std.specs.Prelude.{◌≡◌, ◌≢◌, ℕ, ◌/◌, ◌<◌, ◌≤◌, Bool, true, false, List, [], ◌∷◌, ◌++◌, length, map, filter, Some, Contains, AllPairs, IsTrue}
 use Rattle.std.specs.List.{range_with_len, FoldsTo}
 use Rattle.std.specs.Borrow.{Bor}
 use Rattle.std.specs.Fn.{Mut, CalledAt}
-use Rattle.group_table.specs.Bucket.{Slot, bucket_at, entry_at, has_tag, IsFull}
-use Rattle.group_table.specs.Probe.{hash_tag, probed}
+use Rattle.group_table.specs.Bucket.{Slot, empty, bucket_at, entry_at, has_tag, IsFull, marks_of}
+use Rattle.group_table.specs.Probe.{hash_tag, probed, mark_probed, Reaches}
 use Rattle.group_table.specs.Fits.{Fits}
 
 module _ {T : Type 0} (slots : List (Slot T)) (hash : ℕ) where
@@ -12,10 +12,11 @@ module _ {T : Type 0} (slots : List (Slot T)) (hash : ℕ) where
   abbrev pub candidates : ℕ → List ℕ
   candidates steps = filter (λ b. has_tag (hash_tag hash) (bucket_at slots b)) (map (probed (length slots) hash) (range_with_len 0 steps))
 
-  -- these are the candidates of so many steps, and each stands once
+  -- these are the candidates of so many steps, each of which a search reaches, and each stands once
   pub record IsSearch (asked : List ℕ) : Type 0 where
     pub steps : ℕ
     pub within : steps ≤ length slots
+    pub reached : (step before : ℕ) → step < steps → before / 16 < step / 16 → mark_probed (marks_of slots) hash before ≢ empty
     pub in_order : asked ≡ candidates steps
     pub distinct : AllPairs ◌≢◌ asked
 
@@ -39,11 +40,12 @@ module _ {T F : Type 0} (closure : Mut F (Bor T × Unit {0}) Bool) (slots : List
     pub last : F
     pub accepted : Answers between b true last
 
-  -- a search for the hash asked f about these buckets, f refused all, and among them is each with an entry of
-  -- that hash, whatever hashes fit
+  -- a search for the hash asked f about these buckets, and f refused all; among them is each with the tag that a
+  -- search reaches, and so each with an entry of that hash, whatever hashes fit
   pub record FindsNone (hash : ℕ) (f : F) : Type 0 where
     pub asked : List ℕ
     pub search : IsSearch slots hash asked
     pub last : F
     pub refused : RefusesEach f asked last
+    pub all_reached : (b : ℕ) → IsTrue (has_tag (hash_tag hash) (bucket_at slots b)) → Reaches (marks_of slots) hash b → Contains asked b
     pub complete : (hash_of : ℕ → ℕ) → Fits slots hash_of → (b : ℕ) → IsFull slots b → hash_of b ≡ hash → Contains asked b
