@@ -50,7 +50,8 @@ impl<T> Model for Table<T> {
 
     ghost view = { λ t. record { slots = slots_of t.control.items t.entries.items; placings = t.placings } };
 
-    ghost invariant = { λ t. IsValid t.control.items t.entries.items t.room × (t.len ≡ entry_count (slots_of t.control.items t.entries.items)) };
+    ghost invariant = { λ t. IsValid t.control.items t.entries.items t.room
+        × (t.len ≡ entry_count (slots_of t.control.items t.entries.items)) };
 }
 
 impl<T> Table<T> {
@@ -134,7 +135,8 @@ impl<T> Table<T> {
         ensures* writes_back { sem 𝓛 (lends_entry T.row self.entry b result) }
         ensures entry { entry_at self.old.slots b ≡ Some result.now }
         ensures table { IsTable (marks_of self.old.slots) }
-        ensures fits { (hash_of : ℕ → ℕ) → Fits self.old.slots hash_of → (last : T) → Fits (with_entry self.old b last).slots hash_of }
+        ensures fits { (hash_of : ℕ → ℕ) → Fits self.old.slots hash_of →
+            (last : T) → Fits (with_entry self.old b last).slots hash_of }
     {
         entry_mut(&mut self.entries[b])
     }
@@ -146,8 +148,10 @@ impl<T> Table<T> {
     pub fn try_place(&mut self, hash: u64, entry: T) -> Result<usize, T>
         ensures placed { IfOk result (Places self.old self.new hash entry) }
         ensures may_fill { IfOk result (MayFill (marks_of self.old.slots)) }
-        ensures room { IfOk result (λ b. room (marks_of self.new.slots) + room_at (marks_of self.old.slots) b ≡ room (marks_of self.old.slots)) }
-        ensures fits { IfOk result (λ b. (hash_of : ℕ → ℕ) → Fits self.old.slots hash_of → Fits self.new.slots (with_hash hash_of b hash)) }
+        ensures room { IfOk result (λ b.
+            room (marks_of self.new.slots) + room_at (marks_of self.old.slots) b ≡ room (marks_of self.old.slots)) }
+        ensures fits { IfOk result (λ b. (hash_of : ℕ → ℕ) → Fits self.old.slots hash_of →
+            Fits self.new.slots (with_hash hash_of b hash)) }
         ensures table { IsTable (marks_of self.new.slots) }
 
         // An entry that found no place comes back, and the table stays.

@@ -84,11 +84,16 @@ pub trait Insertion<K: Eq + Hash, V, I: LookupKey<K>>: Limiter<K, V> {
         old_value: &mut V,
         new_value: &mut V,
     ) -> bool
-        ensures limiter { self.new ≡ (offers.on_replace self.old length old_key.old new_key old_value.old new_value.old).limiter }
-        ensures taken { result ≡ (offers.on_replace self.old length old_key.old new_key old_value.old new_value.old).taken }
-        ensures old_key { old_key.new ≡ (offers.on_replace self.old length old_key.old new_key old_value.old new_value.old).key }
-        ensures old_value { old_value.new ≡ (offers.on_replace self.old length old_key.old new_key old_value.old new_value.old).old_value }
-        ensures new_value { new_value.new ≡ (offers.on_replace self.old length old_key.old new_key old_value.old new_value.old).new_value };
+        ensures limiter { self.new ≡
+            (offers.on_replace self.old length old_key.old new_key old_value.old new_value.old).limiter }
+        ensures taken { result ≡
+            (offers.on_replace self.old length old_key.old new_key old_value.old new_value.old).taken }
+        ensures old_key { old_key.new ≡
+            (offers.on_replace self.old length old_key.old new_key old_value.old new_value.old).key }
+        ensures old_value { old_value.new ≡
+            (offers.on_replace self.old length old_key.old new_key old_value.old new_value.old).old_value }
+        ensures new_value { new_value.new ≡
+            (offers.on_replace self.old length old_key.old new_key old_value.old new_value.old).new_value };
 
     /// The key of the pair to store is one that the offered key names, and a replacement leaves the stored key equal to
     /// what it was.

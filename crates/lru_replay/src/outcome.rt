@@ -1,5 +1,6 @@
 //! How a replay ends, and the exit status of each end.
 ghost use Rattle.std.specs.Prelude.{◌≡◌};
+ghost use Rattle.lru_replay.specs.Replay.{status_of};
 
 use thiserror::Error;
 
@@ -22,8 +23,6 @@ pub enum ReplayError {
     #[error("write failed")]
     Write = 2,
 }
-
-ghost use Rattle.lru_replay.specs.Replay.{status_of};
 
 /// The exit status: 0 where the lines were carried out, 1 where none names a limiter, and 2 where a read
 /// or a write failed.
