@@ -21,9 +21,6 @@ module _ {A : Type 0} where
   pub full_not_deleted : (s : Bucket A) → is_full s ≡ true → s ≡ deleted → ⊥
   full_not_deleted s h e = false≢true (sym (ap is_full e) ∙ h)
 
-  pub is_full-of : (s : Bucket A) (held : A) → s ≡ full held → is_full s ≡ true
-  is_full-of s held e = ap is_full e
-
 module _ {A : Type 0} where
   pub mark_of-full : (s : Bucket A) → is_full (mark_of s) ≡ is_full s
   mark_of-full empty = refl
@@ -76,9 +73,6 @@ module _ {A : Type 0} where
 
   pub empty_mark : (buckets : List (Bucket A)) (b : ℕ) → bucket_at (marks_of buckets) b ≡ empty → bucket_at buckets b ≡ empty
   empty_mark buckets b e = mark_empty _ (sym (bucket_at-marks_of buckets b) ∙ e)
-
-  pub deleted_mark : (buckets : List (Bucket A)) (b : ℕ) → bucket_at (marks_of buckets) b ≡ deleted → bucket_at buckets b ≡ deleted
-  deleted_mark buckets b e = mark_deleted _ (sym (bucket_at-marks_of buckets b) ∙ e)
 
   -- a bucket is full exactly if its mark is
   pub is_full-marks_of : (buckets : List (Bucket A)) (b : ℕ) → is_full (bucket_at (marks_of buckets) b) ≡ is_full (bucket_at buckets b)

@@ -1,5 +1,5 @@
 -- Lists of one element many times.
-use Rattle.std.proofs.Common.{◌≡◌, ℕ, zero, suc, ◌+◌, ◌<◌, List, [], ◌∷◌, ◌++◌, length, get_or, replicate, refl, ap, sym, ◌∙◌, arith, add-one}
+use Rattle.std.proofs.Common.{◌≡◌, ℕ, zero, suc, ◌<◌, List, [], ◌∷◌, ◌++◌, length, get_or, replicate, refl, ap, ◌∙◌, arith}
 
 module _ {X : Type 0} where
   -- also past the end, where it is the default
@@ -11,9 +11,6 @@ module _ {X : Type 0} where
   push_copy : (n : ℕ) (x : X) → replicate n x ++ x ∷ [] ≡ replicate (suc n) x
   push_copy zero x = refl
   push_copy (suc n) x = ap (λ xs. x ∷ xs) (push_copy n x)
-
-  pub replicate-push : (n : ℕ) (x : X) → replicate n x ++ x ∷ [] ≡ replicate (n + 1) x
-  replicate-push n x = push_copy n x ∙ ap (λ k. replicate k x) (sym (add-one n))
 
   -- a list of the same elements
   pub replicate-from : (xs : List X) (x d : X) → ((k : ℕ) → k < length xs → get_or xs k d ≡ x) → xs ≡ replicate (length xs) x

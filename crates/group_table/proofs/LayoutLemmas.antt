@@ -90,10 +90,6 @@ module _ {T : Type 0} (control : List ℕ) (entries : List (Option T)) (laid_out
         let found : get_or entries b None ≡ Some entry = sym (get_or_read entries b r within f None) ∙ h in
         bucket_at-laid_out ∙ ap (λ o. slot_of (get_or control b 0) o) found ∙ ap (λ t. full (record { tag = t; entry = entry })) e
 
-    -- a byte below 128 is a tag, so that there is an entry
-    pub entry_by_byte : get_or control b 0 < 128 → (entry : T) × (get_or entries b None ≡ Some entry)
-    entry_by_byte p = filled (get_or control b 0) (get_or entries b None) (sym (ap is_full bucket_at-laid_out) ∙ is_full-laid_out ∙ lt-ltb _ 128 p)
-
   module _ (b : ℕ) (there : IsFull (slots_of control entries) b) where
     pub full_within : b < length entries
     full_within = let p = full_lt (slots_of control entries) b there in rw length-laid_out at p

@@ -1,9 +1,8 @@
 -- The buckets that a search asks about.
-use Rattle.std.proofs.Common.{◌≡◌, ◌≢◌, ℕ, zero, suc, ◌+◌, ◌%◌, ◌<◌, ◌≤◌, Bool, true, false, cond, List, [], ◌∷◌, ◌++◌, length, map, refl, ap, sym, ◌∙◌, subst, arith, append_assoc, add-one, add-zero, eq-eqb, AllPairs, Option, Some, None, IfSome, IfNone}
+use Rattle.std.proofs.Common.{◌≡◌, ◌≢◌, ℕ, zero, suc, ◌+◌, ◌%◌, ◌<◌, ◌≤◌, Bool, true, false, cond, List, [], ◌∷◌, ◌++◌, length, map, refl, ap, sym, ◌∙◌, subst, arith, append_assoc, add-one, add-zero, eq-eqb, AllPairs, Option, Some, None, IfSome}
 use Rattle.std.specs.List.{range_with_len, FoldsTo, Contains}
 use Rattle.std.specs.Borrow.{Bor}
 use Rattle.std.specs.Fn.{Mut, Called}
-use Rattle.std.proofs.lemmas.Bool.{ne_eqb}
 use Rattle.std.proofs.lemmas.List.{append-nil}
 use Rattle.std.proofs.lemmas.List.Elements.{Contains-push, Contains-append_left}
 use Rattle.std.proofs.lemmas.List.FromFn.{filter_of_map_range_with_len_more, get_or-map-range_with_len, length-map-range_with_len}
@@ -40,11 +39,6 @@ module _ {T : Type 0} where
 
   pub has_tag-full : (s : Slot T) (held : Tagged T) (tag : ℕ) → s ≡ full held → held.tag ≡ tag → has_tag tag s ≡ true
   has_tag-full s held tag e f = rw e (eq-eqb held.tag tag f)
-
-  pub has_tag-other : (s : Slot T) (tag : ℕ) → ((held : Tagged T) → s ≡ full held → held.tag ≡ tag → ⊥) → has_tag tag s ≡ false
-  has_tag-other empty tag h = refl
-  has_tag-other deleted tag h = refl
-  has_tag-other (full held) tag h = ne_eqb held.tag tag (h held refl)
 
 module _ {T : Type 0} (slots : List (Slot T)) (tag start : ℕ) where
   -- the bucket, if it has the tag
@@ -117,7 +111,3 @@ module _ {T F : Type 0} (closure : Mut F (Bor T × Unit {0}) Bool) (slots : List
 pub if_some : {T : Type 0} {P Q : T → Type 0} (r : Option T) → ((x : T) → P x → Q x) → IfSome r P → IfSome r Q
 if_some None h p = p
 if_some (Some x) h p = h x p
-
-pub if_none : {T : Type 0} {P Q : Type 0} (r : Option T) → (P → Q) → IfNone r P → IfNone r Q
-if_none None h p = h p
-if_none (Some x) h p = p

@@ -7,7 +7,8 @@ use Rattle.lru_replay.specs.declared.outcome.ReplayError.{ReplayError}
 use Rattle.lru_replay.specs.Lines.{lines_of, TakesFed, TakesRest, TakesLines}
 use Rattle.lru_replay.specs.Runs.{AnswersLine, IsRun, answer_line, WritesRun, BeginsRun}
 use Rattle.lru_replay.specs.State.{State}
-use Rattle.lru_replay.proofs.LineLists.{takes_line_more, lines_at_end, lines_left, lines_of-last, if_some_map}
+use Rattle.lru_replay.proofs.Options.{IfSome-map}
+use Rattle.lru_replay.proofs.LineLists.{takes_line_more, lines_at_end, lines_left, lines_of-last}
 use Rattle.lru_replay.proofs.RunLists.{run-append, run-one, some_run}
 
 -- these lines were read whole, and the text of a run over them was written
@@ -32,7 +33,7 @@ module _ (old now new : State) (r₀ r₁ r₂ w₀ w₁ w₂ : Option (List ℕ
   -- the last line, which the input's end ended, was answered
   pub last_answered : (result : Result (Unit {0}) ReplayError) → RunsSoFar old r₀ r₁ w₀ w₁ now → TakesRest r₁ r₂ line → 0 < length line → AnswersLine now line new w₁ w₂ result → OnOk result (WritesRun old r₀ w₀ w₂ new)
   last_answered (Ok u) (lines, text, run, reads, wrote) taken some (answer, step, answered) =
-      if_some_map r₀ (λ input all. (
+      IfSome-map r₀ (λ input all. (
         text ++ answer_line answer,
         subst (λ ls. IsRun old ls (text ++ answer_line answer) new) (sym (all ∙ ap (λ l. lines ++ l) (lines_of-last line taken.0 some)))
             (run-append old lines text now (line ∷ []) (answer_line answer) new run (run-one now line answer new step)),
@@ -51,11 +52,11 @@ module _ (old now new : State) (r₀ r₁ r₂ w₀ w₁ w₂ : Option (List ℕ
 
   last_goes_on : (lines : List (List ℕ)) → TakesLines r₀ r₁ lines [] → TakesRest r₁ r₂ line → 0 < length line → GoesOn r₀ (lines ++ line ∷ [])
   last_goes_on lines reads taken some =
-      if_some_map r₀ (λ input all. ([], all ∙ ap (λ l. lines ++ l) (lines_of-last line taken.0 some) ∙ sym (append-nil (lines ++ line ∷ [])))) (lines_at_end r₀ r₁ r₂ lines line reads taken)
+      IfSome-map r₀ (λ input all. ([], all ∙ ap (λ l. lines ++ l) (lines_of-last line taken.0 some) ∙ sym (append-nil (lines ++ line ∷ [])))) (lines_at_end r₀ r₁ r₂ lines line reads taken)
 
   -- a write failed within the answer line
   cut_short : (lines : List (List ℕ)) (text : List ℕ) (e : ReplayError) → IsRun old lines text now → Appends w₀ w₁ text → GoesOn r₀ (lines ++ line ∷ []) → AnswersLine now line new w₁ w₂ (Err e) → BeginsRun old r₀ w₀ w₂
-  cut_short lines text e run wrote goes (answer, step, (same, part, (rest, is), written)) = if_some_map r₀ (λ input (more, all).
+  cut_short lines text e run wrote goes (answer, step, (same, part, (rest, is), written)) = IfSome-map r₀ (λ input (more, all).
       let so_far = run-append old lines text now (line ∷ []) (answer_line answer) new run (run-one now line answer new step) in
       let (u, last, others) = some_run new more in
       let whole = run-append old (lines ++ line ∷ []) (text ++ answer_line answer) new more u last so_far others in
@@ -77,7 +78,7 @@ module _ (old now new : State) (r₀ r₁ r₂ w₀ w₁ w₂ : Option (List ℕ
 
 -- the input's end came after a line feed
 pub all_answered : (old now : State) (r₀ r₁ r₂ w₀ w₁ : Option (List ℕ)) (line : List ℕ) → RunsSoFar old r₀ r₁ w₀ w₁ now → TakesRest r₁ r₂ line → line ≡ [] → WritesRun old r₀ w₀ w₁ now
-all_answered old now r₀ r₁ r₂ w₀ w₁ line (lines, text, run, reads, wrote) taken none = if_some_map r₀ (λ input all. (
+all_answered old now r₀ r₁ r₂ w₀ w₁ line (lines, text, run, reads, wrote) taken none = IfSome-map r₀ (λ input all. (
   text,
   subst (λ ls. IsRun old ls text now) (sym (all ∙ ap (λ l. lines ++ lines_of l) none ∙ append-nil lines)) run,
   wrote,

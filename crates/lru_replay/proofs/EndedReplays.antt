@@ -17,7 +17,8 @@ use Rattle.lru_replay.specs.Output.{Fails, no_limiter_text}
 use Rattle.lru_replay.specs.Replay.{IsReplay, NamesNoLimit, IsCut, IsTextSoFar, WritesReplay, WritesCut, WritesSoFar}
 use Rattle.lru_replay.specs.State.{State, empty_map}
 use Rattle.lru_replay.specs.Runs.{IsRun, WritesRun, BeginsRun}
-use Rattle.lru_replay.proofs.LineLists.{lines_of-fed, lines_of-last, lines_at_end, lines_left, takes_line_before, if_some_map}
+use Rattle.lru_replay.proofs.Options.{IfSome-map}
+use Rattle.lru_replay.proofs.LineLists.{lines_of-fed, lines_of-last, lines_at_end, lines_left, takes_line_before}
 use Rattle.lru_replay.proofs.RunLists.{run-append, some_run}
 use Rattle.lru_replay.proofs.Spelled.{limit_or}
 
@@ -29,7 +30,7 @@ after_first (Some x) (Some y) first P Q (lacks, p) f h = f y x (ap lines_of p �
 
 -- the input is what its end ends
 only_first : (a b : Option (List ℕ)) (first : List ℕ) (Q : List ℕ → Type 0) → TakesRest a b first → ((input : List ℕ) → lines_of input ≡ lines_of first → Q input) → IfSome a Q
-only_first a b first Q taken f = if_some_map a f (lines_at_end a a b [] first (tt, tt, Consumes-nil a) taken)
+only_first a b first Q taken f = IfSome-map a f (lines_at_end a a b [] first (tt, tt, Consumes-nil a) taken)
 
 -- The first line names no limit, or there is none.
 none_first : (lines : List (List ℕ)) → lines ≡ [] → NamesNoLimit lines
@@ -67,10 +68,10 @@ so_far_is_cut (first ∷ others) more text (limit, spells, (new, run)) =
 
 -- What was written after a failed flush, by what stood before it.
 cut_after_done : (a w v : Option (List ℕ)) → WritesReplay a w v → WritesCut a w v
-cut_after_done a w v h = if_some_map a (λ input (text, is, wrote). (text, (text, ([], sym (append-nil text)), inl is), wrote)) h
+cut_after_done a w v h = IfSome-map a (λ input (text, is, wrote). (text, (text, ([], sym (append-nil text)), inl is), wrote)) h
 
 cut_after_no_limiter : (a w v : Option (List ℕ)) → IfSome a (λ input. NamesNoLimit (lines_of input)) → Appends w v no_limiter_text → WritesCut a w v
-cut_after_no_limiter a w v none wrote = if_some_map a (λ input is. (no_limiter_text, (no_limiter_text, ([], sym (append-nil no_limiter_text)), inr (is, refl)), wrote)) none
+cut_after_no_limiter a w v none wrote = IfSome-map a (λ input is. (no_limiter_text, (no_limiter_text, ([], sym (append-nil no_limiter_text)), inr (is, refl)), wrote)) none
 
 cut_after_read : (a b w v : Option (List ℕ)) → WritesSoFar a b w v → WritesCut a w v
 cut_after_read None b w v h = tt
@@ -86,7 +87,7 @@ pub flush_failed : (a b w v u : Option (List ℕ)) (end : Result ReplayEnd Repla
     → (IsErrOf end errors.Read → WritesSoFar a b w v)
     → (IsErrOf end errors.Write → WritesCut a w v)
     → Keeps v u → WritesCut a w u
-flush_failed a b w v u end done none text read write keeps = if_some_map a (λ input (part, is, wrote). (part, is, Appends-kept w v u part wrote keeps)) (by end done none text read write)
+flush_failed a b w v u end done none text read write keeps = IfSome-map a (λ input (part, is, wrote). (part, is, Appends-kept w v u part wrote keeps)) (by end done none text read write)
   where
     by : (end : Result ReplayEnd ReplayError)
         → (end ≡ Ok ends.Done → WritesReplay a w v)
@@ -105,17 +106,17 @@ pub exactly_no_limiter : (a w v : Option (List ℕ)) (end : Result ReplayEnd Rep
     → (end ≡ Ok ends.Done → WritesReplay a w v)
     → (end ≡ Ok ends.NoLimiter → IfSome a (λ input. NamesNoLimit (lines_of input)))
     → OnOk end (IfSome a (λ input. (end ≡ Ok ends.NoLimiter) ↔ NamesNoLimit (lines_of input)))
-exactly_no_limiter a w v (Ok ends.Done) done none = if_some_map a (λ input (text, (limit, first, others, is, spells, run), wrote).
+exactly_no_limiter a w v (Ok ends.Done) done none = IfSome-map a (λ input (text, (limit, first, others, is, spells, run), wrote).
     (λ other. absurd (done_is_done other), λ names. absurd (names limit first others is spells))) (done refl)
   where
     done_is_done : (let done : Result ReplayEnd ReplayError = Ok ends.Done in done) ≡ Ok ends.NoLimiter → ⊥
     done_is_done e = cc
-exactly_no_limiter a w v (Ok ends.NoLimiter) done none = if_some_map a (λ input is. (λ same. is, λ names. refl)) (none refl)
+exactly_no_limiter a w v (Ok ends.NoLimiter) done none = IfSome-map a (λ input is. (λ same. is, λ names. refl)) (none refl)
 exactly_no_limiter a w v (Err e) done none = tt
 
 -- Writing that no limiter is named failed.
 pub no_limiter_cut : (a b w v : Option (List ℕ)) (ending : Ending) (first : List ℕ) (e : ReplayError) → TakesLine a b ending first → ((limit : Limit) → SpellsLimit first limit → ⊥) → Fails e w v no_limiter_text → WritesCut a w v
-no_limiter_cut a b w v ending first e taken none (same, part, begins, wrote) = if_some_map a (λ input is. (part, (no_limiter_text, begins, inr (is, refl)), wrote)) (no_limit a b ending first taken none)
+no_limiter_cut a b w v ending first e taken none (same, part, begins, wrote) = IfSome-map a (λ input is. (part, (no_limiter_text, begins, inr (is, refl)), wrote)) (no_limit a b ending first taken none)
 
 spelled_some : (line : List ℕ) (limit : Limit) → SpellsLimit line limit → 0 < length line
 spelled_some line (limits.Length n) (fits, is) = omega (arith, ap length is)
