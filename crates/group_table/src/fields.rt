@@ -8,7 +8,7 @@ use crate::control::{EMPTY, set_byte};
 use std::alloc::{AllocError, Global};
 use std::mem;
 
-// The control bytes of so many empty buckets, or of more.
+// So many control bytes, each that of an empty bucket.
 pub(crate) fn empty_bytes(alloc: Global, count: usize) -> Result<Vec<u8>, AllocError>
     ensures { IfOk result (λ v. v.items ≡ replicate count 255) }
 {

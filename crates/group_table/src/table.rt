@@ -24,6 +24,7 @@ mod figures;
 ///
 /// It sees no key and stores no hash: the hash of an entry is what its placing was given, and a search asks its
 /// caller about each entry that may be the one. A bucket keeps its number and its entry until the entry is taken.
+/// `docs/TABLE.md` has its rules, which are those of hashbrown's raw table.
 ///
 /// ```
 /// let mut table = Table::with_buckets(alloc, 8)?;

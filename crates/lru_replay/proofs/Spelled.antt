@@ -16,10 +16,12 @@ use Rattle.lru_replay.specs.Grammar.{SpellsCall, SpellsLimit, call_spelling, lim
 use Rattle.lru_replay.specs.Lines.{Lacks}
 use Rattle.lru_replay.proofs.Numbers.{decimal_lacks_space}
 
+-- the bytes before the first space
 abbrev pub front_word : List ℕ → List ℕ
 front_word [] = []
 front_word (b ∷ bytes) = if b == 32 then [] else b ∷ front_word bytes
 
+-- the bytes after the first space
 abbrev pub after_word : List ℕ → List ℕ
 after_word [] = []
 after_word (b ∷ bytes) = if b == 32 then bytes else after_word bytes
@@ -43,23 +45,28 @@ guesses line = calls.Insert (digits_value 10 (front_word (drop 7 line))) (digits
 abbrev pub Spelled : List ℕ → Type 0
 Spelled line = (call : Call) × SpellsCall line call
 
-fits_or : (n : ℕ) → (n < 2 ^ 64) ⊎ (n < 2 ^ 64 → ⊥)
-fits_or n = go (leb_tells (2 ^ 64) n)
+-- What can be told of two facts can be told of both.
+both_or : {P Q : Type 0} → P ⊎ (P → ⊥) → Q ⊎ (Q → ⊥) → (P × Q) ⊎ ((P × Q) → ⊥)
+both_or (inl p) (inl q) = inl (p, q)
+both_or (inl p) (inr q) = inr (λ h. q h.1)
+both_or (inr p) q = inr (λ h. p h.0)
+
+lt_or : (n limit : ℕ) → (n < limit) ⊎ (n < limit → ⊥)
+lt_or n limit = go (leb_tells limit n)
   where
-    go : ((leb (2 ^ 64) n ≡ true) × (2 ^ 64 ≤ n)) ⊎ ((leb (2 ^ 64) n ≡ false) × (n < 2 ^ 64)) → (n < 2 ^ 64) ⊎ (n < 2 ^ 64 → ⊥)
+    go : ((leb limit n ≡ true) × (limit ≤ n)) ⊎ ((leb limit n ≡ false) × (n < limit)) → (n < limit) ⊎ (n < limit → ⊥)
     go (inl h) = inr (λ s. omega (arith, h.1, s))
     go (inr h) = inl h.1
 
 fits_call : (call : Call) → FitsCall call ⊎ (FitsCall call → ⊥)
-fits_call (calls.Insert k v) = both (fits_or k) (fits_or v)
-  where
-    both : {P Q : Type 0} → P ⊎ (P → ⊥) → Q ⊎ (Q → ⊥) → (P × Q) ⊎ ((P × Q) → ⊥)
-    both (inl p) (inl q) = inl (p, q)
-    both (inl p) (inr q) = inr (λ h. q h.1)
-    both (inr p) q = inr (λ h. p h.0)
-fits_call (calls.Get k) = fits_or k
-fits_call (calls.Peek k) = fits_or k
+fits_call (calls.Insert k v) = both_or (lt_or k (2 ^ 64)) (lt_or v (2 ^ 64))
+fits_call (calls.Get k) = lt_or k (2 ^ 64)
+fits_call (calls.Peek k) = lt_or k (2 ^ 64)
 fits_call calls.List = inl tt
+
+fits_limit : (limit : Limit) → FitsLimit limit ⊎ (FitsLimit limit → ⊥)
+fits_limit (limits.Length n) = lt_or n (2 ^ 32)
+fits_limit limits.Compact = inl tt
 
 same_or : (xs ys : List ℕ) → (xs ≡ ys) ⊎ (xs ≡ ys → ⊥)
 same_or xs ys = go (bytes_eq xs ys) refl
@@ -69,12 +76,7 @@ same_or xs ys = go (bytes_eq xs ys) refl
     go false e = inr (λ same. let yes = (bytes_eq-Decides xs ys).1 same in cc)
 
 spells_or : (line : List ℕ) (call : Call) → SpellsCall line call ⊎ (SpellsCall line call → ⊥)
-spells_or line call = both (fits_call call) (same_or line (call_spelling call))
-  where
-    both : {P Q : Type 0} → P ⊎ (P → ⊥) → Q ⊎ (Q → ⊥) → (P × Q) ⊎ ((P × Q) → ⊥)
-    both (inl p) (inl q) = inl (p, q)
-    both (inl p) (inr q) = inr (λ h. q h.1)
-    both (inr p) q = inr (λ h. p h.0)
+spells_or line call = both_or (fits_call call) (same_or line (call_spelling call))
 
 -- a call that the line spells is among the guesses
 guessed : (line : List ℕ) (P : Call → Type 0) → AllByRecursion P (guesses line) → (call : Call) → SpellsCall line call → P call
@@ -107,20 +109,7 @@ spelled_or line = both (any_or line (guesses line))
     both (inr none) = inr (λ call spells. guessed line (λ call. SpellsCall line call → ⊥) none call spells spells)
 
 limit_spells_or : (line : List ℕ) (limit : Limit) → SpellsLimit line limit ⊎ (SpellsLimit line limit → ⊥)
-limit_spells_or line limit = both (fits limit) (same_or line (limit_spelling limit))
-  where
-    lt_or : (n : ℕ) → ((leb (2 ^ 32) n ≡ true) × (2 ^ 32 ≤ n)) ⊎ ((leb (2 ^ 32) n ≡ false) × (n < 2 ^ 32)) → (n < 2 ^ 32) ⊎ (n < 2 ^ 32 → ⊥)
-    lt_or n (inl h) = inr (λ s. omega (arith, h.1, s))
-    lt_or n (inr h) = inl h.1
-
-    fits : (limit : Limit) → FitsLimit limit ⊎ (FitsLimit limit → ⊥)
-    fits (limits.Length n) = lt_or n (leb_tells (2 ^ 32) n)
-    fits limits.Compact = inl tt
-
-    both : {P Q : Type 0} → P ⊎ (P → ⊥) → Q ⊎ (Q → ⊥) → (P × Q) ⊎ ((P × Q) → ⊥)
-    both (inl p) (inl q) = inl (p, q)
-    both (inl p) (inr q) = inr (λ h. q h.1)
-    both (inr p) q = inr (λ h. p h.0)
+limit_spells_or line limit = both_or (fits_limit limit) (same_or line (limit_spelling limit))
 
 -- each line names a limit, or names none
 pub limit_or : (line : List ℕ) → ((limit : Limit) × SpellsLimit line limit) ⊎ ((limit : Limit) → SpellsLimit line limit → ⊥)

@@ -27,11 +27,11 @@ pub data Insert (key new_value : ℕ) (old : State) (answer : Answer) (new : Sta
   refused : value_of old.pairs key ≡ None → admits old.limit ≡ false →
       answer ≡ flag false → new ≡ old →
       Insert key new_value old answer new
-  -- One of the oldest makes room, where the pair would be over the limit, and the pair becomes the newest,
+  -- The oldest makes room, where one pair more would be over the limit, and the pair becomes the newest. Then as above.
   placed : value_of old.pairs key ≡ None → admits old.limit ≡ true → answer ≡ flag (not (is_empty new.pairs)) →
       new ≡ record old { pairs = trim old.limit ((key, new_value) ∷ with_room old.limit old.pairs) } →
       Insert key new_value old answer new
-  -- or there is no memory for it.
+  -- There is no memory for the pair.
   lacking : value_of old.pairs key ≡ None → admits old.limit ≡ true → answer ≡ no_memory →
       new ≡ record old { pairs = with_room old.limit old.pairs } →
       Insert key new_value old answer new

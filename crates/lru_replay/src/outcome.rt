@@ -13,7 +13,7 @@ pub enum ReplayEnd {
     NoLimiter,
 }
 
-/// What cuts a replay off. The numbers are those of the refusals in the documentation.
+/// What cuts a replay off. As a number, a failed read is 1 and a failed write 2.
 #[derive(Clone, Copy, Debug, PartialEq, Eq, Error)]
 pub enum ReplayError {
     /// A read failed, or the reader gave `u64::MAX` reads without an end.

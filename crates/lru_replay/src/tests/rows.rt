@@ -53,7 +53,7 @@ fn refuses_first_lines(rt: HostRuntime) {
     expect(&rt, b"length\n", b"no limiter\n", 1);
     expect(&rt, b"length 03\n", b"no limiter\n", 1);
     expect(&rt, b"list\n", b"no limiter\n", 1);
-    // Lines of later crates of the workspace.
+    // Limiters that the program does not have yet.
     expect(&rt, b"memory 152 16\n", b"no limiter\n", 1);
     expect(&rt, b"cost 3\n", b"no limiter\n", 1);
 }
@@ -126,7 +126,7 @@ fn reads_long_lines_through(rt: HostRuntime) -> Result<(), Fail> {
         left: 1_000_000,
         others: b"\nlist\n",
     };
-    let mut after = std::io::Read::chain(b"compact\ninsert 1 10\n".as_slice(), long);
+    let after = std::io::Read::chain(b"compact\ninsert 1 10\n".as_slice(), long);
     let mut reader = BufReader::new(rt.alloc(), after)?;
     let mut writer = Vec::new(rt.alloc());
     let end = replay(rt.alloc(), &mut reader, &mut writer);
