@@ -7,6 +7,7 @@ pub mod Neighbours
 pub mod Fits
 pub mod Search
 pub mod Change
+pub mod Relocation
 pub mod Lends
 pub mod LendsSome
 pub mod Layout

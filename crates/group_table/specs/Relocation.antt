@@ -1,0 +1,36 @@
+-- How the entries of a table move into a fresh one, and how a table is copied.
+use Rattle.std.specs.Prelude.{◌≡◌, ℕ, ◌<◌, ◌⊎◌, List, [], length, slice_index_or, map, Option, Some, None, Result, Ok}
+use Rattle.std.specs.declared.alloc.AllocError.{AllocError}
+use Rattle.std.specs.Borrow.{Bor}
+use Rattle.std.specs.Fn.{Shared, FnReturnsAt}
+use Rattle.group_table.specs.Bucket.{Slot, Bucket, empty, deleted, full, entry_at, entry_count, marks_of, IsFull}
+use Rattle.group_table.specs.Fits.{Fits}
+
+module _ {N : Type 0} (number : N → ℕ) (none : N) where
+  -- the number of the bucket that the entry of an old one moved to, by these links
+  abbrev pub moved_to : List N → ℕ → ℕ
+  moved_to links b = number (slice_index_or links b none)
+
+module _ {T N : Type 0} (number : N → ℕ) (none : N) where
+  -- the links have a place for each old bucket: where its entry stands now, or none
+  pub record IsRenumbering (old new : List (Slot T)) (links : List N) : Type 0 where
+    pub one_each : length links ≡ length old
+    pub moved : (b : ℕ) (entry : T) → entry_at old b ≡ Some entry → entry_at new (moved_to number none links b) ≡ Some entry
+    pub others : (b : ℕ) → b < length old → entry_at old b ≡ None → slice_index_or links b none ≡ none
+    -- no two entries move to one bucket, and no bucket has an entry that did not move there
+    pub apart : (b c : ℕ) → IsFull old b → IsFull old c → moved_to number none links b ≡ moved_to number none links c → b ≡ c
+    pub onto : (c : ℕ) → IsFull new c → (b : ℕ) × IsFull old b × (moved_to number none links b ≡ c)
+
+  -- without entries there is nothing to renumber
+  abbrev pub Renumbers : List (Slot T) → List (Slot T) → List N → Type 0
+  Renumbers old new links = ((entry_count old ≡ 0) × (links ≡ [])) ⊎ IsRenumbering old new links
+
+  -- hashes by which each entry has the hash that it had fit the new table
+  abbrev pub KeepsHashes : List (Slot T) → List (Slot T) → List N → (ℕ → ℕ) → Type 0
+  KeepsHashes old new links hash_of = (moved_hash_of : ℕ → ℕ)
+      → ((b : ℕ) → IsFull old b → moved_hash_of (moved_to number none links b) ≡ hash_of b) → Fits new moved_hash_of
+
+module _ {T H : Type 0} (closure : Shared H (Bor T × Unit {0}) ℕ) (f : H) where
+  -- what the closure answers of the entry in a bucket is its hash
+  abbrev pub GivesHashes : List (Slot T) → (ℕ → ℕ) → Type 0
+  GivesHashes slots hash_of = (b hash : ℕ) (entry : T) → entry_at slots b ≡ Some entry → FnReturnsAt closure f entry hash → hash ≡ hash_of b

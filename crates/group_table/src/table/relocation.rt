@@ -1,0 +1,60 @@
+//! The calls of `Table` that move every entry, and the one that copies them.
+ghost use Rattle.std.specs.Prelude.{◌≡◌, ℕ, ◌+◌, ◌^◌, ◌<◌, ◌≤◌, length, count_by, IfOk, OnErr, OnOk, IsOk};
+ghost use Rattle.group_table.specs.Sizes.{IsPowerFromFour, full_capacity};
+ghost use Rattle.group_table.specs.Bucket.{marks_of, entry_count, is_deleted, room};
+ghost use Rattle.group_table.specs.Table.{IsTable};
+ghost use Rattle.group_table.specs.Change.{count_up};
+ghost use Rattle.group_table.specs.Relocation.{Renumbers, KeepsHashes, GivesHashes};
+
+use crate::link::LinkType;
+use crate::table::Table;
+use std::alloc::AllocError;
+
+impl<T: Drop> Table<T> {
+    /// Moves all entries, in rising order of their buckets, into a fresh table of so many buckets.
+    pub fn relocate<N: LinkType, H: Fn(&T) -> u64>(
+        &mut self,
+        buckets: usize,
+        hash_of: H,
+    ) -> Result<Vec<N>, AllocError>
+        requires count { IsPowerFromFour buckets }
+        requires addressable { buckets + 16 < 2 ^ 63 }
+        requires below { buckets < N.number N.MAX }
+        requires within { entry_count self.old.slots ≤ full_capacity buckets }
+        requires callable { H.IsAlwaysCallable hash_of }
+        ensures buckets { OnOk result (length self.new.slots ≡ buckets) }
+        ensures renumbered { IfOk result (λ links. Renumbers N.number N.MAX self.old.slots self.new.slots links.items) }
+        ensures entries { OnOk result (entry_count self.new.slots ≡ entry_count self.old.slots) }
+        ensures room { OnOk result (room (marks_of self.new.slots) + entry_count self.old.slots ≡ full_capacity (length self.new.slots)) }
+        ensures none_deleted { OnOk result (count_by is_deleted self.new.slots ≡ 0) }
+        ensures placings { OnOk result (self.new.placings ≡ count_up self.old.placings (entry_count self.old.slots)) }
+        ensures hashes { IfOk result (λ links. (hash_at : ℕ → ℕ) → GivesHashes H.Fn hash_of self.old.slots hash_at →
+            KeepsHashes N.number N.MAX self.old.slots self.new.slots links.items hash_at) }
+        ensures table { IsTable (marks_of self.new.slots) }
+        ensures unchanged { OnErr result (self.new ≡ self.old) }
+    {
+        Err(AllocError)
+    }
+
+    /// Moves all entries into a fresh table of as many buckets.
+    pub fn rehash<N: LinkType, H: Fn(&T) -> u64>(
+        &mut self,
+        hash_of: H,
+    ) -> Result<Vec<N>, AllocError>
+        requires below { length self.old.slots < N.number N.MAX }
+        requires callable { H.IsAlwaysCallable hash_of }
+        ensures buckets { length self.new.slots ≡ length self.old.slots }
+        ensures renumbered { IfOk result (λ links. Renumbers N.number N.MAX self.old.slots self.new.slots links.items) }
+        ensures entries { OnOk result (entry_count self.new.slots ≡ entry_count self.old.slots) }
+        ensures room { OnOk result (room (marks_of self.new.slots) + entry_count self.old.slots ≡ full_capacity (length self.new.slots)) }
+        ensures none_deleted { OnOk result (count_by is_deleted self.new.slots ≡ 0) }
+        ensures placings { OnOk result (self.new.placings ≡ count_up self.old.placings (entry_count self.old.slots)) }
+        ensures hashes { IfOk result (λ links. (hash_at : ℕ → ℕ) → GivesHashes H.Fn hash_of self.old.slots hash_at →
+            KeepsHashes N.number N.MAX self.old.slots self.new.slots links.items hash_at) }
+        ensures table { IsTable (marks_of self.new.slots) }
+        ensures unchanged { OnErr result (self.new ≡ self.old) }
+        ensures succeeds { entry_count self.old.slots ≡ 0 → IsOk result }
+    {
+        Err(AllocError)
+    }
+}
