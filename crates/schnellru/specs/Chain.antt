@@ -1,0 +1,70 @@
+-- How links keep an order of buckets: each entry has the numbers of its two neighbours. No public clause cites this module.
+use Rattle.std.specs.Prelude.{◌≡◌, ◌≢◌, ℕ, zero, suc, ◌<◌, Bool, List, [], ◌∷◌, length, map, nat_eq, if◌then◌else◌, Option, Some, None, option_map, unwrap_or, Contains, AllPairs}
+use Rattle.group_table.specs.Bucket.{Bucket, empty, deleted, full, Slot, IsFull, entry_at, entry_count}
+use Rattle.group_table.specs.Relocation.{Renumbers}
+use Rattle.schnellru.specs.declared.link.Entry.{Entry}
+
+-- the first of the buckets, and the last
+abbrev pub first_bucket : List ℕ → Option ℕ
+first_bucket [] = None
+first_bucket (b ∷ bs) = Some b
+
+abbrev pub last_bucket : List ℕ → Option ℕ
+last_bucket [] = None
+last_bucket (b ∷ []) = Some b
+last_bucket (b ∷ c ∷ cs) = last_bucket (c ∷ cs)
+
+-- the bucket after this one, and the one before it
+abbrev pub bucket_after : ℕ → List ℕ → Option ℕ
+bucket_after b [] = None
+bucket_after b (c ∷ cs) = if nat_eq c b then first_bucket cs else bucket_after b cs
+
+abbrev pub bucket_before : ℕ → List ℕ → Option ℕ
+bucket_before b [] = None
+bucket_before b (c ∷ []) = None
+bucket_before b (c ∷ d ∷ ds) = if nat_eq d b then Some c else bucket_before b (d ∷ ds)
+
+-- the buckets with their pairs, without the links
+abbrev pub pair_slot : {K V N : Type 0} → Slot (Entry K V N) → Slot (K × V)
+pair_slot empty = empty
+pair_slot deleted = deleted
+pair_slot (full held) = full (record { tag = held.tag; entry = (held.entry.pair.key, held.entry.pair.value) })
+
+abbrev pub pair_slots : {K V N : Type 0} → List (Slot (Entry K V N)) → List (Slot (K × V))
+pair_slots slots = map pair_slot slots
+
+module _ {N : Type 0} (link : ℕ → N) (none : N) where
+  -- the link to a bucket, or to none
+  abbrev pub link_to : Option ℕ → N
+  link_to None = none
+  link_to (Some b) = link b
+
+-- the buckets that are met from a link on, going to the older one so many times
+abbrev pub along : {K V N : Type 0} → (N → ℕ) → ℕ → List (Slot (Entry K V N)) → N → List ℕ
+along number zero slots from = []
+along number (suc n) slots from = unwrap_or (option_map (λ entry. number from ∷ along number n slots entry.older) (entry_at slots (number from))) []
+
+module _ {K V N : Type 0} (number : N → ℕ) (link : ℕ → N) (none : N) where
+  -- the links keep the order of some full buckets: its ends, and the neighbours of each bucket
+  pub record IsChain (slots : List (Slot (Entry K V N))) (newest oldest : N) (order : List ℕ) : Type 0 where
+    pub distinct : AllPairs ◌≢◌ order
+    pub only : (b : ℕ) → Contains order b → IsFull slots b
+    pub newest_first : newest ≡ link_to link none (first_bucket order)
+    pub oldest_last : oldest ≡ link_to link none (last_bucket order)
+    pub newer : (b : ℕ) (entry : Entry K V N) → Contains order b → entry_at slots b ≡ Some entry → entry.newer ≡ link_to link none (bucket_before b order)
+    pub older : (b : ℕ) (entry : Entry K V N) → Contains order b → entry_at slots b ≡ Some entry → entry.older ≡ link_to link none (bucket_after b order)
+
+  -- all full buckets are in the chain, and links reach every bucket
+  pub record IsWhole (slots : List (Slot (Entry K V N))) (newest oldest : N) (order : List ℕ) : Type 0 where
+    pub reached : length slots < number none
+    pub chain : IsChain slots newest oldest order
+    pub all : (b : ℕ) → IsFull slots b → Contains order b
+    pub count : entry_count slots ≡ length order
+
+  -- some buckets are chained, this one among them
+  abbrev pub InChain : List (Slot (Entry K V N)) → N → N → ℕ → Type 0
+  InChain slots newest oldest b = (order : List ℕ) × IsChain slots newest oldest order × Contains order b
+
+  -- the entries have moved into these slots, and still have the links of the table before
+  abbrev pub Moved : List (Slot (Entry K V N)) → N → N → List N → Type 0
+  Moved slots newest oldest links = (before : List (Slot (Entry K V N))) × (order : List ℕ) × IsWhole before newest oldest order × Renumbers number none before slots links

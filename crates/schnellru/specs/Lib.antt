@@ -1,0 +1,3 @@
+pub mod Linked
+pub mod Chain
+pub mod Lends

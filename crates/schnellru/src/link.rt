@@ -1,0 +1,261 @@
+//! `Linked`: the table of a map, whose full buckets stand in an order, newest first.
+//!
+//! Each entry keeps the numbers of its newer and its older neighbour as links, so that it is promoted or taken without
+//! a walk. A clause sees a `Linked` as its `slots` and the `order` of the full ones.
+ghost use Rattle.std.specs.Prelude.{◌≡◌, ℕ, ◌+◌, ◌^◌, ◌<◌, ◌≤◌, false, [], ◌∷◌, length, Some, None, IfSome, IfNone, IfOk, IfErr, OnOk, OnErr, IsOk, IsTrue, slice_set};
+ghost use Rattle.std.specs.Borrow.{sem};
+ghost use Rattle.group_table.specs.Sizes.{IsPowerFromFour, full_capacity};
+ghost use Rattle.group_table.specs.Bucket.{marks_of, IsFull, entry_at, entry_count, room, room_at};
+ghost use Rattle.group_table.specs.Change.{HasNoPlace, Removes};
+ghost use Rattle.lru_limits.specs.Hashing.{hash_by};
+ghost use Rattle.schnellru.specs.Linked.{IsLinked, KeysFit, Lands, pairs_of, without_bucket, with_pair};
+ghost use Rattle.schnellru.specs.Chain.{first_bucket, last_bucket, bucket_after};
+
+use crate::link::chain::{link_newest, rewrite, unlink};
+use group_table::{LinkType, Table};
+use lru_limits::LookupKey;
+use std::alloc::{AllocError, Global};
+use std::hash::{BuildHasher, Hash};
+use std::marker::Model;
+
+mod chain;
+
+#[derive(Drop)]
+pub(crate) struct Pair<K, V> {
+    pub(crate) key: K,
+    pub(crate) value: V,
+}
+
+// A pair with its neighbours in the order; `MAX` at the ends.
+#[derive(Drop)]
+pub(crate) struct Entry<K, V, N> {
+    pair: Pair<K, V>,
+    newer: N,
+    older: N,
+}
+
+#[derive(Drop)]
+pub(crate) struct Linked<K, V, N: LinkType> {
+    table: Table<Entry<K, V, N>>,
+    newest: N,
+    oldest: N,
+}
+
+impl<K, V, N: LinkType> Model for Linked<K, V, N> {
+    ghost use Rattle.schnellru.specs.Linked.{Linked as Seen};
+
+    ghost Value = { Seen K V };
+
+    ghost use Rattle.std.specs.Prelude.{length};
+    ghost use Rattle.schnellru.specs.Chain.{pair_slots, along, IsWhole};
+
+    ghost view = { λ t. record { slots = pair_slots t.table.slots; order = along N.number (length t.table.slots) t.table.slots t.newest } };
+
+    ghost invariant = { λ t. IsWhole N.number N.link N.MAX t.table.slots t.newest t.oldest (along N.number (length t.table.slots) t.table.slots t.newest) };
+}
+
+impl<K, V, N: LinkType> Linked<K, V, N> {
+    ghost use Rattle.schnellru.specs.Lends.{lends_pair};
+
+    // No buckets; takes no memory.
+    pub(crate) fn new(alloc: Global) -> Self
+        ensures slots { result.slots ≡ [] }
+        ensures order { result.order ≡ [] }
+        ensures linked { IsLinked result }
+        ensures fits { (hash_of : K → ℕ) → KeysFit hash_of result.slots }
+    {
+        Linked {
+            table: Table::new(alloc),
+            newest: N::MAX,
+            oldest: N::MAX,
+        }
+    }
+
+    #[inline]
+    pub(crate) fn len(&self) -> usize
+        ensures len { result ≡ length self.now.order }
+        ensures linked { IsLinked self.now }
+    {
+        self.table.len()
+    }
+
+    #[inline]
+    pub(crate) fn buckets(&self) -> usize
+        ensures buckets { result ≡ length self.now.slots }
+        ensures linked { IsLinked self.now }
+        ensures reached { length self.now.slots < N.number N.MAX }
+    {
+        self.table.buckets()
+    }
+
+    #[inline]
+    pub(crate) fn room(&self) -> usize
+        ensures room { result ≡ room (marks_of self.now.slots) }
+        ensures linked { IsLinked self.now }
+    {
+        self.table.room()
+    }
+
+    // The pair in a full bucket.
+    #[inline]
+    pub(crate) fn pair(&self, b: usize) -> &Pair<K, V>
+        requires { IsFull self.now.slots b }
+        ensures pair { entry_at self.now.slots b ≡ Some (result.now.key, result.now.value) }
+    {
+        &self.table.get(b).pair
+    }
+
+    // The bucket of the newest pair.
+    #[inline]
+    pub(crate) fn newest(&self) -> usize
+        requires { 0 < length self.now.order }
+        ensures newest { first_bucket self.now.order ≡ Some result }
+    {
+        self.newest.into_usize()
+    }
+
+    // The bucket of the oldest pair.
+    #[inline]
+    pub(crate) fn oldest(&self) -> usize
+        requires { 0 < length self.now.order }
+        ensures oldest { last_bucket self.now.order ≡ Some result }
+    {
+        self.oldest.into_usize()
+    }
+
+    // The bucket after this one in the order, towards the oldest.
+    #[inline]
+    pub(crate) fn older(&self, b: usize) -> Option<usize>
+        requires { IsFull self.now.slots b }
+        ensures older { result ≡ bucket_after b self.now.order }
+    {
+        bucket_of(self.table.get(b).older)
+    }
+
+    // The pair in a full bucket for writing. What is written there keeps the hash of the key.
+    #[inline]
+    pub(crate) fn pair_mut(&mut self, b: usize) -> &mut Pair<K, V>
+        requires { IsFull self.old.slots b }
+        ensures* writes_back { sem 𝓛 (lends_pair K.row V.row N.row N.LinkType.own N.PartialEq N.Debug self.entry b result) }
+        ensures pair { entry_at self.old.slots b ≡ Some (result.now.key, result.now.value) }
+        ensures fits { (hash_of : K → ℕ) → KeysFit hash_of self.old.slots →
+            (last : K × V) → hash_of last.0 ≡ hash_of result.now.key → KeysFit hash_of (with_pair self.old b last).slots }
+        ensures linked { (last : K × V) → IsLinked (with_pair self.old b last) }
+    {
+        &mut self.table.get_mut(b).pair
+    }
+
+    // The pair in a full bucket becomes the newest.
+    pub(crate) fn promote(&mut self, b: usize)
+        requires { IsFull self.old.slots b }
+        ensures slots { self.new.slots ≡ self.old.slots }
+        ensures order { self.new.order ≡ b ∷ without_bucket b self.old.order }
+        ensures linked { IsLinked self.new }
+    {
+        if self.table.get(b).newer == N::MAX {
+            return;
+        }
+        unlink(&mut self.table, &mut self.newest, &mut self.oldest, b);
+        link_newest(&mut self.table, &mut self.newest, &mut self.oldest, b);
+    }
+
+    // Puts a pair whose key has this hash into the first free bucket, as the newest.
+    pub(crate) fn place(&mut self, hash: u64, pair: (K, V)) -> Result<(), (K, V)>
+        ensures placed { OnOk result ((b : ℕ) × Lands self.old self.new hash pair b) }
+        ensures fits { OnOk result ((hash_of : K → ℕ) → KeysFit hash_of self.old.slots → hash_of pair.0 ≡ hash → KeysFit hash_of self.new.slots) }
+        ensures linked { IsLinked self.new }
+        ensures returned { IfErr result (λ back. back ≡ pair) }
+        ensures unchanged { OnErr result (self.new ≡ self.old) }
+        ensures no_place { OnErr result (HasNoPlace (marks_of self.old.slots) hash) }
+    {
+        let (key, value) = pair;
+        let entry = Entry {
+            pair: Pair { key, value },
+            newer: N::MAX,
+            older: N::MAX,
+        };
+        match self.table.try_place(hash, entry) {
+            Ok(b) => {
+                link_newest(&mut self.table, &mut self.newest, &mut self.oldest, b);
+                Ok(())
+            }
+            Err(entry) => Err((entry.pair.key, entry.pair.value)),
+        }
+    }
+
+    // Takes the pair out of a full bucket.
+    pub(crate) fn take(&mut self, b: usize) -> (K, V)
+        requires { IsFull self.old.slots b }
+        ensures pair { entry_at self.old.slots b ≡ Some result }
+        ensures removed { Removes self.old.slots self.new.slots b }
+        ensures order { self.new.order ≡ without_bucket b self.old.order }
+        ensures room { room (marks_of self.new.slots) ≡ room (marks_of self.old.slots) + room_at (marks_of self.new.slots) b }
+        ensures fits { (hash_of : K → ℕ) → KeysFit hash_of self.old.slots → KeysFit hash_of self.new.slots }
+        ensures linked { IsLinked self.new }
+    {
+        unlink(&mut self.table, &mut self.newest, &mut self.oldest, b);
+        let Pair { key, value } = self.table.take(b).pair;
+        (key, value)
+    }
+}
+
+impl<K: Eq + Hash, V, N: LinkType> Linked<K, V, N> {
+    // The bucket of the key that is named, which has this hash.
+    #[inline]
+    pub(crate) fn find<Q: LookupKey<K>>(&self, hash: u64, key: &Q) -> Option<usize>
+        ensures found { IfSome result (λ b. (pair : K × V) × (entry_at self.now.slots b ≡ Some pair) × IsTrue (Q.names key.now pair.0)) }
+        ensures full { IfSome result (IsFull self.now.slots) }
+        ensures none { IfNone result ((hash_of : K → ℕ) → KeysFit hash_of self.now.slots →
+            (b : ℕ) (pair : K × V) → entry_at self.now.slots b ≡ Some pair → hash_of pair.0 ≡ hash → Q.names key.now pair.0 ≡ false) }
+    {
+        self.table.find(hash, |entry| key.is_key(&entry.pair.key))
+    }
+}
+
+impl<K: Eq + Hash + Drop, V: Drop, N: LinkType> Linked<K, V, N> {
+    // Moves all pairs into a table of so many buckets, in the same order.
+    pub(crate) fn relocate<S: BuildHasher>(&mut self, buckets: usize, hasher: &S) -> Result<(), AllocError>
+        requires count { IsPowerFromFour buckets }
+        requires addressable { buckets + 16 < 2 ^ 63 }
+        requires below { buckets < N.number N.MAX }
+        requires within { entry_count self.old.slots ≤ full_capacity buckets }
+        ensures buckets { OnOk result (length self.new.slots ≡ buckets) }
+        ensures pairs { pairs_of self.new ≡ pairs_of self.old }
+        ensures room { OnOk result (room (marks_of self.new.slots) + length self.old.order ≡ full_capacity buckets) }
+        ensures fits { OnOk result (KeysFit (hash_by K.hash_input S.BuildHasher S.Hasher.Hasher hasher.now) self.new.slots) }
+        ensures linked { IsLinked self.new }
+        ensures unchanged { OnErr result (self.new ≡ self.old) }
+    {
+        let links = self.table.relocate(buckets, |entry| hasher.hash_one(&entry.pair.key))?;
+        rewrite(&mut self.table, &mut self.newest, &mut self.oldest, links.as_slice());
+        Ok(())
+    }
+
+    // Moves all pairs into a table of as many buckets, in the same order. Without pairs it takes no memory.
+    pub(crate) fn rehash<S: BuildHasher>(&mut self, hasher: &S) -> Result<(), AllocError>
+        ensures buckets { length self.new.slots ≡ length self.old.slots }
+        ensures pairs { pairs_of self.new ≡ pairs_of self.old }
+        ensures room { OnOk result (room (marks_of self.new.slots) + length self.old.order ≡ full_capacity (length self.old.slots)) }
+        ensures fits { OnOk result (KeysFit (hash_by K.hash_input S.BuildHasher S.Hasher.Hasher hasher.now) self.new.slots) }
+        ensures linked { IsLinked self.new }
+        ensures unchanged { OnErr result (self.new ≡ self.old) }
+        ensures succeeds { length self.old.order ≡ 0 → IsOk result }
+    {
+        let links = self.table.rehash(|entry| hasher.hash_one(&entry.pair.key))?;
+        rewrite(&mut self.table, &mut self.newest, &mut self.oldest, links.as_slice());
+        Ok(())
+    }
+}
+
+// The bucket that a link leads to.
+#[inline]
+fn bucket_of<N: LinkType>(link: N) -> Option<usize>
+    ensures none { IfNone result (link ≡ N.MAX) }
+    ensures some { IfSome result (λ b. b ≡ N.number link) }
+{
+    if link == N::MAX {
+        None
+    } else {
+        Some(link.into_usize())
+    }
+}
