@@ -1,0 +1,4 @@
+//! A map that holds its pairs by recency of use, within the limit of a limiter.
+#![tactic(auto)]
+
+pub mod laws;
