@@ -10,8 +10,7 @@ use Rattle.schnellru.specs.Inserts.{Insert, replaced, given_up, no_memory_to_adm
 use Rattle.schnellru.proofs.Growth.{full_capacity-4, full_capacity-at_most}
 use Rattle.schnellru.proofs.Doubling.{target_small}
 use Rattle.schnellru.proofs.Fronts.{front_make_way}
-use Rattle.schnellru.proofs.Potential.{Fits, leaves_fits}
-use Rattle.schnellru.proofs.Sized.{fits}
+use Rattle.schnellru.proofs.Potential.{IsBounded, bounded_of, sized_with_limiter, leaves_bounded}
 
 length-front : {X : Type 0} (ys xs : _) → IsFront {X = X} ys xs → length ys ≤ length xs
 length-front ys xs f = omega (arith, ap length f.1, length-append ys f.0)
@@ -41,7 +40,7 @@ module _ {K V S H : Type 0} (rules : Rules K V S) (hash_of : H → K → ℕ) (p
   denied_same mid (no_target t e) = same_marks old mid e refl
   denied_same mid (denied count bytes t d e) = same_marks (asked rules bytes old) mid e refl
 
-  pub place_grows : Fits old → (outcome : Outcome) (new : State K V S H) → Place rules hash_of pair old outcome new → GrowsLittle new
+  pub place_grows : IsBounded old → (outcome : Outcome) (new : State K V S H) → Place rules hash_of pair old outcome new → GrowsLittle new
   place_grows ok outcome new (first_table e b bytes u g m) = if_memory_new (asked rules bytes old) 4 _ _ outcome new refl (omega (arith, full_capacity-4)) m
   place_grows ok outcome new (first_denied e b bytes u d o n) = same_table_grows new (same_marks _ new n refl)
   place_grows ok outcome new (first_too_large e b u o n) = same_table_grows new (same_marks _ new n refl)
@@ -50,7 +49,7 @@ module _ {K V S H : Type 0} (rules : Rules K V S) (hash_of : H → K → ℕ) (p
   place_grows ok outcome new (with_room e r s o n) = same_table_grows new n.table
   place_grows ok outcome new (deleted_bucket f i b l o n) = same_table_grows new n.table
   place_grows ok outcome new (rehashed f i l m) = if_memory_same old _ _ outcome new refl m
-  place_grows ok outcome new (grown f i l count bytes t g m) = if_memory_new (asked rules bytes old) count _ _ outcome new refl (size ok.table) m
+  place_grows ok outcome new (grown f i l count bytes t g m) = if_memory_new (asked rules bytes old) count _ _ outcome new refl (size ok.count) m
     where
       size : IsBucketCount (buckets old) → full_capacity count < 4 * (length old.pairs + 1)
       size (inl z) = absurd (omega (arith, z, f.0, ok.fits, full_capacity-at_most (buckets old)))
@@ -72,6 +71,6 @@ module _ {K V S H I : Type 0} (rules : Rules K V S) (offers : Offers K V S I) (n
   insert_grows i v old result new ok (not_admitted a s n r e) h = absurd (omega (arith, ap (λ x. length x.marks) e, h))
   insert_grows i v old result new ok (admitted a s pair n ready l outcome landed p t) h =
       let same = settles_same outcome landed result new t in
-      let small = place_grows rules hash_of pair ready (leaves_fits (record old { limiter = s }) _ ready l (record { table = ok.table.count; fits = fits old ok; placed = ok.placed })) outcome landed p (omega (arith, same, l.room.table, h)) in
+      let small = place_grows rules hash_of pair ready (leaves_bounded (record old { limiter = s }) _ ready l (bounded_of _ (sized_with_limiter old s ok))) outcome landed p (omega (arith, same, l.room.table, h)) in
       let shorter = length-front _ old.pairs (front_make_way rules (record { pairs = old.pairs; limiter = s })) in
       omega (arith, ap full_capacity same, small, shorter, ap (λ x. length x.pairs) l.is)

@@ -1,10 +1,10 @@
 -- How tables grow.
-use Rattle.std.proofs.Common.{◌≡◌, ℕ, zero, suc, ◌+◌, ◌*◌, ◌/◌, ◌^◌, ◌<◌, ◌≤◌, ◌⊎◌, Bool, true, false, cond, Option, Some, None, refl, sym, ap, ◌∙◌, arith, le_of_eq, pow-suc, pow_pos, pow_mono, pow-add, inl, inr}
+use Rattle.std.proofs.Common.{◌≡◌, ℕ, zero, suc, ◌+◌, ◌-◌, ◌*◌, ◌/◌, ◌^◌, ◌<◌, ◌≤◌, ◌⊎◌, Bool, true, false, cond, Option, Some, None, refl, sym, ap, ◌∙◌, arith, le_of_eq, pow-suc, pow_pos, pow_mono, pow-add, inl, inr}
 use native.Mathlib.Decide.{dec_lt}
 use Rattle.std.specs.Prelude.{nat_lt, nat_le, ◌==◌}
 use Rattle.std.proofs.lemmas.Bool.Decides.{nat_tests}
 use Rattle.group_table.specs.Sizes.{full_capacity, first_power_from, least_power, below, buckets_for}
-use Rattle.schnellru.specs.Sizes.{usage, Target, no_table, same_table, new_table, table_of, table_with, target_from, target}
+use Rattle.schnellru.specs.Sizes.{bytes_of, usage, Target, no_table, same_table, new_table, table_of, table_with, target_from, target}
 
 pub doubled : (power tries : ℕ) → power * 2 ^ suc tries ≡ 2 * power * 2 ^ tries
 doubled power tries = rw pow-suc (omega arith)
@@ -132,6 +132,30 @@ target_doubles k max e b c n bytes size = from (buckets_for max c) refl
         split true u l h = let p : need ≡ n = (table_of_is need n bytes (usage e need) h).0 in rw (← p) (large need (buckets_shape max c need q) (l refl))
         split false true l h = grind arith
         split false false l h = buckets_double k b max n size (table_with_is e n bytes _ h).0
+
+-- a table that has a usage can be addressed
+pub usage_addressable : (e n bytes : ℕ) → usage e n ≡ Some bytes → n + 16 < 2 ^ 63
+unfolding usage
+usage_addressable e n bytes h = go (n == 0) (nat_le (bytes_of e n) (2 ^ 63 - 16)) (λ z. grind (arith, nat_tests)) (λ z. grind (arith, nat_tests)) h
+  where
+    go : (b c : Bool) → (b ≡ true → n ≡ 0) → (c ≡ true → n + 16 ≤ 2 ^ 63 - 16) → cond b (Some 0) (cond c (Some (bytes_of e n)) None) ≡ Some bytes → n + 16 < 2 ^ 63
+    go true c z l h = omega (arith, z refl)
+    go false true z l h = omega (arith, l refl)
+    go false false z l h = absurd (grind arith)
+
+-- a new table has the usage that is told of it
+pub target_usage : (max e b c n bytes : ℕ) → target max e b c ≡ new_table n bytes → usage e n ≡ Some bytes
+unfolding target
+target_usage max e b c n bytes = from (buckets_for max c)
+  where
+    from : (need : Option ℕ) → target_from max e b c need ≡ new_table n bytes → usage e n ≡ Some bytes
+    from None h = absurd (grind arith)
+    from (Some need) h = split (nat_lt b need) (nat_le c (full_capacity b / 2)) h
+      where
+        split : (t u : Bool) → cond t (table_with e (Some need)) (cond u same_table (table_with e (buckets_for max (full_capacity (2 * b))))) ≡ new_table n bytes → usage e n ≡ Some bytes
+        split true u h = (table_with_is e n bytes (Some need) h).1
+        split false true h = absurd (grind arith)
+        split false false h = (table_with_is e n bytes _ h).1
 
 pub full_capacity-4 : full_capacity 4 ≡ 3
 unfolding full_capacity

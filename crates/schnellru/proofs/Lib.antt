@@ -4,6 +4,8 @@ pub mod Sized
 pub mod Leaving
 pub mod DeletedBuckets
 pub mod Potential
+pub mod Following
+pub mod Paid
 pub mod Fronts
 pub mod Grown
 pub mod Distinct

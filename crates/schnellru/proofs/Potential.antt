@@ -33,23 +33,44 @@ module _ {K V S H : Type 0} where
   leaves_pays old left new l = pays_calm old new (ap (λ st. st.placed) l.is) (ap (λ st. st.moved) l.is) (omega (arith, l.room.keeps, ap full_capacity l.room.table))
 
 module _ {K V S H : Type 0} where
-  -- the pairs and the room fit the table
-  pub record Fits (st : State K V S H) : Type 0 where
-    pub table : IsBucketCount (buckets st)
+  -- the pairs and the room fit the table, the table fits the memory, and the counts fit 64 bits
+  pub record IsBounded (st : State K V S H) : Type 0 where
+    pub count : IsBucketCount (buckets st)
+    pub addressable : buckets st < 2 ^ 63
     pub fits : length st.pairs + room st ≤ full_capacity (buckets st)
+    pub moved : st.moved < 2 ^ 64
     pub placed : st.placed < 2 ^ 64
 
-  fits_of : (st : State K V S H) → IsSized st → Fits st
-  fits_of st ok = record { table = ok.table.count; fits = fits st ok; placed = ok.placed }
+  pub bounded_of : (st : State K V S H) → IsSized st → IsBounded st
+  bounded_of st ok = record {
+    count = ok.table.count;
+    addressable = omega (arith, ok.table.addressable);
+    fits = fits st ok;
+    moved = ok.moved;
+    placed = ok.placed;
+  }
 
-  pub leaves_fits : (old : State K V S H) (left : Contents K V S) (new : State K V S H) → Leaves old left new → Fits old → Fits new
-  leaves_fits old left new l ok = record {
-    table = rw l.room.table ok.table;
+  -- another limiter leaves the table and the counts as they are
+  pub sized_with_limiter : (old : State K V S H) (s : S) → IsSized old → IsSized (record old { limiter = s })
+  sized_with_limiter old s ok = record {
+    table = ok.table;
+    taken = ok.taken;
+    reachable = ok.reachable;
+    usable = ok.usable;
+    moved = ok.moved;
+    placed = ok.placed;
+  }
+
+  pub leaves_bounded : (old : State K V S H) (left : Contents K V S) (new : State K V S H) → Leaves old left new → IsBounded old → IsBounded new
+  leaves_bounded old left new l ok = record {
+    count = rw l.room.table ok.count;
+    addressable = omega (arith, l.room.table, ok.addressable);
     fits = omega (arith, l.room.at_most, ok.fits, ap full_capacity l.room.table);
+    moved = rw l.is ok.moved;
     placed = rw l.is ok.placed;
   }
 
-module _ {K V S H : Type 0} (rules : Rules K V S) (hash_of : H → K → ℕ) (pair : K × V) (old : State K V S H) (ok : Fits old) where
+module _ {K V S H : Type 0} (rules : Rules K V S) (hash_of : H → K → ℕ) (pair : K × V) (old : State K V S H) (ok : IsBounded old) where
   -- with so much room in a table of so many buckets, after so many moves
   placed_pays : (st new : State K V S H) (count spare moves : ℕ) → IsPlaced pair count spare moves st new → st.moved ≡ old.moved → st.placed ≡ old.placed → moves + (full_capacity count - 2 * spare) ≤ potential old + 2 → PaysForMoves old new
   placed_pays st new count spare moves p m n f = pays_placing old new moves ok.placed (ap (λ x. x.moved) p.state ∙ ap (λ x. count_up x moves) m) (ap (λ x. x.placed) p.state ∙ ap (λ x. count_up x 1) n) (rw (p.table, p.left) f)
@@ -72,7 +93,7 @@ module _ {K V S H : Type 0} (rules : Rules K V S) (hash_of : H → K → ℕ) (p
 
   -- the table that it grows into is large enough
   grown_enough : (count bytes : ℕ) → 0 < length old.pairs → next_table rules old ≡ new_table count bytes → 2 * full_capacity (buckets old) ≤ full_capacity count
-  grown_enough count bytes l t = size ok.table
+  grown_enough count bytes l t = size ok.count
     where
       size : IsBucketCount (buckets old) → 2 * full_capacity (buckets old) ≤ full_capacity count
       size (inl z) = absurd (omega (arith, ok.fits, full_capacity-at_most (buckets old)))
@@ -117,7 +138,7 @@ module _ {K V S H I : Type 0} (rules : Rules K V S) (offers : Offers K V S I) (n
   insert_pays i v old result new ok (not_admitted a s n r e) = rw e (with_limiter old s)
   insert_pays i v old result new ok (admitted a s pair n ready l outcome landed p t) =
       let start : State K V S H = record old { limiter = s } in
-      let fit : Fits start = record { table = ok.table.count; fits = fits old ok; placed = ok.placed } in
+      let bounded = bounded_of start (sized_with_limiter old s ok) in
       pays_trans (with_limiter old s)
       (pays_trans (leaves_pays start _ ready l)
-      (pays_trans (place_pays rules hash_of pair ready (leaves_fits start _ ready l fit) outcome landed p) (settles_pays outcome landed result new t)))
+      (pays_trans (place_pays rules hash_of pair ready (leaves_bounded start _ ready l bounded) outcome landed p) (settles_pays outcome landed result new t)))
