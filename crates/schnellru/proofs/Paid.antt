@@ -33,7 +33,7 @@ module _ {K V S H : Type 0} (rules : Rules K V S) (hash_of : H → K → ℕ) (p
       follows : Follows rules (λ _. Unit {0}) old new
       follows = place_follows rules (λ _. Unit {0}) (record { told = λ s k v h. h; asked = λ s bytes h. h }) hash_of pair old tt ok.moved outcome new p
 
-      addressable : IsNextCount rules old (buckets new) → buckets new < 2 ^ 63
+      addressable : IsNextCount rules (λ _. Unit {0}) old (buckets new) → buckets new < 2 ^ 63
       addressable (inl e) = omega (arith, e, ok.addressable)
       addressable (inr t) = omega (arith, usage_addressable old.entry_bytes (buckets new) t.bytes t.usable)
 
