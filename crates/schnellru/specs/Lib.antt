@@ -1,3 +1,11 @@
+pub mod Sizes
+pub mod Lists
+pub mod State
+pub mod Place
+pub mod Calls
+pub mod Inserts
+pub mod Theorems
+pub mod Exact
 pub mod Linked
 pub mod Chain
 pub mod Lends

@@ -1,4 +1,8 @@
-//! A map whose pairs stand in an order of use, under a limiter.
+//! A map that holds its pairs by recency of use, within the limit of a limiter.
 #![tactic(auto)]
 
+pub mod laws;
 mod link;
+mod map;
+
+pub use map::LruMap;

@@ -1,0 +1,31 @@
+-- A deleted bucket serves where it is the first free one that a search finds.
+use Rattle.std.proofs.Common.{◌≡◌, ℕ, ◌<◌, [], length, sym, ap, ◌∙◌, arith}
+use Rattle.group_table.specs.Bucket.{Mark, empty, deleted, bucket_at}
+use Rattle.group_table.proofs.FirstFree.{IsFirstFree-unique}
+use Rattle.lru_limits.specs.Rules.{Rules}
+use Rattle.schnellru.specs.State.{State, buckets, room, FirstFreeIs}
+use Rattle.schnellru.specs.Place.{Place, first_table, first_denied, first_too_large, into_empty, into_emptied, with_room, deleted_bucket, rehashed, grown, evicted, evicted_rehashed, Outcome, placed, IsPlaced}
+
+module _ {K V S H : Type 0} (rules : Rules K V S) (hash_of : H → K → ℕ) (pair : K × V) (old : State K V S H) (some : 0 < length old.pairs) (no_room : room old ≡ 0) where
+  not_both : FirstFreeIs deleted (hash_of old.hasher pair.0) old → FirstFreeIs empty (hash_of old.hasher pair.0) old → ⊥
+  not_both p q = no (sym p.2 ∙ ap (bucket_at old.marks) (IsFirstFree-unique old.marks _ p.0 q.0 p.1 q.1) ∙ q.2)
+    where
+      no : ◌≡◌ {A = Mark} deleted empty → ⊥
+      no h = grind arith
+
+  none_is_empty : {A : Type 0} → old.pairs ≡ [] → A
+  none_is_empty e = absurd (omega (arith, ap length e, some))
+
+  -- with no room, where the first free bucket is a deleted one, it is filled
+  pub deleted_serves : FirstFreeIs deleted (hash_of old.hasher pair.0) old → (outcome : Outcome) (new : State K V S H) → Place rules hash_of pair old outcome new → (outcome ≡ placed) × IsPlaced pair (buckets old) 0 0 old new
+  deleted_serves p outcome new (first_table e b bytes u g m) = none_is_empty e
+  deleted_serves p outcome new (first_denied e b bytes u d o n) = none_is_empty e
+  deleted_serves p outcome new (first_too_large e b u o n) = none_is_empty e
+  deleted_serves p outcome new (into_empty e b r s o n) = none_is_empty e
+  deleted_serves p outcome new (into_emptied e b r o n) = none_is_empty e
+  deleted_serves p outcome new (with_room e r s o n) = absurd (omega (arith, r, no_room))
+  deleted_serves p outcome new (deleted_bucket f i b l o n) = (o, n)
+  deleted_serves p outcome new (rehashed f i l m) = absurd (not_both p i)
+  deleted_serves p outcome new (grown f i l count bytes t g m) = absurd (not_both p i)
+  deleted_serves p outcome new (evicted f i l mid c n pos one half o is) = absurd (not_both p i)
+  deleted_serves p outcome new (evicted_rehashed f i l mid c n pos one half left lv m) = absurd (not_both p i)

@@ -1,0 +1,147 @@
+-- Inserts give up pairs from the old end alone.
+use Rattle.std.proofs.Common.{◌≡◌, ℕ, zero, suc, ◌+◌, ◌⊎◌, inl, inr, Bool, true, false, cond, List, [], ◌∷◌, ◌++◌, length, Some, None, Result, refl, sym, ap, ◌∙◌, subst, append_assoc, append-nil, arith}
+use Rattle.schnellru.specs.Lists.{IsFront, without_last, lookup_entry, without}
+use Rattle.std.specs.declared.alloc.AllocError.{AllocError}
+use Rattle.lru_limits.specs.Rules.{Rules, Offers}
+use Rattle.lru_limits.specs.Laws.{IsLookup, IsInsertion}
+use Rattle.schnellru.specs.State.{State, Contents, contents, pop, pops, trim, trim_from}
+use Rattle.schnellru.specs.Place.{Place, first_table, first_denied, first_too_large, into_empty, into_emptied, with_room, deleted_bucket, rehashed, grown, evicted, evicted_rehashed, CannotGrow, no_target, denied, Outcome, placed, refused, no_memory, IsPlaced, IsPlacedIfMemory, asked, without_oldest}
+use Rattle.schnellru.specs.Inserts.{Insert, replaced, given_up, no_memory_to_admit, not_admitted, admitted, make_way, Admits, replacement, with_replaced, Settles}
+use Rattle.schnellru.specs.Theorems.{GivesUp, behind, with_none, without_one}
+
+module _ {X : Type 0} where
+  pub front_self : (xs : List X) → IsFront xs xs
+  front_self xs = ([], sym (append-nil xs))
+
+  pub front_same : (xs ys : List X) → xs ≡ ys → IsFront xs ys
+  front_same xs ys e = ([], sym e ∙ sym (append-nil xs))
+
+  pub front_trans : (xs ys zs : List X) → IsFront xs ys → IsFront ys zs → IsFront xs zs
+  front_trans xs ys zs p q = (p.0 ++ q.0, q.1 ∙ ap (λ l. l ++ q.0) p.1 ∙ append_assoc xs p.0 q.0)
+
+  pub front_without_last : (xs : List X) → IsFront (without_last xs) xs
+  front_without_last [] = ([], refl)
+  front_without_last (x ∷ []) = (x ∷ [], refl)
+  front_without_last (x ∷ y ∷ ys) = let p = front_without_last (y ∷ ys) in (p.0, ap (λ l. x ∷ l) p.1)
+
+  -- a front part of x ∷ xs is empty, or x and a front part of xs
+  pub front_cons : (x : X) (xs zs : List X) → IsFront zs (x ∷ xs) → (zs ≡ []) ⊎ ((ys : List X) × IsFront ys xs × (zs ≡ x ∷ ys))
+  front_cons x xs [] p = inl refl
+  front_cons x xs (z ∷ zs) p = inr (zs, (p.0, grind arith), grind arith)
+
+  pub front_more : (x : X) (ys xs : List X) → IsFront ys xs → IsFront (x ∷ ys) (x ∷ xs)
+  front_more x ys xs p = (p.0, ap (λ l. x ∷ l) p.1)
+
+module _ {K V : Type 0} where
+  -- where there is no such pair, all are others
+  pub without_none : (names : K → Bool) (xs : List (K × V)) → lookup_entry names xs ≡ None → without names xs ≡ xs
+  without_none names [] h = refl
+  without_none names (x ∷ xs) h = go (names x.0) (without_none names xs) h
+    where
+      go : (b : Bool) → (lookup_entry names xs ≡ None → without names xs ≡ xs) → cond b (Some x) (lookup_entry names xs) ≡ None → cond b xs (x ∷ without names xs) ≡ x ∷ xs
+      go true f h = grind arith
+      go false f h = ap (λ l. x ∷ l) (f h)
+
+module _ {K V S : Type 0} (rules : Rules K V S) where
+  pub front_pops : (n : ℕ) (c : Contents K V S) → IsFront (pops rules n c).pairs c.pairs
+  front_pops zero c = front_self c.pairs
+  front_pops (suc n) c = front_trans _ _ _ (front_pops n (pop rules c)) (front_without_last c.pairs)
+
+  front_trim_from : (n : ℕ) (c : Contents K V S) → IsFront (trim_from rules n c).pairs c.pairs
+  front_trim_from zero c = front_self c.pairs
+  front_trim_from (suc n) c = go (rules.is_over_the_limit c.limiter (suc n)) (front_trans _ _ _ (front_trim_from n (pop rules c)) (front_without_last c.pairs))
+    where
+      go : (b : Bool) → IsFront (trim_from rules n (pop rules c)).pairs c.pairs → IsFront (cond b (trim_from rules n (pop rules c)) c).pairs c.pairs
+      go true p = p
+      go false p = front_self c.pairs
+
+  pub front_trim : (c : Contents K V S) → IsFront (trim rules c).pairs c.pairs
+  unfolding trim
+  front_trim c = front_trim_from (length c.pairs) c
+
+  pub front_make_way : (c : Contents K V S) → IsFront (make_way rules c).pairs c.pairs
+  front_make_way c = go (rules.is_over_the_limit c.limiter (length c.pairs + 1))
+    where
+      go : (b : Bool) → IsFront (cond b (pop rules c) c).pairs c.pairs
+      go true = front_without_last c.pairs
+      go false = front_self c.pairs
+
+module _ {K V S H : Type 0} (rules : Rules K V S) (hash_of : H → K → ℕ) (pair : K × V) (old : State K V S H) where
+  -- a front part is left, or the new pair and one
+  abbrev pub Ends : State K V S H → Type 0
+  Ends new = IsFront new.pairs (pair ∷ old.pairs) ⊎ IsFront new.pairs old.pairs
+
+  newest_of : (st new : State K V S H) (count spare moves : ℕ) → IsPlaced pair count spare moves st new → IsFront st.pairs old.pairs → Ends new
+  newest_of st new count spare moves p f = inl (front_trans _ _ _ (front_same _ _ (ap (λ x. x.pairs) p.state)) (front_more pair st.pairs old.pairs f))
+
+  if_memory_ends : (st : State K V S H) (count spare moves : ℕ) (outcome : Outcome) (new : State K V S H) → IsPlacedIfMemory rules pair count spare moves st outcome new → IsFront st.pairs old.pairs → Ends new
+  if_memory_ends st count spare moves placed new h f = newest_of st new count spare moves h f
+  if_memory_ends st count spare moves no_memory new h f = inr (front_trans _ _ _ (front_same _ _ (ap (λ x. x.pairs) h)) f)
+  if_memory_ends st count spare moves refused new h f = absurd h
+
+  same_if_denied : (mid : State K V S H) → CannotGrow rules old mid → mid.pairs ≡ old.pairs
+  same_if_denied mid (no_target t e) = ap (λ st. st.pairs) e
+  same_if_denied mid (denied count bytes t d e) = ap (λ st. st.pairs) e
+
+  pub place_ends : (outcome : Outcome) (new : State K V S H) → Place rules hash_of pair old outcome new → Ends new
+  place_ends outcome new (first_table e b bytes u g m) = if_memory_ends (asked rules bytes old) _ _ _ outcome new m (front_self old.pairs)
+  place_ends outcome new (first_denied e b bytes u d o n) = inr (front_same _ _ (ap (λ st. st.pairs) n))
+  place_ends outcome new (first_too_large e b u o n) = inr (front_same _ _ (ap (λ st. st.pairs) n))
+  place_ends outcome new (into_empty e b r s o n) = newest_of old new _ _ _ n (front_self old.pairs)
+  place_ends outcome new (into_emptied e b r o n) = newest_of old new _ _ _ n (front_self old.pairs)
+  place_ends outcome new (with_room e r s o n) = newest_of old new _ _ _ n (front_self old.pairs)
+  place_ends outcome new (deleted_bucket f i b l o n) = newest_of old new _ _ _ n (front_self old.pairs)
+  place_ends outcome new (rehashed f i l m) = if_memory_ends old _ _ _ outcome new m (front_self old.pairs)
+  place_ends outcome new (grown f i l count bytes t g m) = if_memory_ends (asked rules bytes old) _ _ _ outcome new m (front_self old.pairs)
+  place_ends outcome new (evicted f i l mid c n pos one half o p) =
+      newest_of (without_oldest rules n mid) new _ _ _ p (front_trans _ _ _ (front_pops rules n (contents mid)) (front_same _ _ (same_if_denied mid c)))
+  place_ends outcome new (evicted_rehashed f i l mid c n pos one half left lv m) =
+      if_memory_ends left _ _ _ outcome new m (front_trans _ _ _ (front_same _ _ (ap (λ st. st.pairs) lv.is)) (front_trans _ _ _ (front_pops rules n (contents mid)) (front_same _ _ (same_if_denied mid c))))
+
+module _ {K V : Type 0} where
+  pub found_named : (names : K → Bool) (xs : List (K × V)) (p : K × V) → lookup_entry names xs ≡ Some p → names p.0 ≡ true
+  found_named names [] p h = absurd (grind arith)
+  found_named names (x ∷ xs) p h = go (names x.0) refl (found_named names xs p) h
+    where
+      same : Some x ≡ Some p → x ≡ p
+      same e = grind arith
+
+      go : (b : Bool) → names x.0 ≡ b → (lookup_entry names xs ≡ Some p → names p.0 ≡ true) → cond b (Some x) (lookup_entry names xs) ≡ Some p → names p.0 ≡ true
+      go true e f h = ap (λ (y : K × V). names y.0) (sym (same h)) ∙ e
+      go false e f h = f h
+
+module _ {K V S H I : Type 0} (rules : Rules K V S) (offers : Offers K V S I) (names : I → K → Bool) (hash_of : H → K → ℕ) where
+  pub settles_front : (outcome : Outcome) (landed : State K V S H) (result : Result Bool AllocError) (new : State K V S H) → Settles rules outcome landed result new → IsFront new.pairs landed.pairs
+  settles_front placed landed result new h = front_trans _ _ _ (front_same _ _ (ap (λ st. st.pairs) h.1.is)) (front_trim rules (contents landed))
+  settles_front refused landed result new h = front_same _ _ (ap (λ st. st.pairs) h.1)
+  settles_front no_memory landed result new h = front_same _ _ (ap (λ st. st.pairs) h.1)
+
+  module _ {eq : K → K → Bool} {query_input : I → List (List ℕ)} {key_input : K → List (List ℕ)} (looks_up : IsLookup names eq query_input key_input) (laws : IsInsertion names eq offers) (i : I) (v : V) (old : State K V S H) where
+    -- the pair that was given has a key that i names
+    pub given_named : (s : S) (pair : K × V) → Admits rules offers names i v old s (Some pair) → names i pair.0 ≡ true
+    given_named s pair n = laws.names_given old.limiter (length old.pairs) i v s pair.0 pair.1 n
+
+    -- and so has the pair that was replaced
+    pub replaced_named : (pair : K × V) → lookup_entry (names i) old.pairs ≡ Some pair → names i (replacement rules offers names pair i v old).key ≡ true
+    replaced_named pair found =
+        let n = found_named (names i) old.pairs pair found in
+        looks_up.one i pair.0 (replacement rules offers names pair i v old).key n ∙ laws.keeps_key old.limiter (length old.pairs) pair.0 i pair.1 v n
+
+    -- Inserts give up pairs from the old end alone, save one whose replacement is refused.
+    pub insert_gives_up : (result : Result Bool AllocError) (new : State K V S H) → Insert rules offers names hash_of i v old result new → GivesUp (names i) (λ pair. (replacement rules offers names pair i v old).taken ≡ false) old.pairs new.pairs
+    insert_gives_up result new (replaced pair found y r l) =
+        behind _ (replaced_named pair found) (front_trans _ _ _ (front_same _ _ (ap (λ st. st.pairs) l.is)) (front_trim rules (with_replaced rules offers names pair i v old)))
+    insert_gives_up result new (given_up pair found y r l) = without_one pair found y (ap (λ st. st.pairs) l.is)
+    insert_gives_up result new (no_memory_to_admit a k r e) = with_none a (front_same _ _ (ap (λ st. st.pairs) e))
+    insert_gives_up result new (not_admitted a s n r e) = with_none a (front_same _ _ (ap (λ st. st.pairs) e))
+    insert_gives_up result new (admitted a s pair n ready l outcome landed p t) = go (place_ends rules hash_of pair ready outcome landed p)
+      where
+        ready_front : IsFront ready.pairs old.pairs
+        ready_front = front_trans _ _ _ (front_same _ _ (ap (λ st. st.pairs) l.is)) (front_make_way rules (record { pairs = old.pairs; limiter = s }))
+
+        others : IsFront ready.pairs (without (names i) old.pairs)
+        others = subst (IsFront ready.pairs) (sym (without_none (names i) old.pairs a)) ready_front
+
+        go : Ends rules hash_of pair ready landed → GivesUp (names i) (λ pair. (replacement rules offers names pair i v old).taken ≡ false) old.pairs new.pairs
+        go (inl f) = behind pair (given_named s pair n) (front_trans _ _ _ (settles_front outcome landed result new t) (front_trans _ _ _ f (front_more pair _ _ others)))
+        go (inr f) = with_none a (front_trans _ _ _ (settles_front outcome landed result new t) (front_trans _ _ _ f ready_front))

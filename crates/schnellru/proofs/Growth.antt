@@ -1,0 +1,162 @@
+-- How tables grow.
+use Rattle.std.proofs.Common.{◌≡◌, ℕ, zero, suc, ◌+◌, ◌-◌, ◌*◌, ◌/◌, ◌^◌, ◌<◌, ◌≤◌, ◌⊎◌, Bool, true, false, cond, Option, Some, None, refl, sym, ap, ◌∙◌, arith, le_of_eq, pow-suc, pow_pos, pow_mono, pow-add, inl, inr}
+use native.Mathlib.Decide.{dec_lt}
+use Rattle.std.specs.Prelude.{nat_lt, nat_le, ◌==◌}
+use Rattle.std.proofs.lemmas.Bool.Decides.{nat_tests}
+use Rattle.group_table.specs.Sizes.{full_capacity, first_power_from, least_power, below, buckets_for}
+use Rattle.schnellru.specs.Sizes.{bytes_of, usage, Target, no_table, same_table, new_table, table_of, table_with, target_from, target}
+
+pub doubled : (power tries : ℕ) → power * 2 ^ suc tries ≡ 2 * power * 2 ^ tries
+doubled power tries = rw pow-suc (omega arith)
+
+-- 4, 8, or at least 16
+pub sizes_of : (k b : ℕ) → b ≡ 4 * 2 ^ k → (b ≡ 4) ⊎ ((b ≡ 8) ⊎ (16 ≤ b))
+sizes_of zero b e = inl e
+sizes_of (suc zero) b e = inr (inl e)
+sizes_of (suc (suc k)) b e = inr (inr (omega (arith, e, doubled 4 (suc k), doubled 8 k, pow_pos k)))
+
+-- twice as many buckets take at least twice as many pairs
+pub full_capacity-double : (k b c : ℕ) → b ≡ 4 * 2 ^ k → 2 * b ≤ c → 2 * full_capacity b ≤ full_capacity c
+unfolding full_capacity
+full_capacity-double k b c e h = let s = sizes_of k b e in grind (arith, nat_tests, s)
+
+pub full_capacity-at_most : (b : ℕ) → full_capacity b ≤ b
+unfolding full_capacity
+full_capacity-at_most b = grind (arith, nat_tests)
+
+first_power_least : (tries n power : ℕ) → n ≤ power * 2 ^ tries → n ≤ first_power_from tries n power
+first_power_least zero n power h = omega arith
+first_power_least (suc tries) n power h = grind (arith, nat_tests, first_power_least tries n (2 * power), doubled power tries)
+
+-- what is found is one of the powers
+first_power_shape : (tries n power : ℕ) → (j : ℕ) × (first_power_from tries n power ≡ power * 2 ^ j)
+first_power_shape zero n power = (0, omega arith)
+first_power_shape (suc tries) n power = pick (nat_le n power) (first_power_shape tries n (2 * power))
+  where
+    pick : (b : Bool) → ((j : ℕ) × (first_power_from tries n (2 * power) ≡ 2 * power * 2 ^ j)) → (j : ℕ) × (cond b power (first_power_from tries n (2 * power)) ≡ power * 2 ^ j)
+    pick true s = (0, omega arith)
+    pick false s = (suc s.0, s.1 ∙ sym (doubled power s.0))
+
+least_power_at_least : (n : ℕ) → n ≤ 2 ^ 64 → n ≤ least_power n
+unfolding least_power
+least_power_at_least n h = first_power_least 64 n 1 (omega arith)
+
+pub least_power_shape : (n : ℕ) → (j : ℕ) × (least_power n ≡ 2 ^ j)
+unfolding least_power
+least_power_shape n = let s = first_power_shape 64 n 1 in (s.0, s.1 ∙ omega arith)
+
+-- a power of two that is greater than another is at least twice that
+pub power_gap : (i j : ℕ) → 2 ^ i < 2 ^ j → 2 * 2 ^ i ≤ 2 ^ j
+power_gap i j h = go (dec_lt i j)
+  where
+    go : Dec (i < j) → 2 * 2 ^ i ≤ 2 ^ j
+    go (yes lt) = let m : 2 ^ suc i ≤ 2 ^ j = pow_mono lt in omega (arith, pow-suc 2 i)
+    go (no ge) = let m : 2 ^ j ≤ 2 ^ i = pow_mono (omega arith) in omega arith
+
+pub some_of : (b : Bool) (x y : ℕ) → cond b (Some x) None ≡ Some y → x ≡ y
+some_of true x y e = grind arith
+some_of false x y e = grind arith
+
+-- none, or a power of two
+pub IsSize : ℕ → Type 0
+IsSize n = (n ≡ 0) ⊎ ((j : ℕ) × (n ≡ 2 ^ j))
+
+pub buckets_shape : (max c n : ℕ) → buckets_for max c ≡ Some n → IsSize n
+unfolding buckets_for IsSize
+buckets_shape max c n = pick (c == 0) (nat_lt c 4) (nat_lt c 8) (nat_lt (8 * c) (2 ^ 64))
+  where
+    pick : (a b d e : Bool) → cond a (Some 0) (cond b (below max 4) (cond d (below max 8) (cond e (below max (least_power (8 * c / 7))) None))) ≡ Some n → (n ≡ 0) ⊎ ((j : ℕ) × (n ≡ 2 ^ j))
+    pick true b d e h = inl (grind arith)
+    pick false true d e h = inr (2, sym (some_of _ _ _ h))
+    pick false false true e h = inr (3, sym (some_of _ _ _ h))
+    pick false false false true h = let s = least_power_shape (8 * c / 7) in inr (s.0, sym (some_of _ _ _ h) ∙ s.1)
+    pick false false false false h = inl (grind arith)
+
+-- the pairs that fill a table of twice as many buckets need at least so many
+buckets_double_large : (b max n : ℕ) → 16 ≤ b → (b / 8 * 8 ≡ b) → buckets_for max (full_capacity (2 * b)) ≡ Some n → 2 * b ≤ n
+unfolding buckets_for full_capacity
+buckets_double_large b max n l m = pick (full_capacity (2 * b)) (grind (arith, nat_tests))
+  where
+    pick : (c : ℕ) → c ≡ 2 * b / 8 * 7 → buckets_for max c ≡ Some n → 2 * b ≤ n
+    pick c e = split (c == 0) (nat_lt c 4) (nat_lt c 8) (nat_lt (8 * c) (2 ^ 64)) (grind (arith, nat_tests)) (grind (arith, nat_tests)) (grind (arith, nat_tests)) (λ h. grind (arith, nat_tests))
+      where
+        split : (a b' d e' : Bool) → a ≡ false → b' ≡ false → d ≡ false → (e' ≡ true → 8 * c < 2 ^ 64) →
+            cond a (Some 0) (cond b' (below max 4) (cond d (below max 8) (cond e' (below max (least_power (8 * c / 7))) None))) ≡ Some n → 2 * b ≤ n
+        split true b' d e' x y z w h = grind arith
+        split false true d e' x y z w h = grind arith
+        split false false true e' x y z w h = grind arith
+        split false false false true x y z w h = let f : least_power (8 * c / 7) ≡ n = some_of _ _ _ h in let g = w refl in let i = least_power_at_least (8 * c / 7) (omega arith) in omega arith
+        split false false false false x y z w h = grind arith
+
+buckets_double_4 : (max n : ℕ) → buckets_for max (full_capacity 8) ≡ Some n → 8 ≤ n
+unfolding buckets_for full_capacity
+buckets_double_4 max n h = le_of_eq (some_of (nat_lt 8 max) 8 n h)
+
+buckets_double_8 : (max n : ℕ) → buckets_for max (full_capacity 16) ≡ Some n → 16 ≤ n
+unfolding buckets_for full_capacity least_power
+buckets_double_8 max n h = le_of_eq (some_of (nat_lt 16 max) 16 n h)
+
+pub buckets_double : (k b max n : ℕ) → b ≡ 4 * 2 ^ k → buckets_for max (full_capacity (2 * b)) ≡ Some n → 2 * b ≤ n
+buckets_double zero b max n e h = rw e (buckets_double_4 max n (rw e at h))
+buckets_double (suc zero) b max n e h = rw e (buckets_double_8 max n (rw e at h))
+buckets_double (suc (suc k)) b max n e h = buckets_double_large b max n (omega (arith, e, doubled 4 (suc k), doubled 8 k, pow_pos k)) (omega (arith, e, doubled 4 (suc k), doubled 8 k)) h
+
+-- what a new table's buckets come from
+buckets_of : Target → ℕ
+buckets_of no_table = 0
+buckets_of same_table = 0
+buckets_of (new_table n bytes) = n
+
+pub table_of_is : (m n bytes : ℕ) (u : Option ℕ) → table_of m u ≡ new_table n bytes → (m ≡ n) × (u ≡ Some bytes)
+table_of_is m n bytes None h = grind arith
+table_of_is m n bytes (Some x) h = grind arith
+
+pub table_with_is : (e n bytes : ℕ) (m : Option ℕ) → table_with e m ≡ new_table n bytes → (m ≡ Some n) × (usage e n ≡ Some bytes)
+table_with_is e n bytes None h = grind arith
+table_with_is e n bytes (Some m) h = let p = table_of_is m n bytes (usage e m) h in (ap Some p.0, ap (usage e) (sym p.0) ∙ p.1)
+
+-- a new table has at least twice the buckets
+pub target_doubles : (k max e b c n bytes : ℕ) → b ≡ 4 * 2 ^ k → target max e b c ≡ new_table n bytes → 2 * b ≤ n
+unfolding target IsSize
+target_doubles k max e b c n bytes size = from (buckets_for max c) refl
+  where
+    large : (need : ℕ) → IsSize need → b < need → 2 * b ≤ need
+    large need (inl z) l = omega arith
+    large need (inr s) l = let p : b ≡ 2 ^ (k + 2) = size ∙ omega (arith, pow-add 2 k 2) in let g : 2 ^ (k + 2) < 2 ^ s.0 = omega arith in omega (arith, power_gap (k + 2) s.0 g)
+
+    from : (need : Option ℕ) → buckets_for max c ≡ need → target_from max e b c need ≡ new_table n bytes → 2 * b ≤ n
+    from None q h = grind arith
+    from (Some need) q h = split (nat_lt b need) (nat_le c (full_capacity b / 2)) (λ f. grind (arith, nat_tests)) h
+      where
+        split : (t u : Bool) → (t ≡ true → b < need) → cond t (table_with e (Some need)) (cond u same_table (table_with e (buckets_for max (full_capacity (2 * b))))) ≡ new_table n bytes → 2 * b ≤ n
+        split true u l h = let p : need ≡ n = (table_of_is need n bytes (usage e need) h).0 in rw (← p) (large need (buckets_shape max c need q) (l refl))
+        split false true l h = grind arith
+        split false false l h = buckets_double k b max n size (table_with_is e n bytes _ h).0
+
+-- a table that has a usage can be addressed
+pub usage_addressable : (e n bytes : ℕ) → usage e n ≡ Some bytes → n + 16 < 2 ^ 63
+unfolding usage
+usage_addressable e n bytes h = go (n == 0) (nat_le (bytes_of e n) (2 ^ 63 - 16)) (λ z. grind (arith, nat_tests)) (λ z. grind (arith, nat_tests)) h
+  where
+    go : (b c : Bool) → (b ≡ true → n ≡ 0) → (c ≡ true → n + 16 ≤ 2 ^ 63 - 16) → cond b (Some 0) (cond c (Some (bytes_of e n)) None) ≡ Some bytes → n + 16 < 2 ^ 63
+    go true c z l h = omega (arith, z refl)
+    go false true z l h = omega (arith, l refl)
+    go false false z l h = absurd (grind arith)
+
+-- a new table has the usage that is told of it
+pub target_usage : (max e b c n bytes : ℕ) → target max e b c ≡ new_table n bytes → usage e n ≡ Some bytes
+unfolding target
+target_usage max e b c n bytes = from (buckets_for max c)
+  where
+    from : (need : Option ℕ) → target_from max e b c need ≡ new_table n bytes → usage e n ≡ Some bytes
+    from None h = absurd (grind arith)
+    from (Some need) h = split (nat_lt b need) (nat_le c (full_capacity b / 2)) h
+      where
+        split : (t u : Bool) → cond t (table_with e (Some need)) (cond u same_table (table_with e (buckets_for max (full_capacity (2 * b))))) ≡ new_table n bytes → usage e n ≡ Some bytes
+        split true u h = (table_with_is e n bytes (Some need) h).1
+        split false true h = absurd (grind arith)
+        split false false h = (table_with_is e n bytes _ h).1
+
+pub full_capacity-4 : full_capacity 4 ≡ 3
+unfolding full_capacity
+full_capacity-4 = refl

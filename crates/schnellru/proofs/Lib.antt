@@ -1,0 +1,15 @@
+pub mod Growth
+pub mod Doubling
+pub mod Sized
+pub mod Leaving
+pub mod DeletedBuckets
+pub mod Potential
+pub mod Following
+pub mod Paid
+pub mod Fronts
+pub mod Grown
+pub mod Distinct
+pub mod Within
+pub mod Short
+pub mod Exact
+pub mod Sums

@@ -1,0 +1,123 @@
+-- What the answer of an insert says.
+use Rattle.std.proofs.Common.{◌≡◌, ℕ, zero, suc, ◌⊎◌, inl, inr, Bool, true, false, cond, not, List, [], ◌∷◌, length, None, Result, Ok, Err, refl, ap, ◌∙◌, subst, arith}
+use Rattle.std.specs.Prelude.{IsErr}
+use Rattle.std.specs.declared.alloc.AllocError.{AllocError}
+use Rattle.lru_limits.specs.Rules.{Rules, Offers}
+use Rattle.lru_limits.specs.Laws.{IsLookup, IsInsertion}
+use Rattle.schnellru.specs.Lists.{is_empty, IsFront, lookup_entry, without}
+use Rattle.schnellru.specs.State.{State, Contents, contents, Leaves, pop, trim, trim_from}
+use Rattle.schnellru.specs.Place.{Place, first_table, first_denied, first_too_large, into_empty, into_emptied, with_room, deleted_bucket, rehashed, grown, evicted, evicted_rehashed, Outcome, placed, refused, no_memory, IsPlaced, IsPlacedIfMemory, asked}
+use Rattle.schnellru.specs.Inserts.{Insert, replaced, given_up, no_memory_to_admit, not_admitted, admitted, replacement, with_replaced, Settles}
+use Rattle.schnellru.specs.Theorems.{IsNewest, SaysWhether}
+use Rattle.schnellru.proofs.Leaving.{length-without_last}
+use Rattle.schnellru.proofs.Fronts.{front_trim, front_cons, given_named, replaced_named}
+use Rattle.schnellru.proofs.Distinct.{AreDistinct, absent_without}
+
+module _ {K V S : Type 0} (rules : Rules K V S) where
+  IsWithin : Contents K V S → Type 0
+  IsWithin c = (is_empty c.pairs ≡ true) ⊎ (rules.is_over_the_limit c.limiter (length c.pairs) ≡ false)
+
+  within_from : (n : ℕ) (c : Contents K V S) → length c.pairs ≡ n → IsWithin (trim_from rules n c)
+  unfolding IsWithin
+  within_from zero c e = inl (none c.pairs e)
+    where
+      none : (xs : List (K × V)) → length xs ≡ 0 → is_empty xs ≡ true
+      none [] h = refl
+      none (x ∷ xs) h = absurd (omega (arith, h))
+  within_from (suc n) c e = go (rules.is_over_the_limit c.limiter (suc n)) refl (within_from n (pop rules c) (omega (arith, length-without_last c.pairs)))
+    where
+      go : (b : Bool) → rules.is_over_the_limit c.limiter (suc n) ≡ b → IsWithin (trim_from rules n (pop rules c)) → IsWithin (cond b (trim_from rules n (pop rules c)) c)
+      go true h p = p
+      go false h p = inr (rw e h)
+
+  -- what is left and is not empty is within the limit
+  trim_within : (c : Contents K V S) → is_empty (trim rules c).pairs ≡ false → rules.is_over_the_limit (trim rules c).limiter (length (trim rules c).pairs) ≡ false
+  unfolding trim IsWithin
+  trim_within c h = go (within_from (length c.pairs) c refl)
+    where
+      go : IsWithin (trim_from rules (length c.pairs) c) → rules.is_over_the_limit (trim_from rules (length c.pairs) c).limiter (length (trim_from rules (length c.pairs) c).pairs) ≡ false
+      go (inl e) = absurd (grind (arith, e, h))
+      go (inr f) = f
+
+  -- what is left and is not empty begins as it did
+  trim_newest : (names : K → Bool) (c : Contents K V S) → is_empty (trim rules c).pairs ≡ false → IsNewest names c.pairs → IsNewest names (trim rules c).pairs
+  trim_newest names c h n = go (front_cons n.pair n.rest (trim rules c).pairs (subst (IsFront (trim rules c).pairs) n.first (front_trim rules c)))
+    where
+      go : ((trim rules c).pairs ≡ []) ⊎ ((ys : List (K × V)) × IsFront ys n.rest × ((trim rules c).pairs ≡ n.pair ∷ ys)) → IsNewest names (trim rules c).pairs
+      go (inl e) = absurd (no (rw e at h))
+        where
+          no : true ≡ false → ⊥
+          no e = grind arith
+      go (inr t) = record { pair = n.pair; rest = t.0; first = t.2; named = n.named }
+
+module _ {K V S H : Type 0} (rules : Rules K V S) (hash_of : H → K → ℕ) (pair : K × V) (old : State K V S H) where
+  -- the new pair is the newest, where it is placed, and no pair is left where it is refused
+  abbrev pub Comes : Outcome → State K V S H → Type 0
+  Comes placed new = (rest : List (K × V)) × (new.pairs ≡ pair ∷ rest)
+  Comes refused new = new.pairs ≡ []
+  Comes no_memory new = Unit {0}
+
+  if_memory_comes : (st : State K V S H) (count spare moves : ℕ) (outcome : Outcome) (new : State K V S H) → IsPlacedIfMemory rules pair count spare moves st outcome new → Comes outcome new
+  if_memory_comes st count spare moves placed new h = (_, ap (λ x. x.pairs) h.state)
+  if_memory_comes st count spare moves no_memory new h = tt
+  if_memory_comes st count spare moves refused new h = absurd h
+
+  placed_comes : (st : State K V S H) (count spare moves : ℕ) (outcome : Outcome) (new : State K V S H) → outcome ≡ placed → IsPlaced pair count spare moves st new → Comes outcome new
+  placed_comes st count spare moves outcome new o p = rw o (_, ap (λ x. x.pairs) p.state)
+
+  pub place_comes : (outcome : Outcome) (new : State K V S H) → Place rules hash_of pair old outcome new → Comes outcome new
+  place_comes outcome new (first_table e b bytes u g m) = if_memory_comes (asked rules bytes old) _ _ _ outcome new m
+  place_comes outcome new (first_denied e b bytes u d o n) = rw o (ap (λ st. st.pairs) n ∙ e)
+  place_comes outcome new (first_too_large e b u o n) = rw o (ap (λ st. st.pairs) n ∙ e)
+  place_comes outcome new (into_empty e b r s o n) = placed_comes _ _ _ _ outcome new o n
+  place_comes outcome new (into_emptied e b r o n) = placed_comes _ _ _ _ outcome new o n
+  place_comes outcome new (with_room e r s o n) = placed_comes _ _ _ _ outcome new o n
+  place_comes outcome new (deleted_bucket f i b l o n) = placed_comes _ _ _ _ outcome new o n
+  place_comes outcome new (rehashed f i l m) = if_memory_comes old _ _ _ outcome new m
+  place_comes outcome new (grown f i l count bytes t g m) = if_memory_comes (asked rules bytes old) _ _ _ outcome new m
+  place_comes outcome new (evicted f i l mid c n pos one half o p) = placed_comes _ _ _ _ outcome new o p
+  place_comes outcome new (evicted_rehashed f i l mid c n pos one half left lv m) = if_memory_comes left _ _ _ outcome new m
+
+module _ {K V S H : Type 0} (rules : Rules K V S) (names : K → Bool) where
+  -- after a trimming that answers whether a pair is left
+  trimmed_says : (mid : State K V S H) (c : Contents K V S) (result : Result Bool AllocError) (new : State K V S H) → Leaves mid (trim rules c) new → result ≡ Ok (not (is_empty new.pairs)) → IsNewest names c.pairs → SaysWhether rules names result new
+  trimmed_says mid c result new l r n = rw r (go (is_empty new.pairs) refl)
+    where
+      same : new.pairs ≡ (trim rules c).pairs
+      same = ap (λ st. st.pairs) l.is
+
+      same_limiter : new.limiter ≡ (trim rules c).limiter
+      same_limiter = ap (λ st. st.limiter) l.is
+
+      none : (xs : List (K × V)) → is_empty xs ≡ true → lookup_entry names xs ≡ None
+      none [] e = refl
+      none (x ∷ xs) e = grind arith
+
+      go : (b : Bool) → is_empty new.pairs ≡ b → SaysWhether rules names (Ok (not b)) new
+      go true e = none new.pairs e
+      go false e = let k : is_empty (trim rules c).pairs ≡ false = rw same at e in
+          (rw same (trim_newest rules names c k n), rw (same, same_limiter) (trim_within rules c k))
+
+module _ {K V S H I : Type 0} (rules : Rules K V S) (offers : Offers K V S I) (names : I → K → Bool) (hash_of : H → K → ℕ) {eq : K → K → Bool} {query_input : I → List (List ℕ)} {key_input : K → List (List ℕ)} (looks_up : IsLookup names eq query_input key_input) (laws : IsInsertion names eq offers) (i : I) (v : V) (old : State K V S H) where
+  err_says : (result : Result Bool AllocError) (new : State K V S H) → IsErr result → SaysWhether rules (names i) result new
+  err_says (Ok b) new h = absurd (grind (arith, h))
+  err_says (Err e) new h = tt
+
+  settled_says : (pair : K × V) (ready : State K V S H) (outcome : Outcome) (landed : State K V S H) (result : Result Bool AllocError) (new : State K V S H) → names i pair.0 ≡ true → Comes rules hash_of pair ready outcome landed → Settles rules outcome landed result new → SaysWhether rules (names i) result new
+  settled_says pair ready placed landed result new n b s = trimmed_says rules (names i) landed (contents landed) result new s.1 s.0 (record { pair = pair; rest = b.0; first = b.1; named = n })
+  settled_says pair ready refused landed result new n b s = rw s.0 (ap (λ st. lookup_entry (names i) st.pairs) s.1 ∙ ap (lookup_entry (names i)) b)
+  settled_says pair ready no_memory landed result new n b s = err_says result new s.0
+
+  -- The answer of an insert says whether the key is there.
+  pub insert_says : (result : Result Bool AllocError) (new : State K V S H) → AreDistinct eq old.pairs → Insert rules offers names hash_of i v old result new → SaysWhether rules (names i) result new
+  insert_says result new d (replaced pair found y r l) = trimmed_says rules (names i) old (with_replaced rules offers names pair i v old) result new l r (record {
+    pair = ((replacement rules offers names pair i v old).key, (replacement rules offers names pair i v old).new_value);
+    rest = without (names i) old.pairs;
+    first = refl;
+    named = replaced_named rules offers names hash_of looks_up laws i v old pair found;
+  })
+  insert_says result new d (given_up pair found y r l) = rw r (ap (λ st. lookup_entry (names i) st.pairs) l.is ∙ absent_without eq (names i) (λ x y n. looks_up.one i x y n) old.pairs d)
+  insert_says result new d (no_memory_to_admit a k r e) = err_says result new r
+  insert_says result new d (not_admitted a s n r e) = rw r (ap (λ st. lookup_entry (names i) st.pairs) e ∙ a)
+  insert_says result new d (admitted a s pair n ready l outcome landed p t) =
+      settled_says pair ready outcome landed result new (given_named rules offers names hash_of looks_up laws i v old s pair n) (place_comes rules hash_of pair ready outcome landed p) t

@@ -1,0 +1,11 @@
+use Rattle.schnellru.proofs.Distinct.{insert_distinct}
+use Rattle.schnellru.proofs.Sums.{insert_summed}
+use Rattle.schnellru.proofs.laws.inserts_keep_what_holds.Goals as goal
+
+pub returns-clause-keys : goal.returns-clause-keys
+returns-clause-keys g c = λ key value old result new d step.
+    insert_distinct _ _ _ _ g.met.I.LookupKey.laws g.met.L.Insertion.laws key value old result new step d
+
+pub returns-clause-sum : goal.returns-clause-sum
+returns-clause-sum g c = λ key value old result new summed step.
+    insert_summed _ _ _ _ g.met.L.Summing.laws _ _ key value old result new summed step

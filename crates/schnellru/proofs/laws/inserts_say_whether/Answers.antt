@@ -1,0 +1,6 @@
+use Rattle.schnellru.proofs.Within.{insert_says}
+use Rattle.schnellru.proofs.laws.inserts_say_whether.Goals as goal
+
+pub returns : goal.returns
+returns g c = λ key value old result new d step.
+    insert_says _ _ _ _ g.met.I.LookupKey.laws g.met.L.Insertion.laws key value old result new d step

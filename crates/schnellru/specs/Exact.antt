@@ -1,0 +1,88 @@
+-- Inserts into tables of up to 16 buckets, which leave nothing open but where memory is short.
+use Rattle.std.specs.Prelude.{◌≡◌, ℕ, ◌+◌, ◌-◌, ◌/◌, ◌==◌, nat_lt, nat_le, Bool, true, false, not, if◌then◌else◌, ◌∷◌, length, Option, Some, None, Result}
+use Rattle.std.specs.declared.alloc.AllocError.{AllocError}
+use Rattle.lru_limits.specs.Rules.{Rules, Offers}
+use Rattle.group_table.specs.Sizes.{full_capacity}
+use Rattle.schnellru.specs.Sizes.{usage, Target, target, no_table, same_table, new_table}
+use Rattle.schnellru.specs.Lists.{is_empty}
+use Rattle.schnellru.specs.State.{State, buckets, room, Contents, contents, pops, trim}
+use Rattle.schnellru.specs.Inserts.{make_way, replacement, with_replaced, with_given_up}
+
+-- whether a pair was placed, and the pairs and the limiter then
+pub record Landing (K V S : Type 0) : Type 0 where
+  pub there : Bool
+  pub left : Contents K V S
+
+-- whether an insert answers true, and the pairs and the limiter that it leaves
+pub record Ending (K V S : Type 0) : Type 0 where
+  pub flag : Bool
+  pub left : Contents K V S
+
+module _ {K V S : Type 0} (rules : Rules K V S) (pair : K × V) where
+  -- the pair is placed, beside these
+  abbrev pub lands : Contents K V S → Landing K V S
+  lands c = record { there = true; left = record { pairs = pair ∷ c.pairs; limiter = c.limiter } }
+
+  -- it is not, and the limiter is told that it leaves
+  abbrev pub turns_away : Contents K V S → Landing K V S
+  turns_away c = record { there = false; left = record { pairs = c.pairs; limiter = (rules.on_removed c.limiter pair.0 pair.1).limiter } }
+
+  -- the oldest leaves for it
+  abbrev pub evicts : Contents K V S → Landing K V S
+  evicts c = lands (pops rules 1 c)
+
+  -- the contents, after the limiter was asked for a table of so many bytes
+  abbrev pub asks : ℕ → Contents K V S → Contents K V S
+  asks bytes c = record { pairs = c.pairs; limiter = (rules.on_grow c.limiter bytes).limiter }
+
+  -- the first table is asked for, where there can be one of so many bytes
+  abbrev pub first_lands : Option ℕ → Contents K V S → Landing K V S
+  first_lands None c = turns_away c
+  first_lands (Some bytes) c = if (rules.on_grow c.limiter bytes).allowed then lands (asks bytes c) else turns_away (asks bytes c)
+
+  -- a larger table is asked for, where there can be one, and else the oldest leaves
+  abbrev pub grows : Target → Contents K V S → Landing K V S
+  grows no_table c = evicts c
+  grows same_table c = evicts c
+  grows (new_table count bytes) c = if (rules.on_grow c.limiter bytes).allowed then lands (asks bytes c) else evicts (asks bytes c)
+
+  -- what placing the pair does with memory, in a table of so many buckets, up to 16, with so much room
+  abbrev pub landing : ℕ → ℕ → ℕ → ℕ → Contents K V S → Landing K V S
+  landing count spare entry_bytes max c =
+      if is_empty c.pairs then
+      (if count == 0 then first_lands (usage entry_bytes 4) c else lands c)
+      else (if nat_lt 0 spare then lands c
+      else (if nat_le (length c.pairs + 1) (full_capacity count / 2) then lands c
+      else grows (target max entry_bytes count (length c.pairs + 1)) c))
+
+module _ {K V S : Type 0} (rules : Rules K V S) where
+  -- the oldest leave, as long as the limiter is over
+  abbrev pub trimmed : Contents K V S → Ending K V S
+  trimmed c = record { flag = not (is_empty (trim rules c).pairs); left = trim rules c }
+
+  -- what follows a placing
+  abbrev pub settled : Landing K V S → Ending K V S
+  settled l = if l.there then trimmed l.left else record { flag = false; left = l.left }
+
+module _ {K V S H I : Type 0} (rules : Rules K V S) (offers : Offers K V S I) (names : I → K → Bool) (i : I) (v : V) (old : State K V S H) where
+  -- what an insert leaves, where the key is there
+  abbrev pub ending_there : K × V → Ending K V S
+  ending_there pair = if (replacement rules offers names pair i v old).taken
+      then trimmed rules (with_replaced rules offers names pair i v old)
+      else record { flag = false; left = with_given_up rules offers names pair i v old }
+
+  -- what it leaves, where the key is new, of which the limiter gave this and is s
+  abbrev pub ending_new : S → Option (K × V) → Ending K V S
+  ending_new s None = record { flag = false; left = record { pairs = old.pairs; limiter = s } }
+  ending_new s (Some pair) = let c = make_way rules (record { pairs = old.pairs; limiter = s }) in
+      settled rules (landing rules pair (buckets old) (room old + length old.pairs - length c.pairs) old.entry_bytes old.max c)
+
+-- two inserts ended alike
+pub record EndsAlike {K V S H : Type 0} (result other : Result Bool AllocError) (new others : State K V S H) : Type 0 where
+  pub answers : result ≡ other
+  pub contents : contents new ≡ contents others
+
+-- an offer leaves nothing open
+abbrev pub IsDetermined : {K V S I : Type 0} → Offers K V S I → Type 0
+IsDetermined {K} {V} {S} {I} offers = (s : S) (n : ℕ) (i : I) (v : V) (t u : S) (given other : Option (K × V)) →
+    offers.on_insert s n i v t given → offers.on_insert s n i v u other → (t ≡ u) × (given ≡ other)

@@ -1,0 +1,79 @@
+-- What an insert does.
+--     rules, offers       what the limiter says (`Rules`, `Offers` of `lru_limits`)
+--     names i k           the inserted key i names the key k
+--     hash_of h k         the hash of the key k, by the hasher h
+use Rattle.std.specs.Prelude.{◌≡◌, ℕ, ◌+◌, ◌⊎◌, ◌<◌, Bool, true, false, not, if◌then◌else◌, ◌∷◌, length, Option, Some, None, Result, Ok, IsErr}
+use Rattle.std.specs.declared.alloc.AllocError.{AllocError}
+use Rattle.lru_limits.specs.Rules.{Rules, Offers, Replaced}
+use Rattle.schnellru.specs.Lists.{is_empty, lookup_entry, without}
+use Rattle.schnellru.specs.State.{State, buckets, room, Contents, contents, Leaves, pop, trim}
+use Rattle.schnellru.specs.Place.{Place, Outcome, placed, refused, no_memory}
+
+-- the oldest leaves, if the limiter would be over with one more
+abbrev pub make_way : {K V S : Type 0} → Rules K V S → Contents K V S → Contents K V S
+make_way rules c = if rules.is_over_the_limit c.limiter (length c.pairs + 1) then pop rules c else c
+
+module _ {K V S H : Type 0} (rules : Rules K V S) where
+  -- what follows a placing; the answer is whether a pair is left
+  abbrev pub Settles : Outcome → State K V S H → Result Bool AllocError → State K V S H → Type 0
+  Settles placed landed result new = (result ≡ Ok (not (is_empty new.pairs))) × Leaves landed (trim rules (contents landed)) new
+  Settles refused landed result new = (result ≡ Ok false) × (new ≡ landed)
+  Settles no_memory landed result new = IsErr result × (new ≡ landed)
+
+module _ {K V S H I : Type 0} (rules : Rules K V S) (offers : Offers K V S I) (names : I → K → Bool) where
+  -- what the limiter says of a new value for this pair
+  abbrev pub replacement : K × V → I → V → State K V S H → Replaced K V S
+  replacement pair i v st = offers.on_replace st.limiter (length st.pairs) pair.0 i pair.1 v
+
+  -- after the new value was taken for the pair, which comes first
+  abbrev pub with_replaced : K × V → I → V → State K V S H → Contents K V S
+  with_replaced pair i v st = let r = replacement pair i v st in
+      record { pairs = (r.key, r.new_value) ∷ without (names i) st.pairs; limiter = r.limiter }
+
+  -- after the new value was refused and the pair left, of which the limiter is told
+  abbrev pub with_given_up : K × V → I → V → State K V S H → Contents K V S
+  with_given_up pair i v st = let r = replacement pair i v st in
+      record { pairs = without (names i) st.pairs; limiter = (rules.on_removed r.limiter r.key r.old_value).limiter }
+
+  -- the limiter may give this of a new key, and be s then
+  abbrev pub Admits : I → V → State K V S H → S → Option (K × V) → Type 0
+  Admits i v st s given = offers.on_insert st.limiter (length st.pairs) i v s given
+
+  module _ (hash_of : H → K → ℕ) where
+    -- what an insert may answer and leave
+    pub data Insert (i : I) (v : V) (old : State K V S H) (result : Result Bool AllocError) (new : State K V S H) : Type 0 where
+      -- The key is there: the pair as left comes first, or it goes.
+      replaced : (pair : K × V) → lookup_entry (names i) old.pairs ≡ Some pair →
+          (replacement pair i v old).taken ≡ true →
+          result ≡ Ok (not (is_empty new.pairs)) → Leaves old (trim rules (with_replaced pair i v old)) new →
+          Insert i v old result new
+      given_up : (pair : K × V) → lookup_entry (names i) old.pairs ≡ Some pair →
+          (replacement pair i v old).taken ≡ false →
+          result ≡ Ok false → Leaves old (with_given_up pair i v old) new →
+          Insert i v old result new
+      -- The key is new: the limiter finds no memory, or gives no pair,
+      no_memory_to_admit : lookup_entry (names i) old.pairs ≡ None →
+          offers.may_lack old.limiter (length old.pairs) i v →
+          IsErr result → new ≡ old →
+          Insert i v old result new
+      not_admitted : lookup_entry (names i) old.pairs ≡ None →
+          (s : S) → Admits i v old s None →
+          result ≡ Ok false → new ≡ record old { limiter = s } →
+          Insert i v old result new
+      -- or the pair that it gives is placed, with all that this takes.
+      admitted : lookup_entry (names i) old.pairs ≡ None →
+          (s : S) (pair : K × V) → Admits i v old s (Some pair) →
+          (ready : State K V S H) → Leaves (record old { limiter = s }) (make_way rules (record { pairs = old.pairs; limiter = s })) ready →
+          (outcome : Outcome) (landed : State K V S H) → Place rules hash_of pair ready outcome landed →
+          Settles rules outcome landed result new →
+          Insert i v old result new
+
+    -- memory is short for the table: the key is new, there is no room, and no table or a pair beside which to place it,
+    -- where s is the limiter after it admitted the new one
+    pub record IsShort (i : I) (v : V) (old : State K V S H) : Type 0 where
+      pub absent : lookup_entry (names i) old.pairs ≡ None
+      pub no_room : room old ≡ 0
+      pub s : S
+      pub pair : K × V
+      pub admits : Admits i v old s (Some pair)
+      pub beside : (buckets old ≡ 0) ⊎ (0 < length (make_way rules (record { pairs = old.pairs; limiter = s })).pairs)

@@ -1,0 +1,124 @@
+-- Placing a new pair: what the table's room allows, what the limiter is asked, and what it costs.
+use Rattle.std.specs.Prelude.{◌≡◌, ℕ, ◌+◌, ◌-◌, ◌/◌, ◌≤◌, ◌<◌, ◌⊎◌, true, false, [], ◌∷◌, length, Some, None}
+use Rattle.group_table.specs.Sizes.{full_capacity}
+use Rattle.group_table.specs.Bucket.{empty, deleted}
+use Rattle.group_table.specs.Change.{count_up}
+use Rattle.lru_limits.specs.Rules.{Rules}
+use Rattle.schnellru.specs.Sizes.{usage, target, Target, no_table, new_table}
+use Rattle.schnellru.specs.State.{State, buckets, room, FirstFreeIs, contents, Leaves, pops}
+
+-- what comes of placing a pair: it is in the map, the limiter or the size refused it, or memory did
+pub data Outcome : Type 0 where
+  placed refused no_memory : Outcome
+
+module _ {K V S H : Type 0} where
+  -- the pair is the newest now, in a table of so many buckets with so much room left, and so many entries were placed
+  -- anew for it
+  pub record IsPlaced (pair : K × V) (count spare moves : ℕ) (old new : State K V S H) : Type 0 where
+    pub table : buckets new ≡ count
+    pub left : room new ≡ spare
+    pub state : new ≡ record old { pairs = pair ∷ old.pairs; marks = new.marks; moved = count_up old.moved moves; placed = count_up old.placed 1 }
+
+  -- there is a pair, and no more is sure to fit
+  abbrev pub LacksRoom : State K V S H → Type 0
+  LacksRoom st = (0 < length st.pairs) × (room st ≡ 0)
+
+module _ {K V S H : Type 0} (rules : Rules K V S) where
+  -- after the limiter was asked for a table of so many bytes
+  abbrev pub asked : ℕ → State K V S H → State K V S H
+  asked bytes st = record st { limiter = (rules.on_grow st.limiter bytes).limiter }
+
+  -- the limiter permits a table of so many bytes
+  abbrev pub Grants : ℕ → State K V S H → Type 0
+  Grants bytes st = (rules.on_grow st.limiter bytes).allowed ≡ true
+
+  -- the limiter refuses it
+  abbrev pub Denies : ℕ → State K V S H → Type 0
+  Denies bytes st = (rules.on_grow st.limiter bytes).allowed ≡ false
+
+  -- after the limiter was told that the pair leaves, which was not placed
+  abbrev pub turned_away : K × V → State K V S H → State K V S H
+  turned_away pair st = record st { limiter = (rules.on_removed st.limiter pair.0 pair.1).limiter }
+
+  -- after so many of the oldest left, with the marks as they were
+  abbrev pub without_oldest : ℕ → State K V S H → State K V S H
+  without_oldest n st = record st { pairs = (pops rules n (contents st)).pairs; limiter = (pops rules n (contents st)).limiter }
+
+  -- the pair is placed, or no memory is found for it and the rest stays
+  abbrev pub IsPlacedIfMemory : K × V → ℕ → ℕ → ℕ → State K V S H → Outcome → State K V S H → Type 0
+  IsPlacedIfMemory pair count spare moves old placed new = IsPlaced pair count spare moves old new
+  IsPlacedIfMemory pair count spare moves old no_memory new = new ≡ turned_away pair old
+  IsPlacedIfMemory pair count spare moves old refused new = ⊥
+
+  -- where a table without room goes for one more pair
+  abbrev pub next_table : State K V S H → Target
+  next_table st = target st.max st.entry_bytes (buckets st) (length st.pairs + 1)
+
+  -- there is no larger table, and mid is the state in which this is known: none is large enough, or the limiter denies it
+  pub data CannotGrow (old mid : State K V S H) : Type 0 where
+    no_target : next_table old ≡ no_table → mid ≡ old → CannotGrow old mid
+    denied : (count bytes : ℕ) → next_table old ≡ new_table count bytes → Denies bytes old → mid ≡ asked bytes old → CannotGrow old mid
+
+module _ {K V S H : Type 0} (rules : Rules K V S) (hash_of : H → K → ℕ) where
+  -- what may come of placing the pair
+  pub data Place (pair : K × V) (old : State K V S H) (outcome : Outcome) (new : State K V S H) : Type 0 where
+    -- With no table the limiter is asked for one of 4 buckets.
+    first_table : old.pairs ≡ [] → buckets old ≡ 0 →
+        (bytes : ℕ) → usage old.entry_bytes 4 ≡ Some bytes → Grants rules bytes old →
+        IsPlacedIfMemory rules pair 4 2 0 (asked rules bytes old) outcome new →
+        Place pair old outcome new
+    first_denied : old.pairs ≡ [] → buckets old ≡ 0 →
+        (bytes : ℕ) → usage old.entry_bytes 4 ≡ Some bytes → Denies rules bytes old →
+        outcome ≡ refused → new ≡ turned_away rules pair (asked rules bytes old) →
+        Place pair old outcome new
+    first_too_large : old.pairs ≡ [] → buckets old ≡ 0 →
+        usage old.entry_bytes 4 ≡ None →
+        outcome ≡ refused → new ≡ turned_away rules pair old →
+        Place pair old outcome new
+    -- A map without pairs that has a table places one, asks nothing and needs no memory.
+    into_empty : old.pairs ≡ [] → 0 < buckets old →
+        0 < room old → (room new ≡ room old) ⊎ (room new + 1 ≡ room old) →
+        outcome ≡ placed → IsPlaced pair (buckets old) (room new) 0 old new →
+        Place pair old outcome new
+    into_emptied : old.pairs ≡ [] → 0 < buckets old →
+        room old ≡ 0 →
+        outcome ≡ placed → IsPlaced pair (buckets old) (full_capacity (buckets old) - 1) 0 old new →
+        Place pair old outcome new
+    -- So does a table with room.
+    with_room : 0 < length old.pairs → 0 < room old →
+        (room new + 1 ≡ room old) ⊎ ((16 < buckets old) × (room new ≡ room old)) →
+        outcome ≡ placed → IsPlaced pair (buckets old) (room new) 0 old new →
+        Place pair old outcome new
+    -- With no room a deleted bucket serves, where it is the first free one that a search finds.
+    deleted_bucket : LacksRoom old → FirstFreeIs deleted (hash_of old.hasher pair.0) old →
+        16 < buckets old → length old.pairs < full_capacity (buckets old) →
+        outcome ≡ placed → IsPlaced pair (buckets old) 0 0 old new →
+        Place pair old outcome new
+    -- Where that is an empty one, the table is made anew at its size, where it then is at most half full,
+    rehashed : LacksRoom old → FirstFreeIs empty (hash_of old.hasher pair.0) old →
+        length old.pairs + 1 ≤ full_capacity (buckets old) / 2 →
+        IsPlacedIfMemory rules pair (buckets old) (full_capacity (buckets old) - length old.pairs - 1) (length old.pairs) old outcome new →
+        Place pair old outcome new
+    -- or, with more pairs, larger,
+    grown : LacksRoom old → FirstFreeIs empty (hash_of old.hasher pair.0) old →
+        full_capacity (buckets old) / 2 < length old.pairs + 1 →
+        (count bytes : ℕ) → next_table rules old ≡ new_table count bytes → Grants rules bytes old →
+        IsPlacedIfMemory rules pair count (full_capacity count - length old.pairs - 1) (length old.pairs) (asked rules bytes old) outcome new →
+        Place pair old outcome new
+    -- or it cannot be, and the oldest leave, at least one: then the pair finds a bucket,
+    evicted : LacksRoom old → FirstFreeIs empty (hash_of old.hasher pair.0) old →
+        full_capacity (buckets old) / 2 < length old.pairs + 1 →
+        (mid : State K V S H) → CannotGrow rules old mid →
+        (n : ℕ) → 0 < n → (buckets old ≤ 16 → n ≡ 1) →
+        full_capacity (buckets old) / 2 + n ≤ length old.pairs →
+        outcome ≡ placed → IsPlaced pair (buckets old) (room new) 0 (without_oldest rules n mid) new →
+        Place pair old outcome new
+    -- or, as soon as they are fewer than half of what the table takes, it is made anew at its size.
+    evicted_rehashed : LacksRoom old → FirstFreeIs empty (hash_of old.hasher pair.0) old →
+        full_capacity (buckets old) / 2 < length old.pairs + 1 →
+        (mid : State K V S H) → CannotGrow rules old mid →
+        (n : ℕ) → 0 < n → (buckets old ≤ 16 → n ≡ 1) →
+        length old.pairs + 1 ≡ full_capacity (buckets old) / 2 + n →
+        (left : State K V S H) → Leaves mid (pops rules n (contents mid)) left →
+        IsPlacedIfMemory rules pair (buckets old) (full_capacity (buckets old) / 2) (length left.pairs) left outcome new →
+        Place pair old outcome new

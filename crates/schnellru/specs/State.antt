@@ -1,0 +1,113 @@
+-- A map as a list of pairs under a limiter, in a table of which the marks of its buckets are known.
+use Rattle.std.specs.Prelude.{◌≡◌, ℕ, zero, suc, ◌+◌, ◌-◌, ◌*◌, ◌^◌, ◌≤◌, ◌<◌, ◌⊎◌, Bool, if◌then◌else◌, List, length, Option, Some, None}
+use Rattle.std.specs.List.{IsDistinct}
+use Rattle.group_table.specs.Sizes.{full_capacity}
+use Rattle.group_table.specs.Bucket.{Mark, bucket_at, entry_count, room as room_of}
+use Rattle.group_table.specs.Probe.{IsFirstFree}
+use Rattle.group_table.specs.Table.{IsTable}
+use Rattle.lru_limits.specs.Rules.{Rules}
+use Rattle.schnellru.specs.Sizes.{usage}
+use Rattle.schnellru.specs.Lists.{last, without_last, keys_of}
+
+-- the pairs, newest first, and the limiter's state
+pub record Contents (K V S : Type 0) : Type 0 where
+  pub pairs : List (K × V)
+  pub limiter : S
+
+-- what a contract sees of a map
+pub record State (K V S H : Type 0) : Type 0 where
+  -- newest first
+  pub pairs : List (K × V)
+  pub limiter : S
+  -- what builds the hashers of keys
+  pub hasher : H
+  -- whether each bucket of the table is empty, deleted or full
+  pub marks : List Mark
+  -- how many entries inserts placed anew, and how many new ones they placed
+  pub moved : ℕ
+  pub placed : ℕ
+  -- what a bucket takes, and the number from which on links reach no bucket
+  pub entry_bytes : ℕ
+  pub max : ℕ
+
+module _ {K V S H : Type 0} where
+  -- the pairs and the limiter of a map
+  abbrev pub contents : State K V S H → Contents K V S
+  contents st = record { pairs = st.pairs; limiter = st.limiter }
+
+  -- how many buckets its table has
+  abbrev pub buckets : State K V S H → ℕ
+  buckets st = length st.marks
+
+  -- how many more pairs the table is sure to take
+  abbrev pub room : State K V S H → ℕ
+  room st = room_of st.marks
+
+  -- the first bucket that a search for the hash finds empty or deleted has this mark
+  abbrev pub FirstFreeIs : Mark → ℕ → State K V S H → Type 0
+  FirstFreeIs mark hash st = (b : ℕ) × IsFirstFree st.marks hash b × (bucket_at st.marks b ≡ mark)
+
+  -- what holds of every map's table and numbers
+  pub record IsSized (st : State K V S H) : Type 0 where
+    pub table : IsTable st.marks
+    -- each pair has a bucket, and each full bucket a pair
+    pub taken : entry_count st.marks ≡ length st.pairs
+    -- links reach every bucket
+    pub reachable : (buckets st ≡ 0) ⊎ (buckets st < st.max)
+    -- there can be such a table
+    pub usable : (bytes : ℕ) × (usage st.entry_bytes (buckets st) ≡ Some bytes)
+    pub moved : st.moved < 2 ^ 64
+    pub placed : st.placed < 2 ^ 64
+
+  -- how much of the table is used, beyond half
+  abbrev pub potential : State K V S H → ℕ
+  potential st = full_capacity (buckets st) - 2 * room st
+
+  -- moved and potential together are at most twice what was placed, and so is moved alone
+  abbrev pub IsPaid : State K V S H → Type 0
+  IsPaid st = st.moved + potential st ≤ 2 * st.placed
+
+  -- what holds of every map
+  pub record IsMap (eq : K → K → Bool) (st : State K V S H) : Type 0 where
+    -- no two keys are equal
+    pub distinct : IsDistinct eq (keys_of st.pairs)
+    pub sized : IsSized st
+    pub paid : IsPaid st
+
+  -- What leaves gives room, or not; up to 16 buckets it does.
+  pub record FreesRoom (old new : State K V S H) : Type 0 where
+    pub table : buckets new ≡ buckets old
+    pub keeps : room old ≤ room new
+    pub at_most : length new.pairs + room new ≤ length old.pairs + room old
+    pub exact : buckets old ≤ 16 → length new.pairs + room new ≡ length old.pairs + room old
+    -- where nothing left, no mark has changed
+    pub untouched : length new.pairs ≡ length old.pairs → new.marks ≡ old.marks
+
+  -- new is old with these contents, after some pairs left
+  pub record Leaves (old : State K V S H) (left : Contents K V S) (new : State K V S H) : Type 0 where
+    pub is : new ≡ record old { pairs = left.pairs; limiter = left.limiter; marks = new.marks }
+    pub room : FreesRoom old new
+
+module _ {K V S : Type 0} (rules : Rules K V S) where
+  -- the limiter, after it was told that the pair left, if there was one
+  abbrev pub told_of : Option (K × V) → S → S
+  told_of None s = s
+  told_of (Some pair) s = (rules.on_removed s pair.0 pair.1).limiter
+
+  -- without the oldest pair, of which the limiter is told
+  abbrev pub pop : Contents K V S → Contents K V S
+  pop c = record { pairs = without_last c.pairs; limiter = told_of (last c.pairs) c.limiter }
+
+  -- without so many of the oldest pairs, one after another
+  abbrev pub pops : ℕ → Contents K V S → Contents K V S
+  pops zero c = c
+  pops (suc n) c = pops n (pop c)
+
+  -- the oldest of so many pairs leave, as long as the limiter is over
+  abbrev pub trim_from : ℕ → Contents K V S → Contents K V S
+  trim_from zero c = c
+  trim_from (suc n) c = if rules.is_over_the_limit c.limiter (suc n) then trim_from n (pop c) else c
+
+  -- the oldest leave, as long as the limiter is over
+  unfoldable pub trim : Contents K V S → Contents K V S
+  trim c = trim_from (length c.pairs) c
