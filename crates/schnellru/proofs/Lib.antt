@@ -13,3 +13,6 @@ pub mod Within
 pub mod Short
 pub mod Exact
 pub mod Sums
+pub mod Cuts
+pub mod Named
+pub mod Ordered

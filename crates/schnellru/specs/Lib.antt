@@ -9,3 +9,5 @@ pub mod Exact
 pub mod Linked
 pub mod Chain
 pub mod Lends
+pub mod Holds
+pub mod Steps

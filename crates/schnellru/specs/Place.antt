@@ -1,5 +1,5 @@
 -- Placing a new pair: what the table's room allows, what the limiter is asked, and what it costs.
-use Rattle.std.specs.Prelude.{◌≡◌, ℕ, ◌+◌, ◌-◌, ◌/◌, ◌≤◌, ◌<◌, ◌⊎◌, true, false, [], ◌∷◌, length, Some, None}
+use Rattle.std.specs.Prelude.{◌≡◌, ℕ, ◌+◌, ◌-◌, ◌/◌, ◌≤◌, ◌<◌, ◌⊎◌, Bool, true, false, [], ◌∷◌, length, Some, None, Result, Ok, Err}
 use Rattle.group_table.specs.Sizes.{full_capacity}
 use Rattle.group_table.specs.Bucket.{empty, deleted}
 use Rattle.group_table.specs.Change.{count_up}
@@ -10,6 +10,12 @@ use Rattle.schnellru.specs.State.{State, buckets, room, FirstFreeIs, contents, L
 -- what comes of placing a pair: it is in the map, the limiter or the size refused it, or memory did
 pub data Outcome : Type 0 where
   placed refused no_memory : Outcome
+
+-- the outcome that an answer tells: whether the pair is placed, or no memory
+abbrev pub outcome_of : {E : Type 0} → Result Bool E → Outcome
+outcome_of (Ok true) = placed
+outcome_of (Ok false) = refused
+outcome_of (Err e) = no_memory
 
 module _ {K V S H : Type 0} where
   -- the pair is the newest now, in a table of so many buckets with so much room left, and so many entries were placed

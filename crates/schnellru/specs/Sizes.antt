@@ -60,3 +60,8 @@ target_from max entry_bytes buckets pairs (Some need) =
 -- where a table of so many buckets goes that is to take so many pairs
 unfoldable pub target : ℕ → ℕ → ℕ → ℕ → Target
 target max entry_bytes buckets pairs = target_from max entry_bytes buckets pairs (buckets_for max pairs)
+
+-- the larger table, by its buckets and bytes, if there is one
+abbrev pub larger : Option (ℕ × ℕ) → Target
+larger None = no_table
+larger (Some table) = new_table table.0 table.1

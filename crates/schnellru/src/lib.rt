@@ -4,5 +4,6 @@
 pub mod laws;
 mod link;
 mod map;
+mod sizes;
 
 pub use map::LruMap;

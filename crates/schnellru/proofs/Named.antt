@@ -1,0 +1,51 @@
+-- Pairs with distinct keys, cut at the one whose key is named.
+use Rattle.std.proofs.Common.{◌≡◌, ℕ, Bool, true, false, List, [], ◌∷◌, ◌++◌, length, Some, None, refl, sym, ap, ◌∙◌, arith, length-append}
+use Rattle.std.specs.Cmp.{IsEquivalence}
+use Rattle.std.specs.List.{IsDistinct, AllByRecursion}
+use Rattle.schnellru.specs.Lists.{lookup, lookup_entry, without, keys_of, last, without_last}
+use Rattle.schnellru.proofs.Distinct.{AreDistinct}
+
+module _ {K V : Type 0} (names : K → Bool) where
+  -- none of the keys is named
+  abbrev pub NoneNamed : List (K × V) → Type 0
+  NoneNamed = AllByRecursion (λ e. names e.0 ≡ false)
+
+  pub none_found : (xs : List (K × V)) → NoneNamed xs → lookup_entry names xs ≡ None
+  none_found [] h = refl
+  none_found (x ∷ xs) h = rw h.0 (none_found xs h.1)
+
+  module _ (p : K × V) (named : names p.0 ≡ true) where
+    pub cut_found : (xs ys : List (K × V)) → NoneNamed xs → lookup_entry names (xs ++ p ∷ ys) ≡ Some p
+    cut_found [] ys h = rw named refl
+    cut_found (x ∷ xs) ys h = rw h.0 (cut_found xs ys h.1)
+
+    pub cut_value : (xs ys : List (K × V)) → NoneNamed xs → lookup names (xs ++ p ∷ ys) ≡ Some p.1
+    cut_value [] ys h = rw named refl
+    cut_value (x ∷ xs) ys h = rw h.0 (cut_value xs ys h.1)
+
+    pub cut_without : (xs ys : List (K × V)) → NoneNamed xs → without names (xs ++ p ∷ ys) ≡ xs ++ ys
+    cut_without [] ys h = rw named refl
+    cut_without (x ∷ xs) ys h = rw h.0 (ap (λ l. x ∷ l) (cut_without xs ys h.1))
+
+  module _ {eq : K → K → Bool} (laws : IsEquivalence eq) (one : (x y : K) → names x ≡ true → names y ≡ eq x y) where
+    met : (P : K → Type 0) (xs ys : List (K × V)) (p : K × V) → AllByRecursion P (keys_of (xs ++ p ∷ ys)) → P p.0
+    met P [] ys p h = h.0
+    met P (x ∷ xs) ys p h = met P xs ys p h.1
+
+    -- where one is, those before it are not
+    pub others_unnamed : (xs ys : List (K × V)) (p : K × V) → names p.0 ≡ true → AreDistinct eq (xs ++ p ∷ ys) → NoneNamed xs
+    unfolding IsDistinct
+    others_unnamed [] ys p named d = tt
+    others_unnamed (x ∷ xs) ys p named d =
+        (one p.0 x.0 named ∙ laws.symm p.0 x.0 ∙ met (λ k. eq x.0 k ≡ false) xs ys p d.0, others_unnamed xs ys p named d.1)
+
+module _ {X : Type 0} where
+  pub last_end : (xs : List X) (x : X) → last (xs ++ x ∷ []) ≡ Some x
+  last_end [] x = refl
+  last_end (y ∷ []) x = refl
+  last_end (y ∷ z ∷ zs) x = last_end (z ∷ zs) x
+
+  pub without_last_end : (xs : List X) (x : X) → without_last (xs ++ x ∷ []) ≡ xs
+  without_last_end [] x = refl
+  without_last_end (y ∷ []) x = refl
+  without_last_end (y ∷ z ∷ zs) x = ap (λ l. y ∷ l) (without_last_end (z ∷ zs) x)

@@ -1,0 +1,94 @@
+-- The pairs of a linked table, as its buckets give them.
+use Rattle.std.proofs.Common.{◌≡◌, ℕ, suc, ◌+◌, ◌<◌, Bool, true, false, List, [], ◌∷◌, ◌++◌, length, Some, None, refl, sym, ap, ◌∙◌, subst, arith, slice_set, append-nil}
+use Rattle.std.specs.Cmp.{IsEquivalence}
+use Rattle.std.specs.Prelude.{◌≢◌, Contains, AllPairs, IsTrue, option_to_list}
+use Rattle.std.specs.List.{AllByRecursion}
+use Rattle.group_table.specs.Bucket.{Slot, empty, deleted, full, is_full, IsFull, bucket_at, entry_of, entry_at}
+use Rattle.schnellru.specs.Lists.{lookup, lookup_entry, without, front, last, without_last}
+use Rattle.schnellru.specs.Linked.{Linked, IsLinked, entries_in, pairs_of, without_bucket}
+use Rattle.schnellru.specs.Chain.{last_bucket}
+use Rattle.schnellru.proofs.Distinct.{AreDistinct}
+use Rattle.schnellru.proofs.Named.{NoneNamed, none_found, cut_found, cut_value, cut_without, others_unnamed, last_end, without_last_end}
+use Rattle.schnellru.proofs.Cuts.{Cut, cut_at, cut_last, entries-cut, entries-without}
+
+module _ {T : Type 0} where
+  held : (slot : Slot T) → is_full slot ≡ true → (entry : T) × (entry_of slot ≡ Some entry)
+  held empty h = absurd cc
+  held deleted h = absurd cc
+  held (full tagged) h = (tagged.entry, refl)
+
+  holds : (slot : Slot T) (entry : T) → entry_of slot ≡ Some entry → is_full slot ≡ true
+  holds empty entry h = absurd cc
+  holds deleted entry h = absurd cc
+  holds (full tagged) entry h = refl
+
+  -- a full bucket holds an entry, and a bucket that holds one is full
+  pub full_entry : (slots : List (Slot T)) (b : ℕ) → IsFull slots b → (entry : T) × (entry_at slots b ≡ Some entry)
+  full_entry slots b h = held (bucket_at slots b) h
+
+  pub full_by : (slots : List (Slot T)) (b : ℕ) (entry : T) → entry_at slots b ≡ Some entry → IsFull slots b
+  full_by slots b entry h = holds (bucket_at slots b) entry h
+
+  -- these buckets are full
+  abbrev pub AreFull : List (Slot T) → List ℕ → Type 0
+  AreFull slots = AllByRecursion (λ b. IsFull slots b)
+
+  pub entries-length : (slots : List (Slot T)) (order : List ℕ) → AreFull slots order → length (entries_in slots order) ≡ length order
+  entries-length slots [] h = refl
+  entries-length slots (b ∷ bs) h =
+      let e = full_entry slots b h.0 in ap (λ o. length (option_to_list o ++ entries_in slots bs)) e.1 ∙ ap (λ n. suc n) (entries-length slots bs h.1)
+
+  pub all_full : (slots : List (Slot T)) (order : List ℕ) → ((b : ℕ) → Contains order b → IsFull slots b) → AreFull slots order
+  all_full slots [] h = tt
+  all_full slots (b ∷ bs) h = (h b (0, omega arith, refl), all_full slots bs (λ c k. h c (suc k.0, omega (arith, k.1), k.2)))
+
+module _ {K V : Type 0} (t : Linked K V) (linked : IsLinked t) where
+  -- the pair of the bucket b, the order cut there
+  module _ (b : ℕ) (p : K × V) (there : entry_at t.slots b ≡ Some p) where
+    cut_here : Cut b t.order
+    cut_here = cut_at b t.order linked.distinct (linked.all b (full_by t.slots b p there))
+
+    module _ (names : K → Bool) {eq : K → K → Bool} (laws : IsEquivalence eq) (one : (x y : K) → names x ≡ true → names y ≡ eq x y)
+        (distinct : AreDistinct eq (pairs_of t)) (named : names p.0 ≡ true) where
+      cut_pairs : pairs_of t ≡ entries_in t.slots cut_here.before ++ p ∷ entries_in t.slots cut_here.after
+      cut_pairs = entries-cut t.slots cut_here p there
+
+      unnamed : NoneNamed names (entries_in t.slots cut_here.before)
+      unnamed = others_unnamed names laws one (entries_in t.slots cut_here.before) (entries_in t.slots cut_here.after) p named (subst (AreDistinct eq) cut_pairs distinct)
+
+      pub pair_found : lookup_entry names (pairs_of t) ≡ Some p
+      pair_found = ap (lookup_entry names) cut_pairs ∙ cut_found names p named (entries_in t.slots cut_here.before) (entries_in t.slots cut_here.after) unnamed
+
+      pub value_found : lookup names (pairs_of t) ≡ Some p.1
+      value_found = ap (lookup names) cut_pairs ∙ cut_value names p named (entries_in t.slots cut_here.before) (entries_in t.slots cut_here.after) unnamed
+
+      -- the others, in their order
+      pub others_are : without names (pairs_of t) ≡ entries_in t.slots (without_bucket b t.order)
+      others_are = ap (without names) cut_pairs ∙ cut_without names p named (entries_in t.slots cut_here.before) (entries_in t.slots cut_here.after) unnamed
+          ∙ sym (entries-without t.slots cut_here p there)
+
+  pub pairs-length : length (pairs_of t) ≡ length t.order
+  pairs-length = entries-length t.slots t.order (all_full t.slots t.order linked.only)
+
+  -- where no bucket has a named key, no pair is named
+  pub none_named : (names : K → Bool) → ((b : ℕ) (p : K × V) → entry_at t.slots b ≡ Some p → names p.0 ≡ false) → lookup_entry names (pairs_of t) ≡ None
+  none_named names h = none_found names (pairs_of t) (go t.order (all_full t.slots t.order linked.only))
+    where
+      go : (order : List ℕ) → AreFull t.slots order → NoneNamed names (entries_in t.slots order)
+      go [] f = tt
+      go (b ∷ bs) f = let e = full_entry t.slots b f.0 in subst (λ o. NoneNamed names (option_to_list o ++ entries_in t.slots bs)) (sym e.1) (h b e.0 e.1, go bs f.1)
+
+  -- the last bucket holds the oldest pair
+  module _ (b : ℕ) (is_last : last_bucket t.order ≡ Some b) (p : K × V) (there : entry_at t.slots b ≡ Some p) where
+    last_cut : (cut : Cut b t.order) × (cut.after ≡ [])
+    last_cut = cut_last b t.order linked.distinct is_last
+
+    last_pairs : pairs_of t ≡ entries_in t.slots last_cut.0.before ++ p ∷ []
+    last_pairs = entries-cut t.slots last_cut.0 p there ∙ ap (λ l. entries_in t.slots last_cut.0.before ++ p ∷ entries_in t.slots l) last_cut.1
+
+    pub oldest_is : last (pairs_of t) ≡ Some p
+    oldest_is = ap last last_pairs ∙ last_end (entries_in t.slots last_cut.0.before) p
+
+    pub others_oldest : without_last (pairs_of t) ≡ entries_in t.slots (without_bucket b t.order)
+    others_oldest = ap without_last last_pairs ∙ without_last_end (entries_in t.slots last_cut.0.before) p
+        ∙ sym (entries-without t.slots last_cut.0 p there ∙ ap (λ l. entries_in t.slots last_cut.0.before ++ entries_in t.slots l) last_cut.1 ∙ append-nil (entries_in t.slots last_cut.0.before))

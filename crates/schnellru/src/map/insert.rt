@@ -1,0 +1,78 @@
+//! `insert`.
+ghost use Rattle.std.specs.Prelude.{◌≡◌, ◌⊎◌, ℕ, ◌+◌, true, false, not, length, None, Some, Ok, OnErr, if◌then◌else◌};
+ghost use Rattle.lru_limits.specs.Hashing.{hash_by};
+ghost use Rattle.schnellru.specs.Lists.{lookup_entry, is_empty};
+ghost use Rattle.schnellru.specs.State.{contents, trim, Leaves, IsMap};
+ghost use Rattle.schnellru.specs.Inserts.{Insert, IsShort};
+ghost use Rattle.schnellru.specs.Steps.{Admitted};
+ghost use Rattle.schnellru.specs.Theorems.{SaysWhether};
+
+use crate::map::LruMap;
+use crate::map::replace::replace;
+use lru_limits::{Insertion, Limiter, LookupKey};
+use std::alloc::AllocError;
+use std::hash::{BuildHasher, Hash};
+
+impl<K: Eq + Hash + Drop, V: Drop, L: Limiter<K, V>, S: BuildHasher> LruMap<K, V, L, S> {
+    /// Puts a value under a key, as the newest pair, and answers whether it is in the map then.
+    pub fn insert<I: LookupKey<K>>(&mut self, key: I, value: V) -> Result<bool, AllocError>
+    where
+        L: Insertion<K, V, I>,
+        ensures step { Insert L.rules L.offers I.names (hash_by K.hash_input S.BuildHasher S.Hasher.Hasher) key value self.old result self.new }
+        ensures says { SaysWhether L.rules (I.names key) result self.new }
+        ensures lacks { OnErr result (L.offers.may_lack self.old.limiter (length self.old.pairs) key value
+            ⊎ IsShort L.rules L.offers I.names (hash_by K.hash_input S.BuildHasher S.Hasher.Hasher) key value self.old) }
+        ensures map { IsMap K.eq self.new }
+    {
+        let hash = self.hasher.hash_one(&key);
+        match self.entries.find(hash, &key) {
+            Some(b) => {
+                if !replace(&mut self.entries, &mut self.limiter, b, key, value) {
+                    return Ok(false);
+                }
+                self.trim();
+                Ok(!self.is_empty())
+            }
+            None => self.insert_new(hash, key, value),
+        }
+    }
+
+    // Inserts under a key that is not there.
+    fn insert_new<I: LookupKey<K>>(&mut self, hash: u64, key: I, value: V) -> Result<bool, AllocError>
+    where
+        L: Insertion<K, V, I>,
+        requires hash { hash ≡ hash_by I.hash_input S.BuildHasher S.Hasher.Hasher self.old.hasher key }
+        requires absent { lookup_entry (I.names key) self.old.pairs ≡ None }
+        ensures { Insert L.rules L.offers I.names (hash_by K.hash_input S.BuildHasher S.Hasher.Hasher) key value self.old result self.new }
+    {
+        match self.limiter.on_insert(self.alloc, self.entries.len(), key, value)? {
+            Some(pair) => self.admit(hash, pair),
+            None => Ok(false),
+        }
+    }
+
+    // Places a pair that the limiter gave, whose key is new, after it made way and before it trims.
+    fn admit(&mut self, hash: u64, pair: (K, V)) -> Result<bool, AllocError>
+        requires hash { hash ≡ hash_by K.hash_input S.BuildHasher S.Hasher.Hasher self.old.hasher pair.0 }
+        requires absent { lookup_entry (K.eq pair.0) self.old.pairs ≡ None }
+        ensures { Admitted L.rules (hash_by K.hash_input S.BuildHasher S.Hasher.Hasher) pair self.old result self.new }
+    {
+        if !self.is_empty() && self.limiter.is_over_the_limit(self.entries.len() + 1) {
+            self.take_oldest();
+        }
+        if !self.place(hash, pair)? {
+            return Ok(false);
+        }
+        self.trim();
+        Ok(!self.is_empty())
+    }
+
+    // Removes the oldest pairs while the limiter is over.
+    pub(crate) fn trim(&mut self)
+        ensures { Leaves self.old (trim L.rules (contents self.old)) self.new }
+    {
+        while !self.is_empty() && self.limiter.is_over_the_limit(self.entries.len()) {
+            self.take_oldest();
+        }
+    }
+}

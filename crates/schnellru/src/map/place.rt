@@ -1,0 +1,236 @@
+//! Placing a new pair: into a bucket that the table has, or after it was made anew, made larger, or the oldest left.
+ghost use Rattle.std.specs.Prelude.{◌≡◌, ◌⊎◌, ℕ, ◌+◌, ◌-◌, ◌*◌, ◌/◌, ◌^◌, ◌<◌, ◌≤◌, [], length, None, Some, OnOk, OnErr, IfErr, IsOk};
+ghost use Rattle.group_table.specs.Sizes.{IsPowerFromFour, full_capacity};
+ghost use Rattle.group_table.specs.Bucket.{empty, deleted};
+ghost use Rattle.group_table.specs.Change.{HasNoPlace};
+ghost use Rattle.lru_limits.specs.Hashing.{hash_by};
+ghost use Rattle.schnellru.specs.Lists.{lookup_entry};
+ghost use Rattle.schnellru.specs.Sizes.{usage};
+ghost use Rattle.schnellru.specs.State.{buckets, room, contents, pop, Leaves, FirstFreeIs};
+ghost use Rattle.schnellru.specs.Place.{Place, IsPlaced, IsPlacedIfMemory, LacksRoom, outcome_of, turned_away};
+ghost use Rattle.schnellru.specs.Steps.{IsMoved, Evicts, UsesRoom, UsesDeleted};
+
+use crate::map::LruMap;
+use crate::sizes::{larger_table, usage};
+use group_table::{LinkType, full_capacity};
+use lru_limits::Limiter;
+use std::alloc::AllocError;
+use std::hash::{BuildHasher, Hash};
+
+impl<K: Eq + Hash + Drop, V: Drop, L: Limiter<K, V>, S: BuildHasher> LruMap<K, V, L, S> {
+    // Places a pair whose key is new and has this hash, as the newest. The answer is whether it is placed.
+    #[inline]
+    pub(crate) fn place(&mut self, hash: u64, pair: (K, V)) -> Result<bool, AllocError>
+        requires hash { hash ≡ hash_by K.hash_input S.BuildHasher S.Hasher.Hasher self.old.hasher pair.0 }
+        requires absent { lookup_entry (K.eq pair.0) self.old.pairs ≡ None }
+        ensures { Place L.rules (hash_by K.hash_input S.BuildHasher S.Hasher.Hasher) pair self.old (outcome_of result) self.new }
+    {
+        match self.place_in_bucket(hash, pair) {
+            Ok(()) => Ok(true),
+            Err(pair) => self.place_without_room(hash, pair),
+        }
+    }
+
+    // Places the pair in the first free bucket, where the table may fill that.
+    #[inline]
+    fn place_in_bucket(&mut self, hash: u64, pair: (K, V)) -> Result<(), (K, V)>
+        requires hash { hash ≡ hash_by K.hash_input S.BuildHasher S.Hasher.Hasher self.old.hasher pair.0 }
+        requires absent { lookup_entry (K.eq pair.0) self.old.pairs ≡ None }
+        ensures placed { OnOk result (IsPlaced pair (buckets self.old) (room self.new) 0 self.old self.new) }
+        ensures room { OnOk result (0 < room self.old → UsesRoom self.old self.new) }
+        ensures deleted { OnOk result (room self.old ≡ 0 → UsesDeleted hash self.old self.new) }
+        ensures returned { IfErr result (λ back. back ≡ pair) }
+        ensures unchanged { OnErr result (self.new ≡ self.old) }
+        ensures no_place { OnErr result (HasNoPlace self.old.marks hash) }
+    {
+        self.entries.place(hash, pair)?;
+        self.placed = self.placed.saturating_add(1);
+        Ok(())
+    }
+
+    // Places a pair that no bucket took.
+    #[cold]
+    fn place_without_room(&mut self, hash: u64, pair: (K, V)) -> Result<bool, AllocError>
+        requires hash { hash ≡ hash_by K.hash_input S.BuildHasher S.Hasher.Hasher self.old.hasher pair.0 }
+        requires absent { lookup_entry (K.eq pair.0) self.old.pairs ≡ None }
+        requires no_place { HasNoPlace self.old.marks hash }
+        ensures { Place L.rules (hash_by K.hash_input S.BuildHasher S.Hasher.Hasher) pair self.old (outcome_of result) self.new }
+    {
+        let buckets = self.entries.buckets();
+        let len = self.entries.len();
+        if buckets == 0 {
+            self.place_first(hash, pair)
+        } else if len < full_capacity(buckets) / 2 {
+            self.place_after_rehash(hash, pair)
+        } else {
+            self.place_in_larger(hash, pair)
+        }
+    }
+
+    // Places the first pair of a map without buckets.
+    fn place_first(&mut self, hash: u64, pair: (K, V)) -> Result<bool, AllocError>
+        requires hash { hash ≡ hash_by K.hash_input S.BuildHasher S.Hasher.Hasher self.old.hasher pair.0 }
+        requires none { buckets self.old ≡ 0 }
+        ensures { Place L.rules (hash_by K.hash_input S.BuildHasher S.Hasher.Hasher) pair self.old (outcome_of result) self.new }
+    {
+        match usage(self.entry_bytes, 4) {
+            Some(bytes) => {
+                if self.limiter.on_grow(bytes) {
+                    self.place_after_move(4, hash, pair)
+                } else {
+                    self.turn_away(pair);
+                    Ok(false)
+                }
+            }
+            None => {
+                self.turn_away(pair);
+                Ok(false)
+            }
+        }
+    }
+
+    // Places a pair for which the table has to grow, or the oldest to leave.
+    fn place_in_larger(&mut self, hash: u64, pair: (K, V)) -> Result<bool, AllocError>
+        requires hash { hash ≡ hash_by K.hash_input S.BuildHasher S.Hasher.Hasher self.old.hasher pair.0 }
+        requires absent { lookup_entry (K.eq pair.0) self.old.pairs ≡ None }
+        requires lacks_room { LacksRoom self.old }
+        requires empty { FirstFreeIs empty hash self.old }
+        requires half { full_capacity (buckets self.old) / 2 < length self.old.pairs + 1 }
+        ensures { Place L.rules (hash_by K.hash_input S.BuildHasher S.Hasher.Hasher) pair self.old (outcome_of result) self.new }
+    {
+        let max = L::LinkType::MAX.into_usize();
+        let buckets = self.entries.buckets();
+        match larger_table(max, self.entry_bytes, buckets, self.entries.len() + 1) {
+            Some((count, bytes)) => {
+                if self.limiter.on_grow(bytes) {
+                    self.place_after_move(count, hash, pair)
+                } else {
+                    self.place_evicting(hash, pair)
+                }
+            }
+            None => self.place_evicting(hash, pair),
+        }
+    }
+
+    // Places the pair after the oldest left, at least one.
+    fn place_evicting(&mut self, hash: u64, mut pair: (K, V)) -> Result<bool, AllocError>
+        requires hash { hash ≡ hash_by K.hash_input S.BuildHasher S.Hasher.Hasher self.old.hasher pair.0 }
+        requires absent { lookup_entry (K.eq pair.0) self.old.pairs ≡ None }
+        requires lacks_room { LacksRoom self.old }
+        requires half { full_capacity (buckets self.old) / 2 < length self.old.pairs + 1 }
+        ensures { Evicts L.rules pair self.old (outcome_of result) self.new }
+    {
+        let half = full_capacity(self.entries.buckets()) / 2;
+        'evictions: loop {
+            self.take_oldest();
+            if self.entries.len() < half {
+                return self.place_after_rehash(hash, pair);
+            }
+            match self.place_in_bucket(hash, pair) {
+                Ok(()) => return Ok(true),
+                Err(back) => pair = back,
+            }
+        }
+    }
+
+    // Places the pair in a table of so many buckets, to which all pairs move.
+    fn place_after_move(&mut self, count: usize, hash: u64, pair: (K, V)) -> Result<bool, AllocError>
+        requires hash { hash ≡ hash_by K.hash_input S.BuildHasher S.Hasher.Hasher self.old.hasher pair.0 }
+        requires absent { lookup_entry (K.eq pair.0) self.old.pairs ≡ None }
+        requires count { IsPowerFromFour count }
+        requires reached { count < L.LinkType.number L.LinkType.MAX }
+        requires usable { (bytes : ℕ) × (usage self.old.entry_bytes count ≡ Some bytes) }
+        requires half { 2 * length self.old.pairs ≤ full_capacity count }
+        requires paid { self.old.moved + length self.old.pairs ≤ 2 * self.old.placed }
+        ensures { IsPlacedIfMemory L.rules pair count (full_capacity count - length self.old.pairs - 1) (length self.old.pairs)
+            self.old (outcome_of result) self.new }
+    {
+        if self.move_to(count).is_err() {
+            self.turn_away(pair);
+            return Err(AllocError);
+        }
+        self.place_surely(hash, pair);
+        Ok(true)
+    }
+
+    // Places the pair in a table of as many buckets that is made anew. A map without pairs needs no memory for it.
+    fn place_after_rehash(&mut self, hash: u64, pair: (K, V)) -> Result<bool, AllocError>
+        requires hash { hash ≡ hash_by K.hash_input S.BuildHasher S.Hasher.Hasher self.old.hasher pair.0 }
+        requires absent { lookup_entry (K.eq pair.0) self.old.pairs ≡ None }
+        requires some { 0 < buckets self.old }
+        requires half { 2 * length self.old.pairs ≤ full_capacity (buckets self.old) }
+        requires paid { self.old.moved + length self.old.pairs ≤ 2 * self.old.placed }
+        ensures placed { IsPlacedIfMemory L.rules pair (buckets self.old) (full_capacity (buckets self.old) - length self.old.pairs - 1)
+            (length self.old.pairs) self.old (outcome_of result) self.new }
+        ensures succeeds { self.old.pairs ≡ [] → IsOk result }
+    {
+        if self.rehash().is_err() {
+            self.turn_away(pair);
+            return Err(AllocError);
+        }
+        self.place_surely(hash, pair);
+        Ok(true)
+    }
+
+    // Places the pair where there is room.
+    fn place_surely(&mut self, hash: u64, pair: (K, V))
+        requires hash { hash ≡ hash_by K.hash_input S.BuildHasher S.Hasher.Hasher self.old.hasher pair.0 }
+        requires absent { lookup_entry (K.eq pair.0) self.old.pairs ≡ None }
+        requires room { 0 < room self.old }
+        requires exact { length self.old.pairs + room self.old ≡ full_capacity (buckets self.old) }
+        ensures { IsPlaced pair (buckets self.old) (room self.old - 1) 0 self.old self.new }
+    {
+        match self.place_in_bucket(hash, pair) {
+            Ok(()) => {}
+            Err(_) => unreachable!(),
+        }
+    }
+
+    // Moves all pairs into a table of so many buckets.
+    fn move_to(&mut self, count: usize) -> Result<(), AllocError>
+        requires count { IsPowerFromFour count }
+        requires reached { count < L.LinkType.number L.LinkType.MAX }
+        requires usable { (bytes : ℕ) × (usage self.old.entry_bytes count ≡ Some bytes) }
+        requires half { 2 * length self.old.pairs ≤ full_capacity count }
+        requires paid { self.old.moved + length self.old.pairs ≤ 2 * self.old.placed }
+        ensures moved { OnOk result (IsMoved count self.old self.new) }
+        ensures unchanged { OnErr result (self.new ≡ self.old) }
+    {
+        self.entries.relocate(count, &self.hasher)?;
+        self.moved = self.moved.saturating_add(self.entries.len() as u64);
+        Ok(())
+    }
+
+    // Moves all pairs into a table of as many buckets.
+    fn rehash(&mut self) -> Result<(), AllocError>
+        requires some { 0 < buckets self.old }
+        requires half { 2 * length self.old.pairs ≤ full_capacity (buckets self.old) }
+        requires paid { self.old.moved + length self.old.pairs ≤ 2 * self.old.placed }
+        ensures moved { OnOk result (IsMoved (buckets self.old) self.old self.new) }
+        ensures unchanged { OnErr result (self.new ≡ self.old) }
+        ensures succeeds { self.old.pairs ≡ [] → IsOk result }
+    {
+        self.entries.rehash(&self.hasher)?;
+        self.moved = self.moved.saturating_add(self.entries.len() as u64);
+        Ok(())
+    }
+
+    // Tells the limiter of a pair that was not placed.
+    fn turn_away(&mut self, pair: (K, V))
+        ensures { self.new ≡ turned_away L.rules pair self.old }
+    {
+        let (mut key, mut value) = pair;
+        self.limiter.on_removed(&mut key, &mut value);
+    }
+
+    // Takes the oldest pair out, and gives what the limiter left of it.
+    pub(crate) fn take_oldest(&mut self) -> (K, V)
+        requires { 0 < length self.old.pairs }
+        ensures { Leaves self.old (pop L.rules (contents self.old)) self.new }
+    {
+        let b = self.entries.oldest();
+        let (mut key, mut value) = self.entries.take(b);
+        self.limiter.on_removed(&mut key, &mut value);
+        (key, value)
+    }
+}

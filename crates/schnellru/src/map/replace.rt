@@ -1,0 +1,42 @@
+//! Replacing the value of a key that is there, over the linked table and the limiter.
+ghost use Rattle.std.specs.Prelude.{◌≡◌, ℕ, true, false, length, Some, IsTrue};
+ghost use Rattle.group_table.specs.Bucket.{entry_at};
+ghost use Rattle.schnellru.specs.Linked.{IsLinked, KeysFit};
+ghost use Rattle.schnellru.specs.Steps.{IsReplaced, IsGivenUp};
+
+use crate::link::Linked;
+use lru_limits::{Insertion, Limiter, LookupKey};
+use std::hash::Hash;
+
+// Has the limiter replace the value in a bucket: it takes the new one, and the pair is the newest then, or the pair
+// leaves. The answer is whether it took it.
+pub(crate) fn replace<K: Eq + Hash + Drop, V: Drop, I: LookupKey<K>, L: Insertion<K, V, I>>(
+    entries: &mut Linked<K, V, L::LinkType>,
+    limiter: &mut L,
+    b: usize,
+    key: I,
+    mut value: V,
+) -> bool
+    requires there { (pair : K × V) × (entry_at entries.old.slots b ≡ Some pair) × IsTrue (I.names key pair.0) }
+    ensures taken { (pair : K × V) → entry_at entries.old.slots b ≡ Some pair →
+        result ≡ (L.offers.on_replace limiter.old (length entries.old.order) pair.0 key pair.1 value).taken }
+    ensures replaced { result ≡ true → (pair : K × V) → entry_at entries.old.slots b ≡ Some pair →
+        IsReplaced (L.offers.on_replace limiter.old (length entries.old.order) pair.0 key pair.1 value) b entries.old entries.new limiter.new }
+    ensures given_up { result ≡ false → (pair : K × V) → entry_at entries.old.slots b ≡ Some pair →
+        IsGivenUp L.rules (L.offers.on_replace limiter.old (length entries.old.order) pair.0 key pair.1 value) b entries.old entries.new limiter.new }
+    ensures linked { IsLinked entries.new }
+    ensures fits { (hash_of : K → ℕ) → ((x y : K) → IsTrue (K.eq x y) → hash_of x ≡ hash_of y) →
+        KeysFit hash_of entries.old.slots → KeysFit hash_of entries.new.slots }
+{
+    let length = entries.len();
+    let pair = entries.pair_mut(b);
+    let taken = limiter.on_replace(length, &mut pair.key, key, &mut pair.value, &mut value);
+    if taken {
+        pair.value = value;
+        entries.promote(b);
+    } else {
+        let (mut key, mut value) = entries.take(b);
+        limiter.on_removed(&mut key, &mut value);
+    }
+    taken
+}

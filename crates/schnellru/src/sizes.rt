@@ -1,0 +1,68 @@
+//! What a table takes in bytes, and the table that a map grows into.
+ghost use Rattle.std.specs.Prelude.{◌≡◌, ◌*◌, ◌/◌, ◌^◌, ◌<◌, ◌≤◌, IfSome};
+ghost use Rattle.group_table.specs.Sizes.{IsBucketCount, full_capacity, buckets_for};
+ghost use Rattle.schnellru.specs.Sizes.{bytes_of, usage, usage_within, target, larger};
+
+use group_table::{buckets_for_capacity, full_capacity};
+
+const MOST_BYTES: usize = isize::MAX as usize - 15;
+
+// The bytes of a table of so many buckets, where there can be such a table.
+pub(crate) fn usage(entry_bytes: usize, buckets: usize) -> Option<usize>
+    ensures { result ≡ usage entry_bytes buckets }
+{
+    if buckets == 0 {
+        return Some(0);
+    }
+    let entries = entry_bytes.checked_mul(buckets)?.checked_add(15)? / 16 * 16;
+    let bytes = entries.checked_add(buckets)?.checked_add(16)?;
+    if bytes <= MOST_BYTES { Some(bytes) } else { None }
+}
+
+// The bytes of a table that there is.
+pub(crate) fn bytes_of(entry_bytes: usize, buckets: usize) -> usize
+    requires { bytes_of entry_bytes buckets ≤ 2 ^ 63 - 16 }
+    ensures { result ≡ bytes_of entry_bytes buckets }
+{
+    (entry_bytes * buckets + 15) / 16 * 16 + buckets + 16
+}
+
+// The buckets and the bytes of the table that a table goes to which is to take so many pairs, more than half of what it
+// takes.
+pub(crate) fn larger_table(
+    max: usize,
+    entry_bytes: usize,
+    buckets: usize,
+    pairs: usize,
+) -> Option<(usize, usize)>
+    requires count { IsBucketCount buckets }
+    requires addressable { buckets < 2 ^ 63 }
+    requires half { full_capacity buckets / 2 < pairs }
+    ensures { larger result ≡ target max entry_bytes buckets pairs }
+{
+    let need = buckets_for_capacity(pairs, max)?;
+    let count = if buckets < need {
+        need
+    } else {
+        buckets_for_capacity(full_capacity(2 * buckets), max)?
+    };
+    let bytes = usage(entry_bytes, count)?;
+    Some((count, bytes))
+}
+
+// The greatest usage of 4, 8, 16, .. buckets, as far as links reach, that is within the budget, or 0.
+pub(crate) fn usage_within(max: usize, entry_bytes: usize, budget: usize) -> usize
+    ensures { result ≡ usage_within max entry_bytes budget }
+{
+    let mut best = 0;
+    for k in 0..62 {
+        let buckets = 4 << k;
+        if buckets < max {
+            match usage(entry_bytes, buckets) {
+                Some(bytes) if bytes <= budget => best = bytes,
+                _ => {}
+            }
+        }
+    }
+    best
+}
