@@ -13,3 +13,4 @@ pub mod Within
 pub mod Short
 pub mod Exact
 pub mod Sums
+pub mod Evictions

@@ -1,17 +1,17 @@
 //! What is proved of every insert. Each theorem is the contract of a function that does nothing.
 
-ghost use Rattle.std.specs.Prelude.{◌≡◌, ◌≤◌, ◌<◌, ◌+◌, ◌*◌, ◌⊎◌, Bool, false, Result, IsOk, IsErr, length};
+ghost use Rattle.std.specs.Prelude.{◌≡◌, ◌≢◌, ◌≤◌, ◌<◌, ◌+◌, ◌*◌, ◌/◌, ◌⊎◌, ◌∷◌, Bool, false, Result, IsOk, IsErr, length};
 ghost use Rattle.std.specs.List.{IsDistinct};
 ghost use Rattle.std.specs.declared.alloc.AllocError.{AllocError};
 ghost use Rattle.group_table.specs.Bucket.{deleted};
 ghost use Rattle.group_table.specs.Sizes.{full_capacity};
 ghost use Rattle.lru_limits.specs.Hashing.{hash_by};
-ghost use Rattle.schnellru.specs.Lists.{keys_of};
-ghost use Rattle.schnellru.specs.State.{State, buckets, room, FirstFreeIs, IsSized};
-ghost use Rattle.schnellru.specs.Place.{Place, Outcome, placed, IsPlaced, LacksRoom};
+ghost use Rattle.schnellru.specs.Lists.{without_last, keys_of};
+ghost use Rattle.schnellru.specs.State.{State, buckets, room, FirstFreeIs, IsSized, IsPaid};
+ghost use Rattle.schnellru.specs.Place.{Place, Outcome, placed, no_memory, IsPlaced, LacksRoom};
 ghost use Rattle.schnellru.specs.Inserts.{Insert, replacement, IsShort};
 ghost use Rattle.schnellru.specs.Exact.{IsDetermined, EndsAlike};
-ghost use Rattle.schnellru.specs.Theorems.{PaysForMoves, GivesUp, IsSummed, SaysWhether};
+ghost use Rattle.schnellru.specs.Theorems.{PaysForMoves, IsRefusedGrowth, GivesUp, IsSummed, SaysWhether};
 
 use lru_limits::{Insertion, Limiter, LookupKey, Summing};
 use std::hash::{BuildHasher, Hash};
@@ -122,5 +122,60 @@ pub fn inserts_keep_what_holds<
         IsSummed L.cost_of L.account old →
         Insert L.rules L.offers I.names (hash_by K.hash_input S.BuildHasher S.Hasher.Hasher) key value old result new →
         IsSummed L.cost_of L.account new }
+{
+}
+
+/// An insert pays for the entries that it moves: moved and potential together rise by at most 2 for the one that it
+/// places, and so moved stays at most twice what was placed.
+pub fn inserts_pay_for_moves<
+    K: Eq + Hash,
+    V,
+    I: LookupKey<K>,
+    L: Insertion<K, V, I>,
+    S: BuildHasher,
+>()
+    ensures rise { (key : I) (value : V) (old : State K V L S) (result : Result Bool AllocError) (new : State K V L S) →
+        IsSized old →
+        Insert L.rules L.offers I.names (hash_by K.hash_input S.BuildHasher S.Hasher.Hasher) key value old result new →
+        PaysForMoves old new }
+    ensures paid { (key : I) (value : V) (old : State K V L S) (result : Result Bool AllocError) (new : State K V L S) →
+        IsSized old → IsPaid old →
+        Insert L.rules L.offers I.names (hash_by K.hash_input S.BuildHasher S.Hasher.Hasher) key value old result new →
+        IsPaid new × (new.moved ≤ 2 * new.placed) }
+{
+}
+
+/// Where growth is refused, at least half of what the table takes stays, the new pair included, and in a table of up to
+/// 16 buckets exactly the oldest goes.
+pub fn refused_growth_keeps_half<K: Eq + Hash, V, L: Limiter<K, V>, S: BuildHasher>()
+    ensures half { (pair : K × V) (old new : State K V L S) →
+        IsRefusedGrowth L.rules old →
+        Place L.rules (hash_by K.hash_input S.BuildHasher S.Hasher.Hasher) pair old placed new →
+        full_capacity (buckets old) / 2 ≤ length new.pairs }
+    ensures without_memory { (pair : K × V) (old new : State K V L S) →
+        IsRefusedGrowth L.rules old →
+        Place L.rules (hash_by K.hash_input S.BuildHasher S.Hasher.Hasher) pair old no_memory new →
+        full_capacity (buckets old) / 2 ≤ length new.pairs + 1 }
+    ensures one { (pair : K × V) (old new : State K V L S) →
+        IsRefusedGrowth L.rules old → buckets old ≤ 16 →
+        Place L.rules (hash_by K.hash_input S.BuildHasher S.Hasher.Hasher) pair old placed new →
+        new.pairs ≡ pair ∷ without_last old.pairs }
+{
+}
+
+/// A pair that is placed joins all the others, where the table grows and where it is made anew at most half full. Only
+/// refused growth has pairs leave.
+pub fn growth_keeps_the_list<K: Eq + Hash, V, L: Limiter<K, V>, S: BuildHasher>()
+    ensures grown { (pair : K × V) (old new : State K V L S) →
+        buckets new ≢ buckets old →
+        Place L.rules (hash_by K.hash_input S.BuildHasher S.Hasher.Hasher) pair old placed new →
+        new.pairs ≡ pair ∷ old.pairs }
+    ensures made_anew { (pair : K × V) (old new : State K V L S) →
+        length old.pairs + 1 ≤ full_capacity (buckets old) / 2 →
+        Place L.rules (hash_by K.hash_input S.BuildHasher S.Hasher.Hasher) pair old placed new →
+        new.pairs ≡ pair ∷ old.pairs }
+    ensures otherwise { (pair : K × V) (old new : State K V L S) →
+        Place L.rules (hash_by K.hash_input S.BuildHasher S.Hasher.Hasher) pair old placed new →
+        (new.pairs ≡ pair ∷ old.pairs) ⊎ IsRefusedGrowth L.rules old }
 {
 }
