@@ -8,6 +8,7 @@ use Rattle.schnellru.specs.Sizes.{no_table, new_table}
 use Rattle.schnellru.specs.Place.{Place, first_table, first_denied, first_too_large, into_empty, into_emptied, with_room, deleted_bucket, rehashed, grown, evicted, evicted_rehashed, CannotGrow, no_target, denied, Outcome, placed, refused, no_memory, IsPlaced, IsPlacedIfMemory, Grants, asked, next_table}
 use Rattle.schnellru.specs.Theorems.{IsRefusedGrowth}
 use Rattle.schnellru.proofs.Leaving.{length-pops}
+use Rattle.schnellru.proofs.Fronts.{same_if_denied}
 
 clash : {A : Type 0} → refused ≡ placed → A
 clash e = absurd (grind arith)
@@ -30,10 +31,6 @@ module _ {K V S H : Type 0} (rules : Rules K V S) (hash_of : H → K → ℕ) (p
   pub record KeepsAll (new : State K V S H) : Type 0 where
     pub pairs : new.pairs ≡ pair ∷ old.pairs
     pub large : IsRefusedGrowth rules old → 16 < buckets old
-
-  known_pairs : (mid : State K V S H) → CannotGrow rules old mid → mid.pairs ≡ old.pairs
-  known_pairs mid (no_target t e) = ap (λ st. st.pairs) e
-  known_pairs mid (denied count bytes t d e) = ap (λ st. st.pairs) e
 
   placed_if : (st new : State K V S H) (count spare moves : ℕ) (outcome : Outcome) → outcome ≡ placed → IsPlacedIfMemory rules pair count spare moves st outcome new → IsPlaced pair count spare moves st new
   placed_if st new count spare moves placed o h = h
@@ -77,16 +74,16 @@ module _ {K V S H : Type 0} (rules : Rules K V S) (hash_of : H → K → ℕ) (p
   place_keeps outcome new q (evicted f i l mid c n pos one half o p) =
       let left = ap (λ st. st.pairs) p.state in
       inr (record { lacks_room = f; above_half = l; known = mid; refused = c }, record {
-    half = omega (arith, ap length left, length-pops rules n (contents mid), ap length (known_pairs mid c), half);
-    one = λ small. left ∙ ap (λ k. pair ∷ (pops rules k (contents mid)).pairs) (one small) ∙ ap (λ xs. pair ∷ without_last xs) (known_pairs mid c);
+    half = omega (arith, ap length left, length-pops rules n (contents mid), ap length (same_if_denied rules hash_of pair old mid c), half);
+    one = λ small. left ∙ ap (λ k. pair ∷ (pops rules k (contents mid)).pairs) (one small) ∙ ap (λ xs. pair ∷ without_last xs) (same_if_denied rules hash_of pair old mid c);
     same_table = p.table;
   })
   place_keeps outcome new q (evicted_rehashed f i l mid c n pos one half left lv m) =
       let p = placed_if left new _ _ _ outcome q m in
       let rest = ap (λ st. st.pairs) lv.is in
       inr (record { lacks_room = f; above_half = l; known = mid; refused = c }, record {
-    half = omega (arith, ap (λ st. length st.pairs) p.state, ap length rest, length-pops rules n (contents mid), ap length (known_pairs mid c), half);
-    one = λ small. ap (λ st. st.pairs) p.state ∙ ap (λ xs. pair ∷ xs) rest ∙ ap (λ k. pair ∷ (pops rules k (contents mid)).pairs) (one small) ∙ ap (λ xs. pair ∷ without_last xs) (known_pairs mid c);
+    half = omega (arith, ap (λ st. length st.pairs) p.state, ap length rest, length-pops rules n (contents mid), ap length (same_if_denied rules hash_of pair old mid c), half);
+    one = λ small. ap (λ st. st.pairs) p.state ∙ ap (λ xs. pair ∷ xs) rest ∙ ap (λ k. pair ∷ (pops rules k (contents mid)).pairs) (one small) ∙ ap (λ xs. pair ∷ without_last xs) (same_if_denied rules hash_of pair old mid c);
     same_table = p.table;
   })
 
@@ -103,7 +100,7 @@ module _ {K V S H : Type 0} (rules : Rules K V S) (hash_of : H → K → ℕ) (p
   place_lacks_half refusal outcome new q (grown f i l count bytes t g m) = not_granted count bytes t g refusal.known refusal.refused
   place_lacks_half refusal outcome new q (evicted f i l mid c n pos one half o p) = clash_memory (sym o ∙ q)
   place_lacks_half refusal outcome new q (evicted_rehashed f i l mid c n pos one half left lv m) =
-      omega (arith, ap length (left_if left new _ _ _ outcome q m), ap (λ st. length st.pairs) lv.is, length-pops rules n (contents mid), ap length (known_pairs mid c), half)
+      omega (arith, ap length (left_if left new _ _ _ outcome q m), ap (λ st. length st.pairs) lv.is, length-pops rules n (contents mid), ap length (same_if_denied rules hash_of pair old mid c), half)
 
   module _ (new : State K V S H) (step : Place rules hash_of pair old placed new) where
     pub refused_half : IsRefusedGrowth rules old → full_capacity (buckets old) / 2 ≤ length new.pairs

@@ -1,5 +1,5 @@
 -- Inserts give up pairs from the old end alone.
-use Rattle.std.proofs.Common.{◌≡◌, ℕ, zero, suc, ◌+◌, ◌⊎◌, inl, inr, Bool, true, false, cond, List, [], ◌∷◌, ◌++◌, length, Some, None, Result, refl, sym, ap, ◌∙◌, subst, append_assoc, append-nil, arith}
+use Rattle.std.proofs.Common.{◌≡◌, ℕ, zero, suc, ◌+◌, ◌⊎◌, inl, inr, Bool, true, false, cond, List, [], ◌∷◌, ◌++◌, length, Some, None, Result, refl, sym, ap, ◌∙◌, subst, append_assoc, append-nil, arith, ◌≤◌, length-append}
 use Rattle.schnellru.specs.Lists.{IsFront, without_last, lookup_entry, without}
 use Rattle.std.specs.declared.alloc.AllocError.{AllocError}
 use Rattle.lru_limits.specs.Rules.{Rules, Offers}
@@ -18,6 +18,9 @@ module _ {X : Type 0} where
 
   pub front_trans : (xs ys zs : List X) → IsFront xs ys → IsFront ys zs → IsFront xs zs
   front_trans xs ys zs p q = (p.0 ++ q.0, q.1 ∙ ap (λ l. l ++ q.0) p.1 ∙ append_assoc xs p.0 q.0)
+
+  pub length-front : (ys xs : List X) → IsFront ys xs → length ys ≤ length xs
+  length-front ys xs f = omega (arith, ap length f.1, length-append ys f.0)
 
   pub front_without_last : (xs : List X) → IsFront (without_last xs) xs
   front_without_last [] = ([], refl)
@@ -79,7 +82,7 @@ module _ {K V S H : Type 0} (rules : Rules K V S) (hash_of : H → K → ℕ) (p
   if_memory_ends st count spare moves no_memory new h f = inr (front_trans _ _ _ (front_same _ _ (ap (λ x. x.pairs) h)) f)
   if_memory_ends st count spare moves refused new h f = absurd h
 
-  same_if_denied : (mid : State K V S H) → CannotGrow rules old mid → mid.pairs ≡ old.pairs
+  pub same_if_denied : (mid : State K V S H) → CannotGrow rules old mid → mid.pairs ≡ old.pairs
   same_if_denied mid (no_target t e) = ap (λ st. st.pairs) e
   same_if_denied mid (denied count bytes t d e) = ap (λ st. st.pairs) e
 

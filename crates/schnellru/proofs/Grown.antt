@@ -1,19 +1,15 @@
 -- An insert that grows the table makes a small one.
-use Rattle.std.proofs.Common.{◌≡◌, ℕ, ◌+◌, ◌*◌, ◌<◌, ◌≤◌, inl, inr, length, Bool, Result, refl, ap, ◌∙◌, arith, length-append}
+use Rattle.std.proofs.Common.{◌≡◌, ℕ, ◌+◌, ◌*◌, ◌<◌, inl, inr, length, Bool, Result, refl, ap, ◌∙◌, arith}
 use Rattle.std.specs.declared.alloc.AllocError.{AllocError}
 use Rattle.lru_limits.specs.Rules.{Rules, Offers}
-use Rattle.schnellru.specs.Lists.{IsFront}
 use Rattle.group_table.specs.Sizes.{full_capacity, IsBucketCount}
 use Rattle.schnellru.specs.State.{State, buckets, IsSized}
 use Rattle.schnellru.specs.Place.{Place, first_table, first_denied, first_too_large, into_empty, into_emptied, with_room, deleted_bucket, rehashed, grown, evicted, evicted_rehashed, CannotGrow, no_target, denied, Outcome, placed, refused, no_memory, IsPlacedIfMemory, asked, turned_away}
 use Rattle.schnellru.specs.Inserts.{Insert, replaced, given_up, no_memory_to_admit, not_admitted, admitted, Settles}
 use Rattle.schnellru.proofs.Growth.{full_capacity-4, full_capacity-at_most}
 use Rattle.schnellru.proofs.Doubling.{target_small}
-use Rattle.schnellru.proofs.Fronts.{front_make_way}
+use Rattle.schnellru.proofs.Fronts.{front_make_way, length-front}
 use Rattle.schnellru.proofs.Potential.{IsBounded, bounded_of, sized_with_limiter, leaves_bounded}
-
-length-front : {X : Type 0} (ys xs : _) → IsFront {X = X} ys xs → length ys ≤ length xs
-length-front ys xs f = omega (arith, ap length f.1, length-append ys f.0)
 
 module _ {K V S H : Type 0} (rules : Rules K V S) (hash_of : H → K → ℕ) (pair : K × V) (old : State K V S H) where
   -- a table that was grown takes fewer than four times the pairs

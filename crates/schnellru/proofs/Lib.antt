@@ -14,3 +14,4 @@ pub mod Short
 pub mod Exact
 pub mod Sums
 pub mod Evictions
+pub mod Limits

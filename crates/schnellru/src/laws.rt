@@ -1,6 +1,6 @@
 //! What is proved of every insert. Each theorem is the contract of a function that does nothing.
 
-ghost use Rattle.std.specs.Prelude.{◌≡◌, ◌≢◌, ◌≤◌, ◌<◌, ◌+◌, ◌*◌, ◌/◌, ◌⊎◌, ◌∷◌, Bool, false, Result, IsOk, IsErr, length};
+ghost use Rattle.std.specs.Prelude.{◌≡◌, ◌≢◌, ℕ, ◌≤◌, ◌<◌, ◌+◌, ◌*◌, ◌/◌, ◌⊎◌, ◌∷◌, Bool, false, Result, IsOk, IsErr, length};
 ghost use Rattle.std.specs.List.{IsDistinct};
 ghost use Rattle.std.specs.declared.alloc.AllocError.{AllocError};
 ghost use Rattle.group_table.specs.Bucket.{deleted};
@@ -11,9 +11,9 @@ ghost use Rattle.schnellru.specs.State.{State, buckets, room, FirstFreeIs, IsSiz
 ghost use Rattle.schnellru.specs.Place.{Place, Outcome, placed, no_memory, IsPlaced, LacksRoom};
 ghost use Rattle.schnellru.specs.Inserts.{Insert, replacement, IsShort};
 ghost use Rattle.schnellru.specs.Exact.{IsDetermined, EndsAlike};
-ghost use Rattle.schnellru.specs.Theorems.{PaysForMoves, IsRefusedGrowth, GivesUp, IsSummed, SaysWhether};
+ghost use Rattle.schnellru.specs.Theorems.{PaysForMoves, IsRefusedGrowth, UsesAtMost, GivesUp, IsSummed, SaysWhether};
 
-use lru_limits::{Insertion, Limiter, LookupKey, Summing};
+use lru_limits::{ByLength, ByMemoryUsage, Insertion, Limiter, LookupKey, Summing};
 use std::hash::{BuildHasher, Hash};
 
 /// An insert gives up pairs from the old end alone, save one whose replacement is refused.
@@ -177,5 +177,32 @@ pub fn growth_keeps_the_list<K: Eq + Hash, V, L: Limiter<K, V>, S: BuildHasher>(
     ensures otherwise { (pair : K × V) (old new : State K V L S) →
         Place L.rules (hash_by K.hash_input S.BuildHasher S.Hasher.Hasher) pair old placed new →
         (new.pairs ≡ pair ∷ old.pairs) ⊎ IsRefusedGrowth L.rules old }
+{
+}
+
+/// With `ByLength` an insert leaves the limiter as it was, and at most `max_length` pairs, if there were no more before.
+pub fn inserts_keep_the_length<K: Eq + Hash + Drop, V: Drop, S: BuildHasher>()
+    ensures limiter { (key : K) (value : V) (old : State K V ByLength S) (result : Result Bool AllocError) (new : State K V ByLength S) →
+        Insert ⟦<ByLength as Limiter<K, V>>⟧.rules ⟦<ByLength as Insertion<K, V, K>>⟧.offers K.eq
+            (hash_by K.hash_input S.BuildHasher S.Hasher.Hasher) key value old result new →
+        new.limiter ≡ old.limiter }
+    ensures length { (key : K) (value : V) (old : State K V ByLength S) (result : Result Bool AllocError) (new : State K V ByLength S) →
+        Insert ⟦<ByLength as Limiter<K, V>>⟧.rules ⟦<ByLength as Insertion<K, V, K>>⟧.offers K.eq
+            (hash_by K.hash_input S.BuildHasher S.Hasher.Hasher) key value old result new →
+        length old.pairs ≤ old.limiter → length new.pairs ≤ old.limiter }
+{
+}
+
+/// With `ByMemoryUsage` an insert leaves the limiter as it was, and a table of at most `max_memory_usage` bytes, if it
+/// had no more before.
+pub fn inserts_keep_the_memory_usage<K: Eq + Hash + Drop, V: Drop, S: BuildHasher>()
+    ensures limiter { (key : K) (value : V) (old : State K V ByMemoryUsage S) (result : Result Bool AllocError) (new : State K V ByMemoryUsage S) →
+        Insert ⟦<ByMemoryUsage as Limiter<K, V>>⟧.rules ⟦<ByMemoryUsage as Insertion<K, V, K>>⟧.offers K.eq
+            (hash_by K.hash_input S.BuildHasher S.Hasher.Hasher) key value old result new →
+        new.limiter ≡ old.limiter }
+    ensures usage { (key : K) (value : V) (old : State K V ByMemoryUsage S) (result : Result Bool AllocError) (new : State K V ByMemoryUsage S) →
+        Insert ⟦<ByMemoryUsage as Limiter<K, V>>⟧.rules ⟦<ByMemoryUsage as Insertion<K, V, K>>⟧.offers K.eq
+            (hash_by K.hash_input S.BuildHasher S.Hasher.Hasher) key value old result new →
+        UsesAtMost old.limiter old → UsesAtMost old.limiter new }
 {
 }
