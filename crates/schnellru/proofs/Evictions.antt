@@ -7,17 +7,8 @@ use Rattle.schnellru.specs.State.{State, buckets, contents, pops}
 use Rattle.schnellru.specs.Sizes.{no_table, new_table}
 use Rattle.schnellru.specs.Place.{Place, first_table, first_denied, first_too_large, into_empty, into_emptied, with_room, deleted_bucket, rehashed, grown, evicted, evicted_rehashed, CannotGrow, no_target, denied, Outcome, placed, refused, no_memory, IsPlaced, IsPlacedIfMemory, Grants, asked, next_table}
 use Rattle.schnellru.specs.Theorems.{IsRefusedGrowth}
-use Rattle.schnellru.proofs.Leaving.{length-pops}
-use Rattle.schnellru.proofs.Fronts.{same_if_denied}
-
-clash : {A : Type 0} → refused ≡ placed → A
-clash e = absurd (grind arith)
-
-clash_memory : {A : Type 0} → placed ≡ no_memory → A
-clash_memory e = absurd (grind arith)
-
-clash_refused : {A : Type 0} → refused ≡ no_memory → A
-clash_refused e = absurd (grind arith)
+use Rattle.schnellru.proofs.Outcomes.{placed-not_no_memory, refused-not_no_memory, refused-not_placed}
+use Rattle.schnellru.proofs.Leaving.{length-pops, known_is}
 
 module _ {K V S H : Type 0} (rules : Rules K V S) (hash_of : H → K → ℕ) (pair : K × V) (old : State K V S H) where
   -- what is left of the pairs, the new one included: at least half of what the table takes, and up to 16 buckets all
@@ -34,11 +25,11 @@ module _ {K V S H : Type 0} (rules : Rules K V S) (hash_of : H → K → ℕ) (p
 
   placed_if : (st new : State K V S H) (count spare moves : ℕ) (outcome : Outcome) → outcome ≡ placed → IsPlacedIfMemory rules pair count spare moves st outcome new → IsPlaced pair count spare moves st new
   placed_if st new count spare moves placed o h = h
-  placed_if st new count spare moves no_memory o h = clash_memory (sym o)
+  placed_if st new count spare moves no_memory o h = placed-not_no_memory (sym o)
   placed_if st new count spare moves refused o h = absurd h
 
   left_if : (st new : State K V S H) (count spare moves : ℕ) (outcome : Outcome) → outcome ≡ no_memory → IsPlacedIfMemory rules pair count spare moves st outcome new → new.pairs ≡ st.pairs
-  left_if st new count spare moves placed o h = clash_memory o
+  left_if st new count spare moves placed o h = placed-not_no_memory o
   left_if st new count spare moves no_memory o h = ap (λ x. x.pairs) h
   left_if st new count spare moves refused o h = absurd h
 
@@ -63,8 +54,8 @@ module _ {K V S H : Type 0} (rules : Rules K V S) (hash_of : H → K → ℕ) (p
   -- a pair is placed beside all others, or growth is refused and the oldest give way
   pub place_keeps : (outcome : Outcome) (new : State K V S H) → outcome ≡ placed → Place rules hash_of pair old outcome new → KeepsAll new ⊎ (IsRefusedGrowth rules old × GivesWay new)
   place_keeps outcome new q (first_table e b bytes u g m) = inl (record { pairs = ap (λ st. st.pairs) (placed_if (asked rules bytes old) new _ _ _ outcome q m).state; large = with_pairs e })
-  place_keeps outcome new q (first_denied e b bytes u d o n) = clash (sym o ∙ q)
-  place_keeps outcome new q (first_too_large e b u o n) = clash (sym o ∙ q)
+  place_keeps outcome new q (first_denied e b bytes u d o n) = refused-not_placed (sym o ∙ q)
+  place_keeps outcome new q (first_too_large e b u o n) = refused-not_placed (sym o ∙ q)
   place_keeps outcome new q (into_empty e b r s o n) = inl (record { pairs = ap (λ st. st.pairs) n.state; large = with_pairs e })
   place_keeps outcome new q (into_emptied e b r o n) = inl (record { pairs = ap (λ st. st.pairs) n.state; large = with_pairs e })
   place_keeps outcome new q (with_room e r s o n) = inl (record { pairs = ap (λ st. st.pairs) n.state; large = λ refusal. absurd (omega (arith, r, refusal.lacks_room.1)) })
@@ -74,33 +65,33 @@ module _ {K V S H : Type 0} (rules : Rules K V S) (hash_of : H → K → ℕ) (p
   place_keeps outcome new q (evicted f i l mid c n pos one half o p) =
       let left = ap (λ st. st.pairs) p.state in
       inr (record { lacks_room = f; above_half = l; known = mid; refused = c }, record {
-    half = omega (arith, ap length left, length-pops rules n (contents mid), ap length (same_if_denied rules hash_of pair old mid c), half);
-    one = λ small. left ∙ ap (λ k. pair ∷ (pops rules k (contents mid)).pairs) (one small) ∙ ap (λ xs. pair ∷ without_last xs) (same_if_denied rules hash_of pair old mid c);
+    half = omega (arith, ap length left, length-pops rules n (contents mid), ap length (ap (λ st. st.pairs) (known_is rules old mid c)), half);
+    one = λ small. left ∙ ap (λ k. pair ∷ (pops rules k (contents mid)).pairs) (one small) ∙ ap (λ xs. pair ∷ without_last xs) (ap (λ st. st.pairs) (known_is rules old mid c));
     same_table = p.table;
   })
   place_keeps outcome new q (evicted_rehashed f i l mid c n pos one half left lv m) =
       let p = placed_if left new _ _ _ outcome q m in
       let rest = ap (λ st. st.pairs) lv.is in
       inr (record { lacks_room = f; above_half = l; known = mid; refused = c }, record {
-    half = omega (arith, ap (λ st. length st.pairs) p.state, ap length rest, length-pops rules n (contents mid), ap length (same_if_denied rules hash_of pair old mid c), half);
-    one = λ small. ap (λ st. st.pairs) p.state ∙ ap (λ xs. pair ∷ xs) rest ∙ ap (λ k. pair ∷ (pops rules k (contents mid)).pairs) (one small) ∙ ap (λ xs. pair ∷ without_last xs) (same_if_denied rules hash_of pair old mid c);
+    half = omega (arith, ap (λ st. length st.pairs) p.state, ap length rest, length-pops rules n (contents mid), ap length (ap (λ st. st.pairs) (known_is rules old mid c)), half);
+    one = λ small. ap (λ st. st.pairs) p.state ∙ ap (λ xs. pair ∷ xs) rest ∙ ap (λ k. pair ∷ (pops rules k (contents mid)).pairs) (one small) ∙ ap (λ xs. pair ∷ without_last xs) (ap (λ st. st.pairs) (known_is rules old mid c));
     same_table = p.table;
   })
 
   -- where memory lacks after that, one fewer than half are left at the least
   pub place_lacks_half : IsRefusedGrowth rules old → (outcome : Outcome) (new : State K V S H) → outcome ≡ no_memory → Place rules hash_of pair old outcome new → full_capacity (buckets old) / 2 ≤ length new.pairs + 1
   place_lacks_half refusal outcome new q (first_table e b bytes u g m) = with_pairs e refusal
-  place_lacks_half refusal outcome new q (first_denied e b bytes u d o n) = clash_refused (sym o ∙ q)
-  place_lacks_half refusal outcome new q (first_too_large e b u o n) = clash_refused (sym o ∙ q)
-  place_lacks_half refusal outcome new q (into_empty e b r s o n) = clash_memory (sym o ∙ q)
-  place_lacks_half refusal outcome new q (into_emptied e b r o n) = clash_memory (sym o ∙ q)
-  place_lacks_half refusal outcome new q (with_room e r s o n) = clash_memory (sym o ∙ q)
-  place_lacks_half refusal outcome new q (deleted_bucket f i b l o n) = clash_memory (sym o ∙ q)
+  place_lacks_half refusal outcome new q (first_denied e b bytes u d o n) = refused-not_no_memory (sym o ∙ q)
+  place_lacks_half refusal outcome new q (first_too_large e b u o n) = refused-not_no_memory (sym o ∙ q)
+  place_lacks_half refusal outcome new q (into_empty e b r s o n) = placed-not_no_memory (sym o ∙ q)
+  place_lacks_half refusal outcome new q (into_emptied e b r o n) = placed-not_no_memory (sym o ∙ q)
+  place_lacks_half refusal outcome new q (with_room e r s o n) = placed-not_no_memory (sym o ∙ q)
+  place_lacks_half refusal outcome new q (deleted_bucket f i b l o n) = placed-not_no_memory (sym o ∙ q)
   place_lacks_half refusal outcome new q (rehashed f i l m) = absurd (omega (arith, l, refusal.above_half))
   place_lacks_half refusal outcome new q (grown f i l count bytes t g m) = not_granted count bytes t g refusal.known refusal.refused
-  place_lacks_half refusal outcome new q (evicted f i l mid c n pos one half o p) = clash_memory (sym o ∙ q)
+  place_lacks_half refusal outcome new q (evicted f i l mid c n pos one half o p) = placed-not_no_memory (sym o ∙ q)
   place_lacks_half refusal outcome new q (evicted_rehashed f i l mid c n pos one half left lv m) =
-      omega (arith, ap length (left_if left new _ _ _ outcome q m), ap (λ st. length st.pairs) lv.is, length-pops rules n (contents mid), ap length (same_if_denied rules hash_of pair old mid c), half)
+      omega (arith, ap length (left_if left new _ _ _ outcome q m), ap (λ st. length st.pairs) lv.is, length-pops rules n (contents mid), ap length (ap (λ st. st.pairs) (known_is rules old mid c)), half)
 
   module _ (new : State K V S H) (step : Place rules hash_of pair old placed new) where
     pub refused_half : IsRefusedGrowth rules old → full_capacity (buckets old) / 2 ≤ length new.pairs

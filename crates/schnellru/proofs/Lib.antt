@@ -2,6 +2,7 @@ pub mod Growth
 pub mod Doubling
 pub mod Sized
 pub mod Leaving
+pub mod Outcomes
 pub mod DeletedBuckets
 pub mod Potential
 pub mod Following

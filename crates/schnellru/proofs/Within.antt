@@ -9,8 +9,8 @@ use Rattle.schnellru.specs.State.{State, Contents, contents, Leaves, pop, trim, 
 use Rattle.schnellru.specs.Place.{Place, first_table, first_denied, first_too_large, into_empty, into_emptied, with_room, deleted_bucket, rehashed, grown, evicted, evicted_rehashed, Outcome, placed, refused, no_memory, IsPlaced, IsPlacedIfMemory, asked}
 use Rattle.schnellru.specs.Inserts.{Insert, replaced, given_up, no_memory_to_admit, not_admitted, admitted, replacement, with_replaced, Settles}
 use Rattle.schnellru.specs.Theorems.{IsNewest, SaysWhether}
-use Rattle.schnellru.proofs.Leaving.{length-without_last}
-use Rattle.schnellru.proofs.Fronts.{front_self, front_same, front_trans, front_pops, front_trim, front_cons, same_if_denied, given_named, replaced_named}
+use Rattle.schnellru.proofs.Leaving.{length-without_last, known_is}
+use Rattle.schnellru.proofs.Fronts.{front_self, front_same, front_trans, front_pops, front_trim, front_cons, given_named, replaced_named}
 use Rattle.schnellru.proofs.Distinct.{AreDistinct, absent_without}
 
 module _ {K V S : Type 0} (rules : Rules K V S) where
@@ -82,7 +82,7 @@ module _ {K V S H : Type 0} (rules : Rules K V S) (hash_of : H → K → ℕ) (p
   place_comes outcome new (grown f i l count bytes t g m) = if_memory_comes (asked rules bytes old) _ _ _ outcome new m (front_self old.pairs)
   place_comes outcome new (evicted f i l mid c n pos one half o p) = placed_comes _ _ _ _ outcome new o p
   place_comes outcome new (evicted_rehashed f i l mid c n pos one half left lv m) = if_memory_comes left _ _ _ outcome new m
-      (front_trans _ _ _ (front_same _ _ (ap (λ st. st.pairs) lv.is)) (front_trans _ _ _ (front_pops rules n (contents mid)) (front_same _ _ (same_if_denied rules hash_of pair old mid c))))
+      (front_trans _ _ _ (front_same _ _ (ap (λ st. st.pairs) lv.is)) (front_trans _ _ _ (front_pops rules n (contents mid)) (front_same _ _ (ap (λ st. st.pairs) (known_is rules old mid c)))))
 
 module _ {K V S H : Type 0} (rules : Rules K V S) (names : K → Bool) where
   -- after a trimming that answers whether a pair is left
