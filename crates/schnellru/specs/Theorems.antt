@@ -13,7 +13,8 @@ module _ {K V S H : Type 0} where
   -- goes on
   pub record PaysForMoves (old new : State K V S H) : Type 0 where
     pub placed : old.placed ≤ new.placed
-    pub moved : new.placed < 2 ^ 64 - 1 → new.moved + potential new + 2 * old.placed ≤ old.moved + potential old + 2 * new.placed
+    pub moved : new.placed < 2 ^ 64 - 1 →
+        new.moved + potential new + 2 * old.placed ≤ old.moved + potential old + 2 * new.placed
 
   -- the table takes at most so many bytes
   abbrev pub UsesAtMost : ℕ → State K V S H → Type 0
@@ -33,11 +34,13 @@ pub record IsNewest {K V : Type 0} (names : K → Bool) (pairs : List (K × V)) 
 -- what an insert leaves of the pairs, where names tells the inserted key
 pub data GivesUp {K V : Type 0} (names : K → Bool) (refuses : K × V → Type 0) (old new : List (K × V)) : Type 0 where
   -- the oldest go, as many as it takes, behind the new pair
-  behind : (newest : K × V) → names newest.0 ≡ true → IsFront new (newest ∷ without names old) → GivesUp names refuses old new
+  behind : (newest : K × V) → names newest.0 ≡ true → IsFront new (newest ∷ without names old) →
+      GivesUp names refuses old new
   -- the oldest go, and no pair comes, nor was the key there
   with_none : lookup_entry names old ≡ None → IsFront new old → GivesUp names refuses old new
   -- the pair goes whose replacement is refused, and no other
-  without_one : (pair : K × V) → lookup_entry names old ≡ Some pair → refuses pair → new ≡ without names old → GivesUp names refuses old new
+  without_one : (pair : K × V) → lookup_entry names old ≡ Some pair → refuses pair → new ≡ without names old →
+      GivesUp names refuses old new
 
 module _ {K V S H : Type 0} (rules : Rules K V S) where
   -- the table lacks room, is to be more than half full, and cannot grow
@@ -50,6 +53,7 @@ module _ {K V S H : Type 0} (rules : Rules K V S) where
   -- what the answer of an insert says: true, that the key is there, as the newest, and the limiter is not over; false,
   -- that it is not there
   abbrev pub SaysWhether : (K → Bool) → Result Bool AllocError → State K V S H → Type 0
-  SaysWhether names (Ok true) new = IsNewest names new.pairs × (rules.is_over_the_limit new.limiter (length new.pairs) ≡ false)
+  SaysWhether names (Ok true) new =
+      IsNewest names new.pairs × (rules.is_over_the_limit new.limiter (length new.pairs) ≡ false)
   SaysWhether names (Ok false) new = lookup_entry names new.pairs ≡ None
   SaysWhether names (Err e) new = ⊤

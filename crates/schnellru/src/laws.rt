@@ -75,7 +75,8 @@ pub fn small_inserts_are_exact<
             (new others : State K V L S) →
         buckets old ≤ 16 → IsDetermined L.offers → IsOk result → IsOk other →
         Insert L.rules L.offers I.names (hash_by K.hash_input S.BuildHasher S.Hasher.Hasher) key value old result new →
-        Insert L.rules L.offers I.names (hash_by K.hash_input S.BuildHasher S.Hasher.Hasher) key value old other others →
+        Insert L.rules L.offers I.names (hash_by K.hash_input S.BuildHasher S.Hasher.Hasher)
+            key value old other others →
         EndsAlike result other new others }
 {
 }
@@ -180,13 +181,16 @@ pub fn growth_keeps_the_list<K: Eq + Hash, V, L: Limiter<K, V>, S: BuildHasher>(
 {
 }
 
-/// With `ByLength` an insert leaves the limiter as it was, and at most `max_length` pairs, if there were no more before.
+/// With `ByLength` an insert leaves the limiter as it was, and at most `max_length` pairs, if there were no more
+/// before.
 pub fn inserts_keep_the_length<K: Eq + Hash + Drop, V: Drop, S: BuildHasher>()
-    ensures limiter { (key : K) (value : V) (old : State K V ByLength S) (result : Result Bool AllocError) (new : State K V ByLength S) →
+    ensures limiter { (key : K) (value : V) (old : State K V ByLength S) (result : Result Bool AllocError)
+            (new : State K V ByLength S) →
         Insert ⟦<ByLength as Limiter<K, V>>⟧.rules ⟦<ByLength as Insertion<K, V, K>>⟧.offers K.eq
             (hash_by K.hash_input S.BuildHasher S.Hasher.Hasher) key value old result new →
         new.limiter ≡ old.limiter }
-    ensures length { (key : K) (value : V) (old : State K V ByLength S) (result : Result Bool AllocError) (new : State K V ByLength S) →
+    ensures length { (key : K) (value : V) (old : State K V ByLength S) (result : Result Bool AllocError)
+            (new : State K V ByLength S) →
         Insert ⟦<ByLength as Limiter<K, V>>⟧.rules ⟦<ByLength as Insertion<K, V, K>>⟧.offers K.eq
             (hash_by K.hash_input S.BuildHasher S.Hasher.Hasher) key value old result new →
         length old.pairs ≤ old.limiter → length new.pairs ≤ old.limiter }
@@ -196,11 +200,13 @@ pub fn inserts_keep_the_length<K: Eq + Hash + Drop, V: Drop, S: BuildHasher>()
 /// With `ByMemoryUsage` an insert leaves the limiter as it was, and a table of at most `max_memory_usage` bytes, if it
 /// had no more before.
 pub fn inserts_keep_the_memory_usage<K: Eq + Hash + Drop, V: Drop, S: BuildHasher>()
-    ensures limiter { (key : K) (value : V) (old : State K V ByMemoryUsage S) (result : Result Bool AllocError) (new : State K V ByMemoryUsage S) →
+    ensures limiter { (key : K) (value : V) (old : State K V ByMemoryUsage S) (result : Result Bool AllocError)
+            (new : State K V ByMemoryUsage S) →
         Insert ⟦<ByMemoryUsage as Limiter<K, V>>⟧.rules ⟦<ByMemoryUsage as Insertion<K, V, K>>⟧.offers K.eq
             (hash_by K.hash_input S.BuildHasher S.Hasher.Hasher) key value old result new →
         new.limiter ≡ old.limiter }
-    ensures usage { (key : K) (value : V) (old : State K V ByMemoryUsage S) (result : Result Bool AllocError) (new : State K V ByMemoryUsage S) →
+    ensures usage { (key : K) (value : V) (old : State K V ByMemoryUsage S) (result : Result Bool AllocError)
+            (new : State K V ByMemoryUsage S) →
         Insert ⟦<ByMemoryUsage as Limiter<K, V>>⟧.rules ⟦<ByMemoryUsage as Insertion<K, V, K>>⟧.offers K.eq
             (hash_by K.hash_input S.BuildHasher S.Hasher.Hasher) key value old result new →
         UsesAtMost old.limiter old → UsesAtMost old.limiter new }
