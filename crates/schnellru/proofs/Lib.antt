@@ -16,3 +16,4 @@ pub mod Exact
 pub mod Sums
 pub mod Evictions
 pub mod Limits
+pub mod Promotion

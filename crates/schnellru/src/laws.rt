@@ -1,14 +1,15 @@
-//! What is proved of every insert. Each theorem is the contract of a function that does nothing.
+//! What is proved of every insert and of every get. Each theorem is the contract of a function that does nothing.
 
-ghost use Rattle.std.specs.Prelude.{◌≡◌, ◌≢◌, ℕ, ◌≤◌, ◌<◌, ◌+◌, ◌*◌, ◌/◌, ◌⊎◌, ◌∷◌, Bool, false, Result, IsOk, IsErr, length};
+ghost use Rattle.std.specs.Prelude.{◌≡◌, ◌≢◌, ℕ, ◌≤◌, ◌<◌, ◌+◌, ◌*◌, ◌/◌, ◌⊎◌, ◌∷◌, Bool, false, Option, Result, IsOk, IsErr, length};
 ghost use Rattle.std.specs.List.{IsDistinct};
 ghost use Rattle.std.specs.declared.alloc.AllocError.{AllocError};
 ghost use Rattle.group_table.specs.Bucket.{deleted};
 ghost use Rattle.group_table.specs.Sizes.{full_capacity};
 ghost use Rattle.lru_limits.specs.Hashing.{hash_by};
 ghost use Rattle.schnellru.specs.Lists.{without_last, keys_of};
-ghost use Rattle.schnellru.specs.State.{State, buckets, room, FirstFreeIs, IsSized, IsPaid};
+ghost use Rattle.schnellru.specs.State.{State, buckets, room, FirstFreeIs, IsSized, IsPaid, IsMap};
 ghost use Rattle.schnellru.specs.Place.{Place, Outcome, placed, no_memory, IsPlaced, LacksRoom};
+ghost use Rattle.schnellru.specs.Calls.{Get};
 ghost use Rattle.schnellru.specs.Inserts.{Insert, replacement, IsShort};
 ghost use Rattle.schnellru.specs.Exact.{IsDetermined, EndsAlike};
 ghost use Rattle.schnellru.specs.Theorems.{PaysForMoves, IsRefusedGrowth, UsesAtMost, GivesUp, IsSummed, SaysWhether};
@@ -210,5 +211,20 @@ pub fn inserts_keep_the_memory_usage<K: Eq + Hash + Drop, V: Drop, S: BuildHashe
         Insert ⟦<ByMemoryUsage as Limiter<K, V>>⟧.rules ⟦<ByMemoryUsage as Insertion<K, V, K>>⟧.offers K.eq
             (hash_by K.hash_input S.BuildHasher S.Hasher.Hasher) key value old result new →
         UsesAtMost old.limiter old → UsesAtMost old.limiter new }
+{
+}
+
+/// What holds of every map and of every sum holds after a get.
+pub fn gets_keep_what_holds<
+    K: Eq + Hash,
+    V,
+    I: LookupKey<K>,
+    L: Summing<K, V, I>,
+    S: BuildHasher,
+>()
+    ensures map { (key : I) (old : State K V L S) (result : Option V) (new : State K V L S) →
+        IsMap K.eq old → Get (I.names key) old result new → IsMap K.eq new }
+    ensures sum { (key : I) (old : State K V L S) (result : Option V) (new : State K V L S) →
+        IsSummed L.cost_of L.account old → Get (I.names key) old result new → IsSummed L.cost_of L.account new }
 {
 }
