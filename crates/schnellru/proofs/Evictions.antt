@@ -64,19 +64,25 @@ module _ {K V S H : Type 0} (rules : Rules K V S) (hash_of : H → K → ℕ) (p
   place_keeps outcome new q (grown f i l count bytes t g m) = inl (record { pairs = ap (λ st. st.pairs) (placed_if (asked rules bytes old) new _ _ _ outcome q m).state; large = λ refusal. not_granted count bytes t g refusal.known refusal.refused })
   place_keeps outcome new q (evicted f i l mid c n pos one half o p) =
       let left = ap (λ st. st.pairs) p.state in
-      inr (record { lacks_room = f; above_half = l; known = mid; refused = c }, record {
-    half = omega (arith, ap length left, length-pops rules n (contents mid), ap length (ap (λ st. st.pairs) (known_is rules old mid c)), half);
-    one = λ small. left ∙ ap (λ k. pair ∷ (pops rules k (contents mid)).pairs) (one small) ∙ ap (λ xs. pair ∷ without_last xs) (ap (λ st. st.pairs) (known_is rules old mid c));
-    same_table = p.table;
-  })
+      inr (
+        record { lacks_room = f; above_half = l; known = mid; refused = c },
+        record {
+          half = omega (arith, ap length left, length-pops rules n (contents mid), ap length (ap (λ st. st.pairs) (known_is rules old mid c)), half);
+          one = λ small. left ∙ ap (λ k. pair ∷ (pops rules k (contents mid)).pairs) (one small) ∙ ap (λ xs. pair ∷ without_last xs) (ap (λ st. st.pairs) (known_is rules old mid c));
+          same_table = p.table;
+        },
+      )
   place_keeps outcome new q (evicted_rehashed f i l mid c n pos one half left lv m) =
       let p = placed_if left new _ _ _ outcome q m in
       let rest = ap (λ st. st.pairs) lv.is in
-      inr (record { lacks_room = f; above_half = l; known = mid; refused = c }, record {
-    half = omega (arith, ap (λ st. length st.pairs) p.state, ap length rest, length-pops rules n (contents mid), ap length (ap (λ st. st.pairs) (known_is rules old mid c)), half);
-    one = λ small. ap (λ st. st.pairs) p.state ∙ ap (λ xs. pair ∷ xs) rest ∙ ap (λ k. pair ∷ (pops rules k (contents mid)).pairs) (one small) ∙ ap (λ xs. pair ∷ without_last xs) (ap (λ st. st.pairs) (known_is rules old mid c));
-    same_table = p.table;
-  })
+      inr (
+        record { lacks_room = f; above_half = l; known = mid; refused = c },
+        record {
+          half = omega (arith, ap (λ st. length st.pairs) p.state, ap length rest, length-pops rules n (contents mid), ap length (ap (λ st. st.pairs) (known_is rules old mid c)), half);
+          one = λ small. ap (λ st. st.pairs) p.state ∙ ap (λ xs. pair ∷ xs) rest ∙ ap (λ k. pair ∷ (pops rules k (contents mid)).pairs) (one small) ∙ ap (λ xs. pair ∷ without_last xs) (ap (λ st. st.pairs) (known_is rules old mid c));
+          same_table = p.table;
+        },
+      )
 
   -- where memory lacks after that, one fewer than half are left at the least
   pub place_lacks_half : IsRefusedGrowth rules old → (outcome : Outcome) (new : State K V S H) → outcome ≡ no_memory → Place rules hash_of pair old outcome new → full_capacity (buckets old) / 2 ≤ length new.pairs + 1

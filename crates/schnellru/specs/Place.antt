@@ -18,7 +18,10 @@ module _ {K V S H : Type 0} where
     pub table : buckets new ≡ count
     pub left : room new ≡ spare
     pub state : new ≡ record old {
-      pairs = pair ∷ old.pairs; marks = new.marks; moved = count_up old.moved moves; placed = count_up old.placed 1
+      pairs = pair ∷ old.pairs;
+      marks = new.marks;
+      moved = count_up old.moved moves;
+      placed = count_up old.placed 1;
     }
 
   -- there is a pair, and no more is sure to fit
@@ -102,14 +105,14 @@ module _ {K V S H : Type 0} (rules : Rules K V S) (hash_of : H → K → ℕ) wh
     rehashed : LacksRoom old → FirstFreeIs empty (hash_of old.hasher pair.0) old →
         length old.pairs + 1 ≤ full_capacity (buckets old) / 2 →
         IsPlacedIfMemory rules pair (buckets old) (full_capacity (buckets old) - length old.pairs - 1)
-            (length old.pairs) old outcome new →
+        (length old.pairs) old outcome new →
         Place pair old outcome new
     -- or, with more pairs, larger,
     grown : LacksRoom old → FirstFreeIs empty (hash_of old.hasher pair.0) old →
         full_capacity (buckets old) / 2 < length old.pairs + 1 →
         (count bytes : ℕ) → next_table rules old ≡ new_table count bytes → Grants rules bytes old →
         IsPlacedIfMemory rules pair count (full_capacity count - length old.pairs - 1)
-            (length old.pairs) (asked rules bytes old) outcome new →
+        (length old.pairs) (asked rules bytes old) outcome new →
         Place pair old outcome new
     -- or it cannot be, and the oldest leave, at least one: then the pair finds a bucket,
     evicted : LacksRoom old → FirstFreeIs empty (hash_of old.hasher pair.0) old →
@@ -127,5 +130,5 @@ module _ {K V S H : Type 0} (rules : Rules K V S) (hash_of : H → K → ℕ) wh
         length old.pairs + 1 ≡ full_capacity (buckets old) / 2 + n →
         (left : State K V S H) → Leaves mid (pops rules n (contents mid)) left →
         IsPlacedIfMemory rules pair (buckets old) (full_capacity (buckets old) / 2)
-            (length left.pairs) left outcome new →
+        (length left.pairs) left outcome new →
         Place pair old outcome new
