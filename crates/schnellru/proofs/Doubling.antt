@@ -3,17 +3,10 @@ use Rattle.std.proofs.Common.{◌≡◌, ℕ, zero, suc, ◌+◌, ◌*◌, ◌/�
 use native.Mathlib.Decide.{dec_lt}
 use Rattle.std.specs.Prelude.{nat_lt, nat_le, ◌==◌}
 use Rattle.std.proofs.lemmas.Bool.Decides.{nat_tests}
-use Rattle.group_table.specs.Sizes.{full_capacity, first_power_from, least_power, below, buckets_for}
+use Rattle.group_table.specs.Sizes.{full_capacity, least_power, below, buckets_for}
+use Rattle.group_table.proofs.PowerLemmas.{first_power_upper, power_gap}
 use Rattle.schnellru.specs.Sizes.{same_table, new_table, table_with, target_from, target}
-use Rattle.schnellru.proofs.Growth.{sizes_of, power_gap, least_power_shape, buckets_double, table_with_is, some_of}
-
-first_power_upper : (tries n power : ℕ) → power < 2 * n → first_power_from tries n power < 2 * n
-first_power_upper zero n power h = h
-first_power_upper (suc tries) n power h = go (nat_le n power) (λ f. grind (arith, nat_tests)) (λ l. first_power_upper tries n (2 * power) (omega (arith, l)))
-  where
-    go : (b : Bool) → (b ≡ false → power < n) → (power < n → first_power_from tries n (2 * power) < 2 * n) → cond b power (first_power_from tries n (2 * power)) < 2 * n
-    go true f r = h
-    go false f r = r (f refl)
+use Rattle.schnellru.proofs.Growth.{sizes_of, least_power_shape, buckets_double, table_with_is, some_of}
 
 least_power_upper : (n : ℕ) → 0 < n → least_power n < 2 * n
 unfolding least_power

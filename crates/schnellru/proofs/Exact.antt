@@ -1,6 +1,6 @@
 -- In tables of up to 16 buckets an insert leaves nothing open but where memory is short.
-use Rattle.std.proofs.Common.{◌≡◌, ℕ, ◌+◌, ◌-◌, ◌/◌, ◌<◌, ◌≤◌, Bool, true, false, List, [], ◌∷◌, length, Option, Some, None, Result, Ok, Err, refl, sym, ap, ◌∙◌, subst, arith}
-use Rattle.std.specs.Prelude.{nat_lt, nat_le, ◌==◌, not, IsOk, IsErr}
+use Rattle.std.proofs.Common.{◌≡◌, ℕ, ◌+◌, ◌-◌, ◌/◌, ◌<◌, ◌≤◌, Bool, true, false, List, [], ◌∷◌, length, Option, Some, None, Result, Ok, refl, sym, ap, ◌∙◌, subst, arith}
+use Rattle.std.specs.Prelude.{nat_lt, nat_le, ◌==◌, not, IsOk}
 use Rattle.std.proofs.lemmas.Bool.Decides.{nat_tests}
 use Rattle.lru_limits.specs.Rules.{Rules, Offers}
 use Rattle.group_table.specs.Sizes.{full_capacity}
@@ -9,6 +9,7 @@ use Rattle.schnellru.specs.State.{State, buckets, room, Contents, contents, Leav
 use Rattle.schnellru.specs.Place.{Place, first_table, first_denied, first_too_large, into_empty, into_emptied, with_room, deleted_bucket, rehashed, grown, evicted, evicted_rehashed, CannotGrow, no_target, denied, next_table, Outcome, placed, refused, no_memory, IsPlaced, IsPlacedIfMemory, asked, without_oldest}
 use Rattle.std.specs.declared.alloc.AllocError.{AllocError}
 use Rattle.schnellru.specs.Inserts.{Insert, replaced, given_up, no_memory_to_admit, not_admitted, admitted, make_way, Admits, with_replaced, Settles}
+use Rattle.schnellru.proofs.Outcomes.{ok-not_err}
 use Rattle.schnellru.specs.Exact.{Landing, Ending, lands, evicts, grows, landing, trimmed, settled, ending_there, ending_new, EndsAlike, IsDetermined}
 
 at_zero : (n : ℕ) → n ≡ 0 → (n == 0) ≡ true
@@ -82,10 +83,6 @@ module _ {K V S H I : Type 0} (rules : Rules K V S) (offers : Offers K V S I) (n
   EndsAs (Some pair) result new = Ends (ending_there rules offers names i v old pair) result new
   EndsAs None result new = (s : S) × (given : Option (K × V)) × Admits rules offers names i v old s given × Ends (ending_new rules offers names i v old s given) result new
 
-  clash : {A : Type 0} (result : Result Bool AllocError) → IsOk result → IsErr result → A
-  clash (Ok b) h k = absurd (grind (arith, k))
-  clash (Err e) h k = absurd (grind (arith, h))
-
   left_is : (mid : State K V S H) (c : Contents K V S) (new : State K V S H) → Leaves mid c new → contents new ≡ c
   left_is mid c new l = ap contents l.is
 
@@ -95,12 +92,12 @@ module _ {K V S H I : Type 0} (rules : Rules K V S) (offers : Offers K V S I) (n
   settled_ends : (l : Landing K V S) (pair : K × V) (ready : State K V S H) (tiny : buckets ready ≤ 16) (outcome : Outcome) (landed : State K V S H) (result : Result Bool AllocError) (new : State K V S H) → IsOk result → LandsAs rules hash_of pair ready tiny l outcome landed → Settles rules outcome landed result new → Ends (settled rules l) result new
   settled_ends l pair ready tiny placed landed result new ok h s = rw h (trimmed_ends landed (contents landed) result new s.0 s.1)
   settled_ends l pair ready tiny refused landed result new ok h s = rw h (s.0, ap contents s.1)
-  settled_ends l pair ready tiny no_memory landed result new ok h s = clash result ok s.0
+  settled_ends l pair ready tiny no_memory landed result new ok h s = ok-not_err result ok s.0
 
   insert_ends : (result : Result Bool AllocError) (new : State K V S H) → IsOk result → Insert rules offers names hash_of i v old result new → EndsAs (lookup_entry (names i) old.pairs) result new
   insert_ends result new ok (replaced pair found y r l) = rw (found, y) (trimmed_ends old (with_replaced rules offers names pair i v old) result new r l)
   insert_ends result new ok (given_up pair found y r l) = rw (found, y) (r, left_is old _ new l)
-  insert_ends result new ok (no_memory_to_admit a k r e) = clash result ok r
+  insert_ends result new ok (no_memory_to_admit a k r e) = ok-not_err result ok r
   insert_ends result new ok (not_admitted a s n r e) = rw a (s, None, n, (r, ap contents e))
   insert_ends result new ok (admitted a s pair n ready l outcome landed p t) =
       let c = make_way rules (record { pairs = old.pairs; limiter = s }) in

@@ -5,7 +5,7 @@ use Rattle.lru_limits.specs.Rules.{Rules, Offers}
 use Rattle.schnellru.specs.Sizes.{usage}
 use Rattle.schnellru.specs.Lists.{last}
 use Rattle.schnellru.specs.State.{State, Contents, buckets, contents, Leaves, told_of, pop, pops, trim, trim_from}
-use Rattle.schnellru.specs.Place.{Place, first_table, first_denied, first_too_large, into_empty, into_emptied, with_room, deleted_bucket, rehashed, grown, evicted, evicted_rehashed, CannotGrow, no_target, denied, Outcome, placed, refused, no_memory, IsPlaced, IsPlacedIfMemory, Grants, asked, turned_away, without_oldest}
+use Rattle.schnellru.specs.Place.{Place, first_table, first_denied, first_too_large, into_empty, into_emptied, with_room, deleted_bucket, rehashed, grown, evicted, evicted_rehashed, CannotGrow, no_target, denied, Outcome, placed, refused, no_memory, IsPlaced, IsPlacedIfMemory, asked, turned_away, without_oldest}
 use Rattle.schnellru.specs.Inserts.{Insert, replaced, given_up, no_memory_to_admit, not_admitted, admitted, make_way, Settles}
 use Rattle.schnellru.proofs.Growth.{target_usage}
 
@@ -65,38 +65,38 @@ module _ {K V S H : Type 0} (rules : Rules K V S) where
     pub limiter : P new.limiter
     pub entry_bytes : new.entry_bytes ≡ old.entry_bytes
     pub count : IsNextCount P old (buckets new)
-    pub moved : new.moved < 2 ^ 64
+    pub moved : old.moved < 2 ^ 64 → new.moved < 2 ^ 64
 
   pub follows_trans : (P : S → Type 0) (old mid new : State K V S H) → Follows P old mid → Follows P mid new → Follows P old new
   follows_trans P old mid new f g = record {
     limiter = g.limiter;
     entry_bytes = g.entry_bytes ∙ f.entry_bytes;
     count = count g.count;
-    moved = g.moved;
+    moved = λ bound. g.moved (f.moved bound);
   }
     where
       count : IsNextCount P mid (buckets new) → IsNextCount P old (buckets new)
       count (inl e) = subst (IsNextCount P old) (sym e) f.count
       count (inr p) = inr (subst (λ bytes. IsPermitted rules P bytes (buckets new)) f.entry_bytes p)
 
-  pub leaves_follows : (P : S → Type 0) (old : State K V S H) (left : Contents K V S) (new : State K V S H) → Leaves old left new → P left.limiter → old.moved < 2 ^ 64 → Follows P old new
-  leaves_follows P old left new l holds bound = record {
+  pub leaves_follows : (P : S → Type 0) (old : State K V S H) (left : Contents K V S) (new : State K V S H) → Leaves old left new → P left.limiter → Follows P old new
+  leaves_follows P old left new l holds = record {
     limiter = subst P (sym (ap (λ x. x.limiter) l.is)) holds;
     entry_bytes = ap (λ x. x.entry_bytes) l.is;
     count = inl l.room.table;
-    moved = omega (arith, ap (λ x. x.moved) l.is, bound);
+    moved = λ bound. omega (arith, ap (λ x. x.moved) l.is, bound);
   }
 
   -- with another limiter
-  pub limiter_follows : (P : S → Type 0) (old : State K V S H) (s : S) → P s → old.moved < 2 ^ 64 → Follows P old (record old { limiter = s })
-  limiter_follows P old s holds bound = record { limiter = holds; entry_bytes = refl; count = inl refl; moved = bound }
+  pub limiter_follows : (P : S → Type 0) (old : State K V S H) (s : S) → P s → Follows P old (record old { limiter = s })
+  limiter_follows P old s holds = record { limiter = holds; entry_bytes = refl; count = inl refl; moved = λ bound. bound }
 
-module _ {K V S H : Type 0} (rules : Rules K V S) (P : S → Type 0) (kept : IsKept rules P) (hash_of : H → K → ℕ) (pair : K × V) (old : State K V S H) (holds : P old.limiter) (bound : old.moved < 2 ^ 64) where
+module _ {K V S H : Type 0} (rules : Rules K V S) (P : S → Type 0) (kept : IsKept rules P) (hash_of : H → K → ℕ) (pair : K × V) (old : State K V S H) (holds : P old.limiter) where
   self : Follows rules P old old
-  self = limiter_follows rules P old old.limiter holds bound
+  self = limiter_follows rules P old old.limiter holds
 
   asked_follows : (bytes : ℕ) → Follows rules P old (asked rules bytes old)
-  asked_follows bytes = limiter_follows rules P old _ (kept.asked old.limiter bytes holds) bound
+  asked_follows bytes = limiter_follows rules P old _ (kept.asked old.limiter bytes holds)
 
   away_follows : (st new : State K V S H) → Follows rules P old st → new ≡ turned_away rules pair st → Follows rules P old new
   away_follows st new f e = rw e (record { limiter = kept.told st.limiter pair.0 pair.1 f.limiter; entry_bytes = f.entry_bytes; count = f.count; moved = f.moved })
@@ -106,7 +106,7 @@ module _ {K V S H : Type 0} (rules : Rules K V S) (P : S → Type 0) (kept : IsK
     limiter = subst P (sym (ap (λ x. x.limiter) p.state)) f.limiter;
     entry_bytes = ap (λ x. x.entry_bytes) p.state ∙ f.entry_bytes;
     count = subst (IsNextCount rules P old) (sym p.table) t;
-    moved = omega (arith, ap (λ x. x.moved) p.state);
+    moved = λ bound. omega (arith, ap (λ x. x.moved) p.state);
   }
 
   if_memory_follows : (st : State K V S H) (count spare moves : ℕ) (outcome : Outcome) (new : State K V S H) → IsPlacedIfMemory rules pair count spare moves st outcome new → Follows rules P old st → IsNextCount rules P old count → Follows rules P old new
@@ -122,7 +122,7 @@ module _ {K V S H : Type 0} (rules : Rules K V S) (P : S → Type 0) (kept : IsK
   oldest_follows n mid f = record { limiter = pops_kept rules P kept n (contents mid) f.limiter; entry_bytes = f.entry_bytes; count = f.count; moved = f.moved }
 
   left_follows : (n : ℕ) (mid left : State K V S H) → Leaves mid (pops rules n (contents mid)) left → Follows rules P old mid → Follows rules P old left
-  left_follows n mid left l f = follows_trans rules P old mid left f (leaves_follows rules P mid _ left l (pops_kept rules P kept n (contents mid) f.limiter) f.moved)
+  left_follows n mid left l f = follows_trans rules P old mid left f (leaves_follows rules P mid _ left l (pops_kept rules P kept n (contents mid) f.limiter))
 
   -- a placing keeps what the callbacks keep, and takes no table that the limiter does not permit
   pub place_follows : (outcome : Outcome) (new : State K V S H) → Place rules hash_of pair old outcome new → Follows rules P old new
@@ -146,24 +146,24 @@ module _ {K V S I : Type 0} (offers : Offers K V S I) (P : S → Type 0) where
     pub replaced : (s : S) (n : ℕ) (k : K) (i : I) (v w : V) → P s → P (offers.on_replace s n k i v w).limiter
 
 module _ {K V S H I : Type 0} (rules : Rules K V S) (offers : Offers K V S I) (P : S → Type 0) (kept : IsKept rules P) (kept_by_offers : IsKeptByOffers offers P) (names : I → K → Bool) (hash_of : H → K → ℕ) where
-  settles_follows : (outcome : Outcome) (landed : State K V S H) (result : Result Bool AllocError) (new : State K V S H) → Settles rules outcome landed result new → P landed.limiter → landed.moved < 2 ^ 64 → Follows rules P landed new
-  settles_follows placed landed result new h holds bound = leaves_follows rules P landed _ new h.1 (trim_kept rules P kept (contents landed) holds) bound
-  settles_follows refused landed result new h holds bound = rw h.1 (limiter_follows rules P landed landed.limiter holds bound)
-  settles_follows no_memory landed result new h holds bound = rw h.1 (limiter_follows rules P landed landed.limiter holds bound)
+  settles_follows : (outcome : Outcome) (landed : State K V S H) (result : Result Bool AllocError) (new : State K V S H) → Settles rules outcome landed result new → P landed.limiter → Follows rules P landed new
+  settles_follows placed landed result new h holds = leaves_follows rules P landed _ new h.1 (trim_kept rules P kept (contents landed) holds)
+  settles_follows refused landed result new h holds = rw h.1 (limiter_follows rules P landed landed.limiter holds)
+  settles_follows no_memory landed result new h holds = rw h.1 (limiter_follows rules P landed landed.limiter holds)
 
   -- an insert keeps what the callbacks keep, and takes no table that the limiter does not permit
-  pub insert_follows : (i : I) (v : V) (old : State K V S H) (result : Result Bool AllocError) (new : State K V S H) → P old.limiter → old.moved < 2 ^ 64 → Insert rules offers names hash_of i v old result new → Follows rules P old new
-  insert_follows i v old result new holds bound (replaced pair found y r l) =
-      leaves_follows rules P old _ new l (trim_kept rules P kept _ (kept_by_offers.replaced old.limiter (length old.pairs) pair.0 i pair.1 v holds)) bound
-  insert_follows i v old result new holds bound (given_up pair found y r l) =
-      leaves_follows rules P old _ new l (kept.told _ _ _ (kept_by_offers.replaced old.limiter (length old.pairs) pair.0 i pair.1 v holds)) bound
-  insert_follows i v old result new holds bound (no_memory_to_admit a k r e) = rw e (limiter_follows rules P old old.limiter holds bound)
-  insert_follows i v old result new holds bound (not_admitted a s n r e) = rw e (limiter_follows rules P old s (kept_by_offers.offered old.limiter (length old.pairs) i v s None n holds) bound)
-  insert_follows i v old result new holds bound (admitted a s pair n ready l outcome landed p t) =
+  pub insert_follows : (i : I) (v : V) (old : State K V S H) (result : Result Bool AllocError) (new : State K V S H) → P old.limiter → Insert rules offers names hash_of i v old result new → Follows rules P old new
+  insert_follows i v old result new holds (replaced pair found y r l) =
+      leaves_follows rules P old _ new l (trim_kept rules P kept _ (kept_by_offers.replaced old.limiter (length old.pairs) pair.0 i pair.1 v holds))
+  insert_follows i v old result new holds (given_up pair found y r l) =
+      leaves_follows rules P old _ new l (kept.told _ _ _ (kept_by_offers.replaced old.limiter (length old.pairs) pair.0 i pair.1 v holds))
+  insert_follows i v old result new holds (no_memory_to_admit a k r e) = rw e (limiter_follows rules P old old.limiter holds)
+  insert_follows i v old result new holds (not_admitted a s n r e) = rw e (limiter_follows rules P old s (kept_by_offers.offered old.limiter (length old.pairs) i v s None n holds))
+  insert_follows i v old result new holds (admitted a s pair n ready l outcome landed p t) =
       let admits : P s = kept_by_offers.offered old.limiter (length old.pairs) i v s (Some pair) n holds in
-      let start = limiter_follows rules P old s admits bound in
-      let way = leaves_follows rules P (record old { limiter = s }) _ ready l (make_way_kept rules P kept (record { pairs = old.pairs; limiter = s }) admits) bound in
-      let place = place_follows rules P kept hash_of pair ready way.limiter way.moved outcome landed p in
+      let start = limiter_follows rules P old s admits in
+      let way = leaves_follows rules P (record old { limiter = s }) _ ready l (make_way_kept rules P kept (record { pairs = old.pairs; limiter = s }) admits) in
+      let place = place_follows rules P kept hash_of pair ready way.limiter outcome landed p in
       follows_trans rules P old (record old { limiter = s }) new start
       (follows_trans rules P (record old { limiter = s }) ready new way
-      (follows_trans rules P ready landed new place (settles_follows outcome landed result new t place.limiter place.moved)))
+      (follows_trans rules P ready landed new place (settles_follows outcome landed result new t place.limiter)))

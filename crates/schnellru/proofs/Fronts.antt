@@ -1,12 +1,13 @@
 -- Inserts give up pairs from the old end alone.
-use Rattle.std.proofs.Common.{◌≡◌, ℕ, zero, suc, ◌+◌, ◌⊎◌, inl, inr, Bool, true, false, cond, List, [], ◌∷◌, ◌++◌, length, Some, None, Result, refl, sym, ap, ◌∙◌, subst, append_assoc, append-nil, arith}
+use Rattle.std.proofs.Common.{◌≡◌, ℕ, zero, suc, ◌+◌, ◌⊎◌, inl, inr, Bool, true, false, cond, List, [], ◌∷◌, ◌++◌, length, Some, None, Result, refl, sym, ap, ◌∙◌, subst, append_assoc, append-nil, arith, ◌≤◌, length-append}
 use Rattle.schnellru.specs.Lists.{IsFront, without_last, lookup_entry, without}
 use Rattle.std.specs.declared.alloc.AllocError.{AllocError}
 use Rattle.lru_limits.specs.Rules.{Rules, Offers}
 use Rattle.lru_limits.specs.Laws.{IsLookup, IsInsertion}
 use Rattle.schnellru.specs.State.{State, Contents, contents, pop, pops, trim, trim_from}
-use Rattle.schnellru.specs.Place.{Place, first_table, first_denied, first_too_large, into_empty, into_emptied, with_room, deleted_bucket, rehashed, grown, evicted, evicted_rehashed, CannotGrow, no_target, denied, Outcome, placed, refused, no_memory, IsPlaced, IsPlacedIfMemory, asked, without_oldest}
+use Rattle.schnellru.specs.Place.{Place, first_table, first_denied, first_too_large, into_empty, into_emptied, with_room, deleted_bucket, rehashed, grown, evicted, evicted_rehashed, Outcome, placed, refused, no_memory, IsPlaced, IsPlacedIfMemory, asked, without_oldest}
 use Rattle.schnellru.specs.Inserts.{Insert, replaced, given_up, no_memory_to_admit, not_admitted, admitted, make_way, Admits, replacement, with_replaced, Settles}
+use Rattle.schnellru.proofs.Leaving.{known_is}
 use Rattle.schnellru.specs.Theorems.{GivesUp, behind, with_none, without_one}
 
 module _ {X : Type 0} where
@@ -18,6 +19,9 @@ module _ {X : Type 0} where
 
   pub front_trans : (xs ys zs : List X) → IsFront xs ys → IsFront ys zs → IsFront xs zs
   front_trans xs ys zs p q = (p.0 ++ q.0, q.1 ∙ ap (λ l. l ++ q.0) p.1 ∙ append_assoc xs p.0 q.0)
+
+  pub length-front : (ys xs : List X) → IsFront ys xs → length ys ≤ length xs
+  length-front ys xs f = omega (arith, ap length f.1, length-append ys f.0)
 
   pub front_without_last : (xs : List X) → IsFront (without_last xs) xs
   front_without_last [] = ([], refl)
@@ -79,10 +83,6 @@ module _ {K V S H : Type 0} (rules : Rules K V S) (hash_of : H → K → ℕ) (p
   if_memory_ends st count spare moves no_memory new h f = inr (front_trans _ _ _ (front_same _ _ (ap (λ x. x.pairs) h)) f)
   if_memory_ends st count spare moves refused new h f = absurd h
 
-  same_if_denied : (mid : State K V S H) → CannotGrow rules old mid → mid.pairs ≡ old.pairs
-  same_if_denied mid (no_target t e) = ap (λ st. st.pairs) e
-  same_if_denied mid (denied count bytes t d e) = ap (λ st. st.pairs) e
-
   pub place_ends : (outcome : Outcome) (new : State K V S H) → Place rules hash_of pair old outcome new → Ends new
   place_ends outcome new (first_table e b bytes u g m) = if_memory_ends (asked rules bytes old) _ _ _ outcome new m (front_self old.pairs)
   place_ends outcome new (first_denied e b bytes u d o n) = inr (front_same _ _ (ap (λ st. st.pairs) n))
@@ -94,9 +94,9 @@ module _ {K V S H : Type 0} (rules : Rules K V S) (hash_of : H → K → ℕ) (p
   place_ends outcome new (rehashed f i l m) = if_memory_ends old _ _ _ outcome new m (front_self old.pairs)
   place_ends outcome new (grown f i l count bytes t g m) = if_memory_ends (asked rules bytes old) _ _ _ outcome new m (front_self old.pairs)
   place_ends outcome new (evicted f i l mid c n pos one half o p) =
-      newest_of (without_oldest rules n mid) new _ _ _ p (front_trans _ _ _ (front_pops rules n (contents mid)) (front_same _ _ (same_if_denied mid c)))
+      newest_of (without_oldest rules n mid) new _ _ _ p (front_trans _ _ _ (front_pops rules n (contents mid)) (front_same _ _ (ap (λ st. st.pairs) (known_is rules old mid c))))
   place_ends outcome new (evicted_rehashed f i l mid c n pos one half left lv m) =
-      if_memory_ends left _ _ _ outcome new m (front_trans _ _ _ (front_same _ _ (ap (λ st. st.pairs) lv.is)) (front_trans _ _ _ (front_pops rules n (contents mid)) (front_same _ _ (same_if_denied mid c))))
+      if_memory_ends left _ _ _ outcome new m (front_trans _ _ _ (front_same _ _ (ap (λ st. st.pairs) lv.is)) (front_trans _ _ _ (front_pops rules n (contents mid)) (front_same _ _ (ap (λ st. st.pairs) (known_is rules old mid c)))))
 
 module _ {K V : Type 0} where
   pub found_named : (names : K → Bool) (xs : List (K × V)) (p : K × V) → lookup_entry names xs ≡ Some p → names p.0 ≡ true

@@ -1,19 +1,16 @@
 -- An insert that grows the table makes a small one.
-use Rattle.std.proofs.Common.{◌≡◌, ℕ, ◌+◌, ◌*◌, ◌<◌, ◌≤◌, inl, inr, length, Bool, Result, refl, ap, ◌∙◌, arith, length-append}
+use Rattle.std.proofs.Common.{◌≡◌, ℕ, ◌+◌, ◌*◌, ◌<◌, inl, inr, length, Bool, Result, refl, ap, ◌∙◌, arith}
 use Rattle.std.specs.declared.alloc.AllocError.{AllocError}
 use Rattle.lru_limits.specs.Rules.{Rules, Offers}
-use Rattle.schnellru.specs.Lists.{IsFront}
 use Rattle.group_table.specs.Sizes.{full_capacity, IsBucketCount}
 use Rattle.schnellru.specs.State.{State, buckets, IsSized}
-use Rattle.schnellru.specs.Place.{Place, first_table, first_denied, first_too_large, into_empty, into_emptied, with_room, deleted_bucket, rehashed, grown, evicted, evicted_rehashed, CannotGrow, no_target, denied, Outcome, placed, refused, no_memory, IsPlacedIfMemory, asked, turned_away}
+use Rattle.schnellru.specs.Place.{Place, first_table, first_denied, first_too_large, into_empty, into_emptied, with_room, deleted_bucket, rehashed, grown, evicted, evicted_rehashed, Outcome, placed, refused, no_memory, IsPlacedIfMemory, asked, turned_away}
 use Rattle.schnellru.specs.Inserts.{Insert, replaced, given_up, no_memory_to_admit, not_admitted, admitted, Settles}
 use Rattle.schnellru.proofs.Growth.{full_capacity-4, full_capacity-at_most}
 use Rattle.schnellru.proofs.Doubling.{target_small}
-use Rattle.schnellru.proofs.Fronts.{front_make_way}
+use Rattle.schnellru.proofs.Leaving.{known_is}
+use Rattle.schnellru.proofs.Fronts.{front_make_way, length-front}
 use Rattle.schnellru.proofs.Potential.{IsBounded, bounded_of, sized_with_limiter, leaves_bounded}
-
-length-front : {X : Type 0} (ys xs : _) → IsFront {X = X} ys xs → length ys ≤ length xs
-length-front ys xs f = omega (arith, ap length f.1, length-append ys f.0)
 
 module _ {K V S H : Type 0} (rules : Rules K V S) (hash_of : H → K → ℕ) (pair : K × V) (old : State K V S H) where
   -- a table that was grown takes fewer than four times the pairs
@@ -36,10 +33,6 @@ module _ {K V S H : Type 0} (rules : Rules K V S) (hash_of : H → K → ℕ) (p
   if_memory_new st count spare moves no_memory new e f h = same_table_grows new (same_marks (turned_away rules pair st) new h e)
   if_memory_new st count spare moves refused new e f h = absurd h
 
-  denied_same : (mid : State K V S H) → CannotGrow rules old mid → buckets mid ≡ buckets old
-  denied_same mid (no_target t e) = same_marks old mid e refl
-  denied_same mid (denied count bytes t d e) = same_marks (asked rules bytes old) mid e refl
-
   pub place_grows : IsBounded old → (outcome : Outcome) (new : State K V S H) → Place rules hash_of pair old outcome new → GrowsLittle new
   place_grows ok outcome new (first_table e b bytes u g m) = if_memory_new (asked rules bytes old) 4 _ _ outcome new refl (omega (arith, full_capacity-4)) m
   place_grows ok outcome new (first_denied e b bytes u d o n) = same_table_grows new (same_marks _ new n refl)
@@ -55,7 +48,7 @@ module _ {K V S H : Type 0} (rules : Rules K V S) (hash_of : H → K → ℕ) (p
       size (inl z) = absurd (omega (arith, z, f.0, ok.fits, full_capacity-at_most (buckets old)))
       size (inr k) = target_small k.0 old.max old.entry_bytes (buckets old) (length old.pairs + 1) count bytes k.1 l t
   place_grows ok outcome new (evicted f i l mid c n pos one half o p) = same_table_grows new p.table
-  place_grows ok outcome new (evicted_rehashed f i l mid c n pos one half left lv m) = if_memory_same left _ _ outcome new (lv.room.table ∙ denied_same mid c) m
+  place_grows ok outcome new (evicted_rehashed f i l mid c n pos one half left lv m) = if_memory_same left _ _ outcome new (lv.room.table ∙ ap (λ st. buckets st) (known_is rules old mid c)) m
 
 module _ {K V S H I : Type 0} (rules : Rules K V S) (offers : Offers K V S I) (names : I → K → Bool) (hash_of : H → K → ℕ) where
   settles_same : (outcome : Outcome) (landed : State K V S H) (result : Result Bool AllocError) (new : State K V S H) → Settles rules outcome landed result new → buckets new ≡ buckets landed

@@ -1,13 +1,10 @@
 -- How tables grow.
-use Rattle.std.proofs.Common.{◌≡◌, ℕ, zero, suc, ◌+◌, ◌-◌, ◌*◌, ◌/◌, ◌^◌, ◌<◌, ◌≤◌, ◌⊎◌, Bool, true, false, cond, Option, Some, None, refl, sym, ap, ◌∙◌, arith, le_of_eq, pow-suc, pow_pos, pow_mono, pow-add, inl, inr}
-use native.Mathlib.Decide.{dec_lt}
+use Rattle.std.proofs.Common.{◌≡◌, ℕ, zero, suc, ◌+◌, ◌-◌, ◌*◌, ◌/◌, ◌^◌, ◌<◌, ◌≤◌, ◌⊎◌, Bool, true, false, cond, Option, Some, None, refl, sym, ap, ◌∙◌, arith, le_of_eq, pow_pos, pow-add, inl, inr}
 use Rattle.std.specs.Prelude.{nat_lt, nat_le, ◌==◌}
 use Rattle.std.proofs.lemmas.Bool.Decides.{nat_tests}
-use Rattle.group_table.specs.Sizes.{full_capacity, first_power_from, least_power, below, buckets_for}
+use Rattle.group_table.specs.Sizes.{full_capacity, least_power, below, buckets_for}
+use Rattle.group_table.proofs.PowerLemmas.{doubled, first_power_least, first_power_shape, power_gap}
 use Rattle.schnellru.specs.Sizes.{bytes_of, usage, Target, no_table, same_table, new_table, table_of, table_with, target_from, target}
-
-pub doubled : (power tries : ℕ) → power * 2 ^ suc tries ≡ 2 * power * 2 ^ tries
-doubled power tries = rw pow-suc (omega arith)
 
 -- 4, 8, or at least 16
 pub sizes_of : (k b : ℕ) → b ≡ 4 * 2 ^ k → (b ≡ 4) ⊎ ((b ≡ 8) ⊎ (16 ≤ b))
@@ -24,19 +21,6 @@ pub full_capacity-at_most : (b : ℕ) → full_capacity b ≤ b
 unfolding full_capacity
 full_capacity-at_most b = grind (arith, nat_tests)
 
-first_power_least : (tries n power : ℕ) → n ≤ power * 2 ^ tries → n ≤ first_power_from tries n power
-first_power_least zero n power h = omega arith
-first_power_least (suc tries) n power h = grind (arith, nat_tests, first_power_least tries n (2 * power), doubled power tries)
-
--- what is found is one of the powers
-first_power_shape : (tries n power : ℕ) → (j : ℕ) × (first_power_from tries n power ≡ power * 2 ^ j)
-first_power_shape zero n power = (0, omega arith)
-first_power_shape (suc tries) n power = pick (nat_le n power) (first_power_shape tries n (2 * power))
-  where
-    pick : (b : Bool) → ((j : ℕ) × (first_power_from tries n (2 * power) ≡ 2 * power * 2 ^ j)) → (j : ℕ) × (cond b power (first_power_from tries n (2 * power)) ≡ power * 2 ^ j)
-    pick true s = (0, omega arith)
-    pick false s = (suc s.0, s.1 ∙ sym (doubled power s.0))
-
 least_power_at_least : (n : ℕ) → n ≤ 2 ^ 64 → n ≤ least_power n
 unfolding least_power
 least_power_at_least n h = first_power_least 64 n 1 (omega arith)
@@ -44,14 +28,6 @@ least_power_at_least n h = first_power_least 64 n 1 (omega arith)
 pub least_power_shape : (n : ℕ) → (j : ℕ) × (least_power n ≡ 2 ^ j)
 unfolding least_power
 least_power_shape n = let s = first_power_shape 64 n 1 in (s.0, s.1 ∙ omega arith)
-
--- a power of two that is greater than another is at least twice that
-pub power_gap : (i j : ℕ) → 2 ^ i < 2 ^ j → 2 * 2 ^ i ≤ 2 ^ j
-power_gap i j h = go (dec_lt i j)
-  where
-    go : Dec (i < j) → 2 * 2 ^ i ≤ 2 ^ j
-    go (yes lt) = let m : 2 ^ suc i ≤ 2 ^ j = pow_mono lt in omega (arith, pow-suc 2 i)
-    go (no ge) = let m : 2 ^ j ≤ 2 ^ i = pow_mono (omega arith) in omega arith
 
 pub some_of : (b : Bool) (x y : ℕ) → cond b (Some x) None ≡ Some y → x ≡ y
 some_of true x y e = grind arith

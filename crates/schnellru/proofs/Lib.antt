@@ -2,6 +2,7 @@ pub mod Growth
 pub mod Doubling
 pub mod Sized
 pub mod Leaving
+pub mod Outcomes
 pub mod DeletedBuckets
 pub mod Potential
 pub mod Following
@@ -16,3 +17,6 @@ pub mod Sums
 pub mod Cuts
 pub mod Named
 pub mod Ordered
+pub mod Evictions
+pub mod Limits
+pub mod Promotion

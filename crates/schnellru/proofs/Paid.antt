@@ -28,10 +28,10 @@ module _ {K V S H : Type 0} where
 module _ {K V S H : Type 0} (rules : Rules K V S) (hash_of : H → K → ℕ) (pair : K × V) (old : State K V S H) (ok : IsBounded old) where
   -- a placing pays for what it moves
   pub place_paid : (outcome : Outcome) (new : State K V S H) → Place rules hash_of pair old outcome new → IsPaid old → IsPaid new
-  place_paid outcome new p paid = paid_after old new (place_pays rules hash_of pair old ok outcome new p) follows.moved (addressable follows.count) paid
+  place_paid outcome new p paid = paid_after old new (place_pays rules hash_of pair old ok outcome new p) (follows.moved ok.moved) (addressable follows.count) paid
     where
       follows : Follows rules (λ _. Unit {0}) old new
-      follows = place_follows rules (λ _. Unit {0}) (record { told = λ s k v h. h; asked = λ s bytes h. h }) hash_of pair old tt ok.moved outcome new p
+      follows = place_follows rules (λ _. Unit {0}) (record { told = λ s k v h. h; asked = λ s bytes h. h }) hash_of pair old tt outcome new p
 
       addressable : IsNextCount rules (λ _. Unit {0}) old (buckets new) → buckets new < 2 ^ 63
       addressable (inl e) = omega (arith, e, ok.addressable)

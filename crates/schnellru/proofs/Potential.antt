@@ -5,13 +5,12 @@ use Rattle.group_table.specs.Change.{count_up}
 use Rattle.schnellru.specs.Sizes.{new_table}
 use Rattle.lru_limits.specs.Rules.{Rules, Offers}
 use Rattle.schnellru.specs.State.{State, buckets, room, potential, Contents, contents, IsSized, Leaves, pops, trim}
-use Rattle.schnellru.specs.Place.{Place, first_table, first_denied, first_too_large, into_empty, into_emptied, with_room, deleted_bucket, rehashed, grown, evicted, evicted_rehashed, CannotGrow, no_target, denied, Outcome, placed, refused, no_memory, IsPlaced, without_oldest, asked, next_table, IsPlacedIfMemory}
+use Rattle.schnellru.specs.Place.{Place, first_table, first_denied, first_too_large, into_empty, into_emptied, with_room, deleted_bucket, rehashed, grown, evicted, evicted_rehashed, Outcome, placed, refused, no_memory, IsPlaced, without_oldest, asked, next_table, IsPlacedIfMemory}
 use Rattle.std.specs.declared.alloc.AllocError.{AllocError}
-use Rattle.group_table.specs.Bucket.{room as room_of}
 use Rattle.schnellru.specs.Inserts.{Insert, replaced, given_up, no_memory_to_admit, not_admitted, admitted, Settles}
 use Rattle.schnellru.proofs.Sized.{fits}
 use Rattle.schnellru.specs.Theorems.{PaysForMoves}
-use Rattle.schnellru.proofs.Leaving.{length-pops}
+use Rattle.schnellru.proofs.Leaving.{length-pops, known_is}
 use Rattle.schnellru.proofs.Growth.{full_capacity-double, full_capacity-at_most, target_doubles}
 
 module _ {K V S H : Type 0} where
@@ -80,17 +79,6 @@ module _ {K V S H : Type 0} (rules : Rules K V S) (hash_of : H → K → ℕ) (p
   if_memory_pays st count spare moves no_memory new h q m n f = rw h (record { placed = q.placed; moved = q.moved })
   if_memory_pays st count spare moves refused new h q m n f = absurd h
 
-  -- being denied a table changes no more than the limiter
-  record SameCounts (st : State K V S H) : Type 0 where
-    pub pairs : st.pairs ≡ old.pairs
-    pub marks : st.marks ≡ old.marks
-    pub moved : st.moved ≡ old.moved
-    pub placed : st.placed ≡ old.placed
-
-  same_if_denied : (mid : State K V S H) → CannotGrow rules old mid → SameCounts mid
-  same_if_denied mid (no_target t e) = rw e (record { pairs = refl; marks = refl; moved = refl; placed = refl })
-  same_if_denied mid (denied count bytes t d e) = rw e (record { pairs = refl; marks = refl; moved = refl; placed = refl })
-
   -- the table that it grows into is large enough
   grown_enough : (count bytes : ℕ) → 0 < length old.pairs → next_table rules old ≡ new_table count bytes → 2 * full_capacity (buckets old) ≤ full_capacity count
   grown_enough count bytes l t = size ok.count
@@ -114,13 +102,13 @@ module _ {K V S H : Type 0} (rules : Rules K V S) (hash_of : H → K → ℕ) (p
   place_pays outcome new (rehashed f i l m) = if_memory_pays old _ _ _ outcome new m (pays_self old) refl refl (omega (arith, f.1, ok.fits))
   place_pays outcome new (grown f i l count bytes t g m) = let large = grown_enough count bytes f.0 t in
       if_memory_pays (asked rules bytes old) _ _ _ outcome new m (calm_asked bytes) refl refl (omega (arith, large, f.1, ok.fits))
-  place_pays outcome new (evicted f i l mid c n pos one half o p) = let same = same_if_denied mid c in
-      placed_pays (without_oldest rules n mid) new _ _ 0 p same.moved same.placed (omega (arith, f.1))
-  place_pays outcome new (evicted_rehashed f i l mid c n pos one half left lv m) = let same = same_if_denied mid c in
+  place_pays outcome new (evicted f i l mid c n pos one half o p) = let same = known_is rules old mid c in
+      placed_pays (without_oldest rules n mid) new _ _ 0 p (ap (λ st. st.moved) same) (ap (λ st. st.placed) same) (omega (arith, f.1))
+  place_pays outcome new (evicted_rehashed f i l mid c n pos one half left lv m) = let same = known_is rules old mid c in
       if_memory_pays left _ _ _ outcome new m
-      (pays_trans (pays_calm old mid same.placed same.moved (omega (arith, ap room_of same.marks, ap (λ ms. full_capacity (length ms)) same.marks))) (leaves_pays mid (pops rules n (contents mid)) left lv))
-      (ap (λ st. st.moved) lv.is ∙ same.moved) (ap (λ st. st.placed) lv.is ∙ same.placed)
-      (omega (arith, f.1, ap length same.pairs, ap (λ st. length st.pairs) lv.is, length-pops rules n (contents mid)))
+      (pays_trans (pays_calm old mid (ap (λ st. st.placed) same) (ap (λ st. st.moved) same) (omega (arith, ap (λ st. potential st) same))) (leaves_pays mid (pops rules n (contents mid)) left lv))
+      (ap (λ st. st.moved) lv.is ∙ ap (λ st. st.moved) same) (ap (λ st. st.placed) lv.is ∙ ap (λ st. st.placed) same)
+      (omega (arith, f.1, ap (λ st. length st.pairs) same, ap (λ st. length st.pairs) lv.is, length-pops rules n (contents mid)))
 
 module _ {K V S H I : Type 0} (rules : Rules K V S) (offers : Offers K V S I) (names : I → K → Bool) (hash_of : H → K → ℕ) where
   settles_pays : (outcome : Outcome) (landed : State K V S H) (result : Result Bool AllocError) (new : State K V S H) → Settles rules outcome landed result new → PaysForMoves landed new

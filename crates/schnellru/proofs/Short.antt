@@ -1,5 +1,5 @@
 -- Where an insert finds no memory.
-use Rattle.std.proofs.Common.{◌≡◌, ℕ, ◌<◌, ◌⊎◌, inl, inr, Bool, List, length, Result, Ok, refl, sym, ap, ◌∙◌, subst, arith}
+use Rattle.std.proofs.Common.{◌≡◌, ℕ, ◌<◌, ◌⊎◌, inl, inr, Bool, List, length, Result, refl, sym, ap, ◌∙◌, subst, arith}
 use Rattle.std.specs.Prelude.{IsErr}
 use Rattle.std.specs.declared.alloc.AllocError.{AllocError}
 use Rattle.group_table.specs.Bucket.{Mark, room as room_of}
@@ -7,18 +7,13 @@ use Rattle.lru_limits.specs.Rules.{Rules, Offers}
 use Rattle.schnellru.specs.State.{State, buckets, room}
 use Rattle.schnellru.specs.Place.{Place, first_table, first_denied, first_too_large, into_empty, into_emptied, with_room, deleted_bucket, rehashed, grown, evicted, evicted_rehashed, Outcome, placed, refused, no_memory}
 use Rattle.schnellru.specs.Inserts.{Insert, replaced, given_up, no_memory_to_admit, not_admitted, admitted, make_way, Settles, IsShort}
+use Rattle.schnellru.proofs.Outcomes.{placed-not_no_memory, refused-not_no_memory, ok-not_err}
 use Rattle.schnellru.proofs.Growth.{full_capacity-at_most}
 
 -- no buckets, no room
 no_room : (marks : List Mark) → length marks ≡ 0 → room_of marks ≡ 0
 unfolding room_of
 no_room marks e = omega (arith, full_capacity-at_most (length marks))
-
-clash : {A : Type 0} → placed ≡ no_memory → A
-clash e = absurd (grind arith)
-
-clash_refused : {A : Type 0} → refused ≡ no_memory → A
-clash_refused e = absurd (grind arith)
 
 module _ {K V S H : Type 0} (rules : Rules K V S) (hash_of : H → K → ℕ) (pair : K × V) (old : State K V S H) where
   -- there is no room, and no table or a pair
@@ -27,30 +22,24 @@ module _ {K V S H : Type 0} (rules : Rules K V S) (hash_of : H → K → ℕ) (p
 
   pub place_lacks : (new : State K V S H) (outcome : Outcome) → outcome ≡ no_memory → Place rules hash_of pair old outcome new → LacksTable
   place_lacks new outcome q (first_table e b bytes u g m) = (no_room old.marks b, inl b)
-  place_lacks new outcome q (first_denied e b bytes u d o n) = clash_refused (sym o ∙ q)
-  place_lacks new outcome q (first_too_large e b u o n) = clash_refused (sym o ∙ q)
-  place_lacks new outcome q (into_empty e b r s o n) = clash (sym o ∙ q)
-  place_lacks new outcome q (into_emptied e b r o n) = clash (sym o ∙ q)
-  place_lacks new outcome q (with_room e r s o n) = clash (sym o ∙ q)
-  place_lacks new outcome q (deleted_bucket f i b l o n) = clash (sym o ∙ q)
+  place_lacks new outcome q (first_denied e b bytes u d o n) = refused-not_no_memory (sym o ∙ q)
+  place_lacks new outcome q (first_too_large e b u o n) = refused-not_no_memory (sym o ∙ q)
+  place_lacks new outcome q (into_empty e b r s o n) = placed-not_no_memory (sym o ∙ q)
+  place_lacks new outcome q (into_emptied e b r o n) = placed-not_no_memory (sym o ∙ q)
+  place_lacks new outcome q (with_room e r s o n) = placed-not_no_memory (sym o ∙ q)
+  place_lacks new outcome q (deleted_bucket f i b l o n) = placed-not_no_memory (sym o ∙ q)
   place_lacks new outcome q (rehashed f i l m) = (f.1, inr f.0)
   place_lacks new outcome q (grown f i l count bytes t g m) = (f.1, inr f.0)
-  place_lacks new outcome q (evicted f i l mid c n pos one half o p) = clash (sym o ∙ q)
+  place_lacks new outcome q (evicted f i l mid c n pos one half o p) = placed-not_no_memory (sym o ∙ q)
   place_lacks new outcome q (evicted_rehashed f i l mid c n pos one half left lv m) = (f.1, inr f.0)
 
 module _ {K V S H I : Type 0} (rules : Rules K V S) (offers : Offers K V S I) (names : I → K → Bool) (hash_of : H → K → ℕ) (i : I) (v : V) (old : State K V S H) (result : Result Bool AllocError) (new : State K V S H) where
-  ok_is_no_err : {A : Type 0} (b : Bool) → IsErr result → result ≡ Ok b → A
-  ok_is_no_err b h r = absurd (no (rw r at h))
-    where
-      no : IsErr {T = Bool} {E = AllocError} (Ok b) → ⊥
-      no h = grind (arith, h)
-
   -- Want of memory is the limiter's own, or the table's.
   pub err_is : IsErr result → Insert rules offers names hash_of i v old result new → offers.may_lack old.limiter (length old.pairs) i v ⊎ IsShort rules offers names hash_of i v old
-  err_is h (replaced pair found y r l) = ok_is_no_err _ h r
-  err_is h (given_up pair found y r l) = ok_is_no_err _ h r
+  err_is h (replaced pair found y r l) = ok-not_err result (rw r refl) h
+  err_is h (given_up pair found y r l) = ok-not_err result (rw r refl) h
   err_is h (no_memory_to_admit a k r e) = inl k
-  err_is h (not_admitted a s n r e) = ok_is_no_err _ h r
+  err_is h (not_admitted a s n r e) = ok-not_err result (rw r refl) h
   err_is h (admitted a s pair n ready l outcome landed p t) = inr (go outcome p t)
     where
       short : LacksTable rules hash_of pair ready → IsShort rules offers names hash_of i v old
@@ -68,6 +57,6 @@ module _ {K V S H I : Type 0} (rules : Rules K V S) (offers : Offers K V S I) (n
           side (inr f) = inr (subst (λ ps. 0 < length ps) (ap (λ st. st.pairs) l.is) f)
 
       go : (outcome : Outcome) → Place rules hash_of pair ready outcome landed → Settles rules outcome landed result new → IsShort rules offers names hash_of i v old
-      go placed p t = ok_is_no_err _ h t.0
-      go refused p t = ok_is_no_err _ h t.0
+      go placed p t = ok-not_err result (rw t.0 refl) h
+      go refused p t = ok-not_err result (rw t.0 refl) h
       go no_memory p t = short (place_lacks rules hash_of pair ready landed no_memory refl p)

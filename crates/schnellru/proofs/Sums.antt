@@ -16,6 +16,9 @@ module _ {X : Type 0} (f : X → ℕ) where
   total [] = 0
   total (x ∷ xs) = f x + total xs
 
+  pub total-is : (xs : List X) → total xs ≡ sum_by f xs
+  total-is = is_sum_by total f refl (λ _ _. refl)
+
   -- the list's total is that of what is left and of what goes
   abbrev pub IsSplit : List X → Option X → List X → Type 0
   IsSplit xs None ys = ys ≡ xs
@@ -168,9 +171,6 @@ module _ {K V S I : Type 0} (rules : Rules K V S) (offers : Offers K V S I) (cos
           settles_holds outcome landed result new t
           (place_holds hash_of pair ready (leaves_holds (price pair) start _ ready l (make_way_owes (price pair) (record { pairs = old.pairs; limiter = s }) more)) outcome landed p)
 
-  sum_is : (xs : List (K × V)) → total price xs ≡ sum_by price xs
-  sum_is = is_sum_by (total price) price refl (λ _ _. refl)
-
   -- an insert keeps the account the sum of the costs
   pub insert_summed : {H : Type 0} (names : I → K → Bool) (hash_of : H → K → ℕ) (i : I) (v : V) (old : State K V S H) (result : Result Bool AllocError) (new : State K V S H) → IsSummed cost account old → Insert rules offers names hash_of i v old result new → IsSummed cost account new
-  insert_summed names hash_of i v old result new h r = insert_holds names hash_of i v old (h ∙ omega (arith, sum_is old.pairs)) result new r ∙ omega (arith, sum_is new.pairs)
+  insert_summed names hash_of i v old result new h r = insert_holds names hash_of i v old (h ∙ omega (arith, total-is price old.pairs)) result new r ∙ omega (arith, total-is price new.pairs)

@@ -9,16 +9,16 @@ use Rattle.schnellru.specs.State.{State, Contents, contents, Leaves, pop, trim, 
 use Rattle.schnellru.specs.Place.{Place, first_table, first_denied, first_too_large, into_empty, into_emptied, with_room, deleted_bucket, rehashed, grown, evicted, evicted_rehashed, Outcome, placed, refused, no_memory, IsPlaced, IsPlacedIfMemory, asked}
 use Rattle.schnellru.specs.Inserts.{Insert, replaced, given_up, no_memory_to_admit, not_admitted, admitted, replacement, with_replaced, Settles}
 use Rattle.schnellru.specs.Theorems.{IsNewest, SaysWhether}
-use Rattle.schnellru.proofs.Leaving.{length-without_last}
-use Rattle.schnellru.proofs.Fronts.{front_trim, front_cons, given_named, replaced_named}
+use Rattle.schnellru.proofs.Leaving.{length-without_last, known_is}
+use Rattle.schnellru.proofs.Fronts.{front_self, front_same, front_trans, front_pops, front_trim, front_cons, given_named, replaced_named}
 use Rattle.schnellru.proofs.Distinct.{AreDistinct, absent_without}
 
 module _ {K V S : Type 0} (rules : Rules K V S) where
-  IsWithin : Contents K V S → Type 0
+  -- nothing is left, or the limiter is not over
+  abbrev pub IsWithin : Contents K V S → Type 0
   IsWithin c = (is_empty c.pairs ≡ true) ⊎ (rules.is_over_the_limit c.limiter (length c.pairs) ≡ false)
 
   within_from : (n : ℕ) (c : Contents K V S) → length c.pairs ≡ n → IsWithin (trim_from rules n c)
-  unfolding IsWithin
   within_from zero c e = inl (none c.pairs e)
     where
       none : (xs : List (K × V)) → length xs ≡ 0 → is_empty xs ≡ true
@@ -30,9 +30,13 @@ module _ {K V S : Type 0} (rules : Rules K V S) where
       go true h p = p
       go false h p = inr (rw e h)
 
+  pub trim_ends : (c : Contents K V S) → IsWithin (trim rules c)
+  unfolding trim
+  trim_ends c = within_from (length c.pairs) c refl
+
   -- what is left and is not empty is within the limit
   trim_within : (c : Contents K V S) → is_empty (trim rules c).pairs ≡ false → rules.is_over_the_limit (trim rules c).limiter (length (trim rules c).pairs) ≡ false
-  unfolding trim IsWithin
+  unfolding trim
   trim_within c h = go (within_from (length c.pairs) c refl)
     where
       go : IsWithin (trim_from rules (length c.pairs) c) → rules.is_over_the_limit (trim_from rules (length c.pairs) c).limiter (length (trim_from rules (length c.pairs) c).pairs) ≡ false
@@ -51,32 +55,34 @@ module _ {K V S : Type 0} (rules : Rules K V S) where
       go (inr t) = record { pair = n.pair; rest = t.0; first = t.2; named = n.named }
 
 module _ {K V S H : Type 0} (rules : Rules K V S) (hash_of : H → K → ℕ) (pair : K × V) (old : State K V S H) where
-  -- the new pair is the newest, where it is placed, and no pair is left where it is refused
+  -- the new pair is the newest, where it is placed; no pair is left where it is refused, and the oldest may have gone
+  -- where memory lacks
   abbrev pub Comes : Outcome → State K V S H → Type 0
   Comes placed new = (rest : List (K × V)) × (new.pairs ≡ pair ∷ rest)
   Comes refused new = new.pairs ≡ []
-  Comes no_memory new = Unit {0}
+  Comes no_memory new = IsFront new.pairs old.pairs
 
-  if_memory_comes : (st : State K V S H) (count spare moves : ℕ) (outcome : Outcome) (new : State K V S H) → IsPlacedIfMemory rules pair count spare moves st outcome new → Comes outcome new
-  if_memory_comes st count spare moves placed new h = (_, ap (λ x. x.pairs) h.state)
-  if_memory_comes st count spare moves no_memory new h = tt
-  if_memory_comes st count spare moves refused new h = absurd h
+  if_memory_comes : (st : State K V S H) (count spare moves : ℕ) (outcome : Outcome) (new : State K V S H) → IsPlacedIfMemory rules pair count spare moves st outcome new → IsFront st.pairs old.pairs → Comes outcome new
+  if_memory_comes st count spare moves placed new h f = (_, ap (λ x. x.pairs) h.state)
+  if_memory_comes st count spare moves no_memory new h f = front_trans _ _ _ (front_same _ _ (ap (λ x. x.pairs) h)) f
+  if_memory_comes st count spare moves refused new h f = absurd h
 
   placed_comes : (st : State K V S H) (count spare moves : ℕ) (outcome : Outcome) (new : State K V S H) → outcome ≡ placed → IsPlaced pair count spare moves st new → Comes outcome new
   placed_comes st count spare moves outcome new o p = rw o (_, ap (λ x. x.pairs) p.state)
 
   pub place_comes : (outcome : Outcome) (new : State K V S H) → Place rules hash_of pair old outcome new → Comes outcome new
-  place_comes outcome new (first_table e b bytes u g m) = if_memory_comes (asked rules bytes old) _ _ _ outcome new m
+  place_comes outcome new (first_table e b bytes u g m) = if_memory_comes (asked rules bytes old) _ _ _ outcome new m (front_self old.pairs)
   place_comes outcome new (first_denied e b bytes u d o n) = rw o (ap (λ st. st.pairs) n ∙ e)
   place_comes outcome new (first_too_large e b u o n) = rw o (ap (λ st. st.pairs) n ∙ e)
   place_comes outcome new (into_empty e b r s o n) = placed_comes _ _ _ _ outcome new o n
   place_comes outcome new (into_emptied e b r o n) = placed_comes _ _ _ _ outcome new o n
   place_comes outcome new (with_room e r s o n) = placed_comes _ _ _ _ outcome new o n
   place_comes outcome new (deleted_bucket f i b l o n) = placed_comes _ _ _ _ outcome new o n
-  place_comes outcome new (rehashed f i l m) = if_memory_comes old _ _ _ outcome new m
-  place_comes outcome new (grown f i l count bytes t g m) = if_memory_comes (asked rules bytes old) _ _ _ outcome new m
+  place_comes outcome new (rehashed f i l m) = if_memory_comes old _ _ _ outcome new m (front_self old.pairs)
+  place_comes outcome new (grown f i l count bytes t g m) = if_memory_comes (asked rules bytes old) _ _ _ outcome new m (front_self old.pairs)
   place_comes outcome new (evicted f i l mid c n pos one half o p) = placed_comes _ _ _ _ outcome new o p
   place_comes outcome new (evicted_rehashed f i l mid c n pos one half left lv m) = if_memory_comes left _ _ _ outcome new m
+      (front_trans _ _ _ (front_same _ _ (ap (λ st. st.pairs) lv.is)) (front_trans _ _ _ (front_pops rules n (contents mid)) (front_same _ _ (ap (λ st. st.pairs) (known_is rules old mid c)))))
 
 module _ {K V S H : Type 0} (rules : Rules K V S) (names : K → Bool) where
   -- after a trimming that answers whether a pair is left

@@ -25,7 +25,8 @@ module _ {K V S : Type 0} (rules : Rules K V S) (pair : K × V) where
 
   -- it is not, and the limiter is told that it leaves
   abbrev pub turns_away : Contents K V S → Landing K V S
-  turns_away c = record { there = false; left = record { pairs = c.pairs; limiter = (rules.on_removed c.limiter pair.0 pair.1).limiter } }
+  turns_away c = let s = (rules.on_removed c.limiter pair.0 pair.1).limiter in
+      record { there = false; left = record { pairs = c.pairs; limiter = s } }
 
   -- the oldest leaves for it
   abbrev pub evicts : Contents K V S → Landing K V S
@@ -38,13 +39,15 @@ module _ {K V S : Type 0} (rules : Rules K V S) (pair : K × V) where
   -- the first table is asked for, where there can be one of so many bytes
   abbrev pub first_lands : Option ℕ → Contents K V S → Landing K V S
   first_lands None c = turns_away c
-  first_lands (Some bytes) c = if (rules.on_grow c.limiter bytes).allowed then lands (asks bytes c) else turns_away (asks bytes c)
+  first_lands (Some bytes) c =
+      if (rules.on_grow c.limiter bytes).allowed then lands (asks bytes c) else turns_away (asks bytes c)
 
   -- a larger table is asked for, where there can be one, and else the oldest leaves
   abbrev pub grows : Target → Contents K V S → Landing K V S
   grows no_table c = evicts c
   grows same_table c = evicts c
-  grows (new_table count bytes) c = if (rules.on_grow c.limiter bytes).allowed then lands (asks bytes c) else evicts (asks bytes c)
+  grows (new_table count bytes) c =
+      if (rules.on_grow c.limiter bytes).allowed then lands (asks bytes c) else evicts (asks bytes c)
 
   -- what placing the pair does with memory, in a table of so many buckets, up to 16, with so much room
   abbrev pub landing : ℕ → ℕ → ℕ → ℕ → Contents K V S → Landing K V S
@@ -64,7 +67,8 @@ module _ {K V S : Type 0} (rules : Rules K V S) where
   abbrev pub settled : Landing K V S → Ending K V S
   settled l = if l.there then trimmed l.left else record { flag = false; left = l.left }
 
-module _ {K V S H I : Type 0} (rules : Rules K V S) (offers : Offers K V S I) (names : I → K → Bool) (i : I) (v : V) (old : State K V S H) where
+module _ {K V S H I : Type 0} (rules : Rules K V S) (offers : Offers K V S I) (names : I → K → Bool)
+    (i : I) (v : V) (old : State K V S H) where
   -- what an insert leaves, where the key is there
   abbrev pub ending_there : K × V → Ending K V S
   ending_there pair = if (replacement rules offers names pair i v old).taken
@@ -75,10 +79,12 @@ module _ {K V S H I : Type 0} (rules : Rules K V S) (offers : Offers K V S I) (n
   abbrev pub ending_new : S → Option (K × V) → Ending K V S
   ending_new s None = record { flag = false; left = record { pairs = old.pairs; limiter = s } }
   ending_new s (Some pair) = let c = make_way rules (record { pairs = old.pairs; limiter = s }) in
-      settled rules (landing rules pair (buckets old) (room old + length old.pairs - length c.pairs) old.entry_bytes old.max c)
+      let spare = room old + length old.pairs - length c.pairs in
+      settled rules (landing rules pair (buckets old) spare old.entry_bytes old.max c)
 
 -- two inserts ended alike
-pub record EndsAlike {K V S H : Type 0} (result other : Result Bool AllocError) (new others : State K V S H) : Type 0 where
+pub record EndsAlike {K V S H : Type 0} (result other : Result Bool AllocError)
+    (new others : State K V S H) : Type 0 where
   pub answers : result ≡ other
   pub contents : contents new ≡ contents others
 

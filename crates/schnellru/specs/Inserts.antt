@@ -16,7 +16,8 @@ make_way rules c = if rules.is_over_the_limit c.limiter (length c.pairs + 1) the
 module _ {K V S H : Type 0} (rules : Rules K V S) where
   -- what follows a placing; the answer is whether a pair is left
   abbrev pub Settles : Outcome → State K V S H → Result Bool AllocError → State K V S H → Type 0
-  Settles placed landed result new = (result ≡ Ok (not (is_empty new.pairs))) × Leaves landed (trim rules (contents landed)) new
+  Settles placed landed result new =
+      (result ≡ Ok (not (is_empty new.pairs))) × Leaves landed (trim rules (contents landed)) new
   Settles refused landed result new = (result ≡ Ok false) × (new ≡ landed)
   Settles no_memory landed result new = IsErr result × (new ≡ landed)
 
@@ -41,7 +42,8 @@ module _ {K V S H I : Type 0} (rules : Rules K V S) (offers : Offers K V S I) (n
 
   module _ (hash_of : H → K → ℕ) where
     -- what an insert may answer and leave
-    pub data Insert (i : I) (v : V) (old : State K V S H) (result : Result Bool AllocError) (new : State K V S H) : Type 0 where
+    pub data Insert (i : I) (v : V) (old : State K V S H) (result : Result Bool AllocError)
+        (new : State K V S H) : Type 0 where
       -- The key is there: the pair as left comes first, or it goes.
       replaced : (pair : K × V) → lookup_entry (names i) old.pairs ≡ Some pair →
           (replacement pair i v old).taken ≡ true →
@@ -63,7 +65,8 @@ module _ {K V S H I : Type 0} (rules : Rules K V S) (offers : Offers K V S I) (n
       -- or the pair that it gives is placed, with all that this takes.
       admitted : lookup_entry (names i) old.pairs ≡ None →
           (s : S) (pair : K × V) → Admits i v old s (Some pair) →
-          (ready : State K V S H) → Leaves (record old { limiter = s }) (make_way rules (record { pairs = old.pairs; limiter = s })) ready →
+          (ready : State K V S H) →
+          Leaves (record old { limiter = s }) (make_way rules (record { pairs = old.pairs; limiter = s })) ready →
           (outcome : Outcome) (landed : State K V S H) → Place rules hash_of pair ready outcome landed →
           Settles rules outcome landed result new →
           Insert i v old result new

@@ -23,7 +23,12 @@ module _ {K V S H : Type 0} where
   pub record IsPlaced (pair : K × V) (count spare moves : ℕ) (old new : State K V S H) : Type 0 where
     pub table : buckets new ≡ count
     pub left : room new ≡ spare
-    pub state : new ≡ record old { pairs = pair ∷ old.pairs; marks = new.marks; moved = count_up old.moved moves; placed = count_up old.placed 1 }
+    pub state : new ≡ record old {
+      pairs = pair ∷ old.pairs;
+      marks = new.marks;
+      moved = count_up old.moved moves;
+      placed = count_up old.placed 1;
+    }
 
   -- there is a pair, and no more is sure to fit
   abbrev pub LacksRoom : State K V S H → Type 0
@@ -48,7 +53,7 @@ module _ {K V S H : Type 0} (rules : Rules K V S) where
 
   -- after so many of the oldest left, with the marks as they were
   abbrev pub without_oldest : ℕ → State K V S H → State K V S H
-  without_oldest n st = record st { pairs = (pops rules n (contents st)).pairs; limiter = (pops rules n (contents st)).limiter }
+  without_oldest n st = let c = pops rules n (contents st) in record st { pairs = c.pairs; limiter = c.limiter }
 
   -- the pair is placed, or no memory is found for it and the rest stays
   abbrev pub IsPlacedIfMemory : K × V → ℕ → ℕ → ℕ → State K V S H → Outcome → State K V S H → Type 0
@@ -60,10 +65,12 @@ module _ {K V S H : Type 0} (rules : Rules K V S) where
   abbrev pub next_table : State K V S H → Target
   next_table st = target st.max st.entry_bytes (buckets st) (length st.pairs + 1)
 
-  -- there is no larger table, and mid is the state in which this is known: none is large enough, or the limiter denies it
+  -- there is no larger table, and mid is the state in which this is known: none is large enough, or the limiter
+  -- refuses it
   pub data CannotGrow (old mid : State K V S H) : Type 0 where
     no_target : next_table old ≡ no_table → mid ≡ old → CannotGrow old mid
-    denied : (count bytes : ℕ) → next_table old ≡ new_table count bytes → Denies bytes old → mid ≡ asked bytes old → CannotGrow old mid
+    denied : (count bytes : ℕ) → next_table old ≡ new_table count bytes → Denies bytes old →
+        mid ≡ asked bytes old → CannotGrow old mid
 
 module _ {K V S H : Type 0} (rules : Rules K V S) (hash_of : H → K → ℕ) where
   -- what may come of placing the pair
@@ -103,13 +110,15 @@ module _ {K V S H : Type 0} (rules : Rules K V S) (hash_of : H → K → ℕ) wh
     -- Where that is an empty one, the table is made anew at its size, where it then is at most half full,
     rehashed : LacksRoom old → FirstFreeIs empty (hash_of old.hasher pair.0) old →
         length old.pairs + 1 ≤ full_capacity (buckets old) / 2 →
-        IsPlacedIfMemory rules pair (buckets old) (full_capacity (buckets old) - length old.pairs - 1) (length old.pairs) old outcome new →
+        IsPlacedIfMemory rules pair (buckets old) (full_capacity (buckets old) - length old.pairs - 1)
+        (length old.pairs) old outcome new →
         Place pair old outcome new
     -- or, with more pairs, larger,
     grown : LacksRoom old → FirstFreeIs empty (hash_of old.hasher pair.0) old →
         full_capacity (buckets old) / 2 < length old.pairs + 1 →
         (count bytes : ℕ) → next_table rules old ≡ new_table count bytes → Grants rules bytes old →
-        IsPlacedIfMemory rules pair count (full_capacity count - length old.pairs - 1) (length old.pairs) (asked rules bytes old) outcome new →
+        IsPlacedIfMemory rules pair count (full_capacity count - length old.pairs - 1)
+        (length old.pairs) (asked rules bytes old) outcome new →
         Place pair old outcome new
     -- or it cannot be, and the oldest leave, at least one: then the pair finds a bucket,
     evicted : LacksRoom old → FirstFreeIs empty (hash_of old.hasher pair.0) old →
@@ -126,5 +135,6 @@ module _ {K V S H : Type 0} (rules : Rules K V S) (hash_of : H → K → ℕ) wh
         (n : ℕ) → 0 < n → (buckets old ≤ 16 → n ≡ 1) →
         length old.pairs + 1 ≡ full_capacity (buckets old) / 2 + n →
         (left : State K V S H) → Leaves mid (pops rules n (contents mid)) left →
-        IsPlacedIfMemory rules pair (buckets old) (full_capacity (buckets old) / 2) (length left.pairs) left outcome new →
+        IsPlacedIfMemory rules pair (buckets old) (full_capacity (buckets old) / 2)
+        (length left.pairs) left outcome new →
         Place pair old outcome new

@@ -59,7 +59,7 @@ module _ {K V S H : Type 0} where
     pub moved : st.moved < 2 ^ 64
     pub placed : st.placed < 2 ^ 64
 
-  -- how much of the table is used, beyond half
+  -- twice what is used of the table, beyond half of it
   abbrev pub potential : State K V S H → ℕ
   potential st = full_capacity (buckets st) - 2 * room st
 

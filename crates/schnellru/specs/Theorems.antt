@@ -1,16 +1,24 @@
 -- What the theorems say.
-use Rattle.std.specs.Prelude.{◌≡◌, ℕ, ◌+◌, ◌-◌, ◌*◌, ◌^◌, ◌≤◌, ◌<◌, Bool, true, false, List, ◌∷◌, length, sum_by, Some, None, Result, Ok, Err, ⊤}
+use Rattle.std.specs.Prelude.{◌≡◌, ℕ, ◌+◌, ◌-◌, ◌*◌, ◌/◌, ◌^◌, ◌≤◌, ◌<◌, Bool, true, false, List, ◌∷◌, length, sum_by, Some, None, Result, Ok, Err, ⊤}
 use Rattle.std.specs.declared.alloc.AllocError.{AllocError}
+use Rattle.group_table.specs.Sizes.{full_capacity}
 use Rattle.lru_limits.specs.Rules.{Rules}
+use Rattle.schnellru.specs.Sizes.{usage}
 use Rattle.schnellru.specs.Lists.{IsFront, lookup_entry, without}
-use Rattle.schnellru.specs.State.{State, potential}
+use Rattle.schnellru.specs.State.{State, buckets, potential}
+use Rattle.schnellru.specs.Place.{LacksRoom, CannotGrow}
 
 module _ {K V S H : Type 0} where
   -- from old to new, moved and potential together rise by at most 2 for each element placed, while the count of these
   -- goes on
   pub record PaysForMoves (old new : State K V S H) : Type 0 where
     pub placed : old.placed ≤ new.placed
-    pub moved : new.placed < 2 ^ 64 - 1 → new.moved + potential new + 2 * old.placed ≤ old.moved + potential old + 2 * new.placed
+    pub moved : new.placed < 2 ^ 64 - 1 →
+        new.moved + potential new + 2 * old.placed ≤ old.moved + potential old + 2 * new.placed
+
+  -- the table takes at most so many bytes
+  abbrev pub UsesAtMost : ℕ → State K V S H → Type 0
+  UsesAtMost most st = (bytes : ℕ) × (usage st.entry_bytes (buckets st) ≡ Some bytes) × (bytes ≤ most)
 
   -- the account is the sum of the costs
   abbrev pub IsSummed : (K → V → ℕ) → (S → ℕ) → State K V S H → Type 0
@@ -26,16 +34,26 @@ pub record IsNewest {K V : Type 0} (names : K → Bool) (pairs : List (K × V)) 
 -- what an insert leaves of the pairs, where names tells the inserted key
 pub data GivesUp {K V : Type 0} (names : K → Bool) (refuses : K × V → Type 0) (old new : List (K × V)) : Type 0 where
   -- the oldest go, as many as it takes, behind the new pair
-  behind : (newest : K × V) → names newest.0 ≡ true → IsFront new (newest ∷ without names old) → GivesUp names refuses old new
+  behind : (newest : K × V) → names newest.0 ≡ true → IsFront new (newest ∷ without names old) →
+      GivesUp names refuses old new
   -- the oldest go, and no pair comes, nor was the key there
   with_none : lookup_entry names old ≡ None → IsFront new old → GivesUp names refuses old new
   -- the pair goes whose replacement is refused, and no other
-  without_one : (pair : K × V) → lookup_entry names old ≡ Some pair → refuses pair → new ≡ without names old → GivesUp names refuses old new
+  without_one : (pair : K × V) → lookup_entry names old ≡ Some pair → refuses pair → new ≡ without names old →
+      GivesUp names refuses old new
 
 module _ {K V S H : Type 0} (rules : Rules K V S) where
+  -- the table lacks room, is to be more than half full, and cannot grow
+  pub record IsRefusedGrowth (st : State K V S H) : Type 0 where
+    pub lacks_room : LacksRoom st
+    pub above_half : full_capacity (buckets st) / 2 < length st.pairs + 1
+    pub known : State K V S H
+    pub refused : CannotGrow rules st known
+
   -- what the answer of an insert says: true, that the key is there, as the newest, and the limiter is not over; false,
   -- that it is not there
   abbrev pub SaysWhether : (K → Bool) → Result Bool AllocError → State K V S H → Type 0
-  SaysWhether names (Ok true) new = IsNewest names new.pairs × (rules.is_over_the_limit new.limiter (length new.pairs) ≡ false)
+  SaysWhether names (Ok true) new =
+      IsNewest names new.pairs × (rules.is_over_the_limit new.limiter (length new.pairs) ≡ false)
   SaysWhether names (Ok false) new = lookup_entry names new.pairs ≡ None
   SaysWhether names (Err e) new = ⊤

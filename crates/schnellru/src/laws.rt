@@ -1,19 +1,20 @@
-//! What is proved of every insert. Each theorem is the contract of a function that does nothing.
+//! What is proved of every insert and of every get. Each theorem is the contract of a function that does nothing.
 
-ghost use Rattle.std.specs.Prelude.{◌≡◌, ◌≤◌, ◌<◌, ◌+◌, ◌*◌, ◌⊎◌, Bool, false, Result, IsOk, IsErr, length};
+ghost use Rattle.std.specs.Prelude.{◌≡◌, ◌≢◌, ℕ, ◌≤◌, ◌<◌, ◌+◌, ◌*◌, ◌/◌, ◌⊎◌, ◌∷◌, Bool, false, Option, Result, IsOk, IsErr, length};
 ghost use Rattle.std.specs.List.{IsDistinct};
 ghost use Rattle.std.specs.declared.alloc.AllocError.{AllocError};
 ghost use Rattle.group_table.specs.Bucket.{deleted};
 ghost use Rattle.group_table.specs.Sizes.{full_capacity};
 ghost use Rattle.lru_limits.specs.Hashing.{hash_by};
-ghost use Rattle.schnellru.specs.Lists.{keys_of};
-ghost use Rattle.schnellru.specs.State.{State, buckets, room, FirstFreeIs, IsSized};
-ghost use Rattle.schnellru.specs.Place.{Place, Outcome, placed, IsPlaced, LacksRoom};
+ghost use Rattle.schnellru.specs.Lists.{without_last, keys_of};
+ghost use Rattle.schnellru.specs.State.{State, buckets, room, FirstFreeIs, IsSized, IsPaid, IsMap};
+ghost use Rattle.schnellru.specs.Place.{Place, Outcome, placed, no_memory, IsPlaced, LacksRoom};
+ghost use Rattle.schnellru.specs.Calls.{Get};
 ghost use Rattle.schnellru.specs.Inserts.{Insert, replacement, IsShort};
 ghost use Rattle.schnellru.specs.Exact.{IsDetermined, EndsAlike};
-ghost use Rattle.schnellru.specs.Theorems.{PaysForMoves, GivesUp, IsSummed, SaysWhether};
+ghost use Rattle.schnellru.specs.Theorems.{PaysForMoves, IsRefusedGrowth, UsesAtMost, GivesUp, IsSummed, SaysWhether};
 
-use lru_limits::{Insertion, Limiter, LookupKey, Summing};
+use lru_limits::{ByLength, ByMemoryUsage, Insertion, Limiter, LookupKey, Summing};
 use std::hash::{BuildHasher, Hash};
 
 /// An insert gives up pairs from the old end alone, save one whose replacement is refused.
@@ -27,9 +28,8 @@ pub fn inserts_give_up_the_oldest<
     ensures { (key : I) (value : V) (old : State K V L S) (result : Result Bool AllocError) (new : State K V L S) →
         Insert L.rules L.offers I.names (hash_by K.hash_input S.BuildHasher S.Hasher.Hasher) key value old result new →
         GivesUp (I.names key) (λ pair. (replacement L.rules L.offers I.names pair key value old).taken ≡ false)
-            old.pairs new.pairs }
-{
-}
+        old.pairs new.pairs }
+{}
 
 /// An insert answers true exactly where its key is there afterwards: it is the newest then, and the limiter is not
 /// over.
@@ -44,8 +44,7 @@ pub fn inserts_say_whether<
         IsDistinct K.eq (keys_of old.pairs) →
         Insert L.rules L.offers I.names (hash_by K.hash_input S.BuildHasher S.Hasher.Hasher) key value old result new →
         SaysWhether L.rules (I.names key) result new }
-{
-}
+{}
 
 /// Want of memory in an insert is that of `on_insert`, or that of a table without room.
 pub fn inserts_lack_memory_at_no_room<
@@ -59,9 +58,8 @@ pub fn inserts_lack_memory_at_no_room<
         IsErr result →
         Insert L.rules L.offers I.names (hash_by K.hash_input S.BuildHasher S.Hasher.Hasher) key value old result new →
         L.offers.may_lack old.limiter (length old.pairs) key value
-            ⊎ IsShort L.rules L.offers I.names (hash_by K.hash_input S.BuildHasher S.Hasher.Hasher) key value old }
-{
-}
+        ⊎ IsShort L.rules L.offers I.names (hash_by K.hash_input S.BuildHasher S.Hasher.Hasher) key value old }
+{}
 
 /// An insert into a table of up to 16 buckets leaves nothing open but where memory is short.
 pub fn small_inserts_are_exact<
@@ -72,13 +70,13 @@ pub fn small_inserts_are_exact<
     S: BuildHasher,
 >()
     ensures { (key : I) (value : V) (old : State K V L S) (result other : Result Bool AllocError)
-            (new others : State K V L S) →
+        (new others : State K V L S) →
         buckets old ≤ 16 → IsDetermined L.offers → IsOk result → IsOk other →
         Insert L.rules L.offers I.names (hash_by K.hash_input S.BuildHasher S.Hasher.Hasher) key value old result new →
-        Insert L.rules L.offers I.names (hash_by K.hash_input S.BuildHasher S.Hasher.Hasher) key value old other others →
+        Insert L.rules L.offers I.names (hash_by K.hash_input S.BuildHasher S.Hasher.Hasher)
+        key value old other others →
         EndsAlike result other new others }
-{
-}
+{}
 
 /// An insert that grows the table makes one that takes fewer than four times the pairs.
 pub fn inserts_grow_little<
@@ -92,8 +90,7 @@ pub fn inserts_grow_little<
         IsSized old →
         Insert L.rules L.offers I.names (hash_by K.hash_input S.BuildHasher S.Hasher.Hasher) key value old result new →
         buckets old < buckets new → full_capacity (buckets new) < 4 * (length old.pairs + 1) }
-{
-}
+{}
 
 /// Where there are pairs and no room, and a search for the new key finds a deleted bucket first, it is filled: nothing
 /// is asked and nothing moves.
@@ -103,8 +100,7 @@ pub fn deleted_buckets_serve<K: Eq + Hash, V, L: Limiter<K, V>, S: BuildHasher>(
         FirstFreeIs deleted (hash_by K.hash_input S.BuildHasher S.Hasher.Hasher old.hasher pair.0) old →
         Place L.rules (hash_by K.hash_input S.BuildHasher S.Hasher.Hasher) pair old outcome new →
         (outcome ≡ placed) × IsPlaced pair (buckets old) 0 0 old new }
-{
-}
+{}
 
 /// What holds of every map and of every sum holds after an insert.
 pub fn inserts_keep_what_holds<
@@ -122,5 +118,94 @@ pub fn inserts_keep_what_holds<
         IsSummed L.cost_of L.account old →
         Insert L.rules L.offers I.names (hash_by K.hash_input S.BuildHasher S.Hasher.Hasher) key value old result new →
         IsSummed L.cost_of L.account new }
-{
-}
+{}
+
+/// An insert pays for the entries that it moves: moved and potential together rise by at most 2 for the one that it
+/// places, and so moved stays at most twice what was placed.
+pub fn inserts_pay_for_moves<
+    K: Eq + Hash,
+    V,
+    I: LookupKey<K>,
+    L: Insertion<K, V, I>,
+    S: BuildHasher,
+>()
+    ensures rise { (key : I) (value : V) (old : State K V L S) (result : Result Bool AllocError) (new : State K V L S) →
+        IsSized old →
+        Insert L.rules L.offers I.names (hash_by K.hash_input S.BuildHasher S.Hasher.Hasher) key value old result new →
+        PaysForMoves old new }
+    ensures paid { (key : I) (value : V) (old : State K V L S) (result : Result Bool AllocError) (new : State K V L S) →
+        IsSized old → IsPaid old →
+        Insert L.rules L.offers I.names (hash_by K.hash_input S.BuildHasher S.Hasher.Hasher) key value old result new →
+        IsPaid new × (new.moved ≤ 2 * new.placed) }
+{}
+
+/// Where growth is refused, at least half of what the table takes stays, the new pair included, and in a table of up to
+/// 16 buckets exactly the oldest goes.
+pub fn refused_growth_keeps_half<K: Eq + Hash, V, L: Limiter<K, V>, S: BuildHasher>()
+    ensures half { (pair : K × V) (old new : State K V L S) →
+        IsRefusedGrowth L.rules old →
+        Place L.rules (hash_by K.hash_input S.BuildHasher S.Hasher.Hasher) pair old placed new →
+        full_capacity (buckets old) / 2 ≤ length new.pairs }
+    ensures without_memory { (pair : K × V) (old new : State K V L S) →
+        IsRefusedGrowth L.rules old →
+        Place L.rules (hash_by K.hash_input S.BuildHasher S.Hasher.Hasher) pair old no_memory new →
+        full_capacity (buckets old) / 2 ≤ length new.pairs + 1 }
+    ensures one { (pair : K × V) (old new : State K V L S) →
+        IsRefusedGrowth L.rules old → buckets old ≤ 16 →
+        Place L.rules (hash_by K.hash_input S.BuildHasher S.Hasher.Hasher) pair old placed new →
+        new.pairs ≡ pair ∷ without_last old.pairs }
+{}
+
+/// A pair that is placed joins all the others, where the table grows and where it is made anew at most half full. Only
+/// refused growth has pairs leave.
+pub fn growth_keeps_the_list<K: Eq + Hash, V, L: Limiter<K, V>, S: BuildHasher>()
+    ensures grown { (pair : K × V) (old new : State K V L S) →
+        buckets new ≢ buckets old →
+        Place L.rules (hash_by K.hash_input S.BuildHasher S.Hasher.Hasher) pair old placed new →
+        new.pairs ≡ pair ∷ old.pairs }
+    ensures made_anew { (pair : K × V) (old new : State K V L S) →
+        length old.pairs + 1 ≤ full_capacity (buckets old) / 2 →
+        Place L.rules (hash_by K.hash_input S.BuildHasher S.Hasher.Hasher) pair old placed new →
+        new.pairs ≡ pair ∷ old.pairs }
+    ensures otherwise { (pair : K × V) (old new : State K V L S) →
+        Place L.rules (hash_by K.hash_input S.BuildHasher S.Hasher.Hasher) pair old placed new →
+        (new.pairs ≡ pair ∷ old.pairs) ⊎ IsRefusedGrowth L.rules old }
+{}
+
+/// With `ByLength` an insert leaves the limiter as it was, and at most `max_length` pairs, if there were no more
+/// before.
+pub fn inserts_keep_the_length<K: Eq + Hash + Drop, V: Drop, S: BuildHasher>()
+    ensures limiter { (key : K) (value : V) (old : State K V ByLength S) (result : Result Bool AllocError)
+        (new : State K V ByLength S) →
+        Insert ⟦<ByLength as Limiter<K, V>>⟧.rules ⟦<ByLength as Insertion<K, V, K>>⟧.offers K.eq
+        (hash_by K.hash_input S.BuildHasher S.Hasher.Hasher) key value old result new →
+        new.limiter ≡ old.limiter }
+    ensures length { (key : K) (value : V) (old : State K V ByLength S) (result : Result Bool AllocError)
+        (new : State K V ByLength S) →
+        Insert ⟦<ByLength as Limiter<K, V>>⟧.rules ⟦<ByLength as Insertion<K, V, K>>⟧.offers K.eq
+        (hash_by K.hash_input S.BuildHasher S.Hasher.Hasher) key value old result new →
+        length old.pairs ≤ old.limiter → length new.pairs ≤ old.limiter }
+{}
+
+/// With `ByMemoryUsage` an insert leaves the limiter as it was, and a table of at most `max_memory_usage` bytes, if it
+/// had no more before.
+pub fn inserts_keep_the_memory_usage<K: Eq + Hash + Drop, V: Drop, S: BuildHasher>()
+    ensures limiter { (key : K) (value : V) (old : State K V ByMemoryUsage S) (result : Result Bool AllocError)
+        (new : State K V ByMemoryUsage S) →
+        Insert ⟦<ByMemoryUsage as Limiter<K, V>>⟧.rules ⟦<ByMemoryUsage as Insertion<K, V, K>>⟧.offers K.eq
+        (hash_by K.hash_input S.BuildHasher S.Hasher.Hasher) key value old result new →
+        new.limiter ≡ old.limiter }
+    ensures usage { (key : K) (value : V) (old : State K V ByMemoryUsage S) (result : Result Bool AllocError)
+        (new : State K V ByMemoryUsage S) →
+        Insert ⟦<ByMemoryUsage as Limiter<K, V>>⟧.rules ⟦<ByMemoryUsage as Insertion<K, V, K>>⟧.offers K.eq
+        (hash_by K.hash_input S.BuildHasher S.Hasher.Hasher) key value old result new →
+        UsesAtMost old.limiter old → UsesAtMost old.limiter new }
+{}
+
+/// What holds of every map and of every sum holds after a get.
+pub fn gets_keep_what_holds<K: Eq + Hash, V, I: LookupKey<K>, L: Summing<K, V, I>, S: BuildHasher>()
+    ensures map { (key : I) (old : State K V L S) (result : Option V) (new : State K V L S) →
+        IsMap K.eq old → Get (I.names key) old result new → IsMap K.eq new }
+    ensures sum { (key : I) (old : State K V L S) (result : Option V) (new : State K V L S) →
+        IsSummed L.cost_of L.account old → Get (I.names key) old result new → IsSummed L.cost_of L.account new }
+{}

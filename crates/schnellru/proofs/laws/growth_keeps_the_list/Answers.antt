@@ -1,0 +1,11 @@
+use Rattle.schnellru.proofs.Evictions.{grown_keeps, made_anew_keeps, keeps_or_refused}
+use Rattle.schnellru.proofs.laws.growth_keeps_the_list.Goals as goal
+
+pub returns-clause-grown : goal.returns-clause-grown
+returns-clause-grown g c = λ pair old new other step. grown_keeps _ _ pair old new step other
+
+pub returns-clause-made_anew : goal.returns-clause-made_anew
+returns-clause-made_anew g c = λ pair old new few step. made_anew_keeps _ _ pair old new step few
+
+pub returns-clause-otherwise : goal.returns-clause-otherwise
+returns-clause-otherwise g c = λ pair old new step. keeps_or_refused _ _ pair old new step
