@@ -1,5 +1,5 @@
 -- An order of buckets, cut at one of them, and the entries of its buckets.
-use Rattle.std.proofs.Common.{◌≡◌, ℕ, zero, suc, ◌+◌, ◌<◌, ◌≤◌, Bool, true, false, cond, List, [], ◌∷◌, ◌++◌, length, ◌⊎◌, inl, inr, Option, Some, None, refl, sym, ap, ◌∙◌, subst, arith, slice_set, slice_index_or}
+use Rattle.std.proofs.Common.{◌≡◌, ℕ, zero, suc, ◌+◌, ◌<◌, ◌≤◌, Bool, true, false, cond, List, [], ◌∷◌, ◌++◌, length, ◌⊎◌, inl, inr, Option, Some, None, refl, sym, ap, ◌∙◌, subst, arith, slice_set, slice_index_or, length-append}
 use Rattle.std.specs.Prelude.{◌≢◌, nat_eq, not, filter, Contains, AllPairs, option_to_list}
 use Rattle.std.specs.List.{AllByRecursion}
 use Rattle.std.proofs.lemmas.Bool.Decides.{nat_tests}
@@ -84,6 +84,18 @@ module _ {b : ℕ} {order : List ℕ} (cut : Cut b order) where
   -- the others, in their order
   pub cut_without : without_bucket b order ≡ cut.before ++ cut.after
   cut_without = ap (without_bucket b) cut.whole ∙ kept_through cut.before cut.after cut.none_before cut.none_after
+
+  -- one fewer
+  pub cut_length : suc (length (without_bucket b order)) ≡ length order
+  cut_length = ap (λ xs. suc (length xs)) cut_without ∙ (let w = ap length cut.whole in let p = length-append cut.before (b ∷ cut.after) in let q = length-append cut.before cut.after in omega (arith, w, p, q))
+
+pub without_lacks : (b : ℕ) (xs : List ℕ) → Lacks b (without_bucket b xs)
+without_lacks b [] = tt
+without_lacks b (x ∷ xs) = go (nat_eq x b) refl (without_lacks b xs)
+  where
+    go : (y : Bool) → nat_eq x b ≡ y → Lacks b (without_bucket b xs) → Lacks b (cond (not y) (x ∷ without_bucket b xs) (without_bucket b xs))
+    go true e r = r
+    go false e r = (e, r)
 
 module _ {T : Type 0} where
   pub entries-append : (slots : List (Slot T)) (xs ys : List ℕ) → entries_in slots (xs ++ ys) ≡ entries_in slots xs ++ entries_in slots ys

@@ -20,3 +20,4 @@ pub mod Ordered
 pub mod Evictions
 pub mod Limits
 pub mod Promotion
+pub mod Kept

@@ -1,15 +1,18 @@
 -- The pairs of a linked table, as its buckets give them.
-use Rattle.std.proofs.Common.{◌≡◌, ℕ, suc, ◌+◌, ◌<◌, Bool, true, false, List, [], ◌∷◌, ◌++◌, length, Some, None, refl, sym, ap, ◌∙◌, subst, arith, slice_set, append-nil}
+use Rattle.std.proofs.Common.{◌≡◌, ℕ, suc, ◌+◌, ◌<◌, Bool, true, false, List, [], ◌∷◌, ◌++◌, length, Some, None, refl, sym, ap, ◌∙◌, subst, arith, slice_set, append-nil, inl, inr}
 use Rattle.std.specs.Cmp.{IsEquivalence}
 use Rattle.std.specs.Prelude.{◌≢◌, Contains, AllPairs, IsTrue, option_to_list}
 use Rattle.std.specs.List.{AllByRecursion}
 use Rattle.group_table.specs.Bucket.{Slot, empty, deleted, full, is_full, IsFull, bucket_at, entry_of, entry_at}
+use Rattle.group_table.specs.Change.{Removes}
+use Rattle.std.proofs.lemmas.List.{length-set}
+use Rattle.std.proofs.lemmas.List.Elements.{Contains-append_right}
 use Rattle.schnellru.specs.Lists.{lookup, lookup_entry, without, front, last, without_last}
 use Rattle.schnellru.specs.Linked.{Linked, IsLinked, entries_in, pairs_of, without_bucket}
 use Rattle.schnellru.specs.Chain.{last_bucket}
 use Rattle.schnellru.proofs.Distinct.{AreDistinct}
 use Rattle.schnellru.proofs.Named.{NoneNamed, none_found, cut_found, cut_value, cut_without, others_unnamed, last_end, without_last_end}
-use Rattle.schnellru.proofs.Cuts.{Cut, cut_at, cut_last, entries-cut, entries-without}
+use Rattle.schnellru.proofs.Cuts.{Cut, cut_at, cut_last, cut_length, without_lacks, entries-cut, entries-without, entries-apart}
 
 module _ {T : Type 0} where
   held : (slot : Slot T) → is_full slot ≡ true → (entry : T) × (entry_of slot ≡ Some entry)
@@ -70,6 +73,10 @@ module _ {K V : Type 0} (t : Linked K V) (linked : IsLinked t) where
   pub pairs-length : length (pairs_of t) ≡ length t.order
   pairs-length = entries-length t.slots t.order (all_full t.slots t.order linked.only)
 
+  -- without one bucket there is one pair fewer
+  pub shorter : (b : ℕ) → IsFull t.slots b → suc (length (without_bucket b t.order)) ≡ length t.order
+  shorter b h = cut_length (cut_at b t.order linked.distinct (linked.all b h))
+
   -- where no bucket has a named key, no pair is named
   pub none_named : (names : K → Bool) → ((b : ℕ) (p : K × V) → entry_at t.slots b ≡ Some p → names p.0 ≡ false) → lookup_entry names (pairs_of t) ≡ None
   none_named names h = none_found names (pairs_of t) (go t.order (all_full t.slots t.order linked.only))
@@ -79,16 +86,31 @@ module _ {K V : Type 0} (t : Linked K V) (linked : IsLinked t) where
       go (b ∷ bs) f = let e = full_entry t.slots b f.0 in subst (λ o. NoneNamed names (option_to_list o ++ entries_in t.slots bs)) (sym e.1) (h b e.0 e.1, go bs f.1)
 
   -- the last bucket holds the oldest pair
-  module _ (b : ℕ) (is_last : last_bucket t.order ≡ Some b) (p : K × V) (there : entry_at t.slots b ≡ Some p) where
+  module _ (b : ℕ) (is_last : last_bucket t.order ≡ Some b) where
     last_cut : (cut : Cut b t.order) × (cut.after ≡ [])
     last_cut = cut_last b t.order linked.distinct is_last
 
-    last_pairs : pairs_of t ≡ entries_in t.slots last_cut.0.before ++ p ∷ []
-    last_pairs = entries-cut t.slots last_cut.0 p there ∙ ap (λ l. entries_in t.slots last_cut.0.before ++ p ∷ entries_in t.slots l) last_cut.1
+    pub oldest_full : IsFull t.slots b
+    oldest_full = linked.only b (subst (λ o. Contains o b) (sym last_cut.0.whole) (Contains-append_right last_cut.0.before (b ∷ last_cut.0.after) b (0, omega arith, refl)))
 
-    pub oldest_is : last (pairs_of t) ≡ Some p
-    oldest_is = ap last last_pairs ∙ last_end (entries_in t.slots last_cut.0.before) p
+    module _ (p : K × V) (there : entry_at t.slots b ≡ Some p) where
+      last_pairs : pairs_of t ≡ entries_in t.slots last_cut.0.before ++ p ∷ []
+      last_pairs = entries-cut t.slots last_cut.0 p there ∙ ap (λ l. entries_in t.slots last_cut.0.before ++ p ∷ entries_in t.slots l) last_cut.1
 
-    pub others_oldest : without_last (pairs_of t) ≡ entries_in t.slots (without_bucket b t.order)
-    others_oldest = ap without_last last_pairs ∙ without_last_end (entries_in t.slots last_cut.0.before) p
-        ∙ sym (entries-without t.slots last_cut.0 p there ∙ ap (λ l. entries_in t.slots last_cut.0.before ++ entries_in t.slots l) last_cut.1 ∙ append-nil (entries_in t.slots last_cut.0.before))
+      pub oldest_is : last (pairs_of t) ≡ Some p
+      oldest_is = ap last last_pairs ∙ last_end (entries_in t.slots last_cut.0.before) p
+
+      pub others_oldest : without_last (pairs_of t) ≡ entries_in t.slots (without_bucket b t.order)
+      others_oldest = ap without_last last_pairs ∙ without_last_end (entries_in t.slots last_cut.0.before) p
+          ∙ sym (entries-without t.slots last_cut.0 p there ∙ ap (λ l. entries_in t.slots last_cut.0.before ++ entries_in t.slots l) last_cut.1 ∙ append-nil (entries_in t.slots last_cut.0.before))
+
+-- a bucket was emptied
+module _ {T : Type 0} (old new : List (Slot T)) (b : ℕ) where
+  pub removed-length : Removes old new b → length new ≡ length old
+  removed-length (inl h) = ap length h.1 ∙ length-set old b empty
+  removed-length (inr h) = ap length h.1 ∙ length-set old b deleted
+
+  -- the others hold what they held
+  pub removed-entries : Removes old new b → (order : List ℕ) → entries_in new (without_bucket b order) ≡ entries_in old (without_bucket b order)
+  removed-entries (inl h) order = ap (λ s. entries_in s (without_bucket b order)) h.1 ∙ entries-apart old b empty (without_bucket b order) (without_lacks b order)
+  removed-entries (inr h) order = ap (λ s. entries_in s (without_bucket b order)) h.1 ∙ entries-apart old b deleted (without_bucket b order) (without_lacks b order)

@@ -1,6 +1,24 @@
-use Rattle.std.proofs.Common.{refl, arith, inl}
+use Rattle.std.proofs.Common.{ap, sym, ◌∙◌, refl, subst, arith, inl, length, ◌+◌, ◌-◌, ◌*◌, ◌≤◌}
+use Rattle.std.specs.List.{IsDistinct}
+use Rattle.group_table.specs.Sizes.{full_capacity}
+use Rattle.group_table.specs.Bucket.{marks_of, room}
+use Rattle.schnellru.specs.Sizes.{usage}
+use Rattle.schnellru.specs.Linked.{entries_in}
+use Rattle.schnellru.proofs.Distinct.{AreDistinct}
 use Rattle.schnellru.proofs.Ordered.{others_are}
+use Rattle.schnellru.proofs.Kept.{sized_by}
 use Rattle.schnellru.proofs.map.LruMap.with_hasher.Goals as goal
 
 pub invariant_of-result : goal.invariant_of-result
-invariant_of-result g c = ?
+unfolding IsDistinct usage full_capacity
+invariant_of-result g c =
+    let none = ap length c.new.ensures.slots in record {
+      linked = c.new.ensures.linked;
+      fits = c.new.ensures.fits _;
+      map = record {
+        distinct = subst (λ o. AreDistinct g.K.PartialEq.eq (entries_in c.new.result.slots o)) (sym c.new.ensures.order) tt;
+        sized = sized_by _ _ _ _ _ _ c.new.result c.new.ensures.linked (inl none)
+            (0, ap (usage c.args.entry_bytes) none) (omega arith) (omega arith);
+        paid = subst (λ s. 0 + (full_capacity (length (marks_of s)) - 2 * room (marks_of s)) ≤ 0) (sym c.new.ensures.slots) (omega arith);
+      };
+    }
