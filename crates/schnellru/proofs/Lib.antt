@@ -17,3 +17,4 @@ pub mod Sums
 pub mod Evictions
 pub mod Limits
 pub mod Promotion
+pub mod FilledBuckets
