@@ -1,11 +1,12 @@
 -- Which pairs a placing gives up.
 use Rattle.std.proofs.Common.{◌≡◌, ◌≢◌, ℕ, ◌+◌, ◌/◌, ◌<◌, ◌≤◌, ◌⊎◌, inl, inr, true, false, [], ◌∷◌, length, refl, sym, ap, ◌∙◌, arith}
 use Rattle.group_table.specs.Sizes.{full_capacity}
+use Rattle.group_table.specs.Change.{count_up}
 use Rattle.lru_limits.specs.Rules.{Rules}
 use Rattle.schnellru.specs.Lists.{without_last}
-use Rattle.schnellru.specs.State.{State, buckets, contents, pops}
+use Rattle.schnellru.specs.State.{State, buckets, room, contents, Leaves, pops}
 use Rattle.schnellru.specs.Sizes.{no_table, new_table}
-use Rattle.schnellru.specs.Place.{Place, first_table, first_denied, first_too_large, into_empty, into_emptied, with_room, deleted_bucket, rehashed, grown, evicted, evicted_rehashed, CannotGrow, no_target, denied, Outcome, placed, refused, no_memory, IsPlaced, IsPlacedIfMemory, Grants, asked, next_table}
+use Rattle.schnellru.specs.Place.{Place, first_table, first_denied, first_too_large, into_empty, into_emptied, with_room, deleted_bucket, rehashed, grown, evicted, evicted_rehashed, CannotGrow, no_target, denied, Outcome, placed, refused, no_memory, IsPlaced, IsPlacedIfMemory, Grants, asked, next_table, without_oldest}
 use Rattle.schnellru.specs.Theorems.{IsRefusedGrowth}
 use Rattle.schnellru.proofs.Outcomes.{placed-not_no_memory, refused-not_no_memory, refused-not_placed}
 use Rattle.schnellru.proofs.Leaving.{length-pops, known_is}
@@ -123,3 +124,16 @@ module _ {K V S H : Type 0} (rules : Rules K V S) (hash_of : H → K → ℕ) (p
 
     pub keeps_or_refused : (new.pairs ≡ pair ∷ old.pairs) ⊎ IsRefusedGrowth rules old
     keeps_or_refused = elim (place_keeps placed new refl step) [ inl k ↦ inl k.pairs | inr w ↦ inr w.0 ]
+
+module _ {K V S H : Type 0} (rules : Rules K V S) (n : ℕ) (mid left : State K V S H) (step : Leaves mid (pops rules n (contents mid)) left) where
+  -- a pair that is placed after the oldest left is placed beside the others
+  pub placed_after : (pair : K × V) (new : State K V S H) (count spare moves : ℕ) → IsPlaced pair count spare moves left new → IsPlaced pair count spare moves (without_oldest rules n mid) new
+  placed_after pair new count spare moves p = record {
+    table = p.table;
+    left = p.left;
+    state = p.state ∙ ap {A = State K V S H} {B = State K V S H} (λ st. record st { pairs = pair ∷ st.pairs; marks = new.marks; moved = count_up st.moved moves; placed = count_up st.placed 1 }) step.is;
+  }
+
+  -- in a table of up to 16 buckets, one that leaves makes room
+  pub room_after : buckets mid ≤ 16 → n ≤ length mid.pairs → room mid ≡ 0 → room left ≡ 0 → n ≡ 0
+  room_after small enough none still = omega (arith, step.room.exact small, none, still, ap (λ st. length st.pairs) step.is, length-pops rules n (contents mid), enough)

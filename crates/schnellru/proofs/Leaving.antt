@@ -1,9 +1,11 @@
--- What is left when the oldest leave, and when growth is refused.
-use Rattle.std.proofs.Common.{◌≡◌, ℕ, zero, suc, ◌-◌, List, [], ◌∷◌, length, refl, arith}
+-- What is left when pairs leave, and when growth is refused.
+use Rattle.std.proofs.Common.{◌≡◌, ℕ, zero, suc, ◌+◌, ◌-◌, ◌<◌, ◌≤◌, true, false, List, [], ◌∷◌, length, refl, sym, ap, ◌∙◌, arith}
+use Rattle.group_table.specs.Sizes.{full_capacity}
 use Rattle.schnellru.specs.Lists.{without_last}
 use Rattle.lru_limits.specs.Rules.{Rules}
-use Rattle.schnellru.specs.State.{State, Contents, pop, pops}
+use Rattle.schnellru.specs.State.{State, Contents, buckets, room, contents, IsSized, FreesRoom, Leaves, pop, pops, trim, trim_from}
 use Rattle.schnellru.specs.Place.{CannotGrow, no_target, denied}
+use Rattle.schnellru.proofs.Sized.{exact}
 
 pub length-without_last : {X : Type 0} (xs : List X) → length (without_last xs) ≡ length xs - 1
 length-without_last [] = refl
@@ -19,3 +21,72 @@ module _ {K V S : Type 0} (rules : Rules K V S) where
 pub known_is : {K V S H : Type 0} (rules : Rules K V S) (old mid : State K V S H) → CannotGrow rules old mid → mid ≡ record old { limiter = mid.limiter }
 known_is rules old mid (no_target t e) = rw e refl
 known_is rules old mid (denied count bytes t d e) = rw e refl
+
+module _ {K V S : Type 0} (rules : Rules K V S) where
+  -- one more leaves at the end
+  pub pops-more : (n : ℕ) (c : Contents K V S) → pops rules (suc n) c ≡ pop rules (pops rules n c)
+  pops-more zero c = refl
+  pops-more (suc n) c = pops-more n (pop rules c)
+
+  -- where the limiter is not over, none leaves
+  pub trim-within : (c : Contents K V S) → rules.is_over_the_limit c.limiter (length c.pairs) ≡ false → trim rules c ≡ c
+  unfolding trim
+  trim-within c within = go (length c.pairs) within
+    where
+      go : (n : ℕ) → rules.is_over_the_limit c.limiter n ≡ false → trim_from rules n c ≡ c
+      go zero e = refl
+      go (suc n) e = rw e refl
+
+  -- nor does any where there is none
+  pub trim-empty : (c : Contents K V S) → length c.pairs ≡ 0 → trim rules c ≡ c
+  unfolding trim
+  trim-empty c none = ap (λ n. trim_from rules n c) none
+
+  -- where the limiter is over, the oldest leaves first
+  pub trim-over : (c : Contents K V S) → 0 < length c.pairs → rules.is_over_the_limit c.limiter (length c.pairs) ≡ true → trim rules c ≡ trim rules (pop rules c)
+  unfolding trim
+  trim-over c some over = go (length c.pairs) some over (length-without_last c.pairs)
+    where
+      go : (n : ℕ) → 0 < n → rules.is_over_the_limit c.limiter n ≡ true → length (without_last c.pairs) ≡ n - 1 → trim_from rules n c ≡ trim_from rules (length (without_last c.pairs)) (pop rules c)
+      go zero p e f = absurd (omega arith)
+      go (suc n) p e f = rw e (let g : n ≡ length (without_last c.pairs) = omega (arith, f) in ap (λ m. trim_from rules m (pop rules c)) g)
+
+module _ {K V S H : Type 0} where
+  -- where nothing leaves, all stays
+  pub leaves_self : (st : State K V S H) → Leaves st (contents st) st
+  leaves_self st = record {
+    is = refl;
+    room = record { table = refl; keeps = omega arith; at_most = omega arith; exact = λ _. refl; untouched = λ _. refl };
+  }
+
+  frees_trans : (old mid new : State K V S H) → FreesRoom old mid → FreesRoom mid new → FreesRoom old new
+  frees_trans old mid new f g = record {
+    table = g.table ∙ f.table;
+    keeps = omega (arith, f.keeps, g.keeps);
+    at_most = omega (arith, f.at_most, g.at_most);
+    exact = λ small. omega (arith, f.exact small, g.exact (omega (arith, f.table, small)));
+    untouched = λ same. g.untouched (omega (arith, same, f.keeps, g.keeps, f.at_most, g.at_most)) ∙ f.untouched (omega (arith, same, f.keeps, g.keeps, f.at_most, g.at_most));
+  }
+
+  -- what left in two steps left
+  pub leaves_trans : (old mid new : State K V S H) (some all : Contents K V S) → Leaves old some mid → Leaves mid all new → Leaves old all new
+  leaves_trans old mid new some all l m = record {
+    is = m.is ∙ ap {A = State K V S H} {B = State K V S H} (λ st. record st { pairs = all.pairs; limiter = all.limiter; marks = new.marks }) l.is;
+    room = frees_trans old mid new l.room m.room;
+  }
+
+  -- a pair that left gave its bucket back, as an empty one or as a deleted one
+  pub leaves_one : (old new : State K V S H) (left : Contents K V S) → new ≡ record old { pairs = left.pairs; limiter = left.limiter; marks = new.marks } →
+      length left.pairs + 1 ≡ length old.pairs → IsSized old → IsSized new → buckets new ≡ buckets old → room old ≤ room new → room new ≤ room old + 1 → Leaves old left new
+  leaves_one old new left is one ok after table keeps at_most =
+      let fewer : length new.pairs + 1 ≡ length old.pairs = ap (λ st. length st.pairs + 1) is ∙ one in
+      record {
+        is = is;
+        room = record {
+          table = table;
+          keeps = keeps;
+          at_most = omega (arith, fewer, at_most);
+          exact = λ small. exact new after (omega (arith, table, small)) ∙ ap full_capacity table ∙ sym (exact old ok small);
+          untouched = λ same. absurd (omega (arith, fewer, same));
+        };
+      }

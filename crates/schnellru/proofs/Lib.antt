@@ -21,3 +21,4 @@ pub mod Evictions
 pub mod Limits
 pub mod Promotion
 pub mod Kept
+pub mod FilledBuckets

@@ -1,5 +1,5 @@
 -- What the marks of a sized map's table say of its pairs.
-use Rattle.std.proofs.Common.{◌+◌, ◌≤◌, length, arith}
+use Rattle.std.proofs.Common.{◌≡◌, ◌+◌, ◌≤◌, length, arith}
 use Rattle.group_table.specs.Sizes.{full_capacity}
 use Rattle.schnellru.specs.State.{State, buckets, room, IsSized}
 
@@ -7,3 +7,7 @@ module _ {K V S H : Type 0} (st : State K V S H) (ok : IsSized st) where
   -- the pairs and the room are what the table takes, or less
   pub fits : length st.pairs + room st ≤ full_capacity (buckets st)
   fits = omega (arith, ok.table.within, ok.taken)
+
+  -- up to 16 buckets they are all of it
+  pub exact : buckets st ≤ 16 → length st.pairs + room st ≡ full_capacity (buckets st)
+  exact small = omega (arith, ok.table.exact small, ok.taken)

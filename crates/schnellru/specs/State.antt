@@ -56,6 +56,7 @@ module _ {K V S H : Type 0} where
     pub reachable : (buckets st ≡ 0) ⊎ (buckets st < st.max)
     -- there can be such a table
     pub usable : (bytes : ℕ) × (usage st.entry_bytes (buckets st) ≡ Some bytes)
+    -- the counts fit 64 bits
     pub moved : st.moved < 2 ^ 64
     pub placed : st.placed < 2 ^ 64
 

@@ -102,7 +102,8 @@ pub fn deleted_buckets_serve<K: Eq + Hash, V, L: Limiter<K, V>, S: BuildHasher>(
         (outcome ≡ placed) × IsPlaced pair (buckets old) 0 0 old new }
 {}
 
-/// What holds of every map and of every sum holds after an insert.
+/// What holds of every map and of every sum holds after an insert. The clause `map` takes for granted that the table and
+/// the counts are sound, which the contracts of the table tell.
 pub fn inserts_keep_what_holds<
     K: Eq + Hash,
     V,
@@ -114,6 +115,10 @@ pub fn inserts_keep_what_holds<
         IsDistinct K.eq (keys_of old.pairs) →
         Insert L.rules L.offers I.names (hash_by K.hash_input S.BuildHasher S.Hasher.Hasher) key value old result new →
         IsDistinct K.eq (keys_of new.pairs) }
+    ensures map { (key : I) (value : V) (old : State K V L S) (result : Result Bool AllocError) (new : State K V L S) →
+        IsMap K.eq old → IsSized new →
+        Insert L.rules L.offers I.names (hash_by K.hash_input S.BuildHasher S.Hasher.Hasher) key value old result new →
+        IsMap K.eq new }
     ensures sum { (key : I) (value : V) (old : State K V L S) (result : Result Bool AllocError) (new : State K V L S) →
         IsSummed L.cost_of L.account old →
         Insert L.rules L.offers I.names (hash_by K.hash_input S.BuildHasher S.Hasher.Hasher) key value old result new →
