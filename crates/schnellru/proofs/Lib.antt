@@ -23,3 +23,4 @@ pub mod Promotion
 pub mod Kept
 pub mod FilledBuckets
 pub mod Landed
+pub mod Moved
