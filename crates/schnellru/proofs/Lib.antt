@@ -24,3 +24,4 @@ pub mod Kept
 pub mod FilledBuckets
 pub mod Landed
 pub mod Moved
+pub mod Searched
