@@ -25,3 +25,4 @@ pub mod FilledBuckets
 pub mod Landed
 pub mod Moved
 pub mod Searched
+pub mod Written

@@ -11,3 +11,4 @@ pub mod Chain
 pub mod Lends
 pub mod Holds
 pub mod Steps
+pub mod MapLends

@@ -1,8 +1,9 @@
 //! `LruMap`. A clause sees a map as a `State`: its pairs, newest first, with its limiter, its hasher, the marks of its
 //! table's buckets, and its counts.
 ghost use Rattle.std.specs.Prelude.{◌≡◌, ℕ, ◌+◌, ◌<◌, ◌^◌, [], length, Some};
-ghost use Rattle.std.specs.Option.{option_copied};
-ghost use Rattle.schnellru.specs.Lists.{lookup, is_empty};
+ghost use Rattle.std.specs.Option.{option_copied, option_copied_mut};
+ghost use Rattle.std.specs.Borrow.{sem};
+ghost use Rattle.schnellru.specs.Lists.{lookup, front, is_empty};
 ghost use Rattle.schnellru.specs.State.{IsMap, room, buckets};
 ghost use Rattle.schnellru.specs.Holds.{empty_map};
 ghost use Rattle.schnellru.specs.Sizes.{usage, usage_within};
@@ -44,6 +45,8 @@ impl<K: Eq + Hash, V, L: Limiter<K, V>, S: BuildHasher> Model for LruMap<K, V, L
 }
 
 impl<K: Eq + Hash, V, L: Limiter<K, V>, S: BuildHasher> LruMap<K, V, L, S> {
+    ghost use Rattle.schnellru.specs.MapLends.{lends_value, lends_limiter};
+
     /// An empty map without buckets, which takes no memory.
     pub fn with_hasher(alloc: Global, limiter: L, hasher: S, entry_bytes: usize) -> Self
         ensures { result ≡ empty_map limiter hasher entry_bytes (L.LinkType.number L.LinkType.MAX) }
@@ -93,5 +96,30 @@ impl<K: Eq + Hash, V, L: Limiter<K, V>, S: BuildHasher> LruMap<K, V, L, S> {
     {
         let b = self.entries.find(self.hasher.hash_one(key), key)?;
         Some(&self.entries.pair(b).value)
+    }
+
+    pub fn get<Q: LookupKey<K>>(&mut self, key: &Q) -> Option<&mut V>
+        ensures* writes_back { sem 𝓛 (lends_value K.row V.row L.row S.row L.LinkType.row S.Hasher.row K.Hash L.Limiter
+            L.LinkType.LinkType.own L.LinkType.PartialEq L.LinkType.Debug S.BuildHasher S.Hasher.Hasher
+            self.entry (Q.names key.now) (front (Q.names key.now) self.old.pairs) result) }
+        ensures value { option_copied_mut result ≡ lookup (Q.names key.now) self.old.pairs }
+    {
+        let b = self.entries.find(self.hasher.hash_one(key), key)?;
+        self.entries.promote(b);
+        Some(&mut self.entries.pair_mut(b).value)
+    }
+
+    pub fn limiter(&self) -> &L
+        ensures { result.now ≡ self.now.limiter }
+    {
+        &self.limiter
+    }
+
+    pub fn limiter_mut(&mut self) -> &mut L
+        ensures* writes_back { sem 𝓛 (lends_limiter K.row V.row L.row S.row L.LinkType.row S.Hasher.row K.Hash L.Limiter
+            L.LinkType.LinkType.own L.LinkType.PartialEq L.LinkType.Debug S.BuildHasher S.Hasher.Hasher self.entry result) }
+        ensures value { result.now ≡ self.old.limiter }
+    {
+        &mut self.limiter
     }
 }
