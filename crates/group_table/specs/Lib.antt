@@ -8,6 +8,7 @@ pub mod Fits
 pub mod Search
 pub mod Change
 pub mod Relocation
+pub mod Moves
 pub mod Lends
 pub mod LendsSome
 pub mod Layout

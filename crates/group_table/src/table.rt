@@ -19,6 +19,7 @@ use std::alloc::{AllocError, Global};
 use std::marker::Model;
 
 mod figures;
+mod moves;
 mod relocation;
 
 /// A hash table of numbered buckets, each of which is empty, deleted or full.
