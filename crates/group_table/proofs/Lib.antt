@@ -18,6 +18,7 @@ pub mod RefillLemmas
 pub mod CopyLemmas
 pub mod FreshLemmas
 pub mod MoveLemmas
+pub mod RelocationLemmas
 pub mod ChangeLemmas
 pub mod CallerLemmas
 pub mod TableLemmas

@@ -42,6 +42,7 @@ pub(crate) fn move_entries<T: Drop, N: LinkType, H: Fn(&T) -> u64>(
     requires none_linked { (b : ℕ) → slice_index_or links.old.items b N.MAX ≡ N.MAX }
     ensures buckets { length fresh.new.slots ≡ length fresh.old.slots }
     ensures placings { fresh.new.placings ≡ fresh.old.placings }
+    ensures one_each { length links.new.items ≡ length old.items }
     ensures none_deleted { count_by is_deleted fresh.new.slots ≡ 0 }
     ensures entries { entry_count fresh.new.slots ≡ count_by is_some old.items }
     ensures moves { Moves N.number N.MAX (place_at old.items) fresh.new.slots links.new.items }

@@ -6,9 +6,12 @@ ghost use Rattle.group_table.specs.Table.{IsTable};
 ghost use Rattle.group_table.specs.Change.{count_up};
 ghost use Rattle.group_table.specs.Relocation.{Renumbers, KeepsHashes, GivesHashes};
 
+use crate::fields::no_links;
 use crate::link::LinkType;
 use crate::table::Table;
+use crate::table::moves::move_entries;
 use std::alloc::AllocError;
+use std::mem;
 
 impl<T: Drop> Table<T> {
     /// Moves all entries, in rising order of their buckets, into a fresh table of so many buckets.
@@ -33,7 +36,19 @@ impl<T: Drop> Table<T> {
         ensures table { IsTable (marks_of self.new.slots) }
         ensures unchanged { OnErr result (self.new ≡ self.old) }
     {
-        Err(AllocError)
+        let alloc = *self.control.allocator();
+        let mut fresh = Table::with_buckets(alloc, buckets)?;
+        if self.len == 0 {
+            fresh.placings = self.placings;
+            *self = fresh;
+            return Ok(Vec::new(alloc));
+        }
+        let mut links = no_links(alloc, self.entries.len())?;
+        let entries = mem::replace(&mut self.entries, Vec::new(alloc));
+        move_entries(entries, &mut fresh, &mut links, &hash_of);
+        fresh.placings = self.placings.saturating_add(self.len as u64);
+        *self = fresh;
+        Ok(links)
     }
 
     /// Moves all entries into a fresh table of as many buckets.
@@ -55,6 +70,12 @@ impl<T: Drop> Table<T> {
         ensures unchanged { OnErr result (self.new ≡ self.old) }
         ensures succeeds { entry_count self.old.slots ≡ 0 → IsOk result }
     {
-        Err(AllocError)
+        if self.len == 0 {
+            let alloc = *self.control.allocator();
+            self.clear();
+            return Ok(Vec::new(alloc));
+        }
+        let buckets = self.entries.len();
+        self.relocate(buckets, hash_of)
     }
 }

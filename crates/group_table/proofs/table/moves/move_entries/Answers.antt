@@ -108,6 +108,9 @@ returns-clause-buckets g c = c.loop-place.invariant.buckets
 pub returns-clause-placings : goal.returns-clause-placings
 returns-clause-placings g c = c.loop-place.invariant.placings
 
+pub returns-clause-one_each : goal.returns-clause-one_each
+returns-clause-one_each g c = c.loop-place.invariant.same ∙ c.requires.one_each
+
 pub returns-clause-none_deleted : goal.returns-clause-none_deleted
 returns-clause-none_deleted g c = c.loop-place.invariant.none_deleted
 
