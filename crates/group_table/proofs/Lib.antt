@@ -15,6 +15,7 @@ pub mod FitsLemmas
 pub mod RunLemmas
 pub mod RemoveLemmas
 pub mod RefillLemmas
+pub mod CloneLemmas
 pub mod CopyLemmas
 pub mod FreshLemmas
 pub mod MoveLemmas

@@ -9,6 +9,7 @@ pub mod Search
 pub mod Change
 pub mod Relocation
 pub mod Moves
+pub mod Copies
 pub mod Lends
 pub mod LendsSome
 pub mod Layout

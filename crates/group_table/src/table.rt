@@ -18,6 +18,7 @@ use crate::sizes::full_capacity;
 use std::alloc::{AllocError, Global};
 use std::marker::Model;
 
+mod copies;
 mod figures;
 mod moves;
 mod relocation;
