@@ -7,7 +7,7 @@ use Rattle.std.specs.Fn.{Shared, FnReturnsAt}
 use Rattle.group_table.specs.Bucket.{Slot, empty, deleted, full}
 
 module _ {T F : Type 0} (closure : Shared F (Bor T × Unit {0}) (Result T AllocError)) (f : F) where
-  -- what stands in a bucket of the copy: the same, but for the entry, which is one that f may make of the old one
+  -- a bucket of the copy: as the old one, but with an entry that f may answer of the old one's
   abbrev pub IsCopyOf : Slot T → Slot T → Type 0
   IsCopyOf empty copy = copy ≡ empty
   IsCopyOf deleted copy = copy ≡ deleted

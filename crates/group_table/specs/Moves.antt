@@ -24,15 +24,18 @@ module _ {T N : Type 0} (number : N → ℕ) (none : N) (old : ℕ → Option T)
   pub record Moves : Type 0 where
     pub moved : (b : ℕ) (entry : T) → old b ≡ Some entry → entry_at new (moved_to number none links b) ≡ Some entry
     pub others : (b : ℕ) → old b ≡ None → slice_index_or links b none ≡ none
-    pub apart : (b c : ℕ) (x y : T) → old b ≡ Some x → old c ≡ Some y → moved_to number none links b ≡ moved_to number none links c → b ≡ c
+    pub apart : (b c : ℕ) (x y : T) → old b ≡ Some x → old c ≡ Some y
+        → moved_to number none links b ≡ moved_to number none links c → b ≡ c
     pub onto : (c : ℕ) → IsFull new c → (b : ℕ) × (entry : T) × (old b ≡ Some entry) × (moved_to number none links b ≡ c)
 
   -- hashes by which each of them has the hash that it had fit the new table
   abbrev pub KeepsMovedHashes : (ℕ → ℕ) → Type 0
   KeepsMovedHashes hash_of = (moved_hash_of : ℕ → ℕ)
-      → ((b : ℕ) (entry : T) → old b ≡ Some entry → moved_hash_of (moved_to number none links b) ≡ hash_of b) → Fits new moved_hash_of
+      → ((b : ℕ) (entry : T) → old b ≡ Some entry → moved_hash_of (moved_to number none links b) ≡ hash_of b)
+      → Fits new moved_hash_of
 
 module _ {T H : Type 0} (closure : Shared H (Bor T × Unit {0}) ℕ) (f : H) where
-  -- what the closure answers of an entry is the hash that its bucket has
+  -- what the closure answers of the entry in a place is its hash
   abbrev pub GivesMovedHashes : List (Option T) → (ℕ → ℕ) → Type 0
-  GivesMovedHashes old hash_of = (b hash : ℕ) (entry : T) → place_at old b ≡ Some entry → FnReturnsAt closure f entry hash → hash ≡ hash_of b
+  GivesMovedHashes old hash_of = (b hash : ℕ) (entry : T)
+      → place_at old b ≡ Some entry → FnReturnsAt closure f entry hash → hash ≡ hash_of b

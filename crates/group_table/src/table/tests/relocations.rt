@@ -237,3 +237,26 @@ fn each_request_is_refused(rt: HostRuntime) -> Result<(), Fail> {
     }
     Ok(())
 }
+
+#[test]
+fn copies(rt: HostRuntime) -> Result<(), Fail> {
+    for hashes in ALL {
+        let mut table = table_of(rt.alloc(), 32)?;
+        let mut next = 0;
+        fill(&mut table, &mut next, hashes);
+        thin(&mut table, 3, 0);
+        let mut copy = table.clone_with(|key| Ok(key.wrapping_add(1000)))?;
+        let figures = (table.len(), table.room(), table.placings());
+        assert_eq!(rt; (copy.len(), copy.room(), copy.placings()), figures);
+        assert_eq!(rt; copy.control, table.control);
+        for b in 0..table.buckets() {
+            let key = if table.is_full(b) { Some(table.get(b).wrapping_add(1000)) } else { None };
+            let copied = if copy.is_full(b) { Some(*copy.get(b)) } else { None };
+            assert_eq!(rt; copied, key, "at {b}");
+        }
+        assert_eq!(rt; copy.try_place(0, 9), table.try_place(0, 9));
+        let refused = table.clone_with(|key| if *key == 5 { Err(AllocError) } else { Ok(*key) });
+        assert!(rt; refused.is_err());
+    }
+    Ok(())
+}
