@@ -255,7 +255,7 @@ fn copies(rt: HostRuntime) -> Result<(), Fail> {
             assert_eq!(rt; copied, key, "at {b}");
         }
         assert_eq!(rt; copy.try_place(0, 9), table.try_place(0, 9));
-        let refused = table.clone_with(|key| if *key == 5 { Err(AllocError) } else { Ok(*key) });
+        let refused = table.clone_with(|key| if *key % 2 == 1 { Err(AllocError) } else { Ok(*key) });
         assert!(rt; refused.is_err());
     }
     Ok(())
