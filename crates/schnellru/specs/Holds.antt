@@ -1,5 +1,5 @@
 -- How the fields of an `LruMap` hold its state. No public clause cites this module.
-use Rattle.std.specs.Prelude.{ℕ, [], Bool}
+use Rattle.std.specs.Prelude.{ℕ, Bool}
 use Rattle.group_table.specs.Bucket.{marks_of}
 use Rattle.schnellru.specs.State.{State, IsMap}
 use Rattle.schnellru.specs.Linked.{Linked, IsLinked, KeysFit, pairs_of}
@@ -13,19 +13,6 @@ module _ {K V S H : Type 0} where
     marks = marks_of entries.slots;
     moved = moved;
     placed = placed;
-    entry_bytes = entry_bytes;
-    max = max;
-  }
-
-  -- a map without buckets
-  abbrev pub empty_map : S → H → ℕ → ℕ → State K V S H
-  empty_map limiter hasher entry_bytes max = record {
-    pairs = [];
-    limiter = limiter;
-    hasher = hasher;
-    marks = [];
-    moved = 0;
-    placed = 0;
     entry_bytes = entry_bytes;
     max = max;
   }

@@ -1,5 +1,5 @@
 -- A map as a list of pairs under a limiter, in a table of which the marks of its buckets are known.
-use Rattle.std.specs.Prelude.{◌≡◌, ℕ, zero, suc, ◌+◌, ◌-◌, ◌*◌, ◌^◌, ◌≤◌, ◌<◌, ◌⊎◌, Bool, if◌then◌else◌, List, length, Option, Some, None}
+use Rattle.std.specs.Prelude.{◌≡◌, ℕ, zero, suc, ◌+◌, ◌-◌, ◌*◌, ◌^◌, ◌≤◌, ◌<◌, ◌⊎◌, Bool, if◌then◌else◌, List, [], length, Option, Some, None}
 use Rattle.std.specs.List.{IsDistinct}
 use Rattle.group_table.specs.Sizes.{full_capacity}
 use Rattle.group_table.specs.Bucket.{Mark, bucket_at, entry_count, room as room_of}
@@ -31,6 +31,19 @@ pub record State (K V S H : Type 0) : Type 0 where
   pub max : ℕ
 
 module _ {K V S H : Type 0} where
+  -- a map without pairs and without buckets
+  abbrev pub empty_map : S → H → ℕ → ℕ → State K V S H
+  empty_map limiter hasher entry_bytes max = record {
+    pairs = [];
+    limiter = limiter;
+    hasher = hasher;
+    marks = [];
+    moved = 0;
+    placed = 0;
+    entry_bytes = entry_bytes;
+    max = max;
+  }
+
   -- the pairs and the limiter of a map
   abbrev pub contents : State K V S H → Contents K V S
   contents st = record { pairs = st.pairs; limiter = st.limiter }

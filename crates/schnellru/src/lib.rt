@@ -6,4 +6,8 @@ mod link;
 mod map;
 mod sizes;
 
-pub use map::LruMap;
+pub use lru_limits::{
+    ByCost, ByLength, ByMemoryUsage, Costed, DefaultHasher, Insertion, Limiter, LinkType, LookupKey, RandomState, Summing,
+    Unlimited, UnlimitedCompact,
+};
+pub use map::{DEFAULT_ENTRY_BYTES, LruMap};

@@ -1,27 +1,43 @@
 //! `LruMap`. A clause sees a map as a `State`: its pairs, newest first, with its limiter, its hasher, the marks of its
 //! table's buckets, and its counts.
-ghost use Rattle.std.specs.Prelude.{◌≡◌, ℕ, ◌+◌, ◌<◌, ◌^◌, [], length, Some};
-ghost use Rattle.std.specs.Option.{option_copied, option_copied_mut};
-ghost use Rattle.std.specs.Borrow.{sem};
-ghost use Rattle.schnellru.specs.Lists.{lookup, front, is_empty};
-ghost use Rattle.schnellru.specs.State.{IsMap, room, buckets};
-ghost use Rattle.schnellru.specs.Holds.{empty_map};
-ghost use Rattle.schnellru.specs.Sizes.{usage, usage_within};
+ghost use Rattle.std.specs.Prelude.{◌≡◌, ◌∷◌, []};
+ghost use Rattle.lru_limits.specs.Mixing.{seeded};
+ghost use Rattle.schnellru.specs.State.{State, empty_map};
 
 use crate::link::Linked;
-use crate::sizes;
-use lru_limits::{ByLength, ByMemoryUsage, Limiter, LookupKey, RandomState};
+use lru_limits::{ByLength, ByMemoryUsage, Limiter, RandomState};
 use std::alloc::Global;
 use std::hash::{BuildHasher, Hash};
 use std::marker::Model;
 
+mod figures;
 mod insert;
+mod look_up;
 mod place;
 mod replace;
 
+/// The bytes of an entry of a map that `LruMap::default` makes.
+pub const DEFAULT_ENTRY_BYTES: usize = 32;
+
+/// A hash map whose pairs stand in an order of use, under a limiter.
+///
+/// `get` and `insert` make a pair the newest. The limiter says which elements are taken, when the map is over its limit,
+/// so that the oldest pairs leave, and how large the table may grow. `entry_bytes` are the bytes of a bucket, by which the
+/// memory that the table uses is counted.
+///
+/// ```
+/// let mut map = LruMap::new(alloc, ByLength::new(2), [1, 2, 3, 4], 16);
+/// map.insert(1, 10)?;
+/// map.insert(2, 20)?;
+/// map.get(&1);
+/// map.insert(3, 30)?;
+/// assert!(rt; map.peek(&2).is_none());
+/// ```
+///
+/// After schnellru's `LruMap`.
 #[derive(Drop)]
 pub struct LruMap<K: Eq + Hash, V, L: Limiter<K, V> = ByLength, S: BuildHasher = RandomState> {
-    entries: Linked<K, V, L::LinkType>,
+    pub(crate) entries: Linked<K, V, L::LinkType>,
     limiter: L,
     hasher: S,
     entry_bytes: usize,
@@ -45,9 +61,7 @@ impl<K: Eq + Hash, V, L: Limiter<K, V>, S: BuildHasher> Model for LruMap<K, V, L
 }
 
 impl<K: Eq + Hash, V, L: Limiter<K, V>, S: BuildHasher> LruMap<K, V, L, S> {
-    ghost use Rattle.schnellru.specs.MapLends.{lends_value, lends_limiter};
-
-    /// An empty map without buckets, which takes no memory.
+    /// An empty map, with this hasher and so many bytes an entry. It has no buckets and takes no memory.
     pub fn with_hasher(alloc: Global, limiter: L, hasher: S, entry_bytes: usize) -> Self
         ensures { result ≡ empty_map limiter hasher entry_bytes (L.LinkType.number L.LinkType.MAX) }
     {
@@ -62,64 +76,58 @@ impl<K: Eq + Hash, V, L: Limiter<K, V>, S: BuildHasher> LruMap<K, V, L, S> {
         }
     }
 
-    pub fn len(&self) -> usize
-        ensures len { result ≡ length self.now.pairs }
-        ensures map { IsMap K.eq self.now }
+    /// An empty map with the default limiter and hasher, and `DEFAULT_ENTRY_BYTES` an entry.
+    pub fn default(alloc: Global) -> Self
+    where
+        L: Default,
+        S: Default,
+        ensures { (limiter : L) × (hasher : S) × L.is_default limiter × S.is_default hasher
+            × (result ≡ empty_map limiter hasher 32 (L.LinkType.number L.LinkType.MAX)) }
     {
-        self.entries.len()
+        LruMap::with_hasher(alloc, L::default(), S::default(), DEFAULT_ENTRY_BYTES)
+    }
+}
+
+impl<K: Eq + Hash, V, L: Limiter<K, V>> LruMap<K, V, L, RandomState> {
+    /// An empty map with the hasher that these words seed.
+    pub fn new(alloc: Global, limiter: L, words: [u64; 4], entry_bytes: usize) -> Self
+        ensures { result ≡ empty_map limiter (seeded words) entry_bytes (L.LinkType.number L.LinkType.MAX) }
+    {
+        LruMap::with_hasher(alloc, limiter, RandomState::with_seeds(words), entry_bytes)
     }
 
-    pub fn is_empty(&self) -> bool
-        ensures { result ≡ is_empty self.now.pairs }
+    /// The same as `new`, under schnellru's name for seeds that are given.
+    pub fn with_seed(alloc: Global, limiter: L, seed: [u64; 4], entry_bytes: usize) -> Self
+        ensures { result ≡ empty_map limiter (seeded seed) entry_bytes (L.LinkType.number L.LinkType.MAX) }
     {
-        self.entries.len() == 0
+        LruMap::new(alloc, limiter, seed, entry_bytes)
     }
+}
 
-    pub fn guaranteed_capacity(&self) -> usize
-        ensures { result ≡ length self.now.pairs + room self.now }
+impl<K: Eq + Hash, V, S: BuildHasher> LruMap<K, V, ByMemoryUsage, S> {
+    /// An empty map whose table may use so many bytes, with this hasher.
+    pub fn with_memory_budget_and_hasher(
+        alloc: Global,
+        budget: usize,
+        hasher: S,
+        entry_bytes: usize,
+    ) -> Self
+        ensures { result ≡ empty_map budget hasher entry_bytes 4294967295 }
     {
-        self.entries.len() + self.entries.room()
+        LruMap::with_hasher(alloc, ByMemoryUsage::new(budget), hasher, entry_bytes)
     }
+}
 
-    pub fn memory_usage(&self) -> usize
-        ensures { usage self.now.entry_bytes (buckets self.now) ≡ Some result }
+impl<K: Eq + Hash, V> LruMap<K, V, ByMemoryUsage, RandomState> {
+    /// An empty map whose table may use so many bytes, with the hasher that these words seed.
+    pub fn with_memory_budget(
+        alloc: Global,
+        budget: usize,
+        words: [u64; 4],
+        entry_bytes: usize,
+    ) -> Self
+        ensures { result ≡ empty_map budget (seeded words) entry_bytes 4294967295 }
     {
-        let buckets = self.entries.buckets();
-        if buckets == 0 {
-            return 0;
-        }
-        sizes::bytes_of(self.entry_bytes, buckets)
-    }
-
-    pub fn peek<Q: LookupKey<K>>(&self, key: &Q) -> Option<&V>
-        ensures { option_copied result ≡ lookup (Q.names key.now) self.now.pairs }
-    {
-        let b = self.entries.find(self.hasher.hash_one(key), key)?;
-        Some(&self.entries.pair(b).value)
-    }
-
-    pub fn get<Q: LookupKey<K>>(&mut self, key: &Q) -> Option<&mut V>
-        ensures* writes_back { sem 𝓛 (lends_value K.row V.row L.row S.row L.LinkType.row S.Hasher.row K.Hash L.Limiter
-            L.LinkType.LinkType.own L.LinkType.PartialEq L.LinkType.Debug S.BuildHasher S.Hasher.Hasher
-            self.entry (Q.names key.now) (front (Q.names key.now) self.old.pairs) result) }
-        ensures value { option_copied_mut result ≡ lookup (Q.names key.now) self.old.pairs }
-    {
-        let b = self.entries.find(self.hasher.hash_one(key), key)?;
-        self.entries.promote(b);
-        Some(&mut self.entries.pair_mut(b).value)
-    }
-
-    pub fn limiter(&self) -> &L
-        ensures { result.now ≡ self.now.limiter }
-    {
-        &self.limiter
-    }
-
-    pub fn limiter_mut(&mut self) -> &mut L
-        ensures* writes_back { sem 𝓛 (lends_limiter K.row V.row L.row S.row L.LinkType.row S.Hasher.row K.Hash L.Limiter
-            L.LinkType.LinkType.own L.LinkType.PartialEq L.LinkType.Debug S.BuildHasher S.Hasher.Hasher self.entry result) }
-        ensures value { result.now ≡ self.old.limiter }
-    {
-        &mut self.limiter
+        LruMap::with_memory_budget_and_hasher(alloc, budget, RandomState::with_seeds(words), entry_bytes)
     }
 }

@@ -1,0 +1,88 @@
+//! What a map tells of itself, and its limiter.
+ghost use Rattle.std.specs.Prelude.{◌≡◌, ◌+◌, length, Some};
+ghost use Rattle.std.specs.Borrow.{sem};
+ghost use Rattle.schnellru.specs.Lists.{is_empty};
+ghost use Rattle.schnellru.specs.Sizes.{usage, usage_within};
+ghost use Rattle.schnellru.specs.State.{IsMap, buckets, room};
+
+use crate::map::LruMap;
+use crate::sizes;
+use group_table::LinkType;
+use lru_limits::Limiter;
+use std::fmt;
+use std::hash::{BuildHasher, Hash};
+
+impl<K: Eq + Hash, V, L: Limiter<K, V>, S: BuildHasher> LruMap<K, V, L, S> {
+    ghost use Rattle.schnellru.specs.MapLends.{lends_limiter};
+
+    /// The number of pairs.
+    #[inline]
+    pub fn len(&self) -> usize
+        ensures len { result ≡ length self.now.pairs }
+        ensures map { IsMap K.eq self.now }
+    {
+        self.entries.len()
+    }
+
+    /// Whether there are no pairs.
+    #[inline]
+    pub fn is_empty(&self) -> bool
+        ensures { result ≡ is_empty self.now.pairs }
+    {
+        self.entries.len() == 0
+    }
+
+    /// How many pairs the table is sure to take without growing: those that it has, and its room.
+    ///
+    /// It does not depend on the limiter, and may fall where a pair leaves a table of more than 16 buckets.
+    pub fn guaranteed_capacity(&self) -> usize
+        ensures { result ≡ length self.now.pairs + room self.now }
+    {
+        self.entries.len() + self.entries.room()
+    }
+
+    /// The bytes of the table: its entries, rounded up to a multiple of 16, a byte for each bucket, and 16 more; 0
+    /// without buckets.
+    pub fn memory_usage(&self) -> usize
+        ensures { usage self.now.entry_bytes (buckets self.now) ≡ Some result }
+    {
+        let buckets = self.entries.buckets();
+        if buckets == 0 {
+            return 0;
+        }
+        sizes::bytes_of(self.entry_bytes, buckets)
+    }
+
+    /// The greatest `memory_usage` that a map with entries of so many bytes can have within a budget, or 0.
+    pub fn memory_usage_for_memory_budget(budget: usize, entry_bytes: usize) -> usize
+        ensures { result ≡ usage_within (L.LinkType.number L.LinkType.MAX) entry_bytes budget }
+    {
+        sizes::usage_within(L::LinkType::MAX.into_usize(), entry_bytes, budget)
+    }
+
+    /// The limiter.
+    pub fn limiter(&self) -> &L
+        ensures { result.now ≡ self.now.limiter }
+    {
+        &self.limiter
+    }
+
+    /// The limiter, to be changed. Nothing is told of what is written, and no pair leaves before the next insert.
+    pub fn limiter_mut(&mut self) -> &mut L
+        ensures* writes_back { sem 𝓛 (lends_limiter K.row V.row L.row S.row L.LinkType.row S.Hasher.row K.Hash L.Limiter
+            L.LinkType.LinkType.own L.LinkType.PartialEq L.LinkType.Debug S.BuildHasher S.Hasher.Hasher self.entry result) }
+        ensures value { result.now ≡ self.old.limiter }
+    {
+        &mut self.limiter
+    }
+}
+
+/// Shows the number of pairs alone, as `LruMap { len: 3, .. }`.
+impl<K: Eq + Hash, V, L: Limiter<K, V>, S: BuildHasher> fmt::Debug for LruMap<K, V, L, S> {
+    fn fmt<W: fmt::Write>(&self, f: &mut fmt::Formatter<W>) -> fmt::Result {
+        let len = self.len();
+        f.debug_struct("LruMap")
+            .field("len", &len)
+            .finish_non_exhaustive()
+    }
+}
