@@ -1,7 +1,7 @@
 -- An entry comes into a table with room and no deleted bucket.
-use Rattle.std.proofs.Common.{◌≡◌, ◌≢◌, ℕ, ◌+◌, ◌-◌, ◌<◌, ◌≤◌, cond, List, length, get_or, set, Option, Some, None, true, false, refl, ap, sym, ◌∙◌, arith, inl, inr, count_by, length-set}
+use Rattle.std.proofs.Common.{◌≡◌, ◌≢◌, ℕ, ◌+◌, ◌-◌, ◌<◌, ◌≤◌, cond, List, length, set, Option, Some, refl, ap, ◌∙◌, arith, inl, inr, count_by, length-set}
 use Rattle.group_table.specs.Sizes.{full_capacity}
-use Rattle.group_table.specs.Bucket.{Slot, Tagged, empty, deleted, full, bucket_at, is_full, is_used, is_deleted, entry_at, entry_count}
+use Rattle.group_table.specs.Bucket.{Slot, empty, full, bucket_at, is_deleted, entry_at, entry_count}
 use Rattle.group_table.specs.Probe.{hash_tag}
 use Rattle.group_table.specs.Table.{Table}
 use Rattle.group_table.specs.Change.{Places}

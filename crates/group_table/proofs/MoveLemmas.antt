@@ -1,19 +1,18 @@
 -- Entries that move one by one into a fresh table.
-use Rattle.std.proofs.Common.{◌≡◌, ◌≢◌, ℕ, ◌+◌, ◌<◌, ◌≤◌, Bool, List, [], ◌∷◌, ◌++◌, length, get_or, set, Option, Some, None, refl, ap, sym, ◌∙◌, subst, arith, count_by, cond, is_some, true, get_or-set_same, get_or-set_other, inl, inr}
+use Rattle.std.proofs.Common.{◌≡◌, ◌≢◌, ℕ, ◌+◌, ◌<◌, Bool, List, [], ◌∷◌, ◌++◌, length, get_or, set, Option, Some, None, ap, sym, ◌∙◌, subst, arith, count_by, cond, is_some, true, get_or-set_same, get_or-set_other, inl, inr}
 use Rattle.std.proofs.lemmas.Bool.{cases_eq}
 use Rattle.std.proofs.lemmas.List.{get_or_past, get_or_push, get_or_append_left, length-append}
 use Rattle.std.proofs.lemmas.List.Sums.{sum_by-append, sum_by-cons}
 use Rattle.std.proofs.Math.Seq.{get_or-append_seam}
 use native.Mathlib.Decide.{dec_lt}
 use Rattle.group_table.specs.Link.{IsLinkType}
-use Rattle.group_table.specs.Bucket.{Slot, empty, full, bucket_at, is_full, IsFull, entry_at, entry_of}
-use Rattle.group_table.specs.Probe.{hash_tag}
-use Rattle.group_table.specs.Fits.{Fits, with_hash}
+use Rattle.group_table.specs.Bucket.{Slot, empty, bucket_at, is_full, entry_at, entry_of}
+use Rattle.group_table.specs.Fits.{Fits}
 use Rattle.group_table.specs.Relocation.{moved_to}
 use Rattle.group_table.specs.Moves.{Joins, Moves, KeepsMovedHashes}
 use Rattle.group_table.proofs.BucketLemmas.{empty_not_full}
 use Rattle.group_table.proofs.SearchLemmas.{full_by_entry}
-use Rattle.group_table.proofs.FitsLemmas.{Fits-placed, Fits-same, Fits-none, with_hash-there, with_hash-elsewhere}
+use Rattle.group_table.proofs.FitsLemmas.{Fits-placed, Fits-same, with_hash-there, with_hash-elsewhere}
 use Rattle.group_table.proofs.JoinLemmas.{entry_at-joined, bucket_at-joined_other}
 
 not_none : {T : Type 0} (o : Option T) (x : T) → o ≡ None → o ≡ Some x → ⊥

@@ -1,12 +1,12 @@
 -- What has come of a relocation, over the buckets.
-use Rattle.std.proofs.Common.{◌≡◌, ℕ, zero, suc, ◌+◌, ◌<◌, ◌≤◌, List, [], ◌∷◌, length, get_or, Option, Some, None, refl, ap, sym, ◌∙◌, subst, arith, count_by, cond, is_some, nat_eq, true, false}
+use Rattle.std.proofs.Common.{◌≡◌, ℕ, ◌+◌, ◌≤◌, List, [], ◌∷◌, length, get_or, Option, Some, None, refl, ap, sym, ◌∙◌, arith, count_by, cond, is_some, nat_eq, true, false}
 use Rattle.std.proofs.lemmas.List.{get_or_past}
 use Rattle.std.proofs.lemmas.List.Sums.{sum_by-cons}
 use native.Mathlib.Decide.{dec_lt}
 use Rattle.std.specs.Borrow.{Bor}
 use Rattle.std.specs.Fn.{Shared}
 use Rattle.group_table.specs.Sizes.{full_capacity}
-use Rattle.group_table.specs.Bucket.{Slot, Tagged, deleted, empty, bucket_at, is_full, is_used, is_deleted, IsFull, entry_of, entry_at, entry_count, marks_of, room}
+use Rattle.group_table.specs.Bucket.{Slot, deleted, empty, bucket_at, is_full, is_deleted, IsFull, entry_of, entry_at, entry_count, marks_of, room}
 use Rattle.group_table.specs.Layout.{slot_of, slots_of, IsLaidOut}
 use Rattle.group_table.specs.Relocation.{IsRenumbering, KeepsHashes, GivesHashes}
 use Rattle.group_table.specs.Moves.{place_at, Moves, KeepsMovedHashes, GivesMovedHashes}

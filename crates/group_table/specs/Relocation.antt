@@ -1,9 +1,8 @@
 -- How the entries of a table move into a fresh one, and how a table is copied.
-use Rattle.std.specs.Prelude.{◌≡◌, ℕ, ◌<◌, ◌⊎◌, List, [], length, slice_index_or, map, Option, Some, None, Result, Ok}
-use Rattle.std.specs.declared.alloc.AllocError.{AllocError}
+use Rattle.std.specs.Prelude.{◌≡◌, ℕ, ◌<◌, ◌⊎◌, List, [], length, slice_index_or, Some, None}
 use Rattle.std.specs.Borrow.{Bor}
 use Rattle.std.specs.Fn.{Shared, FnReturnsAt}
-use Rattle.group_table.specs.Bucket.{Slot, Bucket, empty, deleted, full, entry_at, entry_count, marks_of, IsFull}
+use Rattle.group_table.specs.Bucket.{Slot, entry_at, entry_count, IsFull}
 use Rattle.group_table.specs.Fits.{Fits}
 
 module _ {N : Type 0} (number : N → ℕ) (none : N) where

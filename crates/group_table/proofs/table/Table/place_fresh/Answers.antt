@@ -1,4 +1,4 @@
-use Rattle.std.proofs.Common.{◌≡◌, ◌+◌, length, arith, ap, ◌∙◌}
+use Rattle.std.proofs.Common.{◌≡◌, ◌+◌, length, arith, ap}
 use Rattle.std.proofs.lemmas.List.Sums.{count_by-le-length}
 use Rattle.group_table.specs.Bucket.{is_full}
 use Rattle.group_table.specs.Layout.{slots_of}

@@ -1,6 +1,5 @@
-use Rattle.std.proofs.Common.{List, ◌+◌, ◌≡◌, ◌∷◌, ◌++◌, [], ℕ, ◌<◌, ◌*◌, length, count_by, is_some, None, refl, ap, sym, ◌∙◌, arith, append_assoc, append-nil, length-set}
+use Rattle.std.proofs.Common.{List, ◌+◌, ◌≡◌, ◌∷◌, ◌++◌, [], ◌<◌, length, is_some, refl, ap, sym, ◌∙◌, arith, append_assoc, append-nil, length-set}
 use Rattle.std.specs.Vec.Iter.{into_iter_items, into_iter_len}
-use Rattle.std.specs.Fn.{FnReturnsAt}
 use Rattle.group_table.specs.Moves.{place_at}
 use Rattle.group_table.proofs.BucketLemmas.{empty_not_deleted, deleted_count-none}
 use Rattle.std.proofs.lemmas.List.{length-append}
