@@ -12,3 +12,4 @@ pub mod Lends
 pub mod Holds
 pub mod Steps
 pub mod MapLends
+pub mod Rest
