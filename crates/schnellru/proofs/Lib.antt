@@ -1,0 +1,2 @@
+pub mod OrderLemmas
+pub mod NeighbourLemmas
