@@ -1,2 +1,4 @@
 pub mod OrderLemmas
 pub mod NeighbourLemmas
+pub mod PairSlotLemmas
+pub mod ChainLemmas

@@ -82,7 +82,7 @@ pub before_not_first : (prev other : Option ℕ) (x : ℕ) (cs : List ℕ) → (
 before_not_first prev other x [] p = refl
 before_not_first prev other x (d ∷ ds) p = rw (ne_eqb d x (λ e. p (ap Some e))) refl
 
-first_in : (cs : List ℕ) (x : ℕ) → first_bucket cs ≡ Some x → Contains cs x
+pub first_in : (cs : List ℕ) (x : ℕ) → first_bucket cs ≡ Some x → Contains cs x
 first_in [] x e = absurd (none_some x e)
 first_in (c ∷ cs) x e = subst (Contains (c ∷ cs)) (same_some c x e) (Contains-here c cs)
 
