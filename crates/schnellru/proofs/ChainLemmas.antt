@@ -83,6 +83,24 @@ module _ {N : Type 0} (number : N → ℕ) (link : ℕ → N) (none : N) (eq : N
     leads_to_full slots reached None is_full = inl refl
     leads_to_full slots reached (Some y) is_full = inr (rw (laws.number_of_link y (omega (arith, full_lt slots y (is_full y refl), reached))) (is_full y refl))
 
+    module _ (slots : List (Slot (Entry K V N))) (newest oldest : N) (order : List ℕ) (chain : IsChain number link none slots newest oldest order) where
+      module _ (b : ℕ) (there : Contains order b) (entry : Entry K V N) (is : entry_at slots b ≡ Some entry) where
+        -- the links of an entry are to its neighbours
+        pub newer_link : entry.newer ≡ link_to link none (bucket_before b order)
+        newer_link = same_link _ _ (sym (ap (option_map (λ x. x.newer)) is) ∙ chain.newer b there)
+
+        pub older_link : entry.older ≡ link_to link none (bucket_after b order)
+        older_link = same_link _ _ (sym (ap (option_map (λ x. x.older)) is) ∙ chain.older b there)
+
+        pub newer_leads : (entry.newer ≡ none) ⊎ IsFull slots (number entry.newer)
+        newer_leads = rw newer_link (leads_to_full slots chain.reached (bucket_before b order) (λ y e. chain.only y (before_in b y order chain.distinct e)))
+
+        pub older_leads : (entry.older ≡ none) ⊎ IsFull slots (number entry.older)
+        older_leads = rw older_link (leads_to_full slots chain.reached (bucket_after b order) (λ y e. chain.only y (after_in b y order e)))
+
+      pub newest_leads : (newest ≡ none) ⊎ IsFull slots (number newest)
+      newest_leads = rw chain.newest_first (leads_to_full slots chain.reached (first_bucket order) (λ y e. chain.only y (first_in order y e)))
+
     -- a bucket leaves the chain: its neighbours get each other's links
     module _ (s0 s1 s2 : List (Slot (Entry K V N))) (newest oldest newest' oldest' newer older : N) (b : ℕ) (order : List ℕ)
         (chain : IsChain number link none s0 newest oldest order) (there : Contains order b)
