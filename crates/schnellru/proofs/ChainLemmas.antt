@@ -12,7 +12,7 @@ use Rattle.schnellru.proofs.OrderLemmas.{Contains-cases, none_some, after_in, be
 use Rattle.schnellru.proofs.NeighbourLemmas.{before-next, before-stays, after-previous, after-stays, first-left, first-left_stays, last-left, last-left_stays, before-itself, after-itself, before-first, before-later, after-later}
 use Rattle.schnellru.proofs.PairSlotLemmas.{same_length, same_full, pair_slots-refilled, entry_at-refilled, entry_at-refilled_other}
 
-same_link : {N : Type 0} (x y : N) → Some x ≡ Some y → x ≡ y
+pub same_link : {N : Type 0} (x y : N) → Some x ≡ Some y → x ≡ y
 same_link x y e = cc
 
 module _ {K V N : Type 0} (slots : List (Slot (Entry K V N))) (b : ℕ) (entry : Entry K V N) (there : entry_at slots b ≡ Some entry) where

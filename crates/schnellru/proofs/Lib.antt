@@ -2,3 +2,4 @@ pub mod OrderLemmas
 pub mod NeighbourLemmas
 pub mod PairSlotLemmas
 pub mod ChainLemmas
+pub mod WholeLemmas
