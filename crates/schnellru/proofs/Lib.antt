@@ -3,3 +3,4 @@ pub mod NeighbourLemmas
 pub mod PairSlotLemmas
 pub mod ChainLemmas
 pub mod WholeLemmas
+pub mod ReadLemmas

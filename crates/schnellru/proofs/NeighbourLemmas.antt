@@ -235,3 +235,13 @@ module _ (m : ℕ → ℕ) where
 
     pub before-moved : bucket_before (m b) (map m order) ≡ option_map m (bucket_before b order)
     before-moved = before_is (m b) (map m order) (distinct-moved order apart d) ∙ before_from-moved None b order (λ c w e. apart c b w there e) ∙ ap (option_map m) (sym (before_is b order d))
+
+-- the newest, taken out and put in front, stands where it was
+pub newest_again : (b : ℕ) (order : List ℕ) → AllPairs ◌≢◌ order → Contains order b → bucket_before b order ≡ None → order ≡ b ∷ without_bucket b order
+newest_again b [] d there e = absurd (Contains-nil b there)
+newest_again b (c ∷ cs) d there e = elim (cases_eq c b) [
+  | inl h ↦ rw (eq-eqb c b h) (rw (without-absent b cs (absent_after b c cs d h), h) refl)
+  | inr h ↦
+      let e' : before_from (Some c) b cs ≡ None = rw (ne_eqb c b h) at (sym (before_is b (c ∷ cs) d) ∙ e) in
+      elim (Contains-cases c b cs there) [ inl k ↦ absurd (h k) | inr k ↦ absurd (before_from-some c b cs k e') ]
+]
