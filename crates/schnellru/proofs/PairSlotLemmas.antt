@@ -63,6 +63,9 @@ module _ {K V N : Type 0} where
     pub same_count : entry_count new ≡ entry_count old
     same_count = sym (entry_count-pair_slots new) ∙ ap entry_count same ∙ entry_count-pair_slots old
 
+    pub same_marks : marks_of new ≡ marks_of old
+    same_marks = sym (marks_of-pair_slots new) ∙ ap marks_of same ∙ marks_of-pair_slots old
+
     pub same_full : (b : ℕ) → is_full (bucket_at new b) ≡ is_full (bucket_at old b)
     same_full b = sym (is_full-pair_slots new b) ∙ ap (λ slots. is_full (bucket_at slots b)) same ∙ is_full-pair_slots old b
 
