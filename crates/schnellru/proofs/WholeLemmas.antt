@@ -17,6 +17,7 @@ use Rattle.schnellru.proofs.OrderLemmas.{Contains-here, Contains-later, Contains
 use Rattle.schnellru.proofs.NeighbourLemmas.{after-later}
 use Rattle.schnellru.proofs.PairSlotLemmas.{same_count, same_full, marks_of-pair_slots, is_full-pair_slots, entry_count-pair_slots}
 use Rattle.schnellru.proofs.ChainLemmas.{same_link, chained_below}
+use Rattle.schnellru.proofs.KeyLemmas.{not_full}
 
 module _ {N : Type 0} (number : N → ℕ) (link : ℕ → N) (none : N) (eq : N → N → Bool) (laws : IsLinkType number link none eq) {K V : Type 0} where
   one_along : (n : ℕ) (slots : List (Slot (Entry K V N))) (from older : N) (at : Option (Entry K V N)) → option_map (λ x. x.older) at ≡ Some older
@@ -99,12 +100,7 @@ module _ {N : Type 0} (number : N → ℕ) (link : ℕ → N) (none : N) (eq : N
       length-removed (inr w) = ap length w.1 ∙ length-set s1 b deleted
 
       emptied : IsFull s2 b → ⊥
-      emptied h = no_entry (bucket_at s2 b) (entry_at-removed s1 s2 b (same_full s0 s1 same b ∙ there) removes) h
-        where
-          no_entry : (s : Slot (Entry K V N)) → entry_of s ≡ None → is_full s ≡ true → ⊥
-          no_entry empty e h = false≢true h
-          no_entry deleted e h = false≢true h
-          no_entry (full held) e h = cc
+      emptied h = not_full (bucket_at s2 b) (entry_at-removed s1 s2 b (same_full s0 s1 same b ∙ there) removes) h
 
       pub IsWhole-taken : IsWhole number link none s2 newest' oldest' (without_bucket b order)
       IsWhole-taken = record {
