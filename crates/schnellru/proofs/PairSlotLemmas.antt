@@ -100,6 +100,18 @@ module _ {K V N : Type 0} where
       let slot_with : Pair K V → Slot (K × V) = λ p. full (record { tag = held.tag; entry = (p.key, p.value) }) in
       ap slot_with (same ∙ sym (ap (λ x. x.pair) is))
 
+  refilled_slot : (s : Slot (Entry K V N)) (next : Entry K V N) → pair_slot (refilled s next) ≡ refilled (pair_slot s) (pair_of next)
+  refilled_slot empty next = refl
+  refilled_slot deleted next = refl
+  refilled_slot (full held) next = refl
+
+  -- an entry is written with another pair
+  pub pair_slots-rewritten : (slots : List (Slot (Entry K V N))) (b : ℕ) (next : Entry K V N)
+      → pair_slots (set slots b (refilled (bucket_at slots b) next)) ≡ set (pair_slots slots) b (refilled (bucket_at (pair_slots slots) b) (pair_of next))
+  pair_slots-rewritten slots b next =
+      pair_slots-set slots b (refilled (bucket_at slots b) next)
+      ∙ ap (set (pair_slots slots) b) (refilled_slot (bucket_at slots b) next ∙ ap (λ s. refilled s (pair_of next)) (sym (bucket_at-pair_slots slots b)))
+
   refilled_entry : (s : Slot (Entry K V N)) (entry next : Entry K V N) → entry_of s ≡ Some entry → entry_of (refilled s next) ≡ Some next
   refilled_entry empty entry next e = absurd (cc)
   refilled_entry deleted entry next e = absurd (cc)

@@ -1,21 +1,23 @@
 -- The order that the links of a table keep: it is read along them, and each change of the table changes it.
-use Rattle.std.proofs.Common.{◌≡◌, ◌≢◌, ℕ, zero, suc, ◌+◌, ◌<◌, ◌≤◌, Bool, true, false, List, [], ◌∷◌, length, Option, Some, None, ◌⊎◌, inl, inr, refl, ap, sym, ◌∙◌, subst, arith, eq-eqb, length-set}
+use Rattle.std.proofs.Common.{◌≡◌, ◌≢◌, ℕ, zero, suc, ◌+◌, ◌<◌, ◌≤◌, Bool, true, false, List, [], ◌∷◌, length, set, Option, Some, None, ◌⊎◌, inl, inr, refl, ap, sym, ◌∙◌, subst, arith, eq-eqb, length-set}
 use Rattle.std.specs.Prelude.{option_map, unwrap_or, Contains, AllPairs}
 use Rattle.std.proofs.lemmas.Bool.{cases_eq, false≢true}
 use Rattle.std.proofs.lemmas.List.Sums.{count_by-le-length}
 use Rattle.group_table.specs.Link.{IsLinkType}
-use Rattle.group_table.specs.Bucket.{Slot, empty, deleted, full, bucket_at, is_full, IsFull, entry_at, entry_of, entry_count, marks_of}
+use Rattle.group_table.specs.Bucket.{Slot, empty, deleted, full, bucket_at, is_full, IsFull, entry_at, entry_of, entry_count, marks_of, refilled}
 use Rattle.group_table.specs.Table.{Table, IsTable}
 use Rattle.group_table.specs.Change.{Places, Removes}
-use Rattle.group_table.proofs.BucketLemmas.{bucket_at-past, full_lt, is_full-marks_of}
+use Rattle.group_table.proofs.BucketLemmas.{bucket_at-past, full_lt, is_full-marks_of, entry_count-marks_of}
+use Rattle.group_table.proofs.RefillLemmas.{marks_of-refilled}
 use Rattle.group_table.proofs.SearchLemmas.{full_by_entry}
 use Rattle.group_table.proofs.ChangeLemmas.{entry_at-placed, entry_count-places, bucket_at-placed_other, entry_at-removed, bucket_at-removed_other, entry_count-removes}
 use Rattle.schnellru.specs.declared.link.Entry.{Entry}
-use Rattle.schnellru.specs.Linked.{IsLinked, without_bucket}
+use Rattle.schnellru.specs.declared.link.Pair.{Pair}
+use Rattle.schnellru.specs.Linked.{Linked, IsLinked, without_bucket, with_pair}
 use Rattle.schnellru.specs.Chain.{first_bucket, last_bucket, bucket_after, bucket_before, link_to, pair_slots, newer_at, older_at, along, IsChain, IsWhole}
 use Rattle.schnellru.proofs.OrderLemmas.{Contains-here, Contains-later, Contains-cases, distinct_head, distinct_tail, without_in, in_without, length-without}
 use Rattle.schnellru.proofs.NeighbourLemmas.{after-later}
-use Rattle.schnellru.proofs.PairSlotLemmas.{same_count, same_full, marks_of-pair_slots, is_full-pair_slots, entry_count-pair_slots}
+use Rattle.schnellru.proofs.PairSlotLemmas.{same_count, same_full, marks_of-pair_slots, is_full-pair_slots, entry_count-pair_slots, entry_at-refilled, entry_at-refilled_other, pair_slots-rewritten}
 use Rattle.schnellru.proofs.ChainLemmas.{same_link, chained_below}
 use Rattle.schnellru.proofs.KeyLemmas.{not_full}
 
@@ -112,7 +114,7 @@ module _ {N : Type 0} (number : N → ℕ) (link : ℕ → N) (none : N) (eq : N
       }
 
   -- an entry went into the table, and then its bucket into the chain
-  module _ (old new : Table (Entry K V N)) (s2 : List (Slot (Entry K V N))) (newest oldest newest' oldest' : N) (order : List ℕ) (whole : IsWhole number link none old.slots newest oldest order)
+  module _ (old new : Table (Entry K V N)) (newest oldest : N) (order : List ℕ) (whole : IsWhole number link none old.slots newest oldest order)
       (hash b : ℕ) (entry : Entry K V N) (places : Places old new hash entry b) (within : b < length old.slots) where
     pub placed_absent : Contains order b → ⊥
     placed_absent w = false≢true (sym (sym (is_full-marks_of old.slots b) ∙ places.first.free_there) ∙ whole.chain.only b w)
@@ -126,8 +128,8 @@ module _ {N : Type 0} (number : N → ℕ) (link : ℕ → N) (none : N) (eq : N
     pub IsChain-placed : IsChain number link none new.slots newest oldest order
     IsChain-placed = IsChain-kept old.slots new.slots newest oldest order (ap length places.slots ∙ length-set old.slots b _) (λ x w. bucket_at-placed_other old new hash entry b places x (other_than x w)) whole.chain
 
-    pub IsWhole-placed : pair_slots s2 ≡ pair_slots new.slots → IsChain number link none s2 newest' oldest' (b ∷ order) → IsWhole number link none s2 newest' oldest' (b ∷ order)
-    IsWhole-placed same chain = record {
+    pub IsWhole-placed : (s2 : List (Slot (Entry K V N))) (newest' oldest' : N) → pair_slots s2 ≡ pair_slots new.slots → IsChain number link none s2 newest' oldest' (b ∷ order) → IsWhole number link none s2 newest' oldest' (b ∷ order)
+    IsWhole-placed s2 newest' oldest' same chain = record {
       chain = chain;
       all = λ x h. elim (cases_eq x b) [
         | inl k ↦ subst (Contains (b ∷ order)) (sym k) (Contains-here b order)
@@ -135,3 +137,49 @@ module _ {N : Type 0} (number : N → ℕ) (link : ℕ → N) (none : N) (eq : N
       ];
       count = omega (arith, same_count new.slots s2 same, entry_count-places old new hash entry b places within, whole.count);
     }
+
+  -- a pair was written
+  module _ (slots : List (Slot (Entry K V N))) (newest oldest : N) (order : List ℕ) (whole : IsWhole number link none slots newest oldest order)
+      (b : ℕ) (entry : Entry K V N) (is : entry_at slots b ≡ Some entry) (pair : Pair K V) where
+    abbrev next : Entry K V N
+    next = record { pair = pair; newer = entry.newer; older = entry.older }
+
+    abbrev after : List (Slot (Entry K V N))
+    after = set slots b (refilled (bucket_at slots b) next)
+
+    still_full : (x : ℕ) → is_full (bucket_at after x) ≡ is_full (bucket_at slots x)
+    still_full x = sym (is_full-marks_of after x) ∙ ap (λ marks. is_full (bucket_at marks x)) (marks_of-refilled slots b next) ∙ is_full-marks_of slots x
+
+    kept_link : {A : Type 0} (f : Entry K V N → A) → f next ≡ f entry → (x : ℕ) → option_map f (entry_at after x) ≡ option_map f (entry_at slots x)
+    kept_link f same x = elim (cases_eq x b) [
+      | inl h ↦ rw h (ap (option_map f) (entry_at-refilled slots b entry next is) ∙ ap Some same ∙ sym (ap (option_map f) is))
+      | inr h ↦ ap (option_map f) (entry_at-refilled_other slots b entry next is x h)
+    ]
+
+    pub IsWhole-refilled : IsWhole number link none (set slots b (refilled (bucket_at slots b) (record { pair = pair; newer = entry.newer; older = entry.older }))) newest oldest order
+    IsWhole-refilled = record {
+      chain = record {
+        reached = omega (arith, length-set slots b (refilled (bucket_at slots b) next), whole.chain.reached);
+        distinct = whole.chain.distinct;
+        only = λ x w. still_full x ∙ whole.chain.only x w;
+        newest_first = whole.chain.newest_first;
+        oldest_last = whole.chain.oldest_last;
+        newer = λ x w. kept_link (λ e. e.newer) refl x ∙ whole.chain.newer x w;
+        older = λ x w. kept_link (λ e. e.older) refl x ∙ whole.chain.older x w;
+      };
+      all = λ x full. whole.all x (sym (still_full x) ∙ full);
+      count = sym (entry_count-marks_of after) ∙ ap entry_count (marks_of-refilled slots b next) ∙ entry_count-marks_of slots ∙ whole.count;
+    }
+
+    -- and the table shows it
+    pub view-refilled : ◌≡◌ {A = Linked K V}
+        (record { slots = pair_slots after; order = along number (length after) after newest })
+        (with_pair (record { slots = pair_slots slots; order = order }) b (pair.key, pair.value))
+    view-refilled =
+        let wrote = pair_slots-rewritten slots b next in
+        let stays = whole_order after newest oldest order IsWhole-refilled in
+        cc
+
+    pub IsLinked-refilled : IsTable (marks_of slots) → IsLinked (with_pair (record { slots = pair_slots slots; order = order }) b (pair.key, pair.value))
+    IsLinked-refilled table =
+        rw (← pair_slots-rewritten slots b next) (IsLinked-view after newest oldest order IsWhole-refilled (rw (marks_of-refilled slots b next) table))
