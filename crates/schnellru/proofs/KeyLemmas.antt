@@ -1,6 +1,6 @@
 -- The hashes of the keys fit again, after a pair left, came or was written; and where a pair may come.
 use Rattle.std.proofs.Common.{◌≡◌, ◌≢◌, ℕ, ◌+◌, ◌*◌, ◌/◌, ◌%◌, ◌<◌, Bool, true, List, [], ◌∷◌, length, arith, set, Option, Some, None, ◌⊎◌, inl, inr, refl, ap, sym, ◌∙◌, subst, eq-eqb, ne_eqb}
-use Rattle.std.specs.Prelude.{option_map, unwrap_or}
+use Rattle.std.specs.Prelude.{option_map, unwrap_or, IfNone}
 use Rattle.std.proofs.lemmas.Bool.{cases_eq, false≢true}
 use Rattle.group_table.specs.Bucket.{Slot, empty, deleted, full, bucket_at, is_full, IsFull, entry_at, entry_of, refilled, marks_of, room}
 use Rattle.group_table.specs.Probe.{hash_tag, IsFirstFree}
@@ -14,13 +14,17 @@ use Rattle.std.proofs.Math.Nat.{mod-lt}
 use Rattle.schnellru.specs.Linked.{hash_in, KeysFit}
 use Rattle.schnellru.proofs.PairSlotLemmas.{Fits-agree}
 
+pub if_none : {T : Type 0} {P Q : Type 0} (r : Option T) → (P → Q) → IfNone r P → IfNone r Q
+if_none None f p = f p
+if_none (Some x) f p = p
+
 pub not_full : {T : Type 0} (s : Slot T) → entry_of s ≡ None → is_full s ≡ true → ⊥
 not_full empty e h = false≢true h
 not_full deleted e h = false≢true h
 not_full (full held) e h = cc
 
 module _ {K V : Type 0} (hash_of : K → ℕ) where
-  hash_in-entry : (slots : List (Slot (K × V))) (b : ℕ) (pair : K × V) → entry_at slots b ≡ Some pair → hash_in hash_of slots b ≡ hash_of pair.0
+  pub hash_in-entry : (slots : List (Slot (K × V))) (b : ℕ) (pair : K × V) → entry_at slots b ≡ Some pair → hash_in hash_of slots b ≡ hash_of pair.0
   hash_in-entry slots b pair e = ap (λ o. unwrap_or (option_map (λ p. hash_of p.0) o) 0) e
 
   hash_in-same : (old new : List (Slot (K × V))) (b : ℕ) → bucket_at new b ≡ bucket_at old b → hash_in hash_of old b ≡ hash_in hash_of new b

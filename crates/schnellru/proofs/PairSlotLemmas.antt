@@ -52,6 +52,15 @@ module _ {K V N : Type 0} where
   pub entry_at-pair_slots : (slots : List (Slot (Entry K V N))) (b : ℕ) → entry_at (pair_slots slots) b ≡ option_map pair_of (entry_at slots b)
   entry_at-pair_slots slots b = ap entry_of (bucket_at-pair_slots slots b) ∙ entry_of-pair_slot (bucket_at slots b)
 
+  entry_by_pair : (o : Option (Entry K V N)) (pair : K × V) → option_map pair_of o ≡ Some pair → (entry : Entry K V N) × (o ≡ Some entry) × (pair_of entry ≡ pair)
+  entry_by_pair None pair e = absurd (cc)
+  entry_by_pair (Some entry) pair e = let same : pair_of entry ≡ pair = cc in (entry, refl, same)
+
+  -- a pair is that of an entry
+  pub entry_of-pair_at : (slots : List (Slot (Entry K V N))) (b : ℕ) (pair : K × V) → entry_at (pair_slots slots) b ≡ Some pair
+      → (entry : Entry K V N) × (entry_at slots b ≡ Some entry) × (pair_of entry ≡ pair)
+  entry_of-pair_at slots b pair e = entry_by_pair (entry_at slots b) pair (sym (entry_at-pair_slots slots b) ∙ e)
+
   pub pair_slots-set : (slots : List (Slot (Entry K V N))) (b : ℕ) (s : Slot (Entry K V N)) → pair_slots (set slots b s) ≡ set (pair_slots slots) b (pair_slot s)
   pair_slots-set slots b s = map-set pair_slot slots b s
 
