@@ -5,3 +5,4 @@ pub mod ChainLemmas
 pub mod KeyLemmas
 pub mod WholeLemmas
 pub mod ReadLemmas
+pub mod MovedLemmas

@@ -86,6 +86,11 @@ pub first_in : (cs : List ℕ) (x : ℕ) → first_bucket cs ≡ Some x → Cont
 first_in [] x e = absurd (none_some x e)
 first_in (c ∷ cs) x e = subst (Contains (c ∷ cs)) (same_some c x e) (Contains-here c cs)
 
+pub last_in : (order : List ℕ) (x : ℕ) → last_bucket order ≡ Some x → Contains order x
+last_in [] x e = absurd (none_some x e)
+last_in (c ∷ []) x e = subst (Contains (c ∷ [])) (same_some c x e) (Contains-here c [])
+last_in (c ∷ d ∷ ds) x e = Contains-later c x (d ∷ ds) (last_in (d ∷ ds) x e)
+
 -- a neighbour is in the order
 pub after_in : (b x : ℕ) (order : List ℕ) → bucket_after b order ≡ Some x → Contains order x
 after_in b x [] e = absurd (none_some x e)

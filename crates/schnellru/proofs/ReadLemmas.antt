@@ -7,7 +7,7 @@ use Rattle.group_table.specs.Bucket.{Slot, IsFull, entry_at}
 use Rattle.schnellru.specs.declared.link.Entry.{Entry}
 use Rattle.schnellru.specs.Linked.{without_bucket}
 use Rattle.schnellru.specs.Chain.{first_bucket, last_bucket, bucket_after, bucket_before, link_to, pair_slots, IsChain, IsWhole}
-use Rattle.schnellru.proofs.OrderLemmas.{Contains-here, Contains-later, none_some, same_some, after_in, before_in, first_in}
+use Rattle.schnellru.proofs.OrderLemmas.{none_some, after_in, before_in, first_in, last_in}
 use Rattle.schnellru.proofs.NeighbourLemmas.{newest_again}
 use Rattle.schnellru.proofs.PairSlotLemmas.{is_full-pair_slots}
 use Rattle.schnellru.proofs.ChainLemmas.{end_by_link, chained_below, newer_link, older_link}
@@ -20,11 +20,6 @@ last_some : (order : List ℕ) → 0 < length order → last_bucket order ≡ No
 last_some [] p e = absurd (omega arith)
 last_some (c ∷ []) p e = none_some c (sym e)
 last_some (c ∷ d ∷ ds) p e = last_some (d ∷ ds) (omega arith) e
-
-last_in : (order : List ℕ) (x : ℕ) → last_bucket order ≡ Some x → Contains order x
-last_in [] x e = absurd (none_some x e)
-last_in (c ∷ []) x e = subst (Contains (c ∷ [])) (same_some c x e) (Contains-here c [])
-last_in (c ∷ d ∷ ds) x e = Contains-later c x (d ∷ ds) (last_in (d ∷ ds) x e)
 
 module _ {N : Type 0} (number : N → ℕ) (link : ℕ → N) (none : N) (eq : N → N → Bool) (laws : IsLinkType number link none eq) where
   pub equal_links : (a b : N) → eq a b ≡ true → a ≡ b

@@ -9,7 +9,7 @@ use Rattle.group_table.specs.Table.{Table, IsTable}
 use Rattle.group_table.specs.Change.{Places, Removes}
 use Rattle.group_table.proofs.BucketLemmas.{bucket_at-past, full_lt, is_full-marks_of, entry_count-marks_of}
 use Rattle.group_table.proofs.RefillLemmas.{marks_of-refilled}
-use Rattle.group_table.proofs.SearchLemmas.{full_by_entry}
+use Rattle.group_table.proofs.SearchLemmas.{held_by, full_by_entry}
 use Rattle.group_table.proofs.ChangeLemmas.{entry_at-placed, entry_count-places, bucket_at-placed_other, entry_at-removed, bucket_at-removed_other, entry_count-removes}
 use Rattle.schnellru.specs.declared.link.Entry.{Entry}
 use Rattle.schnellru.specs.declared.link.Pair.{Pair}
@@ -20,6 +20,10 @@ use Rattle.schnellru.proofs.NeighbourLemmas.{after-later}
 use Rattle.schnellru.proofs.PairSlotLemmas.{same_count, same_full, marks_of-pair_slots, is_full-pair_slots, entry_count-pair_slots, entry_at-refilled, entry_at-refilled_other, pair_slots-rewritten}
 use Rattle.schnellru.proofs.ChainLemmas.{same_link, chained_below}
 use Rattle.schnellru.proofs.KeyLemmas.{not_full}
+
+-- a full bucket has an entry
+pub entry_of_full : {T : Type 0} (slots : List (Slot T)) (b : ℕ) → IsFull slots b → (entry : T) × (entry_at slots b ≡ Some entry)
+entry_of_full slots b there = let w = held_by (bucket_at slots b) there in (w.0.entry, ap entry_of w.1)
 
 module _ {N : Type 0} (number : N → ℕ) (link : ℕ → N) (none : N) (eq : N → N → Bool) (laws : IsLinkType number link none eq) {K V : Type 0} where
   one_along : (n : ℕ) (slots : List (Slot (Entry K V N))) (from older : N) (at : Option (Entry K V N)) → option_map (λ x. x.older) at ≡ Some older

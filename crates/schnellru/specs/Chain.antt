@@ -1,5 +1,5 @@
 -- How links keep an order of buckets: each entry has the numbers of its two neighbours. No public clause cites this module.
-use Rattle.std.specs.Prelude.{◌≡◌, ◌≢◌, ℕ, zero, suc, ◌<◌, Bool, List, [], ◌∷◌, length, map, nat_eq, if◌then◌else◌, Option, Some, None, option_map, unwrap_or, Contains, AllPairs}
+use Rattle.std.specs.Prelude.{◌≡◌, ◌≢◌, ◌⊎◌, ℕ, zero, suc, ◌<◌, slice_index_or, Bool, List, [], ◌∷◌, length, map, nat_eq, if◌then◌else◌, Option, Some, None, option_map, unwrap_or, Contains, AllPairs}
 use Rattle.group_table.specs.Bucket.{Bucket, empty, deleted, full, Slot, IsFull, entry_at, entry_count}
 use Rattle.group_table.specs.Relocation.{Renumbers}
 use Rattle.schnellru.specs.declared.link.Entry.{Entry}
@@ -73,6 +73,22 @@ module _ {K V N : Type 0} (number : N → ℕ) where
     pub there : IsFull old (number at) → older_at new (number at) ≡ Some to
     pub others : (b : ℕ) → b ≢ number at → older_at new b ≡ older_at old b
     pub newer : (b : ℕ) → newer_at new b ≡ newer_at old b
+
+module _ {N : Type 0} (number : N → ℕ) (none : N) (links : List N) where
+  -- the link to where the bucket of a link has moved
+  abbrev pub moved_link : N → N
+  moved_link l = slice_index_or links (number l) none
+
+  -- a link is none, or one to a bucket that the links have a place for
+  abbrev pub HasPlace : N → Type 0
+  HasPlace l = (l ≡ none) ⊎ (number l < length links)
+
+  -- the entry in a bucket has links to where its neighbours have moved, and nothing else has changed
+  pub record MovesLinks {K V : Type 0} (old new : List (Slot (Entry K V N))) (b : ℕ) : Type 0 where
+    pub pairs : pair_slots new ≡ pair_slots old
+    pub newer_there : newer_at new b ≡ option_map moved_link (newer_at old b)
+    pub older_there : older_at new b ≡ option_map moved_link (older_at old b)
+    pub others : (c : ℕ) → c ≢ b → entry_at new c ≡ entry_at old c
 
 -- the end of a chain is another now, where a link is that of no entry, and else stays
 pub record SetsEnd {N : Type 0} (none old new at to : N) : Type 0 where

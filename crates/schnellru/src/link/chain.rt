@@ -1,12 +1,12 @@
 //! The links between the entries of a table: each change of the order as a change of a few entries.
 //!
 //! `newest` and `oldest` are the ends of the chain. The order of the buckets is known to the clauses alone.
-ghost use Rattle.std.specs.Prelude.{◌≡◌, ◌≢◌, ◌⊎◌, ◌<◌, ℕ, ◌∷◌, List, Contains, map, length, slice_index_or};
-ghost use Rattle.group_table.specs.Bucket.{Slot, IsFull, entry_count};
+ghost use Rattle.std.specs.Prelude.{◌≡◌, ◌⊎◌, ◌<◌, ◌≤◌, ℕ, ◌∷◌, List, Some, Contains, map, length};
+ghost use Rattle.group_table.specs.Bucket.{Slot, IsFull};
 ghost use Rattle.group_table.specs.Relocation.{Renumbers, moved_to};
 ghost use Rattle.schnellru.specs.Linked.{without_bucket};
 ghost use Rattle.schnellru.specs.declared.link.Entry.{Entry};
-ghost use Rattle.schnellru.specs.Chain.{IsChain, IsWhole, InChain, OutOfChain, Moved, SetsNewer, SetsOlder, SetsLinks, SetsEnd, pair_slots};
+ghost use Rattle.schnellru.specs.Chain.{IsChain, IsWhole, InChain, OutOfChain, Moved, MovesLinks, HasPlace, moved_link, SetsNewer, SetsOlder, SetsLinks, SetsEnd, newer_at, older_at, pair_slots};
 
 use crate::link::Entry;
 use group_table::{LinkType, Table};
@@ -112,7 +112,8 @@ pub(crate) fn rewrite<K, V, N: LinkType>(
     oldest: &mut N,
     links: &[N],
 )
-    requires { Moved N.number N.link N.MAX table.old.slots newest.old oldest.old links.now }
+    requires reached { length table.old.slots < N.number N.MAX }
+    requires moved { Moved N.number N.link N.MAX table.old.slots newest.old oldest.old links.now }
     ensures pairs { pair_slots table.new.slots ≡ pair_slots table.old.slots }
     ensures chain { (before : List (Slot (Entry K V N))) (order : List ℕ) →
         IsWhole N.number N.link N.MAX before newest.old oldest.old order → Renumbers N.number N.MAX before table.old.slots links.now →
@@ -121,21 +122,33 @@ pub(crate) fn rewrite<K, V, N: LinkType>(
     for old in 0..links.len() {
         let moved = links[old];
         if moved != N::MAX {
-            let entry = table.get_mut(moved.into_usize());
-            entry.newer = renumbered(links, entry.newer);
-            entry.older = renumbered(links, entry.older);
+            move_links(table, moved.into_usize(), links);
         }
     }
-    *newest = renumbered(links, *newest);
-    *oldest = renumbered(links, *oldest);
+    *newest = moved_link(links, *newest);
+    *oldest = moved_link(links, *oldest);
+}
+
+// Makes the links of an entry those to where its neighbours have moved.
+#[inline]
+fn move_links<K, V, N: LinkType>(table: &mut Table<Entry<K, V, N>>, b: usize, links: &[N])
+    requires full { IsFull table.old.slots b }
+    requires fewer { length links.now ≤ N.number N.MAX }
+    requires newer { (l : N) → newer_at table.old.slots b ≡ Some l → HasPlace N.number N.MAX links.now l }
+    requires older { (l : N) → older_at table.old.slots b ≡ Some l → HasPlace N.number N.MAX links.now l }
+    ensures { MovesLinks N.number N.MAX links.now table.old.slots table.new.slots b }
+{
+    let entry = table.get_mut(b);
+    entry.newer = moved_link(links, entry.newer);
+    entry.older = moved_link(links, entry.older);
 }
 
 // The link to where the bucket of a link has moved.
 #[inline]
-fn renumbered<N: LinkType>(links: &[N], link: N) -> N
-    requires { link ≡ N.MAX ⊎ N.number link < length links.now }
-    ensures none { link ≡ N.MAX → result ≡ N.MAX }
-    ensures some { link ≢ N.MAX → result ≡ slice_index_or links.now (N.number link) N.MAX }
+fn moved_link<N: LinkType>(links: &[N], link: N) -> N
+    requires place { HasPlace N.number N.MAX links.now link }
+    requires fewer { length links.now ≤ N.number N.MAX }
+    ensures { result ≡ moved_link N.number N.MAX links.now link }
 {
     if link == N::MAX {
         link
