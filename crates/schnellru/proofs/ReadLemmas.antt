@@ -1,7 +1,7 @@
 -- What is read of a table whose links keep the order of its full buckets.
-use Rattle.std.proofs.Common.{◌≡◌, ◌≢◌, ℕ, ◌<◌, Bool, true, List, [], ◌∷◌, length, Option, Some, None, ◌⊎◌, inl, inr, refl, ap, sym, ◌∙◌, subst, arith}
-use Rattle.std.specs.Prelude.{Contains, IfSome, IfNone}
-use Rattle.std.proofs.lemmas.Bool.{eqb-true}
+use Rattle.std.proofs.Common.{◌≡◌, ◌≢◌, ℕ, ◌<◌, Bool, true, false, List, [], ◌∷◌, length, Option, Some, None, ◌⊎◌, inl, inr, refl, ap, sym, ◌∙◌, subst, arith}
+use Rattle.std.specs.Prelude.{Contains, IfSome, IfNone, not}
+use Rattle.std.proofs.lemmas.Bool.{eqb-true, eqb-false, false≢true}
 use Rattle.group_table.specs.Link.{IsLinkType}
 use Rattle.group_table.specs.Bucket.{Slot, IsFull, entry_at}
 use Rattle.schnellru.specs.declared.link.Entry.{Entry}
@@ -21,9 +21,21 @@ last_some [] p e = absurd (omega arith)
 last_some (c ∷ []) p e = none_some c (sym e)
 last_some (c ∷ d ∷ ds) p e = last_some (d ∷ ds) (omega arith) e
 
+negated : (t u : Bool) → not t ≡ not u → t ≡ u
+negated true true e = refl
+negated true false e = absurd (false≢true e)
+negated false true e = absurd (false≢true (sym e))
+negated false false e = refl
+
 module _ {N : Type 0} (number : N → ℕ) (link : ℕ → N) (none : N) (eq : N → N → Bool) (laws : IsLinkType number link none eq) where
   pub equal_links : (a b : N) → eq a b ≡ true → a ≡ b
   equal_links a b e = laws.equal_by_number a b (eqb-true _ _ (sym (laws.eq_by_number a b) ∙ e))
+
+  pub equal_by_test : (a b : N) → not (eq a b) ≡ false → a ≡ b
+  equal_by_test a b e = equal_links a b (negated (eq a b) true e)
+
+  pub other_by_test : (a b : N) → not (eq a b) ≡ true → a ≢ b
+  other_by_test a b e same = eqb-false (number a) (number b) (sym (laws.eq_by_number a b) ∙ negated (eq a b) false e) (ap number same)
 
   -- the bucket that a link leads to
   leads_to : (o : Option ℕ) (l : N) → l ≡ link_to link none o → ((y : ℕ) → o ≡ Some y → y < number none) → (o ≡ None → ⊥) → o ≡ Some (number l)
