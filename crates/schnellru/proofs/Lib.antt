@@ -6,3 +6,4 @@ pub mod KeyLemmas
 pub mod WholeLemmas
 pub mod ReadLemmas
 pub mod MovedLemmas
+pub mod RelocateLemmas
