@@ -9,10 +9,10 @@ use Rattle.group_table.specs.Change.{Removes}
 use Rattle.group_table.proofs.BucketLemmas.{bucket_at-set_same, bucket_at-set_other, empty_not_full, empty_not_deleted, full_not_empty, full_not_deleted, length-marks_of, marks_of-set}
 use Rattle.group_table.proofs.ProbeLemmas.{probed-lane}
 
-with_hash-there : (hash_of : ℕ → ℕ) (b hash k : ℕ) → k ≡ b → with_hash hash_of b hash k ≡ hash
+pub with_hash-there : (hash_of : ℕ → ℕ) (b hash k : ℕ) → k ≡ b → with_hash hash_of b hash k ≡ hash
 with_hash-there hash_of b hash k e = rw (eq-eqb k b e)
 
-with_hash-elsewhere : (hash_of : ℕ → ℕ) (b hash k : ℕ) → k ≢ b → with_hash hash_of b hash k ≡ hash_of k
+pub with_hash-elsewhere : (hash_of : ℕ → ℕ) (b hash k : ℕ) → k ≢ b → with_hash hash_of b hash k ≡ hash_of k
 with_hash-elsewhere hash_of b hash k p = rw (ne_eqb k b p)
 
 pub one_held : {A : Type 0} (s : Bucket A) (x y : A) → s ≡ full x → s ≡ full y → x ≡ y
@@ -84,6 +84,13 @@ module _ {T : Type 0} where
           | inr h ↦ rw (marks_of-set slots b now, with_hash-elsewhere hash_of b hash k h) (Reaches-set (marks_of slots) b (mark_of now) in_marks stays _ k (fits.reached k (sym (ap is_full (bucket_at-set_other slots b k now h)) ∙ there)))
         ];
       }
+
+  -- of hashes that fit, others that are equal bucket by bucket fit
+  pub Fits-same : (slots : List (Slot T)) (hash_of other_of : ℕ → ℕ) → ((b : ℕ) → hash_of b ≡ other_of b) → Fits slots hash_of → Fits slots other_of
+  Fits-same slots hash_of other_of same fits = record {
+    tags = λ b held e. fits.tags b held e ∙ ap hash_tag (same b);
+    reached = λ b there. rw (← same b) (fits.reached b there);
+  }
 
   -- a bucket whose entry left
   module _ (slots : List (Slot T)) (hash_of : ℕ → ℕ) (b : ℕ) (s : Slot T) (p : b < length slots) (not_full : is_full s ≡ true → ⊥) (reaches : (hash k : ℕ) → Reaches (marks_of slots) hash k → Reaches (set (marks_of slots) b (mark_of s)) hash k) (fits : Fits slots hash_of) where

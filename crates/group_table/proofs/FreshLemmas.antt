@@ -4,10 +4,10 @@ use Rattle.std.proofs.lemmas.List.{length-replicate, get_or-replicate}
 use Rattle.std.proofs.lemmas.List.Sums.{sum_by-cons}
 use native.Mathlib.Decide.{dec_lt}
 use Rattle.group_table.specs.Sizes.{IsPowerFromFour, full_capacity}
-use Rattle.group_table.specs.Bucket.{Bucket, Slot, Tagged, empty, is_used, is_full, bucket_at, entry_count}
+use Rattle.group_table.specs.Bucket.{Bucket, Slot, Tagged, empty, is_used, is_full, bucket_at, entry_count, marks_of, room}
 use Rattle.group_table.specs.Fits.{Fits}
 use Rattle.group_table.specs.Layout.{slot_of, slots_of, byte_of, byte_at, IsLaidOut, IsValid}
-use Rattle.group_table.proofs.BucketLemmas.{empty_not_deleted, count_by-pos}
+use Rattle.group_table.proofs.BucketLemmas.{empty_not_deleted, count_by-pos, room_is, length-marks_of, used_count-marks_of}
 use Rattle.group_table.proofs.LayoutLemmas.{bucket_at-laid_out, length-laid_out}
 use Rattle.group_table.proofs.CopyLemmas.{copy_at, replicate-from}
 use Rattle.group_table.proofs.FitsLemmas.{Fits-none}
@@ -57,8 +57,19 @@ module _ (T : Type 0) where
   pub entry_count-fresh : (n m : ℕ) → n ≤ m → entry_count (slots_of {T = T} (replicate m 255) (replicate n None)) ≡ 0
   entry_count-fresh n m p = rw (slots_of-fresh n m p) (none_counted {A = Tagged T} is_full refl n)
 
+  -- the room is the full capacity
+  pub room-fresh : (n : ℕ) → room (marks_of (replicate {A = Slot T} n empty)) ≡ full_capacity (length (replicate {A = Slot T} n empty))
+  room-fresh n =
+      let slots : List (Slot T) = replicate n empty in
+      omega (arith, room_is (marks_of slots), ap full_capacity (length-marks_of slots), used_count-marks_of slots, none_counted {A = Tagged T} is_used refl n)
+
   pub Fits-fresh : (n : ℕ) (hash_of : ℕ → ℕ) → Fits {T = T} (replicate n empty) hash_of
   Fits-fresh n hash_of = Fits-none (replicate n empty) hash_of (λ b. copy_at n b empty)
+
+-- where all buckets are empty, there is no entry
+pub entry_count-none : {T : Type 0} (slots : List (Slot T)) → ((b : ℕ) → bucket_at slots b ≡ empty) → entry_count slots ≡ 0
+entry_count-none slots none =
+    ap entry_count (replicate-from slots empty empty (λ b within. none b)) ∙ none_counted is_full refl (length slots)
 
 -- where no bucket is full, there is no entry
 pub none_left : {T : Type 0} (control : List ℕ) (entries : List (Option T)) → IsLaidOut control entries → entry_count (slots_of control entries) ≡ 0 → entries ≡ replicate (length entries) None

@@ -45,7 +45,7 @@ module _ {T : Type 0} where
   empty_byte byte None (inl e) f = absurd (empty_not_deleted _ f (slot_of-deleted byte None refl e))
   empty_byte byte None (inr e) f = e
 
-is_full-test : (T : Type 0) (t : Bool) → is_full {A = Tagged T} (cond t deleted empty) ≡ false
+pub is_full-test : (T : Type 0) (t : Bool) → is_full {A = Tagged T} (cond t deleted empty) ≡ false
 is_full-test T true = refl
 is_full-test T false = refl
 

@@ -10,12 +10,16 @@ pub mod LayoutLemmas
 pub mod FindLemmas
 pub mod WriteLemmas
 pub mod PlaceLemmas
+pub mod JoinLemmas
 pub mod FitsLemmas
 pub mod RunLemmas
 pub mod RemoveLemmas
 pub mod RefillLemmas
+pub mod CloneLemmas
 pub mod CopyLemmas
 pub mod FreshLemmas
+pub mod MoveLemmas
+pub mod RelocationLemmas
 pub mod ChangeLemmas
 pub mod CallerLemmas
 pub mod TableLemmas

@@ -20,6 +20,12 @@ module _ {T : Type 0} where
   free_empty byte (Some entry) p q h = absurd (omega arith)
   free_empty byte None p q h = (rw h, refl)
 
+  -- and it has no entry
+  free_slot : (byte : ℕ) (e : Option T) → Agrees byte e → 128 ≤ byte → ((slot_of byte e ≡ empty) ⊎ (slot_of byte e ≡ deleted)) × (e ≡ None)
+  free_slot byte (Some entry) p q = absurd (omega arith)
+  free_slot byte None (inl p) q = (inr (rw p), refl)
+  free_slot byte None (inr p) q = (inl (rw p), refl)
+
   free_deleted : (byte : ℕ) (e : Option T) → Agrees byte e → 128 ≤ byte → byte ≢ 255 → (slot_of byte e ≡ deleted) × (e ≡ None)
   free_deleted byte (Some entry) p q h = absurd (omega arith)
   free_deleted byte None (inl p) q h = (rw p, refl)
@@ -40,7 +46,7 @@ some_free_byte control entries r valid pos =
     let within : w.0 < length entries = omega (arith, w.1, length-marks_by control entries valid.laid_out) in
     (w.0, within, omega (arith, byte_from_mark control entries valid.laid_out w.0 within w.2))
 
-module _ {T : Type 0} (control : List ℕ) (entries : List (Option T)) (r : ℕ) (valid : IsValid control entries r) (hash b n read : ℕ) (n_is : n ≡ length entries) (pos : 0 < n) (first : IsFirstFreeByte control n hash b) (read_is : read ≡ get_or control b read) where
+module _ {T : Type 0} (control : List ℕ) (entries : List (Option T)) (r : ℕ) (valid : IsValid control entries r) (hash b n : ℕ) (n_is : n ≡ length entries) (pos : 0 < n) (first : IsFirstFreeByte control n hash b) where
   byte_first : IsFirstFreeByte control (length entries) hash b
   byte_first = subst (λ k. IsFirstFreeByte control k hash b) n_is first
 
@@ -57,36 +63,41 @@ module _ {T : Type 0} (control : List ℕ) (entries : List (Option T)) (r : ℕ)
         full_before = λ before p. rw same (is_full-byte control entries valid.laid_out _ (probed-lt (length entries) hash before (omega arith)) ∙ lt-ltb _ 128 (byte_first.full_before before p));
       }
 
-  place_read : read ≡ get_or control b 0
-  place_read = get_or_read control b read (omega (arith, entries_within control entries valid.laid_out, place_within)) read_is 0
-
-  pub place_empty : read ≡ 255 → (bucket_at (slots_of control entries) b ≡ empty) × (get_or entries b None ≡ None)
-  place_empty h =
-      let w = free_empty _ _ (valid.laid_out.agrees b place_within) byte_first.free_there (sym place_read ∙ h) in
-      (bucket_at-laid_out control entries valid.laid_out b place_within ∙ w.0, w.1)
-
-  place_deleted : read ≢ 255 → (bucket_at (slots_of control entries) b ≡ deleted) × (get_or entries b None ≡ None)
-  place_deleted h =
-      let w = free_deleted _ _ (valid.laid_out.agrees b place_within) byte_first.free_there (λ e. h (place_read ∙ e)) in
-      (bucket_at-laid_out control entries valid.laid_out b place_within ∙ w.0, w.1)
+  -- its bucket is empty or deleted, and has no entry
+  pub place_free : ((bucket_at (slots_of control entries) b ≡ empty) ⊎ (bucket_at (slots_of control entries) b ≡ deleted)) × (get_or entries b None ≡ None)
+  place_free = rw (bucket_at-laid_out control entries valid.laid_out b place_within) (free_slot _ _ (valid.laid_out.agrees b place_within) byte_first.free_there)
 
   pub place_none : get_or entries b None ≡ None
-  place_none = elim (cases_eq read 255) [ inl h ↦ (place_empty h).1 | inr h ↦ (place_deleted h).1 ]
+  place_none = place_free.1
 
-  pub place_spends : bool_byte (nat_eq read 255) ≤ r → Spends (bucket_at (slots_of control entries) b) r (bool_byte (nat_eq read 255))
-  place_spends enough =
-      elim (cases_eq read 255) [
-        | inl h ↦ let one : bool_byte (nat_eq read 255) ≡ 1 = ap bool_byte (eq-eqb read 255 h) in inl ((place_empty h).0, omega (arith, one, enough), one)
-        | inr h ↦ inr ((place_deleted h).0, ap bool_byte (ne_eqb read 255 h))
-      ]
+  module _ (read : ℕ) (read_is : read ≡ get_or control b read) where
+    place_read : read ≡ get_or control b 0
+    place_read = get_or_read control b read (omega (arith, entries_within control entries valid.laid_out, place_within)) read_is 0
 
-  -- where the room is less than that, there is none, and the bucket is empty
-  pub no_place_left : r < bool_byte (nat_eq read 255) → (r ≡ 0) × (bucket_at (slots_of control entries) b ≡ empty)
-  no_place_left less =
-      elim (cases_eq read 255) [
-        | inl h ↦ let one : bool_byte (nat_eq read 255) ≡ 1 = ap bool_byte (eq-eqb read 255 h) in (omega (arith, one, less), (place_empty h).0)
-        | inr h ↦ let none : bool_byte (nat_eq read 255) ≡ 0 = ap bool_byte (ne_eqb read 255 h) in absurd (omega (arith, none, less))
-      ]
+    pub place_empty : read ≡ 255 → (bucket_at (slots_of control entries) b ≡ empty) × (get_or entries b None ≡ None)
+    place_empty h =
+        let w = free_empty _ _ (valid.laid_out.agrees b place_within) byte_first.free_there (sym place_read ∙ h) in
+        (bucket_at-laid_out control entries valid.laid_out b place_within ∙ w.0, w.1)
+
+    place_deleted : read ≢ 255 → (bucket_at (slots_of control entries) b ≡ deleted) × (get_or entries b None ≡ None)
+    place_deleted h =
+        let w = free_deleted _ _ (valid.laid_out.agrees b place_within) byte_first.free_there (λ e. h (place_read ∙ e)) in
+        (bucket_at-laid_out control entries valid.laid_out b place_within ∙ w.0, w.1)
+
+    pub place_spends : bool_byte (nat_eq read 255) ≤ r → Spends (bucket_at (slots_of control entries) b) r (bool_byte (nat_eq read 255))
+    place_spends enough =
+        elim (cases_eq read 255) [
+          | inl h ↦ let one : bool_byte (nat_eq read 255) ≡ 1 = ap bool_byte (eq-eqb read 255 h) in inl ((place_empty h).0, omega (arith, one, enough), one)
+          | inr h ↦ inr ((place_deleted h).0, ap bool_byte (ne_eqb read 255 h))
+        ]
+
+    -- where the room is less than that, there is none, and the bucket is empty
+    pub no_place_left : r < bool_byte (nat_eq read 255) → (r ≡ 0) × (bucket_at (slots_of control entries) b ≡ empty)
+    no_place_left less =
+        elim (cases_eq read 255) [
+          | inl h ↦ let one : bool_byte (nat_eq read 255) ≡ 1 = ap bool_byte (eq-eqb read 255 h) in (omega (arith, one, less), (place_empty h).0)
+          | inr h ↦ let none : bool_byte (nat_eq read 255) ≡ 0 = ap bool_byte (ne_eqb read 255 h) in absurd (omega (arith, none, less))
+        ]
 
 module _ {T : Type 0} (control : List ℕ) (entries : List (Option T)) (r spent : ℕ) (valid : IsValid control entries r) (b : ℕ) (spends : Spends (bucket_at (slots_of control entries) b) r spent) where
   pub MayFill-from : MayFill (marks_by control entries) b

@@ -19,7 +19,7 @@ module _ {T : Type 0} where
   slots_of-set_entry (y ∷ bytes) (x ∷ entries) zero e = refl
   slots_of-set_entry (y ∷ bytes) (x ∷ entries) (suc b) e = ap (λ s. slot_of y x ∷ s) (slots_of-set_entry bytes entries b e)
 
-  byte_at-same : (old new : List (Slot T)) → length new ≡ length old → ((k : ℕ) → byte_of (bucket_at new k) ≡ byte_of (bucket_at old k)) → (p : ℕ) → byte_at new p ≡ byte_at old p
+  pub byte_at-same : (old new : List (Slot T)) → length new ≡ length old → ((k : ℕ) → byte_of (bucket_at new k) ≡ byte_of (bucket_at old k)) → (p : ℕ) → byte_at new p ≡ byte_at old p
   byte_at-same old new same bytes p =
       elim (dec_lt p (length old)) [
         | yes q ↦ byte_at-bucket new p (omega arith) ∙ bytes p ∙ sym (byte_at-bucket old p q)

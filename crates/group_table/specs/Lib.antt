@@ -8,6 +8,8 @@ pub mod Fits
 pub mod Search
 pub mod Change
 pub mod Relocation
+pub mod Moves
+pub mod Copies
 pub mod Lends
 pub mod LendsSome
 pub mod Layout

@@ -5,6 +5,7 @@ ghost use Rattle.group_table.specs.Layout.{IsLaidOut, written};
 ghost use Rattle.group_table.specs.LendsSome.{lends_some};
 
 use crate::control::{EMPTY, set_byte};
+use crate::link::LinkType;
 use std::alloc::{AllocError, Global};
 use std::mem;
 
@@ -27,6 +28,17 @@ pub(crate) fn no_entries<T>(alloc: Global, count: usize) -> Result<Vec<Option<T>
         }
     }
     Ok(entries)
+}
+
+// So many links, each of no bucket.
+pub(crate) fn no_links<N: LinkType>(alloc: Global, count: usize) -> Result<Vec<N>, AllocError>
+    ensures { IfOk result (λ v. v.items ≡ replicate count N.MAX) }
+{
+    let mut links = Vec::with_capacity(alloc, count)?;
+    for _ in 0..count {
+        links.push_reserved(N::MAX);
+    }
+    Ok(links)
 }
 
 // Makes every byte that of an empty bucket.

@@ -18,7 +18,9 @@ use crate::sizes::full_capacity;
 use std::alloc::{AllocError, Global};
 use std::marker::Model;
 
+mod copies;
 mod figures;
+mod moves;
 mod relocation;
 
 /// A hash table of numbered buckets, each of which is empty, deleted or full.

@@ -1,17 +1,25 @@
-//! The calls of `Table` that move every entry, and the one that copies them.
-ghost use Rattle.std.specs.Prelude.{◌≡◌, ℕ, ◌+◌, ◌^◌, ◌<◌, ◌≤◌, length, count_by, IfOk, OnErr, OnOk};
+//! The calls of `Table` that move every entry.
+ghost use Rattle.std.specs.Prelude.{◌≡◌, ℕ, ◌+◌, ◌^◌, ◌<◌, ◌≤◌, length, count_by, IfOk, OnErr, OnOk, IsOk};
 ghost use Rattle.group_table.specs.Sizes.{IsPowerFromFour, full_capacity};
 ghost use Rattle.group_table.specs.Bucket.{marks_of, entry_count, is_deleted, room};
 ghost use Rattle.group_table.specs.Table.{IsTable};
 ghost use Rattle.group_table.specs.Change.{count_up};
 ghost use Rattle.group_table.specs.Relocation.{Renumbers, KeepsHashes, GivesHashes};
 
+use crate::fields::no_links;
 use crate::link::LinkType;
 use crate::table::Table;
+use crate::table::moves::move_entries;
 use std::alloc::AllocError;
+use std::mem;
 
 impl<T: Drop> Table<T> {
     /// Moves all entries, in rising order of their buckets, into a fresh table of so many buckets.
+    ///
+    /// The answer has a link for each old bucket: the number of the bucket where its entry stands now, or `MAX` where it
+    /// was free. It is empty for a table without entries. `hash_of` is asked once for each entry, and for nothing else.
+    /// All memory is taken before the first entry moves, in two requests for the table and one for the links; the one
+    /// error is want of memory, and it changes nothing.
     pub fn relocate<N: LinkType, H: Fn(&T) -> u64>(
         &mut self,
         buckets: usize,
@@ -25,7 +33,8 @@ impl<T: Drop> Table<T> {
         ensures buckets { OnOk result (length self.new.slots ≡ buckets) }
         ensures renumbered { IfOk result (λ links. Renumbers N.number N.MAX self.old.slots self.new.slots links.items) }
         ensures entries { OnOk result (entry_count self.new.slots ≡ entry_count self.old.slots) }
-        ensures room { OnOk result (room (marks_of self.new.slots) + entry_count self.old.slots ≡ full_capacity (length self.new.slots)) }
+        ensures room { OnOk result (
+            room (marks_of self.new.slots) + entry_count self.old.slots ≡ full_capacity (length self.new.slots)) }
         ensures none_deleted { OnOk result (count_by is_deleted self.new.slots ≡ 0) }
         ensures placings { OnOk result (self.new.placings ≡ count_up self.old.placings (entry_count self.old.slots)) }
         ensures hashes { IfOk result (λ links. (hash_at : ℕ → ℕ) → GivesHashes H.Fn hash_of self.old.slots hash_at →
@@ -33,11 +42,24 @@ impl<T: Drop> Table<T> {
         ensures table { IsTable (marks_of self.new.slots) }
         ensures unchanged { OnErr result (self.new ≡ self.old) }
     {
-        let _ = &self.control;
-        Err(AllocError)
+        let alloc = *self.control.allocator();
+        let mut fresh = Table::with_buckets(alloc, buckets)?;
+        if self.len == 0 {
+            fresh.placings = self.placings;
+            *self = fresh;
+            return Ok(Vec::new(alloc));
+        }
+        let mut links = no_links(alloc, self.entries.len())?;
+        let entries = mem::replace(&mut self.entries, Vec::new(alloc));
+        move_entries(entries, &mut fresh, &mut links, &hash_of);
+        fresh.placings = self.placings.saturating_add(self.len as u64);
+        *self = fresh;
+        Ok(links)
     }
 
-    /// Moves all entries into a fresh table of as many buckets.
+    /// Moves all entries so that no bucket is deleted, among as many buckets as now, and answers as `relocate` does.
+    ///
+    /// A table without entries takes no memory for that: its buckets are emptied where they lie.
     pub fn rehash<N: LinkType, H: Fn(&T) -> u64>(
         &mut self,
         hash_of: H,
@@ -47,15 +69,22 @@ impl<T: Drop> Table<T> {
         ensures buckets { length self.new.slots ≡ length self.old.slots }
         ensures renumbered { IfOk result (λ links. Renumbers N.number N.MAX self.old.slots self.new.slots links.items) }
         ensures entries { OnOk result (entry_count self.new.slots ≡ entry_count self.old.slots) }
-        ensures room { OnOk result (room (marks_of self.new.slots) + entry_count self.old.slots ≡ full_capacity (length self.new.slots)) }
+        ensures room { OnOk result (
+            room (marks_of self.new.slots) + entry_count self.old.slots ≡ full_capacity (length self.new.slots)) }
         ensures none_deleted { OnOk result (count_by is_deleted self.new.slots ≡ 0) }
         ensures placings { OnOk result (self.new.placings ≡ count_up self.old.placings (entry_count self.old.slots)) }
         ensures hashes { IfOk result (λ links. (hash_at : ℕ → ℕ) → GivesHashes H.Fn hash_of self.old.slots hash_at →
             KeepsHashes N.number N.MAX self.old.slots self.new.slots links.items hash_at) }
         ensures table { IsTable (marks_of self.new.slots) }
         ensures unchanged { OnErr result (self.new ≡ self.old) }
+        ensures succeeds { entry_count self.old.slots ≡ 0 → IsOk result }
     {
-        let _ = &self.control;
-        Err(AllocError)
+        if self.len == 0 {
+            let alloc = *self.control.allocator();
+            self.clear();
+            return Ok(Vec::new(alloc));
+        }
+        let buckets = self.entries.len();
+        self.relocate(buckets, hash_of)
     }
 }

@@ -3,7 +3,9 @@ use std::process::Abort;
 use std::test::Fail;
 
 mod bytes;
+mod hog;
 mod orders;
+mod relocations;
 
 // An empty table of 4, 8, 16, 32 or, for any other number, 64 buckets.
 fn table_of(alloc: Global, buckets: usize) -> Result<Table<u64>, AllocError> {

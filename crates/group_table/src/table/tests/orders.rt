@@ -3,7 +3,7 @@ use super::*;
 
 // A way to give keys their hashes.
 #[derive(Copy, Clone, Debug)]
-enum Hashes {
+pub(super) enum Hashes {
     Constant,
     Sequential,
     Scattered,
@@ -18,7 +18,7 @@ enum Order {
     FromTheMiddle,
 }
 
-fn hash_of(hashes: Hashes, key: u64) -> u64 {
+pub(super) fn hash_of(hashes: Hashes, key: u64) -> u64 {
     match hashes {
         Hashes::Constant => 0x1234_5678_9abc_def0,
         Hashes::Sequential => key,

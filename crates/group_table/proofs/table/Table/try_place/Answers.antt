@@ -26,11 +26,11 @@ pub returns-then-self-spent-clause-no_place : goal.returns-then-self-spent-claus
 returns-then-self-spent-clause-no_place g c =
     let valid = c.self.invariant.0 in
     let first = rw c.as_slice.ensures.value at c.first_free-b.ensures in
-    let none = no_place_left _ _ _ valid c.args.hash c.first_free-b.result c.len-buckets.result c.index.result.now (omega arith) (omega arith) first c.index.ensures (omega arith) in
+    let none = no_place_left _ _ _ valid c.args.hash c.first_free-b.result c.len-buckets.result (omega arith) (omega arith) first c.index.result.now c.index.ensures (omega arith) in
     rw (← c.self.view_is) (inr (
       sym (room_by _ _ _ valid) ∙ none.0,
       c.first_free-b.result,
-      place_first _ _ _ valid c.args.hash c.first_free-b.result c.len-buckets.result c.index.result.now (omega arith) (omega arith) first c.index.ensures,
+      place_first _ _ _ valid c.args.hash c.first_free-b.result c.len-buckets.result (omega arith) (omega arith) first,
       bucket_at-marks_of _ c.first_free-b.result ∙ ap mark_of none.1,
     ))
 
@@ -38,7 +38,7 @@ pub fill_bucket-requires-clause-free_there : goal.fill_bucket-requires-clause-fr
 fill_bucket-requires-clause-free_there g c =
     let valid = c.self.invariant.0 in
     let first = rw c.as_slice.ensures.value at c.first_free-b.ensures in
-    place_none _ _ _ valid c.args.hash c.first_free-b.result c.len-buckets.result c.index.result.now (omega arith) (omega arith) first c.index.ensures
+    place_none _ _ _ valid c.args.hash c.first_free-b.result c.len-buckets.result (omega arith) (omega arith) first
 
 pub overflow_add-self : goal.overflow_add-self
 overflow_add-self g c =
@@ -49,8 +49,8 @@ pub invariant_of-self : goal.invariant_of-self
 invariant_of-self g c =
     let valid = c.self.invariant.0 in
     let first = rw c.as_slice.ensures.value at c.first_free-b.ensures in
-    let within = place_within _ _ _ valid c.args.hash c.first_free-b.result c.len-buckets.result c.index.result.now (omega arith) (omega arith) first c.index.ensures in
-    let spends = place_spends _ _ _ valid c.args.hash c.first_free-b.result c.len-buckets.result c.index.result.now (omega arith) (omega arith) first c.index.ensures (omega arith) in
+    let within = place_within _ _ _ valid c.args.hash c.first_free-b.result c.len-buckets.result (omega arith) (omega arith) first in
+    let spends = place_spends _ _ _ valid c.args.hash c.first_free-b.result c.len-buckets.result (omega arith) (omega arith) first c.index.result.now c.index.ensures (omega arith) in
     let counted = entry_count-placed _ _ _ _ valid c.first_free-b.result spends c.tag_of.result c.args.entry within c.tag_of.ensures.bound in
     rw (c.fill_bucket.ensures.control, c.fill_bucket.ensures.entries)
     (IsValid-placed _ _ _ _ valid c.first_free-b.result spends c.tag_of.result c.args.entry within c.tag_of.ensures.bound, rw counted (ap (λ n. n + 1) c.self.invariant.1))
@@ -60,7 +60,7 @@ returns-clause-placed g c =
     let valid = c.self.invariant.0 in
     let first = rw c.as_slice.ensures.value at c.first_free-b.ensures in
     rw (← c.self.view_is) record {
-      first = place_first _ _ _ valid c.args.hash c.first_free-b.result c.len-buckets.result c.index.result.now (omega arith) (omega arith) first c.index.ensures;
+      first = place_first _ _ _ valid c.args.hash c.first_free-b.result c.len-buckets.result (omega arith) (omega arith) first;
       slots = rw (c.fill_bucket.ensures.control, c.fill_bucket.ensures.entries, c.tag_of.ensures.value) (slots_of-written _ _ c.first_free-b.result _ _);
       placings = c.saturating_add-self-inside.ensures;
     }
@@ -69,23 +69,23 @@ pub returns-clause-may_fill : goal.returns-clause-may_fill
 returns-clause-may_fill g c =
     let valid = c.self.invariant.0 in
     let first = rw c.as_slice.ensures.value at c.first_free-b.ensures in
-    rw (← c.self.view_is) (MayFill-from _ _ _ _ valid c.first_free-b.result (place_spends _ _ _ valid c.args.hash c.first_free-b.result c.len-buckets.result c.index.result.now (omega arith) (omega arith) first c.index.ensures (omega arith)))
+    rw (← c.self.view_is) (MayFill-from _ _ _ _ valid c.first_free-b.result (place_spends _ _ _ valid c.args.hash c.first_free-b.result c.len-buckets.result (omega arith) (omega arith) first c.index.result.now c.index.ensures (omega arith)))
 
 pub returns-clause-fits : goal.returns-clause-fits
 returns-clause-fits g c hash_of fits =
     let valid = c.self.invariant.0 in
     let first = rw c.as_slice.ensures.value at c.first_free-b.ensures in
-    let within = place_within _ _ _ valid c.args.hash c.first_free-b.result c.len-buckets.result c.index.result.now (omega arith) (omega arith) first c.index.ensures in
+    let within = place_within _ _ _ valid c.args.hash c.first_free-b.result c.len-buckets.result (omega arith) (omega arith) first in
     let in_slots : c.first_free-b.result < length (slots_of c.self.inside.control.items c.self.inside.entries.items) = omega (arith, within, length-laid_out _ _ valid.laid_out) in
     rw (c.fill_bucket.ensures.control, c.fill_bucket.ensures.entries, c.tag_of.ensures.value, slots_of-written c.self.inside.control.items c.self.inside.entries.items c.first_free-b.result (hash_tag c.args.hash) (Some c.args.entry))
-    (Fits-placed _ hash_of c.args.hash c.first_free-b.result c.args.entry in_slots (place_first _ _ _ valid c.args.hash c.first_free-b.result c.len-buckets.result c.index.result.now (omega arith) (omega arith) first c.index.ensures) (rw (← c.self.view_is) at fits))
+    (Fits-placed _ hash_of c.args.hash c.first_free-b.result c.args.entry in_slots (place_first _ _ _ valid c.args.hash c.first_free-b.result c.len-buckets.result (omega arith) (omega arith) first) (rw (← c.self.view_is) at fits))
 
 pub returns-clause-table : goal.returns-clause-table
 returns-clause-table g c =
     let valid = c.self.invariant.0 in
     let first = rw c.as_slice.ensures.value at c.first_free-b.ensures in
-    let within = place_within _ _ _ valid c.args.hash c.first_free-b.result c.len-buckets.result c.index.result.now (omega arith) (omega arith) first c.index.ensures in
-    let spends = place_spends _ _ _ valid c.args.hash c.first_free-b.result c.len-buckets.result c.index.result.now (omega arith) (omega arith) first c.index.ensures (omega arith) in
+    let within = place_within _ _ _ valid c.args.hash c.first_free-b.result c.len-buckets.result (omega arith) (omega arith) first in
+    let spends = place_spends _ _ _ valid c.args.hash c.first_free-b.result c.len-buckets.result (omega arith) (omega arith) first c.index.result.now c.index.ensures (omega arith) in
     rw (c.fill_bucket.ensures.control, c.fill_bucket.ensures.entries)
     (IsTable-by _ _ _ (IsValid-placed _ _ _ _ valid c.first_free-b.result spends c.tag_of.result c.args.entry within c.tag_of.ensures.bound))
 
@@ -93,7 +93,7 @@ pub returns-clause-room : goal.returns-clause-room
 returns-clause-room g c =
     let valid = c.self.invariant.0 in
     let first = rw c.as_slice.ensures.value at c.first_free-b.ensures in
-    let within = place_within _ _ _ valid c.args.hash c.first_free-b.result c.len-buckets.result c.index.result.now (omega arith) (omega arith) first c.index.ensures in
-    let spends = place_spends _ _ _ valid c.args.hash c.first_free-b.result c.len-buckets.result c.index.result.now (omega arith) (omega arith) first c.index.ensures (omega arith) in
+    let within = place_within _ _ _ valid c.args.hash c.first_free-b.result c.len-buckets.result (omega arith) (omega arith) first in
+    let spends = place_spends _ _ _ valid c.args.hash c.first_free-b.result c.len-buckets.result (omega arith) (omega arith) first c.index.result.now c.index.ensures (omega arith) in
     rw (← c.self.view_is, c.fill_bucket.ensures.control, c.fill_bucket.ensures.entries)
     (room-placed _ _ _ _ valid c.first_free-b.result spends c.tag_of.result c.args.entry within c.tag_of.ensures.bound)

@@ -1,0 +1,112 @@
+-- A copy of a table.
+use Rattle.std.proofs.Common.{◌≡◌, ℕ, zero, suc, ◌<◌, ◌≤◌, List, [], ◌∷◌, length, get_or, Option, Some, None, Result, refl, ap, sym, ◌∙◌, subst, arith, count_by, cond, nat_eq, true, false, Bool}
+use Rattle.std.specs.List.{AllZip}
+use Rattle.std.proofs.lemmas.List.Elements.{length_all_zip, AllZip-get_or}
+use Rattle.std.specs.declared.alloc.AllocError.{AllocError}
+use Rattle.std.specs.Borrow.{Bor}
+use Rattle.std.specs.Fn.{Shared}
+use Rattle.group_table.specs.Bucket.{Slot, Tagged, empty, deleted, full, bucket_at, is_used, is_full, IsFull, entry_count, mark_of, marks_of}
+use Rattle.group_table.specs.Fits.{Fits}
+use Rattle.group_table.specs.Layout.{slot_of, slots_of, byte_of, Agrees, IsValid}
+use Rattle.group_table.specs.Copies.{IsCopyOf, Copies, IsPlaceCopy}
+use Rattle.group_table.proofs.BucketLemmas.{empty_not_full, empty_not_deleted, full_not_deleted, used_count-marks_of, entry_count-marks_of, is_full-marks_of}
+use Rattle.group_table.proofs.LayoutLemmas.{length-laid_out, entries_within}
+use Rattle.group_table.proofs.FitsLemmas.{one_held}
+use Rattle.group_table.proofs.RefillLemmas.{byte_at-same}
+
+module _ {T F : Type 0} (closure : Shared F (Bor T × Unit {0}) (Result T AllocError)) (f : F) where
+  free_copy : (t : Bool) → IsCopyOf closure f (cond t deleted empty) (cond t deleted empty)
+  free_copy true = refl
+  free_copy false = refl
+
+  slot_copy : (byte : ℕ) (x y : Option T) → IsPlaceCopy closure f x y → IsCopyOf closure f (slot_of byte x) (slot_of byte y)
+  slot_copy byte None y h = rw h (free_copy (nat_eq byte 128))
+  slot_copy byte (Some entry) y h = (h.0, h.1, ap (slot_of byte) h.2)
+
+  -- copies of the entries beside the same bytes are a copy of the table
+  pub Copies-places : (bytes : List ℕ) (xs ys : List (Option T)) → AllZip (IsPlaceCopy closure f) xs ys → Copies closure f (slots_of bytes xs) (slots_of bytes ys)
+  Copies-places bytes [] [] h = tt
+  Copies-places bytes [] (y ∷ ys) h = absurd h
+  Copies-places bytes (x ∷ xs) [] h = absurd h
+  Copies-places [] (x ∷ xs) (y ∷ ys) h = tt
+  Copies-places (byte ∷ bytes) (x ∷ xs) (y ∷ ys) h = (slot_copy byte x y h.0, Copies-places bytes xs ys h.1)
+
+  copy_each : (old new : List (Slot T)) → Copies closure f old new → (b : ℕ) → IsCopyOf closure f (bucket_at old b) (bucket_at new b)
+  copy_each [] [] h b = refl
+  copy_each [] (n ∷ new) h b = absurd h
+  copy_each (s ∷ old) [] h b = absurd h
+  copy_each (s ∷ old) (n ∷ new) h zero = h.0
+  copy_each (s ∷ old) (n ∷ new) h (suc b) = copy_each old new h.1 b
+
+  byte_of-copy : (s n : Slot T) → IsCopyOf closure f s n → byte_of n ≡ byte_of s
+  byte_of-copy empty n h = ap byte_of h
+  byte_of-copy deleted n h = ap byte_of h
+  byte_of-copy (full held) n h = ap byte_of h.2
+
+  mark_of-copy : (s n : Slot T) → IsCopyOf closure f s n → mark_of n ≡ mark_of s
+  mark_of-copy empty n h = ap mark_of h
+  mark_of-copy deleted n h = ap mark_of h
+  mark_of-copy (full held) n h = ap mark_of h.2
+
+  -- the marks are the same
+  pub marks_of-copies : (old new : List (Slot T)) → Copies closure f old new → marks_of new ≡ marks_of old
+  marks_of-copies [] [] h = refl
+  marks_of-copies [] (n ∷ new) h = absurd h
+  marks_of-copies (s ∷ old) [] h = absurd h
+  marks_of-copies (s ∷ old) (n ∷ new) h = ap (λ m. m ∷ marks_of new) (mark_of-copy s n h.0) ∙ ap (λ ms. mark_of s ∷ ms) (marks_of-copies old new h.1)
+
+  -- a full bucket of the copy was full, with the same tag
+  was_full : (s n : Slot T) (held : Tagged T) → IsCopyOf closure f s n → n ≡ full held → (was : Tagged T) × (s ≡ full was) × (held.tag ≡ was.tag)
+  was_full empty n held h e = absurd (empty_not_full n h (ap is_full e))
+  was_full deleted n held h e = absurd (full_not_deleted n (ap is_full e) h)
+  was_full (full was) n held h e = (was, refl, ap (λ x. x.tag) (one_held n held (record was { entry = h.0 }) e h.2))
+
+  was_deleted : (s n : Slot T) → IsCopyOf closure f s n → n ≡ deleted → s ≡ deleted
+  was_deleted empty n h e = absurd (empty_not_deleted n h e)
+  was_deleted deleted n h e = refl
+  was_deleted (full was) n h e = absurd (full_not_deleted n (ap is_full h.2) e)
+
+  -- and so the hashes that fit
+  pub Fits-copies : (old new : List (Slot T)) (hash_of : ℕ → ℕ) → Copies closure f old new → Fits old hash_of → Fits new hash_of
+  Fits-copies old new hash_of h fits =
+      let marks = marks_of-copies old new h in
+      record {
+        tags = λ b held e. let w = was_full (bucket_at old b) (bucket_at new b) held (copy_each old new h b) e in w.2 ∙ fits.tags b w.0 w.1;
+        reached = λ b there. rw marks (fits.reached b (sym (is_full-marks_of old b) ∙ ap (λ ms. is_full (bucket_at ms b)) (sym marks) ∙ is_full-marks_of new b ∙ there));
+      }
+
+  agrees_copy : (byte : ℕ) (x y : Option T) → IsPlaceCopy closure f x y → Agrees byte x → Agrees byte y
+  agrees_copy byte None y h agrees = rw h agrees
+  agrees_copy byte (Some entry) y h agrees = rw h.2 agrees
+
+  module _ (control : List ℕ) (entries copies : List (Option T)) (r : ℕ) (valid : IsValid control entries r) (h : AllZip (IsPlaceCopy closure f) entries copies) where
+    same_length : length copies ≡ length entries
+    same_length = sym (length_all_zip (IsPlaceCopy closure f) entries copies h)
+
+
+    copied : Copies closure f (slots_of control entries) (slots_of control copies)
+    copied = Copies-places control entries copies h
+
+    marks : marks_of (slots_of control copies) ≡ marks_of (slots_of control entries)
+    marks = marks_of-copies _ _ copied
+
+    same_slots : length (slots_of control copies) ≡ length (slots_of control entries)
+    same_slots = sym (length_all_zip (IsCopyOf closure f) _ _ copied)
+
+    pub entry_count-copied : entry_count (slots_of control copies) ≡ entry_count (slots_of control entries)
+    entry_count-copied = sym (entry_count-marks_of (slots_of control copies)) ∙ ap entry_count marks ∙ entry_count-marks_of (slots_of control entries)
+
+    used_same : count_by is_used (slots_of control copies) ≡ count_by is_used (slots_of control entries)
+    used_same = sym (used_count-marks_of (slots_of control copies)) ∙ ap (count_by is_used) marks ∙ used_count-marks_of (slots_of control entries)
+
+    pub IsValid-copied : IsValid control copies r
+    IsValid-copied = record {
+      laid_out = record {
+        counts = rw same_length valid.laid_out.counts;
+        fits = valid.laid_out.fits;
+        agrees = λ b within. agrees_copy _ _ _ (AllZip-get_or (IsPlaceCopy closure f) entries copies b None None h (omega (arith, same_length))) (valid.laid_out.agrees b (omega (arith, same_length)));
+        bytes = λ p within. valid.laid_out.bytes p within ∙ sym (byte_at-same (slots_of control entries) (slots_of control copies) same_slots (λ k. byte_of-copy _ _ (copy_each _ _ copied k)) p);
+      };
+      room_left = rw (same_length, used_same) valid.room_left;
+      none_deleted = λ small b e. rw same_length (valid.none_deleted (omega (arith, same_length)) b (was_deleted _ _ (copy_each _ _ copied b) e));
+    }

@@ -1,0 +1,66 @@
+use Rattle.std.proofs.Common.{◌≡◌, ◌+◌, length, arith, ap, ◌∙◌}
+use Rattle.std.proofs.lemmas.List.Sums.{count_by-le-length}
+use Rattle.group_table.specs.Bucket.{is_full}
+use Rattle.group_table.specs.Layout.{slots_of}
+use Rattle.group_table.proofs.LayoutLemmas.{length-laid_out, entries_within, power_of}
+use Rattle.group_table.proofs.PlaceLemmas.{some_free_byte, place_none}
+use Rattle.group_table.proofs.JoinLemmas.{some_room, some_buckets, with_repetition, join_within, IsValid-joined, entry_count-written_joined, joins_there}
+use Rattle.group_table.proofs.table.Table.place_fresh.Goals as goal
+
+pub first_free-b-requires-clause-count : goal.first_free-b-requires-clause-count
+first_free-b-requires-clause-count g c =
+    let valid = c.self.invariant.0 in
+    let pos = some_buckets _ _ _ valid (rw (← c.self.view_is) at c.requires.none_deleted) (rw (← c.self.view_is) at c.requires.room) in
+    let n : c.len.result ≡ length c.self.inside.entries.items = omega arith in
+    rw n (power_of _ _ valid.laid_out pos)
+
+pub first_free-b-requires-clause-within : goal.first_free-b-requires-clause-within
+first_free-b-requires-clause-within g c =
+    let valid = c.self.invariant.0 in
+    omega (arith, c.as_slice.ensures.len, with_repetition _ _ _ valid (rw (← c.self.view_is) at c.requires.none_deleted) (rw (← c.self.view_is) at c.requires.room))
+
+pub first_free-b-requires-clause-some_free : goal.first_free-b-requires-clause-some_free
+first_free-b-requires-clause-some_free g c =
+    let valid = c.self.invariant.0 in
+    let pos = some_buckets _ _ _ valid (rw (← c.self.view_is) at c.requires.none_deleted) (rw (← c.self.view_is) at c.requires.room) in
+    let w = some_free_byte _ _ _ valid pos in
+    (w.0, omega (arith, w.1), rw c.as_slice.ensures.value w.2)
+
+pub fill_bucket-requires-clause-bucket : goal.fill_bucket-requires-clause-bucket
+fill_bucket-requires-clause-bucket g c =
+    let first = rw c.as_slice.ensures.value at c.first_free-b.ensures in
+    join_within _ _ _ c.self.invariant.0 (rw (← c.self.view_is) at c.requires.none_deleted) (rw (← c.self.view_is) at c.requires.room) c.args.hash c.first_free-b.result c.len.result (omega arith) first
+
+pub fill_bucket-requires-clause-free_there : goal.fill_bucket-requires-clause-free_there
+fill_bucket-requires-clause-free_there g c =
+    let valid = c.self.invariant.0 in
+    let pos = some_buckets _ _ _ valid (rw (← c.self.view_is) at c.requires.none_deleted) (rw (← c.self.view_is) at c.requires.room) in
+    let first = rw c.as_slice.ensures.value at c.first_free-b.ensures in
+    place_none _ _ _ valid c.args.hash c.first_free-b.result c.len.result (omega arith) (omega (arith, pos)) first
+
+pub overflow_sub-self : goal.overflow_sub-self
+overflow_sub-self g c = some_room _ _ _ c.self.invariant.0 (rw (← c.self.view_is) at c.requires.none_deleted) (rw (← c.self.view_is) at c.requires.room)
+
+pub overflow_add-self : goal.overflow_add-self
+overflow_add-self g c =
+    let valid = c.self.invariant.0 in
+    omega (arith, count_by-le-length is_full (slots_of c.self.inside.control.items c.self.inside.entries.items), c.self.invariant.1, length-laid_out _ _ valid.laid_out, entries_within _ _ valid.laid_out, valid.laid_out.fits)
+
+pub invariant_of-self : goal.invariant_of-self
+invariant_of-self g c =
+    let valid = c.self.invariant.0 in
+    let none_deleted = rw (← c.self.view_is) at c.requires.none_deleted in
+    let room = rw (← c.self.view_is) at c.requires.room in
+    let first = rw c.as_slice.ensures.value at c.first_free-b.ensures in
+    let counted = entry_count-written_joined _ _ _ valid none_deleted room c.args.hash c.first_free-b.result c.len.result (omega arith) first c.tag_of.result c.args.entry c.tag_of.ensures.bound in
+    rw (c.fill_bucket.ensures.control, c.fill_bucket.ensures.entries)
+    (IsValid-joined _ _ _ valid none_deleted room c.args.hash c.first_free-b.result c.len.result (omega arith) first c.tag_of.result c.args.entry c.tag_of.ensures.bound, rw counted (ap (λ n. n + 1) c.self.invariant.1))
+
+pub returns-clause-joins : goal.returns-clause-joins
+returns-clause-joins g c =
+    let valid = c.self.invariant.0 in
+    let none_deleted = rw (← c.self.view_is) at c.requires.none_deleted in
+    let room = rw (← c.self.view_is) at c.requires.room in
+    let first = rw c.as_slice.ensures.value at c.first_free-b.ensures in
+    rw (← c.self.view_is, c.fill_bucket.ensures.control, c.fill_bucket.ensures.entries)
+    (joins_there _ _ _ valid none_deleted room c.args.hash c.first_free-b.result c.len.result (omega arith) first c.tag_of.result c.args.entry c.tag_of.ensures.bound c.tag_of.ensures.value)

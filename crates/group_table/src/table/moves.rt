@@ -1,0 +1,60 @@
+//! How entries come into a fresh table, one after another.
+ghost use Rattle.std.specs.Prelude.{◌≡◌, ℕ, ◌<◌, ◌≤◌, length, count_by, is_some, slice_index_or};
+ghost use Rattle.group_table.specs.Sizes.{full_capacity};
+ghost use Rattle.group_table.specs.Bucket.{empty, bucket_at, is_deleted, entry_count};
+ghost use Rattle.group_table.specs.Moves.{place_at, Joins, Moves, KeepsMovedHashes, GivesMovedHashes};
+
+use crate::control::tag_of;
+use crate::fields::fill_bucket;
+use crate::link::LinkType;
+use crate::probe::first_free;
+use crate::table::Table;
+
+impl<T> Table<T> {
+    // Puts an entry into the first free bucket of a table with room and no deleted bucket. No placing is counted.
+    #[inline]
+    pub(crate) fn place_fresh(&mut self, hash: u64, entry: T) -> usize
+        requires room { entry_count self.old.slots < full_capacity (length self.old.slots) }
+        requires none_deleted { count_by is_deleted self.old.slots ≡ 0 }
+        ensures joins { Joins self.old.slots self.new.slots hash entry result }
+        ensures placings { self.new.placings ≡ self.old.placings }
+    {
+        let b = first_free(self.control.as_slice(), self.entries.len(), hash);
+        fill_bucket(&mut self.control, &mut self.entries, b, tag_of(hash), entry);
+        self.room -= 1;
+        self.len += 1;
+        b
+    }
+}
+
+// Moves entries, in rising order of their old buckets, into an empty table, and writes where each stands now.
+pub(crate) fn move_entries<T: Drop, N: LinkType, H: Fn(&T) -> u64>(
+    old: Vec<Option<T>>,
+    fresh: &mut Table<T>,
+    links: &mut Vec<N>,
+    hash_of: &H,
+)
+    requires callable { H.IsAlwaysCallable hash_of.now }
+    requires all_empty { (b : ℕ) → bucket_at fresh.old.slots b ≡ empty }
+    requires within { count_by is_some old.items ≤ full_capacity (length fresh.old.slots) }
+    requires below { length fresh.old.slots ≤ N.number N.MAX }
+    requires one_each { length links.old.items ≡ length old.items }
+    requires none_linked { (b : ℕ) → slice_index_or links.old.items b N.MAX ≡ N.MAX }
+    ensures buckets { length fresh.new.slots ≡ length fresh.old.slots }
+    ensures placings { fresh.new.placings ≡ fresh.old.placings }
+    ensures one_each { length links.new.items ≡ length old.items }
+    ensures none_deleted { count_by is_deleted fresh.new.slots ≡ 0 }
+    ensures entries { entry_count fresh.new.slots ≡ count_by is_some old.items }
+    ensures moves { Moves N.number N.MAX (place_at old.items) fresh.new.slots links.new.items }
+    ensures hashes { (hash_at : ℕ → ℕ) → GivesMovedHashes H.Fn hash_of.now old.items hash_at →
+        KeepsMovedHashes N.number N.MAX (place_at old.items) fresh.new.slots links.new.items hash_at }
+{
+    let mut b = 0;
+    for place in old {
+        if let Some(entry) = place {
+            let hash = hash_of(&entry);
+            links[b] = N::from_usize(fresh.place_fresh(hash, entry));
+        }
+        b += 1;
+    }
+}
