@@ -1,14 +1,14 @@
 -- What writing a link changes, and the chain after a bucket left it, or came as the newest.
-use Rattle.std.proofs.Common.{◌≡◌, ◌≢◌, ℕ, ◌+◌, ◌<◌, ◌≤◌, Bool, List, [], ◌∷◌, length, map, set, Option, Some, None, ◌⊎◌, inl, inr, refl, ap, sym, ◌∙◌, subst, arith}
+use Rattle.std.proofs.Common.{◌≡◌, ◌≢◌, ℕ, ◌<◌, Bool, List, [], ◌∷◌, length, set, Option, Some, None, ◌⊎◌, inl, inr, refl, ap, sym, ◌∙◌, subst, arith}
 use Rattle.std.specs.Prelude.{option_map, Contains}
 use Rattle.std.proofs.lemmas.Bool.{cases_eq}
 use Rattle.group_table.specs.Link.{IsLinkType}
-use Rattle.group_table.specs.Bucket.{Slot, bucket_at, is_full, IsFull, entry_at, entry_count, refilled}
+use Rattle.group_table.specs.Bucket.{Slot, bucket_at, is_full, IsFull, entry_at, refilled}
 use Rattle.group_table.proofs.BucketLemmas.{full_lt}
 use Rattle.schnellru.specs.declared.link.Entry.{Entry}
 use Rattle.schnellru.specs.Linked.{without_bucket}
-use Rattle.schnellru.specs.Chain.{first_bucket, last_bucket, bucket_after, bucket_before, link_to, pair_slots, newer_at, older_at, SetsLinks, SetsNewer, SetsOlder, SetsEnd, IsChain, IsWhole}
-use Rattle.schnellru.proofs.OrderLemmas.{Contains-cases, none_some, after_in, before_in, first_in, without_in, distinct_without, distinct_cons}
+use Rattle.schnellru.specs.Chain.{first_bucket, last_bucket, bucket_after, bucket_before, link_to, newer_at, older_at, SetsLinks, SetsNewer, SetsOlder, SetsEnd, IsChain}
+use Rattle.schnellru.proofs.OrderLemmas.{Contains-cases, after_in, before_in, first_in, without_in, distinct_without, distinct_cons}
 use Rattle.schnellru.proofs.NeighbourLemmas.{before-next, before-stays, after-previous, after-stays, first-left, first-left_stays, last-left, last-left_stays, before-itself, after-itself, before-first, before-later, after-later}
 use Rattle.schnellru.proofs.PairSlotLemmas.{same_length, same_full, pair_slots-refilled, entry_at-refilled, entry_at-refilled_other}
 

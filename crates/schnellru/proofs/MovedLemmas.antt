@@ -1,20 +1,20 @@
 -- The chain after all entries moved, and their links with them.
-use Rattle.std.proofs.Common.{◌≡◌, ◌≢◌, ℕ, ◌+◌, ◌<◌, ◌≤◌, Bool, true, List, [], ◌∷◌, length, map, set, get_or, Option, Some, None, ◌⊎◌, inl, inr, refl, ap, sym, ◌∙◌, subst, arith}
+use Rattle.std.proofs.Common.{◌≡◌, ◌≢◌, ℕ, ◌+◌, ◌<◌, ◌≤◌, Bool, List, length, map, set, get_or, Option, Some, None, inl, inr, refl, ap, sym, ◌∙◌, subst, arith}
 use Rattle.std.specs.Prelude.{option_map, Contains}
 use Rattle.std.proofs.lemmas.Bool.{cases_eq}
 use Rattle.std.proofs.lemmas.List.{get_or_past}
 use native.Mathlib.Decide.{dec_lt}
 use Rattle.group_table.specs.Link.{IsLinkType}
 use Rattle.group_table.specs.Bucket.{Slot, bucket_at, is_full, IsFull, entry_at, entry_count, refilled}
-use Rattle.group_table.specs.Relocation.{Renumbers, IsRenumbering, moved_to}
+use Rattle.group_table.specs.Relocation.{Renumbers, moved_to}
 use Rattle.group_table.proofs.BucketLemmas.{full_lt, count_by-pos}
 use Rattle.group_table.proofs.SearchLemmas.{full_by_entry}
 use Rattle.schnellru.specs.declared.link.Entry.{Entry}
-use Rattle.schnellru.specs.Chain.{first_bucket, last_bucket, bucket_after, bucket_before, link_to, pair_slots, newer_at, older_at, moved_link, HasPlace, MovesLinks, IsChain, IsWhole, Moved}
-use Rattle.schnellru.proofs.OrderLemmas.{after_in, before_in, first_in, last_in, Contains-nil}
+use Rattle.schnellru.specs.Chain.{first_bucket, last_bucket, bucket_after, bucket_before, link_to, pair_slots, newer_at, older_at, moved_link, HasPlace, MovesLinks, IsChain, IsWhole}
+use Rattle.schnellru.proofs.OrderLemmas.{after_in, before_in, first_in, last_in}
 use Rattle.schnellru.proofs.NeighbourLemmas.{first-moved, last-moved, Contains-moved, distinct-moved, MovesApart, after-moved, before-moved}
 use Rattle.schnellru.proofs.PairSlotLemmas.{same_length, same_full}
-use Rattle.schnellru.proofs.ChainLemmas.{SetsLinks-written, same_link, chained_below, leads_to_full}
+use Rattle.schnellru.proofs.ChainLemmas.{SetsLinks-written, same_link}
 use Rattle.schnellru.proofs.WholeLemmas.{entry_of_full}
 
 below_next : (b old : ℕ) → b < old + 1 → b ≢ old → b < old

@@ -1,10 +1,10 @@
 -- The neighbours of a bucket in an order, after another leaves the order or comes, or all of them move.
-use Rattle.std.proofs.Common.{◌≡◌, ◌≢◌, ℕ, ◌+◌, ◌<◌, cond, List, [], ◌∷◌, map, Option, Some, None, ◌⊎◌, inl, inr, refl, ap, sym, ◌∙◌, subst, arith, eq-eqb, ne_eqb}
+use Rattle.std.proofs.Common.{◌≡◌, ◌≢◌, ℕ, cond, List, [], ◌∷◌, map, Option, Some, None, inl, inr, refl, ap, sym, ◌∙◌, subst, eq-eqb, ne_eqb}
 use Rattle.std.specs.Prelude.{Contains, AllPairs, nat_eq, option_map}
 use Rattle.std.proofs.lemmas.Bool.{cases_eq}
 use Rattle.schnellru.specs.Chain.{first_bucket, last_bucket, bucket_after, bucket_before}
 use Rattle.schnellru.specs.Linked.{without_bucket}
-use Rattle.schnellru.proofs.OrderLemmas.{Contains-nil, Contains-cases, Contains-here, Contains-later, distinct_head, distinct_tail, distinct_cons, none_some, same_some, before_from, last_from, before_from-absent, before_from-in, before_from-some, before_is, last_is, before_first, before_not_first, after_in, without-absent, distinct_without}
+use Rattle.schnellru.proofs.OrderLemmas.{Contains-nil, Contains-cases, Contains-here, Contains-later, distinct_head, distinct_tail, distinct_cons, none_some, same_some, before_from, last_from, before_from-in, before_from-some, before_is, last_is, before_first, before_not_first, after_in, without-absent, distinct_without}
 
 -- the buckets after b do not have it
 absent_after : (b c : ℕ) (cs : List ℕ) → AllPairs ◌≢◌ (c ∷ cs) → c ≡ b → Contains cs b → ⊥

@@ -1,5 +1,5 @@
 -- Slots of entries, seen as slots of pairs: they have the same marks, tags, counts and hashes.
-use Rattle.std.proofs.Common.{◌≡◌, ◌≢◌, ℕ, ◌<◌, Bool, true, List, [], ◌∷◌, length, map, set, Option, Some, None, ◌⊎◌, inl, inr, refl, ap, sym, ◌∙◌, subst}
+use Rattle.std.proofs.Common.{◌≡◌, ◌≢◌, ℕ, List, [], ◌∷◌, length, set, Option, Some, None, inl, inr, refl, ap, sym, ◌∙◌, subst}
 use Rattle.std.specs.Prelude.{option_map}
 use Rattle.std.proofs.lemmas.List.{map-set, length-map}
 use Rattle.std.proofs.Math.ListN.{get_or-map}
@@ -8,7 +8,7 @@ use Rattle.group_table.specs.Bucket.{Slot, Tagged, empty, deleted, full, bucket_
 use Rattle.group_table.specs.Fits.{Fits}
 use Rattle.group_table.specs.Probe.{Reaches}
 use Rattle.group_table.specs.Change.{Removes}
-use Rattle.group_table.proofs.BucketLemmas.{bucket_at-set_same, bucket_at-set_other, full_lt, entry_count-marks_of, length-marks_of}
+use Rattle.group_table.proofs.BucketLemmas.{bucket_at-set_same, bucket_at-set_other, full_lt, entry_count-marks_of}
 use Rattle.group_table.proofs.SearchLemmas.{full_by_entry}
 use Rattle.schnellru.specs.declared.link.Entry.{Entry}
 use Rattle.schnellru.specs.declared.link.Pair.{Pair}

@@ -1,10 +1,8 @@
 -- A table whose entries have moved is whole again, with the same pairs in the same order and keys that fit.
-use Rattle.std.proofs.Common.{◌≡◌, ℕ, ◌+◌, ◌<◌, List, [], ◌∷◌, ◌++◌, length, map, Some, ◌⊎◌, inl, inr, refl, ap, sym, ◌∙◌, subst, arith}
+use Rattle.std.proofs.Common.{◌≡◌, ℕ, List, [], ◌∷◌, ◌++◌, map, Some, inl, inr, refl, ap, sym, ◌∙◌, subst, arith}
 use Rattle.std.specs.Prelude.{option_map, option_to_list, unwrap_or, Contains}
 use Rattle.std.proofs.lemmas.List.{length-map}
-use Rattle.group_table.specs.Link.{IsLinkType}
-use Rattle.group_table.specs.Bucket.{Slot, is_full, bucket_at, IsFull, entry_at, entry_count}
-use Rattle.group_table.specs.Fits.{Fits}
+use Rattle.group_table.specs.Bucket.{Slot, is_full, IsFull, entry_at, entry_count}
 use Rattle.group_table.specs.Relocation.{Renumbers, KeepsHashes, moved_to}
 use Rattle.group_table.proofs.BucketLemmas.{full_lt, count_by-pos}
 use Rattle.schnellru.specs.declared.link.Entry.{Entry}

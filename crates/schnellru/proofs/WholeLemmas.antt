@@ -1,21 +1,21 @@
 -- The order that the links of a table keep: it is read along them, and each change of the table changes it.
-use Rattle.std.proofs.Common.{◌≡◌, ◌≢◌, ℕ, zero, suc, ◌+◌, ◌<◌, ◌≤◌, Bool, true, false, List, [], ◌∷◌, length, set, Option, Some, None, ◌⊎◌, inl, inr, refl, ap, sym, ◌∙◌, subst, arith, eq-eqb, length-set}
+use Rattle.std.proofs.Common.{◌≡◌, ◌≢◌, ℕ, zero, suc, ◌<◌, ◌≤◌, Bool, List, [], ◌∷◌, length, set, Option, Some, None, inl, inr, refl, ap, sym, ◌∙◌, subst, arith, eq-eqb, length-set}
 use Rattle.std.specs.Prelude.{option_map, unwrap_or, Contains, AllPairs}
 use Rattle.std.proofs.lemmas.Bool.{cases_eq, false≢true}
 use Rattle.std.proofs.lemmas.List.Sums.{count_by-le-length}
 use Rattle.group_table.specs.Link.{IsLinkType}
-use Rattle.group_table.specs.Bucket.{Slot, empty, deleted, full, bucket_at, is_full, IsFull, entry_at, entry_of, entry_count, marks_of, refilled}
+use Rattle.group_table.specs.Bucket.{Slot, empty, deleted, bucket_at, is_full, IsFull, entry_at, entry_of, entry_count, marks_of, refilled}
 use Rattle.group_table.specs.Table.{Table, IsTable}
 use Rattle.group_table.specs.Change.{Places, Removes}
-use Rattle.group_table.proofs.BucketLemmas.{bucket_at-past, full_lt, is_full-marks_of, entry_count-marks_of}
+use Rattle.group_table.proofs.BucketLemmas.{bucket_at-past, is_full-marks_of, entry_count-marks_of}
 use Rattle.group_table.proofs.RefillLemmas.{marks_of-refilled}
 use Rattle.group_table.proofs.SearchLemmas.{held_by, full_by_entry}
 use Rattle.group_table.proofs.ChangeLemmas.{entry_at-placed, entry_count-places, bucket_at-placed_other, entry_at-removed, bucket_at-removed_other, entry_count-removes}
 use Rattle.schnellru.specs.declared.link.Entry.{Entry}
 use Rattle.schnellru.specs.declared.link.Pair.{Pair}
 use Rattle.schnellru.specs.Linked.{Linked, IsLinked, without_bucket, with_pair}
-use Rattle.schnellru.specs.Chain.{first_bucket, last_bucket, bucket_after, bucket_before, link_to, pair_slots, newer_at, older_at, along, IsChain, IsWhole}
-use Rattle.schnellru.proofs.OrderLemmas.{Contains-here, Contains-later, Contains-cases, distinct_head, distinct_tail, without_in, in_without, length-without}
+use Rattle.schnellru.specs.Chain.{first_bucket, bucket_after, link_to, pair_slots, older_at, along, IsChain, IsWhole}
+use Rattle.schnellru.proofs.OrderLemmas.{Contains-here, Contains-later, distinct_head, distinct_tail, without_in, in_without, length-without}
 use Rattle.schnellru.proofs.NeighbourLemmas.{after-later}
 use Rattle.schnellru.proofs.PairSlotLemmas.{same_count, same_full, marks_of-pair_slots, is_full-pair_slots, entry_count-pair_slots, entry_at-refilled, entry_at-refilled_other, pair_slots-rewritten}
 use Rattle.schnellru.proofs.ChainLemmas.{same_link, chained_below}

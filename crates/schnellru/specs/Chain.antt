@@ -1,6 +1,6 @@
 -- How links keep an order of buckets: each entry has the numbers of its two neighbours. No public clause cites this module.
-use Rattle.std.specs.Prelude.{◌≡◌, ◌≢◌, ◌⊎◌, ℕ, zero, suc, ◌<◌, slice_index_or, Bool, List, [], ◌∷◌, length, map, nat_eq, if◌then◌else◌, Option, Some, None, option_map, unwrap_or, Contains, AllPairs}
-use Rattle.group_table.specs.Bucket.{Bucket, empty, deleted, full, Slot, IsFull, entry_at, entry_count}
+use Rattle.std.specs.Prelude.{◌≡◌, ◌≢◌, ◌⊎◌, ℕ, zero, suc, ◌<◌, slice_index_or, List, [], ◌∷◌, length, map, nat_eq, if◌then◌else◌, Option, Some, None, option_map, unwrap_or, Contains, AllPairs}
+use Rattle.group_table.specs.Bucket.{empty, deleted, full, Slot, IsFull, entry_at, entry_count}
 use Rattle.group_table.specs.Relocation.{Renumbers}
 use Rattle.schnellru.specs.declared.link.Entry.{Entry}
 

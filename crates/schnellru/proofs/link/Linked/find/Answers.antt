@@ -1,4 +1,4 @@
-use Rattle.std.proofs.Common.{rules, refl, ap, sym, ◌∙◌}
+use Rattle.std.proofs.Common.{rules, ap, sym, ◌∙◌}
 use Rattle.std.specs.Prelude.{option_map}
 use Rattle.group_table.proofs.SearchLemmas.{if_some}
 use Rattle.group_table.proofs.CallerLemmas.{Finds-test, FindsNone-test}

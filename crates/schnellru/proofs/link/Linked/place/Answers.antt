@@ -1,4 +1,4 @@
-use Rattle.std.proofs.Common.{ap, sym, ◌∙◌}
+use Rattle.std.proofs.Common.{ap, ◌∙◌}
 use Rattle.schnellru.specs.Chain.{pair_slots}
 use Rattle.schnellru.proofs.PairSlotLemmas.{marks_of-pair_slots, length-pair_slots, same_marks, pair_slots-set, Fits-pair_slots, Fits-entries}
 use Rattle.schnellru.proofs.KeyLemmas.{fills_within, KeysFit-placed}

@@ -1,4 +1,5 @@
 use Rattle.std.proofs.Common.{◌≡◌, rules, ap, sym, ◌∙◌}
+use Rattle.std.proofs.lemmas.Bool.{false≢true}
 use Rattle.group_table.specs.Sizes.{full_capacity}
 use Rattle.schnellru.specs.Linked.{entries_in}
 use Rattle.schnellru.specs.Chain.{pair_slots}
@@ -50,3 +51,6 @@ pub returns-clause-linked : goal.returns-clause-linked
 returns-clause-linked g c =
     let marks = same_marks c.rehash.new.self.slots c.rewrite.new.table.slots c.rewrite.ensures.pairs in
     IsLinked-view _ _ _ _ g.met.N.LinkType.laws _ _ _ _ (invariant_of-self-2 g c) (rw marks c.rehash.ensures.table)
+
+pub returns-in_err-links-clause-succeeds : goal.returns-in_err-links-clause-succeeds
+returns-in_err-links-clause-succeeds g c none = absurd (false≢true (c.in_err-links.ensures.succeeds (c.self.invariant.count ∙ (rw (← c.self.view_is) at none))))
