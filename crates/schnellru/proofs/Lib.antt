@@ -26,3 +26,12 @@ pub mod Landed
 pub mod Moved
 pub mod Searched
 pub mod Written
+pub mod OrderLemmas
+pub mod NeighbourLemmas
+pub mod PairSlotLemmas
+pub mod ChainLemmas
+pub mod KeyLemmas
+pub mod WholeLemmas
+pub mod ReadLemmas
+pub mod MovedLemmas
+pub mod RelocateLemmas

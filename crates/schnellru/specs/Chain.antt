@@ -1,6 +1,6 @@
 -- How links keep an order of buckets: each entry has the numbers of its two neighbours. No public clause cites this module.
-use Rattle.std.specs.Prelude.{◌≡◌, ◌≢◌, ℕ, zero, suc, ◌<◌, Bool, List, [], ◌∷◌, length, map, nat_eq, if◌then◌else◌, Option, Some, None, option_map, unwrap_or, Contains, AllPairs}
-use Rattle.group_table.specs.Bucket.{Bucket, empty, deleted, full, Slot, IsFull, entry_at, entry_count}
+use Rattle.std.specs.Prelude.{◌≡◌, ◌≢◌, ◌⊎◌, ℕ, zero, suc, ◌<◌, slice_index_or, List, [], ◌∷◌, length, map, nat_eq, if◌then◌else◌, Option, Some, None, option_map, unwrap_or, Contains, AllPairs}
+use Rattle.group_table.specs.Bucket.{empty, deleted, full, Slot, IsFull, entry_at, entry_count}
 use Rattle.group_table.specs.Relocation.{Renumbers}
 use Rattle.schnellru.specs.declared.link.Entry.{Entry}
 
@@ -44,19 +44,70 @@ abbrev pub along : {K V N : Type 0} → (N → ℕ) → ℕ → List (Slot (Entr
 along number zero slots from = []
 along number (suc n) slots from = unwrap_or (option_map (λ entry. number from ∷ along number n slots entry.older) (entry_at slots (number from))) []
 
+module _ {K V N : Type 0} where
+  -- the links of the entry in a bucket
+  abbrev pub newer_at : List (Slot (Entry K V N)) → ℕ → Option N
+  newer_at slots b = option_map (λ entry. entry.newer) (entry_at slots b)
+
+  abbrev pub older_at : List (Slot (Entry K V N)) → ℕ → Option N
+  older_at slots b = option_map (λ entry. entry.older) (entry_at slots b)
+
+  -- the entry in a bucket has these links now, and nothing else has changed
+  pub record SetsLinks (old new : List (Slot (Entry K V N))) (b : ℕ) (newer older : N) : Type 0 where
+    pub pairs : pair_slots new ≡ pair_slots old
+    pub newer_there : newer_at new b ≡ Some newer
+    pub older_there : older_at new b ≡ Some older
+    pub others : (c : ℕ) → c ≢ b → entry_at new c ≡ entry_at old c
+
+module _ {K V N : Type 0} (number : N → ℕ) where
+  -- the entry at a link, where there is one, has another newer link now, and nothing else has changed
+  pub record SetsNewer (old new : List (Slot (Entry K V N))) (at to : N) : Type 0 where
+    pub pairs : pair_slots new ≡ pair_slots old
+    pub there : IsFull old (number at) → newer_at new (number at) ≡ Some to
+    pub others : (b : ℕ) → b ≢ number at → newer_at new b ≡ newer_at old b
+    pub older : (b : ℕ) → older_at new b ≡ older_at old b
+
+  -- the same of the older link
+  pub record SetsOlder (old new : List (Slot (Entry K V N))) (at to : N) : Type 0 where
+    pub pairs : pair_slots new ≡ pair_slots old
+    pub there : IsFull old (number at) → older_at new (number at) ≡ Some to
+    pub others : (b : ℕ) → b ≢ number at → older_at new b ≡ older_at old b
+    pub newer : (b : ℕ) → newer_at new b ≡ newer_at old b
+
+module _ {N : Type 0} (number : N → ℕ) (none : N) (links : List N) where
+  -- the link to where the bucket of a link has moved
+  abbrev pub moved_link : N → N
+  moved_link l = slice_index_or links (number l) none
+
+  -- a link is none, or one to a bucket that the links have a place for
+  abbrev pub HasPlace : N → Type 0
+  HasPlace l = (l ≡ none) ⊎ (number l < length links)
+
+  -- the entry in a bucket has links to where its neighbours have moved, and nothing else has changed
+  pub record MovesLinks {K V : Type 0} (old new : List (Slot (Entry K V N))) (b : ℕ) : Type 0 where
+    pub pairs : pair_slots new ≡ pair_slots old
+    pub newer_there : newer_at new b ≡ option_map moved_link (newer_at old b)
+    pub older_there : older_at new b ≡ option_map moved_link (older_at old b)
+    pub others : (c : ℕ) → c ≢ b → entry_at new c ≡ entry_at old c
+
+-- the end of a chain is another now, where a link is that of no entry, and else stays
+pub record SetsEnd {N : Type 0} (none old new at to : N) : Type 0 where
+  pub ends : at ≡ none → new ≡ to
+  pub stays : at ≢ none → new ≡ old
+
 module _ {K V N : Type 0} (number : N → ℕ) (link : ℕ → N) (none : N) where
-  -- the links keep the order of some full buckets: its ends, and the neighbours of each bucket
+  -- the links, which reach every bucket, keep the order of some full buckets: its ends, and the neighbours of each bucket
   pub record IsChain (slots : List (Slot (Entry K V N))) (newest oldest : N) (order : List ℕ) : Type 0 where
+    pub reached : length slots < number none
     pub distinct : AllPairs ◌≢◌ order
     pub only : (b : ℕ) → Contains order b → IsFull slots b
     pub newest_first : newest ≡ link_to link none (first_bucket order)
     pub oldest_last : oldest ≡ link_to link none (last_bucket order)
-    pub newer : (b : ℕ) (entry : Entry K V N) → Contains order b → entry_at slots b ≡ Some entry → entry.newer ≡ link_to link none (bucket_before b order)
-    pub older : (b : ℕ) (entry : Entry K V N) → Contains order b → entry_at slots b ≡ Some entry → entry.older ≡ link_to link none (bucket_after b order)
+    pub newer : (b : ℕ) → Contains order b → newer_at slots b ≡ Some (link_to link none (bucket_before b order))
+    pub older : (b : ℕ) → Contains order b → older_at slots b ≡ Some (link_to link none (bucket_after b order))
 
-  -- all full buckets are in the chain, and links reach every bucket
+  -- all full buckets are in the chain
   pub record IsWhole (slots : List (Slot (Entry K V N))) (newest oldest : N) (order : List ℕ) : Type 0 where
-    pub reached : length slots < number none
     pub chain : IsChain slots newest oldest order
     pub all : (b : ℕ) → IsFull slots b → Contains order b
     pub count : entry_count slots ≡ length order
@@ -64,6 +115,10 @@ module _ {K V N : Type 0} (number : N → ℕ) (link : ℕ → N) (none : N) whe
   -- some buckets are chained, this one among them
   abbrev pub InChain : List (Slot (Entry K V N)) → N → N → ℕ → Type 0
   InChain slots newest oldest b = (order : List ℕ) × IsChain slots newest oldest order × Contains order b
+
+  -- some buckets are chained, and this one is not among them
+  abbrev pub OutOfChain : List (Slot (Entry K V N)) → N → N → ℕ → Type 0
+  OutOfChain slots newest oldest b = (order : List ℕ) × IsChain slots newest oldest order × (Contains order b → ⊥)
 
   -- the entries have moved into these slots, and still have the links of the table before
   abbrev pub Moved : List (Slot (Entry K V N)) → N → N → List N → Type 0

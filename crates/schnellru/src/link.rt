@@ -2,7 +2,7 @@
 //!
 //! Each entry keeps the numbers of its newer and its older neighbour as links, so that it is promoted or taken without
 //! a walk. A clause sees a `Linked` as its `slots` and the `order` of the full ones.
-ghost use Rattle.std.specs.Prelude.{◌≡◌, ℕ, ◌+◌, ◌^◌, ◌<◌, ◌≤◌, false, [], ◌∷◌, length, Some, None, IfSome, IfNone, IfOk, IfErr, OnOk, OnErr, IsOk, IsTrue, slice_set};
+ghost use Rattle.std.specs.Prelude.{◌≡◌, ◌≢◌, ℕ, ◌+◌, ◌^◌, ◌<◌, ◌≤◌, false, [], ◌∷◌, length, Some, None, IfSome, IfNone, IfOk, IfErr, OnOk, OnErr, IsOk, IsTrue, slice_set};
 ghost use Rattle.std.specs.Borrow.{sem};
 ghost use Rattle.group_table.specs.Sizes.{IsPowerFromFour, full_capacity};
 ghost use Rattle.group_table.specs.Bucket.{marks_of, IsFull, entry_at, entry_count, room, room_at};
@@ -251,7 +251,7 @@ impl<K: Eq + Hash + Drop, V: Drop, N: LinkType> Linked<K, V, N> {
 #[inline]
 fn bucket_of<N: LinkType>(link: N) -> Option<usize>
     ensures none { IfNone result (link ≡ N.MAX) }
-    ensures some { IfSome result (λ b. b ≡ N.number link) }
+    ensures some { IfSome result (λ b. (link ≢ N.MAX) × (b ≡ N.number link)) }
 {
     if link == N::MAX {
         None

@@ -1,12 +1,12 @@
 //! The links between the entries of a table: each change of the order as a change of a few entries.
 //!
 //! `newest` and `oldest` are the ends of the chain. The order of the buckets is known to the clauses alone.
-ghost use Rattle.std.specs.Prelude.{◌≡◌, ◌≢◌, ◌⊎◌, ◌<◌, ℕ, ◌∷◌, List, Contains, map, length, slice_index_or};
-ghost use Rattle.group_table.specs.Bucket.{Slot, IsFull, entry_count};
+ghost use Rattle.std.specs.Prelude.{◌≡◌, ◌⊎◌, ◌<◌, ◌≤◌, ℕ, ◌∷◌, List, Some, Contains, map, length};
+ghost use Rattle.group_table.specs.Bucket.{Slot, IsFull};
 ghost use Rattle.group_table.specs.Relocation.{Renumbers, moved_to};
 ghost use Rattle.schnellru.specs.Linked.{without_bucket};
 ghost use Rattle.schnellru.specs.declared.link.Entry.{Entry};
-ghost use Rattle.schnellru.specs.Chain.{IsChain, IsWhole, InChain, Moved, pair_slots};
+ghost use Rattle.schnellru.specs.Chain.{IsChain, IsWhole, InChain, OutOfChain, Moved, MovesLinks, HasPlace, moved_link, SetsNewer, SetsOlder, SetsLinks, SetsEnd, newer_at, older_at, pair_slots};
 
 use crate::link::Entry;
 use group_table::{LinkType, Table};
@@ -25,16 +25,8 @@ pub(crate) fn unlink<K, V, N: LinkType>(
 {
     let entry = table.get(b);
     let (newer, older) = (entry.newer, entry.older);
-    if newer == N::MAX {
-        *newest = older;
-    } else {
-        table.get_mut(newer.into_usize()).older = older;
-    }
-    if older == N::MAX {
-        *oldest = newer;
-    } else {
-        table.get_mut(older.into_usize()).newer = newer;
-    }
+    set_older(table, newest, newer, older);
+    set_newer(table, oldest, older, newer);
 }
 
 // Puts a bucket that is in no chain in front of this one.
@@ -45,22 +37,71 @@ pub(crate) fn link_newest<K, V, N: LinkType>(
     b: usize,
 )
     requires full { IsFull table.old.slots b }
-    requires reached { length table.old.slots < N.number N.MAX }
-    requires chained { (order : List ℕ) × IsChain N.number N.link N.MAX table.old.slots newest.old oldest.old order × (Contains order b → ⊥) }
+    requires chained { OutOfChain N.number N.link N.MAX table.old.slots newest.old oldest.old b }
     ensures pairs { pair_slots table.new.slots ≡ pair_slots table.old.slots }
     ensures chain { (order : List ℕ) → IsChain N.number N.link N.MAX table.old.slots newest.old oldest.old order → (Contains order b → ⊥) →
         IsChain N.number N.link N.MAX table.new.slots newest.new oldest.new (b ∷ order) }
 {
     let link = N::from_usize(b);
-    if *newest == N::MAX {
-        *oldest = link;
-    } else {
-        table.get_mut((*newest).into_usize()).newer = link;
-    }
-    let entry = table.get_mut(b);
-    entry.newer = N::MAX;
-    entry.older = *newest;
+    set_newer(table, oldest, *newest, link);
+    set_links(table, b, N::MAX, *newest);
     *newest = link;
+}
+
+// Sets the newer link of the entry at a link, or the oldest end, where the link is `MAX`.
+#[inline]
+fn set_newer<K, V, N: LinkType>(
+    table: &mut Table<Entry<K, V, N>>,
+    oldest: &mut N,
+    at: N,
+    to: N,
+)
+    requires reached { length table.old.slots < N.number N.MAX }
+    requires there { at ≡ N.MAX ⊎ IsFull table.old.slots (N.number at) }
+    ensures slots { SetsNewer N.number table.old.slots table.new.slots at to }
+    ensures end { SetsEnd N.MAX oldest.old oldest.new at to }
+{
+    if at == N::MAX {
+        *oldest = to;
+    } else {
+        table.get_mut(at.into_usize()).newer = to;
+    }
+}
+
+// Sets the older link of the entry at a link, or the newest end, where the link is `MAX`.
+#[inline]
+fn set_older<K, V, N: LinkType>(
+    table: &mut Table<Entry<K, V, N>>,
+    newest: &mut N,
+    at: N,
+    to: N,
+)
+    requires reached { length table.old.slots < N.number N.MAX }
+    requires there { at ≡ N.MAX ⊎ IsFull table.old.slots (N.number at) }
+    ensures slots { SetsOlder N.number table.old.slots table.new.slots at to }
+    ensures end { SetsEnd N.MAX newest.old newest.new at to }
+{
+    if at == N::MAX {
+        *newest = to;
+    } else {
+        table.get_mut(at.into_usize()).older = to;
+    }
+}
+
+// Sets both links of the entry in a full bucket.
+#[inline]
+fn set_links<K, V, N: LinkType>(
+    table: &mut Table<Entry<K, V, N>>,
+    b: usize,
+    newer: N,
+    older: N,
+)
+    requires { IsFull table.old.slots b }
+    ensures { SetsLinks table.old.slots table.new.slots b newer older }
+{
+    let entry = table.get_mut(b);
+    entry.newer = newer;
+    entry.older = older;
 }
 
 // Makes the links of entries that moved, and the ends, those of the buckets where they are now: `links` has the new
@@ -71,7 +112,8 @@ pub(crate) fn rewrite<K, V, N: LinkType>(
     oldest: &mut N,
     links: &[N],
 )
-    requires { Moved N.number N.link N.MAX table.old.slots newest.old oldest.old links.now }
+    requires reached { length table.old.slots < N.number N.MAX }
+    requires moved { Moved N.number N.link N.MAX table.old.slots newest.old oldest.old links.now }
     ensures pairs { pair_slots table.new.slots ≡ pair_slots table.old.slots }
     ensures chain { (before : List (Slot (Entry K V N))) (order : List ℕ) →
         IsWhole N.number N.link N.MAX before newest.old oldest.old order → Renumbers N.number N.MAX before table.old.slots links.now →
@@ -80,21 +122,33 @@ pub(crate) fn rewrite<K, V, N: LinkType>(
     for old in 0..links.len() {
         let moved = links[old];
         if moved != N::MAX {
-            let entry = table.get_mut(moved.into_usize());
-            entry.newer = renumbered(links, entry.newer);
-            entry.older = renumbered(links, entry.older);
+            move_links(table, moved.into_usize(), links);
         }
     }
-    *newest = renumbered(links, *newest);
-    *oldest = renumbered(links, *oldest);
+    *newest = moved_link(links, *newest);
+    *oldest = moved_link(links, *oldest);
+}
+
+// Makes the links of an entry those to where its neighbours have moved.
+#[inline]
+fn move_links<K, V, N: LinkType>(table: &mut Table<Entry<K, V, N>>, b: usize, links: &[N])
+    requires full { IsFull table.old.slots b }
+    requires fewer { length links.now ≤ N.number N.MAX }
+    requires newer { (l : N) → newer_at table.old.slots b ≡ Some l → HasPlace N.number N.MAX links.now l }
+    requires older { (l : N) → older_at table.old.slots b ≡ Some l → HasPlace N.number N.MAX links.now l }
+    ensures { MovesLinks N.number N.MAX links.now table.old.slots table.new.slots b }
+{
+    let entry = table.get_mut(b);
+    entry.newer = moved_link(links, entry.newer);
+    entry.older = moved_link(links, entry.older);
 }
 
 // The link to where the bucket of a link has moved.
 #[inline]
-fn renumbered<N: LinkType>(links: &[N], link: N) -> N
-    requires { link ≡ N.MAX ⊎ N.number link < length links.now }
-    ensures none { link ≡ N.MAX → result ≡ N.MAX }
-    ensures some { link ≢ N.MAX → result ≡ slice_index_or links.now (N.number link) N.MAX }
+fn moved_link<N: LinkType>(links: &[N], link: N) -> N
+    requires place { HasPlace N.number N.MAX links.now link }
+    requires fewer { length links.now ≤ N.number N.MAX }
+    ensures { result ≡ moved_link N.number N.MAX links.now link }
 {
     if link == N::MAX {
         link

@@ -1,0 +1,5 @@
+use Rattle.schnellru.proofs.MovedLemmas.{MovedUpTo}
+use Rattle.schnellru.proofs.link.chain.rewrite.Given as goal
+
+abbrev pub invariant-loop-old : goal.invariant-loop-old
+invariant-loop-old g l = MovedUpTo g.N.LinkType.number g.N.LinkType.MAX l.fn.table.slots l.table.slots l.links l.old
