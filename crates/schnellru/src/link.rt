@@ -105,13 +105,12 @@ impl<K, V, N: LinkType> Linked<K, V, N> {
         &self.table.get(b).pair
     }
 
-    // The bucket of the newest pair.
+    // The bucket of the newest pair, if there is one.
     #[inline]
-    pub(crate) fn newest(&self) -> usize
-        requires { 0 < length self.now.order }
-        ensures newest { first_bucket self.now.order ≡ Some result }
+    pub(crate) fn newest(&self) -> Option<usize>
+        ensures newest { result ≡ first_bucket self.now.order }
     {
-        self.newest.into_usize()
+        bucket_of(self.newest)
     }
 
     // The bucket of the oldest pair.
