@@ -25,6 +25,9 @@ impl<K: Eq + Hash + Drop, V: Drop, L: Limiter<K, V>, S: BuildHasher> LruMap<K, V
         requires absent { lookup_entry (K.eq pair.0) self.old.pairs ≡ None }
         ensures { Place L.rules (hash_by K.hash_input S.BuildHasher S.Hasher.Hasher) pair self.old (outcome_of result) self.new }
     {
+        if self.entries.room() == 0 && self.entries.len() == 0 {
+            return self.place_without_room(hash, pair);
+        }
         match self.place_in_bucket(hash, pair) {
             Ok(()) => Ok(true),
             Err(pair) => self.place_without_room(hash, pair),
@@ -48,12 +51,13 @@ impl<K: Eq + Hash + Drop, V: Drop, L: Limiter<K, V>, S: BuildHasher> LruMap<K, V
         Ok(())
     }
 
-    // Places a pair that no bucket took.
+    // Places a pair that no bucket took, or the first pair of a table without room.
     #[cold]
     fn place_without_room(&mut self, hash: u64, pair: (K, V)) -> Result<bool, AllocError>
         requires hash { hash ≡ hash_by K.hash_input S.BuildHasher S.Hasher.Hasher self.old.hasher pair.0 }
         requires absent { lookup_entry (K.eq pair.0) self.old.pairs ≡ None }
-        requires no_place { HasNoPlace self.old.marks hash }
+        requires no_room { room self.old ≡ 0 }
+        requires empty { 0 < length self.old.pairs → FirstFreeIs empty hash self.old }
         ensures { Place L.rules (hash_by K.hash_input S.BuildHasher S.Hasher.Hasher) pair self.old (outcome_of result) self.new }
     {
         let buckets = self.entries.buckets();
