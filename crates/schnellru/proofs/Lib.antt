@@ -22,3 +22,4 @@ pub mod Limits
 pub mod Promotion
 pub mod Kept
 pub mod FilledBuckets
+pub mod Emptiness

@@ -53,12 +53,13 @@ pub(crate) fn larger_table(
 }
 
 // The greatest usage of 4, 8, 16, .. buckets, as far as links reach, that is within the budget, or 0.
+#[tactic(auto, unfolding(crate::specs::Sizes::usage_within))]
 pub(crate) fn usage_within(max: usize, entry_bytes: usize, budget: usize) -> usize
     ensures { result ≡ usage_within max entry_bytes budget }
 {
     let mut best = 0;
-    for k in 0..62 {
-        let buckets = 4 << k;
+    for k in 0..62u32 {
+        let buckets = 4usize << k;
         if buckets < max {
             match usage(entry_bytes, buckets) {
                 Some(bytes) if bytes <= budget => best = bytes,

@@ -149,12 +149,16 @@ impl<K: Eq + Hash + Drop, V: Drop, L: Limiter<K, V>, S: BuildHasher> LruMap<K, V
         ensures { IsPlacedIfMemory L.rules pair count (full_capacity count - length self.old.pairs - 1) (length self.old.pairs)
             self.old (outcome_of result) self.new }
     {
-        if self.move_to(count).is_err() {
-            self.turn_away(pair);
-            return Err(AllocError);
+        match self.move_to(count) {
+            Ok(()) => {
+                self.place_surely(hash, pair);
+                Ok(true)
+            }
+            Err(error) => {
+                self.turn_away(pair);
+                Err(error)
+            }
         }
-        self.place_surely(hash, pair);
-        Ok(true)
     }
 
     // Places the pair in a table of as many buckets that is made anew. A map without pairs needs no memory for it.
@@ -168,12 +172,16 @@ impl<K: Eq + Hash + Drop, V: Drop, L: Limiter<K, V>, S: BuildHasher> LruMap<K, V
             (length self.old.pairs) self.old (outcome_of result) self.new }
         ensures succeeds { self.old.pairs ≡ [] → IsOk result }
     {
-        if self.rehash().is_err() {
-            self.turn_away(pair);
-            return Err(AllocError);
+        match self.rehash() {
+            Ok(()) => {
+                self.place_surely(hash, pair);
+                Ok(true)
+            }
+            Err(error) => {
+                self.turn_away(pair);
+                Err(error)
+            }
         }
-        self.place_surely(hash, pair);
-        Ok(true)
     }
 
     // Places the pair where there is room.
