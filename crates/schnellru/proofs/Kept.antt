@@ -29,7 +29,7 @@ module _ {K V S H : Type 0} (limiter : S) (hasher : H) (moved placed entry_bytes
   }
 
 -- a bucket counts one in the room, or none
-room_at-most : (marks : List Mark) (b : ℕ) → room_at marks b ≤ 1
+pub room_at-most : (marks : List Mark) (b : ℕ) → room_at marks b ≤ 1
 room_at-most marks b = go (is_used (bucket_at marks b))
   where
     go : (y : Bool) → cond y 0 1 ≤ 1

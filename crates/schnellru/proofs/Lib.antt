@@ -23,3 +23,6 @@ pub mod Promotion
 pub mod Kept
 pub mod FilledBuckets
 pub mod Emptiness
+pub mod Landed
+pub mod Moved
+pub mod Searched

@@ -14,7 +14,7 @@ use Rattle.schnellru.proofs.Potential.{IsBounded, bounded_of, sized_with_limiter
 
 module _ {K V S H : Type 0} where
   -- so does a change that pays for its moves, where counts that cannot rise are as large as they can be
-  paid_after : (old new : State K V S H) → PaysForMoves old new → new.moved < 2 ^ 64 → buckets new < 2 ^ 63 → IsPaid old → IsPaid new
+  pub paid_after : (old new : State K V S H) → PaysForMoves old new → new.moved < 2 ^ 64 → buckets new < 2 ^ 63 → IsPaid old → IsPaid new
   paid_after old new p moved addressable paid = go (dec_lt new.placed (2 ^ 64 - 1))
     where
       go : Dec (new.placed < 2 ^ 64 - 1) → IsPaid new

@@ -1,0 +1,14 @@
+use Rattle.std.proofs.Common.{arith, length}
+use Rattle.group_table.specs.Bucket.{marks_of}
+use Rattle.schnellru.proofs.Growth.{full_capacity-at_most}
+use Rattle.schnellru.proofs.Ordered.{pairs-length}
+use Rattle.schnellru.proofs.map.LruMap.guaranteed_capacity.Goals as goal
+
+pub overflow_add-result : goal.overflow_add-result
+overflow_add-result g c =
+    let t = c.self.inside.entries in let sized = c.self.invariant.map.sized in
+    omega (arith, c.len.ensures.len, c.room.ensures.room, pairs-length t c.self.invariant.linked, sized.taken, sized.table.within, sized.table.addressable, full_capacity-at_most (length (marks_of t.slots)))
+
+pub returns : goal.returns
+returns g c =
+    rw (← c.self.view_is) (omega (arith, c.len.ensures.len, c.room.ensures.room, pairs-length c.self.inside.entries c.self.invariant.linked))
