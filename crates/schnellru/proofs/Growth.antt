@@ -2,8 +2,9 @@
 use Rattle.std.proofs.Common.{◌≡◌, ℕ, zero, suc, ◌+◌, ◌-◌, ◌*◌, ◌/◌, ◌^◌, ◌<◌, ◌≤◌, ◌⊎◌, Bool, true, false, cond, Option, Some, None, refl, sym, ap, ◌∙◌, arith, le_of_eq, pow_pos, pow-add, inl, inr}
 use Rattle.std.specs.Prelude.{nat_lt, nat_le, ◌==◌}
 use Rattle.std.proofs.lemmas.Bool.Decides.{nat_tests}
-use Rattle.group_table.specs.Sizes.{full_capacity, least_power, below, buckets_for}
+use Rattle.group_table.specs.Sizes.{IsPowerFromFour, full_capacity, least_power, below, buckets_for}
 use Rattle.group_table.proofs.PowerLemmas.{doubled, first_power_least, first_power_shape, power_gap}
+use Rattle.group_table.proofs.SizeLemmas.{full_capacity-large}
 use Rattle.schnellru.specs.Sizes.{bytes_of, usage, Target, no_table, same_table, new_table, table_of, table_with, target_from, target}
 
 -- 4, 8, or at least 16
@@ -136,3 +137,31 @@ target_usage max e b c n bytes = from (buckets_for max c)
 pub full_capacity-4 : full_capacity 4 ≡ 3
 unfolding full_capacity
 full_capacity-4 = refl
+
+-- a table takes at least 3
+pub full_capacity-some : (b : ℕ) → IsPowerFromFour b → 3 ≤ full_capacity b
+unfolding full_capacity
+full_capacity-some b power = let s = sizes_of power.0 b power.1 in grind (arith, nat_tests)
+
+-- what a table of more than 8 buckets takes has a half
+pub full_capacity-even : (b : ℕ) → IsPowerFromFour b → 8 < b → 2 * (full_capacity b / 2) ≡ full_capacity b
+full_capacity-even b (zero, e) h = absurd (omega (arith, e))
+full_capacity-even b (suc zero, e) h = absurd (omega (arith, e))
+full_capacity-even b (suc (suc k), e) h =
+    let eights : b ≡ 8 * (2 * 2 ^ k) = omega (arith, e, doubled 4 (suc k), doubled 8 k) in
+    omega (arith, eights, full_capacity-large b h)
+
+-- buckets that links reach
+pub buckets_below : (max c n : ℕ) → buckets_for max c ≡ Some n → 0 < n → n < max
+unfolding buckets_for
+buckets_below max c n = pick (c == 0) (nat_lt c 4) (nat_lt c 8) (nat_lt (8 * c) (2 ^ 64))
+  where
+    reached : (m : ℕ) → below max m ≡ Some n → n < max
+    reached m h = grind (arith, nat_tests)
+
+    pick : (a b d e : Bool) → cond a (Some 0) (cond b (below max 4) (cond d (below max 8) (cond e (below max (least_power (8 * c / 7))) None))) ≡ Some n → 0 < n → n < max
+    pick true b d e h p = absurd (grind arith)
+    pick false true d e h p = reached 4 h
+    pick false false true e h p = reached 8 h
+    pick false false false true h p = reached (least_power (8 * c / 7)) h
+    pick false false false false h p = absurd (grind arith)

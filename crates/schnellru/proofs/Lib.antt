@@ -26,3 +26,4 @@ pub mod Emptiness
 pub mod Landed
 pub mod Moved
 pub mod Searched
+pub mod Placing

@@ -61,9 +61,10 @@ pub(crate) fn usage_within(max: usize, entry_bytes: usize, budget: usize) -> usi
     for k in 0..62u32 {
         let buckets = 4usize << k;
         if buckets < max {
-            match usage(entry_bytes, buckets) {
-                Some(bytes) if bytes <= budget => best = bytes,
-                _ => {}
+            if let Some(bytes) = usage(entry_bytes, buckets) {
+                if bytes <= budget {
+                    best = bytes;
+                }
             }
         }
     }
