@@ -9,8 +9,8 @@ use Rattle.group_table.specs.Table.{Table, IsTable}
 use Rattle.group_table.specs.Change.{Places, Removes}
 use Rattle.group_table.proofs.BucketLemmas.{bucket_at-past, is_full-marks_of, entry_count-marks_of}
 use Rattle.group_table.proofs.RefillLemmas.{marks_of-refilled}
-use Rattle.group_table.proofs.SearchLemmas.{held_by, full_by_entry}
-use Rattle.group_table.proofs.ChangeLemmas.{entry_at-placed, entry_count-places, bucket_at-placed_other, entry_at-removed, bucket_at-removed_other, entry_count-removes}
+use Rattle.group_table.proofs.SearchLemmas.{held_by}
+use Rattle.group_table.proofs.ChangeLemmas.{entry_count-places, bucket_at-placed_other, entry_at-removed, bucket_at-removed_other, entry_count-removes}
 use Rattle.schnellru.specs.declared.link.Entry.{Entry}
 use Rattle.schnellru.specs.declared.link.Pair.{Pair}
 use Rattle.schnellru.specs.Linked.{Linked, IsLinked, without_bucket, with_pair}
@@ -125,9 +125,6 @@ module _ {N : Type 0} (number : N → ℕ) (link : ℕ → N) (none : N) (eq : N
 
     other_than : (x : ℕ) → Contains order x → x ≢ b
     other_than x w e = placed_absent (subst (Contains order) e w)
-
-    pub placed_full : IsFull new.slots b
-    placed_full = full_by_entry (bucket_at new.slots b) entry (entry_at-placed old new hash entry b places within)
 
     pub IsChain-placed : IsChain number link none new.slots newest oldest order
     IsChain-placed = IsChain-kept old.slots new.slots newest oldest order (ap length places.slots ∙ length-set old.slots b _) (λ x w. bucket_at-placed_other old new hash entry b places x (other_than x w)) whole.chain
