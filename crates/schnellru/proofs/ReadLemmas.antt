@@ -65,10 +65,10 @@ module _ {N : Type 0} (number : N → ℕ) (link : ℕ → N) (none : N) (eq : N
         pub older_shown : (r : Option ℕ) → IfNone r (entry.older ≡ none) → IfSome r (λ c. (entry.older ≢ none) × (c ≡ number entry.older)) → r ≡ bucket_after b order
         older_shown r at_none at_some =
             read_link r (bucket_after b order) entry.older (older_link number link none eq laws slots newest oldest order whole.chain b inside entry is)
-              (λ y e. below y (after_in b y order e)) at_none at_some
+            (λ y e. below y (after_in b y order e)) at_none at_some
 
         -- the bucket with no newer one is the newest already
         pub newest_already : entry.newer ≡ none → order ≡ b ∷ without_bucket b order
         newest_already e = newest_again b order whole.chain.distinct inside
             (end_by_link number link none eq laws (bucket_before b order) (λ y k. below y (before_in b y order whole.chain.distinct k))
-              (sym (newer_link number link none eq laws slots newest oldest order whole.chain b inside entry is) ∙ e))
+            (sym (newer_link number link none eq laws slots newest oldest order whole.chain b inside entry is) ∙ e))
