@@ -1,24 +1,33 @@
-use Rattle.std.proofs.Common.{rules, ◌≡◌, ◌⊎◌, ℕ, ◌+◌, true, false, not, length, None, Some, Ok, OnErr, if◌then◌else◌, ◌-◌, ◌*◌, ◌<◌, ◌≤◌, ◌/◌, ◌%◌, Bool, nat_eq, nat_lt, List, [], ◌∷◌, ◌++◌, slice_index_or, slice_set, bit_and, bit_or, Fits, w8, w32, w64, Bor, MutBor}
-use Rattle.lru_limits.specs.Hashing.{hash_by}
-use Rattle.schnellru.specs.Lists.{lookup_entry, is_empty}
-use Rattle.schnellru.specs.State.{contents, trim, Leaves, IsMap}
-use Rattle.schnellru.specs.Inserts.{Insert, IsShort}
-use Rattle.schnellru.specs.Steps.{Admitted}
-use Rattle.schnellru.specs.Theorems.{SaysWhether}
+use Rattle.std.proofs.Common.{◌≡◌, Ok, not, refl, ap, sym, ◌∙◌, subst}
+use Rattle.schnellru.specs.Lists.{IsFront}
+use Rattle.schnellru.specs.State.{contents}
+use Rattle.schnellru.specs.Place.{placed, refused, no_memory}
+use Rattle.schnellru.proofs.Fronts.{front_make_way, front_absent}
 use Rattle.schnellru.proofs.map.LruMap.admit.Goals as goal
 
--- src/map/insert.rt:63:13
 pub place-requires-clause-absent : goal.place-requires-clause-absent
-place-requires-clause-absent g c = ?
+place-requires-clause-absent g c =
+    let old = c.args.self.now in let ready = c.make_way.new.self in
+    front_absent (g.K.PartialEq.eq c.args.pair.0) ready.pairs old.pairs
+        (subst (λ xs. IsFront xs old.pairs) (sym (ap (λ st. st.pairs) c.make_way.ensures.is)) (front_make_way g.L.Limiter.rules (contents old))) c.requires.absent
 
--- src/map/insert.rt:63:13
 pub returns-in_err-place : goal.returns-in_err-place
-returns-in_err-place g c = ?
+returns-in_err-place g c = record {
+  ready = c.make_way.new.self; way = c.make_way.ensures;
+  outcome = no_memory; landed = c.place.new.self; place = c.in_err-place.ensures;
+  settles = (c.from_residual.ensures.0, refl);
+}
 
--- src/map/insert.rt:64:13
 pub returns-then-not-branch : goal.returns-then-not-branch
-returns-then-not-branch g c = ?
+returns-then-not-branch g c = record {
+  ready = c.make_way.new.self; way = c.make_way.ensures;
+  outcome = refused; landed = c.place.new.self; place = rw c.if-not-branch.true at c.in_ok-place.ensures;
+  settles = (refl, refl);
+}
 
--- src/map/insert.rt:55:5
 pub returns : goal.returns
-returns g c = ?
+returns g c = record {
+  ready = c.make_way.new.self; way = c.make_way.ensures;
+  outcome = placed; landed = c.place.new.self; place = rw c.if-not-branch.false at c.in_ok-place.ensures;
+  settles = (ap (λ b. Ok (not b)) c.is_empty.ensures, c.trim.ensures);
+}
