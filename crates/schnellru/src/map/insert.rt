@@ -3,7 +3,7 @@ ghost use Rattle.std.specs.Prelude.{◌≡◌, ◌⊎◌, ℕ, ◌+◌, true, fa
 ghost use Rattle.lru_limits.specs.Hashing.{hash_by};
 ghost use Rattle.schnellru.specs.Lists.{lookup_entry, is_empty};
 ghost use Rattle.schnellru.specs.State.{contents, trim, Leaves, IsMap};
-ghost use Rattle.schnellru.specs.Inserts.{Insert, IsShort};
+ghost use Rattle.schnellru.specs.Inserts.{Insert, IsShort, make_way};
 ghost use Rattle.schnellru.specs.Steps.{Admitted};
 ghost use Rattle.schnellru.specs.Theorems.{SaysWhether};
 
@@ -57,14 +57,22 @@ impl<K: Eq + Hash + Drop, V: Drop, L: Limiter<K, V>, S: BuildHasher> LruMap<K, V
         requires absent { lookup_entry (K.eq pair.0) self.old.pairs ≡ None }
         ensures { Admitted L.rules (hash_by K.hash_input S.BuildHasher S.Hasher.Hasher) pair self.old result self.new }
     {
-        if !self.is_empty() && self.limiter.is_over_the_limit(self.entries.len() + 1) {
-            self.take_oldest();
-        }
+        self.make_way();
         if !self.place(hash, pair)? {
             return Ok(false);
         }
         self.trim();
         Ok(!self.is_empty())
+    }
+
+    // Removes the oldest pair, if the limiter would be over with one more.
+    #[inline]
+    fn make_way(&mut self)
+        ensures { Leaves self.old (make_way L.rules (contents self.old)) self.new }
+    {
+        if !self.is_empty() && self.limiter.is_over_the_limit(self.entries.len() + 1) {
+            self.take_oldest();
+        }
     }
 
     // Removes the oldest pairs while the limiter is over.

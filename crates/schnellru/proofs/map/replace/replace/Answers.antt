@@ -1,0 +1,1 @@
+use Rattle.schnellru.proofs.map.replace.replace.Goals as goal
