@@ -14,7 +14,19 @@ use std::alloc::AllocError;
 use std::hash::{BuildHasher, Hash};
 
 impl<K: Eq + Hash + Drop, V: Drop, L: Limiter<K, V>, S: BuildHasher> LruMap<K, V, L, S> {
-    /// Puts a value under a key, as the newest pair, and answers whether it is in the map then.
+    /// Puts a value under a key, as the newest pair, and answers whether the key is in the map then.
+    ///
+    /// A key that is there stays as it is stored, and the limiter is asked whether the new value takes the place of the
+    /// old one; where it says no, the pair leaves and the answer is false. A new key is handed to the limiter, which gives
+    /// the pair to store, or none. The oldest pair leaves first where the limiter would be over with one more. The table
+    /// grows where it has to and the limiter permits it; where it may not, the oldest pairs leave until there is a place.
+    /// At the end the oldest leave as long as the limiter is over.
+    ///
+    /// An error says that memory was refused. It comes only for a new key, where there was no room; then the newest of the
+    /// old pairs are left, and the limiter was told of each pair that left, and of the new one. Want of memory evicts
+    /// nothing, and no memory is taken while there is room, but what `on_insert` takes.
+    ///
+    /// After schnellru's `LruMap::insert`.
     pub fn insert<I: LookupKey<K>>(&mut self, key: I, value: V) -> Result<bool, AllocError>
     where
         L: Insertion<K, V, I>,
