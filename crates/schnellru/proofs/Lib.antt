@@ -27,3 +27,4 @@ pub mod Landed
 pub mod Moved
 pub mod Searched
 pub mod Placing
+pub mod Replaced
