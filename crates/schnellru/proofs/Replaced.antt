@@ -10,14 +10,14 @@ use Rattle.group_table.specs.Change.{Removes}
 use Rattle.group_table.proofs.RefillLemmas.{marks_of-refilled}
 use Rattle.lru_limits.specs.Rules.{Rules, Replaced}
 use Rattle.schnellru.specs.Lists.{without}
-use Rattle.schnellru.specs.Linked.{Linked, IsLinked, with_pair, without_bucket, pairs_of, entries_in}
+use Rattle.schnellru.specs.Linked.{Linked, IsLinked, KeysFit, with_pair, without_bucket, pairs_of, entries_in}
 use Rattle.schnellru.specs.State.{State, Leaves}
-use Rattle.schnellru.specs.Holds.{state_by}
+use Rattle.schnellru.specs.Holds.{state_by, Holds}
 use Rattle.schnellru.specs.Steps.{IsReplaced, IsGivenUp}
-use Rattle.schnellru.proofs.Distinct.{AreDistinct}
+use Rattle.schnellru.proofs.Distinct.{AreDistinct, distinct_newest, distinct_without}
 use Rattle.schnellru.proofs.Cuts.{entries-apart, without_lacks}
 use Rattle.schnellru.proofs.Ordered.{pairs-length, shorter, full_by, others_are, removed-length, removed-entries}
-use Rattle.schnellru.proofs.Kept.{frees_room}
+use Rattle.schnellru.proofs.Kept.{frees_room, leaves_holds}
 
 pub some_same : {A : Type 0} (x y : A) → Some x ≡ Some y → x ≡ y
 some_same x y e = ap (λ o. unwrap_or o x) e
@@ -94,6 +94,11 @@ module _ {K V S H : Type 0} (by : Replaced K V S) (old new : Linked K V) (b : �
           };
         }
 
+    pub replaced_holds : (hash_of : H → K → ℕ) → names by.key ≡ true → Holds eq hash_of old before → KeysFit (hash_of hasher) new.slots → Holds eq hash_of new after
+    replaced_holds hash_of kept holds fits = leaves_holds hasher moved placed entry_bytes max eq hash_of old new limiter _ l holds next fits
+        (ap length step.slots ∙ length-set old.slots b _) replaced_leaves
+        (subst (AreDistinct eq) (sym replaced_pairs) (distinct_newest eq names one (by.key, by.new_value) (pairs_of old) kept distinct))
+
   -- the pair left, and the others are as they were
   module _ (rules : Rules K V S) (step : IsGivenUp rules by b old new l) where
     pub given_up_pairs : pairs_of new ≡ without names (pairs_of old)
@@ -108,3 +113,7 @@ module _ {K V S H : Type 0} (by : Replaced K V S) (old new : Linked K V) (b : �
       is = λ i. record (state_by new (step.told i) hasher moved placed entry_bytes max) { pairs = given_up_pairs i };
       room = frees_room old new b first next given_up_length (ap (λ o. suc (length o)) step.order ∙ fewer) step.room before l refl refl;
     }
+
+    pub given_up_holds : (hash_of : H → K → ℕ) → Holds eq hash_of old before → KeysFit (hash_of hasher) new.slots → Holds eq hash_of new after
+    given_up_holds hash_of holds fits = leaves_holds hasher moved placed entry_bytes max eq hash_of old new limiter _ l holds next fits given_up_length given_up_leaves
+        (subst (AreDistinct eq) (sym given_up_pairs) (distinct_without eq names (pairs_of old) distinct))
