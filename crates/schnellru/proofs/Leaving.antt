@@ -1,5 +1,5 @@
 -- What is left when pairs leave, and when growth is refused.
-use Rattle.std.proofs.Common.{◌≡◌, ℕ, zero, suc, ◌+◌, ◌-◌, ◌<◌, ◌≤◌, Bool, true, false, if◌then◌else◌, List, [], ◌∷◌, length, refl, sym, ap, ◌∙◌, arith}
+use Rattle.std.proofs.Common.{◌≡◌, ℕ, zero, suc, ◌+◌, ◌-◌, ◌<◌, ◌≤◌, Bool, true, false, if◌then◌else◌, List, [], ◌∷◌, length, refl, sym, ap, ◌∙◌, subst, arith}
 use Rattle.group_table.specs.Sizes.{full_capacity}
 use Rattle.schnellru.specs.Lists.{last, without_last}
 use Rattle.lru_limits.specs.Rules.{Rules}
@@ -103,3 +103,9 @@ module _ {K V S H : Type 0} where
           untouched = λ same. absurd (omega (arith, fewer, same));
         };
       }
+
+-- what is trimmed after some left
+pub leaves_trimmed : {K V S H : Type 0} (rules : Rules K V S) (old mid new : State K V S H) (left : Contents K V S) → Leaves old left mid →
+    Leaves mid (trim rules (contents mid)) new → Leaves old (trim rules left) new
+leaves_trimmed rules old mid new left some rest = leaves_trans old mid new left (trim rules left) some
+    (subst (λ c. Leaves mid (trim rules c) new) (ap contents some.is) rest)

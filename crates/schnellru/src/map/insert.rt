@@ -37,6 +37,19 @@ impl<K: Eq + Hash + Drop, V: Drop, L: Limiter<K, V>, S: BuildHasher> LruMap<K, V
         ensures map { IsMap K.eq self.new }
     {
         let hash = self.hasher.hash_one(&key);
+        let answer = self.insert_hashed(hash, key, value);
+        let _ = &self.entries;
+        answer
+    }
+
+    // Inserts under a key that has this hash.
+    #[inline]
+    fn insert_hashed<I: LookupKey<K>>(&mut self, hash: u64, key: I, value: V) -> Result<bool, AllocError>
+    where
+        L: Insertion<K, V, I>,
+        requires hash { hash ≡ hash_by I.hash_input S.BuildHasher S.Hasher.Hasher self.old.hasher key }
+        ensures { Insert L.rules L.offers I.names (hash_by K.hash_input S.BuildHasher S.Hasher.Hasher) key value self.old result self.new }
+    {
         match self.entries.find(hash, &key) {
             Some(b) => {
                 if !replace(&mut self.entries, &mut self.limiter, b, key, value) {
