@@ -1,12 +1,10 @@
 use Rattle.std.proofs.Common.{◌≡◌, ◌<◌, ◌/◌, length, ap, sym, ◌∙◌, subst, arith}
 use Rattle.group_table.specs.Sizes.{full_capacity}
-use Rattle.group_table.specs.Bucket.{marks_of}
-use Rattle.group_table.specs.Bucket.{empty}
+use Rattle.group_table.specs.Bucket.{empty, marks_of}
 use Rattle.group_table.proofs.BucketLemmas.{length-marks_of}
 use Rattle.schnellru.specs.State.{IsSized, FirstFreeIs}
 use Rattle.schnellru.specs.Linked.{pairs_of}
 use Rattle.schnellru.proofs.Ordered.{pairs-length}
-use Rattle.schnellru.proofs.Growth.{full_capacity-at_most, full_capacity-some}
 use Rattle.schnellru.proofs.Placing.{rehash_place, some_of_half}
 use Rattle.schnellru.proofs.map.LruMap.place_without_room.Goals as goal
 

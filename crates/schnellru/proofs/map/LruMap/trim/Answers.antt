@@ -1,6 +1,5 @@
 use Rattle.std.proofs.Common.{◌≡◌, ◌<◌, true, false, length, ap, sym, ◌∙◌, subst, arith}
-use Rattle.schnellru.specs.State.{contents, Leaves}
-use Rattle.schnellru.specs.State.{trim}
+use Rattle.schnellru.specs.State.{contents, trim, Leaves}
 use Rattle.schnellru.proofs.Emptiness.{empty-length, some-length}
 use Rattle.schnellru.proofs.Ordered.{pairs-length}
 use Rattle.schnellru.proofs.Leaving.{length-without_last, leaves_trans, trim-within, trim-empty, trim-over}
