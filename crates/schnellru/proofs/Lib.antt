@@ -35,3 +35,4 @@ pub mod WholeLemmas
 pub mod ReadLemmas
 pub mod MovedLemmas
 pub mod RelocateLemmas
+pub mod SomeInsert
