@@ -8,18 +8,27 @@ ghost use Rattle.lru_replay.specs.Replay.{NamesNoLimit, WritesReplay, WritesSoFa
 ghost use Rattle.lru_replay.specs.Runs.{LineStep, AnswersLine, WritesRun, WritesRunSoFar, BeginsRun};
 ghost use Rattle.lru_replay.specs.Steps.{Answer};
 
-use crate::call::{Call, call_of, limit_of};
+use crate::call::{Call, Limit, call_of, limit_of};
 use crate::line::{Ending, Line, read_line};
-use crate::map::PairMap;
 use crate::outcome::{ReplayEnd, ReplayError};
 use crate::output::{write_bytes, write_flag, write_pairs, write_value};
+use schnellru::{ByLength, Insertion, LruMap, RandomState, UnlimitedCompact};
 use std::alloc::Global;
 use std::io::{BufRead, Write};
 
+/// The bytes of an entry, by which the memory of a map is counted.
+const ENTRY_BYTES: usize = 32;
+
 /// Carries out what a line says, and writes the answer.
-fn carry_out<W: Write>(map: &mut PairMap, line: &[u8], writer: &mut W) -> Result<(), ReplayError>
-    ensures { (answer : Answer) × LineStep map.old line.now answer map.new
+fn carry_out<L: Insertion<u64, u64, u64>, W: Write>(
+    map: &mut LruMap<u64, u64, L>,
+    line: &[u8],
+    writer: &mut W,
+) -> Result<(), ReplayError>
+    requires map { IsMap nat_eq map.old }
+    ensures step { (answer : Answer) × LineStep L.rules L.offers hash_of map.old line.now answer map.new
         × Writes (W.contents writer.old) (W.contents writer.new) result (answer_text answer) }
+    ensures map { IsMap nat_eq map.new }
 {
     match call_of(line) {
         Some(Call::Insert(key, value)) => match map.insert(key, value) {
@@ -27,11 +36,11 @@ fn carry_out<W: Write>(map: &mut PairMap, line: &[u8], writer: &mut W) -> Result
             Err(_) => write_bytes(writer, b"no memory"),
         },
         Some(Call::Get(key)) => {
-            let value = map.get(key);
+            let value = map.get(&key).copied();
             write_value(writer, value)
         }
         Some(Call::Peek(key)) => {
-            let value = map.peek(key);
+            let value = map.peek(&key).copied();
             write_value(writer, value)
         }
         Some(Call::List) => write_pairs(writer, map.iter()),
@@ -40,27 +49,37 @@ fn carry_out<W: Write>(map: &mut PairMap, line: &[u8], writer: &mut W) -> Result
 }
 
 /// Carries out what a line says, and writes the answer line.
-fn answer_line<W: Write>(map: &mut PairMap, line: &[u8], writer: &mut W) -> Result<(), ReplayError>
-    ensures { AnswersLine map.old line.now map.new (W.contents writer.old) (W.contents writer.new) result }
+fn answer_line<L: Insertion<u64, u64, u64>, W: Write>(
+    map: &mut LruMap<u64, u64, L>,
+    line: &[u8],
+    writer: &mut W,
+) -> Result<(), ReplayError>
+    requires map { IsMap nat_eq map.old }
+    ensures step { AnswersLine L.rules L.offers hash_of map.old line.now map.new
+        (W.contents writer.old) (W.contents writer.new) result }
+    ensures map { IsMap nat_eq map.new }
 {
     carry_out(map, line, writer)?;
     write_bytes(writer, b"\n")
 }
 
 /// Answers the lines up to the reader's end.
-fn answer_lines<R: BufRead, W: Write>(
-    map: &mut PairMap,
+fn answer_lines<L: Insertion<u64, u64, u64>, R: BufRead, W: Write>(
+    map: &mut LruMap<u64, u64, L>,
     reader: &mut R,
     writer: &mut W,
 ) -> Result<(), ReplayError>
+    requires map { IsMap nat_eq map.old }
     ensures done { OnOk result
-        (WritesRun map.old (R.remaining reader.old) (W.contents writer.old) (W.contents writer.new) map.new) }
+        (WritesRun L.rules L.offers hash_of map.old (R.remaining reader.old)
+        (W.contents writer.old) (W.contents writer.new) map.new) }
     ensures at_end { OnOk result (OnSome (R.remaining reader.old) (IsAtEnd (R.remaining reader.new))) }
     ensures read { IsErrOf result ReplayError.Read →
-        WritesRunSoFar map.old (R.remaining reader.old) (R.remaining reader.new)
+        WritesRunSoFar L.rules L.offers hash_of map.old (R.remaining reader.old) (R.remaining reader.new)
         (W.contents writer.old) (W.contents writer.new) map.new }
-    ensures write { IsErrOf result ReplayError.Write →
-        BeginsRun map.old (R.remaining reader.old) (W.contents writer.old) (W.contents writer.new) }
+    ensures write { IsErrOf result ReplayError.Write → AlwaysOffers L.offers →
+        BeginsRun L.rules L.offers hash_of map.old (R.remaining reader.old)
+        (W.contents writer.old) (W.contents writer.new) }
 {
     let mut line = Line::new();
     for _ in 0..u64::MAX {
@@ -71,6 +90,17 @@ fn answer_lines<R: BufRead, W: Write>(
         }
     }
     Err(ReplayError::Read)
+}
+
+/// Answers the lines on an empty map with this limiter.
+fn answer_under<L: Insertion<u64, u64, u64> + Drop, R: BufRead, W: Write>(
+    alloc: Global,
+    limiter: L,
+    reader: &mut R,
+    writer: &mut W,
+) -> Result<(), ReplayError> {
+    let mut map = LruMap::with_hasher(alloc, limiter, RandomState::default(), ENTRY_BYTES);
+    answer_lines(&mut map, reader, writer)
 }
 
 /// Reads the first line, and answers the others where it names a limit.
@@ -102,8 +132,10 @@ fn answer_all<R: BufRead, W: Write>(
     let Ending::Feed = ending else {
         return Ok(ReplayEnd::Done);
     };
-    let mut map = PairMap::new(alloc, limit);
-    answer_lines(&mut map, reader, writer)?;
+    match limit {
+        Limit::Length(n) => answer_under(alloc, ByLength::new(n), reader, writer)?,
+        Limit::Compact => answer_under(alloc, UnlimitedCompact, reader, writer)?,
+    }
     Ok(ReplayEnd::Done)
 }
 
