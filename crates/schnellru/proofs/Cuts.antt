@@ -42,10 +42,10 @@ lacks_by b (x ∷ xs) h = (go (nat_eq x b) refl, lacks_by b xs (λ j d l. h (suc
     go true t = let same : b ≡ x = grind (arith, nat_tests) in absurd (h 0 0 (omega arith) same)
     go false t = t
 
-tail_pairs : (x : ℕ) (xs : List ℕ) → AllPairs ◌≢◌ (x ∷ xs) → AllPairs ◌≢◌ xs
+pub tail_pairs : (x : ℕ) (xs : List ℕ) → AllPairs ◌≢◌ (x ∷ xs) → AllPairs ◌≢◌ xs
 tail_pairs x xs h = λ i j d l m. h (suc i) (suc j) d (omega (arith, l)) (omega (arith, m))
 
-head_lacks : (x : ℕ) (xs : List ℕ) → AllPairs ◌≢◌ (x ∷ xs) → Lacks x xs
+pub head_lacks : (x : ℕ) (xs : List ℕ) → AllPairs ◌≢◌ (x ∷ xs) → Lacks x xs
 head_lacks x xs h = lacks_by x xs (λ j d l. h 0 (suc j) d (omega arith) (omega (arith, l)))
 
 pub cut_at : (b : ℕ) (order : List ℕ) → AllPairs ◌≢◌ order → Contains order b → Cut b order

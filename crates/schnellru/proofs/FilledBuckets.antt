@@ -8,11 +8,8 @@ use Rattle.group_table.specs.Change.{MayFill}
 use Rattle.group_table.proofs.BucketLemmas.{count_by-pos, used_count-split}
 use Rattle.lru_limits.specs.Rules.{Rules}
 use Rattle.schnellru.specs.State.{State, buckets, room, IsSized}
+use Rattle.schnellru.proofs.Emptiness.{none_left}
 use Rattle.schnellru.specs.Place.{Place, into_empty, with_room, deleted_bucket, placed, IsPlaced}
-
-none_left : {X : Type 0} (xs : List X) → length xs ≡ 0 → xs ≡ []
-none_left [] e = refl
-none_left (x ∷ xs) e = absurd (omega (arith, e))
 
 module _ {K V S H : Type 0} (old : State K V S H) (ok : IsSized old) (b : ℕ) (within : b < buckets old) where
   -- a table with a deleted bucket has more than 16, and fewer pairs than it takes

@@ -1,9 +1,12 @@
 -- How tables grow.
-use Rattle.std.proofs.Common.{◌≡◌, ℕ, zero, suc, ◌+◌, ◌-◌, ◌*◌, ◌/◌, ◌^◌, ◌<◌, ◌≤◌, ◌⊎◌, Bool, true, false, cond, Option, Some, None, refl, sym, ap, ◌∙◌, arith, le_of_eq, pow_pos, pow-add, inl, inr}
+use Rattle.std.proofs.Common.{◌≡◌, ℕ, zero, suc, ◌+◌, ◌-◌, ◌*◌, ◌/◌, ◌^◌, ◌<◌, ◌≤◌, ◌⊎◌, Bool, true, false, cond, Option, Some, None, refl, sym, ap, ◌∙◌, arith, le_of_eq, pow_pos, pow-add, inl, inr, unwrap_or}
+use native.Mathlib.Decide.{dec_lt}
+use Rattle.std.proofs.Math.Pow.{pow_mono}
 use Rattle.std.specs.Prelude.{nat_lt, nat_le, ◌==◌}
 use Rattle.std.proofs.lemmas.Bool.Decides.{nat_tests}
-use Rattle.group_table.specs.Sizes.{full_capacity, least_power, below, buckets_for}
+use Rattle.group_table.specs.Sizes.{IsPowerFromFour, full_capacity, least_power, below, buckets_for}
 use Rattle.group_table.proofs.PowerLemmas.{doubled, first_power_least, first_power_shape, power_gap}
+use Rattle.group_table.proofs.SizeLemmas.{full_capacity-large, power_pos}
 use Rattle.schnellru.specs.Sizes.{bytes_of, usage, Target, no_table, same_table, new_table, table_of, table_with, target_from, target}
 
 -- 4, 8, or at least 16
@@ -119,6 +122,17 @@ usage_addressable e n bytes h = go (n == 0) (nat_le (bytes_of e n) (2 ^ 63 - 16)
     go false true z l h = omega (arith, l refl)
     go false false z l h = absurd (grind arith)
 
+-- with buckets the usage is their bytes
+pub usage_bytes : (e n bytes : ℕ) → 0 < n → usage e n ≡ Some bytes → (bytes_of e n ≡ bytes) × (bytes_of e n ≤ 2 ^ 63 - 16)
+unfolding usage
+usage_bytes e n bytes some h = go (n == 0) (nat_le (bytes_of e n) (2 ^ 63 - 16)) (λ z. grind (arith, nat_tests)) (λ z. grind (arith, nat_tests)) h
+  where
+    go : (b c : Bool) → (b ≡ true → n ≡ 0) → (c ≡ true → bytes_of e n ≤ 2 ^ 63 - 16) → cond b (Some 0) (cond c (Some (bytes_of e n)) None) ≡ Some bytes
+        → (bytes_of e n ≡ bytes) × (bytes_of e n ≤ 2 ^ 63 - 16)
+    go true c z le h = absurd (omega (arith, z refl, some))
+    go false true z le h = (ap (λ o. unwrap_or o (bytes_of e n)) h, le refl)
+    go false false z le h = absurd cc
+
 -- a new table has the usage that is told of it
 pub target_usage : (max e b c n bytes : ℕ) → target max e b c ≡ new_table n bytes → usage e n ≡ Some bytes
 unfolding target
@@ -136,3 +150,68 @@ target_usage max e b c n bytes = from (buckets_for max c)
 pub full_capacity-4 : full_capacity 4 ≡ 3
 unfolding full_capacity
 full_capacity-4 = refl
+
+-- a table takes at least 3
+pub full_capacity-some : (b : ℕ) → IsPowerFromFour b → 3 ≤ full_capacity b
+unfolding full_capacity
+full_capacity-some b power = let s = sizes_of power.0 b power.1 in grind (arith, nat_tests)
+
+-- what a table of more than 8 buckets takes has a half
+pub full_capacity-even : (b : ℕ) → IsPowerFromFour b → 8 < b → 2 * (full_capacity b / 2) ≡ full_capacity b
+full_capacity-even b (zero, e) h = absurd (omega (arith, e))
+full_capacity-even b (suc zero, e) h = absurd (omega (arith, e))
+full_capacity-even b (suc (suc k), e) h =
+    let eights : b ≡ 8 * (2 * 2 ^ k) = omega (arith, e, doubled 4 (suc k), doubled 8 k) in
+    omega (arith, eights, full_capacity-large b h)
+
+-- buckets that links reach
+pub buckets_below : (max c n : ℕ) → buckets_for max c ≡ Some n → 0 < n → n < max
+unfolding buckets_for
+buckets_below max c n = pick (c == 0) (nat_lt c 4) (nat_lt c 8) (nat_lt (8 * c) (2 ^ 64))
+  where
+    reached : (m : ℕ) → below max m ≡ Some n → n < max
+    reached m h = grind (arith, nat_tests)
+
+    pick : (a b d e : Bool) → cond a (Some 0) (cond b (below max 4) (cond d (below max 8) (cond e (below max (least_power (8 * c / 7))) None))) ≡ Some n → 0 < n → n < max
+    pick true b d e h p = absurd (grind arith)
+    pick false true d e h p = reached 4 h
+    pick false false true e h p = reached 8 h
+    pick false false false true h p = reached (least_power (8 * c / 7)) h
+    pick false false false false h p = absurd (grind arith)
+
+-- a new table has as many buckets as some pairs need
+target_need : (max e b c n bytes : ℕ) → target max e b c ≡ new_table n bytes → (pairs : ℕ) × (buckets_for max pairs ≡ Some n)
+unfolding target
+target_need max e b c n bytes = from (buckets_for max c) refl
+  where
+    from : (need : Option ℕ) → buckets_for max c ≡ need → target_from max e b c need ≡ new_table n bytes → (pairs : ℕ) × (buckets_for max pairs ≡ Some n)
+    from None q h = absurd (grind arith)
+    from (Some need) q h = split (nat_lt b need) (nat_le c (full_capacity b / 2)) h
+      where
+        split : (t u : Bool) → cond t (table_with e (Some need)) (cond u same_table (table_with e (buckets_for max (full_capacity (2 * b))))) ≡ new_table n bytes →
+            (pairs : ℕ) × (buckets_for max pairs ≡ Some n)
+        split true u h = (c, q ∙ (table_with_is e n bytes (Some need) h).0)
+        split false true h = absurd (grind arith)
+        split false false h = (full_capacity (2 * b), (table_with_is e n bytes _ h).0)
+
+-- links reach a new table, and it has a number of buckets that a table can have
+pub target_reached : (max e b c n bytes : ℕ) → IsPowerFromFour b → target max e b c ≡ new_table n bytes → IsPowerFromFour n × (n < max)
+unfolding IsSize
+target_reached max e b c n bytes power h = (size (buckets_shape max need.0 n need.1), buckets_below max need.0 n need.1 (omega (arith, doubles, least)))
+  where
+    need : (pairs : ℕ) × (buckets_for max pairs ≡ Some n)
+    need = target_need max e b c n bytes h
+
+    doubles : 2 * b ≤ n
+    doubles = target_doubles power.0 max e b c n bytes power.1 h
+
+    least : 4 ≤ b
+    least = power_pos b power
+
+    size : IsSize n → IsPowerFromFour n
+    size (inl none) = absurd (omega (arith, doubles, least, none))
+    size (inr (j, e)) = go (dec_lt j 2)
+      where
+        go : Dec (j < 2) → IsPowerFromFour n
+        go (yes small) = absurd (let z : 2 ^ j ≤ 2 ^ 1 = pow_mono {i = j} {j = 1} (omega arith) in omega (arith, z, e, doubles, least))
+        go (no large) = let f : j ≡ 2 + (j - 2) = omega arith in (j - 2, e ∙ ap (λ k. 2 ^ k) f ∙ pow-add 2 2 (j - 2))

@@ -33,7 +33,7 @@ module _ {K V : Type 0} (hash_of : K → ℕ) where
   pub KeysFit-removed : (old new : List (Slot (K × V))) (b : ℕ) → IsFull old b → Removes old new b → Fits new (hash_in hash_of old) → KeysFit hash_of new
   KeysFit-removed old new b there removes fits =
       Fits-agree new (hash_in hash_of old) (hash_in hash_of new) (λ x full. hash_in-same old new x (bucket_at-removed_other old new b x
-        (λ e. not_full (bucket_at new b) (entry_at-removed old new b there removes) (subst (IsFull new) e full)) removes)) fits
+      (λ e. not_full (bucket_at new b) (entry_at-removed old new b there removes) (subst (IsFull new) e full)) removes)) fits
 
   module _ (slots : List (Slot (K × V))) (b : ℕ) (within : b < length slots) (s : Slot (K × V)) (pair : K × V) (is : entry_of s ≡ Some pair) where
     hash_in-written : hash_in hash_of (set slots b s) b ≡ hash_of pair.0
@@ -54,7 +54,7 @@ module _ {K V : Type 0} (hash_of : K → ℕ) where
       → KeysFit hash_of (set slots b (full (record { tag = hash_tag hash; entry = pair })))
   KeysFit-placed slots b hash pair within same fits =
       KeysFit-written slots b within (full (record { tag = hash_tag hash; entry = pair })) pair refl (with_hash (hash_in hash_of slots) b hash)
-        (rw (eq-eqb b b refl) (sym same)) (λ x other. rw (ne_eqb x b other) refl) fits
+      (rw (eq-eqb b b refl) (sym same)) (λ x other. rw (ne_eqb x b other) refl) fits
 
   refilled_there : (s : Slot (K × V)) (was last : K × V) → entry_of s ≡ Some was → entry_of (refilled s last) ≡ Some last
   refilled_there empty was last e = absurd (cc)
@@ -65,7 +65,7 @@ module _ {K V : Type 0} (hash_of : K → ℕ) where
       → KeysFit hash_of slots → KeysFit hash_of (set slots b (refilled (bucket_at slots b) last))
   KeysFit-refilled slots b was last there is same fits =
       KeysFit-written slots b (full_lt slots b there) (refilled (bucket_at slots b) last) last (refilled_there (bucket_at slots b) was last is) (hash_in hash_of slots)
-        (hash_in-entry slots b was is ∙ sym same) (λ x other. refl) (Fits-refilled slots b last (hash_in hash_of slots) there fits)
+      (hash_in-entry slots b was is ∙ sym same) (λ x other. refl) (Fits-refilled slots b last (hash_in hash_of slots) there fits)
 
 room_none : room [] ≡ 0
 unfolding room

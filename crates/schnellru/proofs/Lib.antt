@@ -22,6 +22,7 @@ pub mod Limits
 pub mod Promotion
 pub mod Kept
 pub mod FilledBuckets
+pub mod Emptiness
 pub mod Landed
 pub mod Moved
 pub mod Searched
@@ -35,4 +36,6 @@ pub mod WholeLemmas
 pub mod ReadLemmas
 pub mod MovedLemmas
 pub mod RelocateLemmas
+pub mod RestLemmas
+pub mod Placing
 pub mod SomeInsert

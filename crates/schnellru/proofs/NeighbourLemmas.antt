@@ -210,10 +210,10 @@ module _ (m : ℕ → ℕ) where
   pub distinct-moved : (order : List ℕ) → MovesApart order → AllPairs ◌≢◌ order → AllPairs ◌≢◌ (map m order)
   distinct-moved [] moves d = d
   distinct-moved (c ∷ cs) moves d = distinct_cons (m c) (map m cs)
-    (λ w.
+      (λ w.
       let r = Contains-moved (m c) cs w in
       distinct_head c cs d (subst (Contains cs) (moves r.0 c (Contains-later c r.0 cs r.1) (Contains-here c cs) r.2) r.1))
-    (distinct-moved cs (apart_tail c cs moves) (distinct_tail c cs d))
+      (distinct-moved cs (apart_tail c cs moves) (distinct_tail c cs d))
 
   after-moved_apart : (b : ℕ) (order : List ℕ) → ((c : ℕ) → Contains order c → m c ≡ m b → c ≡ b) → bucket_after (m b) (map m order) ≡ option_map m (bucket_after b order)
   after-moved_apart b [] apart = refl

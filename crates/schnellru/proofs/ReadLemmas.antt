@@ -12,10 +12,6 @@ use Rattle.schnellru.proofs.NeighbourLemmas.{newest_again}
 use Rattle.schnellru.proofs.PairSlotLemmas.{is_full-pair_slots}
 use Rattle.schnellru.proofs.ChainLemmas.{end_by_link, chained_below, newer_link, older_link}
 
-first_some : (order : List ℕ) → 0 < length order → first_bucket order ≡ None → ⊥
-first_some [] p e = absurd (omega arith)
-first_some (c ∷ cs) p e = none_some c (sym e)
-
 last_some : (order : List ℕ) → 0 < length order → last_bucket order ≡ None → ⊥
 last_some [] p e = absurd (omega arith)
 last_some (c ∷ []) p e = none_some c (sym e)
@@ -52,8 +48,8 @@ module _ {N : Type 0} (number : N → ℕ) (link : ℕ → N) (none : N) (eq : N
     below : (x : ℕ) → Contains order x → x < number none
     below = chained_below number link none eq laws slots newest oldest order whole.chain
 
-    pub newest_shown : 0 < length order → first_bucket order ≡ Some (number newest)
-    newest_shown p = leads_to (first_bucket order) newest whole.chain.newest_first (λ y e. below y (first_in order y e)) (first_some order p)
+    pub newest_shown : (r : Option ℕ) → IfNone r (newest ≡ none) → IfSome r (λ b. (newest ≢ none) × (b ≡ number newest)) → r ≡ first_bucket order
+    newest_shown r = read_link r (first_bucket order) newest whole.chain.newest_first (λ y e. below y (first_in order y e))
 
     pub oldest_shown : 0 < length order → last_bucket order ≡ Some (number oldest)
     oldest_shown p = leads_to (last_bucket order) oldest whole.chain.oldest_last (λ y e. below y (last_in order y e)) (last_some order p)
@@ -69,10 +65,10 @@ module _ {N : Type 0} (number : N → ℕ) (link : ℕ → N) (none : N) (eq : N
         pub older_shown : (r : Option ℕ) → IfNone r (entry.older ≡ none) → IfSome r (λ c. (entry.older ≢ none) × (c ≡ number entry.older)) → r ≡ bucket_after b order
         older_shown r at_none at_some =
             read_link r (bucket_after b order) entry.older (older_link number link none eq laws slots newest oldest order whole.chain b inside entry is)
-              (λ y e. below y (after_in b y order e)) at_none at_some
+            (λ y e. below y (after_in b y order e)) at_none at_some
 
         -- the bucket with no newer one is the newest already
         pub newest_already : entry.newer ≡ none → order ≡ b ∷ without_bucket b order
         newest_already e = newest_again b order whole.chain.distinct inside
             (end_by_link number link none eq laws (bucket_before b order) (λ y k. below y (before_in b y order whole.chain.distinct k))
-              (sym (newer_link number link none eq laws slots newest oldest order whole.chain b inside entry is) ∙ e))
+            (sym (newer_link number link none eq laws slots newest oldest order whole.chain b inside entry is) ∙ e))

@@ -48,13 +48,13 @@ module _ {N : Type 0} (number : N → ℕ) (link : ℕ → N) (none : N) {K V : 
       → entries_in (pair_slots now) (map (moved_to number none links) order) ≡ entries_in (pair_slots before) order
   pairs-moved newest oldest order whole =
       entries_in-moved (pair_slots before) (pair_slots now) (moved_to number none links) order
-        (λ b inside. ap (λ slots. entry_at slots (moved_to number none links b)) same ∙ pair_moved b (whole.chain.only b inside))
+      (λ b inside. ap (λ slots. entry_at slots (moved_to number none links b)) same ∙ pair_moved b (whole.chain.only b inside))
 
   -- the hashes of the keys fit, which the entries had before
   pub KeysFit-moved : (hash_of : K → ℕ) → KeepsHashes number none before start links (hash_in hash_of (pair_slots before)) → KeysFit hash_of (pair_slots now)
   KeysFit-moved hash_of keeps =
       rw same (Fits-pair_slots start (hash_in hash_of (pair_slots start)) (keeps (hash_in hash_of (pair_slots start))
-        (λ b there. ap (λ o. unwrap_or (option_map (λ p. hash_of p.0) o) 0) (pair_moved b there))))
+      (λ b there. ap (λ o. unwrap_or (option_map (λ p. hash_of p.0) o) 0) (pair_moved b there))))
 
 -- the hash of the key of an entry
 pub hash_in-pair_slots : {K V N : Type 0} (hash_of : K → ℕ) (slots : List (Slot (Entry K V N))) (b : ℕ) (entry : Entry K V N) → entry_at slots b ≡ Some entry

@@ -11,7 +11,7 @@ use Rattle.schnellru.proofs.Outcomes.{placed-not_no_memory, refused-not_no_memor
 use Rattle.schnellru.proofs.Growth.{full_capacity-at_most}
 
 -- no buckets, no room
-no_room : (marks : List Mark) → length marks ≡ 0 → room_of marks ≡ 0
+pub no_room : (marks : List Mark) → length marks ≡ 0 → room_of marks ≡ 0
 unfolding room_of
 no_room marks e = omega (arith, full_capacity-at_most (length marks))
 

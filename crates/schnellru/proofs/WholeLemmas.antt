@@ -9,8 +9,8 @@ use Rattle.group_table.specs.Table.{Table, IsTable}
 use Rattle.group_table.specs.Change.{Places, Removes}
 use Rattle.group_table.proofs.BucketLemmas.{bucket_at-past, is_full-marks_of, entry_count-marks_of}
 use Rattle.group_table.proofs.RefillLemmas.{marks_of-refilled}
-use Rattle.group_table.proofs.SearchLemmas.{held_by, full_by_entry}
-use Rattle.group_table.proofs.ChangeLemmas.{entry_at-placed, entry_count-places, bucket_at-placed_other, entry_at-removed, bucket_at-removed_other, entry_count-removes}
+use Rattle.group_table.proofs.SearchLemmas.{held_by}
+use Rattle.group_table.proofs.ChangeLemmas.{entry_count-places, bucket_at-placed_other, entry_at-removed, bucket_at-removed_other, entry_count-removes}
 use Rattle.schnellru.specs.declared.link.Entry.{Entry}
 use Rattle.schnellru.specs.declared.link.Pair.{Pair}
 use Rattle.schnellru.specs.Linked.{Linked, IsLinked, without_bucket, with_pair}
@@ -44,10 +44,10 @@ module _ {N : Type 0} (number : N → ℕ) (link : ℕ → N) (none : N) (eq : N
       let is : number (link c) ≡ c = laws.number_of_link c (below c (Contains-here c cs)) in
       let last : bucket_after c (c ∷ cs) ≡ first_bucket cs = rw (eq-eqb c c refl) refl in
       let leads : older_at slots (number (link c)) ≡ Some (link_to link none (first_bucket cs)) =
-          ap (older_at slots) is ∙ older c (Contains-here c cs) ∙ ap (λ o. Some (link_to link none o)) last in
+      ap (older_at slots) is ∙ older c (Contains-here c cs) ∙ ap (λ o. Some (link_to link none o)) last in
       let absent : Contains cs c → ⊥ = distinct_head c cs d in
       let rest = along-chain slots reached n cs (distinct_tail c cs d) (λ x w. below x (Contains-later c x cs w))
-          (λ x w. older x (Contains-later c x cs w) ∙ ap (λ o. Some (link_to link none o)) (after-later c cs absent (distinct_tail c cs d) x w)) (omega arith) in
+      (λ x w. older x (Contains-later c x cs w) ∙ ap (λ o. Some (link_to link none o)) (after-later c cs absent (distinct_tail c cs d) x w)) (omega arith) in
       one_along n slots (link c) (link_to link none (first_bucket cs)) (entry_at slots (number (link c))) leads
       ∙ ap (λ x. x ∷ along number n slots (link_to link none (first_bucket cs))) is ∙ ap (λ xs. c ∷ xs) rest
 
@@ -56,7 +56,7 @@ module _ {N : Type 0} (number : N → ℕ) (link : ℕ → N) (none : N) (eq : N
   whole_order slots newest oldest order whole =
       ap (along number (length slots) slots) whole.chain.newest_first
       ∙ along-chain slots whole.chain.reached (length slots) order whole.chain.distinct
-        (chained_below number link none eq laws slots newest oldest order whole.chain) whole.chain.older (omega (arith, count_by-le-length is_full slots, whole.count))
+      (chained_below number link none eq laws slots newest oldest order whole.chain) whole.chain.older (omega (arith, count_by-le-length is_full slots, whole.count))
 
   pub IsWhole-shown : (slots : List (Slot (Entry K V N))) (newest oldest : N) (order : List ℕ) → IsWhole number link none slots newest oldest order
       → IsWhole number link none slots newest oldest (along number (length slots) slots newest)
@@ -125,9 +125,6 @@ module _ {N : Type 0} (number : N → ℕ) (link : ℕ → N) (none : N) (eq : N
 
     other_than : (x : ℕ) → Contains order x → x ≢ b
     other_than x w e = placed_absent (subst (Contains order) e w)
-
-    pub placed_full : IsFull new.slots b
-    placed_full = full_by_entry (bucket_at new.slots b) entry (entry_at-placed old new hash entry b places within)
 
     pub IsChain-placed : IsChain number link none new.slots newest oldest order
     IsChain-placed = IsChain-kept old.slots new.slots newest oldest order (ap length places.slots ∙ length-set old.slots b _) (λ x w. bucket_at-placed_other old new hash entry b places x (other_than x w)) whole.chain

@@ -105,13 +105,12 @@ impl<K, V, N: LinkType> Linked<K, V, N> {
         &self.table.get(b).pair
     }
 
-    // The bucket of the newest pair.
+    // The bucket of the newest pair, if there is one.
     #[inline]
-    pub(crate) fn newest(&self) -> usize
-        requires { 0 < length self.now.order }
-        ensures newest { first_bucket self.now.order ≡ Some result }
+    pub(crate) fn newest(&self) -> Option<usize>
+        ensures newest { result ≡ first_bucket self.now.order }
     {
-        self.newest.into_usize()
+        bucket_of(self.newest)
     }
 
     // The bucket of the oldest pair.
@@ -214,7 +213,11 @@ impl<K: Eq + Hash, V, N: LinkType> Linked<K, V, N> {
 
 impl<K: Eq + Hash + Drop, V: Drop, N: LinkType> Linked<K, V, N> {
     // Moves all pairs into a table of so many buckets, in the same order.
-    pub(crate) fn relocate<S: BuildHasher>(&mut self, buckets: usize, hasher: &S) -> Result<(), AllocError>
+    pub(crate) fn relocate<S: BuildHasher>(
+        &mut self,
+        buckets: usize,
+        hasher: &S,
+    ) -> Result<(), AllocError>
         requires count { IsPowerFromFour buckets }
         requires addressable { buckets + 16 < 2 ^ 63 }
         requires below { buckets < N.number N.MAX }
@@ -226,8 +229,15 @@ impl<K: Eq + Hash + Drop, V: Drop, N: LinkType> Linked<K, V, N> {
         ensures linked { IsLinked self.new }
         ensures unchanged { OnErr result (self.new ≡ self.old) }
     {
-        let links = self.table.relocate(buckets, |entry| hasher.hash_one(&entry.pair.key))?;
-        rewrite(&mut self.table, &mut self.newest, &mut self.oldest, links.as_slice());
+        let links = self
+            .table
+            .relocate(buckets, |entry| hasher.hash_one(&entry.pair.key))?;
+        rewrite(
+            &mut self.table,
+            &mut self.newest,
+            &mut self.oldest,
+            links.as_slice(),
+        );
         Ok(())
     }
 
@@ -242,7 +252,12 @@ impl<K: Eq + Hash + Drop, V: Drop, N: LinkType> Linked<K, V, N> {
         ensures succeeds { length self.old.order ≡ 0 → IsOk result }
     {
         let links = self.table.rehash(|entry| hasher.hash_one(&entry.pair.key))?;
-        rewrite(&mut self.table, &mut self.newest, &mut self.oldest, links.as_slice());
+        rewrite(
+            &mut self.table,
+            &mut self.newest,
+            &mut self.oldest,
+            links.as_slice(),
+        );
         Ok(())
     }
 }

@@ -1,5 +1,5 @@
 //! What a table takes in bytes, and the table that a map grows into.
-ghost use Rattle.std.specs.Prelude.{◌≡◌, ◌*◌, ◌/◌, ◌^◌, ◌<◌, ◌≤◌, IfSome};
+ghost use Rattle.std.specs.Prelude.{◌≡◌, ◌-◌, ◌/◌, ◌^◌, ◌<◌, ◌≤◌};
 ghost use Rattle.group_table.specs.Sizes.{IsBucketCount, full_capacity, buckets_for};
 ghost use Rattle.schnellru.specs.Sizes.{bytes_of, usage, usage_within, target, larger};
 
@@ -8,6 +8,7 @@ use group_table::{buckets_for_capacity, full_capacity};
 const MOST_BYTES: usize = isize::MAX as usize - 15;
 
 // The bytes of a table of so many buckets, where there can be such a table.
+#[tactic(auto, unfolding(crate::specs::Sizes::usage))]
 pub(crate) fn usage(entry_bytes: usize, buckets: usize) -> Option<usize>
     ensures { result ≡ usage entry_bytes buckets }
 {
@@ -29,6 +30,7 @@ pub(crate) fn bytes_of(entry_bytes: usize, buckets: usize) -> usize
 
 // The buckets and the bytes of the table that a table goes to which is to take so many pairs, more than half of what it
 // takes.
+#[tactic(auto, unfolding(crate::specs::Sizes::target))]
 pub(crate) fn larger_table(
     max: usize,
     entry_bytes: usize,
@@ -51,16 +53,18 @@ pub(crate) fn larger_table(
 }
 
 // The greatest usage of 4, 8, 16, .. buckets, as far as links reach, that is within the budget, or 0.
+#[tactic(auto, unfolding(crate::specs::Sizes::usage_within))]
 pub(crate) fn usage_within(max: usize, entry_bytes: usize, budget: usize) -> usize
     ensures { result ≡ usage_within max entry_bytes budget }
 {
     let mut best = 0;
-    for k in 0..62 {
-        let buckets = 4 << k;
+    for k in 0..62u32 {
+        let buckets = 4usize << k;
         if buckets < max {
-            match usage(entry_bytes, buckets) {
-                Some(bytes) if bytes <= budget => best = bytes,
-                _ => {}
+            if let Some(bytes) = usage(entry_bytes, buckets) {
+                if bytes <= budget {
+                    best = bytes;
+                }
             }
         }
     }

@@ -50,12 +50,7 @@ pub(crate) fn link_newest<K, V, N: LinkType>(
 
 // Sets the newer link of the entry at a link, or the oldest end, where the link is `MAX`.
 #[inline]
-fn set_newer<K, V, N: LinkType>(
-    table: &mut Table<Entry<K, V, N>>,
-    oldest: &mut N,
-    at: N,
-    to: N,
-)
+fn set_newer<K, V, N: LinkType>(table: &mut Table<Entry<K, V, N>>, oldest: &mut N, at: N, to: N)
     requires reached { length table.old.slots < N.number N.MAX }
     requires there { at ≡ N.MAX ⊎ IsFull table.old.slots (N.number at) }
     ensures slots { SetsNewer N.number table.old.slots table.new.slots at to }
@@ -70,12 +65,7 @@ fn set_newer<K, V, N: LinkType>(
 
 // Sets the older link of the entry at a link, or the newest end, where the link is `MAX`.
 #[inline]
-fn set_older<K, V, N: LinkType>(
-    table: &mut Table<Entry<K, V, N>>,
-    newest: &mut N,
-    at: N,
-    to: N,
-)
+fn set_older<K, V, N: LinkType>(table: &mut Table<Entry<K, V, N>>, newest: &mut N, at: N, to: N)
     requires reached { length table.old.slots < N.number N.MAX }
     requires there { at ≡ N.MAX ⊎ IsFull table.old.slots (N.number at) }
     ensures slots { SetsOlder N.number table.old.slots table.new.slots at to }
@@ -90,12 +80,7 @@ fn set_older<K, V, N: LinkType>(
 
 // Sets both links of the entry in a full bucket.
 #[inline]
-fn set_links<K, V, N: LinkType>(
-    table: &mut Table<Entry<K, V, N>>,
-    b: usize,
-    newer: N,
-    older: N,
-)
+fn set_links<K, V, N: LinkType>(table: &mut Table<Entry<K, V, N>>, b: usize, newer: N, older: N)
     requires { IsFull table.old.slots b }
     ensures { SetsLinks table.old.slots table.new.slots b newer older }
 {

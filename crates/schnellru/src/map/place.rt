@@ -149,31 +149,38 @@ impl<K: Eq + Hash + Drop, V: Drop, L: Limiter<K, V>, S: BuildHasher> LruMap<K, V
         ensures { IsPlacedIfMemory L.rules pair count (full_capacity count - length self.old.pairs - 1) (length self.old.pairs)
             self.old (outcome_of result) self.new }
     {
-        if self.move_to(count).is_err() {
-            self.turn_away(pair);
-            return Err(AllocError);
+        match self.move_to(count) {
+            Ok(()) => {
+                self.place_surely(hash, pair);
+                Ok(true)
+            }
+            Err(error) => {
+                self.turn_away(pair);
+                Err(error)
+            }
         }
-        self.place_surely(hash, pair);
-        Ok(true)
     }
 
     // Places the pair in a table of as many buckets that is made anew. A map without pairs needs no memory for it.
     fn place_after_rehash(&mut self, hash: u64, pair: (K, V)) -> Result<bool, AllocError>
         requires hash { hash ≡ hash_by K.hash_input S.BuildHasher S.Hasher.Hasher self.old.hasher pair.0 }
         requires absent { lookup_entry (K.eq pair.0) self.old.pairs ≡ None }
-        requires some { 0 < buckets self.old }
-        requires half { 2 * length self.old.pairs ≤ full_capacity (buckets self.old) }
+        requires half { 2 * length self.old.pairs < full_capacity (buckets self.old) }
         requires paid { self.old.moved + length self.old.pairs ≤ 2 * self.old.placed }
         ensures placed { IsPlacedIfMemory L.rules pair (buckets self.old) (full_capacity (buckets self.old) - length self.old.pairs - 1)
             (length self.old.pairs) self.old (outcome_of result) self.new }
         ensures succeeds { self.old.pairs ≡ [] → IsOk result }
     {
-        if self.rehash().is_err() {
-            self.turn_away(pair);
-            return Err(AllocError);
+        match self.rehash() {
+            Ok(()) => {
+                self.place_surely(hash, pair);
+                Ok(true)
+            }
+            Err(error) => {
+                self.turn_away(pair);
+                Err(error)
+            }
         }
-        self.place_surely(hash, pair);
-        Ok(true)
     }
 
     // Places the pair where there is room.

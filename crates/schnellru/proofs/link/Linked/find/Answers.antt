@@ -16,5 +16,5 @@ returns-clause-none g c = rw (← c.self.view_is) (if_none c.find.result (λ non
     let w = entry_of-pair_at c.self.inside.table.slots b pair there in
     let hash = hash_in-entry hash_of _ b pair there ∙ same in
     let refused = FindsNone-test _ c.self.inside.table.slots _ (λ entry. g.Q.LookupKey.names c.args.key.now entry.pair.key) (λ x r f k. search rules) c.args.hash none
-        _ (Fits-entries c.self.inside.table.slots _ fits) b w.0 hash w.1 in
+    _ (Fits-entries c.self.inside.table.slots _ fits) b w.0 hash w.1 in
     ap (λ p. g.Q.LookupKey.names c.args.key.now p.0) (sym w.2) ∙ refused) c.find.ensures.none)

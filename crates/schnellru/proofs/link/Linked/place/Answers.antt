@@ -8,8 +8,7 @@ use Rattle.schnellru.proofs.link.Linked.place.Goals as goal
 pub link_newest-requires-clause-chained : goal.link_newest-requires-clause-chained
 link_newest-requires-clause-chained g c =
     let placed = c.in-Ok.ensures.placed in
-    let within = fills_within c.self.inside.table.slots c.args.hash c.in-Ok.b placed.first c.in-Ok.ensures.may_fill in
-    (
+    let within = fills_within c.self.inside.table.slots c.args.hash c.in-Ok.b placed.first c.in-Ok.ensures.may_fill in (
       _,
       IsChain-placed _ _ _ _ g.met.N.LinkType.laws _ _ _ _ _ c.self.invariant c.args.hash c.in-Ok.b _ placed within,
       placed_absent _ _ _ _ g.met.N.LinkType.laws _ _ _ _ _ c.self.invariant c.args.hash c.in-Ok.b _ placed within,
@@ -20,27 +19,30 @@ invariant_of-self g c =
     let placed = c.in-Ok.ensures.placed in
     let within = fills_within c.self.inside.table.slots c.args.hash c.in-Ok.b placed.first c.in-Ok.ensures.may_fill in
     let chain = c.link_newest.ensures.chain _
-      (IsChain-placed _ _ _ _ g.met.N.LinkType.laws _ _ _ _ _ c.self.invariant c.args.hash c.in-Ok.b _ placed within)
-      (placed_absent _ _ _ _ g.met.N.LinkType.laws _ _ _ _ _ c.self.invariant c.args.hash c.in-Ok.b _ placed within) in
+    (IsChain-placed _ _ _ _ g.met.N.LinkType.laws _ _ _ _ _ c.self.invariant c.args.hash c.in-Ok.b _ placed within)
+    (placed_absent _ _ _ _ g.met.N.LinkType.laws _ _ _ _ _ c.self.invariant c.args.hash c.in-Ok.b _ placed within) in
     IsWhole-shown _ _ _ _ g.met.N.LinkType.laws _ _ _ _
-      (IsWhole-placed _ _ _ _ g.met.N.LinkType.laws _ _ _ _ _ c.self.invariant c.args.hash c.in-Ok.b _ placed within _ _ _ c.link_newest.ensures.pairs chain)
+    (IsWhole-placed _ _ _ _ g.met.N.LinkType.laws _ _ _ _ _ c.self.invariant c.args.hash c.in-Ok.b _ placed within _ _ _ c.link_newest.ensures.pairs chain)
 
 pub returns-in-Ok-clause-placed : goal.returns-in-Ok-clause-placed
 returns-in-Ok-clause-placed g c =
     let placed = c.in-Ok.ensures.placed in
     let within = fills_within c.self.inside.table.slots c.args.hash c.in-Ok.b placed.first c.in-Ok.ensures.may_fill in
     let chain = c.link_newest.ensures.chain _
-      (IsChain-placed _ _ _ _ g.met.N.LinkType.laws _ _ _ _ _ c.self.invariant c.args.hash c.in-Ok.b _ placed within)
-      (placed_absent _ _ _ _ g.met.N.LinkType.laws _ _ _ _ _ c.self.invariant c.args.hash c.in-Ok.b _ placed within) in
+    (IsChain-placed _ _ _ _ g.met.N.LinkType.laws _ _ _ _ _ c.self.invariant c.args.hash c.in-Ok.b _ placed within)
+    (placed_absent _ _ _ _ g.met.N.LinkType.laws _ _ _ _ _ c.self.invariant c.args.hash c.in-Ok.b _ placed within) in
     let order = whole_order _ _ _ _ g.met.N.LinkType.laws _ _ _ _
-      (IsWhole-placed _ _ _ _ g.met.N.LinkType.laws _ _ _ _ _ c.self.invariant c.args.hash c.in-Ok.b _ placed within _ _ _ c.link_newest.ensures.pairs chain) in
-    rw (← c.self.view_is) (c.in-Ok.b, record {
-      first = rw (marks_of-pair_slots c.self.inside.table.slots) placed.first;
-      may = rw (marks_of-pair_slots c.self.inside.table.slots) c.in-Ok.ensures.may_fill;
-      slots = c.link_newest.ensures.pairs ∙ ap pair_slots placed.slots ∙ pair_slots-set c.self.inside.table.slots c.in-Ok.b _;
-      order = order;
-      room = rw (c.link_newest.ensures.pairs, marks_of-pair_slots c.try_place.new.self.slots, marks_of-pair_slots c.self.inside.table.slots) c.in-Ok.ensures.room;
-    })
+    (IsWhole-placed _ _ _ _ g.met.N.LinkType.laws _ _ _ _ _ c.self.invariant c.args.hash c.in-Ok.b _ placed within _ _ _ c.link_newest.ensures.pairs chain) in
+    rw (← c.self.view_is) (
+      c.in-Ok.b,
+      record {
+        first = rw (marks_of-pair_slots c.self.inside.table.slots) placed.first;
+        may = rw (marks_of-pair_slots c.self.inside.table.slots) c.in-Ok.ensures.may_fill;
+        slots = c.link_newest.ensures.pairs ∙ ap pair_slots placed.slots ∙ pair_slots-set c.self.inside.table.slots c.in-Ok.b _;
+        order = order;
+        room = rw (c.link_newest.ensures.pairs, marks_of-pair_slots c.try_place.new.self.slots, marks_of-pair_slots c.self.inside.table.slots) c.in-Ok.ensures.room;
+      },
+    )
 
 pub returns-in-Ok-clause-fits : goal.returns-in-Ok-clause-fits
 returns-in-Ok-clause-fits g c hash_of fits same =
@@ -50,7 +52,7 @@ returns-in-Ok-clause-fits g c hash_of fits same =
     let slots = ap pair_slots placed.slots ∙ pair_slots-set c.self.inside.table.slots c.in-Ok.b _ in
     let after = rw slots at (Fits-pair_slots c.try_place.new.self.slots _ (c.in-Ok.ensures.fits _ (Fits-entries c.self.inside.table.slots _ before))) in
     rw (c.link_newest.ensures.pairs, slots)
-      (KeysFit-placed hash_of (pair_slots c.self.inside.table.slots) c.in-Ok.b c.args.hash c.args.pair (rw (length-pair_slots c.self.inside.table.slots) within) same after)
+    (KeysFit-placed hash_of (pair_slots c.self.inside.table.slots) c.in-Ok.b c.args.hash c.args.pair (rw (length-pair_slots c.self.inside.table.slots) within) same after)
 
 pub returns-in-Ok-clause-linked : goal.returns-in-Ok-clause-linked
 returns-in-Ok-clause-linked g c =

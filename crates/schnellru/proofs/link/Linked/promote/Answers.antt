@@ -27,8 +27,8 @@ invariant_of-self g c =
     let left = c.unlink.ensures.chain _ c.self.invariant.chain there in
     let chain = c.link_newest.ensures.chain _ left (λ w. (without_in c.args.b c.args.b _ w).1 refl) in
     IsWhole-shown _ _ _ _ g.met.N.LinkType.laws _ _ _ _
-      (IsWhole-promoted _ _ _ _ g.met.N.LinkType.laws _ c.unlink.new.table.slots _ _ _ _ _ _ c.self.invariant c.args.b
-        (full_entry _ _ _ _ g.met.N.LinkType.laws _ _ _ _ c.self.invariant c.args.b full) (c.link_newest.ensures.pairs ∙ c.unlink.ensures.pairs) chain)
+    (IsWhole-promoted _ _ _ _ g.met.N.LinkType.laws _ c.unlink.new.table.slots _ _ _ _ _ _ c.self.invariant c.args.b
+    (full_entry _ _ _ _ g.met.N.LinkType.laws _ _ _ _ c.self.invariant c.args.b full) (c.link_newest.ensures.pairs ∙ c.unlink.ensures.pairs) chain)
 
 pub returns-clause-order : goal.returns-clause-order
 returns-clause-order g c =
@@ -37,8 +37,8 @@ returns-clause-order g c =
     let left = c.unlink.ensures.chain _ c.self.invariant.chain there in
     let chain = c.link_newest.ensures.chain _ left (λ w. (without_in c.args.b c.args.b _ w).1 refl) in
     rw (← c.self.view_is) (whole_order _ _ _ _ g.met.N.LinkType.laws _ _ _ _
-      (IsWhole-promoted _ _ _ _ g.met.N.LinkType.laws _ c.unlink.new.table.slots _ _ _ _ _ _ c.self.invariant c.args.b
-        (full_entry _ _ _ _ g.met.N.LinkType.laws _ _ _ _ c.self.invariant c.args.b full) (c.link_newest.ensures.pairs ∙ c.unlink.ensures.pairs) chain))
+    (IsWhole-promoted _ _ _ _ g.met.N.LinkType.laws _ c.unlink.new.table.slots _ _ _ _ _ _ c.self.invariant c.args.b
+    (full_entry _ _ _ _ g.met.N.LinkType.laws _ _ _ _ c.self.invariant c.args.b full) (c.link_newest.ensures.pairs ∙ c.unlink.ensures.pairs) chain))
 
 pub returns-clause-linked : goal.returns-clause-linked
 returns-clause-linked g c =

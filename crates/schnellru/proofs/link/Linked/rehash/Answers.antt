@@ -21,31 +21,31 @@ invariant_of-self-2 g c =
     let renumbers = rw (← c.as_slice.ensures.value) at c.in_ok-links.ensures.renumbered in
     let chain = c.rewrite.ensures.chain _ _ c.self.invariant renumbers in
     IsWhole-shown _ _ _ _ g.met.N.LinkType.laws _ _ _ _
-      (IsWhole-moved _ _ _ _ _ _ _ renumbers c.rewrite.ensures.pairs _ _ _ _ _ c.self.invariant c.in_ok-links.ensures.entries chain)
+    (IsWhole-moved _ _ _ _ _ _ _ renumbers c.rewrite.ensures.pairs _ _ _ _ _ c.self.invariant c.in_ok-links.ensures.entries chain)
 
 pub returns-clause-pairs : goal.returns-clause-pairs
 returns-clause-pairs g c =
     let renumbers = rw (← c.as_slice.ensures.value) at c.in_ok-links.ensures.renumbered in
     let chain = c.rewrite.ensures.chain _ _ c.self.invariant renumbers in
     let order = whole_order _ _ _ _ g.met.N.LinkType.laws _ _ _ _
-      (IsWhole-moved _ _ _ _ _ _ _ renumbers c.rewrite.ensures.pairs _ _ _ _ _ c.self.invariant c.in_ok-links.ensures.entries chain) in
+    (IsWhole-moved _ _ _ _ _ _ _ renumbers c.rewrite.ensures.pairs _ _ _ _ _ c.self.invariant c.in_ok-links.ensures.entries chain) in
     rw (← c.self.view_is)
-      (ap (entries_in (pair_slots c.rewrite.new.table.slots)) order
-      ∙ pairs-moved g.N.LinkType.number g.N.LinkType.link g.N.LinkType.MAX _ _ _ _ renumbers c.rewrite.ensures.pairs _ _ _ c.self.invariant)
+    (ap (entries_in (pair_slots c.rewrite.new.table.slots)) order
+    ∙ pairs-moved g.N.LinkType.number g.N.LinkType.link g.N.LinkType.MAX _ _ _ _ renumbers c.rewrite.ensures.pairs _ _ _ c.self.invariant)
 
 pub returns-clause-room : goal.returns-clause-room
 returns-clause-room g c =
     let marks = same_marks c.rehash.new.self.slots c.rewrite.new.table.slots c.rewrite.ensures.pairs in
     rw (← c.self.view_is, marks_of-pair_slots c.rewrite.new.table.slots, marks, ← c.self.invariant.count, length-pair_slots c.self.inside.table.slots)
-      (c.in_ok-links.ensures.room ∙ ap full_capacity c.in_ok-links.ensures.buckets)
+    (c.in_ok-links.ensures.room ∙ ap full_capacity c.in_ok-links.ensures.buckets)
 
 pub returns-clause-fits : goal.returns-clause-fits
 returns-clause-fits g c =
     KeysFit-moved g.N.LinkType.number g.N.LinkType.link g.N.LinkType.MAX _ _ _ _ c.in_ok-links.ensures.renumbered c.rewrite.ensures.pairs
-      (hash_by g.K.Hash.hash_input g.S.BuildHasher g.S.Hasher.Hasher c.args.hasher.now)
-      (c.in_ok-links.ensures.hashes _ (λ b hash entry is called.
-        let told : hash ≡ hash_by g.K.Hash.hash_input g.S.BuildHasher g.S.Hasher.Hasher c.args.hasher.now entry.pair.key = search rules in
-        told ∙ sym (hash_in-pair_slots (hash_by g.K.Hash.hash_input g.S.BuildHasher g.S.Hasher.Hasher c.args.hasher.now) c.self.inside.table.slots b entry is)))
+    (hash_by g.K.Hash.hash_input g.S.BuildHasher g.S.Hasher.Hasher c.args.hasher.now)
+    (c.in_ok-links.ensures.hashes _ (λ b hash entry is called.
+    let told : hash ≡ hash_by g.K.Hash.hash_input g.S.BuildHasher g.S.Hasher.Hasher c.args.hasher.now entry.pair.key = search rules in
+    told ∙ sym (hash_in-pair_slots (hash_by g.K.Hash.hash_input g.S.BuildHasher g.S.Hasher.Hasher c.args.hasher.now) c.self.inside.table.slots b entry is)))
 
 pub returns-clause-linked : goal.returns-clause-linked
 returns-clause-linked g c =

@@ -10,8 +10,8 @@ invariant_of-self g c =
     let there = inside _ _ _ _ g.met.N.LinkType.laws _ _ _ _ c.self.invariant c.args.b full in
     let left = c.unlink.ensures.chain _ c.self.invariant.chain there in
     IsWhole-shown _ _ _ _ g.met.N.LinkType.laws _ _ _ _
-      (IsWhole-taken _ _ _ _ g.met.N.LinkType.laws _ _ _ _ _ _ _ _ c.self.invariant c.args.b
-        (full_entry _ _ _ _ g.met.N.LinkType.laws _ _ _ _ c.self.invariant c.args.b full) c.unlink.ensures.pairs left c.take-key.ensures.removed)
+    (IsWhole-taken _ _ _ _ g.met.N.LinkType.laws _ _ _ _ _ _ _ _ c.self.invariant c.args.b
+    (full_entry _ _ _ _ g.met.N.LinkType.laws _ _ _ _ c.self.invariant c.args.b full) c.unlink.ensures.pairs left c.take-key.ensures.removed)
 
 pub returns-clause-removed : goal.returns-clause-removed
 returns-clause-removed g c = rw (← c.self.view_is, ← c.unlink.ensures.pairs) (Removes-pair_slots _ _ c.args.b c.take-key.ensures.removed)
@@ -22,8 +22,8 @@ returns-clause-order g c =
     let there = inside _ _ _ _ g.met.N.LinkType.laws _ _ _ _ c.self.invariant c.args.b full in
     let left = c.unlink.ensures.chain _ c.self.invariant.chain there in
     rw (← c.self.view_is) (whole_order _ _ _ _ g.met.N.LinkType.laws _ _ _ _
-      (IsWhole-taken _ _ _ _ g.met.N.LinkType.laws _ _ _ _ _ _ _ _ c.self.invariant c.args.b
-        (full_entry _ _ _ _ g.met.N.LinkType.laws _ _ _ _ c.self.invariant c.args.b full) c.unlink.ensures.pairs left c.take-key.ensures.removed))
+    (IsWhole-taken _ _ _ _ g.met.N.LinkType.laws _ _ _ _ _ _ _ _ c.self.invariant c.args.b
+    (full_entry _ _ _ _ g.met.N.LinkType.laws _ _ _ _ c.self.invariant c.args.b full) c.unlink.ensures.pairs left c.take-key.ensures.removed))
 
 pub returns-clause-room : goal.returns-clause-room
 returns-clause-room g c =
@@ -34,7 +34,7 @@ returns-clause-fits g c hash_of fits =
     let before = rw (← c.self.view_is, ← c.unlink.ensures.pairs) at fits in
     let full = rw (← c.self.view_is, ← c.unlink.ensures.pairs) at c.requires in
     KeysFit-removed hash_of _ _ c.args.b full (Removes-pair_slots _ _ c.args.b c.take-key.ensures.removed)
-      (Fits-pair_slots _ _ (c.take-key.ensures.fits _ (Fits-entries c.unlink.new.table.slots _ before)))
+    (Fits-pair_slots _ _ (c.take-key.ensures.fits _ (Fits-entries c.unlink.new.table.slots _ before)))
 
 pub returns-clause-linked : goal.returns-clause-linked
 returns-clause-linked g c = IsLinked-view _ _ _ _ g.met.N.LinkType.laws _ _ _ _ (invariant_of-self g c) c.take-key.ensures.table

@@ -50,4 +50,4 @@ pub returns-clause-chain : goal.returns-clause-chain
 returns-clause-chain g c before order whole renumbers =
     let all : c.loop-old.old ≡ length c.args.links.now = omega arith in
     rw (c.moved_link.ensures, c.moved_link-2.ensures)
-      (IsChain-moved _ _ _ _ g.met.N.LinkType.laws before _ _ _ order whole c.args.links.now renumbers _ c.requires.reached (rw all at c.loop-old.invariant))
+    (IsChain-moved _ _ _ _ g.met.N.LinkType.laws before _ _ _ order whole c.args.links.now renumbers _ c.requires.reached (rw all at c.loop-old.invariant))

@@ -17,6 +17,6 @@ set_newer-requires-clause-there g c =
 pub returns-clause-chain : goal.returns-clause-chain
 returns-clause-chain g c order chain there =
     IsChain-unlinked _ _ _ _ g.met.N.LinkType.laws _ _ _ _ _ _ _ _ _ c.args.b order chain there
-      (newer_link _ _ _ _ g.met.N.LinkType.laws _ _ _ order chain c.args.b there c.get-entry.result.now c.get-entry.ensures.entry)
-      (older_link _ _ _ _ g.met.N.LinkType.laws _ _ _ order chain c.args.b there c.get-entry.result.now c.get-entry.ensures.entry)
-      c.set_older.ensures.slots c.set_older.ensures.end c.set_newer.ensures.slots c.set_newer.ensures.end
+    (newer_link _ _ _ _ g.met.N.LinkType.laws _ _ _ order chain c.args.b there c.get-entry.result.now c.get-entry.ensures.entry)
+    (older_link _ _ _ _ g.met.N.LinkType.laws _ _ _ order chain c.args.b there c.get-entry.result.now c.get-entry.ensures.entry)
+    c.set_older.ensures.slots c.set_older.ensures.end c.set_newer.ensures.slots c.set_newer.ensures.end

@@ -1,0 +1,184 @@
+-- What the steps of a placing come to.
+use Rattle.std.proofs.Common.{◌≡◌, ℕ, ◌+◌, ◌-◌, ◌*◌, ◌/◌, ◌<◌, ◌≤◌, ◌⊎◌, inl, inr, Bool, true, false, [], length, Some, None, Result, Ok, Err, refl, sym, ap, ◌∙◌, subst, arith}
+use Rattle.std.specs.Prelude.{IsOk}
+use Rattle.std.specs.declared.alloc.AllocError.{AllocError}
+use native.Mathlib.Decide.{dec_lt}
+use Rattle.group_table.specs.Sizes.{IsPowerFromFour, IsBucketCount, full_capacity}
+use Rattle.group_table.specs.Bucket.{empty, marks_of}
+use Rattle.group_table.specs.Change.{HasNoPlace}
+use Rattle.lru_limits.specs.Rules.{Rules}
+use Rattle.schnellru.specs.Sizes.{usage, Target, no_table, new_table, target}
+use Rattle.schnellru.specs.State.{State, buckets, room, contents, IsSized, IsPaid, Leaves, pops, FirstFreeIs}
+use Rattle.schnellru.specs.Place.{Place, first_table, first_denied, first_too_large, into_empty, into_emptied, with_room, deleted_bucket, rehashed, grown, evicted, evicted_rehashed, CannotGrow, Outcome, no_target, denied, outcome_of, placed, refused, IsPlaced, IsPlacedIfMemory, LacksRoom, asked, turned_away, without_oldest, next_table}
+use Rattle.schnellru.specs.Steps.{Evicts, finds_bucket, made_anew, UsesRoom, UsesDeleted}
+use Rattle.group_table.proofs.BucketLemmas.{length-marks_of}
+use Rattle.schnellru.specs.Linked.{Linked, IsLinked, pairs_of}
+use Rattle.schnellru.specs.Holds.{state_by}
+use Rattle.schnellru.proofs.Ordered.{pairs-length}
+use Rattle.schnellru.proofs.Emptiness.{none_left}
+use Rattle.schnellru.proofs.Sized.{fits}
+use Rattle.schnellru.proofs.Growth.{full_capacity-4, full_capacity-at_most, full_capacity-some, full_capacity-double, target_doubles, target_usage, target_reached}
+use Rattle.schnellru.proofs.Short.{no_room}
+use Rattle.schnellru.proofs.Leaving.{known_is}
+
+module _ {K V S H : Type 0} (st : State K V S H) (ok : IsSized st) where
+  -- without buckets there are no pairs
+  pub none_without_buckets : buckets st ≡ 0 → st.pairs ≡ []
+  none_without_buckets none = none_left st.pairs (omega (arith, fits st ok, full_capacity-at_most (buckets st), none))
+
+  -- and with pairs there are buckets, as many as a table can have
+  pub power_with_pairs : 0 < length st.pairs → IsPowerFromFour (buckets st)
+  power_with_pairs some = go ok.table.count
+    where
+      go : (buckets st ≡ 0) ⊎ IsPowerFromFour (buckets st) → IsPowerFromFour (buckets st)
+      go (inl none) = absurd (omega (arith, ap length (none_without_buckets none), some))
+      go (inr power) = power
+
+  -- without room, as many entries can move as there are pairs
+  pub paid_without_room : IsPaid st → room st ≡ 0 → st.moved + length st.pairs ≤ 2 * st.placed
+  paid_without_room paid none = omega (arith, paid, none, fits st ok)
+
+module _ {K V S H : Type 0} (rules : Rules K V S) (hash_of : H → K → ℕ) (pair : K × V) (old new : State K V S H) (ok : IsSized old) where
+  -- the limiter was asked for the first table
+  module _ (none : buckets old ≡ 0) (bytes : ℕ) (usable : usage old.entry_bytes 4 ≡ Some bytes) (s : S) (told : s ≡ (rules.on_grow old.limiter bytes).limiter) where
+    pub first_granted : (outcome : Outcome) → (rules.on_grow old.limiter bytes).allowed ≡ true →
+        IsPlacedIfMemory rules pair 4 (full_capacity 4 - length old.pairs - 1) (length old.pairs) (record old { limiter = s }) outcome new →
+        Place rules hash_of pair old outcome new
+    first_granted outcome granted step =
+        let no_pairs = none_without_buckets old ok none in
+        let zero_pairs : length old.pairs ≡ 0 = ap length no_pairs in
+        let two : full_capacity 4 - length old.pairs - 1 ≡ 2 = omega (arith, full_capacity-4, zero_pairs) in
+        first_table no_pairs none bytes usable granted
+            (subst (λ n. IsPlacedIfMemory rules pair 4 2 n (asked rules bytes old) outcome new) zero_pairs
+            (subst (λ n. IsPlacedIfMemory rules pair 4 n (length old.pairs) (asked rules bytes old) outcome new) two
+            (subst (λ l. IsPlacedIfMemory rules pair 4 (full_capacity 4 - length old.pairs - 1) (length old.pairs) (record old { limiter = l }) outcome new) told step)))
+
+    pub first_refused : (rules.on_grow old.limiter bytes).allowed ≡ false → new ≡ turned_away rules pair (record old { limiter = s }) →
+        Place rules hash_of pair old refused new
+    first_refused refusal step = first_denied (none_without_buckets old ok none) none bytes usable refusal refl
+        (step ∙ ap {A = S} {B = State K V S H} (λ l. turned_away rules pair (record old { limiter = l })) told)
+
+  pub first_impossible : buckets old ≡ 0 → usage old.entry_bytes 4 ≡ None → new ≡ turned_away rules pair old → Place rules hash_of pair old refused new
+  first_impossible none large step = first_too_large (none_without_buckets old ok none) none large refl step
+
+  -- the oldest left, where the table cannot grow
+  pub evicts_place : (outcome : Outcome) (mid : State K V S H) → CannotGrow rules old mid → LacksRoom old → FirstFreeIs empty (hash_of old.hasher pair.0) old →
+      full_capacity (buckets old) / 2 < length old.pairs + 1 → Evicts rules pair mid outcome new → Place rules hash_of pair old outcome new
+  evicts_place outcome mid cannot lacks first above e = go e
+    where
+      known : mid ≡ record old { limiter = mid.limiter }
+      known = known_is rules old mid cannot
+
+      same : buckets mid ≡ buckets old
+      same = ap buckets known
+
+      pairs : length mid.pairs ≡ length old.pairs
+      pairs = ap (λ st. length st.pairs) known
+
+      go : Evicts rules pair mid outcome new → Place rules hash_of pair old outcome new
+      go (finds_bucket n pos one half o p) = evicted lacks first above mid cannot n pos (λ small. one (omega (arith, same, small)))
+          (omega (arith, half, pairs, ap full_capacity same)) o
+          (subst (λ b. IsPlaced pair b (room new) 0 (without_oldest rules n mid) new) same p)
+      go (made_anew n pos one half left leaves m) = evicted_rehashed lacks first above mid cannot n pos (λ small. one (omega (arith, same, small)))
+          (omega (arith, half, pairs, ap full_capacity same)) left leaves
+          (subst (λ b. IsPlacedIfMemory rules pair b (full_capacity b / 2) (length left.pairs) left outcome new) same m)
+
+  -- the pair went into a bucket that the table has
+  pub bucket_place : (0 < room old) ⊎ (0 < length old.pairs) → IsPlaced pair (buckets old) (room new) 0 old new →
+      (0 < room old → UsesRoom old new) → (room old ≡ 0 → UsesDeleted (hash_of old.hasher pair.0) old new) → Place rules hash_of pair old placed new
+  bucket_place some step roomy none = go (dec_lt 0 (room old)) (dec_lt 0 (length old.pairs))
+    where
+      used : UsesRoom old new → (room new + 1 ≡ room old) ⊎ ((16 < buckets old) × (room new ≡ room old))
+      used (inl less) = inl less
+      used (inr same) = inr (same.0, same.1)
+
+      at_most_one : UsesRoom old new → (room new ≡ room old) ⊎ (room new + 1 ≡ room old)
+      at_most_one (inl less) = inr less
+      at_most_one (inr same) = inl same.1
+
+      go : Dec (0 < room old) → Dec (0 < length old.pairs) → Place rules hash_of pair old placed new
+      go (yes r) (yes l) = with_room l r (used (roomy r)) refl step
+      go (yes r) (no l) = into_empty (none_left old.pairs (omega (arith, l))) (omega (arith, r, fits old ok, full_capacity-at_most (buckets old))) r
+          (at_most_one (roomy r)) refl step
+      go (no r) (yes l) = let uses = none (omega (arith, r)) in
+          deleted_bucket (l, omega (arith, r)) uses.first uses.large uses.within refl (record { table = step.table; left = uses.none_left; state = step.state })
+      go (no r) (no l) = elim some [ inl x ↦ absurd (r x) | inr x ↦ absurd (l x) ]
+
+  -- the table was made anew at its size, where it had no room
+  pub rehash_place : (result : Result Bool AllocError) → room old ≡ 0 → (0 < length old.pairs → FirstFreeIs empty (hash_of old.hasher pair.0) old) →
+      length old.pairs < full_capacity (buckets old) / 2 →
+      IsPlacedIfMemory rules pair (buckets old) (full_capacity (buckets old) - length old.pairs - 1) (length old.pairs) old (outcome_of result) new →
+      (old.pairs ≡ [] → IsOk result) → Place rules hash_of pair old (outcome_of result) new
+  rehash_place result none first few step succeeds = go (dec_lt 0 (length old.pairs))
+    where
+      placed_by : (r : Result Bool AllocError) → IsOk r → IsPlacedIfMemory rules pair (buckets old) (full_capacity (buckets old) - length old.pairs - 1) (length old.pairs) old (outcome_of r) new →
+          (outcome_of r ≡ placed) × IsPlaced pair (buckets old) (full_capacity (buckets old) - length old.pairs - 1) (length old.pairs) old new
+      placed_by (Ok true) ok h = (refl, h)
+      placed_by (Ok false) ok h = absurd h
+      placed_by (Err e) ok h = absurd (grind (arith, ok))
+
+      go : Dec (0 < length old.pairs) → Place rules hash_of pair old (outcome_of result) new
+      go (yes some) = rehashed (some, none) (first some) (omega (arith, few)) step
+      go (no l) =
+          let no_pairs : length old.pairs ≡ 0 = omega (arith, l) in let empty_list = none_left old.pairs no_pairs in
+          let there = placed_by result (succeeds empty_list) step in
+          let spare : full_capacity (buckets old) - length old.pairs - 1 ≡ full_capacity (buckets old) - 1 = omega (arith, no_pairs) in
+          into_emptied empty_list (omega (arith, few, full_capacity-at_most (buckets old))) none there.0
+              (subst (λ n. IsPlaced pair (buckets old) n 0 old new) spare
+              (subst (λ n. IsPlaced pair (buckets old) (full_capacity (buckets old) - length old.pairs - 1) n old new) no_pairs there.1))
+
+  module _ (lacks : LacksRoom old) (first : FirstFreeIs empty (hash_of old.hasher pair.0) old) (above : full_capacity (buckets old) / 2 < length old.pairs + 1)
+      (outcome : Outcome) where
+    module _ (count bytes : ℕ) (next : next_table rules old ≡ new_table count bytes) (s : S) (told : s ≡ (rules.on_grow old.limiter bytes).limiter) where
+      pub grown_place : (rules.on_grow old.limiter bytes).allowed ≡ true →
+          IsPlacedIfMemory rules pair count (full_capacity count - length old.pairs - 1) (length old.pairs) (record old { limiter = s }) outcome new →
+          Place rules hash_of pair old outcome new
+      grown_place granted step = grown lacks first above count bytes next granted
+          (subst (λ l. IsPlacedIfMemory rules pair count (full_capacity count - length old.pairs - 1) (length old.pairs) (record old { limiter = l }) outcome new) told step)
+
+      pub denied_place : (rules.on_grow old.limiter bytes).allowed ≡ false → Evicts rules pair (record old { limiter = s }) outcome new → Place rules hash_of pair old outcome new
+      denied_place refusal step = evicts_place outcome (record old { limiter = s })
+          (denied count bytes next refusal (ap {A = S} {B = State K V S H} (λ l. record old { limiter = l }) told)) lacks first above step
+
+    pub untold_place : next_table rules old ≡ no_table → Evicts rules pair old outcome new → Place rules hash_of pair old outcome new
+    untold_place none step = evicts_place outcome old (no_target none refl) lacks first above step
+
+-- a table that a map with pairs grows to
+module _ {K V S H : Type 0} (rules : Rules K V S) (old : State K V S H) (ok : IsSized old) (some : 0 < length old.pairs) (count bytes : ℕ) (next : next_table rules old ≡ new_table count bytes) where
+  pub next_reached : IsPowerFromFour count × (count < old.max)
+  next_reached = target_reached old.max old.entry_bytes (buckets old) (length old.pairs + 1) count bytes (power_with_pairs old ok some) next
+
+  pub next_usable : usage old.entry_bytes count ≡ Some bytes
+  next_usable = target_usage old.max old.entry_bytes (buckets old) (length old.pairs + 1) count bytes next
+
+  pub next_half : 2 * length old.pairs ≤ full_capacity count
+  next_half = let power = power_with_pairs old ok some in
+      omega (arith, fits old ok, full_capacity-double power.0 (buckets old) count power.1
+          (target_doubles power.0 old.max old.entry_bytes (buckets old) (length old.pairs + 1) count bytes power.1 next))
+
+-- the first free bucket of a map that has no place for a hash is empty
+module _ {K V S H : Type 0} (st : State K V S H) (ok : IsSized st) (hash : ℕ) where
+  pub no_place_room : HasNoPlace st.marks hash → room st ≡ 0
+  no_place_room (inl none) = no_room st.marks none
+  no_place_room (inr (none, b, first, is)) = none
+
+  pub no_place_empty : HasNoPlace st.marks hash → 0 < length st.pairs → FirstFreeIs empty hash st
+  no_place_empty (inl none) some = absurd (omega (arith, ap length (none_without_buckets st ok none), some))
+  no_place_empty (inr (none, b, first, is)) some = (b, first, is)
+
+module _ {K V S H : Type 0} (rules : Rules K V S) (limiter : S) (hasher : H) (moved placed entry_bytes max : ℕ) (t : Linked K V) (linked : IsLinked t) where
+  -- where the table of a map goes, from the figures of its linked table
+  pub next_is : (next : Target) (most count pairs : ℕ) → most ≡ max → count ≡ length t.slots → pairs ≡ length t.order →
+      target most entry_bytes count (pairs + 1) ≡ next → next_table rules (state_by t limiter hasher moved placed entry_bytes max) ≡ next
+  next_is next most count pairs is_max is_count is_pairs is =
+      let buckets_are : count ≡ length (marks_of t.slots) = is_count ∙ sym (length-marks_of t.slots) in
+      let pairs_are : pairs ≡ length (pairs_of t) = is_pairs ∙ sym (pairs-length t linked) in
+      (λ i. target (sym is_max i) entry_bytes (sym buckets_are i) (sym pairs_are i + 1)) ∙ is
+
+-- a table with buckets that is at least half full has a pair
+pub some_of_half : {K V : Type 0} (t : Linked K V) → IsLinked t → (length t.slots ≡ 0 → ⊥) → full_capacity (length t.slots) / 2 ≤ length t.order → 0 < length (pairs_of t)
+some_of_half t linked there half = go linked.table.count
+  where
+    go : IsBucketCount (length (marks_of t.slots)) → 0 < length (pairs_of t)
+    go (inl none) = absurd (there (sym (length-marks_of t.slots) ∙ none))
+    go (inr power) = omega (arith, full_capacity-some (length (marks_of t.slots)) power, ap full_capacity (length-marks_of t.slots), half, pairs-length t linked)

@@ -1,0 +1,18 @@
+-- Some of the oldest have left, at least half of what the table takes is left, and there is no room yet.
+use Rattle.std.proofs.Common.{◌≡◌, ℕ, ◌/◌, ◌<◌, ◌≤◌, length}
+use Rattle.group_table.specs.Sizes.{full_capacity}
+use Rattle.schnellru.specs.State.{State, buckets, room, contents, Leaves, pops}
+use Rattle.schnellru.proofs.map.LruMap.place_evicting.Given as goal
+
+abbrev pub invariant-evictions : goal.invariant-evictions
+invariant-evictions g l = record {
+  n : ℕ;
+  leaves : Leaves l.fn.self (pops g.L.Limiter.rules n (contents l.fn.self)) l.self;
+  some : 0 < length l.self.pairs;
+  half : full_capacity (buckets l.fn.self) / 2 ≤ length l.self.pairs;
+  no_room : room l.self ≡ 0;
+  same_pair : l.pair ≡ l.fn.pair;
+}
+
+abbrev pub decreases-evictions : goal.decreases-evictions
+decreases-evictions g l = length l.self.pairs
