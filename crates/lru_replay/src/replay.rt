@@ -1,8 +1,11 @@
 //! A replay, from the lines of a reader to the answer lines of a writer.
-ghost use Rattle.std.specs.Prelude.{◌≡◌, ◌↔◌, IfSome, OnOk, IsErrOf};
+ghost use Rattle.std.specs.Prelude.{◌≡◌, ◌↔◌, nat_eq, IfSome, OnOk, IsErrOf};
 ghost use Rattle.std.specs.Io.KnownBytes.{Appends, IsAtEnd};
 ghost use Rattle.std.specs.Option.{OnSome};
+ghost use Rattle.schnellru.specs.State.{IsMap};
+ghost use Rattle.lru_replay.specs.Limits.{AlwaysOffers};
 ghost use Rattle.lru_replay.specs.Lines.{lines_of};
+ghost use Rattle.lru_replay.specs.Maps.{empty};
 ghost use Rattle.lru_replay.specs.Output.{Writes, answer_text, no_limiter_text};
 ghost use Rattle.lru_replay.specs.Replay.{NamesNoLimit, WritesReplay, WritesSoFar, WritesCut};
 ghost use Rattle.lru_replay.specs.Runs.{LineStep, AnswersLine, WritesRun, WritesRunSoFar, BeginsRun};
@@ -26,7 +29,7 @@ fn carry_out<L: Insertion<u64, u64, u64>, W: Write>(
     writer: &mut W,
 ) -> Result<(), ReplayError>
     requires map { IsMap nat_eq map.old }
-    ensures step { (answer : Answer) × LineStep L.rules L.offers hash_of map.old line.now answer map.new
+    ensures step { (answer : Answer) × LineStep L.rules L.offers map.old line.now answer map.new
         × Writes (W.contents writer.old) (W.contents writer.new) result (answer_text answer) }
     ensures map { IsMap nat_eq map.new }
 {
@@ -55,7 +58,7 @@ fn answer_line<L: Insertion<u64, u64, u64>, W: Write>(
     writer: &mut W,
 ) -> Result<(), ReplayError>
     requires map { IsMap nat_eq map.old }
-    ensures step { AnswersLine L.rules L.offers hash_of map.old line.now map.new
+    ensures step { AnswersLine L.rules L.offers map.old line.now map.new
         (W.contents writer.old) (W.contents writer.new) result }
     ensures map { IsMap nat_eq map.new }
 {
@@ -70,15 +73,16 @@ fn answer_lines<L: Insertion<u64, u64, u64>, R: BufRead, W: Write>(
     writer: &mut W,
 ) -> Result<(), ReplayError>
     requires map { IsMap nat_eq map.old }
+    requires offers { AlwaysOffers L.offers }
     ensures done { OnOk result
-        (WritesRun L.rules L.offers hash_of map.old (R.remaining reader.old)
-        (W.contents writer.old) (W.contents writer.new) map.new) }
+        (WritesRun L.rules L.offers map.old (R.remaining reader.old)
+        (W.contents writer.old) (W.contents writer.new)) }
     ensures at_end { OnOk result (OnSome (R.remaining reader.old) (IsAtEnd (R.remaining reader.new))) }
     ensures read { IsErrOf result ReplayError.Read →
-        WritesRunSoFar L.rules L.offers hash_of map.old (R.remaining reader.old) (R.remaining reader.new)
-        (W.contents writer.old) (W.contents writer.new) map.new }
-    ensures write { IsErrOf result ReplayError.Write → AlwaysOffers L.offers →
-        BeginsRun L.rules L.offers hash_of map.old (R.remaining reader.old)
+        WritesRunSoFar L.rules L.offers map.old (R.remaining reader.old) (R.remaining reader.new)
+        (W.contents writer.old) (W.contents writer.new) }
+    ensures write { IsErrOf result ReplayError.Write →
+        BeginsRun L.rules L.offers map.old (R.remaining reader.old)
         (W.contents writer.old) (W.contents writer.new) }
 {
     let mut line = Line::new();
@@ -98,7 +102,20 @@ fn answer_under<L: Insertion<u64, u64, u64> + Drop, R: BufRead, W: Write>(
     limiter: L,
     reader: &mut R,
     writer: &mut W,
-) -> Result<(), ReplayError> {
+) -> Result<(), ReplayError>
+    requires links { L.LinkType.number L.LinkType.MAX ≡ 4294967295 }
+    requires offers { AlwaysOffers L.offers }
+    ensures done { OnOk result
+        (WritesRun L.rules L.offers (empty limiter) (R.remaining reader.old)
+        (W.contents writer.old) (W.contents writer.new)) }
+    ensures at_end { OnOk result (OnSome (R.remaining reader.old) (IsAtEnd (R.remaining reader.new))) }
+    ensures read { IsErrOf result ReplayError.Read →
+        WritesRunSoFar L.rules L.offers (empty limiter) (R.remaining reader.old) (R.remaining reader.new)
+        (W.contents writer.old) (W.contents writer.new) }
+    ensures write { IsErrOf result ReplayError.Write →
+        BeginsRun L.rules L.offers (empty limiter) (R.remaining reader.old)
+        (W.contents writer.old) (W.contents writer.new) }
+{
     let mut map = LruMap::with_hasher(alloc, limiter, RandomState::default(), ENTRY_BYTES);
     answer_lines(&mut map, reader, writer)
 }
