@@ -35,20 +35,20 @@ module _ {S : Type 0} (rules : Rules ℕ ℕ S) (offers : Offers ℕ ℕ S ℕ) 
   abbrev pub IsTextOf : Map S → List (List ℕ) → List ℕ → Type 0
   IsTextOf old lines text = (new : Map S) × IsRun old lines text new
 
-  -- Below, what a reader had left, where it is known, is from, and what it has left is to. A writer's bytes are old and
-  -- new.
+-- Below, IsText tells the texts of lines. What a reader had left, where it is known, is from, and what it has left is
+-- to. A writer's bytes are old and new.
+module _ (IsText : List (List ℕ) → List ℕ → Type 0) where
+  -- a text of all the lines was written
+  abbrev pub WritesText : Option (List ℕ) → Option (List ℕ) → Option (List ℕ) → Type 0
+  WritesText from old new =
+      IfSome from (λ input. (text : List ℕ) × IsText (lines_of input) text × Appends old new text)
 
-  -- the text of a run over all the lines was written
-  abbrev pub WritesRun : Map S → Option (List ℕ) → Option (List ℕ) → Option (List ℕ) → Type 0
-  WritesRun before from old new =
-      IfSome from (λ input. (text : List ℕ) × IsTextOf before (lines_of input) text × Appends old new text)
+  -- some lines were read whole, and a part of the next, and a text of the whole ones was written
+  abbrev pub WritesTextSoFar : Option (List ℕ) → Option (List ℕ) → Option (List ℕ) → Option (List ℕ) → Type 0
+  WritesTextSoFar from to old new = (lines : List (List ℕ)) × (text part : List ℕ)
+      × IsText lines text × TakesLines from to lines part × Appends old new text
 
-  -- some lines were read whole, and a part of the next, and the text of a run over the whole ones was written
-  abbrev pub WritesRunSoFar : Map S → Option (List ℕ) → Option (List ℕ) → Option (List ℕ) → Option (List ℕ) → Type 0
-  WritesRunSoFar before from to old new = (lines : List (List ℕ)) × (text part : List ℕ)
-      × IsTextOf before lines text × TakesLines from to lines part × Appends old new text
-
-  -- a beginning of the text of such a run was written
-  abbrev pub BeginsRun : Map S → Option (List ℕ) → Option (List ℕ) → Option (List ℕ) → Type 0
-  BeginsRun before from old new = IfSome from (λ input. (text part : List ℕ)
-      × IsTextOf before (lines_of input) text × IsBeginning part text × Appends old new part)
+  -- a beginning of a text of all the lines was written
+  abbrev pub BeginsText : Option (List ℕ) → Option (List ℕ) → Option (List ℕ) → Type 0
+  BeginsText from old new = IfSome from (λ input. (text part : List ℕ)
+      × IsText (lines_of input) text × IsBeginning part text × Appends old new part)

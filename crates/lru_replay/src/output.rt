@@ -54,7 +54,7 @@ pub fn write_pairs<L: Limiter<u64, u64>, W: Write>(
     writer: &mut W,
     pairs: Iter<'_, u64, u64, L>,
 ) -> Result<(), ReplayError>
-    ensures { Writes (W.contents writer.old) (W.contents writer.new) result (pairs_text pairs) }
+    ensures { Writes (W.contents writer.old) (W.contents writer.new) result (pairs_text pairs.entry) }
 {
     let mut pairs = pairs;
     let Some((key, value)) = pairs.next() else {
@@ -68,7 +68,7 @@ fn write_rest<L: Limiter<u64, u64>, W: Write>(
     writer: &mut W,
     pairs: Iter<'_, u64, u64, L>,
 ) -> Result<(), ReplayError>
-    ensures { Writes (W.contents writer.old) (W.contents writer.new) result (rest_text pairs) }
+    ensures { Writes (W.contents writer.old) (W.contents writer.new) result (rest_text pairs.entry) }
 {
     for (key, value) in pairs {
         write_bytes(writer, b" ")?;

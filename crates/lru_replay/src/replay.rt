@@ -1,5 +1,5 @@
 //! A replay, from the lines of a reader to the answer lines of a writer.
-ghost use Rattle.std.specs.Prelude.{◌≡◌, ◌↔◌, nat_eq, IfSome, OnOk, IsErrOf};
+ghost use Rattle.std.specs.Prelude.{◌≡◌, ◌↔◌, nat_eq, IfSome, OnOk, OnErr, IsErrOf};
 ghost use Rattle.std.specs.Io.KnownBytes.{Appends, IsAtEnd};
 ghost use Rattle.std.specs.Option.{OnSome};
 ghost use Rattle.schnellru.specs.State.{IsMap};
@@ -7,8 +7,8 @@ ghost use Rattle.lru_replay.specs.Limits.{AlwaysOffers};
 ghost use Rattle.lru_replay.specs.Lines.{lines_of};
 ghost use Rattle.lru_replay.specs.Maps.{empty};
 ghost use Rattle.lru_replay.specs.Output.{Writes, answer_text, no_limiter_text};
-ghost use Rattle.lru_replay.specs.Replay.{NamesNoLimit, WritesReplay, WritesSoFar, WritesCut};
-ghost use Rattle.lru_replay.specs.Runs.{LineStep, AnswersLine, WritesRun, WritesRunSoFar, BeginsRun};
+ghost use Rattle.lru_replay.specs.Replay.{IsTextUnder, NamesNoLimit, WritesReplay, WritesSoFar, WritesCut};
+ghost use Rattle.lru_replay.specs.Runs.{LineStep, AnswersLine, IsTextOf, WritesText, WritesTextSoFar, BeginsText};
 ghost use Rattle.lru_replay.specs.Steps.{Answer};
 
 use crate::call::{Call, Limit, call_of, limit_of};
@@ -74,16 +74,13 @@ fn answer_lines<L: Insertion<u64, u64, u64>, R: BufRead, W: Write>(
 ) -> Result<(), ReplayError>
     requires map { IsMap nat_eq map.old }
     requires offers { AlwaysOffers L.offers }
-    ensures done { OnOk result
-        (WritesRun L.rules L.offers map.old (R.remaining reader.old)
-        (W.contents writer.old) (W.contents writer.new)) }
+    ensures done { OnOk result (WritesText (IsTextOf L.rules L.offers map.old)
+        (R.remaining reader.old) (W.contents writer.old) (W.contents writer.new)) }
     ensures at_end { OnOk result (OnSome (R.remaining reader.old) (IsAtEnd (R.remaining reader.new))) }
-    ensures read { IsErrOf result ReplayError.Read →
-        WritesRunSoFar L.rules L.offers map.old (R.remaining reader.old) (R.remaining reader.new)
-        (W.contents writer.old) (W.contents writer.new) }
-    ensures write { IsErrOf result ReplayError.Write →
-        BeginsRun L.rules L.offers map.old (R.remaining reader.old)
-        (W.contents writer.old) (W.contents writer.new) }
+    ensures read { IsErrOf result ReplayError.Read → WritesTextSoFar (IsTextOf L.rules L.offers map.old)
+        (R.remaining reader.old) (R.remaining reader.new) (W.contents writer.old) (W.contents writer.new) }
+    ensures begins { OnErr result (BeginsText (IsTextOf L.rules L.offers map.old)
+        (R.remaining reader.old) (W.contents writer.old) (W.contents writer.new)) }
 {
     let mut line = Line::new();
     for _ in 0..u64::MAX {
@@ -97,7 +94,7 @@ fn answer_lines<L: Insertion<u64, u64, u64>, R: BufRead, W: Write>(
 }
 
 /// Answers the lines on an empty map with this limiter.
-fn answer_under<L: Insertion<u64, u64, u64> + Drop, R: BufRead, W: Write>(
+fn answer_with<L: Insertion<u64, u64, u64> + Drop, R: BufRead, W: Write>(
     alloc: Global,
     limiter: L,
     reader: &mut R,
@@ -105,19 +102,37 @@ fn answer_under<L: Insertion<u64, u64, u64> + Drop, R: BufRead, W: Write>(
 ) -> Result<(), ReplayError>
     requires links { L.LinkType.number L.LinkType.MAX ≡ 4294967295 }
     requires offers { AlwaysOffers L.offers }
-    ensures done { OnOk result
-        (WritesRun L.rules L.offers (empty limiter) (R.remaining reader.old)
-        (W.contents writer.old) (W.contents writer.new)) }
+    ensures done { OnOk result (WritesText (IsTextOf L.rules L.offers (empty limiter))
+        (R.remaining reader.old) (W.contents writer.old) (W.contents writer.new)) }
     ensures at_end { OnOk result (OnSome (R.remaining reader.old) (IsAtEnd (R.remaining reader.new))) }
-    ensures read { IsErrOf result ReplayError.Read →
-        WritesRunSoFar L.rules L.offers (empty limiter) (R.remaining reader.old) (R.remaining reader.new)
-        (W.contents writer.old) (W.contents writer.new) }
-    ensures write { IsErrOf result ReplayError.Write →
-        BeginsRun L.rules L.offers (empty limiter) (R.remaining reader.old)
-        (W.contents writer.old) (W.contents writer.new) }
+    ensures read { IsErrOf result ReplayError.Read → WritesTextSoFar (IsTextOf L.rules L.offers (empty limiter))
+        (R.remaining reader.old) (R.remaining reader.new) (W.contents writer.old) (W.contents writer.new) }
+    ensures begins { OnErr result (BeginsText (IsTextOf L.rules L.offers (empty limiter))
+        (R.remaining reader.old) (W.contents writer.old) (W.contents writer.new)) }
 {
     let mut map = LruMap::with_hasher(alloc, limiter, RandomState::default(), ENTRY_BYTES);
     answer_lines(&mut map, reader, writer)
+}
+
+/// Answers the lines on an empty map under the limit.
+fn answer_under<R: BufRead, W: Write>(
+    alloc: Global,
+    limit: Limit,
+    reader: &mut R,
+    writer: &mut W,
+) -> Result<(), ReplayError>
+    ensures done { OnOk result (WritesText (IsTextUnder limit)
+        (R.remaining reader.old) (W.contents writer.old) (W.contents writer.new)) }
+    ensures at_end { OnOk result (OnSome (R.remaining reader.old) (IsAtEnd (R.remaining reader.new))) }
+    ensures read { IsErrOf result ReplayError.Read → WritesTextSoFar (IsTextUnder limit)
+        (R.remaining reader.old) (R.remaining reader.new) (W.contents writer.old) (W.contents writer.new) }
+    ensures begins { OnErr result (BeginsText (IsTextUnder limit)
+        (R.remaining reader.old) (W.contents writer.old) (W.contents writer.new)) }
+{
+    match limit {
+        Limit::Length(most) => answer_with(alloc, ByLength::new(most), reader, writer),
+        Limit::Compact => answer_with(alloc, UnlimitedCompact, reader, writer),
+    }
 }
 
 /// Reads the first line, and answers the others where it names a limit.
@@ -137,8 +152,9 @@ fn answer_all<R: BufRead, W: Write>(
     ensures read { IsErrOf result ReplayError.Read →
         WritesSoFar (R.remaining reader.old) (R.remaining reader.new)
         (W.contents writer.old) (W.contents writer.new) }
-    ensures write { IsErrOf result ReplayError.Write →
-        WritesCut (R.remaining reader.old) (W.contents writer.old) (W.contents writer.new) }
+    // What was written before a failure is a beginning of what may be written.
+    ensures begins { OnErr result
+        (WritesCut (R.remaining reader.old) (W.contents writer.old) (W.contents writer.new)) }
 {
     let mut line = Line::new();
     let ending = read_line(reader, &mut line)?;
@@ -149,10 +165,7 @@ fn answer_all<R: BufRead, W: Write>(
     let Ending::Feed = ending else {
         return Ok(ReplayEnd::Done);
     };
-    match limit {
-        Limit::Length(n) => answer_under(alloc, ByLength::new(n), reader, writer)?,
-        Limit::Compact => answer_under(alloc, UnlimitedCompact, reader, writer)?,
-    }
+    answer_under(alloc, limit, reader, writer)?;
     Ok(ReplayEnd::Done)
 }
 
