@@ -38,4 +38,5 @@ pub mod MovedLemmas
 pub mod RelocateLemmas
 pub mod RestLemmas
 pub mod Placing
+pub mod Replaced
 pub mod SomeInsert

@@ -1,0 +1,2 @@
+//! The worked examples.
+mod readme;
