@@ -70,7 +70,8 @@ fn write_rest<L: Limiter<u64, u64>, W: Write>(
 ) -> Result<(), ReplayError>
     ensures { Writes (W.contents writer.old) (W.contents writer.new) result (rest_text pairs.entry) }
 {
-    for (key, value) in pairs {
+    let mut pairs = pairs;
+    while let Some((key, value)) = pairs.next() {
         write_bytes(writer, b" ")?;
         write_pair(writer, *key, *value)?;
     }
