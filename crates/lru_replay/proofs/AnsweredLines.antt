@@ -1,5 +1,5 @@
 -- One line more of a run, from a reader to a writer.
-use Rattle.std.proofs.Common.{◌≡◌, ℕ, ◌<◌, List, [], ◌∷◌, ◌++◌, length, refl, sym, ap, ◌∙◌, subst, Option, Some, None, Result, Ok, Err, OnOk, IfSome, append_assoc}
+use Rattle.std.proofs.Common.{◌≡◌, ℕ, ◌<◌, List, [], ◌∷◌, ◌++◌, length, refl, sym, ap, ◌∙◌, subst, Option, Some, None, Result, Ok, Err, OnOk, OnErr, IfSome, append_assoc}
 use Rattle.std.proofs.lemmas.List.{append-nil}
 use Rattle.std.specs.Io.KnownBytes.{Appends}
 use Rattle.std.proofs.KnownBytes.{Appends-trans}
@@ -77,8 +77,9 @@ module _ {S : Type 0} (rules : Rules ℕ ℕ S) (offers : Offers ℕ ℕ S ℕ) 
       pub line_cut : (e : ReplayError) → RunsSoFar old r₀ r₁ w₀ w₁ now → TakesFed r₁ r₂ line → AnswersLine rules offers now line new w₁ w₂ (Err e) → BeginsText (IsTextOf rules offers old) r₀ w₀ w₂
       line_cut e (lines, text, run, reads, wrote) taken answered = cut_short lines text e run wrote (fed_goes_on lines reads taken) answered
 
-      pub last_cut : (e : ReplayError) → RunsSoFar old r₀ r₁ w₀ w₁ now → TakesRest r₁ r₂ line → 0 < length line → AnswersLine rules offers now line new w₁ w₂ (Err e) → BeginsText (IsTextOf rules offers old) r₀ w₀ w₂
-      last_cut e (lines, text, run, reads, wrote) taken some answered = cut_short lines text e run wrote (last_goes_on lines reads taken some) answered
+      pub last_begins : (result : Result (Unit {0}) ReplayError) → RunsSoFar old r₀ r₁ w₀ w₁ now → TakesRest r₁ r₂ line → 0 < length line → AnswersLine rules offers now line new w₁ w₂ result → OnErr result (BeginsText (IsTextOf rules offers old) r₀ w₀ w₂)
+      last_begins (Ok u) so_far taken some answered = tt
+      last_begins (Err e) (lines, text, run, reads, wrote) taken some answered = cut_short lines text e run wrote (last_goes_on lines reads taken some) answered
 
   -- what was written so far is a beginning
   pub so_far_begins : (offered : AlwaysOffers offers) (old now : Map S) (r₀ r₁ w₀ w₁ : Option (List ℕ)) → IsReady now → RunsSoFar old r₀ r₁ w₀ w₁ now → BeginsText (IsTextOf rules offers old) r₀ w₀ w₁

@@ -2,6 +2,7 @@
 ghost use Rattle.std.specs.Prelude.{◌≡◌, ◌↔◌, nat_eq, IfSome, OnOk, OnErr, IsErrOf};
 ghost use Rattle.std.specs.Io.KnownBytes.{Appends, IsAtEnd};
 ghost use Rattle.std.specs.Option.{OnSome};
+ghost use Rattle.schnellru.specs.Calls.{Get};
 ghost use Rattle.schnellru.specs.State.{IsMap};
 ghost use Rattle.lru_replay.specs.Limits.{AlwaysOffers};
 ghost use Rattle.lru_replay.specs.Lines.{lines_of};
@@ -22,6 +23,16 @@ use std::io::{BufRead, Write};
 /// The bytes of an entry, by which the memory of a map is counted.
 const ENTRY_BYTES: usize = 32;
 
+/// The value of the key, whose pair becomes the newest.
+fn get<L: Insertion<u64, u64, u64>>(map: &mut LruMap<u64, u64, L>, key: u64) -> Option<u64>
+    ensures { Get (nat_eq key) map.old result map.new }
+{
+    match map.get(&key) {
+        Some(value) => Some(*value),
+        None => None,
+    }
+}
+
 /// Carries out what a line says, and writes the answer.
 fn carry_out<L: Insertion<u64, u64, u64>, W: Write>(
     map: &mut LruMap<u64, u64, L>,
@@ -39,7 +50,7 @@ fn carry_out<L: Insertion<u64, u64, u64>, W: Write>(
             Err(_) => write_bytes(writer, b"no memory"),
         },
         Some(Call::Get(key)) => {
-            let value = map.get(&key).copied();
+            let value = get(map, key);
             write_value(writer, value)
         }
         Some(Call::Peek(key)) => {
