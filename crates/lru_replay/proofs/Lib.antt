@@ -5,6 +5,7 @@ pub mod Written
 pub mod LineLists
 pub mod Spelled
 pub mod Held
+pub mod Found
 pub mod EmptyMaps
 pub mod RunLists
 pub mod AnsweredLines

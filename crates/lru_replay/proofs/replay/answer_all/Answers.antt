@@ -28,8 +28,17 @@ returns-in_default-clause-no_limiter g c _ =
     let none : (limit : Limit) → SpellsLimit bytes limit → ⊥ = λ limit spells. c.in_default.ensures.none limit (subst (λ l. SpellsLimit l limit) (sym (c.as_slice.ensures ∙ held)) (held_limit bytes limit spells)) in
     no_limit _ _ c.in_ok-ending.ending bytes taken none
 
-pub returns-in_default-ending : goal.returns-in_default-ending
-returns-in_default-ending g c = ?
+pub returns-in_default-ending-clause-done : goal.returns-in_default-ending-clause-done
+returns-in_default-ending-clause-done g c _ =
+    let (bytes, taken, held) = c.in_ok-ending.ensures.ok in
+    let spells = whole_limit bytes c.in-Some.limit (subst (λ l. SpellsLimit l c.in-Some.limit) (c.as_slice.ensures ∙ held) c.in-Some.ensures.some) in
+    let rest = rest_taken (g.R.Read.remaining c.args.reader.now) (g.R.Read.remaining c.read_line.new.reader) c.in_ok-ending.ending bytes c.in_default-ending.not-Feed taken in
+    done_first _ _ (g.W.Write.contents c.args.writer.now) bytes c.in-Some.limit spells rest
+
+pub returns-in_default-ending-clause-at_end : goal.returns-in_default-ending-clause-at_end
+returns-in_default-ending-clause-at_end g c _ =
+    let (bytes, taken, held) = c.in_ok-ending.ensures.ok in
+    (rest_taken (g.R.Read.remaining c.args.reader.now) (g.R.Read.remaining c.read_line.new.reader) c.in_ok-ending.ending bytes c.in_default-ending.not-Feed taken).2
 
 pub returns-in_err-answer_under-clause-read : goal.returns-in_err-answer_under-clause-read
 returns-in_err-answer_under-clause-read g c =

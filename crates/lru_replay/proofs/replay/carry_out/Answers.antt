@@ -24,13 +24,13 @@ returns-in-Some-Get-clause-step g c =
     (value c.get-value.result, inl (calls.Get c.in-Some-Get.key, spells, (c.get-value.result, c.get-value.ensures, refl)), c.write_value.ensures)
 
 pub returns-in-Some-Get-clause-map : goal.returns-in-Some-Get-clause-map
-returns-in-Some-Get-clause-map g c = get_keeps_map _ c.args.map.now c.get-value.result _ c.get-value.ensures c.requires
+returns-in-Some-Get-clause-map g c = get_keeps_map _ c.args.map.now c.get-value.result _ c.get-value.ensures c.requires.map
 
 pub returns-in-Some-Peek-clause-step : goal.returns-in-Some-Peek-clause-step
 returns-in-Some-Peek-clause-step g c =
     let spells = subst (SpellsCall c.args.line.now) c.in-Some-Peek.field-0-is c.in-Some-Peek.ensures.some in
     let found = value (lookup (nat_eq c.in-Some-Peek.key) c.args.map.now.pairs) in
-    (found, inl (calls.Peek c.in-Some-Peek.key, spells, (refl, refl)), rw (← c.peek.ensures, ← c.copied-value-in-Some-Peek.ensures) c.write_value-in-Some-Peek.ensures)
+    (found, inl (calls.Peek c.in-Some-Peek.key, spells, (refl, refl)), rw (← c.peek.ensures, ← c.copied-value.ensures) c.write_value-in-Some-Peek.ensures)
 
 pub returns-in-Some-List-clause-step : goal.returns-in-Some-List-clause-step
 returns-in-Some-List-clause-step g c =
