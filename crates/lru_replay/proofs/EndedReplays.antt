@@ -1,5 +1,5 @@
 -- The first line and the others together, and how a replay ends.
-use Rattle.std.proofs.Common.{◌≡◌, ℕ, ◌<◌, List, [], ◌∷◌, ◌++◌, length, refl, sym, ap, ◌∙◌, subst, inl, inr, ◌⊎◌, arith, Option, Some, None, Result, Ok, Err, IfSome, OnOk, OnErr, ◌↔◌}
+use Rattle.std.proofs.Common.{◌≡◌, ℕ, ◌<◌, List, [], ◌∷◌, length, refl, sym, ap, ◌∙◌, subst, inl, inr, ◌⊎◌, arith, Option, Some, None, Result, Ok, Err, IfSome, OnOk, OnErr, ◌↔◌}
 use Rattle.std.proofs.lemmas.List.{append-nil}
 use Rattle.std.specs.Io.KnownBytes.{Appends, Keeps}
 use Rattle.std.proofs.KnownBytes.{Appends-nil, Appends-kept, Consumes-nil}
@@ -10,16 +10,15 @@ use Rattle.lru_replay.specs.declared.line.Ending.TheVariants as endings
 use Rattle.lru_replay.specs.declared.outcome.ReplayEnd.{ReplayEnd}
 use Rattle.lru_replay.specs.declared.outcome.ReplayEnd.TheVariants as ends
 use Rattle.lru_replay.specs.declared.outcome.ReplayError.{ReplayError}
-use Rattle.lru_replay.specs.declared.outcome.ReplayError.TheVariants as errors
 use Rattle.lru_replay.specs.Grammar.{SpellsLimit}
-use Rattle.lru_replay.specs.Lines.{lines_of, TakesFed, TakesRest, TakesLine, TakesLines}
+use Rattle.lru_replay.specs.Lines.{lines_of, TakesFed, TakesRest, TakesLine}
 use Rattle.lru_replay.specs.Output.{Fails, no_limiter_text}
-use Rattle.lru_replay.specs.Replay.{IsTextUnder, IsReplay, NamesNoLimit, IsCut, IsTextSoFar, WritesReplay, WritesCut, WritesSoFar}
+use Rattle.lru_replay.specs.Replay.{IsTextUnder, IsReplay, NamesNoLimit, WritesReplay, WritesCut, WritesSoFar}
 use Rattle.lru_replay.specs.Limits.{length_rules, length_offers, no_rules, all_offers}
 use Rattle.lru_replay.specs.Maps.{empty}
 use Rattle.lru_replay.specs.Runs.{WritesText, WritesTextSoFar, BeginsText}
 use Rattle.lru_replay.proofs.Options.{IfSome-map}
-use Rattle.lru_replay.proofs.LineLists.{lines_of-fed, lines_of-last, lines_at_end, lines_left, takes_line_before}
+use Rattle.lru_replay.proofs.LineLists.{lines_of-fed, lines_of-last, lines_at_end, takes_line_before}
 use Rattle.lru_replay.proofs.RunLists.{some_run}
 use Rattle.lru_replay.proofs.EmptyMaps.{empty_is_map, length_always, all_always}
 use Rattle.schnellru.proofs.SomeInsert.{map_ready}

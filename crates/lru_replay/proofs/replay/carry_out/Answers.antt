@@ -1,4 +1,4 @@
-use Rattle.std.proofs.Common.{inl, ap, refl, subst}
+use Rattle.std.proofs.Common.{inl, refl, subst}
 use Rattle.std.specs.Prelude.{nat_eq}
 use Rattle.schnellru.specs.Lists.{lookup}
 use Rattle.lru_replay.specs.declared.call.Call.TheVariants as calls
