@@ -1,5 +1,5 @@
 -- The first line and the others together, and how a replay ends.
-use Rattle.std.proofs.Common.{◌≡◌, ℕ, ◌<◌, List, [], ◌∷◌, ◌++◌, length, refl, sym, ap, ◌∙◌, subst, inl, inr, ◌⊎◌, arith, Option, Some, None, Result, Ok, Err, IfSome, OnOk, IsErrOf, ◌↔◌}
+use Rattle.std.proofs.Common.{◌≡◌, ℕ, ◌<◌, List, [], ◌∷◌, length, refl, sym, ap, ◌∙◌, subst, inl, inr, ◌⊎◌, arith, Option, Some, None, Result, Ok, Err, IfSome, OnOk, OnErr, ◌↔◌}
 use Rattle.std.proofs.lemmas.List.{append-nil}
 use Rattle.std.specs.Io.KnownBytes.{Appends, Keeps}
 use Rattle.std.proofs.KnownBytes.{Appends-nil, Appends-kept, Consumes-nil}
@@ -10,16 +10,18 @@ use Rattle.lru_replay.specs.declared.line.Ending.TheVariants as endings
 use Rattle.lru_replay.specs.declared.outcome.ReplayEnd.{ReplayEnd}
 use Rattle.lru_replay.specs.declared.outcome.ReplayEnd.TheVariants as ends
 use Rattle.lru_replay.specs.declared.outcome.ReplayError.{ReplayError}
-use Rattle.lru_replay.specs.declared.outcome.ReplayError.TheVariants as errors
 use Rattle.lru_replay.specs.Grammar.{SpellsLimit}
-use Rattle.lru_replay.specs.Lines.{lines_of, TakesFed, TakesRest, TakesLine, TakesLines}
+use Rattle.lru_replay.specs.Lines.{lines_of, TakesFed, TakesRest, TakesLine}
 use Rattle.lru_replay.specs.Output.{Fails, no_limiter_text}
-use Rattle.lru_replay.specs.Replay.{IsReplay, NamesNoLimit, IsCut, IsTextSoFar, WritesReplay, WritesCut, WritesSoFar}
-use Rattle.lru_replay.specs.State.{State, empty_map}
-use Rattle.lru_replay.specs.Runs.{IsRun, WritesRun, BeginsRun}
+use Rattle.lru_replay.specs.Replay.{IsTextUnder, IsReplay, NamesNoLimit, WritesReplay, WritesCut, WritesSoFar}
+use Rattle.lru_replay.specs.Limits.{length_rules, length_offers, no_rules, all_offers}
+use Rattle.lru_replay.specs.Maps.{empty}
+use Rattle.lru_replay.specs.Runs.{WritesText, WritesTextSoFar, BeginsText}
 use Rattle.lru_replay.proofs.Options.{IfSome-map}
-use Rattle.lru_replay.proofs.LineLists.{lines_of-fed, lines_of-last, lines_at_end, lines_left, takes_line_before}
-use Rattle.lru_replay.proofs.RunLists.{run-append, some_run}
+use Rattle.lru_replay.proofs.LineLists.{lines_of-fed, lines_of-last, lines_at_end, takes_line_before}
+use Rattle.lru_replay.proofs.RunLists.{some_run}
+use Rattle.lru_replay.proofs.EmptyMaps.{empty_is_map, length_always, all_always}
+use Rattle.schnellru.proofs.SomeInsert.{map_ready}
 use Rattle.lru_replay.proofs.Spelled.{limit_or}
 
 -- what is said of the lines after the first is said of all
@@ -50,21 +52,28 @@ no_limit (Some x) b endings.InputEnd first (taken, some) none = only_first (Some
 no_limit (Some x) b endings.Nothing first (taken, nothing) none = only_first (Some x) b first (λ input. NamesNoLimit (lines_of input)) taken
     (λ input same. none_first (lines_of input) (same ∙ ap lines_of nothing))
 
--- Each list of lines has something written of it.
+-- Each list of lines has a text under each limit.
+some_text_under : (limit : Limit) (lines : List (List ℕ)) → (text : List ℕ) × IsTextUnder limit lines text
+some_text_under (limits.Length most) lines = let (text, new, run) = some_run length_rules length_offers length_always (empty most) (map_ready _ (empty_is_map most)) lines in (text, (new, run))
+some_text_under limits.Compact lines = let (text, new, run) = some_run no_rules all_offers all_always (empty (record {})) (map_ready _ (empty_is_map (record {}))) lines in (text, (new, run))
+
+no_lines_under : (limit : Limit) → IsTextUnder limit [] []
+no_lines_under (limits.Length most) = (empty most, (refl, refl))
+no_lines_under limits.Compact = (empty (record {}), (refl, refl))
+
+-- So each list of lines has something written of it.
 some_text : (lines : List (List ℕ)) → (text : List ℕ) × (IsReplay lines text ⊎ (NamesNoLimit lines × (text ≡ no_limiter_text)))
 some_text [] = (no_limiter_text, inr (none_first [] refl, refl))
 some_text (first ∷ lines) = by (limit_or first)
   where
     by : ((limit : Limit) × SpellsLimit first limit) ⊎ ((limit : Limit) → SpellsLimit first limit → ⊥) → (text : List ℕ) × (IsReplay (first ∷ lines) text ⊎ (NamesNoLimit (first ∷ lines) × (text ≡ no_limiter_text)))
-    by (inl (limit, spells)) = let (text, new, run) = some_run (empty_map limit) lines in (text, inl (limit, first, lines, refl, spells, (new, run)))
+    by (inl (limit, spells)) = let (text, is) = some_text_under limit lines in (text, inl (limit, first, lines, refl, spells, is))
     by (inr none) = (no_limiter_text, inr (none_named (first ∷ lines) lines first refl none, refl))
 
--- The text of the first so many lines is a beginning of what is written of all.
-so_far_is_cut : (lines more : List (List ℕ)) (text : List ℕ) → IsTextSoFar lines text → IsCut (lines ++ more) text
-so_far_is_cut [] more text none = let (whole, is) = some_text more in (whole, (whole, sym (ap (λ l. l ++ whole) none)), is)
-so_far_is_cut (first ∷ others) more text (limit, spells, (new, run)) =
-    let (u, last, rest) = some_run new more in
-    (text ++ u, (u, refl), inl (limit, first, others ++ more, refl, spells, (last, run-append (empty_map limit) others text new more u last run rest)))
+-- Where nothing was written, it is a beginning.
+pub nothing_cut : (a w : Option (List ℕ)) → WritesCut a w w
+nothing_cut None w = tt
+nothing_cut (Some x) w = let (text, is) = some_text (lines_of x) in ([], (text, (text, refl), is), Appends-nil w)
 
 -- What was written after a failed flush, by what stood before it.
 cut_after_done : (a w v : Option (List ℕ)) → WritesReplay a w v → WritesCut a w v
@@ -73,33 +82,24 @@ cut_after_done a w v h = IfSome-map a (λ input (text, is, wrote). (text, (text,
 cut_after_no_limiter : (a w v : Option (List ℕ)) → IfSome a (λ input. NamesNoLimit (lines_of input)) → Appends w v no_limiter_text → WritesCut a w v
 cut_after_no_limiter a w v none wrote = IfSome-map a (λ input is. (no_limiter_text, (no_limiter_text, ([], sym (append-nil no_limiter_text)), inr (is, refl)), wrote)) none
 
-cut_after_read : (a b w v : Option (List ℕ)) → WritesSoFar a b w v → WritesCut a w v
-cut_after_read None b w v h = tt
-cut_after_read (Some x) None w v (lines, text, part, reads, so_far, wrote) = absurd reads.2
-cut_after_read (Some x) (Some y) w v (lines, text, part, reads, so_far, wrote) =
-    (text, subst (λ l. IsCut l text) (sym (lines_left x y lines part reads)) (so_far_is_cut lines (lines_of (part ++ y)) text so_far), wrote)
-
 -- The flush failed: what is written stays a beginning of what may be written.
-pub flush_failed : (a b w v u : Option (List ℕ)) (end : Result ReplayEnd ReplayError)
+pub flush_failed : (a w v u : Option (List ℕ)) (end : Result ReplayEnd ReplayError)
     → (end ≡ Ok ends.Done → WritesReplay a w v)
     → (end ≡ Ok ends.NoLimiter → IfSome a (λ input. NamesNoLimit (lines_of input)))
     → (end ≡ Ok ends.NoLimiter → Appends w v no_limiter_text)
-    → (IsErrOf end errors.Read → WritesSoFar a b w v)
-    → (IsErrOf end errors.Write → WritesCut a w v)
+    → OnErr end (WritesCut a w v)
     → Keeps v u → WritesCut a w u
-flush_failed a b w v u end done none text read write keeps = IfSome-map a (λ input (part, is, wrote). (part, is, Appends-kept w v u part wrote keeps)) (by end done none text read write)
+flush_failed a w v u end done none text begins keeps = IfSome-map a (λ input (part, is, wrote). (part, is, Appends-kept w v u part wrote keeps)) (by end done none text begins)
   where
     by : (end : Result ReplayEnd ReplayError)
         → (end ≡ Ok ends.Done → WritesReplay a w v)
         → (end ≡ Ok ends.NoLimiter → IfSome a (λ input. NamesNoLimit (lines_of input)))
         → (end ≡ Ok ends.NoLimiter → Appends w v no_limiter_text)
-        → (IsErrOf end errors.Read → WritesSoFar a b w v)
-        → (IsErrOf end errors.Write → WritesCut a w v)
+        → OnErr end (WritesCut a w v)
         → WritesCut a w v
-    by (Ok ends.Done) p q r s t = cut_after_done a w v (p refl)
-    by (Ok ends.NoLimiter) p q r s t = cut_after_no_limiter a w v (q refl) (r refl)
-    by (Err errors.Read) p q r s t = cut_after_read a b w v (s refl)
-    by (Err errors.Write) p q r s t = t refl
+    by (Ok ends.Done) p q r s = cut_after_done a w v (p refl)
+    by (Ok ends.NoLimiter) p q r s = cut_after_no_limiter a w v (q refl) (r refl)
+    by (Err e) p q r s = s
 
 -- `NoLimiter` comes exactly where no limit is named.
 pub exactly_no_limiter : (a w v : Option (List ℕ)) (end : Result ReplayEnd ReplayError)
@@ -131,17 +131,17 @@ rest_taken a b endings.Nothing line not_fed taken = taken.0
 -- The first line is all there is.
 pub done_first : (a b w : Option (List ℕ)) (first : List ℕ) (limit : Limit) → SpellsLimit first limit → TakesRest a b first → WritesReplay a w w
 done_first a b w first limit spells taken = only_first a b first (λ input. (text : List ℕ) × IsReplay (lines_of input) text × Appends w w text) taken
-    (λ input same. ([], (limit, first, [], same ∙ lines_of-last first taken.0 (spelled_some first limit spells), spells, (empty_map limit, (refl, refl))), Appends-nil w))
+    (λ input same. ([], (limit, first, [], same ∙ lines_of-last first taken.0 (spelled_some first limit spells), spells, no_lines_under limit), Appends-nil w))
 
 module _ (a b w v : Option (List ℕ)) (first : List ℕ) (limit : Limit) (spells : SpellsLimit first limit) (taken : TakesFed a b first) where
   -- the others were answered
-  pub done_others : (new : State) → WritesRun (empty_map limit) b w v new → WritesReplay a w v
-  done_others new = after_first a b first _ _ taken (λ rest input all (text, run, wrote). (text, (limit, first, lines_of rest, all, spells, (new, run)), wrote))
+  pub done_others : WritesText (IsTextUnder limit) b w v → WritesReplay a w v
+  done_others = after_first a b first _ _ taken (λ rest input all (text, is, wrote). (text, (limit, first, lines_of rest, all, spells, is), wrote))
 
-  -- a write failed among them
-  pub cut_others : BeginsRun (empty_map limit) b w v → WritesCut a w v
-  cut_others = after_first a b first _ _ taken (λ rest input all (text, part, new, run, begins, wrote). (part, (text, begins, inl (limit, first, lines_of rest, all, spells, (new, run))), wrote))
+  -- a read or a write failed among them
+  pub cut_others : BeginsText (IsTextUnder limit) b w v → WritesCut a w v
+  cut_others = after_first a b first _ _ taken (λ rest input all (text, part, is, begins, wrote). (part, (text, begins, inl (limit, first, lines_of rest, all, spells, is)), wrote))
 
   -- a read failed among them
-  pub read_others : (c : Option (List ℕ)) (lines : List (List ℕ)) (text part : List ℕ) (new : State) → IsRun (empty_map limit) lines text new → TakesLines b c lines part → Appends w v text → WritesSoFar a c w v
-  read_others c lines text part new run reads wrote = (first ∷ lines, text, part, takes_line_before a b c first lines part taken reads, (limit, spells, (new, run)), wrote)
+  pub read_others : (c : Option (List ℕ)) → WritesTextSoFar (IsTextUnder limit) b c w v → WritesSoFar a c w v
+  read_others c (lines, text, part, is, reads, wrote) = (first ∷ lines, text, part, takes_line_before a b c first lines part taken reads, (limit, spells, is), wrote)

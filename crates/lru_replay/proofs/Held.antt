@@ -8,8 +8,9 @@ use Rattle.lru_replay.specs.declared.call.Limit.{Limit}
 use Rattle.lru_replay.specs.declared.call.Limit.TheVariants as limits
 use Rattle.lru_replay.specs.declared.outcome.ReplayError.{ReplayError}
 use Rattle.lru_replay.specs.Grammar.{SpellsLimit, call_spelling, limit_spelling, FitsCall, FitsLimit}
+use Rattle.lru_limits.specs.Rules.{Rules, Offers}
+use Rattle.lru_replay.specs.Maps.{Map}
 use Rattle.lru_replay.specs.Runs.{LineStep, AnswersLine}
-use Rattle.lru_replay.specs.State.{State}
 use Rattle.lru_replay.specs.Steps.{Answer}
 use Rattle.lru_replay.proofs.ByteLists.{short_front}
 
@@ -32,13 +33,14 @@ whole_text line text short e = sym (short_front 49 line text (sym e) short)
 held_text : (line text : List ℕ) → length text < 49 → line ≡ text → take 49 line ≡ text
 held_text line text short e = take_all 49 line (omega (arith, ap length e, short)) ∙ e
 
--- what is held of a line is answered as the line is
-whole_step : (old : State) (line : List ℕ) (answer : Answer) (new : State) → LineStep old (take 49 line) answer new → LineStep old line answer new
-whole_step old line answer new (inl (call, spells, is)) = inl (call, (spells.0, whole_text line _ (short_call call spells.0) spells.1), is)
-whole_step old line answer new (inr (none, is, same)) = inr ((λ call spells. none call (spells.0, held_text line _ (short_call call spells.0) spells.1)), is, same)
+module _ {S : Type 0} (rules : Rules ℕ ℕ S) (offers : Offers ℕ ℕ S ℕ) where
+  -- what is held of a line is answered as the line is
+  whole_step : (old : Map S) (line : List ℕ) (answer : Answer) (new : Map S) → LineStep rules offers old (take 49 line) answer new → LineStep rules offers old line answer new
+  whole_step old line answer new (inl (call, spells, is)) = inl (call, (spells.0, whole_text line _ (short_call call spells.0) spells.1), is)
+  whole_step old line answer new (inr (none, is, same)) = inr ((λ call spells. none call (spells.0, held_text line _ (short_call call spells.0) spells.1)), is, same)
 
-pub whole_answer : (result : Result (Unit {0}) ReplayError) (old new : State) (held line : List ℕ) (from to : Option (List ℕ)) → held ≡ take 49 line → AnswersLine old held new from to result → AnswersLine old line new from to result
-whole_answer result old new held line from to is (answer, step, written) = (answer, whole_step old line answer new (subst (λ l. LineStep old l answer new) is step), written)
+  pub whole_answer : (result : Result (Unit {0}) ReplayError) (old new : Map S) (held line : List ℕ) (from to : Option (List ℕ)) → held ≡ take 49 line → AnswersLine rules offers old held new from to result → AnswersLine rules offers old line new from to result
+  whole_answer result old new held line from to is (answer, step, written) = (answer, whole_step old line answer new (subst (λ l. LineStep rules offers old l answer new) is step), written)
 
 -- and names the limit that the line names
 pub whole_limit : (line : List ℕ) (limit : Limit) → SpellsLimit (take 49 line) limit → SpellsLimit line limit

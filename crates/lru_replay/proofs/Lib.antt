@@ -1,11 +1,12 @@
 pub mod ByteLists
 pub mod Numbers
 pub mod Options
-pub mod PairLists
 pub mod Written
 pub mod LineLists
 pub mod Spelled
 pub mod Held
+pub mod Found
+pub mod EmptyMaps
 pub mod RunLists
 pub mod AnsweredLines
 pub mod EndedReplays

@@ -5,7 +5,7 @@ use Rattle.std.proofs.lemmas.Bool.{ne_eqb}
 use Rattle.std.specs.List.{AllByRecursion}
 use Rattle.std.specs.Io.KnownBytes.{Consumes}
 use Rattle.std.proofs.KnownBytes.{Consumes-trans}
-use Rattle.lru_replay.specs.Lines.{Lacks, lines_of, onto_first, fed, TakesFed, TakesRest, TakesLines}
+use Rattle.lru_replay.specs.Lines.{Lacks, lines_of, onto_first, fed, TakesPart, TakesFed, TakesRest, TakesLines}
 
 -- a line with its line feed comes first
 pub lines_of-fed : (line rest : List ℕ) → Lacks 10 line → lines_of (fed line ++ rest) ≡ line ∷ lines_of rest
@@ -37,6 +37,10 @@ takes_line_more a b c lines line (lack, none, p) (lacks, q) = (all_more lines la
 
     same : (flat_map fed lines ++ []) ++ fed line ≡ flat_map fed (lines ++ line ∷ []) ++ []
     same = ap (λ l. l ++ fed line) (append-nil (flat_map fed lines)) ∙ flat_map_more fed [] lines line ∙ sym (append-nil (flat_map fed (lines ++ line ∷ [])))
+
+-- and a part of the next
+pub takes_part_more : (a b c : Option (List ℕ)) (lines : List (List ℕ)) (part : List ℕ) → TakesLines a b lines [] → TakesPart b c part → TakesLines a c lines part
+takes_part_more a b c lines part (lack, none, p) (lacks, q) = (lack, lacks, subst (Consumes a c) (ap (λ l. l ++ part) (append-nil (flat_map fed lines))) (Consumes-trans a b c _ _ p q))
 
 -- after the first line, the others
 pub takes_line_before : (a b c : Option (List ℕ)) (first : List ℕ) (lines : List (List ℕ)) (part : List ℕ) → TakesFed a b first → TakesLines b c lines part → TakesLines a c (first ∷ lines) part

@@ -1,5 +1,4 @@
-pub mod State
-pub mod Pairs
+pub mod Maps
 pub mod Limits
 pub mod Steps
 pub mod Grammar

@@ -1,28 +1,25 @@
--- What a limit says of pairs: the limit by a length, and the one that limits nothing.
-use Rattle.std.specs.Prelude.{ℕ, zero, suc, ◌+◌, Bool, true, false, List, length, nat_lt, if◌then◌else◌}
-use Rattle.lru_replay.specs.declared.call.Limit.{Limit}
-use Rattle.lru_replay.specs.declared.call.Limit.TheVariants as limits
-use Rattle.lru_replay.specs.Pairs.{without_oldest}
+-- What the limiter of each limit says: `ByLength` for a length, and `UnlimitedCompact` for none.
+use Rattle.std.specs.Prelude.{ℕ, Option, true, false, nat_lt}
+use Rattle.lru_limits.specs.Rules.{Rules, Offers}
+use Rattle.lru_limits.specs.Stores.{plain, hands_over}
 
--- so many pairs are over the limit
-abbrev pub is_over : Limit → ℕ → Bool
-is_over (limits.Length most) count = nat_lt most count
-is_over limits.Compact count = false
+-- more pairs than the length are over the limit, and any growth is permitted
+abbrev pub length_rules : Rules ℕ ℕ ℕ
+length_rules = plain (λ most count. nat_lt most count) (λ _ _. true)
 
--- new pairs are taken in at all
-abbrev pub admits : Limit → Bool
-admits (limits.Length most) = nat_lt 0 most
-admits limits.Compact = true
+-- pairs are stored as they come, unless the length is 0
+abbrev pub length_offers : Offers ℕ ℕ ℕ ℕ
+length_offers = hands_over (λ most _ _. nat_lt 0 most)
 
--- the pairs less the oldest, if one more would be over the limit
-abbrev pub with_room : Limit → List (ℕ × ℕ) → List (ℕ × ℕ)
-with_room limit pairs = if is_over limit (length pairs + 1) then without_oldest pairs else pairs
+module _ {S : Type 0} where
+  -- nothing is over the limit, and any growth is permitted
+  abbrev pub no_rules : Rules ℕ ℕ S
+  no_rules = plain (λ _ _. false) (λ _ _. true)
 
--- so many pairs less the oldest, one after another, as long as they are over the limit
-abbrev pub trim_from : Limit → ℕ → List (ℕ × ℕ) → List (ℕ × ℕ)
-trim_from limit zero pairs = pairs
-trim_from limit (suc count) pairs = if is_over limit (suc count) then trim_from limit count (without_oldest pairs) else pairs
+  -- pairs are stored as they come
+  abbrev pub all_offers : Offers ℕ ℕ S ℕ
+  all_offers = hands_over (λ _ _ _. true)
 
--- the pairs less the oldest, one after another, as long as they are over the limit
-unfoldable pub trim : Limit → List (ℕ × ℕ) → List (ℕ × ℕ)
-trim limit pairs = trim_from limit (length pairs) pairs
+  -- the limiter has an answer to each pair that is offered
+  abbrev pub AlwaysOffers : Offers ℕ ℕ S ℕ → Type 0
+  AlwaysOffers offers = (s : S) (count key value : ℕ) → (t : S) × (given : Option (ℕ × ℕ)) × offers.on_insert s count key value t given

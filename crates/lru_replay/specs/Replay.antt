@@ -1,20 +1,28 @@
 -- A whole replay: what is written of an input, at its end and where a read or a write fails.
 use Rattle.std.specs.Prelude.{◌≡◌, ℕ, List, [], ◌∷◌, ◌⊎◌, Option, IfSome, Result, Ok, Err}
 use Rattle.std.specs.Io.KnownBytes.{Appends}
+use Rattle.lru_limits.specs.declared.limiters.unlimited_compact.UnlimitedCompact.{UnlimitedCompact}
 use Rattle.lru_replay.specs.declared.call.Limit.{Limit}
+use Rattle.lru_replay.specs.declared.call.Limit.TheVariants as limits
 use Rattle.lru_replay.specs.declared.outcome.ReplayEnd.{ReplayEnd}
 use Rattle.lru_replay.specs.declared.outcome.ReplayEnd.TheVariants as ends
 use Rattle.lru_replay.specs.declared.outcome.ReplayError.{ReplayError}
 use Rattle.lru_replay.specs.Grammar.{SpellsLimit}
+use Rattle.lru_replay.specs.Limits.{length_rules, length_offers, no_rules, all_offers}
 use Rattle.lru_replay.specs.Lines.{lines_of, TakesLines}
+use Rattle.lru_replay.specs.Maps.{empty}
 use Rattle.lru_replay.specs.Output.{IsBeginning, no_limiter_text}
 use Rattle.lru_replay.specs.Runs.{IsTextOf}
-use Rattle.lru_replay.specs.State.{empty_map}
+
+-- The lines are answered by this text, from the empty map under the limit.
+abbrev pub IsTextUnder : Limit → List (List ℕ) → List ℕ → Type 0
+IsTextUnder (limits.Length most) = IsTextOf length_rules length_offers (empty most)
+IsTextUnder limits.Compact = IsTextOf {S = UnlimitedCompact} no_rules all_offers (empty (record {}))
 
 -- The first line names a limit, and the others are answered by this text, from the empty map under that limit.
 abbrev pub IsReplay : List (List ℕ) → List ℕ → Type 0
 IsReplay lines text = (limit : Limit) × (first : List ℕ) × (others : List (List ℕ))
-    × (lines ≡ first ∷ others) × SpellsLimit first limit × IsTextOf (empty_map limit) others text
+    × (lines ≡ first ∷ others) × SpellsLimit first limit × IsTextUnder limit others text
 
 -- The first line names no limit, or there is none.
 abbrev pub NamesNoLimit : List (List ℕ) → Type 0
@@ -27,7 +35,7 @@ IsCut lines part = (text : List ℕ) × IsBeginning part text × (IsReplay lines
 -- the text of the first so many lines: there is none before the first, which names the limit
 abbrev pub IsTextSoFar : List (List ℕ) → List ℕ → Type 0
 IsTextSoFar [] text = text ≡ []
-IsTextSoFar (first ∷ others) text = (limit : Limit) × SpellsLimit first limit × IsTextOf (empty_map limit) others text
+IsTextSoFar (first ∷ others) text = (limit : Limit) × SpellsLimit first limit × IsTextUnder limit others text
 
 -- Below, what the reader had left is from, where it is known, and the writer's bytes are old and new.
 

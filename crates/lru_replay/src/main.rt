@@ -4,7 +4,6 @@
 mod bytes;
 mod call;
 mod line;
-mod map;
 mod outcome;
 mod output;
 mod replay;

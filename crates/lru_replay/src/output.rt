@@ -3,6 +3,7 @@ ghost use Rattle.std.specs.Prelude.{◌≡◌, ℕ, Bool, Option, [], ◌∷◌,
 ghost use Rattle.lru_replay.specs.Output.{Writes, flag_text, value_text, pair_text, rest_text, pairs_text};
 
 use crate::outcome::ReplayError;
+use schnellru::{Iter, Limiter};
 use std::io::{ErrorKind, Write};
 
 /// Writes all the bytes. A write that was interrupted is tried again.
@@ -49,32 +50,40 @@ pub fn write_value<W: Write>(writer: &mut W, value: Option<u64>) -> Result<(), R
 }
 
 /// Writes the pairs with one space between them, or `-` for none.
-pub fn write_pairs<W: Write>(writer: &mut W, pairs: &[(u64, u64)]) -> Result<(), ReplayError>
-    ensures { Writes (W.contents writer.old) (W.contents writer.new) result (pairs_text pairs.now) }
+pub fn write_pairs<L: Limiter<u64, u64>, W: Write>(
+    writer: &mut W,
+    pairs: Iter<'_, u64, u64, L>,
+) -> Result<(), ReplayError>
+    ensures { Writes (W.contents writer.old) (W.contents writer.new) result (pairs_text pairs.entry) }
 {
-    let Some((first, rest)) = pairs.split_first() else {
+    let mut pairs = pairs;
+    let Some((key, value)) = pairs.next() else {
         return write_bytes(writer, b"-");
     };
-    write_pair(writer, *first)?;
-    write_rest(writer, rest)
+    write_pair(writer, *key, *value)?;
+    write_rest(writer, pairs)
 }
 
-fn write_rest<W: Write>(writer: &mut W, pairs: &[(u64, u64)]) -> Result<(), ReplayError>
-    ensures { Writes (W.contents writer.old) (W.contents writer.new) result (rest_text pairs.now) }
+fn write_rest<L: Limiter<u64, u64>, W: Write>(
+    writer: &mut W,
+    pairs: Iter<'_, u64, u64, L>,
+) -> Result<(), ReplayError>
+    ensures { Writes (W.contents writer.old) (W.contents writer.new) result (rest_text pairs.entry) }
 {
-    for pair in pairs {
+    let mut pairs = pairs;
+    while let Some((key, value)) = pairs.next() {
         write_bytes(writer, b" ")?;
-        write_pair(writer, *pair)?;
+        write_pair(writer, *key, *value)?;
     }
     Ok(())
 }
 
-fn write_pair<W: Write>(writer: &mut W, pair: (u64, u64)) -> Result<(), ReplayError>
-    ensures { Writes (W.contents writer.old) (W.contents writer.new) result (pair_text pair) }
+fn write_pair<W: Write>(writer: &mut W, key: u64, value: u64) -> Result<(), ReplayError>
+    ensures { Writes (W.contents writer.old) (W.contents writer.new) result (pair_text (key, value)) }
 {
-    write_number(writer, pair.0)?;
+    write_number(writer, key)?;
     write_bytes(writer, b":")?;
-    write_number(writer, pair.1)
+    write_number(writer, value)
 }
 
 /// Writes a number in decimal digits, which are made from the last to the first.

@@ -1,25 +1,48 @@
 //! A replay, from the lines of a reader to the answer lines of a writer.
-ghost use Rattle.std.specs.Prelude.{◌≡◌, ◌↔◌, IfSome, OnOk, IsErrOf};
+ghost use Rattle.std.specs.Prelude.{◌≡◌, ◌↔◌, nat_eq, IfSome, OnOk, OnErr, IsErrOf};
 ghost use Rattle.std.specs.Io.KnownBytes.{Appends, IsAtEnd};
 ghost use Rattle.std.specs.Option.{OnSome};
+ghost use Rattle.schnellru.specs.Calls.{Get};
+ghost use Rattle.schnellru.specs.State.{IsMap};
+ghost use Rattle.lru_replay.specs.Limits.{AlwaysOffers};
 ghost use Rattle.lru_replay.specs.Lines.{lines_of};
+ghost use Rattle.lru_replay.specs.Maps.{empty};
 ghost use Rattle.lru_replay.specs.Output.{Writes, answer_text, no_limiter_text};
-ghost use Rattle.lru_replay.specs.Replay.{NamesNoLimit, WritesReplay, WritesSoFar, WritesCut};
-ghost use Rattle.lru_replay.specs.Runs.{LineStep, AnswersLine, WritesRun, WritesRunSoFar, BeginsRun};
+ghost use Rattle.lru_replay.specs.Replay.{IsTextUnder, NamesNoLimit, WritesReplay, WritesSoFar, WritesCut};
+ghost use Rattle.lru_replay.specs.Runs.{LineStep, AnswersLine, IsTextOf, WritesText, WritesTextSoFar, BeginsText};
 ghost use Rattle.lru_replay.specs.Steps.{Answer};
 
-use crate::call::{Call, call_of, limit_of};
+use crate::call::{Call, Limit, call_of, limit_of};
 use crate::line::{Ending, Line, read_line};
-use crate::map::PairMap;
 use crate::outcome::{ReplayEnd, ReplayError};
 use crate::output::{write_bytes, write_flag, write_pairs, write_value};
+use schnellru::{ByLength, Insertion, LruMap, RandomState, UnlimitedCompact};
 use std::alloc::Global;
 use std::io::{BufRead, Write};
 
+/// The bytes of an entry, by which the memory of a map is counted.
+const ENTRY_BYTES: usize = 32;
+
+/// The value of the key, whose pair becomes the newest.
+fn get<L: Insertion<u64, u64, u64>>(map: &mut LruMap<u64, u64, L>, key: u64) -> Option<u64>
+    ensures { Get (nat_eq key) map.old result map.new }
+{
+    match map.get(&key) {
+        Some(value) => Some(*value),
+        None => None,
+    }
+}
+
 /// Carries out what a line says, and writes the answer.
-fn carry_out<W: Write>(map: &mut PairMap, line: &[u8], writer: &mut W) -> Result<(), ReplayError>
-    ensures { (answer : Answer) × LineStep map.old line.now answer map.new
+fn carry_out<L: Insertion<u64, u64, u64>, W: Write>(
+    map: &mut LruMap<u64, u64, L>,
+    line: &[u8],
+    writer: &mut W,
+) -> Result<(), ReplayError>
+    requires map { IsMap nat_eq map.old }
+    ensures step { (answer : Answer) × LineStep L.rules L.offers map.old line.now answer map.new
         × Writes (W.contents writer.old) (W.contents writer.new) result (answer_text answer) }
+    ensures map { IsMap nat_eq map.new }
 {
     match call_of(line) {
         Some(Call::Insert(key, value)) => match map.insert(key, value) {
@@ -27,11 +50,11 @@ fn carry_out<W: Write>(map: &mut PairMap, line: &[u8], writer: &mut W) -> Result
             Err(_) => write_bytes(writer, b"no memory"),
         },
         Some(Call::Get(key)) => {
-            let value = map.get(key);
+            let value = get(map, key);
             write_value(writer, value)
         }
         Some(Call::Peek(key)) => {
-            let value = map.peek(key);
+            let value = map.peek(&key).copied();
             write_value(writer, value)
         }
         Some(Call::List) => write_pairs(writer, map.iter()),
@@ -40,27 +63,35 @@ fn carry_out<W: Write>(map: &mut PairMap, line: &[u8], writer: &mut W) -> Result
 }
 
 /// Carries out what a line says, and writes the answer line.
-fn answer_line<W: Write>(map: &mut PairMap, line: &[u8], writer: &mut W) -> Result<(), ReplayError>
-    ensures { AnswersLine map.old line.now map.new (W.contents writer.old) (W.contents writer.new) result }
+fn answer_line<L: Insertion<u64, u64, u64>, W: Write>(
+    map: &mut LruMap<u64, u64, L>,
+    line: &[u8],
+    writer: &mut W,
+) -> Result<(), ReplayError>
+    requires map { IsMap nat_eq map.old }
+    ensures step { AnswersLine L.rules L.offers map.old line.now map.new
+        (W.contents writer.old) (W.contents writer.new) result }
+    ensures map { IsMap nat_eq map.new }
 {
     carry_out(map, line, writer)?;
     write_bytes(writer, b"\n")
 }
 
 /// Answers the lines up to the reader's end.
-fn answer_lines<R: BufRead, W: Write>(
-    map: &mut PairMap,
+fn answer_lines<L: Insertion<u64, u64, u64>, R: BufRead, W: Write>(
+    map: &mut LruMap<u64, u64, L>,
     reader: &mut R,
     writer: &mut W,
 ) -> Result<(), ReplayError>
-    ensures done { OnOk result
-        (WritesRun map.old (R.remaining reader.old) (W.contents writer.old) (W.contents writer.new) map.new) }
+    requires map { IsMap nat_eq map.old }
+    requires offers { AlwaysOffers L.offers }
+    ensures done { OnOk result (WritesText (IsTextOf L.rules L.offers map.old)
+        (R.remaining reader.old) (W.contents writer.old) (W.contents writer.new)) }
     ensures at_end { OnOk result (OnSome (R.remaining reader.old) (IsAtEnd (R.remaining reader.new))) }
-    ensures read { IsErrOf result ReplayError.Read →
-        WritesRunSoFar map.old (R.remaining reader.old) (R.remaining reader.new)
-        (W.contents writer.old) (W.contents writer.new) map.new }
-    ensures write { IsErrOf result ReplayError.Write →
-        BeginsRun map.old (R.remaining reader.old) (W.contents writer.old) (W.contents writer.new) }
+    ensures read { IsErrOf result ReplayError.Read → WritesTextSoFar (IsTextOf L.rules L.offers map.old)
+        (R.remaining reader.old) (R.remaining reader.new) (W.contents writer.old) (W.contents writer.new) }
+    ensures begins { OnErr result (BeginsText (IsTextOf L.rules L.offers map.old)
+        (R.remaining reader.old) (W.contents writer.old) (W.contents writer.new)) }
 {
     let mut line = Line::new();
     for _ in 0..u64::MAX {
@@ -71,6 +102,48 @@ fn answer_lines<R: BufRead, W: Write>(
         }
     }
     Err(ReplayError::Read)
+}
+
+/// Answers the lines on an empty map with this limiter.
+fn answer_with<L: Insertion<u64, u64, u64> + Drop, R: BufRead, W: Write>(
+    alloc: Global,
+    limiter: L,
+    reader: &mut R,
+    writer: &mut W,
+) -> Result<(), ReplayError>
+    requires links { L.LinkType.number L.LinkType.MAX ≡ 4294967295 }
+    requires offers { AlwaysOffers L.offers }
+    ensures done { OnOk result (WritesText (IsTextOf L.rules L.offers (empty limiter))
+        (R.remaining reader.old) (W.contents writer.old) (W.contents writer.new)) }
+    ensures at_end { OnOk result (OnSome (R.remaining reader.old) (IsAtEnd (R.remaining reader.new))) }
+    ensures read { IsErrOf result ReplayError.Read → WritesTextSoFar (IsTextOf L.rules L.offers (empty limiter))
+        (R.remaining reader.old) (R.remaining reader.new) (W.contents writer.old) (W.contents writer.new) }
+    ensures begins { OnErr result (BeginsText (IsTextOf L.rules L.offers (empty limiter))
+        (R.remaining reader.old) (W.contents writer.old) (W.contents writer.new)) }
+{
+    let mut map = LruMap::with_hasher(alloc, limiter, RandomState::default(), ENTRY_BYTES);
+    answer_lines(&mut map, reader, writer)
+}
+
+/// Answers the lines on an empty map under the limit.
+fn answer_under<R: BufRead, W: Write>(
+    alloc: Global,
+    limit: Limit,
+    reader: &mut R,
+    writer: &mut W,
+) -> Result<(), ReplayError>
+    ensures done { OnOk result (WritesText (IsTextUnder limit)
+        (R.remaining reader.old) (W.contents writer.old) (W.contents writer.new)) }
+    ensures at_end { OnOk result (OnSome (R.remaining reader.old) (IsAtEnd (R.remaining reader.new))) }
+    ensures read { IsErrOf result ReplayError.Read → WritesTextSoFar (IsTextUnder limit)
+        (R.remaining reader.old) (R.remaining reader.new) (W.contents writer.old) (W.contents writer.new) }
+    ensures begins { OnErr result (BeginsText (IsTextUnder limit)
+        (R.remaining reader.old) (W.contents writer.old) (W.contents writer.new)) }
+{
+    match limit {
+        Limit::Length(most) => answer_with(alloc, ByLength::new(most), reader, writer),
+        Limit::Compact => answer_with(alloc, UnlimitedCompact, reader, writer),
+    }
 }
 
 /// Reads the first line, and answers the others where it names a limit.
@@ -90,8 +163,9 @@ fn answer_all<R: BufRead, W: Write>(
     ensures read { IsErrOf result ReplayError.Read →
         WritesSoFar (R.remaining reader.old) (R.remaining reader.new)
         (W.contents writer.old) (W.contents writer.new) }
-    ensures write { IsErrOf result ReplayError.Write →
-        WritesCut (R.remaining reader.old) (W.contents writer.old) (W.contents writer.new) }
+    // What was written before a failure is a beginning of what may be written.
+    ensures begins { OnErr result
+        (WritesCut (R.remaining reader.old) (W.contents writer.old) (W.contents writer.new)) }
 {
     let mut line = Line::new();
     let ending = read_line(reader, &mut line)?;
@@ -102,8 +176,7 @@ fn answer_all<R: BufRead, W: Write>(
     let Ending::Feed = ending else {
         return Ok(ReplayEnd::Done);
     };
-    let mut map = PairMap::new(alloc, limit);
-    answer_lines(&mut map, reader, writer)?;
+    answer_under(alloc, limit, reader, writer)?;
     Ok(ReplayEnd::Done)
 }
 

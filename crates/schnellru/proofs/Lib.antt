@@ -39,3 +39,4 @@ pub mod RelocateLemmas
 pub mod RestLemmas
 pub mod Placing
 pub mod Replaced
+pub mod SomeInsert

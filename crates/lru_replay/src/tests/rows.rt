@@ -3,6 +3,7 @@ use super::streams::Repeated;
 use crate::outcome::{ReplayEnd, ReplayError, status};
 use crate::replay::replay;
 use std::io::BufReader;
+use std::ops::Range;
 use std::process::Abort;
 use std::test::Fail;
 
@@ -42,6 +43,38 @@ fn answers_examples(rt: HostRuntime) {
     );
     expect(&rt, b"length 0\ninsert 1 10\nlist\n", b"false\n-\n", 0);
     expect(&rt, b"compact", b"", 0);
+}
+
+/// Inserts the keys, each with its tenfold as the value, and expects that the newest so many are listed.
+fn expect_newest(
+    rt: &(impl Abort + AllocGlobal),
+    limit: &str,
+    keys: Range<u64>,
+    listed: u64,
+) -> Result<(), Fail> {
+    let mut input = format!(in rt.alloc(); "{limit}\n")?;
+    let mut want = String::new(rt.alloc());
+    for key in keys.start..keys.end {
+        let line = format!(in rt.alloc(); "insert {} {}\n", key, key.saturating_mul(10))?;
+        input.push_str(line.as_str())?;
+        want.push_str("true\n")?;
+    }
+    input.push_str("list\n")?;
+    for i in 0..listed {
+        let key = keys.end.saturating_sub(i).saturating_sub(1);
+        let end = if i.saturating_add(1) == listed { '\n' } else { ' ' };
+        let pair = format!(in rt.alloc(); "{}:{}{}", key, key.saturating_mul(10), end)?;
+        want.push_str(pair.as_str())?;
+    }
+    expect(rt, input.as_bytes(), want.as_bytes(), 0);
+    Ok(())
+}
+
+#[test]
+fn lists_the_newest(rt: HostRuntime) -> Result<(), Fail> {
+    // The table grows to 64 buckets.
+    expect_newest(&rt, "compact", 0..40, 40)?;
+    expect_newest(&rt, "length 7", 9..32, 7)
 }
 
 #[test]

@@ -1,0 +1,57 @@
+-- The maps that replays begin with, and that their limiters answer each offer.
+use Rattle.std.proofs.Common.{◌≡◌, ℕ, true, [], refl, ap, arith, inl, Option, Some}
+use Rattle.std.specs.Prelude.{nat_eq}
+use Rattle.group_table.specs.Sizes.{full_capacity}
+use Rattle.group_table.specs.Bucket.{room}
+use Rattle.group_table.specs.Table.{IsTable}
+use Rattle.schnellru.specs.Sizes.{usage}
+use Rattle.schnellru.specs.State.{State, IsMap}
+use Rattle.schnellru.specs.Calls.{Get}
+use Rattle.schnellru.proofs.Promotion.{get_is_map}
+use Rattle.std.proofs.lemmas.Bool.Decides.{nat_tests}
+use Rattle.std.specs.List.{IsDistinct}
+use Rattle.lru_replay.specs.Limits.{length_offers, all_offers, AlwaysOffers}
+use Rattle.lru_replay.specs.Maps.{empty}
+
+no_table : IsTable []
+unfolding room full_capacity
+no_table = record {
+  count = inl refl;
+  addressable = omega arith;
+  used_within = omega arith;
+  within = omega arith;
+  exact = λ _. refl;
+  none_deleted = λ _. refl;
+  some_empty = λ some. absurd (omega (arith, some));
+  some_free = λ some. absurd (omega (arith, some));
+  visits_each = λ hash b within. absurd (omega (arith, within));
+}
+
+-- what holds of every map holds of an empty one
+pub empty_is_map : {S : Type 0} (limiter : S) → IsMap nat_eq (empty limiter)
+unfolding IsDistinct usage room full_capacity
+empty_is_map limiter = record {
+  distinct = tt;
+  sized = record {
+    table = no_table;
+    taken = refl;
+    reachable = inl refl;
+    usable = (0, refl);
+    moved = omega arith;
+    placed = omega arith;
+  };
+  paid = omega arith;
+}
+
+pub length_always : AlwaysOffers length_offers
+length_always most count key value = (most, _, record { limiter = refl; pair = refl })
+
+pub all_always : {S : Type 0} → AlwaysOffers {S = S} all_offers
+all_always s count key value = (s, Some (key, value), record { limiter = refl; pair = refl })
+
+-- a get keeps what holds of every map
+pub get_keeps_map : {S H : Type 0} (key : ℕ) (old : State ℕ ℕ S H) (result : Option ℕ) (new : State ℕ ℕ S H) → Get (nat_eq key) old result new → IsMap nat_eq old → IsMap nat_eq new
+get_keeps_map key old result new step ok = get_is_map {names = nat_eq} {eq = nat_eq} {query_input = λ _. []} {key_input = λ _. []} (record { writes = λ q k n. refl; one = λ q x y n. same_tests q x y n }) key old result new step ok
+  where
+    same_tests : (q x y : ℕ) → nat_eq q x ≡ true → nat_eq q y ≡ nat_eq x y
+    same_tests q x y n = let e : q ≡ x = grind (arith, nat_tests) in ap (λ k. nat_eq k y) e

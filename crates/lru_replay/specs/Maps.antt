@@ -1,0 +1,17 @@
+-- The maps of a replay: numbers under numbers.
+use Rattle.std.specs.Prelude.{ℕ, [], ◌∷◌}
+use Rattle.std.specs.Hash.{le_bytes}
+use Rattle.lru_limits.specs.Mixing.{Mixer, seeded, written, closed}
+use Rattle.schnellru.specs.State.{State, empty_map}
+
+-- a map with the default hasher, whose limiter has the states S
+abbrev pub Map : Type 0 → Type 0
+Map S = State ℕ ℕ S Mixer
+
+-- an empty one, with 32 bytes an entry and links of 32 bits
+abbrev pub empty : {S : Type 0} → S → Map S
+empty limiter = empty_map limiter (seeded (1 ∷ 2 ∷ 3 ∷ 4 ∷ [])) 32 4294967295
+
+-- the hash of a key
+abbrev pub hash_of : Mixer → ℕ → ℕ
+hash_of hasher key = closed (written hasher (le_bytes 8 key))
