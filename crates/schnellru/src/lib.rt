@@ -13,3 +13,6 @@ pub use lru_limits::{
 };
 pub use map::{DEFAULT_ENTRY_BYTES, LruMap};
 pub use walk::Iter;
+
+#[cfg(test)]
+mod tests;
