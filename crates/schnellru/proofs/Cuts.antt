@@ -1,10 +1,11 @@
 -- An order of buckets, cut at one of them, and the entries of its buckets.
-use Rattle.std.proofs.Common.{◌≡◌, ℕ, zero, suc, ◌+◌, ◌<◌, ◌≤◌, Bool, true, false, cond, List, [], ◌∷◌, ◌++◌, length, ◌⊎◌, inl, inr, Option, Some, None, refl, sym, ap, ◌∙◌, subst, arith, slice_set, slice_index_or, length-append}
+use Rattle.std.proofs.Common.{◌≡◌, ℕ, zero, suc, ◌+◌, ◌<◌, ◌≤◌, Bool, true, false, cond, List, [], ◌∷◌, ◌++◌, length, ◌⊎◌, inl, inr, Option, Some, None, refl, sym, ap, ◌∙◌, subst, arith, slice_set, slice_index_or}
 use Rattle.std.specs.Prelude.{◌≢◌, nat_eq, not, filter, Contains, AllPairs, option_to_list}
 use Rattle.std.specs.List.{AllByRecursion}
 use Rattle.std.proofs.lemmas.Bool.Decides.{nat_tests}
 use Rattle.std.proofs.lemmas.List.{append_assoc, get_or-set_other}
 use Rattle.group_table.specs.Bucket.{Slot, IsFull, entry_at, entry_of, empty}
+use Rattle.schnellru.proofs.OrderLemmas.{Contains-here, Contains-later, distinct_head, distinct_tail, last_in}
 use Rattle.schnellru.specs.Linked.{without_bucket, entries_in}
 use Rattle.schnellru.specs.Chain.{last_bucket}
 
@@ -20,37 +21,21 @@ pub record Cut (b : ℕ) (order : List ℕ) : Type 0 where
   pub none_before : Lacks b before
   pub none_after : Lacks b after
 
--- b is one of them
-abbrev Holds : List ℕ → ℕ → Type 0
-Holds [] b = ⊥
-Holds (x ∷ xs) b = (x ≡ b) ⊎ Holds xs b
-
-middle : (xs : List ℕ) (b : ℕ) (ys : List ℕ) → Holds (xs ++ b ∷ ys) b
-middle [] b ys = inl refl
-middle (x ∷ xs) b ys = inr (middle xs b ys)
-
-apart : (x b : ℕ) (xs : List ℕ) → Lacks x xs → Holds xs b → nat_eq x b ≡ false
-apart x b [] h k = absurd k
-apart x b (y ∷ ys) h (inl same) = let e : nat_eq y x ≡ false = h.0 in grind (arith, nat_tests)
-apart x b (y ∷ ys) h (inr k) = apart x b ys h.1 k
-
-lacks_by : (b : ℕ) (xs : List ℕ) → ((j d : ℕ) → j < length xs → b ≢ slice_index_or xs j d) → Lacks b xs
-lacks_by b [] h = tt
-lacks_by b (x ∷ xs) h = (go (nat_eq x b) refl, lacks_by b xs (λ j d l. h (suc j) d (omega (arith, l))))
+-- a bucket that is not in the order
+pub lacks_unless : (b : ℕ) (order : List ℕ) → (Contains order b → ⊥) → Lacks b order
+lacks_unless b [] h = tt
+lacks_unless b (x ∷ xs) h = (go (nat_eq x b) refl, lacks_unless b xs (λ k. h (Contains-later x b xs k)))
   where
     go : (y : Bool) → nat_eq x b ≡ y → nat_eq x b ≡ false
-    go true t = let same : b ≡ x = grind (arith, nat_tests) in absurd (h 0 0 (omega arith) same)
+    go true t = let same : x ≡ b = grind (arith, nat_tests) in absurd (h (subst (Contains (x ∷ xs)) same (Contains-here x xs)))
     go false t = t
 
-pub tail_pairs : (x : ℕ) (xs : List ℕ) → AllPairs ◌≢◌ (x ∷ xs) → AllPairs ◌≢◌ xs
-tail_pairs x xs h = λ i j d l m. h (suc i) (suc j) d (omega (arith, l)) (omega (arith, m))
-
 pub head_lacks : (x : ℕ) (xs : List ℕ) → AllPairs ◌≢◌ (x ∷ xs) → Lacks x xs
-head_lacks x xs h = lacks_by x xs (λ j d l. h 0 (suc j) d (omega arith) (omega (arith, l)))
+head_lacks x xs d = lacks_unless x xs (distinct_head x xs d)
 
 pub cut_at : (b : ℕ) (order : List ℕ) → AllPairs ◌≢◌ order → Contains order b → Cut b order
 cut_at b [] d (k, within, is) = absurd (omega (arith, within))
-cut_at b (x ∷ xs) d (k, within, is) = go (nat_eq x b) refl k within is (λ h. cut_at b xs (tail_pairs x xs d) h)
+cut_at b (x ∷ xs) d (k, within, is) = go (nat_eq x b) refl k within is (λ h. cut_at b xs (distinct_tail x xs d) h)
   where
     go : (y : Bool) → nat_eq x b ≡ y → (k : ℕ) → k < length (x ∷ xs) → slice_index_or (x ∷ xs) k b ≡ b → (Contains xs b → Cut b xs) → Cut b (x ∷ xs)
     go true t k within is on = let same : x ≡ b = grind (arith, nat_tests) in record {
@@ -66,11 +51,15 @@ pub cut_last : (b : ℕ) (order : List ℕ) → AllPairs ◌≢◌ order → las
 cut_last b [] d h = absurd cc
 cut_last b (x ∷ []) d h = let same : x ≡ b = cc in (record { before = []; after = []; whole = ap (λ c. c ∷ []) same; none_before = tt; none_after = tt }, refl)
 cut_last b (x ∷ y ∷ ys) d h =
-    let on = cut_last b (y ∷ ys) (tail_pairs x (y ∷ ys) d) h in let cut = on.0 in (record {
+    let on = cut_last b (y ∷ ys) (distinct_tail x (y ∷ ys) d) h in let cut = on.0 in (record {
       before = x ∷ cut.before; after = cut.after; whole = ap (λ c. x ∷ c) cut.whole;
-      none_before = (apart x b (y ∷ ys) (head_lacks x (y ∷ ys) d) (subst (λ l. Holds l b) (sym cut.whole) (middle cut.before b cut.after)), cut.none_before);
+      none_before = (go (nat_eq x b) refl, cut.none_before);
       none_after = cut.none_after;
     }, on.1)
+  where
+    go : (t : Bool) → nat_eq x b ≡ t → nat_eq x b ≡ false
+    go true t = let same : b ≡ x = grind (arith, nat_tests) in absurd (distinct_head x (y ∷ ys) d (subst (Contains (y ∷ ys)) same (last_in (y ∷ ys) b h)))
+    go false t = t
 
 module _ {b : ℕ} {order : List ℕ} (cut : Cut b order) where
   kept : (xs : List ℕ) → Lacks b xs → without_bucket b xs ≡ xs
@@ -84,10 +73,6 @@ module _ {b : ℕ} {order : List ℕ} (cut : Cut b order) where
   -- the others, in their order
   pub cut_without : without_bucket b order ≡ cut.before ++ cut.after
   cut_without = ap (without_bucket b) cut.whole ∙ kept_through cut.before cut.after cut.none_before cut.none_after
-
-  -- one fewer
-  pub cut_length : suc (length (without_bucket b order)) ≡ length order
-  cut_length = ap (λ xs. suc (length xs)) cut_without ∙ (let w = ap length cut.whole in let p = length-append cut.before (b ∷ cut.after) in let q = length-append cut.before cut.after in omega (arith, w, p, q))
 
 pub without_lacks : (b : ℕ) (xs : List ℕ) → Lacks b (without_bucket b xs)
 without_lacks b [] = tt

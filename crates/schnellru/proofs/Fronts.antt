@@ -37,6 +37,17 @@ module _ {X : Type 0} where
   front_more x ys xs p = (p.0, ap (λ l. x ∷ l) p.1)
 
 module _ {K V : Type 0} where
+  -- what is not among some pairs is not in front of them
+  pub front_absent : (names : K → Bool) (xs ys : List (K × V)) → IsFront xs ys → lookup_entry names ys ≡ None → lookup_entry names xs ≡ None
+  front_absent names [] ys front absent = refl
+  front_absent names (x ∷ xs) ys front absent =
+      go (names x.0) (front_absent names xs (xs ++ front.0) (front.0, refl)) (sym (ap (lookup_entry names) front.1) ∙ absent)
+    where
+      go : (b : Bool) → (lookup_entry names (xs ++ front.0) ≡ None → lookup_entry names xs ≡ None) →
+          cond b (Some x) (lookup_entry names (xs ++ front.0)) ≡ None → cond b (Some x) (lookup_entry names xs) ≡ None
+      go true f h = h
+      go false f h = f h
+
   -- where there is no such pair, all are others
   pub without_none : (names : K → Bool) (xs : List (K × V)) → lookup_entry names xs ≡ None → without names xs ≡ xs
   without_none names [] h = refl

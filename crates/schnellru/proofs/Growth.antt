@@ -1,5 +1,5 @@
 -- How tables grow.
-use Rattle.std.proofs.Common.{◌≡◌, ℕ, zero, suc, ◌+◌, ◌-◌, ◌*◌, ◌/◌, ◌^◌, ◌<◌, ◌≤◌, ◌⊎◌, Bool, true, false, cond, Option, Some, None, refl, sym, ap, ◌∙◌, arith, le_of_eq, pow_pos, pow-add, inl, inr}
+use Rattle.std.proofs.Common.{◌≡◌, ℕ, zero, suc, ◌+◌, ◌-◌, ◌*◌, ◌/◌, ◌^◌, ◌<◌, ◌≤◌, ◌⊎◌, Bool, true, false, cond, Option, Some, None, refl, sym, ap, ◌∙◌, arith, le_of_eq, pow_pos, pow-add, inl, inr, unwrap_or}
 use native.Mathlib.Decide.{dec_lt}
 use Rattle.std.proofs.Math.Pow.{pow_mono}
 use Rattle.std.specs.Prelude.{nat_lt, nat_le, ◌==◌}
@@ -121,6 +121,17 @@ usage_addressable e n bytes h = go (n == 0) (nat_le (bytes_of e n) (2 ^ 63 - 16)
     go true c z l h = omega (arith, z refl)
     go false true z l h = omega (arith, l refl)
     go false false z l h = absurd (grind arith)
+
+-- with buckets the usage is their bytes
+pub usage_bytes : (e n bytes : ℕ) → 0 < n → usage e n ≡ Some bytes → (bytes_of e n ≡ bytes) × (bytes_of e n ≤ 2 ^ 63 - 16)
+unfolding usage
+usage_bytes e n bytes some h = go (n == 0) (nat_le (bytes_of e n) (2 ^ 63 - 16)) (λ z. grind (arith, nat_tests)) (λ z. grind (arith, nat_tests)) h
+  where
+    go : (b c : Bool) → (b ≡ true → n ≡ 0) → (c ≡ true → bytes_of e n ≤ 2 ^ 63 - 16) → cond b (Some 0) (cond c (Some (bytes_of e n)) None) ≡ Some bytes
+        → (bytes_of e n ≡ bytes) × (bytes_of e n ≤ 2 ^ 63 - 16)
+    go true c z le h = absurd (omega (arith, z refl, some))
+    go false true z le h = (ap (λ o. unwrap_or o (bytes_of e n)) h, le refl)
+    go false false z le h = absurd cc
 
 -- a new table has the usage that is told of it
 pub target_usage : (max e b c n bytes : ℕ) → target max e b c ≡ new_table n bytes → usage e n ≡ Some bytes

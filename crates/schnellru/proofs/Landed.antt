@@ -19,21 +19,12 @@ use Rattle.schnellru.specs.Place.{IsPlaced}
 use Rattle.schnellru.specs.Steps.{UsesRoom, UsesDeleted}
 use Rattle.schnellru.specs.Linked.{Linked, IsLinked, Lands, pairs_of, entries_in}
 use Rattle.schnellru.specs.Holds.{state_by}
-use Rattle.schnellru.proofs.Cuts.{Lacks, entries-apart}
+use Rattle.schnellru.proofs.Cuts.{Lacks, lacks_unless, entries-apart}
 use Rattle.schnellru.proofs.Distinct.{AreDistinct}
 use Rattle.schnellru.proofs.FilledBuckets.{deleted_large}
 use Rattle.schnellru.proofs.Kept.{sized_same, room_at-most}
 use Rattle.schnellru.proofs.Potential.{pays_placing}
 use Rattle.schnellru.proofs.Paid.{paid_after}
-
--- a bucket that is not in the order
-lacks_unless : (b : ℕ) (order : List ℕ) → (Contains order b → ⊥) → Lacks b order
-lacks_unless b [] h = tt
-lacks_unless b (x ∷ xs) h = (go (nat_eq x b) refl, lacks_unless b xs (λ k. h (suc k.0, omega (arith, k.1), k.2)))
-  where
-    go : (y : Bool) → nat_eq x b ≡ y → nat_eq x b ≡ false
-    go true t = let same : x ≡ b = grind (arith, nat_tests) in absurd (h (0, omega arith, same))
-    go false t = t
 
 -- a bucket that may be filled is there
 pub may_fill_there : (marks : List Mark) (b : ℕ) → IsTable marks → MayFill marks b → 0 < length marks

@@ -1,9 +1,11 @@
 -- What is left when pairs leave, and when growth is refused.
-use Rattle.std.proofs.Common.{◌≡◌, ℕ, zero, suc, ◌+◌, ◌-◌, ◌<◌, ◌≤◌, true, false, List, [], ◌∷◌, length, refl, sym, ap, ◌∙◌, arith}
+use Rattle.std.proofs.Common.{◌≡◌, ℕ, zero, suc, ◌+◌, ◌-◌, ◌<◌, ◌≤◌, Bool, true, false, if◌then◌else◌, List, [], ◌∷◌, length, refl, sym, ap, ◌∙◌, subst, arith}
 use Rattle.group_table.specs.Sizes.{full_capacity}
-use Rattle.schnellru.specs.Lists.{without_last}
+use Rattle.schnellru.specs.Lists.{last, without_last}
 use Rattle.lru_limits.specs.Rules.{Rules}
-use Rattle.schnellru.specs.State.{State, Contents, buckets, room, contents, IsSized, FreesRoom, Leaves, pop, pops, trim, trim_from}
+use Rattle.schnellru.specs.State.{State, Contents, buckets, room, contents, IsSized, FreesRoom, Leaves, told_of, pop, pops, trim, trim_from}
+use Rattle.schnellru.specs.Inserts.{make_way}
+use Rattle.schnellru.proofs.Emptiness.{none_left}
 use Rattle.schnellru.specs.Place.{CannotGrow, no_target, denied}
 use Rattle.schnellru.proofs.Sized.{exact}
 
@@ -41,6 +43,17 @@ module _ {K V S : Type 0} (rules : Rules K V S) where
   pub trim-empty : (c : Contents K V S) → length c.pairs ≡ 0 → trim rules c ≡ c
   unfolding trim
   trim-empty c none = ap (λ n. trim_from rules n c) none
+
+  -- where there is none, none makes way
+  pub make_way-empty : (c : Contents K V S) → length c.pairs ≡ 0 → make_way rules c ≡ c
+  make_way-empty c none = go (rules.is_over_the_limit c.limiter (length c.pairs + 1))
+    where
+      same : pop rules c ≡ c
+      same = λ i. record { pairs = (ap without_last (none_left c.pairs none) ∙ sym (none_left c.pairs none)) i; limiter = ap (λ xs. told_of rules (last xs) c.limiter) (none_left c.pairs none) i }
+
+      go : (b : Bool) → (if b then pop rules c else c) ≡ c
+      go true = same
+      go false = refl
 
   -- where the limiter is over, the oldest leaves first
   pub trim-over : (c : Contents K V S) → 0 < length c.pairs → rules.is_over_the_limit c.limiter (length c.pairs) ≡ true → trim rules c ≡ trim rules (pop rules c)
@@ -90,3 +103,9 @@ module _ {K V S H : Type 0} where
           untouched = λ same. absurd (omega (arith, fewer, same));
         };
       }
+
+-- what is trimmed after some left
+pub leaves_trimmed : {K V S H : Type 0} (rules : Rules K V S) (old mid new : State K V S H) (left : Contents K V S) → Leaves old left mid →
+    Leaves mid (trim rules (contents mid)) new → Leaves old (trim rules left) new
+leaves_trimmed rules old mid new left some rest = leaves_trans old mid new left (trim rules left) some
+    (subst (λ c. Leaves mid (trim rules c) new) (ap contents some.is) rest)

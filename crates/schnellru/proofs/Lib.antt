@@ -38,3 +38,4 @@ pub mod MovedLemmas
 pub mod RelocateLemmas
 pub mod RestLemmas
 pub mod Placing
+pub mod Replaced

@@ -6,13 +6,13 @@ use Rattle.std.specs.List.{AllByRecursion}
 use Rattle.group_table.specs.Bucket.{Slot, empty, deleted, full, is_full, IsFull, bucket_at, entry_of, entry_at}
 use Rattle.group_table.specs.Change.{Removes}
 use Rattle.std.proofs.lemmas.List.{length-set}
-use Rattle.std.proofs.lemmas.List.Elements.{Contains-append_right}
 use Rattle.schnellru.specs.Lists.{lookup, lookup_entry, without, front, last, without_last}
 use Rattle.schnellru.specs.Linked.{Linked, IsLinked, entries_in, pairs_of, without_bucket}
 use Rattle.schnellru.specs.Chain.{last_bucket}
 use Rattle.schnellru.proofs.Distinct.{AreDistinct}
+use Rattle.schnellru.proofs.OrderLemmas.{last_in, length-without}
 use Rattle.schnellru.proofs.Named.{NoneNamed, none_found, cut_found, cut_value, cut_without, others_unnamed, last_end, without_last_end}
-use Rattle.schnellru.proofs.Cuts.{Cut, cut_at, cut_last, cut_length, without_lacks, entries-cut, entries-without, entries-apart}
+use Rattle.schnellru.proofs.Cuts.{Cut, cut_at, cut_last, without_lacks, entries-cut, entries-without, entries-apart}
 
 module _ {T : Type 0} where
   held : (slot : Slot T) → is_full slot ≡ true → (entry : T) × (entry_of slot ≡ Some entry)
@@ -75,7 +75,7 @@ module _ {K V : Type 0} (t : Linked K V) (linked : IsLinked t) where
 
   -- without one bucket there is one pair fewer
   pub shorter : (b : ℕ) → IsFull t.slots b → suc (length (without_bucket b t.order)) ≡ length t.order
-  shorter b h = cut_length (cut_at b t.order linked.distinct (linked.all b h))
+  shorter b h = omega (arith, length-without b t.order linked.distinct (linked.all b h))
 
   -- where no bucket has a named key, no pair is named
   pub none_named : (names : K → Bool) → ((b : ℕ) (p : K × V) → entry_at t.slots b ≡ Some p → names p.0 ≡ false) → lookup_entry names (pairs_of t) ≡ None
@@ -91,7 +91,7 @@ module _ {K V : Type 0} (t : Linked K V) (linked : IsLinked t) where
     last_cut = cut_last b t.order linked.distinct is_last
 
     pub oldest_full : IsFull t.slots b
-    oldest_full = linked.only b (subst (λ o. Contains o b) (sym last_cut.0.whole) (Contains-append_right last_cut.0.before (b ∷ last_cut.0.after) b (0, omega arith, refl)))
+    oldest_full = linked.only b (last_in t.order b is_last)
 
     module _ (p : K × V) (there : entry_at t.slots b ≡ Some p) where
       last_pairs : pairs_of t ≡ entries_in t.slots last_cut.0.before ++ p ∷ []

@@ -1,5 +1,5 @@
 -- What the steps of a placing come to.
-use Rattle.std.proofs.Common.{◌≡◌, ℕ, ◌+◌, ◌-◌, ◌*◌, ◌/◌, ◌<◌, ◌≤◌, ◌⊎◌, inl, inr, Bool, true, false, [], length, Some, None, Result, Ok, Err, refl, sym, ap, ◌∙◌, subst, arith}
+use Rattle.std.proofs.Common.{◌≡◌, ℕ, suc, ◌+◌, ◌-◌, ◌*◌, ◌/◌, ◌<◌, ◌≤◌, ◌⊎◌, inl, inr, Bool, true, false, [], length, Some, None, Result, Ok, Err, refl, sym, ap, ◌∙◌, subst, arith}
 use Rattle.std.specs.Prelude.{IsOk}
 use Rattle.std.specs.declared.alloc.AllocError.{AllocError}
 use native.Mathlib.Decide.{dec_lt}
@@ -8,7 +8,7 @@ use Rattle.group_table.specs.Bucket.{empty, marks_of}
 use Rattle.group_table.specs.Change.{HasNoPlace}
 use Rattle.lru_limits.specs.Rules.{Rules}
 use Rattle.schnellru.specs.Sizes.{usage, Target, no_table, new_table, target}
-use Rattle.schnellru.specs.State.{State, buckets, room, contents, IsSized, IsPaid, Leaves, pops, FirstFreeIs}
+use Rattle.schnellru.specs.State.{State, buckets, room, contents, IsSized, IsPaid, Leaves, pop, pops, FirstFreeIs}
 use Rattle.schnellru.specs.Place.{Place, first_table, first_denied, first_too_large, into_empty, into_emptied, with_room, deleted_bucket, rehashed, grown, evicted, evicted_rehashed, CannotGrow, Outcome, no_target, denied, outcome_of, placed, refused, IsPlaced, IsPlacedIfMemory, LacksRoom, asked, turned_away, without_oldest, next_table}
 use Rattle.schnellru.specs.Steps.{Evicts, finds_bucket, made_anew, UsesRoom, UsesDeleted}
 use Rattle.group_table.proofs.BucketLemmas.{length-marks_of}
@@ -16,10 +16,13 @@ use Rattle.schnellru.specs.Linked.{Linked, IsLinked, pairs_of}
 use Rattle.schnellru.specs.Holds.{state_by}
 use Rattle.schnellru.proofs.Ordered.{pairs-length}
 use Rattle.schnellru.proofs.Emptiness.{none_left}
-use Rattle.schnellru.proofs.Sized.{fits}
-use Rattle.schnellru.proofs.Growth.{full_capacity-4, full_capacity-at_most, full_capacity-some, full_capacity-double, target_doubles, target_usage, target_reached}
+use Rattle.schnellru.proofs.Sized.{fits, exact}
+use Rattle.schnellru.proofs.Growth.{full_capacity-4, full_capacity-at_most, full_capacity-some, full_capacity-even, full_capacity-double, target_doubles, target_usage, target_reached}
 use Rattle.schnellru.proofs.Short.{no_room}
-use Rattle.schnellru.proofs.Leaving.{known_is}
+use Rattle.schnellru.proofs.Leaving.{length-without_last, length-pops, known_is, pops-more, leaves_trans}
+use Rattle.schnellru.proofs.Evictions.{placed_after, room_after}
+use Rattle.schnellru.proofs.Fronts.{front_pops, front_absent}
+use Rattle.schnellru.specs.Lists.{lookup_entry, IsFront}
 
 module _ {K V S H : Type 0} (st : State K V S H) (ok : IsSized st) where
   -- without buckets there are no pairs
@@ -182,3 +185,47 @@ some_of_half t linked there half = go linked.table.count
     go : IsBucketCount (length (marks_of t.slots)) → 0 < length (pairs_of t)
     go (inl none) = absurd (there (sym (length-marks_of t.slots) ∙ none))
     go (inr power) = omega (arith, full_capacity-some (length (marks_of t.slots)) power, ap full_capacity (length-marks_of t.slots), half, pairs-length t linked)
+
+-- so many of the oldest left, none of which made room, and then one more
+module _ {K V S H : Type 0} (rules : Rules K V S) (pair : K × V) (old prev left : State K V S H) (ok : IsSized old) (lacks : LacksRoom old) (n : ℕ)
+    (before : Leaves old (pops rules n (contents old)) prev) (some : 0 < length prev.pairs) (half : full_capacity (buckets old) / 2 ≤ length prev.pairs)
+    (still : room prev ≡ 0) (step : Leaves prev (pop rules (contents prev)) left) where
+  pub one_more : Leaves old (pops rules (suc n) (contents old)) left
+  one_more = subst (λ l. Leaves old l left) (ap (λ st. pop rules (contents st)) before.is ∙ sym (pops-more rules n (contents old)))
+      (leaves_trans old prev left (pops rules n (contents old)) (pop rules (contents prev)) before step)
+
+  pub one_fewer : length left.pairs + 1 ≡ length prev.pairs
+  one_fewer = omega (arith, ap (λ st. length st.pairs) step.is, length-without_last prev.pairs, some)
+
+  in_all : length old.pairs ≡ n + length prev.pairs
+  in_all = omega (arith, ap (λ st. length st.pairs) before.is, length-pops rules n (contents old), some)
+
+  only_one : buckets old ≤ 16 → suc n ≡ 1
+  only_one small = omega (arith, room_after rules n old prev before small (omega (arith, in_all)) lacks.1 still)
+
+  same_buckets : buckets left ≡ buckets old
+  same_buckets = step.room.table ∙ before.room.table
+
+  -- then as many entries can move as there are pairs
+  pub left_paid : IsPaid left → 2 * length left.pairs < full_capacity (buckets left) → left.moved + length left.pairs ≤ 2 * left.placed
+  left_paid paid few = omega (arith, paid, few, step.room.at_most, still, one_fewer)
+
+  pub left_absent : (names : K → Bool) → lookup_entry names old.pairs ≡ None → lookup_entry names left.pairs ≡ None
+  left_absent names absent = front_absent names left.pairs old.pairs
+      (subst (λ xs. IsFront xs old.pairs) (sym (ap (λ st. st.pairs) one_more.is)) (front_pops rules (suc n) (contents old))) absent
+
+  module _ (new : State K V S H) where
+    pub finds : full_capacity (buckets old) / 2 ≤ length left.pairs → IsPlaced pair (buckets left) (room new) 0 left new → Evicts rules pair old placed new
+    finds enough p = finds_bucket (suc n) (omega arith) only_one (omega (arith, enough, one_fewer, in_all)) refl
+        (placed_after rules (suc n) old left one_more pair new (buckets old) (room new) 0 (subst (λ b. IsPlaced pair b (room new) 0 left new) same_buckets p))
+
+    pub makes_anew : (outcome : Outcome) → length left.pairs < full_capacity (buckets old) / 2 →
+        IsPlacedIfMemory rules pair (buckets left) (full_capacity (buckets left) - length left.pairs - 1) (length left.pairs) left outcome new →
+        Evicts rules pair old outcome new
+    makes_anew outcome few m = made_anew (suc n) (omega arith) only_one (omega (arith, few, half, one_fewer, in_all)) left one_more
+        (subst (λ s. IsPlacedIfMemory rules pair (buckets old) s (length left.pairs) left outcome new) (spare (dec_lt 8 (buckets old)))
+        (subst (λ b. IsPlacedIfMemory rules pair b (full_capacity b - length left.pairs - 1) (length left.pairs) left outcome new) same_buckets m))
+      where
+        spare : Dec (8 < buckets old) → full_capacity (buckets old) - length left.pairs - 1 ≡ full_capacity (buckets old) / 2
+        spare (yes large) = omega (arith, few, half, one_fewer, full_capacity-even (buckets old) (power_with_pairs old ok lacks.0) large)
+        spare (no small) = absurd (omega (arith, exact old ok (omega (arith, small)), lacks.1, only_one (omega (arith, small)), in_all, few, half, one_fewer))

@@ -9,7 +9,8 @@ use Rattle.schnellru.specs.Chain.{first_bucket, bucket_after}
 use Rattle.schnellru.specs.Rest.{last_buckets, rest_of, IsRest}
 use Rattle.std.specs.List.{AllByRecursion}
 use Rattle.std.proofs.lemmas.Bool.Decides.{nat_tests}
-use Rattle.schnellru.proofs.Cuts.{head_lacks, tail_pairs}
+use Rattle.schnellru.proofs.Cuts.{head_lacks}
+use Rattle.schnellru.proofs.OrderLemmas.{distinct_tail}
 use Rattle.schnellru.proofs.Ordered.{entries-length, all_full, AreFull}
 
 head-is : (x b : ℕ) → Some x ≡ Some b → x ≡ b
@@ -27,7 +28,7 @@ after-dropped zero b bs order d e = ap (bucket_after b) e ∙ (let t : nat_eq b 
 after-dropped (suc n) b bs [] d e = absurd cc
 after-dropped (suc n) b bs (x ∷ xs) d e =
     let apart = (subst (AllByRecursion (λ c. nat_eq c x ≡ false)) e (dropped (λ c. nat_eq c x ≡ false) n xs (head_lacks x xs d))).0 in
-    let other : nat_eq x b ≡ false = grind (arith, nat_tests, apart) in rw other (after-dropped n b bs xs (tail_pairs x xs d) e)
+    let other : nat_eq x b ≡ false = grind (arith, nat_tests, apart) in rw other (after-dropped n b bs xs (distinct_tail x xs d) e)
 
 module _ {K V : Type 0} (t : Linked K V) where
   module _ (at : Option ℕ) (left : ℕ) (rest : IsRest t at left) where

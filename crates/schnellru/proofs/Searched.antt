@@ -14,6 +14,11 @@ lookup-entry names (x ∷ xs) = go (names x.0) (lookup-entry names xs)
     go true h = refl
     go false h = h
 
+-- tests that agree find the same pair
+pub lookup_alike : {K V : Type 0} (names others : K → Bool) → ((k : K) → names k ≡ others k) → (xs : List (K × V)) → lookup_entry names xs ≡ lookup_entry others xs
+lookup_alike names others same [] = refl
+lookup_alike names others same (x ∷ xs) = (λ i. cond (same x.0 i) (Some x) (lookup_alike names others same xs i))
+
 module _ {K V : Type 0} (t : Linked K V) (linked : IsLinked t) (names : K → Bool) (hash_of : K → ℕ) (hash : ℕ)
     (hashes : (k : K) → names k ≡ true → hash ≡ hash_of k)
     (none : (b : ℕ) (p : K × V) → entry_at t.slots b ≡ Some p → hash_of p.0 ≡ hash → names p.0 ≡ false) where

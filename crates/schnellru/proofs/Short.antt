@@ -1,6 +1,6 @@
 -- Where an insert finds no memory.
-use Rattle.std.proofs.Common.{◌≡◌, ℕ, ◌<◌, ◌⊎◌, inl, inr, Bool, List, length, Result, refl, sym, ap, ◌∙◌, subst, arith}
-use Rattle.std.specs.Prelude.{IsErr}
+use Rattle.std.proofs.Common.{◌≡◌, ℕ, ◌<◌, ◌⊎◌, inl, inr, Bool, List, length, Result, Ok, Err, refl, sym, ap, ◌∙◌, subst, arith}
+use Rattle.std.specs.Prelude.{IsErr, OnErr}
 use Rattle.std.specs.declared.alloc.AllocError.{AllocError}
 use Rattle.group_table.specs.Bucket.{Mark, room as room_of}
 use Rattle.lru_limits.specs.Rules.{Rules, Offers}
@@ -60,3 +60,12 @@ module _ {K V S H I : Type 0} (rules : Rules K V S) (offers : Offers K V S I) (n
       go placed p t = ok-not_err result (rw t.0 refl) h
       go refused p t = ok-not_err result (rw t.0 refl) h
       go no_memory p t = short (place_lacks rules hash_of pair ready landed no_memory refl p)
+
+  -- the same of a result that may be an error
+  pub err_lacks : Insert rules offers names hash_of i v old result new → OnErr result (offers.may_lack old.limiter (length old.pairs) i v ⊎ IsShort rules offers names hash_of i v old)
+  err_lacks step = go result (λ h. err_is h step)
+    where
+      go : (r : Result Bool AllocError) → (IsErr r → offers.may_lack old.limiter (length old.pairs) i v ⊎ IsShort rules offers names hash_of i v old) →
+          OnErr r (offers.may_lack old.limiter (length old.pairs) i v ⊎ IsShort rules offers names hash_of i v old)
+      go (Ok b) h = tt
+      go (Err e) h = h refl

@@ -13,6 +13,7 @@ mod hog;
 mod limiters;
 mod limits;
 mod orders;
+mod readme;
 mod refusals;
 mod texts;
 

@@ -3,7 +3,7 @@ ghost use Rattle.std.specs.Prelude.{◌≡◌, ◌⊎◌, ℕ, ◌+◌, true, fa
 ghost use Rattle.lru_limits.specs.Hashing.{hash_by};
 ghost use Rattle.schnellru.specs.Lists.{lookup_entry, is_empty};
 ghost use Rattle.schnellru.specs.State.{contents, trim, Leaves, IsMap};
-ghost use Rattle.schnellru.specs.Inserts.{Insert, IsShort};
+ghost use Rattle.schnellru.specs.Inserts.{Insert, IsShort, make_way};
 ghost use Rattle.schnellru.specs.Steps.{Admitted};
 ghost use Rattle.schnellru.specs.Theorems.{SaysWhether};
 
@@ -14,7 +14,19 @@ use std::alloc::AllocError;
 use std::hash::{BuildHasher, Hash};
 
 impl<K: Eq + Hash + Drop, V: Drop, L: Limiter<K, V>, S: BuildHasher> LruMap<K, V, L, S> {
-    /// Puts a value under a key, as the newest pair, and answers whether it is in the map then.
+    /// Puts a value under a key, as the newest pair, and answers whether the key is in the map then.
+    ///
+    /// A key that is there stays as it is stored, and the limiter is asked whether the new value takes the place of the
+    /// old one; where it says no, the pair leaves and the answer is false. A new key is handed to the limiter, which gives
+    /// the pair to store, or none. The oldest pair leaves first where the limiter would be over with one more. The table
+    /// grows where it has to and the limiter permits it; where it may not, the oldest pairs leave until there is a place.
+    /// At the end the oldest leave as long as the limiter is over.
+    ///
+    /// An error says that memory was refused. It comes only for a new key, where there was no room; then the newest of the
+    /// old pairs are left, and the limiter was told of each pair that left, and of the new one. Want of memory evicts
+    /// nothing, and no memory is taken while there is room, but what `on_insert` takes.
+    ///
+    /// After schnellru's `LruMap::insert`.
     pub fn insert<I: LookupKey<K>>(&mut self, key: I, value: V) -> Result<bool, AllocError>
     where
         L: Insertion<K, V, I>,
@@ -25,6 +37,19 @@ impl<K: Eq + Hash + Drop, V: Drop, L: Limiter<K, V>, S: BuildHasher> LruMap<K, V
         ensures map { IsMap K.eq self.new }
     {
         let hash = self.hasher.hash_one(&key);
+        let answer = self.insert_hashed(hash, key, value);
+        let _ = &self.entries;
+        answer
+    }
+
+    // Inserts under a key that has this hash.
+    #[inline]
+    fn insert_hashed<I: LookupKey<K>>(&mut self, hash: u64, key: I, value: V) -> Result<bool, AllocError>
+    where
+        L: Insertion<K, V, I>,
+        requires hash { hash ≡ hash_by I.hash_input S.BuildHasher S.Hasher.Hasher self.old.hasher key }
+        ensures { Insert L.rules L.offers I.names (hash_by K.hash_input S.BuildHasher S.Hasher.Hasher) key value self.old result self.new }
+    {
         match self.entries.find(hash, &key) {
             Some(b) => {
                 if !replace(&mut self.entries, &mut self.limiter, b, key, value) {
@@ -57,14 +82,22 @@ impl<K: Eq + Hash + Drop, V: Drop, L: Limiter<K, V>, S: BuildHasher> LruMap<K, V
         requires absent { lookup_entry (K.eq pair.0) self.old.pairs ≡ None }
         ensures { Admitted L.rules (hash_by K.hash_input S.BuildHasher S.Hasher.Hasher) pair self.old result self.new }
     {
-        if !self.is_empty() && self.limiter.is_over_the_limit(self.entries.len() + 1) {
-            self.take_oldest();
-        }
+        self.make_way();
         if !self.place(hash, pair)? {
             return Ok(false);
         }
         self.trim();
         Ok(!self.is_empty())
+    }
+
+    // Removes the oldest pair, if the limiter would be over with one more.
+    #[inline]
+    fn make_way(&mut self)
+        ensures { Leaves self.old (make_way L.rules (contents self.old)) self.new }
+    {
+        if !self.is_empty() && self.limiter.is_over_the_limit(self.entries.len() + 1) {
+            self.take_oldest();
+        }
     }
 
     // Removes the oldest pairs while the limiter is over.

@@ -1,39 +1,80 @@
-use Rattle.std.proofs.Common.{rules, ◌≡◌, ◌⊎◌, ℕ, ◌+◌, ◌-◌, ◌*◌, ◌/◌, ◌^◌, ◌<◌, ◌≤◌, [], length, None, Some, OnOk, OnErr, IfErr, IsOk, ◌%◌, Bool, true, false, nat_eq, nat_lt, List, ◌∷◌, ◌++◌, slice_index_or, slice_set, bit_and, bit_or, Fits, w8, w32, w64, Bor, MutBor}
-use Rattle.group_table.specs.Sizes.{IsPowerFromFour, full_capacity}
-use Rattle.group_table.specs.Bucket.{empty, deleted}
-use Rattle.group_table.specs.Change.{HasNoPlace}
-use Rattle.lru_limits.specs.Hashing.{hash_by}
+use Rattle.std.proofs.Common.{◌≡◌, ◌/◌, ◌<◌, ◌≤◌, suc, None, length, ap, sym, ◌∙◌, subst, arith}
+use Rattle.group_table.specs.Sizes.{full_capacity}
+use Rattle.group_table.proofs.BucketLemmas.{length-marks_of}
 use Rattle.schnellru.specs.Lists.{lookup_entry}
-use Rattle.schnellru.specs.Sizes.{usage}
-use Rattle.schnellru.specs.State.{buckets, room, contents, pop, Leaves, FirstFreeIs}
-use Rattle.schnellru.specs.Place.{Place, IsPlaced, IsPlacedIfMemory, LacksRoom, outcome_of, turned_away}
-use Rattle.schnellru.specs.Steps.{IsMoved, Evicts, UsesRoom, UsesDeleted}
+use Rattle.schnellru.specs.State.{IsSized, buckets}
+use Rattle.schnellru.proofs.Ordered.{pairs-length}
+use Rattle.schnellru.proofs.Growth.{full_capacity-some}
+use Rattle.schnellru.proofs.Placing.{one_more, one_fewer, left_paid, left_absent, finds, makes_anew, no_place_room, power_with_pairs}
 use Rattle.schnellru.proofs.map.LruMap.place_evicting.Goals as goal
 
--- src/map/place.rt:131:17
 pub place_after_rehash-requires-clause-absent : goal.place_after_rehash-requires-clause-absent
-place_after_rehash-requires-clause-absent g c = ?
+place_after_rehash-requires-clause-absent g c =
+    let i = c.evictions.invariant in
+    subst (λ p. lookup_entry (g.K.PartialEq.eq p.0) c.take_oldest.new.self.pairs ≡ None) (sym i.same_pair)
+        (left_absent g.L.Limiter.rules c.args.pair c.args.self.now c.evictions.self c.take_oldest.new.self (subst IsSized c.self.view_is c.self.invariant.map.sized) c.requires.lacks_room
+        i.n i.leaves i.some i.half i.no_room c.take_oldest.ensures (g.K.PartialEq.eq c.args.pair.0) c.requires.absent)
 
--- src/map/place.rt:131:17
-pub place_after_rehash-requires-clause-half : goal.place_after_rehash-requires-clause-half
-place_after_rehash-requires-clause-half g c = ?
-
--- src/map/place.rt:131:17
-pub returns-then-len-half : goal.returns-then-len-half
-returns-then-len-half g c = ?
-
--- src/map/place.rt:133:19
 pub place_in_bucket-requires-clause-absent : goal.place_in_bucket-requires-clause-absent
-place_in_bucket-requires-clause-absent g c = ?
+place_in_bucket-requires-clause-absent g c =
+    let i = c.evictions.invariant in
+    subst (λ p. lookup_entry (g.K.PartialEq.eq p.0) c.take_oldest.new.self.pairs ≡ None) (sym i.same_pair)
+        (left_absent g.L.Limiter.rules c.args.pair c.args.self.now c.evictions.self c.take_oldest.new.self (subst IsSized c.self.view_is c.self.invariant.map.sized) c.requires.lacks_room
+        i.n i.leaves i.some i.half i.no_room c.take_oldest.ensures (g.K.PartialEq.eq c.args.pair.0) c.requires.absent)
 
--- src/map/place.rt:134:27
+pub place_after_rehash-requires-clause-half : goal.place_after_rehash-requires-clause-half
+place_after_rehash-requires-clause-half g c =
+    let m = c.self.inside in let n = c.self-in-evictions.inside in let i = c.evictions.invariant in
+    let takes : c.full_capacity-half.result ≡ full_capacity (buckets c.args.self.now) =
+        rw (← c.self.view_is) (c.full_capacity-half.ensures ∙ ap full_capacity (c.buckets.ensures.buckets ∙ sym (length-marks_of m.entries.slots))) in
+    let len : c.len.result ≡ length c.take_oldest.new.self.pairs =
+        rw (← c.self-in-evictions.view_is) (c.len.ensures.len ∙ sym (pairs-length n.entries c.self-in-evictions.invariant.linked)) in
+    omega (arith, takes, len, c.if-len-half.true, ap full_capacity (c.take_oldest.ensures.room.table ∙ i.leaves.room.table))
+
+pub returns-then-len-half : goal.returns-then-len-half
+returns-then-len-half g c =
+    let m = c.self.inside in let n = c.self-in-evictions.inside in let i = c.evictions.invariant in
+    let takes : c.full_capacity-half.result ≡ full_capacity (buckets c.args.self.now) =
+        rw (← c.self.view_is) (c.full_capacity-half.ensures ∙ ap full_capacity (c.buckets.ensures.buckets ∙ sym (length-marks_of m.entries.slots))) in
+    let len : c.len.result ≡ length c.take_oldest.new.self.pairs =
+        rw (← c.self-in-evictions.view_is) (c.len.ensures.len ∙ sym (pairs-length n.entries c.self-in-evictions.invariant.linked)) in
+    makes_anew g.L.Limiter.rules c.args.pair c.args.self.now c.evictions.self c.take_oldest.new.self (subst IsSized c.self.view_is c.self.invariant.map.sized) c.requires.lacks_room
+        i.n i.leaves i.some i.half i.no_room c.take_oldest.ensures c.place_after_rehash.new.self _ (omega (arith, takes, len, c.if-len-half.true))
+        (rw i.same_pair at c.place_after_rehash.ensures.placed)
+
 pub returns-in-Ok : goal.returns-in-Ok
-returns-in-Ok g c = ?
+returns-in-Ok g c =
+    let m = c.self.inside in let n = c.self-in-evictions.inside in let i = c.evictions.invariant in
+    let takes : c.full_capacity-half.result ≡ full_capacity (buckets c.args.self.now) =
+        rw (← c.self.view_is) (c.full_capacity-half.ensures ∙ ap full_capacity (c.buckets.ensures.buckets ∙ sym (length-marks_of m.entries.slots))) in
+    let len : c.len.result ≡ length c.take_oldest.new.self.pairs =
+        rw (← c.self-in-evictions.view_is) (c.len.ensures.len ∙ sym (pairs-length n.entries c.self-in-evictions.invariant.linked)) in
+    finds g.L.Limiter.rules c.args.pair c.args.self.now c.evictions.self c.take_oldest.new.self (subst IsSized c.self.view_is c.self.invariant.map.sized) c.requires.lacks_room
+        i.n i.leaves i.some i.half i.no_room c.take_oldest.ensures c.place_in_bucket.new.self (omega (arith, takes, len, c.if-len-half.false))
+        (rw i.same_pair at c.in-Ok.ensures.placed)
 
--- src/map/place.rt:128:9
 pub evictions-smaller : goal.evictions-smaller
-evictions-smaller g c = ?
+evictions-smaller g c =
+    let i = c.evictions.invariant in
+    let one = one_fewer g.L.Limiter.rules c.args.pair c.args.self.now c.evictions.self c.take_oldest.new.self (subst IsSized c.self.view_is c.self.invariant.map.sized)
+        c.requires.lacks_room i.n i.leaves i.some i.half i.no_room c.take_oldest.ensures in
+    let fewer : length c.place_in_bucket.new.self.pairs < length c.evictions.self.pairs = omega (arith, one, ap (λ st. length st.pairs) c.in-Err.ensures.unchanged) in fewer
 
--- src/map/place.rt:128:9
 pub evictions-preserved : goal.evictions-preserved
-evictions-preserved g c = ?
+evictions-preserved g c =
+    let m = c.self.inside in let n = c.self-in-evictions.inside in let i = c.evictions.invariant in
+    let sized = subst IsSized c.self.view_is c.self.invariant.map.sized in
+    let takes : c.full_capacity-half.result ≡ full_capacity (buckets c.args.self.now) =
+        rw (← c.self.view_is) (c.full_capacity-half.ensures ∙ ap full_capacity (c.buckets.ensures.buckets ∙ sym (length-marks_of m.entries.slots))) in
+    let len : c.len.result ≡ length c.take_oldest.new.self.pairs =
+        rw (← c.self-in-evictions.view_is) (c.len.ensures.len ∙ sym (pairs-length n.entries c.self-in-evictions.invariant.linked)) in
+    let enough : full_capacity (buckets c.args.self.now) / 2 ≤ length c.take_oldest.new.self.pairs = omega (arith, takes, len, c.if-len-half.false) in
+    rw c.in-Err.ensures.unchanged (record {
+      n = suc i.n;
+      leaves = one_more g.L.Limiter.rules c.args.pair c.args.self.now c.evictions.self c.take_oldest.new.self sized c.requires.lacks_room
+          i.n i.leaves i.some i.half i.no_room c.take_oldest.ensures;
+      some = omega (arith, enough, full_capacity-some (buckets c.args.self.now) (power_with_pairs c.args.self.now sized c.requires.lacks_room.0));
+      half = enough;
+      no_room = no_place_room c.take_oldest.new.self (subst IsSized c.self-in-evictions.view_is c.self-in-evictions.invariant.map.sized) c.args.hash c.in-Err.ensures.no_place;
+      same_pair = c.in-Err.ensures.returned ∙ i.same_pair;
+    })

@@ -1,0 +1,119 @@
+-- A pair in a bucket of a linked table, after the limiter wrote to it.
+use Rattle.std.proofs.Common.{◌≡◌, ℕ, suc, ◌+◌, ◌<◌, Bool, true, List, ◌∷◌, ◌++◌, Option, Some, None, refl, sym, ap, ◌∙◌, subst, arith, slice_set, length}
+use native.Mathlib.Decide.{dec_lt}
+use Rattle.std.specs.Prelude.{unwrap_or, option_to_list}
+use Rattle.std.specs.Cmp.{IsEquivalence}
+use Rattle.std.proofs.lemmas.List.{length-set}
+use Rattle.std.proofs.lemmas.List.{get_or-set_same, get_or_past}
+use Rattle.group_table.specs.Bucket.{Slot, empty, deleted, full, bucket_at, entry_of, entry_at, refilled, marks_of, room, room_at}
+use Rattle.group_table.specs.Change.{Removes}
+use Rattle.group_table.proofs.RefillLemmas.{marks_of-refilled}
+use Rattle.lru_limits.specs.Rules.{Rules, Replaced}
+use Rattle.schnellru.specs.Lists.{without}
+use Rattle.schnellru.specs.Linked.{Linked, IsLinked, KeysFit, with_pair, without_bucket, pairs_of, entries_in}
+use Rattle.schnellru.specs.State.{State, Leaves}
+use Rattle.schnellru.specs.Holds.{state_by, Holds}
+use Rattle.schnellru.specs.Steps.{IsReplaced, IsGivenUp}
+use Rattle.schnellru.proofs.Distinct.{AreDistinct, distinct_newest, distinct_without}
+use Rattle.schnellru.proofs.Cuts.{entries-apart, without_lacks}
+use Rattle.schnellru.proofs.Ordered.{pairs-length, shorter, full_by, others_are, removed-length, removed-entries}
+use Rattle.schnellru.proofs.Kept.{frees_room, leaves_holds}
+
+pub some_same : {A : Type 0} (x y : A) → Some x ≡ Some y → x ≡ y
+some_same x y e = ap (λ o. unwrap_or o x) e
+
+module _ {T : Type 0} (slots : List (Slot T)) (b : ℕ) (entry new : T) (there : entry_at slots b ≡ Some entry) where
+  refilled_entry : (slot : Slot T) → entry_of slot ≡ Some entry → entry_of (refilled slot new) ≡ Some new
+  refilled_entry empty e = absurd cc
+  refilled_entry deleted e = absurd cc
+  refilled_entry (full held) e = refl
+
+  -- a full bucket that is filled anew holds the new entry
+  pub entry_at-refilled : entry_at (slice_set slots b (refilled (bucket_at slots b) new)) b ≡ Some new
+  entry_at-refilled = go (dec_lt b (length slots))
+    where
+      go : Dec (b < length slots) → entry_at (slice_set slots b (refilled (bucket_at slots b) new)) b ≡ Some new
+      go (yes within) = ap entry_of (get_or-set_same slots b (refilled (bucket_at slots b) new) empty within) ∙ refilled_entry (bucket_at slots b) there
+      go (no past) = let none : entry_at slots b ≡ None = ap entry_of (get_or_past slots b empty (omega (arith, past))) in absurd (grind (arith, none, there))
+
+module _ {K V S : Type 0} (rules : Rules K V S) (by : Replaced K V S) (old new : Linked K V) (b : ℕ) (was : K × V) (there : entry_at old.slots b ≡ Some was)
+    (k : K) (v : V) (key_is : k ≡ by.key) (value_is : v ≡ by.old_value) (s : S) (told : s ≡ by.limiter) (taken : K × V) where
+  -- a replacement was refused, and the pair taken out
+  pub gives_up : entry_at (with_pair old b (k, v)).slots b ≡ Some taken → Removes (with_pair old b (k, v)).slots new.slots b → new.order ≡ without_bucket b old.order →
+      room (marks_of new.slots) ≡ room (marks_of (with_pair old b (k, v)).slots) + room_at (marks_of new.slots) b →
+      (l : S) → l ≡ (rules.on_removed s taken.0 taken.1).limiter → IsGivenUp rules by b old new l
+  gives_up held removed order freed l is = record {
+      slots = subst (λ p. Removes (with_pair old b p).slots new.slots b) pair_is removed;
+      order = order;
+      room = freed ∙ ap (λ m. room m + room_at (marks_of new.slots) b) (marks_of-refilled old.slots b (k, v));
+      told = is ∙ (λ i. (rules.on_removed (told i) ((taken_is ∙ pair_is) i).0 ((taken_is ∙ pair_is) i).1).limiter);
+    }
+    where
+      pair_is : ◌≡◌ {A = K × V} (k, v) (by.key, by.old_value)
+      pair_is = λ i. (key_is i, value_is i)
+
+      taken_is : taken ≡ (k, v)
+      taken_is = some_same taken (k, v) (sym held ∙ entry_at-refilled old.slots b was (k, v) there)
+
+module _ {K V S H : Type 0} (by : Replaced K V S) (old new : Linked K V) (b : ℕ) (l : S) (first : IsLinked old) (next : IsLinked new)
+    (was : K × V) (there : entry_at old.slots b ≡ Some was) (names : K → Bool) {eq : K → K → Bool} (laws : IsEquivalence eq)
+    (one : (x y : K) → names x ≡ true → names y ≡ eq x y) (distinct : AreDistinct eq (pairs_of old)) (named : names was.0 ≡ true)
+    (limiter : S) (hasher : H) (moved placed entry_bytes max : ℕ) where
+  abbrev before : State K V S H
+  before = state_by old limiter hasher moved placed entry_bytes max
+
+  abbrev after : State K V S H
+  after = state_by new l hasher moved placed entry_bytes max
+
+  others : (p : K × V) → entries_in (with_pair old b p).slots (without_bucket b old.order) ≡ without names (pairs_of old)
+  others p = entries-apart old.slots b (refilled (bucket_at old.slots b) p) (without_bucket b old.order) (without_lacks b old.order)
+      ∙ sym (others_are old first b was there names laws one distinct named)
+
+  fewer : suc (length (without_bucket b old.order)) ≡ length old.order
+  fewer = shorter old first b (full_by old.slots b was there)
+
+  -- the pair as it was left is the newest, and the others are as they were
+  module _ (step : IsReplaced by b old new l) where
+    pub replaced_pairs : pairs_of new ≡ (by.key, by.new_value) ∷ without names (pairs_of old)
+    replaced_pairs = ap (entries_in new.slots) step.order
+        ∙ ap (λ s. entries_in s (b ∷ without_bucket b old.order)) step.slots
+        ∙ ap (λ o. option_to_list o ++ entries_in (with_pair old b (by.key, by.new_value)).slots (without_bucket b old.order)) (entry_at-refilled old.slots b was (by.key, by.new_value) there)
+        ∙ ap (λ xs. (by.key, by.new_value) ∷ xs) (others (by.key, by.new_value))
+
+    pub replaced_leaves : Leaves before (record { pairs = (by.key, by.new_value) ∷ without names (pairs_of old); limiter = by.limiter }) after
+    replaced_leaves =
+        let marks = ap marks_of step.slots ∙ marks_of-refilled old.slots b (by.key, by.new_value) in
+        let lengths : length (pairs_of new) ≡ length (pairs_of old) = omega (arith, pairs-length old first, pairs-length new next, ap length step.order, fewer) in record {
+          is = λ i. record (state_by new (step.told i) hasher moved placed entry_bytes max) { pairs = replaced_pairs i };
+          room = record {
+            table = ap length marks;
+            keeps = omega (arith, ap room marks);
+            at_most = omega (arith, ap room marks, lengths);
+            exact = λ _. omega (arith, ap room marks, lengths);
+            untouched = λ _. marks;
+          };
+        }
+
+    pub replaced_holds : (hash_of : H → K → ℕ) → names by.key ≡ true → Holds eq hash_of old before → KeysFit (hash_of hasher) new.slots → Holds eq hash_of new after
+    replaced_holds hash_of kept holds fits = leaves_holds hasher moved placed entry_bytes max eq hash_of old new limiter _ l holds next fits
+        (ap length step.slots ∙ length-set old.slots b _) replaced_leaves
+        (subst (AreDistinct eq) (sym replaced_pairs) (distinct_newest eq names one (by.key, by.new_value) (pairs_of old) kept distinct))
+
+  -- the pair left, and the others are as they were
+  module _ (rules : Rules K V S) (step : IsGivenUp rules by b old new l) where
+    pub given_up_pairs : pairs_of new ≡ without names (pairs_of old)
+    given_up_pairs = ap (entries_in new.slots) step.order ∙ removed-entries (with_pair old b (by.key, by.old_value)).slots new.slots b step.slots old.order
+        ∙ others (by.key, by.old_value)
+
+    pub given_up_length : length new.slots ≡ length old.slots
+    given_up_length = removed-length (with_pair old b (by.key, by.old_value)).slots new.slots b step.slots ∙ length-set old.slots b _
+
+    pub given_up_leaves : Leaves before (record { pairs = without names (pairs_of old); limiter = (rules.on_removed by.limiter by.key by.old_value).limiter }) after
+    given_up_leaves = record {
+      is = λ i. record (state_by new (step.told i) hasher moved placed entry_bytes max) { pairs = given_up_pairs i };
+      room = frees_room old new b first next given_up_length (ap (λ o. suc (length o)) step.order ∙ fewer) step.room before l refl refl;
+    }
+
+    pub given_up_holds : (hash_of : H → K → ℕ) → Holds eq hash_of old before → KeysFit (hash_of hasher) new.slots → Holds eq hash_of new after
+    given_up_holds hash_of holds fits = leaves_holds hasher moved placed entry_bytes max eq hash_of old new limiter _ l holds next fits given_up_length given_up_leaves
+        (subst (AreDistinct eq) (sym given_up_pairs) (distinct_without eq names (pairs_of old) distinct))

@@ -1,0 +1,19 @@
+use Rattle.std.proofs.Common.{◌≡◌, inl, inr, Ok, Err, Result, Bool, sym, subst}
+use Rattle.schnellru.specs.State.{IsMap}
+use Rattle.schnellru.specs.Inserts.{Insert}
+use Rattle.schnellru.proofs.Within.{insert_says}
+use Rattle.schnellru.proofs.Short.{err_lacks}
+use Rattle.schnellru.proofs.Distinct.{insert_distinct}
+use Rattle.schnellru.proofs.Paid.{insert_paid}
+use Rattle.schnellru.proofs.map.LruMap.insert.Goals as goal
+
+pub returns-clause-says : goal.returns-clause-says
+returns-clause-says g c =
+    let old : IsMap g.K.PartialEq.eq c.args.self.now = subst (IsMap g.K.PartialEq.eq) c.self.view_is c.self.invariant.map in
+    insert_says _ _ _ _ g.met.I.LookupKey.laws g.met.L.Insertion.laws c.args.key c.args.value c.args.self.now _ _ old.distinct c.insert_hashed-answer.ensures
+
+pub returns-clause-lacks : goal.returns-clause-lacks
+returns-clause-lacks g c = err_lacks _ _ _ _ c.args.key c.args.value c.args.self.now _ _ c.insert_hashed-answer.ensures
+
+pub returns-clause-map : goal.returns-clause-map
+returns-clause-map g c = subst (IsMap g.K.PartialEq.eq) c.self-2.view_is c.self-2.invariant.map
