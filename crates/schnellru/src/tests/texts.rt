@@ -1,5 +1,5 @@
 //! `String` keys, looked up by texts, and stored from texts that become a `String` only then.
-ghost use Rattle.std.specs.Prelude.{◌≡◌, ◌+◌, ⊤, ⊥, true, false, min};
+ghost use Rattle.std.specs.Prelude.{◌≡◌, ◌+◌, ⊤, true, false, min};
 ghost use Rattle.lru_limits.specs.Stores.{plain, replaces, HandsOver, given-names};
 ghost use Rattle.lru_limits.specs.Texts.{names_text, names_text-lawful, GivesText, given-names_text, same_text};
 
