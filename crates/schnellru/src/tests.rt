@@ -58,7 +58,8 @@ fn pairs<L: Limiter<u64, u64>, S: BuildHasher>(
     map: &LruMap<u64, u64, L, S>,
 ) -> Result<Vec<(u64, u64)>, AllocError> {
     let mut pairs = Vec::new(alloc);
-    for (key, value) in map.iter() {
+    let mut rest = map.iter();
+    while let Some((key, value)) = rest.next() {
         pairs.push((*key, *value))?;
     }
     Ok(pairs)
@@ -70,7 +71,8 @@ fn ends<L: Limiter<u64, u64>, S: BuildHasher>(
 ) -> (Option<u64>, Option<u64>) {
     let mut newest = None;
     let mut oldest = None;
-    for (key, _) in map.iter() {
+    let mut rest = map.iter();
+    while let Some((key, _)) = rest.next() {
         if newest.is_none() {
             newest = Some(*key);
         }
@@ -86,7 +88,8 @@ fn counts_down<L: Limiter<u64, u64>, S: BuildHasher>(
     oldest: u64,
 ) -> bool {
     let mut next = newest;
-    for (key, value) in map.iter() {
+    let mut rest = map.iter();
+    while let Some((key, value)) = rest.next() {
         if *key != next || *value != next.wrapping_mul(10) {
             return false;
         }

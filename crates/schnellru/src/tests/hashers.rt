@@ -15,9 +15,7 @@ impl Hasher for LastByte {
     ghost finish = { λ s. s.0 };
 
     fn write(&mut self, bytes: &[u8]) {
-        for b in bytes {
-            self.0 = *b as u64;
-        }
+        self.0 = bytes.iter().fold(self.0, |_, b| *b as u64);
     }
 
     fn finish(&self) -> u64 {

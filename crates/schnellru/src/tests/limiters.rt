@@ -1,5 +1,6 @@
 //! Limiters of the tests.
-ghost use Rattle.std.specs.Prelude.{◌≡◌, ◌+◌, true, false, not, min};
+ghost use Rattle.std.specs.Prelude.{◌≡◌, ◌+◌, true, false, not, min, nat_eq};
+ghost use Rattle.std.specs.Cmp.{nat_eq_equiv};
 ghost use Rattle.lru_limits.specs.Stores.{plain, hands_over, hands_over-lawful, answers};
 
 use crate::{Insertion, Limiter};
@@ -51,7 +52,7 @@ impl Insertion<u64, u64, u64> for Narrow {
         true
     }
 
-    ghost laws = { hands_over-lawful u64.eq u64.Eq.laws (λ _ _ _. true) };
+    ghost laws = { hands_over-lawful nat_eq nat_eq_equiv (λ _ _ _. true) };
 }
 
 /// Over at every length or at none, permits each second growth, and keeps what it was told and asked.
@@ -134,5 +135,5 @@ impl Insertion<u64, u64, u64> for Telling {
         true
     }
 
-    ghost laws = { hands_over-lawful u64.eq u64.Eq.laws (λ _ _ _. true) };
+    ghost laws = { hands_over-lawful nat_eq nat_eq_equiv (λ _ _ _. true) };
 }

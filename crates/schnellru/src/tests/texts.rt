@@ -1,5 +1,5 @@
 //! `String` keys, looked up by texts, and stored from texts that become a `String` only then.
-ghost use Rattle.std.specs.Prelude.{◌≡◌, ◌+◌, ⊤, true, false, min};
+ghost use Rattle.std.specs.Prelude.{◌≡◌, ◌+◌, ⊤, true, false, min, string_bytes};
 ghost use Rattle.lru_limits.specs.Stores.{plain, replaces, HandsOver, given-names};
 ghost use Rattle.lru_limits.specs.Texts.{names_text, names_text-lawful, GivesText, given-names_text, same_text};
 
@@ -112,8 +112,8 @@ impl Insertion<String, u32, String> for Counting {
     }
 
     ghost laws = { record {
-      names_given = λ s length i v t k w given. given-names String.eq String.Eq.laws.refl given;
-      keeps_key = λ s length k i v w named. String.Eq.laws.refl k;
+      names_given = λ s length i v t k w given. given-names (λ x y. names_text (string_bytes x) y) same_text given;
+      keeps_key = λ s length k i v w named. same_text k;
     } };
 }
 
