@@ -39,11 +39,19 @@ cut_at b (x ∷ xs) d (k, within, is) = go (nat_eq x b) refl k within is (λ h. 
   where
     go : (y : Bool) → nat_eq x b ≡ y → (k : ℕ) → k < length (x ∷ xs) → slice_index_or (x ∷ xs) k b ≡ b → (Contains xs b → Cut b xs) → Cut b (x ∷ xs)
     go true t k within is on = let same : x ≡ b = grind (arith, nat_tests) in record {
-      before = []; after = xs; whole = ap (λ c. c ∷ xs) same; none_before = tt; none_after = subst (λ c. Lacks c xs) same (head_lacks x xs d);
+      before = [];
+      after = xs;
+      whole = ap (λ c. c ∷ xs) same;
+      none_before = tt;
+      none_after = subst (λ c. Lacks c xs) same (head_lacks x xs d);
     }
     go false t zero within is on = absurd (grind (arith, nat_tests))
     go false t (suc k) within is on = let cut = on (k, omega (arith, within), is) in record {
-      before = x ∷ cut.before; after = cut.after; whole = ap (λ c. x ∷ c) cut.whole; none_before = (t, cut.none_before); none_after = cut.none_after;
+      before = x ∷ cut.before;
+      after = cut.after;
+      whole = ap (λ c. x ∷ c) cut.whole;
+      none_before = (t, cut.none_before);
+      none_after = cut.none_after;
     }
 
 -- cut at the last, none come after it
@@ -51,11 +59,16 @@ pub cut_last : (b : ℕ) (order : List ℕ) → AllPairs ◌≢◌ order → las
 cut_last b [] d h = absurd cc
 cut_last b (x ∷ []) d h = let same : x ≡ b = cc in (record { before = []; after = []; whole = ap (λ c. c ∷ []) same; none_before = tt; none_after = tt }, refl)
 cut_last b (x ∷ y ∷ ys) d h =
-    let on = cut_last b (y ∷ ys) (distinct_tail x (y ∷ ys) d) h in let cut = on.0 in (record {
-      before = x ∷ cut.before; after = cut.after; whole = ap (λ c. x ∷ c) cut.whole;
-      none_before = (go (nat_eq x b) refl, cut.none_before);
-      none_after = cut.none_after;
-    }, on.1)
+    let on = cut_last b (y ∷ ys) (distinct_tail x (y ∷ ys) d) h in let cut = on.0 in (
+      record {
+        before = x ∷ cut.before;
+        after = cut.after;
+        whole = ap (λ c. x ∷ c) cut.whole;
+        none_before = (go (nat_eq x b) refl, cut.none_before);
+        none_after = cut.none_after;
+      },
+      on.1,
+    )
   where
     go : (t : Bool) → nat_eq x b ≡ t → nat_eq x b ≡ false
     go true t = let same : b ≡ x = grind (arith, nat_tests) in absurd (distinct_head x (y ∷ ys) d (subst (Contains (y ∷ ys)) same (last_in (y ∷ ys) b h)))

@@ -43,25 +43,42 @@ module _ {K V S H : Type 0} (old new : Linked K V) (b : ℕ) (first : IsLinked o
   pub frees_room : (st : State K V S H) (limiter : S) → st.pairs ≡ pairs_of old → st.marks ≡ marks_of old.slots
       → FreesRoom st (record st { pairs = pairs_of new; limiter = limiter; marks = marks_of new.slots })
   frees_room st limiter is_pairs is_marks = record {
-      table = same ∙ sym (ap length is_marks);
-      keeps = omega (arith, gives, freed);
-      at_most = omega (arith, gives, freed, news, olds, one, room_at-most (marks_of new.slots) b);
-      exact = λ small. let is_small : length (marks_of old.slots) ≤ 16 = subst (λ m. length m ≤ 16) is_marks small in
-          omega (arith, gives, news, olds, one, first.table.exact is_small, last.table.exact (omega (arith, same, is_small)), olds_marks, news_marks,
-              ap full_capacity same, first.count, last.count);
-      untouched = λ e. absurd (omega (arith, e, news, olds, one));
-    }
+    table = same ∙ sym (ap length is_marks);
+    keeps = omega (arith, gives, freed);
+    at_most = omega (arith, gives, freed, news, olds, one, room_at-most (marks_of new.slots) b);
+    exact = λ small. let is_small : length (marks_of old.slots) ≤ 16 = subst (λ m. length m ≤ 16) is_marks small in
+        omega (
+          arith,
+          gives,
+          news,
+          olds,
+          one,
+          first.table.exact is_small,
+          last.table.exact (omega (arith, same, is_small)),
+          olds_marks,
+          news_marks,
+          ap full_capacity same,
+          first.count,
+          last.count,
+        );
+    untouched = λ e. absurd (omega (arith, e, news, olds, one));
+  }
     where
       same : length (marks_of new.slots) ≡ length (marks_of old.slots)
       same = length-marks_of new.slots ∙ table ∙ sym (length-marks_of old.slots)
+
       gives : room st.marks ≡ room (marks_of old.slots)
       gives = ap room is_marks
+
       news : length (pairs_of new) ≡ length new.order
       news = pairs-length new last
+
       olds : length st.pairs ≡ length old.order
       olds = ap length is_pairs ∙ pairs-length old first
+
       olds_marks : entry_count (marks_of old.slots) ≡ entry_count old.slots
       olds_marks = entry_count-marks_of old.slots
+
       news_marks : entry_count (marks_of new.slots) ≡ entry_count new.slots
       news_marks = entry_count-marks_of new.slots
 
@@ -72,7 +89,7 @@ module _ {K V S H : Type 0} (hasher : H) (moved placed entry_bytes max : ℕ) wh
   sized_same t u s l sized linked same =
       let e : length (marks_of t.slots) ≡ length u.slots = length-marks_of t.slots ∙ sym same in
       sized_by l hasher moved placed entry_bytes max u linked (subst (λ n. (n ≡ 0) ⊎ (n < max)) e sized.reachable)
-          (subst (λ n. (bytes : ℕ) × (usage entry_bytes n ≡ Some bytes)) e sized.usable) sized.moved sized.placed
+      (subst (λ n. (bytes : ℕ) × (usage entry_bytes n ≡ Some bytes)) e sized.usable) sized.moved sized.placed
 
   -- what holds of a map holds after some pairs left
   pub leaves_holds : (eq : K → K → Bool) (hash_of : H → K → ℕ) (t u : Linked K V) (s : S) (left : Contents K V S) (l : S) →
@@ -98,7 +115,7 @@ module _ {K V S H : Type 0} (rules : Rules K V S) (limiter : S) (hasher : H) (mo
 
   pub popped_leaves : (l : S) → l ≡ (rules.on_removed limiter p.0 p.1).limiter → IsLinked u → room (marks_of u.slots) ≡ room (marks_of t.slots) + room_at (marks_of u.slots) b
       → Leaves (state_by t limiter hasher moved placed entry_bytes max) (pop rules (contents (state_by t limiter hasher moved placed entry_bytes max)))
-          (state_by u l hasher moved placed entry_bytes max)
+      (state_by u l hasher moved placed entry_bytes max)
   popped_leaves l is_told linked freed = record {
     is = λ i. record (state_by u (told i) hasher moved placed entry_bytes max) { pairs = popped_pairs i };
     room = frees_room t u b first linked (removed-length t.slots u.slots b removed)

@@ -64,7 +64,7 @@ module _ {K V : Type 0} (t u : Linked K V) (hash : ℕ) (pair : K × V) (b : ℕ
   lands_pairs = ap (entries_in u.slots) lands.order
       ∙ ap (λ s. entries_in s (b ∷ t.order)) lands.slots
       ∙ ap (λ s. option_to_list (entry_of s) ++ entries_in (slice_set t.slots b (full (record { tag = hash_tag hash; entry = pair }))) t.order)
-          (get_or-set_same t.slots b (full (record { tag = hash_tag hash; entry = pair })) empty lands_within)
+      (get_or-set_same t.slots b (full (record { tag = hash_tag hash; entry = pair })) empty lands_within)
       ∙ ap (λ l. pair ∷ l) (entries-apart t.slots b _ t.order apart)
 
   module _ {S H : Type 0} (limiter : S) (hasher : H) (moved placed entry_bytes max : ℕ) where
@@ -80,14 +80,19 @@ module _ {K V : Type 0} (t u : Linked K V) (hash : ℕ) (pair : K × V) (b : ℕ
 
       pub lands_placed : IsPlaced pair (buckets before) (room (marks_of u.slots)) 0 before after
       lands_placed = record {
-          table = length-marks_of u.slots ∙ lands_length ∙ sym (length-marks_of t.slots);
-          left = refl;
-          state = λ i. record after { pairs = lands_pairs i; moved = kept i };
-        }
+        table = length-marks_of u.slots ∙ lands_length ∙ sym (length-marks_of t.slots);
+        left = refl;
+        state = λ i. record after { pairs = lands_pairs i; moved = kept i };
+      }
 
       pub lands_sized : IsLinked u → IsSized after
       lands_sized next = let same = sized_same hasher moved placed entry_bytes max t u limiter limiter sized next lands_length in record {
-        table = same.table; taken = same.taken; reachable = same.reachable; usable = same.usable; moved = sized.moved; placed = grind arith;
+        table = same.table;
+        taken = same.taken;
+        reachable = same.reachable;
+        usable = same.usable;
+        moved = sized.moved;
+        placed = grind arith;
       }
 
       pub lands_paid : IsPaid before → IsPaid after
@@ -114,11 +119,11 @@ module _ {K V S H : Type 0} (old new : State K V S H) (ok : IsSized old) (hash b
 
   pub uses_deleted : MayFill old.marks b → room old.marks ≡ 0 → UsesDeleted hash old new
   uses_deleted may none = record {
-      none_left = omega (arith, filled, none);
-      first = (b, first, there);
-      large = (deleted_large old ok b within there).0;
-      within = (deleted_large old ok b within there).1;
-    }
+    none_left = omega (arith, filled, none);
+    first = (b, first, there);
+    large = (deleted_large old ok b within there).0;
+    within = (deleted_large old ok b within there).1;
+  }
     where
       there : bucket_at old.marks b ≡ deleted
       there = elim may [ inl l ↦ absurd (omega (arith, l, none)) | inr d ↦ d ]

@@ -1,13 +1,9 @@
 -- What is left when pairs leave, and when growth is refused.
-use Rattle.std.proofs.Common.{◌≡◌, ℕ, zero, suc, ◌+◌, ◌-◌, ◌<◌, ◌≤◌, Bool, true, false, if◌then◌else◌, List, [], ◌∷◌, length, refl, sym, ap, ◌∙◌, subst, arith}
-use Rattle.group_table.specs.Sizes.{full_capacity}
-use Rattle.schnellru.specs.Lists.{last, without_last}
+use Rattle.std.proofs.Common.{◌≡◌, ℕ, zero, suc, ◌+◌, ◌-◌, ◌<◌, ◌≤◌, true, false, List, [], ◌∷◌, length, refl, sym, ap, ◌∙◌, subst, arith}
+use Rattle.schnellru.specs.Lists.{without_last}
 use Rattle.lru_limits.specs.Rules.{Rules}
-use Rattle.schnellru.specs.State.{State, Contents, buckets, room, contents, IsSized, FreesRoom, Leaves, told_of, pop, pops, trim, trim_from}
-use Rattle.schnellru.specs.Inserts.{make_way}
-use Rattle.schnellru.proofs.Emptiness.{none_left}
+use Rattle.schnellru.specs.State.{State, Contents, contents, FreesRoom, Leaves, pop, pops, trim, trim_from}
 use Rattle.schnellru.specs.Place.{CannotGrow, no_target, denied}
-use Rattle.schnellru.proofs.Sized.{exact}
 
 pub length-without_last : {X : Type 0} (xs : List X) → length (without_last xs) ≡ length xs - 1
 length-without_last [] = refl
@@ -44,17 +40,6 @@ module _ {K V S : Type 0} (rules : Rules K V S) where
   unfolding trim
   trim-empty c none = ap (λ n. trim_from rules n c) none
 
-  -- where there is none, none makes way
-  pub make_way-empty : (c : Contents K V S) → length c.pairs ≡ 0 → make_way rules c ≡ c
-  make_way-empty c none = go (rules.is_over_the_limit c.limiter (length c.pairs + 1))
-    where
-      same : pop rules c ≡ c
-      same = λ i. record { pairs = (ap without_last (none_left c.pairs none) ∙ sym (none_left c.pairs none)) i; limiter = ap (λ xs. told_of rules (last xs) c.limiter) (none_left c.pairs none) i }
-
-      go : (b : Bool) → (if b then pop rules c else c) ≡ c
-      go true = same
-      go false = refl
-
   -- where the limiter is over, the oldest leaves first
   pub trim-over : (c : Contents K V S) → 0 < length c.pairs → rules.is_over_the_limit c.limiter (length c.pairs) ≡ true → trim rules c ≡ trim rules (pop rules c)
   unfolding trim
@@ -87,22 +72,6 @@ module _ {K V S H : Type 0} where
     is = m.is ∙ ap {A = State K V S H} {B = State K V S H} (λ st. record st { pairs = all.pairs; limiter = all.limiter; marks = new.marks }) l.is;
     room = frees_trans old mid new l.room m.room;
   }
-
-  -- a pair that left gave its bucket back, as an empty one or as a deleted one
-  pub leaves_one : (old new : State K V S H) (left : Contents K V S) → new ≡ record old { pairs = left.pairs; limiter = left.limiter; marks = new.marks } →
-      length left.pairs + 1 ≡ length old.pairs → IsSized old → IsSized new → buckets new ≡ buckets old → room old ≤ room new → room new ≤ room old + 1 → Leaves old left new
-  leaves_one old new left is one ok after table keeps at_most =
-      let fewer : length new.pairs + 1 ≡ length old.pairs = ap (λ st. length st.pairs + 1) is ∙ one in
-      record {
-        is = is;
-        room = record {
-          table = table;
-          keeps = keeps;
-          at_most = omega (arith, fewer, at_most);
-          exact = λ small. exact new after (omega (arith, table, small)) ∙ ap full_capacity table ∙ sym (exact old ok small);
-          untouched = λ same. absurd (omega (arith, fewer, same));
-        };
-      }
 
 -- what is trimmed after some left
 pub leaves_trimmed : {K V S H : Type 0} (rules : Rules K V S) (old mid new : State K V S H) (left : Contents K V S) → Leaves old left mid →

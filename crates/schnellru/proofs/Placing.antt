@@ -52,9 +52,9 @@ module _ {K V S H : Type 0} (rules : Rules K V S) (hash_of : H → K → ℕ) (p
         let zero_pairs : length old.pairs ≡ 0 = ap length no_pairs in
         let two : full_capacity 4 - length old.pairs - 1 ≡ 2 = omega (arith, full_capacity-4, zero_pairs) in
         first_table no_pairs none bytes usable granted
-            (subst (λ n. IsPlacedIfMemory rules pair 4 2 n (asked rules bytes old) outcome new) zero_pairs
-            (subst (λ n. IsPlacedIfMemory rules pair 4 n (length old.pairs) (asked rules bytes old) outcome new) two
-            (subst (λ l. IsPlacedIfMemory rules pair 4 (full_capacity 4 - length old.pairs - 1) (length old.pairs) (record old { limiter = l }) outcome new) told step)))
+        (subst (λ n. IsPlacedIfMemory rules pair 4 2 n (asked rules bytes old) outcome new) zero_pairs
+        (subst (λ n. IsPlacedIfMemory rules pair 4 n (length old.pairs) (asked rules bytes old) outcome new) two
+        (subst (λ l. IsPlacedIfMemory rules pair 4 (full_capacity 4 - length old.pairs - 1) (length old.pairs) (record old { limiter = l }) outcome new) told step)))
 
     pub first_refused : (rules.on_grow old.limiter bytes).allowed ≡ false → new ≡ turned_away rules pair (record old { limiter = s }) →
         Place rules hash_of pair old refused new
@@ -127,8 +127,8 @@ module _ {K V S H : Type 0} (rules : Rules K V S) (hash_of : H → K → ℕ) (p
           let there = placed_by result (succeeds empty_list) step in
           let spare : full_capacity (buckets old) - length old.pairs - 1 ≡ full_capacity (buckets old) - 1 = omega (arith, no_pairs) in
           into_emptied empty_list (omega (arith, few, full_capacity-at_most (buckets old))) none there.0
-              (subst (λ n. IsPlaced pair (buckets old) n 0 old new) spare
-              (subst (λ n. IsPlaced pair (buckets old) (full_capacity (buckets old) - length old.pairs - 1) n old new) no_pairs there.1))
+          (subst (λ n. IsPlaced pair (buckets old) n 0 old new) spare
+          (subst (λ n. IsPlaced pair (buckets old) (full_capacity (buckets old) - length old.pairs - 1) n old new) no_pairs there.1))
 
   module _ (lacks : LacksRoom old) (first : FirstFreeIs empty (hash_of old.hasher pair.0) old) (above : full_capacity (buckets old) / 2 < length old.pairs + 1)
       (outcome : Outcome) where
@@ -156,8 +156,12 @@ module _ {K V S H : Type 0} (rules : Rules K V S) (old : State K V S H) (ok : Is
 
   pub next_half : 2 * length old.pairs ≤ full_capacity count
   next_half = let power = power_with_pairs old ok some in
-      omega (arith, fits old ok, full_capacity-double power.0 (buckets old) count power.1
-          (target_doubles power.0 old.max old.entry_bytes (buckets old) (length old.pairs + 1) count bytes power.1 next))
+      omega (
+        arith,
+        fits old ok,
+        full_capacity-double power.0 (buckets old) count power.1
+            (target_doubles power.0 old.max old.entry_bytes (buckets old) (length old.pairs + 1) count bytes power.1 next),
+      )
 
 -- the first free bucket of a map that has no place for a hash is empty
 module _ {K V S H : Type 0} (st : State K V S H) (ok : IsSized st) (hash : ℕ) where

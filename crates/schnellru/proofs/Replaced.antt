@@ -43,11 +43,11 @@ module _ {K V S : Type 0} (rules : Rules K V S) (by : Replaced K V S) (old new :
       room (marks_of new.slots) ≡ room (marks_of (with_pair old b (k, v)).slots) + room_at (marks_of new.slots) b →
       (l : S) → l ≡ (rules.on_removed s taken.0 taken.1).limiter → IsGivenUp rules by b old new l
   gives_up held removed order freed l is = record {
-      slots = subst (λ p. Removes (with_pair old b p).slots new.slots b) pair_is removed;
-      order = order;
-      room = freed ∙ ap (λ m. room m + room_at (marks_of new.slots) b) (marks_of-refilled old.slots b (k, v));
-      told = is ∙ (λ i. (rules.on_removed (told i) ((taken_is ∙ pair_is) i).0 ((taken_is ∙ pair_is) i).1).limiter);
-    }
+    slots = subst (λ p. Removes (with_pair old b p).slots new.slots b) pair_is removed;
+    order = order;
+    room = freed ∙ ap (λ m. room m + room_at (marks_of new.slots) b) (marks_of-refilled old.slots b (k, v));
+    told = is ∙ (λ i. (rules.on_removed (told i) ((taken_is ∙ pair_is) i).0 ((taken_is ∙ pair_is) i).1).limiter);
+  }
     where
       pair_is : ◌≡◌ {A = K × V} (k, v) (by.key, by.old_value)
       pair_is = λ i. (key_is i, value_is i)

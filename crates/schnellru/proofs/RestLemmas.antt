@@ -41,14 +41,6 @@ module _ {K V : Type 0} (t : Linked K V) where
     pub rest-length : length (rest_of t left) ≡ left
     rest-length = entries-length t.slots (last_buckets t left) all-left-full ∙ length-drop skipped t.order ∙ omega (arith, rest.within)
 
-    -- at the end nothing is left
-    pub rest-none : at ≡ None → rest_of t left ≡ []
-    rest-none none = go (last_buckets t left) (sym rest.first ∙ none)
-      where
-        go : (bs : List ℕ) → first_bucket bs ≡ None → entries_in t.slots bs ≡ []
-        go [] e = refl
-        go (b ∷ bs) e = absurd cc
-
     module _ (b : ℕ) (some : at ≡ Some b) where
       pub rest-some : 0 < left
       rest-some = go (last_buckets t left) (sym rest.first ∙ some) (length-drop skipped t.order)

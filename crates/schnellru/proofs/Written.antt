@@ -50,7 +50,7 @@ module _ {K V : Type 0} (t : Linked K V) (b : ℕ) (q : K × V) where
   pub written_first : IsFull t.slots b → (order : List ℕ) → entries_in (with_pair t b q).slots (b ∷ without_bucket b order) ≡ q ∷ entries_in t.slots (without_bucket b order)
   written_first h order =
       ap (λ s. option_to_list (entry_of s) ++ entries_in (with_pair t b q).slots (without_bucket b order))
-          (get_or-set_same t.slots b (refilled (bucket_at t.slots b) q) empty (full_within t.slots b h))
+      (get_or-set_same t.slots b (refilled (bucket_at t.slots b) q) empty (full_within t.slots b h))
       ∙ ap (λ o. option_to_list o ++ entries_in (with_pair t b q).slots (without_bucket b order)) (refilled_entry (bucket_at t.slots b) q h)
       ∙ ap (λ l. q ∷ l) (entries-apart t.slots b (refilled (bucket_at t.slots b) q) (without_bucket b order) (without_lacks b order))
 

@@ -8,8 +8,8 @@ mod sizes;
 mod walk;
 
 pub use lru_limits::{
-    ByCost, ByLength, ByMemoryUsage, Costed, DefaultHasher, Insertion, Limiter, LinkType, LookupKey, RandomState, Summing,
-    Unlimited, UnlimitedCompact,
+    ByCost, ByLength, ByMemoryUsage, Costed, DefaultHasher, Insertion, Limiter, LinkType,
+    LookupKey, RandomState, Summing, Unlimited, UnlimitedCompact,
 };
 pub use map::{DEFAULT_ENTRY_BYTES, LruMap};
 pub use walk::Iter;

@@ -128,6 +128,11 @@ impl<K: Eq + Hash, V> LruMap<K, V, ByMemoryUsage, RandomState> {
     ) -> Self
         ensures { result ≡ empty_map budget (seeded words) entry_bytes 4294967295 }
     {
-        LruMap::with_memory_budget_and_hasher(alloc, budget, RandomState::with_seeds(words), entry_bytes)
+        LruMap::with_memory_budget_and_hasher(
+            alloc,
+            budget,
+            RandomState::with_seeds(words),
+            entry_bytes,
+        )
     }
 }

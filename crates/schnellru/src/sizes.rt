@@ -17,7 +17,11 @@ pub(crate) fn usage(entry_bytes: usize, buckets: usize) -> Option<usize>
     }
     let entries = entry_bytes.checked_mul(buckets)?.checked_add(15)? / 16 * 16;
     let bytes = entries.checked_add(buckets)?.checked_add(16)?;
-    if bytes <= MOST_BYTES { Some(bytes) } else { None }
+    if bytes <= MOST_BYTES {
+        Some(bytes)
+    } else {
+        None
+    }
 }
 
 // The bytes of a table that there is.

@@ -44,7 +44,12 @@ impl<K: Eq + Hash + Drop, V: Drop, L: Limiter<K, V>, S: BuildHasher> LruMap<K, V
 
     // Inserts under a key that has this hash.
     #[inline]
-    fn insert_hashed<I: LookupKey<K>>(&mut self, hash: u64, key: I, value: V) -> Result<bool, AllocError>
+    fn insert_hashed<I: LookupKey<K>>(
+        &mut self,
+        hash: u64,
+        key: I,
+        value: V,
+    ) -> Result<bool, AllocError>
     where
         L: Insertion<K, V, I>,
         requires hash { hash ≡ hash_by I.hash_input S.BuildHasher S.Hasher.Hasher self.old.hasher key }
@@ -63,14 +68,22 @@ impl<K: Eq + Hash + Drop, V: Drop, L: Limiter<K, V>, S: BuildHasher> LruMap<K, V
     }
 
     // Inserts under a key that is not there.
-    fn insert_new<I: LookupKey<K>>(&mut self, hash: u64, key: I, value: V) -> Result<bool, AllocError>
+    fn insert_new<I: LookupKey<K>>(
+        &mut self,
+        hash: u64,
+        key: I,
+        value: V,
+    ) -> Result<bool, AllocError>
     where
         L: Insertion<K, V, I>,
         requires hash { hash ≡ hash_by I.hash_input S.BuildHasher S.Hasher.Hasher self.old.hasher key }
         requires absent { lookup_entry (I.names key) self.old.pairs ≡ None }
         ensures { Insert L.rules L.offers I.names (hash_by K.hash_input S.BuildHasher S.Hasher.Hasher) key value self.old result self.new }
     {
-        match self.limiter.on_insert(self.alloc, self.entries.len(), key, value)? {
+        match self
+            .limiter
+            .on_insert(self.alloc, self.entries.len(), key, value)?
+        {
             Some(pair) => self.admit(hash, pair),
             None => Ok(false),
         }

@@ -138,7 +138,12 @@ impl<K: Eq + Hash + Drop, V: Drop, L: Limiter<K, V>, S: BuildHasher> LruMap<K, V
     }
 
     // Places the pair in a table of so many buckets, to which all pairs move.
-    fn place_after_move(&mut self, count: usize, hash: u64, pair: (K, V)) -> Result<bool, AllocError>
+    fn place_after_move(
+        &mut self,
+        count: usize,
+        hash: u64,
+        pair: (K, V),
+    ) -> Result<bool, AllocError>
         requires hash { hash ≡ hash_by K.hash_input S.BuildHasher S.Hasher.Hasher self.old.hasher pair.0 }
         requires absent { lookup_entry (K.eq pair.0) self.old.pairs ≡ None }
         requires count { IsPowerFromFour count }

@@ -9,25 +9,34 @@ pub place-requires-clause-absent : goal.place-requires-clause-absent
 place-requires-clause-absent g c =
     let old = c.args.self.now in let ready = c.make_way.new.self in
     front_absent (g.K.PartialEq.eq c.args.pair.0) ready.pairs old.pairs
-        (subst (λ xs. IsFront xs old.pairs) (sym (ap (λ st. st.pairs) c.make_way.ensures.is)) (front_make_way g.L.Limiter.rules (contents old))) c.requires.absent
+    (subst (λ xs. IsFront xs old.pairs) (sym (ap (λ st. st.pairs) c.make_way.ensures.is)) (front_make_way g.L.Limiter.rules (contents old))) c.requires.absent
 
 pub returns-in_err-place : goal.returns-in_err-place
 returns-in_err-place g c = record {
-  ready = c.make_way.new.self; way = c.make_way.ensures;
-  outcome = no_memory; landed = c.place.new.self; place = c.in_err-place.ensures;
+  ready = c.make_way.new.self;
+  way = c.make_way.ensures;
+  outcome = no_memory;
+  landed = c.place.new.self;
+  place = c.in_err-place.ensures;
   settles = (c.from_residual.ensures.0, refl);
 }
 
 pub returns-then-not-branch : goal.returns-then-not-branch
 returns-then-not-branch g c = record {
-  ready = c.make_way.new.self; way = c.make_way.ensures;
-  outcome = refused; landed = c.place.new.self; place = rw c.if-not-branch.true at c.in_ok-place.ensures;
+  ready = c.make_way.new.self;
+  way = c.make_way.ensures;
+  outcome = refused;
+  landed = c.place.new.self;
+  place = rw c.if-not-branch.true at c.in_ok-place.ensures;
   settles = (refl, refl);
 }
 
 pub returns : goal.returns
 returns g c = record {
-  ready = c.make_way.new.self; way = c.make_way.ensures;
-  outcome = placed; landed = c.place.new.self; place = rw c.if-not-branch.false at c.in_ok-place.ensures;
+  ready = c.make_way.new.self;
+  way = c.make_way.ensures;
+  outcome = placed;
+  landed = c.place.new.self;
+  place = rw c.if-not-branch.false at c.in_ok-place.ensures;
   settles = (ap (λ b. Ok (not b)) c.is_empty.ensures, c.trim.ensures);
 }

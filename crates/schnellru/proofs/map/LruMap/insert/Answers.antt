@@ -1,10 +1,7 @@
-use Rattle.std.proofs.Common.{◌≡◌, inl, inr, Ok, Err, Result, Bool, sym, subst}
+use Rattle.std.proofs.Common.{subst}
 use Rattle.schnellru.specs.State.{IsMap}
-use Rattle.schnellru.specs.Inserts.{Insert}
 use Rattle.schnellru.proofs.Within.{insert_says}
 use Rattle.schnellru.proofs.Short.{err_lacks}
-use Rattle.schnellru.proofs.Distinct.{insert_distinct}
-use Rattle.schnellru.proofs.Paid.{insert_paid}
 use Rattle.schnellru.proofs.map.LruMap.insert.Goals as goal
 
 pub returns-clause-says : goal.returns-clause-says

@@ -16,8 +16,8 @@ insert_new-requires-clause-absent g c =
     let m = c.self.inside in let holds = c.self.invariant in
     let hash_of = hash_by g.K.Hash.hash_input g.S.BuildHasher g.S.Hasher.Hasher m.hasher in
     rw (← c.self.view_is) (not_found m.entries holds.linked (g.I.LookupKey.names c.args.key) hash_of c.args.hash
-        (λ k named. (rw (← c.self.view_is) at c.requires.hash) ∙ hash_by-named g.met.I.LookupKey.laws g.S.BuildHasher g.S.Hasher.Hasher m.hasher c.args.key k named)
-        (c.in-None.ensures.none hash_of holds.fits))
+    (λ k named. (rw (← c.self.view_is) at c.requires.hash) ∙ hash_by-named g.met.I.LookupKey.laws g.S.BuildHasher g.S.Hasher.Hasher m.hasher c.args.key k named)
+    (c.in-None.ensures.none hash_of holds.fits))
 
 pub invariant_of-self : goal.invariant_of-self
 invariant_of-self g c =
@@ -28,8 +28,8 @@ invariant_of-self g c =
     let hash_of = hash_by g.K.Hash.hash_input g.S.BuildHasher g.S.Hasher.Hasher in
     let fits = c.replace.ensures.fits (hash_of m.hasher) (λ x y e. ap (λ input. g.S.Hasher.Hasher.finish (fold g.S.Hasher.Hasher.write (g.S.BuildHasher.build_hasher m.hasher) input)) (g.met.K.Hash.respects_eq x y e)) holds.fits in
     given_up_holds by t u b l holds.linked c.replace.ensures.linked was found.1 names g.met.K.Eq.laws one holds.map.distinct found.2
-        m.limiter m.hasher m.moved m.placed m.entry_bytes (g.L.LinkType.LinkType.number g.L.LinkType.LinkType.MAX)
-        g.L.Limiter.rules (c.replace.ensures.given_up c.if-not-replace.true was found.1) hash_of holds fits
+    m.limiter m.hasher m.moved m.placed m.entry_bytes (g.L.LinkType.LinkType.number g.L.LinkType.LinkType.MAX)
+    g.L.Limiter.rules (c.replace.ensures.given_up c.if-not-replace.true was found.1) hash_of holds fits
 
 pub invariant_of-self-in-Some : goal.invariant_of-self-in-Some
 invariant_of-self-in-Some g c =
@@ -40,9 +40,9 @@ invariant_of-self-in-Some g c =
     let hash_of = hash_by g.K.Hash.hash_input g.S.BuildHasher g.S.Hasher.Hasher in
     let fits = c.replace.ensures.fits (hash_of m.hasher) (λ x y e. ap (λ input. g.S.Hasher.Hasher.finish (fold g.S.Hasher.Hasher.write (g.S.BuildHasher.build_hasher m.hasher) input)) (g.met.K.Hash.respects_eq x y e)) holds.fits in
     replaced_holds by t u b l holds.linked c.replace.ensures.linked was found.1 names g.met.K.Eq.laws one holds.map.distinct found.2
-        m.limiter m.hasher m.moved m.placed m.entry_bytes (g.L.LinkType.LinkType.number g.L.LinkType.LinkType.MAX)
-        (c.replace.ensures.replaced c.if-not-replace.false was found.1) hash_of
-        (one was.0 by.key found.2 ∙ g.met.L.Insertion.laws.keeps_key m.limiter (length t.order) was.0 c.args.key was.1 c.args.value found.2) holds fits
+    m.limiter m.hasher m.moved m.placed m.entry_bytes (g.L.LinkType.LinkType.number g.L.LinkType.LinkType.MAX)
+    (c.replace.ensures.replaced c.if-not-replace.false was found.1) hash_of
+    (one was.0 by.key found.2 ∙ g.met.L.Insertion.laws.keeps_key m.limiter (length t.order) was.0 c.args.key was.1 c.args.value found.2) holds fits
 
 pub returns-then-not-replace : goal.returns-then-not-replace
 returns-then-not-replace g c =
@@ -52,10 +52,10 @@ returns-then-not-replace g c =
     let rules = g.L.Limiter.rules in let same = sym (pairs-length t holds.linked) in
     let by = λ (n : ℕ). g.L.Insertion.offers.on_replace m.limiter n was.0 c.args.key was.1 c.args.value in
     rw (← c.self.view_is) (given_up was (pair_found t holds.linked b was found.1 names g.met.K.Eq.laws one holds.map.distinct found.2)
-        (subst (λ n. (by n).taken ≡ false) same (sym (c.replace.ensures.taken was found.1) ∙ c.if-not-replace.true)) refl
-        (given_up_leaves (by (length (pairs_of t))) t u b l holds.linked c.replace.ensures.linked was found.1 names g.met.K.Eq.laws one holds.map.distinct found.2
-            m.limiter m.hasher m.moved m.placed m.entry_bytes (g.L.LinkType.LinkType.number g.L.LinkType.LinkType.MAX)
-            rules (subst (λ n. IsGivenUp rules (by n) b t u l) same (c.replace.ensures.given_up c.if-not-replace.true was found.1))))
+    (subst (λ n. (by n).taken ≡ false) same (sym (c.replace.ensures.taken was found.1) ∙ c.if-not-replace.true)) refl
+    (given_up_leaves (by (length (pairs_of t))) t u b l holds.linked c.replace.ensures.linked was found.1 names g.met.K.Eq.laws one holds.map.distinct found.2
+    m.limiter m.hasher m.moved m.placed m.entry_bytes (g.L.LinkType.LinkType.number g.L.LinkType.LinkType.MAX)
+    rules (subst (λ n. IsGivenUp rules (by n) b t u l) same (c.replace.ensures.given_up c.if-not-replace.true was found.1))))
 
 pub returns-else-not-replace : goal.returns-else-not-replace
 returns-else-not-replace g c =
@@ -67,9 +67,9 @@ returns-else-not-replace g c =
     let by = λ (n : ℕ). g.L.Insertion.offers.on_replace m.limiter n was.0 c.args.key was.1 c.args.value in
     let old = state_by t m.limiter m.hasher m.moved m.placed m.entry_bytes max in let mid = state_by u l m.hasher m.moved m.placed m.entry_bytes max in
     let leaves = replaced_leaves (by (length (pairs_of t))) t u b l holds.linked c.replace.ensures.linked was found.1 names g.met.K.Eq.laws one holds.map.distinct found.2
-        m.limiter m.hasher m.moved m.placed m.entry_bytes max
-        (subst (λ n. IsReplaced (by n) b t u l) same (c.replace.ensures.replaced c.if-not-replace.false was found.1)) in
+    m.limiter m.hasher m.moved m.placed m.entry_bytes max
+    (subst (λ n. IsReplaced (by n) b t u l) same (c.replace.ensures.replaced c.if-not-replace.false was found.1)) in
     rw (← c.self.view_is) (replaced was (pair_found t holds.linked b was found.1 names g.met.K.Eq.laws one holds.map.distinct found.2)
-        (subst (λ n. (by n).taken ≡ true) same (sym (c.replace.ensures.taken was found.1) ∙ c.if-not-replace.false))
-        (ap (λ y. Ok (not y)) c.is_empty.ensures)
-        (leaves_trimmed rules old mid c.trim.new.self _ leaves c.trim.ensures))
+    (subst (λ n. (by n).taken ≡ true) same (sym (c.replace.ensures.taken was found.1) ∙ c.if-not-replace.false))
+    (ap (λ y. Ok (not y)) c.is_empty.ensures)
+    (leaves_trimmed rules old mid c.trim.new.self _ leaves c.trim.ensures))

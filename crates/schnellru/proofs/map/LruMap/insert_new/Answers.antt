@@ -11,9 +11,9 @@ pub returns-in_err-pair : goal.returns-in_err-pair
 returns-in_err-pair g c =
     let m = c.self.inside in let len = c.len.ensures.len ∙ sym (pairs-length m.entries c.self.invariant.linked) in
     rw (← c.self.view_is) (no_memory_to_admit (rw (← c.self.view_is) at c.requires.absent)
-        (subst (λ n. g.L.Insertion.offers.may_lack m.limiter n c.args.key c.args.value) len c.in_err-pair.ensures.lacks)
-        c.from_residual.ensures.0
-        (ap (λ l. state_by m.entries l m.hasher m.moved m.placed m.entry_bytes (g.L.LinkType.LinkType.number g.L.LinkType.LinkType.MAX)) c.in_err-pair.ensures.unchanged))
+    (subst (λ n. g.L.Insertion.offers.may_lack m.limiter n c.args.key c.args.value) len c.in_err-pair.ensures.lacks)
+    c.from_residual.ensures.0
+    (ap (λ l. state_by m.entries l m.hasher m.moved m.placed m.entry_bytes (g.L.LinkType.LinkType.number g.L.LinkType.LinkType.MAX)) c.in_err-pair.ensures.unchanged))
 
 pub admit-requires-clause-hash : goal.admit-requires-clause-hash
 admit-requires-clause-hash g c =
@@ -28,18 +28,18 @@ admit-requires-clause-absent g c =
     let given : g.L.Insertion.offers.on_insert m.limiter c.len.result c.args.key c.args.value c.on_insert.new.self (Some pair) = rw c.in-Some.is at c.in_ok-pair.ensures.offered in
     let named = g.met.L.Insertion.laws.names_given m.limiter c.len.result c.args.key c.args.value c.on_insert.new.self pair.0 pair.1 given in
     sym (lookup_alike (g.I.LookupKey.names c.args.key) (g.K.PartialEq.eq pair.0) (λ k. g.met.I.LookupKey.laws.one c.args.key pair.0 k named) (pairs_of m.entries))
-        ∙ (rw (← c.self.view_is) at c.requires.absent)
+    ∙ (rw (← c.self.view_is) at c.requires.absent)
 
 pub returns-in-Some : goal.returns-in-Some
 returns-in-Some g c =
     let m = c.self.inside in let len = c.len.ensures.len ∙ sym (pairs-length m.entries c.self.invariant.linked) in let step = c.admit.ensures in
     rw (← c.self.view_is) (admitted (rw (← c.self.view_is) at c.requires.absent) c.on_insert.new.self c.in-Some.pair
-        (subst (λ n. g.L.Insertion.offers.on_insert m.limiter n c.args.key c.args.value c.on_insert.new.self (Some c.in-Some.pair)) len (rw c.in-Some.is at c.in_ok-pair.ensures.offered))
-        step.ready step.way step.outcome step.landed step.place step.settles)
+    (subst (λ n. g.L.Insertion.offers.on_insert m.limiter n c.args.key c.args.value c.on_insert.new.self (Some c.in-Some.pair)) len (rw c.in-Some.is at c.in_ok-pair.ensures.offered))
+    step.ready step.way step.outcome step.landed step.place step.settles)
 
 pub returns-in-None : goal.returns-in-None
 returns-in-None g c =
     let m = c.self.inside in let len = c.len.ensures.len ∙ sym (pairs-length m.entries c.self.invariant.linked) in
     rw (← c.self.view_is) (not_admitted (rw (← c.self.view_is) at c.requires.absent) c.on_insert.new.self
-        (subst (λ n. g.L.Insertion.offers.on_insert m.limiter n c.args.key c.args.value c.on_insert.new.self None) len (rw c.in-None.is at c.in_ok-pair.ensures.offered))
-        refl refl)
+    (subst (λ n. g.L.Insertion.offers.on_insert m.limiter n c.args.key c.args.value c.on_insert.new.self None) len (rw c.in-None.is at c.in_ok-pair.ensures.offered))
+    refl refl)

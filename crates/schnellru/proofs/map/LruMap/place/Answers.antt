@@ -24,5 +24,5 @@ returns-in-Ok g c =
       | else-room-eq0-via-else-room-eq0 w ↦ inl (omega (arith, w.if-room-eq0.false, c.room.ensures.room))
     ] in
     bucket_place g.L.Limiter.rules _ c.args.pair c.args.self.now c.place_in_bucket.new.self (subst IsSized c.self.view_is c.self.invariant.map.sized)
-        (rw (← c.self.view_is) some) step.placed step.room
-        (subst (λ h. room c.args.self.now ≡ 0 → UsesDeleted h c.args.self.now c.place_in_bucket.new.self) c.requires.hash step.deleted)
+    (rw (← c.self.view_is) some) step.placed step.room
+    (subst (λ h. room c.args.self.now ≡ 0 → UsesDeleted h c.args.self.now c.place_in_bucket.new.self) c.requires.hash step.deleted)

@@ -1,12 +1,10 @@
 use Rattle.std.proofs.Common.{◌≡◌, ◌<◌, ◌/◌, length, ap, sym, ◌∙◌, subst, arith}
 use Rattle.group_table.specs.Sizes.{full_capacity}
-use Rattle.group_table.specs.Bucket.{marks_of}
-use Rattle.group_table.specs.Bucket.{empty}
+use Rattle.group_table.specs.Bucket.{empty, marks_of}
 use Rattle.group_table.proofs.BucketLemmas.{length-marks_of}
 use Rattle.schnellru.specs.State.{IsSized, FirstFreeIs}
 use Rattle.schnellru.specs.Linked.{pairs_of}
 use Rattle.schnellru.proofs.Ordered.{pairs-length}
-use Rattle.schnellru.proofs.Growth.{full_capacity-at_most, full_capacity-some}
 use Rattle.schnellru.proofs.Placing.{rehash_place, some_of_half}
 use Rattle.schnellru.proofs.map.LruMap.place_without_room.Goals as goal
 
@@ -20,14 +18,14 @@ pub place_in_larger-requires-clause-lacks_room : goal.place_in_larger-requires-c
 place_in_larger-requires-clause-lacks_room g c =
     let m = c.self.inside in let t = m.entries in
     let some : 0 < length (pairs_of t) = some_of_half t c.self.invariant.linked (λ none. c.if-buckets-eq0.false (c.buckets-buckets.ensures.buckets ∙ none))
-        (omega (arith, c.full_capacity.ensures ∙ ap full_capacity c.buckets-buckets.ensures.buckets, c.if-len-full_capacity.false, c.len-len.ensures.len)) in
+    (omega (arith, c.full_capacity.ensures ∙ ap full_capacity c.buckets-buckets.ensures.buckets, c.if-len-full_capacity.false, c.len-len.ensures.len)) in
     (rw (← c.self.view_is) some, c.requires.no_room)
 
 pub place_in_larger-requires-clause-empty : goal.place_in_larger-requires-clause-empty
 place_in_larger-requires-clause-empty g c =
     let m = c.self.inside in let t = m.entries in
     let some : 0 < length (pairs_of t) = some_of_half t c.self.invariant.linked (λ none. c.if-buckets-eq0.false (c.buckets-buckets.ensures.buckets ∙ none))
-        (omega (arith, c.full_capacity.ensures ∙ ap full_capacity c.buckets-buckets.ensures.buckets, c.if-len-full_capacity.false, c.len-len.ensures.len)) in
+    (omega (arith, c.full_capacity.ensures ∙ ap full_capacity c.buckets-buckets.ensures.buckets, c.if-len-full_capacity.false, c.len-len.ensures.len)) in
     c.requires.empty (rw (← c.self.view_is) some)
 
 pub place_in_larger-requires-clause-half : goal.place_in_larger-requires-clause-half
@@ -41,8 +39,8 @@ returns-then-len-full_capacity g c =
     let m = c.self.inside in let t = m.entries in
     let takes = c.full_capacity.ensures ∙ ap full_capacity (c.buckets-buckets.ensures.buckets ∙ sym (length-marks_of t.slots)) in
     let few : length (pairs_of t) < full_capacity (length (marks_of t.slots)) / 2 =
-        omega (arith, takes, c.if-len-full_capacity.true, c.len-len.ensures.len, pairs-length t c.self.invariant.linked) in
+    omega (arith, takes, c.if-len-full_capacity.true, c.len-len.ensures.len, pairs-length t c.self.invariant.linked) in
     rehash_place g.L.Limiter.rules _ c.args.pair c.args.self.now c.place_after_rehash.new.self (subst IsSized c.self.view_is c.self.invariant.map.sized)
-        c.place_after_rehash.result c.requires.no_room
-        (λ some. subst (λ h. FirstFreeIs empty h c.args.self.now) c.requires.hash (c.requires.empty some))
-        (rw (← c.self.view_is) few) c.place_after_rehash.ensures.placed c.place_after_rehash.ensures.succeeds
+    c.place_after_rehash.result c.requires.no_room
+    (λ some. subst (λ h. FirstFreeIs empty h c.args.self.now) c.requires.hash (c.requires.empty some))
+    (rw (← c.self.view_is) few) c.place_after_rehash.ensures.placed c.place_after_rehash.ensures.succeeds

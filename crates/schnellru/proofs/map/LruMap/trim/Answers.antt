@@ -1,6 +1,5 @@
 use Rattle.std.proofs.Common.{◌≡◌, ◌<◌, true, false, length, ap, sym, ◌∙◌, subst, arith}
-use Rattle.schnellru.specs.State.{contents, Leaves}
-use Rattle.schnellru.specs.State.{trim}
+use Rattle.schnellru.specs.State.{contents, trim, Leaves}
 use Rattle.schnellru.proofs.Emptiness.{empty-length, some-length}
 use Rattle.schnellru.proofs.Ordered.{pairs-length}
 use Rattle.schnellru.proofs.Leaving.{length-without_last, leaves_trans, trim-within, trim-empty, trim-over}
@@ -21,8 +20,8 @@ loop-self-preserved g c =
     let st = c.loop-self.self in let u = c.take_oldest.new.self in
     let some = some-length st.pairs (sym c.is_empty.ensures ∙ c.loop-self-test.true) in
     let over : rules.is_over_the_limit st.limiter (length st.pairs) ≡ true = rw (← c.self.view_is)
-        (ap (rules.is_over_the_limit m.limiter) (pairs-length m.entries c.self.invariant.linked ∙ sym c.len.ensures.len)
-        ∙ sym c.is_over_the_limit.ensures ∙ c.if-is_over_the_limit.true) in
+    (ap (rules.is_over_the_limit m.limiter) (pairs-length m.entries c.self.invariant.linked ∙ sym c.len.ensures.len)
+    ∙ sym c.is_over_the_limit.ensures ∙ c.if-is_over_the_limit.true) in
     let left = ap contents c.take_oldest.ensures.is in record {
       leaves = leaves_trans c.args.self.now st u (contents st) (contents u) i.leaves
           (subst (λ left. Leaves st left u) (sym left) c.take_oldest.ensures);
@@ -33,8 +32,8 @@ pub returns-else-is_over_the_limit : goal.returns-else-is_over_the_limit
 returns-else-is_over_the_limit g c =
     let i = c.loop-self.invariant in let rules = g.L.Limiter.rules in let m = c.self.inside in let st = c.loop-self.self in
     let within : rules.is_over_the_limit st.limiter (length st.pairs) ≡ false = rw (← c.self.view_is)
-        (ap (rules.is_over_the_limit m.limiter) (pairs-length m.entries c.self.invariant.linked ∙ sym c.len.ensures.len)
-        ∙ sym c.is_over_the_limit.ensures ∙ c.if-is_over_the_limit.false) in
+    (ap (rules.is_over_the_limit m.limiter) (pairs-length m.entries c.self.invariant.linked ∙ sym c.len.ensures.len)
+    ∙ sym c.is_over_the_limit.ensures ∙ c.if-is_over_the_limit.false) in
     subst (λ left. Leaves c.args.self.now left st) (sym (i.same_end ∙ trim-within rules (contents st) within)) i.leaves
 
 pub returns-after-loop-self : goal.returns-after-loop-self
