@@ -1,0 +1,64 @@
+//! Each constructor, the printed text, and the length of a walk.
+use super::*;
+use crate::{ByLength, ByMemoryUsage, UnlimitedCompact};
+use std::test::Fail;
+
+// Whether a map is new, takes a pair and then uses so many bytes.
+fn takes_a_pair<L: Insertion<u64, u64, u64> + Drop>(
+    mut map: LruMap<u64, u64, L, RandomState>,
+    bytes: usize,
+) -> Result<bool, AllocError> {
+    let is_new = map.is_empty() && map.memory_usage() == 0;
+    Ok(is_new && insert(&mut map, 1)? && get(&mut map, 1) == Some(10) && map.memory_usage() == bytes)
+}
+
+#[test]
+fn constructors(rt: HostRuntime) -> Result<(), Fail> {
+    let alloc = rt.alloc();
+    let words = [1, 2, 3, 4];
+    assert!(rt; takes_a_pair(LruMap::new(alloc, ByLength::new(3), words, 16), 84)?);
+    assert!(rt; takes_a_pair(LruMap::with_seed(alloc, ByLength::new(3), words, 20), 100)?);
+    assert!(rt;
+        takes_a_pair(
+            LruMap::with_hasher(alloc, ByLength::new(3), RandomState::default(), 16),
+            84
+        )?
+    );
+    assert!(rt; takes_a_pair(LruMap::with_memory_budget(alloc, 84, words, 16), 84)?);
+    assert!(rt;
+        takes_a_pair(
+            LruMap::with_memory_budget_and_hasher(alloc, 84, RandomState::default(), 16),
+            84
+        )?
+    );
+    let map: LruMap<u64, u64, UnlimitedCompact> = LruMap::default(alloc);
+    assert!(rt; takes_a_pair(map, 148)?);
+    let map: LruMap<u64, u64, ByMemoryUsage> = LruMap::with_memory_budget(alloc, 83, words, 16);
+    assert_eq!(rt; map.limiter().max_memory_usage(), 83);
+    Ok(())
+}
+
+#[test]
+fn debug(rt: HostRuntime) -> Result<(), Fail> {
+    let mut map = map_of(rt.alloc(), UnlimitedCompact);
+    assert_eq!(rt; insert_all(&mut map, 1..=3)?, 3);
+    assert_eq!(rt; format!(in rt.alloc(); "{map:?}")?.as_str(), "LruMap { len: 3, .. }");
+    Ok(())
+}
+
+#[test]
+fn a_walk(rt: HostRuntime) -> Result<(), Fail> {
+    let mut map = map_of(rt.alloc(), UnlimitedCompact);
+    assert_eq!(rt; map.iter().len(), 0);
+    assert_eq!(rt; insert_all(&mut map, 1..=4)?, 4);
+    let mut rest = map.iter();
+    for n in [4u64, 3, 2, 1] {
+        assert_eq!(rt; rest.len() as u64, n);
+        assert_eq!(rt; rest.size_hint(), (n as usize, Some(n as usize)));
+        assert_eq!(rt; rest.next(), Some((&n, &n.wrapping_mul(10))));
+    }
+    assert_eq!(rt; rest.len(), 0);
+    assert_eq!(rt; rest.next(), None);
+    assert_eq!(rt; rest.next(), None);
+    Ok(())
+}

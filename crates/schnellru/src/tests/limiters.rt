@@ -1,0 +1,139 @@
+//! Limiters of the tests.
+ghost use Rattle.std.specs.Prelude.{◌≡◌, ◌+◌, true, false, not, min, nat_eq};
+ghost use Rattle.std.specs.Cmp.{nat_eq_equiv};
+ghost use Rattle.lru_limits.specs.Stores.{plain, hands_over, hands_over-lawful, answers};
+
+use crate::{Insertion, Limiter};
+use std::alloc::{AllocError, Global};
+
+/// Limits nothing, with links of eight bits.
+#[derive(Clone, Copy)]
+pub struct Narrow;
+
+impl Limiter<u64, u64> for Narrow {
+    type LinkType = u8;
+
+    ghost rules = { plain (λ _ _. false) (λ _ _. true) };
+
+    fn is_over_the_limit(&self, _length: usize) -> bool {
+        false
+    }
+
+    fn on_removed(&mut self, _key: &mut u64, _value: &mut u64) {}
+
+    fn on_cleared(&mut self) {}
+
+    fn on_grow(&mut self, _new_memory_usage: usize) -> bool {
+        true
+    }
+}
+
+impl Insertion<u64, u64, u64> for Narrow {
+    ghost offers = { hands_over (λ _ _ _. true) };
+
+    fn on_insert(
+        &mut self,
+        _alloc: Global,
+        _length: usize,
+        key: u64,
+        value: u64,
+    ) -> Result<Option<(u64, u64)>, AllocError> {
+        Ok(Some((key, value)))
+    }
+
+    fn on_replace(
+        &mut self,
+        _length: usize,
+        _old_key: &mut u64,
+        _new_key: u64,
+        _old_value: &mut u64,
+        _new_value: &mut u64,
+    ) -> bool {
+        true
+    }
+
+    ghost laws = { hands_over-lawful nat_eq nat_eq_equiv (λ _ _ _. true) };
+}
+
+/// Over at every length or at none, permits each second growth, and keeps what it was told and asked.
+#[derive(Clone, Copy)]
+pub struct Telling {
+    pub over: bool,
+    pub permits: bool,
+    pub told: u32,
+    pub last: u64,
+    pub askings: u32,
+    pub asked: usize,
+}
+
+impl Telling {
+    /// Whether it is over, and whether it permits the first growth.
+    pub fn new(over: bool, permits: bool) -> Telling {
+        Telling {
+            over,
+            permits,
+            told: 0,
+            last: 0,
+            askings: 0,
+            asked: 0,
+        }
+    }
+}
+
+impl Limiter<u64, u64> for Telling {
+    type LinkType = u32;
+
+    ghost rules = { record {
+      is_over_the_limit = λ s length. s.over;
+      on_removed = λ s k v. record { limiter = record s { told = min (s.told + 1) 4294967295; last = k }; key = k; value = v };
+      on_cleared = λ s. s;
+      on_grow = λ s bytes.
+          answers (record s { permits = not s.permits; askings = min (s.askings + 1) 4294967295; asked = bytes }) s.permits;
+    } };
+
+    fn is_over_the_limit(&self, _length: usize) -> bool {
+        self.over
+    }
+
+    fn on_removed(&mut self, key: &mut u64, _value: &mut u64) {
+        self.told = self.told.saturating_add(1);
+        self.last = *key;
+    }
+
+    fn on_cleared(&mut self) {}
+
+    fn on_grow(&mut self, new_memory_usage: usize) -> bool {
+        let permits = self.permits;
+        self.permits = !permits;
+        self.askings = self.askings.saturating_add(1);
+        self.asked = new_memory_usage;
+        permits
+    }
+}
+
+impl Insertion<u64, u64, u64> for Telling {
+    ghost offers = { hands_over (λ _ _ _. true) };
+
+    fn on_insert(
+        &mut self,
+        _alloc: Global,
+        _length: usize,
+        key: u64,
+        value: u64,
+    ) -> Result<Option<(u64, u64)>, AllocError> {
+        Ok(Some((key, value)))
+    }
+
+    fn on_replace(
+        &mut self,
+        _length: usize,
+        _old_key: &mut u64,
+        _new_key: u64,
+        _old_value: &mut u64,
+        _new_value: &mut u64,
+    ) -> bool {
+        true
+    }
+
+    ghost laws = { hands_over-lawful nat_eq nat_eq_equiv (λ _ _ _. true) };
+}

@@ -1,0 +1,176 @@
+//! `String` keys, looked up by texts, and stored from texts that become a `String` only then.
+ghost use Rattle.std.specs.Prelude.{◌≡◌, ◌+◌, ⊤, true, false, min, string_bytes};
+ghost use Rattle.lru_limits.specs.Stores.{plain, replaces, HandsOver, given-names};
+ghost use Rattle.lru_limits.specs.Texts.{names_text, names_text-lawful, GivesText, given-names_text, same_text};
+
+use crate::{Insertion, Limiter, LookupKey, LruMap};
+use std::alloc::{AllocError, Global};
+use std::test::Fail;
+
+/// A text that names the `String` of its bytes.
+#[derive(Clone, Copy, PartialEq, Eq, Hash)]
+pub struct InsertKey<'a>(pub &'a str);
+
+impl LookupKey<String> for InsertKey<'_> {
+    ghost names = { λ q k. names_text q.0.now k };
+
+    ghost laws = { names_text-lawful (λ q. q.0.now) };
+
+    fn is_key(&self, key: &String) -> bool {
+        self.0 == key.as_str()
+    }
+}
+
+/// Limits nothing, and counts how often a text was offered and replaced a value.
+#[derive(Clone, Copy, Default)]
+pub struct Counting {
+    pub inserts: u32,
+    pub replacements: u32,
+}
+
+impl Limiter<String, u32> for Counting {
+    type LinkType = u32;
+
+    ghost rules = { plain (λ _ _. false) (λ _ _. true) };
+
+    fn is_over_the_limit(&self, _length: usize) -> bool {
+        false
+    }
+
+    fn on_removed(&mut self, _key: &mut String, _value: &mut u32) {}
+
+    fn on_cleared(&mut self) {}
+
+    fn on_grow(&mut self, _new_memory_usage: usize) -> bool {
+        true
+    }
+}
+
+impl<'a> Insertion<String, u32, InsertKey<'a>> for Counting {
+    ghost offers = { record {
+      on_insert = λ s length i v t given. (t ≡ record s { inserts = min (s.inserts + 1) 4294967295 }) × GivesText i.0.now v given;
+      may_lack = λ s length i v. ⊤;
+      on_replace = λ s length k i v w. replaces (record s { replacements = min (s.replacements + 1) 4294967295 }) k v w;
+    } };
+
+    fn on_insert(
+        &mut self,
+        alloc: Global,
+        _length: usize,
+        key: InsertKey<'a>,
+        value: u32,
+    ) -> Result<Option<(String, u32)>, AllocError> {
+        let text = String::from_str(alloc, key.0)?;
+        self.inserts = self.inserts.saturating_add(1);
+        Ok(Some((text, value)))
+    }
+
+    fn on_replace(
+        &mut self,
+        _length: usize,
+        _old_key: &mut String,
+        _new_key: InsertKey<'a>,
+        _old_value: &mut u32,
+        _new_value: &mut u32,
+    ) -> bool {
+        self.replacements = self.replacements.saturating_add(1);
+        true
+    }
+
+    ghost laws = { record {
+      names_given = λ s length i v t k w given. given-names_text i.0.now v k w given.1;
+      keeps_key = λ s length k i v w named. same_text k;
+    } };
+}
+
+impl Insertion<String, u32, String> for Counting {
+    ghost offers = { record {
+      on_insert = λ s length i v t given. HandsOver true s i v t given;
+      may_lack = λ s length i v. ⊥;
+      on_replace = λ s length k i v w. replaces s k v w;
+    } };
+
+    fn on_insert(
+        &mut self,
+        _alloc: Global,
+        _length: usize,
+        key: String,
+        value: u32,
+    ) -> Result<Option<(String, u32)>, AllocError> {
+        Ok(Some((key, value)))
+    }
+
+    fn on_replace(
+        &mut self,
+        _length: usize,
+        _old_key: &mut String,
+        _new_key: String,
+        _old_value: &mut u32,
+        _new_value: &mut u32,
+    ) -> bool {
+        true
+    }
+
+    ghost laws = { record {
+      names_given = λ s length i v t k w given. given-names (λ x y. names_text (string_bytes x) y) same_text given;
+      keeps_key = λ s length k i v w named. same_text k;
+    } };
+}
+
+type Texts = LruMap<String, u32, Counting>;
+
+// Inserts under a text, which becomes a `String` only if it is stored.
+fn insert_text(map: &mut Texts, key: &str, value: u32) -> Result<bool, AllocError> {
+    map.insert(InsertKey(key), value)
+}
+
+// Inserts under a `String` of the text.
+fn insert_string(
+    alloc: Global,
+    map: &mut Texts,
+    key: &str,
+    value: u32,
+) -> Result<bool, AllocError> {
+    map.insert(String::from_str(alloc, key)?, value)
+}
+
+// Whether the keys are these, newest first.
+fn has_keys(map: &Texts, keys: &[&str]) -> bool {
+    let mut at = 0usize;
+    for (key, _) in map.iter() {
+        if keys.get(at).is_none_or(|want| *want != key.as_str()) {
+            return false;
+        }
+        at = at.saturating_add(1);
+    }
+    at == keys.len()
+}
+
+#[test]
+fn a_text_is_made_a_key_once(rt: HostRuntime) -> Result<(), Fail> {
+    let mut map: Texts = LruMap::new(rt.alloc(), Counting::default(), [1, 2, 3, 4], 16);
+    for key in ["1", "2", "1"] {
+        assert!(rt; insert_text(&mut map, key, 1)?);
+    }
+    assert!(rt; has_keys(&map, &["1", "2"]));
+    assert_eq!(rt; (map.limiter().inserts, map.limiter().replacements), (2, 1));
+    Ok(())
+}
+
+#[test]
+fn lru_with_a_string_key_works(rt: HostRuntime) -> Result<(), Fail> {
+    let alloc = rt.alloc();
+    let mut map: Texts = LruMap::new(alloc, Counting::default(), [1, 2, 3, 4], 16);
+    for (key, value) in [("1", 1), ("2", 2), ("3", 3)] {
+        assert!(rt; insert_string(alloc, &mut map, key, value)?);
+    }
+    assert_eq!(rt; map.peek(&"2").copied(), Some(2));
+    assert_eq!(rt; map.get(&"2").copied(), Some(2));
+    assert!(rt; has_keys(&map, &["2", "3", "1"]));
+    for (key, value) in [("2", 200), ("6", 6)] {
+        assert!(rt; insert_text(&mut map, key, value)?);
+        assert_eq!(rt; map.peek(&key).copied(), Some(value));
+    }
+    assert!(rt; has_keys(&map, &["6", "2", "3", "1"]));
+    Ok(())
+}
