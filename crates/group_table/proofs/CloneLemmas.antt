@@ -82,7 +82,6 @@ module _ {T F : Type 0} (closure : Shared F (Bor T × Unit {0}) (Result T AllocE
     same_length : length copies ≡ length entries
     same_length = sym (length_all_zip (IsPlaceCopy closure f) entries copies h)
 
-
     copied : Copies closure f (slots_of control entries) (slots_of control copies)
     copied = Copies-places control entries copies h
 

@@ -103,8 +103,8 @@ module _ {T N : Type 0} (number : N → ℕ) (none : N) where
     pub KeepsMovedHashes-more : (hash_of : ℕ → ℕ) → hash ≡ hash_of b → KeepsMovedHashes number none old new links hash_of → KeepsMovedHashes number none more joined linked hash_of
     KeepsMovedHashes-more hash_of hashed keeps moved_hash_of gives =
         let before : Fits new moved_hash_of = keeps moved_hash_of (λ k x e.
-            let other : k ≢ b = λ i. not_none (old b) x was (ap old (sym i) ∙ e) in
-            ap moved_hash_of (sym (linked_elsewhere k other)) ∙ gives k x (others k other ∙ e)) in
+        let other : k ≢ b = λ i. not_none (old b) x was (ap old (sym i) ∙ e) in
+        ap moved_hash_of (sym (linked_elsewhere k other)) ∙ gives k x (others k other ∙ e)) in
         let now : hash ≡ moved_hash_of c = hashed ∙ sym (gives b entry is) ∙ ap moved_hash_of linked_there in
         rw joins.slots (Fits-same _ _ _ (λ k. elim (cases_eq k c) [
           | inl h ↦ with_hash-there moved_hash_of c hash k h ∙ now ∙ ap moved_hash_of (sym h)

@@ -39,8 +39,11 @@ module _ {S : Type 0} (rules : Rules ℕ ℕ S) (offers : Offers ℕ ℕ S ℕ) 
     last_answered (Ok u) (lines, text, run, reads, wrote) taken some (answer, step, answered) =
         IfSome-map r₀ (λ input all. (
           text ++ answer_line answer,
-          (new, subst (λ ls. IsRun rules offers old ls (text ++ answer_line answer) new) (sym (all ∙ ap (λ l. lines ++ l) (lines_of-last line taken.0 some)))
-              (run-append rules offers old lines text now (line ∷ []) (answer_line answer) new run (run-one rules offers now line answer new step))),
+          (
+            new,
+            subst (λ ls. IsRun rules offers old ls (text ++ answer_line answer) new) (sym (all ∙ ap (λ l. lines ++ l) (lines_of-last line taken.0 some)))
+                (run-append rules offers old lines text now (line ∷ []) (answer_line answer) new run (run-one rules offers now line answer new step)),
+          ),
           Appends-trans w₀ w₁ w₂ text (answer_line answer) wrote answered,
         )) (lines_at_end r₀ r₁ r₂ lines line reads taken)
     last_answered (Err e) so_far taken some answered = tt

@@ -32,13 +32,17 @@ module _ {S : Type 0} (rules : Rules ℕ ℕ S) (offers : Offers ℕ ℕ S ℕ) 
         (insert_answer result, new, (result, is, refl), after)
     some_step old ready (calls.Get k) =
         let new : Map S = record old { pairs = front (nat_eq k) old.pairs } in
-        let found = lookup (nat_eq k) old.pairs in
-        (value found, new, (found, record { value = refl; state = refl }, refl), record {
-          count = ready.count;
-          used_within = ready.used_within;
-          enough = omega (arith, ready.enough, length-front_pairs (nat_eq k) old.pairs);
-          none_deleted = ready.none_deleted;
-        })
+        let found = lookup (nat_eq k) old.pairs in (
+          value found,
+          new,
+          (found, record { value = refl; state = refl }, refl),
+          record {
+            count = ready.count;
+            used_within = ready.used_within;
+            enough = omega (arith, ready.enough, length-front_pairs (nat_eq k) old.pairs);
+            none_deleted = ready.none_deleted;
+          },
+        )
     some_step old ready (calls.Peek k) = (value (lookup (nat_eq k) old.pairs), old, (refl, refl), ready)
     some_step old ready calls.List = (listed old.pairs, old, (refl, refl), ready)
 

@@ -125,10 +125,14 @@ module _ {K V S H : Type 0} where
   -- some pairs can leave
   some_leave : (old : State K V S H) (c : Contents K V S) → IsReady old → length c.pairs ≤ length old.pairs → (new : State K V S H) × Leaves old c new × IsReady new
   some_leave old c ready fewer = elim (dec_lt (length c.pairs) (length old.pairs)) [
-    | no q ↦ let same : length c.pairs ≡ length old.pairs = omega (arith, fewer, q) in (record old { pairs = c.pairs; limiter = c.limiter }, record {
-      is = refl;
-      room = record { table = refl; keeps = omega arith; at_most = omega (arith, same); exact = λ _. omega (arith, same); untouched = λ _. refl };
-    }, record { count = ready.count; used_within = ready.used_within; enough = omega (arith, same, ready.enough); none_deleted = ready.none_deleted })
+    | no q ↦ let same : length c.pairs ≡ length old.pairs = omega (arith, fewer, q) in (
+      record old { pairs = c.pairs; limiter = c.limiter },
+      record {
+        is = refl;
+        room = record { table = refl; keeps = omega arith; at_most = omega (arith, same); exact = λ _. omega (arith, same); untouched = λ _. refl };
+      },
+      record { count = ready.count; used_within = ready.used_within; enough = omega (arith, same, ready.enough); none_deleted = ready.none_deleted },
+    )
     | yes q ↦
         let used = count_by is_used old.marks in
         let k = length old.pairs - length c.pairs in
@@ -136,26 +140,32 @@ module _ {K V S H : Type 0} where
         let new : State K V S H = record old { pairs = c.pairs; limiter = c.limiter; marks = filling (used - k) old } in
         let split = used_count-split old.marks in
         let left = filling-room old ready.count (used - k) within new refl in
-        let freed : room new ≡ room old + k = omega (arith, left, room_of_ready old, split, ready.enough, ready.used_within, q) in
-        (new, record {
-          is = refl;
-          room = record {
-            table = filling-length old ready.count (used - k) within;
-            keeps = omega (arith, freed);
-            at_most = omega (arith, freed, q);
-            exact = λ _. omega (arith, freed, q);
-            untouched = λ same. absurd (omega (arith, same, q));
-          };
-        }, filling-ready old ready.count (used - k) within new refl (omega (arith, split, ready.enough, q)))
+        let freed : room new ≡ room old + k = omega (arith, left, room_of_ready old, split, ready.enough, ready.used_within, q) in (
+          new,
+          record {
+            is = refl;
+            room = record {
+              table = filling-length old ready.count (used - k) within;
+              keeps = omega (arith, freed);
+              at_most = omega (arith, freed, q);
+              exact = λ _. omega (arith, freed, q);
+              untouched = λ same. absurd (omega (arith, same, q));
+            };
+          },
+          filling-ready old ready.count (used - k) within new refl (omega (arith, split, ready.enough, q)),
+        )
   ]
 
   -- the pair can take a bucket of a table of so many
   some_bucket : (pair : K × V) (old st : State K V S H) (n : ℕ) → IsBucketCount (buckets old) → n ≤ full_capacity (buckets old) → length st.pairs + 1 ≤ n →
       (new : State K V S H) × IsPlaced pair (buckets old) (full_capacity (buckets old) - n) 0 st new × (room new ≡ full_capacity (buckets old) - n) × IsReady new
   some_bucket pair old st n count within few =
-      let new : State K V S H = record st { pairs = pair ∷ st.pairs; marks = filling n old; moved = count_up st.moved 0; placed = count_up st.placed 1 } in
-      (new, record { table = filling-length old count n within; left = filling-room old count n within new refl; state = refl },
-      filling-room old count n within new refl, filling-ready old count n within new refl (omega (arith, few)))
+      let new : State K V S H = record st { pairs = pair ∷ st.pairs; marks = filling n old; moved = count_up st.moved 0; placed = count_up st.placed 1 } in (
+        new,
+        record { table = filling-length old count n within; left = filling-room old count n within new refl; state = refl },
+        filling-room old count n within new refl,
+        filling-ready old count n within new refl (omega (arith, few)),
+      )
 
   -- a table with pairs has buckets
   has_buckets : (st : State K V S H) → IsReady st → 0 < count_by is_used st.marks → IsPowerFromFour (buckets st)
@@ -231,9 +241,13 @@ module _ {K V S H : Type 0} (rules : Rules K V S) (hash_of : H → K → ℕ) (p
         let some = count_by-pos is_deleted old.marks free.0 within (ap is_deleted free.2) in
         let split = used_count-split old.marks in
         let large : 16 < buckets old = elim (dec_lt 16 (buckets old)) [ yes l ↦ l | no l ↦ absurd (omega (arith, some, ready.none_deleted (omega (arith, l)))) ] in
-        let (new, is, left, after) = some_bucket pair old old used ready.count ready.used_within (omega (arith, split, ready.enough, some)) in
-        (placed, new, deleted_bucket lacks free large (omega (arith, split, ready.enough, some, full_table)) refl
-        (record { table = is.table; left = omega (arith, left, full_table); state = is.state }), after)
+        let (new, is, left, after) = some_bucket pair old old used ready.count ready.used_within (omega (arith, split, ready.enough, some)) in (
+          placed,
+          new,
+          deleted_bucket lacks free large (omega (arith, split, ready.enough, some, full_table)) refl
+              (record { table = is.table; left = omega (arith, left, full_table); state = is.state }),
+          after,
+        )
 
     module _ (free : FirstFreeIs empty (hash_of old.hasher pair.0) old) where
       -- the oldest leaves, where the table cannot grow
@@ -244,9 +258,13 @@ module _ {K V S H : Type 0} (rules : Rules K V S) (hash_of : H → K → ℕ) (p
           let split = used_count-split old.marks in
           elim (dec_lt half (length old.pairs)) [
             | yes l ↦
-                let (new, is, left, after) = some_bucket pair old (without_oldest rules 1 mid) used ready.count ready.used_within (omega (arith, split, ready.enough, fewer, lacks.0)) in
-                (placed, new, evicted lacks free more mid cannot 1 (omega arith) (λ _. refl) (omega (arith, l)) refl
-                (record { table = is.table; left = refl; state = is.state }), after)
+                let (new, is, left, after) = some_bucket pair old (without_oldest rules 1 mid) used ready.count ready.used_within (omega (arith, split, ready.enough, fewer, lacks.0)) in (
+                  placed,
+                  new,
+                  evicted lacks free more mid cannot 1 (omega arith) (λ _. refl) (omega (arith, l)) refl
+                      (record { table = is.table; left = refl; state = is.state }),
+                  after,
+                )
             | no l ↦
                 let (left, leaves, after) = some_leave mid (pops rules 1 (contents mid)) (unmoved s) (omega (arith, fewer)) in
                 (no_memory, turned_away rules pair left, evicted_rehashed lacks free more mid cannot 1 (omega arith) (λ _. refl) (omega (arith, l, more)) left leaves refl, away left after)
@@ -308,7 +326,7 @@ module _ {K V : Type 0} (names : K → Bool) where
       go true h e = omega arith
       go false h e = omega (arith, h e)
 
-module _ {K V S H I : Type 0} (rules : Rules K V S) (offers : Offers K V S I) (names : I → K → Bool) (hash_of : H → K → ℕ) (i : I) (v : V) (old : State K V S H) (ready : IsReady old) 
+module _ {K V S H I : Type 0} (rules : Rules K V S) (offers : Offers K V S I) (names : I → K → Bool) (hash_of : H → K → ℕ) (i : I) (v : V) (old : State K V S H) (ready : IsReady old)
     (offered : (s : S) (n : ℕ) (key : I) (value : V) → (t : S) × (given : Option (K × V)) × offers.on_insert s n key value t given) where
   abbrev pub Inserts : Type 0
   Inserts = (result : Result Bool AllocError) × (new : State K V S H) × Insert rules offers names hash_of i v old result new × IsReady new

@@ -62,7 +62,11 @@ fn expect_newest(
     input.push_str("list\n")?;
     for i in 0..listed {
         let key = keys.end.saturating_sub(i).saturating_sub(1);
-        let end = if i.saturating_add(1) == listed { '\n' } else { ' ' };
+        let end = if i.saturating_add(1) == listed {
+            '\n'
+        } else {
+            ' '
+        };
         let pair = format!(in rt.alloc(); "{}:{}{}", key, key.saturating_mul(10), end)?;
         want.push_str(pair.as_str())?;
     }

@@ -49,8 +49,12 @@ fn capacity_growth(rt: HostRuntime) -> Result<(), Fail> {
 // are left.
 #[test]
 fn half_of_the_pairs_leave(rt: HostRuntime) -> Result<(), Fail> {
-    let mut map: LruMap<u64, u64, ByMemoryUsage, LastByte> =
-        LruMap::with_memory_budget_and_hasher(rt.alloc(), 560, LastByte(0), 16);
+    let mut map: LruMap<u64, u64, ByMemoryUsage, LastByte> = LruMap::with_memory_budget_and_hasher(
+        rt.alloc(),
+        560,
+        LastByte(0),
+        16,
+    );
     assert_eq!(rt; insert_all(&mut map, 1..=28)?, 28);
     assert_eq!(rt; figures(&map), (28, 28, 560));
     assert!(rt; insert(&mut map, OF_HASH_28)?);
@@ -62,8 +66,12 @@ fn half_of_the_pairs_leave(rt: HostRuntime) -> Result<(), Fail> {
 // Where all hashes are the same, the bucket of the oldest pair serves.
 #[test]
 fn the_oldest_pair_leaves(rt: HostRuntime) -> Result<(), Fail> {
-    let mut map: LruMap<u64, u64, ByMemoryUsage, LastByte> =
-        LruMap::with_memory_budget_and_hasher(rt.alloc(), 560, LastByte(0), 16);
+    let mut map: LruMap<u64, u64, ByMemoryUsage, LastByte> = LruMap::with_memory_budget_and_hasher(
+        rt.alloc(),
+        560,
+        LastByte(0),
+        16,
+    );
     assert_eq!(rt; insert_all(&mut map, 1..=29)?, 29);
     assert!(rt; counts_down(&map, 29, 2));
     assert_eq!(rt; map.len(), 28);

@@ -36,7 +36,12 @@ fn pairs_leave_until_the_cost_is_met(rt: HostRuntime) -> Result<(), Fail> {
     assert_eq!(rt; wrong_pair(&mut map, &inserts)?, None);
     assert_eq!(rt; pairs(alloc, &map)?.as_slice(), [(3, 3)].as_slice());
     let mut map = map_of(alloc, ByCost::new(3));
-    let inserts = [(1, 1, true, 1), (2, 1, true, 2), (3, 1, true, 3), (4, 2, true, 3)];
+    let inserts = [
+        (1, 1, true, 1),
+        (2, 1, true, 2),
+        (3, 1, true, 3),
+        (4, 2, true, 3),
+    ];
     assert_eq!(rt; wrong_pair(&mut map, &inserts)?, None);
     assert_eq!(rt; pairs(alloc, &map)?.as_slice(), [(4, 2), (3, 1)].as_slice());
     Ok(())
@@ -46,7 +51,10 @@ fn pairs_leave_until_the_cost_is_met(rt: HostRuntime) -> Result<(), Fail> {
 #[test]
 fn a_refused_replacement(rt: HostRuntime) -> Result<(), Fail> {
     let mut map = map_of(rt.alloc(), ByCost::new(1));
-    assert_eq!(rt; wrong_pair(&mut map, &[(1, 1, true, 1), (1, 2, false, 0)])?, None);
+    assert_eq!(rt;
+        wrong_pair(&mut map, &[(1, 1, true, 1), (1, 2, false, 0)])?,
+        None
+    );
     assert!(rt; map.is_empty());
     assert_eq!(rt; wrong_pair(&mut map, &[(2, 2, false, 0)])?, None);
     assert!(rt; map.is_empty());
@@ -65,8 +73,12 @@ fn insert_fails_when_first_element_is_too_costly(rt: HostRuntime) -> Result<(), 
 fn replacing_existing_value_with_another_with_the_same_cost_always_works(
     rt: HostRuntime,
 ) -> Result<(), Fail> {
-    let mut map: LruMap<u64, Weighed, ByCost> =
-        LruMap::new(rt.alloc(), ByCost::new(1), [1, 2, 3, 4], 16);
+    let mut map: LruMap<u64, Weighed, ByCost> = LruMap::new(
+        rt.alloc(),
+        ByCost::new(1),
+        [1, 2, 3, 4],
+        16,
+    );
     assert!(rt; map.insert(1, Weighed(1, 100))?);
     assert!(rt; map.insert(1, Weighed(1, 200))?);
     assert_eq!(rt; map.peek(&1).copied(), Some(Weighed(1, 200)));

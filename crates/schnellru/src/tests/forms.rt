@@ -9,7 +9,12 @@ fn takes_a_pair<L: Insertion<u64, u64, u64> + Drop>(
     bytes: usize,
 ) -> Result<bool, AllocError> {
     let is_new = map.is_empty() && map.memory_usage() == 0;
-    Ok(is_new && insert(&mut map, 1)? && get(&mut map, 1) == Some(10) && map.memory_usage() == bytes)
+    Ok(
+        is_new
+            && insert(&mut map, 1)?
+            && get(&mut map, 1) == Some(10)
+            && map.memory_usage() == bytes,
+    )
 }
 
 #[test]
@@ -42,7 +47,10 @@ fn constructors(rt: HostRuntime) -> Result<(), Fail> {
 fn debug(rt: HostRuntime) -> Result<(), Fail> {
     let mut map = map_of(rt.alloc(), UnlimitedCompact);
     assert_eq!(rt; insert_all(&mut map, 1..=3)?, 3);
-    assert_eq!(rt; format!(in rt.alloc(); "{map:?}")?.as_str(), "LruMap { len: 3, .. }");
+    assert_eq!(rt;
+        format!(in rt.alloc(); "{map:?}")?.as_str(),
+        "LruMap { len: 3, .. }"
+    );
     Ok(())
 }
 

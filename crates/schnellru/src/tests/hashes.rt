@@ -13,8 +13,12 @@ fn hashers_are_made_for_what_moves(rt: HostRuntime) -> Result<(), Fail> {
         state: RandomState::default(),
         builds: &builds,
     };
-    let mut map: LruMap<u64, u64, UnlimitedCompact, Counted> =
-        LruMap::with_hasher(rt.alloc(), UnlimitedCompact, hasher, 16);
+    let mut map: LruMap<u64, u64, UnlimitedCompact, Counted> = LruMap::with_hasher(
+        rt.alloc(),
+        UnlimitedCompact,
+        hasher,
+        16,
+    );
     for n in 1..=60u64 {
         let before = builds.get();
         assert!(rt; insert(&mut map, n)?);
@@ -22,7 +26,11 @@ fn hashers_are_made_for_what_moves(rt: HostRuntime) -> Result<(), Fail> {
             4 | 8 | 15 | 29 | 57 => n.saturating_sub(1),
             _ => 0,
         };
-        assert_eq!(rt; builds.get().saturating_sub(before), moved.saturating_add(1), "{n}");
+        assert_eq!(rt;
+            builds.get().saturating_sub(before),
+            moved.saturating_add(1),
+            "{n}"
+        );
     }
     let before = builds.get();
     assert!(rt; insert(&mut map, 7)?);
@@ -34,8 +42,12 @@ fn hashers_are_made_for_what_moves(rt: HostRuntime) -> Result<(), Fail> {
 
 #[test]
 fn a_thousand_keys_of_one_hash(rt: HostRuntime) -> Result<(), Fail> {
-    let mut map: LruMap<u64, u64, UnlimitedCompact, LastByte> =
-        LruMap::with_hasher(rt.alloc(), UnlimitedCompact, LastByte(0), 16);
+    let mut map: LruMap<u64, u64, UnlimitedCompact, LastByte> = LruMap::with_hasher(
+        rt.alloc(),
+        UnlimitedCompact,
+        LastByte(0),
+        16,
+    );
     assert_eq!(rt; insert_all(&mut map, 1..=1000)?, 1000);
     assert!(rt; counts_down(&map, 1000, 1));
     for n in 1..=1000u64 {

@@ -9,13 +9,19 @@ fn by_length(rt: HostRuntime) -> Result<(), Fail> {
     for (most, capacity, oldest) in [(7u32, 7, 25), (8, 14, 24)] {
         let mut map = map_of(rt.alloc(), ByLength::new(most));
         assert_eq!(rt; insert_all(&mut map, 9..=31)?, 23);
-        assert_eq!(rt; (map.len(), map.guaranteed_capacity()), (most as usize, capacity));
+        assert_eq!(rt;
+            (map.len(), map.guaranteed_capacity()),
+            (most as usize, capacity)
+        );
         assert_eq!(rt; ends(&map), (Some(31), Some(oldest)), "at most {most}");
     }
     let mut map = map_of(rt.alloc(), ByLength::new(0));
     assert!(rt; !insert(&mut map, 1)?);
     assert!(rt; map.is_empty());
-    assert_eq!(rt; (pairs(rt.alloc(), &map)?.len(), map.memory_usage()), (0, 0));
+    assert_eq!(rt;
+        (pairs(rt.alloc(), &map)?.len(), map.memory_usage()),
+        (0, 0)
+    );
     Ok(())
 }
 
@@ -81,7 +87,11 @@ fn growth_is_refused(rt: HostRuntime) -> Result<(), Fail> {
     ] {
         assert_eq!(rt; insert(&mut map, n)?, done, "{n}");
         let limiter = *map.limiter();
-        assert_eq!(rt; (limiter.asked, limiter.told, limiter.last), (asked, told, last), "{n}");
+        assert_eq!(rt;
+            (limiter.asked, limiter.told, limiter.last),
+            (asked, told, last),
+            "{n}"
+        );
     }
     assert_eq!(rt; map.limiter().askings, 4);
     assert!(rt; counts_down(&map, 5, 2));
@@ -108,8 +118,12 @@ fn links_of_eight_bits(rt: HostRuntime) -> Result<(), Fail> {
 // A table whose bytes `usize` does not reach is not made.
 #[test]
 fn entries_that_are_too_large(rt: HostRuntime) -> Result<(), Fail> {
-    let mut map: LruMap<u64, u64, Unlimited> =
-        LruMap::new(rt.alloc(), Unlimited, [1, 2, 3, 4], usize::MAX);
+    let mut map: LruMap<u64, u64, Unlimited> = LruMap::new(
+        rt.alloc(),
+        Unlimited,
+        [1, 2, 3, 4],
+        usize::MAX,
+    );
     assert!(rt; !insert(&mut map, 1)?);
     assert_eq!(rt; figures(&map), (0, 0, 0));
     Ok(())

@@ -11,12 +11,21 @@ fn a_look_up_keeps_a_pair(rt: HostRuntime) -> Result<(), Fail> {
     for n in 1..=3 {
         assert!(rt; insert(&mut map, n)?);
     }
-    assert_eq!(rt; pairs(alloc, &map)?.as_slice(), [(3, 30), (2, 20), (1, 10)].as_slice());
+    assert_eq!(rt;
+        pairs(alloc, &map)?.as_slice(),
+        [(3, 30), (2, 20), (1, 10)].as_slice()
+    );
     assert_eq!(rt; get(&mut map, 1), Some(10));
-    assert_eq!(rt; pairs(alloc, &map)?.as_slice(), [(1, 10), (3, 30), (2, 20)].as_slice());
+    assert_eq!(rt;
+        pairs(alloc, &map)?.as_slice(),
+        [(1, 10), (3, 30), (2, 20)].as_slice()
+    );
     assert!(rt; insert(&mut map, 4)?);
     assert_eq!(rt; map.peek(&2), None);
-    assert_eq!(rt; pairs(alloc, &map)?.as_slice(), [(4, 40), (1, 10), (3, 30)].as_slice());
+    assert_eq!(rt;
+        pairs(alloc, &map)?.as_slice(),
+        [(4, 40), (1, 10), (3, 30)].as_slice()
+    );
     Ok(())
 }
 
@@ -27,7 +36,10 @@ fn a_replacement_is_the_newest(rt: HostRuntime) -> Result<(), Fail> {
     assert_eq!(rt; insert_all(&mut map, 1..=6)?, 6);
     assert!(rt; map.insert(5, 500)?);
     assert!(rt; map.insert(4, 400)?);
-    assert_eq!(rt; pairs(alloc, &map)?.as_slice(), [(4, 400), (5, 500), (6, 60)].as_slice());
+    assert_eq!(rt;
+        pairs(alloc, &map)?.as_slice(),
+        [(4, 400), (5, 500), (6, 60)].as_slice()
+    );
     Ok(())
 }
 
@@ -61,9 +73,15 @@ fn get_works_and_promotes_item_two_items(rt: HostRuntime) -> Result<(), Fail> {
     let alloc = rt.alloc();
     let mut map = from_one_up(alloc, 2)?;
     assert_eq!(rt; get(&mut map, 1000), None);
-    assert_eq!(rt; pairs(alloc, &map)?.as_slice(), [(1, 10), (2, 20)].as_slice());
+    assert_eq!(rt;
+        pairs(alloc, &map)?.as_slice(),
+        [(1, 10), (2, 20)].as_slice()
+    );
     assert_eq!(rt; (get(&mut map, 1), get(&mut map, 2)), (Some(10), Some(20)));
-    assert_eq!(rt; pairs(alloc, &map)?.as_slice(), [(2, 20), (1, 10)].as_slice());
+    assert_eq!(rt;
+        pairs(alloc, &map)?.as_slice(),
+        [(2, 20), (1, 10)].as_slice()
+    );
     Ok(())
 }
 
@@ -72,7 +90,10 @@ fn get_works_and_promotes_item_three_items(rt: HostRuntime) -> Result<(), Fail> 
     let alloc = rt.alloc();
     let mut map = from_one_up(alloc, 3)?;
     assert_eq!(rt; (get(&mut map, 3), get(&mut map, 1)), (Some(30), Some(10)));
-    assert_eq!(rt; pairs(alloc, &map)?.as_slice(), [(1, 10), (3, 30), (2, 20)].as_slice());
+    assert_eq!(rt;
+        pairs(alloc, &map)?.as_slice(),
+        [(1, 10), (3, 30), (2, 20)].as_slice()
+    );
     Ok(())
 }
 
@@ -81,7 +102,10 @@ fn insert_existing_key(rt: HostRuntime) -> Result<(), Fail> {
     let alloc = rt.alloc();
     let mut map = from_one_up(alloc, 3)?;
     assert!(rt; map.insert(2, 200)?);
-    assert_eq!(rt; pairs(alloc, &map)?.as_slice(), [(2, 200), (1, 10), (3, 30)].as_slice());
+    assert_eq!(rt;
+        pairs(alloc, &map)?.as_slice(),
+        [(2, 200), (1, 10), (3, 30)].as_slice()
+    );
     Ok(())
 }
 
@@ -94,6 +118,9 @@ fn a_look_up_lends_the_value(rt: HostRuntime) -> Result<(), Fail> {
         *value = 200;
     }
     assert_eq!(rt; map.peek(&3), Some(&30));
-    assert_eq!(rt; pairs(alloc, &map)?.as_slice(), [(2, 200), (1, 10), (3, 30)].as_slice());
+    assert_eq!(rt;
+        pairs(alloc, &map)?.as_slice(),
+        [(2, 200), (1, 10), (3, 30)].as_slice()
+    );
     Ok(())
 }

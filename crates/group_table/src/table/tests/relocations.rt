@@ -11,7 +11,11 @@ const ALL: [Hashes; 3] = [Hashes::Constant, Hashes::Sequential, Hashes::Scattere
 fn contents(alloc: Global, table: &Table<u64>) -> Result<Vec<Option<u64>>, AllocError> {
     let mut keys = Vec::new(alloc);
     for b in 0..table.buckets() {
-        keys.push(if table.is_full(b) { Some(*table.get(b)) } else { None })?;
+        keys.push(if table.is_full(b) {
+            Some(*table.get(b))
+        } else {
+            None
+        })?;
     }
     Ok(keys)
 }
@@ -50,7 +54,13 @@ fn put_anew(
 }
 
 // Each link names the bucket of its key, in which a search finds it, or none where no key was.
-fn follows(rt: &impl Abort, table: &Table<u64>, old: &[Option<u64>], links: &[u32], hashes: Hashes) {
+fn follows(
+    rt: &impl Abort,
+    table: &Table<u64>,
+    old: &[Option<u64>],
+    links: &[u32],
+    hashes: Hashes,
+) {
     assert_eq!(rt; links.len(), old.len());
     for b in 0..old.len() {
         let now = links[b] as usize;
@@ -107,14 +117,8 @@ fn relocate_to(
         put_anew(alloc, old.as_slice(), buckets, hashes)?
     );
     assert_eq!(rt; (table.buckets(), table.len()), (buckets, entries));
-    assert_eq!(rt;
-        table.room(),
-        full_capacity(buckets).wrapping_sub(entries)
-    );
-    assert_eq!(rt;
-        table.placings(),
-        placings.wrapping_add(entries as u64)
-    );
+    assert_eq!(rt; table.room(), full_capacity(buckets).wrapping_sub(entries));
+    assert_eq!(rt; table.placings(), placings.wrapping_add(entries as u64));
     Ok(())
 }
 
@@ -197,10 +201,16 @@ fn without_entries(rt: HostRuntime) -> Result<(), Fail> {
     let links: Result<Vec<u32>, AllocError> = moved(&mut table, 32, |_| 0);
     drop(hog);
     assert_eq!(rt; links?.len(), 0);
-    assert_eq!(rt; (table.buckets(), table.room(), table.placings()), (32, 28, 28));
+    assert_eq!(rt;
+        (table.buckets(), table.room(), table.placings()),
+        (32, 28, 28)
+    );
     let links: Vec<u32> = moved(&mut table, 16, |_| 0)?;
     assert_eq!(rt; links.len(), 0);
-    assert_eq!(rt; (table.buckets(), table.room(), table.placings()), (16, 14, 28));
+    assert_eq!(rt;
+        (table.buckets(), table.room(), table.placings()),
+        (16, 14, 28)
+    );
     Ok(())
 }
 
@@ -216,8 +226,11 @@ fn each_request_is_refused(rt: HostRuntime) -> Result<(), Fail> {
         let mut stayed = [false; 4];
         let mut hog = Hog::new(rt.alloc(), requests.as_slice())?;
         for run in 0..4usize {
-            let links: Result<Vec<u32>, AllocError> =
-                moved(&mut table, buckets, |key| hash_of(Hashes::Scattered, *key));
+            let links: Result<Vec<u32>, AllocError> = moved(
+                &mut table,
+                buckets,
+                |key| hash_of(Hashes::Scattered, *key),
+            );
             met[run] = links.is_ok();
             stayed[run] = table.buckets() == 8 && table.placings() == 7;
             hog.release();
@@ -250,12 +263,24 @@ fn copies(rt: HostRuntime) -> Result<(), Fail> {
         assert_eq!(rt; (copy.len(), copy.room(), copy.placings()), figures);
         assert_eq!(rt; copy.control, table.control);
         for b in 0..table.buckets() {
-            let key = if table.is_full(b) { Some(table.get(b).wrapping_add(1000)) } else { None };
-            let copied = if copy.is_full(b) { Some(*copy.get(b)) } else { None };
+            let key = if table.is_full(b) {
+                Some(table.get(b).wrapping_add(1000))
+            } else {
+                None
+            };
+            let copied = if copy.is_full(b) {
+                Some(*copy.get(b))
+            } else {
+                None
+            };
             assert_eq!(rt; copied, key, "at {b}");
         }
         assert_eq!(rt; copy.try_place(0, 9), table.try_place(0, 9));
-        let refused = table.clone_with(|key| if *key % 2 == 1 { Err(AllocError) } else { Ok(*key) });
+        let refused = table.clone_with(|key| if *key % 2 == 1 {
+            Err(AllocError)
+        } else {
+            Ok(*key)
+        });
         assert!(rt; refused.is_err());
     }
     Ok(())
