@@ -1,5 +1,5 @@
 #!/usr/bin/env bash
-# Times the program on a million lines, on maps of 3 and of 100 pairs, and on one line of 100 MB.
+# Times the program on a million lines, on maps of 3, 100 and 100,000 pairs, and on one line of 100 MB.
 # It builds the program first, which proves it.
 set -euo pipefail
 cd "$(dirname "$0")/../crates/lru_replay"
@@ -33,4 +33,5 @@ input=$(mktemp)
 trap 'rm -f "$input"' EXIT
 lines 3 6 >"$input" && measure "a million lines, 3 pairs" "$input"
 lines 100 150 >"$input" && measure "a million lines, 100 pairs" "$input"
+lines 100000 150000 >"$input" && measure "a million lines, 100,000 pairs" "$input"
 long_line >"$input" && measure "a line of 100 MB" "$input"
