@@ -239,7 +239,7 @@ impl<K: Eq + Hash + Drop, V: Drop, L: Limiter<K, V>, S: BuildHasher> LruMap<K, V
         self.limiter.on_removed(&mut key, &mut value);
     }
 
-    // Takes the oldest pair out, and gives what the limiter left of it.
+    // Takes the oldest pair out, of which the limiter is told. No caller reads what is given.
     pub(crate) fn take_oldest(&mut self) -> (K, V)
         requires { 0 < length self.old.pairs }
         ensures { Leaves self.old (pop L.rules (contents self.old)) self.new }
