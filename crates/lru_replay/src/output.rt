@@ -3,7 +3,7 @@ ghost use Rattle.std.specs.Prelude.{◌≡◌, ℕ, Bool, Option, [], ◌∷◌,
 ghost use Rattle.lru_replay.specs.Output.{Writes, flag_text, value_text, pair_text, rest_text, pairs_text};
 
 use crate::outcome::ReplayError;
-use schnellru::{Iter, Limiter};
+use schnellru::{LinkType, Walk};
 use std::io::{ErrorKind, Write};
 
 /// Writes all the bytes. A write that was interrupted is tried again.
@@ -50,9 +50,9 @@ pub fn write_value<W: Write>(writer: &mut W, value: Option<u64>) -> Result<(), R
 }
 
 /// Writes the pairs with one space between them, or `-` for none.
-pub fn write_pairs<L: Limiter<u64, u64>, W: Write>(
+pub fn write_pairs<N: LinkType, W: Write>(
     writer: &mut W,
-    pairs: Iter<'_, u64, u64, L>,
+    pairs: Walk<'_, u64, u64, N>,
 ) -> Result<(), ReplayError>
     ensures { Writes (W.contents writer.old) (W.contents writer.new) result (pairs_text pairs.entry) }
 {
@@ -64,14 +64,13 @@ pub fn write_pairs<L: Limiter<u64, u64>, W: Write>(
     write_rest(writer, pairs)
 }
 
-fn write_rest<L: Limiter<u64, u64>, W: Write>(
+fn write_rest<N: LinkType, W: Write>(
     writer: &mut W,
-    pairs: Iter<'_, u64, u64, L>,
+    pairs: Walk<'_, u64, u64, N>,
 ) -> Result<(), ReplayError>
     ensures { Writes (W.contents writer.old) (W.contents writer.new) result (rest_text pairs.entry) }
 {
-    let mut pairs = pairs;
-    while let Some((key, value)) = pairs.next() {
+    for (key, value) in pairs {
         write_bytes(writer, b" ")?;
         write_pair(writer, *key, *value)?;
     }

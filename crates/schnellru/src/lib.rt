@@ -12,7 +12,7 @@ pub use lru_limits::{
     LookupKey, RandomState, Summing, Unlimited, UnlimitedCompact,
 };
 pub use map::{DEFAULT_ENTRY_BYTES, LruMap};
-pub use walk::Iter;
+pub use walk::{Iter, Walk};
 
 #[cfg(test)]
 mod tests;

@@ -58,8 +58,7 @@ fn pairs<L: Limiter<u64, u64>, S: BuildHasher>(
     map: &LruMap<u64, u64, L, S>,
 ) -> Result<Vec<(u64, u64)>, AllocError> {
     let mut pairs = Vec::new(alloc);
-    let mut rest = map.iter();
-    while let Some((key, value)) = rest.next() {
+    for (key, value) in map.iter() {
         pairs.push((*key, *value))?;
     }
     Ok(pairs)
@@ -71,8 +70,7 @@ fn ends<L: Limiter<u64, u64>, S: BuildHasher>(
 ) -> (Option<u64>, Option<u64>) {
     let mut newest = None;
     let mut oldest = None;
-    let mut rest = map.iter();
-    while let Some((key, _)) = rest.next() {
+    for (key, _) in map.iter() {
         if newest.is_none() {
             newest = Some(*key);
         }
@@ -88,8 +86,7 @@ fn counts_down<L: Limiter<u64, u64>, S: BuildHasher>(
     oldest: u64,
 ) -> bool {
     let mut next = newest;
-    let mut rest = map.iter();
-    while let Some((key, value)) = rest.next() {
+    for (key, value) in map.iter() {
         if *key != next || *value != next.wrapping_mul(10) {
             return false;
         }

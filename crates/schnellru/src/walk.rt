@@ -5,20 +5,26 @@ ghost use Rattle.std.specs.Map.Iter.{ShowsInOrder, TakesFirst, deref_pair};
 
 use crate::link::Linked;
 use crate::map::LruMap;
+use group_table::LinkType;
 use lru_limits::Limiter;
 use std::hash::{BuildHasher, Hash};
 use std::iter::FusedIterator;
 use std::marker::Model;
 
-/// The pairs of a map that a walk has not given yet, newest first.
+/// The walk of a map under this limiter. A function over the walks of all limiters takes a `Walk`.
+///
+/// After schnellru's `Iter`.
+pub type Iter<'a, K, V, L> = Walk<'a, K, V, <L as Limiter<K, V>>::LinkType>;
+
+/// The pairs of a map that a walk has not given yet, newest first. Of the map's limiter it knows the type of the links.
 #[derive(Drop)]
-pub struct Iter<'a, K, V, L: Limiter<K, V>> {
-    entries: &'a Linked<K, V, L::LinkType>,
+pub struct Walk<'a, K, V, N: LinkType> {
+    entries: &'a Linked<K, V, N>,
     at: Option<usize>,
     left: usize,
 }
 
-impl<'a, K, V, L: Limiter<K, V>> Model for Iter<'a, K, V, L> {
+impl<'a, K, V, N: LinkType> Model for Walk<'a, K, V, N> {
     ghost use Rattle.std.specs.Prelude.{List};
     ghost use Rattle.schnellru.specs.Rest.{rest_of, IsRest};
 
@@ -29,7 +35,7 @@ impl<'a, K, V, L: Limiter<K, V>> Model for Iter<'a, K, V, L> {
     ghost invariant = { λ a. IsRest a.entries.now a.at a.left };
 }
 
-impl<'a, K, V, L: Limiter<K, V>> Iterator for Iter<'a, K, V, L> {
+impl<'a, K, V, N: LinkType> Iterator for Walk<'a, K, V, N> {
     type Item = (&'a K, &'a V);
 
     ghost next_gives = { TakesFirst deref_pair };
@@ -49,21 +55,29 @@ impl<'a, K, V, L: Limiter<K, V>> Iterator for Iter<'a, K, V, L> {
     }
 }
 
-impl<'a, K, V, L: Limiter<K, V>> ExactSizeIterator for Iter<'a, K, V, L> {
+impl<'a, K, V, N: LinkType> ExactSizeIterator for Walk<'a, K, V, N> {
     fn len(&self) -> usize {
         self.left
     }
 }
 
-impl<'a, K, V, L: Limiter<K, V>> FusedIterator for Iter<'a, K, V, L> {}
+impl<'a, K, V, N: LinkType> FusedIterator for Walk<'a, K, V, N> {}
 
 impl<K: Eq + Hash, V, L: Limiter<K, V>, S: BuildHasher> LruMap<K, V, L, S> {
     /// The pairs, newest first. The order stays.
+    ///
+    /// ```
+    /// for (key, value) in map.iter() {
+    ///     total += *key * *value;
+    /// }
+    /// ```
+    ///
+    /// After schnellru's `LruMap::iter`.
     pub fn iter(&self) -> Iter<'_, K, V, L>
         ensures rest { result ≡ self.now.pairs }
         ensures runs { ShowsInOrder (deref_pair {K = K} {X = V}) }
     {
-        Iter {
+        Walk {
             entries: &self.entries,
             at: self.entries.newest(),
             left: self.entries.len(),

@@ -1,7 +1,7 @@
 use Rattle.std.proofs.Common.{◌≡◌, ap, sym, ◌∙◌, subst, length, arith, ◌-◌}
 use Rattle.schnellru.specs.Rest.{IsRest}
 use Rattle.schnellru.proofs.RestLemmas.{rest-full, rest-next, rest-cut, rest-length}
-use Rattle.schnellru.proofs.walk.IterIterator.next.Goals as goal
+use Rattle.schnellru.proofs.walk.WalkIterator.next.Goals as goal
 
 pub pair-pair-requires : goal.pair-pair-requires
 pair-pair-requires g c = rest-full c.self.inside.entries.now c.self.inside.at c.self.inside.left c.self.invariant c.in_ok-b.b c.in_ok-b.was

@@ -1,6 +1,6 @@
 use Rattle.std.proofs.Common.{arith}
 use Rattle.schnellru.proofs.RestLemmas.{rest-length}
-use Rattle.schnellru.proofs.walk.IterIterator.size_hint.Goals as goal
+use Rattle.schnellru.proofs.walk.WalkIterator.size_hint.Goals as goal
 
 pub returns-clause-lower : goal.returns-clause-lower
 returns-clause-lower g c =
