@@ -1,8 +1,9 @@
-//! Loops over the layers below the map that a Rust program times, each inside one call.
+//! Loops over the hasher, the table and the map that a Rust program times, each inside one call.
 #![tactic(auto)]
 
 use group_table::{Table, buckets_for_capacity};
-use lru_limits::RandomState;
+use lru_limits::{ByLength, RandomState, UnlimitedCompact};
+use schnellru::LruMap;
 use std::alloc::{AllocError, Global};
 use std::hash::{BuildHasher, Hasher};
 
@@ -77,4 +78,62 @@ fn run_on(alloc: Global, capacity: usize, operations: &[u64]) -> Result<u64, All
 #[unsafe(no_mangle)]
 pub extern "C" fn rattle_table(alloc: Global, capacity: usize, operations: &[u64]) -> u64 {
     run_on(alloc, capacity, operations).unwrap_or(0)
+}
+
+/// Carries out an operation, which its two lowest bits name, on the key that the others are.
+#[inline]
+fn carry_out_on_map(
+    map: &mut LruMap<u64, u64>,
+    operation: u64,
+    sum: u64,
+) -> Result<u64, AllocError> {
+    let key = operation >> 2;
+    match operation & 3 {
+        0 | 1 => {
+            map.insert(key, operation)?;
+            Ok(sum)
+        }
+        2 => match map.get(&key) {
+            Some(value) => Ok(sum.wrapping_mul(31).wrapping_add(*value)),
+            None => Ok(sum),
+        },
+        _ => match map.peek(&key) {
+            Some(value) => Ok(sum ^ *value),
+            None => Ok(sum),
+        },
+    }
+}
+
+/// Carries out the operations on a map of at most so many pairs.
+fn run_on_map(alloc: Global, length: u32, operations: &[u64]) -> Result<u64, AllocError> {
+    let mut map = LruMap::new(alloc, ByLength::new(length), [1, 2, 3, 4], 16);
+    let mut sum = 0;
+    for operation in operations {
+        sum = carry_out_on_map(&mut map, *operation, sum)?;
+    }
+    Ok(sum)
+}
+
+#[unsafe(no_mangle)]
+pub extern "C" fn rattle_map(alloc: Global, length: u32, operations: &[u64]) -> u64 {
+    run_on_map(alloc, length, operations).unwrap_or(0)
+}
+
+/// Inserts the keys below a count into a map without a limit.
+fn grow(alloc: Global, count: u64) -> Result<u64, AllocError> {
+    let mut map: LruMap<u64, u64, UnlimitedCompact> = LruMap::new(
+        alloc,
+        UnlimitedCompact,
+        [1, 2, 3, 4],
+        16,
+    );
+    for key in 0..count {
+        map.insert(key, key)?;
+    }
+    Ok(map.len() as u64)
+}
+
+#[unsafe(no_mangle)]
+pub extern "C" fn rattle_map_growth(alloc: Global, count: u64) -> u64 {
+    grow(alloc, count).unwrap_or(0)
 }

@@ -38,6 +38,7 @@ impl<K: Eq + Hash + Drop, V: Drop, L: Limiter<K, V>, S: BuildHasher> LruMap<K, V
     {
         let hash = self.hasher.hash_one(&key);
         let answer = self.insert_hashed(hash, key, value);
+        // Nothing at run time: it opens the map, whose invariant is the clause `map`.
         let _ = &self.entries;
         answer
     }

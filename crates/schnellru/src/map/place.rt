@@ -239,14 +239,13 @@ impl<K: Eq + Hash + Drop, V: Drop, L: Limiter<K, V>, S: BuildHasher> LruMap<K, V
         self.limiter.on_removed(&mut key, &mut value);
     }
 
-    // Takes the oldest pair out, of which the limiter is told. No caller reads what is given.
-    pub(crate) fn take_oldest(&mut self) -> (K, V)
+    // Takes the oldest pair out, of which the limiter is told.
+    pub(crate) fn take_oldest(&mut self)
         requires { 0 < length self.old.pairs }
         ensures { Leaves self.old (pop L.rules (contents self.old)) self.new }
     {
         let b = self.entries.oldest();
         let (mut key, mut value) = self.entries.take(b);
         self.limiter.on_removed(&mut key, &mut value);
-        (key, value)
     }
 }

@@ -1,38 +1,15 @@
-//! Times the hasher and the bucket table beside what a Rust program would take, on the same inputs.
+//! The hasher and the bucket table beside Rust's own.
+use crate::timing::{Folded, operations, timed};
 use std::collections::HashMap;
 use std::collections::hash_map::RandomState;
 use std::hash::{BuildHasher, BuildHasherDefault, Hasher};
 use std::hint::black_box;
-use std::time::Instant;
 
 unsafe extern "C" {
     // An allocator passes nothing; a slice is a pointer and a length.
     fn rattle_hash_numbers(count: u64) -> u64;
     fn rattle_hash_texts(text: *const u8, len: usize, rounds: u64) -> u64;
     fn rattle_table(capacity: usize, operations: *const u64, count: usize) -> u64;
-}
-
-/// A hasher of one folded multiplication a word, as fast as one can be.
-#[derive(Default)]
-struct Folded(u64);
-
-impl Hasher for Folded {
-    fn write(&mut self, bytes: &[u8]) {
-        let mut chunks = bytes.chunks_exact(8);
-        for chunk in &mut chunks {
-            self.write_u64(u64::from_le_bytes(chunk.try_into().unwrap()));
-        }
-        let mut rest = [0; 8];
-        rest[..chunks.remainder().len()].copy_from_slice(chunks.remainder());
-        self.write_u64(u64::from_le_bytes(rest));
-    }
-    fn write_u64(&mut self, word: u64) {
-        let wide = u128::from(self.0 ^ word ^ 0x243f_6a88_85a3_08d3) * 0x1319_8a2e_0370_7345;
-        self.0 = wide as u64 ^ (wide >> 64) as u64;
-    }
-    fn finish(&self) -> u64 {
-        self.0
-    }
 }
 
 fn hash_numbers<S: BuildHasher>(state: &S, count: u64) -> u64 {
@@ -80,35 +57,11 @@ fn table<S: BuildHasher + Default>(capacity: usize, operations: &[u64]) -> u64 {
     sum
 }
 
-/// The least time of seven runs, in nanoseconds a step, and the answer.
-fn timed(steps: u64, run: impl Fn() -> u64) -> (f64, u64) {
-    let mut best = f64::INFINITY;
-    let mut answer = 0;
-    for _ in 0..7 {
-        let start = Instant::now();
-        answer = black_box(run());
-        best = best.min(start.elapsed().as_secs_f64());
-    }
-    (best * 1e9 / steps as f64, answer)
+fn row(name: &str, here: f64, sip: f64, folded: f64) {
+    println!("{name:<44} {here:>8.2} {sip:>8.2} {folded:>8.2}");
 }
 
-fn row(name: &str, rattle: f64, sip: f64, folded: f64) {
-    println!("{name:<44} {rattle:>8.2} {sip:>8.2} {folded:>8.2}");
-}
-
-fn operations(count: usize, keys: u64) -> Vec<u64> {
-    let mut state = 88172645463325252u64;
-    (0..count)
-        .map(|_| {
-            state ^= state << 13;
-            state ^= state >> 7;
-            state ^= state << 17;
-            ((state >> 8) % keys) << 2 | (state >> 60 & 3)
-        })
-        .collect()
-}
-
-fn main() {
+pub fn measure() {
     println!("{:<44} {:>8} {:>8} {:>8}", "nanoseconds a step", "here", "SipHash", "folded");
     let sip = RandomState::new();
     let folded = BuildHasherDefault::<Folded>::default();
