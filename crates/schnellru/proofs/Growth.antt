@@ -215,3 +215,25 @@ target_reached max e b c n bytes power h = (size (buckets_shape max need.0 n nee
         go : Dec (j < 2) → IsPowerFromFour n
         go (yes small) = absurd (let z : 2 ^ j ≤ 2 ^ 1 = pow_mono {i = j} {j = 1} (omega arith) in omega (arith, z, e, doubles, least))
         go (no large) = let f : j ≡ 2 + (j - 2) = omega arith in (j - 2, e ∙ ap (λ k. 2 ^ k) f ∙ pow-add 2 2 (j - 2))
+
+-- a table of the same size is kept where at most half of it is needed
+pub target-same : (max e b c : ℕ) → target max e b c ≡ same_table → c ≤ full_capacity b / 2
+unfolding target
+target-same max e b c = from (buckets_for max c)
+  where
+    no_same : (m : ℕ) (u : Option ℕ) → table_of m u ≡ same_table → ⊥
+    no_same m None h = grind arith
+    no_same m (Some x) h = grind arith
+
+    none_same : (m : Option ℕ) → table_with e m ≡ same_table → ⊥
+    none_same None h = grind arith
+    none_same (Some m) h = no_same m (usage e m) h
+
+    from : (need : Option ℕ) → target_from max e b c need ≡ same_table → c ≤ full_capacity b / 2
+    from None h = absurd (grind arith)
+    from (Some need) h = split (nat_lt b need) (nat_le c (full_capacity b / 2)) (λ q. grind (arith, nat_tests)) h
+      where
+        split : (t u : Bool) → (u ≡ true → c ≤ full_capacity b / 2) → cond t (table_with e (Some need)) (cond u same_table (table_with e (buckets_for max (full_capacity (2 * b))))) ≡ same_table → c ≤ full_capacity b / 2
+        split true u l h = absurd (none_same (Some need) h)
+        split false true l h = l refl
+        split false false l h = absurd (none_same (buckets_for max (full_capacity (2 * b))) h)

@@ -13,6 +13,7 @@ pub mod Distinct
 pub mod Within
 pub mod Short
 pub mod Exact
+pub mod Granted
 pub mod Sums
 pub mod Cuts
 pub mod Named

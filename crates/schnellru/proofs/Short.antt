@@ -6,7 +6,10 @@ use Rattle.group_table.specs.Bucket.{Mark, room as room_of}
 use Rattle.lru_limits.specs.Rules.{Rules, Offers}
 use Rattle.schnellru.specs.State.{State, buckets, room}
 use Rattle.schnellru.specs.Place.{Place, first_table, first_denied, first_too_large, into_empty, into_emptied, with_room, deleted_bucket, rehashed, grown, evicted, evicted_rehashed, Outcome, placed, refused, no_memory}
-use Rattle.schnellru.specs.Inserts.{Insert, replaced, given_up, no_memory_to_admit, not_admitted, admitted, make_way, Settles, IsShort}
+use Rattle.schnellru.specs.Inserts.{Insert, replaced, given_up, no_memory_to_admit, not_admitted, admitted, make_way, Settles, IsShort, LacksMemory}
+use Rattle.schnellru.specs.Lists.{IsFront}
+use Rattle.schnellru.proofs.Fronts.{front_same, front_trans, front_make_way}
+use Rattle.schnellru.proofs.Within.{place_comes}
 use Rattle.schnellru.proofs.Outcomes.{placed-not_no_memory, refused-not_no_memory, ok-not_err}
 use Rattle.schnellru.proofs.Growth.{full_capacity-at_most}
 
@@ -35,16 +38,15 @@ module _ {K V S H : Type 0} (rules : Rules K V S) (hash_of : H → K → ℕ) (p
 
 module _ {K V S H I : Type 0} (rules : Rules K V S) (offers : Offers K V S I) (names : I → K → Bool) (hash_of : H → K → ℕ) (i : I) (v : V) (old : State K V S H) (result : Result Bool AllocError) (new : State K V S H) where
   -- Want of memory is the limiter's own, or the table's.
-  pub err_is : IsErr result → Insert rules offers names hash_of i v old result new → offers.may_lack old.limiter (length old.pairs) i v ⊎ IsShort rules offers names hash_of i v old
+  pub err_is : IsErr result → Insert rules offers names hash_of i v old result new → LacksMemory rules offers names hash_of i v old new
   err_is h (replaced pair found y r l) = ok-not_err result (rw r refl) h
   err_is h (given_up pair found y r l) = ok-not_err result (rw r refl) h
-  err_is h (no_memory_to_admit a k r e) = inl k
+  err_is h (no_memory_to_admit a k r e) = (a, inl (k, e))
   err_is h (not_admitted a s n r e) = ok-not_err result (rw r refl) h
-  err_is h (admitted a s pair n ready l outcome landed p t) = inr (go outcome p t)
+  err_is h (admitted a s pair n ready l outcome landed p t) = (a, inr (go outcome p t))
     where
       short : LacksTable rules hash_of pair ready → IsShort rules offers names hash_of i v old
       short k = record {
-        absent = a;
         no_room = omega (arith, l.room.keeps, k.0);
         s = s;
         pair = pair;
@@ -61,11 +63,21 @@ module _ {K V S H I : Type 0} (rules : Rules K V S) (offers : Offers K V S I) (n
       go refused p t = ok-not_err result (rw t.0 refl) h
       go no_memory p t = short (place_lacks rules hash_of pair ready landed no_memory refl p)
 
-  -- the same of a result that may be an error
-  pub err_lacks : Insert rules offers names hash_of i v old result new → OnErr result (offers.may_lack old.limiter (length old.pairs) i v ⊎ IsShort rules offers names hash_of i v old)
-  err_lacks step = go result (λ h. err_is h step)
+  -- It leaves a front part of the pairs.
+  pub err_keeps : IsErr result → Insert rules offers names hash_of i v old result new → IsFront new.pairs old.pairs
+  err_keeps h (replaced pair found y r l) = ok-not_err result (rw r refl) h
+  err_keeps h (given_up pair found y r l) = ok-not_err result (rw r refl) h
+  err_keeps h (no_memory_to_admit a k r e) = front_same _ _ (ap (λ st. st.pairs) e)
+  err_keeps h (not_admitted a s n r e) = ok-not_err result (rw r refl) h
+  err_keeps h (admitted a s pair n ready l outcome landed p t) = go outcome p t
     where
-      go : (r : Result Bool AllocError) → (IsErr r → offers.may_lack old.limiter (length old.pairs) i v ⊎ IsShort rules offers names hash_of i v old) →
-          OnErr r (offers.may_lack old.limiter (length old.pairs) i v ⊎ IsShort rules offers names hash_of i v old)
-      go (Ok b) h = tt
-      go (Err e) h = h refl
+      go : (outcome : Outcome) → Place rules hash_of pair ready outcome landed → Settles rules outcome landed result new → IsFront new.pairs old.pairs
+      go placed p t = ok-not_err result (rw t.0 refl) h
+      go refused p t = ok-not_err result (rw t.0 refl) h
+      go no_memory p t = front_trans _ _ _ (front_same _ _ (ap (λ st. st.pairs) t.1)) (front_trans _ _ _ (place_comes rules hash_of pair ready no_memory landed p)
+          (front_trans _ _ _ (front_same _ _ (ap (λ st. st.pairs) l.is)) (front_make_way rules (record { pairs = old.pairs; limiter = s }))))
+
+-- what an error implies, of a result that may be one
+pub on_err : {A : Type 0} (result : Result Bool AllocError) → (IsErr result → A) → OnErr result A
+on_err (Ok b) h = tt
+on_err (Err e) h = h refl

@@ -19,7 +19,7 @@ use Rattle.schnellru.specs.Sizes.{usage, Target, target, target_from, no_table, 
 use Rattle.schnellru.specs.State.{State, Contents, buckets, room, contents, IsMap, FreesRoom, Leaves, FirstFreeIs, pops, trim}
 use Rattle.schnellru.specs.Place.{Place, first_table, first_denied, first_too_large, into_empty, into_emptied, with_room, deleted_bucket, rehashed, grown, evicted, evicted_rehashed, Outcome, placed, refused, no_memory, IsPlaced, LacksRoom, CannotGrow, no_target, denied, next_table, asked, turned_away, without_oldest}
 use Rattle.schnellru.specs.Inserts.{Insert, replaced, given_up, not_admitted, admitted, make_way, replacement, with_replaced, with_given_up, Settles}
-use Rattle.schnellru.proofs.Growth.{full_capacity-at_most}
+use Rattle.schnellru.proofs.Growth.{full_capacity-at_most, target-same}
 use Rattle.schnellru.proofs.Leaving.{length-pops, leaves_self}
 use Rattle.schnellru.proofs.Fronts.{length-front, front_trim, front_make_way}
 
@@ -59,28 +59,6 @@ full_capacity-pos n s = elim (dec_lt 8 n) [
   | yes q ↦ omega (arith, full_capacity-large n q)
   | no q ↦ omega (arith, full_capacity-small n (omega arith), power_pos n s)
 ]
-
--- a table of the same size is kept where at most half of it is needed
-target-same : (max e b c : ℕ) → target max e b c ≡ same_table → c ≤ full_capacity b / 2
-unfolding target
-target-same max e b c = from (buckets_for max c)
-  where
-    no_same : (m : ℕ) (u : Option ℕ) → table_of m u ≡ same_table → ⊥
-    no_same m None h = grind arith
-    no_same m (Some x) h = grind arith
-
-    none_same : (m : Option ℕ) → table_with e m ≡ same_table → ⊥
-    none_same None h = grind arith
-    none_same (Some m) h = no_same m (usage e m) h
-
-    from : (need : Option ℕ) → target_from max e b c need ≡ same_table → c ≤ full_capacity b / 2
-    from None h = absurd (grind arith)
-    from (Some need) h = split (nat_lt b need) (nat_le c (full_capacity b / 2)) (λ q. grind (arith, nat_tests)) h
-      where
-        split : (t u : Bool) → (u ≡ true → c ≤ full_capacity b / 2) → cond t (table_with e (Some need)) (cond u same_table (table_with e (buckets_for max (full_capacity (2 * b))))) ≡ same_table → c ≤ full_capacity b / 2
-        split true u l h = absurd (none_same (Some need) h)
-        split false true l h = l refl
-        split false false l h = absurd (none_same (buckets_for max (full_capacity (2 * b))) h)
 
 module _ {K V S H : Type 0} where
   -- what an insert needs of the marks: so many full buckets as there are pairs, or more

@@ -10,7 +10,7 @@ use Rattle.schnellru.specs.Place.{Place, first_table, first_denied, first_too_la
 use Rattle.schnellru.specs.Inserts.{Insert, replaced, given_up, no_memory_to_admit, not_admitted, admitted, replacement, with_replaced, Settles}
 use Rattle.schnellru.specs.Theorems.{IsNewest, SaysWhether}
 use Rattle.schnellru.proofs.Leaving.{length-without_last, known_is}
-use Rattle.schnellru.proofs.Fronts.{front_self, front_same, front_trans, front_pops, front_trim, front_cons, given_named, replaced_named}
+use Rattle.schnellru.proofs.Fronts.{front_self, front_same, front_trans, front_pops, front_trim, front_make_way, front_absent, front_cons, given_named, replaced_named}
 use Rattle.schnellru.proofs.Distinct.{AreDistinct, absent_without}
 
 module _ {K V S : Type 0} (rules : Rules K V S) where
@@ -105,14 +105,15 @@ module _ {K V S H : Type 0} (rules : Rules K V S) (names : K → Bool) where
           (rw same (trim_newest rules names c k n), rw (same, same_limiter) (trim_within rules c k))
 
 module _ {K V S H I : Type 0} (rules : Rules K V S) (offers : Offers K V S I) (names : I → K → Bool) (hash_of : H → K → ℕ) {eq : K → K → Bool} {query_input : I → List (List ℕ)} {key_input : K → List (List ℕ)} (looks_up : IsLookup names eq query_input key_input) (laws : IsInsertion names eq offers) (i : I) (v : V) (old : State K V S H) where
-  err_says : (result : Result Bool AllocError) (new : State K V S H) → IsErr result → SaysWhether rules (names i) result new
-  err_says (Ok b) new h = absurd (grind (arith, h))
-  err_says (Err e) new h = tt
+  -- an error says that the key is not there
+  err_says : (result : Result Bool AllocError) (new : State K V S H) → IsErr result → lookup_entry (names i) new.pairs ≡ None → SaysWhether rules (names i) result new
+  err_says (Ok b) new h absent = absurd (grind (arith, h))
+  err_says (Err e) new h absent = absent
 
-  settled_says : (pair : K × V) (ready : State K V S H) (outcome : Outcome) (landed : State K V S H) (result : Result Bool AllocError) (new : State K V S H) → names i pair.0 ≡ true → Comes rules hash_of pair ready outcome landed → Settles rules outcome landed result new → SaysWhether rules (names i) result new
-  settled_says pair ready placed landed result new n b s = trimmed_says rules (names i) landed (contents landed) result new s.1 s.0 (record { pair = pair; rest = b.0; first = b.1; named = n })
-  settled_says pair ready refused landed result new n b s = rw s.0 (ap (λ st. lookup_entry (names i) st.pairs) s.1 ∙ ap (lookup_entry (names i)) b)
-  settled_says pair ready no_memory landed result new n b s = err_says result new s.0
+  settled_says : (pair : K × V) (ready : State K V S H) (outcome : Outcome) (landed : State K V S H) (result : Result Bool AllocError) (new : State K V S H) → names i pair.0 ≡ true → lookup_entry (names i) ready.pairs ≡ None → Comes rules hash_of pair ready outcome landed → Settles rules outcome landed result new → SaysWhether rules (names i) result new
+  settled_says pair ready placed landed result new n absent b s = trimmed_says rules (names i) landed (contents landed) result new s.1 s.0 (record { pair = pair; rest = b.0; first = b.1; named = n })
+  settled_says pair ready refused landed result new n absent b s = rw s.0 (ap (λ st. lookup_entry (names i) st.pairs) s.1 ∙ ap (lookup_entry (names i)) b)
+  settled_says pair ready no_memory landed result new n absent b s = err_says result new s.0 (ap (λ st. lookup_entry (names i) st.pairs) s.1 ∙ front_absent (names i) landed.pairs ready.pairs b absent)
 
   -- The answer of an insert says whether the key is there.
   pub insert_says : (result : Result Bool AllocError) (new : State K V S H) → AreDistinct eq old.pairs → Insert rules offers names hash_of i v old result new → SaysWhether rules (names i) result new
@@ -123,7 +124,8 @@ module _ {K V S H I : Type 0} (rules : Rules K V S) (offers : Offers K V S I) (n
     named = replaced_named rules offers names hash_of looks_up laws i v old pair found;
   })
   insert_says result new d (given_up pair found y r l) = rw r (ap (λ st. lookup_entry (names i) st.pairs) l.is ∙ absent_without eq (names i) (λ x y n. looks_up.one i x y n) old.pairs d)
-  insert_says result new d (no_memory_to_admit a k r e) = err_says result new r
+  insert_says result new d (no_memory_to_admit a k r e) = err_says result new r (ap (λ st. lookup_entry (names i) st.pairs) e ∙ a)
   insert_says result new d (not_admitted a s n r e) = rw r (ap (λ st. lookup_entry (names i) st.pairs) e ∙ a)
   insert_says result new d (admitted a s pair n ready l outcome landed p t) =
-      settled_says pair ready outcome landed result new (given_named rules offers names hash_of looks_up laws i v old s pair n) (place_comes rules hash_of pair ready outcome landed p) t
+      settled_says pair ready outcome landed result new (given_named rules offers names hash_of looks_up laws i v old s pair n)
+      (front_absent (names i) ready.pairs old.pairs (front_trans _ _ _ (front_same _ _ (ap (λ st. st.pairs) l.is)) (front_make_way rules (record { pairs = old.pairs; limiter = s }))) a) (place_comes rules hash_of pair ready outcome landed p) t

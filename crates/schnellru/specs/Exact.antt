@@ -1,12 +1,13 @@
--- Inserts into tables of up to 16 buckets, which leave nothing open but where memory is short.
-use Rattle.std.specs.Prelude.{◌≡◌, ℕ, ◌+◌, ◌-◌, ◌/◌, ◌==◌, nat_lt, nat_le, Bool, true, false, not, if◌then◌else◌, ◌∷◌, length, Option, Some, None, Result}
+-- Inserts that leave nothing open but where memory is short: into tables of up to 16 buckets, or where the limiter permits
+-- every growth.
+use Rattle.std.specs.Prelude.{◌≡◌, ◌≢◌, ℕ, ◌+◌, ◌-◌, ◌/◌, ◌≤◌, ◌==◌, nat_lt, nat_le, Bool, true, false, not, if◌then◌else◌, ◌∷◌, length, Option, Some, None, Result, Ok}
 use Rattle.std.specs.declared.alloc.AllocError.{AllocError}
 use Rattle.lru_limits.specs.Rules.{Rules, Offers}
 use Rattle.group_table.specs.Sizes.{full_capacity}
 use Rattle.schnellru.specs.Sizes.{usage, Target, target, no_table, same_table, new_table}
-use Rattle.schnellru.specs.Lists.{is_empty}
+use Rattle.schnellru.specs.Lists.{is_empty, lookup_entry}
 use Rattle.schnellru.specs.State.{State, buckets, room, Contents, contents, pops, trim}
-use Rattle.schnellru.specs.Inserts.{make_way, replacement, with_replaced, with_given_up}
+use Rattle.schnellru.specs.Inserts.{make_way, replacement, with_replaced, with_given_up, Admits}
 
 -- whether a pair was placed, and the pairs and the limiter then
 pub record Landing (K V S : Type 0) : Type 0 where
@@ -82,6 +83,20 @@ module _ {K V S H I : Type 0} (rules : Rules K V S) (offers : Offers K V S I) (n
       let spare = room old + length old.pairs - length c.pairs in
       settled rules (landing rules pair (buckets old) spare old.entry_bytes old.max c)
 
+  -- an insert answers Ok, with this flag, and leaves these contents
+  abbrev pub IsEnding : Ending K V S → Result Bool AllocError → State K V S H → Type 0
+  IsEnding e result new = (result ≡ Ok e.flag) × (contents new ≡ e.left)
+
+  -- by the pair whose key is there, if there is one, and else by what the limiter may give
+  abbrev pub EndsBy : Option (K × V) → Result Bool AllocError → State K V S H → Type 0
+  EndsBy (Some pair) result new = IsEnding (ending_there pair) result new
+  EndsBy None result new = (s : S) × (given : Option (K × V)) × Admits rules offers names i v old s given
+      × IsEnding (ending_new s given) result new
+
+  -- an insert ends as the pairs and the limiter have it
+  abbrev pub EndsExactly : Result Bool AllocError → State K V S H → Type 0
+  EndsExactly result new = EndsBy (lookup_entry (names i) old.pairs) result new
+
 -- two inserts ended alike
 pub record EndsAlike {K V S H : Type 0} (result other : Result Bool AllocError)
     (new others : State K V S H) : Type 0 where
@@ -92,3 +107,12 @@ pub record EndsAlike {K V S H : Type 0} (result other : Result Bool AllocError)
 abbrev pub IsDetermined : {K V S I : Type 0} → Offers K V S I → Type 0
 IsDetermined {K} {V} {S} {I} offers = (s : S) (n : ℕ) (i : I) (v : V) (t u : S) (given other : Option (K × V)) →
     offers.on_insert s n i v t given → offers.on_insert s n i v u other → (t ≡ u) × (given ≡ other)
+
+-- the limiter permits every growth, and stays as it is
+abbrev pub AlwaysGrants : {K V S : Type 0} → Rules K V S → Type 0
+AlwaysGrants {K} {V} {S} rules = (s : S) (bytes : ℕ) →
+    ((rules.on_grow s bytes).allowed ≡ true) × ((rules.on_grow s bytes).limiter ≡ s)
+
+-- there is a table for one pair more, and for each smaller number
+abbrev pub HasTables : {K V S H : Type 0} → State K V S H → Type 0
+HasTables st = (pairs : ℕ) → pairs ≤ length st.pairs + 1 → target st.max st.entry_bytes (buckets st) pairs ≢ no_table

@@ -71,12 +71,17 @@ module _ {K V S H I : Type 0} (rules : Rules K V S) (offers : Offers K V S I) (n
           Settles rules outcome landed result new →
           Insert i v old result new
 
-    -- memory is short for the table: the key is new, there is no room, and no table or a pair beside which to place it,
-    -- where s is the limiter after it admitted the new one
+    -- memory is short for the table: there is no room, and no buckets or a pair beside which to place the new one, where
+    -- s is the limiter after it admitted that
     pub record IsShort (i : I) (v : V) (old : State K V S H) : Type 0 where
-      pub absent : lookup_entry (names i) old.pairs ≡ None
       pub no_room : room old ≡ 0
       pub s : S
       pub pair : K × V
       pub admits : Admits i v old s (Some pair)
       pub beside : (buckets old ≡ 0) ⊎ (0 < length (make_way rules (record { pairs = old.pairs; limiter = s })).pairs)
+
+    -- why an insert finds no memory: the key is new, and the limiter found none for it, so that nothing has changed, or
+    -- the table had no room for it
+    abbrev pub LacksMemory : I → V → State K V S H → State K V S H → Type 0
+    LacksMemory i v old new = (lookup_entry (names i) old.pairs ≡ None)
+        × ((offers.may_lack old.limiter (length old.pairs) i v × (new ≡ old)) ⊎ IsShort i v old)

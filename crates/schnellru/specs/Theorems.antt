@@ -51,9 +51,9 @@ module _ {K V S H : Type 0} (rules : Rules K V S) where
     pub refused : CannotGrow rules st known
 
   -- what the answer of an insert says: true, that the key is there, as the newest, and the limiter is not over; false,
-  -- that it is not there
+  -- or an error, that it is not there
   abbrev pub SaysWhether : (K → Bool) → Result Bool AllocError → State K V S H → Type 0
   SaysWhether names (Ok true) new =
       IsNewest names new.pairs × (rules.is_over_the_limit new.limiter (length new.pairs) ≡ false)
   SaysWhether names (Ok false) new = lookup_entry names new.pairs ≡ None
-  SaysWhether names (Err e) new = ⊤
+  SaysWhether names (Err e) new = lookup_entry names new.pairs ≡ None

@@ -6,12 +6,12 @@ ghost use Rattle.std.specs.declared.alloc.AllocError.{AllocError};
 ghost use Rattle.group_table.specs.Bucket.{deleted};
 ghost use Rattle.group_table.specs.Sizes.{full_capacity};
 ghost use Rattle.lru_limits.specs.Hashing.{hash_by};
-ghost use Rattle.schnellru.specs.Lists.{without_last, keys_of};
+ghost use Rattle.schnellru.specs.Lists.{without_last, keys_of, IsFront};
 ghost use Rattle.schnellru.specs.State.{State, buckets, room, FirstFreeIs, IsSized, IsPaid, IsMap};
 ghost use Rattle.schnellru.specs.Place.{Place, Outcome, placed, no_memory, IsPlaced, LacksRoom};
 ghost use Rattle.schnellru.specs.Calls.{Get};
-ghost use Rattle.schnellru.specs.Inserts.{Insert, replacement, IsShort};
-ghost use Rattle.schnellru.specs.Exact.{IsDetermined, EndsAlike};
+ghost use Rattle.schnellru.specs.Inserts.{Insert, replacement, LacksMemory};
+ghost use Rattle.schnellru.specs.Exact.{IsDetermined, EndsExactly, EndsAlike, AlwaysGrants, HasTables};
 ghost use Rattle.schnellru.specs.Theorems.{PaysForMoves, IsRefusedGrowth, UsesAtMost, GivesUp, IsSummed, SaysWhether};
 
 use lru_limits::{ByLength, ByMemoryUsage, Insertion, Limiter, LookupKey, Summing};
@@ -46,7 +46,8 @@ pub fn inserts_say_whether<
         SaysWhether L.rules (I.names key) result new }
 {}
 
-/// Want of memory in an insert is that of `on_insert`, or that of a table without room.
+/// Want of memory in an insert is that of `on_insert`, or that of a table without room. It leaves a front part of the
+/// pairs.
 pub fn inserts_lack_memory_at_no_room<
     K: Eq + Hash,
     V,
@@ -54,14 +55,18 @@ pub fn inserts_lack_memory_at_no_room<
     L: Insertion<K, V, I>,
     S: BuildHasher,
 >()
-    ensures { (key : I) (value : V) (old : State K V L S) (result : Result Bool AllocError) (new : State K V L S) →
+    ensures lacks { (key : I) (value : V) (old : State K V L S) (result : Result Bool AllocError) (new : State K V L S) →
         IsErr result →
         Insert L.rules L.offers I.names (hash_by K.hash_input S.BuildHasher S.Hasher.Hasher) key value old result new →
-        L.offers.may_lack old.limiter (length old.pairs) key value
-        ⊎ IsShort L.rules L.offers I.names (hash_by K.hash_input S.BuildHasher S.Hasher.Hasher) key value old }
+        LacksMemory L.rules L.offers I.names (hash_by K.hash_input S.BuildHasher S.Hasher.Hasher) key value old new }
+    ensures keeps { (key : I) (value : V) (old : State K V L S) (result : Result Bool AllocError) (new : State K V L S) →
+        IsErr result →
+        Insert L.rules L.offers I.names (hash_by K.hash_input S.BuildHasher S.Hasher.Hasher) key value old result new →
+        IsFront new.pairs old.pairs }
 {}
 
-/// An insert into a table of up to 16 buckets leaves nothing open but where memory is short.
+/// An insert into a table of up to 16 buckets leaves nothing open but where memory is short: not what it answers, nor the
+/// pairs, nor the limiter. Where the limiter's offers leave nothing open, two inserts of the same end alike.
 pub fn small_inserts_are_exact<
     K: Eq + Hash,
     V,
@@ -69,13 +74,30 @@ pub fn small_inserts_are_exact<
     L: Insertion<K, V, I>,
     S: BuildHasher,
 >()
-    ensures { (key : I) (value : V) (old : State K V L S) (result other : Result Bool AllocError)
-        (new others : State K V L S) →
-        buckets old ≤ 16 → IsDetermined L.offers → IsOk result → IsOk other →
+    ensures exact { (key : I) (value : V) (old : State K V L S) (result : Result Bool AllocError) (new : State K V L S) →
+        buckets old ≤ 16 → IsOk result →
         Insert L.rules L.offers I.names (hash_by K.hash_input S.BuildHasher S.Hasher.Hasher) key value old result new →
-        Insert L.rules L.offers I.names (hash_by K.hash_input S.BuildHasher S.Hasher.Hasher)
-        key value old other others →
+        EndsExactly L.rules L.offers I.names key value old result new }
+    ensures alike { (key : I) (value : V) (old : State K V L S) (result other : Result Bool AllocError)
+        (new others : State K V L S) → IsDetermined L.offers →
+        EndsExactly L.rules L.offers I.names key value old result new →
+        EndsExactly L.rules L.offers I.names key value old other others →
         EndsAlike result other new others }
+{}
+
+/// So it does in a table of any size, where the limiter permits every growth, as `ByLength` does and the unlimited ones,
+/// and links and bytes reach the tables that it may need.
+pub fn granted_inserts_are_exact<
+    K: Eq + Hash,
+    V,
+    I: LookupKey<K>,
+    L: Insertion<K, V, I>,
+    S: BuildHasher,
+>()
+    ensures { (key : I) (value : V) (old : State K V L S) (result : Result Bool AllocError) (new : State K V L S) →
+        AlwaysGrants L.rules → HasTables old → IsOk result →
+        Insert L.rules L.offers I.names (hash_by K.hash_input S.BuildHasher S.Hasher.Hasher) key value old result new →
+        EndsExactly L.rules L.offers I.names key value old result new }
 {}
 
 /// An insert that grows the table makes one that takes fewer than four times the pairs.

@@ -1,9 +1,9 @@
 //! `insert`.
 ghost use Rattle.std.specs.Prelude.{◌≡◌, ◌⊎◌, ℕ, ◌+◌, true, false, not, length, None, Some, Ok, OnErr, if◌then◌else◌};
 ghost use Rattle.lru_limits.specs.Hashing.{hash_by};
-ghost use Rattle.schnellru.specs.Lists.{lookup_entry, is_empty};
+ghost use Rattle.schnellru.specs.Lists.{lookup_entry, is_empty, IsFront};
 ghost use Rattle.schnellru.specs.State.{contents, trim, Leaves, IsMap};
-ghost use Rattle.schnellru.specs.Inserts.{Insert, IsShort, make_way};
+ghost use Rattle.schnellru.specs.Inserts.{Insert, LacksMemory, make_way};
 ghost use Rattle.schnellru.specs.Steps.{Admitted};
 ghost use Rattle.schnellru.specs.Theorems.{SaysWhether};
 
@@ -22,9 +22,9 @@ impl<K: Eq + Hash + Drop, V: Drop, L: Limiter<K, V>, S: BuildHasher> LruMap<K, V
     /// grows where it has to and the limiter permits it; where it may not, the oldest pairs leave until there is a place.
     /// At the end the oldest leave as long as the limiter is over.
     ///
-    /// An error says that memory was refused. It comes only for a new key, where there was no room; then the newest of the
-    /// old pairs are left, and the limiter was told of each pair that left, and of the new one. Want of memory evicts
-    /// nothing, and no memory is taken while there is room, but what `on_insert` takes.
+    /// An error says that memory was refused, and comes only for a new key. Either `on_insert` found none, and nothing has
+    /// changed, or the table found none, which has no room then. The newest of the old pairs are left, and the limiter was
+    /// told of each pair that left, and of the new one. Want of memory evicts nothing.
     ///
     /// After schnellru's `LruMap::insert`.
     pub fn insert<I: LookupKey<K>>(&mut self, key: I, value: V) -> Result<bool, AllocError>
@@ -32,8 +32,8 @@ impl<K: Eq + Hash + Drop, V: Drop, L: Limiter<K, V>, S: BuildHasher> LruMap<K, V
         L: Insertion<K, V, I>,
         ensures step { Insert L.rules L.offers I.names (hash_by K.hash_input S.BuildHasher S.Hasher.Hasher) key value self.old result self.new }
         ensures says { SaysWhether L.rules (I.names key) result self.new }
-        ensures lacks { OnErr result (L.offers.may_lack self.old.limiter (length self.old.pairs) key value
-            ⊎ IsShort L.rules L.offers I.names (hash_by K.hash_input S.BuildHasher S.Hasher.Hasher) key value self.old) }
+        ensures lacks { OnErr result (LacksMemory L.rules L.offers I.names (hash_by K.hash_input S.BuildHasher S.Hasher.Hasher) key value self.old self.new) }
+        ensures keeps { OnErr result (IsFront self.new.pairs self.old.pairs) }
         ensures map { IsMap K.eq self.new }
     {
         let hash = self.hasher.hash_one(&key);

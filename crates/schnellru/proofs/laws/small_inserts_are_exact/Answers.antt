@@ -1,6 +1,10 @@
-use Rattle.schnellru.proofs.Exact.{inserts_alike}
+use Rattle.schnellru.proofs.Exact.{insert_ends, small_places, inserts_alike}
 use Rattle.schnellru.proofs.laws.small_inserts_are_exact.Goals as goal
 
-pub returns : goal.returns
-returns g c = λ key value old result other new others small determined a b h k.
-    inserts_alike _ _ _ _ key value old small determined result other new others a b h k
+pub returns-clause-exact : goal.returns-clause-exact
+returns-clause-exact g c = λ key value old result new small ok step.
+    insert_ends _ _ _ _ key value old (small_places _ _ old small) result new ok step
+
+pub returns-clause-alike : goal.returns-clause-alike
+returns-clause-alike g c = λ key value old result other new others determined h k.
+    inserts_alike g.L.Limiter.rules g.L.Insertion.offers g.I.LookupKey.names key value old determined result other new others h k

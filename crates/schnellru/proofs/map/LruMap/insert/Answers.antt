@@ -1,7 +1,7 @@
 use Rattle.std.proofs.Common.{subst}
 use Rattle.schnellru.specs.State.{IsMap}
 use Rattle.schnellru.proofs.Within.{insert_says}
-use Rattle.schnellru.proofs.Short.{err_lacks}
+use Rattle.schnellru.proofs.Short.{err_is, err_keeps, on_err}
 use Rattle.schnellru.proofs.map.LruMap.insert.Goals as goal
 
 pub returns-clause-says : goal.returns-clause-says
@@ -10,7 +10,10 @@ returns-clause-says g c =
     insert_says _ _ _ _ g.met.I.LookupKey.laws g.met.L.Insertion.laws c.args.key c.args.value c.args.self.now _ _ old.distinct c.insert_hashed-answer.ensures
 
 pub returns-clause-lacks : goal.returns-clause-lacks
-returns-clause-lacks g c = err_lacks _ _ _ _ c.args.key c.args.value c.args.self.now _ _ c.insert_hashed-answer.ensures
+returns-clause-lacks g c = on_err _ (λ failed. err_is _ _ _ _ c.args.key c.args.value c.args.self.now _ _ failed c.insert_hashed-answer.ensures)
+
+pub returns-clause-keeps : goal.returns-clause-keeps
+returns-clause-keeps g c = on_err _ (λ failed. err_keeps _ _ _ _ c.args.key c.args.value c.args.self.now _ _ failed c.insert_hashed-answer.ensures)
 
 pub returns-clause-map : goal.returns-clause-map
 returns-clause-map g c = subst (IsMap g.K.PartialEq.eq) c.self-2.view_is c.self-2.invariant.map

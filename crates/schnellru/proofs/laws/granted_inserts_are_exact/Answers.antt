@@ -1,0 +1,7 @@
+use Rattle.schnellru.proofs.Exact.{insert_ends}
+use Rattle.schnellru.proofs.Granted.{granted_places}
+use Rattle.schnellru.proofs.laws.granted_inserts_are_exact.Goals as goal
+
+pub returns : goal.returns
+returns g c = λ key value old result new grants tables ok step.
+    insert_ends _ _ _ _ key value old (granted_places _ grants _ old tables) result new ok step
