@@ -1,10 +1,16 @@
 -- A deleted bucket serves where it is the first free one that a search finds.
-use Rattle.std.proofs.Common.{◌≡◌, ℕ, ◌<◌, [], length, sym, ap, ◌∙◌, arith}
+use Rattle.std.proofs.Common.{◌≡◌, ℕ, ◌+◌, ◌<◌, inl, inr, [], length, sym, ap, ◌∙◌, arith}
+use Rattle.group_table.specs.Sizes.{IsBucketCount}
+use Rattle.group_table.proofs.SizeLemmas.{power_pos}
 use Rattle.group_table.specs.Bucket.{Mark, empty, deleted, bucket_at}
 use Rattle.group_table.proofs.FirstFree.{IsFirstFree-unique}
 use Rattle.lru_limits.specs.Rules.{Rules}
-use Rattle.schnellru.specs.State.{State, buckets, room, FirstFreeIs}
-use Rattle.schnellru.specs.Place.{Place, first_table, first_denied, first_too_large, into_empty, into_emptied, with_room, deleted_bucket, rehashed, grown, evicted, evicted_rehashed, Outcome, placed, IsPlaced}
+use Rattle.schnellru.specs.State.{State, buckets, room, contents, FirstFreeIs}
+use Rattle.schnellru.specs.Place.{Place, first_table, first_denied, first_too_large, into_empty, into_emptied, with_room, deleted_bucket, rehashed, grown, evicted, evicted_rehashed, Outcome, placed, IsPlaced, asked}
+use Rattle.schnellru.proofs.Evictions.{placed_if}
+use Rattle.schnellru.proofs.Growth.{full_capacity-at_most, target_doubles}
+use Rattle.schnellru.proofs.Leaving.{length-pops, known_is}
+use Rattle.schnellru.proofs.Potential.{IsBounded}
 
 module _ {K V S H : Type 0} (rules : Rules K V S) (hash_of : H → K → ℕ) (pair : K × V) (old : State K V S H) (some : 0 < length old.pairs) (no_room : room old ≡ 0) where
   not_both : FirstFreeIs deleted (hash_of old.hasher pair.0) old → FirstFreeIs empty (hash_of old.hasher pair.0) old → ⊥
@@ -29,3 +35,27 @@ module _ {K V S H : Type 0} (rules : Rules K V S) (hash_of : H → K → ℕ) (p
   deleted_serves p outcome new (grown f i l count bytes t g m) = absurd (not_both p i)
   deleted_serves p outcome new (evicted f i l mid c n pos one half o is) = absurd (not_both p i)
   deleted_serves p outcome new (evicted_rehashed f i l mid c n pos one half left lv m) = absurd (not_both p i)
+
+  -- and no other placing ends as one into a deleted bucket does
+  pub only_deleted : IsBounded old → (outcome : Outcome) (new : State K V S H) → outcome ≡ placed → Place rules hash_of pair old outcome new → IsPlaced pair (buckets old) 0 0 old new → FirstFreeIs deleted (hash_of old.hasher pair.0) old
+  only_deleted ok outcome new q (first_table e b bytes u g m) p = none_is_empty e
+  only_deleted ok outcome new q (first_denied e b bytes u d o n) p = none_is_empty e
+  only_deleted ok outcome new q (first_too_large e b u o n) p = none_is_empty e
+  only_deleted ok outcome new q (into_empty e b r s o n) p = none_is_empty e
+  only_deleted ok outcome new q (into_emptied e b r o n) p = none_is_empty e
+  only_deleted ok outcome new q (with_room e r s o n) p = absurd (omega (arith, r, no_room))
+  only_deleted ok outcome new q (deleted_bucket f i b l o n) p = i
+  only_deleted ok outcome new q (rehashed f i l m) p =
+      absurd (omega (arith, l, some, p.left, (placed_if rules hash_of pair old old new _ _ _ outcome q m).left))
+  only_deleted ok outcome new q (grown f i l count bytes t g m) p = absurd (larger ok.count)
+    where
+      same : count ≡ buckets old
+      same = sym (placed_if rules hash_of pair old (asked rules bytes old) new _ _ _ outcome q m).table ∙ p.table
+
+      larger : IsBucketCount (buckets old) → ⊥
+      larger (inl z) = absurd (omega (arith, z, f.0, ok.fits, full_capacity-at_most (buckets old)))
+      larger (inr k) = absurd (omega (arith, same, power_pos (buckets old) k, target_doubles k.0 old.max old.entry_bytes (buckets old) (length old.pairs + 1) count bytes k.1 t))
+  only_deleted ok outcome new q (evicted f i l mid c n pos one half o is) p =
+      absurd (omega (arith, pos, half, ap (λ st. length st.pairs) is.state, ap (λ st. length st.pairs) p.state, length-pops rules n (contents mid), ap (λ st. length st.pairs) (known_is rules old mid c)))
+  only_deleted ok outcome new q (evicted_rehashed f i l mid c n pos one half left lv m) p =
+      absurd (omega (arith, pos, half, some, ap (λ st. length st.pairs) (placed_if rules hash_of pair old left new _ _ _ outcome q m).state, ap (λ st. length st.pairs) p.state, ap (λ st. length st.pairs) lv.is, length-pops rules n (contents mid), ap (λ st. length st.pairs) (known_is rules old mid c)))

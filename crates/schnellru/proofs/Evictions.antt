@@ -24,7 +24,7 @@ module _ {K V S H : Type 0} (rules : Rules K V S) (hash_of : H → K → ℕ) (p
     pub pairs : new.pairs ≡ pair ∷ old.pairs
     pub large : IsRefusedGrowth rules old → 16 < buckets old
 
-  placed_if : (st new : State K V S H) (count spare moves : ℕ) (outcome : Outcome) → outcome ≡ placed → IsPlacedIfMemory rules pair count spare moves st outcome new → IsPlaced pair count spare moves st new
+  pub placed_if : (st new : State K V S H) (count spare moves : ℕ) (outcome : Outcome) → outcome ≡ placed → IsPlacedIfMemory rules pair count spare moves st outcome new → IsPlaced pair count spare moves st new
   placed_if st new count spare moves placed o h = h
   placed_if st new count spare moves no_memory o h = placed-not_no_memory (sym o)
   placed_if st new count spare moves refused o h = absurd h
@@ -99,6 +99,20 @@ module _ {K V S H : Type 0} (rules : Rules K V S) (hash_of : H → K → ℕ) (p
   place_lacks_half refusal outcome new q (evicted f i l mid c n pos one half o p) = placed-not_no_memory (sym o ∙ q)
   place_lacks_half refusal outcome new q (evicted_rehashed f i l mid c n pos one half left lv m) =
       omega (arith, ap length (left_if left new _ _ _ outcome q m), ap (λ st. length st.pairs) lv.is, length-pops rules n (contents mid), ap length (ap (λ st. st.pairs) (known_is rules old mid c)), half)
+
+  -- where memory lacks, all pairs are left, or growth was refused
+  pub place_lacks_keeps : (outcome : Outcome) (new : State K V S H) → outcome ≡ no_memory → Place rules hash_of pair old outcome new → (new.pairs ≡ old.pairs) ⊎ IsRefusedGrowth rules old
+  place_lacks_keeps outcome new q (first_table e b bytes u g m) = inl (left_if (asked rules bytes old) new _ _ _ outcome q m)
+  place_lacks_keeps outcome new q (first_denied e b bytes u d o n) = refused-not_no_memory (sym o ∙ q)
+  place_lacks_keeps outcome new q (first_too_large e b u o n) = refused-not_no_memory (sym o ∙ q)
+  place_lacks_keeps outcome new q (into_empty e b r s o n) = placed-not_no_memory (sym o ∙ q)
+  place_lacks_keeps outcome new q (into_emptied e b r o n) = placed-not_no_memory (sym o ∙ q)
+  place_lacks_keeps outcome new q (with_room e r s o n) = placed-not_no_memory (sym o ∙ q)
+  place_lacks_keeps outcome new q (deleted_bucket f i b l o n) = placed-not_no_memory (sym o ∙ q)
+  place_lacks_keeps outcome new q (rehashed f i l m) = inl (left_if old new _ _ _ outcome q m)
+  place_lacks_keeps outcome new q (grown f i l count bytes t g m) = inl (left_if (asked rules bytes old) new _ _ _ outcome q m)
+  place_lacks_keeps outcome new q (evicted f i l mid c n pos one half o p) = placed-not_no_memory (sym o ∙ q)
+  place_lacks_keeps outcome new q (evicted_rehashed f i l mid c n pos one half left lv m) = inr (record { lacks_room = f; above_half = l; known = mid; refused = c })
 
   module _ (new : State K V S H) (step : Place rules hash_of pair old placed new) where
     pub refused_half : IsRefusedGrowth rules old → full_capacity (buckets old) / 2 ≤ length new.pairs

@@ -115,22 +115,27 @@ pub fn inserts_grow_little<
 {}
 
 /// Where there are pairs and no room, and a search for the new key finds a deleted bucket first, it is filled: nothing
-/// is asked and nothing moves.
+/// is asked and nothing moves. No other placing ends so.
 pub fn deleted_buckets_serve<K: Eq + Hash, V, L: Limiter<K, V>, S: BuildHasher>()
-    ensures { (pair : K × V) (old : State K V L S) (outcome : Outcome) (new : State K V L S) →
+    ensures served { (pair : K × V) (old : State K V L S) (outcome : Outcome) (new : State K V L S) →
         LacksRoom old →
         FirstFreeIs deleted (hash_by K.hash_input S.BuildHasher S.Hasher.Hasher old.hasher pair.0) old →
         Place L.rules (hash_by K.hash_input S.BuildHasher S.Hasher.Hasher) pair old outcome new →
         (outcome ≡ placed) × IsPlaced pair (buckets old) 0 0 old new }
+    ensures only { (pair : K × V) (old new : State K V L S) →
+        LacksRoom old → IsSized old →
+        Place L.rules (hash_by K.hash_input S.BuildHasher S.Hasher.Hasher) pair old placed new →
+        IsPlaced pair (buckets old) 0 0 old new →
+        FirstFreeIs deleted (hash_by K.hash_input S.BuildHasher S.Hasher.Hasher old.hasher pair.0) old }
 {}
 
-/// What holds of every map and of every sum holds after an insert. The clause `map` takes for granted that the table and
-/// the counts are sound, which the contracts of the table tell.
-pub fn inserts_keep_what_holds<
+/// After an insert no two keys are equal, if none were before, and what holds of every map holds, where the table is
+/// sound, as every table is.
+pub fn inserts_keep_maps<
     K: Eq + Hash,
     V,
     I: LookupKey<K>,
-    L: Summing<K, V, I>,
+    L: Insertion<K, V, I>,
     S: BuildHasher,
 >()
     ensures keys { (key : I) (value : V) (old : State K V L S) (result : Result Bool AllocError) (new : State K V L S) →
@@ -141,7 +146,17 @@ pub fn inserts_keep_what_holds<
         IsMap K.eq old → IsSized new →
         Insert L.rules L.offers I.names (hash_by K.hash_input S.BuildHasher S.Hasher.Hasher) key value old result new →
         IsMap K.eq new }
-    ensures sum { (key : I) (value : V) (old : State K V L S) (result : Result Bool AllocError) (new : State K V L S) →
+{}
+
+/// A summing limiter that held the sum of the costs holds it after an insert.
+pub fn inserts_keep_sums<
+    K: Eq + Hash,
+    V,
+    I: LookupKey<K>,
+    L: Summing<K, V, I>,
+    S: BuildHasher,
+>()
+    ensures { (key : I) (value : V) (old : State K V L S) (result : Result Bool AllocError) (new : State K V L S) →
         IsSummed L.cost_of L.account old →
         Insert L.rules L.offers I.names (hash_by K.hash_input S.BuildHasher S.Hasher.Hasher) key value old result new →
         IsSummed L.cost_of L.account new }
@@ -183,8 +198,8 @@ pub fn refused_growth_keeps_half<K: Eq + Hash, V, L: Limiter<K, V>, S: BuildHash
         new.pairs ≡ pair ∷ without_last old.pairs }
 {}
 
-/// A pair that is placed joins all the others, where the table grows and where it is made anew at most half full. Only
-/// refused growth has pairs leave.
+/// A pair that is placed joins all the others, where the table grows and where it is made anew at most half full. Where
+/// memory is refused, the others stay. Only refused growth has pairs leave for a placing.
 pub fn growth_keeps_the_list<K: Eq + Hash, V, L: Limiter<K, V>, S: BuildHasher>()
     ensures grown { (pair : K × V) (old new : State K V L S) →
         buckets new ≢ buckets old →
@@ -197,6 +212,9 @@ pub fn growth_keeps_the_list<K: Eq + Hash, V, L: Limiter<K, V>, S: BuildHasher>(
     ensures otherwise { (pair : K × V) (old new : State K V L S) →
         Place L.rules (hash_by K.hash_input S.BuildHasher S.Hasher.Hasher) pair old placed new →
         (new.pairs ≡ pair ∷ old.pairs) ⊎ IsRefusedGrowth L.rules old }
+    ensures without_memory { (pair : K × V) (old new : State K V L S) →
+        Place L.rules (hash_by K.hash_input S.BuildHasher S.Hasher.Hasher) pair old no_memory new →
+        (new.pairs ≡ old.pairs) ⊎ IsRefusedGrowth L.rules old }
 {}
 
 /// With `ByLength` an insert leaves the limiter as it was, and at most `max_length` pairs, if there were no more
@@ -229,10 +247,14 @@ pub fn inserts_keep_the_memory_usage<K: Eq + Hash + Drop, V: Drop, S: BuildHashe
         UsesAtMost old.limiter old → UsesAtMost old.limiter new }
 {}
 
-/// What holds of every map and of every sum holds after a get.
-pub fn gets_keep_what_holds<K: Eq + Hash, V, I: LookupKey<K>, L: Summing<K, V, I>, S: BuildHasher>()
-    ensures map { (key : I) (old : State K V L S) (result : Option V) (new : State K V L S) →
+/// What holds of every map holds after a get.
+pub fn gets_keep_maps<K: Eq + Hash, V, I: LookupKey<K>, L: Limiter<K, V>, S: BuildHasher>()
+    ensures { (key : I) (old : State K V L S) (result : Option V) (new : State K V L S) →
         IsMap K.eq old → Get (I.names key) old result new → IsMap K.eq new }
-    ensures sum { (key : I) (old : State K V L S) (result : Option V) (new : State K V L S) →
+{}
+
+/// A summing limiter that held the sum of the costs holds it after a get through which nothing is written.
+pub fn gets_keep_sums<K: Eq + Hash, V, I: LookupKey<K>, L: Summing<K, V, I>, S: BuildHasher>()
+    ensures { (key : I) (old : State K V L S) (result : Option V) (new : State K V L S) →
         IsSummed L.cost_of L.account old → Get (I.names key) old result new → IsSummed L.cost_of L.account new }
 {}

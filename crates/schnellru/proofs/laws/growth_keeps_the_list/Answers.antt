@@ -1,4 +1,5 @@
-use Rattle.schnellru.proofs.Evictions.{grown_keeps, made_anew_keeps, keeps_or_refused}
+use Rattle.std.proofs.Common.{refl}
+use Rattle.schnellru.proofs.Evictions.{grown_keeps, made_anew_keeps, keeps_or_refused, place_lacks_keeps}
 use Rattle.schnellru.proofs.laws.growth_keeps_the_list.Goals as goal
 
 pub returns-clause-grown : goal.returns-clause-grown
@@ -9,3 +10,6 @@ returns-clause-made_anew g c = λ pair old new few step. made_anew_keeps _ _ pai
 
 pub returns-clause-otherwise : goal.returns-clause-otherwise
 returns-clause-otherwise g c = λ pair old new step. keeps_or_refused _ _ pair old new step
+
+pub returns-clause-without_memory : goal.returns-clause-without_memory
+returns-clause-without_memory g c = λ pair old new step. place_lacks_keeps _ _ pair old _ new refl step

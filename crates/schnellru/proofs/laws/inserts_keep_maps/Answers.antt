@@ -1,7 +1,6 @@
 use Rattle.schnellru.proofs.Distinct.{insert_distinct}
 use Rattle.schnellru.proofs.Paid.{insert_paid}
-use Rattle.schnellru.proofs.Sums.{insert_summed}
-use Rattle.schnellru.proofs.laws.inserts_keep_what_holds.Goals as goal
+use Rattle.schnellru.proofs.laws.inserts_keep_maps.Goals as goal
 
 pub returns-clause-keys : goal.returns-clause-keys
 returns-clause-keys g c = λ key value old result new d step.
@@ -13,7 +12,3 @@ returns-clause-map g c = λ key value old result new ok sized step. record {
   sized = sized;
   paid = insert_paid _ _ _ _ key value old result new ok.sized step ok.paid;
 }
-
-pub returns-clause-sum : goal.returns-clause-sum
-returns-clause-sum g c = λ key value old result new summed step.
-    insert_summed _ _ _ _ g.met.L.Summing.laws _ _ key value old result new summed step
