@@ -1,5 +1,6 @@
 pub mod Growth
 pub mod Doubling
+pub mod Budgets
 pub mod Sized
 pub mod Leaving
 pub mod Outcomes

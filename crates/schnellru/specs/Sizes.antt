@@ -1,6 +1,6 @@
 -- What a table takes in bytes, and where a table goes that is to take more pairs. Quotients are rounded down.
-use Rattle.std.specs.Prelude.{ℕ, zero, suc, ◌+◌, ◌-◌, ◌*◌, ◌/◌, ◌^◌, ◌==◌, nat_lt, nat_le, if◌then◌else◌, Option, Some, None}
-use Rattle.group_table.specs.Sizes.{full_capacity, buckets_for}
+use Rattle.std.specs.Prelude.{◌≡◌, ◌⊎◌, ℕ, ◌+◌, ◌-◌, ◌*◌, ◌/◌, ◌^◌, ◌<◌, ◌≤◌, ◌==◌, nat_lt, nat_le, if◌then◌else◌, Option, Some, None}
+use Rattle.group_table.specs.Sizes.{IsPowerFromFour, full_capacity, buckets_for}
 
 -- the bytes of a table: its entries, rounded up to a multiple of 16, a byte for each bucket, and 16 more
 abbrev pub bytes_of : ℕ → ℕ → ℕ
@@ -13,24 +13,13 @@ usage entry_bytes buckets =
     else (if nat_le (bytes_of entry_bytes buckets) (2 ^ 63 - 16) then Some (bytes_of entry_bytes buckets)
     else None)
 
--- the usage of so many buckets, where links reach them
-abbrev pub reached_usage : ℕ → ℕ → ℕ → Option ℕ
-reached_usage max entry_bytes buckets = if nat_lt buckets max then usage entry_bytes buckets else None
-
--- what is within the budget, or else the next best
-abbrev pub within : ℕ → Option ℕ → ℕ → ℕ
-within budget None other = other
-within budget (Some bytes) other = if nat_le bytes budget then bytes else other
-
--- the greatest usage within the budget of 2 ^ (k + 1), 2 ^ k, .., 4 buckets, as far as links reach, or 0
-abbrev pub best_from : ℕ → ℕ → ℕ → ℕ → ℕ
-best_from zero max entry_bytes budget = 0
-best_from (suc k) max entry_bytes budget =
-    within budget (reached_usage max entry_bytes (2 ^ (k + 2))) (best_from k max entry_bytes budget)
-
--- the greatest usage of a table that is within the budget, or 0
-unfoldable pub usage_within : ℕ → ℕ → ℕ → ℕ
-usage_within max entry_bytes budget = best_from 62 max entry_bytes budget
+-- the greatest usage within the budget of a table whose buckets links reach, or 0 where there is no such table
+pub record IsGreatestUsage (max entry_bytes budget bytes : ℕ) : Type 0 where
+  pub within : bytes ≤ budget
+  pub of_table : (bytes ≡ 0)
+      ⊎ ((buckets : ℕ) × IsPowerFromFour buckets × (buckets < max) × (usage entry_bytes buckets ≡ Some bytes))
+  pub greatest : (buckets other : ℕ) → IsPowerFromFour buckets → buckets < max →
+      usage entry_bytes buckets ≡ Some other → other ≤ budget → other ≤ bytes
 
 -- Where a table goes that is to take more pairs: nowhere, to a table as large as it is, or to one of so many buckets
 -- and bytes.

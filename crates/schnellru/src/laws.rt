@@ -1,12 +1,13 @@
 //! What is proved of every insert and of every get. Each theorem is the contract of a function that does nothing.
 
-ghost use Rattle.std.specs.Prelude.{◌≡◌, ◌≢◌, ℕ, ◌≤◌, ◌<◌, ◌+◌, ◌*◌, ◌/◌, ◌⊎◌, ◌∷◌, Bool, false, Option, Result, IsOk, IsErr, length};
+ghost use Rattle.std.specs.Prelude.{◌≡◌, ◌≢◌, ℕ, ◌≤◌, ◌<◌, ◌+◌, ◌*◌, ◌/◌, ◌⊎◌, ◌∷◌, Bool, false, Option, Some, Result, IsOk, IsErr, length};
 ghost use Rattle.std.specs.List.{IsDistinct};
 ghost use Rattle.std.specs.declared.alloc.AllocError.{AllocError};
 ghost use Rattle.group_table.specs.Bucket.{deleted};
 ghost use Rattle.group_table.specs.Sizes.{full_capacity};
 ghost use Rattle.lru_limits.specs.Hashing.{hash_by};
 ghost use Rattle.schnellru.specs.Lists.{without_last, keys_of, IsFront};
+ghost use Rattle.schnellru.specs.Sizes.{usage, IsGreatestUsage};
 ghost use Rattle.schnellru.specs.State.{State, buckets, room, FirstFreeIs, IsSized, IsPaid, IsMap};
 ghost use Rattle.schnellru.specs.Place.{Place, Outcome, placed, no_memory, IsPlaced, LacksRoom};
 ghost use Rattle.schnellru.specs.Calls.{Get};
@@ -257,4 +258,11 @@ pub fn gets_keep_maps<K: Eq + Hash, V, I: LookupKey<K>, L: Limiter<K, V>, S: Bui
 pub fn gets_keep_sums<K: Eq + Hash, V, I: LookupKey<K>, L: Summing<K, V, I>, S: BuildHasher>()
     ensures { (key : I) (old : State K V L S) (result : Option V) (new : State K V L S) →
         IsSummed L.cost_of L.account old → Get (I.names key) old result new → IsSummed L.cost_of L.account new }
+{}
+
+/// The memory that a map uses, as a budget, gives itself.
+pub fn usages_are_their_budgets<K: Eq + Hash, V, L: Limiter<K, V>, S: BuildHasher>()
+    ensures { (old : State K V L S) (bytes greatest : ℕ) →
+        IsSized old → usage old.entry_bytes (buckets old) ≡ Some bytes →
+        IsGreatestUsage old.max old.entry_bytes bytes greatest → greatest ≡ bytes }
 {}

@@ -1,7 +1,7 @@
 //! What a table takes in bytes, and the table that a map grows into.
 ghost use Rattle.std.specs.Prelude.{◌≡◌, ◌-◌, ◌/◌, ◌^◌, ◌<◌, ◌≤◌};
 ghost use Rattle.group_table.specs.Sizes.{IsBucketCount, full_capacity, buckets_for};
-ghost use Rattle.schnellru.specs.Sizes.{bytes_of, usage, usage_within, target, larger};
+ghost use Rattle.schnellru.specs.Sizes.{bytes_of, usage, IsGreatestUsage, target, larger};
 
 use group_table::{buckets_for_capacity, full_capacity};
 
@@ -56,10 +56,9 @@ pub(crate) fn larger_table(
     Some((count, bytes))
 }
 
-// The greatest usage of 4, 8, 16, .. buckets, as far as links reach, that is within the budget, or 0.
-#[tactic(auto, unfolding(crate::specs::Sizes::usage_within))]
+// The greatest usage within the budget of a table of 4, 8, 16, .. buckets that links reach, or 0.
 pub(crate) fn usage_within(max: usize, entry_bytes: usize, budget: usize) -> usize
-    ensures { result ≡ usage_within max entry_bytes budget }
+    ensures { IsGreatestUsage max entry_bytes budget result }
 {
     let mut best = 0;
     for k in 0..62u32 {

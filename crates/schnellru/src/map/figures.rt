@@ -2,7 +2,7 @@
 ghost use Rattle.std.specs.Prelude.{◌≡◌, ◌+◌, length, Some};
 ghost use Rattle.std.specs.Borrow.{sem};
 ghost use Rattle.schnellru.specs.Lists.{is_empty};
-ghost use Rattle.schnellru.specs.Sizes.{usage, usage_within};
+ghost use Rattle.schnellru.specs.Sizes.{usage, IsGreatestUsage};
 ghost use Rattle.schnellru.specs.State.{IsMap, buckets, room};
 
 use crate::map::LruMap;
@@ -55,7 +55,7 @@ impl<K: Eq + Hash, V, L: Limiter<K, V>, S: BuildHasher> LruMap<K, V, L, S> {
 
     /// The greatest `memory_usage` that a map with entries of so many bytes can have within a budget, or 0.
     pub fn memory_usage_for_memory_budget(budget: usize, entry_bytes: usize) -> usize
-        ensures { result ≡ usage_within (L.LinkType.number L.LinkType.MAX) entry_bytes budget }
+        ensures { IsGreatestUsage (L.LinkType.number L.LinkType.MAX) entry_bytes budget result }
     {
         sizes::usage_within(L::LinkType::MAX.into_usize(), entry_bytes, budget)
     }

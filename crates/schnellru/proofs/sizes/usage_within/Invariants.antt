@@ -1,7 +1,6 @@
--- The best of the sizes so far.
-use Rattle.std.proofs.Common.{◌≡◌}
-use Rattle.schnellru.specs.Sizes.{best_from}
+-- The best of the tables so far.
+use Rattle.schnellru.proofs.Budgets.{IsBest}
 use Rattle.schnellru.proofs.sizes.usage_within.Given as goal
 
 abbrev pub invariant-loop-k : goal.invariant-loop-k
-invariant-loop-k l = l.best ≡ best_from l.k l.max l.entry_bytes l.budget
+invariant-loop-k l = IsBest l.max l.entry_bytes l.budget l.k l.best
