@@ -22,10 +22,7 @@ pub(crate) fn no_entries<T>(alloc: Global, count: usize) -> Result<Vec<Option<T>
 {
     let mut entries = Vec::with_capacity(alloc, count)?;
     for _ in 0..count {
-        match entries.push(None) {
-            Ok(()) => {}
-            Err(_) => unreachable!(),
-        }
+        entries.push_reserved(None);
     }
     Ok(entries)
 }
@@ -63,7 +60,7 @@ pub(crate) fn drop_entries<T: Drop>(entries: &mut Vec<Option<T>>, len: usize)
 
 // Writes the tag and the entry of a free bucket.
 #[inline]
-pub(crate) fn fill_bucket<T>(
+pub(crate) fn fill_bucket<T: Drop>(
     control: &mut Vec<u8>,
     entries: &mut Vec<Option<T>>,
     b: usize,
@@ -77,10 +74,7 @@ pub(crate) fn fill_bucket<T>(
     ensures entries { entries.new.items ≡ slice_set entries.old.items b (Some entry) }
 {
     set_byte(control.as_mut_slice(), entries.len(), b, tag);
-    match mem::replace(&mut entries[b], Some(entry)) {
-        None => {}
-        Some(_) => unreachable!(),
-    }
+    mem::forget(mem::replace(&mut entries[b], Some(entry)));
 }
 
 // Takes the entry out of a full bucket, and writes its byte.

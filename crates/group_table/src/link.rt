@@ -47,10 +47,12 @@ impl LinkType for u8 {
 
     ghost link = { λ n. n };
 
+    #[inline]
     fn from_usize(value: usize) -> u8 {
         value as u8
     }
 
+    #[inline]
     fn into_usize(self) -> usize {
         self as usize
     }
@@ -70,10 +72,12 @@ impl LinkType for u16 {
 
     ghost link = { λ n. n };
 
+    #[inline]
     fn from_usize(value: usize) -> u16 {
         value as u16
     }
 
+    #[inline]
     fn into_usize(self) -> usize {
         self as usize
     }
@@ -93,10 +97,12 @@ impl LinkType for u32 {
 
     ghost link = { λ n. n };
 
+    #[inline]
     fn from_usize(value: usize) -> u32 {
         value as u32
     }
 
+    #[inline]
     fn into_usize(self) -> usize {
         self as usize
     }
@@ -116,10 +122,12 @@ impl LinkType for usize {
 
     ghost link = { λ n. n };
 
+    #[inline]
     fn from_usize(value: usize) -> usize {
         value
     }
 
+    #[inline]
     fn into_usize(self) -> usize {
         self
     }

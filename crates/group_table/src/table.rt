@@ -145,6 +145,28 @@ impl<T> Table<T> {
         entry_mut(&mut self.entries[b])
     }
 
+    /// Takes the entry out of a full bucket.
+    ///
+    /// The bucket is then empty, which gives the room back, if every 16 neighbouring buckets that hold it hold an empty
+    /// one; else it is deleted, so that no search that went on past it ends there. Up to 16 buckets it is always empty.
+    pub fn take(&mut self, b: usize) -> T
+        requires { IsFull self.old.slots b }
+        ensures entry { entry_at self.old.slots b ≡ Some result }
+        ensures removed { Removes self.old.slots self.new.slots b }
+        ensures room { room (marks_of self.new.slots) ≡ room (marks_of self.old.slots) + room_at (marks_of self.new.slots) b }
+        ensures placings { self.new.placings ≡ self.old.placings }
+        ensures fits { (hash_of : ℕ → ℕ) → Fits self.old.slots hash_of → Fits self.new.slots hash_of }
+        ensures table { IsTable (marks_of self.new.slots) }
+    {
+        let gives_room = has_empty_neighbours(self.control.as_slice(), self.entries.len(), b);
+        self.room += gives_room as usize;
+        self.len -= 1;
+        let byte = emptied_byte(gives_room);
+        empty_bucket(&mut self.control, &mut self.entries, b, byte)
+    }
+}
+
+impl<T: Drop> Table<T> {
     /// Puts an entry with this hash into the first free bucket in the order of a search, and gives its number.
     ///
     /// An empty bucket takes one of the room, a deleted one none. The entry comes back, and nothing has changed, where
@@ -179,28 +201,6 @@ impl<T> Table<T> {
         Ok(b)
     }
 
-    /// Takes the entry out of a full bucket.
-    ///
-    /// The bucket is then empty, which gives the room back, if every 16 neighbouring buckets that hold it hold an empty
-    /// one; else it is deleted, so that no search that went on past it ends there. Up to 16 buckets it is always empty.
-    pub fn take(&mut self, b: usize) -> T
-        requires { IsFull self.old.slots b }
-        ensures entry { entry_at self.old.slots b ≡ Some result }
-        ensures removed { Removes self.old.slots self.new.slots b }
-        ensures room { room (marks_of self.new.slots) ≡ room (marks_of self.old.slots) + room_at (marks_of self.new.slots) b }
-        ensures placings { self.new.placings ≡ self.old.placings }
-        ensures fits { (hash_of : ℕ → ℕ) → Fits self.old.slots hash_of → Fits self.new.slots hash_of }
-        ensures table { IsTable (marks_of self.new.slots) }
-    {
-        let gives_room = has_empty_neighbours(self.control.as_slice(), self.entries.len(), b);
-        self.room += gives_room as usize;
-        self.len -= 1;
-        let byte = emptied_byte(gives_room);
-        empty_bucket(&mut self.control, &mut self.entries, b, byte)
-    }
-}
-
-impl<T: Drop> Table<T> {
     /// Drops all entries. Every bucket is then empty; there are as many as before, and the placings stay.
     pub fn clear(&mut self)
         ensures slots { self.new.slots ≡ replicate (length self.old.slots) empty }

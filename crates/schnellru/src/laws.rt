@@ -132,13 +132,7 @@ pub fn deleted_buckets_serve<K: Eq + Hash, V, L: Limiter<K, V>, S: BuildHasher>(
 
 /// After an insert no two keys are equal, if none were before, and what holds of every map holds, where the table is
 /// sound, as every table is.
-pub fn inserts_keep_maps<
-    K: Eq + Hash,
-    V,
-    I: LookupKey<K>,
-    L: Insertion<K, V, I>,
-    S: BuildHasher,
->()
+pub fn inserts_keep_maps<K: Eq + Hash, V, I: LookupKey<K>, L: Insertion<K, V, I>, S: BuildHasher>()
     ensures keys { (key : I) (value : V) (old : State K V L S) (result : Result Bool AllocError) (new : State K V L S) →
         IsDistinct K.eq (keys_of old.pairs) →
         Insert L.rules L.offers I.names (hash_by K.hash_input S.BuildHasher S.Hasher.Hasher) key value old result new →
@@ -150,13 +144,7 @@ pub fn inserts_keep_maps<
 {}
 
 /// A summing limiter that held the sum of the costs holds it after an insert.
-pub fn inserts_keep_sums<
-    K: Eq + Hash,
-    V,
-    I: LookupKey<K>,
-    L: Summing<K, V, I>,
-    S: BuildHasher,
->()
+pub fn inserts_keep_sums<K: Eq + Hash, V, I: LookupKey<K>, L: Summing<K, V, I>, S: BuildHasher>()
     ensures { (key : I) (value : V) (old : State K V L S) (result : Result Bool AllocError) (new : State K V L S) →
         IsSummed L.cost_of L.account old →
         Insert L.rules L.offers I.names (hash_by K.hash_input S.BuildHasher S.Hasher.Hasher) key value old result new →

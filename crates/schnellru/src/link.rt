@@ -158,6 +158,23 @@ impl<K, V, N: LinkType> Linked<K, V, N> {
         link_newest(&mut self.table, &mut self.newest, &mut self.oldest, b);
     }
 
+    // Takes the pair out of a full bucket.
+    pub(crate) fn take(&mut self, b: usize) -> (K, V)
+        requires { IsFull self.old.slots b }
+        ensures pair { entry_at self.old.slots b ≡ Some result }
+        ensures removed { Removes self.old.slots self.new.slots b }
+        ensures order { self.new.order ≡ without_bucket b self.old.order }
+        ensures room { room (marks_of self.new.slots) ≡ room (marks_of self.old.slots) + room_at (marks_of self.new.slots) b }
+        ensures fits { (hash_of : K → ℕ) → KeysFit hash_of self.old.slots → KeysFit hash_of self.new.slots }
+        ensures linked { IsLinked self.new }
+    {
+        unlink(&mut self.table, &mut self.newest, &mut self.oldest, b);
+        let Pair { key, value } = self.table.take(b).pair;
+        (key, value)
+    }
+}
+
+impl<K: Drop, V: Drop, N: LinkType> Linked<K, V, N> {
     // Puts a pair whose key has this hash into the first free bucket, as the newest.
     pub(crate) fn place(&mut self, hash: u64, pair: (K, V)) -> Result<(), (K, V)>
         ensures placed { OnOk result ((b : ℕ) × Lands self.old self.new hash pair b) }
@@ -180,21 +197,6 @@ impl<K, V, N: LinkType> Linked<K, V, N> {
             }
             Err(entry) => Err((entry.pair.key, entry.pair.value)),
         }
-    }
-
-    // Takes the pair out of a full bucket.
-    pub(crate) fn take(&mut self, b: usize) -> (K, V)
-        requires { IsFull self.old.slots b }
-        ensures pair { entry_at self.old.slots b ≡ Some result }
-        ensures removed { Removes self.old.slots self.new.slots b }
-        ensures order { self.new.order ≡ without_bucket b self.old.order }
-        ensures room { room (marks_of self.new.slots) ≡ room (marks_of self.old.slots) + room_at (marks_of self.new.slots) b }
-        ensures fits { (hash_of : K → ℕ) → KeysFit hash_of self.old.slots → KeysFit hash_of self.new.slots }
-        ensures linked { IsLinked self.new }
-    {
-        unlink(&mut self.table, &mut self.newest, &mut self.oldest, b);
-        let Pair { key, value } = self.table.take(b).pair;
-        (key, value)
     }
 }
 

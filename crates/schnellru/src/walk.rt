@@ -42,6 +42,7 @@ impl<'a, K, V, N: LinkType> Iterator for Walk<'a, K, V, N> {
 
     ghost remaining = { λ s. at_most (length s) };
 
+    #[inline]
     fn next(&mut self) -> Option<(&'a K, &'a V)> {
         let b = self.at?;
         let pair = self.entries.pair(b);

@@ -10,7 +10,7 @@ use crate::link::LinkType;
 use crate::probe::first_free;
 use crate::table::Table;
 
-impl<T> Table<T> {
+impl<T: Drop> Table<T> {
     // Puts an entry into the first free bucket of a table with room and no deleted bucket. No placing is counted.
     #[inline]
     pub(crate) fn place_fresh(&mut self, hash: u64, entry: T) -> usize

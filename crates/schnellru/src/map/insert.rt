@@ -27,6 +27,7 @@ impl<K: Eq + Hash + Drop, V: Drop, L: Limiter<K, V>, S: BuildHasher> LruMap<K, V
     /// told of each pair that left, and of the new one. Want of memory evicts nothing.
     ///
     /// After schnellru's `LruMap::insert`.
+    #[inline]
     pub fn insert<I: LookupKey<K>>(&mut self, key: I, value: V) -> Result<bool, AllocError>
     where
         L: Insertion<K, V, I>,

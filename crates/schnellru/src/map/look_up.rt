@@ -16,6 +16,7 @@ impl<K: Eq + Hash, V, L: Limiter<K, V>, S: BuildHasher> LruMap<K, V, L, S> {
     /// `None` says that the key is not there, and nothing has changed.
     ///
     /// After schnellru's `LruMap::get`.
+    #[inline]
     pub fn get<Q: LookupKey<K>>(&mut self, key: &Q) -> Option<&mut V>
         ensures* writes_back { sem 𝓛 (lends_value K.row V.row L.row S.row L.LinkType.row S.Hasher.row K.Hash L.Limiter
             L.LinkType.LinkType.own L.LinkType.PartialEq L.LinkType.Debug S.BuildHasher S.Hasher.Hasher
@@ -30,6 +31,7 @@ impl<K: Eq + Hash, V, L: Limiter<K, V>, S: BuildHasher> LruMap<K, V, L, S> {
     /// The value of a key. The order stays.
     ///
     /// After schnellru's `LruMap::peek`.
+    #[inline]
     pub fn peek<Q: LookupKey<K>>(&self, key: &Q) -> Option<&V>
         ensures { option_copied result ≡ lookup (Q.names key.now) self.now.pairs }
     {

@@ -51,8 +51,9 @@ impl<K: Eq + Hash + Drop, V: Drop, L: Limiter<K, V>, S: BuildHasher> LruMap<K, V
         Ok(())
     }
 
-    // Places a pair that no bucket took, or the first pair of a table without room.
-    #[cold]
+    // Places a pair that no bucket took, or the first pair of a table without room. Under a limit on memory each new pair may
+    // come here.
+    #[inline(never)]
     fn place_without_room(&mut self, hash: u64, pair: (K, V)) -> Result<bool, AllocError>
         requires hash { hash ≡ hash_by K.hash_input S.BuildHasher S.Hasher.Hasher self.old.hasher pair.0 }
         requires absent { lookup_entry (K.eq pair.0) self.old.pairs ≡ None }
@@ -72,6 +73,7 @@ impl<K: Eq + Hash + Drop, V: Drop, L: Limiter<K, V>, S: BuildHasher> LruMap<K, V
     }
 
     // Places the first pair of a map without buckets.
+    #[cold]
     fn place_first(&mut self, hash: u64, pair: (K, V)) -> Result<bool, AllocError>
         requires hash { hash ≡ hash_by K.hash_input S.BuildHasher S.Hasher.Hasher self.old.hasher pair.0 }
         requires none { buckets self.old ≡ 0 }
@@ -138,6 +140,7 @@ impl<K: Eq + Hash + Drop, V: Drop, L: Limiter<K, V>, S: BuildHasher> LruMap<K, V
     }
 
     // Places the pair in a table of so many buckets, to which all pairs move.
+    #[cold]
     fn place_after_move(
         &mut self,
         count: usize,
@@ -167,6 +170,7 @@ impl<K: Eq + Hash + Drop, V: Drop, L: Limiter<K, V>, S: BuildHasher> LruMap<K, V
     }
 
     // Places the pair in a table of as many buckets that is made anew. A map without pairs needs no memory for it.
+    #[cold]
     fn place_after_rehash(&mut self, hash: u64, pair: (K, V)) -> Result<bool, AllocError>
         requires hash { hash ≡ hash_by K.hash_input S.BuildHasher S.Hasher.Hasher self.old.hasher pair.0 }
         requires absent { lookup_entry (K.eq pair.0) self.old.pairs ≡ None }
@@ -240,6 +244,7 @@ impl<K: Eq + Hash + Drop, V: Drop, L: Limiter<K, V>, S: BuildHasher> LruMap<K, V
     }
 
     // Takes the oldest pair out, of which the limiter is told.
+    #[inline(never)]
     pub(crate) fn take_oldest(&mut self)
         requires { 0 < length self.old.pairs }
         ensures { Leaves self.old (pop L.rules (contents self.old)) self.new }
