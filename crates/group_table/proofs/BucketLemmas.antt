@@ -42,11 +42,6 @@ module _ {A : Type 0} where
   mark_empty deleted e = absurd (empty_not_deleted {A = Unit {0}} deleted e refl)
   mark_empty (full held) e = absurd (empty_not_full {A = Unit {0}} (full tt) e refl)
 
-  mark_deleted : (s : Bucket A) → mark_of s ≡ deleted → s ≡ deleted
-  mark_deleted empty e = absurd (empty_not_deleted {A = Unit {0}} empty refl e)
-  mark_deleted deleted e = refl
-  mark_deleted (full held) e = absurd (full_not_deleted {A = Unit {0}} (full tt) refl e)
-
   pub used_from_full : (s : Bucket A) → is_full s ≡ true → is_used s ≡ true
   used_from_full empty e = e
   used_from_full deleted e = refl
@@ -78,7 +73,7 @@ module _ {A : Type 0} where
   pub is_full-marks_of : (buckets : List (Bucket A)) (b : ℕ) → is_full (bucket_at (marks_of buckets) b) ≡ is_full (bucket_at buckets b)
   is_full-marks_of buckets b = ap is_full (bucket_at-marks_of buckets b) ∙ mark_of-full (bucket_at buckets b)
 
-  count_by-cons : (p : Bucket A → Bool) (s : Bucket A) (rest : List (Bucket A)) → count_by p (s ∷ rest) ≡ cond (p s) 1 0 + count_by p rest
+  pub count_by-cons : (p : Bucket A → Bool) (s : Bucket A) (rest : List (Bucket A)) → count_by p (s ∷ rest) ≡ cond (p s) 1 0 + count_by p rest
   count_by-cons p s rest = sum_by-cons (λ x. cond (p x) 1 0) s rest
 
   -- one bucket is written

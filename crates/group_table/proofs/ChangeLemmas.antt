@@ -1,5 +1,5 @@
 -- What a placing and a removal make of the buckets, seen by their numbers and as marks.
-use Rattle.std.proofs.Common.{◌≡◌, ◌≢◌, ℕ, ◌+◌, ◌<◌, cond, List, length, set, None, Some, ◌⊎◌, inl, inr, refl, ap, sym, ◌∙◌, arith}
+use Rattle.std.proofs.Common.{◌≡◌, ◌≢◌, ℕ, ◌+◌, ◌<◌, cond, List, length, set, None, Some, ◌⊎◌, inl, inr, refl, ap, sym, ◌∙◌, arith, length-set}
 use Rattle.group_table.specs.Bucket.{Slot, Tagged, empty, deleted, full, bucket_at, is_full, IsFull, entry_at, entry_of, entry_count, marks_of}
 use Rattle.group_table.specs.Probe.{hash_tag}
 use Rattle.group_table.specs.Neighbours.{HasEmptyNeighbours, IsHemmedIn}
@@ -42,6 +42,10 @@ module _ {T : Type 0} (old new : List (Slot T)) (b : ℕ) where
   pub marks_of-removed : Removes old new b → (HasEmptyNeighbours (marks_of old) b × (marks_of new ≡ set (marks_of old) b empty)) ⊎ (IsHemmedIn (marks_of old) b × (marks_of new ≡ set (marks_of old) b deleted))
   marks_of-removed (inl w) = inl (w.0, ap marks_of w.1 ∙ marks_of-set old b empty)
   marks_of-removed (inr w) = inr (w.0, ap marks_of w.1 ∙ marks_of-set old b deleted)
+
+  pub length-removed : Removes old new b → length new ≡ length old
+  length-removed (inl w) = ap length w.1 ∙ length-set old b empty
+  length-removed (inr w) = ap length w.1 ∙ length-set old b deleted
 
   -- there is no entry in it now
   pub entry_at-removed : IsFull old b → Removes old new b → entry_at new b ≡ None

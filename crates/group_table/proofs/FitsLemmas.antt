@@ -85,11 +85,11 @@ module _ {T : Type 0} where
         ];
       }
 
-  -- of hashes that fit, others that are equal bucket by bucket fit
-  pub Fits-same : (slots : List (Slot T)) (hash_of other_of : ℕ → ℕ) → ((b : ℕ) → hash_of b ≡ other_of b) → Fits slots hash_of → Fits slots other_of
-  Fits-same slots hash_of other_of same fits = record {
-    tags = λ b held e. fits.tags b held e ∙ ap hash_tag (same b);
-    reached = λ b there. rw (← same b) (fits.reached b there);
+  -- hashes fit that are the same where a bucket is full
+  pub Fits-agree : (slots : List (Slot T)) (f g : ℕ → ℕ) → ((b : ℕ) → IsFull slots b → f b ≡ g b) → Fits slots f → Fits slots g
+  Fits-agree slots f g agree fits = record {
+    tags = λ b held e. rw (← agree b (ap is_full e)) (fits.tags b held e);
+    reached = λ b there. rw (← agree b there) (fits.reached b there);
   }
 
   -- a bucket whose entry left

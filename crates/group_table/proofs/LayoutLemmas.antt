@@ -98,6 +98,10 @@ module _ {T : Type 0} (control : List ℕ) (entries : List (Option T)) (laid_out
     pub full_entry : (entry : T) × (get_or entries b None ≡ Some entry)
     full_entry = filled (get_or control b 0) (get_or entries b None) (rw (bucket_at-laid_out b full_within) at there)
 
+    -- and a byte below 128
+    pub full_byte : get_or control b 0 < 128
+    full_byte = let e = full_entry in rw e.1 at (laid_out.agrees b full_within)
+
     pub is_some_entry : IsSome (get_or entries b None)
     is_some_entry = let w = full_entry in rw w.1 refl
 

@@ -1,23 +1,20 @@
 -- The entry of a full bucket is written, and its tag stays.
-use Rattle.std.proofs.Common.{◌≡◌, ℕ, zero, suc, ◌-◌, ◌<◌, ◌≤◌, max, cond, List, [], ◌∷◌, length, get_or, set, Option, Some, None, refl, ap, sym, ◌∙◌, arith, inl, inr, get_or-set_other, get_or-set_same, length-set}
+use Rattle.std.proofs.Common.{◌≡◌, ◌≢◌, ℕ, ◌-◌, ◌<◌, ◌≤◌, max, true, cond, List, length, get_or, set, Option, Some, None, refl, ap, sym, ◌∙◌, arith, inl, inr, get_or-set_other, get_or-set_same, length-set}
 use Rattle.std.proofs.lemmas.Bool.{cases_eq}
+use Rattle.std.proofs.lemmas.List.{set-get_or}
 use native.Mathlib.Decide.{dec_lt}
-use Rattle.group_table.specs.Bucket.{Slot, empty, deleted, full, bucket_at, is_used, is_full, refilled, IsFull, entry_count, mark_of, marks_of}
+use Rattle.group_table.specs.Bucket.{Slot, empty, deleted, full, bucket_at, is_used, is_full, refilled, IsFull, entry_of, entry_at, entry_count, mark_of, marks_of}
 use Rattle.group_table.specs.Fits.{Fits}
 use Rattle.group_table.specs.Layout.{slot_of, slots_of, byte_of, byte_at, Agrees, IsValid}
 use Rattle.group_table.proofs.BucketLemmas.{bucket_at-set_same, bucket_at-set_other, count_by-set, full_not_deleted, full_lt, marks_of-set, bucket_at-marks_of}
-use Rattle.group_table.proofs.LayoutLemmas.{bucket_at-laid_out, length-laid_out, full_within, full_entry}
+use Rattle.group_table.proofs.LayoutLemmas.{slots_of-set, bucket_at-laid_out, length-laid_out, full_within, full_entry, full_byte}
 use Rattle.group_table.proofs.SearchLemmas.{held_by}
 use Rattle.group_table.proofs.FitsLemmas.{one_held}
 use Rattle.group_table.proofs.WriteLemmas.{byte_at-bucket, byte_at-between, byte_at-again}
 
 module _ {T : Type 0} where
   slots_of-set_entry : (bytes : List ℕ) (entries : List (Option T)) (b : ℕ) (e : Option T) → slots_of bytes (set entries b e) ≡ set (slots_of bytes entries) b (slot_of (get_or bytes b 0) e)
-  slots_of-set_entry bytes [] b e = refl
-  slots_of-set_entry [] (x ∷ entries) zero e = refl
-  slots_of-set_entry [] (x ∷ entries) (suc b) e = refl
-  slots_of-set_entry (y ∷ bytes) (x ∷ entries) zero e = refl
-  slots_of-set_entry (y ∷ bytes) (x ∷ entries) (suc b) e = ap (λ s. slot_of y x ∷ s) (slots_of-set_entry bytes entries b e)
+  slots_of-set_entry bytes entries b e = ap (λ all. slots_of all (set entries b e)) (sym (set-get_or bytes b 0)) ∙ slots_of-set bytes entries b (get_or bytes b 0) e
 
   pub byte_at-same : (old new : List (Slot T)) → length new ≡ length old → ((k : ℕ) → byte_of (bucket_at new k) ≡ byte_of (bucket_at old k)) → (p : ℕ) → byte_at new p ≡ byte_at old p
   byte_at-same old new same bytes p =
@@ -55,13 +52,10 @@ module _ {T : Type 0} (control : List ℕ) (entries : List (Option T)) (room : �
         | inr h ↦ ap byte_of (bucket_at-set_other (slots_of control entries) b k now h)
       ]
 
-  byte_below : get_or control b 0 < 128
-  byte_below = let e = full_entry control entries valid.laid_out b there in rw e.1 at (valid.laid_out.agrees b within)
-
   new_agrees : (k : ℕ) → k < length entries → Agrees (get_or control k 0) (get_or (set entries b (Some w)) k None)
   new_agrees k q =
       elim (cases_eq k b) [
-        | inl h ↦ rw (h, get_or-set_same entries b (Some w) None within) byte_below
+        | inl h ↦ rw (h, get_or-set_same entries b (Some w) None within) (full_byte control entries valid.laid_out b there)
         | inr h ↦ rw (get_or-set_other entries b k (Some w) None h) (valid.laid_out.agrees k q)
       ]
 
@@ -93,17 +87,23 @@ module _ {T : Type 0} (control : List ℕ) (entries : List (Option T)) (room : �
       let one : ◌≡◌ {A = ℕ} (cond (is_full (bucket_at (slots_of control entries) b)) 1 0) 1 = ap (λ t. cond {A = ℕ} t 1 0) there in
       rw slots_are (omega (arith, change, one))
 
-module _ {A : Type 0} where
-  set_same : (xs : List A) (b : ℕ) (x d : A) → get_or xs b d ≡ x → set xs b x ≡ xs
-  set_same [] b x d e = refl
-  set_same (y ∷ xs) zero x d e = ap (λ z. z ∷ xs) (sym e)
-  set_same (y ∷ xs) (suc b) x d e = ap (λ zs. y ∷ zs) (set_same xs b x d e)
+-- a full bucket that is filled anew holds the new entry, and the others hold what they held
+pub entry_of-refilled : {T : Type 0} (s : Slot T) (w : T) → is_full s ≡ true → entry_of (refilled s w) ≡ Some w
+entry_of-refilled s w there = let held = held_by s there in ap (λ t. entry_of (refilled t w)) held.1
+
+module _ {T : Type 0} (slots : List (Slot T)) (b : ℕ) (w : T) where
+  pub entry_at-refilled : IsFull slots b → entry_at (set slots b (refilled (bucket_at slots b) w)) b ≡ Some w
+  entry_at-refilled there = ap entry_of (bucket_at-set_same slots b b _ refl (full_lt slots b there)) ∙ entry_of-refilled (bucket_at slots b) w there
+
+  pub entry_at-refilled_other : (k : ℕ) → k ≢ b → entry_at (set slots b (refilled (bucket_at slots b) w)) k ≡ entry_at slots k
+  entry_at-refilled_other k other = ap entry_of (bucket_at-set_other slots b k _ other)
 
 -- a write of an entry leaves the marks
 pub marks_of-refilled : {T : Type 0} (slots : List (Slot T)) (b : ℕ) (w : T) → marks_of (set slots b (refilled (bucket_at slots b) w)) ≡ marks_of slots
-marks_of-refilled {T} slots b w = marks_of-set slots b _ ∙ set_same (marks_of slots) b _ empty (bucket_at-marks_of slots b ∙ same (bucket_at slots b))
+marks_of-refilled {T} slots b w =
+    marks_of-set slots b _ ∙ ap (set (marks_of slots) b) (same (bucket_at slots b) ∙ sym (bucket_at-marks_of slots b)) ∙ set-get_or (marks_of slots) b empty
   where
-    same : (s : Slot T) → mark_of s ≡ mark_of (refilled s w)
+    same : (s : Slot T) → mark_of (refilled s w) ≡ mark_of s
     same empty = refl
     same deleted = refl
     same (full held) = refl

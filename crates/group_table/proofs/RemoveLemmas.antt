@@ -1,6 +1,5 @@
 -- The entry of a full bucket leaves.
-use Rattle.std.proofs.Common.{◌≡◌, ℕ, ◌+◌, ◌%◌, ◌<◌, ◌≤◌, Bool, true, false, cond, List, length, get_or, set, Option, None, refl, ap, sym, ◌∙◌, arith, inl, inr, count_by, MatchBool}
-use Rattle.std.proofs.lemmas.Bool.{ltb-true}
+use Rattle.std.proofs.Common.{◌≡◌, ℕ, ◌+◌, ◌%◌, ◌<◌, ◌≤◌, Bool, true, false, cond, List, length, set, Option, None, refl, ap, sym, ◌∙◌, arith, inl, inr, count_by, MatchBool}
 use Rattle.std.proofs.Math.Nat.{mod-add-mod, mod-lt}
 use mir.Val.{bool_byte}
 use Rattle.group_table.specs.Bucket.{Slot, Tagged, Mark, empty, deleted, bucket_at, is_used, is_full, IsFull, entry_count, room, room_at}
@@ -10,7 +9,7 @@ use Rattle.group_table.specs.Layout.{slot_of, slots_of, marks_by, IsLaidOut, IsV
 use Rattle.group_table.specs.Group.{EmptyNeighbourBytes, HemmedInBytes}
 use Rattle.group_table.proofs.BucketLemmas.{some_empty, used_from_full, count_by-pos, empty_not_deleted, bucket_at-set_same, bucket_at-marks_of, mark_of-used}
 use Rattle.group_table.proofs.Circle.{distance}
-use Rattle.group_table.proofs.LayoutLemmas.{length-laid_out, length-marks_by, full_within, is_full-laid_out, mark_from_byte, byte_from_mark}
+use Rattle.group_table.proofs.LayoutLemmas.{length-laid_out, length-marks_by, full_within, mark_from_byte, byte_from_mark}
 use Rattle.group_table.proofs.TableLemmas.{used_lt, room_by}
 use Rattle.group_table.proofs.WriteLemmas.{slots_of-written, IsValid-written, entry_count-written}
 
@@ -90,13 +89,5 @@ module _ {T : Type 0} (control : List ℕ) (entries : List (Option T)) (r : ℕ)
   pub entry_count-pos : 0 < entry_count (slots_of control entries)
   entry_count-pos = count_by-pos is_full (slots_of control entries) b (omega (arith, within, length-laid_out control entries valid.laid_out)) there
 
-  -- a full bucket has a byte below 128
-  pub full_byte : get_or control b 0 < 128
-  full_byte = ltb-true _ 128 (sym (is_full-laid_out control entries valid.laid_out b within) ∙ there)
-
   pub room-removed : (byte gained : ℕ) → Removed byte gained → room (marks_by (written control entries b byte) (set entries b None)) ≡ room (marks_by control entries) + room_at (marks_by (written control entries b byte) (set entries b None)) b
   room-removed byte gained w = omega (arith, w.gained_there, room_by _ _ _ w.is_valid, room_by control entries r valid)
-
--- a bucket is not both emptied and deleted
-pub neighbours-exclusive : (marks : List Mark) (b : ℕ) → HasEmptyNeighbours marks b → IsHemmedIn marks b → ⊥
-neighbours-exclusive marks b near hemmed = let w = near hemmed.start hemmed.at hemmed.within hemmed.there in hemmed.none_empty w.0 w.1 w.2

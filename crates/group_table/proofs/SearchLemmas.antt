@@ -1,5 +1,5 @@
 -- The buckets that a search asks about.
-use Rattle.std.proofs.Common.{◌≡◌, ◌≢◌, ℕ, zero, suc, ◌+◌, ◌%◌, ◌<◌, ◌≤◌, Bool, true, false, cond, List, [], ◌∷◌, ◌++◌, length, map, refl, ap, sym, ◌∙◌, subst, arith, append_assoc, add-one, add-zero, eq-eqb, AllPairs, Option, Some, None, IfSome}
+use Rattle.std.proofs.Common.{◌≡◌, ◌≢◌, ℕ, zero, suc, ◌+◌, ◌%◌, ◌<◌, ◌≤◌, Bool, true, false, cond, List, [], ◌∷◌, ◌++◌, length, map, refl, ap, sym, ◌∙◌, subst, arith, append_assoc, add-one, add-zero, eq-eqb, AllPairs, Some}
 use Rattle.std.specs.List.{range_with_len, FoldsTo, Contains}
 use Rattle.std.specs.Borrow.{Bor}
 use Rattle.std.specs.Fn.{Mut, Called}
@@ -26,7 +26,10 @@ module _ {T : Type 0} where
   held_by deleted e = absurd (cc)
   held_by (full held) e = (held, refl)
 
-  -- a bucket with an entry is full
+  -- a full bucket has an entry, and a bucket with an entry is full
+  pub entry_by_full : (s : Slot T) → is_full s ≡ true → (entry : T) × (entry_of s ≡ Some entry)
+  entry_by_full s there = let w = held_by s there in (w.0.entry, ap entry_of w.1)
+
   pub full_by_entry : (s : Slot T) (entry : T) → entry_of s ≡ Some entry → is_full s ≡ true
   full_by_entry empty entry e = absurd (cc)
   full_by_entry deleted entry e = absurd (cc)
@@ -107,7 +110,3 @@ module _ {T F : Type 0} (closure : Mut F (Bor T × Unit {0}) Bool) (slots : List
     -- a lane with no such tag
     pub RefusesEach-skip : (f between : F) → RefusesEach closure slots f (tagged_lanes slots tag start lane) between → has_tag tag (bucket_at slots ((start + lane) % length slots)) ≡ false → RefusesEach closure slots f (tagged_lanes slots tag start (lane + 1)) between
     RefusesEach-skip f between before e = rw (tagged_lanes-skip slots tag start lane e) before
-
-pub if_some : {T : Type 0} {P Q : T → Type 0} (r : Option T) → ((x : T) → P x → Q x) → IfSome r P → IfSome r Q
-if_some None h p = p
-if_some (Some x) h p = h x p

@@ -3,10 +3,6 @@ use Rattle.std.proofs.Common.{◌≡◌, ◌<◌, true, false, List, [], ◌∷�
 use Rattle.schnellru.specs.Lists.{is_empty}
 
 module _ {X : Type 0} where
-  pub none_left : (xs : List X) → length xs ≡ 0 → xs ≡ []
-  none_left [] e = refl
-  none_left (x ∷ xs) e = absurd (omega (arith, e))
-
   pub empty-length : (xs : List X) → is_empty xs ≡ true → length xs ≡ 0
   empty-length [] e = refl
   empty-length (x ∷ xs) e = absurd cc

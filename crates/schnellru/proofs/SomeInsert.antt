@@ -1,30 +1,27 @@
 -- From every map an insert can end: there is an answer that it may give, and a state that it may leave.
-use Rattle.std.proofs.Common.{◌≡◌, ℕ, zero, suc, ◌+◌, ◌-◌, ◌*◌, ◌/◌, ◌^◌, ◌<◌, ◌≤◌, ◌⊎◌, inl, inr, Bool, true, false, List, [], ◌∷◌, length, Option, Some, None, Result, Ok, Err, refl, sym, ap, ◌∙◌, subst, arith, cond, not, count_by}
+use Rattle.std.proofs.Common.{◌≡◌, ℕ, zero, suc, ◌+◌, ◌-◌, ◌*◌, ◌/◌, ◌<◌, ◌≤◌, inl, inr, Bool, true, false, List, [], ◌∷◌, length, Option, Some, None, Result, Ok, Err, refl, sym, ap, ◌∙◌, subst, arith, cond, not, count_by}
 use Rattle.std.specs.Prelude.{nat_lt, nat_le}
 use Rattle.std.specs.declared.alloc.AllocError.{AllocError}
 use Rattle.std.proofs.lemmas.Bool.Decides.{nat_tests}
-use Rattle.std.proofs.lemmas.List.Sums.{sum_by-cons}
+use Rattle.std.proofs.lemmas.List.{nil_from_length}
 use native.Mathlib.Decide.{dec_lt}
 use Rattle.group_table.specs.Sizes.{full_capacity, IsBucketCount, IsPowerFromFour, buckets_for}
 use Rattle.group_table.specs.Bucket.{Mark, empty, deleted, full, bucket_at, is_full, is_used, is_deleted, entry_count}
 use Rattle.group_table.specs.Probe.{IsFirstFree}
 use Rattle.group_table.specs.Change.{count_up}
 use Rattle.group_table.proofs.SizeLemmas.{full_capacity-lt, full_capacity-small, full_capacity-large, power_pos}
-use Rattle.group_table.proofs.BucketLemmas.{some_empty, room_is, used_count-split, count_by-pos}
+use Rattle.group_table.proofs.BucketLemmas.{count_by-cons, some_empty, room_is, used_count-split, count_by-pos}
 use Rattle.group_table.proofs.ProbeLemmas.{probed-lt}
 use Rattle.group_table.proofs.FirstFree.{first_free_there}
 use Rattle.lru_limits.specs.Rules.{Rules, Offers}
 use Rattle.schnellru.specs.Lists.{is_empty, lookup_entry, without}
 use Rattle.schnellru.specs.Sizes.{usage, Target, target, target_from, no_table, same_table, new_table, table_with, table_of}
-use Rattle.schnellru.specs.State.{State, Contents, buckets, room, contents, IsMap, FreesRoom, Leaves, FirstFreeIs, pops, trim}
+use Rattle.schnellru.specs.State.{State, Contents, buckets, room, contents, IsMap, Leaves, FirstFreeIs, pops, trim}
 use Rattle.schnellru.specs.Place.{Place, first_table, first_denied, first_too_large, into_empty, into_emptied, with_room, deleted_bucket, rehashed, grown, evicted, evicted_rehashed, Outcome, placed, refused, no_memory, IsPlaced, LacksRoom, CannotGrow, no_target, denied, next_table, asked, turned_away, without_oldest}
-use Rattle.schnellru.specs.Inserts.{Insert, replaced, given_up, not_admitted, admitted, make_way, replacement, with_replaced, with_given_up, Settles}
+use Rattle.schnellru.specs.Inserts.{Insert, replaced, given_up, not_admitted, admitted, make_way, replacement, with_replaced, with_given_up}
 use Rattle.schnellru.proofs.Growth.{full_capacity-at_most}
-use Rattle.schnellru.proofs.Leaving.{length-pops, leaves_self}
+use Rattle.schnellru.proofs.Leaving.{length-pops}
 use Rattle.schnellru.proofs.Fronts.{length-front, front_trim, front_make_way}
-
-count_by-cons : (p : Mark → Bool) (m : Mark) (rest : List Mark) → count_by p (m ∷ rest) ≡ cond (p m) 1 0 + count_by p rest
-count_by-cons p m rest = sum_by-cons (λ x. cond (p x) 1 0) m rest
 
 -- so many empty buckets
 abbrev pub empties : ℕ → List Mark
@@ -225,12 +222,8 @@ module _ {K V S H : Type 0} (rules : Rules K V S) (hash_of : H → K → ℕ) (p
       let here : IsPlaced pair (buckets old) (room new) 0 old new = record { table = is.table; left = refl; state = is.state } in
       elim (dec_lt 0 (length old.pairs)) [
         | yes some ↦ (placed, new, with_room some r (inl less) refl here, after)
-        | no none ↦ (placed, new, into_empty (none_left old.pairs (omega (arith, none))) (omega (arith, r, spare, full_capacity-at_most (buckets old))) r (inr less) refl here, after)
+        | no none ↦ (placed, new, into_empty (nil_from_length old.pairs (omega (arith, none))) (omega (arith, r, spare, full_capacity-at_most (buckets old))) r (inr less) refl here, after)
       ]
-    where
-      none_left : {X : Type 0} (xs : List X) → length xs ≡ 0 → xs ≡ []
-      none_left [] e = refl
-      none_left (x ∷ xs) e = absurd (omega (arith, e))
 
   module _ (lacks : LacksRoom old) where
     full_table : full_capacity (buckets old) ≡ used

@@ -1,18 +1,14 @@
-use Rattle.std.proofs.Common.{List, ◌+◌, ◌≡◌, ◌∷◌, ◌++◌, [], ◌<◌, length, is_some, refl, ap, sym, ◌∙◌, arith, append_assoc, append-nil, length-set}
+use Rattle.std.proofs.Common.{◌+◌, ◌≡◌, ◌∷◌, ◌++◌, [], ◌<◌, length, is_some, refl, ap, sym, ◌∙◌, arith, append_assoc, append-nil, length-set}
 use Rattle.std.specs.Vec.Iter.{into_iter_items, into_iter_len}
 use Rattle.group_table.specs.Moves.{place_at}
 use Rattle.group_table.proofs.BucketLemmas.{empty_not_deleted, deleted_count-none}
-use Rattle.std.proofs.lemmas.List.{length-append}
+use Rattle.std.proofs.lemmas.List.{length-append, nil_from_length}
 use Rattle.group_table.proofs.FreshLemmas.{entry_count-none}
 use Rattle.group_table.proofs.FitsLemmas.{Fits-none}
 use Rattle.group_table.proofs.JoinLemmas.{length-joined, entry_count-joined, deleted_count-joined}
 use Rattle.group_table.proofs.MoveLemmas.{Moves-none, Moves-same, Moves-more, KeepsMovedHashes-same, KeepsMovedHashes-more, come_before, come_there, come_elsewhere, come_none, come_within, come_next, come_fewer, count_by-push, one_more, none_more}
 use Rattle.group_table.proofs.table.moves.move_entries.Goals.{in-Some-place, in_default}
 use Rattle.group_table.proofs.table.moves.move_entries.Goals as goal
-
-nothing_left : {X : Type 0} (xs : List X) → length xs ≡ 0 → xs ≡ []
-nothing_left [] h = refl
-nothing_left (x ∷ xs) h = absurd (omega arith)
 
 pub loop-place-init : goal.loop-place-init
 loop-place-init g c =
@@ -116,20 +112,20 @@ returns-clause-none_deleted g c = c.loop-place.invariant.none_deleted
 pub returns-clause-entries : goal.returns-clause-entries
 returns-clause-entries g c =
     let at = c.loop-place in
-    let none = nothing_left _ (sym at.invariant.rest ∙ c.in-None.ensures.steps.0) in
+    let none = nil_from_length _ (sym at.invariant.rest ∙ c.in-None.ensures.steps.0) in
     let all : at.yielded ≡ c.args.old.items = sym (append-nil at.yielded) ∙ rw none at at.invariant.order ∙ c.into_iter-place-iterator.ensures.into_iter_gives.0 in
     rw (← all) at.invariant.entries
 
 pub returns-clause-moves : goal.returns-clause-moves
 returns-clause-moves g c =
     let at = c.loop-place in
-    let none = nothing_left _ (sym at.invariant.rest ∙ c.in-None.ensures.steps.0) in
+    let none = nil_from_length _ (sym at.invariant.rest ∙ c.in-None.ensures.steps.0) in
     let all : at.yielded ≡ c.args.old.items = sym (append-nil at.yielded) ∙ rw none at at.invariant.order ∙ c.into_iter-place-iterator.ensures.into_iter_gives.0 in
     rw (← all) at.invariant.moves
 
 pub returns-clause-hashes : goal.returns-clause-hashes
 returns-clause-hashes g c hash_at gives =
     let at = c.loop-place in
-    let none = nothing_left _ (sym at.invariant.rest ∙ c.in-None.ensures.steps.0) in
+    let none = nil_from_length _ (sym at.invariant.rest ∙ c.in-None.ensures.steps.0) in
     let all : at.yielded ≡ c.args.old.items = sym (append-nil at.yielded) ∙ rw none at at.invariant.order ∙ c.into_iter-place-iterator.ensures.into_iter_gives.0 in
     rw (← all) (at.invariant.hashes hash_at (rw c.into_iter-place-iterator.ensures.into_iter_gives.0 gives))
