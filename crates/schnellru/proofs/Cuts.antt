@@ -1,10 +1,10 @@
 -- An order of buckets, cut at one of them, and the entries of its buckets.
-use Rattle.std.proofs.Common.{◌≡◌, ℕ, zero, suc, ◌+◌, ◌<◌, ◌≤◌, Bool, true, false, cond, List, [], ◌∷◌, ◌++◌, length, ◌⊎◌, inl, inr, Option, Some, None, refl, sym, ap, ◌∙◌, subst, arith, slice_set, slice_index_or}
-use Rattle.std.specs.Prelude.{◌≢◌, nat_eq, not, filter, Contains, AllPairs, option_to_list}
+use Rattle.std.proofs.Common.{◌≡◌, ℕ, zero, suc, ◌+◌, ◌<◌, Bool, true, false, cond, List, [], ◌∷◌, ◌++◌, length, Some, refl, sym, ap, ◌∙◌, subst, arith, slice_set, slice_index_or}
+use Rattle.std.specs.Prelude.{◌≢◌, nat_eq, not, Contains, AllPairs, option_to_list}
 use Rattle.std.specs.List.{AllByRecursion}
 use Rattle.std.proofs.lemmas.Bool.Decides.{nat_tests}
 use Rattle.std.proofs.lemmas.List.{append_assoc, get_or-set_other}
-use Rattle.group_table.specs.Bucket.{Slot, IsFull, entry_at, entry_of, empty}
+use Rattle.group_table.specs.Bucket.{Slot, entry_at, entry_of, empty}
 use Rattle.schnellru.proofs.OrderLemmas.{Contains-here, Contains-later, distinct_head, distinct_tail, last_in}
 use Rattle.schnellru.specs.Linked.{without_bucket, entries_in}
 use Rattle.schnellru.specs.Chain.{last_bucket}

@@ -1,12 +1,10 @@
 -- A pair lands in the first free bucket of a linked table, as the newest.
-use Rattle.std.proofs.Common.{◌≡◌, ℕ, suc, ◌+◌, ◌-◌, ◌*◌, ◌^◌, ◌<◌, ◌≤◌, ◌⊎◌, inl, inr, Bool, true, false, List, [], ◌∷◌, ◌++◌, length, Some, None, refl, sym, ap, ◌∙◌, subst, arith, slice_set, min, cond, if◌then◌else◌}
-use native.Mathlib.Decide.{dec_lt}
-use Rattle.std.specs.Prelude.{nat_eq, Contains, option_to_list}
-use Rattle.std.specs.List.{AllByRecursion, IsDistinct}
-use Rattle.std.proofs.lemmas.Bool.Decides.{nat_tests}
-use Rattle.std.proofs.lemmas.List.{length-set, get_or-set_same, get_or_past}
+use Rattle.std.proofs.Common.{◌≡◌, ℕ, ◌+◌, ◌-◌, ◌^◌, ◌<◌, inl, inr, Bool, true, false, List, [], ◌∷◌, ◌++◌, length, Some, None, refl, sym, ap, ◌∙◌, subst, arith, slice_set, cond, if◌then◌else◌}
+use Rattle.std.specs.Prelude.{option_to_list}
+use Rattle.std.specs.List.{AllByRecursion}
+use Rattle.std.proofs.lemmas.List.{length-set, get_or-set_same}
 use Rattle.group_table.specs.Sizes.{full_capacity}
-use Rattle.group_table.specs.Bucket.{Slot, Mark, empty, deleted, full, is_full, is_deleted, is_used, bucket_at, entry_of, entry_at, marks_of, room, room_at, IsFull}
+use Rattle.group_table.specs.Bucket.{Mark, empty, deleted, full, is_full, is_deleted, is_used, bucket_at, entry_of, marks_of, room, room_at, IsFull}
 use Rattle.group_table.specs.Probe.{hash_tag, IsFirstFree}
 use Rattle.group_table.specs.Change.{MayFill, count_up}
 use Rattle.group_table.specs.Table.{IsTable}
@@ -20,7 +18,6 @@ use Rattle.schnellru.specs.Steps.{UsesRoom, UsesDeleted}
 use Rattle.schnellru.specs.Linked.{Linked, IsLinked, Lands, pairs_of, entries_in}
 use Rattle.schnellru.specs.Holds.{state_by}
 use Rattle.schnellru.proofs.Cuts.{Lacks, lacks_unless, entries-apart}
-use Rattle.schnellru.proofs.Distinct.{AreDistinct}
 use Rattle.schnellru.proofs.FilledBuckets.{deleted_large}
 use Rattle.schnellru.proofs.Kept.{sized_same, room_at-most}
 use Rattle.schnellru.proofs.Potential.{pays_placing}

@@ -1,5 +1,5 @@
 -- What a search of the linked table says of the pairs.
-use Rattle.std.proofs.Common.{◌≡◌, ℕ, Bool, true, false, cond, List, [], ◌∷◌, Option, Some, None, option_map, refl, sym, ap, ◌∙◌}
+use Rattle.std.proofs.Common.{◌≡◌, ℕ, Bool, true, false, cond, List, [], ◌∷◌, Some, None, option_map, refl, sym, ap, ◌∙◌}
 use Rattle.group_table.specs.Bucket.{entry_at}
 use Rattle.schnellru.specs.Lists.{lookup, lookup_entry}
 use Rattle.schnellru.specs.Linked.{Linked, IsLinked, pairs_of}

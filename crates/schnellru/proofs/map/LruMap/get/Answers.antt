@@ -1,9 +1,9 @@
-use Rattle.std.proofs.Common.{refl, sym, ap, ◌∙◌, subst, option_map, inr, Some, unwrap_or, ◌≡◌, true}
+use Rattle.std.proofs.Common.{refl, sym, ap, ◌∙◌, subst, unwrap_or, ◌≡◌, true}
 use Rattle.group_table.specs.Bucket.{entry_at}
 use Rattle.lru_limits.specs.Hashing.{hash_by, hash_by-named}
-use Rattle.schnellru.specs.Linked.{KeysFit, with_pair}
+use Rattle.schnellru.specs.Linked.{KeysFit}
 use Rattle.schnellru.proofs.Ordered.{value_found}
-use Rattle.schnellru.proofs.Searched.{not_found, no_value}
+use Rattle.schnellru.proofs.Searched.{no_value}
 use Rattle.schnellru.proofs.Written.{first_holds, first_state, same_follow}
 use Rattle.schnellru.proofs.map.LruMap.get.Goals as goal
 

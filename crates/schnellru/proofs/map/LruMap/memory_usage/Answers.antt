@@ -1,4 +1,4 @@
-use Rattle.std.proofs.Common.{◌≤◌, ◌<◌, ◌-◌, ◌^◌, Some, sym, ap, ◌∙◌, subst, arith}
+use Rattle.std.proofs.Common.{◌≤◌, ◌-◌, ◌^◌, Some, sym, ap, ◌∙◌, subst, arith}
 use Rattle.group_table.proofs.BucketLemmas.{length-marks_of}
 use Rattle.schnellru.specs.Sizes.{usage, bytes_of}
 use Rattle.schnellru.proofs.Growth.{usage_bytes}

@@ -1,4 +1,4 @@
-use Rattle.std.proofs.Common.{◌≤◌, ◌<◌, ap, sym, ◌∙◌, subst, min, ◌+◌, ◌^◌, ◌-◌, length, arith, inl, inr}
+use Rattle.std.proofs.Common.{ap, sym, ◌∙◌, min, ◌+◌, ◌^◌, ◌-◌, length, arith, inl, inr}
 use Rattle.std.proofs.lemmas.Bool.{false≢true}
 use Rattle.group_table.specs.Sizes.{full_capacity}
 use Rattle.group_table.proofs.BucketLemmas.{length-marks_of}
