@@ -3,7 +3,7 @@ use Rattle.std.proofs.Common.{◌≡◌, Bool, cond, List, Option, Some, None, r
 use Rattle.std.specs.Prelude.{option_map}
 use Rattle.schnellru.specs.Lists.{lookup, lookup_entry, without, after, front}
 use Rattle.schnellru.proofs.Fronts.{found_named, without_none}
-use Rattle.schnellru.proofs.Searched.{lookup-entry}
+use Rattle.schnellru.proofs.Named.{lookup-entry}
 
 module _ {K V : Type 0} (names : K → Bool) where
   pub lookup-front : (xs : List (K × V)) → lookup names (front names xs) ≡ lookup names xs

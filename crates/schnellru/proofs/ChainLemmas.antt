@@ -11,7 +11,7 @@ use Rattle.group_table.proofs.SearchLemmas.{full_by_entry}
 use Rattle.schnellru.specs.declared.link.Entry.{Entry}
 use Rattle.schnellru.specs.Linked.{without_bucket}
 use Rattle.schnellru.specs.Chain.{first_bucket, last_bucket, bucket_after, bucket_before, link_to, newer_at, older_at, SetsLinks, SetsNewer, SetsOlder, SetsEnd, IsChain}
-use Rattle.schnellru.proofs.OrderLemmas.{Contains-cases, after_in, before_in, first_in, without_in, distinct_without, distinct_cons}
+use Rattle.schnellru.proofs.OrderLemmas.{other_than, Contains-cases, after_in, before_in, first_in, without_in, distinct_without, distinct_cons}
 use Rattle.schnellru.proofs.NeighbourLemmas.{before-next, before-stays, after-previous, after-stays, first-left, first-left_stays, last-left, last-left_stays, before-itself, after-itself, before-first, before-later, after-later}
 use Rattle.schnellru.proofs.PairSlotLemmas.{same_length, same_full, pair_slots-refilled}
 
@@ -179,11 +179,8 @@ module _ {N : Type 0} (number : N → ℕ) (link : ℕ → N) (none : N) (eq : N
           oldest_is.stays (λ k. inner_link (first_bucket order) c is (first_below c is) (sym chain.newest_first ∙ k))
           ∙ chain.oldest_last ∙ ap (λ xs. link_to link none (last_bucket xs)) (sym e)
 
-      other_than : (x : ℕ) → Contains order x → x ≢ b
-      other_than x there e = absent (subst (Contains order) e there)
-
       come_newer : (x : ℕ) → Contains order x → newer_at s2 x ≡ Some (link_to link none (bucket_before x (b ∷ order)))
-      come_newer x there = ap (option_map (λ y. y.newer)) (second.others x (other_than x there)) ∙ elim (cases_eq x (number newest)) [
+      come_newer x there = ap (option_map (λ y. y.newer)) (second.others x (other_than b order absent x there)) ∙ elim (cases_eq x (number newest)) [
         | inl h ↦
             let is : first_bucket order ≡ Some x = bucket_by_link (first_bucket order) x first_below (chained_below chain x there) (h ∙ ap number chain.newest_first) in
             subst (λ k. newer_at s1 k ≡ Some (link b)) (sym h) (first.there (subst (IsFull s0) h (chain.only x there)))
@@ -211,7 +208,7 @@ module _ {N : Type 0} (number : N → ℕ) (link : ℕ → N) (none : N) (eq : N
           | inl h ↦ subst (λ k. older_at s2 k ≡ Some (link_to link none (bucket_after k (b ∷ order)))) h
               (second.older_there ∙ ap Some chain.newest_first ∙ ap (λ o. Some (link_to link none o)) (sym (after-itself b order absent chain.distinct)))
           | inr there ↦
-              ap (option_map (λ y. y.older)) (second.others x (other_than x there)) ∙ first.older x ∙ chain.older x there
+              ap (option_map (λ y. y.older)) (second.others x (other_than b order absent x there)) ∙ first.older x ∙ chain.older x there
               ∙ ap (λ o. Some (link_to link none o)) (sym (after-later b order absent chain.distinct x there))
         ];
       }

@@ -3,10 +3,11 @@ use Rattle.std.proofs.Common.{◌≡◌, ℕ, suc, ◌≤◌, inl, inr, Bool, tr
 use Rattle.std.proofs.lemmas.Bool.Decides.{nat_tests}
 use Rattle.std.specs.Prelude.{nat_lt, nat_le}
 use Rattle.std.specs.declared.alloc.AllocError.{AllocError}
+use Rattle.schnellru.proofs.Emptiness.{empty-length}
 use Rattle.lru_limits.specs.Rules.{Rules, Offers}
 use Rattle.lru_limits.specs.Stores.{plain, hands_over}
 use Rattle.schnellru.specs.Sizes.{usage}
-use Rattle.schnellru.specs.Lists.{is_empty, without}
+use Rattle.schnellru.specs.Lists.{without}
 use Rattle.schnellru.specs.State.{State, buckets, Contents, contents, Leaves, trim}
 use Rattle.schnellru.specs.Place.{Outcome, placed, refused, no_memory}
 use Rattle.schnellru.specs.Inserts.{Insert, replaced, given_up, no_memory_to_admit, not_admitted, admitted, Settles}
@@ -50,11 +51,7 @@ module _ {K V H I : Type 0} (rules : Rules K V ℕ) (offers : Offers K V ℕ I) 
   -- where it is over with more pairs than the most, no more are left
   module _ (within : (n : ℕ) → rules.is_over_the_limit most n ≡ false → n ≤ most) where
     within_length : (c : Contents K V ℕ) → c.limiter ≡ most → IsWithin rules c → length c.pairs ≤ most
-    within_length c same (inl e) = none c.pairs e
-      where
-        none : (xs : List (K × V)) → is_empty xs ≡ true → length xs ≤ most
-        none [] e = omega arith
-        none (x ∷ xs) e = absurd (grind arith)
+    within_length c same (inl e) = omega (arith, empty-length c.pairs e)
     within_length c same (inr e) = within (length c.pairs) (ap (λ s. rules.is_over_the_limit s (length c.pairs)) (sym same) ∙ e)
 
     trimmed_length : (old : State K V ℕ H) (c : Contents K V ℕ) (new : State K V ℕ H) → Leaves old (trim rules c) new → c.limiter ≡ most → length new.pairs ≤ most

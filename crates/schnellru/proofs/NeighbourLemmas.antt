@@ -5,7 +5,7 @@ use Rattle.std.proofs.lemmas.Bool.{cases_eq}
 use Rattle.std.proofs.lemmas.Option.{none-some, same_Some}
 use Rattle.schnellru.specs.Chain.{first_bucket, last_bucket, bucket_after, bucket_before}
 use Rattle.schnellru.specs.Linked.{without_bucket}
-use Rattle.schnellru.proofs.OrderLemmas.{Contains-nil, Contains-cases, Contains-here, Contains-later, distinct_head, distinct_tail, distinct_cons, before_from, last_from, before_from-in, before_from-some, before_is, last_is, before_first, before_not_first, after_in, without-absent, distinct_without}
+use Rattle.schnellru.proofs.OrderLemmas.{other_than, Contains-nil, Contains-cases, Contains-here, Contains-later, distinct_head, distinct_tail, distinct_cons, before_from, last_from, before_from-in, before_from-some, before_is, last_is, before_first, before_not_first, after_in, without-absent, distinct_without}
 
 -- the buckets after b do not have it
 absent_after : (b c : ℕ) (cs : List ℕ) → AllPairs ◌≢◌ (c ∷ cs) → c ≡ b → Contains cs b → ⊥
@@ -165,7 +165,7 @@ module _ (b : ℕ) (order : List ℕ) (absent : Contains order b → ⊥) (d : A
 
   module _ (x : ℕ) (there : Contains order x) where
     apart : b ≢ x
-    apart e = absent (subst (Contains order) (sym e) there)
+    apart e = other_than b order absent x there (sym e)
 
     pub before-first : first_bucket order ≡ Some x → bucket_before x (b ∷ order) ≡ Some b
     before-first e = before_is x (b ∷ order) (distinct_cons b order absent d) ∙ rw (ne_eqb b x apart) (before_first (Some b) x order e)

@@ -25,6 +25,10 @@ Contains-cases c x cs w = cases_at c x cs w.0 w.1 w.2
 pub Contains-nil : (x : ℕ) → Contains [] x → ⊥
 Contains-nil x w = absurd (omega (arith, w.1))
 
+-- what is in a list is none that is not
+pub other_than : (b : ℕ) (order : List ℕ) → (Contains order b → ⊥) → (x : ℕ) → Contains order x → x ≢ b
+other_than b order absent x there e = absent (subst (Contains order) e there)
+
 -- the head of distinct buckets is not in the tail
 pub distinct_head : (c : ℕ) (cs : List ℕ) → AllPairs ◌≢◌ (c ∷ cs) → Contains cs c → ⊥
 distinct_head c cs d w = d zero (suc w.0) c (omega arith) (omega (arith, w.1)) (sym w.2)

@@ -1,7 +1,7 @@
 -- The pairs of a linked table, as its buckets give them.
 use Rattle.std.proofs.Common.{◌≡◌, ℕ, suc, ◌+◌, Bool, true, false, List, [], ◌∷◌, ◌++◌, length, Some, None, refl, sym, ap, ◌∙◌, subst, arith, append-nil, inl, inr}
 use Rattle.std.specs.Cmp.{IsEquivalence}
-use Rattle.std.specs.Prelude.{Contains, option_to_list}
+use Rattle.std.specs.Prelude.{Contains, option_to_list, option_map}
 use Rattle.std.specs.List.{AllByRecursion}
 use Rattle.group_table.specs.Bucket.{Slot, empty, deleted, IsFull, bucket_at, entry_at}
 use Rattle.group_table.specs.Change.{Removes}
@@ -9,9 +9,9 @@ use Rattle.group_table.proofs.SearchLemmas.{entry_by_full, full_by_entry}
 use Rattle.schnellru.specs.Lists.{lookup, lookup_entry, without, last, without_last}
 use Rattle.schnellru.specs.Linked.{Linked, IsLinked, entries_in, pairs_of, without_bucket}
 use Rattle.schnellru.specs.Chain.{last_bucket}
-use Rattle.schnellru.proofs.Distinct.{AreDistinct}
+use Rattle.schnellru.proofs.Distinct.{AreDistinct, NoneNamed, none_found}
 use Rattle.schnellru.proofs.OrderLemmas.{last_in, length-without}
-use Rattle.schnellru.proofs.Named.{NoneNamed, none_found, cut_found, cut_value, cut_without, others_unnamed, last_end, without_last_end}
+use Rattle.schnellru.proofs.Named.{lookup-entry, cut_found, cut_without, others_unnamed, last_end, without_last_end}
 use Rattle.schnellru.proofs.Cuts.{Cut, cut_at, cut_last, without_lacks, entries-cut, entries-without, entries-apart}
 
 module _ {T : Type 0} where
@@ -46,7 +46,7 @@ module _ {K V : Type 0} (t : Linked K V) (linked : IsLinked t) where
       pair_found = ap (lookup_entry names) cut_pairs ∙ cut_found names p named (entries_in t.slots cut_here.before) (entries_in t.slots cut_here.after) unnamed
 
       pub value_found : lookup names (pairs_of t) ≡ Some p.1
-      value_found = ap (lookup names) cut_pairs ∙ cut_value names p named (entries_in t.slots cut_here.before) (entries_in t.slots cut_here.after) unnamed
+      value_found = lookup-entry names (pairs_of t) ∙ ap (option_map (λ e. e.1)) pair_found
 
       -- the others, in their order
       pub others_are : without names (pairs_of t) ≡ entries_in t.slots (without_bucket b t.order)

@@ -9,7 +9,7 @@ use Rattle.group_table.specs.Sizes.{full_capacity, IsBucketCount, IsPowerFromFou
 use Rattle.group_table.specs.Bucket.{Mark, empty, deleted, full, bucket_at, is_full, is_used, is_deleted, entry_count}
 use Rattle.group_table.specs.Probe.{IsFirstFree}
 use Rattle.group_table.specs.Change.{count_up}
-use Rattle.group_table.proofs.SizeLemmas.{full_capacity-lt, full_capacity-small, full_capacity-large, power_pos}
+use Rattle.group_table.proofs.SizeLemmas.{full_capacity-lt, full_capacity-small, power_pos}
 use Rattle.group_table.proofs.BucketLemmas.{count_by-cons, some_empty, room_is, used_count-split, count_by-pos}
 use Rattle.group_table.proofs.ProbeLemmas.{probed-lt}
 use Rattle.group_table.proofs.FirstFree.{first_free_there}
@@ -19,7 +19,7 @@ use Rattle.schnellru.specs.Sizes.{usage, Target, target, target_from, no_table, 
 use Rattle.schnellru.specs.State.{State, Contents, buckets, room, contents, IsMap, Leaves, FirstFreeIs, pops, trim}
 use Rattle.schnellru.specs.Place.{Place, first_table, first_denied, first_too_large, into_empty, into_emptied, with_room, deleted_bucket, rehashed, grown, evicted, evicted_rehashed, Outcome, placed, refused, no_memory, IsPlaced, LacksRoom, CannotGrow, no_target, denied, next_table, asked, turned_away, without_oldest}
 use Rattle.schnellru.specs.Inserts.{Insert, replaced, given_up, not_admitted, admitted, make_way, replacement, with_replaced, with_given_up}
-use Rattle.schnellru.proofs.Growth.{full_capacity-at_most}
+use Rattle.schnellru.proofs.Growth.{full_capacity-at_most, full_capacity-some}
 use Rattle.schnellru.proofs.Leaving.{length-pops}
 use Rattle.schnellru.proofs.Fronts.{length-front, front_trim, front_make_way}
 
@@ -50,12 +50,6 @@ deleted-filled (suc n) rest = omega (arith, deleted-filled n rest, count_by-cons
 
 used-filled : (n rest : ℕ) → count_by is_used (filled n rest) ≡ n
 used-filled n rest = omega (arith, used_count-split (filled n rest), entries-filled n rest, deleted-filled n rest)
-
-full_capacity-pos : (n : ℕ) → IsPowerFromFour n → 0 < full_capacity n
-full_capacity-pos n s = elim (dec_lt 8 n) [
-  | yes q ↦ omega (arith, full_capacity-large n q)
-  | no q ↦ omega (arith, full_capacity-small n (omega arith), power_pos n s)
-]
 
 -- a table of the same size is kept where at most half of it is needed
 target-same : (max e b c : ℕ) → target max e b c ≡ same_table → c ≤ full_capacity b / 2
@@ -209,7 +203,7 @@ module _ {K V S H : Type 0} (rules : Rules K V S) (hash_of : H → K → ℕ) (p
 
   emptied_ends : old.pairs ≡ [] → IsPowerFromFour (buckets old) → room old ≡ 0 → Ends
   emptied_ends e power r =
-      let (new, is, left, after) = some_bucket pair old old 1 ready.count (full_capacity-pos (buckets old) power) (omega (arith, ap length e)) in
+      let (new, is, left, after) = some_bucket pair old old 1 ready.count (omega (arith, full_capacity-some (buckets old) power)) (omega (arith, ap length e)) in
       (placed, new, into_emptied e (omega (arith, power_pos (buckets old) power)) r refl is, after)
 
   -- with room, one of the room goes

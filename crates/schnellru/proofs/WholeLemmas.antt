@@ -16,7 +16,7 @@ use Rattle.schnellru.specs.declared.link.Entry.{Entry}
 use Rattle.schnellru.specs.declared.link.Pair.{Pair}
 use Rattle.schnellru.specs.Linked.{Linked, IsLinked, without_bucket, with_pair}
 use Rattle.schnellru.specs.Chain.{first_bucket, bucket_after, link_to, pair_slots, older_at, along, IsChain, IsWhole}
-use Rattle.schnellru.proofs.OrderLemmas.{Contains-here, Contains-later, distinct_head, distinct_tail, without_in, in_without, length-without}
+use Rattle.schnellru.proofs.OrderLemmas.{other_than, Contains-here, Contains-later, distinct_head, distinct_tail, without_in, in_without, length-without}
 use Rattle.schnellru.proofs.NeighbourLemmas.{after-later}
 use Rattle.schnellru.proofs.PairSlotLemmas.{same_count, same_full, marks_of-pair_slots, is_full-pair_slots, entry_count-pair_slots, pair_slots-rewritten}
 use Rattle.schnellru.proofs.ChainLemmas.{chained_below}
@@ -116,11 +116,8 @@ module _ {N : Type 0} (number : N → ℕ) (link : ℕ → N) (none : N) (eq : N
     pub placed_absent : Contains order b → ⊥
     placed_absent w = false≢true (sym (sym (is_full-marks_of old.slots b) ∙ places.first.free_there) ∙ whole.chain.only b w)
 
-    other_than : (x : ℕ) → Contains order x → x ≢ b
-    other_than x w e = placed_absent (subst (Contains order) e w)
-
     pub IsChain-placed : IsChain number link none new.slots newest oldest order
-    IsChain-placed = IsChain-kept old.slots new.slots newest oldest order (ap length places.slots ∙ length-set old.slots b _) (λ x w. bucket_at-placed_other old new hash entry b places x (other_than x w)) whole.chain
+    IsChain-placed = IsChain-kept old.slots new.slots newest oldest order (ap length places.slots ∙ length-set old.slots b _) (λ x w. bucket_at-placed_other old new hash entry b places x (other_than b order placed_absent x w)) whole.chain
 
     pub IsWhole-placed : (s2 : List (Slot (Entry K V N))) (newest' oldest' : N) → pair_slots s2 ≡ pair_slots new.slots → IsChain number link none s2 newest' oldest' (b ∷ order) → IsWhole number link none s2 newest' oldest' (b ∷ order)
     IsWhole-placed s2 newest' oldest' same chain = record {

@@ -1,7 +1,9 @@
 -- What the answer of an insert says.
-use Rattle.std.proofs.Common.{◌≡◌, ℕ, zero, suc, ◌⊎◌, inl, inr, Bool, true, false, cond, not, List, [], ◌∷◌, length, None, Result, Ok, Err, refl, ap, ◌∙◌, subst, arith}
+use Rattle.std.proofs.Common.{◌≡◌, ℕ, zero, suc, ◌⊎◌, inl, inr, Bool, true, false, cond, not, List, [], ◌∷◌, length, Result, Ok, Err, refl, ap, ◌∙◌, subst, arith}
 use Rattle.std.specs.Prelude.{IsErr}
 use Rattle.std.specs.declared.alloc.AllocError.{AllocError}
+use Rattle.std.proofs.lemmas.List.{nil_from_length}
+use Rattle.schnellru.proofs.Emptiness.{empty-length, is_empty-none}
 use Rattle.lru_limits.specs.Rules.{Rules, Offers}
 use Rattle.lru_limits.specs.Laws.{IsLookup, IsInsertion}
 use Rattle.schnellru.specs.Lists.{is_empty, IsFront, lookup_entry, without}
@@ -19,11 +21,7 @@ module _ {K V S : Type 0} (rules : Rules K V S) where
   IsWithin c = (is_empty c.pairs ≡ true) ⊎ (rules.is_over_the_limit c.limiter (length c.pairs) ≡ false)
 
   within_from : (n : ℕ) (c : Contents K V S) → length c.pairs ≡ n → IsWithin (trim_from rules n c)
-  within_from zero c e = inl (none c.pairs e)
-    where
-      none : (xs : List (K × V)) → length xs ≡ 0 → is_empty xs ≡ true
-      none [] h = refl
-      none (x ∷ xs) h = absurd (omega (arith, h))
+  within_from zero c e = inl (is_empty-none c.pairs e)
   within_from (suc n) c e = go (rules.is_over_the_limit c.limiter (suc n)) refl (within_from n (pop rules c) (omega (arith, length-without_last c.pairs)))
     where
       go : (b : Bool) → rules.is_over_the_limit c.limiter (suc n) ≡ b → IsWithin (trim_from rules n (pop rules c)) → IsWithin (cond b (trim_from rules n (pop rules c)) c)
@@ -95,12 +93,8 @@ module _ {K V S H : Type 0} (rules : Rules K V S) (names : K → Bool) where
       same_limiter : new.limiter ≡ (trim rules c).limiter
       same_limiter = ap (λ st. st.limiter) l.is
 
-      none : (xs : List (K × V)) → is_empty xs ≡ true → lookup_entry names xs ≡ None
-      none [] e = refl
-      none (x ∷ xs) e = grind arith
-
       go : (b : Bool) → is_empty new.pairs ≡ b → SaysWhether rules names (Ok (not b)) new
-      go true e = none new.pairs e
+      go true e = ap (lookup_entry names) (nil_from_length new.pairs (empty-length new.pairs e))
       go false e = let k : is_empty (trim rules c).pairs ≡ false = rw same at e in
           (rw same (trim_newest rules names c k n), rw (same, same_limiter) (trim_within rules c k))
 

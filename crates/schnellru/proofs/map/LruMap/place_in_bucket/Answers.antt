@@ -2,9 +2,9 @@ use Rattle.std.proofs.Common.{sym, subst, ◌<◌}
 use Rattle.std.specs.List.{IsDistinct}
 use Rattle.group_table.proofs.BucketLemmas.{length-marks_of}
 use Rattle.schnellru.specs.Holds.{state_by}
-use Rattle.schnellru.proofs.Distinct.{AreDistinct}
+use Rattle.schnellru.proofs.Distinct.{AreDistinct, absent_keys}
 use Rattle.schnellru.proofs.Landed.{uses_room, uses_deleted}
-use Rattle.schnellru.proofs.Landed.{lands_pairs, lands_placed, lands_sized, lands_paid, lands_within, absent_keys}
+use Rattle.schnellru.proofs.Landed.{lands_pairs, lands_placed, lands_sized, lands_paid, lands_within}
 use Rattle.schnellru.proofs.map.LruMap.place_in_bucket.Goals as goal
 
 pub invariant_of-self-2 : goal.invariant_of-self-2
