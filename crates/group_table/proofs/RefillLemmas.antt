@@ -2,11 +2,12 @@
 use Rattle.std.proofs.Common.{◌≡◌, ◌≢◌, ℕ, ◌-◌, ◌<◌, ◌≤◌, max, true, cond, List, length, get_or, set, Option, Some, None, refl, ap, sym, ◌∙◌, arith, inl, inr, get_or-set_other, get_or-set_same, length-set}
 use Rattle.std.proofs.lemmas.Bool.{cases_eq}
 use Rattle.std.proofs.lemmas.List.{set-get_or}
+use Rattle.std.proofs.Math.Seq.{map-set_same}
 use native.Mathlib.Decide.{dec_lt}
 use Rattle.group_table.specs.Bucket.{Slot, empty, deleted, full, bucket_at, is_used, is_full, refilled, IsFull, entry_of, entry_at, entry_count, mark_of, marks_of}
 use Rattle.group_table.specs.Fits.{Fits}
 use Rattle.group_table.specs.Layout.{slot_of, slots_of, byte_of, byte_at, Agrees, IsValid}
-use Rattle.group_table.proofs.BucketLemmas.{bucket_at-set_same, bucket_at-set_other, count_by-set, full_not_deleted, full_lt, marks_of-set, bucket_at-marks_of}
+use Rattle.group_table.proofs.BucketLemmas.{bucket_at-set_same, bucket_at-set_other, count_by-set, full_not_deleted, full_lt}
 use Rattle.group_table.proofs.LayoutLemmas.{slots_of-set, bucket_at-laid_out, length-laid_out, full_within, full_entry, full_byte}
 use Rattle.group_table.proofs.SearchLemmas.{held_by}
 use Rattle.group_table.proofs.FitsLemmas.{one_held}
@@ -100,8 +101,7 @@ module _ {T : Type 0} (slots : List (Slot T)) (b : ℕ) (w : T) where
 
 -- a write of an entry leaves the marks
 pub marks_of-refilled : {T : Type 0} (slots : List (Slot T)) (b : ℕ) (w : T) → marks_of (set slots b (refilled (bucket_at slots b) w)) ≡ marks_of slots
-marks_of-refilled {T} slots b w =
-    marks_of-set slots b _ ∙ ap (set (marks_of slots) b) (same (bucket_at slots b) ∙ sym (bucket_at-marks_of slots b)) ∙ set-get_or (marks_of slots) b empty
+marks_of-refilled {T} slots b w = map-set_same mark_of slots b (refilled (bucket_at slots b) w) empty (same (bucket_at slots b))
   where
     same : (s : Slot T) → mark_of (refilled s w) ≡ mark_of s
     same empty = refl

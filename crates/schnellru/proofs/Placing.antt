@@ -9,8 +9,8 @@ use Rattle.group_table.specs.Bucket.{empty, marks_of}
 use Rattle.group_table.specs.Change.{HasNoPlace}
 use Rattle.lru_limits.specs.Rules.{Rules}
 use Rattle.schnellru.specs.Sizes.{usage, Target, no_table, new_table, target}
-use Rattle.schnellru.specs.State.{State, buckets, room, contents, IsSized, IsPaid, Leaves, pop, pops, FirstFreeIs}
-use Rattle.schnellru.specs.Place.{Place, first_table, first_denied, first_too_large, into_empty, into_emptied, with_room, deleted_bucket, rehashed, grown, evicted, evicted_rehashed, CannotGrow, Outcome, no_target, denied, outcome_of, placed, refused, IsPlaced, IsPlacedIfMemory, LacksRoom, asked, turned_away, without_oldest, next_table}
+use Rattle.schnellru.specs.State.{State, buckets, room, contents, IsSized, Leaves, pop, pops, FirstFreeIs}
+use Rattle.schnellru.specs.Place.{Place, first_table, first_denied, into_empty, into_emptied, with_room, deleted_bucket, rehashed, grown, evicted, evicted_rehashed, CannotGrow, Outcome, no_target, denied, outcome_of, placed, refused, IsPlaced, IsPlacedIfMemory, LacksRoom, asked, turned_away, without_oldest, next_table}
 use Rattle.schnellru.specs.Steps.{Evicts, finds_bucket, made_anew, UsesRoom, UsesDeleted}
 use Rattle.group_table.proofs.BucketLemmas.{length-marks_of}
 use Rattle.schnellru.specs.Linked.{Linked, IsLinked, pairs_of}
@@ -57,9 +57,6 @@ module _ {K V S H : Type 0} (rules : Rules K V S) (hash_of : H → K → ℕ) (p
         Place rules hash_of pair old refused new
     first_refused refusal step = first_denied (none_without_buckets old ok none) none bytes usable refusal refl
         (step ∙ ap {A = S} {B = State K V S H} (λ l. turned_away rules pair (record old { limiter = l })) told)
-
-  pub first_impossible : buckets old ≡ 0 → usage old.entry_bytes 4 ≡ None → new ≡ turned_away rules pair old → Place rules hash_of pair old refused new
-  first_impossible none large step = first_too_large (none_without_buckets old ok none) none large refl step
 
   -- the oldest left, where the table cannot grow
   pub evicts_place : (outcome : Outcome) (mid : State K V S H) → CannotGrow rules old mid → LacksRoom old → FirstFreeIs empty (hash_of old.hasher pair.0) old →
@@ -206,10 +203,6 @@ module _ {K V S H : Type 0} (rules : Rules K V S) (pair : K × V) (old prev left
 
   same_buckets : buckets left ≡ buckets old
   same_buckets = step.room.table ∙ before.room.table
-
-  -- then as many entries can move as there are pairs
-  pub left_paid : IsPaid left → 2 * length left.pairs < full_capacity (buckets left) → left.moved + length left.pairs ≤ 2 * left.placed
-  left_paid paid few = omega (arith, paid, few, step.room.at_most, still, one_fewer)
 
   pub left_absent : (names : K → Bool) → lookup_entry names old.pairs ≡ None → lookup_entry names left.pairs ≡ None
   left_absent names absent = front_absent names left.pairs old.pairs
