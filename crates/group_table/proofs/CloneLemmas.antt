@@ -1,4 +1,4 @@
--- A copy of a table.
+-- A copy of a table has the marks, the counts and the fitting hashes of the table.
 use Rattle.std.proofs.Common.{◌≡◌, ℕ, zero, suc, List, [], ◌∷◌, length, Option, Some, None, Result, refl, ap, sym, ◌∙◌, arith, count_by, cond, nat_eq, true, false, Bool}
 use Rattle.std.specs.List.{AllZip}
 use Rattle.std.proofs.lemmas.List.Elements.{length_all_zip, AllZip-get_or}

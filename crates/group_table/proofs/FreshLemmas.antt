@@ -1,4 +1,4 @@
--- The fields of a table whose buckets are all empty.
+-- The fields of a table whose buckets are all empty, and what holds of such a table.
 use Rattle.std.proofs.Common.{◌≡◌, ℕ, zero, suc, ◌+◌, ◌^◌, ◌<◌, ◌≤◌, ◌∷◌, length, replicate, Option, None, ◌⊎◌, refl, ap, sym, ◌∙◌, arith, inl, inr, count_by, cond, Bool, false, List, Some, true, get_or}
 use Rattle.std.proofs.lemmas.List.{length-replicate, get_or-replicate}
 use Rattle.std.proofs.lemmas.List.Sums.{sum_by-cons}

@@ -1,4 +1,4 @@
--- The buckets that a search asks about.
+-- What a bucket holds, and which buckets a search asks about.
 use Rattle.std.proofs.Common.{◌≡◌, ◌≢◌, ℕ, zero, suc, ◌+◌, ◌%◌, ◌<◌, ◌≤◌, Bool, true, false, cond, List, [], ◌∷◌, ◌++◌, length, map, refl, ap, sym, ◌∙◌, subst, arith, append_assoc, add-one, add-zero, eq-eqb, AllPairs, Some}
 use Rattle.std.specs.List.{range_with_len, FoldsTo, Contains}
 use Rattle.std.specs.Borrow.{Bor}

@@ -1,4 +1,4 @@
--- A list is empty, or it is not.
+-- Whether a list is empty, by its length.
 use Rattle.std.proofs.Common.{◌≡◌, ◌<◌, true, false, List, [], ◌∷◌, length, refl, arith}
 use Rattle.schnellru.specs.Lists.{is_empty}
 

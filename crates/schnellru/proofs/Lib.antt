@@ -24,7 +24,7 @@ pub mod Kept
 pub mod FilledBuckets
 pub mod Emptiness
 pub mod Landed
-pub mod Moved
+pub mod MovedPairs
 pub mod Searched
 pub mod Written
 pub mod OrderLemmas
@@ -34,7 +34,7 @@ pub mod ChainLemmas
 pub mod KeyLemmas
 pub mod WholeLemmas
 pub mod ReadLemmas
-pub mod MovedLemmas
+pub mod MovedChain
 pub mod RelocateLemmas
 pub mod RestLemmas
 pub mod Placing

@@ -1,4 +1,4 @@
--- Slots of entries, seen as slots of pairs: they have the same marks, tags, counts and hashes.
+-- Slots of entries, seen as slots of pairs, have the same marks, tags, counts and hashes.
 use Rattle.std.proofs.Common.{◌≡◌, ℕ, List, [], ◌∷◌, length, set, Option, Some, None, inl, inr, refl, ap, sym, ◌∙◌, subst}
 use Rattle.std.specs.Prelude.{option_map}
 use Rattle.std.proofs.lemmas.List.{map-set, length-map}
