@@ -84,7 +84,8 @@ module _ {A : Type 0} where
   bucket_at-set_other buckets b k s p = get_or-set_other buckets b k s empty p
 
   -- what writing one bucket does to a count
-  pub count_by-set : (p : Bucket A → Bool) (buckets : List (Bucket A)) (b : ℕ) (s : Bucket A) → b < length buckets → count_by p (set buckets b s) + cond (p (bucket_at buckets b)) 1 0 ≡ count_by p buckets + cond (p s) 1 0
+  pub count_by-set : (p : Bucket A → Bool) (buckets : List (Bucket A)) (b : ℕ) (s : Bucket A) → b < length buckets
+      → count_by p (set buckets b s) + cond (p (bucket_at buckets b)) 1 0 ≡ count_by p buckets + cond (p s) 1 0
   count_by-set p buckets b s within = sum_by-set (λ x. cond (p x) 1 0) buckets b s empty within
 
   pub count_by-pos : (p : Bucket A → Bool) (buckets : List (Bucket A)) (b : ℕ) → b < length buckets → p (bucket_at buckets b) ≡ true → 0 < count_by p buckets
@@ -97,7 +98,8 @@ module _ {A : Type 0} (p : Bucket A → Bool) (q : Mark → Bool) (same : (s : B
   count_by-marks_of : (buckets : List (Bucket A)) → count_by q (marks_of buckets) ≡ count_by p buckets
   count_by-marks_of [] = refl
   count_by-marks_of (s ∷ rest) =
-      count_by-cons q (mark_of s) (marks_of rest) ∙ ap (λ t. cond {A = ℕ} t 1 0 + count_by q (marks_of rest)) (same s) ∙ ap (λ n. cond {A = ℕ} (p s) 1 0 + n) (count_by-marks_of rest) ∙ sym (count_by-cons p s rest)
+      count_by-cons q (mark_of s) (marks_of rest) ∙ ap (λ t. cond {A = ℕ} t 1 0 + count_by q (marks_of rest)) (same s)
+      ∙ ap (λ n. cond {A = ℕ} (p s) 1 0 + n) (count_by-marks_of rest) ∙ sym (count_by-cons p s rest)
 
 module _ {A : Type 0} where
   pub entry_count-marks_of : (buckets : List (Bucket A)) → entry_count (marks_of buckets) ≡ entry_count buckets

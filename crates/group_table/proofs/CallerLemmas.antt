@@ -9,7 +9,8 @@ use Rattle.group_table.specs.Fits.{Fits}
 use Rattle.group_table.specs.Search.{Answers, RefusesEach, Finds, FindsNone}
 use Rattle.group_table.proofs.SearchLemmas.{full_by_entry}
 
-module _ {T F : Type 0} (closure : Mut F (Bor T × Unit {0}) Bool) (slots : List (Slot T)) (f : F) (test : T → Bool) (tests : (x : T) (r : Bool) (g : F) → CalledAt closure f x r g → (r ≡ test x) × (g ≡ f)) where
+module _ {T F : Type 0} (closure : Mut F (Bor T × Unit {0}) Bool) (slots : List (Slot T)) (f : F) (test : T → Bool)
+    (tests : (x : T) (r : Bool) (g : F) → CalledAt closure f x r g → (r ≡ test x) × (g ≡ f)) where
   -- the entry in the bucket does not pass
   abbrev Fails : ℕ → Type 0
   Fails b = (entry : T) × (entry_at slots b ≡ Some entry) × (test entry ≡ false)
@@ -35,7 +36,8 @@ module _ {T F : Type 0} (closure : Mut F (Bor T × Unit {0}) Bool) (slots : List
       (called.entry, called.there, sym (tests _ _ _ called.called).0)
 
   -- where nothing was found, no entry of that hash passes, whatever hashes fit
-  pub FindsNone-test : (hash : ℕ) → FindsNone closure slots hash f → (hash_of : ℕ → ℕ) → Fits slots hash_of → (b : ℕ) (entry : T) → hash_of b ≡ hash → entry_at slots b ≡ Some entry → test entry ≡ false
+  pub FindsNone-test : (hash : ℕ) → FindsNone closure slots hash f → (hash_of : ℕ → ℕ) → Fits slots hash_of → (b : ℕ) (entry : T) → hash_of b ≡ hash
+      → entry_at slots b ≡ Some entry → test entry ≡ false
   FindsNone-test hash none hash_of fits b entry e there =
       let listed = none.complete hash_of fits b (full_by_entry _ entry there) e in
       let place : get_or none.asked listed.0 0 ≡ b = sym (get_or_default_zero none.asked listed.0 b listed.1) ∙ listed.2 in

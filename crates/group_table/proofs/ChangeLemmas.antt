@@ -31,7 +31,8 @@ module _ {T : Type 0} (old new : Table T) (hash : ℕ) (entry : T) (b : ℕ) (pl
 
 module _ {T : Type 0} (old new : List (Slot T)) (b : ℕ) where
   -- its bucket is marked empty or deleted
-  pub marks_of-removed : Removes old new b → (HasEmptyNeighbours (marks_of old) b × (marks_of new ≡ set (marks_of old) b empty)) ⊎ (IsHemmedIn (marks_of old) b × (marks_of new ≡ set (marks_of old) b deleted))
+  pub marks_of-removed : Removes old new b
+      → (HasEmptyNeighbours (marks_of old) b × (marks_of new ≡ set (marks_of old) b empty)) ⊎ (IsHemmedIn (marks_of old) b × (marks_of new ≡ set (marks_of old) b deleted))
   marks_of-removed (inl w) = inl (w.0, ap marks_of w.1 ∙ marks_of-set old b empty)
   marks_of-removed (inr w) = inr (w.0, ap marks_of w.1 ∙ marks_of-set old b deleted)
 

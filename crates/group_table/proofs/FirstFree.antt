@@ -35,7 +35,8 @@ module _ (marks : List Mark) (hash : ℕ) where
     | inl h ↦ next h (is_full (bucket_at marks (probed (length marks) hash steps))) refl
   ]
     where
-      next : ((s : ℕ) → s < steps → IsFull marks (probed (length marks) hash s)) → (t : Bool) → is_full (bucket_at marks (probed (length marks) hash steps)) ≡ t → ((s : ℕ) → s < suc steps → IsFull marks (probed (length marks) hash s)) ⊎ ((b : ℕ) × IsFirstFree marks hash b)
+      next : ((s : ℕ) → s < steps → IsFull marks (probed (length marks) hash s)) → (t : Bool) → is_full (bucket_at marks (probed (length marks) hash steps)) ≡ t
+          → ((s : ℕ) → s < suc steps → IsFull marks (probed (length marks) hash s)) ⊎ ((b : ℕ) × IsFirstFree marks hash b)
       next h true e = inl (λ s p. elim (dec_lt s steps) [ yes q ↦ h s q | no q ↦ let f : steps ≡ s = omega arith in subst (λ k. IsFull marks (probed (length marks) hash k)) f e ])
       next h false e = inr (probed (length marks) hash steps, record { step = steps; there = refl; free_there = e; full_before = h })
 

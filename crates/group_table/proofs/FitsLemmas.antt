@@ -38,7 +38,8 @@ module _ (marks : List Mark) (b : ℕ) (m : Mark) (within : b < length marks) (s
 
 -- a bucket is emptied only where each search that went past it ended in the same group
 module _ (marks : List Mark) (b : ℕ) (near : HasEmptyNeighbours marks b) where
-  goes_on_past : (hash step : ℕ) → ((before : ℕ) → before / 16 < step / 16 → mark_probed marks hash before ≢ empty) → (before : ℕ) → before / 16 < step / 16 → mark_probed (set marks b empty) hash before ≢ empty
+  goes_on_past : (hash step : ℕ) → ((before : ℕ) → before / 16 < step / 16 → mark_probed marks hash before ≢ empty) → (before : ℕ) → before / 16 < step / 16
+      → mark_probed (set marks b empty) hash before ≢ empty
   goes_on_past hash step goes before p e =
       let n = length marks in
       let at = probed n hash before in
@@ -69,19 +70,23 @@ Reaches-first marks hash b first = record {
 
 module _ {T : Type 0} where
   -- the hashes fit again, with that of the entry placed
-  pub Fits-placed : (slots : List (Slot T)) (hash_of : ℕ → ℕ) (hash b : ℕ) (entry : T) → b < length slots → IsFirstFree (marks_of slots) hash b → Fits slots hash_of → Fits (set slots b (full (record { tag = hash_tag hash; entry = entry }))) (with_hash hash_of b hash)
+  pub Fits-placed : (slots : List (Slot T)) (hash_of : ℕ → ℕ) (hash b : ℕ) (entry : T) → b < length slots → IsFirstFree (marks_of slots) hash b → Fits slots hash_of
+      → Fits (set slots b (full (record { tag = hash_tag hash; entry = entry }))) (with_hash hash_of b hash)
   Fits-placed slots hash_of hash b entry p first fits =
       let now : Slot T = full (record { tag = hash_tag hash; entry = entry }) in
       let stays : mark_of now ≢ empty = full_not_empty {A = Unit {0}} (full tt) refl in
       let in_marks : b < length (marks_of slots) = rw length-marks_of p in
       record {
         tags = λ k held e. elim (cases_eq k b) [
-          | inl h ↦ rw (with_hash-there hash_of b hash k h) (sym (ap (λ x. x.tag) (one_held now (record { tag = hash_tag hash; entry = entry }) held refl (sym (bucket_at-set_same slots b k now h p) ∙ e))))
+          | inl h ↦ rw (with_hash-there hash_of b hash k h)
+              (sym (ap (λ x. x.tag) (one_held now (record { tag = hash_tag hash; entry = entry }) held refl (sym (bucket_at-set_same slots b k now h p) ∙ e))))
           | inr h ↦ rw (with_hash-elsewhere hash_of b hash k h) (fits.tags k held (sym (bucket_at-set_other slots b k now h) ∙ e))
         ];
         reached = λ k there. elim (cases_eq k b) [
-          | inl h ↦ rw (marks_of-set slots b now, with_hash-there hash_of b hash k h, h) (Reaches-set (marks_of slots) b (mark_of now) in_marks stays hash b (Reaches-first (marks_of slots) hash b first))
-          | inr h ↦ rw (marks_of-set slots b now, with_hash-elsewhere hash_of b hash k h) (Reaches-set (marks_of slots) b (mark_of now) in_marks stays _ k (fits.reached k (sym (ap is_full (bucket_at-set_other slots b k now h)) ∙ there)))
+          | inl h ↦ rw (marks_of-set slots b now, with_hash-there hash_of b hash k h, h)
+              (Reaches-set (marks_of slots) b (mark_of now) in_marks stays hash b (Reaches-first (marks_of slots) hash b first))
+          | inr h ↦ rw (marks_of-set slots b now, with_hash-elsewhere hash_of b hash k h)
+              (Reaches-set (marks_of slots) b (mark_of now) in_marks stays _ k (fits.reached k (sym (ap is_full (bucket_at-set_other slots b k now h)) ∙ there)))
         ];
       }
 
@@ -93,7 +98,8 @@ module _ {T : Type 0} where
   }
 
   -- a bucket whose entry left
-  module _ (slots : List (Slot T)) (hash_of : ℕ → ℕ) (b : ℕ) (s : Slot T) (p : b < length slots) (not_full : is_full s ≡ true → ⊥) (reaches : (hash k : ℕ) → Reaches (marks_of slots) hash k → Reaches (set (marks_of slots) b (mark_of s)) hash k) (fits : Fits slots hash_of) where
+  module _ (slots : List (Slot T)) (hash_of : ℕ → ℕ) (b : ℕ) (s : Slot T) (p : b < length slots) (not_full : is_full s ≡ true → ⊥)
+      (reaches : (hash k : ℕ) → Reaches (marks_of slots) hash k → Reaches (set (marks_of slots) b (mark_of s)) hash k) (fits : Fits slots hash_of) where
     was_full : (k : ℕ) → IsFull (set slots b s) k → k ≢ b
     was_full k there h = not_full (sym (ap is_full (bucket_at-set_same slots b k s h p)) ∙ there)
 
@@ -108,7 +114,8 @@ module _ {T : Type 0} where
   Fits-removed old new hash_of b p (inl w) fits =
       rw w.1 (Fits-emptied old hash_of b empty p (λ e. empty_not_full {A = Tagged T} empty refl e) (Reaches-emptied (marks_of old) b w.0) fits)
   Fits-removed old new hash_of b p (inr w) fits =
-      rw w.1 (Fits-emptied old hash_of b deleted p (λ e. full_not_deleted {A = Tagged T} deleted e refl) (Reaches-set (marks_of old) b deleted (rw length-marks_of p) (λ e. empty_not_deleted {A = Unit {0}} deleted e refl)) fits)
+      rw w.1 (Fits-emptied old hash_of b deleted p (λ e. full_not_deleted {A = Tagged T} deleted e refl)
+      (Reaches-set (marks_of old) b deleted (rw length-marks_of p) (λ e. empty_not_deleted {A = Unit {0}} deleted e refl)) fits)
 
   -- where all buckets are empty, any hashes fit
   pub Fits-none : (slots : List (Slot T)) (hash_of : ℕ → ℕ) → ((b : ℕ) → bucket_at slots b ≡ empty) → Fits slots hash_of

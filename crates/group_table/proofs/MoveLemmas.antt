@@ -1,5 +1,6 @@
 -- Entries that move one by one into a fresh table.
-use Rattle.std.proofs.Common.{◌≡◌, ◌≢◌, ℕ, ◌+◌, ◌<◌, Bool, List, [], ◌∷◌, ◌++◌, length, get_or, set, Option, Some, None, ap, sym, ◌∙◌, subst, arith, count_by, cond, is_some, true, get_or-set_same, get_or-set_other, inl, inr}
+use Rattle.std.proofs.Common.{◌≡◌, ◌≢◌, ℕ, ◌+◌, ◌<◌, Bool, List, [], ◌∷◌, ◌++◌, length, get_or, set, Option, Some, None, ap, sym}
+use Rattle.std.proofs.Common.{◌∙◌, subst, arith, count_by, cond, is_some, true, get_or-set_same, get_or-set_other, inl, inr}
 use Rattle.std.proofs.lemmas.Bool.{cases_eq}
 use Rattle.std.proofs.lemmas.Option.{none-some, same_Some}
 use Rattle.std.proofs.lemmas.List.{get_or_past, get_or_push, get_or_append_left, length-append}
@@ -18,7 +19,8 @@ use Rattle.group_table.proofs.JoinLemmas.{entry_at-joined, bucket_at-joined_othe
 
 module _ {T N : Type 0} (number : N → ℕ) (none : N) where
   -- no entry has moved
-  pub Moves-none : (old : ℕ → Option T) (new : List (Slot T)) (links : List N) → ((b : ℕ) → old b ≡ None) → ((b : ℕ) → bucket_at new b ≡ empty) → ((b : ℕ) → get_or links b none ≡ none) → Moves number none old new links
+  pub Moves-none : (old : ℕ → Option T) (new : List (Slot T)) (links : List N) → ((b : ℕ) → old b ≡ None) → ((b : ℕ) → bucket_at new b ≡ empty)
+      → ((b : ℕ) → get_or links b none ≡ none) → Moves number none old new links
   Moves-none old new links gone fresh unlinked = record {
     moved = λ b entry e. absurd (none-some _ (sym (gone b) ∙ e));
     others = λ b e. unlinked b;

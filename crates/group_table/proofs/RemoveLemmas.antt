@@ -65,10 +65,12 @@ module _ {T : Type 0} (control : List ℕ) (entries : List (Option T)) (r : ℕ)
   counts_as byte s is =
       let in_slots : b < length (slots_of control entries) = omega (arith, within, length-laid_out control entries valid.laid_out) in
       let new = slots_of (written control entries b byte) (set entries b None) in
-      let there_now : bucket_at new b ≡ s = ap (λ xs. bucket_at xs b) (slots_of-written control entries b byte None) ∙ bucket_at-set_same (slots_of control entries) b b (slot_of byte None) refl in_slots ∙ is in
+      let there_now : bucket_at new b ≡ s =
+      ap (λ xs. bucket_at xs b) (slots_of-written control entries b byte None) ∙ bucket_at-set_same (slots_of control entries) b b (slot_of byte None) refl in_slots ∙ is in
       ap (λ m. cond {A = ℕ} (is_used m) 0 1) (bucket_at-marks_of new b) ∙ ap (λ t. cond {A = ℕ} t 0 1) (mark_of-used (bucket_at new b) ∙ ap is_used there_now)
 
-  pub removed : (gives_room : Bool) → MatchBool gives_room (EmptyNeighbourBytes control (length entries) b) (HemmedInBytes control (length entries) b) → Removed (cond gives_room 255 128) (bool_byte gives_room)
+  pub removed : (gives_room : Bool) → MatchBool gives_room (EmptyNeighbourBytes control (length entries) b) (HemmedInBytes control (length entries) b)
+      → Removed (cond gives_room 255 128) (bool_byte gives_room)
   removed true h = record {
     is_valid = IsValid-written control entries r valid b 255 None within (inr refl) (r + 1) (omega (arith, one_used)) (λ small e. empty_not_deleted {A = Tagged T} empty refl e);
     count = omega (arith, one_full, entry_count-written control entries r valid b 255 None within (inr refl));
@@ -80,7 +82,10 @@ module _ {T : Type 0} (control : List ℕ) (entries : List (Option T)) (r : ℕ)
       let hemmed = IsHemmedIn-from_bytes control entries valid.laid_out b pos h in
       let same = length-marks_by control entries valid.laid_out in
       record {
-        is_valid = IsValid-written control entries r valid b 128 None within (inl refl) (r + 0) (omega (arith, one_used)) (λ small e. hemmed_in_small (marks_by control entries) b hemmed (omega (arith, same, small)) (omega (arith, same, used_lt control entries r valid pos)));
+        is_valid =
+            IsValid-written control entries r valid b 128 None within
+            (inl refl) (r + 0) (omega (arith, one_used))
+            (λ small e. hemmed_in_small (marks_by control entries) b hemmed (omega (arith, same, small)) (omega (arith, same, used_lt control entries r valid pos)));
         count = omega (arith, one_full, entry_count-written control entries r valid b 128 None within (inl refl));
         removes = inr (hemmed, slots_of-written control entries b 128 None);
         gained_there = counts_as 128 deleted refl;
@@ -89,5 +94,6 @@ module _ {T : Type 0} (control : List ℕ) (entries : List (Option T)) (r : ℕ)
   pub entry_count-pos : 0 < entry_count (slots_of control entries)
   entry_count-pos = count_by-pos is_full (slots_of control entries) b (omega (arith, within, length-laid_out control entries valid.laid_out)) there
 
-  pub room-removed : (byte gained : ℕ) → Removed byte gained → room (marks_by (written control entries b byte) (set entries b None)) ≡ room (marks_by control entries) + room_at (marks_by (written control entries b byte) (set entries b None)) b
+  pub room-removed : (byte gained : ℕ) → Removed byte gained
+      → room (marks_by (written control entries b byte) (set entries b None)) ≡ room (marks_by control entries) + room_at (marks_by (written control entries b byte) (set entries b None)) b
   room-removed byte gained w = omega (arith, w.gained_there, room_by _ _ _ w.is_valid, room_by control entries r valid)

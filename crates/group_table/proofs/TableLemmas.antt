@@ -21,7 +21,8 @@ module _ {T : Type 0} (control : List ℕ) (entries : List (Option T)) (r : ℕ)
   -- the field is the room
   pub room_by : r ≡ room (marks_by control entries)
   room_by = let e = room_is (marks_by control entries) in let same = length-marks_by control entries valid.laid_out in
-      (let f : r ≡ full_capacity (length entries) - count_by is_used (marks_by control entries) = omega (arith, used_is) in f) ∙ ap (λ n. full_capacity n - count_by is_used (marks_by control entries)) (sym same) ∙ sym e
+      (let f : r ≡ full_capacity (length entries) - count_by is_used (marks_by control entries) = omega (arith, used_is) in f)
+      ∙ ap (λ n. full_capacity n - count_by is_used (marks_by control entries)) (sym same) ∙ sym e
 
   -- there is less room than 2 ^ 63
   pub room_within : r ≤ length entries
@@ -50,7 +51,8 @@ module _ {T : Type 0} (control : List ℕ) (entries : List (Option T)) (r : ℕ)
   pub IsTable-by : IsTable (marks_by control entries)
   IsTable-by =
       let same = length-marks_by control entries valid.laid_out in
-      let left : count_by is_used (marks_by control entries) + room (marks_by control entries) ≡ full_capacity (length entries) = ap (λ n. count_by is_used (marks_by control entries) + n) (sym room_by) ∙ used_is in
+      let left : count_by is_used (marks_by control entries) + room (marks_by control entries) ≡ full_capacity (length entries) =
+      ap (λ n. count_by is_used (marks_by control entries) + n) (sym room_by) ∙ used_is in
       let split = used_count-split (marks_by control entries) in
       let capacity : full_capacity (length (marks_by control entries)) ≡ full_capacity (length entries) = ap full_capacity same in
       record {

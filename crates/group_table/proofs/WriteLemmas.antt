@@ -1,5 +1,6 @@
 -- One bucket is written: its byte, the repetition of that byte, and its entry.
-use Rattle.std.proofs.Common.{◌≡◌, ◌≢◌, ℕ, zero, suc, ◌+◌, ◌-◌, ◌<◌, ◌≤◌, max, cond, List, [], ◌∷◌, length, get_or, set, Option, Some, None, refl, ap, sym, ◌∙◌, arith, inl, inr, get_or-set_other, get_or-set_same, length-set}
+use Rattle.std.proofs.Common.{◌≡◌, ◌≢◌, ℕ, zero, suc, ◌+◌, ◌-◌, ◌<◌, ◌≤◌, max, cond, List, [], ◌∷◌, length, get_or, set, Option}
+use Rattle.std.proofs.Common.{Some, None, refl, ap, sym, ◌∙◌, arith, inl, inr, get_or-set_other, get_or-set_same, length-set}
 use Rattle.std.proofs.lemmas.Bool.{lt-ltb, le-ltb, cases_eq}
 use native.Mathlib.Decide.{dec_lt}
 use Rattle.group_table.specs.Bucket.{Slot, empty, deleted, bucket_at, is_full, is_used, entry_count}
@@ -14,7 +15,8 @@ module _ {T : Type 0} where
   slots_of-set_past (b ∷ bytes) (e ∷ entries) zero y p = absurd (omega arith)
   slots_of-set_past (b ∷ bytes) (e ∷ entries) (suc m) y p = ap (λ s. slot_of b e ∷ s) (slots_of-set_past bytes entries m y (omega arith))
 
-  pub slots_of-written : (control : List ℕ) (entries : List (Option T)) (b byte : ℕ) (e : Option T) → slots_of (written control entries b byte) (set entries b e) ≡ set (slots_of control entries) b (slot_of byte e)
+  pub slots_of-written : (control : List ℕ) (entries : List (Option T)) (b byte : ℕ) (e : Option T)
+      → slots_of (written control entries b byte) (set entries b e) ≡ set (slots_of control entries) b (slot_of byte e)
   slots_of-written control entries b byte e =
       slots_of-set_past (set control b byte) (set entries b e) (b + max 16 (length entries)) byte (omega (arith, length-set entries b e)) ∙ slots_of-set control entries b byte e
 
@@ -43,7 +45,8 @@ module _ {T : Type 0} where
           | yes r ↦ byte_at-between (set slots b s) p (omega (arith, same)) r ∙ sym (byte_at-between slots p (omega arith) r)
           | no r ↦
               let there : p - max 16 (length slots) ≢ b = λ e. k (omega arith) in
-              byte_at-again (set slots b s) p (omega (arith, same)) (omega arith) ∙ ap (λ n. byte_of (bucket_at (set slots b s) (p - max 16 n))) same ∙ ap byte_of (bucket_at-set_other slots b _ s there) ∙ sym (byte_at-again slots p (omega arith) (omega arith))
+              byte_at-again (set slots b s) p (omega (arith, same)) (omega arith) ∙ ap (λ n. byte_of (bucket_at (set slots b s) (p - max 16 n))) same
+              ∙ ap byte_of (bucket_at-set_other slots b _ s there) ∙ sym (byte_at-again slots p (omega arith) (omega arith))
         ]
       ]
 
@@ -102,7 +105,8 @@ module _ {T : Type 0} (control : List ℕ) (entries : List (Option T)) (laid_out
   }
 
 -- the invariant of the fields, and the number of entries, after a write
-module _ {T : Type 0} (control : List ℕ) (entries : List (Option T)) (r : ℕ) (valid : IsValid control entries r) (b byte : ℕ) (e : Option T) (within : b < length entries) (agrees : Agrees byte e) where
+module _ {T : Type 0} (control : List ℕ) (entries : List (Option T)) (r : ℕ) (valid : IsValid control entries r) (b byte : ℕ) (e : Option T) (within : b < length entries)
+    (agrees : Agrees byte e) where
   in_slots : b < length (slots_of control entries)
   in_slots = omega (arith, within, length-laid_out control entries valid.laid_out)
 
@@ -113,12 +117,15 @@ module _ {T : Type 0} (control : List ℕ) (entries : List (Option T)) (r : ℕ)
         | inr other ↦ valid.none_deleted small k (sym (bucket_at-set_other (slots_of control entries) b k (slot_of byte e) other) ∙ h)
       ]
 
-  pub IsValid-written : (left : ℕ) → cond (is_used (bucket_at (slots_of control entries) b)) 1 0 + r ≡ cond (is_used (slot_of byte e)) 1 0 + left → (length entries ≤ 16 → slot_of byte e ≢ deleted) → IsValid (written control entries b byte) (set entries b e) left
+  pub IsValid-written : (left : ℕ) → cond (is_used (bucket_at (slots_of control entries) b)) 1 0 + r ≡ cond (is_used (slot_of byte e)) 1 0 + left
+      → (length entries ≤ 16 → slot_of byte e ≢ deleted) → IsValid (written control entries b byte) (set entries b e) left
   IsValid-written left counted kept = record {
     laid_out = IsLaidOut-written control entries valid.laid_out b byte e within agrees;
-    room_left = rw (slots_of-written control entries b byte e, length-set entries b e) (omega (arith, count_by-set is_used (slots_of control entries) b (slot_of byte e) in_slots, counted, valid.room_left));
+    room_left =
+        rw (slots_of-written control entries b byte e, length-set entries b e) (omega (arith, count_by-set is_used (slots_of control entries) b (slot_of byte e) in_slots, counted, valid.room_left));
     none_deleted = rw (slots_of-written control entries b byte e, length-set entries b e) (none_deleted_left kept);
   }
 
-  pub entry_count-written : entry_count (slots_of (written control entries b byte) (set entries b e)) + cond (is_full (bucket_at (slots_of control entries) b)) 1 0 ≡ entry_count (slots_of control entries) + cond (is_full (slot_of byte e)) 1 0
+  pub entry_count-written : entry_count (slots_of (written control entries b byte) (set entries b e)) + cond (is_full (bucket_at (slots_of control entries) b)) 1 0
+      ≡ entry_count (slots_of control entries) + cond (is_full (slot_of byte e)) 1 0
   entry_count-written = rw (slots_of-written control entries b byte e) (count_by-set is_full (slots_of control entries) b (slot_of byte e) in_slots)

@@ -35,7 +35,8 @@ module _ {S : Type 0} (rules : Rules ℕ ℕ S) (offers : Offers ℕ ℕ S ℕ) 
     )
 
     -- the last line, which the input's end ended, was answered
-    pub last_answered : (result : Result (Unit {0}) ReplayError) → RunsSoFar old r₀ r₁ w₀ w₁ now → TakesRest r₁ r₂ line → 0 < length line → AnswersLine rules offers now line new w₁ w₂ result → OnOk result (WritesText (IsTextOf rules offers old) r₀ w₀ w₂)
+    pub last_answered : (result : Result (Unit {0}) ReplayError) → RunsSoFar old r₀ r₁ w₀ w₁ now → TakesRest r₁ r₂ line → 0 < length line
+        → AnswersLine rules offers now line new w₁ w₂ result → OnOk result (WritesText (IsTextOf rules offers old) r₀ w₀ w₂)
     last_answered (Ok u) (lines, text, run, reads, wrote) taken some (answer, step, answered) =
         IfSome_then r₀ (lines_at_end r₀ r₁ r₂ lines line reads taken) (λ input all. (
           text ++ answer_line answer,
@@ -63,7 +64,8 @@ module _ {S : Type 0} (rules : Rules ℕ ℕ S) (offers : Offers ℕ ℕ S ℕ) 
 
     module _ (offered : AlwaysOffers offers) (ready : IsReady new) where
       -- a write failed within the answer line
-      cut_short : (lines : List (List ℕ)) (text : List ℕ) (e : ReplayError) → IsRun rules offers old lines text now → Appends w₀ w₁ text → GoesOn r₀ (lines ++ line ∷ []) → AnswersLine rules offers now line new w₁ w₂ (Err e) → BeginsText (IsTextOf rules offers old) r₀ w₀ w₂
+      cut_short : (lines : List (List ℕ)) (text : List ℕ) (e : ReplayError) → IsRun rules offers old lines text now → Appends w₀ w₁ text → GoesOn r₀ (lines ++ line ∷ [])
+          → AnswersLine rules offers now line new w₁ w₂ (Err e) → BeginsText (IsTextOf rules offers old) r₀ w₀ w₂
       cut_short lines text e run wrote goes (answer, step, (same, part, (rest, is), written)) = IfSome_then r₀ goes (λ input (more, all).
           let so_far = run-append rules offers old lines text now (line ∷ []) (answer_line answer) new run (run-one rules offers now line answer new step) in
           let (u, last, others) = some_run rules offers offered new ready more in
@@ -80,7 +82,8 @@ module _ {S : Type 0} (rules : Rules ℕ ℕ S) (offers : Offers ℕ ℕ S ℕ) 
       pub line_cut : (e : ReplayError) → RunsSoFar old r₀ r₁ w₀ w₁ now → TakesFed r₁ r₂ line → AnswersLine rules offers now line new w₁ w₂ (Err e) → BeginsText (IsTextOf rules offers old) r₀ w₀ w₂
       line_cut e (lines, text, run, reads, wrote) taken answered = cut_short lines text e run wrote (fed_goes_on lines reads taken) answered
 
-      pub last_begins : (result : Result (Unit {0}) ReplayError) → RunsSoFar old r₀ r₁ w₀ w₁ now → TakesRest r₁ r₂ line → 0 < length line → AnswersLine rules offers now line new w₁ w₂ result → OnErr result (BeginsText (IsTextOf rules offers old) r₀ w₀ w₂)
+      pub last_begins : (result : Result (Unit {0}) ReplayError) → RunsSoFar old r₀ r₁ w₀ w₁ now → TakesRest r₁ r₂ line → 0 < length line
+          → AnswersLine rules offers now line new w₁ w₂ result → OnErr result (BeginsText (IsTextOf rules offers old) r₀ w₀ w₂)
       last_begins (Ok u) so_far taken some answered = tt
       last_begins (Err e) (lines, text, run, reads, wrote) taken some answered = cut_short lines text e run wrote (last_goes_on lines reads taken some) answered
 
@@ -98,7 +101,8 @@ module _ {S : Type 0} (rules : Rules ℕ ℕ S) (offers : Offers ℕ ℕ S ℕ) 
       )
 
   -- the input's end came after a line feed
-  pub all_answered : (old now : Map S) (r₀ r₁ r₂ w₀ w₁ : Option (List ℕ)) (line : List ℕ) → RunsSoFar old r₀ r₁ w₀ w₁ now → TakesRest r₁ r₂ line → line ≡ [] → WritesText (IsTextOf rules offers old) r₀ w₀ w₁
+  pub all_answered : (old now : Map S) (r₀ r₁ r₂ w₀ w₁ : Option (List ℕ)) (line : List ℕ) → RunsSoFar old r₀ r₁ w₀ w₁ now → TakesRest r₁ r₂ line → line ≡ []
+      → WritesText (IsTextOf rules offers old) r₀ w₀ w₁
   all_answered old now r₀ r₁ r₂ w₀ w₁ line (lines, text, run, reads, wrote) taken none = IfSome_then r₀ (lines_at_end r₀ r₁ r₂ lines line reads taken) (λ input all. (
     text,
     (now, subst (λ ls. IsRun rules offers old ls text now) (sym (all ∙ ap (λ l. lines ++ lines_of l) none ∙ append-nil lines)) run),

@@ -25,7 +25,8 @@ use Rattle.schnellru.proofs.SomeInsert.{map_ready}
 use Rattle.lru_replay.proofs.Spelled.{limit_or}
 
 -- what is said of the lines after the first is said of all
-after_first : (a b : Option (List ℕ)) (first : List ℕ) (P Q : List ℕ → Type 0) → TakesFed a b first → ((rest input : List ℕ) → lines_of input ≡ first ∷ lines_of rest → P rest → Q input) → IfSome b P → IfSome a Q
+after_first : (a b : Option (List ℕ)) (first : List ℕ) (P Q : List ℕ → Type 0) → TakesFed a b first
+    → ((rest input : List ℕ) → lines_of input ≡ first ∷ lines_of rest → P rest → Q input) → IfSome b P → IfSome a Q
 after_first None b first P Q taken f h = tt
 after_first (Some x) None first P Q (lacks, p) f h = absurd p
 after_first (Some x) (Some y) first P Q (lacks, p) f h = f y x (ap lines_of p ∙ lines_of-fed first y lacks) h
@@ -43,7 +44,8 @@ none_named lines others first e none limit other more is spells =
     let same : first ≡ other = (let h : first ∷ others ≡ other ∷ more = sym e ∙ is in cc) in
     none limit (subst (λ l. SpellsLimit l limit) (sym same) spells)
 
-pub no_limit : (a b : Option (List ℕ)) (ending : Ending) (first : List ℕ) → TakesLine a b ending first → ((limit : Limit) → SpellsLimit first limit → ⊥) → IfSome a (λ input. NamesNoLimit (lines_of input))
+pub no_limit : (a b : Option (List ℕ)) (ending : Ending) (first : List ℕ) → TakesLine a b ending first → ((limit : Limit) → SpellsLimit first limit → ⊥)
+    → IfSome a (λ input. NamesNoLimit (lines_of input))
 no_limit None b ending first taken none = tt
 no_limit (Some x) None endings.Feed first taken none = absurd taken.1
 no_limit (Some x) (Some y) endings.Feed first taken none = none_named (lines_of x) (lines_of y) first (ap lines_of taken.1 ∙ lines_of-fed first y taken.0) none
@@ -66,7 +68,8 @@ some_text : (lines : List (List ℕ)) → (text : List ℕ) × (IsReplay lines t
 some_text [] = (no_limiter_text, inr (none_first [] refl, refl))
 some_text (first ∷ lines) = by (limit_or first)
   where
-    by : ((limit : Limit) × SpellsLimit first limit) ⊎ ((limit : Limit) → SpellsLimit first limit → ⊥) → (text : List ℕ) × (IsReplay (first ∷ lines) text ⊎ (NamesNoLimit (first ∷ lines) × (text ≡ no_limiter_text)))
+    by : ((limit : Limit) × SpellsLimit first limit) ⊎ ((limit : Limit) → SpellsLimit first limit → ⊥)
+        → (text : List ℕ) × (IsReplay (first ∷ lines) text ⊎ (NamesNoLimit (first ∷ lines) × (text ≡ no_limiter_text)))
     by (inl (limit, spells)) = let (text, is) = some_text_under limit lines in (text, inl (limit, first, lines, refl, spells, is))
     by (inr none) = (no_limiter_text, inr (none_named (first ∷ lines) lines first refl none, refl))
 
@@ -115,8 +118,10 @@ exactly_no_limiter a w v (Ok ends.NoLimiter) done none = IfSome_then a (none ref
 exactly_no_limiter a w v (Err e) done none = tt
 
 -- Writing that no limiter is named failed.
-pub no_limiter_cut : (a b w v : Option (List ℕ)) (ending : Ending) (first : List ℕ) (e : ReplayError) → TakesLine a b ending first → ((limit : Limit) → SpellsLimit first limit → ⊥) → Fails e w v no_limiter_text → WritesCut a w v
-no_limiter_cut a b w v ending first e taken none (same, part, begins, wrote) = IfSome_then a (no_limit a b ending first taken none) (λ input is. (part, (no_limiter_text, begins, inr (is, refl)), wrote))
+pub no_limiter_cut : (a b w v : Option (List ℕ)) (ending : Ending) (first : List ℕ) (e : ReplayError) → TakesLine a b ending first
+    → ((limit : Limit) → SpellsLimit first limit → ⊥) → Fails e w v no_limiter_text → WritesCut a w v
+no_limiter_cut a b w v ending first e taken none (same, part, begins, wrote) =
+    IfSome_then a (no_limit a b ending first taken none) (λ input is. (part, (no_limiter_text, begins, inr (is, refl)), wrote))
 
 spelled_some : (line : List ℕ) (limit : Limit) → SpellsLimit line limit → 0 < length line
 spelled_some line (limits.Length n) (fits, is) = omega (arith, ap length is)

@@ -83,8 +83,10 @@ guessed : (line : List ℕ) (P : Call → Type 0) → AllByRecursion P (guesses 
 guessed line P all (calls.Insert k v) (fits, is) =
     let rest : drop 7 line ≡ decimal k ++ 32 ∷ decimal v = ap (drop 7) is in
     let lacks = decimal_lacks_space k fits.0 in
-    let key : digits_value 10 (front_word (drop 7 line)) ≡ k = ap (λ l. digits_value 10 (front_word l)) rest ∙ ap (digits_value 10) (front_word_is (decimal k) (decimal v) lacks) ∙ value_of_decimal k fits.0 in
-    let value : digits_value 10 (after_word (drop 7 line)) ≡ v = ap (λ l. digits_value 10 (after_word l)) rest ∙ ap (digits_value 10) (after_word_is (decimal k) (decimal v) lacks) ∙ value_of_decimal v fits.1 in
+    let key : digits_value 10 (front_word (drop 7 line)) ≡ k =
+    ap (λ l. digits_value 10 (front_word l)) rest ∙ ap (digits_value 10) (front_word_is (decimal k) (decimal v) lacks) ∙ value_of_decimal k fits.0 in
+    let value : digits_value 10 (after_word (drop 7 line)) ≡ v =
+    ap (λ l. digits_value 10 (after_word l)) rest ∙ ap (digits_value 10) (after_word_is (decimal k) (decimal v) lacks) ∙ value_of_decimal v fits.1 in
     subst (λ n. P (calls.Insert k n)) value (subst (λ n. P (calls.Insert n (digits_value 10 (after_word (drop 7 line))))) key all.0)
 guessed line P all (calls.Get k) (fits, is) = subst (λ n. P (calls.Get n)) (ap (λ l. digits_value 10 (drop 4 l)) is ∙ value_of_decimal k fits) all.1.0
 guessed line P all (calls.Peek k) (fits, is) = subst (λ n. P (calls.Peek n)) (ap (λ l. digits_value 10 (drop 5 l)) is ∙ value_of_decimal k fits) all.1.1.0
@@ -95,7 +97,8 @@ any_or : (line : List ℕ) (calls : List Call) → Spelled line ⊎ AllByRecursi
 any_or line [] = inr tt
 any_or line (call ∷ calls) = both (spells_or line call) (any_or line calls)
   where
-    both : SpellsCall line call ⊎ (SpellsCall line call → ⊥) → Spelled line ⊎ AllByRecursion (λ call. SpellsCall line call → ⊥) calls → Spelled line ⊎ AllByRecursion (λ call. SpellsCall line call → ⊥) (call ∷ calls)
+    both : SpellsCall line call ⊎ (SpellsCall line call → ⊥) → Spelled line ⊎ AllByRecursion (λ call. SpellsCall line call → ⊥) calls
+        → Spelled line ⊎ AllByRecursion (λ call. SpellsCall line call → ⊥) (call ∷ calls)
     both (inl found) more = inl (call, found)
     both (inr refused) (inl found) = inl found
     both (inr refused) (inr none) = inr (refused, none)

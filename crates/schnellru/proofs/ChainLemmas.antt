@@ -12,7 +12,8 @@ use Rattle.schnellru.specs.declared.link.Entry.{Entry}
 use Rattle.schnellru.specs.Linked.{without_bucket}
 use Rattle.schnellru.specs.Chain.{first_bucket, last_bucket, bucket_after, bucket_before, link_to, newer_at, older_at, SetsLinks, SetsNewer, SetsOlder, SetsEnd, IsChain}
 use Rattle.schnellru.proofs.OrderLemmas.{other_than, Contains-cases, after_in, before_in, first_in, without_in, distinct_without, distinct_cons}
-use Rattle.schnellru.proofs.NeighbourLemmas.{before-next, before-stays, after-previous, after-stays, first-left, first-left_stays, last-left, last-left_stays, before-itself, after-itself, before-first, before-later, after-later}
+use Rattle.schnellru.proofs.NeighbourLemmas.{before-next, before-stays, after-previous, after-stays, first-left, first-left_stays, last-left}
+use Rattle.schnellru.proofs.NeighbourLemmas.{last-left_stays, before-itself, after-itself, before-first, before-later, after-later}
 use Rattle.schnellru.proofs.PairSlotLemmas.{same_length, same_full, pair_slots-refilled}
 
 -- the buckets of a chain are below the number of none
@@ -80,7 +81,8 @@ module _ {N : Type 0} (number : N → ℕ) (link : ℕ → N) (none : N) (eq : N
 
   module _ {K V : Type 0} where
     -- a link of a chain is that of no bucket, or leads to a full one
-    pub leads_to_full : (slots : List (Slot (Entry K V N))) → length slots < number none → (o : Option ℕ) → ((y : ℕ) → o ≡ Some y → IsFull slots y) → (link_to link none o ≡ none) ⊎ IsFull slots (number (link_to link none o))
+    pub leads_to_full : (slots : List (Slot (Entry K V N))) → length slots < number none → (o : Option ℕ) → ((y : ℕ) → o ≡ Some y → IsFull slots y)
+        → (link_to link none o ≡ none) ⊎ IsFull slots (number (link_to link none o))
     leads_to_full slots reached None is_full = inl refl
     leads_to_full slots reached (Some y) is_full = inr (rw (laws.number_of_link y (omega (arith, full_lt slots y (is_full y refl), reached))) (is_full y refl))
 
@@ -201,7 +203,8 @@ module _ {N : Type 0} (number : N → ℕ) (link : ℕ → N) (none : N) (eq : N
         newest_first = refl;
         oldest_last = come_last order refl;
         newer = λ x w. elim (Contains-cases b x order w) [
-          | inl h ↦ subst (λ k. newer_at s2 k ≡ Some (link_to link none (bucket_before k (b ∷ order)))) h (second.newer_there ∙ ap (λ o. Some (link_to link none o)) (sym (before-itself b order absent chain.distinct)))
+          | inl h ↦ subst (λ k. newer_at s2 k ≡ Some (link_to link none (bucket_before k (b ∷ order)))) h
+              (second.newer_there ∙ ap (λ o. Some (link_to link none o)) (sym (before-itself b order absent chain.distinct)))
           | inr there ↦ come_newer x there
         ];
         older = λ x w. elim (Contains-cases b x order w) [

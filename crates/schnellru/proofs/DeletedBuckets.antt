@@ -4,7 +4,8 @@ use Rattle.group_table.specs.Bucket.{Mark, empty, deleted, bucket_at}
 use Rattle.group_table.proofs.FirstFree.{IsFirstFree-unique}
 use Rattle.lru_limits.specs.Rules.{Rules}
 use Rattle.schnellru.specs.State.{State, buckets, room, FirstFreeIs}
-use Rattle.schnellru.specs.Place.{Place, first_table, first_denied, first_too_large, into_empty, into_emptied, with_room, deleted_bucket, rehashed, grown, evicted, evicted_rehashed, Outcome, placed, IsPlaced}
+use Rattle.schnellru.specs.Place.{Place, first_table, first_denied, first_too_large, into_empty, into_emptied, with_room}
+use Rattle.schnellru.specs.Place.{deleted_bucket, rehashed, grown, evicted, evicted_rehashed, Outcome, placed, IsPlaced}
 
 module _ {K V S H : Type 0} (rules : Rules K V S) (hash_of : H → K → ℕ) (pair : K × V) (old : State K V S H) (some : 0 < length old.pairs) (no_room : room old ≡ 0) where
   not_both : FirstFreeIs deleted (hash_of old.hasher pair.0) old → FirstFreeIs empty (hash_of old.hasher pair.0) old → ⊥
@@ -17,7 +18,8 @@ module _ {K V S H : Type 0} (rules : Rules K V S) (hash_of : H → K → ℕ) (p
   none_is_empty e = absurd (omega (arith, ap length e, some))
 
   -- with no room, where the first free bucket is a deleted one, it is filled
-  pub deleted_serves : FirstFreeIs deleted (hash_of old.hasher pair.0) old → (outcome : Outcome) (new : State K V S H) → Place rules hash_of pair old outcome new → (outcome ≡ placed) × IsPlaced pair (buckets old) 0 0 old new
+  pub deleted_serves : FirstFreeIs deleted (hash_of old.hasher pair.0) old → (outcome : Outcome) (new : State K V S H) → Place rules hash_of pair old outcome new
+      → (outcome ≡ placed) × IsPlaced pair (buckets old) 0 0 old new
   deleted_serves p outcome new (first_table e b bytes u g m) = none_is_empty e
   deleted_serves p outcome new (first_denied e b bytes u d o n) = none_is_empty e
   deleted_serves p outcome new (first_too_large e b u o n) = none_is_empty e

@@ -81,7 +81,8 @@ module _ {K V : Type 0} (eq : K → K → Bool) where
     -- so a named pair may come before them
     pub distinct_newest : (newest : K × V) (xs : List (K × V)) → names newest.0 ≡ true → AreDistinct xs → AreDistinct (newest ∷ without names xs)
     unfolding IsDistinct
-    distinct_newest newest xs n d = (all_map (λ y. names y ≡ false) (λ y. eq newest.0 y ≡ false) (keys_of (without names xs)) (λ y h. sym (one newest.0 y n) ∙ h) (others_unnamed xs d), distinct_without names xs d)
+    distinct_newest newest xs n d =
+        (all_map (λ y. names y ≡ false) (λ y. eq newest.0 y ≡ false) (keys_of (without names xs)) (λ y h. sym (one newest.0 y n) ∙ h) (others_unnamed xs d), distinct_without names xs d)
 
     distinct_gives_up : (refuses : K × V → Type 0) (old new : List (K × V)) → GivesUp names refuses old new → AreDistinct old → AreDistinct new
     distinct_gives_up refuses old new (behind newest n f) d = distinct_front new (newest ∷ without names old) f (distinct_newest newest old n d)
@@ -92,7 +93,9 @@ module _ {K V : Type 0} (eq : K → K → Bool) where
     pub absent_without : (xs : List (K × V)) → AreDistinct xs → lookup_entry names (without names xs) ≡ None
     absent_without xs d = none_found names (without names xs) (others_unnamed xs d)
 
-module _ {K V S H I : Type 0} (rules : Rules K V S) (offers : Offers K V S I) (names : I → K → Bool) (hash_of : H → K → ℕ) {eq : K → K → Bool} {query_input : I → List (List ℕ)} {key_input : K → List (List ℕ)} (looks_up : IsLookup names eq query_input key_input) (laws : IsInsertion names eq offers) (i : I) (v : V) (old : State K V S H) where
+module _ {K V S H I : Type 0} (rules : Rules K V S) (offers : Offers K V S I) (names : I → K → Bool) (hash_of : H → K → ℕ) {eq : K → K → Bool}
+    {query_input : I → List (List ℕ)} {key_input : K → List (List ℕ)} (looks_up : IsLookup names eq query_input key_input) (laws : IsInsertion names eq offers) (i : I)
+    (v : V) (old : State K V S H) where
   pub insert_distinct : (result : Result Bool AllocError) (new : State K V S H) → Insert rules offers names hash_of i v old result new → AreDistinct eq old.pairs → AreDistinct eq new.pairs
   insert_distinct result new h d =
       distinct_gives_up eq (names i) (λ x y n. looks_up.one i x y n) _ old.pairs new.pairs (insert_gives_up rules offers names hash_of looks_up laws i v old result new h) d

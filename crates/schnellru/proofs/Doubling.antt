@@ -19,7 +19,9 @@ IsNeed c n = ((c < 4) × (n ≤ 4)) ⊎ ((4 ≤ c) × (c < 8) × (n ≡ 8)) ⊎ 
 
 need_is : (max c n : ℕ) → buckets_for max c ≡ Some n → IsNeed c n
 unfolding buckets_for IsNeed
-need_is max c n = pick (c == 0) (nat_lt c 4) (nat_lt c 8) (nat_lt (8 * c) (2 ^ 64)) (λ e. grind (arith, nat_tests)) (λ e. grind (arith, nat_tests)) (λ e. grind (arith, nat_tests)) (λ e. grind (arith, nat_tests)) (λ e. grind (arith, nat_tests))
+need_is max c n =
+    pick (c == 0) (nat_lt c 4) (nat_lt c 8) (nat_lt (8 * c) (2 ^ 64)) (λ e. grind (arith, nat_tests)) (λ e. grind (arith, nat_tests)) (λ e. grind (arith, nat_tests))
+    (λ e. grind (arith, nat_tests)) (λ e. grind (arith, nat_tests))
   where
     pick : (a b d e : Bool) → (a ≡ true → c ≡ 0) → (b ≡ true → c < 4) → (b ≡ false → 4 ≤ c) → (d ≡ true → c < 8) → (d ≡ false → 8 ≤ c) →
         cond a (Some 0) (cond b (below max 4) (cond d (below max 8) (cond e (below max (least_power (8 * c / 7))) None))) ≡ Some n →

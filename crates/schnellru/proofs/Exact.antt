@@ -5,7 +5,8 @@ use Rattle.lru_limits.specs.Rules.{Rules, Offers}
 use Rattle.group_table.specs.Sizes.{full_capacity}
 use Rattle.schnellru.specs.Lists.{is_empty, lookup_entry}
 use Rattle.schnellru.specs.State.{State, buckets, room, Contents, contents, Leaves, pops, trim}
-use Rattle.schnellru.specs.Place.{Place, first_table, first_denied, first_too_large, into_empty, into_emptied, with_room, deleted_bucket, rehashed, grown, evicted, evicted_rehashed, CannotGrow, no_target, denied, next_table, Outcome, placed, refused, no_memory, IsPlaced, IsPlacedIfMemory, asked, without_oldest}
+use Rattle.schnellru.specs.Place.{Place, first_table, first_denied, first_too_large, into_empty, into_emptied, with_room, deleted_bucket, rehashed, grown, evicted, evicted_rehashed}
+use Rattle.schnellru.specs.Place.{CannotGrow, no_target, denied, next_table, Outcome, placed, refused, no_memory, IsPlaced, IsPlacedIfMemory, asked, without_oldest}
 use Rattle.std.specs.declared.alloc.AllocError.{AllocError}
 use Rattle.std.proofs.lemmas.Bool.{eq-eqb, ne_eqb, lt-ltb, le-ltb, le-leb, lt-leb}
 use Rattle.schnellru.proofs.Emptiness.{is_empty-some}
@@ -20,12 +21,14 @@ module _ {K V S H : Type 0} (rules : Rules K V S) (hash_of : H → K → ℕ) (p
   LandsAs l refused new = l ≡ record { there = false; left = contents new }
   LandsAs l no_memory new = Unit {0}
 
-  if_memory : (st : State K V S H) (count spare moves : ℕ) (outcome : Outcome) (new : State K V S H) → IsPlacedIfMemory rules pair count spare moves st outcome new → LandsAs (lands rules pair (contents st)) outcome new
+  if_memory : (st : State K V S H) (count spare moves : ℕ) (outcome : Outcome) (new : State K V S H) → IsPlacedIfMemory rules pair count spare moves st outcome new
+      → LandsAs (lands rules pair (contents st)) outcome new
   if_memory st count spare moves placed new h = sym (ap (λ x. record { there = true; left = contents x }) h.state)
   if_memory st count spare moves no_memory new h = tt
   if_memory st count spare moves refused new h = absurd h
 
-  is_placed : (st : State K V S H) (count spare moves : ℕ) (outcome : Outcome) (new : State K V S H) → outcome ≡ placed → IsPlaced pair count spare moves st new → LandsAs (lands rules pair (contents st)) outcome new
+  is_placed : (st : State K V S H) (count spare moves : ℕ) (outcome : Outcome) (new : State K V S H) → outcome ≡ placed → IsPlaced pair count spare moves st new
+      → LandsAs (lands rules pair (contents st)) outcome new
   is_placed st count spare moves outcome new o p = rw o (sym (ap (λ x. record { there = true; left = contents x }) p.state))
 
   abbrev pub here : Landing K V S
@@ -46,7 +49,8 @@ module _ {K V S H : Type 0} (rules : Rules K V S) (hash_of : H → K → ℕ) (p
   place_lands outcome new (into_emptied e b r o n) = rw (ap is_empty e, ne_eqb (buckets old) 0 (λ none. omega (arith, b, none))) (is_placed old _ _ _ outcome new o n)
   place_lands outcome new (with_room e r s o n) = rw (is_empty-some old.pairs e, lt-ltb 0 (room old) r) (is_placed old _ _ _ outcome new o n)
   place_lands outcome new (deleted_bucket f i b l o n) = absurd (omega (arith, small))
-  place_lands outcome new (rehashed f i l m) = rw (is_empty-some old.pairs f.0, le-ltb 0 (room old) (le_of_eq f.1), le-leb (length old.pairs + 1) (full_capacity (buckets old) / 2) l) (if_memory old _ _ _ outcome new m)
+  place_lands outcome new (rehashed f i l m) =
+      rw (is_empty-some old.pairs f.0, le-ltb 0 (room old) (le_of_eq f.1), le-leb (length old.pairs + 1) (full_capacity (buckets old) / 2) l) (if_memory old _ _ _ outcome new m)
   place_lands outcome new (grown f i l count bytes t g m) = rw (full_lands f.0 f.1 l, t, g) (if_memory (asked rules bytes old) _ _ _ outcome new m)
   place_lands outcome new (evicted f i l mid c n pos one half o p) = rw (full_lands f.0 f.1 l, evicts_from mid c) (rw (one small) at (is_placed (without_oldest rules n mid) _ _ _ outcome new o p))
   place_lands outcome new (evicted_rehashed f i l mid c n pos one half left lv m) =
@@ -65,10 +69,13 @@ module _ {K V S H I : Type 0} (rules : Rules K V S) (offers : Offers K V S I) (n
   left_is : (mid : State K V S H) (c : Contents K V S) (new : State K V S H) → Leaves mid c new → contents new ≡ c
   left_is mid c new l = ap contents l.is
 
-  trimmed_ends : (mid : State K V S H) (c : Contents K V S) (result : Result Bool AllocError) (new : State K V S H) → result ≡ Ok (not (is_empty new.pairs)) → Leaves mid (trim rules c) new → Ends (trimmed rules c) result new
+  trimmed_ends : (mid : State K V S H) (c : Contents K V S) (result : Result Bool AllocError) (new : State K V S H) → result ≡ Ok (not (is_empty new.pairs))
+      → Leaves mid (trim rules c) new → Ends (trimmed rules c) result new
   trimmed_ends mid c result new r l = (r ∙ ap (λ x. Ok (not (is_empty x.pairs))) (left_is mid (trim rules c) new l), left_is mid (trim rules c) new l)
 
-  settled_ends : (l : Landing K V S) (pair : K × V) (ready : State K V S H) (tiny : buckets ready ≤ 16) (outcome : Outcome) (landed : State K V S H) (result : Result Bool AllocError) (new : State K V S H) → IsOk result → LandsAs rules hash_of pair ready tiny l outcome landed → Settles rules outcome landed result new → Ends (settled rules l) result new
+  settled_ends : (l : Landing K V S) (pair : K × V) (ready : State K V S H) (tiny : buckets ready ≤ 16) (outcome : Outcome) (landed : State K V S H)
+      (result : Result Bool AllocError) (new : State K V S H)
+      → IsOk result → LandsAs rules hash_of pair ready tiny l outcome landed → Settles rules outcome landed result new → Ends (settled rules l) result new
   settled_ends l pair ready tiny placed landed result new ok h s = rw h (trimmed_ends landed (contents landed) result new s.0 s.1)
   settled_ends l pair ready tiny refused landed result new ok h s = rw h (s.0, ap contents s.1)
   settled_ends l pair ready tiny no_memory landed result new ok h s = ok-not_err result ok s.0

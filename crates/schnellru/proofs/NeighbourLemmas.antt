@@ -5,7 +5,8 @@ use Rattle.std.proofs.lemmas.Bool.{cases_eq}
 use Rattle.std.proofs.lemmas.Option.{none-some, same_Some}
 use Rattle.schnellru.specs.Chain.{first_bucket, last_bucket, bucket_after, bucket_before}
 use Rattle.schnellru.specs.Linked.{without_bucket}
-use Rattle.schnellru.proofs.OrderLemmas.{other_than, Contains-nil, Contains-cases, Contains-here, Contains-later, distinct_head, distinct_tail, distinct_cons, before_from, last_from, before_from-in, before_from-some, before_is, last_is, before_first, before_not_first, after_in, without-absent, distinct_without}
+use Rattle.schnellru.proofs.OrderLemmas.{other_than, Contains-nil, Contains-cases, Contains-here, Contains-later, distinct_head, distinct_tail, distinct_cons, before_from, last_from}
+use Rattle.schnellru.proofs.OrderLemmas.{before_from-in, before_from-some, before_is, last_is, before_first, before_not_first, after_in, without-absent, distinct_without}
 
 -- the buckets after b do not have it
 absent_after : (b c : ℕ) (cs : List ℕ) → AllPairs ◌≢◌ (c ∷ cs) → c ≡ b → Contains cs b → ⊥
@@ -56,7 +57,8 @@ module _ (b x : ℕ) (other : x ≢ b) where
     | inr h ↦ rw (ne_eqb d b h) refl
   ]
 
-  after-previous_from : (prev : Option ℕ) (order : List ℕ) → AllPairs ◌≢◌ order → (prev ≡ Some x → ⊥) → before_from prev b order ≡ Some x → bucket_after x (without_bucket b order) ≡ bucket_after b order
+  after-previous_from : (prev : Option ℕ) (order : List ℕ) → AllPairs ◌≢◌ order → (prev ≡ Some x → ⊥) → before_from prev b order ≡ Some x
+      → bucket_after x (without_bucket b order) ≡ bucket_after b order
   after-previous_from prev [] d p e = absurd (none-some x e)
   after-previous_from prev (c ∷ cs) d p e = elim (cases_eq c b) [
     | inl h ↦ absurd (p (rw (eq-eqb c b h) at e))
@@ -223,7 +225,8 @@ module _ (m : ℕ → ℕ) where
     | inr h ↦ rw (ne_eqb c b h, ne_eqb (m c) (m b) (λ e. h (apart c (Contains-here c cs) e))) (after-moved_apart b cs (λ x w e. apart x (Contains-later c x cs w) e))
   ]
 
-  before_from-moved : (prev : Option ℕ) (b : ℕ) (order : List ℕ) → ((c : ℕ) → Contains order c → m c ≡ m b → c ≡ b) → before_from (option_map m prev) (m b) (map m order) ≡ option_map m (before_from prev b order)
+  before_from-moved : (prev : Option ℕ) (b : ℕ) (order : List ℕ) → ((c : ℕ) → Contains order c → m c ≡ m b → c ≡ b)
+      → before_from (option_map m prev) (m b) (map m order) ≡ option_map m (before_from prev b order)
   before_from-moved prev b [] apart = refl
   before_from-moved prev b (c ∷ cs) apart = elim (cases_eq c b) [
     | inl h ↦ rw (eq-eqb c b h, eq-eqb (m c) (m b) (ap m h)) refl

@@ -61,7 +61,8 @@ module _ {K V S H : Type 0} (by : Replaced K V S) (old new : Linked K V) (b : �
     pub replaced_pairs : pairs_of new ≡ (by.key, by.new_value) ∷ without names (pairs_of old)
     replaced_pairs = ap (entries_in new.slots) step.order
         ∙ ap (λ s. entries_in s (b ∷ without_bucket b old.order)) step.slots
-        ∙ ap (λ o. option_to_list o ++ entries_in (with_pair old b (by.key, by.new_value)).slots (without_bucket b old.order)) (entry_at-refilled old.slots b (by.key, by.new_value) (full_by_entry (bucket_at old.slots b) was there))
+        ∙ ap (λ o. option_to_list o ++ entries_in (with_pair old b (by.key, by.new_value)).slots (without_bucket b old.order))
+        (entry_at-refilled old.slots b (by.key, by.new_value) (full_by_entry (bucket_at old.slots b) was there))
         ∙ ap (λ xs. (by.key, by.new_value) ∷ xs) (others (by.key, by.new_value))
 
     pub replaced_leaves : Leaves before (record { pairs = (by.key, by.new_value) ∷ without names (pairs_of old); limiter = by.limiter }) after

@@ -5,7 +5,8 @@ use Rattle.std.specs.declared.alloc.AllocError.{AllocError}
 use Rattle.group_table.specs.Bucket.{Mark, room as room_of}
 use Rattle.lru_limits.specs.Rules.{Rules, Offers}
 use Rattle.schnellru.specs.State.{State, buckets, room}
-use Rattle.schnellru.specs.Place.{Place, first_table, first_denied, first_too_large, into_empty, into_emptied, with_room, deleted_bucket, rehashed, grown, evicted, evicted_rehashed, Outcome, placed, refused, no_memory}
+use Rattle.schnellru.specs.Place.{Place, first_table, first_denied, first_too_large, into_empty, into_emptied, with_room}
+use Rattle.schnellru.specs.Place.{deleted_bucket, rehashed, grown, evicted, evicted_rehashed, Outcome, placed, refused, no_memory}
 use Rattle.schnellru.specs.Inserts.{Insert, replaced, given_up, no_memory_to_admit, not_admitted, admitted, make_way, Settles, IsShort}
 use Rattle.schnellru.proofs.Outcomes.{placed-not_no_memory, refused-not_no_memory, ok-not_err}
 use Rattle.schnellru.proofs.Growth.{full_capacity-at_most}
@@ -33,7 +34,8 @@ module _ {K V S H : Type 0} (rules : Rules K V S) (hash_of : H → K → ℕ) (p
   place_lacks new outcome q (evicted f i l mid c n pos one half o p) = placed-not_no_memory (sym o ∙ q)
   place_lacks new outcome q (evicted_rehashed f i l mid c n pos one half left lv m) = (f.1, inr f.0)
 
-module _ {K V S H I : Type 0} (rules : Rules K V S) (offers : Offers K V S I) (names : I → K → Bool) (hash_of : H → K → ℕ) (i : I) (v : V) (old : State K V S H) (result : Result Bool AllocError) (new : State K V S H) where
+module _ {K V S H I : Type 0} (rules : Rules K V S) (offers : Offers K V S I) (names : I → K → Bool) (hash_of : H → K → ℕ) (i : I) (v : V) (old : State K V S H)
+    (result : Result Bool AllocError) (new : State K V S H) where
   -- Want of memory is the limiter's own, or the table's.
   pub err_is : IsErr result → Insert rules offers names hash_of i v old result new → offers.may_lack old.limiter (length old.pairs) i v ⊎ IsShort rules offers names hash_of i v old
   err_is h (replaced pair found y r l) = ok-not_err result (rw r refl) h

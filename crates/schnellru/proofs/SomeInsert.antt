@@ -1,5 +1,6 @@
 -- From every map an insert can end: there is an answer that it may give, and a state that it may leave.
-use Rattle.std.proofs.Common.{◌≡◌, ℕ, zero, suc, ◌+◌, ◌-◌, ◌*◌, ◌/◌, ◌<◌, ◌≤◌, inl, inr, Bool, true, false, List, [], ◌∷◌, length, Option, Some, None, Result, Ok, Err, refl, sym, ap, ◌∙◌, subst, arith, cond, not, count_by}
+use Rattle.std.proofs.Common.{◌≡◌, ℕ, zero, suc, ◌+◌, ◌-◌, ◌*◌, ◌/◌, ◌<◌, ◌≤◌, inl, inr, Bool, true, false, List, [], ◌∷◌, length}
+use Rattle.std.proofs.Common.{Option, Some, None, Result, Ok, Err, refl, sym, ap, ◌∙◌, subst, arith, cond, not, count_by}
 use Rattle.std.specs.Prelude.{nat_lt, nat_le}
 use Rattle.std.specs.declared.alloc.AllocError.{AllocError}
 use Rattle.std.proofs.lemmas.Bool.Decides.{nat_tests}
@@ -17,7 +18,8 @@ use Rattle.lru_limits.specs.Rules.{Rules, Offers}
 use Rattle.schnellru.specs.Lists.{is_empty, lookup_entry, without}
 use Rattle.schnellru.specs.Sizes.{usage, Target, target, target_from, no_table, same_table, new_table, table_with, table_of}
 use Rattle.schnellru.specs.State.{State, Contents, buckets, room, contents, IsMap, Leaves, FirstFreeIs, pops, trim}
-use Rattle.schnellru.specs.Place.{Place, first_table, first_denied, first_too_large, into_empty, into_emptied, with_room, deleted_bucket, rehashed, grown, evicted, evicted_rehashed, Outcome, placed, refused, no_memory, IsPlaced, LacksRoom, CannotGrow, no_target, denied, next_table, asked, turned_away, without_oldest}
+use Rattle.schnellru.specs.Place.{Place, first_table, first_denied, first_too_large, into_empty, into_emptied, with_room, deleted_bucket, rehashed, grown, evicted, evicted_rehashed}
+use Rattle.schnellru.specs.Place.{Outcome, placed, refused, no_memory, IsPlaced, LacksRoom, CannotGrow, no_target, denied, next_table, asked, turned_away, without_oldest}
 use Rattle.schnellru.specs.Inserts.{Insert, replaced, given_up, not_admitted, admitted, make_way, replacement, with_replaced, with_given_up}
 use Rattle.schnellru.proofs.Growth.{full_capacity-at_most, full_capacity-some}
 use Rattle.schnellru.proofs.Leaving.{length-pops}
@@ -68,7 +70,8 @@ target-same max e b c = from (buckets_for max c)
     from None h = absurd (grind arith)
     from (Some need) h = split (nat_lt b need) (nat_le c (full_capacity b / 2)) (λ q. grind (arith, nat_tests)) h
       where
-        split : (t u : Bool) → (u ≡ true → c ≤ full_capacity b / 2) → cond t (table_with e (Some need)) (cond u same_table (table_with e (buckets_for max (full_capacity (2 * b))))) ≡ same_table → c ≤ full_capacity b / 2
+        split : (t u : Bool) → (u ≡ true → c ≤ full_capacity b / 2)
+            → cond t (table_with e (Some need)) (cond u same_table (table_with e (buckets_for max (full_capacity (2 * b))))) ≡ same_table → c ≤ full_capacity b / 2
         split true u l h = absurd (none_same (Some need) h)
         split false true l h = l refl
         split false false l h = absurd (none_same (buckets_for max (full_capacity (2 * b))) h)
@@ -309,7 +312,8 @@ module _ {K V : Type 0} (names : K → Bool) where
   length-without_found [] pair e = absurd (grind arith)
   length-without_found (x ∷ xs) pair e = go (names x.0) (length-without_found xs pair) e
     where
-      go : (b : Bool) → (lookup_entry names xs ≡ Some pair → length (without names xs) + 1 ≡ length xs) → cond b (Some x) (lookup_entry names xs) ≡ Some pair → length (cond b xs (x ∷ without names xs)) + 1 ≡ suc (length xs)
+      go : (b : Bool) → (lookup_entry names xs ≡ Some pair → length (without names xs) + 1 ≡ length xs) → cond b (Some x) (lookup_entry names xs) ≡ Some pair
+          → length (cond b xs (x ∷ without names xs)) + 1 ≡ suc (length xs)
       go true h e = omega arith
       go false h e = omega (arith, h e)
 
@@ -348,7 +352,12 @@ module _ {K V S H I : Type 0} (rules : Rules K V S) (offers : Offers K V S I) (n
   some_insert = go (lookup_entry (names i) old.pairs) refl
     where
       absent : lookup_entry (names i) old.pairs ≡ None → (s : S) (given : Option (K × V)) → offers.on_insert old.limiter (length old.pairs) i v s given → Inserts
-      absent e s None admits = (Ok false, record old { limiter = s }, not_admitted e s admits refl refl, record { count = ready.count; used_within = ready.used_within; enough = ready.enough; none_deleted = ready.none_deleted })
+      absent e s None admits = (
+        Ok false,
+        record old { limiter = s },
+        not_admitted e s admits refl refl,
+        record { count = ready.count; used_within = ready.used_within; enough = ready.enough; none_deleted = ready.none_deleted },
+      )
       absent e s (Some pair) admits = given_pair e s pair admits
 
       go : (found : Option (K × V)) → lookup_entry (names i) old.pairs ≡ found → Inserts

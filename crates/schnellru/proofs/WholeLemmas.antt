@@ -107,7 +107,8 @@ module _ {N : Type 0} (number : N → ℕ) (link : ℕ → N) (none : N) (eq : N
         all = λ x h.
             let other : x ≢ b = λ e. emptied (subst (IsFull s2) e h) in
             in_without b x order (whole.all x (sym (same_full s0 s1 same x) ∙ sym (ap is_full (bucket_at-removed_other s1 s2 b x other removes)) ∙ h)) other;
-        count = omega (arith, entry_count-removes s1 s2 b (same_full s0 s1 same b ∙ there) removes, same_count s0 s1 same, whole.count, length-without b order whole.chain.distinct (whole.all b there));
+        count =
+            omega (arith, entry_count-removes s1 s2 b (same_full s0 s1 same b ∙ there) removes, same_count s0 s1 same, whole.count, length-without b order whole.chain.distinct (whole.all b there));
       }
 
   -- an entry went into the table, and then its bucket into the chain
@@ -117,9 +118,12 @@ module _ {N : Type 0} (number : N → ℕ) (link : ℕ → N) (none : N) (eq : N
     placed_absent w = false≢true (sym (sym (is_full-marks_of old.slots b) ∙ places.first.free_there) ∙ whole.chain.only b w)
 
     pub IsChain-placed : IsChain number link none new.slots newest oldest order
-    IsChain-placed = IsChain-kept old.slots new.slots newest oldest order (ap length places.slots ∙ length-set old.slots b _) (λ x w. bucket_at-placed_other old new hash entry b places x (other_than b order placed_absent x w)) whole.chain
+    IsChain-placed =
+        IsChain-kept old.slots new.slots newest oldest order (ap length places.slots ∙ length-set old.slots b _)
+        (λ x w. bucket_at-placed_other old new hash entry b places x (other_than b order placed_absent x w)) whole.chain
 
-    pub IsWhole-placed : (s2 : List (Slot (Entry K V N))) (newest' oldest' : N) → pair_slots s2 ≡ pair_slots new.slots → IsChain number link none s2 newest' oldest' (b ∷ order) → IsWhole number link none s2 newest' oldest' (b ∷ order)
+    pub IsWhole-placed : (s2 : List (Slot (Entry K V N))) (newest' oldest' : N) → pair_slots s2 ≡ pair_slots new.slots
+        → IsChain number link none s2 newest' oldest' (b ∷ order) → IsWhole number link none s2 newest' oldest' (b ∷ order)
     IsWhole-placed s2 newest' oldest' same chain = record {
       chain = chain;
       all = λ x h. elim (cases_eq x b) [

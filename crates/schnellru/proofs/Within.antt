@@ -8,7 +8,8 @@ use Rattle.lru_limits.specs.Rules.{Rules, Offers}
 use Rattle.lru_limits.specs.Laws.{IsLookup, IsInsertion}
 use Rattle.schnellru.specs.Lists.{is_empty, IsFront, lookup_entry, without}
 use Rattle.schnellru.specs.State.{State, Contents, contents, Leaves, pop, trim, trim_from}
-use Rattle.schnellru.specs.Place.{Place, first_table, first_denied, first_too_large, into_empty, into_emptied, with_room, deleted_bucket, rehashed, grown, evicted, evicted_rehashed, Outcome, placed, refused, no_memory, IsPlaced, IsPlacedIfMemory, asked}
+use Rattle.schnellru.specs.Place.{Place, first_table, first_denied, first_too_large, into_empty, into_emptied, with_room, deleted_bucket, rehashed}
+use Rattle.schnellru.specs.Place.{grown, evicted, evicted_rehashed, Outcome, placed, refused, no_memory, IsPlaced, IsPlacedIfMemory, asked}
 use Rattle.schnellru.specs.Inserts.{Insert, replaced, given_up, no_memory_to_admit, not_admitted, admitted, replacement, with_replaced, Settles}
 use Rattle.schnellru.specs.Theorems.{IsNewest, SaysWhether}
 use Rattle.schnellru.proofs.Leaving.{length-without_last, known_is}
@@ -60,7 +61,8 @@ module _ {K V S H : Type 0} (rules : Rules K V S) (hash_of : H → K → ℕ) (p
   Comes refused new = new.pairs ≡ []
   Comes no_memory new = IsFront new.pairs old.pairs
 
-  if_memory_comes : (st : State K V S H) (count spare moves : ℕ) (outcome : Outcome) (new : State K V S H) → IsPlacedIfMemory rules pair count spare moves st outcome new → IsFront st.pairs old.pairs → Comes outcome new
+  if_memory_comes : (st : State K V S H) (count spare moves : ℕ) (outcome : Outcome) (new : State K V S H) → IsPlacedIfMemory rules pair count spare moves st outcome new
+      → IsFront st.pairs old.pairs → Comes outcome new
   if_memory_comes st count spare moves placed new h f = (_, ap (λ x. x.pairs) h.state)
   if_memory_comes st count spare moves no_memory new h f = front_trans _ _ _ (front_same _ _ (ap (λ x. x.pairs) h)) f
   if_memory_comes st count spare moves refused new h f = absurd h
@@ -84,7 +86,8 @@ module _ {K V S H : Type 0} (rules : Rules K V S) (hash_of : H → K → ℕ) (p
 
 module _ {K V S H : Type 0} (rules : Rules K V S) (names : K → Bool) where
   -- after a trimming that answers whether a pair is left
-  trimmed_says : (mid : State K V S H) (c : Contents K V S) (result : Result Bool AllocError) (new : State K V S H) → Leaves mid (trim rules c) new → result ≡ Ok (not (is_empty new.pairs)) → IsNewest names c.pairs → SaysWhether rules names result new
+  trimmed_says : (mid : State K V S H) (c : Contents K V S) (result : Result Bool AllocError) (new : State K V S H) → Leaves mid (trim rules c) new
+      → result ≡ Ok (not (is_empty new.pairs)) → IsNewest names c.pairs → SaysWhether rules names result new
   trimmed_says mid c result new l r n = rw r (go (is_empty new.pairs) refl)
     where
       same : new.pairs ≡ (trim rules c).pairs
@@ -98,12 +101,15 @@ module _ {K V S H : Type 0} (rules : Rules K V S) (names : K → Bool) where
       go false e = let k : is_empty (trim rules c).pairs ≡ false = rw same at e in
           (rw same (trim_newest rules names c k n), rw (same, same_limiter) (trim_within rules c k))
 
-module _ {K V S H I : Type 0} (rules : Rules K V S) (offers : Offers K V S I) (names : I → K → Bool) (hash_of : H → K → ℕ) {eq : K → K → Bool} {query_input : I → List (List ℕ)} {key_input : K → List (List ℕ)} (looks_up : IsLookup names eq query_input key_input) (laws : IsInsertion names eq offers) (i : I) (v : V) (old : State K V S H) where
+module _ {K V S H I : Type 0} (rules : Rules K V S) (offers : Offers K V S I) (names : I → K → Bool) (hash_of : H → K → ℕ) {eq : K → K → Bool}
+    {query_input : I → List (List ℕ)} {key_input : K → List (List ℕ)} (looks_up : IsLookup names eq query_input key_input) (laws : IsInsertion names eq offers) (i : I)
+    (v : V) (old : State K V S H) where
   err_says : (result : Result Bool AllocError) (new : State K V S H) → IsErr result → SaysWhether rules (names i) result new
   err_says (Ok b) new h = absurd (grind (arith, h))
   err_says (Err e) new h = tt
 
-  settled_says : (pair : K × V) (ready : State K V S H) (outcome : Outcome) (landed : State K V S H) (result : Result Bool AllocError) (new : State K V S H) → names i pair.0 ≡ true → Comes rules hash_of pair ready outcome landed → Settles rules outcome landed result new → SaysWhether rules (names i) result new
+  settled_says : (pair : K × V) (ready : State K V S H) (outcome : Outcome) (landed : State K V S H) (result : Result Bool AllocError) (new : State K V S H)
+      → names i pair.0 ≡ true → Comes rules hash_of pair ready outcome landed → Settles rules outcome landed result new → SaysWhether rules (names i) result new
   settled_says pair ready placed landed result new n b s = trimmed_says rules (names i) landed (contents landed) result new s.1 s.0 (record { pair = pair; rest = b.0; first = b.1; named = n })
   settled_says pair ready refused landed result new n b s = rw s.0 (ap (λ st. lookup_entry (names i) st.pairs) s.1 ∙ ap (lookup_entry (names i)) b)
   settled_says pair ready no_memory landed result new n b s = err_says result new s.0

@@ -24,7 +24,8 @@ find_bucket-requires-clause-some_empty g c =
 
 pub returns-clause-full : goal.returns-clause-full
 returns-clause-full g c =
-    rw (← c.self.view_is) (IfSome_then c.find_bucket.result (rw (c.as_slice.ensures.value, c.as_slice-2.ensures.value) at c.find_bucket.ensures.found) (λ b found. full_by_entry _ found.accepted.entry found.accepted.there))
+    rw (← c.self.view_is) (IfSome_then c.find_bucket.result (rw (c.as_slice.ensures.value, c.as_slice-2.ensures.value) at c.find_bucket.ensures.found)
+    (λ b found. full_by_entry _ found.accepted.entry found.accepted.there))
 
 pub returns-clause-table : goal.returns-clause-table
 returns-clause-table g c = rw (← c.self.view_is) (IsTable-by _ _ _ c.self.invariant.0)

@@ -38,5 +38,8 @@ returns g c =
     rw (← c.self.view_is) (
       same_follow _ _ _ (λ w. first_state t v holds.linked c.in_ok-b.b (c.pair_mut.result.now.key, c.pair_mut.result.now.value) there c.promote.ensures.slots c.promote.ensures.order
           names g.met.K.Eq.laws one named holds.map.distinct m.limiter m.hasher m.moved m.placed m.entry_bytes (g.L.LinkType.LinkType.number g.L.LinkType.LinkType.MAX) w),
-      record { writes_back = tt; value = sym (value_found t holds.linked c.in_ok-b.b (c.pair_mut.result.now.key, c.pair_mut.result.now.value) there names g.met.K.Eq.laws one holds.map.distinct named) },
+      record {
+        writes_back = tt;
+        value = sym (value_found t holds.linked c.in_ok-b.b (c.pair_mut.result.now.key, c.pair_mut.result.now.value) there names g.met.K.Eq.laws one holds.map.distinct named);
+      },
     )

@@ -18,4 +18,5 @@ bytes_of-requires g c =
 pub returns : goal.returns
 returns g c =
     let m = c.self.inside in let usable = c.self.invariant.map.sized.usable in let e = c.buckets-buckets.ensures.buckets ∙ sym (length-marks_of m.entries.slots) in
-    rw (← c.self.view_is) (usable.1 ∙ ap Some (sym (usage_bytes m.entry_bytes _ usable.0 (omega (arith, e, c.if-buckets-eq0.false)) usable.1).0 ∙ ap (bytes_of m.entry_bytes) (sym e) ∙ sym c.bytes_of.ensures))
+    rw (← c.self.view_is) (usable.1
+    ∙ ap Some (sym (usage_bytes m.entry_bytes _ usable.0 (omega (arith, e, c.if-buckets-eq0.false)) usable.1).0 ∙ ap (bytes_of m.entry_bytes) (sym e) ∙ sym c.bytes_of.ensures))

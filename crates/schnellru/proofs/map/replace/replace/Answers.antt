@@ -11,7 +11,8 @@ returns-else-taken-clause-given_up g c = λ refusal pair there.
     let same = same_Some (k, v) pair (sym c.pair_mut-pair.ensures.pair ∙ there) in
     subst (λ n. IsGivenUp g.L.Limiter.rules (g.L.Insertion.offers.on_replace c.args.limiter.now n pair.0 c.args.key pair.1 c.args.value) c.args.b old c.take-key.new.self c.on_removed.new.self)
     c.len-length.ensures.len
-    (subst (λ p. IsGivenUp g.L.Limiter.rules (g.L.Insertion.offers.on_replace c.args.limiter.now c.len-length.result p.0 c.args.key p.1 c.args.value) c.args.b old c.take-key.new.self c.on_removed.new.self)
+    (subst (λ p. IsGivenUp g.L.Limiter.rules
+    (g.L.Insertion.offers.on_replace c.args.limiter.now c.len-length.result p.0 c.args.key p.1 c.args.value) c.args.b old c.take-key.new.self c.on_removed.new.self)
     same
     (gives_up g.L.Limiter.rules _ old c.take-key.new.self c.args.b (k, v) c.pair_mut-pair.ensures.pair
     c.on_replace-taken.new.old_key c.on_replace-taken.new.old_value told.old_key told.old_value c.on_replace-taken.new.self told.limiter c.take-key.result
