@@ -12,9 +12,6 @@ module _ {A : Type 0} where
   pub empty_not_full : (s : Bucket A) → s ≡ empty → is_full s ≡ true → ⊥
   empty_not_full s e h = false≢true (sym (ap is_full e) ∙ h)
 
-  pub full_not_empty : (s : Bucket A) → is_full s ≡ true → s ≡ empty → ⊥
-  full_not_empty s h e = empty_not_full s e h
-
   pub empty_not_deleted : (s : Bucket A) → s ≡ empty → s ≡ deleted → ⊥
   empty_not_deleted s p q = cc
 

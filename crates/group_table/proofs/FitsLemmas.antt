@@ -6,7 +6,7 @@ use Rattle.group_table.specs.Probe.{hash_tag, probed, mark_probed, Reaches, IsFi
 use Rattle.group_table.specs.Neighbours.{HasEmptyNeighbours}
 use Rattle.group_table.specs.Fits.{Fits, with_hash}
 use Rattle.group_table.specs.Change.{Removes}
-use Rattle.group_table.proofs.BucketLemmas.{bucket_at-set_same, bucket_at-set_other, empty_not_full, empty_not_deleted, full_not_empty, full_not_deleted, length-marks_of, marks_of-set}
+use Rattle.group_table.proofs.BucketLemmas.{bucket_at-set_same, bucket_at-set_other, empty_not_full, empty_not_deleted, full_not_deleted, length-marks_of, marks_of-set}
 use Rattle.group_table.proofs.ProbeLemmas.{probed-lane}
 
 pub with_hash-there : (hash_of : ℕ → ℕ) (b hash k : ℕ) → k ≡ b → with_hash hash_of b hash k ≡ hash
@@ -74,7 +74,7 @@ module _ {T : Type 0} where
       → Fits (set slots b (full (record { tag = hash_tag hash; entry = entry }))) (with_hash hash_of b hash)
   Fits-placed slots hash_of hash b entry p first fits =
       let now : Slot T = full (record { tag = hash_tag hash; entry = entry }) in
-      let stays : mark_of now ≢ empty = full_not_empty {A = Unit {0}} (full tt) refl in
+      let stays : mark_of now ≢ empty = λ e. empty_not_full {A = Unit {0}} (full tt) e refl in
       let in_marks : b < length (marks_of slots) = rw length-marks_of p in
       record {
         tags = λ k held e. elim (cases_eq k b) [

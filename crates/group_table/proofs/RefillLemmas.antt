@@ -1,93 +1,46 @@
 -- The entry of a full bucket is written, and its tag stays.
-use Rattle.std.proofs.Common.{◌≡◌, ◌≢◌, ℕ, ◌-◌, ◌<◌, ◌≤◌, max, true, cond, List, length, get_or, set, Option, Some}
-use Rattle.std.proofs.Common.{None, refl, ap, sym, ◌∙◌, arith, inl, inr, get_or-set_other, get_or-set_same, length-set}
+use Rattle.std.proofs.Common.{◌≡◌, ◌≢◌, ℕ, ◌-◌, ◌<◌, true, cond, List, length, get_or, set, Option, Some, subst}
+use Rattle.std.proofs.Common.{refl, ap, sym, ◌∙◌, arith, inl, inr}
 use Rattle.std.proofs.lemmas.Bool.{cases_eq}
-use Rattle.std.proofs.lemmas.List.{set-get_or}
 use Rattle.std.proofs.Math.Seq.{map-set_same}
-use native.Mathlib.Decide.{dec_lt}
 use Rattle.group_table.specs.Bucket.{Slot, empty, deleted, full, bucket_at, is_used, is_full, refilled, IsFull, entry_of, entry_at, entry_count, mark_of, marks_of}
 use Rattle.group_table.specs.Fits.{Fits}
-use Rattle.group_table.specs.Layout.{slot_of, slots_of, byte_of, byte_at, Agrees, IsValid}
-use Rattle.group_table.proofs.BucketLemmas.{bucket_at-set_same, bucket_at-set_other, count_by-set, full_not_deleted, full_lt}
-use Rattle.group_table.proofs.LayoutLemmas.{slots_of-set, bucket_at-laid_out, length-laid_out, full_within, full_entry, full_byte}
+use Rattle.group_table.specs.Layout.{slot_of, slots_of, IsValid, written}
+use Rattle.group_table.proofs.BucketLemmas.{used_from_full, bucket_at-set_same, bucket_at-set_other, full_not_deleted, full_lt}
+use Rattle.group_table.proofs.LayoutLemmas.{bucket_at-laid_out, full_within, full_entry, full_byte}
 use Rattle.group_table.proofs.SearchLemmas.{held_by}
 use Rattle.group_table.proofs.FitsLemmas.{one_held}
-use Rattle.group_table.proofs.WriteLemmas.{byte_at-bucket, byte_at-between, byte_at-again}
-
-module _ {T : Type 0} where
-  slots_of-set_entry : (bytes : List ℕ) (entries : List (Option T)) (b : ℕ) (e : Option T) → slots_of bytes (set entries b e) ≡ set (slots_of bytes entries) b (slot_of (get_or bytes b 0) e)
-  slots_of-set_entry bytes entries b e = ap (λ all. slots_of all (set entries b e)) (sym (set-get_or bytes b 0)) ∙ slots_of-set bytes entries b (get_or bytes b 0) e
-
-  pub byte_at-same : (old new : List (Slot T)) → length new ≡ length old → ((k : ℕ) → byte_of (bucket_at new k) ≡ byte_of (bucket_at old k)) → (p : ℕ) → byte_at new p ≡ byte_at old p
-  byte_at-same old new same bytes p =
-      elim (dec_lt p (length old)) [
-        | yes q ↦ byte_at-bucket new p (omega arith) ∙ bytes p ∙ sym (byte_at-bucket old p q)
-        | no q ↦ elim (dec_lt p 16) [
-          | yes r ↦ byte_at-between new p (omega arith) r ∙ sym (byte_at-between old p (omega arith) r)
-          | no r ↦ byte_at-again new p (omega arith) (omega arith) ∙ ap (λ n. byte_of (bucket_at new (p - max 16 n))) same ∙ bytes _ ∙ sym (byte_at-again old p (omega arith) (omega arith))
-        ]
-      ]
+use Rattle.group_table.proofs.WriteLemmas.{written-same, slots_of-written, IsValid-written, entry_count-written}
 
 module _ {T : Type 0} (control : List ℕ) (entries : List (Option T)) (room : ℕ) (valid : IsValid control entries room) (b : ℕ) (there : IsFull (slots_of control entries) b) (w : T) where
   within : b < length entries
   within = full_within control entries valid.laid_out b there
 
-  was : (entry : T) × (bucket_at (slots_of control entries) b ≡ full (record { tag = get_or control b 0; entry = entry }))
-  was = let e = full_entry control entries valid.laid_out b there in (e.0, bucket_at-laid_out control entries valid.laid_out b within ∙ ap (λ o. slot_of (get_or control b 0) o) e.1)
+  byte_below : get_or control b 0 < 128
+  byte_below = full_byte control entries valid.laid_out b there
 
-  in_slots : b < length (slots_of control entries)
-  in_slots = omega (arith, within, length-laid_out control entries valid.laid_out)
-
-  abbrev now : Slot T
-  now = full (record { tag = get_or control b 0; entry = w })
+  -- the bytes are as if the byte of the bucket were written again
+  same_bytes : written control entries b (get_or control b 0) ≡ control
+  same_bytes = written-same control entries valid.laid_out b within
 
   pub slots_of-refilled : slots_of control (set entries b (Some w)) ≡ set (slots_of control entries) b (refilled (bucket_at (slots_of control entries) b) w)
-  slots_of-refilled = slots_of-set_entry control entries b (Some w) ∙ ap (λ s. set (slots_of control entries) b (refilled s w)) (sym was.1)
-
-  slots_are : slots_of control (set entries b (Some w)) ≡ set (slots_of control entries) b now
-  slots_are = slots_of-set_entry control entries b (Some w)
-
-  same_bytes : (k : ℕ) → byte_of (bucket_at (set (slots_of control entries) b now) k) ≡ byte_of (bucket_at (slots_of control entries) k)
-  same_bytes k =
-      elim (cases_eq k b) [
-        | inl h ↦ ap byte_of (bucket_at-set_same (slots_of control entries) b k now h in_slots) ∙ sym (rw h (ap byte_of was.1))
-        | inr h ↦ ap byte_of (bucket_at-set_other (slots_of control entries) b k now h)
-      ]
-
-  new_agrees : (k : ℕ) → k < length entries → Agrees (get_or control k 0) (get_or (set entries b (Some w)) k None)
-  new_agrees k q =
-      elim (cases_eq k b) [
-        | inl h ↦ rw (h, get_or-set_same entries b (Some w) None within) (full_byte control entries valid.laid_out b there)
-        | inr h ↦ rw (get_or-set_other entries b k (Some w) None h) (valid.laid_out.agrees k q)
-      ]
-
-  none_deleted_left : length entries ≤ 16 → (k : ℕ) → bucket_at (set (slots_of control entries) b now) k ≡ deleted → length entries ≡ 0
-  none_deleted_left p k e =
-      elim (cases_eq k b) [
-        | inl h ↦ absurd (full_not_deleted _ (ap is_full (bucket_at-set_same (slots_of control entries) b k now h in_slots)) e)
-        | inr h ↦ valid.none_deleted p k (sym (bucket_at-set_other (slots_of control entries) b k now h) ∙ e)
-      ]
+  slots_of-refilled =
+      let e = full_entry control entries valid.laid_out b there in
+      let was = bucket_at-laid_out control entries valid.laid_out b within ∙ ap (λ o. slot_of (get_or control b 0) o) e.1 in
+      ap (λ all. slots_of all (set entries b (Some w))) (sym same_bytes) ∙ slots_of-written control entries b (get_or control b 0) (Some w)
+      ∙ ap (λ s. set (slots_of control entries) b (refilled s w)) (sym was)
 
   pub IsValid-refilled : IsValid control (set entries b (Some w)) room
   IsValid-refilled =
-      let change = count_by-set is_used (slots_of control entries) b now in_slots in
-      let one : ◌≡◌ {A = ℕ} (cond (is_used (bucket_at (slots_of control entries) b)) 1 0) 1 = ap (λ s. cond {A = ℕ} (is_used s) 1 0) was.1 in
-      record {
-        laid_out = record {
-          counts = rw (length-set entries b (Some w)) valid.laid_out.counts;
-          fits = valid.laid_out.fits;
-          agrees = λ k q. new_agrees k (omega (arith, length-set entries b (Some w)));
-          bytes = λ p q. valid.laid_out.bytes p q ∙ sym (rw slots_are (byte_at-same (slots_of control entries) _ (length-set (slots_of control entries) b now) same_bytes p));
-        };
-        room_left = rw (slots_are, length-set entries b (Some w)) (omega (arith, change, one, valid.room_left));
-        none_deleted = rw (slots_are, length-set entries b (Some w)) none_deleted_left;
-      }
+      let one : ◌≡◌ {A = ℕ} (cond (is_used (bucket_at (slots_of control entries) b)) 1 0) 1 = ap (λ t. cond {A = ℕ} t 1 0) (used_from_full _ there) in
+      subst (λ all. IsValid all (set entries b (Some w)) room) same_bytes
+      (IsValid-written control entries room valid b (get_or control b 0) (Some w) within byte_below room (omega (arith, one)) (λ small e. full_not_deleted (slot_of (get_or control b 0) (Some w)) refl e))
 
   pub entry_count-refilled : entry_count (slots_of control (set entries b (Some w))) ≡ entry_count (slots_of control entries)
   entry_count-refilled =
-      let change = count_by-set is_full (slots_of control entries) b now in_slots in
       let one : ◌≡◌ {A = ℕ} (cond (is_full (bucket_at (slots_of control entries) b)) 1 0) 1 = ap (λ t. cond {A = ℕ} t 1 0) there in
-      rw slots_are (omega (arith, change, one))
+      let count = entry_count-written control entries room valid b (get_or control b 0) (Some w) within byte_below in
+      ap (λ all. entry_count (slots_of all (set entries b (Some w)))) (sym same_bytes) ∙ omega (arith, one, count)
 
 -- a full bucket that is filled anew holds the new entry, and the others hold what they held
 pub entry_of-refilled : {T : Type 0} (s : Slot T) (w : T) → is_full s ≡ true → entry_of (refilled s w) ≡ Some w
