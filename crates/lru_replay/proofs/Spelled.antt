@@ -1,13 +1,14 @@
 -- Whether a line says something can be told: what it may say is read off it, and spelled again.
-use Rattle.std.proofs.Common.{◌≡◌, ℕ, ◌<◌, ◌≤◌, ◌^◌, Bool, true, false, List, [], ◌∷◌, ◌++◌, drop, refl, sym, ap, ◌∙◌, subst, inl, inr, arith, ◌⊎◌, decimal, ◌==◌, if◌then◌else◌}
+use Rattle.std.proofs.Common.{◌≡◌, ℕ, ◌<◌, ◌^◌, Bool, true, false, List, [], ◌∷◌, ◌++◌, drop, refl, sym, ap, ◌∙◌, subst, inl, inr, arith, ◌⊎◌, decimal, ◌==◌, if◌then◌else◌}
 use Rattle.std.proofs.lemmas.Bool.{ne_eqb}
-use Rattle.std.proofs.lemmas.Bool.Decides.{leb_tells}
-use Rattle.std.proofs.Math.Dec.{leb}
+use Rattle.std.proofs.lemmas.Bool.Decides.{Decides-ltb, not_from_Decides}
 use Rattle.std.proofs.lemmas.Fmt.{decimal_is_IsNumeral}
 use Rattle.std.proofs.lemmas.Slice.Eq.{bytes_eq-Decides}
 use Rattle.std.specs.List.{AllByRecursion}
 use Rattle.std.specs.Str.{bytes_eq}
 use Rattle.std.specs.Str.Parse.{digits_value}
+use Rattle.std.specs.Prelude.{nat_lt}
+use Rattle.std.specs.Bool.{Decides}
 use Rattle.lru_replay.specs.declared.call.Call.{Call}
 use Rattle.lru_replay.specs.declared.call.Call.TheVariants as calls
 use Rattle.lru_replay.specs.declared.call.Limit.{Limit}
@@ -51,12 +52,13 @@ both_or (inl p) (inl q) = inl (p, q)
 both_or (inl p) (inr q) = inr (λ h. q h.1)
 both_or (inr p) q = inr (λ h. p h.0)
 
+-- What a test decides can be told.
+told : {P : Type 0} (r : Bool) → Decides r P → P ⊎ (P → ⊥)
+told true d = inl (d.0 refl)
+told false d = inr (not_from_Decides false d refl)
+
 lt_or : (n limit : ℕ) → (n < limit) ⊎ (n < limit → ⊥)
-lt_or n limit = go (leb_tells limit n)
-  where
-    go : ((leb limit n ≡ true) × (limit ≤ n)) ⊎ ((leb limit n ≡ false) × (n < limit)) → (n < limit) ⊎ (n < limit → ⊥)
-    go (inl h) = inr (λ s. omega (arith, h.1, s))
-    go (inr h) = inl h.1
+lt_or n limit = told (nat_lt n limit) (Decides-ltb n limit)
 
 fits_call : (call : Call) → FitsCall call ⊎ (FitsCall call → ⊥)
 fits_call (calls.Insert k v) = both_or (lt_or k (2 ^ 64)) (lt_or v (2 ^ 64))
@@ -69,11 +71,7 @@ fits_limit (limits.Length n) = lt_or n (2 ^ 32)
 fits_limit limits.Compact = inl tt
 
 same_or : (xs ys : List ℕ) → (xs ≡ ys) ⊎ (xs ≡ ys → ⊥)
-same_or xs ys = go (bytes_eq xs ys) refl
-  where
-    go : (b : Bool) → bytes_eq xs ys ≡ b → (xs ≡ ys) ⊎ (xs ≡ ys → ⊥)
-    go true e = inl ((bytes_eq-Decides xs ys).0 e)
-    go false e = inr (λ same. let yes = (bytes_eq-Decides xs ys).1 same in cc)
+same_or xs ys = told (bytes_eq xs ys) (bytes_eq-Decides xs ys)
 
 spells_or : (line : List ℕ) (call : Call) → SpellsCall line call ⊎ (SpellsCall line call → ⊥)
 spells_or line call = both_or (fits_call call) (same_or line (call_spelling call))
