@@ -5,8 +5,8 @@ use native.Mathlib.Decide.{dec_lt}
 use Rattle.group_table.specs.Sizes.{IsPowerFromFour}
 use Rattle.group_table.specs.Bucket.{Bucket, Mark, bucket_at, is_full, IsFull, marks_of}
 use Rattle.group_table.specs.Probe.{probed, IsFirstFree}
-use Rattle.group_table.proofs.ProbeLemmas.{probed-lt, probed-meets}
 use Rattle.group_table.specs.Change.{MayFill}
+use Rattle.group_table.proofs.ProbeLemmas.{probed-lt, probed-meets}
 use Rattle.group_table.proofs.BucketLemmas.{empty_not_deleted, length-marks_of, room_is}
 use Rattle.group_table.proofs.SizeLemmas.{full_capacity-small}
 

@@ -3,12 +3,12 @@ use Rattle.std.proofs.Common.{◌≡◌, ℕ, ◌+◌, ◌-◌, ◌^◌, ◌<◌
 use Rattle.std.specs.Prelude.{option_to_list}
 use Rattle.std.proofs.lemmas.List.{length-set, get_or-set_same}
 use Rattle.group_table.specs.Sizes.{full_capacity}
-use Rattle.group_table.specs.Bucket.{Mark, empty, deleted, full, is_full, is_deleted, is_used, bucket_at, entry_of, marks_of, room, room_at, IsFull}
+use Rattle.group_table.specs.Bucket.{Mark, empty, deleted, full, is_full, is_used, bucket_at, entry_of, marks_of, room, room_at, IsFull}
 use Rattle.group_table.specs.Probe.{hash_tag, IsFirstFree}
 use Rattle.group_table.specs.Change.{MayFill, count_up}
 use Rattle.std.proofs.lemmas.Bool.{false≢true}
 use Rattle.group_table.proofs.FirstFree.{fills_within}
-use Rattle.group_table.proofs.BucketLemmas.{length-marks_of, is_full-marks_of, count_by-pos, used_count-split}
+use Rattle.group_table.proofs.BucketLemmas.{length-marks_of, is_full-marks_of}
 use Rattle.schnellru.specs.State.{State, buckets, IsSized, IsPaid}
 use Rattle.schnellru.specs.Place.{IsPlaced}
 use Rattle.schnellru.specs.Steps.{UsesRoom, UsesDeleted}
@@ -75,11 +75,6 @@ module _ {K V : Type 0} (t u : Linked K V) (hash : ℕ) (pair : K × V) (b : ℕ
 
 module _ {K V S H : Type 0} (old new : State K V S H) (ok : IsSized old) (hash b : ℕ) (within : b < buckets old) (first : IsFirstFree old.marks hash b)
     (filled : room new.marks + room_at old.marks b ≡ room old.marks) where
-  -- with a deleted bucket not all the room that pairs leave is there
-  spent : bucket_at old.marks b ≡ deleted → length old.pairs + room old.marks < full_capacity (buckets old)
-  unfolding room
-  spent there = omega (arith, count_by-pos is_deleted old.marks b within (ap is_deleted there), used_count-split old.marks, ok.taken, ok.table.used_within)
-
   counts : (m : Mark) → bucket_at old.marks b ≡ m → room_at old.marks b ≡ (if is_used m then 0 else 1)
   counts m e = ap (λ x. if is_used x then 0 else 1) e
 
@@ -88,7 +83,7 @@ module _ {K V S H : Type 0} (old new : State K V S H) (ok : IsSized old) (hash b
     where
       go : (m : Mark) → bucket_at old.marks b ≡ m → UsesRoom old new
       go empty e = inl (omega (arith, filled, counts empty e))
-      go deleted e = inr ((deleted_large old ok b within e).0, omega (arith, filled, counts deleted e), spent e)
+      go deleted e = let large = deleted_large old ok b within e in inr (large.0, omega (arith, filled, counts deleted e), large.1)
       go (full held) e = absurd (false≢true (sym first.free_there ∙ ap is_full e))
 
   pub uses_deleted : MayFill old.marks b → room old.marks ≡ 0 → UsesDeleted hash old new
@@ -96,7 +91,7 @@ module _ {K V S H : Type 0} (old new : State K V S H) (ok : IsSized old) (hash b
     none_left = omega (arith, filled, none);
     first = (b, first, there);
     large = (deleted_large old ok b within there).0;
-    within = (deleted_large old ok b within there).1;
+    within = omega (arith, (deleted_large old ok b within there).1);
   }
     where
       there : bucket_at old.marks b ≡ deleted
