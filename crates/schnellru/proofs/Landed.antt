@@ -14,7 +14,8 @@ use Rattle.schnellru.specs.Place.{IsPlaced}
 use Rattle.schnellru.specs.Steps.{UsesRoom, UsesDeleted}
 use Rattle.schnellru.specs.Linked.{Linked, IsLinked, Lands, pairs_of, entries_in}
 use Rattle.schnellru.specs.Holds.{state_by}
-use Rattle.schnellru.proofs.Cuts.{Lacks, lacks_unless, entries-apart}
+use Rattle.schnellru.proofs.Cuts.{entries-apart}
+use Rattle.schnellru.proofs.OrderLemmas.{Lacks, lacks_unless}
 use Rattle.schnellru.proofs.FilledBuckets.{deleted_large}
 use Rattle.schnellru.proofs.Kept.{sized_same, room_at-most}
 use Rattle.schnellru.proofs.Potential.{pays_placing}

@@ -1,10 +1,11 @@
 -- Orders of distinct buckets: what stands in them, and the neighbours of a bucket by recursion from the first on.
-use Rattle.std.proofs.Common.{◌≡◌, ◌≢◌, ℕ, zero, suc, ◌+◌, ◌<◌, cond, List, [], ◌∷◌, length, get_or, Option, Some, None, ◌⊎◌, inl, inr, refl, ap, sym, ◌∙◌, subst, arith, eq-eqb, ne_eqb}
+use Rattle.std.proofs.Common.{◌≡◌, ◌≢◌, ℕ, zero, suc, ◌+◌, ◌<◌, cond, List, [], ◌∷◌, length, get_or, Option, Some, None, ◌⊎◌, inl, inr, refl, ap, sym, ◌∙◌, subst, arith, eq-eqb, ne_eqb, false}
 use Rattle.std.proofs.lemmas.Bool.{cases_eq}
 use Rattle.std.proofs.lemmas.Option.{none-some, same_Some}
 use Rattle.std.specs.Prelude.{Contains, AllPairs, nat_eq, not}
 use Rattle.std.proofs.lemmas.List.Elements.{Contains-get_or}
 use Rattle.std.proofs.lemmas.List.Kept.{AllPairs-cons, AllPairs-filter}
+use Rattle.std.specs.List.{AllByRecursion}
 use Rattle.schnellru.specs.Chain.{first_bucket, last_bucket, bucket_after, bucket_before}
 use Rattle.schnellru.specs.Linked.{without_bucket}
 
@@ -128,11 +129,21 @@ before_from-some c b (d ∷ ds) there e = elim (cases_eq d b) [
       ]
 ]
 
+-- this bucket is not among them
+abbrev pub Lacks : ℕ → List ℕ → Type 0
+Lacks b = AllByRecursion (λ c. nat_eq c b ≡ false)
+
+pub lacks_unless : (b : ℕ) (order : List ℕ) → (Contains order b → ⊥) → Lacks b order
+lacks_unless b [] absent = tt
+lacks_unless b (c ∷ cs) absent = (ne_eqb c b (λ e. absent (subst (Contains (c ∷ cs)) e (Contains-here c cs))), lacks_unless b cs (λ w. absent (Contains-later c b cs w)))
+
 -- an order without a bucket
-pub without-absent : (b : ℕ) (cs : List ℕ) → (Contains cs b → ⊥) → without_bucket b cs ≡ cs
-without-absent b [] absent = refl
-without-absent b (c ∷ cs) absent =
-    rw (ne_eqb c b (λ e. absent (subst (Contains (c ∷ cs)) e (Contains-here c cs)))) (ap (λ xs. c ∷ xs) (without-absent b cs (λ w. absent (Contains-later c b cs w))))
+pub without-lacking : (b : ℕ) (order : List ℕ) → Lacks b order → without_bucket b order ≡ order
+without-lacking b [] lacks = refl
+without-lacking b (c ∷ cs) lacks = rw lacks.0 (ap (λ xs. c ∷ xs) (without-lacking b cs lacks.1))
+
+pub without-absent : (b : ℕ) (order : List ℕ) → (Contains order b → ⊥) → without_bucket b order ≡ order
+without-absent b order absent = without-lacking b order (lacks_unless b order absent)
 
 pub without_in : (b x : ℕ) (order : List ℕ) → Contains (without_bucket b order) x → Contains order x × (x ≢ b)
 without_in b x [] there = absurd (Contains-nil x there)
