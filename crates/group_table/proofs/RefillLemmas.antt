@@ -34,7 +34,8 @@ module _ {T : Type 0} (control : List ℕ) (entries : List (Option T)) (room : �
   IsValid-refilled =
       let one : ◌≡◌ {A = ℕ} (cond (is_used (bucket_at (slots_of control entries) b)) 1 0) 1 = ap (λ t. cond {A = ℕ} t 1 0) (used_from_full _ there) in
       subst (λ all. IsValid all (set entries b (Some w)) room) same_bytes
-      (IsValid-written control entries room valid b (get_or control b 0) (Some w) within byte_below room (omega (arith, one)) (λ small e. full_not_deleted (slot_of (get_or control b 0) (Some w)) refl e))
+      (IsValid-written control entries room valid b (get_or control b 0) (Some w) within byte_below room (omega (arith, one))
+      (λ small e. full_not_deleted (slot_of (get_or control b 0) (Some w)) refl e))
 
   pub entry_count-refilled : entry_count (slots_of control (set entries b (Some w))) ≡ entry_count (slots_of control entries)
   entry_count-refilled =
