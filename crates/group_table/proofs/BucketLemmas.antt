@@ -12,9 +12,6 @@ module _ {A : Type 0} where
   pub empty_not_full : (s : Bucket A) → s ≡ empty → is_full s ≡ true → ⊥
   empty_not_full s e h = false≢true (sym (ap is_full e) ∙ h)
 
-  pub full_not_empty : (s : Bucket A) → is_full s ≡ true → s ≡ empty → ⊥
-  full_not_empty s h e = empty_not_full s e h
-
   pub empty_not_deleted : (s : Bucket A) → s ≡ empty → s ≡ deleted → ⊥
   empty_not_deleted s p q = cc
 
@@ -41,11 +38,6 @@ module _ {A : Type 0} where
   mark_empty empty e = refl
   mark_empty deleted e = absurd (empty_not_deleted {A = Unit {0}} deleted e refl)
   mark_empty (full held) e = absurd (empty_not_full {A = Unit {0}} (full tt) e refl)
-
-  mark_deleted : (s : Bucket A) → mark_of s ≡ deleted → s ≡ deleted
-  mark_deleted empty e = absurd (empty_not_deleted {A = Unit {0}} empty refl e)
-  mark_deleted deleted e = refl
-  mark_deleted (full held) e = absurd (full_not_deleted {A = Unit {0}} (full tt) refl e)
 
   pub used_from_full : (s : Bucket A) → is_full s ≡ true → is_used s ≡ true
   used_from_full empty e = e
@@ -78,7 +70,7 @@ module _ {A : Type 0} where
   pub is_full-marks_of : (buckets : List (Bucket A)) (b : ℕ) → is_full (bucket_at (marks_of buckets) b) ≡ is_full (bucket_at buckets b)
   is_full-marks_of buckets b = ap is_full (bucket_at-marks_of buckets b) ∙ mark_of-full (bucket_at buckets b)
 
-  count_by-cons : (p : Bucket A → Bool) (s : Bucket A) (rest : List (Bucket A)) → count_by p (s ∷ rest) ≡ cond (p s) 1 0 + count_by p rest
+  pub count_by-cons : (p : Bucket A → Bool) (s : Bucket A) (rest : List (Bucket A)) → count_by p (s ∷ rest) ≡ cond (p s) 1 0 + count_by p rest
   count_by-cons p s rest = sum_by-cons (λ x. cond (p x) 1 0) s rest
 
   -- one bucket is written
@@ -89,7 +81,8 @@ module _ {A : Type 0} where
   bucket_at-set_other buckets b k s p = get_or-set_other buckets b k s empty p
 
   -- what writing one bucket does to a count
-  pub count_by-set : (p : Bucket A → Bool) (buckets : List (Bucket A)) (b : ℕ) (s : Bucket A) → b < length buckets → count_by p (set buckets b s) + cond (p (bucket_at buckets b)) 1 0 ≡ count_by p buckets + cond (p s) 1 0
+  pub count_by-set : (p : Bucket A → Bool) (buckets : List (Bucket A)) (b : ℕ) (s : Bucket A) → b < length buckets
+      → count_by p (set buckets b s) + cond (p (bucket_at buckets b)) 1 0 ≡ count_by p buckets + cond (p s) 1 0
   count_by-set p buckets b s within = sum_by-set (λ x. cond (p x) 1 0) buckets b s empty within
 
   pub count_by-pos : (p : Bucket A → Bool) (buckets : List (Bucket A)) (b : ℕ) → b < length buckets → p (bucket_at buckets b) ≡ true → 0 < count_by p buckets
@@ -102,7 +95,8 @@ module _ {A : Type 0} (p : Bucket A → Bool) (q : Mark → Bool) (same : (s : B
   count_by-marks_of : (buckets : List (Bucket A)) → count_by q (marks_of buckets) ≡ count_by p buckets
   count_by-marks_of [] = refl
   count_by-marks_of (s ∷ rest) =
-      count_by-cons q (mark_of s) (marks_of rest) ∙ ap (λ t. cond {A = ℕ} t 1 0 + count_by q (marks_of rest)) (same s) ∙ ap (λ n. cond {A = ℕ} (p s) 1 0 + n) (count_by-marks_of rest) ∙ sym (count_by-cons p s rest)
+      count_by-cons q (mark_of s) (marks_of rest) ∙ ap (λ t. cond {A = ℕ} t 1 0 + count_by q (marks_of rest)) (same s)
+      ∙ ap (λ n. cond {A = ℕ} (p s) 1 0 + n) (count_by-marks_of rest) ∙ sym (count_by-cons p s rest)
 
 module _ {A : Type 0} where
   pub entry_count-marks_of : (buckets : List (Bucket A)) → entry_count (marks_of buckets) ≡ entry_count buckets

@@ -1,6 +1,7 @@
 -- What a search found, for a closure that tests an entry and changes nothing.
 use Rattle.std.proofs.Common.{◌≡◌, ℕ, zero, suc, ◌<◌, Bool, true, false, List, [], ◌∷◌, length, get_or, Some, ap, sym, ◌∙◌, subst, arith}
 use Rattle.std.proofs.lemmas.Grind.{get_or_default_zero}
+use Rattle.std.proofs.lemmas.Option.{same_Some}
 use Rattle.std.specs.Borrow.{Bor}
 use Rattle.std.specs.Fn.{Mut, CalledAt}
 use Rattle.group_table.specs.Bucket.{Slot, entry_at}
@@ -8,10 +9,8 @@ use Rattle.group_table.specs.Fits.{Fits}
 use Rattle.group_table.specs.Search.{Answers, RefusesEach, Finds, FindsNone}
 use Rattle.group_table.proofs.SearchLemmas.{full_by_entry}
 
-same_entry : {T : Type 0} (x y : T) → Some x ≡ Some y → x ≡ y
-same_entry x y e = cc
-
-module _ {T F : Type 0} (closure : Mut F (Bor T × Unit {0}) Bool) (slots : List (Slot T)) (f : F) (test : T → Bool) (tests : (x : T) (r : Bool) (g : F) → CalledAt closure f x r g → (r ≡ test x) × (g ≡ f)) where
+module _ {T F : Type 0} (closure : Mut F (Bor T × Unit {0}) Bool) (slots : List (Slot T)) (f : F) (test : T → Bool)
+    (tests : (x : T) (r : Bool) (g : F) → CalledAt closure f x r g → (r ≡ test x) × (g ≡ f)) where
   -- the entry in the bucket does not pass
   abbrev Fails : ℕ → Type 0
   Fails b = (entry : T) × (entry_at slots b ≡ Some entry) × (test entry ≡ false)
@@ -37,9 +36,10 @@ module _ {T F : Type 0} (closure : Mut F (Bor T × Unit {0}) Bool) (slots : List
       (called.entry, called.there, sym (tests _ _ _ called.called).0)
 
   -- where nothing was found, no entry of that hash passes, whatever hashes fit
-  pub FindsNone-test : (hash : ℕ) → FindsNone closure slots hash f → (hash_of : ℕ → ℕ) → Fits slots hash_of → (b : ℕ) (entry : T) → hash_of b ≡ hash → entry_at slots b ≡ Some entry → test entry ≡ false
+  pub FindsNone-test : (hash : ℕ) → FindsNone closure slots hash f → (hash_of : ℕ → ℕ) → Fits slots hash_of → (b : ℕ) (entry : T) → hash_of b ≡ hash
+      → entry_at slots b ≡ Some entry → test entry ≡ false
   FindsNone-test hash none hash_of fits b entry e there =
       let listed = none.complete hash_of fits b (full_by_entry _ entry there) e in
       let place : get_or none.asked listed.0 0 ≡ b = sym (get_or_default_zero none.asked listed.0 b listed.1) ∙ listed.2 in
       let failed = subst Fails place (refused_fail none.asked none.last none.refused listed.0 listed.1) in
-      ap test (same_entry entry failed.0 (sym there ∙ failed.1)) ∙ failed.2
+      ap test (same_Some entry failed.0 (sym there ∙ failed.1)) ∙ failed.2

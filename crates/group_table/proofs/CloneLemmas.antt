@@ -1,4 +1,4 @@
--- A copy of a table.
+-- A copy of a table has the marks, the counts and the fitting hashes of the table.
 use Rattle.std.proofs.Common.{◌≡◌, ℕ, zero, suc, List, [], ◌∷◌, length, Option, Some, None, Result, refl, ap, sym, ◌∙◌, arith, count_by, cond, nat_eq, true, false, Bool}
 use Rattle.std.specs.List.{AllZip}
 use Rattle.std.proofs.lemmas.List.Elements.{length_all_zip, AllZip-get_or}
@@ -11,7 +11,7 @@ use Rattle.group_table.specs.Layout.{slot_of, slots_of, byte_of, Agrees, IsValid
 use Rattle.group_table.specs.Copies.{IsCopyOf, Copies, IsPlaceCopy}
 use Rattle.group_table.proofs.BucketLemmas.{empty_not_full, empty_not_deleted, full_not_deleted, used_count-marks_of, entry_count-marks_of, is_full-marks_of}
 use Rattle.group_table.proofs.FitsLemmas.{one_held}
-use Rattle.group_table.proofs.RefillLemmas.{byte_at-same}
+use Rattle.group_table.proofs.WriteLemmas.{byte_at-same}
 
 module _ {T F : Type 0} (closure : Shared F (Bor T × Unit {0}) (Result T AllocError)) (f : F) where
   free_copy : (t : Bool) → IsCopyOf closure f (cond t deleted empty) (cond t deleted empty)
@@ -97,13 +97,16 @@ module _ {T F : Type 0} (closure : Shared F (Bor T × Unit {0}) (Result T AllocE
     used_same : count_by is_used (slots_of control copies) ≡ count_by is_used (slots_of control entries)
     used_same = sym (used_count-marks_of (slots_of control copies)) ∙ ap (count_by is_used) marks ∙ used_count-marks_of (slots_of control entries)
 
+    same_byte : (k : ℕ) → byte_of (bucket_at (slots_of control copies) k) ≡ byte_of (bucket_at (slots_of control entries) k)
+    same_byte k = byte_of-copy _ _ (copy_each _ _ copied k)
+
     pub IsValid-copied : IsValid control copies r
     IsValid-copied = record {
       laid_out = record {
         counts = rw same_length valid.laid_out.counts;
         fits = valid.laid_out.fits;
         agrees = λ b within. agrees_copy _ _ _ (AllZip-get_or (IsPlaceCopy closure f) entries copies b None None h (omega (arith, same_length))) (valid.laid_out.agrees b (omega (arith, same_length)));
-        bytes = λ p within. valid.laid_out.bytes p within ∙ sym (byte_at-same (slots_of control entries) (slots_of control copies) same_slots (λ k. byte_of-copy _ _ (copy_each _ _ copied k)) p);
+        bytes = λ p within. valid.laid_out.bytes p within ∙ sym (byte_at-same (slots_of control entries) (slots_of control copies) same_slots p (same_byte p) (λ low past. same_byte _));
       };
       room_left = rw (same_length, used_same) valid.room_left;
       none_deleted = λ small b e. rw same_length (valid.none_deleted (omega (arith, same_length)) b (was_deleted _ _ (copy_each _ _ copied b) e));

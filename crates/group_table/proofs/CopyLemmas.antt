@@ -1,5 +1,5 @@
--- Lists of one element many times.
-use Rattle.std.proofs.Common.{◌≡◌, ℕ, zero, suc, ◌<◌, List, [], ◌∷◌, ◌++◌, length, get_or, replicate, refl, ap, ◌∙◌, arith}
+-- A list that has one element many times: what stands at each place of it, and which lists are one.
+use Rattle.std.proofs.Common.{◌≡◌, ℕ, zero, suc, ◌<◌, List, [], ◌∷◌, length, get_or, replicate, refl, ap, ◌∙◌, arith}
 
 module _ {X : Type 0} where
   -- also past the end, where it is the default
@@ -7,10 +7,6 @@ module _ {X : Type 0} where
   copy_at zero k x = refl
   copy_at (suc n) zero x = refl
   copy_at (suc n) (suc k) x = copy_at n k x
-
-  push_copy : (n : ℕ) (x : X) → replicate n x ++ x ∷ [] ≡ replicate (suc n) x
-  push_copy zero x = refl
-  push_copy (suc n) x = ap (λ xs. x ∷ xs) (push_copy n x)
 
   -- a list of the same elements
   pub replicate-from : (xs : List X) (x d : X) → ((k : ℕ) → k < length xs → get_or xs k d ≡ x) → xs ≡ replicate (length xs) x

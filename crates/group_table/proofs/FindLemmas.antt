@@ -1,5 +1,6 @@
 -- What the code learns lane by lane and group by group of a search that asks a closure.
-use Rattle.std.proofs.Common.{◌≡◌, ◌≢◌, ℕ, ◌+◌, ◌%◌, ◌/◌, ◌<◌, ◌≤◌, min, Bool, true, false, cond, List, [], ◌∷◌, ◌++◌, length, get_or, Option, None, Some, MatchBool, refl, ap, sym, ◌∙◌, subst, arith, append_assoc, nat_eq}
+use Rattle.std.proofs.Common.{◌≡◌, ◌≢◌, ℕ, ◌+◌, ◌%◌, ◌/◌, ◌<◌, ◌≤◌, min, Bool, true, false, cond, List, [], ◌∷◌, ◌++◌, length}
+use Rattle.std.proofs.Common.{get_or, Option, None, Some, MatchBool, refl, ap, sym, ◌∙◌, subst, arith, append_assoc, nat_eq}
 use Rattle.std.specs.List.{Contains}
 use Rattle.std.specs.Borrow.{Bor}
 use Rattle.std.specs.Fn.{Mut}
@@ -14,7 +15,8 @@ use Rattle.group_table.specs.Group.{width, tagged_lanes, IsEmptyLane, HasEmptyLa
 use Rattle.group_table.proofs.BucketLemmas.{full_lt, empty_not_full, bucket_at-past, length-marks_of}
 use Rattle.group_table.proofs.ProbeLemmas.{probed-meets, probed-lane, up_to_lane, up_to_end, group_within}
 use Rattle.group_table.proofs.LayoutLemmas.{length-laid_out, bucket_at-laid_out, mark_from_byte, byte_from_mark, power_of}
-use Rattle.group_table.proofs.SearchLemmas.{FoldsTo-append, full_by_tag, held_by, has_tag-full, tagged_lanes-more, RefusesEach-more, RefusesEach-skip, candidates-group, candidates-distinct, Contains-candidates}
+use Rattle.group_table.proofs.SearchLemmas.{FoldsTo-append, full_by_tag, held_by, has_tag-full, tagged_lanes-more, RefusesEach-more}
+use Rattle.group_table.proofs.SearchLemmas.{RefusesEach-skip, candidates-group, candidates-distinct, Contains-candidates}
 
 has_tag-test : (T : Type 0) (tag : ℕ) (b : Bool) → has_tag {T = T} tag (cond b deleted empty) ≡ false
 has_tag-test T tag true = refl
@@ -34,29 +36,35 @@ module _ {T : Type 0} (slots : List (Slot T)) (start lane : ℕ) where
     | no q ↦ let e : lane ≡ k = omega arith in subst (λ j. bucket_at (marks_of slots) ((start + j) % length slots) ≢ empty) e here
   ]
 
-  match_more : (t : Bool) → MatchBool t (HasEmptyLane slots start lane) (HasNoEmptyLane slots start lane) → bucket_at (marks_of slots) ((start + lane) % length slots) ≢ empty → MatchBool t (HasEmptyLane slots start (lane + 1)) (HasNoEmptyLane slots start (lane + 1))
+  match_more : (t : Bool) → MatchBool t (HasEmptyLane slots start lane) (HasNoEmptyLane slots start lane)
+      → bucket_at (marks_of slots) ((start + lane) % length slots) ≢ empty → MatchBool t (HasEmptyLane slots start (lane + 1)) (HasNoEmptyLane slots start (lane + 1))
   match_more true h here = wider h
   match_more false h here = none_more h here
 
 -- one lane, by its byte
-module _ {T : Type 0} (control : List ℕ) (entries : List (Option T)) (laid_out : IsLaidOut control entries) (start lane b : ℕ) (is : b ≡ (start + lane) % length entries) (within : b < length entries) where
+module _ {T : Type 0} (control : List ℕ) (entries : List (Option T)) (laid_out : IsLaidOut control entries) (start lane b : ℕ) (is : b ≡ (start + lane) % length entries)
+    (within : b < length entries) where
   pub lane_is : b ≡ (start + lane) % length (slots_of control entries)
   lane_is = is ∙ ap (λ n. (start + lane) % n) (sym (length-laid_out control entries laid_out))
 
   -- a used bucket leaves it open whether one was empty
-  pub ended_as_before : (t : Bool) → MatchBool t (HasEmptyLane (slots_of control entries) start lane) (HasNoEmptyLane (slots_of control entries) start lane) → get_or control b 0 ≢ 255 → MatchBool t (HasEmptyLane (slots_of control entries) start (lane + 1)) (HasNoEmptyLane (slots_of control entries) start (lane + 1))
+  pub ended_as_before : (t : Bool) → MatchBool t (HasEmptyLane (slots_of control entries) start lane) (HasNoEmptyLane (slots_of control entries) start lane)
+      → get_or control b 0 ≢ 255 → MatchBool t (HasEmptyLane (slots_of control entries) start (lane + 1)) (HasNoEmptyLane (slots_of control entries) start (lane + 1))
   ended_as_before t h used = match_more (slots_of control entries) start lane t h (λ e. used (byte_from_mark control entries laid_out b within (rw (← lane_is) at e)))
 
   -- and an empty one ends the search
   pub ended_here : get_or control b 0 ≡ 255 → HasEmptyLane (slots_of control entries) start (lane + 1)
   ended_here e = (lane, omega arith, rw (← lane_is) (mark_from_byte control entries laid_out b within e))
 
-  module _ {F : Type 0} (closure : Mut F (Bor T × Unit {0}) Bool) (tag : ℕ) (f between : F) (before : RefusesEach closure (slots_of control entries) f (tagged_lanes (slots_of control entries) tag start lane) between) where
+  module _ {F : Type 0} (closure : Mut F (Bor T × Unit {0}) Bool) (tag : ℕ) (f between : F)
+      (before : RefusesEach closure (slots_of control entries) f (tagged_lanes (slots_of control entries) tag start lane) between) where
     pub refused_passed : get_or control b 0 ≢ tag → RefusesEach closure (slots_of control entries) f (tagged_lanes (slots_of control entries) tag start (lane + 1)) between
-    refused_passed other = RefusesEach-skip closure (slots_of control entries) tag start lane f between before (rw (← lane_is, bucket_at-laid_out control entries laid_out b within) (has_tag-slot_of _ tag _ other))
+    refused_passed other =
+        RefusesEach-skip closure (slots_of control entries) tag start lane f between before (rw (← lane_is, bucket_at-laid_out control entries laid_out b within) (has_tag-slot_of _ tag _ other))
 
     module _ (entry : T) (there : bucket_at (slots_of control entries) b ≡ full (record { tag = tag; entry = entry })) (g : F) where
-      pub refused_asked : Answers closure (slots_of control entries) between b false g → RefusesEach closure (slots_of control entries) f (tagged_lanes (slots_of control entries) tag start (lane + 1)) g
+      pub refused_asked : Answers closure (slots_of control entries) between b false g
+          → RefusesEach closure (slots_of control entries) f (tagged_lanes (slots_of control entries) tag start (lane + 1)) g
       refused_asked asked = RefusesEach-more closure (slots_of control entries) tag start lane f between g entry before (rw lane_is at there) (rw lane_is at asked)
 
       pub AcceptsIn-from : lane < min 16 (length entries) → Answers closure (slots_of control entries) between b true g → AcceptsIn closure (slots_of control entries) tag start f b g
@@ -64,14 +72,18 @@ module _ {T : Type 0} (control : List ℕ) (entries : List (Option T)) (laid_out
         lanes = lane + 1;
         in_group = omega (arith, length-laid_out control entries laid_out);
         asked = tagged_lanes (slots_of control entries) tag start lane;
-        in_order = ap (λ k. tagged_lanes (slots_of control entries) tag start lane ++ k ∷ []) lane_is ∙ sym (tagged_lanes-more (slots_of control entries) tag start lane (has_tag-full _ _ tag (rw lane_is at there) refl));
+        in_order =
+            ap (λ k. tagged_lanes (slots_of control entries) tag start lane ++ k ∷ []) lane_is
+            ∙ sym (tagged_lanes-more (slots_of control entries) tag start lane (has_tag-full _ _ tag (rw lane_is at there) refl));
         between = between;
         refused = before;
         accepted = asked;
       }
 
 -- a group, from its first step on
-module _ {T F : Type 0} (closure : Mut F (Bor T × Unit {0}) Bool) (slots : List (Slot T)) (hash s : ℕ) (power : IsPowerFromFour (length slots)) (whole : s % 16 ≡ 0) (within : s < length slots) (none_before : (t : ℕ) → t < s → mark_probed (marks_of slots) hash t ≢ empty) (f between g : F) (before : RefusesEach closure slots f (candidates slots hash s) between) where
+module _ {T F : Type 0} (closure : Mut F (Bor T × Unit {0}) Bool) (slots : List (Slot T)) (hash s : ℕ) (power : IsPowerFromFour (length slots)) (whole : s % 16 ≡ 0)
+    (within : s < length slots) (none_before : (t : ℕ) → t < s → mark_probed (marks_of slots) hash t ≢ empty) (f between g : F)
+    (before : RefusesEach closure slots f (candidates slots hash s) between) where
   -- a search reaches each step of this group
   reached_here : (lanes : ℕ) → lanes ≤ 16 → (step earlier : ℕ) → step < s + lanes → earlier / 16 < step / 16 → mark_probed (marks_of slots) hash earlier ≢ empty
   reached_here lanes small step earlier p q = none_before earlier (omega arith)
@@ -80,10 +92,18 @@ module _ {T F : Type 0} (closure : Mut F (Bor T × Unit {0}) Bool) (slots : List
   Finds-from b here =
       let fits : s + here.lanes ≤ length slots = omega (arith, here.in_group, group_within (length slots) s power whole within) in
       let order : (candidates slots hash s ++ here.asked) ++ b ∷ [] ≡ candidates slots hash (s + here.lanes) =
-      append_assoc (candidates slots hash s) here.asked (b ∷ []) ∙ ap (λ xs. candidates slots hash s ++ xs) here.in_order ∙ sym (candidates-group slots hash s here.lanes whole (omega (arith, here.in_group))) in
+      append_assoc (candidates slots hash s) here.asked (b ∷ []) ∙ ap (λ xs. candidates slots hash s ++ xs) here.in_order
+      ∙ sym (candidates-group slots hash s here.lanes whole (omega (arith, here.in_group))) in
       record {
         asked = candidates slots hash s ++ here.asked;
-        search = record { steps = s + here.lanes; within = fits; reached = reached_here here.lanes (omega (arith, here.in_group)); in_order = order; distinct = rw order (candidates-distinct slots hash (s + here.lanes) power fits) };
+        search =
+            record {
+              steps = s + here.lanes;
+              within = fits;
+              reached = reached_here here.lanes (omega (arith, here.in_group));
+              in_order = order;
+              distinct = rw order (candidates-distinct slots hash (s + here.lanes) power fits);
+            };
         between = here.between;
         refused = FoldsTo-append _ _ _ _ _ _ before here.refused;
         last = g;
@@ -95,7 +115,8 @@ module _ {T F : Type 0} (closure : Mut F (Bor T × Unit {0}) Bool) (slots : List
   refused_group here = rw (candidates-group slots hash s (min 16 (length slots)) whole (omega arith)) (FoldsTo-append _ _ _ _ _ _ before here)
 
   -- an empty bucket ends the search: what a search reaches was among the groups before, or in this one
-  reached_by : (lane : ℕ) → lane < min 16 (length slots) → IsEmptyLane slots (probed (length slots) hash s) lane → (b : ℕ) → b < length slots → Reaches (marks_of slots) hash b → (t : ℕ) × (t < s + min 16 (length slots)) × (probed (length slots) hash t ≡ b)
+  reached_by : (lane : ℕ) → lane < min 16 (length slots) → IsEmptyLane slots (probed (length slots) hash s) lane → (b : ℕ) → b < length slots
+      → Reaches (marks_of slots) hash b → (t : ℕ) × (t < s + min 16 (length slots)) × (probed (length slots) hash t ≡ b)
   reached_by lane p ends b small r =
       let n = length slots in
       let same = length-marks_of slots in
@@ -112,13 +133,15 @@ module _ {T F : Type 0} (closure : Mut F (Bor T × Unit {0}) Bool) (slots : List
         | no q ↦ let met = probed-meets n hash b power small in (met.0, omega (arith, met.1), met.2)
       ]
 
-  all_asked : HasEmptyLane slots (probed (length slots) hash s) (min 16 (length slots)) → (b : ℕ) → has_tag (hash_tag hash) (bucket_at slots b) ≡ true → Reaches (marks_of slots) hash b → Contains (candidates slots hash (s + min 16 (length slots))) b
+  all_asked : HasEmptyLane slots (probed (length slots) hash s) (min 16 (length slots)) → (b : ℕ) → has_tag (hash_tag hash) (bucket_at slots b) ≡ true
+      → Reaches (marks_of slots) hash b → Contains (candidates slots hash (s + min 16 (length slots))) b
   all_asked ends b tagged reached =
       let last = s + min 16 (length slots) in
       let r = reached_by ends.0 ends.1 ends.2 b (full_lt slots b (full_by_tag (bucket_at slots b) (hash_tag hash) tagged)) reached in
       subst (Contains (candidates slots hash last)) r.2 (Contains-candidates slots hash r.0 last r.1 (subst (λ k. has_tag (hash_tag hash) (bucket_at slots k) ≡ true) (sym r.2) tagged))
 
-  pub FindsNone-from : RefusesGroup closure slots (hash_tag hash) (probed (length slots) hash s) between g → HasEmptyLane slots (probed (length slots) hash s) (min 16 (length slots)) → FindsNone closure slots hash f
+  pub FindsNone-from : RefusesGroup closure slots (hash_tag hash) (probed (length slots) hash s) between g
+      → HasEmptyLane slots (probed (length slots) hash s) (min 16 (length slots)) → FindsNone closure slots hash f
   FindsNone-from here ends =
       let last = s + min 16 (length slots) in
       let fits = group_within (length slots) s power whole within in
@@ -145,7 +168,9 @@ FindsNone-empty closure slots hash f e = record {
 }
 
 -- none of the first steps comes to an empty bucket, so that the search goes on
-module _ {T : Type 0} (control : List ℕ) (entries : List (Option T)) (laid_out : IsLaidOut control entries) (hash s : ℕ) (pos : 0 < length entries) (whole : s % 16 ≡ 0) (none_before : (t : ℕ) → t < s → mark_probed (marks_by control entries) hash t ≢ empty) (none_here : HasNoEmptyLane (slots_of control entries) (probed (length (slots_of control entries)) hash s) (width (slots_of control entries))) where
+module _ {T : Type 0} (control : List ℕ) (entries : List (Option T)) (laid_out : IsLaidOut control entries) (hash s : ℕ) (pos : 0 < length entries) (whole : s % 16 ≡ 0)
+    (none_before : (t : ℕ) → t < s → mark_probed (marks_by control entries) hash t ≢ empty)
+    (none_here : HasNoEmptyLane (slots_of control entries) (probed (length (slots_of control entries)) hash s) (width (slots_of control entries))) where
   none_up_to : (t : ℕ) → t < s + min 16 (length entries) → bucket_at (marks_by control entries) (probed (length entries) hash t) ≢ empty
   none_up_to =
       let same = length-laid_out control entries laid_out in

@@ -6,7 +6,7 @@ use Rattle.group_table.specs.Probe.{hash_tag, probed, mark_probed, Reaches, IsFi
 use Rattle.group_table.specs.Neighbours.{HasEmptyNeighbours}
 use Rattle.group_table.specs.Fits.{Fits, with_hash}
 use Rattle.group_table.specs.Change.{Removes}
-use Rattle.group_table.proofs.BucketLemmas.{bucket_at-set_same, bucket_at-set_other, empty_not_full, empty_not_deleted, full_not_empty, full_not_deleted, length-marks_of, marks_of-set}
+use Rattle.group_table.proofs.BucketLemmas.{bucket_at-set_same, bucket_at-set_other, empty_not_full, empty_not_deleted, full_not_deleted, length-marks_of, marks_of-set}
 use Rattle.group_table.proofs.ProbeLemmas.{probed-lane}
 
 pub with_hash-there : (hash_of : ℕ → ℕ) (b hash k : ℕ) → k ≡ b → with_hash hash_of b hash k ≡ hash
@@ -38,7 +38,8 @@ module _ (marks : List Mark) (b : ℕ) (m : Mark) (within : b < length marks) (s
 
 -- a bucket is emptied only where each search that went past it ended in the same group
 module _ (marks : List Mark) (b : ℕ) (near : HasEmptyNeighbours marks b) where
-  goes_on_past : (hash step : ℕ) → ((before : ℕ) → before / 16 < step / 16 → mark_probed marks hash before ≢ empty) → (before : ℕ) → before / 16 < step / 16 → mark_probed (set marks b empty) hash before ≢ empty
+  goes_on_past : (hash step : ℕ) → ((before : ℕ) → before / 16 < step / 16 → mark_probed marks hash before ≢ empty) → (before : ℕ) → before / 16 < step / 16
+      → mark_probed (set marks b empty) hash before ≢ empty
   goes_on_past hash step goes before p e =
       let n = length marks in
       let at = probed n hash before in
@@ -69,31 +70,36 @@ Reaches-first marks hash b first = record {
 
 module _ {T : Type 0} where
   -- the hashes fit again, with that of the entry placed
-  pub Fits-placed : (slots : List (Slot T)) (hash_of : ℕ → ℕ) (hash b : ℕ) (entry : T) → b < length slots → IsFirstFree (marks_of slots) hash b → Fits slots hash_of → Fits (set slots b (full (record { tag = hash_tag hash; entry = entry }))) (with_hash hash_of b hash)
+  pub Fits-placed : (slots : List (Slot T)) (hash_of : ℕ → ℕ) (hash b : ℕ) (entry : T) → b < length slots → IsFirstFree (marks_of slots) hash b → Fits slots hash_of
+      → Fits (set slots b (full (record { tag = hash_tag hash; entry = entry }))) (with_hash hash_of b hash)
   Fits-placed slots hash_of hash b entry p first fits =
       let now : Slot T = full (record { tag = hash_tag hash; entry = entry }) in
-      let stays : mark_of now ≢ empty = full_not_empty {A = Unit {0}} (full tt) refl in
+      let stays : mark_of now ≢ empty = λ e. empty_not_full {A = Unit {0}} (full tt) e refl in
       let in_marks : b < length (marks_of slots) = rw length-marks_of p in
       record {
         tags = λ k held e. elim (cases_eq k b) [
-          | inl h ↦ rw (with_hash-there hash_of b hash k h) (sym (ap (λ x. x.tag) (one_held now (record { tag = hash_tag hash; entry = entry }) held refl (sym (bucket_at-set_same slots b k now h p) ∙ e))))
+          | inl h ↦ rw (with_hash-there hash_of b hash k h)
+              (sym (ap (λ x. x.tag) (one_held now (record { tag = hash_tag hash; entry = entry }) held refl (sym (bucket_at-set_same slots b k now h p) ∙ e))))
           | inr h ↦ rw (with_hash-elsewhere hash_of b hash k h) (fits.tags k held (sym (bucket_at-set_other slots b k now h) ∙ e))
         ];
         reached = λ k there. elim (cases_eq k b) [
-          | inl h ↦ rw (marks_of-set slots b now, with_hash-there hash_of b hash k h, h) (Reaches-set (marks_of slots) b (mark_of now) in_marks stays hash b (Reaches-first (marks_of slots) hash b first))
-          | inr h ↦ rw (marks_of-set slots b now, with_hash-elsewhere hash_of b hash k h) (Reaches-set (marks_of slots) b (mark_of now) in_marks stays _ k (fits.reached k (sym (ap is_full (bucket_at-set_other slots b k now h)) ∙ there)))
+          | inl h ↦ rw (marks_of-set slots b now, with_hash-there hash_of b hash k h, h)
+              (Reaches-set (marks_of slots) b (mark_of now) in_marks stays hash b (Reaches-first (marks_of slots) hash b first))
+          | inr h ↦ rw (marks_of-set slots b now, with_hash-elsewhere hash_of b hash k h)
+              (Reaches-set (marks_of slots) b (mark_of now) in_marks stays _ k (fits.reached k (sym (ap is_full (bucket_at-set_other slots b k now h)) ∙ there)))
         ];
       }
 
-  -- of hashes that fit, others that are equal bucket by bucket fit
-  pub Fits-same : (slots : List (Slot T)) (hash_of other_of : ℕ → ℕ) → ((b : ℕ) → hash_of b ≡ other_of b) → Fits slots hash_of → Fits slots other_of
-  Fits-same slots hash_of other_of same fits = record {
-    tags = λ b held e. fits.tags b held e ∙ ap hash_tag (same b);
-    reached = λ b there. rw (← same b) (fits.reached b there);
+  -- hashes fit that are the same where a bucket is full
+  pub Fits-agree : (slots : List (Slot T)) (f g : ℕ → ℕ) → ((b : ℕ) → IsFull slots b → f b ≡ g b) → Fits slots f → Fits slots g
+  Fits-agree slots f g agree fits = record {
+    tags = λ b held e. rw (← agree b (ap is_full e)) (fits.tags b held e);
+    reached = λ b there. rw (← agree b there) (fits.reached b there);
   }
 
   -- a bucket whose entry left
-  module _ (slots : List (Slot T)) (hash_of : ℕ → ℕ) (b : ℕ) (s : Slot T) (p : b < length slots) (not_full : is_full s ≡ true → ⊥) (reaches : (hash k : ℕ) → Reaches (marks_of slots) hash k → Reaches (set (marks_of slots) b (mark_of s)) hash k) (fits : Fits slots hash_of) where
+  module _ (slots : List (Slot T)) (hash_of : ℕ → ℕ) (b : ℕ) (s : Slot T) (p : b < length slots) (not_full : is_full s ≡ true → ⊥)
+      (reaches : (hash k : ℕ) → Reaches (marks_of slots) hash k → Reaches (set (marks_of slots) b (mark_of s)) hash k) (fits : Fits slots hash_of) where
     was_full : (k : ℕ) → IsFull (set slots b s) k → k ≢ b
     was_full k there h = not_full (sym (ap is_full (bucket_at-set_same slots b k s h p)) ∙ there)
 
@@ -108,7 +114,8 @@ module _ {T : Type 0} where
   Fits-removed old new hash_of b p (inl w) fits =
       rw w.1 (Fits-emptied old hash_of b empty p (λ e. empty_not_full {A = Tagged T} empty refl e) (Reaches-emptied (marks_of old) b w.0) fits)
   Fits-removed old new hash_of b p (inr w) fits =
-      rw w.1 (Fits-emptied old hash_of b deleted p (λ e. full_not_deleted {A = Tagged T} deleted e refl) (Reaches-set (marks_of old) b deleted (rw length-marks_of p) (λ e. empty_not_deleted {A = Unit {0}} deleted e refl)) fits)
+      rw w.1 (Fits-emptied old hash_of b deleted p (λ e. full_not_deleted {A = Tagged T} deleted e refl)
+      (Reaches-set (marks_of old) b deleted (rw length-marks_of p) (λ e. empty_not_deleted {A = Unit {0}} deleted e refl)) fits)
 
   -- where all buckets are empty, any hashes fit
   pub Fits-none : (slots : List (Slot T)) (hash_of : ℕ → ℕ) → ((b : ℕ) → bucket_at slots b ≡ empty) → Fits slots hash_of

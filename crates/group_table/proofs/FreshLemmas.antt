@@ -1,5 +1,6 @@
--- The fields of a table whose buckets are all empty.
-use Rattle.std.proofs.Common.{◌≡◌, ℕ, zero, suc, ◌+◌, ◌^◌, ◌<◌, ◌≤◌, ◌∷◌, length, replicate, Option, None, ◌⊎◌, refl, ap, sym, ◌∙◌, arith, inl, inr, count_by, cond, Bool, false, List, Some, true, get_or}
+-- The fields of a table whose buckets are all empty, and what holds of such a table.
+use Rattle.std.proofs.Common.{◌≡◌, ℕ, zero, suc, ◌+◌, ◌^◌, ◌<◌, ◌≤◌, ◌∷◌, length, replicate, Option, None, ◌⊎◌, refl}
+use Rattle.std.proofs.Common.{ap, sym, ◌∙◌, arith, inl, inr, count_by, cond, Bool, false, List, Some, true, get_or}
 use Rattle.std.proofs.lemmas.List.{length-replicate, get_or-replicate}
 use Rattle.std.proofs.lemmas.List.Sums.{sum_by-cons}
 use native.Mathlib.Decide.{dec_lt}
@@ -78,5 +79,6 @@ none_left {T} control entries laid_out none = replicate-from entries None None (
     at : (b : ℕ) → b < length entries → (e : Option T) → get_or entries b None ≡ e → e ≡ None
     at b within None is = refl
     at b within (Some entry) is =
-        let there : is_full (bucket_at (slots_of control entries) b) ≡ true = ap is_full (bucket_at-laid_out control entries laid_out b within) ∙ ap (λ o. is_full (slot_of (get_or control b 0) o)) is in
+        let there : is_full (bucket_at (slots_of control entries) b) ≡ true =
+        ap is_full (bucket_at-laid_out control entries laid_out b within) ∙ ap (λ o. is_full (slot_of (get_or control b 0) o)) is in
         absurd (omega (arith, none, count_by-pos is_full (slots_of control entries) b (omega (arith, length-laid_out control entries laid_out)) there))

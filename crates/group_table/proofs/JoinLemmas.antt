@@ -15,7 +15,9 @@ use Rattle.group_table.proofs.WriteLemmas.{slots_of-written}
 use Rattle.group_table.proofs.PlaceLemmas.{Spends, place_within, place_first, place_free, IsValid-placed, entry_count-placed}
 use Rattle.group_table.proofs.ChangeLemmas.{entry_at-placed, entry_count-places, bucket_at-placed_other}
 
-module _ {T : Type 0} (control : List ℕ) (entries : List (Option T)) (r : ℕ) (valid : IsValid control entries r) (none_deleted : count_by is_deleted (slots_of control entries) ≡ 0) (less : entry_count (slots_of control entries) < full_capacity (length (slots_of control entries))) where
+module _ {T : Type 0} (control : List ℕ) (entries : List (Option T)) (r : ℕ) (valid : IsValid control entries r)
+    (none_deleted : count_by is_deleted (slots_of control entries) ≡ 0)
+    (less : entry_count (slots_of control entries) < full_capacity (length (slots_of control entries))) where
   capacity : full_capacity (length (slots_of control entries)) ≡ full_capacity (length entries)
   capacity = ap full_capacity (length-laid_out control entries valid.laid_out)
 

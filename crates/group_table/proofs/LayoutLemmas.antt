@@ -13,7 +13,8 @@ module _ {T : Type 0} where
   length-slots_of [] (e ∷ entries) p = absurd (omega arith)
   length-slots_of (b ∷ bytes) (e ∷ entries) p = ap suc (length-slots_of bytes entries (omega arith))
 
-  bucket_at-slots_of : (bytes : List ℕ) (entries : List (Option T)) (b : ℕ) → length entries ≤ length bytes → b < length entries → bucket_at (slots_of bytes entries) b ≡ slot_of (get_or bytes b 0) (get_or entries b None)
+  bucket_at-slots_of : (bytes : List ℕ) (entries : List (Option T)) (b : ℕ) → length entries ≤ length bytes → b < length entries
+      → bucket_at (slots_of bytes entries) b ≡ slot_of (get_or bytes b 0) (get_or entries b None)
   bucket_at-slots_of bytes [] b p q = absurd (omega arith)
   bucket_at-slots_of [] (e ∷ entries) b p q = absurd (omega arith)
   bucket_at-slots_of (x ∷ bytes) (e ∷ entries) zero p q = refl
@@ -85,7 +86,8 @@ module _ {T : Type 0} (control : List ℕ) (entries : List (Option T)) (laid_out
     byte_from_mark e = empty_byte _ _ (laid_out.agrees b within) (sym bucket_at-laid_out ∙ empty_mark (slots_of control entries) b e)
 
     -- what the code reads of a bucket with a tag
-    pub bucket_at-read : (tag : ℕ) (r : Option T) (entry : T) → get_or control b 0 ≡ tag → r ≡ get_or entries b r → r ≡ Some entry → bucket_at (slots_of control entries) b ≡ full (record { tag = tag; entry = entry })
+    pub bucket_at-read : (tag : ℕ) (r : Option T) (entry : T) → get_or control b 0 ≡ tag → r ≡ get_or entries b r → r ≡ Some entry
+        → bucket_at (slots_of control entries) b ≡ full (record { tag = tag; entry = entry })
     bucket_at-read tag r entry e f h =
         let found : get_or entries b None ≡ Some entry = sym (get_or_read entries b r within f None) ∙ h in
         bucket_at-laid_out ∙ ap (λ o. slot_of (get_or control b 0) o) found ∙ ap (λ t. full (record { tag = t; entry = entry })) e
@@ -97,6 +99,10 @@ module _ {T : Type 0} (control : List ℕ) (entries : List (Option T)) (laid_out
     -- a full bucket has an entry
     pub full_entry : (entry : T) × (get_or entries b None ≡ Some entry)
     full_entry = filled (get_or control b 0) (get_or entries b None) (rw (bucket_at-laid_out b full_within) at there)
+
+    -- and a byte below 128
+    pub full_byte : get_or control b 0 < 128
+    full_byte = let e = full_entry in rw e.1 at (laid_out.agrees b full_within)
 
     pub is_some_entry : IsSome (get_or entries b None)
     is_some_entry = let w = full_entry in rw w.1 refl

@@ -1,6 +1,8 @@
 -- Entries that move one by one into a fresh table.
-use Rattle.std.proofs.Common.{◌≡◌, ◌≢◌, ℕ, ◌+◌, ◌<◌, Bool, List, [], ◌∷◌, ◌++◌, length, get_or, set, Option, Some, None, ap, sym, ◌∙◌, subst, arith, count_by, cond, is_some, true, get_or-set_same, get_or-set_other, inl, inr}
+use Rattle.std.proofs.Common.{◌≡◌, ◌≢◌, ℕ, ◌+◌, ◌<◌, Bool, List, [], ◌∷◌, ◌++◌, length, get_or, set, Option, Some, None, ap, sym}
+use Rattle.std.proofs.Common.{◌∙◌, subst, arith, count_by, cond, is_some, true, get_or-set_same, get_or-set_other, inl, inr}
 use Rattle.std.proofs.lemmas.Bool.{cases_eq}
+use Rattle.std.proofs.lemmas.Option.{none-some, same_Some}
 use Rattle.std.proofs.lemmas.List.{get_or_past, get_or_push, get_or_append_left, length-append}
 use Rattle.std.proofs.lemmas.List.Sums.{sum_by-append, sum_by-cons}
 use Rattle.std.proofs.Math.Seq.{get_or-append_seam}
@@ -12,22 +14,17 @@ use Rattle.group_table.specs.Relocation.{moved_to}
 use Rattle.group_table.specs.Moves.{Joins, Moves, KeepsMovedHashes}
 use Rattle.group_table.proofs.BucketLemmas.{empty_not_full}
 use Rattle.group_table.proofs.SearchLemmas.{full_by_entry}
-use Rattle.group_table.proofs.FitsLemmas.{Fits-placed, Fits-same, with_hash-there, with_hash-elsewhere}
+use Rattle.group_table.proofs.FitsLemmas.{Fits-placed, Fits-agree, with_hash-there, with_hash-elsewhere}
 use Rattle.group_table.proofs.JoinLemmas.{entry_at-joined, bucket_at-joined_other}
-
-not_none : {T : Type 0} (o : Option T) (x : T) → o ≡ None → o ≡ Some x → ⊥
-not_none o x p q = cc
-
-one_entry : {T : Type 0} (o : Option T) (x y : T) → o ≡ Some x → o ≡ Some y → x ≡ y
-one_entry o x y p q = cc
 
 module _ {T N : Type 0} (number : N → ℕ) (none : N) where
   -- no entry has moved
-  pub Moves-none : (old : ℕ → Option T) (new : List (Slot T)) (links : List N) → ((b : ℕ) → old b ≡ None) → ((b : ℕ) → bucket_at new b ≡ empty) → ((b : ℕ) → get_or links b none ≡ none) → Moves number none old new links
+  pub Moves-none : (old : ℕ → Option T) (new : List (Slot T)) (links : List N) → ((b : ℕ) → old b ≡ None) → ((b : ℕ) → bucket_at new b ≡ empty)
+      → ((b : ℕ) → get_or links b none ≡ none) → Moves number none old new links
   Moves-none old new links gone fresh unlinked = record {
-    moved = λ b entry e. absurd (not_none _ _ (gone b) e);
+    moved = λ b entry e. absurd (none-some _ (sym (gone b) ∙ e));
     others = λ b e. unlinked b;
-    apart = λ b c x y e f same. absurd (not_none _ _ (gone b) e);
+    apart = λ b c x y e f same. absurd (none-some _ (sym (gone b) ∙ e));
     onto = λ c there. absurd (empty_not_full _ (fresh c) there);
   }
 
@@ -71,14 +68,14 @@ module _ {T N : Type 0} (number : N → ℕ) (none : N) where
     Moves-more = record {
       moved = λ k x e. elim (cases_eq k b) [
         | inl h ↦
-            let same : x ≡ entry = one_entry (more b) x entry (ap more (sym h) ∙ e) is in
+            let same : x ≡ entry = same_Some x entry (sym e ∙ ap more h ∙ is) in
             ap (λ j. entry_at joined (moved_to number none linked j)) h ∙ ap (entry_at joined) linked_there ∙ entry_at-joined new joined hash entry c joins ∙ ap Some (sym same)
         | inr h ↦
             let before = was_there k x h e in
             ap (entry_at joined) (linked_elsewhere k h) ∙ ap entry_of (bucket_at-joined_other new joined hash entry c joins _ (apart_from k x before)) ∙ m.moved k x before
       ];
       others = λ k e. elim (cases_eq k b) [
-        | inl h ↦ absurd (not_none (more b) entry (ap more (sym h) ∙ e) is)
+        | inl h ↦ absurd (none-some entry (sym e ∙ ap more h ∙ is))
         | inr h ↦ get_or-set_other links b k (link c) none h ∙ m.others k (sym (others k h) ∙ e)
       ];
       apart = λ j k x y e f same. elim (cases_eq j b) [
@@ -95,7 +92,7 @@ module _ {T N : Type 0} (number : N → ℕ) (none : N) where
         | inl h ↦ (b, entry, is, linked_there ∙ sym h)
         | inr h ↦
             let w = m.onto k (sym (ap is_full (bucket_at-joined_other new joined hash entry c joins k h)) ∙ there) in
-            let other : w.0 ≢ b = λ i. not_none (old b) w.1 was (ap old (sym i) ∙ w.2) in
+            let other : w.0 ≢ b = λ i. none-some w.1 (sym was ∙ ap old (sym i) ∙ w.2) in
             (w.0, w.1, others w.0 other ∙ w.2, linked_elsewhere w.0 other ∙ w.3)
       ];
     }
@@ -103,10 +100,10 @@ module _ {T N : Type 0} (number : N → ℕ) (none : N) where
     pub KeepsMovedHashes-more : (hash_of : ℕ → ℕ) → hash ≡ hash_of b → KeepsMovedHashes number none old new links hash_of → KeepsMovedHashes number none more joined linked hash_of
     KeepsMovedHashes-more hash_of hashed keeps moved_hash_of gives =
         let before : Fits new moved_hash_of = keeps moved_hash_of (λ k x e.
-        let other : k ≢ b = λ i. not_none (old b) x was (ap old (sym i) ∙ e) in
+        let other : k ≢ b = λ i. none-some x (sym was ∙ ap old (sym i) ∙ e) in
         ap moved_hash_of (sym (linked_elsewhere k other)) ∙ gives k x (others k other ∙ e)) in
         let now : hash ≡ moved_hash_of c = hashed ∙ sym (gives b entry is) ∙ ap moved_hash_of linked_there in
-        rw joins.slots (Fits-same _ _ _ (λ k. elim (cases_eq k c) [
+        rw joins.slots (Fits-agree _ _ _ (λ k there. elim (cases_eq k c) [
           | inl h ↦ with_hash-there moved_hash_of c hash k h ∙ now ∙ ap moved_hash_of (sym h)
           | inr h ↦ with_hash-elsewhere moved_hash_of c hash k h
         ]) (Fits-placed new moved_hash_of hash c entry joins.within joins.first before))

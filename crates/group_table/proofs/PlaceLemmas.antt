@@ -46,7 +46,8 @@ some_free_byte control entries r valid pos =
     let within : w.0 < length entries = omega (arith, w.1, length-marks_by control entries valid.laid_out) in
     (w.0, within, omega (arith, byte_from_mark control entries valid.laid_out w.0 within w.2))
 
-module _ {T : Type 0} (control : List ℕ) (entries : List (Option T)) (r : ℕ) (valid : IsValid control entries r) (hash b n : ℕ) (n_is : n ≡ length entries) (pos : 0 < n) (first : IsFirstFreeByte control n hash b) where
+module _ {T : Type 0} (control : List ℕ) (entries : List (Option T)) (r : ℕ) (valid : IsValid control entries r) (hash b n : ℕ) (n_is : n ≡ length entries) (pos : 0 < n)
+    (first : IsFirstFreeByte control n hash b) where
   byte_first : IsFirstFreeByte control (length entries) hash b
   byte_first = subst (λ k. IsFirstFreeByte control k hash b) n_is first
 
@@ -117,7 +118,8 @@ module _ {T : Type 0} (control : List ℕ) (entries : List (Option T)) (r spent 
     pub IsValid-placed : IsValid (written control entries b tag) (set entries b (Some entry)) (r - spent)
     IsValid-placed =
         let frees = free_of (bucket_at (slots_of control entries) b) r spent spends in
-        IsValid-written control entries r valid b tag (Some entry) within tag_fits (r - spent) (omega (arith, frees.1, frees.2)) (λ small e. full_not_deleted {A = Tagged T} (full (record { tag = tag; entry = entry })) refl e)
+        IsValid-written control entries r valid b tag (Some entry) within tag_fits (r - spent) (omega (arith, frees.1, frees.2))
+        (λ small e. full_not_deleted {A = Tagged T} (full (record { tag = tag; entry = entry })) refl e)
 
     pub entry_count-placed : entry_count (slots_of (written control entries b tag) (set entries b (Some entry))) ≡ entry_count (slots_of control entries) + 1
     entry_count-placed =

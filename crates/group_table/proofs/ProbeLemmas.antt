@@ -46,7 +46,10 @@ probed-small n hash s p = let e : hash + 8 * 0 * (0 + 1) + s ≡ hash + s = omeg
 pub power_cases : (n : ℕ) → (power : IsPowerFromFour n) → 16 ≤ n → (m : ℕ) × (n ≡ 16 * 2 ^ m)
 power_cases n power p =
     elim (dec_lt 1 power.0) [
-      | yes r ↦ let e : power.0 ≡ 2 + (power.0 - 2) = omega arith in (power.0 - 2, let d : 2 ^ power.0 ≡ 2 ^ 2 * 2 ^ (power.0 - 2) = ap (λ j. 2 ^ j) e ∙ pow-add 2 2 (power.0 - 2) in omega (arith, power.1, d))
+      | yes r ↦
+          let e : power.0 ≡ 2 + (power.0 - 2) = omega arith in
+          let d : 2 ^ power.0 ≡ 2 ^ 2 * 2 ^ (power.0 - 2) = ap (λ j. 2 ^ j) e ∙ pow-add 2 2 (power.0 - 2) in
+          (power.0 - 2, omega (arith, power.1, d))
       | no r ↦ absurd (small power.0 power.1 (omega arith))
     ]
   where
@@ -73,7 +76,8 @@ met_at : (size hash b t lane q r : ℕ) → lane < 16 → t < size → IsTriangl
 met_at size hash b t lane q r p below h e = (
   16 * t + lane,
   omega arith,
-  probed-at (16 * size) hash (16 * t + lane) t lane refl p ∙ ap (λ k. k % (16 * size)) (way hash t lane q size r h) ∙ add-mul-mod_self_left (hash + (q * 16 + lane)) (16 * size) r ∙ sym (mod-add-mod hash (16 * size) (q * 16 + lane)) ∙ e,
+  probed-at (16 * size) hash (16 * t + lane) t lane refl p ∙ ap (λ k. k % (16 * size)) (way hash t lane q size r h) ∙ add-mul-mod_self_left (hash + (q * 16 + lane)) (16 * size) r
+      ∙ sym (mod-add-mod hash (16 * size) (q * 16 + lane)) ∙ e,
 )
 
 met_by : (m hash b d : ℕ) → d < 16 * 2 ^ m → (hash % (16 * 2 ^ m) + d) % (16 * 2 ^ m) ≡ b → IsMet (16 * 2 ^ m) hash b
@@ -115,7 +119,8 @@ apart_in_large m hash s t p q e =
     joined : (x y p q r s : ℕ) → x ≡ p + r → y ≡ q + s → r ≡ s → x + q ≡ y + p
     joined x y p q r s e f g = omega arith
 
-    join : (m size g a h b s t x y u v : ℕ) → size ≡ 2 ^ m → a < 16 → b < 16 → s ≡ 16 * g + a → t ≡ 16 * h + b → s < 16 * size → t < 16 * size → g * (g + 1) ≡ 2 * x → h * (h + 1) ≡ 2 * y → (8 * g * (g + 1) + a) + 16 * size * v ≡ (8 * h * (h + 1) + b) + 16 * size * u → s ≡ t
+    join : (m size g a h b s t x y u v : ℕ) → size ≡ 2 ^ m → a < 16 → b < 16 → s ≡ 16 * g + a → t ≡ 16 * h + b → s < 16 * size → t < 16 * size → g * (g + 1) ≡ 2 * x
+        → h * (h + 1) ≡ 2 * y → (8 * g * (g + 1) + a) + 16 * size * v ≡ (8 * h * (h + 1) + b) + 16 * size * u → s ≡ t
     join m size g a h b s t x y u v z la lb is_s is_t p q ex ey e =
         let f : 16 * x + a + 16 * (size * v) ≡ 16 * y + b + 16 * (size * u) = omega (arith, ex, ey) in
         let lanes : a ≡ b = omega arith in

@@ -15,7 +15,8 @@ use Rattle.group_table.proofs.SearchLemmas.{full_by_entry, held_by}
 use Rattle.group_table.proofs.LayoutLemmas.{bucket_at-laid_out, length-laid_out, entries_within, is_full-test}
 
 -- with no deleted bucket, room and entries are the full capacity
-pub room-none_deleted : {T : Type 0} (slots : List (Slot T)) → count_by is_deleted slots ≡ 0 → entry_count slots ≤ full_capacity (length slots) → room (marks_of slots) + entry_count slots ≡ full_capacity (length slots)
+pub room-none_deleted : {T : Type 0} (slots : List (Slot T)) → count_by is_deleted slots ≡ 0 → entry_count slots ≤ full_capacity (length slots)
+    → room (marks_of slots) + entry_count slots ≡ full_capacity (length slots)
 room-none_deleted slots none within =
     omega (arith, none, within, room_is (marks_of slots), ap full_capacity (length-marks_of slots), used_count-marks_of slots, used_count-split slots)
 
@@ -37,7 +38,13 @@ module _ {T : Type 0} where
   entry_count-by_places [] (place ∷ places) p = absurd (omega arith)
   entry_count-by_places (byte ∷ bytes) (place ∷ places) p =
       let same : ◌≡◌ {A = ℕ} (cond (is_full (slot_of byte place)) 1 0) (cond (is_some place) 1 0) = ap (λ t. cond {A = ℕ} t 1 0) (is_full-by_place byte place) in
-      omega (arith, same, sum_by-cons (λ s. cond {A = ℕ} (is_full s) 1 0) (slot_of byte place) (slots_of bytes places), sum_by-cons (λ o. cond {A = ℕ} (is_some o) 1 0) place places, entry_count-by_places bytes places (omega arith))
+      omega (
+        arith,
+        same,
+        sum_by-cons (λ s. cond {A = ℕ} (is_full s) 1 0) (slot_of byte place) (slots_of bytes places),
+        sum_by-cons (λ o. cond {A = ℕ} (is_some o) 1 0) place places,
+        entry_count-by_places bytes places (omega arith),
+      )
 
 module _ {T : Type 0} (control : List ℕ) (entries : List (Option T)) (laid_out : IsLaidOut control entries) where
   pub entry_count-laid_out : entry_count (slots_of control entries) ≡ count_by is_some entries
@@ -69,5 +76,6 @@ module _ {T : Type 0} (control : List ℕ) (entries : List (Option T)) (laid_out
     pub KeepsHashes-moves : (hash_of : ℕ → ℕ) → KeepsMovedHashes number none (place_at entries) new links hash_of → KeepsHashes number none (slots_of control entries) new links hash_of
     KeepsHashes-moves hash_of keeps moved_hash_of gives = keeps moved_hash_of (λ b entry e. gives b (full_place b entry e))
 
-  pub GivesMovedHashes-from : {H : Type 0} (closure : Shared H (Bor T × Unit {0}) ℕ) (f : H) (hash_of : ℕ → ℕ) → GivesHashes closure f (slots_of control entries) hash_of → GivesMovedHashes closure f entries hash_of
+  pub GivesMovedHashes-from : {H : Type 0} (closure : Shared H (Bor T × Unit {0}) ℕ) (f : H) (hash_of : ℕ → ℕ) → GivesHashes closure f (slots_of control entries) hash_of
+      → GivesMovedHashes closure f entries hash_of
   GivesMovedHashes-from closure f hash_of gives b hash entry e = gives b hash entry (entry_at-laid_out b ∙ e)

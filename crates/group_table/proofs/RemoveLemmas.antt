@@ -1,6 +1,5 @@
 -- The entry of a full bucket leaves.
-use Rattle.std.proofs.Common.{◌≡◌, ℕ, ◌+◌, ◌%◌, ◌<◌, ◌≤◌, Bool, true, false, cond, List, length, get_or, set, Option, None, refl, ap, sym, ◌∙◌, arith, inl, inr, count_by, MatchBool}
-use Rattle.std.proofs.lemmas.Bool.{ltb-true}
+use Rattle.std.proofs.Common.{◌≡◌, ℕ, ◌+◌, ◌%◌, ◌<◌, ◌≤◌, Bool, true, false, cond, List, length, set, Option, None, refl, ap, sym, ◌∙◌, arith, inl, inr, count_by, MatchBool}
 use Rattle.std.proofs.Math.Nat.{mod-add-mod, mod-lt}
 use mir.Val.{bool_byte}
 use Rattle.group_table.specs.Bucket.{Slot, Tagged, Mark, empty, deleted, bucket_at, is_used, is_full, IsFull, entry_count, room, room_at}
@@ -10,7 +9,7 @@ use Rattle.group_table.specs.Layout.{slot_of, slots_of, marks_by, IsLaidOut, IsV
 use Rattle.group_table.specs.Group.{EmptyNeighbourBytes, HemmedInBytes}
 use Rattle.group_table.proofs.BucketLemmas.{some_empty, used_from_full, count_by-pos, empty_not_deleted, bucket_at-set_same, bucket_at-marks_of, mark_of-used}
 use Rattle.group_table.proofs.Circle.{distance}
-use Rattle.group_table.proofs.LayoutLemmas.{length-laid_out, length-marks_by, full_within, is_full-laid_out, mark_from_byte, byte_from_mark}
+use Rattle.group_table.proofs.LayoutLemmas.{length-laid_out, length-marks_by, full_within, mark_from_byte, byte_from_mark}
 use Rattle.group_table.proofs.TableLemmas.{used_lt, room_by}
 use Rattle.group_table.proofs.WriteLemmas.{slots_of-written, IsValid-written, entry_count-written}
 
@@ -66,10 +65,12 @@ module _ {T : Type 0} (control : List ℕ) (entries : List (Option T)) (r : ℕ)
   counts_as byte s is =
       let in_slots : b < length (slots_of control entries) = omega (arith, within, length-laid_out control entries valid.laid_out) in
       let new = slots_of (written control entries b byte) (set entries b None) in
-      let there_now : bucket_at new b ≡ s = ap (λ xs. bucket_at xs b) (slots_of-written control entries b byte None) ∙ bucket_at-set_same (slots_of control entries) b b (slot_of byte None) refl in_slots ∙ is in
+      let there_now : bucket_at new b ≡ s =
+      ap (λ xs. bucket_at xs b) (slots_of-written control entries b byte None) ∙ bucket_at-set_same (slots_of control entries) b b (slot_of byte None) refl in_slots ∙ is in
       ap (λ m. cond {A = ℕ} (is_used m) 0 1) (bucket_at-marks_of new b) ∙ ap (λ t. cond {A = ℕ} t 0 1) (mark_of-used (bucket_at new b) ∙ ap is_used there_now)
 
-  pub removed : (gives_room : Bool) → MatchBool gives_room (EmptyNeighbourBytes control (length entries) b) (HemmedInBytes control (length entries) b) → Removed (cond gives_room 255 128) (bool_byte gives_room)
+  pub removed : (gives_room : Bool) → MatchBool gives_room (EmptyNeighbourBytes control (length entries) b) (HemmedInBytes control (length entries) b)
+      → Removed (cond gives_room 255 128) (bool_byte gives_room)
   removed true h = record {
     is_valid = IsValid-written control entries r valid b 255 None within (inr refl) (r + 1) (omega (arith, one_used)) (λ small e. empty_not_deleted {A = Tagged T} empty refl e);
     count = omega (arith, one_full, entry_count-written control entries r valid b 255 None within (inr refl));
@@ -81,7 +82,10 @@ module _ {T : Type 0} (control : List ℕ) (entries : List (Option T)) (r : ℕ)
       let hemmed = IsHemmedIn-from_bytes control entries valid.laid_out b pos h in
       let same = length-marks_by control entries valid.laid_out in
       record {
-        is_valid = IsValid-written control entries r valid b 128 None within (inl refl) (r + 0) (omega (arith, one_used)) (λ small e. hemmed_in_small (marks_by control entries) b hemmed (omega (arith, same, small)) (omega (arith, same, used_lt control entries r valid pos)));
+        is_valid =
+            IsValid-written control entries r valid b 128 None within
+            (inl refl) (r + 0) (omega (arith, one_used))
+            (λ small e. hemmed_in_small (marks_by control entries) b hemmed (omega (arith, same, small)) (omega (arith, same, used_lt control entries r valid pos)));
         count = omega (arith, one_full, entry_count-written control entries r valid b 128 None within (inl refl));
         removes = inr (hemmed, slots_of-written control entries b 128 None);
         gained_there = counts_as 128 deleted refl;
@@ -90,13 +94,6 @@ module _ {T : Type 0} (control : List ℕ) (entries : List (Option T)) (r : ℕ)
   pub entry_count-pos : 0 < entry_count (slots_of control entries)
   entry_count-pos = count_by-pos is_full (slots_of control entries) b (omega (arith, within, length-laid_out control entries valid.laid_out)) there
 
-  -- a full bucket has a byte below 128
-  pub full_byte : get_or control b 0 < 128
-  full_byte = ltb-true _ 128 (sym (is_full-laid_out control entries valid.laid_out b within) ∙ there)
-
-  pub room-removed : (byte gained : ℕ) → Removed byte gained → room (marks_by (written control entries b byte) (set entries b None)) ≡ room (marks_by control entries) + room_at (marks_by (written control entries b byte) (set entries b None)) b
+  pub room-removed : (byte gained : ℕ) → Removed byte gained
+      → room (marks_by (written control entries b byte) (set entries b None)) ≡ room (marks_by control entries) + room_at (marks_by (written control entries b byte) (set entries b None)) b
   room-removed byte gained w = omega (arith, w.gained_there, room_by _ _ _ w.is_valid, room_by control entries r valid)
-
--- a bucket is not both emptied and deleted
-pub neighbours-exclusive : (marks : List Mark) (b : ℕ) → HasEmptyNeighbours marks b → IsHemmedIn marks b → ⊥
-neighbours-exclusive marks b near hemmed = let w = near hemmed.start hemmed.at hemmed.within hemmed.there in hemmed.none_empty w.0 w.1 w.2

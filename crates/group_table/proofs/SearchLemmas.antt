@@ -1,5 +1,6 @@
--- The buckets that a search asks about.
-use Rattle.std.proofs.Common.{◌≡◌, ◌≢◌, ℕ, zero, suc, ◌+◌, ◌%◌, ◌<◌, ◌≤◌, Bool, true, false, cond, List, [], ◌∷◌, ◌++◌, length, map, refl, ap, sym, ◌∙◌, subst, arith, append_assoc, add-one, add-zero, eq-eqb, AllPairs, Option, Some, None, IfSome}
+-- What a bucket holds, and which buckets a search asks about.
+use Rattle.std.proofs.Common.{◌≡◌, ◌≢◌, ℕ, zero, suc, ◌+◌, ◌%◌, ◌<◌, ◌≤◌, Bool, true, false, cond, List, [], ◌∷◌, ◌++◌, length}
+use Rattle.std.proofs.Common.{map, refl, ap, sym, ◌∙◌, subst, arith, append_assoc, add-one, add-zero, eq-eqb, AllPairs, Some}
 use Rattle.std.specs.List.{range_with_len, FoldsTo, Contains}
 use Rattle.std.specs.Borrow.{Bor}
 use Rattle.std.specs.Fn.{Mut, Called}
@@ -26,7 +27,10 @@ module _ {T : Type 0} where
   held_by deleted e = absurd (cc)
   held_by (full held) e = (held, refl)
 
-  -- a bucket with an entry is full
+  -- a full bucket has an entry, and a bucket with an entry is full
+  pub entry_by_full : (s : Slot T) → is_full s ≡ true → (entry : T) × (entry_of s ≡ Some entry)
+  entry_by_full s there = let w = held_by s there in (w.0.entry, ap entry_of w.1)
+
   pub full_by_entry : (s : Slot T) (entry : T) → entry_of s ≡ Some entry → is_full s ≡ true
   full_by_entry empty entry e = absurd (cc)
   full_by_entry deleted entry e = absurd (cc)
@@ -53,7 +57,8 @@ module _ {T : Type 0} (slots : List (Slot T)) (tag start : ℕ) where
   tagged_lanes-skip lane h = tagged_lanes-next lane ∙ rw h (append-nil _)
 
   -- a lane with the tag adds its bucket
-  pub tagged_lanes-more : (lane : ℕ) → has_tag tag (bucket_at slots ((start + lane) % length slots)) ≡ true → tagged_lanes slots tag start (lane + 1) ≡ tagged_lanes slots tag start lane ++ (start + lane) % length slots ∷ []
+  pub tagged_lanes-more : (lane : ℕ) → has_tag tag (bucket_at slots ((start + lane) % length slots)) ≡ true
+      → tagged_lanes slots tag start (lane + 1) ≡ tagged_lanes slots tag start lane ++ (start + lane) % length slots ∷ []
   tagged_lanes-more lane h = tagged_lanes-next lane ∙ rw h
 
 module _ {T : Type 0} (slots : List (Slot T)) (hash : ℕ) where
@@ -61,7 +66,8 @@ module _ {T : Type 0} (slots : List (Slot T)) (hash : ℕ) where
   candidates-next steps = filter_of_map_range_with_len_more _ _ 0 steps steps (omega arith)
 
   -- the candidates of a group follow those of the groups before
-  pub candidates-group : (s lanes : ℕ) → s % 16 ≡ 0 → lanes ≤ 16 → candidates slots hash (s + lanes) ≡ candidates slots hash s ++ tagged_lanes slots (hash_tag hash) (probed (length slots) hash s) lanes
+  pub candidates-group : (s lanes : ℕ) → s % 16 ≡ 0 → lanes ≤ 16
+      → candidates slots hash (s + lanes) ≡ candidates slots hash s ++ tagged_lanes slots (hash_tag hash) (probed (length slots) hash s) lanes
   candidates-group s zero whole p = rw add-zero (sym (append-nil _))
   candidates-group s (suc lanes) whole p =
       let e : s + suc lanes ≡ s + lanes + 1 = omega arith in
@@ -85,7 +91,8 @@ module _ {T : Type 0} (slots : List (Slot T)) (hash : ℕ) where
       omega (arith, same))
 
   -- a bucket with the tag that is visited is among them
-  pub Contains-candidates : (s steps : ℕ) → s < steps → has_tag (hash_tag hash) (bucket_at slots (probed (length slots) hash s)) ≡ true → Contains (candidates slots hash steps) (probed (length slots) hash s)
+  pub Contains-candidates : (s steps : ℕ) → s < steps → has_tag (hash_tag hash) (bucket_at slots (probed (length slots) hash s)) ≡ true
+      → Contains (candidates slots hash steps) (probed (length slots) hash s)
   Contains-candidates s zero p e = absurd (omega arith)
   Contains-candidates s (suc steps) p e =
       subst (λ k. Contains (candidates slots hash k) (probed (length slots) hash s)) (add-one steps) (elim (dec_lt s steps) [
@@ -94,20 +101,20 @@ module _ {T : Type 0} (slots : List (Slot T)) (hash : ℕ) where
       ])
 
 module _ {T F : Type 0} (closure : Mut F (Bor T × Unit {0}) Bool) (slots : List (Slot T)) where
-  pub Answers-from_call : (f g : F) (b tag : ℕ) (answer result : Bool) (entry : T) (shown : Bor T) → bucket_at slots b ≡ full (record { tag = tag; entry = entry }) → shown.now ≡ entry → Called closure f (shown, tt) result g → result ≡ answer → Answers closure slots f b answer g
+  pub Answers-from_call : (f g : F) (b tag : ℕ) (answer result : Bool) (entry : T) (shown : Bor T) → bucket_at slots b ≡ full (record { tag = tag; entry = entry })
+      → shown.now ≡ entry → Called closure f (shown, tt) result g → result ≡ answer → Answers closure slots f b answer g
   Answers-from_call f g b tag answer result entry shown e shows called is =
       record { entry = entry; there = ap entry_of e; called = record { shown = shown; shows = shows; called = subst (λ r. Called closure f (shown, tt) r g) is called } }
 
   module _ (tag start lane : ℕ) where
     -- one more refusal
-    pub RefusesEach-more : (f between g : F) (entry : T) → RefusesEach closure slots f (tagged_lanes slots tag start lane) between → bucket_at slots ((start + lane) % length slots) ≡ full (record { tag = tag; entry = entry }) → Answers closure slots between ((start + lane) % length slots) false g → RefusesEach closure slots f (tagged_lanes slots tag start (lane + 1)) g
+    pub RefusesEach-more : (f between g : F) (entry : T) → RefusesEach closure slots f (tagged_lanes slots tag start lane) between
+        → bucket_at slots ((start + lane) % length slots) ≡ full (record { tag = tag; entry = entry })
+        → Answers closure slots between ((start + lane) % length slots) false g → RefusesEach closure slots f (tagged_lanes slots tag start (lane + 1)) g
     RefusesEach-more f between g entry before e asked =
         rw (tagged_lanes-more slots tag start lane (has_tag-full _ _ tag e refl)) (FoldsTo-push _ _ _ _ _ _ before asked)
 
     -- a lane with no such tag
-    pub RefusesEach-skip : (f between : F) → RefusesEach closure slots f (tagged_lanes slots tag start lane) between → has_tag tag (bucket_at slots ((start + lane) % length slots)) ≡ false → RefusesEach closure slots f (tagged_lanes slots tag start (lane + 1)) between
+    pub RefusesEach-skip : (f between : F) → RefusesEach closure slots f (tagged_lanes slots tag start lane) between
+        → has_tag tag (bucket_at slots ((start + lane) % length slots)) ≡ false → RefusesEach closure slots f (tagged_lanes slots tag start (lane + 1)) between
     RefusesEach-skip f between before e = rw (tagged_lanes-skip slots tag start lane e) before
-
-pub if_some : {T : Type 0} {P Q : T → Type 0} (r : Option T) → ((x : T) → P x → Q x) → IfSome r P → IfSome r Q
-if_some None h p = p
-if_some (Some x) h p = h x p

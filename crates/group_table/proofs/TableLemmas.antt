@@ -7,8 +7,8 @@ use Rattle.group_table.specs.Probe.{IsFirstFree}
 use Rattle.group_table.specs.Layout.{slots_of, marks_by, IsValid}
 use Rattle.group_table.proofs.SizeLemmas.{full_capacity-lt, full_capacity-small}
 use Rattle.group_table.proofs.BucketLemmas.{some_empty, room_is, used_count-marks_of, deleted_count-marks_of, used_count-split, deleted_count-none, empty_not_deleted, bucket_at-past}
-use Rattle.group_table.proofs.ProbeLemmas.{probed-lt, probed-meets}
-use Rattle.group_table.proofs.FirstFree.{first_free_there}
+use Rattle.group_table.proofs.ProbeLemmas.{probed-meets}
+use Rattle.group_table.proofs.FirstFree.{first_free_within, first_free_there}
 use Rattle.group_table.proofs.LayoutLemmas.{length-laid_out, length-marks_by, power_of}
 
 module _ {T : Type 0} (control : List ℕ) (entries : List (Option T)) (r : ℕ) (valid : IsValid control entries r) where
@@ -21,7 +21,8 @@ module _ {T : Type 0} (control : List ℕ) (entries : List (Option T)) (r : ℕ)
   -- the field is the room
   pub room_by : r ≡ room (marks_by control entries)
   room_by = let e = room_is (marks_by control entries) in let same = length-marks_by control entries valid.laid_out in
-      (let f : r ≡ full_capacity (length entries) - count_by is_used (marks_by control entries) = omega (arith, used_is) in f) ∙ ap (λ n. full_capacity n - count_by is_used (marks_by control entries)) (sym same) ∙ sym e
+      (let f : r ≡ full_capacity (length entries) - count_by is_used (marks_by control entries) = omega (arith, used_is) in f)
+      ∙ ap (λ n. full_capacity n - count_by is_used (marks_by control entries)) (sym same) ∙ sym e
 
   -- there is less room than 2 ^ 63
   pub room_within : r ≤ length entries
@@ -50,7 +51,8 @@ module _ {T : Type 0} (control : List ℕ) (entries : List (Option T)) (r : ℕ)
   pub IsTable-by : IsTable (marks_by control entries)
   IsTable-by =
       let same = length-marks_by control entries valid.laid_out in
-      let left : count_by is_used (marks_by control entries) + room (marks_by control entries) ≡ full_capacity (length entries) = ap (λ n. count_by is_used (marks_by control entries) + n) (sym room_by) ∙ used_is in
+      let left : count_by is_used (marks_by control entries) + room (marks_by control entries) ≡ full_capacity (length entries) =
+      ap (λ n. count_by is_used (marks_by control entries) + n) (sym room_by) ∙ used_is in
       let split = used_count-split (marks_by control entries) in
       let capacity : full_capacity (length (marks_by control entries)) ≡ full_capacity (length entries) = ap full_capacity same in
       record {
@@ -62,6 +64,6 @@ module _ {T : Type 0} (control : List ℕ) (entries : List (Option T)) (r : ℕ)
         none_deleted = λ small. none_deleted_small (omega (arith, small, same));
         some_empty = λ pos. empty_there (omega (arith, pos, same));
         some_free = λ pos hash. let w = free_there (omega (arith, pos, same)) hash in
-            (w.0, rw (← w.1.there) (probed-lt (length (marks_by control entries)) hash w.1.step pos), w.1);
+            (w.0, first_free_within (marks_by control entries) hash w.0 w.1 pos, w.1);
         visits_each = λ hash b p. rw same (probed-meets (length entries) hash b (power_of control entries valid.laid_out (omega (arith, p, same))) (omega (arith, p, same)));
       }

@@ -1,7 +1,9 @@
 -- One bucket is written: its byte, the repetition of that byte, and its entry.
-use Rattle.std.proofs.Common.{◌≡◌, ◌≢◌, ℕ, zero, suc, ◌+◌, ◌-◌, ◌<◌, ◌≤◌, max, cond, List, [], ◌∷◌, length, get_or, set, Option, Some, None, refl, ap, sym, ◌∙◌, arith, inl, inr, get_or-set_other, get_or-set_same, length-set}
+use Rattle.std.proofs.Common.{◌≡◌, ◌≢◌, ℕ, zero, suc, ◌+◌, ◌-◌, ◌<◌, ◌≤◌, max, cond, List, [], ◌∷◌, length, get_or, set, Option}
+use Rattle.std.proofs.Common.{Some, None, refl, ap, sym, ◌∙◌, arith, inl, inr, get_or-set_other, get_or-set_same, length-set}
 use Rattle.std.proofs.lemmas.Bool.{lt-ltb, le-ltb, cases_eq}
 use native.Mathlib.Decide.{dec_lt}
+use Rattle.std.proofs.lemmas.List.{set-get_or, set_past}
 use Rattle.group_table.specs.Bucket.{Slot, empty, deleted, bucket_at, is_full, is_used, entry_count}
 use Rattle.group_table.specs.Layout.{slot_of, slots_of, byte_of, byte_at, Agrees, IsLaidOut, IsValid, written}
 use Rattle.group_table.proofs.BucketLemmas.{bucket_at-set_same, bucket_at-set_other, count_by-set}
@@ -14,7 +16,8 @@ module _ {T : Type 0} where
   slots_of-set_past (b ∷ bytes) (e ∷ entries) zero y p = absurd (omega arith)
   slots_of-set_past (b ∷ bytes) (e ∷ entries) (suc m) y p = ap (λ s. slot_of b e ∷ s) (slots_of-set_past bytes entries m y (omega arith))
 
-  pub slots_of-written : (control : List ℕ) (entries : List (Option T)) (b byte : ℕ) (e : Option T) → slots_of (written control entries b byte) (set entries b e) ≡ set (slots_of control entries) b (slot_of byte e)
+  pub slots_of-written : (control : List ℕ) (entries : List (Option T)) (b byte : ℕ) (e : Option T)
+      → slots_of (written control entries b byte) (set entries b e) ≡ set (slots_of control entries) b (slot_of byte e)
   slots_of-written control entries b byte e =
       slots_of-set_past (set control b byte) (set entries b e) (b + max 16 (length entries)) byte (omega (arith, length-set entries b e)) ∙ slots_of-set control entries b byte e
 
@@ -33,18 +36,42 @@ module _ {T : Type 0} where
     pub byte_at-again : length slots ≤ p → 16 ≤ p → byte_at slots p ≡ byte_of (bucket_at slots (p - max 16 (length slots)))
     byte_at-again h q = rw (le-ltb p (length slots) h, le-ltb p 16 q)
 
-  -- the other positions keep their bytes
+  -- a position keeps its byte where its bucket does
+  pub byte_at-same : (old new : List (Slot T)) → length new ≡ length old → (p : ℕ) → byte_of (bucket_at new p) ≡ byte_of (bucket_at old p)
+      → (16 ≤ p → length old ≤ p → byte_of (bucket_at new (p - max 16 (length old))) ≡ byte_of (bucket_at old (p - max 16 (length old)))) → byte_at new p ≡ byte_at old p
+  byte_at-same old new same p here again =
+      elim (dec_lt p (length old)) [
+        | yes q ↦ byte_at-bucket new p (omega arith) ∙ here ∙ sym (byte_at-bucket old p q)
+        | no q ↦ elim (dec_lt p 16) [
+          | yes r ↦ byte_at-between new p (omega arith) r ∙ sym (byte_at-between old p (omega arith) r)
+          | no r ↦
+              byte_at-again new p (omega arith) (omega arith) ∙ ap (λ n. byte_of (bucket_at new (p - max 16 n))) same ∙ again (omega arith) (omega arith)
+              ∙ sym (byte_at-again old p (omega arith) (omega arith))
+        ]
+      ]
+
+  -- as each but those of the bucket that is written
   byte_at-other : (slots : List (Slot T)) (b p : ℕ) (s : Slot T) → p ≢ b → p ≢ b + max 16 (length slots) → byte_at (set slots b s) p ≡ byte_at slots p
   byte_at-other slots b p s h k =
-      let same = length-set slots b s in
-      elim (dec_lt p (length slots)) [
-        | yes q ↦ byte_at-bucket (set slots b s) p (omega (arith, same)) ∙ ap byte_of (bucket_at-set_other slots b p s h) ∙ sym (byte_at-bucket slots p q)
-        | no q ↦ elim (dec_lt p 16) [
-          | yes r ↦ byte_at-between (set slots b s) p (omega (arith, same)) r ∙ sym (byte_at-between slots p (omega arith) r)
-          | no r ↦
-              let there : p - max 16 (length slots) ≢ b = λ e. k (omega arith) in
-              byte_at-again (set slots b s) p (omega (arith, same)) (omega arith) ∙ ap (λ n. byte_of (bucket_at (set slots b s) (p - max 16 n))) same ∙ ap byte_of (bucket_at-set_other slots b _ s there) ∙ sym (byte_at-again slots p (omega arith) (omega arith))
-        ]
+      byte_at-same slots (set slots b s) (length-set slots b s) p (ap byte_of (bucket_at-set_other slots b p s h)) (λ low past.
+      let there : p - max 16 (length slots) ≢ b = λ e. k (omega arith) in
+      ap byte_of (bucket_at-set_other slots b _ s there))
+
+  -- the byte of a bucket that is written again leaves the bytes
+  pub written-same : (control : List ℕ) (entries : List (Option T)) → IsLaidOut control entries → (b : ℕ) → b < length entries → written control entries b (get_or control b 0) ≡ control
+  written-same control entries laid_out b within =
+      let again : ℕ = b + max 16 (length entries) in
+      let same = length-laid_out control entries laid_out in
+      let wide : length control ≡ length entries + 16 = elim laid_out.counts [ inl w ↦ absurd (omega arith) | inr w ↦ w.1 ] in
+      let there : get_or control b 0 ≡ byte_of (bucket_at (slots_of control entries) b) =
+      laid_out.bytes b (omega (arith, wide)) ∙ byte_at-bucket (slots_of control entries) b (omega (arith, same)) in
+      ap (λ all. set all again (get_or control b 0)) (set-get_or control b 0) ∙ elim (dec_lt again (length control)) [
+        | yes q ↦
+            let back : again - max 16 (length (slots_of control entries)) ≡ b = rw same (omega arith) in
+            let repeated : get_or control again 0 ≡ get_or control b 0 =
+            laid_out.bytes again q ∙ byte_at-again (slots_of control entries) again (omega (arith, same)) (omega arith) ∙ ap (λ k. byte_of (bucket_at (slots_of control entries) k)) back ∙ sym there in
+            ap (set control again) (sym repeated) ∙ set-get_or control again 0
+        | no q ↦ set_past control again (get_or control b 0) (omega arith)
       ]
 
 module _ {T : Type 0} (control : List ℕ) (entries : List (Option T)) (laid_out : IsLaidOut control entries) (b byte : ℕ) (e : Option T) (within : b < length entries) (agrees : Agrees byte e) where
@@ -102,7 +129,8 @@ module _ {T : Type 0} (control : List ℕ) (entries : List (Option T)) (laid_out
   }
 
 -- the invariant of the fields, and the number of entries, after a write
-module _ {T : Type 0} (control : List ℕ) (entries : List (Option T)) (r : ℕ) (valid : IsValid control entries r) (b byte : ℕ) (e : Option T) (within : b < length entries) (agrees : Agrees byte e) where
+module _ {T : Type 0} (control : List ℕ) (entries : List (Option T)) (r : ℕ) (valid : IsValid control entries r) (b byte : ℕ) (e : Option T) (within : b < length entries)
+    (agrees : Agrees byte e) where
   in_slots : b < length (slots_of control entries)
   in_slots = omega (arith, within, length-laid_out control entries valid.laid_out)
 
@@ -113,12 +141,15 @@ module _ {T : Type 0} (control : List ℕ) (entries : List (Option T)) (r : ℕ)
         | inr other ↦ valid.none_deleted small k (sym (bucket_at-set_other (slots_of control entries) b k (slot_of byte e) other) ∙ h)
       ]
 
-  pub IsValid-written : (left : ℕ) → cond (is_used (bucket_at (slots_of control entries) b)) 1 0 + r ≡ cond (is_used (slot_of byte e)) 1 0 + left → (length entries ≤ 16 → slot_of byte e ≢ deleted) → IsValid (written control entries b byte) (set entries b e) left
+  pub IsValid-written : (left : ℕ) → cond (is_used (bucket_at (slots_of control entries) b)) 1 0 + r ≡ cond (is_used (slot_of byte e)) 1 0 + left
+      → (length entries ≤ 16 → slot_of byte e ≢ deleted) → IsValid (written control entries b byte) (set entries b e) left
   IsValid-written left counted kept = record {
     laid_out = IsLaidOut-written control entries valid.laid_out b byte e within agrees;
-    room_left = rw (slots_of-written control entries b byte e, length-set entries b e) (omega (arith, count_by-set is_used (slots_of control entries) b (slot_of byte e) in_slots, counted, valid.room_left));
+    room_left =
+        rw (slots_of-written control entries b byte e, length-set entries b e) (omega (arith, count_by-set is_used (slots_of control entries) b (slot_of byte e) in_slots, counted, valid.room_left));
     none_deleted = rw (slots_of-written control entries b byte e, length-set entries b e) (none_deleted_left kept);
   }
 
-  pub entry_count-written : entry_count (slots_of (written control entries b byte) (set entries b e)) + cond (is_full (bucket_at (slots_of control entries) b)) 1 0 ≡ entry_count (slots_of control entries) + cond (is_full (slot_of byte e)) 1 0
+  pub entry_count-written : entry_count (slots_of (written control entries b byte) (set entries b e)) + cond (is_full (bucket_at (slots_of control entries) b)) 1 0
+      ≡ entry_count (slots_of control entries) + cond (is_full (slot_of byte e)) 1 0
   entry_count-written = rw (slots_of-written control entries b byte e) (count_by-set is_full (slots_of control entries) b (slot_of byte e) in_slots)

@@ -78,7 +78,8 @@ word-of_4_to_7 (a ∷ b ∷ c ∷ d ∷ e ∷ g ∷ h ∷ i ∷ bs) first last s
 
 -- one to three bytes: the first, the middle and the last one, of which some are the same
 pub word-of_1_to_3 : (bs : List ℕ) → ((k : ℕ) → get_or bs k 0 < 256) → 0 < length bs → length bs < 4
-    → bit_or (get_or bs 0 0) (bit_or (get_or bs (length bs / 2) 0 * 2 ^ (8 * (length bs / 2)) % 18446744073709551616) (get_or bs (length bs - 1) 0 * 2 ^ (8 * (length bs - 1)) % 18446744073709551616)) ≡ from_le_bytes w64 bs
+    → bit_or (get_or bs 0 0) (bit_or (get_or bs (length bs / 2) 0 * 2 ^ (8 * (length bs / 2)) % 18446744073709551616)
+    (get_or bs (length bs - 1) 0 * 2 ^ (8 * (length bs - 1)) % 18446744073709551616)) ≡ from_le_bytes w64 bs
 word-of_1_to_3 [] small some few = absurd (omega arith)
 word-of_1_to_3 (a ∷ []) small some few =
     let at_0 : a < 256 = small 0 in

@@ -3,6 +3,7 @@ use Rattle.std.proofs.Common.{◌≡◌, ℕ, ◌<◌, List, [], ◌∷◌, ◌+
 use Rattle.std.proofs.lemmas.List.{append-nil}
 use Rattle.std.specs.Io.KnownBytes.{Appends}
 use Rattle.std.proofs.KnownBytes.{Appends-trans}
+use Rattle.std.proofs.lemmas.Option.{IfSome_then}
 use Rattle.lru_limits.specs.Rules.{Rules, Offers}
 use Rattle.schnellru.proofs.SomeInsert.{IsReady}
 use Rattle.lru_replay.specs.declared.outcome.ReplayError.{ReplayError}
@@ -10,7 +11,6 @@ use Rattle.lru_replay.specs.Limits.{AlwaysOffers}
 use Rattle.lru_replay.specs.Lines.{lines_of, TakesFed, TakesRest, TakesLines}
 use Rattle.lru_replay.specs.Maps.{Map}
 use Rattle.lru_replay.specs.Runs.{AnswersLine, IsRun, IsTextOf, answer_line, WritesText, BeginsText}
-use Rattle.lru_replay.proofs.Options.{IfSome-map}
 use Rattle.lru_replay.proofs.LineLists.{takes_line_more, lines_at_end, lines_left, lines_of-last}
 use Rattle.lru_replay.proofs.RunLists.{run-append, run-one, some_run}
 
@@ -35,9 +35,10 @@ module _ {S : Type 0} (rules : Rules ℕ ℕ S) (offers : Offers ℕ ℕ S ℕ) 
     )
 
     -- the last line, which the input's end ended, was answered
-    pub last_answered : (result : Result (Unit {0}) ReplayError) → RunsSoFar old r₀ r₁ w₀ w₁ now → TakesRest r₁ r₂ line → 0 < length line → AnswersLine rules offers now line new w₁ w₂ result → OnOk result (WritesText (IsTextOf rules offers old) r₀ w₀ w₂)
+    pub last_answered : (result : Result (Unit {0}) ReplayError) → RunsSoFar old r₀ r₁ w₀ w₁ now → TakesRest r₁ r₂ line → 0 < length line
+        → AnswersLine rules offers now line new w₁ w₂ result → OnOk result (WritesText (IsTextOf rules offers old) r₀ w₀ w₂)
     last_answered (Ok u) (lines, text, run, reads, wrote) taken some (answer, step, answered) =
-        IfSome-map r₀ (λ input all. (
+        IfSome_then r₀ (lines_at_end r₀ r₁ r₂ lines line reads taken) (λ input all. (
           text ++ answer_line answer,
           (
             new,
@@ -45,7 +46,7 @@ module _ {S : Type 0} (rules : Rules ℕ ℕ S) (offers : Offers ℕ ℕ S ℕ) 
                 (run-append rules offers old lines text now (line ∷ []) (answer_line answer) new run (run-one rules offers now line answer new step)),
           ),
           Appends-trans w₀ w₁ w₂ text (answer_line answer) wrote answered,
-        )) (lines_at_end r₀ r₁ r₂ lines line reads taken)
+        ))
     last_answered (Err e) so_far taken some answered = tt
 
     -- the input's lines go on after this one
@@ -59,12 +60,13 @@ module _ {S : Type 0} (rules : Rules ℕ ℕ S) (offers : Offers ℕ ℕ S ℕ) 
 
     last_goes_on : (lines : List (List ℕ)) → TakesLines r₀ r₁ lines [] → TakesRest r₁ r₂ line → 0 < length line → GoesOn r₀ (lines ++ line ∷ [])
     last_goes_on lines reads taken some =
-        IfSome-map r₀ (λ input all. ([], all ∙ ap (λ l. lines ++ l) (lines_of-last line taken.0 some) ∙ sym (append-nil (lines ++ line ∷ [])))) (lines_at_end r₀ r₁ r₂ lines line reads taken)
+        IfSome_then r₀ (lines_at_end r₀ r₁ r₂ lines line reads taken) (λ input all. ([], all ∙ ap (λ l. lines ++ l) (lines_of-last line taken.0 some) ∙ sym (append-nil (lines ++ line ∷ []))))
 
     module _ (offered : AlwaysOffers offers) (ready : IsReady new) where
       -- a write failed within the answer line
-      cut_short : (lines : List (List ℕ)) (text : List ℕ) (e : ReplayError) → IsRun rules offers old lines text now → Appends w₀ w₁ text → GoesOn r₀ (lines ++ line ∷ []) → AnswersLine rules offers now line new w₁ w₂ (Err e) → BeginsText (IsTextOf rules offers old) r₀ w₀ w₂
-      cut_short lines text e run wrote goes (answer, step, (same, part, (rest, is), written)) = IfSome-map r₀ (λ input (more, all).
+      cut_short : (lines : List (List ℕ)) (text : List ℕ) (e : ReplayError) → IsRun rules offers old lines text now → Appends w₀ w₁ text → GoesOn r₀ (lines ++ line ∷ [])
+          → AnswersLine rules offers now line new w₁ w₂ (Err e) → BeginsText (IsTextOf rules offers old) r₀ w₀ w₂
+      cut_short lines text e run wrote goes (answer, step, (same, part, (rest, is), written)) = IfSome_then r₀ goes (λ input (more, all).
           let so_far = run-append rules offers old lines text now (line ∷ []) (answer_line answer) new run (run-one rules offers now line answer new step) in
           let (u, last, others) = some_run rules offers offered new ready more in
           let whole = run-append rules offers old (lines ++ line ∷ []) (text ++ answer_line answer) new more u last so_far others in
@@ -75,12 +77,13 @@ module _ {S : Type 0} (rules : Rules ℕ ℕ S) (offers : Offers ℕ ℕ S ℕ) 
             (last, subst (λ l. IsRun rules offers old l ((text ++ answer_line answer) ++ u) last) (sym all) whole),
             (rest ++ u, begins),
             Appends-trans w₀ w₁ w₂ text part wrote written,
-          )) goes
+          ))
 
       pub line_cut : (e : ReplayError) → RunsSoFar old r₀ r₁ w₀ w₁ now → TakesFed r₁ r₂ line → AnswersLine rules offers now line new w₁ w₂ (Err e) → BeginsText (IsTextOf rules offers old) r₀ w₀ w₂
       line_cut e (lines, text, run, reads, wrote) taken answered = cut_short lines text e run wrote (fed_goes_on lines reads taken) answered
 
-      pub last_begins : (result : Result (Unit {0}) ReplayError) → RunsSoFar old r₀ r₁ w₀ w₁ now → TakesRest r₁ r₂ line → 0 < length line → AnswersLine rules offers now line new w₁ w₂ result → OnErr result (BeginsText (IsTextOf rules offers old) r₀ w₀ w₂)
+      pub last_begins : (result : Result (Unit {0}) ReplayError) → RunsSoFar old r₀ r₁ w₀ w₁ now → TakesRest r₁ r₂ line → 0 < length line
+          → AnswersLine rules offers now line new w₁ w₂ result → OnErr result (BeginsText (IsTextOf rules offers old) r₀ w₀ w₂)
       last_begins (Ok u) so_far taken some answered = tt
       last_begins (Err e) (lines, text, run, reads, wrote) taken some answered = cut_short lines text e run wrote (last_goes_on lines reads taken some) answered
 
@@ -98,9 +101,10 @@ module _ {S : Type 0} (rules : Rules ℕ ℕ S) (offers : Offers ℕ ℕ S ℕ) 
       )
 
   -- the input's end came after a line feed
-  pub all_answered : (old now : Map S) (r₀ r₁ r₂ w₀ w₁ : Option (List ℕ)) (line : List ℕ) → RunsSoFar old r₀ r₁ w₀ w₁ now → TakesRest r₁ r₂ line → line ≡ [] → WritesText (IsTextOf rules offers old) r₀ w₀ w₁
-  all_answered old now r₀ r₁ r₂ w₀ w₁ line (lines, text, run, reads, wrote) taken none = IfSome-map r₀ (λ input all. (
+  pub all_answered : (old now : Map S) (r₀ r₁ r₂ w₀ w₁ : Option (List ℕ)) (line : List ℕ) → RunsSoFar old r₀ r₁ w₀ w₁ now → TakesRest r₁ r₂ line → line ≡ []
+      → WritesText (IsTextOf rules offers old) r₀ w₀ w₁
+  all_answered old now r₀ r₁ r₂ w₀ w₁ line (lines, text, run, reads, wrote) taken none = IfSome_then r₀ (lines_at_end r₀ r₁ r₂ lines line reads taken) (λ input all. (
     text,
     (now, subst (λ ls. IsRun rules offers old ls text now) (sym (all ∙ ap (λ l. lines ++ lines_of l) none ∙ append-nil lines)) run),
     wrote,
-  )) (lines_at_end r₀ r₁ r₂ lines line reads taken)
+  ))

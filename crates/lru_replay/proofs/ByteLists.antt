@@ -26,10 +26,6 @@ kept_again zero all more = refl
 kept_again (suc n) [] more = refl
 kept_again (suc n) (b ∷ all) more = ap (λ l. b ∷ l) (kept_again n all more)
 
-pub take-nil : (n : ℕ) → take n [] ≡ let none : List ℕ = [] in none
-take-nil zero = refl
-take-nil (suc n) = refl
-
 -- nothing is kept of nothing alone
 pub nothing_held : (n : ℕ) (all : List ℕ) → take (suc n) all ≡ (let none : List ℕ = [] in none) → all ≡ (let none : List ℕ = [] in none)
 nothing_held n [] e = refl

@@ -51,7 +51,8 @@ all_always s count key value = (s, Some (key, value), record { limiter = refl; p
 
 -- a get keeps what holds of every map
 pub get_keeps_map : {S H : Type 0} (key : ℕ) (old : State ℕ ℕ S H) (result : Option ℕ) (new : State ℕ ℕ S H) → Get (nat_eq key) old result new → IsMap nat_eq old → IsMap nat_eq new
-get_keeps_map key old result new step ok = get_is_map {names = nat_eq} {eq = nat_eq} {query_input = λ _. []} {key_input = λ _. []} (record { writes = λ q k n. refl; one = λ q x y n. same_tests q x y n }) key old result new step ok
+get_keeps_map key old result new step ok =
+    get_is_map {names = nat_eq} {eq = nat_eq} {query_input = λ _. []} {key_input = λ _. []} (record { writes = λ q k n. refl; one = λ q x y n. same_tests q x y n }) key old result new step ok
   where
     same_tests : (q x y : ℕ) → nat_eq q x ≡ true → nat_eq q y ≡ nat_eq x y
     same_tests q x y n = let e : q ≡ x = grind (arith, nat_tests) in ap (λ k. nat_eq k y) e

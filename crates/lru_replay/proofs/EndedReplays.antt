@@ -3,6 +3,7 @@ use Rattle.std.proofs.Common.{◌≡◌, ℕ, ◌<◌, List, [], ◌∷◌, leng
 use Rattle.std.proofs.lemmas.List.{append-nil}
 use Rattle.std.specs.Io.KnownBytes.{Appends, Keeps}
 use Rattle.std.proofs.KnownBytes.{Appends-nil, Appends-kept, Consumes-nil}
+use Rattle.std.proofs.lemmas.Option.{IfSome_then}
 use Rattle.lru_replay.specs.declared.call.Limit.{Limit}
 use Rattle.lru_replay.specs.declared.call.Limit.TheVariants as limits
 use Rattle.lru_replay.specs.declared.line.Ending.{Ending}
@@ -17,7 +18,6 @@ use Rattle.lru_replay.specs.Replay.{IsTextUnder, IsReplay, NamesNoLimit, WritesR
 use Rattle.lru_replay.specs.Limits.{length_rules, length_offers, no_rules, all_offers}
 use Rattle.lru_replay.specs.Maps.{empty}
 use Rattle.lru_replay.specs.Runs.{WritesText, WritesTextSoFar, BeginsText}
-use Rattle.lru_replay.proofs.Options.{IfSome-map}
 use Rattle.lru_replay.proofs.LineLists.{lines_of-fed, lines_of-last, lines_at_end, takes_line_before}
 use Rattle.lru_replay.proofs.RunLists.{some_run}
 use Rattle.lru_replay.proofs.EmptyMaps.{empty_is_map, length_always, all_always}
@@ -25,14 +25,15 @@ use Rattle.schnellru.proofs.SomeInsert.{map_ready}
 use Rattle.lru_replay.proofs.Spelled.{limit_or}
 
 -- what is said of the lines after the first is said of all
-after_first : (a b : Option (List ℕ)) (first : List ℕ) (P Q : List ℕ → Type 0) → TakesFed a b first → ((rest input : List ℕ) → lines_of input ≡ first ∷ lines_of rest → P rest → Q input) → IfSome b P → IfSome a Q
+after_first : (a b : Option (List ℕ)) (first : List ℕ) (P Q : List ℕ → Type 0) → TakesFed a b first
+    → ((rest input : List ℕ) → lines_of input ≡ first ∷ lines_of rest → P rest → Q input) → IfSome b P → IfSome a Q
 after_first None b first P Q taken f h = tt
 after_first (Some x) None first P Q (lacks, p) f h = absurd p
 after_first (Some x) (Some y) first P Q (lacks, p) f h = f y x (ap lines_of p ∙ lines_of-fed first y lacks) h
 
 -- the input is what its end ends
 only_first : (a b : Option (List ℕ)) (first : List ℕ) (Q : List ℕ → Type 0) → TakesRest a b first → ((input : List ℕ) → lines_of input ≡ lines_of first → Q input) → IfSome a Q
-only_first a b first Q taken f = IfSome-map a f (lines_at_end a a b [] first (tt, tt, Consumes-nil a) taken)
+only_first a b first Q taken f = IfSome_then a (lines_at_end a a b [] first (tt, tt, Consumes-nil a) taken) f
 
 -- The first line names no limit, or there is none.
 none_first : (lines : List (List ℕ)) → lines ≡ [] → NamesNoLimit lines
@@ -43,7 +44,8 @@ none_named lines others first e none limit other more is spells =
     let same : first ≡ other = (let h : first ∷ others ≡ other ∷ more = sym e ∙ is in cc) in
     none limit (subst (λ l. SpellsLimit l limit) (sym same) spells)
 
-pub no_limit : (a b : Option (List ℕ)) (ending : Ending) (first : List ℕ) → TakesLine a b ending first → ((limit : Limit) → SpellsLimit first limit → ⊥) → IfSome a (λ input. NamesNoLimit (lines_of input))
+pub no_limit : (a b : Option (List ℕ)) (ending : Ending) (first : List ℕ) → TakesLine a b ending first → ((limit : Limit) → SpellsLimit first limit → ⊥)
+    → IfSome a (λ input. NamesNoLimit (lines_of input))
 no_limit None b ending first taken none = tt
 no_limit (Some x) None endings.Feed first taken none = absurd taken.1
 no_limit (Some x) (Some y) endings.Feed first taken none = none_named (lines_of x) (lines_of y) first (ap lines_of taken.1 ∙ lines_of-fed first y taken.0) none
@@ -66,7 +68,8 @@ some_text : (lines : List (List ℕ)) → (text : List ℕ) × (IsReplay lines t
 some_text [] = (no_limiter_text, inr (none_first [] refl, refl))
 some_text (first ∷ lines) = by (limit_or first)
   where
-    by : ((limit : Limit) × SpellsLimit first limit) ⊎ ((limit : Limit) → SpellsLimit first limit → ⊥) → (text : List ℕ) × (IsReplay (first ∷ lines) text ⊎ (NamesNoLimit (first ∷ lines) × (text ≡ no_limiter_text)))
+    by : ((limit : Limit) × SpellsLimit first limit) ⊎ ((limit : Limit) → SpellsLimit first limit → ⊥)
+        → (text : List ℕ) × (IsReplay (first ∷ lines) text ⊎ (NamesNoLimit (first ∷ lines) × (text ≡ no_limiter_text)))
     by (inl (limit, spells)) = let (text, is) = some_text_under limit lines in (text, inl (limit, first, lines, refl, spells, is))
     by (inr none) = (no_limiter_text, inr (none_named (first ∷ lines) lines first refl none, refl))
 
@@ -77,10 +80,10 @@ nothing_cut (Some x) w = let (text, is) = some_text (lines_of x) in ([], (text, 
 
 -- What was written after a failed flush, by what stood before it.
 cut_after_done : (a w v : Option (List ℕ)) → WritesReplay a w v → WritesCut a w v
-cut_after_done a w v h = IfSome-map a (λ input (text, is, wrote). (text, (text, ([], sym (append-nil text)), inl is), wrote)) h
+cut_after_done a w v h = IfSome_then a h (λ input (text, is, wrote). (text, (text, ([], sym (append-nil text)), inl is), wrote))
 
 cut_after_no_limiter : (a w v : Option (List ℕ)) → IfSome a (λ input. NamesNoLimit (lines_of input)) → Appends w v no_limiter_text → WritesCut a w v
-cut_after_no_limiter a w v none wrote = IfSome-map a (λ input is. (no_limiter_text, (no_limiter_text, ([], sym (append-nil no_limiter_text)), inr (is, refl)), wrote)) none
+cut_after_no_limiter a w v none wrote = IfSome_then a none (λ input is. (no_limiter_text, (no_limiter_text, ([], sym (append-nil no_limiter_text)), inr (is, refl)), wrote))
 
 -- The flush failed: what is written stays a beginning of what may be written.
 pub flush_failed : (a w v u : Option (List ℕ)) (end : Result ReplayEnd ReplayError)
@@ -89,7 +92,7 @@ pub flush_failed : (a w v u : Option (List ℕ)) (end : Result ReplayEnd ReplayE
     → (end ≡ Ok ends.NoLimiter → Appends w v no_limiter_text)
     → OnErr end (WritesCut a w v)
     → Keeps v u → WritesCut a w u
-flush_failed a w v u end done none text begins keeps = IfSome-map a (λ input (part, is, wrote). (part, is, Appends-kept w v u part wrote keeps)) (by end done none text begins)
+flush_failed a w v u end done none text begins keeps = IfSome_then a (by end done none text begins) (λ input (part, is, wrote). (part, is, Appends-kept w v u part wrote keeps))
   where
     by : (end : Result ReplayEnd ReplayError)
         → (end ≡ Ok ends.Done → WritesReplay a w v)
@@ -106,17 +109,19 @@ pub exactly_no_limiter : (a w v : Option (List ℕ)) (end : Result ReplayEnd Rep
     → (end ≡ Ok ends.Done → WritesReplay a w v)
     → (end ≡ Ok ends.NoLimiter → IfSome a (λ input. NamesNoLimit (lines_of input)))
     → OnOk end (IfSome a (λ input. (end ≡ Ok ends.NoLimiter) ↔ NamesNoLimit (lines_of input)))
-exactly_no_limiter a w v (Ok ends.Done) done none = IfSome-map a (λ input (text, (limit, first, others, is, spells, run), wrote).
-    (λ other. absurd (done_is_done other), λ names. absurd (names limit first others is spells))) (done refl)
+exactly_no_limiter a w v (Ok ends.Done) done none = IfSome_then a (done refl) (λ input (text, (limit, first, others, is, spells, run), wrote).
+    (λ other. absurd (done_is_done other), λ names. absurd (names limit first others is spells)))
   where
     done_is_done : (let done : Result ReplayEnd ReplayError = Ok ends.Done in done) ≡ Ok ends.NoLimiter → ⊥
     done_is_done e = cc
-exactly_no_limiter a w v (Ok ends.NoLimiter) done none = IfSome-map a (λ input is. (λ same. is, λ names. refl)) (none refl)
+exactly_no_limiter a w v (Ok ends.NoLimiter) done none = IfSome_then a (none refl) (λ input is. (λ same. is, λ names. refl))
 exactly_no_limiter a w v (Err e) done none = tt
 
 -- Writing that no limiter is named failed.
-pub no_limiter_cut : (a b w v : Option (List ℕ)) (ending : Ending) (first : List ℕ) (e : ReplayError) → TakesLine a b ending first → ((limit : Limit) → SpellsLimit first limit → ⊥) → Fails e w v no_limiter_text → WritesCut a w v
-no_limiter_cut a b w v ending first e taken none (same, part, begins, wrote) = IfSome-map a (λ input is. (part, (no_limiter_text, begins, inr (is, refl)), wrote)) (no_limit a b ending first taken none)
+pub no_limiter_cut : (a b w v : Option (List ℕ)) (ending : Ending) (first : List ℕ) (e : ReplayError) → TakesLine a b ending first
+    → ((limit : Limit) → SpellsLimit first limit → ⊥) → Fails e w v no_limiter_text → WritesCut a w v
+no_limiter_cut a b w v ending first e taken none (same, part, begins, wrote) =
+    IfSome_then a (no_limit a b ending first taken none) (λ input is. (part, (no_limiter_text, begins, inr (is, refl)), wrote))
 
 spelled_some : (line : List ℕ) (limit : Limit) → SpellsLimit line limit → 0 < length line
 spelled_some line (limits.Length n) (fits, is) = omega (arith, ap length is)

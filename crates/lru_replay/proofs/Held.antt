@@ -39,7 +39,8 @@ module _ {S : Type 0} (rules : Rules ℕ ℕ S) (offers : Offers ℕ ℕ S ℕ) 
   whole_step old line answer new (inl (call, spells, is)) = inl (call, (spells.0, whole_text line _ (short_call call spells.0) spells.1), is)
   whole_step old line answer new (inr (none, is, same)) = inr ((λ call spells. none call (spells.0, held_text line _ (short_call call spells.0) spells.1)), is, same)
 
-  pub whole_answer : (result : Result (Unit {0}) ReplayError) (old new : Map S) (held line : List ℕ) (from to : Option (List ℕ)) → held ≡ take 49 line → AnswersLine rules offers old held new from to result → AnswersLine rules offers old line new from to result
+  pub whole_answer : (result : Result (Unit {0}) ReplayError) (old new : Map S) (held line : List ℕ) (from to : Option (List ℕ)) → held ≡ take 49 line
+      → AnswersLine rules offers old held new from to result → AnswersLine rules offers old line new from to result
   whole_answer result old new held line from to is (answer, step, written) = (answer, whole_step old line answer new (subst (λ l. LineStep rules offers old l answer new) is step), written)
 
 -- and names the limit that the line names

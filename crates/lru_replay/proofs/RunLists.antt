@@ -16,7 +16,8 @@ use Rattle.lru_replay.specs.Steps.{Answer, value, listed, bad, insert_answer, St
 use Rattle.lru_replay.proofs.Spelled.{spelled_or, Spelled}
 
 module _ {S : Type 0} (rules : Rules ℕ ℕ S) (offers : Offers ℕ ℕ S ℕ) where
-  pub run-append : (a : Map S) (lines : List (List ℕ)) (t : List ℕ) (b : Map S) (more : List (List ℕ)) (u : List ℕ) (c : Map S) → IsRun rules offers a lines t b → IsRun rules offers b more u c → IsRun rules offers a (lines ++ more) (t ++ u) c
+  pub run-append : (a : Map S) (lines : List (List ℕ)) (t : List ℕ) (b : Map S) (more : List (List ℕ)) (u : List ℕ) (c : Map S) → IsRun rules offers a lines t b
+      → IsRun rules offers b more u c → IsRun rules offers a (lines ++ more) (t ++ u) c
   run-append a [] t b more u c (none, same) q = subst (λ l. IsRun rules offers a more (l ++ u) c) (sym none) (subst (λ s. IsRun rules offers s more u c) same q)
   run-append a (line ∷ lines) t b more u c (answer, middle, rest, step, is, run) q =
       (answer, middle, rest ++ u, step, ap (λ l. l ++ u) is ∙ append_assoc (answer_line answer) rest u, run-append middle lines rest b more u c run q)

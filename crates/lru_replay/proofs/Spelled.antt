@@ -1,13 +1,14 @@
 -- Whether a line says something can be told: what it may say is read off it, and spelled again.
-use Rattle.std.proofs.Common.{◌≡◌, ℕ, ◌<◌, ◌≤◌, ◌^◌, Bool, true, false, List, [], ◌∷◌, ◌++◌, drop, refl, sym, ap, ◌∙◌, subst, inl, inr, arith, ◌⊎◌, decimal, ◌==◌, if◌then◌else◌}
+use Rattle.std.proofs.Common.{◌≡◌, ℕ, ◌<◌, ◌^◌, Bool, true, false, List, [], ◌∷◌, ◌++◌, drop, refl, sym, ap, ◌∙◌, subst, inl, inr, arith, ◌⊎◌, decimal, ◌==◌, if◌then◌else◌}
 use Rattle.std.proofs.lemmas.Bool.{ne_eqb}
-use Rattle.std.proofs.lemmas.Bool.Decides.{leb_tells}
-use Rattle.std.proofs.Math.Dec.{leb}
+use Rattle.std.proofs.lemmas.Bool.Decides.{Decides-ltb, not_from_Decides}
 use Rattle.std.proofs.lemmas.Fmt.{decimal_is_IsNumeral}
 use Rattle.std.proofs.lemmas.Slice.Eq.{bytes_eq-Decides}
 use Rattle.std.specs.List.{AllByRecursion}
 use Rattle.std.specs.Str.{bytes_eq}
 use Rattle.std.specs.Str.Parse.{digits_value}
+use Rattle.std.specs.Prelude.{nat_lt}
+use Rattle.std.specs.Bool.{Decides}
 use Rattle.lru_replay.specs.declared.call.Call.{Call}
 use Rattle.lru_replay.specs.declared.call.Call.TheVariants as calls
 use Rattle.lru_replay.specs.declared.call.Limit.{Limit}
@@ -51,12 +52,13 @@ both_or (inl p) (inl q) = inl (p, q)
 both_or (inl p) (inr q) = inr (λ h. q h.1)
 both_or (inr p) q = inr (λ h. p h.0)
 
+-- What a test decides can be told.
+told : {P : Type 0} (r : Bool) → Decides r P → P ⊎ (P → ⊥)
+told true d = inl (d.0 refl)
+told false d = inr (not_from_Decides false d refl)
+
 lt_or : (n limit : ℕ) → (n < limit) ⊎ (n < limit → ⊥)
-lt_or n limit = go (leb_tells limit n)
-  where
-    go : ((leb limit n ≡ true) × (limit ≤ n)) ⊎ ((leb limit n ≡ false) × (n < limit)) → (n < limit) ⊎ (n < limit → ⊥)
-    go (inl h) = inr (λ s. omega (arith, h.1, s))
-    go (inr h) = inl h.1
+lt_or n limit = told (nat_lt n limit) (Decides-ltb n limit)
 
 fits_call : (call : Call) → FitsCall call ⊎ (FitsCall call → ⊥)
 fits_call (calls.Insert k v) = both_or (lt_or k (2 ^ 64)) (lt_or v (2 ^ 64))
@@ -69,11 +71,7 @@ fits_limit (limits.Length n) = lt_or n (2 ^ 32)
 fits_limit limits.Compact = inl tt
 
 same_or : (xs ys : List ℕ) → (xs ≡ ys) ⊎ (xs ≡ ys → ⊥)
-same_or xs ys = go (bytes_eq xs ys) refl
-  where
-    go : (b : Bool) → bytes_eq xs ys ≡ b → (xs ≡ ys) ⊎ (xs ≡ ys → ⊥)
-    go true e = inl ((bytes_eq-Decides xs ys).0 e)
-    go false e = inr (λ same. let yes = (bytes_eq-Decides xs ys).1 same in cc)
+same_or xs ys = told (bytes_eq xs ys) (bytes_eq-Decides xs ys)
 
 spells_or : (line : List ℕ) (call : Call) → SpellsCall line call ⊎ (SpellsCall line call → ⊥)
 spells_or line call = both_or (fits_call call) (same_or line (call_spelling call))
@@ -83,8 +81,10 @@ guessed : (line : List ℕ) (P : Call → Type 0) → AllByRecursion P (guesses 
 guessed line P all (calls.Insert k v) (fits, is) =
     let rest : drop 7 line ≡ decimal k ++ 32 ∷ decimal v = ap (drop 7) is in
     let lacks = decimal_lacks_space k fits.0 in
-    let key : digits_value 10 (front_word (drop 7 line)) ≡ k = ap (λ l. digits_value 10 (front_word l)) rest ∙ ap (digits_value 10) (front_word_is (decimal k) (decimal v) lacks) ∙ value_of_decimal k fits.0 in
-    let value : digits_value 10 (after_word (drop 7 line)) ≡ v = ap (λ l. digits_value 10 (after_word l)) rest ∙ ap (digits_value 10) (after_word_is (decimal k) (decimal v) lacks) ∙ value_of_decimal v fits.1 in
+    let key : digits_value 10 (front_word (drop 7 line)) ≡ k =
+    ap (λ l. digits_value 10 (front_word l)) rest ∙ ap (digits_value 10) (front_word_is (decimal k) (decimal v) lacks) ∙ value_of_decimal k fits.0 in
+    let value : digits_value 10 (after_word (drop 7 line)) ≡ v =
+    ap (λ l. digits_value 10 (after_word l)) rest ∙ ap (digits_value 10) (after_word_is (decimal k) (decimal v) lacks) ∙ value_of_decimal v fits.1 in
     subst (λ n. P (calls.Insert k n)) value (subst (λ n. P (calls.Insert n (digits_value 10 (after_word (drop 7 line))))) key all.0)
 guessed line P all (calls.Get k) (fits, is) = subst (λ n. P (calls.Get n)) (ap (λ l. digits_value 10 (drop 4 l)) is ∙ value_of_decimal k fits) all.1.0
 guessed line P all (calls.Peek k) (fits, is) = subst (λ n. P (calls.Peek n)) (ap (λ l. digits_value 10 (drop 5 l)) is ∙ value_of_decimal k fits) all.1.1.0
@@ -95,7 +95,8 @@ any_or : (line : List ℕ) (calls : List Call) → Spelled line ⊎ AllByRecursi
 any_or line [] = inr tt
 any_or line (call ∷ calls) = both (spells_or line call) (any_or line calls)
   where
-    both : SpellsCall line call ⊎ (SpellsCall line call → ⊥) → Spelled line ⊎ AllByRecursion (λ call. SpellsCall line call → ⊥) calls → Spelled line ⊎ AllByRecursion (λ call. SpellsCall line call → ⊥) (call ∷ calls)
+    both : SpellsCall line call ⊎ (SpellsCall line call → ⊥) → Spelled line ⊎ AllByRecursion (λ call. SpellsCall line call → ⊥) calls
+        → Spelled line ⊎ AllByRecursion (λ call. SpellsCall line call → ⊥) (call ∷ calls)
     both (inl found) more = inl (call, found)
     both (inr refused) (inl found) = inl found
     both (inr refused) (inr none) = inr (refused, none)

@@ -1,6 +1,6 @@
 -- Writing one text after another.
-use Rattle.std.proofs.Common.{◌≡◌, ℕ, ◌+◌, ◌-◌, ◌/◌, ◌%◌, ◌<◌, ◌≤◌, ◌^◌, List, [], ◌∷◌, ◌++◌, length, get_or, set, take, drop, refl, sym, ap, ◌∙◌, arith, Option, Result, Ok, Err, decimal, append_assoc}
-use Rattle.std.proofs.lemmas.List.{drop-set, length-append, take-append-drop, append-nil, take_rest, take_more, drop_more}
+use Rattle.std.proofs.Common.{◌≡◌, ℕ, ◌+◌, ◌-◌, ◌/◌, ◌%◌, ◌<◌, ◌≤◌, ◌^◌, List, [], ◌∷◌, ◌++◌, length, set, take, drop, refl, sym, ap, ◌∙◌, arith, Option, Result, Ok, Err, decimal, append_assoc}
+use Rattle.std.proofs.lemmas.List.{drop-set, length-append, take-append-drop, take_rest}
 use Rattle.std.proofs.lemmas.Fmt.{decimal_step}
 use Rattle.std.specs.Io.KnownBytes.{Appends}
 use Rattle.std.proofs.KnownBytes.{Appends-trans}
@@ -38,14 +38,3 @@ length-decimal_step n low h = ap length (decimal_step n low h) ∙ length-append
 pub moved_on : (all done rest left : List ℕ) (n : ℕ) → all ≡ done ++ rest → left ≡ take (length rest - n) (drop n rest) → all ≡ (done ++ take n rest) ++ left
 moved_on all done rest left n e is =
     e ∙ ap (λ l. done ++ l) (sym (take-append-drop n rest) ∙ ap (λ l. take n rest ++ l) (sym (take_rest rest n) ∙ sym is)) ∙ sym (append_assoc done (take n rest) left)
-
--- the text of the pairs so far, and one more
-pub rest_text_more : (pairs : List (ℕ × ℕ)) (i : ℕ) (p : ℕ × ℕ) → i < length pairs → rest_text (take (i + 1) pairs) ≡ rest_text (take i pairs) ++ (32 ∷ pair_text (get_or pairs i p))
-rest_text_more pairs i p h =
-    ap rest_text (take_more pairs i p h) ∙ rest_text-append (take i pairs) (get_or pairs i p ∷ [])
-    ∙ ap (λ l. rest_text (take i pairs) ++ l) (append-nil (32 ∷ pair_text (get_or pairs i p)))
-
-pub rest_text_split : (pairs : List (ℕ × ℕ)) (i : ℕ) (p : ℕ × ℕ) → i < length pairs → rest_text pairs ≡ rest_text (take i pairs) ++ ((32 ∷ pair_text (get_or pairs i p)) ++ rest_text (drop (i + 1) pairs))
-rest_text_split pairs i p h =
-    ap rest_text (sym (take-append-drop i pairs)) ∙ rest_text-append (take i pairs) (drop i pairs)
-    ∙ ap (λ l. rest_text (take i pairs) ++ rest_text l) (drop_more pairs i p h)

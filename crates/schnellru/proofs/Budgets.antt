@@ -1,10 +1,9 @@
 -- The greatest usage within a budget, found among the tables one after another.
-use Rattle.std.proofs.Common.{◌≡◌, ℕ, ◌+◌, ◌*◌, ◌/◌, ◌^◌, ◌<◌, ◌≤◌, ◌⊎◌, inl, inr, Some, None, Option, refl, sym, ap, ◌∙◌, subst, arith, pow-add, pow_pos}
+use Rattle.std.proofs.Common.{◌≡◌, ℕ, ◌+◌, ◌*◌, ◌^◌, ◌<◌, ◌≤◌, ◌⊎◌, inl, inr, Some, refl, sym, ◌∙◌, arith, pow_pos}
 use native.Mathlib.Decide.{dec_lt}
 use Rattle.std.proofs.Math.Nat.{mul-le-mul_left}
 use Rattle.std.proofs.Math.Pow.{pow_mono}
 use Rattle.std.proofs.lemmas.Option.{same_Some}
-use Rattle.group_table.specs.Sizes.{IsPowerFromFour}
 use Rattle.group_table.proofs.SizeLemmas.{power_pos}
 use Rattle.schnellru.specs.Sizes.{bytes_of, usage, IsGreatestUsage}
 use Rattle.schnellru.specs.State.{State, buckets, IsSized}

@@ -1,17 +1,12 @@
 -- An order of buckets, cut at one of them, and the entries of its buckets.
-use Rattle.std.proofs.Common.{◌≡◌, ℕ, zero, suc, ◌+◌, ◌<◌, ◌≤◌, Bool, true, false, cond, List, [], ◌∷◌, ◌++◌, length, ◌⊎◌, inl, inr, Option, Some, None, refl, sym, ap, ◌∙◌, subst, arith, slice_set, slice_index_or}
-use Rattle.std.specs.Prelude.{◌≢◌, nat_eq, not, filter, Contains, AllPairs, option_to_list}
-use Rattle.std.specs.List.{AllByRecursion}
+use Rattle.std.proofs.Common.{◌≡◌, ℕ, zero, suc, ◌<◌, Bool, true, false, cond, List, [], ◌∷◌, ◌++◌, length, Some, refl, sym, ap, ◌∙◌, subst, arith, slice_set, slice_index_or}
+use Rattle.std.specs.Prelude.{◌≢◌, nat_eq, not, Contains, AllPairs, option_to_list}
 use Rattle.std.proofs.lemmas.Bool.Decides.{nat_tests}
 use Rattle.std.proofs.lemmas.List.{append_assoc, get_or-set_other}
-use Rattle.group_table.specs.Bucket.{Slot, IsFull, entry_at, entry_of, empty}
-use Rattle.schnellru.proofs.OrderLemmas.{Contains-here, Contains-later, distinct_head, distinct_tail, last_in}
+use Rattle.group_table.specs.Bucket.{Slot, entry_at, entry_of, empty}
+use Rattle.schnellru.proofs.OrderLemmas.{Lacks, lacks_unless, without-lacking, distinct_head, distinct_tail, last_in}
 use Rattle.schnellru.specs.Linked.{without_bucket, entries_in}
 use Rattle.schnellru.specs.Chain.{last_bucket}
-
--- this bucket is not among them
-abbrev pub Lacks : ℕ → List ℕ → Type 0
-Lacks b = AllByRecursion (λ c. nat_eq c b ≡ false)
 
 -- the buckets before this one, and those after
 pub record Cut (b : ℕ) (order : List ℕ) : Type 0 where
@@ -20,15 +15,6 @@ pub record Cut (b : ℕ) (order : List ℕ) : Type 0 where
   pub whole : order ≡ before ++ b ∷ after
   pub none_before : Lacks b before
   pub none_after : Lacks b after
-
--- a bucket that is not in the order
-pub lacks_unless : (b : ℕ) (order : List ℕ) → (Contains order b → ⊥) → Lacks b order
-lacks_unless b [] h = tt
-lacks_unless b (x ∷ xs) h = (go (nat_eq x b) refl, lacks_unless b xs (λ k. h (Contains-later x b xs k)))
-  where
-    go : (y : Bool) → nat_eq x b ≡ y → nat_eq x b ≡ false
-    go true t = let same : x ≡ b = grind (arith, nat_tests) in absurd (h (subst (Contains (x ∷ xs)) same (Contains-here x xs)))
-    go false t = t
 
 pub head_lacks : (x : ℕ) (xs : List ℕ) → AllPairs ◌≢◌ (x ∷ xs) → Lacks x xs
 head_lacks x xs d = lacks_unless x xs (distinct_head x xs d)
@@ -75,12 +61,8 @@ cut_last b (x ∷ y ∷ ys) d h =
     go false t = t
 
 module _ {b : ℕ} {order : List ℕ} (cut : Cut b order) where
-  kept : (xs : List ℕ) → Lacks b xs → without_bucket b xs ≡ xs
-  kept [] h = refl
-  kept (x ∷ xs) h = rw h.0 (ap (λ l. x ∷ l) (kept xs h.1))
-
   kept_through : (xs ys : List ℕ) → Lacks b xs → Lacks b ys → without_bucket b (xs ++ b ∷ ys) ≡ xs ++ ys
-  kept_through [] ys h k = let t : nat_eq b b ≡ true = grind (arith, nat_tests) in rw t (kept ys k)
+  kept_through [] ys h k = let t : nat_eq b b ≡ true = grind (arith, nat_tests) in rw t (without-lacking b ys k)
   kept_through (x ∷ xs) ys h k = rw h.0 (ap (λ l. x ∷ l) (kept_through xs ys h.1 k))
 
   -- the others, in their order

@@ -23,7 +23,8 @@ module _ {K V S H : Type 0} (rules : Rules K V S) (hash_of : H → K → ℕ) (p
   none_is_empty e = absurd (omega (arith, ap length e, some))
 
   -- with no room, where the first free bucket is a deleted one, it is filled
-  pub deleted_serves : FirstFreeIs deleted (hash_of old.hasher pair.0) old → (outcome : Outcome) (new : State K V S H) → Place rules hash_of pair old outcome new → (outcome ≡ placed) × IsPlaced pair (buckets old) 0 0 old new
+  pub deleted_serves : FirstFreeIs deleted (hash_of old.hasher pair.0) old → (outcome : Outcome) (new : State K V S H) → Place rules hash_of pair old outcome new
+      → (outcome ≡ placed) × IsPlaced pair (buckets old) 0 0 old new
   deleted_serves p outcome new (first_table e b bytes u g m) = none_is_empty e
   deleted_serves p outcome new (first_denied e b bytes u d o n) = none_is_empty e
   deleted_serves p outcome new (first_too_large e b u o n) = none_is_empty e

@@ -1,5 +1,5 @@
--- The keys of the pairs stay distinct.
-use Rattle.std.proofs.Common.{◌≡◌, ℕ, Bool, true, false, cond, List, [], ◌∷◌, ◌++◌, None, Result, refl, sym, ◌∙◌, subst}
+-- The keys of the pairs stay distinct, and a pair is found if its key is named.
+use Rattle.std.proofs.Common.{◌≡◌, ℕ, Bool, true, false, cond, List, [], ◌∷◌, ◌++◌, Some, None, Result, refl, sym, ◌∙◌, subst}
 use Rattle.std.specs.List.{IsDistinct, AllByRecursion}
 use Rattle.std.specs.declared.alloc.AllocError.{AllocError}
 use Rattle.lru_limits.specs.Rules.{Rules, Offers}
@@ -9,6 +9,24 @@ use Rattle.schnellru.specs.State.{State}
 use Rattle.schnellru.specs.Inserts.{Insert}
 use Rattle.schnellru.specs.Theorems.{GivesUp, behind, with_none, without_one}
 use Rattle.schnellru.proofs.Fronts.{insert_gives_up}
+
+module _ {K V : Type 0} (names : K → Bool) where
+  -- none of the keys is named
+  abbrev pub NoneNamed : List (K × V) → Type 0
+  NoneNamed pairs = AllByRecursion (λ k. names k ≡ false) (keys_of pairs)
+
+  -- and none is exactly if no pair is found
+  pub none_found : (xs : List (K × V)) → NoneNamed xs → lookup_entry names xs ≡ None
+  none_found [] h = refl
+  none_found (x ∷ xs) h = rw h.0 (none_found xs h.1)
+
+  pub absent_keys : (xs : List (K × V)) → lookup_entry names xs ≡ None → NoneNamed xs
+  absent_keys [] h = tt
+  absent_keys (x ∷ xs) h = go (names x.0) refl h (absent_keys xs)
+    where
+      go : (y : Bool) → names x.0 ≡ y → cond y (Some x) (lookup_entry names xs) ≡ None → (lookup_entry names xs ≡ None → NoneNamed xs) → NoneNamed (x ∷ xs)
+      go true e h r = absurd cc
+      go false e h r = (e, r h)
 
 module _ {K V : Type 0} (P : K → Type 0) where
   -- what holds of all keys holds of those of fewer pairs
@@ -51,34 +69,33 @@ module _ {K V : Type 0} (eq : K → K → Bool) where
 
   module _ (names : K → Bool) (one : (x y : K) → names x ≡ true → names y ≡ eq x y) where
     -- the others are not named
-    pub others_unnamed : (xs : List (K × V)) → AreDistinct xs → AllByRecursion (λ y. names y ≡ false) (keys_of (without names xs))
+    pub others_unnamed : (xs : List (K × V)) → AreDistinct xs → NoneNamed names (without names xs)
     unfolding IsDistinct
     others_unnamed [] d = tt
     others_unnamed (x ∷ xs) d = go (names x.0) refl (others_unnamed xs d.1)
       where
-        go : (b : Bool) → names x.0 ≡ b → AllByRecursion (λ y. names y ≡ false) (keys_of (without names xs)) → AllByRecursion (λ y. names y ≡ false) (keys_of (cond b xs (x ∷ without names xs)))
+        go : (b : Bool) → names x.0 ≡ b → NoneNamed names (without names xs) → NoneNamed names (cond b xs (x ∷ without names xs))
         go true e r = all_map (λ y. eq x.0 y ≡ false) (λ y. names y ≡ false) (keys_of xs) (λ y h. one x.0 y e ∙ h) d.0
         go false e r = (e, r)
 
     -- so a named pair may come before them
     pub distinct_newest : (newest : K × V) (xs : List (K × V)) → names newest.0 ≡ true → AreDistinct xs → AreDistinct (newest ∷ without names xs)
     unfolding IsDistinct
-    distinct_newest newest xs n d = (all_map (λ y. names y ≡ false) (λ y. eq newest.0 y ≡ false) (keys_of (without names xs)) (λ y h. sym (one newest.0 y n) ∙ h) (others_unnamed xs d), distinct_without names xs d)
+    distinct_newest newest xs n d =
+        (all_map (λ y. names y ≡ false) (λ y. eq newest.0 y ≡ false) (keys_of (without names xs)) (λ y h. sym (one newest.0 y n) ∙ h) (others_unnamed xs d), distinct_without names xs d)
 
     distinct_gives_up : (refuses : K × V → Type 0) (old new : List (K × V)) → GivesUp names refuses old new → AreDistinct old → AreDistinct new
     distinct_gives_up refuses old new (behind newest n f) d = distinct_front new (newest ∷ without names old) f (distinct_newest newest old n d)
     distinct_gives_up refuses old new (with_none a f) d = distinct_front new old f d
     distinct_gives_up refuses old new (without_one pair found r e) d = subst AreDistinct (sym e) (distinct_without names old d)
 
-    unnamed_absent : (xs : List (K × V)) → AllByRecursion (λ y. names y ≡ false) (keys_of xs) → lookup_entry names xs ≡ None
-    unnamed_absent [] h = refl
-    unnamed_absent (x ∷ xs) h = rw h.0 (unnamed_absent xs h.1)
-
     -- without the named pair none is named
     pub absent_without : (xs : List (K × V)) → AreDistinct xs → lookup_entry names (without names xs) ≡ None
-    absent_without xs d = unnamed_absent (without names xs) (others_unnamed xs d)
+    absent_without xs d = none_found names (without names xs) (others_unnamed xs d)
 
-module _ {K V S H I : Type 0} (rules : Rules K V S) (offers : Offers K V S I) (names : I → K → Bool) (hash_of : H → K → ℕ) {eq : K → K → Bool} {query_input : I → List (List ℕ)} {key_input : K → List (List ℕ)} (looks_up : IsLookup names eq query_input key_input) (laws : IsInsertion names eq offers) (i : I) (v : V) (old : State K V S H) where
+module _ {K V S H I : Type 0} (rules : Rules K V S) (offers : Offers K V S I) (names : I → K → Bool) (hash_of : H → K → ℕ) {eq : K → K → Bool}
+    {query_input : I → List (List ℕ)} {key_input : K → List (List ℕ)} (looks_up : IsLookup names eq query_input key_input) (laws : IsInsertion names eq offers) (i : I)
+    (v : V) (old : State K V S H) where
   pub insert_distinct : (result : Result Bool AllocError) (new : State K V S H) → Insert rules offers names hash_of i v old result new → AreDistinct eq old.pairs → AreDistinct eq new.pairs
   insert_distinct result new h d =
       distinct_gives_up eq (names i) (λ x y n. looks_up.one i x y n) _ old.pairs new.pairs (insert_gives_up rules offers names hash_of looks_up laws i v old result new h) d

@@ -3,10 +3,11 @@ use Rattle.std.proofs.Common.{◌≡◌, ℕ, zero, suc, ◌+◌, ◌*◌, ◌/�
 use native.Mathlib.Decide.{dec_lt}
 use Rattle.std.specs.Prelude.{nat_lt, nat_le, ◌==◌}
 use Rattle.std.proofs.lemmas.Bool.Decides.{nat_tests}
+use Rattle.std.proofs.lemmas.Option.{cond_some}
 use Rattle.group_table.specs.Sizes.{full_capacity, least_power, below, buckets_for}
 use Rattle.group_table.proofs.PowerLemmas.{first_power_upper, power_gap}
 use Rattle.schnellru.specs.Sizes.{same_table, new_table, table_with, target_from, target}
-use Rattle.schnellru.proofs.Growth.{sizes_of, least_power_shape, buckets_double, table_with_is, some_of}
+use Rattle.schnellru.proofs.Growth.{sizes_of, least_power_shape, buckets_double, table_with_is}
 
 least_power_upper : (n : ℕ) → 0 < n → least_power n < 2 * n
 unfolding least_power
@@ -18,16 +19,18 @@ IsNeed c n = ((c < 4) × (n ≤ 4)) ⊎ ((4 ≤ c) × (c < 8) × (n ≡ 8)) ⊎ 
 
 need_is : (max c n : ℕ) → buckets_for max c ≡ Some n → IsNeed c n
 unfolding buckets_for IsNeed
-need_is max c n = pick (c == 0) (nat_lt c 4) (nat_lt c 8) (nat_lt (8 * c) (2 ^ 64)) (λ e. grind (arith, nat_tests)) (λ e. grind (arith, nat_tests)) (λ e. grind (arith, nat_tests)) (λ e. grind (arith, nat_tests)) (λ e. grind (arith, nat_tests))
+need_is max c n =
+    pick (c == 0) (nat_lt c 4) (nat_lt c 8) (nat_lt (8 * c) (2 ^ 64)) (λ e. grind (arith, nat_tests)) (λ e. grind (arith, nat_tests)) (λ e. grind (arith, nat_tests))
+    (λ e. grind (arith, nat_tests)) (λ e. grind (arith, nat_tests))
   where
     pick : (a b d e : Bool) → (a ≡ true → c ≡ 0) → (b ≡ true → c < 4) → (b ≡ false → 4 ≤ c) → (d ≡ true → c < 8) → (d ≡ false → 8 ≤ c) →
         cond a (Some 0) (cond b (below max 4) (cond d (below max 8) (cond e (below max (least_power (8 * c / 7))) None))) ≡ Some n →
         ((c < 4) × (n ≤ 4)) ⊎ ((4 ≤ c) × (c < 8) × (n ≡ 8)) ⊎ ((8 ≤ c) × (n < 2 * (8 * c / 7)) × ((j : ℕ) × (n ≡ 2 ^ j)))
     pick true b d e p q r s t h = let z = p refl in let w : n ≡ 0 = grind arith in inl (omega arith, omega (arith, w))
-    pick false true d e p q r s t h = let w : 4 ≡ n = some_of (nat_lt 4 max) 4 n h in inl (q refl, omega (arith, w))
-    pick false false true e p q r s t h = inr (inl (r refl, s refl, sym (some_of (nat_lt 8 max) 8 n h)))
+    pick false true d e p q r s t h = let w : 4 ≡ n = (cond_some (nat_lt 4 max) 4 n h).1 in inl (q refl, omega (arith, w))
+    pick false false true e p q r s t h = inr (inl (r refl, s refl, sym ((cond_some (nat_lt 8 max) 8 n h).1)))
     pick false false false true p q r s t h =
-        let w : least_power (8 * c / 7) ≡ n = some_of (nat_lt (least_power (8 * c / 7)) max) (least_power (8 * c / 7)) n h in
+        let w : least_power (8 * c / 7) ≡ n = (cond_some (nat_lt (least_power (8 * c / 7)) max) (least_power (8 * c / 7)) n h).1 in
         let shape = least_power_shape (8 * c / 7) in
         let l : 8 ≤ c = t refl in
         let u = least_power_upper (8 * c / 7) (omega arith) in

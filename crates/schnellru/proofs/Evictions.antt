@@ -6,7 +6,8 @@ use Rattle.lru_limits.specs.Rules.{Rules}
 use Rattle.schnellru.specs.Lists.{without_last}
 use Rattle.schnellru.specs.State.{State, buckets, room, contents, Leaves, pops}
 use Rattle.schnellru.specs.Sizes.{no_table, new_table}
-use Rattle.schnellru.specs.Place.{Place, first_table, first_denied, first_too_large, into_empty, into_emptied, with_room, deleted_bucket, rehashed, grown, evicted, evicted_rehashed, CannotGrow, no_target, denied, Outcome, placed, refused, no_memory, IsPlaced, IsPlacedIfMemory, Grants, asked, next_table, without_oldest}
+use Rattle.schnellru.specs.Place.{Place, first_table, first_denied, first_too_large, into_empty, into_emptied, with_room, deleted_bucket, rehashed, grown, evicted, evicted_rehashed}
+use Rattle.schnellru.specs.Place.{CannotGrow, no_target, denied, Outcome, placed, refused, no_memory, IsPlaced, IsPlacedIfMemory, Grants, asked, next_table, without_oldest}
 use Rattle.schnellru.specs.Theorems.{IsRefusedGrowth}
 use Rattle.schnellru.proofs.Outcomes.{placed-not_no_memory, refused-not_no_memory, refused-not_placed}
 use Rattle.schnellru.proofs.Leaving.{length-pops, known_is}
@@ -61,8 +62,10 @@ module _ {K V S H : Type 0} (rules : Rules K V S) (hash_of : H → K → ℕ) (p
   place_keeps outcome new q (into_emptied e b r o n) = inl (record { pairs = ap (λ st. st.pairs) n.state; large = with_pairs e })
   place_keeps outcome new q (with_room e r s o n) = inl (record { pairs = ap (λ st. st.pairs) n.state; large = λ refusal. absurd (omega (arith, r, refusal.lacks_room.1)) })
   place_keeps outcome new q (deleted_bucket f i b l o n) = inl (record { pairs = ap (λ st. st.pairs) n.state; large = λ refusal. b })
-  place_keeps outcome new q (rehashed f i l m) = inl (record { pairs = ap (λ st. st.pairs) (placed_if old new _ _ _ outcome q m).state; large = λ refusal. absurd (omega (arith, l, refusal.above_half)) })
-  place_keeps outcome new q (grown f i l count bytes t g m) = inl (record { pairs = ap (λ st. st.pairs) (placed_if (asked rules bytes old) new _ _ _ outcome q m).state; large = λ refusal. not_granted count bytes t g refusal.known refusal.refused })
+  place_keeps outcome new q (rehashed f i l m) =
+      inl (record { pairs = ap (λ st. st.pairs) (placed_if old new _ _ _ outcome q m).state; large = λ refusal. absurd (omega (arith, l, refusal.above_half)) })
+  place_keeps outcome new q (grown f i l count bytes t g m) =
+      inl (record { pairs = ap (λ st. st.pairs) (placed_if (asked rules bytes old) new _ _ _ outcome q m).state; large = λ refusal. not_granted count bytes t g refusal.known refusal.refused })
   place_keeps outcome new q (evicted f i l mid c n pos one half o p) =
       let left = ap (λ st. st.pairs) p.state in
       inr (
@@ -80,13 +83,16 @@ module _ {K V S H : Type 0} (rules : Rules K V S) (hash_of : H → K → ℕ) (p
         record { lacks_room = f; above_half = l; known = mid; refused = c },
         record {
           half = omega (arith, ap (λ st. length st.pairs) p.state, ap length rest, length-pops rules n (contents mid), ap length (ap (λ st. st.pairs) (known_is rules old mid c)), half);
-          one = λ small. ap (λ st. st.pairs) p.state ∙ ap (λ xs. pair ∷ xs) rest ∙ ap (λ k. pair ∷ (pops rules k (contents mid)).pairs) (one small) ∙ ap (λ xs. pair ∷ without_last xs) (ap (λ st. st.pairs) (known_is rules old mid c));
+          one =
+              λ small. ap (λ st. st.pairs) p.state ∙ ap (λ xs. pair ∷ xs) rest ∙ ap (λ k. pair ∷ (pops rules k (contents mid)).pairs) (one small)
+              ∙ ap (λ xs. pair ∷ without_last xs) (ap (λ st. st.pairs) (known_is rules old mid c));
           same_table = p.table;
         },
       )
 
   -- where memory lacks after that, one fewer than half are left at the least
-  pub place_lacks_half : IsRefusedGrowth rules old → (outcome : Outcome) (new : State K V S H) → outcome ≡ no_memory → Place rules hash_of pair old outcome new → full_capacity (buckets old) / 2 ≤ length new.pairs + 1
+  pub place_lacks_half : IsRefusedGrowth rules old → (outcome : Outcome) (new : State K V S H) → outcome ≡ no_memory → Place rules hash_of pair old outcome new
+      → full_capacity (buckets old) / 2 ≤ length new.pairs + 1
   place_lacks_half refusal outcome new q (first_table e b bytes u g m) = with_pairs e refusal
   place_lacks_half refusal outcome new q (first_denied e b bytes u d o n) = refused-not_no_memory (sym o ∙ q)
   place_lacks_half refusal outcome new q (first_too_large e b u o n) = refused-not_no_memory (sym o ∙ q)
@@ -98,7 +104,14 @@ module _ {K V S H : Type 0} (rules : Rules K V S) (hash_of : H → K → ℕ) (p
   place_lacks_half refusal outcome new q (grown f i l count bytes t g m) = not_granted count bytes t g refusal.known refusal.refused
   place_lacks_half refusal outcome new q (evicted f i l mid c n pos one half o p) = placed-not_no_memory (sym o ∙ q)
   place_lacks_half refusal outcome new q (evicted_rehashed f i l mid c n pos one half left lv m) =
-      omega (arith, ap length (left_if left new _ _ _ outcome q m), ap (λ st. length st.pairs) lv.is, length-pops rules n (contents mid), ap length (ap (λ st. st.pairs) (known_is rules old mid c)), half)
+      omega (
+        arith,
+        ap length (left_if left new _ _ _ outcome q m),
+        ap (λ st. length st.pairs) lv.is,
+        length-pops rules n (contents mid),
+        ap length (ap (λ st. st.pairs) (known_is rules old mid c)),
+        half,
+      )
 
   -- where memory lacks, all pairs are left, or growth was refused
   pub place_lacks_keeps : (outcome : Outcome) (new : State K V S H) → outcome ≡ no_memory → Place rules hash_of pair old outcome new → (new.pairs ≡ old.pairs) ⊎ IsRefusedGrowth rules old
@@ -145,7 +158,8 @@ module _ {K V S H : Type 0} (rules : Rules K V S) (n : ℕ) (mid left : State K 
   placed_after pair new count spare moves p = record {
     table = p.table;
     left = p.left;
-    state = p.state ∙ ap {A = State K V S H} {B = State K V S H} (λ st. record st { pairs = pair ∷ st.pairs; marks = new.marks; moved = count_up st.moved moves; placed = count_up st.placed 1 }) step.is;
+    state =
+        p.state ∙ ap {A = State K V S H} {B = State K V S H} (λ st. record st { pairs = pair ∷ st.pairs; marks = new.marks; moved = count_up st.moved moves; placed = count_up st.placed 1 }) step.is;
   }
 
   -- in a table of up to 16 buckets, one that leaves makes room

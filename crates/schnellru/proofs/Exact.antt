@@ -1,38 +1,18 @@
 -- Where each placing leaves nothing open, an insert does not either, as in tables of up to 16 buckets, memory aside.
-use Rattle.std.proofs.Common.{◌≡◌, ℕ, ◌+◌, ◌-◌, ◌/◌, ◌<◌, ◌≤◌, Bool, true, false, List, [], ◌∷◌, length, Option, Some, None, Result, Ok, refl, sym, ap, ◌∙◌, subst, arith}
-use Rattle.std.specs.Prelude.{nat_lt, nat_le, ◌==◌, not, IsOk}
-use Rattle.std.proofs.lemmas.Bool.Decides.{nat_tests}
+use Rattle.std.proofs.Common.{◌≡◌, ℕ, ◌+◌, ◌-◌, ◌/◌, ◌<◌, ◌≤◌, Bool, true, false, length, Option, Some, None, Result, Ok, sym, ap, ◌∙◌, subst, arith, le_of_eq}
+use Rattle.std.specs.Prelude.{not, IsOk}
 use Rattle.lru_limits.specs.Rules.{Rules, Offers}
 use Rattle.group_table.specs.Sizes.{full_capacity}
 use Rattle.schnellru.specs.Lists.{is_empty, lookup_entry}
 use Rattle.schnellru.specs.State.{State, buckets, room, Contents, contents, Leaves, pops, trim}
-use Rattle.schnellru.specs.Place.{Place, first_table, first_denied, first_too_large, into_empty, into_emptied, with_room, deleted_bucket, rehashed, grown, evicted, evicted_rehashed, CannotGrow, no_target, denied, next_table, Outcome, placed, refused, no_memory, IsPlaced, IsPlacedIfMemory, asked, without_oldest}
+use Rattle.schnellru.specs.Place.{Place, first_table, first_denied, first_too_large, into_empty, into_emptied, with_room, deleted_bucket, rehashed, grown, evicted, evicted_rehashed}
+use Rattle.schnellru.specs.Place.{CannotGrow, no_target, denied, next_table, Outcome, placed, refused, no_memory, IsPlaced, IsPlacedIfMemory, asked, without_oldest}
 use Rattle.std.specs.declared.alloc.AllocError.{AllocError}
-use Rattle.schnellru.specs.Inserts.{Insert, replaced, given_up, no_memory_to_admit, not_admitted, admitted, make_way, Admits, with_replaced, Settles}
+use Rattle.std.proofs.lemmas.Bool.{eq-eqb, ne_eqb, lt-ltb, le-ltb, le-leb, lt-leb}
+use Rattle.schnellru.proofs.Emptiness.{is_empty-some}
+use Rattle.schnellru.specs.Inserts.{Insert, replaced, given_up, no_memory_to_admit, not_admitted, admitted, make_way, with_replaced, Settles}
 use Rattle.schnellru.proofs.Outcomes.{ok-not_err}
 use Rattle.schnellru.specs.Exact.{Landing, Ending, lands, evicts, grows, landing, trimmed, settled, ending_there, ending_new, IsEnding, EndsBy, EndsExactly, EndsAlike, IsDetermined}
-
-pub at_zero : (n : ℕ) → n ≡ 0 → (n == 0) ≡ true
-at_zero n e = grind (arith, nat_tests)
-
-pub not_zero : (n : ℕ) → 0 < n → (n == 0) ≡ false
-not_zero n e = grind (arith, nat_tests)
-
-has_room : (n : ℕ) → 0 < n → nat_lt 0 n ≡ true
-has_room n e = grind (arith, nat_tests)
-
-has_none : (n : ℕ) → n ≡ 0 → nat_lt 0 n ≡ false
-has_none n e = grind (arith, nat_tests)
-
-at_most : (m n : ℕ) → m ≤ n → nat_le m n ≡ true
-at_most m n e = grind (arith, nat_tests)
-
-pub above : (m n : ℕ) → n < m → nat_le m n ≡ false
-above m n e = grind (arith, nat_tests)
-
-pub not_empty : {X : Type 0} (xs : List X) → 0 < length xs → is_empty xs ≡ false
-not_empty [] h = absurd (omega arith)
-not_empty (x ∷ xs) h = refl
 
 module _ {K V S H : Type 0} (rules : Rules K V S) (pair : K × V) where
   -- The pair, the pairs and the limiter are as they are to be, where memory is not short.
@@ -54,21 +34,21 @@ module _ {K V S H : Type 0} (rules : Rules K V S) (hash_of : H → K → ℕ) (p
   here = landing rules pair (buckets old) (room old) old.entry_bytes old.max (contents old)
 
   full_lands : 0 < length old.pairs → room old ≡ 0 → full_capacity (buckets old) / 2 < length old.pairs + 1 → here ≡ grows rules pair (next_table rules old) (contents old)
-  full_lands l r f = rw (not_empty old.pairs l, has_none (room old) r, above (length old.pairs + 1) (full_capacity (buckets old) / 2) f)
+  full_lands l r f = rw (is_empty-some old.pairs l, le-ltb 0 (room old) (le_of_eq r), lt-leb (length old.pairs + 1) (full_capacity (buckets old) / 2) f)
 
   evicts_from : (mid : State K V S H) → CannotGrow rules old mid → grows rules pair (next_table rules old) (contents old) ≡ evicts rules pair (contents mid)
   evicts_from mid (no_target t e) = rw (t, e)
   evicts_from mid (denied count bytes t d e) = rw (t, d, e)
 
   pub place_lands : (outcome : Outcome) (new : State K V S H) → Place rules hash_of pair old outcome new → LandsAs rules pair here outcome new
-  place_lands outcome new (first_table e b bytes u g m) = rw (ap is_empty e, at_zero (buckets old) b, u, g) (if_memory rules pair (asked rules bytes old) _ _ _ outcome new m)
-  place_lands outcome new (first_denied e b bytes u d o n) = rw (ap is_empty e, at_zero (buckets old) b, u, d, o) (sym (ap (λ x. record { there = false; left = contents x }) n))
-  place_lands outcome new (first_too_large e b u o n) = rw (ap is_empty e, at_zero (buckets old) b, u, o) (sym (ap (λ x. record { there = false; left = contents x }) n))
-  place_lands outcome new (into_empty e b r s o n) = rw (ap is_empty e, not_zero (buckets old) b) (is_placed rules pair old _ _ _ outcome new o n)
-  place_lands outcome new (into_emptied e b r o n) = rw (ap is_empty e, not_zero (buckets old) b) (is_placed rules pair old _ _ _ outcome new o n)
-  place_lands outcome new (with_room e r s o n) = rw (not_empty old.pairs e, has_room (room old) r) (is_placed rules pair old _ _ _ outcome new o n)
+  place_lands outcome new (first_table e b bytes u g m) = rw (ap is_empty e, eq-eqb (buckets old) 0 b, u, g) (if_memory rules pair (asked rules bytes old) _ _ _ outcome new m)
+  place_lands outcome new (first_denied e b bytes u d o n) = rw (ap is_empty e, eq-eqb (buckets old) 0 b, u, d, o) (sym (ap (λ x. record { there = false; left = contents x }) n))
+  place_lands outcome new (first_too_large e b u o n) = rw (ap is_empty e, eq-eqb (buckets old) 0 b, u, o) (sym (ap (λ x. record { there = false; left = contents x }) n))
+  place_lands outcome new (into_empty e b r s o n) = rw (ap is_empty e, ne_eqb (buckets old) 0 (λ none. omega (arith, b, none))) (is_placed rules pair old _ _ _ outcome new o n)
+  place_lands outcome new (into_emptied e b r o n) = rw (ap is_empty e, ne_eqb (buckets old) 0 (λ none. omega (arith, b, none))) (is_placed rules pair old _ _ _ outcome new o n)
+  place_lands outcome new (with_room e r s o n) = rw (is_empty-some old.pairs e, lt-ltb 0 (room old) r) (is_placed rules pair old _ _ _ outcome new o n)
   place_lands outcome new (deleted_bucket f i b l o n) = absurd (omega (arith, small))
-  place_lands outcome new (rehashed f i l m) = rw (not_empty old.pairs f.0, has_none (room old) f.1, at_most (length old.pairs + 1) (full_capacity (buckets old) / 2) l) (if_memory rules pair old _ _ _ outcome new m)
+  place_lands outcome new (rehashed f i l m) = rw (is_empty-some old.pairs f.0, le-ltb 0 (room old) (le_of_eq f.1), le-leb (length old.pairs + 1) (full_capacity (buckets old) / 2) l) (if_memory rules pair old _ _ _ outcome new m)
   place_lands outcome new (grown f i l count bytes t g m) = rw (full_lands f.0 f.1 l, t, g) (if_memory rules pair (asked rules bytes old) _ _ _ outcome new m)
   place_lands outcome new (evicted f i l mid c n pos one half o p) = rw (full_lands f.0 f.1 l, evicts_from mid c) (rw (one small) at (is_placed rules pair (without_oldest rules n mid) _ _ _ outcome new o p))
   place_lands outcome new (evicted_rehashed f i l mid c n pos one half left lv m) =

@@ -5,7 +5,8 @@ use Rattle.lru_limits.specs.Rules.{Rules, Offers}
 use Rattle.schnellru.specs.Sizes.{usage}
 use Rattle.schnellru.specs.Lists.{last}
 use Rattle.schnellru.specs.State.{State, Contents, buckets, contents, Leaves, told_of, pop, pops, trim, trim_from}
-use Rattle.schnellru.specs.Place.{Place, first_table, first_denied, first_too_large, into_empty, into_emptied, with_room, deleted_bucket, rehashed, grown, evicted, evicted_rehashed, CannotGrow, no_target, denied, Outcome, placed, refused, no_memory, IsPlaced, IsPlacedIfMemory, asked, turned_away, without_oldest}
+use Rattle.schnellru.specs.Place.{Place, first_table, first_denied, first_too_large, into_empty, into_emptied, with_room, deleted_bucket, rehashed, grown, evicted, evicted_rehashed}
+use Rattle.schnellru.specs.Place.{CannotGrow, no_target, denied, Outcome, placed, refused, no_memory, IsPlaced, IsPlacedIfMemory, asked, turned_away, without_oldest}
 use Rattle.schnellru.specs.Inserts.{Insert, replaced, given_up, no_memory_to_admit, not_admitted, admitted, make_way, Settles}
 use Rattle.schnellru.proofs.Growth.{target_usage}
 
@@ -109,7 +110,8 @@ module _ {K V S H : Type 0} (rules : Rules K V S) (P : S → Type 0) (kept : IsK
     moved = λ bound. omega (arith, ap (λ x. x.moved) p.state);
   }
 
-  if_memory_follows : (st : State K V S H) (count spare moves : ℕ) (outcome : Outcome) (new : State K V S H) → IsPlacedIfMemory rules pair count spare moves st outcome new → Follows rules P old st → IsNextCount rules P old count → Follows rules P old new
+  if_memory_follows : (st : State K V S H) (count spare moves : ℕ) (outcome : Outcome) (new : State K V S H)
+      → IsPlacedIfMemory rules pair count spare moves st outcome new → Follows rules P old st → IsNextCount rules P old count → Follows rules P old new
   if_memory_follows st count spare moves placed new h f t = placed_follows st new count spare moves h f t
   if_memory_follows st count spare moves no_memory new h f t = away_follows st new f h
   if_memory_follows st count spare moves refused new h f t = absurd h
@@ -126,7 +128,8 @@ module _ {K V S H : Type 0} (rules : Rules K V S) (P : S → Type 0) (kept : IsK
 
   -- a placing keeps what the callbacks keep, and takes no table that the limiter does not permit
   pub place_follows : (outcome : Outcome) (new : State K V S H) → Place rules hash_of pair old outcome new → Follows rules P old new
-  place_follows outcome new (first_table e b bytes u g m) = if_memory_follows (asked rules bytes old) 4 _ _ outcome new m (asked_follows bytes) (inr (record { bytes = bytes; usable = u; limiter = old.limiter; holds = holds; granted = g }))
+  place_follows outcome new (first_table e b bytes u g m) =
+      if_memory_follows (asked rules bytes old) 4 _ _ outcome new m (asked_follows bytes) (inr (record { bytes = bytes; usable = u; limiter = old.limiter; holds = holds; granted = g }))
   place_follows outcome new (first_denied e b bytes u d o n) = away_follows (asked rules bytes old) new (asked_follows bytes) n
   place_follows outcome new (first_too_large e b u o n) = away_follows old new self n
   place_follows outcome new (into_empty e b r s o n) = placed_follows old new _ _ _ n self (inl refl)
@@ -145,14 +148,17 @@ module _ {K V S I : Type 0} (offers : Offers K V S I) (P : S → Type 0) where
     pub offered : (s : S) (n : ℕ) (i : I) (v : V) (t : S) (given : Option (K × V)) → offers.on_insert s n i v t given → P s → P t
     pub replaced : (s : S) (n : ℕ) (k : K) (i : I) (v w : V) → P s → P (offers.on_replace s n k i v w).limiter
 
-module _ {K V S H I : Type 0} (rules : Rules K V S) (offers : Offers K V S I) (P : S → Type 0) (kept : IsKept rules P) (kept_by_offers : IsKeptByOffers offers P) (names : I → K → Bool) (hash_of : H → K → ℕ) where
-  settles_follows : (outcome : Outcome) (landed : State K V S H) (result : Result Bool AllocError) (new : State K V S H) → Settles rules outcome landed result new → P landed.limiter → Follows rules P landed new
+module _ {K V S H I : Type 0} (rules : Rules K V S) (offers : Offers K V S I) (P : S → Type 0) (kept : IsKept rules P) (kept_by_offers : IsKeptByOffers offers P)
+    (names : I → K → Bool) (hash_of : H → K → ℕ) where
+  settles_follows : (outcome : Outcome) (landed : State K V S H) (result : Result Bool AllocError) (new : State K V S H) → Settles rules outcome landed result new
+      → P landed.limiter → Follows rules P landed new
   settles_follows placed landed result new h holds = leaves_follows rules P landed _ new h.1 (trim_kept rules P kept (contents landed) holds)
   settles_follows refused landed result new h holds = rw h.1 (limiter_follows rules P landed landed.limiter holds)
   settles_follows no_memory landed result new h holds = rw h.1 (limiter_follows rules P landed landed.limiter holds)
 
   -- an insert keeps what the callbacks keep, and takes no table that the limiter does not permit
-  pub insert_follows : (i : I) (v : V) (old : State K V S H) (result : Result Bool AllocError) (new : State K V S H) → P old.limiter → Insert rules offers names hash_of i v old result new → Follows rules P old new
+  pub insert_follows : (i : I) (v : V) (old : State K V S H) (result : Result Bool AllocError) (new : State K V S H) → P old.limiter
+      → Insert rules offers names hash_of i v old result new → Follows rules P old new
   insert_follows i v old result new holds (replaced pair found y r l) =
       leaves_follows rules P old _ new l (trim_kept rules P kept _ (kept_by_offers.replaced old.limiter (length old.pairs) pair.0 i pair.1 v holds))
   insert_follows i v old result new holds (given_up pair found y r l) =

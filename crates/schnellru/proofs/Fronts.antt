@@ -1,11 +1,13 @@
 -- Inserts give up pairs from the old end alone.
-use Rattle.std.proofs.Common.{◌≡◌, ℕ, zero, suc, ◌+◌, ◌⊎◌, inl, inr, Bool, true, false, cond, List, [], ◌∷◌, ◌++◌, length, Some, None, Result, refl, sym, ap, ◌∙◌, subst, append_assoc, append-nil, arith, ◌≤◌, length-append}
+use Rattle.std.proofs.Common.{◌≡◌, ℕ, zero, suc, ◌+◌, ◌⊎◌, inl, inr, Bool, true, false, cond, List, [], ◌∷◌, ◌++◌, length, Some}
+use Rattle.std.proofs.Common.{None, Result, refl, sym, ap, ◌∙◌, subst, append_assoc, append-nil, arith, ◌≤◌, length-append}
 use Rattle.schnellru.specs.Lists.{IsFront, without_last, lookup_entry, without}
 use Rattle.std.specs.declared.alloc.AllocError.{AllocError}
 use Rattle.lru_limits.specs.Rules.{Rules, Offers}
 use Rattle.lru_limits.specs.Laws.{IsLookup, IsInsertion}
 use Rattle.schnellru.specs.State.{State, Contents, contents, pop, pops, trim, trim_from}
-use Rattle.schnellru.specs.Place.{Place, first_table, first_denied, first_too_large, into_empty, into_emptied, with_room, deleted_bucket, rehashed, grown, evicted, evicted_rehashed, Outcome, placed, refused, no_memory, IsPlaced, IsPlacedIfMemory, asked, without_oldest}
+use Rattle.schnellru.specs.Place.{Place, first_table, first_denied, first_too_large, into_empty, into_emptied, with_room, deleted_bucket, rehashed, grown}
+use Rattle.schnellru.specs.Place.{evicted, evicted_rehashed, Outcome, placed, refused, no_memory, IsPlaced, IsPlacedIfMemory, asked, without_oldest}
 use Rattle.schnellru.specs.Inserts.{Insert, replaced, given_up, no_memory_to_admit, not_admitted, admitted, make_way, Admits, replacement, with_replaced, Settles}
 use Rattle.schnellru.proofs.Leaving.{known_is}
 use Rattle.schnellru.specs.Theorems.{GivesUp, behind, with_none, without_one}
@@ -89,7 +91,8 @@ module _ {K V S H : Type 0} (rules : Rules K V S) (hash_of : H → K → ℕ) (p
   newest_of : (st new : State K V S H) (count spare moves : ℕ) → IsPlaced pair count spare moves st new → IsFront st.pairs old.pairs → Ends new
   newest_of st new count spare moves p f = inl (front_trans _ _ _ (front_same _ _ (ap (λ x. x.pairs) p.state)) (front_more pair st.pairs old.pairs f))
 
-  if_memory_ends : (st : State K V S H) (count spare moves : ℕ) (outcome : Outcome) (new : State K V S H) → IsPlacedIfMemory rules pair count spare moves st outcome new → IsFront st.pairs old.pairs → Ends new
+  if_memory_ends : (st : State K V S H) (count spare moves : ℕ) (outcome : Outcome) (new : State K V S H) → IsPlacedIfMemory rules pair count spare moves st outcome new
+      → IsFront st.pairs old.pairs → Ends new
   if_memory_ends st count spare moves placed new h f = newest_of st new count spare moves h f
   if_memory_ends st count spare moves no_memory new h f = inr (front_trans _ _ _ (front_same _ _ (ap (λ x. x.pairs) h)) f)
   if_memory_ends st count spare moves refused new h f = absurd h
@@ -107,7 +110,8 @@ module _ {K V S H : Type 0} (rules : Rules K V S) (hash_of : H → K → ℕ) (p
   place_ends outcome new (evicted f i l mid c n pos one half o p) =
       newest_of (without_oldest rules n mid) new _ _ _ p (front_trans _ _ _ (front_pops rules n (contents mid)) (front_same _ _ (ap (λ st. st.pairs) (known_is rules old mid c))))
   place_ends outcome new (evicted_rehashed f i l mid c n pos one half left lv m) =
-      if_memory_ends left _ _ _ outcome new m (front_trans _ _ _ (front_same _ _ (ap (λ st. st.pairs) lv.is)) (front_trans _ _ _ (front_pops rules n (contents mid)) (front_same _ _ (ap (λ st. st.pairs) (known_is rules old mid c)))))
+      if_memory_ends left _ _ _ outcome new m
+      (front_trans _ _ _ (front_same _ _ (ap (λ st. st.pairs) lv.is)) (front_trans _ _ _ (front_pops rules n (contents mid)) (front_same _ _ (ap (λ st. st.pairs) (known_is rules old mid c)))))
 
 module _ {K V : Type 0} where
   pub found_named : (names : K → Bool) (xs : List (K × V)) (p : K × V) → lookup_entry names xs ≡ Some p → names p.0 ≡ true
@@ -127,7 +131,8 @@ module _ {K V S H I : Type 0} (rules : Rules K V S) (offers : Offers K V S I) (n
   settles_front refused landed result new h = front_same _ _ (ap (λ st. st.pairs) h.1)
   settles_front no_memory landed result new h = front_same _ _ (ap (λ st. st.pairs) h.1)
 
-  module _ {eq : K → K → Bool} {query_input : I → List (List ℕ)} {key_input : K → List (List ℕ)} (looks_up : IsLookup names eq query_input key_input) (laws : IsInsertion names eq offers) (i : I) (v : V) (old : State K V S H) where
+  module _ {eq : K → K → Bool} {query_input : I → List (List ℕ)} {key_input : K → List (List ℕ)} (looks_up : IsLookup names eq query_input key_input)
+      (laws : IsInsertion names eq offers) (i : I) (v : V) (old : State K V S H) where
     -- the pair that was given has a key that i names
     pub given_named : (s : S) (pair : K × V) → Admits rules offers names i v old s (Some pair) → names i pair.0 ≡ true
     given_named s pair n = laws.names_given old.limiter (length old.pairs) i v s pair.0 pair.1 n
@@ -139,7 +144,8 @@ module _ {K V S H I : Type 0} (rules : Rules K V S) (offers : Offers K V S I) (n
         looks_up.one i pair.0 (replacement rules offers names pair i v old).key n ∙ laws.keeps_key old.limiter (length old.pairs) pair.0 i pair.1 v n
 
     -- Inserts give up pairs from the old end alone, save one whose replacement is refused.
-    pub insert_gives_up : (result : Result Bool AllocError) (new : State K V S H) → Insert rules offers names hash_of i v old result new → GivesUp (names i) (λ pair. (replacement rules offers names pair i v old).taken ≡ false) old.pairs new.pairs
+    pub insert_gives_up : (result : Result Bool AllocError) (new : State K V S H) → Insert rules offers names hash_of i v old result new
+        → GivesUp (names i) (λ pair. (replacement rules offers names pair i v old).taken ≡ false) old.pairs new.pairs
     insert_gives_up result new (replaced pair found y r l) =
         behind _ (replaced_named pair found) (front_trans _ _ _ (front_same _ _ (ap (λ st. st.pairs) l.is)) (front_trim rules (with_replaced rules offers names pair i v old)))
     insert_gives_up result new (given_up pair found y r l) = without_one pair found y (ap (λ st. st.pairs) l.is)

@@ -1,16 +1,18 @@
 -- Where the limiter permits every growth and there are tables, a placing leaves nothing open, memory aside.
-use Rattle.std.proofs.Common.{◌≡◌, ◌≢◌, ℕ, ◌+◌, ◌-◌, ◌/◌, ◌<◌, ◌≤◌, Bool, true, false, cond, [], length, refl, sym, ap, ◌∙◌, subst, arith}
+use Rattle.std.proofs.Common.{◌≡◌, ◌≢◌, ℕ, ◌+◌, ◌-◌, ◌/◌, ◌<◌, ◌≤◌, Bool, true, false, cond, length, refl, sym, ap, ◌∙◌, subst, arith}
 use Rattle.std.specs.Prelude.{nat_lt, nat_le}
 use Rattle.std.proofs.lemmas.Bool.Decides.{nat_tests}
 use Rattle.lru_limits.specs.Rules.{Rules}
 use Rattle.group_table.specs.Sizes.{full_capacity}
+use Rattle.std.proofs.lemmas.Bool.{eq-eqb, ne_eqb}
 use Rattle.schnellru.specs.Lists.{is_empty}
+use Rattle.schnellru.proofs.Emptiness.{is_empty-some}
 use Rattle.schnellru.specs.Sizes.{Target, target, no_table, same_table, new_table}
-use Rattle.schnellru.specs.State.{State, buckets, room, Contents, contents, Leaves}
+use Rattle.schnellru.specs.State.{State, buckets, room, contents}
 use Rattle.schnellru.specs.Place.{Place, first_table, first_denied, first_too_large, into_empty, into_emptied, with_room, deleted_bucket, rehashed, grown, evicted, evicted_rehashed, CannotGrow, no_target, denied, next_table, Outcome, asked}
 use Rattle.schnellru.specs.Inserts.{make_way}
 use Rattle.schnellru.specs.Exact.{Landing, lands, grows, asks, landing, AlwaysGrants, HasTables}
-use Rattle.schnellru.proofs.Exact.{LandsAs, if_memory, is_placed, at_zero, not_zero, not_empty, above, PlacesExactly}
+use Rattle.schnellru.proofs.Exact.{LandsAs, if_memory, is_placed, PlacesExactly}
 use Rattle.schnellru.proofs.Fronts.{length-front, front_make_way}
 use Rattle.schnellru.proofs.Growth.{target-same}
 
@@ -31,7 +33,7 @@ module _ {K V S H : Type 0} (rules : Rules K V S) (grants : AlwaysGrants rules) 
 
   -- so each pair lands beside others
   lands_anyway : 0 < length old.pairs → there ≡ lands rules pair (contents old)
-  lands_anyway some = rw (not_empty old.pairs some) (go (nat_lt 0 spare) (nat_le (length old.pairs + 1) (full_capacity (buckets old) / 2)) (λ e. grind (arith, nat_tests, e)))
+  lands_anyway some = rw (is_empty-some old.pairs some) (go (nat_lt 0 spare) (nat_le (length old.pairs + 1) (full_capacity (buckets old) / 2)) (λ e. grind (arith, nat_tests, e)))
     where
       go : (a b : Bool) → (b ≡ false → full_capacity (buckets old) / 2 < length old.pairs + 1) →
           cond a (lands rules pair (contents old)) (cond b (lands rules pair (contents old)) (grows rules pair (next_table rules old) (contents old))) ≡ lands rules pair (contents old)
@@ -47,14 +49,14 @@ module _ {K V S H : Type 0} (rules : Rules K V S) (grants : AlwaysGrants rules) 
       no h = grind arith
 
   pub place_granted : (outcome : Outcome) (new : State K V S H) → Place rules hash_of pair old outcome new → LandsAs rules pair there outcome new
-  place_granted outcome new (first_table e b bytes u g m) = rw (ap is_empty e, at_zero (buckets old) b, u, g) (if_memory rules pair (asked rules bytes old) _ _ _ outcome new m)
+  place_granted outcome new (first_table e b bytes u g m) = rw (ap is_empty e, eq-eqb (buckets old) 0 b, u, g) (if_memory rules pair (asked rules bytes old) _ _ _ outcome new m)
   place_granted outcome new (first_denied e b bytes u d o n) = absurd (no (sym (grants old.limiter bytes).0 ∙ d))
     where
       no : true ≡ false → ⊥
       no h = grind arith
-  place_granted outcome new (first_too_large e b u o n) = rw (ap is_empty e, at_zero (buckets old) b, u, o) (sym (ap (λ x. record { there = false; left = contents x }) n))
-  place_granted outcome new (into_empty e b r s o n) = rw (ap is_empty e, not_zero (buckets old) b) (is_placed rules pair old _ _ _ outcome new o n)
-  place_granted outcome new (into_emptied e b r o n) = rw (ap is_empty e, not_zero (buckets old) b) (is_placed rules pair old _ _ _ outcome new o n)
+  place_granted outcome new (first_too_large e b u o n) = rw (ap is_empty e, eq-eqb (buckets old) 0 b, u, o) (sym (ap (λ x. record { there = false; left = contents x }) n))
+  place_granted outcome new (into_empty e b r s o n) = rw (ap is_empty e, ne_eqb (buckets old) 0 (λ none. omega (arith, b, none))) (is_placed rules pair old _ _ _ outcome new o n)
+  place_granted outcome new (into_emptied e b r o n) = rw (ap is_empty e, ne_eqb (buckets old) 0 (λ none. omega (arith, b, none))) (is_placed rules pair old _ _ _ outcome new o n)
   place_granted outcome new (with_room e r s o n) = rw (lands_anyway e) (is_placed rules pair old _ _ _ outcome new o n)
   place_granted outcome new (deleted_bucket f i b l o n) = rw (lands_anyway f.0) (is_placed rules pair old _ _ _ outcome new o n)
   place_granted outcome new (rehashed f i l m) = rw (lands_anyway f.0) (if_memory rules pair old _ _ _ outcome new m)

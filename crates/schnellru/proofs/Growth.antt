@@ -1,13 +1,15 @@
--- How tables grow.
-use Rattle.std.proofs.Common.{◌≡◌, ℕ, zero, suc, ◌+◌, ◌-◌, ◌*◌, ◌/◌, ◌^◌, ◌<◌, ◌≤◌, ◌⊎◌, Bool, true, false, cond, Option, Some, None, refl, sym, ap, ◌∙◌, arith, le_of_eq, pow_pos, pow-add, inl, inr, unwrap_or}
+-- The next table has at least twice the buckets, and takes at least twice the pairs.
+use Rattle.std.proofs.Common.{◌≡◌, ℕ, zero, suc, ◌+◌, ◌-◌, ◌*◌, ◌/◌, ◌^◌, ◌<◌, ◌≤◌, ◌⊎◌, Bool, true, false, cond, Option}
+use Rattle.std.proofs.Common.{Some, None, refl, sym, ap, ◌∙◌, arith, le_of_eq, pow_pos, pow-add, inl, inr, unwrap_or}
 use native.Mathlib.Decide.{dec_lt}
 use Rattle.std.proofs.Math.Pow.{pow_mono}
 use Rattle.std.specs.Prelude.{nat_lt, nat_le, ◌==◌}
 use Rattle.std.proofs.lemmas.Bool.Decides.{nat_tests}
+use Rattle.std.proofs.lemmas.Option.{cond_some}
 use Rattle.group_table.specs.Sizes.{IsPowerFromFour, full_capacity, least_power, below, buckets_for}
 use Rattle.group_table.proofs.PowerLemmas.{doubled, first_power_least, first_power_shape, power_gap}
 use Rattle.group_table.proofs.SizeLemmas.{full_capacity-large, power_pos}
-use Rattle.schnellru.specs.Sizes.{bytes_of, usage, Target, no_table, same_table, new_table, table_of, table_with, target_from, target}
+use Rattle.schnellru.specs.Sizes.{bytes_of, usage, same_table, new_table, table_of, table_with, target_from, target}
 
 -- 4, 8, or at least 16
 pub sizes_of : (k b : ℕ) → b ≡ 4 * 2 ^ k → (b ≡ 4) ⊎ ((b ≡ 8) ⊎ (16 ≤ b))
@@ -32,10 +34,6 @@ pub least_power_shape : (n : ℕ) → (j : ℕ) × (least_power n ≡ 2 ^ j)
 unfolding least_power
 least_power_shape n = let s = first_power_shape 64 n 1 in (s.0, s.1 ∙ omega arith)
 
-pub some_of : (b : Bool) (x y : ℕ) → cond b (Some x) None ≡ Some y → x ≡ y
-some_of true x y e = grind arith
-some_of false x y e = grind arith
-
 -- none, or a power of two
 pub IsSize : ℕ → Type 0
 IsSize n = (n ≡ 0) ⊎ ((j : ℕ) × (n ≡ 2 ^ j))
@@ -46,9 +44,9 @@ buckets_shape max c n = pick (c == 0) (nat_lt c 4) (nat_lt c 8) (nat_lt (8 * c) 
   where
     pick : (a b d e : Bool) → cond a (Some 0) (cond b (below max 4) (cond d (below max 8) (cond e (below max (least_power (8 * c / 7))) None))) ≡ Some n → (n ≡ 0) ⊎ ((j : ℕ) × (n ≡ 2 ^ j))
     pick true b d e h = inl (grind arith)
-    pick false true d e h = inr (2, sym (some_of _ _ _ h))
-    pick false false true e h = inr (3, sym (some_of _ _ _ h))
-    pick false false false true h = let s = least_power_shape (8 * c / 7) in inr (s.0, sym (some_of _ _ _ h) ∙ s.1)
+    pick false true d e h = inr (2, sym ((cond_some _ _ _ h).1))
+    pick false false true e h = inr (3, sym ((cond_some _ _ _ h).1))
+    pick false false false true h = let s = least_power_shape (8 * c / 7) in inr (s.0, sym ((cond_some _ _ _ h).1) ∙ s.1)
     pick false false false false h = inl (grind arith)
 
 -- the pairs that fill a table of twice as many buckets need at least so many
@@ -64,27 +62,21 @@ buckets_double_large b max n l m = pick (full_capacity (2 * b)) (grind (arith, n
         split true b' d e' x y z w h = grind arith
         split false true d e' x y z w h = grind arith
         split false false true e' x y z w h = grind arith
-        split false false false true x y z w h = let f : least_power (8 * c / 7) ≡ n = some_of _ _ _ h in let g = w refl in let i = least_power_at_least (8 * c / 7) (omega arith) in omega arith
+        split false false false true x y z w h = let f : least_power (8 * c / 7) ≡ n = (cond_some _ _ _ h).1 in let g = w refl in let i = least_power_at_least (8 * c / 7) (omega arith) in omega arith
         split false false false false x y z w h = grind arith
 
 buckets_double_4 : (max n : ℕ) → buckets_for max (full_capacity 8) ≡ Some n → 8 ≤ n
 unfolding buckets_for full_capacity
-buckets_double_4 max n h = le_of_eq (some_of (nat_lt 8 max) 8 n h)
+buckets_double_4 max n h = le_of_eq ((cond_some (nat_lt 8 max) 8 n h).1)
 
 buckets_double_8 : (max n : ℕ) → buckets_for max (full_capacity 16) ≡ Some n → 16 ≤ n
 unfolding buckets_for full_capacity least_power
-buckets_double_8 max n h = le_of_eq (some_of (nat_lt 16 max) 16 n h)
+buckets_double_8 max n h = le_of_eq ((cond_some (nat_lt 16 max) 16 n h).1)
 
 pub buckets_double : (k b max n : ℕ) → b ≡ 4 * 2 ^ k → buckets_for max (full_capacity (2 * b)) ≡ Some n → 2 * b ≤ n
 buckets_double zero b max n e h = rw e (buckets_double_4 max n (rw e at h))
 buckets_double (suc zero) b max n e h = rw e (buckets_double_8 max n (rw e at h))
 buckets_double (suc (suc k)) b max n e h = buckets_double_large b max n (omega (arith, e, doubled 4 (suc k), doubled 8 k, pow_pos k)) (omega (arith, e, doubled 4 (suc k), doubled 8 k)) h
-
--- what a new table's buckets come from
-buckets_of : Target → ℕ
-buckets_of no_table = 0
-buckets_of same_table = 0
-buckets_of (new_table n bytes) = n
 
 pub table_of_is : (m n bytes : ℕ) (u : Option ℕ) → table_of m u ≡ new_table n bytes → (m ≡ n) × (u ≡ Some bytes)
 table_of_is m n bytes None h = grind arith

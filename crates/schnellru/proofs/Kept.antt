@@ -1,5 +1,7 @@
 -- What holds of every map, from what holds of its linked table.
-use Rattle.std.proofs.Common.{◌≡◌, ℕ, suc, ◌+◌, ◌-◌, ◌*◌, ◌^◌, ◌<◌, ◌≤◌, ◌⊎◌, inl, inr, Bool, true, false, cond, List, length, Some, refl, sym, ap, ◌∙◌, subst, arith}
+use Rattle.std.proofs.Common.{◌≡◌, ℕ, suc, ◌+◌, ◌^◌, ◌<◌, ◌≤◌, ◌⊎◌, Bool, true, false, cond, List, length, Some, refl, sym, ap, ◌∙◌, subst, arith}
+use Rattle.group_table.proofs.SearchLemmas.{full_by_entry}
+use Rattle.group_table.proofs.ChangeLemmas.{length-removed}
 use Rattle.group_table.specs.Sizes.{full_capacity}
 use Rattle.group_table.specs.Bucket.{Mark, marks_of, room, room_at, is_used, bucket_at, entry_at, entry_count}
 use Rattle.group_table.specs.Change.{Removes}
@@ -7,13 +9,13 @@ use Rattle.lru_limits.specs.Rules.{Rules}
 use Rattle.schnellru.specs.Lists.{last, without_last}
 use Rattle.group_table.proofs.BucketLemmas.{length-marks_of, entry_count-marks_of}
 use Rattle.schnellru.specs.Sizes.{usage}
-use Rattle.schnellru.specs.State.{State, Contents, contents, buckets, IsSized, FreesRoom, Leaves, pop, told_of}
+use Rattle.schnellru.specs.State.{State, Contents, contents, IsSized, FreesRoom, Leaves, pop, told_of}
 use Rattle.schnellru.specs.Linked.{Linked, IsLinked, KeysFit, pairs_of, entries_in, without_bucket}
 use Rattle.schnellru.specs.Chain.{last_bucket}
 use Rattle.schnellru.specs.Holds.{state_by, Holds}
 use Rattle.schnellru.proofs.Distinct.{AreDistinct}
 use Rattle.schnellru.proofs.Paid.{leaves_paid}
-use Rattle.schnellru.proofs.Ordered.{pairs-length, full_by, shorter, oldest_is, others_oldest, removed-length, removed-entries}
+use Rattle.schnellru.proofs.Ordered.{pairs-length, shorter, oldest_is, others_oldest, removed-entries}
 
 module _ {K V S H : Type 0} (limiter : S) (hasher : H) (moved placed entry_bytes max : ℕ) where
   pub sized_by : (t : Linked K V) → IsLinked t → (length t.slots ≡ 0) ⊎ (length t.slots < max)
@@ -118,8 +120,8 @@ module _ {K V S H : Type 0} (rules : Rules K V S) (limiter : S) (hasher : H) (mo
       (state_by u l hasher moved placed entry_bytes max)
   popped_leaves l is_told linked freed = record {
     is = λ i. record (state_by u (told i) hasher moved placed entry_bytes max) { pairs = popped_pairs i };
-    room = frees_room t u b first linked (removed-length t.slots u.slots b removed)
-        (ap (λ o. suc (length o)) order ∙ shorter t first b (full_by t.slots b p there)) freed
+    room = frees_room t u b first linked (length-removed t.slots u.slots b removed)
+        (ap (λ o. suc (length o)) order ∙ shorter t first b (full_by_entry (bucket_at t.slots b) p there)) freed
         (state_by t limiter hasher moved placed entry_bytes max) l refl refl;
   }
     where

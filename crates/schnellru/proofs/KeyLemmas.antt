@@ -1,18 +1,16 @@
--- The hashes of the keys fit again, after a pair left, came or was written; and where a pair may come.
-use Rattle.std.proofs.Common.{◌≡◌, ◌≢◌, ℕ, ◌+◌, ◌*◌, ◌/◌, ◌%◌, ◌<◌, true, List, [], ◌∷◌, length, arith, set, Option, Some, None, inl, inr, refl, ap, sym, ◌∙◌, subst, eq-eqb, ne_eqb}
+-- The hashes of the keys fit again, after a pair left, came or was written.
+use Rattle.std.proofs.Common.{◌≡◌, ◌≢◌, ℕ, ◌<◌, true, List, length, set, Option, Some, None, inl, inr, refl, ap, sym, ◌∙◌, subst, eq-eqb, ne_eqb}
 use Rattle.std.specs.Prelude.{option_map, unwrap_or, IfNone}
 use Rattle.std.proofs.lemmas.Bool.{cases_eq, false≢true}
-use Rattle.group_table.specs.Bucket.{Slot, empty, deleted, full, bucket_at, is_full, IsFull, entry_at, entry_of, refilled, marks_of, room}
-use Rattle.group_table.specs.Probe.{hash_tag, IsFirstFree}
+use Rattle.group_table.specs.Bucket.{Slot, empty, deleted, full, bucket_at, is_full, IsFull, entry_at, entry_of, refilled}
+use Rattle.group_table.specs.Probe.{hash_tag}
 use Rattle.group_table.specs.Fits.{Fits, with_hash}
-use Rattle.group_table.specs.Change.{Removes, MayFill}
-use Rattle.group_table.proofs.BucketLemmas.{bucket_at-set_same, bucket_at-set_other, full_lt, length-marks_of, empty_not_deleted}
+use Rattle.group_table.specs.Change.{Removes}
+use Rattle.group_table.proofs.BucketLemmas.{bucket_at-set_same, bucket_at-set_other, full_lt}
 use Rattle.group_table.proofs.ChangeLemmas.{entry_at-removed, bucket_at-removed_other}
-use Rattle.group_table.proofs.RefillLemmas.{Fits-refilled}
-use Rattle.group_table.proofs.SizeLemmas.{full_capacity-small}
-use Rattle.std.proofs.Math.Nat.{mod-lt}
+use Rattle.group_table.proofs.FitsLemmas.{Fits-agree}
+use Rattle.group_table.proofs.RefillLemmas.{entry_of-refilled, Fits-refilled}
 use Rattle.schnellru.specs.Linked.{hash_in, KeysFit}
-use Rattle.schnellru.proofs.PairSlotLemmas.{Fits-agree}
 
 pub if_none : {T : Type 0} {P Q : Type 0} (r : Option T) → (P → Q) → IfNone r P → IfNone r Q
 if_none None f p = f p
@@ -56,29 +54,8 @@ module _ {K V : Type 0} (hash_of : K → ℕ) where
       KeysFit-written slots b within (full (record { tag = hash_tag hash; entry = pair })) pair refl (with_hash (hash_in hash_of slots) b hash)
       (rw (eq-eqb b b refl) (sym same)) (λ x other. rw (ne_eqb x b other) refl) fits
 
-  refilled_there : (s : Slot (K × V)) (was last : K × V) → entry_of s ≡ Some was → entry_of (refilled s last) ≡ Some last
-  refilled_there empty was last e = absurd (cc)
-  refilled_there deleted was last e = absurd (cc)
-  refilled_there (full held) was last e = refl
-
   pub KeysFit-refilled : (slots : List (Slot (K × V))) (b : ℕ) (was last : K × V) → IsFull slots b → entry_at slots b ≡ Some was → hash_of last.0 ≡ hash_of was.0
       → KeysFit hash_of slots → KeysFit hash_of (set slots b (refilled (bucket_at slots b) last))
   KeysFit-refilled slots b was last there is same fits =
-      KeysFit-written slots b (full_lt slots b there) (refilled (bucket_at slots b) last) last (refilled_there (bucket_at slots b) was last is) (hash_in hash_of slots)
+      KeysFit-written slots b (full_lt slots b there) (refilled (bucket_at slots b) last) last (entry_of-refilled (bucket_at slots b) last there) (hash_in hash_of slots)
       (hash_in-entry slots b was is ∙ sym same) (λ x other. refl) (Fits-refilled slots b last (hash_in hash_of slots) there fits)
-
-room_none : room [] ≡ 0
-unfolding room
-room_none = omega (arith, full_capacity-small 0 (omega arith))
-
-some_bucket : {T : Type 0} (slots : List (Slot T)) (b : ℕ) → MayFill (marks_of slots) b → 0 < length slots
-some_bucket [] b (inl p) = absurd (omega (arith, p, room_none))
-some_bucket [] b (inr e) = absurd (empty_not_deleted (bucket_at [] b) refl e)
-some_bucket (s ∷ slots) b may = omega arith
-
--- a bucket that an entry may go into is one of the table's
-pub fills_within : {T : Type 0} (slots : List (Slot T)) (hash b : ℕ) → IsFirstFree (marks_of slots) hash b → MayFill (marks_of slots) b → b < length slots
-fills_within slots hash b first may =
-    let some : 0 < length (marks_of slots) = omega (arith, some_bucket slots b may, length-marks_of slots) in
-    let below = mod-lt (hash + 8 * (first.step / 16) * (first.step / 16 + 1) + first.step % 16) some in
-    omega (arith, rw first.there at below, length-marks_of slots)

@@ -1,57 +1,32 @@
 -- A pair lands in the first free bucket of a linked table, as the newest.
-use Rattle.std.proofs.Common.{◌≡◌, ℕ, suc, ◌+◌, ◌-◌, ◌*◌, ◌^◌, ◌<◌, ◌≤◌, ◌⊎◌, inl, inr, Bool, true, false, List, [], ◌∷◌, ◌++◌, length, Some, None, refl, sym, ap, ◌∙◌, subst, arith, slice_set, min, cond, if◌then◌else◌}
-use native.Mathlib.Decide.{dec_lt}
-use Rattle.std.specs.Prelude.{nat_eq, Contains, option_to_list}
-use Rattle.std.specs.List.{AllByRecursion, IsDistinct}
-use Rattle.std.proofs.lemmas.Bool.Decides.{nat_tests}
-use Rattle.std.proofs.lemmas.List.{length-set, get_or-set_same, get_or_past}
+use Rattle.std.proofs.Common.{◌≡◌, ℕ, ◌+◌, ◌^◌, ◌<◌, inl, inr, ◌∷◌, ◌++◌, length, refl, sym, ap, ◌∙◌, arith, slice_set, if◌then◌else◌}
+use Rattle.std.specs.Prelude.{option_to_list}
+use Rattle.std.proofs.lemmas.List.{length-set, get_or-set_same}
 use Rattle.group_table.specs.Sizes.{full_capacity}
-use Rattle.group_table.specs.Bucket.{Slot, Mark, empty, deleted, full, is_full, is_deleted, is_used, bucket_at, entry_of, entry_at, marks_of, room, room_at, IsFull}
+use Rattle.group_table.specs.Bucket.{Mark, empty, deleted, full, is_full, is_used, bucket_at, entry_of, marks_of, room, room_at, IsFull}
 use Rattle.group_table.specs.Probe.{hash_tag, IsFirstFree}
 use Rattle.group_table.specs.Change.{MayFill, count_up}
-use Rattle.group_table.specs.Table.{IsTable}
 use Rattle.std.proofs.lemmas.Bool.{false≢true}
-use Rattle.group_table.proofs.ProbeLemmas.{probed-lt}
-use Rattle.group_table.proofs.BucketLemmas.{length-marks_of, is_full-marks_of, count_by-pos, used_count-split}
-use Rattle.schnellru.specs.Lists.{lookup_entry, keys_of}
+use Rattle.group_table.proofs.FirstFree.{fills_within}
+use Rattle.group_table.proofs.BucketLemmas.{length-marks_of, is_full-marks_of}
 use Rattle.schnellru.specs.State.{State, buckets, IsSized, IsPaid}
 use Rattle.schnellru.specs.Place.{IsPlaced}
 use Rattle.schnellru.specs.Steps.{UsesRoom, UsesDeleted}
 use Rattle.schnellru.specs.Linked.{Linked, IsLinked, Lands, pairs_of, entries_in}
 use Rattle.schnellru.specs.Holds.{state_by}
-use Rattle.schnellru.proofs.Cuts.{Lacks, lacks_unless, entries-apart}
-use Rattle.schnellru.proofs.Distinct.{AreDistinct}
+use Rattle.schnellru.proofs.Cuts.{entries-apart}
+use Rattle.schnellru.proofs.OrderLemmas.{Lacks, lacks_unless}
 use Rattle.schnellru.proofs.FilledBuckets.{deleted_large}
 use Rattle.schnellru.proofs.Kept.{sized_same, room_at-most}
 use Rattle.schnellru.proofs.Potential.{pays_placing}
 use Rattle.schnellru.proofs.Paid.{paid_after}
-
--- a bucket that may be filled is there
-pub may_fill_there : (marks : List Mark) (b : ℕ) → IsTable marks → MayFill marks b → 0 < length marks
-unfolding full_capacity
-may_fill_there [] b table (inl r) = absurd (omega (arith, r, table.within))
-may_fill_there [] b table (inr d) = absurd cc
-may_fill_there (m ∷ ms) b table may = omega arith
-
--- and so is the first free one
-pub first_free_within : (marks : List Mark) (hash b : ℕ) → 0 < length marks → IsFirstFree marks hash b → b < length marks
-first_free_within marks hash b some first = subst (λ n. n < length marks) first.there (probed-lt (length marks) hash first.step some)
-
-pub absent_keys : {K V : Type 0} (names : K → Bool) (xs : List (K × V)) → lookup_entry names xs ≡ None → AllByRecursion (λ k. names k ≡ false) (keys_of xs)
-absent_keys names [] h = tt
-absent_keys names (x ∷ xs) h = go (names x.0) refl h (absent_keys names xs)
-  where
-    go : (y : Bool) → names x.0 ≡ y → cond y (Some x) (lookup_entry names xs) ≡ None → (lookup_entry names xs ≡ None → AllByRecursion (λ k. names k ≡ false) (keys_of xs)) → AllByRecursion (λ k. names k ≡ false) (keys_of (x ∷ xs))
-    go true e h r = absurd cc
-    go false e h r = (e, r h)
 
 pub count_up-none : (n : ℕ) → n < 2 ^ 64 → n ≡ count_up n 0
 count_up-none n h = grind (arith, h)
 
 module _ {K V : Type 0} (t u : Linked K V) (hash : ℕ) (pair : K × V) (b : ℕ) (linked : IsLinked t) (lands : Lands t u hash pair b) where
   pub lands_within : b < length t.slots
-  lands_within = subst (λ n. b < n) (length-marks_of t.slots)
-      (first_free_within (marks_of t.slots) hash b (may_fill_there (marks_of t.slots) b linked.table lands.may) lands.first)
+  lands_within = fills_within t.slots hash b lands.first lands.may
 
   pub lands_length : length u.slots ≡ length t.slots
   lands_length = ap length lands.slots ∙ length-set t.slots b _
@@ -101,11 +76,6 @@ module _ {K V : Type 0} (t u : Linked K V) (hash : ℕ) (pair : K × V) (b : ℕ
 
 module _ {K V S H : Type 0} (old new : State K V S H) (ok : IsSized old) (hash b : ℕ) (within : b < buckets old) (first : IsFirstFree old.marks hash b)
     (filled : room new.marks + room_at old.marks b ≡ room old.marks) where
-  -- with a deleted bucket not all the room that pairs leave is there
-  spent : bucket_at old.marks b ≡ deleted → length old.pairs + room old.marks < full_capacity (buckets old)
-  unfolding room
-  spent there = omega (arith, count_by-pos is_deleted old.marks b within (ap is_deleted there), used_count-split old.marks, ok.taken, ok.table.used_within)
-
   counts : (m : Mark) → bucket_at old.marks b ≡ m → room_at old.marks b ≡ (if is_used m then 0 else 1)
   counts m e = ap (λ x. if is_used x then 0 else 1) e
 
@@ -114,7 +84,7 @@ module _ {K V S H : Type 0} (old new : State K V S H) (ok : IsSized old) (hash b
     where
       go : (m : Mark) → bucket_at old.marks b ≡ m → UsesRoom old new
       go empty e = inl (omega (arith, filled, counts empty e))
-      go deleted e = inr ((deleted_large old ok b within e).0, omega (arith, filled, counts deleted e), spent e)
+      go deleted e = let large = deleted_large old ok b within e in inr (large.0, omega (arith, filled, counts deleted e), large.1)
       go (full held) e = absurd (false≢true (sym first.free_there ∙ ap is_full e))
 
   pub uses_deleted : MayFill old.marks b → room old.marks ≡ 0 → UsesDeleted hash old new
@@ -122,7 +92,7 @@ module _ {K V S H : Type 0} (old new : State K V S H) (ok : IsSized old) (hash b
     none_left = omega (arith, filled, none);
     first = (b, first, there);
     large = (deleted_large old ok b within there).0;
-    within = (deleted_large old ok b within there).1;
+    within = omega (arith, (deleted_large old ok b within there).1);
   }
     where
       there : bucket_at old.marks b ≡ deleted

@@ -1,5 +1,5 @@
 -- What is left when pairs leave, and when growth is refused.
-use Rattle.std.proofs.Common.{◌≡◌, ℕ, zero, suc, ◌+◌, ◌-◌, ◌<◌, ◌≤◌, true, false, List, [], ◌∷◌, length, refl, sym, ap, ◌∙◌, subst, arith}
+use Rattle.std.proofs.Common.{◌≡◌, ℕ, zero, suc, ◌-◌, ◌<◌, true, false, List, [], ◌∷◌, length, refl, ap, ◌∙◌, subst, arith}
 use Rattle.schnellru.specs.Lists.{without_last}
 use Rattle.lru_limits.specs.Rules.{Rules}
 use Rattle.schnellru.specs.State.{State, Contents, contents, FreesRoom, Leaves, pop, pops, trim, trim_from}
@@ -50,13 +50,6 @@ module _ {K V S : Type 0} (rules : Rules K V S) where
       go (suc n) p e f = rw e (let g : n ≡ length (without_last c.pairs) = omega (arith, f) in ap (λ m. trim_from rules m (pop rules c)) g)
 
 module _ {K V S H : Type 0} where
-  -- where nothing leaves, all stays
-  pub leaves_self : (st : State K V S H) → Leaves st (contents st) st
-  leaves_self st = record {
-    is = refl;
-    room = record { table = refl; keeps = omega arith; at_most = omega arith; exact = λ _. refl; untouched = λ _. refl };
-  }
-
   frees_trans : (old mid new : State K V S H) → FreesRoom old mid → FreesRoom mid new → FreesRoom old new
   frees_trans old mid new f g = record {
     table = g.table ∙ f.table;

@@ -26,7 +26,7 @@ pub mod Kept
 pub mod FilledBuckets
 pub mod Emptiness
 pub mod Landed
-pub mod Moved
+pub mod MovedPairs
 pub mod Searched
 pub mod Written
 pub mod OrderLemmas
@@ -36,7 +36,7 @@ pub mod ChainLemmas
 pub mod KeyLemmas
 pub mod WholeLemmas
 pub mod ReadLemmas
-pub mod MovedLemmas
+pub mod MovedChain
 pub mod RelocateLemmas
 pub mod RestLemmas
 pub mod Placing

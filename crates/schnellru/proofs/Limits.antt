@@ -3,10 +3,11 @@ use Rattle.std.proofs.Common.{◌≡◌, ℕ, suc, ◌≤◌, inl, inr, Bool, tr
 use Rattle.std.proofs.lemmas.Bool.Decides.{nat_tests}
 use Rattle.std.specs.Prelude.{nat_lt, nat_le}
 use Rattle.std.specs.declared.alloc.AllocError.{AllocError}
+use Rattle.schnellru.proofs.Emptiness.{empty-length}
 use Rattle.lru_limits.specs.Rules.{Rules, Offers}
 use Rattle.lru_limits.specs.Stores.{plain, hands_over}
 use Rattle.schnellru.specs.Sizes.{usage}
-use Rattle.schnellru.specs.Lists.{is_empty, without}
+use Rattle.schnellru.specs.Lists.{without}
 use Rattle.schnellru.specs.State.{State, buckets, Contents, contents, Leaves, trim}
 use Rattle.schnellru.specs.Place.{Outcome, placed, refused, no_memory}
 use Rattle.schnellru.specs.Inserts.{Insert, replaced, given_up, no_memory_to_admit, not_admitted, admitted, Settles}
@@ -37,7 +38,9 @@ hands_over_kept admits P = record {
 module _ {K V H I : Type 0} (rules : Rules K V ℕ) (offers : Offers K V ℕ I) (names : I → K → Bool) (hash_of : H → K → ℕ) (most : ℕ)
     (kept : IsKept rules (λ s. s ≡ most)) (kept_by_offers : IsKeptByOffers offers (λ s. s ≡ most)) where
   -- where the limiter grants no more than the most, a table uses no more
-  pub uses_at_most : ((bytes : ℕ) → (rules.on_grow most bytes).allowed ≡ true → bytes ≤ most) → (i : I) (v : V) (old : State K V ℕ H) (result : Result Bool AllocError) (new : State K V ℕ H) → old.limiter ≡ most → UsesAtMost most old → Insert rules offers names hash_of i v old result new → UsesAtMost most new
+  pub uses_at_most : ((bytes : ℕ) → (rules.on_grow most bytes).allowed ≡ true → bytes ≤ most)
+      → (i : I) (v : V) (old : State K V ℕ H) (result : Result Bool AllocError) (new : State K V ℕ H) → old.limiter ≡ most → UsesAtMost most old
+      → Insert rules offers names hash_of i v old result new → UsesAtMost most new
   uses_at_most within i v old result new same uses step = go follows.count
     where
       follows : Follows rules (λ s. s ≡ most) old new
@@ -50,17 +53,14 @@ module _ {K V H I : Type 0} (rules : Rules K V ℕ) (offers : Offers K V ℕ I) 
   -- where it is over with more pairs than the most, no more are left
   module _ (within : (n : ℕ) → rules.is_over_the_limit most n ≡ false → n ≤ most) where
     within_length : (c : Contents K V ℕ) → c.limiter ≡ most → IsWithin rules c → length c.pairs ≤ most
-    within_length c same (inl e) = none c.pairs e
-      where
-        none : (xs : List (K × V)) → is_empty xs ≡ true → length xs ≤ most
-        none [] e = omega arith
-        none (x ∷ xs) e = absurd (grind arith)
+    within_length c same (inl e) = omega (arith, empty-length c.pairs e)
     within_length c same (inr e) = within (length c.pairs) (ap (λ s. rules.is_over_the_limit s (length c.pairs)) (sym same) ∙ e)
 
     trimmed_length : (old : State K V ℕ H) (c : Contents K V ℕ) (new : State K V ℕ H) → Leaves old (trim rules c) new → c.limiter ≡ most → length new.pairs ≤ most
     trimmed_length old c new l same = omega (arith, ap (λ st. length st.pairs) l.is, within_length (trim rules c) (trim_kept rules (λ s. s ≡ most) kept c same) (trim_ends rules c))
 
-    pub length_at_most : (i : I) (v : V) (old : State K V ℕ H) (result : Result Bool AllocError) (new : State K V ℕ H) → old.limiter ≡ most → length old.pairs ≤ most → Insert rules offers names hash_of i v old result new → length new.pairs ≤ most
+    pub length_at_most : (i : I) (v : V) (old : State K V ℕ H) (result : Result Bool AllocError) (new : State K V ℕ H) → old.limiter ≡ most → length old.pairs ≤ most
+        → Insert rules offers names hash_of i v old result new → length new.pairs ≤ most
     length_at_most i v old result new same few (replaced pair found y r l) = trimmed_length old _ new l (kept_by_offers.replaced old.limiter (length old.pairs) pair.0 i pair.1 v same)
     length_at_most i v old result new same few (given_up pair found y r l) = omega (arith, few, ap (λ st. length st.pairs) l.is, length-without (names i) old.pairs)
     length_at_most i v old result new same few (no_memory_to_admit a k r e) = omega (arith, few, ap (λ st. length st.pairs) e)
@@ -68,7 +68,9 @@ module _ {K V H I : Type 0} (rules : Rules K V ℕ) (offers : Offers K V ℕ I) 
     length_at_most i v old result new same few (admitted a s pair n ready l outcome landed p t) = settled outcome (place_comes rules hash_of pair ready outcome landed p) t
       where
         way : ready.limiter ≡ most
-        way = ap (λ st. st.limiter) l.is ∙ make_way_kept rules (λ x. x ≡ most) kept (record { pairs = old.pairs; limiter = s }) (kept_by_offers.offered old.limiter (length old.pairs) i v s (Some pair) n same)
+        way =
+            ap (λ st. st.limiter) l.is
+            ∙ make_way_kept rules (λ x. x ≡ most) kept (record { pairs = old.pairs; limiter = s }) (kept_by_offers.offered old.limiter (length old.pairs) i v s (Some pair) n same)
 
         landed_same : landed.limiter ≡ most
         landed_same = (place_follows rules (λ x. x ≡ most) kept hash_of pair ready way outcome landed p).limiter
@@ -94,7 +96,8 @@ by_memory_usage_stays names hash_of k v old result new step uses =
     uses_at_most _ _ names hash_of old.limiter (plain_kept _ _ _) (hands_over_kept _ _) (λ bytes e. grind (arith, nat_tests)) k v old result new refl uses step
 
 -- neither changes
-pub plain_stays : {K V H : Type 0} (over grants : ℕ → ℕ → Bool) (admits : ℕ → K → V → Bool) (names : K → K → Bool) (hash_of : H → K → ℕ) (k : K) (v : V) (old : State K V ℕ H) (result : Result Bool AllocError) (new : State K V ℕ H) →
-    Insert (plain over grants) (hands_over admits) names hash_of k v old result new → new.limiter ≡ old.limiter
+pub plain_stays : {K V H : Type 0} (over grants : ℕ → ℕ → Bool) (admits : ℕ → K → V → Bool) (names : K → K → Bool) (hash_of : H → K → ℕ) (k : K) (v : V) (old : State K V ℕ H)
+    (result : Result Bool AllocError) (new : State K V ℕ H)
+    → Insert (plain over grants) (hands_over admits) names hash_of k v old result new → new.limiter ≡ old.limiter
 plain_stays over grants admits names hash_of k v old result new step =
     (insert_follows _ _ (λ s. s ≡ old.limiter) (plain_kept over grants _) (hands_over_kept admits _) names hash_of k v old result new refl step).limiter

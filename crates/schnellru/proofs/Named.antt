@@ -1,29 +1,26 @@
 -- Pairs with distinct keys, cut at the one whose key is named.
-use Rattle.std.proofs.Common.{◌≡◌, ℕ, Bool, true, false, List, [], ◌∷◌, ◌++◌, length, Some, None, refl, sym, ap, ◌∙◌, arith, length-append}
+use Rattle.std.proofs.Common.{◌≡◌, Bool, true, false, List, [], ◌∷◌, ◌++◌, Some, refl, ap, ◌∙◌, cond, option_map}
 use Rattle.std.specs.Cmp.{IsEquivalence}
 use Rattle.std.specs.List.{IsDistinct, AllByRecursion}
 use Rattle.schnellru.specs.Lists.{lookup, lookup_entry, without, keys_of, last, without_last}
-use Rattle.schnellru.proofs.Distinct.{AreDistinct}
+use Rattle.schnellru.proofs.Distinct.{AreDistinct, NoneNamed}
+
+-- the value of a key is that of its pair
+pub lookup-entry : {K V : Type 0} (names : K → Bool) (xs : List (K × V)) → lookup names xs ≡ option_map (λ p. p.1) (lookup_entry names xs)
+lookup-entry names [] = refl
+lookup-entry names (x ∷ xs) = go (names x.0) (lookup-entry names xs)
+  where
+    go : (y : Bool) → lookup names xs ≡ option_map (λ p. p.1) (lookup_entry names xs) → cond y (Some x.1) (lookup names xs) ≡ option_map (λ p. p.1) (cond y (Some x) (lookup_entry names xs))
+    go true h = refl
+    go false h = h
 
 module _ {K V : Type 0} (names : K → Bool) where
-  -- none of the keys is named
-  abbrev pub NoneNamed : List (K × V) → Type 0
-  NoneNamed = AllByRecursion (λ e. names e.0 ≡ false)
-
-  pub none_found : (xs : List (K × V)) → NoneNamed xs → lookup_entry names xs ≡ None
-  none_found [] h = refl
-  none_found (x ∷ xs) h = rw h.0 (none_found xs h.1)
-
   module _ (p : K × V) (named : names p.0 ≡ true) where
-    pub cut_found : (xs ys : List (K × V)) → NoneNamed xs → lookup_entry names (xs ++ p ∷ ys) ≡ Some p
+    pub cut_found : (xs ys : List (K × V)) → NoneNamed names xs → lookup_entry names (xs ++ p ∷ ys) ≡ Some p
     cut_found [] ys h = rw named refl
     cut_found (x ∷ xs) ys h = rw h.0 (cut_found xs ys h.1)
 
-    pub cut_value : (xs ys : List (K × V)) → NoneNamed xs → lookup names (xs ++ p ∷ ys) ≡ Some p.1
-    cut_value [] ys h = rw named refl
-    cut_value (x ∷ xs) ys h = rw h.0 (cut_value xs ys h.1)
-
-    pub cut_without : (xs ys : List (K × V)) → NoneNamed xs → without names (xs ++ p ∷ ys) ≡ xs ++ ys
+    pub cut_without : (xs ys : List (K × V)) → NoneNamed names xs → without names (xs ++ p ∷ ys) ≡ xs ++ ys
     cut_without [] ys h = rw named refl
     cut_without (x ∷ xs) ys h = rw h.0 (ap (λ l. x ∷ l) (cut_without xs ys h.1))
 
@@ -33,7 +30,7 @@ module _ {K V : Type 0} (names : K → Bool) where
     met P (x ∷ xs) ys p h = met P xs ys p h.1
 
     -- where one is, those before it are not
-    pub others_unnamed : (xs ys : List (K × V)) (p : K × V) → names p.0 ≡ true → AreDistinct eq (xs ++ p ∷ ys) → NoneNamed xs
+    pub others_unnamed : (xs ys : List (K × V)) (p : K × V) → names p.0 ≡ true → AreDistinct eq (xs ++ p ∷ ys) → NoneNamed names xs
     unfolding IsDistinct
     others_unnamed [] ys p named d = tt
     others_unnamed (x ∷ xs) ys p named d =

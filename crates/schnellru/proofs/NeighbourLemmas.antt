@@ -2,9 +2,11 @@
 use Rattle.std.proofs.Common.{◌≡◌, ◌≢◌, ℕ, cond, List, [], ◌∷◌, map, Option, Some, None, inl, inr, refl, ap, sym, ◌∙◌, subst, eq-eqb, ne_eqb}
 use Rattle.std.specs.Prelude.{Contains, AllPairs, nat_eq, option_map}
 use Rattle.std.proofs.lemmas.Bool.{cases_eq}
+use Rattle.std.proofs.lemmas.Option.{none-some, same_Some}
 use Rattle.schnellru.specs.Chain.{first_bucket, last_bucket, bucket_after, bucket_before}
 use Rattle.schnellru.specs.Linked.{without_bucket}
-use Rattle.schnellru.proofs.OrderLemmas.{Contains-nil, Contains-cases, Contains-here, Contains-later, distinct_head, distinct_tail, distinct_cons, none_some, same_some, before_from, last_from, before_from-in, before_from-some, before_is, last_is, before_first, before_not_first, after_in, without-absent, distinct_without}
+use Rattle.schnellru.proofs.OrderLemmas.{other_than, Contains-nil, Contains-cases, Contains-here, Contains-later, distinct_head, distinct_tail, distinct_cons, before_from, last_from}
+use Rattle.schnellru.proofs.OrderLemmas.{before_from-in, before_from-some, before_is, last_is, before_first, before_not_first, after_in, without-absent, distinct_without}
 
 -- the buckets after b do not have it
 absent_after : (b c : ℕ) (cs : List ℕ) → AllPairs ◌≢◌ (c ∷ cs) → c ≡ b → Contains cs b → ⊥
@@ -13,7 +15,7 @@ absent_after b c cs d h w = distinct_head c cs d (subst (Contains cs) (sym h) w)
 module _ (b x : ℕ) (other : x ≢ b) where
   -- b leaves: x is then where b was in the order, if it came after b, and else stays
   before_from-next : (prev : Option ℕ) (order : List ℕ) → AllPairs ◌≢◌ order → bucket_after b order ≡ Some x → before_from prev x (without_bucket b order) ≡ before_from prev b order
-  before_from-next prev [] d e = absurd (none_some x e)
+  before_from-next prev [] d e = absurd (none-some x e)
   before_from-next prev (c ∷ cs) d e = elim (cases_eq c b) [
     | inl h ↦
         let e' : first_bucket cs ≡ Some x = rw (eq-eqb c b h) at e in
@@ -37,13 +39,13 @@ module _ (b x : ℕ) (other : x ≢ b) where
 
   -- b follows the last of those before it, which is x
   first_after : (cs : List ℕ) → AllPairs ◌≢◌ cs → (Contains cs x → ⊥) → before_from (Some x) b cs ≡ Some x → first_bucket (without_bucket b cs) ≡ bucket_after b cs
-  first_after [] d absent e = absurd (none_some x e)
+  first_after [] d absent e = absurd (none-some x e)
   first_after (c ∷ cs) d absent e = elim (cases_eq c b) [
     | inl h ↦ rw (eq-eqb c b h) (ap first_bucket (without-absent b cs (absent_after b c cs d h)))
     | inr h ↦
         let e' : before_from (Some c) b cs ≡ Some x = rw (ne_eqb c b h) at e in
         absurd (elim (before_from-in (Some c) b x cs e') [
-          | inl k ↦ absent (subst (Contains (c ∷ cs)) (same_some c x k) (Contains-here c cs))
+          | inl k ↦ absent (subst (Contains (c ∷ cs)) (same_Some c x k) (Contains-here c cs))
           | inr k ↦ absent (Contains-later c x cs k)
         ])
   ]
@@ -55,8 +57,9 @@ module _ (b x : ℕ) (other : x ≢ b) where
     | inr h ↦ rw (ne_eqb d b h) refl
   ]
 
-  after-previous_from : (prev : Option ℕ) (order : List ℕ) → AllPairs ◌≢◌ order → (prev ≡ Some x → ⊥) → before_from prev b order ≡ Some x → bucket_after x (without_bucket b order) ≡ bucket_after b order
-  after-previous_from prev [] d p e = absurd (none_some x e)
+  after-previous_from : (prev : Option ℕ) (order : List ℕ) → AllPairs ◌≢◌ order → (prev ≡ Some x → ⊥) → before_from prev b order ≡ Some x
+      → bucket_after x (without_bucket b order) ≡ bucket_after b order
+  after-previous_from prev [] d p e = absurd (none-some x e)
   after-previous_from prev (c ∷ cs) d p e = elim (cases_eq c b) [
     | inl h ↦ absurd (p (rw (eq-eqb c b h) at e))
     | inr h ↦
@@ -65,7 +68,7 @@ module _ (b x : ℕ) (other : x ≢ b) where
           | inl k ↦
               let absent : Contains cs x → ⊥ = λ w. distinct_head c cs d (subst (Contains cs) (sym k) w) in
               rw (ne_eqb c b h) (rw (eq-eqb c x k) (first_after cs (distinct_tail c cs d) absent (subst (λ y. before_from (Some y) b cs ≡ Some x) k e')))
-          | inr k ↦ rw (ne_eqb c b h) (rw (ne_eqb c x k) (after-previous_from (Some c) cs (distinct_tail c cs d) (λ q. k (same_some c x q)) e'))
+          | inr k ↦ rw (ne_eqb c b h) (rw (ne_eqb c x k) (after-previous_from (Some c) cs (distinct_tail c cs d) (λ q. k (same_Some c x q)) e'))
         ]
   ]
 
@@ -89,7 +92,7 @@ module _ (b x : ℕ) (other : x ≢ b) where
     before-stays p = before_is x (without_bucket b order) (distinct_without b order d) ∙ before_from-stays None order d p ∙ sym (before_is x order d)
 
     pub after-previous : bucket_before b order ≡ Some x → bucket_after x (without_bucket b order) ≡ bucket_after b order
-    after-previous e = after-previous_from None order d (none_some x) (sym (before_is b order d) ∙ e)
+    after-previous e = after-previous_from None order d (none-some x) (sym (before_is b order d) ∙ e)
 
     pub after-stays : (bucket_before b order ≡ Some x → ⊥) → bucket_after x (without_bucket b order) ≡ bucket_after x order
     after-stays p = after-stays_from None order d (λ e. p (before_is b order d ∙ e))
@@ -102,7 +105,7 @@ last_from-left prev b (c ∷ []) d there e = elim (cases_eq c b) [
   | inr h ↦ elim (Contains-cases c b [] there) [ inl k ↦ absurd (h k) | inr k ↦ absurd (Contains-nil b k) ]
 ]
 last_from-left prev b (c ∷ n ∷ ns) d there e = elim (cases_eq c b) [
-  | inl h ↦ absurd (none_some n (sym (rw (eq-eqb c b h) at e)))
+  | inl h ↦ absurd (none-some n (sym (rw (eq-eqb c b h) at e)))
   | inr h ↦
       let e' : bucket_after b (n ∷ ns) ≡ None = rw (ne_eqb c b h) at e in
       elim (Contains-cases c b (n ∷ ns) there) [
@@ -112,10 +115,10 @@ last_from-left prev b (c ∷ n ∷ ns) d there e = elim (cases_eq c b) [
 ]
 
 last_from-stays : (prev : Option ℕ) (b y : ℕ) (order : List ℕ) → AllPairs ◌≢◌ order → bucket_after b order ≡ Some y → last_from prev (without_bucket b order) ≡ last_from prev order
-last_from-stays prev b y [] d e = absurd (none_some y e)
+last_from-stays prev b y [] d e = absurd (none-some y e)
 last_from-stays prev b y (c ∷ []) d e = elim (cases_eq c b) [
-  | inl h ↦ absurd (none_some y (rw (eq-eqb c b h) at e))
-  | inr h ↦ absurd (none_some y (rw (ne_eqb c b h) at e))
+  | inl h ↦ absurd (none-some y (rw (eq-eqb c b h) at e))
+  | inr h ↦ absurd (none-some y (rw (ne_eqb c b h) at e))
 ]
 last_from-stays prev b y (c ∷ n ∷ ns) d e = elim (cases_eq c b) [
   | inl h ↦ rw (eq-eqb c b h) (ap (last_from prev) (without-absent b (n ∷ ns) (absent_after b c (n ∷ ns) d h)))
@@ -135,9 +138,9 @@ module _ (b : ℕ) where
   ]
 
   first_from-stays : (y : ℕ) (order : List ℕ) → before_from None b order ≡ Some y → first_bucket (without_bucket b order) ≡ first_bucket order
-  first_from-stays y [] e = absurd (none_some y e)
+  first_from-stays y [] e = absurd (none-some y e)
   first_from-stays y (c ∷ cs) e = elim (cases_eq c b) [
-    | inl h ↦ absurd (none_some y (rw (eq-eqb c b h) at e))
+    | inl h ↦ absurd (none-some y (rw (eq-eqb c b h) at e))
     | inr h ↦ rw (ne_eqb c b h) refl
   ]
 
@@ -164,7 +167,7 @@ module _ (b : ℕ) (order : List ℕ) (absent : Contains order b → ⊥) (d : A
 
   module _ (x : ℕ) (there : Contains order x) where
     apart : b ≢ x
-    apart e = absent (subst (Contains order) (sym e) there)
+    apart e = other_than b order absent x there (sym e)
 
     pub before-first : first_bucket order ≡ Some x → bucket_before x (b ∷ order) ≡ Some b
     before-first e = before_is x (b ∷ order) (distinct_cons b order absent d) ∙ rw (ne_eqb b x apart) (before_first (Some b) x order e)
@@ -222,7 +225,8 @@ module _ (m : ℕ → ℕ) where
     | inr h ↦ rw (ne_eqb c b h, ne_eqb (m c) (m b) (λ e. h (apart c (Contains-here c cs) e))) (after-moved_apart b cs (λ x w e. apart x (Contains-later c x cs w) e))
   ]
 
-  before_from-moved : (prev : Option ℕ) (b : ℕ) (order : List ℕ) → ((c : ℕ) → Contains order c → m c ≡ m b → c ≡ b) → before_from (option_map m prev) (m b) (map m order) ≡ option_map m (before_from prev b order)
+  before_from-moved : (prev : Option ℕ) (b : ℕ) (order : List ℕ) → ((c : ℕ) → Contains order c → m c ≡ m b → c ≡ b)
+      → before_from (option_map m prev) (m b) (map m order) ≡ option_map m (before_from prev b order)
   before_from-moved prev b [] apart = refl
   before_from-moved prev b (c ∷ cs) apart = elim (cases_eq c b) [
     | inl h ↦ rw (eq-eqb c b h, eq-eqb (m c) (m b) (ap m h)) refl

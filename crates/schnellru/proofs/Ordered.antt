@@ -1,37 +1,20 @@
 -- The pairs of a linked table, as its buckets give them.
-use Rattle.std.proofs.Common.{◌≡◌, ℕ, suc, ◌+◌, ◌<◌, Bool, true, false, List, [], ◌∷◌, ◌++◌, length, Some, None, refl, sym, ap, ◌∙◌, subst, arith, slice_set, append-nil, inl, inr}
+use Rattle.std.proofs.Common.{◌≡◌, ℕ, suc, Bool, true, false, List, [], ◌∷◌, ◌++◌, length, Some, None, refl, sym, ap, ◌∙◌, subst, arith, append-nil, inl, inr}
 use Rattle.std.specs.Cmp.{IsEquivalence}
-use Rattle.std.specs.Prelude.{◌≢◌, Contains, AllPairs, IsTrue, option_to_list}
+use Rattle.std.specs.Prelude.{Contains, option_to_list, option_map}
 use Rattle.std.specs.List.{AllByRecursion}
-use Rattle.group_table.specs.Bucket.{Slot, empty, deleted, full, is_full, IsFull, bucket_at, entry_of, entry_at}
+use Rattle.group_table.specs.Bucket.{Slot, empty, deleted, IsFull, bucket_at, entry_at}
 use Rattle.group_table.specs.Change.{Removes}
-use Rattle.std.proofs.lemmas.List.{length-set}
-use Rattle.schnellru.specs.Lists.{lookup, lookup_entry, without, front, last, without_last}
+use Rattle.group_table.proofs.SearchLemmas.{entry_by_full, full_by_entry}
+use Rattle.schnellru.specs.Lists.{lookup, lookup_entry, without, last, without_last}
 use Rattle.schnellru.specs.Linked.{Linked, IsLinked, entries_in, pairs_of, without_bucket}
 use Rattle.schnellru.specs.Chain.{last_bucket}
-use Rattle.schnellru.proofs.Distinct.{AreDistinct}
+use Rattle.schnellru.proofs.Distinct.{AreDistinct, NoneNamed, none_found}
 use Rattle.schnellru.proofs.OrderLemmas.{last_in, length-without}
-use Rattle.schnellru.proofs.Named.{NoneNamed, none_found, cut_found, cut_value, cut_without, others_unnamed, last_end, without_last_end}
+use Rattle.schnellru.proofs.Named.{lookup-entry, cut_found, cut_without, others_unnamed, last_end, without_last_end}
 use Rattle.schnellru.proofs.Cuts.{Cut, cut_at, cut_last, without_lacks, entries-cut, entries-without, entries-apart}
 
 module _ {T : Type 0} where
-  held : (slot : Slot T) → is_full slot ≡ true → (entry : T) × (entry_of slot ≡ Some entry)
-  held empty h = absurd cc
-  held deleted h = absurd cc
-  held (full tagged) h = (tagged.entry, refl)
-
-  holds : (slot : Slot T) (entry : T) → entry_of slot ≡ Some entry → is_full slot ≡ true
-  holds empty entry h = absurd cc
-  holds deleted entry h = absurd cc
-  holds (full tagged) entry h = refl
-
-  -- a full bucket holds an entry, and a bucket that holds one is full
-  pub full_entry : (slots : List (Slot T)) (b : ℕ) → IsFull slots b → (entry : T) × (entry_at slots b ≡ Some entry)
-  full_entry slots b h = held (bucket_at slots b) h
-
-  pub full_by : (slots : List (Slot T)) (b : ℕ) (entry : T) → entry_at slots b ≡ Some entry → IsFull slots b
-  full_by slots b entry h = holds (bucket_at slots b) entry h
-
   -- these buckets are full
   abbrev pub AreFull : List (Slot T) → List ℕ → Type 0
   AreFull slots = AllByRecursion (λ b. IsFull slots b)
@@ -39,7 +22,7 @@ module _ {T : Type 0} where
   pub entries-length : (slots : List (Slot T)) (order : List ℕ) → AreFull slots order → length (entries_in slots order) ≡ length order
   entries-length slots [] h = refl
   entries-length slots (b ∷ bs) h =
-      let e = full_entry slots b h.0 in ap (λ o. length (option_to_list o ++ entries_in slots bs)) e.1 ∙ ap (λ n. suc n) (entries-length slots bs h.1)
+      let e = entry_by_full (bucket_at slots b) h.0 in ap (λ o. length (option_to_list o ++ entries_in slots bs)) e.1 ∙ ap (λ n. suc n) (entries-length slots bs h.1)
 
   pub all_full : (slots : List (Slot T)) (order : List ℕ) → ((b : ℕ) → Contains order b → IsFull slots b) → AreFull slots order
   all_full slots [] h = tt
@@ -49,7 +32,7 @@ module _ {K V : Type 0} (t : Linked K V) (linked : IsLinked t) where
   -- the pair of the bucket b, the order cut there
   module _ (b : ℕ) (p : K × V) (there : entry_at t.slots b ≡ Some p) where
     cut_here : Cut b t.order
-    cut_here = cut_at b t.order linked.distinct (linked.all b (full_by t.slots b p there))
+    cut_here = cut_at b t.order linked.distinct (linked.all b (full_by_entry (bucket_at t.slots b) p there))
 
     module _ (names : K → Bool) {eq : K → K → Bool} (laws : IsEquivalence eq) (one : (x y : K) → names x ≡ true → names y ≡ eq x y)
         (distinct : AreDistinct eq (pairs_of t)) (named : names p.0 ≡ true) where
@@ -63,7 +46,7 @@ module _ {K V : Type 0} (t : Linked K V) (linked : IsLinked t) where
       pair_found = ap (lookup_entry names) cut_pairs ∙ cut_found names p named (entries_in t.slots cut_here.before) (entries_in t.slots cut_here.after) unnamed
 
       pub value_found : lookup names (pairs_of t) ≡ Some p.1
-      value_found = ap (lookup names) cut_pairs ∙ cut_value names p named (entries_in t.slots cut_here.before) (entries_in t.slots cut_here.after) unnamed
+      value_found = lookup-entry names (pairs_of t) ∙ ap (option_map (λ e. e.1)) pair_found
 
       -- the others, in their order
       pub others_are : without names (pairs_of t) ≡ entries_in t.slots (without_bucket b t.order)
@@ -83,7 +66,7 @@ module _ {K V : Type 0} (t : Linked K V) (linked : IsLinked t) where
     where
       go : (order : List ℕ) → AreFull t.slots order → NoneNamed names (entries_in t.slots order)
       go [] f = tt
-      go (b ∷ bs) f = let e = full_entry t.slots b f.0 in subst (λ o. NoneNamed names (option_to_list o ++ entries_in t.slots bs)) (sym e.1) (h b e.0 e.1, go bs f.1)
+      go (b ∷ bs) f = let e = entry_by_full (bucket_at t.slots b) f.0 in subst (λ o. NoneNamed names (option_to_list o ++ entries_in t.slots bs)) (sym e.1) (h b e.0 e.1, go bs f.1)
 
   -- the last bucket holds the oldest pair
   module _ (b : ℕ) (is_last : last_bucket t.order ≡ Some b) where
@@ -106,10 +89,6 @@ module _ {K V : Type 0} (t : Linked K V) (linked : IsLinked t) where
 
 -- a bucket was emptied
 module _ {T : Type 0} (old new : List (Slot T)) (b : ℕ) where
-  pub removed-length : Removes old new b → length new ≡ length old
-  removed-length (inl h) = ap length h.1 ∙ length-set old b empty
-  removed-length (inr h) = ap length h.1 ∙ length-set old b deleted
-
   -- the others hold what they held
   pub removed-entries : Removes old new b → (order : List ℕ) → entries_in new (without_bucket b order) ≡ entries_in old (without_bucket b order)
   removed-entries (inl h) order = ap (λ s. entries_in s (without_bucket b order)) h.1 ∙ entries-apart old b empty (without_bucket b order) (without_lacks b order)

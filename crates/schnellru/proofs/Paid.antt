@@ -44,7 +44,8 @@ module _ {K V S H I : Type 0} (rules : Rules K V S) (offers : Offers K V S I) (n
   settles_paid no_memory landed result new h paid = rw h.1 paid
 
   -- and so does an insert
-  pub insert_paid : (i : I) (v : V) (old : State K V S H) (result : Result Bool AllocError) (new : State K V S H) → IsSized old → Insert rules offers names hash_of i v old result new → IsPaid old → IsPaid new
+  pub insert_paid : (i : I) (v : V) (old : State K V S H) (result : Result Bool AllocError) (new : State K V S H) → IsSized old
+      → Insert rules offers names hash_of i v old result new → IsPaid old → IsPaid new
   insert_paid i v old result new ok (replaced pair found y r l) paid = leaves_paid old _ new l paid
   insert_paid i v old result new ok (given_up pair found y r l) paid = leaves_paid old _ new l paid
   insert_paid i v old result new ok (no_memory_to_admit a k r e) paid = rw e paid

@@ -1,15 +1,14 @@
--- Slots of entries, seen as slots of pairs: they have the same marks, tags, counts and hashes.
-use Rattle.std.proofs.Common.{◌≡◌, ◌≢◌, ℕ, List, [], ◌∷◌, length, set, Option, Some, None, inl, inr, refl, ap, sym, ◌∙◌, subst}
+-- Slots of entries, seen as slots of pairs, have the same marks, tags, counts and hashes.
+use Rattle.std.proofs.Common.{◌≡◌, ℕ, List, [], ◌∷◌, length, set, Option, Some, None, inl, inr, refl, ap, sym, ◌∙◌, subst}
 use Rattle.std.specs.Prelude.{option_map}
 use Rattle.std.proofs.lemmas.List.{map-set, length-map}
 use Rattle.std.proofs.Math.ListN.{get_or-map}
 use Rattle.std.proofs.Math.Seq.{map-set_same}
-use Rattle.group_table.specs.Bucket.{Slot, Tagged, empty, deleted, full, bucket_at, is_full, IsFull, entry_at, entry_of, entry_count, mark_of, marks_of, refilled}
+use Rattle.group_table.specs.Bucket.{Slot, Tagged, empty, deleted, full, bucket_at, is_full, entry_at, entry_of, entry_count, mark_of, marks_of, refilled}
 use Rattle.group_table.specs.Fits.{Fits}
 use Rattle.group_table.specs.Probe.{Reaches}
 use Rattle.group_table.specs.Change.{Removes}
-use Rattle.group_table.proofs.BucketLemmas.{bucket_at-set_same, bucket_at-set_other, full_lt, entry_count-marks_of}
-use Rattle.group_table.proofs.SearchLemmas.{full_by_entry}
+use Rattle.group_table.proofs.BucketLemmas.{entry_count-marks_of}
 use Rattle.schnellru.specs.declared.link.Entry.{Entry}
 use Rattle.schnellru.specs.declared.link.Pair.{Pair}
 use Rattle.schnellru.specs.Chain.{pair_slot, pair_slots}
@@ -121,27 +120,7 @@ module _ {K V N : Type 0} where
       pair_slots-set slots b (refilled (bucket_at slots b) next)
       ∙ ap (set (pair_slots slots) b) (refilled_slot (bucket_at slots b) next ∙ ap (λ s. refilled s (pair_of next)) (sym (bucket_at-pair_slots slots b)))
 
-  refilled_entry : (s : Slot (Entry K V N)) (entry next : Entry K V N) → entry_of s ≡ Some entry → entry_of (refilled s next) ≡ Some next
-  refilled_entry empty entry next e = absurd (cc)
-  refilled_entry deleted entry next e = absurd (cc)
-  refilled_entry (full held) entry next e = refl
-
-  -- a full bucket gets another entry
-  module _ (slots : List (Slot (Entry K V N))) (b : ℕ) (entry next : Entry K V N) (there : entry_at slots b ≡ Some entry) where
-    pub pair_slots-refilled : next.pair ≡ entry.pair → pair_slots (set slots b (refilled (bucket_at slots b) next)) ≡ pair_slots slots
-    pair_slots-refilled same = map-set_same pair_slot slots b (refilled (bucket_at slots b) next) empty (refilled_pair (bucket_at slots b) entry next there same)
-
-    pub entry_at-refilled : entry_at (set slots b (refilled (bucket_at slots b) next)) b ≡ Some next
-    entry_at-refilled =
-        ap entry_of (bucket_at-set_same slots b b (refilled (bucket_at slots b) next) refl (full_lt slots b (full_by_entry (bucket_at slots b) entry there)))
-        ∙ refilled_entry (bucket_at slots b) entry next there
-
-    pub entry_at-refilled_other : (c : ℕ) → c ≢ b → entry_at (set slots b (refilled (bucket_at slots b) next)) c ≡ entry_at slots c
-    entry_at-refilled_other c other = ap entry_of (bucket_at-set_other slots b c (refilled (bucket_at slots b) next) other)
-
--- hashes fit that are the same where a bucket is full
-pub Fits-agree : {T : Type 0} (slots : List (Slot T)) (f g : ℕ → ℕ) → ((b : ℕ) → IsFull slots b → f b ≡ g b) → Fits slots f → Fits slots g
-Fits-agree slots f g agree fits = record {
-  tags = λ b held e. rw (← agree b (ap is_full e)) (fits.tags b held e);
-  reached = λ b there. subst (λ hash. Reaches (marks_of slots) hash b) (agree b there) (fits.reached b there);
-}
+  -- an entry is written with the same pair
+  pub pair_slots-refilled : (slots : List (Slot (Entry K V N))) (b : ℕ) (entry next : Entry K V N) → entry_at slots b ≡ Some entry → next.pair ≡ entry.pair
+      → pair_slots (set slots b (refilled (bucket_at slots b) next)) ≡ pair_slots slots
+  pair_slots-refilled slots b entry next there same = map-set_same pair_slot slots b (refilled (bucket_at slots b) next) empty (refilled_pair (bucket_at slots b) entry next there same)

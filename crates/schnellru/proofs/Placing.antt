@@ -3,19 +3,20 @@ use Rattle.std.proofs.Common.{◌≡◌, ℕ, suc, ◌+◌, ◌-◌, ◌*◌, �
 use Rattle.std.specs.Prelude.{IsOk}
 use Rattle.std.specs.declared.alloc.AllocError.{AllocError}
 use native.Mathlib.Decide.{dec_lt}
+use Rattle.std.proofs.lemmas.List.{nil_from_length}
 use Rattle.group_table.specs.Sizes.{IsPowerFromFour, IsBucketCount, full_capacity}
 use Rattle.group_table.specs.Bucket.{empty, marks_of}
 use Rattle.group_table.specs.Change.{HasNoPlace}
 use Rattle.lru_limits.specs.Rules.{Rules}
 use Rattle.schnellru.specs.Sizes.{usage, Target, no_table, new_table, target}
-use Rattle.schnellru.specs.State.{State, buckets, room, contents, IsSized, IsPaid, Leaves, pop, pops, FirstFreeIs}
-use Rattle.schnellru.specs.Place.{Place, first_table, first_denied, first_too_large, into_empty, into_emptied, with_room, deleted_bucket, rehashed, grown, evicted, evicted_rehashed, CannotGrow, Outcome, no_target, denied, outcome_of, placed, refused, IsPlaced, IsPlacedIfMemory, LacksRoom, asked, turned_away, without_oldest, next_table}
+use Rattle.schnellru.specs.State.{State, buckets, room, contents, IsSized, Leaves, pop, pops, FirstFreeIs}
+use Rattle.schnellru.specs.Place.{Place, first_table, first_denied, into_empty, into_emptied, with_room, deleted_bucket, rehashed, grown, evicted, evicted_rehashed, CannotGrow}
+use Rattle.schnellru.specs.Place.{Outcome, no_target, denied, outcome_of, placed, refused, IsPlaced, IsPlacedIfMemory, LacksRoom, asked, turned_away, without_oldest, next_table}
 use Rattle.schnellru.specs.Steps.{Evicts, finds_bucket, made_anew, UsesRoom, UsesDeleted}
 use Rattle.group_table.proofs.BucketLemmas.{length-marks_of}
 use Rattle.schnellru.specs.Linked.{Linked, IsLinked, pairs_of}
 use Rattle.schnellru.specs.Holds.{state_by}
 use Rattle.schnellru.proofs.Ordered.{pairs-length}
-use Rattle.schnellru.proofs.Emptiness.{none_left}
 use Rattle.schnellru.proofs.Sized.{fits, exact}
 use Rattle.schnellru.proofs.Growth.{full_capacity-4, full_capacity-at_most, full_capacity-some, full_capacity-even, full_capacity-double, target_doubles, target_usage, target_reached}
 use Rattle.schnellru.proofs.Short.{no_room}
@@ -27,7 +28,7 @@ use Rattle.schnellru.specs.Lists.{lookup_entry, IsFront}
 module _ {K V S H : Type 0} (st : State K V S H) (ok : IsSized st) where
   -- without buckets there are no pairs
   pub none_without_buckets : buckets st ≡ 0 → st.pairs ≡ []
-  none_without_buckets none = none_left st.pairs (omega (arith, fits st ok, full_capacity-at_most (buckets st), none))
+  none_without_buckets none = nil_from_length st.pairs (omega (arith, fits st ok, full_capacity-at_most (buckets st), none))
 
   -- and with pairs there are buckets, as many as a table can have
   pub power_with_pairs : 0 < length st.pairs → IsPowerFromFour (buckets st)
@@ -36,10 +37,7 @@ module _ {K V S H : Type 0} (st : State K V S H) (ok : IsSized st) where
       go : (buckets st ≡ 0) ⊎ IsPowerFromFour (buckets st) → IsPowerFromFour (buckets st)
       go (inl none) = absurd (omega (arith, ap length (none_without_buckets none), some))
       go (inr power) = power
-
-  -- without room, as many entries can move as there are pairs
-  pub paid_without_room : IsPaid st → room st ≡ 0 → st.moved + length st.pairs ≤ 2 * st.placed
-  paid_without_room paid none = omega (arith, paid, none, fits st ok)
+      -- without room, as many entries can move as there are pairs
 
 module _ {K V S H : Type 0} (rules : Rules K V S) (hash_of : H → K → ℕ) (pair : K × V) (old new : State K V S H) (ok : IsSized old) where
   -- the limiter was asked for the first table
@@ -60,9 +58,6 @@ module _ {K V S H : Type 0} (rules : Rules K V S) (hash_of : H → K → ℕ) (p
         Place rules hash_of pair old refused new
     first_refused refusal step = first_denied (none_without_buckets old ok none) none bytes usable refusal refl
         (step ∙ ap {A = S} {B = State K V S H} (λ l. turned_away rules pair (record old { limiter = l })) told)
-
-  pub first_impossible : buckets old ≡ 0 → usage old.entry_bytes 4 ≡ None → new ≡ turned_away rules pair old → Place rules hash_of pair old refused new
-  first_impossible none large step = first_too_large (none_without_buckets old ok none) none large refl step
 
   -- the oldest left, where the table cannot grow
   pub evicts_place : (outcome : Outcome) (mid : State K V S H) → CannotGrow rules old mid → LacksRoom old → FirstFreeIs empty (hash_of old.hasher pair.0) old →
@@ -101,7 +96,7 @@ module _ {K V S H : Type 0} (rules : Rules K V S) (hash_of : H → K → ℕ) (p
 
       go : Dec (0 < room old) → Dec (0 < length old.pairs) → Place rules hash_of pair old placed new
       go (yes r) (yes l) = with_room l r (used (roomy r)) refl step
-      go (yes r) (no l) = into_empty (none_left old.pairs (omega (arith, l))) (omega (arith, r, fits old ok, full_capacity-at_most (buckets old))) r
+      go (yes r) (no l) = into_empty (nil_from_length old.pairs (omega (arith, l))) (omega (arith, r, fits old ok, full_capacity-at_most (buckets old))) r
           (at_most_one (roomy r)) refl step
       go (no r) (yes l) = let uses = none (omega (arith, r)) in
           deleted_bucket (l, omega (arith, r)) uses.first uses.large uses.within refl (record { table = step.table; left = uses.none_left; state = step.state })
@@ -123,7 +118,7 @@ module _ {K V S H : Type 0} (rules : Rules K V S) (hash_of : H → K → ℕ) (p
       go : Dec (0 < length old.pairs) → Place rules hash_of pair old (outcome_of result) new
       go (yes some) = rehashed (some, none) (first some) (omega (arith, few)) step
       go (no l) =
-          let no_pairs : length old.pairs ≡ 0 = omega (arith, l) in let empty_list = none_left old.pairs no_pairs in
+          let no_pairs : length old.pairs ≡ 0 = omega (arith, l) in let empty_list = nil_from_length old.pairs no_pairs in
           let there = placed_by result (succeeds empty_list) step in
           let spare : full_capacity (buckets old) - length old.pairs - 1 ≡ full_capacity (buckets old) - 1 = omega (arith, no_pairs) in
           into_emptied empty_list (omega (arith, few, full_capacity-at_most (buckets old))) none there.0
@@ -209,10 +204,6 @@ module _ {K V S H : Type 0} (rules : Rules K V S) (pair : K × V) (old prev left
 
   same_buckets : buckets left ≡ buckets old
   same_buckets = step.room.table ∙ before.room.table
-
-  -- then as many entries can move as there are pairs
-  pub left_paid : IsPaid left → 2 * length left.pairs < full_capacity (buckets left) → left.moved + length left.pairs ≤ 2 * left.placed
-  left_paid paid few = omega (arith, paid, few, step.room.at_most, still, one_fewer)
 
   pub left_absent : (names : K → Bool) → lookup_entry names old.pairs ≡ None → lookup_entry names left.pairs ≡ None
   left_absent names absent = front_absent names left.pairs old.pairs

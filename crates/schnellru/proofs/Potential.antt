@@ -5,7 +5,8 @@ use Rattle.group_table.specs.Change.{count_up}
 use Rattle.schnellru.specs.Sizes.{new_table}
 use Rattle.lru_limits.specs.Rules.{Rules, Offers}
 use Rattle.schnellru.specs.State.{State, buckets, room, potential, Contents, contents, IsSized, Leaves, pops, trim}
-use Rattle.schnellru.specs.Place.{Place, first_table, first_denied, first_too_large, into_empty, into_emptied, with_room, deleted_bucket, rehashed, grown, evicted, evicted_rehashed, Outcome, placed, refused, no_memory, IsPlaced, without_oldest, asked, next_table, IsPlacedIfMemory}
+use Rattle.schnellru.specs.Place.{Place, first_table, first_denied, first_too_large, into_empty, into_emptied, with_room, deleted_bucket, rehashed, grown}
+use Rattle.schnellru.specs.Place.{evicted, evicted_rehashed, Outcome, placed, refused, no_memory, IsPlaced, without_oldest, asked, next_table, IsPlacedIfMemory}
 use Rattle.std.specs.declared.alloc.AllocError.{AllocError}
 use Rattle.schnellru.specs.Inserts.{Insert, replaced, given_up, no_memory_to_admit, not_admitted, admitted, Settles}
 use Rattle.schnellru.proofs.Sized.{fits}
@@ -25,7 +26,8 @@ module _ {K V S H : Type 0} where
   pays_calm old new p m f = record { placed = omega arith; moved = λ _. omega arith }
 
   -- a pair is placed
-  pub pays_placing : (old new : State K V S H) (moves : ℕ) → old.placed < 2 ^ 64 → new.moved ≡ count_up old.moved moves → new.placed ≡ count_up old.placed 1 → moves + potential new ≤ potential old + 2 → PaysForMoves old new
+  pub pays_placing : (old new : State K V S H) (moves : ℕ) → old.placed < 2 ^ 64 → new.moved ≡ count_up old.moved moves → new.placed ≡ count_up old.placed 1
+      → moves + potential new ≤ potential old + 2 → PaysForMoves old new
   pays_placing old new moves bound m p f = record { placed = omega arith; moved = λ h. omega arith }
 
   pub leaves_pays : (old : State K V S H) (left : Contents K V S) (new : State K V S H) → Leaves old left new → PaysForMoves old new
@@ -71,10 +73,13 @@ module _ {K V S H : Type 0} where
 
 module _ {K V S H : Type 0} (rules : Rules K V S) (hash_of : H → K → ℕ) (pair : K × V) (old : State K V S H) (ok : IsBounded old) where
   -- with so much room in a table of so many buckets, after so many moves
-  placed_pays : (st new : State K V S H) (count spare moves : ℕ) → IsPlaced pair count spare moves st new → st.moved ≡ old.moved → st.placed ≡ old.placed → moves + (full_capacity count - 2 * spare) ≤ potential old + 2 → PaysForMoves old new
-  placed_pays st new count spare moves p m n f = pays_placing old new moves ok.placed (ap (λ x. x.moved) p.state ∙ ap (λ x. count_up x moves) m) (ap (λ x. x.placed) p.state ∙ ap (λ x. count_up x 1) n) (rw (p.table, p.left) f)
+  placed_pays : (st new : State K V S H) (count spare moves : ℕ) → IsPlaced pair count spare moves st new → st.moved ≡ old.moved → st.placed ≡ old.placed
+      → moves + (full_capacity count - 2 * spare) ≤ potential old + 2 → PaysForMoves old new
+  placed_pays st new count spare moves p m n f =
+      pays_placing old new moves ok.placed (ap (λ x. x.moved) p.state ∙ ap (λ x. count_up x moves) m) (ap (λ x. x.placed) p.state ∙ ap (λ x. count_up x 1) n) (rw (p.table, p.left) f)
 
-  if_memory_pays : (st : State K V S H) (count spare moves : ℕ) (outcome : Outcome) (new : State K V S H) → IsPlacedIfMemory rules pair count spare moves st outcome new → PaysForMoves old st → st.moved ≡ old.moved → st.placed ≡ old.placed → moves + (full_capacity count - 2 * spare) ≤ potential old + 2 → PaysForMoves old new
+  if_memory_pays : (st : State K V S H) (count spare moves : ℕ) (outcome : Outcome) (new : State K V S H) → IsPlacedIfMemory rules pair count spare moves st outcome new
+      → PaysForMoves old st → st.moved ≡ old.moved → st.placed ≡ old.placed → moves + (full_capacity count - 2 * spare) ≤ potential old + 2 → PaysForMoves old new
   if_memory_pays st count spare moves placed new h q m n f = placed_pays st new count spare moves h m n f
   if_memory_pays st count spare moves no_memory new h q m n f = rw h (record { placed = q.placed; moved = q.moved })
   if_memory_pays st count spare moves refused new h q m n f = absurd h
@@ -119,7 +124,8 @@ module _ {K V S H I : Type 0} (rules : Rules K V S) (offers : Offers K V S I) (n
   with_limiter : (old : State K V S H) (s : S) → PaysForMoves old (record old { limiter = s })
   with_limiter old s = pays_calm old (record old { limiter = s }) refl refl (omega arith)
 
-  pub insert_pays : (i : I) (v : V) (old : State K V S H) (result : Result Bool AllocError) (new : State K V S H) → IsSized old → Insert rules offers names hash_of i v old result new → PaysForMoves old new
+  pub insert_pays : (i : I) (v : V) (old : State K V S H) (result : Result Bool AllocError) (new : State K V S H) → IsSized old
+      → Insert rules offers names hash_of i v old result new → PaysForMoves old new
   insert_pays i v old result new ok (replaced pair found y r l) = leaves_pays old _ new l
   insert_pays i v old result new ok (given_up pair found y r l) = leaves_pays old _ new l
   insert_pays i v old result new ok (no_memory_to_admit a k r e) = rw e (pays_self old)

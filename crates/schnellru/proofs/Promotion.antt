@@ -32,7 +32,9 @@ module _ {K V : Type 0} (names : K → Bool) where
       go None e = subst (AreDistinct eq) (sym (without_none names xs e)) d
       go (Some pair) e = distinct_newest eq names one pair xs (found_named names xs pair e) d
 
-module _ {K V S H Q : Type 0} {names : Q → K → Bool} {eq : K → K → Bool} {query_input : Q → List (List ℕ)} {key_input : K → List (List ℕ)} (looks_up : IsLookup names eq query_input key_input) (q : Q) (old : State K V S H) (result : Option V) (new : State K V S H) (step : Get (names q) old result new) where
+module _ {K V S H Q : Type 0} {names : Q → K → Bool} {eq : K → K → Bool} {query_input : Q → List (List ℕ)} {key_input : K → List (List ℕ)}
+    (looks_up : IsLookup names eq query_input key_input) (q : Q) (old : State K V S H) (result : Option V) (new : State K V S H)
+    (step : Get (names q) old result new) where
   get_sized : IsSized old → IsSized new
   get_sized ok = rw step.state (record {
     table = ok.table;

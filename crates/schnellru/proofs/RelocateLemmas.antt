@@ -12,7 +12,7 @@ use Rattle.schnellru.proofs.OrderLemmas.{Contains-here, Contains-later}
 use Rattle.schnellru.proofs.NeighbourLemmas.{moved_in}
 use Rattle.schnellru.proofs.PairSlotLemmas.{pair_of, same_count, same_full, entry_at-pair_slots, Fits-pair_slots}
 use Rattle.schnellru.proofs.KeyLemmas.{hash_in-entry}
-use Rattle.schnellru.proofs.MovedLemmas.{moved_entry}
+use Rattle.schnellru.proofs.MovedChain.{moved_entry}
 
 entries_in-moved : {T : Type 0} (old new : List (Slot T)) (m : ℕ → ℕ) (order : List ℕ) → ((b : ℕ) → Contains order b → entry_at new (m b) ≡ entry_at old b)
     → entries_in new (map m order) ≡ entries_in old order

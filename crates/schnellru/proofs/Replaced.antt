@@ -1,13 +1,14 @@
 -- A pair in a bucket of a linked table, after the limiter wrote to it.
-use Rattle.std.proofs.Common.{◌≡◌, ℕ, suc, ◌+◌, ◌<◌, Bool, true, List, ◌∷◌, ◌++◌, Option, Some, None, refl, sym, ap, ◌∙◌, subst, arith, slice_set, length}
-use native.Mathlib.Decide.{dec_lt}
-use Rattle.std.specs.Prelude.{unwrap_or, option_to_list}
+use Rattle.std.proofs.Common.{◌≡◌, ℕ, suc, ◌+◌, Bool, true, ◌∷◌, ◌++◌, Some, refl, sym, ap, ◌∙◌, subst, arith, length}
+use Rattle.std.specs.Prelude.{option_to_list}
 use Rattle.std.specs.Cmp.{IsEquivalence}
 use Rattle.std.proofs.lemmas.List.{length-set}
-use Rattle.std.proofs.lemmas.List.{get_or-set_same, get_or_past}
-use Rattle.group_table.specs.Bucket.{Slot, empty, deleted, full, bucket_at, entry_of, entry_at, refilled, marks_of, room, room_at}
+use Rattle.std.proofs.lemmas.Option.{same_Some}
+use Rattle.group_table.specs.Bucket.{bucket_at, entry_at, refilled, marks_of, room, room_at}
 use Rattle.group_table.specs.Change.{Removes}
-use Rattle.group_table.proofs.RefillLemmas.{marks_of-refilled}
+use Rattle.group_table.proofs.ChangeLemmas.{length-removed}
+use Rattle.group_table.proofs.RefillLemmas.{entry_at-refilled, marks_of-refilled}
+use Rattle.group_table.proofs.SearchLemmas.{full_by_entry}
 use Rattle.lru_limits.specs.Rules.{Rules, Replaced}
 use Rattle.schnellru.specs.Lists.{without}
 use Rattle.schnellru.specs.Linked.{Linked, IsLinked, KeysFit, with_pair, without_bucket, pairs_of, entries_in}
@@ -16,25 +17,8 @@ use Rattle.schnellru.specs.Holds.{state_by, Holds}
 use Rattle.schnellru.specs.Steps.{IsReplaced, IsGivenUp}
 use Rattle.schnellru.proofs.Distinct.{AreDistinct, distinct_newest, distinct_without}
 use Rattle.schnellru.proofs.Cuts.{entries-apart, without_lacks}
-use Rattle.schnellru.proofs.Ordered.{pairs-length, shorter, full_by, others_are, removed-length, removed-entries}
+use Rattle.schnellru.proofs.Ordered.{pairs-length, shorter, others_are, removed-entries}
 use Rattle.schnellru.proofs.Kept.{frees_room, leaves_holds}
-
-pub some_same : {A : Type 0} (x y : A) → Some x ≡ Some y → x ≡ y
-some_same x y e = ap (λ o. unwrap_or o x) e
-
-module _ {T : Type 0} (slots : List (Slot T)) (b : ℕ) (entry new : T) (there : entry_at slots b ≡ Some entry) where
-  refilled_entry : (slot : Slot T) → entry_of slot ≡ Some entry → entry_of (refilled slot new) ≡ Some new
-  refilled_entry empty e = absurd cc
-  refilled_entry deleted e = absurd cc
-  refilled_entry (full held) e = refl
-
-  -- a full bucket that is filled anew holds the new entry
-  pub entry_at-refilled : entry_at (slice_set slots b (refilled (bucket_at slots b) new)) b ≡ Some new
-  entry_at-refilled = go (dec_lt b (length slots))
-    where
-      go : Dec (b < length slots) → entry_at (slice_set slots b (refilled (bucket_at slots b) new)) b ≡ Some new
-      go (yes within) = ap entry_of (get_or-set_same slots b (refilled (bucket_at slots b) new) empty within) ∙ refilled_entry (bucket_at slots b) there
-      go (no past) = let none : entry_at slots b ≡ None = ap entry_of (get_or_past slots b empty (omega (arith, past))) in absurd (grind (arith, none, there))
 
 module _ {K V S : Type 0} (rules : Rules K V S) (by : Replaced K V S) (old new : Linked K V) (b : ℕ) (was : K × V) (there : entry_at old.slots b ≡ Some was)
     (k : K) (v : V) (key_is : k ≡ by.key) (value_is : v ≡ by.old_value) (s : S) (told : s ≡ by.limiter) (taken : K × V) where
@@ -53,7 +37,7 @@ module _ {K V S : Type 0} (rules : Rules K V S) (by : Replaced K V S) (old new :
       pair_is = λ i. (key_is i, value_is i)
 
       taken_is : taken ≡ (k, v)
-      taken_is = some_same taken (k, v) (sym held ∙ entry_at-refilled old.slots b was (k, v) there)
+      taken_is = same_Some taken (k, v) (sym held ∙ entry_at-refilled old.slots b (k, v) (full_by_entry (bucket_at old.slots b) was there))
 
 module _ {K V S H : Type 0} (by : Replaced K V S) (old new : Linked K V) (b : ℕ) (l : S) (first : IsLinked old) (next : IsLinked new)
     (was : K × V) (there : entry_at old.slots b ≡ Some was) (names : K → Bool) {eq : K → K → Bool} (laws : IsEquivalence eq)
@@ -70,14 +54,15 @@ module _ {K V S H : Type 0} (by : Replaced K V S) (old new : Linked K V) (b : �
       ∙ sym (others_are old first b was there names laws one distinct named)
 
   fewer : suc (length (without_bucket b old.order)) ≡ length old.order
-  fewer = shorter old first b (full_by old.slots b was there)
+  fewer = shorter old first b (full_by_entry (bucket_at old.slots b) was there)
 
   -- the pair as it was left is the newest, and the others are as they were
   module _ (step : IsReplaced by b old new l) where
     pub replaced_pairs : pairs_of new ≡ (by.key, by.new_value) ∷ without names (pairs_of old)
     replaced_pairs = ap (entries_in new.slots) step.order
         ∙ ap (λ s. entries_in s (b ∷ without_bucket b old.order)) step.slots
-        ∙ ap (λ o. option_to_list o ++ entries_in (with_pair old b (by.key, by.new_value)).slots (without_bucket b old.order)) (entry_at-refilled old.slots b was (by.key, by.new_value) there)
+        ∙ ap (λ o. option_to_list o ++ entries_in (with_pair old b (by.key, by.new_value)).slots (without_bucket b old.order))
+        (entry_at-refilled old.slots b (by.key, by.new_value) (full_by_entry (bucket_at old.slots b) was there))
         ∙ ap (λ xs. (by.key, by.new_value) ∷ xs) (others (by.key, by.new_value))
 
     pub replaced_leaves : Leaves before (record { pairs = (by.key, by.new_value) ∷ without names (pairs_of old); limiter = by.limiter }) after
@@ -106,7 +91,7 @@ module _ {K V S H : Type 0} (by : Replaced K V S) (old new : Linked K V) (b : �
         ∙ others (by.key, by.old_value)
 
     pub given_up_length : length new.slots ≡ length old.slots
-    given_up_length = removed-length (with_pair old b (by.key, by.old_value)).slots new.slots b step.slots ∙ length-set old.slots b _
+    given_up_length = length-removed (with_pair old b (by.key, by.old_value)).slots new.slots b step.slots ∙ length-set old.slots b _
 
     pub given_up_leaves : Leaves before (record { pairs = without names (pairs_of old); limiter = (rules.on_removed by.limiter by.key by.old_value).limiter }) after
     given_up_leaves = record {

@@ -1,10 +1,11 @@
 -- What is left of a walk over a linked table.
-use Rattle.std.proofs.Common.{◌≡◌, ℕ, zero, suc, ◌+◌, ◌-◌, ◌<◌, ◌≤◌, Bool, true, false, List, [], ◌∷◌, ◌++◌, length, drop, unwrap_or, Option, Some, None, refl, sym, ap, ◌∙◌, subst, arith, if◌then◌else◌}
-use Rattle.std.specs.Prelude.{◌≢◌, AllPairs, Contains, nat_eq, option_to_list}
+use Rattle.std.proofs.Common.{◌≡◌, ℕ, zero, suc, ◌-◌, ◌<◌, true, false, List, [], ◌∷◌, ◌++◌, length, drop, Option, Some, refl, sym, ap, ◌∙◌, subst, arith}
+use Rattle.std.specs.Prelude.{◌≢◌, AllPairs, nat_eq, option_to_list}
 use Rattle.std.proofs.lemmas.List.{length-drop}
+use Rattle.std.proofs.lemmas.Option.{same_Some}
 use Rattle.std.proofs.Math.Seq.{drop-cons}
 use Rattle.group_table.specs.Bucket.{IsFull, entry_at}
-use Rattle.schnellru.specs.Linked.{Linked, IsLinked, entries_in}
+use Rattle.schnellru.specs.Linked.{Linked, entries_in}
 use Rattle.schnellru.specs.Chain.{first_bucket, bucket_after}
 use Rattle.schnellru.specs.Rest.{last_buckets, rest_of, IsRest}
 use Rattle.std.specs.List.{AllByRecursion}
@@ -12,9 +13,6 @@ use Rattle.std.proofs.lemmas.Bool.Decides.{nat_tests}
 use Rattle.schnellru.proofs.Cuts.{head_lacks}
 use Rattle.schnellru.proofs.OrderLemmas.{distinct_tail}
 use Rattle.schnellru.proofs.Ordered.{entries-length, all_full, AreFull}
-
-head-is : (x b : ℕ) → Some x ≡ Some b → x ≡ b
-head-is x b e = ap (λ o. unwrap_or o x) e
 
 module _ (P : ℕ → Type 0) where
   dropped : (n : ℕ) (xs : List ℕ) → AllByRecursion P xs → AllByRecursion P (drop n xs)
@@ -54,7 +52,7 @@ module _ {K V : Type 0} (t : Linked K V) where
       cut-left =
           let same : suc skipped ≡ length t.order - (left - 1) = omega (arith, rest.within, rest-some) in
           let cut = drop-cons t.order skipped b (omega (arith, rest.within, rest-some)) in
-          cut ∙ ap (λ x. x ∷ drop (suc skipped) t.order) (head-is _ _ (ap first_bucket (sym cut) ∙ sym rest.first ∙ some)) ∙ ap (λ n. b ∷ drop n t.order) same
+          cut ∙ ap (λ x. x ∷ drop (suc skipped) t.order) (same_Some _ _ (ap first_bucket (sym cut) ∙ sym rest.first ∙ some)) ∙ ap (λ n. b ∷ drop n t.order) same
 
       pub rest-full : IsFull t.slots b
       rest-full = (subst (AreFull t.slots) cut-left all-left-full).0

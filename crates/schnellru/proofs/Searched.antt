@@ -1,18 +1,10 @@
 -- What a search of the linked table says of the pairs.
-use Rattle.std.proofs.Common.{◌≡◌, ℕ, Bool, true, false, cond, List, [], ◌∷◌, Option, Some, None, option_map, refl, sym, ap, ◌∙◌}
+use Rattle.std.proofs.Common.{◌≡◌, ℕ, Bool, true, false, cond, List, [], ◌∷◌, Some, None, option_map, refl, sym, ap, ◌∙◌}
 use Rattle.group_table.specs.Bucket.{entry_at}
 use Rattle.schnellru.specs.Lists.{lookup, lookup_entry}
 use Rattle.schnellru.specs.Linked.{Linked, IsLinked, pairs_of}
+use Rattle.schnellru.proofs.Named.{lookup-entry}
 use Rattle.schnellru.proofs.Ordered.{none_named}
-
--- the value of a key is that of its pair
-pub lookup-entry : {K V : Type 0} (names : K → Bool) (xs : List (K × V)) → lookup names xs ≡ option_map (λ p. p.1) (lookup_entry names xs)
-lookup-entry names [] = refl
-lookup-entry names (x ∷ xs) = go (names x.0) (lookup-entry names xs)
-  where
-    go : (y : Bool) → lookup names xs ≡ option_map (λ p. p.1) (lookup_entry names xs) → cond y (Some x.1) (lookup names xs) ≡ option_map (λ p. p.1) (cond y (Some x) (lookup_entry names xs))
-    go true h = refl
-    go false h = h
 
 -- tests that agree find the same pair
 pub lookup_alike : {K V : Type 0} (names others : K → Bool) → ((k : K) → names k ≡ others k) → (xs : List (K × V)) → lookup_entry names xs ≡ lookup_entry others xs

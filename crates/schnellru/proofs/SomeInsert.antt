@@ -1,30 +1,26 @@
 -- From every map an insert can end: there is an answer that it may give, and a state that it may leave.
-use Rattle.std.proofs.Common.{◌≡◌, ℕ, zero, suc, ◌+◌, ◌-◌, ◌*◌, ◌/◌, ◌^◌, ◌<◌, ◌≤◌, ◌⊎◌, inl, inr, Bool, true, false, List, [], ◌∷◌, length, Option, Some, None, Result, Ok, Err, refl, sym, ap, ◌∙◌, subst, arith, cond, not, count_by}
-use Rattle.std.specs.Prelude.{nat_lt, nat_le}
+use Rattle.std.proofs.Common.{◌≡◌, ℕ, zero, suc, ◌+◌, ◌-◌, ◌/◌, ◌<◌, ◌≤◌, inl, inr, Bool, true, false, List, [], ◌∷◌, length}
+use Rattle.std.proofs.Common.{Option, Some, None, Result, Ok, Err, refl, sym, ap, ◌∙◌, subst, arith, cond, not, count_by}
 use Rattle.std.specs.declared.alloc.AllocError.{AllocError}
-use Rattle.std.proofs.lemmas.Bool.Decides.{nat_tests}
-use Rattle.std.proofs.lemmas.List.Sums.{sum_by-cons}
+use Rattle.std.proofs.lemmas.List.{nil_from_length}
 use native.Mathlib.Decide.{dec_lt}
-use Rattle.group_table.specs.Sizes.{full_capacity, IsBucketCount, IsPowerFromFour, buckets_for}
+use Rattle.group_table.specs.Sizes.{full_capacity, IsBucketCount, IsPowerFromFour}
 use Rattle.group_table.specs.Bucket.{Mark, empty, deleted, full, bucket_at, is_full, is_used, is_deleted, entry_count}
 use Rattle.group_table.specs.Probe.{IsFirstFree}
 use Rattle.group_table.specs.Change.{count_up}
-use Rattle.group_table.proofs.SizeLemmas.{full_capacity-lt, full_capacity-small, full_capacity-large, power_pos}
-use Rattle.group_table.proofs.BucketLemmas.{some_empty, room_is, used_count-split, count_by-pos}
+use Rattle.group_table.proofs.SizeLemmas.{full_capacity-lt, full_capacity-small, power_pos}
+use Rattle.group_table.proofs.BucketLemmas.{count_by-cons, some_empty, room_is, used_count-split, count_by-pos}
 use Rattle.group_table.proofs.ProbeLemmas.{probed-lt}
 use Rattle.group_table.proofs.FirstFree.{first_free_there}
 use Rattle.lru_limits.specs.Rules.{Rules, Offers}
 use Rattle.schnellru.specs.Lists.{is_empty, lookup_entry, without}
-use Rattle.schnellru.specs.Sizes.{usage, Target, target, target_from, no_table, same_table, new_table, table_with, table_of}
-use Rattle.schnellru.specs.State.{State, Contents, buckets, room, contents, IsMap, FreesRoom, Leaves, FirstFreeIs, pops, trim}
+use Rattle.schnellru.specs.Sizes.{usage, Target, no_table, same_table, new_table}
+use Rattle.schnellru.specs.State.{State, Contents, buckets, room, contents, IsMap, Leaves, FirstFreeIs, pops, trim}
 use Rattle.schnellru.specs.Place.{Place, first_table, first_denied, first_too_large, into_empty, into_emptied, with_room, deleted_bucket, rehashed, grown, evicted, evicted_rehashed, Outcome, placed, refused, no_memory, IsPlaced, LacksRoom, CannotGrow, no_target, denied, next_table, asked, turned_away, without_oldest}
-use Rattle.schnellru.specs.Inserts.{Insert, replaced, given_up, not_admitted, admitted, make_way, replacement, with_replaced, with_given_up, Settles}
-use Rattle.schnellru.proofs.Growth.{full_capacity-at_most, target-same}
-use Rattle.schnellru.proofs.Leaving.{length-pops, leaves_self}
+use Rattle.schnellru.specs.Inserts.{Insert, replaced, given_up, not_admitted, admitted, make_way, replacement, with_replaced, with_given_up}
+use Rattle.schnellru.proofs.Growth.{full_capacity-at_most, full_capacity-some, target-same}
+use Rattle.schnellru.proofs.Leaving.{length-pops}
 use Rattle.schnellru.proofs.Fronts.{length-front, front_trim, front_make_way}
-
-count_by-cons : (p : Mark → Bool) (m : Mark) (rest : List Mark) → count_by p (m ∷ rest) ≡ cond (p m) 1 0 + count_by p rest
-count_by-cons p m rest = sum_by-cons (λ x. cond (p x) 1 0) m rest
 
 -- so many empty buckets
 abbrev pub empties : ℕ → List Mark
@@ -53,12 +49,6 @@ deleted-filled (suc n) rest = omega (arith, deleted-filled n rest, count_by-cons
 
 used-filled : (n rest : ℕ) → count_by is_used (filled n rest) ≡ n
 used-filled n rest = omega (arith, used_count-split (filled n rest), entries-filled n rest, deleted-filled n rest)
-
-full_capacity-pos : (n : ℕ) → IsPowerFromFour n → 0 < full_capacity n
-full_capacity-pos n s = elim (dec_lt 8 n) [
-  | yes q ↦ omega (arith, full_capacity-large n q)
-  | no q ↦ omega (arith, full_capacity-small n (omega arith), power_pos n s)
-]
 
 module _ {K V S H : Type 0} where
   -- what an insert needs of the marks: so many full buckets as there are pairs, or more
@@ -190,7 +180,7 @@ module _ {K V S H : Type 0} (rules : Rules K V S) (hash_of : H → K → ℕ) (p
 
   emptied_ends : old.pairs ≡ [] → IsPowerFromFour (buckets old) → room old ≡ 0 → Ends
   emptied_ends e power r =
-      let (new, is, left, after) = some_bucket pair old old 1 ready.count (full_capacity-pos (buckets old) power) (omega (arith, ap length e)) in
+      let (new, is, left, after) = some_bucket pair old old 1 ready.count (omega (arith, full_capacity-some (buckets old) power)) (omega (arith, ap length e)) in
       (placed, new, into_emptied e (omega (arith, power_pos (buckets old) power)) r refl is, after)
 
   -- with room, one of the room goes
@@ -203,12 +193,8 @@ module _ {K V S H : Type 0} (rules : Rules K V S) (hash_of : H → K → ℕ) (p
       let here : IsPlaced pair (buckets old) (room new) 0 old new = record { table = is.table; left = refl; state = is.state } in
       elim (dec_lt 0 (length old.pairs)) [
         | yes some ↦ (placed, new, with_room some r (inl less) refl here, after)
-        | no none ↦ (placed, new, into_empty (none_left old.pairs (omega (arith, none))) (omega (arith, r, spare, full_capacity-at_most (buckets old))) r (inr less) refl here, after)
+        | no none ↦ (placed, new, into_empty (nil_from_length old.pairs (omega (arith, none))) (omega (arith, r, spare, full_capacity-at_most (buckets old))) r (inr less) refl here, after)
       ]
-    where
-      none_left : {X : Type 0} (xs : List X) → length xs ≡ 0 → xs ≡ []
-      none_left [] e = refl
-      none_left (x ∷ xs) e = absurd (omega (arith, e))
 
   module _ (lacks : LacksRoom old) where
     full_table : full_capacity (buckets old) ≡ used
@@ -300,7 +286,8 @@ module _ {K V : Type 0} (names : K → Bool) where
   length-without_found [] pair e = absurd (grind arith)
   length-without_found (x ∷ xs) pair e = go (names x.0) (length-without_found xs pair) e
     where
-      go : (b : Bool) → (lookup_entry names xs ≡ Some pair → length (without names xs) + 1 ≡ length xs) → cond b (Some x) (lookup_entry names xs) ≡ Some pair → length (cond b xs (x ∷ without names xs)) + 1 ≡ suc (length xs)
+      go : (b : Bool) → (lookup_entry names xs ≡ Some pair → length (without names xs) + 1 ≡ length xs) → cond b (Some x) (lookup_entry names xs) ≡ Some pair
+          → length (cond b xs (x ∷ without names xs)) + 1 ≡ suc (length xs)
       go true h e = omega arith
       go false h e = omega (arith, h e)
 
@@ -339,7 +326,12 @@ module _ {K V S H I : Type 0} (rules : Rules K V S) (offers : Offers K V S I) (n
   some_insert = go (lookup_entry (names i) old.pairs) refl
     where
       absent : lookup_entry (names i) old.pairs ≡ None → (s : S) (given : Option (K × V)) → offers.on_insert old.limiter (length old.pairs) i v s given → Inserts
-      absent e s None admits = (Ok false, record old { limiter = s }, not_admitted e s admits refl refl, record { count = ready.count; used_within = ready.used_within; enough = ready.enough; none_deleted = ready.none_deleted })
+      absent e s None admits = (
+        Ok false,
+        record old { limiter = s },
+        not_admitted e s admits refl refl,
+        record { count = ready.count; used_within = ready.used_within; enough = ready.enough; none_deleted = ready.none_deleted },
+      )
       absent e s (Some pair) admits = given_pair e s pair admits
 
       go : (found : Option (K × V)) → lookup_entry (names i) old.pairs ≡ found → Inserts

@@ -7,7 +7,8 @@ use Rattle.lru_limits.specs.Laws.{IsAccount, kept_value}
 use Rattle.schnellru.specs.Theorems.{IsSummed}
 use Rattle.schnellru.specs.Lists.{last, without_last, lookup_entry, without}
 use Rattle.schnellru.specs.State.{State, Contents, contents, Leaves, told_of, pop, pops, trim, trim_from}
-use Rattle.schnellru.specs.Place.{Place, first_table, first_denied, first_too_large, into_empty, into_emptied, with_room, deleted_bucket, rehashed, grown, evicted, evicted_rehashed, CannotGrow, no_target, denied, Outcome, placed, refused, no_memory, IsPlaced, IsPlacedIfMemory, asked, turned_away, without_oldest}
+use Rattle.schnellru.specs.Place.{Place, first_table, first_denied, first_too_large, into_empty, into_emptied, with_room, deleted_bucket, rehashed, grown, evicted, evicted_rehashed}
+use Rattle.schnellru.specs.Place.{CannotGrow, no_target, denied, Outcome, placed, refused, no_memory, IsPlaced, IsPlacedIfMemory, asked, turned_away, without_oldest}
 use Rattle.schnellru.specs.Inserts.{Insert, replaced, given_up, no_memory_to_admit, not_admitted, admitted, make_way, replacement, with_replaced, with_given_up, Settles}
 
 module _ {X : Type 0} (f : X → ℕ) where
@@ -105,7 +106,8 @@ module _ {K V S I : Type 0} (rules : Rules K V S) (offers : Offers K V S I) (cos
       asked_holds : (bytes : ℕ) → Holds (price pair) (asked rules bytes old)
       asked_holds bytes = laws.keeps old.limiter bytes ∙ owed
 
-      if_memory_holds : (st : State K V S H) (count spare moves : ℕ) (outcome : Outcome) (new : State K V S H) → IsPlacedIfMemory rules pair count spare moves st outcome new → Holds (price pair) st → Holds 0 new
+      if_memory_holds : (st : State K V S H) (count spare moves : ℕ) (outcome : Outcome) (new : State K V S H)
+          → IsPlacedIfMemory rules pair count spare moves st outcome new → Holds (price pair) st → Holds 0 new
       if_memory_holds st count spare moves placed new h p = placed_holds st new count spare moves h p
       if_memory_holds st count spare moves no_memory new h p = rw h (turned_away_holds st p)
       if_memory_holds st count spare moves refused new h p = absurd h
@@ -142,23 +144,30 @@ module _ {K V S I : Type 0} (rules : Rules K V S) (offers : Offers K V S I) (cos
       named pair found = subst (λ o. IsSplit price old.pairs o (without (names i) old.pairs)) found (split_named price (names i) old.pairs)
 
       -- what the account is after a new value was taken for the pair, or not
-      exchanged : (pair : K × V) → price pair ≤ account old.limiter → let r = replacement rules offers names pair i v old in account r.limiter ≡ account old.limiter - price pair + cost r.key (kept_value r)
+      exchanged : (pair : K × V) → price pair ≤ account old.limiter
+          → let r = replacement rules offers names pair i v old in account r.limiter ≡ account old.limiter - price pair + cost r.key (kept_value r)
       exchanged pair enough = laws.exchanges old.limiter (length old.pairs) pair.0 i pair.1 v enough
 
-      with_replaced_owes : (pair : K × V) → lookup_entry (names i) old.pairs ≡ Some pair → (replacement rules offers names pair i v old).taken ≡ true → Owes 0 (with_replaced rules offers names pair i v old)
+      with_replaced_owes : (pair : K × V) → lookup_entry (names i) old.pairs ≡ Some pair → (replacement rules offers names pair i v old).taken ≡ true
+          → Owes 0 (with_replaced rules offers names pair i v old)
       with_replaced_owes pair found y =
           let n = named pair found in
           let x = exchanged pair (omega arith) in
           let kept : kept_value (replacement rules offers names pair i v old) ≡ (replacement rules offers names pair i v old).new_value = rw y refl in
           let z = rw kept at x in omega arith
 
-      with_given_up_owes : (pair : K × V) → lookup_entry (names i) old.pairs ≡ Some pair → (replacement rules offers names pair i v old).taken ≡ false → Owes 0 (with_given_up rules offers names pair i v old)
+      with_given_up_owes : (pair : K × V) → lookup_entry (names i) old.pairs ≡ Some pair → (replacement rules offers names pair i v old).taken ≡ false
+          → Owes 0 (with_given_up rules offers names pair i v old)
       with_given_up_owes pair found y =
           let n = named pair found in
           let x = exchanged pair (omega arith) in
           let kept : kept_value (replacement rules offers names pair i v old) ≡ (replacement rules offers names pair i v old).old_value = rw y refl in
           let z = rw kept at x in
-          omega (arith, laws.takes_off (replacement rules offers names pair i v old).limiter (replacement rules offers names pair i v old).key (replacement rules offers names pair i v old).old_value (omega arith))
+          omega (
+            arith,
+            laws.takes_off (replacement rules offers names pair i v old).limiter (replacement rules offers names pair i v old).key
+                (replacement rules offers names pair i v old).old_value (omega arith),
+          )
 
       pub insert_holds : (result : Result Bool AllocError) (new : State K V S H) → Insert rules offers names hash_of i v old result new → Holds 0 new
       insert_holds result new (replaced pair found y r l) = leaves_holds 0 old _ new l (trim_owes 0 _ (with_replaced_owes pair found y))
@@ -172,5 +181,6 @@ module _ {K V S I : Type 0} (rules : Rules K V S) (offers : Offers K V S I) (cos
           (place_holds hash_of pair ready (leaves_holds (price pair) start _ ready l (make_way_owes (price pair) (record { pairs = old.pairs; limiter = s }) more)) outcome landed p)
 
   -- an insert keeps the account the sum of the costs
-  pub insert_summed : {H : Type 0} (names : I → K → Bool) (hash_of : H → K → ℕ) (i : I) (v : V) (old : State K V S H) (result : Result Bool AllocError) (new : State K V S H) → IsSummed cost account old → Insert rules offers names hash_of i v old result new → IsSummed cost account new
+  pub insert_summed : {H : Type 0} (names : I → K → Bool) (hash_of : H → K → ℕ) (i : I) (v : V) (old : State K V S H) (result : Result Bool AllocError) (new : State K V S H)
+      → IsSummed cost account old → Insert rules offers names hash_of i v old result new → IsSummed cost account new
   insert_summed names hash_of i v old result new h r = insert_holds names hash_of i v old (h ∙ omega (arith, total-is price old.pairs)) result new r ∙ omega (arith, total-is price new.pairs)

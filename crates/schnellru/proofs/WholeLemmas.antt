@@ -2,34 +2,31 @@
 use Rattle.std.proofs.Common.{◌≡◌, ◌≢◌, ℕ, zero, suc, ◌<◌, ◌≤◌, Bool, List, [], ◌∷◌, length, set, Option, Some, None, inl, inr, refl, ap, sym, ◌∙◌, subst, arith, eq-eqb, length-set}
 use Rattle.std.specs.Prelude.{option_map, unwrap_or, Contains, AllPairs}
 use Rattle.std.proofs.lemmas.Bool.{cases_eq, false≢true}
+use Rattle.std.proofs.lemmas.Option.{same_Some}
 use Rattle.std.proofs.lemmas.List.Sums.{count_by-le-length}
 use Rattle.group_table.specs.Link.{IsLinkType}
-use Rattle.group_table.specs.Bucket.{Slot, empty, deleted, bucket_at, is_full, IsFull, entry_at, entry_of, entry_count, marks_of, refilled}
+use Rattle.group_table.specs.Bucket.{Slot, bucket_at, is_full, IsFull, entry_at, entry_of, entry_count, marks_of, refilled}
 use Rattle.group_table.specs.Table.{Table, IsTable}
 use Rattle.group_table.specs.Change.{Places, Removes}
 use Rattle.group_table.proofs.BucketLemmas.{bucket_at-past, is_full-marks_of, entry_count-marks_of}
-use Rattle.group_table.proofs.RefillLemmas.{marks_of-refilled}
-use Rattle.group_table.proofs.SearchLemmas.{held_by}
-use Rattle.group_table.proofs.ChangeLemmas.{entry_count-places, bucket_at-placed_other, entry_at-removed, bucket_at-removed_other, entry_count-removes}
+use Rattle.group_table.proofs.RefillLemmas.{entry_at-refilled, entry_at-refilled_other, marks_of-refilled}
+use Rattle.group_table.proofs.SearchLemmas.{full_by_entry}
+use Rattle.group_table.proofs.ChangeLemmas.{entry_count-places, bucket_at-placed_other, length-removed, entry_at-removed, bucket_at-removed_other, entry_count-removes}
 use Rattle.schnellru.specs.declared.link.Entry.{Entry}
 use Rattle.schnellru.specs.declared.link.Pair.{Pair}
 use Rattle.schnellru.specs.Linked.{Linked, IsLinked, without_bucket, with_pair}
 use Rattle.schnellru.specs.Chain.{first_bucket, bucket_after, link_to, pair_slots, older_at, along, IsChain, IsWhole}
-use Rattle.schnellru.proofs.OrderLemmas.{Contains-here, Contains-later, distinct_head, distinct_tail, without_in, in_without, length-without}
+use Rattle.schnellru.proofs.OrderLemmas.{other_than, Contains-here, Contains-later, distinct_head, distinct_tail, without_in, in_without, length-without}
 use Rattle.schnellru.proofs.NeighbourLemmas.{after-later}
-use Rattle.schnellru.proofs.PairSlotLemmas.{same_count, same_full, marks_of-pair_slots, is_full-pair_slots, entry_count-pair_slots, entry_at-refilled, entry_at-refilled_other, pair_slots-rewritten}
-use Rattle.schnellru.proofs.ChainLemmas.{same_link, chained_below}
+use Rattle.schnellru.proofs.PairSlotLemmas.{same_count, same_full, marks_of-pair_slots, is_full-pair_slots, entry_count-pair_slots, pair_slots-rewritten}
+use Rattle.schnellru.proofs.ChainLemmas.{chained_below}
 use Rattle.schnellru.proofs.KeyLemmas.{not_full}
-
--- a full bucket has an entry
-pub entry_of_full : {T : Type 0} (slots : List (Slot T)) (b : ℕ) → IsFull slots b → (entry : T) × (entry_at slots b ≡ Some entry)
-entry_of_full slots b there = let w = held_by (bucket_at slots b) there in (w.0.entry, ap entry_of w.1)
 
 module _ {N : Type 0} (number : N → ℕ) (link : ℕ → N) (none : N) (eq : N → N → Bool) (laws : IsLinkType number link none eq) {K V : Type 0} where
   one_along : (n : ℕ) (slots : List (Slot (Entry K V N))) (from older : N) (at : Option (Entry K V N)) → option_map (λ x. x.older) at ≡ Some older
       → unwrap_or (option_map (λ entry. number from ∷ along number n slots entry.older) at) [] ≡ number from ∷ along number n slots older
   one_along n slots from older None e = absurd (cc)
-  one_along n slots from older (Some entry) e = ap (λ l. number from ∷ along number n slots l) (same_link entry.older older e)
+  one_along n slots from older (Some entry) e = ap (λ l. number from ∷ along number n slots l) (same_Some entry.older older e)
 
   -- the links lead along the order
   along-chain : (slots : List (Slot (Entry K V N))) → length slots < number none → (n : ℕ) (order : List ℕ) → AllPairs ◌≢◌ order
@@ -56,7 +53,7 @@ module _ {N : Type 0} (number : N → ℕ) (link : ℕ → N) (none : N) (eq : N
   whole_order slots newest oldest order whole =
       ap (along number (length slots) slots) whole.chain.newest_first
       ∙ along-chain slots whole.chain.reached (length slots) order whole.chain.distinct
-      (chained_below number link none eq laws slots newest oldest order whole.chain) whole.chain.older (omega (arith, count_by-le-length is_full slots, whole.count))
+      (chained_below whole.chain) whole.chain.older (omega (arith, count_by-le-length is_full slots, whole.count))
 
   pub IsWhole-shown : (slots : List (Slot (Entry K V N))) (newest oldest : N) (order : List ℕ) → IsWhole number link none slots newest oldest order
       → IsWhole number link none slots newest oldest (along number (length slots) slots newest)
@@ -101,20 +98,17 @@ module _ {N : Type 0} (number : N → ℕ) (link : ℕ → N) (none : N) (eq : N
 
     -- a bucket left the chain, and then its entry the table
     module _ (there : IsFull s0 b) (same : pair_slots s1 ≡ pair_slots s0) (chain : IsChain number link none s1 newest' oldest' (without_bucket b order)) (removes : Removes s1 s2 b) where
-      length-removed : (r : Removes s1 s2 b) → length s2 ≡ length s1
-      length-removed (inl w) = ap length w.1 ∙ length-set s1 b empty
-      length-removed (inr w) = ap length w.1 ∙ length-set s1 b deleted
-
       emptied : IsFull s2 b → ⊥
       emptied h = not_full (bucket_at s2 b) (entry_at-removed s1 s2 b (same_full s0 s1 same b ∙ there) removes) h
 
       pub IsWhole-taken : IsWhole number link none s2 newest' oldest' (without_bucket b order)
       IsWhole-taken = record {
-        chain = IsChain-kept s1 s2 newest' oldest' (without_bucket b order) (length-removed removes) (λ x w. bucket_at-removed_other s1 s2 b x (without_in b x order w).1 removes) chain;
+        chain = IsChain-kept s1 s2 newest' oldest' (without_bucket b order) (length-removed s1 s2 b removes) (λ x w. bucket_at-removed_other s1 s2 b x (without_in b x order w).1 removes) chain;
         all = λ x h.
             let other : x ≢ b = λ e. emptied (subst (IsFull s2) e h) in
             in_without b x order (whole.all x (sym (same_full s0 s1 same x) ∙ sym (ap is_full (bucket_at-removed_other s1 s2 b x other removes)) ∙ h)) other;
-        count = omega (arith, entry_count-removes s1 s2 b (same_full s0 s1 same b ∙ there) removes, same_count s0 s1 same, whole.count, length-without b order whole.chain.distinct (whole.all b there));
+        count =
+            omega (arith, entry_count-removes s1 s2 b (same_full s0 s1 same b ∙ there) removes, same_count s0 s1 same, whole.count, length-without b order whole.chain.distinct (whole.all b there));
       }
 
   -- an entry went into the table, and then its bucket into the chain
@@ -123,13 +117,13 @@ module _ {N : Type 0} (number : N → ℕ) (link : ℕ → N) (none : N) (eq : N
     pub placed_absent : Contains order b → ⊥
     placed_absent w = false≢true (sym (sym (is_full-marks_of old.slots b) ∙ places.first.free_there) ∙ whole.chain.only b w)
 
-    other_than : (x : ℕ) → Contains order x → x ≢ b
-    other_than x w e = placed_absent (subst (Contains order) e w)
-
     pub IsChain-placed : IsChain number link none new.slots newest oldest order
-    IsChain-placed = IsChain-kept old.slots new.slots newest oldest order (ap length places.slots ∙ length-set old.slots b _) (λ x w. bucket_at-placed_other old new hash entry b places x (other_than x w)) whole.chain
+    IsChain-placed =
+        IsChain-kept old.slots new.slots newest oldest order (ap length places.slots ∙ length-set old.slots b _)
+        (λ x w. bucket_at-placed_other old new hash entry b places x (other_than b order placed_absent x w)) whole.chain
 
-    pub IsWhole-placed : (s2 : List (Slot (Entry K V N))) (newest' oldest' : N) → pair_slots s2 ≡ pair_slots new.slots → IsChain number link none s2 newest' oldest' (b ∷ order) → IsWhole number link none s2 newest' oldest' (b ∷ order)
+    pub IsWhole-placed : (s2 : List (Slot (Entry K V N))) (newest' oldest' : N) → pair_slots s2 ≡ pair_slots new.slots
+        → IsChain number link none s2 newest' oldest' (b ∷ order) → IsWhole number link none s2 newest' oldest' (b ∷ order)
     IsWhole-placed s2 newest' oldest' same chain = record {
       chain = chain;
       all = λ x h. elim (cases_eq x b) [
@@ -153,8 +147,8 @@ module _ {N : Type 0} (number : N → ℕ) (link : ℕ → N) (none : N) (eq : N
 
     kept_link : {A : Type 0} (f : Entry K V N → A) → f next ≡ f entry → (x : ℕ) → option_map f (entry_at after x) ≡ option_map f (entry_at slots x)
     kept_link f same x = elim (cases_eq x b) [
-      | inl h ↦ rw h (ap (option_map f) (entry_at-refilled slots b entry next is) ∙ ap Some same ∙ sym (ap (option_map f) is))
-      | inr h ↦ ap (option_map f) (entry_at-refilled_other slots b entry next is x h)
+      | inl h ↦ rw h (ap (option_map f) (entry_at-refilled slots b next (full_by_entry (bucket_at slots b) entry is)) ∙ ap Some same ∙ sym (ap (option_map f) is))
+      | inr h ↦ ap (option_map f) (entry_at-refilled_other slots b next x h)
     ]
 
     pub IsWhole-refilled : IsWhole number link none (set slots b (refilled (bucket_at slots b) (record { pair = pair; newer = entry.newer; older = entry.older }))) newest oldest order

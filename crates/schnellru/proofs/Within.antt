@@ -1,12 +1,15 @@
 -- What the answer of an insert says.
-use Rattle.std.proofs.Common.{◌≡◌, ℕ, zero, suc, ◌⊎◌, inl, inr, Bool, true, false, cond, not, List, [], ◌∷◌, length, None, Result, Ok, Err, refl, ap, ◌∙◌, subst, arith}
+use Rattle.std.proofs.Common.{None, ◌≡◌, ℕ, zero, suc, ◌⊎◌, inl, inr, Bool, true, false, cond, not, List, [], ◌∷◌, length, Result, Ok, Err, refl, ap, ◌∙◌, subst, arith}
 use Rattle.std.specs.Prelude.{IsErr}
 use Rattle.std.specs.declared.alloc.AllocError.{AllocError}
+use Rattle.std.proofs.lemmas.List.{nil_from_length}
+use Rattle.schnellru.proofs.Emptiness.{empty-length, is_empty-none}
 use Rattle.lru_limits.specs.Rules.{Rules, Offers}
 use Rattle.lru_limits.specs.Laws.{IsLookup, IsInsertion}
 use Rattle.schnellru.specs.Lists.{is_empty, IsFront, lookup_entry, without}
 use Rattle.schnellru.specs.State.{State, Contents, contents, Leaves, pop, trim, trim_from}
-use Rattle.schnellru.specs.Place.{Place, first_table, first_denied, first_too_large, into_empty, into_emptied, with_room, deleted_bucket, rehashed, grown, evicted, evicted_rehashed, Outcome, placed, refused, no_memory, IsPlaced, IsPlacedIfMemory, asked}
+use Rattle.schnellru.specs.Place.{Place, first_table, first_denied, first_too_large, into_empty, into_emptied, with_room, deleted_bucket, rehashed}
+use Rattle.schnellru.specs.Place.{grown, evicted, evicted_rehashed, Outcome, placed, refused, no_memory, IsPlaced, IsPlacedIfMemory, asked}
 use Rattle.schnellru.specs.Inserts.{Insert, replaced, given_up, no_memory_to_admit, not_admitted, admitted, replacement, with_replaced, Settles}
 use Rattle.schnellru.specs.Theorems.{IsNewest, SaysWhether}
 use Rattle.schnellru.proofs.Leaving.{length-without_last, known_is}
@@ -19,11 +22,7 @@ module _ {K V S : Type 0} (rules : Rules K V S) where
   IsWithin c = (is_empty c.pairs ≡ true) ⊎ (rules.is_over_the_limit c.limiter (length c.pairs) ≡ false)
 
   within_from : (n : ℕ) (c : Contents K V S) → length c.pairs ≡ n → IsWithin (trim_from rules n c)
-  within_from zero c e = inl (none c.pairs e)
-    where
-      none : (xs : List (K × V)) → length xs ≡ 0 → is_empty xs ≡ true
-      none [] h = refl
-      none (x ∷ xs) h = absurd (omega (arith, h))
+  within_from zero c e = inl (is_empty-none c.pairs e)
   within_from (suc n) c e = go (rules.is_over_the_limit c.limiter (suc n)) refl (within_from n (pop rules c) (omega (arith, length-without_last c.pairs)))
     where
       go : (b : Bool) → rules.is_over_the_limit c.limiter (suc n) ≡ b → IsWithin (trim_from rules n (pop rules c)) → IsWithin (cond b (trim_from rules n (pop rules c)) c)
@@ -62,7 +61,8 @@ module _ {K V S H : Type 0} (rules : Rules K V S) (hash_of : H → K → ℕ) (p
   Comes refused new = new.pairs ≡ []
   Comes no_memory new = IsFront new.pairs old.pairs
 
-  if_memory_comes : (st : State K V S H) (count spare moves : ℕ) (outcome : Outcome) (new : State K V S H) → IsPlacedIfMemory rules pair count spare moves st outcome new → IsFront st.pairs old.pairs → Comes outcome new
+  if_memory_comes : (st : State K V S H) (count spare moves : ℕ) (outcome : Outcome) (new : State K V S H) → IsPlacedIfMemory rules pair count spare moves st outcome new
+      → IsFront st.pairs old.pairs → Comes outcome new
   if_memory_comes st count spare moves placed new h f = (_, ap (λ x. x.pairs) h.state)
   if_memory_comes st count spare moves no_memory new h f = front_trans _ _ _ (front_same _ _ (ap (λ x. x.pairs) h)) f
   if_memory_comes st count spare moves refused new h f = absurd h
@@ -86,7 +86,8 @@ module _ {K V S H : Type 0} (rules : Rules K V S) (hash_of : H → K → ℕ) (p
 
 module _ {K V S H : Type 0} (rules : Rules K V S) (names : K → Bool) where
   -- after a trimming that answers whether a pair is left
-  trimmed_says : (mid : State K V S H) (c : Contents K V S) (result : Result Bool AllocError) (new : State K V S H) → Leaves mid (trim rules c) new → result ≡ Ok (not (is_empty new.pairs)) → IsNewest names c.pairs → SaysWhether rules names result new
+  trimmed_says : (mid : State K V S H) (c : Contents K V S) (result : Result Bool AllocError) (new : State K V S H) → Leaves mid (trim rules c) new
+      → result ≡ Ok (not (is_empty new.pairs)) → IsNewest names c.pairs → SaysWhether rules names result new
   trimmed_says mid c result new l r n = rw r (go (is_empty new.pairs) refl)
     where
       same : new.pairs ≡ (trim rules c).pairs
@@ -95,12 +96,8 @@ module _ {K V S H : Type 0} (rules : Rules K V S) (names : K → Bool) where
       same_limiter : new.limiter ≡ (trim rules c).limiter
       same_limiter = ap (λ st. st.limiter) l.is
 
-      none : (xs : List (K × V)) → is_empty xs ≡ true → lookup_entry names xs ≡ None
-      none [] e = refl
-      none (x ∷ xs) e = grind arith
-
       go : (b : Bool) → is_empty new.pairs ≡ b → SaysWhether rules names (Ok (not b)) new
-      go true e = none new.pairs e
+      go true e = ap (lookup_entry names) (nil_from_length new.pairs (empty-length new.pairs e))
       go false e = let k : is_empty (trim rules c).pairs ≡ false = rw same at e in
           (rw same (trim_newest rules names c k n), rw (same, same_limiter) (trim_within rules c k))
 

@@ -1,5 +1,5 @@
 -- What a map ends as, once a reference into it has ended.
-use Rattle.std.specs.Prelude.{ℕ, Bool, List, Option}
+use Rattle.std.specs.Prelude.{Bool, List, Option}
 use Rattle.std.specs.Borrow.{Fml, RattleType, MutBor, Lends, LendsIf}
 use Rattle.std.specs.Map.{set_value}
 use Rattle.std.specs.declared.cmp.PartialEq as equality

@@ -1,5 +1,5 @@
 -- What the parts of a placing do. No public clause cites this module.
-use Rattle.std.specs.Prelude.{◌≡◌, ℕ, ◌+◌, ◌-◌, ◌/◌, ◌≤◌, ◌<◌, ◌⊎◌, ◌∷◌, Bool, length, Result}
+use Rattle.std.specs.Prelude.{◌≡◌, ℕ, ◌+◌, ◌/◌, ◌≤◌, ◌<◌, ◌⊎◌, ◌∷◌, Bool, length, Result}
 use Rattle.group_table.specs.Sizes.{full_capacity}
 use Rattle.group_table.specs.Bucket.{deleted, marks_of, room as room_of, room_at}
 use Rattle.group_table.specs.Change.{count_up, Removes}

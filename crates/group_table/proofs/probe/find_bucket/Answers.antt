@@ -27,7 +27,8 @@ returns-in-Accepted-clause-found g c =
     let l = c.groups in
     let slots = slots_of c.args.control.now c.args.entries.now in
     let same = length-laid_out _ _ c.requires.laid_out in
-    Finds-from g.F.FnMut slots c.args.hash l.stride (rw same (power_of _ _ c.requires.laid_out (omega arith))) l.invariant.whole (rw same l.invariant.within) l.invariant.not_empty c.args.f l.f _ l.invariant.refused c.in-Accepted.b
+    Finds-from g.F.FnMut slots c.args.hash l.stride (rw same (power_of _ _ c.requires.laid_out (omega arith))) l.invariant.whole
+    (rw same l.invariant.within) l.invariant.not_empty c.args.f l.f _ l.invariant.refused c.in-Accepted.b
     (rw (l.invariant.start, c.tag_of-tag.ensures.value) at c.in-Accepted.ensures.asked)
 
 pub returns-in-Ended-clause-none : goal.returns-in-Ended-clause-none
@@ -36,12 +37,14 @@ returns-in-Ended-clause-none g c =
     let slots = slots_of c.args.control.now c.args.entries.now in
     let same = length-laid_out _ _ c.requires.laid_out in
     let told = rw (l.invariant.start, c.tag_of-tag.ensures.value) at c.in-Ended.ensures.asked in
-    FindsNone-from g.F.FnMut slots c.args.hash l.stride (rw same (power_of _ _ c.requires.laid_out (omega arith))) l.invariant.whole (rw same l.invariant.within) l.invariant.not_empty c.args.f l.f _ l.invariant.refused told.0 told.1
+    FindsNone-from g.F.FnMut slots c.args.hash l.stride (rw same (power_of _ _ c.requires.laid_out (omega arith))) l.invariant.whole
+    (rw same l.invariant.within) l.invariant.not_empty c.args.f l.f _ l.invariant.refused told.0 told.1
 
 pub overflow_add-start : goal.overflow_add-start
 overflow_add-start g c =
     let same = length-laid_out _ _ c.requires.laid_out in
-    let start : c.groups.start < length c.args.entries.now = rw (c.groups.invariant.start, same) (probed-lt (length c.args.entries.now) c.args.hash c.groups.stride (omega (arith, c.requires.some_empty.1))) in
+    let start : c.groups.start < length c.args.entries.now =
+    rw (c.groups.invariant.start, same) (probed-lt (length c.args.entries.now) c.args.hash c.groups.stride (omega (arith, c.requires.some_empty.1))) in
     omega (arith, entries_within _ _ c.requires.laid_out, c.requires.laid_out.fits)
 
 pub groups-preserved : goal.groups-preserved
@@ -55,7 +58,9 @@ groups-preserved g c =
     let pos : 0 < n = omega (arith, some.1) in
     let goes_on : l.stride + 16 < n = not_ended _ _ c.requires.laid_out c.args.hash l.stride pos l.invariant.whole l.invariant.not_empty told.1 some.0 some.1 some.2 in
     let wide : min 16 (length slots) ≡ 16 = omega (arith, same, goes_on) in
-    let refused = refused_group g.F.FnMut slots c.args.hash l.stride (rw same (power_of _ _ c.requires.laid_out pos)) l.invariant.whole (rw same l.invariant.within) l.invariant.not_empty c.args.f l.f _ l.invariant.refused told.0 in
+    let refused =
+    refused_group g.F.FnMut slots c.args.hash l.stride (rw same (power_of _ _ c.requires.laid_out pos)) l.invariant.whole
+    (rw same l.invariant.within) l.invariant.not_empty c.args.f l.f _ l.invariant.refused told.0 in
     record {
       callable = c.in-GoesOn.ensures.callable;
       start = rw same (c.wrap-start-in-groups.ensures.value ∙ ap (λ s. (s + (l.stride + 16)) % n) (rw same at l.invariant.start) ∙ probed-next_group n c.args.hash l.stride l.invariant.whole);

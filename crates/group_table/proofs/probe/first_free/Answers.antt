@@ -29,7 +29,8 @@ groups-preserved c =
         | yes p ↦ p
         | no p ↦
             let free_there = c.requires.some_free in
-            let small = up_to_end n c.args.hash l.stride l.invariant.whole (λ b. slice_index c.args.control.now b < 128) c.requires.count (omega arith) (λ t q. all t (omega arith)) free_there.0 free_there.1 in
+            let small =
+            up_to_end n c.args.hash l.stride l.invariant.whole (λ b. slice_index c.args.control.now b < 128) c.requires.count (omega arith) (λ t q. all t (omega arith)) free_there.0 free_there.1 in
             absurd (omega (arith, small, free_there.2))
       ];
       full_before = all;

@@ -33,7 +33,10 @@ returns-else-is_empty-clause-ok g c =
     let (more, taken, now) = rw c.in-Ok-End.field-0-is at c.in-Ok-End.ensures.ok in
     let held = now ∙ ap (λ l. take 49 (l ++ more)) kept ∙ kept_again 49 bytes more in (
       bytes ++ more,
-      ((Lacks-append 10 bytes more part.0 taken.0, Consumes-trans _ _ _ _ _ part.1 taken.1, Consumes_end _ _ _ _ part.1 taken.2), some_held 49 _ (subst (λ l. 0 < length l) held (c.if-is_empty.ensures))),
+      (
+        (Lacks-append 10 bytes more part.0 taken.0, Consumes-trans _ _ _ _ _ part.1 taken.1, Consumes_end _ _ _ _ part.1 taken.2),
+        some_held 49 _ (subst (λ l. 0 < length l) held (c.if-is_empty.ensures)),
+      ),
       held,
     )
 

@@ -1,6 +1,6 @@
 use Rattle.std.proofs.Common.{◌≡◌, ◌+◌, ◌<◌, zero-le, [], ◌++◌, length, take, sym, ap, subst, ◌∙◌, arith}
 use Rattle.std.proofs.lemmas.List.{append-nil, take_all, nil_from_length}
-use Rattle.lru_replay.proofs.ByteLists.{take-nil}
+use Rattle.std.proofs.Math.Seq.{take-nil}
 use Rattle.std.specs.Io.BufRead.{FillKeeps}
 use Rattle.std.specs.Io.KnownBytes.{Consumes}
 use Rattle.std.proofs.KnownBytes.{Consumes-nil, Consumes-kept}
@@ -8,7 +8,8 @@ use Rattle.std.proofs.BufReadLemmas.{Consumes_shown}
 use Rattle.lru_replay.proofs.line.take_piece.Goals as goal
 
 pub returns-then-eq-clause-ok : goal.returns-then-eq-clause-ok
-returns-then-eq-clause-ok g c = ([], (tt, Consumes-kept _ _ _ [] (Consumes-nil _) c.fill_buf.follows.holds-at-none.0), sym (ap (take 49) (append-nil c.args.line.now) ∙ take_all 49 c.args.line.now c.requires))
+returns-then-eq-clause-ok g c =
+    ([], (tt, Consumes-kept _ _ _ [] (Consumes-nil _) c.fill_buf.follows.holds-at-none.0), sym (ap (take 49) (append-nil c.args.line.now) ∙ take_all 49 c.args.line.now c.requires))
 
 pub returns-then-len-eq0-clause-ok : goal.returns-then-len-eq0-clause-ok
 returns-then-len-eq0-clause-ok g c =

@@ -19,13 +19,15 @@ returns-in_err-ending-clause-begins g c = OnErr-always _ (nothing_cut (g.R.Read.
 pub returns-in_err-write_bytes-clause-begins : goal.returns-in_err-write_bytes-clause-begins
 returns-in_err-write_bytes-clause-begins g c =
     let (bytes, taken, held) = c.in_ok-ending.ensures.ok in
-    let none : (limit : Limit) → SpellsLimit bytes limit → ⊥ = λ limit spells. c.in_default.ensures.none limit (subst (λ l. SpellsLimit l limit) (sym (c.as_slice.ensures ∙ held)) (held_limit bytes limit spells)) in
+    let none : (limit : Limit) → SpellsLimit bytes limit → ⊥ =
+    λ limit spells. c.in_default.ensures.none limit (subst (λ l. SpellsLimit l limit) (sym (c.as_slice.ensures ∙ held)) (held_limit bytes limit spells)) in
     OnErr-always _ (no_limiter_cut _ _ _ _ c.in_ok-ending.ending bytes c.in_err-write_bytes.field-0.0 taken none c.in_err-write_bytes.ensures)
 
 pub returns-in_default-clause-no_limiter : goal.returns-in_default-clause-no_limiter
 returns-in_default-clause-no_limiter g c _ =
     let (bytes, taken, held) = c.in_ok-ending.ensures.ok in
-    let none : (limit : Limit) → SpellsLimit bytes limit → ⊥ = λ limit spells. c.in_default.ensures.none limit (subst (λ l. SpellsLimit l limit) (sym (c.as_slice.ensures ∙ held)) (held_limit bytes limit spells)) in
+    let none : (limit : Limit) → SpellsLimit bytes limit → ⊥ =
+    λ limit spells. c.in_default.ensures.none limit (subst (λ l. SpellsLimit l limit) (sym (c.as_slice.ensures ∙ held)) (held_limit bytes limit spells)) in
     no_limit _ _ c.in_ok-ending.ending bytes taken none
 
 pub returns-in_default-ending-clause-done : goal.returns-in_default-ending-clause-done

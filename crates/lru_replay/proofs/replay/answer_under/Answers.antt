@@ -12,7 +12,8 @@ returns-in-Length-clause-done g c = rw (c.in-Length.is) (subst (λ s. OnOk c.ans
 
 pub returns-in-Length-clause-read : goal.returns-in-Length-clause-read
 returns-in-Length-clause-read g c = rw (c.in-Length.is) (subst (λ s. IsErrOf c.answer_with.result errors.Read → WritesTextSoFar (IsTextOf length_rules length_offers (empty s))
-    (g.R.Read.remaining c.args.reader.now) (g.R.Read.remaining c.answer_with.new.reader) (g.W.Write.contents c.args.writer.now) (g.W.Write.contents c.answer_with.new.writer)) c.new.ensures c.answer_with.ensures.read)
+    (g.R.Read.remaining c.args.reader.now) (g.R.Read.remaining c.answer_with.new.reader) (g.W.Write.contents c.args.writer.now)
+    (g.W.Write.contents c.answer_with.new.writer)) c.new.ensures c.answer_with.ensures.read)
 
 pub returns-in-Length-clause-begins : goal.returns-in-Length-clause-begins
 returns-in-Length-clause-begins g c = rw (c.in-Length.is) (subst (λ s. OnErr c.answer_with.result (BeginsText (IsTextOf length_rules length_offers (empty s))

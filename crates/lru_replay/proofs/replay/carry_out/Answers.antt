@@ -34,5 +34,8 @@ returns-in-Some-Peek-clause-step g c =
 
 pub returns-in-Some-List-clause-step : goal.returns-in-Some-List-clause-step
 returns-in-Some-List-clause-step g c =
-    let spells = subst (SpellsCall c.args.line.now) c.in-Some-List.field-0-is c.in-Some-List.ensures.some in
-    (listed c.args.map.now.pairs, inl (calls.List, spells, (refl, refl)), subst (λ pairs. Writes (g.W.Write.contents c.args.writer.now) (g.W.Write.contents c.write_pairs.new.writer) c.write_pairs.result (pairs_text pairs)) c.iter.ensures.rest c.write_pairs.ensures)
+    let spells = subst (SpellsCall c.args.line.now) c.in-Some-List.field-0-is c.in-Some-List.ensures.some in (
+      listed c.args.map.now.pairs,
+      inl (calls.List, spells, (refl, refl)),
+      subst (λ pairs. Writes (g.W.Write.contents c.args.writer.now) (g.W.Write.contents c.write_pairs.new.writer) c.write_pairs.result (pairs_text pairs)) c.iter.ensures.rest c.write_pairs.ensures,
+    )

@@ -2,7 +2,8 @@ use Rattle.std.proofs.Common.{sym, ◌∙◌, arith}
 use Rattle.std.proofs.lemmas.Bool.{eqb-true, eqb-false}
 use Rattle.group_table.proofs.LayoutLemmas.{length-laid_out, length-marks_by}
 use Rattle.group_table.proofs.TableLemmas.{IsTable-by, empty_there}
-use Rattle.group_table.proofs.SearchLemmas.{if_some, full_by_entry}
+use Rattle.std.proofs.lemmas.Option.{IfSome_then}
+use Rattle.group_table.proofs.SearchLemmas.{full_by_entry}
 use Rattle.group_table.proofs.FindLemmas.{FindsNone-empty}
 use Rattle.group_table.proofs.table.Table.find.Goals as goal
 
@@ -23,7 +24,8 @@ find_bucket-requires-clause-some_empty g c =
 
 pub returns-clause-full : goal.returns-clause-full
 returns-clause-full g c =
-    rw (← c.self.view_is) (if_some c.find_bucket.result (λ b found. full_by_entry _ found.accepted.entry found.accepted.there) (rw (c.as_slice.ensures.value, c.as_slice-2.ensures.value) at c.find_bucket.ensures.found))
+    rw (← c.self.view_is) (IfSome_then c.find_bucket.result (rw (c.as_slice.ensures.value, c.as_slice-2.ensures.value) at c.find_bucket.ensures.found)
+    (λ b found. full_by_entry _ found.accepted.entry found.accepted.there))
 
 pub returns-clause-table : goal.returns-clause-table
 returns-clause-table g c = rw (← c.self.view_is) (IsTable-by _ _ _ c.self.invariant.0)

@@ -26,7 +26,9 @@ returns g c =
       (refl, λ w. rw (← c.self.view_is, slots_of-refilled _ _ _ c.self.invariant.0 c.args.b there w)),
       record {
         writes_back = tt;
-        entry = rw (← c.self.view_is) (entry_at-full _ _ c.self.invariant.0.laid_out c.args.b there _ (sym (get_or_read c.self.inside.entries.items c.args.b _ within c.index_mut.ensures.value None) ∙ c.entry_mut.ensures.value));
+        entry =
+            rw (← c.self.view_is) (entry_at-full _ _ c.self.invariant.0.laid_out c.args.b there _
+            (sym (get_or_read c.self.inside.entries.items c.args.b _ within c.index_mut.ensures.value None) ∙ c.entry_mut.ensures.value));
         table = rw (← c.self.view_is) (IsTable-by _ _ _ c.self.invariant.0);
         fits = λ hash_of fits last. Fits-refilled _ c.args.b last hash_of c.requires fits;
       },

@@ -29,7 +29,8 @@ first_free-b-requires-clause-some_free g c =
 pub fill_bucket-requires-clause-bucket : goal.fill_bucket-requires-clause-bucket
 fill_bucket-requires-clause-bucket g c =
     let first = rw c.as_slice.ensures.value at c.first_free-b.ensures in
-    join_within _ _ _ c.self.invariant.0 (rw (← c.self.view_is) at c.requires.none_deleted) (rw (← c.self.view_is) at c.requires.room) c.args.hash c.first_free-b.result c.len.result (omega arith) first
+    join_within _ _ _ c.self.invariant.0 (rw (← c.self.view_is) at c.requires.none_deleted)
+    (rw (← c.self.view_is) at c.requires.room) c.args.hash c.first_free-b.result c.len.result (omega arith) first
 
 pub fill_bucket-requires-clause-free_there : goal.fill_bucket-requires-clause-free_there
 fill_bucket-requires-clause-free_there g c =
@@ -44,7 +45,14 @@ overflow_sub-self g c = some_room _ _ _ c.self.invariant.0 (rw (← c.self.view_
 pub overflow_add-self : goal.overflow_add-self
 overflow_add-self g c =
     let valid = c.self.invariant.0 in
-    omega (arith, count_by-le-length is_full (slots_of c.self.inside.control.items c.self.inside.entries.items), c.self.invariant.1, length-laid_out _ _ valid.laid_out, entries_within _ _ valid.laid_out, valid.laid_out.fits)
+    omega (
+      arith,
+      count_by-le-length is_full (slots_of c.self.inside.control.items c.self.inside.entries.items),
+      c.self.invariant.1,
+      length-laid_out _ _ valid.laid_out,
+      entries_within _ _ valid.laid_out,
+      valid.laid_out.fits,
+    )
 
 pub invariant_of-self : goal.invariant_of-self
 invariant_of-self g c =
@@ -53,8 +61,10 @@ invariant_of-self g c =
     let room = rw (← c.self.view_is) at c.requires.room in
     let first = rw c.as_slice.ensures.value at c.first_free-b.ensures in
     let counted = entry_count-written_joined _ _ _ valid none_deleted room c.args.hash c.first_free-b.result c.len.result (omega arith) first c.tag_of.result c.args.entry c.tag_of.ensures.bound in
-    rw (c.fill_bucket.ensures.control, c.fill_bucket.ensures.entries)
-    (IsValid-joined _ _ _ valid none_deleted room c.args.hash c.first_free-b.result c.len.result (omega arith) first c.tag_of.result c.args.entry c.tag_of.ensures.bound, rw counted (ap (λ n. n + 1) c.self.invariant.1))
+    rw (c.fill_bucket.ensures.control, c.fill_bucket.ensures.entries) (
+      IsValid-joined _ _ _ valid none_deleted room c.args.hash c.first_free-b.result c.len.result (omega arith) first c.tag_of.result c.args.entry c.tag_of.ensures.bound,
+      rw counted (ap (λ n. n + 1) c.self.invariant.1),
+    )
 
 pub returns-clause-joins : goal.returns-clause-joins
 returns-clause-joins g c =

@@ -23,7 +23,8 @@ pub relocate-requires-clause-within : goal.relocate-requires-clause-within
 relocate-requires-clause-within g c =
     let valid = c.self.invariant.0 in
     let n : c.len-buckets.result ≡ length c.self.inside.entries.items = omega arith in
-    let counted : entry_count (slots_of c.self.inside.control.items c.self.inside.entries.items) ≤ full_capacity (length c.self.inside.entries.items) = omega (arith, valid.room_left, used_count-split (slots_of c.self.inside.control.items c.self.inside.entries.items)) in
+    let counted : entry_count (slots_of c.self.inside.control.items c.self.inside.entries.items) ≤ full_capacity (length c.self.inside.entries.items) =
+    omega (arith, valid.room_left, used_count-split (slots_of c.self.inside.control.items c.self.inside.entries.items)) in
     rw (← c.self.view_is, n) counted
 
 -- as many buckets after Ok, and the same table after Err

@@ -1,7 +1,7 @@
 use Rattle.std.proofs.Common.{◌≡◌, ◌<◌, length, arith}
 use Rattle.group_table.specs.Layout.{slots_of}
-use Rattle.group_table.proofs.LayoutLemmas.{length-laid_out, entries_within, power_of, full_within, is_some_entry, entry_at-full}
-use Rattle.group_table.proofs.RemoveLemmas.{bool_byte-le, removed, room-removed, entry_count-pos, full_byte}
+use Rattle.group_table.proofs.LayoutLemmas.{length-laid_out, entries_within, power_of, full_within, full_byte, is_some_entry, entry_at-full}
+use Rattle.group_table.proofs.RemoveLemmas.{bool_byte-le, removed, room-removed, entry_count-pos}
 use Rattle.group_table.proofs.FitsLemmas.{Fits-removed}
 use Rattle.group_table.proofs.TableLemmas.{IsTable-by, room_within}
 use Rattle.group_table.proofs.table.Table.take.Goals as goal
@@ -18,7 +18,7 @@ has_empty_neighbours-gives_room-requires-clause-bucket g c =
 
 pub has_empty_neighbours-gives_room-requires-clause-used : goal.has_empty_neighbours-gives_room-requires-clause-used
 has_empty_neighbours-gives_room-requires-clause-used g c =
-    let byte = full_byte _ _ _ c.self.invariant.0 c.args.b (rw (← c.self.view_is) at c.requires) in
+    let byte = full_byte _ _ c.self.invariant.0.laid_out c.args.b (rw (← c.self.view_is) at c.requires) in
     rw c.as_slice.ensures.value (λ e. omega (arith, byte, e))
 
 pub overflow_add-self : goal.overflow_add-self

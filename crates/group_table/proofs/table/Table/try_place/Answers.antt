@@ -43,7 +43,14 @@ fill_bucket-requires-clause-free_there g c =
 pub overflow_add-self : goal.overflow_add-self
 overflow_add-self g c =
     let valid = c.self.invariant.0 in
-    omega (arith, count_by-le-length is_full (slots_of c.self.inside.control.items c.self.inside.entries.items), c.self.invariant.1, length-laid_out _ _ valid.laid_out, entries_within _ _ valid.laid_out, valid.laid_out.fits)
+    omega (
+      arith,
+      count_by-le-length is_full (slots_of c.self.inside.control.items c.self.inside.entries.items),
+      c.self.invariant.1,
+      length-laid_out _ _ valid.laid_out,
+      entries_within _ _ valid.laid_out,
+      valid.laid_out.fits,
+    )
 
 pub invariant_of-self : goal.invariant_of-self
 invariant_of-self g c =
@@ -69,7 +76,8 @@ pub returns-clause-may_fill : goal.returns-clause-may_fill
 returns-clause-may_fill g c =
     let valid = c.self.invariant.0 in
     let first = rw c.as_slice.ensures.value at c.first_free-b.ensures in
-    rw (← c.self.view_is) (MayFill-from _ _ _ _ valid c.first_free-b.result (place_spends _ _ _ valid c.args.hash c.first_free-b.result c.len-buckets.result (omega arith) (omega arith) first c.index.result.now c.index.ensures (omega arith)))
+    rw (← c.self.view_is) (MayFill-from _ _ _ _ valid c.first_free-b.result
+    (place_spends _ _ _ valid c.args.hash c.first_free-b.result c.len-buckets.result (omega arith) (omega arith) first c.index.result.now c.index.ensures (omega arith)))
 
 pub returns-clause-fits : goal.returns-clause-fits
 returns-clause-fits g c hash_of fits =
@@ -77,8 +85,14 @@ returns-clause-fits g c hash_of fits =
     let first = rw c.as_slice.ensures.value at c.first_free-b.ensures in
     let within = place_within _ _ _ valid c.args.hash c.first_free-b.result c.len-buckets.result (omega arith) (omega arith) first in
     let in_slots : c.first_free-b.result < length (slots_of c.self.inside.control.items c.self.inside.entries.items) = omega (arith, within, length-laid_out _ _ valid.laid_out) in
-    rw (c.fill_bucket.ensures.control, c.fill_bucket.ensures.entries, c.tag_of.ensures.value, slots_of-written c.self.inside.control.items c.self.inside.entries.items c.first_free-b.result (hash_tag c.args.hash) (Some c.args.entry))
-    (Fits-placed _ hash_of c.args.hash c.first_free-b.result c.args.entry in_slots (place_first _ _ _ valid c.args.hash c.first_free-b.result c.len-buckets.result (omega arith) (omega arith) first) (rw (← c.self.view_is) at fits))
+    rw (
+      c.fill_bucket.ensures.control,
+      c.fill_bucket.ensures.entries,
+      c.tag_of.ensures.value,
+      slots_of-written c.self.inside.control.items c.self.inside.entries.items c.first_free-b.result (hash_tag c.args.hash) (Some c.args.entry),
+    )
+    (Fits-placed _ hash_of c.args.hash c.first_free-b.result c.args.entry in_slots
+    (place_first _ _ _ valid c.args.hash c.first_free-b.result c.len-buckets.result (omega arith) (omega arith) first) (rw (← c.self.view_is) at fits))
 
 pub returns-clause-table : goal.returns-clause-table
 returns-clause-table g c =

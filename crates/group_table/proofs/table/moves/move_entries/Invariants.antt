@@ -15,5 +15,6 @@ invariant-loop-place g l = record {
   none_deleted : count_by is_deleted l.fresh.slots ≡ 0;
   entries : entry_count l.fresh.slots ≡ count_by is_some l.yielded;
   moves : Moves g.N.LinkType.number g.N.LinkType.MAX (place_at l.yielded) l.fresh.slots l.links.items;
-  hashes : (hash_at : ℕ → ℕ) → GivesMovedHashes g.H.Fn l.hash_of (into_iter_items l.initial.place-iterator) hash_at → KeepsMovedHashes g.N.LinkType.number g.N.LinkType.MAX (place_at l.yielded) l.fresh.slots l.links.items hash_at;
+  hashes : (hash_at : ℕ → ℕ) → GivesMovedHashes g.H.Fn l.hash_of (into_iter_items l.initial.place-iterator) hash_at
+      → KeepsMovedHashes g.N.LinkType.number g.N.LinkType.MAX (place_at l.yielded) l.fresh.slots l.links.items hash_at;
 }

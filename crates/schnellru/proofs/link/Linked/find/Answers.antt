@@ -1,15 +1,15 @@
 use Rattle.std.proofs.Common.{rules, ap, sym, ◌∙◌}
 use Rattle.std.specs.Prelude.{option_map}
-use Rattle.group_table.proofs.SearchLemmas.{if_some}
+use Rattle.std.proofs.lemmas.Option.{IfSome_then}
 use Rattle.group_table.proofs.CallerLemmas.{Finds-test, FindsNone-test}
 use Rattle.schnellru.proofs.PairSlotLemmas.{pair_of, entry_at-pair_slots, entry_of-pair_at, Fits-entries}
 use Rattle.schnellru.proofs.KeyLemmas.{if_none, hash_in-entry}
 use Rattle.schnellru.proofs.link.Linked.find.Goals as goal
 
 pub returns-clause-found : goal.returns-clause-found
-returns-clause-found g c = rw (← c.self.view_is) (if_some c.find.result (λ b found.
+returns-clause-found g c = rw (← c.self.view_is) (IfSome_then c.find.result c.find.ensures.found (λ b found.
     let w = Finds-test _ c.self.inside.table.slots _ (λ entry. g.Q.LookupKey.names c.args.key.now entry.pair.key) (λ x r f k. search rules) c.args.hash b found in
-    (pair_of w.0, entry_at-pair_slots c.self.inside.table.slots b ∙ ap (option_map pair_of) w.1, w.2)) c.find.ensures.found)
+    (pair_of w.0, entry_at-pair_slots c.self.inside.table.slots b ∙ ap (option_map pair_of) w.1, w.2)))
 
 pub returns-clause-none : goal.returns-clause-none
 returns-clause-none g c = rw (← c.self.view_is) (if_none c.find.result (λ none hash_of fits b pair there same.

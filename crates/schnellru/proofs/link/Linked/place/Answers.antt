@@ -1,7 +1,8 @@
 use Rattle.std.proofs.Common.{ap, ◌∙◌}
+use Rattle.group_table.proofs.FirstFree.{fills_within}
 use Rattle.schnellru.specs.Chain.{pair_slots}
 use Rattle.schnellru.proofs.PairSlotLemmas.{marks_of-pair_slots, length-pair_slots, same_marks, pair_slots-set, Fits-pair_slots, Fits-entries}
-use Rattle.schnellru.proofs.KeyLemmas.{fills_within, KeysFit-placed}
+use Rattle.schnellru.proofs.KeyLemmas.{KeysFit-placed}
 use Rattle.schnellru.proofs.WholeLemmas.{whole_order, IsWhole-shown, IsLinked-view, placed_absent, IsChain-placed, IsWhole-placed}
 use Rattle.schnellru.proofs.link.Linked.place.Goals as goal
 

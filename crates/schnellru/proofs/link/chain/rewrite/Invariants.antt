@@ -1,4 +1,4 @@
-use Rattle.schnellru.proofs.MovedLemmas.{MovedUpTo}
+use Rattle.schnellru.proofs.MovedChain.{MovedUpTo}
 use Rattle.schnellru.proofs.link.chain.rewrite.Given as goal
 
 abbrev pub invariant-loop-old : goal.invariant-loop-old

@@ -1,4 +1,4 @@
-use Rattle.std.proofs.Common.{◌≡◌, Ok, not, refl, ap, sym, ◌∙◌, subst}
+use Rattle.std.proofs.Common.{Ok, not, refl, ap, sym, subst}
 use Rattle.schnellru.specs.Lists.{IsFront}
 use Rattle.schnellru.specs.State.{contents}
 use Rattle.schnellru.specs.Place.{placed, refused, no_memory}

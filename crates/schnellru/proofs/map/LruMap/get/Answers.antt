@@ -1,9 +1,9 @@
-use Rattle.std.proofs.Common.{refl, sym, ap, ◌∙◌, subst, option_map, inr, Some, unwrap_or, ◌≡◌, true}
+use Rattle.std.proofs.Common.{refl, sym, ap, ◌∙◌, subst, unwrap_or, ◌≡◌, true}
 use Rattle.group_table.specs.Bucket.{entry_at}
 use Rattle.lru_limits.specs.Hashing.{hash_by, hash_by-named}
-use Rattle.schnellru.specs.Linked.{KeysFit, with_pair}
+use Rattle.schnellru.specs.Linked.{KeysFit}
 use Rattle.schnellru.proofs.Ordered.{value_found}
-use Rattle.schnellru.proofs.Searched.{not_found, no_value}
+use Rattle.schnellru.proofs.Searched.{no_value}
 use Rattle.schnellru.proofs.Written.{first_holds, first_state, same_follow}
 use Rattle.schnellru.proofs.map.LruMap.get.Goals as goal
 
@@ -38,5 +38,8 @@ returns g c =
     rw (← c.self.view_is) (
       same_follow _ _ _ (λ w. first_state t v holds.linked c.in_ok-b.b (c.pair_mut.result.now.key, c.pair_mut.result.now.value) there c.promote.ensures.slots c.promote.ensures.order
           names g.met.K.Eq.laws one named holds.map.distinct m.limiter m.hasher m.moved m.placed m.entry_bytes (g.L.LinkType.LinkType.number g.L.LinkType.LinkType.MAX) w),
-      record { writes_back = tt; value = sym (value_found t holds.linked c.in_ok-b.b (c.pair_mut.result.now.key, c.pair_mut.result.now.value) there names g.met.K.Eq.laws one holds.map.distinct named) },
+      record {
+        writes_back = tt;
+        value = sym (value_found t holds.linked c.in_ok-b.b (c.pair_mut.result.now.key, c.pair_mut.result.now.value) there names g.met.K.Eq.laws one holds.map.distinct named);
+      },
     )

@@ -7,7 +7,16 @@ use Rattle.schnellru.proofs.map.LruMap.guaranteed_capacity.Goals as goal
 pub overflow_add-result : goal.overflow_add-result
 overflow_add-result g c =
     let t = c.self.inside.entries in let sized = c.self.invariant.map.sized in
-    omega (arith, c.len.ensures.len, c.room.ensures.room, pairs-length t c.self.invariant.linked, sized.taken, sized.table.within, sized.table.addressable, full_capacity-at_most (length (marks_of t.slots)))
+    omega (
+      arith,
+      c.len.ensures.len,
+      c.room.ensures.room,
+      pairs-length t c.self.invariant.linked,
+      sized.taken,
+      sized.table.within,
+      sized.table.addressable,
+      full_capacity-at_most (length (marks_of t.slots)),
+    )
 
 pub returns : goal.returns
 returns g c =

@@ -26,7 +26,9 @@ invariant_of-self g c =
     let names = g.I.LookupKey.names c.args.key in let one = g.met.I.LookupKey.laws.one c.args.key in
     let by = g.L.Insertion.offers.on_replace m.limiter (length t.order) was.0 c.args.key was.1 c.args.value in
     let hash_of = hash_by g.K.Hash.hash_input g.S.BuildHasher g.S.Hasher.Hasher in
-    let fits = c.replace.ensures.fits (hash_of m.hasher) (λ x y e. ap (λ input. g.S.Hasher.Hasher.finish (fold g.S.Hasher.Hasher.write (g.S.BuildHasher.build_hasher m.hasher) input)) (g.met.K.Hash.respects_eq x y e)) holds.fits in
+    let fits =
+    c.replace.ensures.fits (hash_of m.hasher)
+    (λ x y e. ap (λ input. g.S.Hasher.Hasher.finish (fold g.S.Hasher.Hasher.write (g.S.BuildHasher.build_hasher m.hasher) input)) (g.met.K.Hash.respects_eq x y e)) holds.fits in
     given_up_holds by t u b l holds.linked c.replace.ensures.linked was found.1 names g.met.K.Eq.laws one holds.map.distinct found.2
     m.limiter m.hasher m.moved m.placed m.entry_bytes (g.L.LinkType.LinkType.number g.L.LinkType.LinkType.MAX)
     g.L.Limiter.rules (c.replace.ensures.given_up c.if-not-replace.true was found.1) hash_of holds fits
@@ -38,7 +40,9 @@ invariant_of-self-in-Some g c =
     let names = g.I.LookupKey.names c.args.key in let one = g.met.I.LookupKey.laws.one c.args.key in
     let by = g.L.Insertion.offers.on_replace m.limiter (length t.order) was.0 c.args.key was.1 c.args.value in
     let hash_of = hash_by g.K.Hash.hash_input g.S.BuildHasher g.S.Hasher.Hasher in
-    let fits = c.replace.ensures.fits (hash_of m.hasher) (λ x y e. ap (λ input. g.S.Hasher.Hasher.finish (fold g.S.Hasher.Hasher.write (g.S.BuildHasher.build_hasher m.hasher) input)) (g.met.K.Hash.respects_eq x y e)) holds.fits in
+    let fits =
+    c.replace.ensures.fits (hash_of m.hasher)
+    (λ x y e. ap (λ input. g.S.Hasher.Hasher.finish (fold g.S.Hasher.Hasher.write (g.S.BuildHasher.build_hasher m.hasher) input)) (g.met.K.Hash.respects_eq x y e)) holds.fits in
     replaced_holds by t u b l holds.linked c.replace.ensures.linked was found.1 names g.met.K.Eq.laws one holds.map.distinct found.2
     m.limiter m.hasher m.moved m.placed m.entry_bytes (g.L.LinkType.LinkType.number g.L.LinkType.LinkType.MAX)
     (c.replace.ensures.replaced c.if-not-replace.false was found.1) hash_of

@@ -1,8 +1,8 @@
-use Rattle.std.proofs.Common.{◌≡◌, Some, None, length, refl, ap, sym, ◌∙◌, subst}
+use Rattle.std.proofs.Common.{Some, None, refl, ap, sym, ◌∙◌, subst}
 use Rattle.lru_limits.specs.Hashing.{hash_by-named}
 use Rattle.schnellru.specs.Linked.{pairs_of}
 use Rattle.schnellru.specs.Holds.{state_by}
-use Rattle.schnellru.specs.Inserts.{Insert, no_memory_to_admit, not_admitted, admitted}
+use Rattle.schnellru.specs.Inserts.{no_memory_to_admit, not_admitted, admitted}
 use Rattle.schnellru.proofs.Ordered.{pairs-length}
 use Rattle.schnellru.proofs.Searched.{lookup_alike}
 use Rattle.schnellru.proofs.map.LruMap.insert_new.Goals as goal

@@ -1,4 +1,4 @@
-use Rattle.std.proofs.Common.{◌≤◌, ◌<◌, ◌-◌, ◌^◌, Some, sym, ap, ◌∙◌, subst, arith}
+use Rattle.std.proofs.Common.{◌≤◌, ◌-◌, ◌^◌, Some, sym, ap, ◌∙◌, subst, arith}
 use Rattle.group_table.proofs.BucketLemmas.{length-marks_of}
 use Rattle.schnellru.specs.Sizes.{usage, bytes_of}
 use Rattle.schnellru.proofs.Growth.{usage_bytes}
@@ -18,4 +18,5 @@ bytes_of-requires g c =
 pub returns : goal.returns
 returns g c =
     let m = c.self.inside in let usable = c.self.invariant.map.sized.usable in let e = c.buckets-buckets.ensures.buckets ∙ sym (length-marks_of m.entries.slots) in
-    rw (← c.self.view_is) (usable.1 ∙ ap Some (sym (usage_bytes m.entry_bytes _ usable.0 (omega (arith, e, c.if-buckets-eq0.false)) usable.1).0 ∙ ap (bytes_of m.entry_bytes) (sym e) ∙ sym c.bytes_of.ensures))
+    rw (← c.self.view_is) (usable.1
+    ∙ ap Some (sym (usage_bytes m.entry_bytes _ usable.0 (omega (arith, e, c.if-buckets-eq0.false)) usable.1).0 ∙ ap (bytes_of m.entry_bytes) (sym e) ∙ sym c.bytes_of.ensures))

@@ -1,8 +1,7 @@
-use Rattle.std.proofs.Common.{◌≤◌, ap, sym, ◌∙◌, subst, min, ◌+◌, ◌^◌, ◌-◌, length, arith}
-use Rattle.group_table.specs.Sizes.{full_capacity}
+use Rattle.std.proofs.Common.{ap, sym, ◌∙◌, min, ◌+◌, ◌^◌, ◌-◌, length, arith}
 use Rattle.schnellru.proofs.Growth.{usage_addressable}
 use Rattle.schnellru.proofs.Ordered.{pairs-length}
-use Rattle.schnellru.proofs.Moved.{moved_is, moved_holds}
+use Rattle.schnellru.proofs.MovedPairs.{moved_is, moved_holds}
 use Rattle.schnellru.proofs.map.LruMap.move_to.Goals as goal
 
 pub relocate-requires-clause-addressable : goal.relocate-requires-clause-addressable

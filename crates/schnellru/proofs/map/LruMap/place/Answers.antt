@@ -1,4 +1,4 @@
-use Rattle.std.proofs.Common.{◌≡◌, ◌<◌, ◌⊎◌, inl, inr, length, ap, sym, ◌∙◌, subst, arith}
+use Rattle.std.proofs.Common.{◌≡◌, ◌<◌, ◌⊎◌, inl, inr, length, sym, subst, arith}
 use Rattle.group_table.specs.Bucket.{empty, marks_of, room as room_of}
 use Rattle.schnellru.specs.State.{IsSized, FirstFreeIs, room}
 use Rattle.schnellru.specs.Steps.{UsesDeleted}

@@ -5,7 +5,7 @@ use Rattle.schnellru.specs.Lists.{lookup_entry}
 use Rattle.schnellru.specs.State.{IsSized, buckets}
 use Rattle.schnellru.proofs.Ordered.{pairs-length}
 use Rattle.schnellru.proofs.Growth.{full_capacity-some}
-use Rattle.schnellru.proofs.Placing.{one_more, one_fewer, left_paid, left_absent, finds, makes_anew, no_place_room, power_with_pairs}
+use Rattle.schnellru.proofs.Placing.{one_more, one_fewer, left_absent, finds, makes_anew, no_place_room, power_with_pairs}
 use Rattle.schnellru.proofs.map.LruMap.place_evicting.Goals as goal
 
 pub place_after_rehash-requires-clause-absent : goal.place_after_rehash-requires-clause-absent

@@ -1,7 +1,7 @@
 -- Some of the oldest have left, at least half of what the table takes is left, and there is no room yet.
 use Rattle.std.proofs.Common.{◌≡◌, ℕ, ◌/◌, ◌<◌, ◌≤◌, length}
 use Rattle.group_table.specs.Sizes.{full_capacity}
-use Rattle.schnellru.specs.State.{State, buckets, room, contents, Leaves, pops}
+use Rattle.schnellru.specs.State.{buckets, room, contents, Leaves, pops}
 use Rattle.schnellru.proofs.map.LruMap.place_evicting.Given as goal
 
 abbrev pub invariant-evictions : goal.invariant-evictions

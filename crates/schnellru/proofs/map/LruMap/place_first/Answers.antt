@@ -1,6 +1,6 @@
 use Rattle.std.proofs.Common.{sym, ◌∙◌}
 use Rattle.schnellru.specs.Holds.{state_by}
-use Rattle.schnellru.proofs.Placing.{first_granted, first_refused, first_impossible}
+use Rattle.schnellru.proofs.Placing.{first_granted, first_refused}
 use Rattle.schnellru.proofs.map.LruMap.place_first.Goals as goal
 
 pub returns-then-on_grow : goal.returns-then-on_grow

@@ -1,10 +1,10 @@
-use Rattle.std.proofs.Common.{sym, ap, ◌∙◌, subst, ◌<◌}
+use Rattle.std.proofs.Common.{sym, subst, ◌<◌}
 use Rattle.std.specs.List.{IsDistinct}
 use Rattle.group_table.proofs.BucketLemmas.{length-marks_of}
 use Rattle.schnellru.specs.Holds.{state_by}
-use Rattle.schnellru.proofs.Distinct.{AreDistinct}
+use Rattle.schnellru.proofs.Distinct.{AreDistinct, absent_keys}
 use Rattle.schnellru.proofs.Landed.{uses_room, uses_deleted}
-use Rattle.schnellru.proofs.Landed.{lands_pairs, lands_placed, lands_sized, lands_paid, lands_within, absent_keys}
+use Rattle.schnellru.proofs.Landed.{lands_pairs, lands_placed, lands_sized, lands_paid, lands_within}
 use Rattle.schnellru.proofs.map.LruMap.place_in_bucket.Goals as goal
 
 pub invariant_of-self-2 : goal.invariant_of-self-2
@@ -34,7 +34,8 @@ pub returns-clause-room : goal.returns-clause-room
 returns-clause-room g c =
     let m = c.self.inside in let t = m.entries in let e = c.in_ok-place.ensures in let holds = c.self.invariant in
     rw (← c.self.view_is) (uses_room (state_by t m.limiter m.hasher m.moved m.placed m.entry_bytes (g.L.LinkType.LinkType.number g.L.LinkType.LinkType.MAX))
-    (state_by c.place.new.self m.limiter m.hasher m.moved c.saturating_add-self-inside.result m.entry_bytes (g.L.LinkType.LinkType.number g.L.LinkType.LinkType.MAX)) holds.map.sized c.args.hash e.placed.0
+    (state_by c.place.new.self m.limiter m.hasher m.moved c.saturating_add-self-inside.result m.entry_bytes
+    (g.L.LinkType.LinkType.number g.L.LinkType.LinkType.MAX)) holds.map.sized c.args.hash e.placed.0
     (subst (λ n. e.placed.0 < n) (sym (length-marks_of t.slots)) (lands_within t c.place.new.self c.args.hash c.args.pair e.placed.0 holds.linked e.placed.1))
     e.placed.1.first e.placed.1.room)
 
@@ -42,6 +43,7 @@ pub returns-clause-deleted : goal.returns-clause-deleted
 returns-clause-deleted g c =
     let m = c.self.inside in let t = m.entries in let e = c.in_ok-place.ensures in let holds = c.self.invariant in
     rw (← c.self.view_is) (uses_deleted (state_by t m.limiter m.hasher m.moved m.placed m.entry_bytes (g.L.LinkType.LinkType.number g.L.LinkType.LinkType.MAX))
-    (state_by c.place.new.self m.limiter m.hasher m.moved c.saturating_add-self-inside.result m.entry_bytes (g.L.LinkType.LinkType.number g.L.LinkType.LinkType.MAX)) holds.map.sized c.args.hash e.placed.0
+    (state_by c.place.new.self m.limiter m.hasher m.moved c.saturating_add-self-inside.result m.entry_bytes
+    (g.L.LinkType.LinkType.number g.L.LinkType.LinkType.MAX)) holds.map.sized c.args.hash e.placed.0
     (subst (λ n. e.placed.0 < n) (sym (length-marks_of t.slots)) (lands_within t c.place.new.self c.args.hash c.args.pair e.placed.0 holds.linked e.placed.1))
     e.placed.1.first e.placed.1.room e.placed.1.may)

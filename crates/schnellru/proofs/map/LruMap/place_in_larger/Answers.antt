@@ -1,4 +1,4 @@
-use Rattle.std.proofs.Common.{◌≡◌, ◌<◌, Some, length, ap, sym, ◌∙◌, subst, refl}
+use Rattle.std.proofs.Common.{ap, sym, ◌∙◌, subst}
 use Rattle.group_table.specs.Bucket.{empty}
 use Rattle.schnellru.specs.State.{FirstFreeIs}
 use Rattle.schnellru.specs.Holds.{state_by}

@@ -1,4 +1,4 @@
-use Rattle.std.proofs.Common.{ap, arith, inl, inr}
+use Rattle.std.proofs.Common.{arith, inl, inr}
 use Rattle.group_table.specs.Sizes.{full_capacity}
 use Rattle.group_table.specs.Bucket.{room}
 use Rattle.schnellru.proofs.map.LruMap.place_surely.Goals as goal

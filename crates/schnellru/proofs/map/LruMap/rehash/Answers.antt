@@ -1,9 +1,9 @@
-use Rattle.std.proofs.Common.{◌≤◌, ◌<◌, ap, sym, ◌∙◌, subst, min, ◌+◌, ◌^◌, ◌-◌, length, arith, inl, inr}
+use Rattle.std.proofs.Common.{ap, sym, ◌∙◌, min, ◌+◌, ◌^◌, ◌-◌, length, arith, inl, inr}
 use Rattle.std.proofs.lemmas.Bool.{false≢true}
 use Rattle.group_table.specs.Sizes.{full_capacity}
 use Rattle.group_table.proofs.BucketLemmas.{length-marks_of}
 use Rattle.schnellru.proofs.Ordered.{pairs-length}
-use Rattle.schnellru.proofs.Moved.{moved_is, moved_holds}
+use Rattle.schnellru.proofs.MovedPairs.{moved_is, moved_holds}
 use Rattle.schnellru.proofs.map.LruMap.rehash.Goals as goal
 
 pub returns-in_err-rehash-clause-succeeds : goal.returns-in_err-rehash-clause-succeeds

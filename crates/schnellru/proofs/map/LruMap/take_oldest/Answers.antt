@@ -1,9 +1,8 @@
-use Rattle.std.proofs.Common.{sym, ◌∙◌, subst}
-use Rattle.schnellru.specs.State.{contents, pop}
-use Rattle.schnellru.specs.Holds.{state_by}
+use Rattle.std.proofs.Common.{sym, subst}
+use Rattle.group_table.proofs.ChangeLemmas.{length-removed}
 use Rattle.schnellru.proofs.Distinct.{AreDistinct, distinct_front}
 use Rattle.schnellru.proofs.Fronts.{front_without_last}
-use Rattle.schnellru.proofs.Ordered.{oldest_full, removed-length}
+use Rattle.schnellru.proofs.Ordered.{oldest_full}
 use Rattle.schnellru.proofs.Kept.{popped_pairs, popped_leaves, leaves_holds}
 use Rattle.schnellru.proofs.map.LruMap.take_oldest.Goals as goal
 
@@ -17,7 +16,7 @@ invariant_of-self g c =
     let leaves = popped_leaves g.L.Limiter.rules m.limiter m.hasher m.moved m.placed m.entry_bytes max t u c.oldest-b.result c.take-key.result
     holds.linked c.oldest-b.ensures.oldest took.pair took.removed took.order c.on_removed.new.self c.on_removed.ensures.limiter took.linked took.room in
     leaves_holds m.hasher m.moved m.placed m.entry_bytes max _ _ t u m.limiter _ c.on_removed.new.self holds took.linked (took.fits _ holds.fits)
-    (removed-length t.slots u.slots c.oldest-b.result took.removed) leaves
+    (length-removed t.slots u.slots c.oldest-b.result took.removed) leaves
     (subst (AreDistinct g.K.PartialEq.eq) (sym (popped_pairs g.L.Limiter.rules m.limiter m.hasher m.moved m.placed m.entry_bytes max t u c.oldest-b.result c.take-key.result
     holds.linked c.oldest-b.ensures.oldest took.pair took.removed took.order)) (distinct_front g.K.PartialEq.eq _ _ (front_without_last _) holds.map.distinct))
 

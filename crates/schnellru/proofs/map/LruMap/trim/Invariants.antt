@@ -1,5 +1,5 @@
 -- What the limiter was not over of has left, and as much as was to leave is still to leave.
-use Rattle.std.proofs.Common.{◌≡◌, ℕ, length}
+use Rattle.std.proofs.Common.{◌≡◌, length}
 use Rattle.schnellru.specs.State.{contents, trim, Leaves}
 use Rattle.schnellru.proofs.map.LruMap.trim.Given as goal
 

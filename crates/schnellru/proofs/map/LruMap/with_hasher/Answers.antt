@@ -1,11 +1,10 @@
-use Rattle.std.proofs.Common.{ap, sym, ◌∙◌, refl, subst, arith, inl, length, ◌+◌, ◌-◌, ◌*◌, ◌≤◌}
+use Rattle.std.proofs.Common.{ap, sym, subst, arith, inl, length, ◌+◌, ◌-◌, ◌*◌, ◌≤◌}
 use Rattle.std.specs.List.{IsDistinct}
 use Rattle.group_table.specs.Sizes.{full_capacity}
 use Rattle.group_table.specs.Bucket.{marks_of, room}
 use Rattle.schnellru.specs.Sizes.{usage}
 use Rattle.schnellru.specs.Linked.{entries_in}
 use Rattle.schnellru.proofs.Distinct.{AreDistinct}
-use Rattle.schnellru.proofs.Ordered.{others_are}
 use Rattle.schnellru.proofs.Kept.{sized_by}
 use Rattle.schnellru.proofs.map.LruMap.with_hasher.Goals as goal
 

@@ -1,11 +1,11 @@
--- All pairs of a linked table moved into another, in the same order.
-use Rattle.std.proofs.Common.{◌≡◌, ℕ, ◌+◌, ◌-◌, ◌*◌, ◌^◌, ◌<◌, ◌≤◌, inr, Bool, length, Some, sym, ap, ◌∙◌, subst, arith, min}
+-- A map keeps its pairs and their order when all of them move into another table.
+use Rattle.std.proofs.Common.{◌≡◌, ℕ, ◌+◌, ◌*◌, ◌^◌, ◌<◌, ◌≤◌, inr, Bool, length, Some, sym, ap, ◌∙◌, subst, arith}
 use Rattle.group_table.specs.Sizes.{full_capacity}
 use Rattle.group_table.specs.Bucket.{marks_of, room}
 use Rattle.group_table.specs.Change.{count_up}
 use Rattle.group_table.proofs.BucketLemmas.{length-marks_of}
 use Rattle.schnellru.specs.Sizes.{usage}
-use Rattle.schnellru.specs.State.{State, buckets, IsPaid}
+use Rattle.schnellru.specs.State.{State}
 use Rattle.schnellru.specs.Linked.{Linked, IsLinked, KeysFit, pairs_of}
 use Rattle.schnellru.specs.Steps.{IsMoved}
 use Rattle.schnellru.specs.Holds.{state_by, Holds}

@@ -1,21 +1,21 @@
--- The chain after all entries moved, and their links with them.
+-- The links of the entries are a chain again after all entries moved, and their links with them.
 use Rattle.std.proofs.Common.{◌≡◌, ◌≢◌, ℕ, ◌+◌, ◌<◌, ◌≤◌, Bool, List, length, map, set, get_or, Option, Some, None, inl, inr, refl, ap, sym, ◌∙◌, subst, arith}
 use Rattle.std.specs.Prelude.{option_map, Contains}
 use Rattle.std.proofs.lemmas.Bool.{cases_eq}
 use Rattle.std.proofs.lemmas.List.{get_or_past}
+use Rattle.std.proofs.lemmas.Option.{same_Some}
 use native.Mathlib.Decide.{dec_lt}
 use Rattle.group_table.specs.Link.{IsLinkType}
 use Rattle.group_table.specs.Bucket.{Slot, bucket_at, is_full, IsFull, entry_at, entry_count, refilled}
 use Rattle.group_table.specs.Relocation.{Renumbers, moved_to}
 use Rattle.group_table.proofs.BucketLemmas.{full_lt, count_by-pos}
-use Rattle.group_table.proofs.SearchLemmas.{full_by_entry}
+use Rattle.group_table.proofs.SearchLemmas.{entry_by_full, full_by_entry}
 use Rattle.schnellru.specs.declared.link.Entry.{Entry}
 use Rattle.schnellru.specs.Chain.{first_bucket, last_bucket, bucket_after, bucket_before, link_to, pair_slots, newer_at, older_at, moved_link, HasPlace, MovesLinks, IsChain, IsWhole}
 use Rattle.schnellru.proofs.OrderLemmas.{after_in, before_in, first_in, last_in}
 use Rattle.schnellru.proofs.NeighbourLemmas.{first-moved, last-moved, Contains-moved, distinct-moved, MovesApart, after-moved, before-moved}
 use Rattle.schnellru.proofs.PairSlotLemmas.{same_length, same_full}
-use Rattle.schnellru.proofs.ChainLemmas.{SetsLinks-written, same_link}
-use Rattle.schnellru.proofs.WholeLemmas.{entry_of_full}
+use Rattle.schnellru.proofs.ChainLemmas.{SetsLinks-written}
 
 below_next : (b old : ℕ) → b < old + 1 → b ≢ old → b < old
 below_next b old p other = elim (dec_lt b old) [ yes q ↦ q | no q ↦ absurd (other (omega arith)) ]
@@ -49,7 +49,7 @@ module _ {N : Type 0} (number : N → ℕ) (none : N) {K V : Type 0} where
 
     pub moved_entry : Renumbers number none before after links → (b : ℕ) → IsFull before b → entry_at after (moved_to number none links b) ≡ entry_at before b
     moved_entry (inl w) b there = absurd (no_full b there w.0)
-    moved_entry (inr r) b there = let w = entry_of_full before b there in r.moved b w.0 w.1 ∙ sym w.1
+    moved_entry (inr r) b there = let w = entry_by_full (bucket_at before b) there in r.moved b w.0 w.1 ∙ sym w.1
 
     pub moved_apart : Renumbers number none before after links → (b c : ℕ) → IsFull before b → IsFull before c → moved_to number none links b ≡ moved_to number none links c → b ≡ c
     moved_apart (inl w) b c there other e = absurd (no_full b there w.0)
@@ -155,13 +155,13 @@ module _ {N : Type 0} (number : N → ℕ) (link : ℕ → N) (none : N) (eq : N
     moved_older = ap (option_map (λ x. x.older)) (moved_entry number none before start links renumbers b there) ∙ whole.chain.older b (whole.all b there)
 
     pub newer_place : (l : N) → newer_at start (m b) ≡ Some l → HasPlace number none links l
-    newer_place l e = subst (HasPlace number none links) (same_link _ l (sym moved_newer ∙ e)) (has_place (bucket_before b order) (full_before b))
+    newer_place l e = subst (HasPlace number none links) (same_Some _ l (sym moved_newer ∙ e)) (has_place (bucket_before b order) (full_before b))
 
     pub older_place : (l : N) → older_at start (m b) ≡ Some l → HasPlace number none links l
-    older_place l e = subst (HasPlace number none links) (same_link _ l (sym moved_older ∙ e)) (has_place (bucket_after b order) (full_after b))
+    older_place l e = subst (HasPlace number none links) (same_Some _ l (sym moved_older ∙ e)) (has_place (bucket_after b order) (full_after b))
 
     pub moved_full : IsFull start (m b)
-    moved_full = let w = entry_of_full before b there in full_by_entry (bucket_at start (m b)) w.0 (moved_entry number none before start links renumbers b there ∙ w.1)
+    moved_full = let w = entry_by_full (bucket_at before b) there in full_by_entry (bucket_at start (m b)) w.0 (moved_entry number none before start links renumbers b there ∙ w.1)
 
   module _ (now : List (Slot (Entry K V N))) (reached : length start < number none) (w : MovedUpTo number none start now links (length links)) where
     below_none : (y : ℕ) → IsFull before y → m y < number none
