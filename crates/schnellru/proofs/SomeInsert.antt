@@ -225,7 +225,7 @@ module _ {K V S H : Type 0} (rules : Rules K V S) (hash_of : H → K → ℕ) (p
       let here : IsPlaced pair (buckets old) (room new) 0 old new = record { table = is.table; left = refl; state = is.state } in
       elim (dec_lt 0 (length old.pairs)) [
         | yes some ↦ (placed, new, with_room some r (inl less) refl here, after)
-        | no none ↦ (placed, new, into_empty (none_left old.pairs (omega (arith, none))) (omega (arith, r, spare, full_capacity-at_most (buckets old))) r (inr less) refl here, after)
+        | no none ↦ (placed, new, into_empty (none_left old.pairs (omega (arith, none))) (omega (arith, r, spare, full_capacity-at_most (buckets old))) r (inl less) refl here, after)
       ]
     where
       none_left : {X : Type 0} (xs : List X) → length xs ≡ 0 → xs ≡ []
