@@ -20,8 +20,7 @@ use Rattle.lru_replay.specs.Runs.{WritesText, WritesTextSoFar, BeginsText}
 use Rattle.lru_replay.proofs.Options.{IfSome-map}
 use Rattle.lru_replay.proofs.LineLists.{lines_of-fed, lines_of-last, lines_at_end, takes_line_before}
 use Rattle.lru_replay.proofs.RunLists.{some_run}
-use Rattle.lru_replay.proofs.EmptyMaps.{empty_is_map, length_always, all_always}
-use Rattle.schnellru.proofs.SomeInsert.{map_ready}
+use Rattle.lru_replay.proofs.EmptyMaps.{empty_is_sized, length_always, all_always}
 use Rattle.lru_replay.proofs.Spelled.{limit_or}
 
 -- what is said of the lines after the first is said of all
@@ -54,8 +53,8 @@ no_limit (Some x) b endings.Nothing first (taken, nothing) none = only_first (So
 
 -- Each list of lines has a text under each limit.
 some_text_under : (limit : Limit) (lines : List (List ℕ)) → (text : List ℕ) × IsTextUnder limit lines text
-some_text_under (limits.Length most) lines = let (text, new, run) = some_run length_rules length_offers length_always (empty most) (map_ready _ (empty_is_map most)) lines in (text, (new, run))
-some_text_under limits.Compact lines = let (text, new, run) = some_run no_rules all_offers all_always (empty (record {})) (map_ready _ (empty_is_map (record {}))) lines in (text, (new, run))
+some_text_under (limits.Length most) lines = let (text, new, run) = some_run length_rules length_offers length_always (empty most) (empty_is_sized most) lines in (text, (new, run))
+some_text_under limits.Compact lines = let (text, new, run) = some_run no_rules all_offers all_always (empty (record {})) (empty_is_sized (record {})) lines in (text, (new, run))
 
 no_lines_under : (limit : Limit) → IsTextUnder limit [] []
 no_lines_under (limits.Length most) = (empty most, (refl, refl))
