@@ -1,5 +1,6 @@
 -- From every map an insert can end: there is an answer that it may give, and a state that it may leave.
-use Rattle.std.proofs.Common.{◌≡◌, ℕ, ◌+◌, ◌-◌, ◌*◌, ◌/◌, ◌^◌, ◌<◌, ◌≤◌, inl, inr, Bool, true, false, List, [], ◌∷◌, length, Option, Some, None, Result, Ok, Err, refl, sym, ap, ◌∙◌, arith, cond, not, suc, count_by}
+use Rattle.std.proofs.Common.{◌≡◌, ℕ, ◌+◌, ◌-◌, ◌*◌, ◌/◌, ◌^◌, ◌<◌, ◌≤◌, inl, inr, Bool, true, false, List, [], ◌∷◌, length}
+use Rattle.std.proofs.Common.{Option, Some, None, Result, Ok, Err, refl, sym, ap, ◌∙◌, arith, cond, not, suc, count_by}
 use Rattle.std.specs.Prelude.{nat_lt, nat_le}
 use Rattle.std.specs.declared.alloc.AllocError.{AllocError}
 use Rattle.std.proofs.lemmas.Bool.{false≢true}
@@ -16,7 +17,8 @@ use Rattle.lru_limits.specs.Rules.{Rules, Offers}
 use Rattle.schnellru.specs.Lists.{is_empty, lookup_entry, without}
 use Rattle.schnellru.specs.Sizes.{usage, Target, target, target_from, no_table, same_table, new_table, table_with, table_of}
 use Rattle.schnellru.specs.State.{State, Contents, buckets, room, contents, IsSized, Leaves, FirstFreeIs, pops, trim}
-use Rattle.schnellru.specs.Place.{Place, first_table, first_denied, first_too_large, into_empty, into_emptied, with_room, deleted_bucket, rehashed, grown, evicted, evicted_rehashed, Outcome, placed, refused, no_memory, IsPlaced, LacksRoom, CannotGrow, no_target, denied, next_table, asked, turned_away}
+use Rattle.schnellru.specs.Place.{Place, first_table, first_denied, first_too_large, into_empty, into_emptied, with_room, deleted_bucket, rehashed, grown, evicted, evicted_rehashed}
+use Rattle.schnellru.specs.Place.{Outcome, placed, refused, no_memory, IsPlaced, LacksRoom, CannotGrow, no_target, denied, next_table, asked, turned_away}
 use Rattle.schnellru.specs.Inserts.{Insert, replaced, given_up, not_admitted, admitted, make_way, replacement, with_replaced, with_given_up}
 use Rattle.schnellru.proofs.Growth.{full_capacity-at_most, full_capacity-some}
 use Rattle.schnellru.proofs.Leaving.{length-pops}
@@ -42,7 +44,8 @@ target-same max e b c = from (buckets_for max c)
     from None h = absurd (grind arith)
     from (Some need) h = split (nat_lt b need) (nat_le c (full_capacity b / 2)) (λ q. grind (arith, nat_tests)) h
       where
-        split : (t u : Bool) → (u ≡ true → c ≤ full_capacity b / 2) → cond t (table_with e (Some need)) (cond u same_table (table_with e (buckets_for max (full_capacity (2 * b))))) ≡ same_table → c ≤ full_capacity b / 2
+        split : (t u : Bool) → (u ≡ true → c ≤ full_capacity b / 2)
+            → cond t (table_with e (Some need)) (cond u same_table (table_with e (buckets_for max (full_capacity (2 * b))))) ≡ same_table → c ≤ full_capacity b / 2
         split true u l h = absurd (none_same (Some need) h)
         split false true l h = l refl
         split false false l h = absurd (none_same (buckets_for max (full_capacity (2 * b))) h)
@@ -68,7 +71,8 @@ module _ {K V S H : Type 0} where
         let split = used_count-split old.marks in
         let within : length c.pairs + deletions ≤ full_capacity (buckets old) = omega (arith, split, ok.taken, ok.table.used_within, q) in
         let new : State K V S H = record old { pairs = c.pairs; limiter = c.limiter; marks = marked old ok c.pairs deletions within } in
-        let freed : length c.pairs + room new ≡ length old.pairs + room old = omega (arith, room-marked old ok c.pairs deletions within, room_is old.marks, split, ok.taken, ok.table.used_within, q) in (
+        let left = room-marked old ok c.pairs deletions within in
+        let freed : length c.pairs + room new ≡ length old.pairs + room old = omega (arith, left, room_is old.marks, split, ok.taken, ok.table.used_within, q) in (
           new,
           record {
             is = refl;
@@ -85,8 +89,11 @@ module _ {K V S H : Type 0} where
   ]
 
   -- the pair can take a bucket beside these, with so many buckets deleted
-  some_bucket : (pair : K × V) (old : State K V S H) → IsSized old → (c : Contents K V S) (deletions : ℕ) → length c.pairs + 1 + deletions ≤ full_capacity (buckets old) → (buckets old ≤ 16 → deletions ≡ 0) →
-      (new : State K V S H) × IsPlaced pair (buckets old) (full_capacity (buckets old) - (length c.pairs + 1 + deletions)) 0 (record old { pairs = c.pairs; limiter = c.limiter }) new × IsSized new
+  some_bucket : (pair : K × V) (old : State K V S H) → IsSized old → (c : Contents K V S) (deletions : ℕ)
+      → length c.pairs + 1 + deletions ≤ full_capacity (buckets old) → (buckets old ≤ 16 → deletions ≡ 0)
+      → (new : State K V S H)
+      × IsPlaced pair (buckets old) (full_capacity (buckets old) - (length c.pairs + 1 + deletions)) 0 (record old { pairs = c.pairs; limiter = c.limiter }) new
+      × IsSized new
   some_bucket pair old ok c deletions within none_deleted =
       let pairs = pair ∷ c.pairs in
       let fit : length pairs + deletions ≤ full_capacity (buckets old) = omega (arith, within) in
@@ -154,11 +161,11 @@ module _ {K V S H : Type 0} (rules : Rules K V S) (hash_of : H → K → ℕ) (p
     deleted_ends : (free : FirstFreeIs deleted (hash_of old.hasher pair.0) old) → free.0 < buckets old → Ends
     deleted_ends free below =
         let some = count_by-pos is_deleted old.marks free.0 below (ap is_deleted free.2) in
-        let (large, within) = deleted_large old ok free.0 below free.2 in
+        let (large, spare) = deleted_large old ok free.0 below free.2 in
         let (new, is, sized) = some_bucket pair old ok (contents old) (deletions - 1) (omega (arith, some, full_table)) (λ small. absurd (omega (arith, small, large))) in (
           placed,
           new,
-          deleted_bucket lacks free large within refl (record { table = is.table; left = omega (arith, is.left, some, full_table); state = is.state }),
+          deleted_bucket lacks free large (omega (arith, spare)) refl (record { table = is.table; left = omega (arith, is.left, some, full_table); state = is.state }),
           sized,
         )
 
@@ -179,8 +186,12 @@ module _ {K V S H : Type 0} (rules : Rules K V S) (hash_of : H → K → ℕ) (p
                   sized,
                 )
             | no l ↦
-                let (end, leaves, sized) = some_leave mid left (sized_with_limiter old s ok) (omega (arith, fewer)) in
-                (no_memory, turned_away rules pair end, evicted_rehashed lacks free more mid cannot 1 (omega arith) (λ _. refl) (omega (arith, l, more)) end leaves refl, sized_with_limiter end _ sized)
+                let (end, leaves, sized) = some_leave mid left (sized_with_limiter old s ok) (omega (arith, fewer)) in (
+                  no_memory,
+                  turned_away rules pair end,
+                  evicted_rehashed lacks free more mid cannot 1 (omega arith) (λ _. refl) (omega (arith, l, more)) end leaves refl,
+                  sized_with_limiter end _ sized,
+                )
           ]
 
       growing_ends : half < length old.pairs + 1 → Ends
@@ -229,7 +240,8 @@ module _ {K V : Type 0} (names : K → Bool) where
   length-without_found [] pair e = absurd (grind arith)
   length-without_found (x ∷ xs) pair e = go (names x.0) (length-without_found xs pair) e
     where
-      go : (b : Bool) → (lookup_entry names xs ≡ Some pair → length (without names xs) + 1 ≡ length xs) → cond b (Some x) (lookup_entry names xs) ≡ Some pair → length (cond b xs (x ∷ without names xs)) + 1 ≡ suc (length xs)
+      go : (b : Bool) → (lookup_entry names xs ≡ Some pair → length (without names xs) + 1 ≡ length xs) → cond b (Some x) (lookup_entry names xs) ≡ Some pair
+          → length (cond b xs (x ∷ without names xs)) + 1 ≡ suc (length xs)
       go true h e = omega arith
       go false h e = omega (arith, h e)
 
