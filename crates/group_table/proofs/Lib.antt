@@ -22,4 +22,5 @@ pub mod MoveLemmas
 pub mod RelocationLemmas
 pub mod ChangeLemmas
 pub mod CallerLemmas
+pub mod CountedMarks
 pub mod TableLemmas

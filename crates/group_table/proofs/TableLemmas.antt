@@ -1,14 +1,12 @@
 -- What holds of every table, from the invariant of its fields.
 use Rattle.std.proofs.Common.{◌≡◌, ℕ, ◌+◌, ◌-◌, ◌<◌, ◌≤◌, List, length, Option, ap, sym, ◌∙◌, arith, inl, inr, count_by}
 use Rattle.group_table.specs.Sizes.{full_capacity, IsBucketCount}
-use Rattle.group_table.specs.Bucket.{empty, bucket_at, is_full, is_used, is_deleted, room}
+use Rattle.group_table.specs.Bucket.{empty, bucket_at, is_used, is_deleted, room}
 use Rattle.group_table.specs.Table.{IsTable}
-use Rattle.group_table.specs.Probe.{IsFirstFree}
 use Rattle.group_table.specs.Layout.{slots_of, marks_by, IsValid}
 use Rattle.group_table.proofs.SizeLemmas.{full_capacity-lt, full_capacity-small}
-use Rattle.group_table.proofs.BucketLemmas.{some_empty, room_is, used_count-marks_of, deleted_count-marks_of, used_count-split, deleted_count-none, empty_not_deleted, bucket_at-past}
-use Rattle.group_table.proofs.ProbeLemmas.{probed-meets}
-use Rattle.group_table.proofs.FirstFree.{first_free_within, first_free_there}
+use Rattle.group_table.proofs.BucketLemmas.{some_empty, room_is, used_count-marks_of, deleted_count-marks_of, deleted_count-none, empty_not_deleted, bucket_at-past}
+use Rattle.group_table.proofs.CountedMarks.{IsTable-counted}
 use Rattle.group_table.proofs.LayoutLemmas.{length-laid_out, length-marks_by, power_of}
 
 module _ {T : Type 0} (control : List ℕ) (entries : List (Option T)) (r : ℕ) (valid : IsValid control entries r) where
@@ -43,27 +41,9 @@ module _ {T : Type 0} (control : List ℕ) (entries : List (Option T)) (r : ℕ)
   pub empty_there : 0 < length entries → (b : ℕ) × (b < length (marks_by control entries)) × (bucket_at (marks_by control entries) b ≡ empty)
   empty_there pos = some_empty (marks_by control entries) (omega (arith, used_lt pos, length-marks_by control entries valid.laid_out))
 
-  pub free_there : 0 < length entries → (hash : ℕ) → (b : ℕ) × IsFirstFree (marks_by control entries) hash b
-  free_there pos hash =
-      let w = empty_there pos in
-      first_free_there (marks_by control entries) hash (rw (length-marks_by control entries valid.laid_out) (power_of control entries valid.laid_out pos)) w.0 w.1 (ap is_full w.2)
-
   pub IsTable-by : IsTable (marks_by control entries)
   IsTable-by =
       let same = length-marks_by control entries valid.laid_out in
-      let left : count_by is_used (marks_by control entries) + room (marks_by control entries) ≡ full_capacity (length entries) =
-      ap (λ n. count_by is_used (marks_by control entries) + n) (sym room_by) ∙ used_is in
-      let split = used_count-split (marks_by control entries) in
-      let capacity : full_capacity (length (marks_by control entries)) ≡ full_capacity (length entries) = ap full_capacity same in
-      record {
-        count = rw same bucket_count;
-        addressable = elim valid.laid_out.counts [ inl w ↦ omega (arith, w.0, same) | inr w ↦ omega (arith, w.1, same, valid.laid_out.fits) ];
-        used_within = omega (arith, used_is, capacity);
-        within = omega (arith, left, split, capacity);
-        exact = λ small. omega (arith, left, split, capacity, none_deleted_small (omega (arith, small, same)));
-        none_deleted = λ small. none_deleted_small (omega (arith, small, same));
-        some_empty = λ pos. empty_there (omega (arith, pos, same));
-        some_free = λ pos hash. let w = free_there (omega (arith, pos, same)) hash in
-            (w.0, first_free_within (marks_by control entries) hash w.0 w.1 pos, w.1);
-        visits_each = λ hash b p. rw same (probed-meets (length entries) hash b (power_of control entries valid.laid_out (omega (arith, p, same))) (omega (arith, p, same)));
-      }
+      IsTable-counted (marks_by control entries) (rw same bucket_count) (omega (arith, used_is, ap full_capacity same))
+      (elim valid.laid_out.counts [ inl w ↦ omega (arith, w.0, same) | inr w ↦ omega (arith, w.1, same, valid.laid_out.fits) ])
+      (λ small. none_deleted_small (omega (arith, small, same)))

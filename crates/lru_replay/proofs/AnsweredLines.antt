@@ -5,7 +5,7 @@ use Rattle.std.specs.Io.KnownBytes.{Appends}
 use Rattle.std.proofs.KnownBytes.{Appends-trans}
 use Rattle.std.proofs.lemmas.Option.{IfSome_then}
 use Rattle.lru_limits.specs.Rules.{Rules, Offers}
-use Rattle.schnellru.proofs.SomeInsert.{IsReady}
+use Rattle.schnellru.specs.State.{IsSized}
 use Rattle.lru_replay.specs.declared.outcome.ReplayError.{ReplayError}
 use Rattle.lru_replay.specs.Limits.{AlwaysOffers}
 use Rattle.lru_replay.specs.Lines.{lines_of, TakesFed, TakesRest, TakesLines}
@@ -23,13 +23,13 @@ module _ {S : Type 0} (rules : Rules ℕ ℕ S) (offers : Offers ℕ ℕ S ℕ) 
   abbrev pub RunsSoFar : Map S → Option (List ℕ) → Option (List ℕ) → Option (List ℕ) → Option (List ℕ) → Map S → Type 0
   RunsSoFar old r₀ r₁ w₀ w₁ now = (lines : List (List ℕ)) × (text : List ℕ) × IsRun rules offers old lines text now × TakesLines r₀ r₁ lines [] × Appends w₀ w₁ text
 
-  module _ (old now new : Map S) (r₀ r₁ r₂ w₀ w₁ w₂ : Option (List ℕ)) (line : List ℕ) where
+  module _ (old now new : Map S) (r₀ r₁ r₂ w₀ w₁ w₂ : Option (List ℕ)) (line : List ℕ) (sized : IsSized new) where
     -- a line with its line feed was answered
     pub line_answered : RunsSoFar old r₀ r₁ w₀ w₁ now → TakesFed r₁ r₂ line → AnswersLine rules offers now line new w₁ w₂ (Ok tt) → RunsSoFar old r₀ r₂ w₀ w₂ new
     line_answered (lines, text, run, reads, wrote) taken (answer, step, answered) = (
       lines ++ line ∷ [],
       text ++ answer_line answer,
-      run-append rules offers old lines text now (line ∷ []) (answer_line answer) new run (run-one rules offers now line answer new step),
+      run-append rules offers old lines text now (line ∷ []) (answer_line answer) new run (run-one rules offers now line answer new step sized),
       takes_line_more r₀ r₁ r₂ lines line reads taken,
       Appends-trans w₀ w₁ w₂ text (answer_line answer) wrote answered,
     )
@@ -43,7 +43,7 @@ module _ {S : Type 0} (rules : Rules ℕ ℕ S) (offers : Offers ℕ ℕ S ℕ) 
           (
             new,
             subst (λ ls. IsRun rules offers old ls (text ++ answer_line answer) new) (sym (all ∙ ap (λ l. lines ++ l) (lines_of-last line taken.0 some)))
-                (run-append rules offers old lines text now (line ∷ []) (answer_line answer) new run (run-one rules offers now line answer new step)),
+                (run-append rules offers old lines text now (line ∷ []) (answer_line answer) new run (run-one rules offers now line answer new step sized)),
           ),
           Appends-trans w₀ w₁ w₂ text (answer_line answer) wrote answered,
         ))
@@ -62,13 +62,12 @@ module _ {S : Type 0} (rules : Rules ℕ ℕ S) (offers : Offers ℕ ℕ S ℕ) 
     last_goes_on lines reads taken some =
         IfSome_then r₀ (lines_at_end r₀ r₁ r₂ lines line reads taken) (λ input all. ([], all ∙ ap (λ l. lines ++ l) (lines_of-last line taken.0 some) ∙ sym (append-nil (lines ++ line ∷ []))))
 
-    module _ (offered : AlwaysOffers offers) (ready : IsReady new) where
+    module _ (offered : AlwaysOffers offers) where
       -- a write failed within the answer line
-      cut_short : (lines : List (List ℕ)) (text : List ℕ) (e : ReplayError) → IsRun rules offers old lines text now → Appends w₀ w₁ text → GoesOn r₀ (lines ++ line ∷ [])
-          → AnswersLine rules offers now line new w₁ w₂ (Err e) → BeginsText (IsTextOf rules offers old) r₀ w₀ w₂
+      cut_short : (lines : List (List ℕ)) (text : List ℕ) (e : ReplayError) → IsRun rules offers old lines text now → Appends w₀ w₁ text → GoesOn r₀ (lines ++ line ∷ []) → AnswersLine rules offers now line new w₁ w₂ (Err e) → BeginsText (IsTextOf rules offers old) r₀ w₀ w₂
       cut_short lines text e run wrote goes (answer, step, (same, part, (rest, is), written)) = IfSome_then r₀ goes (λ input (more, all).
-          let so_far = run-append rules offers old lines text now (line ∷ []) (answer_line answer) new run (run-one rules offers now line answer new step) in
-          let (u, last, others) = some_run rules offers offered new ready more in
+          let so_far = run-append rules offers old lines text now (line ∷ []) (answer_line answer) new run (run-one rules offers now line answer new step sized) in
+          let (u, last, others) = some_run rules offers offered new sized more in
           let whole = run-append rules offers old (lines ++ line ∷ []) (text ++ answer_line answer) new more u last so_far others in
           let begins : (text ++ answer_line answer) ++ u ≡ (text ++ part) ++ (rest ++ u) =
           ap (λ l. (text ++ l) ++ u) is ∙ ap (λ l. l ++ u) (sym (append_assoc text part rest)) ∙ append_assoc (text ++ part) rest u in (
@@ -88,11 +87,11 @@ module _ {S : Type 0} (rules : Rules ℕ ℕ S) (offers : Offers ℕ ℕ S ℕ) 
       last_begins (Err e) (lines, text, run, reads, wrote) taken some answered = cut_short lines text e run wrote (last_goes_on lines reads taken some) answered
 
   -- what was written so far is a beginning
-  pub so_far_begins : (offered : AlwaysOffers offers) (old now : Map S) (r₀ r₁ w₀ w₁ : Option (List ℕ)) → IsReady now → RunsSoFar old r₀ r₁ w₀ w₁ now → BeginsText (IsTextOf rules offers old) r₀ w₀ w₁
-  so_far_begins offered old now None r₁ w₀ w₁ ready so_far = tt
-  so_far_begins offered old now (Some x) None w₀ w₁ ready (lines, text, run, reads, wrote) = absurd reads.2
-  so_far_begins offered old now (Some x) (Some y) w₀ w₁ ready (lines, text, run, reads, wrote) =
-      let (more, last, rest) = some_run rules offers offered now ready (lines_of y) in (
+  pub so_far_begins : (offered : AlwaysOffers offers) (old now : Map S) (r₀ r₁ w₀ w₁ : Option (List ℕ)) → IsSized now → RunsSoFar old r₀ r₁ w₀ w₁ now → BeginsText (IsTextOf rules offers old) r₀ w₀ w₁
+  so_far_begins offered old now None r₁ w₀ w₁ sized so_far = tt
+  so_far_begins offered old now (Some x) None w₀ w₁ sized (lines, text, run, reads, wrote) = absurd reads.2
+  so_far_begins offered old now (Some x) (Some y) w₀ w₁ sized (lines, text, run, reads, wrote) =
+      let (more, last, rest) = some_run rules offers offered now sized (lines_of y) in (
         text ++ more,
         text,
         (last, subst (λ ls. IsRun rules offers old ls (text ++ more) last) (sym (lines_left x y lines [] reads)) (run-append rules offers old lines text now (lines_of y) more last run rest)),

@@ -2,45 +2,30 @@
 use Rattle.std.proofs.Common.{◌≡◌, ℕ, true, [], refl, ap, arith, inl, Option, Some}
 use Rattle.std.specs.Prelude.{nat_eq}
 use Rattle.group_table.specs.Sizes.{full_capacity}
-use Rattle.group_table.specs.Bucket.{room}
 use Rattle.group_table.specs.Table.{IsTable}
+use Rattle.group_table.proofs.CountedMarks.{IsTable-counted}
 use Rattle.schnellru.specs.Sizes.{usage}
-use Rattle.schnellru.specs.State.{State, IsMap}
+use Rattle.schnellru.specs.State.{State, IsSized, IsMap}
 use Rattle.schnellru.specs.Calls.{Get}
 use Rattle.schnellru.proofs.Promotion.{get_is_map}
 use Rattle.std.proofs.lemmas.Bool.Decides.{nat_tests}
-use Rattle.std.specs.List.{IsDistinct}
 use Rattle.lru_replay.specs.Limits.{length_offers, all_offers, AlwaysOffers}
 use Rattle.lru_replay.specs.Maps.{empty}
 
 no_table : IsTable []
-unfolding room full_capacity
-no_table = record {
-  count = inl refl;
-  addressable = omega arith;
-  used_within = omega arith;
-  within = omega arith;
-  exact = λ _. refl;
-  none_deleted = λ _. refl;
-  some_empty = λ some. absurd (omega (arith, some));
-  some_free = λ some. absurd (omega (arith, some));
-  visits_each = λ hash b within. absurd (omega (arith, within));
-}
+unfolding full_capacity
+no_table = IsTable-counted [] (inl refl) (omega arith) (omega arith) (λ _. refl)
 
--- what holds of every map holds of an empty one
-pub empty_is_map : {S : Type 0} (limiter : S) → IsMap nat_eq (empty limiter)
-unfolding IsDistinct usage room full_capacity
-empty_is_map limiter = record {
-  distinct = tt;
-  sized = record {
-    table = no_table;
-    taken = refl;
-    reachable = inl refl;
-    usable = (0, refl);
-    moved = omega arith;
-    placed = omega arith;
-  };
-  paid = omega arith;
+-- an empty map has a sound table, which is none
+pub empty_is_sized : {S : Type 0} (limiter : S) → IsSized (empty limiter)
+unfolding usage
+empty_is_sized limiter = record {
+  table = no_table;
+  taken = refl;
+  reachable = inl refl;
+  usable = (0, refl);
+  moved = omega arith;
+  placed = omega arith;
 }
 
 pub length_always : AlwaysOffers length_offers

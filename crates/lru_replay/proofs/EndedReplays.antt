@@ -14,14 +14,13 @@ use Rattle.lru_replay.specs.declared.outcome.ReplayError.{ReplayError}
 use Rattle.lru_replay.specs.Grammar.{SpellsLimit}
 use Rattle.lru_replay.specs.Lines.{lines_of, TakesFed, TakesRest, TakesLine}
 use Rattle.lru_replay.specs.Output.{Fails, no_limiter_text}
-use Rattle.lru_replay.specs.Replay.{IsTextUnder, IsReplay, NamesNoLimit, WritesReplay, WritesCut, WritesSoFar}
+use Rattle.lru_replay.specs.Replay.{IsTextUnder, IsReplay, NamesNoLimit, IsOutput, WritesReplay, WritesCut, WritesSoFar}
 use Rattle.lru_replay.specs.Limits.{length_rules, length_offers, no_rules, all_offers}
 use Rattle.lru_replay.specs.Maps.{empty}
 use Rattle.lru_replay.specs.Runs.{WritesText, WritesTextSoFar, BeginsText}
 use Rattle.lru_replay.proofs.LineLists.{lines_of-fed, lines_of-last, lines_at_end, takes_line_before}
 use Rattle.lru_replay.proofs.RunLists.{some_run}
-use Rattle.lru_replay.proofs.EmptyMaps.{empty_is_map, length_always, all_always}
-use Rattle.schnellru.proofs.SomeInsert.{map_ready}
+use Rattle.lru_replay.proofs.EmptyMaps.{empty_is_sized, length_always, all_always}
 use Rattle.lru_replay.proofs.Spelled.{limit_or}
 
 -- what is said of the lines after the first is said of all
@@ -56,34 +55,33 @@ no_limit (Some x) b endings.Nothing first (taken, nothing) none = only_first (So
 
 -- Each list of lines has a text under each limit.
 some_text_under : (limit : Limit) (lines : List (List ℕ)) → (text : List ℕ) × IsTextUnder limit lines text
-some_text_under (limits.Length most) lines = let (text, new, run) = some_run length_rules length_offers length_always (empty most) (map_ready _ (empty_is_map most)) lines in (text, (new, run))
-some_text_under limits.Compact lines = let (text, new, run) = some_run no_rules all_offers all_always (empty (record {})) (map_ready _ (empty_is_map (record {}))) lines in (text, (new, run))
+some_text_under (limits.Length most) lines = let (text, new, run) = some_run length_rules length_offers length_always (empty most) (empty_is_sized most) lines in (text, (new, run))
+some_text_under limits.Compact lines = let (text, new, run) = some_run no_rules all_offers all_always (empty (record {})) (empty_is_sized (record {})) lines in (text, (new, run))
 
 no_lines_under : (limit : Limit) → IsTextUnder limit [] []
 no_lines_under (limits.Length most) = (empty most, (refl, refl))
 no_lines_under limits.Compact = (empty (record {}), (refl, refl))
 
 -- So each list of lines has something written of it.
-some_text : (lines : List (List ℕ)) → (text : List ℕ) × (IsReplay lines text ⊎ (NamesNoLimit lines × (text ≡ no_limiter_text)))
+some_text : (lines : List (List ℕ)) → (text : List ℕ) × IsOutput lines text
 some_text [] = (no_limiter_text, inr (none_first [] refl, refl))
 some_text (first ∷ lines) = by (limit_or first)
   where
-    by : ((limit : Limit) × SpellsLimit first limit) ⊎ ((limit : Limit) → SpellsLimit first limit → ⊥)
-        → (text : List ℕ) × (IsReplay (first ∷ lines) text ⊎ (NamesNoLimit (first ∷ lines) × (text ≡ no_limiter_text)))
+    by : ((limit : Limit) × SpellsLimit first limit) ⊎ ((limit : Limit) → SpellsLimit first limit → ⊥) → (text : List ℕ) × IsOutput (first ∷ lines) text
     by (inl (limit, spells)) = let (text, is) = some_text_under limit lines in (text, inl (limit, first, lines, refl, spells, is))
     by (inr none) = (no_limiter_text, inr (none_named (first ∷ lines) lines first refl none, refl))
 
 -- Where nothing was written, it is a beginning.
 pub nothing_cut : (a w : Option (List ℕ)) → WritesCut a w w
 nothing_cut None w = tt
-nothing_cut (Some x) w = let (text, is) = some_text (lines_of x) in ([], (text, (text, refl), is), Appends-nil w)
+nothing_cut (Some x) w = let (text, is) = some_text (lines_of x) in (text, [], is, (text, refl), Appends-nil w)
 
 -- What was written after a failed flush, by what stood before it.
 cut_after_done : (a w v : Option (List ℕ)) → WritesReplay a w v → WritesCut a w v
-cut_after_done a w v h = IfSome_then a h (λ input (text, is, wrote). (text, (text, ([], sym (append-nil text)), inl is), wrote))
+cut_after_done a w v h = IfSome_then a h (λ input (text, is, wrote). (text, text, inl is, ([], sym (append-nil text)), wrote))
 
 cut_after_no_limiter : (a w v : Option (List ℕ)) → IfSome a (λ input. NamesNoLimit (lines_of input)) → Appends w v no_limiter_text → WritesCut a w v
-cut_after_no_limiter a w v none wrote = IfSome_then a none (λ input is. (no_limiter_text, (no_limiter_text, ([], sym (append-nil no_limiter_text)), inr (is, refl)), wrote))
+cut_after_no_limiter a w v none wrote = IfSome_then a none (λ input is. (no_limiter_text, no_limiter_text, inr (is, refl), ([], sym (append-nil no_limiter_text)), wrote))
 
 -- The flush failed: what is written stays a beginning of what may be written.
 pub flush_failed : (a w v u : Option (List ℕ)) (end : Result ReplayEnd ReplayError)
@@ -92,7 +90,7 @@ pub flush_failed : (a w v u : Option (List ℕ)) (end : Result ReplayEnd ReplayE
     → (end ≡ Ok ends.NoLimiter → Appends w v no_limiter_text)
     → OnErr end (WritesCut a w v)
     → Keeps v u → WritesCut a w u
-flush_failed a w v u end done none text begins keeps = IfSome_then a (by end done none text begins) (λ input (part, is, wrote). (part, is, Appends-kept w v u part wrote keeps))
+flush_failed a w v u end done none text begins keeps = IfSome_then a (by end done none text begins) (λ input (text, part, is, begins, wrote). (text, part, is, begins, Appends-kept w v u part wrote keeps))
   where
     by : (end : Result ReplayEnd ReplayError)
         → (end ≡ Ok ends.Done → WritesReplay a w v)
@@ -118,10 +116,8 @@ exactly_no_limiter a w v (Ok ends.NoLimiter) done none = IfSome_then a (none ref
 exactly_no_limiter a w v (Err e) done none = tt
 
 -- Writing that no limiter is named failed.
-pub no_limiter_cut : (a b w v : Option (List ℕ)) (ending : Ending) (first : List ℕ) (e : ReplayError) → TakesLine a b ending first
-    → ((limit : Limit) → SpellsLimit first limit → ⊥) → Fails e w v no_limiter_text → WritesCut a w v
-no_limiter_cut a b w v ending first e taken none (same, part, begins, wrote) =
-    IfSome_then a (no_limit a b ending first taken none) (λ input is. (part, (no_limiter_text, begins, inr (is, refl)), wrote))
+pub no_limiter_cut : (a b w v : Option (List ℕ)) (ending : Ending) (first : List ℕ) (e : ReplayError) → TakesLine a b ending first → ((limit : Limit) → SpellsLimit first limit → ⊥) → Fails e w v no_limiter_text → WritesCut a w v
+no_limiter_cut a b w v ending first e taken none (same, part, begins, wrote) = IfSome_then a (no_limit a b ending first taken none) (λ input is. (no_limiter_text, part, inr (is, refl), begins, wrote))
 
 spelled_some : (line : List ℕ) (limit : Limit) → SpellsLimit line limit → 0 < length line
 spelled_some line (limits.Length n) (fits, is) = omega (arith, ap length is)
@@ -145,8 +141,8 @@ module _ (a b w v : Option (List ℕ)) (first : List ℕ) (limit : Limit) (spell
 
   -- a read or a write failed among them
   pub cut_others : BeginsText (IsTextUnder limit) b w v → WritesCut a w v
-  cut_others = after_first a b first _ _ taken (λ rest input all (text, part, is, begins, wrote). (part, (text, begins, inl (limit, first, lines_of rest, all, spells, is)), wrote))
+  cut_others = after_first a b first _ _ taken (λ rest input all (text, part, is, begins, wrote). (text, part, inl (limit, first, lines_of rest, all, spells, is), begins, wrote))
 
   -- a read failed among them
   pub read_others : (c : Option (List ℕ)) → WritesTextSoFar (IsTextUnder limit) b c w v → WritesSoFar a c w v
-  read_others c (lines, text, part, is, reads, wrote) = (first ∷ lines, text, part, takes_line_before a b c first lines part taken reads, (limit, spells, is), wrote)
+  read_others c (lines, text, part, is, reads, wrote) = (first ∷ lines, text, part, (limit, spells, is), takes_line_before a b c first lines part taken reads, wrote)

@@ -2,6 +2,7 @@
 use Rattle.std.specs.Prelude.{◌≡◌, ℕ, List, [], ◌∷◌, ◌++◌, ◌⊎◌, Option, IfSome, Result}
 use Rattle.std.specs.Io.KnownBytes.{Appends}
 use Rattle.lru_limits.specs.Rules.{Rules, Offers}
+use Rattle.schnellru.specs.State.{IsSized}
 use Rattle.lru_replay.specs.declared.call.Call.{Call}
 use Rattle.lru_replay.specs.declared.outcome.ReplayError.{ReplayError}
 use Rattle.lru_replay.specs.Grammar.{SpellsCall}
@@ -25,11 +26,12 @@ module _ {S : Type 0} (rules : Rules ℕ ℕ S) (offers : Offers ℕ ℕ S ℕ) 
   AnswersLine before line after old new result =
       (answer : Answer) × LineStep before line answer after × Writes old new result (answer_line answer)
 
-  -- The lines are answered one after another: their answer lines are this text, and the last leaves the map new.
+  -- The lines are answered one after another, and each leaves a map whose table is sound: their answer lines are this
+  -- text, and the last leaves the map new.
   abbrev pub IsRun : Map S → List (List ℕ) → List ℕ → Map S → Type 0
   IsRun old [] text new = (text ≡ []) × (new ≡ old)
   IsRun old (line ∷ lines) text new = (answer : Answer) × (middle : Map S) × (rest : List ℕ)
-      × LineStep old line answer middle × (text ≡ answer_line answer ++ rest) × IsRun middle lines rest new
+      × LineStep old line answer middle × IsSized middle × (text ≡ answer_line answer ++ rest) × IsRun middle lines rest new
 
   -- some run over the lines, from this map, has the text
   abbrev pub IsTextOf : Map S → List (List ℕ) → List ℕ → Type 0

@@ -41,4 +41,5 @@ pub mod RelocateLemmas
 pub mod RestLemmas
 pub mod Placing
 pub mod Replaced
+pub mod SomeMarks
 pub mod SomeInsert

@@ -90,14 +90,10 @@ module _ {K V S H : Type 0} (rules : Rules K V S) (hash_of : H → K → ℕ) (p
       used (inl less) = inl less
       used (inr same) = inr (same.0, same.1)
 
-      at_most_one : UsesRoom old new → (room new ≡ room old) ⊎ (room new + 1 ≡ room old)
-      at_most_one (inl less) = inr less
-      at_most_one (inr same) = inl same.1
-
       go : Dec (0 < room old) → Dec (0 < length old.pairs) → Place rules hash_of pair old placed new
       go (yes r) (yes l) = with_room l r (used (roomy r)) refl step
       go (yes r) (no l) = into_empty (nil_from_length old.pairs (omega (arith, l))) (omega (arith, r, fits old ok, full_capacity-at_most (buckets old))) r
-          (at_most_one (roomy r)) refl step
+          (used (roomy r)) refl step
       go (no r) (yes l) = let uses = none (omega (arith, r)) in
           deleted_bucket (l, omega (arith, r)) uses.first uses.large uses.within refl (record { table = step.table; left = uses.none_left; state = step.state })
       go (no r) (no l) = elim some [ inl x ↦ absurd (r x) | inr x ↦ absurd (l x) ]

@@ -32,23 +32,22 @@ module _ {K V : Type 0} (names : K → Bool) where
       go None e = subst (AreDistinct eq) (sym (without_none names xs e)) d
       go (Some pair) e = distinct_newest eq names one pair xs (found_named names xs pair e) d
 
-module _ {K V S H Q : Type 0} {names : Q → K → Bool} {eq : K → K → Bool} {query_input : Q → List (List ℕ)} {key_input : K → List (List ℕ)}
-    (looks_up : IsLookup names eq query_input key_input) (q : Q) (old : State K V S H) (result : Option V) (new : State K V S H)
-    (step : Get (names q) old result new) where
-  get_sized : IsSized old → IsSized new
+module _ {K V S H : Type 0} (names : K → Bool) (old : State K V S H) (result : Option V) (new : State K V S H) (step : Get names old result new) where
+  pub get_sized : IsSized old → IsSized new
   get_sized ok = rw step.state (record {
     table = ok.table;
-    taken = ok.taken ∙ sym (length-front_pairs (names q) old.pairs);
+    taken = ok.taken ∙ sym (length-front_pairs names old.pairs);
     reachable = ok.reachable;
     usable = ok.usable;
     moved = ok.moved;
     placed = ok.placed;
   })
 
+module _ {K V S H Q : Type 0} {names : Q → K → Bool} {eq : K → K → Bool} {query_input : Q → List (List ℕ)} {key_input : K → List (List ℕ)} (looks_up : IsLookup names eq query_input key_input) (q : Q) (old : State K V S H) (result : Option V) (new : State K V S H) (step : Get (names q) old result new) where
   pub get_is_map : IsMap eq old → IsMap eq new
   get_is_map ok = record {
     distinct = rw step.state (distinct_front_pairs (names q) eq (λ x y n. looks_up.one q x y n) old.pairs ok.distinct);
-    sized = get_sized ok.sized;
+    sized = get_sized (names q) old result new step ok.sized;
     paid = rw step.state ok.paid;
   }
 

@@ -90,7 +90,7 @@ module _ {K V S H : Type 0} (rules : Rules K V S) (hash_of : H → K → ℕ) wh
         Place pair old outcome new
     -- A map without pairs that has a table places one, asks nothing and needs no memory.
     into_empty : old.pairs ≡ [] → 0 < buckets old →
-        0 < room old → (room new ≡ room old) ⊎ (room new + 1 ≡ room old) →
+        0 < room old → (room new + 1 ≡ room old) ⊎ ((16 < buckets old) × (room new ≡ room old)) →
         outcome ≡ placed → IsPlaced pair (buckets old) (room new) 0 old new →
         Place pair old outcome new
     into_emptied : old.pairs ≡ [] → 0 < buckets old →

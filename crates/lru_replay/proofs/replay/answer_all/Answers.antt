@@ -11,7 +11,7 @@ use Rattle.lru_replay.proofs.Options.{OnErr-always}
 use Rattle.lru_replay.proofs.replay.answer_all.Goals as goal
 
 pub returns-in_err-ending-clause-read : goal.returns-in_err-ending-clause-read
-returns-in_err-ending-clause-read g c _ = let (bytes, part) = c.in_err-ending.ensures.err in ([], [], bytes, (tt, part.0, part.1), refl, Appends-nil _)
+returns-in_err-ending-clause-read g c _ = let (bytes, part) = c.in_err-ending.ensures.err in ([], [], bytes, refl, (tt, part.0, part.1), Appends-nil _)
 
 pub returns-in_err-ending-clause-begins : goal.returns-in_err-ending-clause-begins
 returns-in_err-ending-clause-begins g c = OnErr-always _ (nothing_cut (g.R.Read.remaining c.args.reader.now) (g.W.Write.contents c.args.writer.now))
