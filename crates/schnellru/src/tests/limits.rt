@@ -25,13 +25,27 @@ fn by_length(rt: HostRuntime) -> Result<(), Fail> {
     Ok(())
 }
 
+// The memory of 8 buckets, with and without a byte to spare, and a byte less than that of 4.
 #[test]
-fn by_memory_usage(rt: HostRuntime) -> Result<(), Fail> {
-    let mut map = map_of(rt.alloc(), ByMemoryUsage::new(152));
-    assert_eq!(rt; insert_all(&mut map, 1..=7)?, 7);
-    assert!(rt; insert(&mut map, 8)?);
-    assert!(rt; counts_down(&map, 8, 2));
-    assert_eq!(rt; figures(&map), (7, 7, 152));
+fn insert_with_memory_usage_limiter_works(rt: HostRuntime) -> Result<(), Fail> {
+    for budget in [152usize, 153] {
+        let mut map = map_of(rt.alloc(), ByMemoryUsage::new(budget));
+        assert_eq!(rt; figures(&map), (0, 0, 0));
+        for (n, oldest, wanted) in [
+            (1, 1, (1, 3, 84)),
+            (2, 1, (2, 3, 84)),
+            (3, 1, (3, 3, 84)),
+            (4, 1, (4, 7, 152)),
+            (5, 1, (5, 7, 152)),
+            (6, 1, (6, 7, 152)),
+            (7, 1, (7, 7, 152)),
+            (8, 2, (7, 7, 152)),
+        ] {
+            assert!(rt; insert(&mut map, n)?, "{n} within {budget}");
+            assert!(rt; counts_down(&map, n, oldest), "{n} within {budget}");
+            assert_eq!(rt; figures(&map), wanted, "{n} within {budget}");
+        }
+    }
     let mut map = map_of(rt.alloc(), ByMemoryUsage::new(83));
     assert_eq!(rt; insert_all(&mut map, 1..=8)?, 0);
     assert_eq!(rt; figures(&map), (0, 0, 0));
@@ -47,6 +61,32 @@ fn usage_within_a_budget(rt: HostRuntime) {
             "{budget}"
         );
     }
+}
+
+// The bytes of 0, 4, 8, 16, 32 and 64 buckets, each full: a budget of them is used up.
+#[test]
+fn a_usage_is_its_own_budget(rt: HostRuntime) -> Result<(), Fail> {
+    let mut map = map_of(rt.alloc(), UnlimitedCompact);
+    for (most, usage) in [
+        (0, 0),
+        (3, 84),
+        (7, 152),
+        (14, 288),
+        (28, 560),
+        (56, 1104usize),
+    ] {
+        assert_eq!(rt; insert_all(&mut map, 1..=most)?, most);
+        assert_eq!(rt; figures(&map), (most as usize, most as usize, usage));
+        assert_eq!(rt;
+            LruMap::<u64, u64, UnlimitedCompact>::memory_usage_for_memory_budget(
+                map.memory_usage(),
+                16
+            ),
+            usage,
+            "{most}"
+        );
+    }
+    Ok(())
 }
 
 // A limiter that is set anew is asked at the next insert.
@@ -70,6 +110,20 @@ fn over_at_every_length(rt: HostRuntime) -> Result<(), Fail> {
     assert!(rt; !insert(&mut map, 1)?);
     assert_eq!(rt; figures(&map), (0, 3, 84));
     assert_eq!(rt; (map.limiter().told, map.limiter().last), (1, 1));
+    Ok(())
+}
+
+// Both old pairs leave, and then the new one.
+#[test]
+fn inserting_can_evict_the_whole_cache(rt: HostRuntime) -> Result<(), Fail> {
+    let mut map = map_of(rt.alloc(), Telling::new(false, true));
+    assert_eq!(rt; insert_all(&mut map, 1..=2)?, 2);
+    assert_eq!(rt; (map.len(), map.limiter().told), (2, 0));
+    map.limiter_mut().over = true;
+    assert!(rt; !insert(&mut map, 3)?);
+    assert!(rt; map.is_empty());
+    assert_eq!(rt; pairs(rt.alloc(), &map)?.len(), 0);
+    assert_eq!(rt; (map.limiter().told, map.limiter().last), (3, 3));
     Ok(())
 }
 
