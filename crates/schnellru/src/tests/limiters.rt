@@ -3,15 +3,16 @@ ghost use Rattle.std.specs.Prelude.{◌≡◌, ◌+◌, true, false, not, min, n
 ghost use Rattle.std.specs.Cmp.{nat_eq_equiv};
 ghost use Rattle.lru_limits.specs.Stores.{plain, hands_over, hands_over-lawful, answers};
 
-use crate::{Insertion, Limiter};
+use crate::{Insertion, Limiter, LinkType};
 use std::alloc::{AllocError, Global};
+use std::marker::PhantomData;
 
-/// Limits nothing, with links of eight bits.
+/// Limits nothing, with links of this type.
 #[derive(Clone, Copy)]
-pub struct Narrow;
+pub struct LinkedBy<N>(pub PhantomData<N>);
 
-impl Limiter<u64, u64> for Narrow {
-    type LinkType = u8;
+impl<N: LinkType> Limiter<u64, u64> for LinkedBy<N> {
+    type LinkType = N;
 
     ghost rules = { plain (λ _ _. false) (λ _ _. true) };
 
@@ -28,7 +29,7 @@ impl Limiter<u64, u64> for Narrow {
     }
 }
 
-impl Insertion<u64, u64, u64> for Narrow {
+impl<N: LinkType> Insertion<u64, u64, u64> for LinkedBy<N> {
     ghost offers = { hands_over (λ _ _ _. true) };
 
     fn on_insert(

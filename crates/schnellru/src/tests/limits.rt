@@ -1,7 +1,8 @@
 //! What each limiter lets in, and what leaves under it.
-use super::limiters::{Narrow, Telling};
+use super::limiters::{LinkedBy, Telling};
 use super::*;
 use crate::{ByLength, ByMemoryUsage, Unlimited, UnlimitedCompact};
+use std::marker::PhantomData;
 use std::test::Fail;
 
 #[test]
@@ -155,8 +156,10 @@ fn growth_is_refused(rt: HostRuntime) -> Result<(), Fail> {
 
 // Links of eight bits reach 128 buckets, which take 112 pairs.
 #[test]
-fn links_of_eight_bits(rt: HostRuntime) -> Result<(), Fail> {
-    let mut map = map_of(rt.alloc(), Narrow);
+fn the_maximum_number_of_elements_is_bound_by_the_link_type_u8(
+    rt: HostRuntime,
+) -> Result<(), Fail> {
+    let mut map = map_of(rt.alloc(), LinkedBy::<u8>(PhantomData));
     for n in 0..=111 {
         assert!(rt; insert(&mut map, n)?);
         assert_eq!(rt; ends(&map), (Some(n), Some(0)));
@@ -166,6 +169,22 @@ fn links_of_eight_bits(rt: HostRuntime) -> Result<(), Fail> {
     assert_eq!(rt; newest, Some(112));
     assert!(rt; oldest != Some(0));
     assert!(rt; map.len() >= 56 && map.len() <= 112);
+    Ok(())
+}
+
+// Links of 16 bits reach 32,768 buckets, which take 28,672 pairs.
+#[test]
+fn the_maximum_number_of_elements_is_bound_by_the_link_type_u16(
+    rt: HostRuntime,
+) -> Result<(), Fail> {
+    let mut map = map_of(rt.alloc(), LinkedBy::<u16>(PhantomData));
+    assert_eq!(rt; insert_all(&mut map, 0..=28_671)?, 28_672);
+    assert_eq!(rt; map.peek(&0), Some(&0));
+    assert_eq!(rt; map.iter().next(), Some((&28_671, &286_710)));
+    assert_eq!(rt; map.guaranteed_capacity(), 28_672);
+    assert!(rt; insert(&mut map, 28_672)?);
+    assert_eq!(rt; map.iter().next(), Some((&28_672, &286_720)));
+    assert_eq!(rt; map.peek(&0), None);
     Ok(())
 }
 
