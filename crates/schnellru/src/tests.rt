@@ -1,7 +1,7 @@
 //! Worked sequences of calls, and what no clause says: printed texts, refused memory, and how often a hasher is made.
 use crate::{Insertion, Limiter, LruMap, RandomState};
 use std::alloc::{AllocError, Global};
-use std::hash::BuildHasher;
+use std::hash::{BuildHasher, Hash};
 use std::ops::RangeInclusive;
 
 mod capacities;
@@ -96,8 +96,8 @@ fn counts_down<L: Limiter<u64, u64>, S: BuildHasher>(
 }
 
 // The number of pairs, the guaranteed capacity, and the bytes of the table.
-fn figures<L: Limiter<u64, u64>, S: BuildHasher>(
-    map: &LruMap<u64, u64, L, S>,
+fn figures<K: Eq + Hash, V, L: Limiter<K, V>, S: BuildHasher>(
+    map: &LruMap<K, V, L, S>,
 ) -> (usize, usize, usize) {
     (map.len(), map.guaranteed_capacity(), map.memory_usage())
 }

@@ -1,4 +1,4 @@
-//! The library example of the README.
+//! A table and the hasher put together without a map: entries are placed and found under the hashes of their keys.
 use crate::RandomState;
 use group_table::{Table, buckets_for_capacity};
 use std::alloc::{AllocError, Global};

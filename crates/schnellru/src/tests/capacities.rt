@@ -4,8 +4,8 @@ use super::*;
 use crate::{ByMemoryUsage, UnlimitedCompact};
 use std::test::Fail;
 
-// A key whose last byte, and so its hash, is 28.
-const OF_HASH_28: u64 = 28 << 56;
+// A key whose last byte, and so its hash under `LastByte`, is 28.
+pub(super) const OF_HASH_28: u64 = 28 << 56;
 
 #[test]
 fn fifteen_pairs(rt: HostRuntime) -> Result<(), Fail> {

@@ -70,6 +70,30 @@ fn insert_fails_when_first_element_is_too_costly(rt: HostRuntime) -> Result<(), 
 }
 
 #[test]
+fn when_new_value_is_too_costly_an_existing_item_will_not_be_removed_if_the_key_is_different(
+    rt: HostRuntime,
+) -> Result<(), Fail> {
+    let alloc = rt.alloc();
+    let mut map = map_of(alloc, ByCost::new(1));
+    let inserts = [(1, 1, true, 1), (2, 2, false, 1)];
+    assert_eq!(rt; wrong_pair(&mut map, &inserts)?, None);
+    assert_eq!(rt; pairs(alloc, &map)?.as_slice(), [(1, 1)].as_slice());
+    Ok(())
+}
+
+#[test]
+fn when_new_value_is_too_costly_an_existing_item_will_be_removed_map_is_not_cleared(
+    rt: HostRuntime,
+) -> Result<(), Fail> {
+    let alloc = rt.alloc();
+    let mut map = map_of(alloc, ByCost::new(2));
+    let inserts = [(1, 1, true, 1), (2, 2, true, 2)];
+    assert_eq!(rt; wrong_pair(&mut map, &inserts)?, None);
+    assert_eq!(rt; pairs(alloc, &map)?.as_slice(), [(2, 2)].as_slice());
+    Ok(())
+}
+
+#[test]
 fn replacing_existing_value_with_another_with_the_same_cost_always_works(
     rt: HostRuntime,
 ) -> Result<(), Fail> {

@@ -70,3 +70,16 @@ fn a_walk(rt: HostRuntime) -> Result<(), Fail> {
     assert_eq!(rt; rest.next(), None);
     Ok(())
 }
+
+// The sum of each key times its value: 1 * 10 + 2 * 20 + 3 * 30 + 4 * 40.
+#[test]
+fn a_walk_in_a_loop(rt: HostRuntime) -> Result<(), Fail> {
+    let mut map = map_of(rt.alloc(), UnlimitedCompact);
+    assert_eq!(rt; insert_all(&mut map, 1..=4)?, 4);
+    let mut total = 0u64;
+    for (key, value) in map.iter() {
+        total = total.wrapping_add(key.wrapping_mul(*value));
+    }
+    assert_eq!(rt; total, 300);
+    Ok(())
+}

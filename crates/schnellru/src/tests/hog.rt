@@ -55,9 +55,4 @@ impl Hog {
     pub(super) fn took_all(&self) -> bool {
         self.held.len() < MOST
     }
-
-    /// How many blocks are held beside the spare ones.
-    pub(super) fn blocks(&self) -> usize {
-        self.held.len()
-    }
 }

@@ -1,17 +1,18 @@
 //! Limiters of the tests.
-ghost use Rattle.std.specs.Prelude.{◌≡◌, ◌+◌, true, false, not, min, nat_eq};
+ghost use Rattle.std.specs.Prelude.{◌≡◌, ◌+◌, true, false, not, min, nat_eq, nat_le};
 ghost use Rattle.std.specs.Cmp.{nat_eq_equiv};
 ghost use Rattle.lru_limits.specs.Stores.{plain, hands_over, hands_over-lawful, answers};
 
-use crate::{Insertion, Limiter};
+use crate::{Insertion, Limiter, LinkType};
 use std::alloc::{AllocError, Global};
+use std::marker::PhantomData;
 
-/// Limits nothing, with links of eight bits.
+/// Limits nothing, with links of this type.
 #[derive(Clone, Copy)]
-pub struct Narrow;
+pub struct LinkedBy<N>(pub PhantomData<N>);
 
-impl Limiter<u64, u64> for Narrow {
-    type LinkType = u8;
+impl<N: LinkType> Limiter<u64, u64> for LinkedBy<N> {
+    type LinkType = N;
 
     ghost rules = { plain (λ _ _. false) (λ _ _. true) };
 
@@ -28,7 +29,7 @@ impl Limiter<u64, u64> for Narrow {
     }
 }
 
-impl Insertion<u64, u64, u64> for Narrow {
+impl<N: LinkType> Insertion<u64, u64, u64> for LinkedBy<N> {
     ghost offers = { hands_over (λ _ _ _. true) };
 
     fn on_insert(
@@ -112,6 +113,78 @@ impl Limiter<u64, u64> for Telling {
 }
 
 impl Insertion<u64, u64, u64> for Telling {
+    ghost offers = { hands_over (λ _ _ _. true) };
+
+    fn on_insert(
+        &mut self,
+        _alloc: Global,
+        _length: usize,
+        key: u64,
+        value: u64,
+    ) -> Result<Option<(u64, u64)>, AllocError> {
+        Ok(Some((key, value)))
+    }
+
+    fn on_replace(
+        &mut self,
+        _length: usize,
+        _old_key: &mut u64,
+        _new_key: u64,
+        _old_value: &mut u64,
+        _new_value: &mut u64,
+    ) -> bool {
+        true
+    }
+
+    ghost laws = { hands_over-lawful nat_eq nat_eq_equiv (λ _ _ _. true) };
+}
+
+/// Permits tables of at most so many bytes, and keeps how many pairs it was told of, and the last one.
+#[derive(Clone, Copy)]
+pub struct Within {
+    pub most: usize,
+    pub told: u32,
+    pub last: (u64, u64),
+}
+
+impl Within {
+    /// Told of no pair as yet.
+    pub fn new(most: usize) -> Within {
+        Within {
+            most,
+            told: 0,
+            last: (0, 0),
+        }
+    }
+}
+
+impl Limiter<u64, u64> for Within {
+    type LinkType = u32;
+
+    ghost rules = { record {
+      is_over_the_limit = λ s length. false;
+      on_removed = λ s k v. record { limiter = record s { told = min (s.told + 1) 4294967295; last = (k, v) }; key = k; value = v };
+      on_cleared = λ s. s;
+      on_grow = λ s bytes. answers s (nat_le bytes s.most);
+    } };
+
+    fn is_over_the_limit(&self, _length: usize) -> bool {
+        false
+    }
+
+    fn on_removed(&mut self, key: &mut u64, value: &mut u64) {
+        self.told = self.told.saturating_add(1);
+        self.last = (*key, *value);
+    }
+
+    fn on_cleared(&mut self) {}
+
+    fn on_grow(&mut self, new_memory_usage: usize) -> bool {
+        new_memory_usage <= self.most
+    }
+}
+
+impl Insertion<u64, u64, u64> for Within {
     ghost offers = { hands_over (λ _ _ _. true) };
 
     fn on_insert(

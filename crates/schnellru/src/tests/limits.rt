@@ -1,7 +1,8 @@
 //! What each limiter lets in, and what leaves under it.
-use super::limiters::{Narrow, Telling};
+use super::limiters::{LinkedBy, Telling};
 use super::*;
 use crate::{ByLength, ByMemoryUsage, Unlimited, UnlimitedCompact};
+use std::marker::PhantomData;
 use std::test::Fail;
 
 #[test]
@@ -25,13 +26,27 @@ fn by_length(rt: HostRuntime) -> Result<(), Fail> {
     Ok(())
 }
 
+// The memory of 8 buckets, with and without a byte to spare, and a byte less than that of 4.
 #[test]
-fn by_memory_usage(rt: HostRuntime) -> Result<(), Fail> {
-    let mut map = map_of(rt.alloc(), ByMemoryUsage::new(152));
-    assert_eq!(rt; insert_all(&mut map, 1..=7)?, 7);
-    assert!(rt; insert(&mut map, 8)?);
-    assert!(rt; counts_down(&map, 8, 2));
-    assert_eq!(rt; figures(&map), (7, 7, 152));
+fn insert_with_memory_usage_limiter_works(rt: HostRuntime) -> Result<(), Fail> {
+    for budget in [152usize, 153] {
+        let mut map = map_of(rt.alloc(), ByMemoryUsage::new(budget));
+        assert_eq!(rt; figures(&map), (0, 0, 0));
+        for (n, oldest, wanted) in [
+            (1, 1, (1, 3, 84)),
+            (2, 1, (2, 3, 84)),
+            (3, 1, (3, 3, 84)),
+            (4, 1, (4, 7, 152)),
+            (5, 1, (5, 7, 152)),
+            (6, 1, (6, 7, 152)),
+            (7, 1, (7, 7, 152)),
+            (8, 2, (7, 7, 152)),
+        ] {
+            assert!(rt; insert(&mut map, n)?, "{n} within {budget}");
+            assert!(rt; counts_down(&map, n, oldest), "{n} within {budget}");
+            assert_eq!(rt; figures(&map), wanted, "{n} within {budget}");
+        }
+    }
     let mut map = map_of(rt.alloc(), ByMemoryUsage::new(83));
     assert_eq!(rt; insert_all(&mut map, 1..=8)?, 0);
     assert_eq!(rt; figures(&map), (0, 0, 0));
@@ -47,6 +62,32 @@ fn usage_within_a_budget(rt: HostRuntime) {
             "{budget}"
         );
     }
+}
+
+// The bytes of 0, 4, 8, 16, 32 and 64 buckets, each full: a budget of them is used up.
+#[test]
+fn a_usage_is_its_own_budget(rt: HostRuntime) -> Result<(), Fail> {
+    let mut map = map_of(rt.alloc(), UnlimitedCompact);
+    for (most, usage) in [
+        (0, 0),
+        (3, 84),
+        (7, 152),
+        (14, 288),
+        (28, 560),
+        (56, 1104usize),
+    ] {
+        assert_eq!(rt; insert_all(&mut map, 1..=most)?, most);
+        assert_eq!(rt; figures(&map), (most as usize, most as usize, usage));
+        assert_eq!(rt;
+            LruMap::<u64, u64, UnlimitedCompact>::memory_usage_for_memory_budget(
+                map.memory_usage(),
+                16
+            ),
+            usage,
+            "{most}"
+        );
+    }
+    Ok(())
 }
 
 // A limiter that is set anew is asked at the next insert.
@@ -70,6 +111,20 @@ fn over_at_every_length(rt: HostRuntime) -> Result<(), Fail> {
     assert!(rt; !insert(&mut map, 1)?);
     assert_eq!(rt; figures(&map), (0, 3, 84));
     assert_eq!(rt; (map.limiter().told, map.limiter().last), (1, 1));
+    Ok(())
+}
+
+// Both old pairs leave, and then the new one.
+#[test]
+fn inserting_can_evict_the_whole_cache(rt: HostRuntime) -> Result<(), Fail> {
+    let mut map = map_of(rt.alloc(), Telling::new(false, true));
+    assert_eq!(rt; insert_all(&mut map, 1..=2)?, 2);
+    assert_eq!(rt; (map.len(), map.limiter().told), (2, 0));
+    map.limiter_mut().over = true;
+    assert!(rt; !insert(&mut map, 3)?);
+    assert!(rt; map.is_empty());
+    assert_eq!(rt; pairs(rt.alloc(), &map)?.len(), 0);
+    assert_eq!(rt; (map.limiter().told, map.limiter().last), (3, 3));
     Ok(())
 }
 
@@ -101,8 +156,10 @@ fn growth_is_refused(rt: HostRuntime) -> Result<(), Fail> {
 
 // Links of eight bits reach 128 buckets, which take 112 pairs.
 #[test]
-fn links_of_eight_bits(rt: HostRuntime) -> Result<(), Fail> {
-    let mut map = map_of(rt.alloc(), Narrow);
+fn the_maximum_number_of_elements_is_bound_by_the_link_type_u8(
+    rt: HostRuntime,
+) -> Result<(), Fail> {
+    let mut map = map_of(rt.alloc(), LinkedBy::<u8>(PhantomData));
     for n in 0..=111 {
         assert!(rt; insert(&mut map, n)?);
         assert_eq!(rt; ends(&map), (Some(n), Some(0)));
@@ -112,6 +169,22 @@ fn links_of_eight_bits(rt: HostRuntime) -> Result<(), Fail> {
     assert_eq!(rt; newest, Some(112));
     assert!(rt; oldest != Some(0));
     assert!(rt; map.len() >= 56 && map.len() <= 112);
+    Ok(())
+}
+
+// Links of 16 bits reach 32,768 buckets, which take 28,672 pairs.
+#[test]
+fn the_maximum_number_of_elements_is_bound_by_the_link_type_u16(
+    rt: HostRuntime,
+) -> Result<(), Fail> {
+    let mut map = map_of(rt.alloc(), LinkedBy::<u16>(PhantomData));
+    assert_eq!(rt; insert_all(&mut map, 0..=28_671)?, 28_672);
+    assert_eq!(rt; map.peek(&0), Some(&0));
+    assert_eq!(rt; map.iter().next(), Some((&28_671, &286_710)));
+    assert_eq!(rt; map.guaranteed_capacity(), 28_672);
+    assert!(rt; insert(&mut map, 28_672)?);
+    assert_eq!(rt; map.iter().next(), Some((&28_672, &286_720)));
+    assert_eq!(rt; map.peek(&0), None);
     Ok(())
 }
 

@@ -117,10 +117,10 @@ impl Insertion<String, u32, String> for Counting {
     } };
 }
 
-type Texts = LruMap<String, u32, Counting>;
+pub(super) type Texts = LruMap<String, u32, Counting>;
 
 // Inserts under a text, which becomes a `String` only if it is stored.
-fn insert_text(map: &mut Texts, key: &str, value: u32) -> Result<bool, AllocError> {
+pub(super) fn insert_text(map: &mut Texts, key: &str, value: u32) -> Result<bool, AllocError> {
     map.insert(InsertKey(key), value)
 }
 
@@ -135,7 +135,7 @@ fn insert_string(
 }
 
 // Whether the keys are these, newest first.
-fn has_keys(map: &Texts, keys: &[&str]) -> bool {
+pub(super) fn has_keys(map: &Texts, keys: &[&str]) -> bool {
     let mut at = 0usize;
     for (key, _) in map.iter() {
         if keys.get(at).is_none_or(|want| *want != key.as_str()) {
