@@ -3,7 +3,9 @@
 # It builds the program first, which proves it.
 set -euo pipefail
 cd "$(dirname "$0")/../crates/lru_replay"
-rt run <stdin >/dev/null 2>&1
+input=$(mktemp)
+trap 'rm -f "$input"' EXIT
+rt run <stdin >"$input" 2>&1 || { cat "$input"; exit 1; }
 
 lines() { # the greatest length, and how many keys
     awk -v most="$1" -v keys="$2" 'BEGIN {
@@ -29,8 +31,6 @@ measure() { # a name, and the file of the input
     printf '%-32s %5d ms\n' "$1" $(((end - start) / 1000000))
 }
 
-input=$(mktemp)
-trap 'rm -f "$input"' EXIT
 lines 3 6 >"$input" && measure "a million lines, 3 pairs" "$input"
 lines 100 150 >"$input" && measure "a million lines, 100 pairs" "$input"
 lines 100000 150000 >"$input" && measure "a million lines, 100,000 pairs" "$input"

@@ -2,8 +2,7 @@
 #![tactic(auto)]
 
 use group_table::{Table, buckets_for_capacity};
-use lru_limits::{ByLength, RandomState, UnlimitedCompact};
-use schnellru::LruMap;
+use schnellru::{ByLength, LruMap, RandomState, UnlimitedCompact};
 use std::alloc::{AllocError, Global};
 use std::hash::{BuildHasher, Hasher};
 
@@ -75,6 +74,7 @@ fn run_on(alloc: Global, capacity: usize, operations: &[u64]) -> Result<u64, All
     Ok(sum)
 }
 
+/// The sum of what the operations gave on a table, or 0 for want of memory.
 #[unsafe(no_mangle)]
 pub extern "C" fn rattle_table(alloc: Global, capacity: usize, operations: &[u64]) -> u64 {
     run_on(alloc, capacity, operations).unwrap_or(0)
@@ -114,6 +114,7 @@ fn run_on_map(alloc: Global, length: u32, operations: &[u64]) -> Result<u64, All
     Ok(sum)
 }
 
+/// The sum of what the operations gave on a map, or 0 for want of memory.
 #[unsafe(no_mangle)]
 pub extern "C" fn rattle_map(alloc: Global, length: u32, operations: &[u64]) -> u64 {
     run_on_map(alloc, length, operations).unwrap_or(0)
@@ -133,6 +134,7 @@ fn grow(alloc: Global, count: u64) -> Result<u64, AllocError> {
     Ok(map.len() as u64)
 }
 
+/// How many pairs a map without a limit has after so many inserts, or 0 for want of memory.
 #[unsafe(no_mangle)]
 pub extern "C" fn rattle_map_growth(alloc: Global, count: u64) -> u64 {
     grow(alloc, count).unwrap_or(0)

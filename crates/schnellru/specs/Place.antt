@@ -65,8 +65,8 @@ module _ {K V S H : Type 0} (rules : Rules K V S) where
   abbrev pub next_table : State K V S H → Target
   next_table st = target st.max st.entry_bytes (buckets st) (length st.pairs + 1)
 
-  -- there is no larger table, and mid is the state in which this is known: none is large enough, or the limiter
-  -- refuses it
+  -- there is no larger table, and mid is the state in which this is known: links or bytes do not reach one, or the
+  -- limiter refuses it
   pub data CannotGrow (old mid : State K V S H) : Type 0 where
     no_target : next_table old ≡ no_table → mid ≡ old → CannotGrow old mid
     denied : (count bytes : ℕ) → next_table old ≡ new_table count bytes → Denies bytes old →

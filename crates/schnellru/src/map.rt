@@ -23,10 +23,11 @@ pub const DEFAULT_ENTRY_BYTES: usize = 32;
 ///
 /// `get` and `insert` make a pair the newest. The limiter says which elements are taken, when the map is over its limit,
 /// so that the oldest pairs leave, and how large the table may grow. `entry_bytes` are the bytes of a bucket, by which the
-/// memory that the table uses is counted.
+/// memory that the table uses is counted: about 8 for its tag, beside those of a key, a value and two links. The map takes
+/// memory by what its entries have; the number is for `memory_usage` and for limiters.
 ///
 /// ```
-/// let mut map = LruMap::new(alloc, ByLength::new(2), [1, 2, 3, 4], 16);
+/// let mut map = LruMap::new(alloc, ByLength::new(2), [1, 2, 3, 4], 32);
 /// map.insert(1, 10)?;
 /// map.insert(2, 20)?;
 /// map.get(&1);

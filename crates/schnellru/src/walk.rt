@@ -69,7 +69,7 @@ impl<K: Eq + Hash, V, L: Limiter<K, V>, S: BuildHasher> LruMap<K, V, L, S> {
     ///
     /// ```
     /// for (key, value) in map.iter() {
-    ///     total += *key * *value;
+    ///     total = total.wrapping_add(key.wrapping_mul(*value));
     /// }
     /// ```
     ///

@@ -10,8 +10,8 @@ use std::marker::Model;
 
 /// Limits the number of pairs. A clause sees it as that number.
 ///
-/// A map under it never has more than `max_length` pairs after a call. It refuses an element only where `max_length`
-/// is 0.
+/// A map under it has at most `max_length` pairs after each call, as long as nobody lowers it, and after each insert that
+/// places or replaces. It refuses an element only where `max_length` is 0.
 #[derive(Clone, Copy, Debug)]
 pub struct ByLength {
     max_length: u32,

@@ -23,8 +23,9 @@ impl<K: Eq + Hash + Drop, V: Drop, L: Limiter<K, V>, S: BuildHasher> LruMap<K, V
     /// At the end the oldest leave as long as the limiter is over.
     ///
     /// An error says that memory was refused, and comes only for a new key. Either `on_insert` found none, and nothing has
-    /// changed, or the table found none, which has no room then. The newest of the old pairs are left, and the limiter was
-    /// told of each pair that left, and of the new one. Want of memory evicts nothing.
+    /// changed; or the table, which had no room, found none: then the newest of the old pairs are left, and the limiter was
+    /// told of each pair that left, and of the new one. Want of memory evicts nothing, and no memory is taken while there is
+    /// room, but what `on_insert` takes.
     ///
     /// After schnellru's `LruMap::insert`.
     #[inline]
@@ -116,7 +117,7 @@ impl<K: Eq + Hash + Drop, V: Drop, L: Limiter<K, V>, S: BuildHasher> LruMap<K, V
     }
 
     // Removes the oldest pairs while the limiter is over.
-    pub(crate) fn trim(&mut self)
+    fn trim(&mut self)
         ensures { Leaves self.old (trim L.rules (contents self.old)) self.new }
     {
         while !self.is_empty() && self.limiter.is_over_the_limit(self.entries.len()) {

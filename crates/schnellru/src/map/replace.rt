@@ -10,7 +10,7 @@ use std::hash::Hash;
 
 // Has the limiter replace the value in a bucket: it takes the new one, and the pair is the newest then, or the pair
 // leaves. The answer is whether it took it.
-pub(crate) fn replace<K: Eq + Hash + Drop, V: Drop, I: LookupKey<K>, L: Insertion<K, V, I>>(
+pub(super) fn replace<K: Eq + Hash + Drop, V: Drop, I: LookupKey<K>, L: Insertion<K, V, I>>(
     entries: &mut Linked<K, V, L::LinkType>,
     limiter: &mut L,
     b: usize,
