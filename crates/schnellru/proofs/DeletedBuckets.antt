@@ -6,7 +6,7 @@ use Rattle.group_table.specs.Bucket.{Mark, empty, deleted, bucket_at}
 use Rattle.group_table.proofs.FirstFree.{IsFirstFree-unique}
 use Rattle.lru_limits.specs.Rules.{Rules}
 use Rattle.schnellru.specs.State.{State, buckets, room, contents, FirstFreeIs}
-use Rattle.schnellru.specs.Place.{Place, first_table, first_denied, first_too_large, into_empty, into_emptied, with_room, deleted_bucket, rehashed, grown, evicted, evicted_rehashed, Outcome, placed, IsPlaced, asked}
+use Rattle.schnellru.specs.Place.{Place, first_table, first_denied, first_too_large, empty_with_room, empty_without_room, with_room, deleted_bucket, rehashed, grown, evicted, evicted_rehashed, Outcome, placed, IsPlaced, asked}
 use Rattle.schnellru.proofs.Evictions.{placed_if}
 use Rattle.schnellru.proofs.Growth.{full_capacity-at_most, target_doubles}
 use Rattle.schnellru.proofs.Leaving.{length-pops, known_is}
@@ -28,8 +28,8 @@ module _ {K V S H : Type 0} (rules : Rules K V S) (hash_of : H → K → ℕ) (p
   deleted_serves p outcome new (first_table e b bytes u g m) = none_is_empty e
   deleted_serves p outcome new (first_denied e b bytes u d o n) = none_is_empty e
   deleted_serves p outcome new (first_too_large e b u o n) = none_is_empty e
-  deleted_serves p outcome new (into_empty e b r s o n) = none_is_empty e
-  deleted_serves p outcome new (into_emptied e b r o n) = none_is_empty e
+  deleted_serves p outcome new (empty_with_room e b r s o n) = none_is_empty e
+  deleted_serves p outcome new (empty_without_room e b r o n) = none_is_empty e
   deleted_serves p outcome new (with_room e r s o n) = absurd (omega (arith, r, no_room))
   deleted_serves p outcome new (deleted_bucket f i b l o n) = (o, n)
   deleted_serves p outcome new (rehashed f i l m) = absurd (not_both p i)
@@ -42,12 +42,12 @@ module _ {K V S H : Type 0} (rules : Rules K V S) (hash_of : H → K → ℕ) (p
   only_deleted ok outcome new q (first_table e b bytes u g m) p = none_is_empty e
   only_deleted ok outcome new q (first_denied e b bytes u d o n) p = none_is_empty e
   only_deleted ok outcome new q (first_too_large e b u o n) p = none_is_empty e
-  only_deleted ok outcome new q (into_empty e b r s o n) p = none_is_empty e
-  only_deleted ok outcome new q (into_emptied e b r o n) p = none_is_empty e
+  only_deleted ok outcome new q (empty_with_room e b r s o n) p = none_is_empty e
+  only_deleted ok outcome new q (empty_without_room e b r o n) p = none_is_empty e
   only_deleted ok outcome new q (with_room e r s o n) p = absurd (omega (arith, r, no_room))
   only_deleted ok outcome new q (deleted_bucket f i b l o n) p = i
   only_deleted ok outcome new q (rehashed f i l m) p =
-      absurd (omega (arith, l, some, p.left, (placed_if rules hash_of pair old old new _ _ _ outcome q m).left))
+      absurd (omega (arith, l, some, p.room_left, (placed_if rules hash_of pair old old new _ _ _ outcome q m).room_left))
   only_deleted ok outcome new q (grown f i l count bytes t g m) p = absurd (larger ok.count)
     where
       same : count ≡ buckets old

@@ -6,7 +6,7 @@ use Rattle.lru_limits.specs.Rules.{Rules}
 use Rattle.schnellru.specs.Lists.{without_last}
 use Rattle.schnellru.specs.State.{State, buckets, room, contents, Leaves, pops}
 use Rattle.schnellru.specs.Sizes.{no_table, new_table}
-use Rattle.schnellru.specs.Place.{Place, first_table, first_denied, first_too_large, into_empty, into_emptied, with_room, deleted_bucket, rehashed, grown, evicted, evicted_rehashed}
+use Rattle.schnellru.specs.Place.{Place, first_table, first_denied, first_too_large, empty_with_room, empty_without_room, with_room, deleted_bucket, rehashed, grown, evicted, evicted_rehashed}
 use Rattle.schnellru.specs.Place.{CannotGrow, no_target, denied, Outcome, placed, refused, no_memory, IsPlaced, IsPlacedIfMemory, Grants, asked, next_table, without_oldest}
 use Rattle.schnellru.specs.Theorems.{IsRefusedGrowth}
 use Rattle.schnellru.proofs.Outcomes.{placed-not_no_memory, refused-not_no_memory, refused-not_placed}
@@ -58,8 +58,8 @@ module _ {K V S H : Type 0} (rules : Rules K V S) (hash_of : H → K → ℕ) (p
   place_keeps outcome new q (first_table e b bytes u g m) = inl (record { pairs = ap (λ st. st.pairs) (placed_if (asked rules bytes old) new _ _ _ outcome q m).state; large = with_pairs e })
   place_keeps outcome new q (first_denied e b bytes u d o n) = refused-not_placed (sym o ∙ q)
   place_keeps outcome new q (first_too_large e b u o n) = refused-not_placed (sym o ∙ q)
-  place_keeps outcome new q (into_empty e b r s o n) = inl (record { pairs = ap (λ st. st.pairs) n.state; large = with_pairs e })
-  place_keeps outcome new q (into_emptied e b r o n) = inl (record { pairs = ap (λ st. st.pairs) n.state; large = with_pairs e })
+  place_keeps outcome new q (empty_with_room e b r s o n) = inl (record { pairs = ap (λ st. st.pairs) n.state; large = with_pairs e })
+  place_keeps outcome new q (empty_without_room e b r o n) = inl (record { pairs = ap (λ st. st.pairs) n.state; large = with_pairs e })
   place_keeps outcome new q (with_room e r s o n) = inl (record { pairs = ap (λ st. st.pairs) n.state; large = λ refusal. absurd (omega (arith, r, refusal.lacks_room.1)) })
   place_keeps outcome new q (deleted_bucket f i b l o n) = inl (record { pairs = ap (λ st. st.pairs) n.state; large = λ refusal. b })
   place_keeps outcome new q (rehashed f i l m) =
@@ -96,8 +96,8 @@ module _ {K V S H : Type 0} (rules : Rules K V S) (hash_of : H → K → ℕ) (p
   place_lacks_half refusal outcome new q (first_table e b bytes u g m) = with_pairs e refusal
   place_lacks_half refusal outcome new q (first_denied e b bytes u d o n) = refused-not_no_memory (sym o ∙ q)
   place_lacks_half refusal outcome new q (first_too_large e b u o n) = refused-not_no_memory (sym o ∙ q)
-  place_lacks_half refusal outcome new q (into_empty e b r s o n) = placed-not_no_memory (sym o ∙ q)
-  place_lacks_half refusal outcome new q (into_emptied e b r o n) = placed-not_no_memory (sym o ∙ q)
+  place_lacks_half refusal outcome new q (empty_with_room e b r s o n) = placed-not_no_memory (sym o ∙ q)
+  place_lacks_half refusal outcome new q (empty_without_room e b r o n) = placed-not_no_memory (sym o ∙ q)
   place_lacks_half refusal outcome new q (with_room e r s o n) = placed-not_no_memory (sym o ∙ q)
   place_lacks_half refusal outcome new q (deleted_bucket f i b l o n) = placed-not_no_memory (sym o ∙ q)
   place_lacks_half refusal outcome new q (rehashed f i l m) = absurd (omega (arith, l, refusal.above_half))
@@ -118,8 +118,8 @@ module _ {K V S H : Type 0} (rules : Rules K V S) (hash_of : H → K → ℕ) (p
   place_lacks_keeps outcome new q (first_table e b bytes u g m) = inl (left_if (asked rules bytes old) new _ _ _ outcome q m)
   place_lacks_keeps outcome new q (first_denied e b bytes u d o n) = refused-not_no_memory (sym o ∙ q)
   place_lacks_keeps outcome new q (first_too_large e b u o n) = refused-not_no_memory (sym o ∙ q)
-  place_lacks_keeps outcome new q (into_empty e b r s o n) = placed-not_no_memory (sym o ∙ q)
-  place_lacks_keeps outcome new q (into_emptied e b r o n) = placed-not_no_memory (sym o ∙ q)
+  place_lacks_keeps outcome new q (empty_with_room e b r s o n) = placed-not_no_memory (sym o ∙ q)
+  place_lacks_keeps outcome new q (empty_without_room e b r o n) = placed-not_no_memory (sym o ∙ q)
   place_lacks_keeps outcome new q (with_room e r s o n) = placed-not_no_memory (sym o ∙ q)
   place_lacks_keeps outcome new q (deleted_bucket f i b l o n) = placed-not_no_memory (sym o ∙ q)
   place_lacks_keeps outcome new q (rehashed f i l m) = inl (left_if old new _ _ _ outcome q m)
@@ -157,7 +157,7 @@ module _ {K V S H : Type 0} (rules : Rules K V S) (n : ℕ) (mid left : State K 
   pub placed_after : (pair : K × V) (new : State K V S H) (count spare moves : ℕ) → IsPlaced pair count spare moves left new → IsPlaced pair count spare moves (without_oldest rules n mid) new
   placed_after pair new count spare moves p = record {
     table = p.table;
-    left = p.left;
+    room_left = p.room_left;
     state =
         p.state ∙ ap {A = State K V S H} {B = State K V S H} (λ st. record st { pairs = pair ∷ st.pairs; marks = new.marks; moved = count_up st.moved moves; placed = count_up st.placed 1 }) step.is;
   }

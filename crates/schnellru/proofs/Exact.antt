@@ -5,7 +5,7 @@ use Rattle.lru_limits.specs.Rules.{Rules, Offers}
 use Rattle.group_table.specs.Sizes.{full_capacity}
 use Rattle.schnellru.specs.Lists.{is_empty, lookup_entry}
 use Rattle.schnellru.specs.State.{State, buckets, room, Contents, contents, Leaves, pops, trim}
-use Rattle.schnellru.specs.Place.{Place, first_table, first_denied, first_too_large, into_empty, into_emptied, with_room, deleted_bucket, rehashed, grown, evicted, evicted_rehashed}
+use Rattle.schnellru.specs.Place.{Place, first_table, first_denied, first_too_large, empty_with_room, empty_without_room, with_room, deleted_bucket, rehashed, grown, evicted, evicted_rehashed}
 use Rattle.schnellru.specs.Place.{CannotGrow, no_target, denied, next_table, Outcome, placed, refused, no_memory, IsPlaced, IsPlacedIfMemory, asked, without_oldest}
 use Rattle.std.specs.declared.alloc.AllocError.{AllocError}
 use Rattle.std.proofs.lemmas.Bool.{eq-eqb, ne_eqb, lt-ltb, le-ltb, le-leb, lt-leb}
@@ -44,8 +44,8 @@ module _ {K V S H : Type 0} (rules : Rules K V S) (hash_of : H → K → ℕ) (p
   place_lands outcome new (first_table e b bytes u g m) = rw (ap is_empty e, eq-eqb (buckets old) 0 b, u, g) (if_memory rules pair (asked rules bytes old) _ _ _ outcome new m)
   place_lands outcome new (first_denied e b bytes u d o n) = rw (ap is_empty e, eq-eqb (buckets old) 0 b, u, d, o) (sym (ap (λ x. record { there = false; left = contents x }) n))
   place_lands outcome new (first_too_large e b u o n) = rw (ap is_empty e, eq-eqb (buckets old) 0 b, u, o) (sym (ap (λ x. record { there = false; left = contents x }) n))
-  place_lands outcome new (into_empty e b r s o n) = rw (ap is_empty e, ne_eqb (buckets old) 0 (λ none. omega (arith, b, none))) (is_placed rules pair old _ _ _ outcome new o n)
-  place_lands outcome new (into_emptied e b r o n) = rw (ap is_empty e, ne_eqb (buckets old) 0 (λ none. omega (arith, b, none))) (is_placed rules pair old _ _ _ outcome new o n)
+  place_lands outcome new (empty_with_room e b r s o n) = rw (ap is_empty e, ne_eqb (buckets old) 0 (λ none. omega (arith, b, none))) (is_placed rules pair old _ _ _ outcome new o n)
+  place_lands outcome new (empty_without_room e b r o n) = rw (ap is_empty e, ne_eqb (buckets old) 0 (λ none. omega (arith, b, none))) (is_placed rules pair old _ _ _ outcome new o n)
   place_lands outcome new (with_room e r s o n) = rw (is_empty-some old.pairs e, lt-ltb 0 (room old) r) (is_placed rules pair old _ _ _ outcome new o n)
   place_lands outcome new (deleted_bucket f i b l o n) = absurd (omega (arith, small))
   place_lands outcome new (rehashed f i l m) = rw (is_empty-some old.pairs f.0, le-ltb 0 (room old) (le_of_eq f.1), le-leb (length old.pairs + 1) (full_capacity (buckets old) / 2) l) (if_memory rules pair old _ _ _ outcome new m)

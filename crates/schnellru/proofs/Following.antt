@@ -5,7 +5,7 @@ use Rattle.lru_limits.specs.Rules.{Rules, Offers}
 use Rattle.schnellru.specs.Sizes.{usage}
 use Rattle.schnellru.specs.Lists.{last}
 use Rattle.schnellru.specs.State.{State, Contents, buckets, contents, Leaves, told_of, pop, pops, trim, trim_from}
-use Rattle.schnellru.specs.Place.{Place, first_table, first_denied, first_too_large, into_empty, into_emptied, with_room, deleted_bucket, rehashed, grown, evicted, evicted_rehashed}
+use Rattle.schnellru.specs.Place.{Place, first_table, first_denied, first_too_large, empty_with_room, empty_without_room, with_room, deleted_bucket, rehashed, grown, evicted, evicted_rehashed}
 use Rattle.schnellru.specs.Place.{CannotGrow, no_target, denied, Outcome, placed, refused, no_memory, IsPlaced, IsPlacedIfMemory, asked, turned_away, without_oldest}
 use Rattle.schnellru.specs.Inserts.{Insert, replaced, given_up, no_memory_to_admit, not_admitted, admitted, make_way, Settles}
 use Rattle.schnellru.proofs.Growth.{target_usage}
@@ -132,8 +132,8 @@ module _ {K V S H : Type 0} (rules : Rules K V S) (P : S → Type 0) (kept : IsK
       if_memory_follows (asked rules bytes old) 4 _ _ outcome new m (asked_follows bytes) (inr (record { bytes = bytes; usable = u; limiter = old.limiter; holds = holds; granted = g }))
   place_follows outcome new (first_denied e b bytes u d o n) = away_follows (asked rules bytes old) new (asked_follows bytes) n
   place_follows outcome new (first_too_large e b u o n) = away_follows old new self n
-  place_follows outcome new (into_empty e b r s o n) = placed_follows old new _ _ _ n self (inl refl)
-  place_follows outcome new (into_emptied e b r o n) = placed_follows old new _ _ _ n self (inl refl)
+  place_follows outcome new (empty_with_room e b r s o n) = placed_follows old new _ _ _ n self (inl refl)
+  place_follows outcome new (empty_without_room e b r o n) = placed_follows old new _ _ _ n self (inl refl)
   place_follows outcome new (with_room e r s o n) = placed_follows old new _ _ _ n self (inl refl)
   place_follows outcome new (deleted_bucket f i b l o n) = placed_follows old new _ _ _ n self (inl refl)
   place_follows outcome new (rehashed f i l m) = if_memory_follows old _ _ _ outcome new m self (inl refl)

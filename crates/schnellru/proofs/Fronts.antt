@@ -6,7 +6,7 @@ use Rattle.std.specs.declared.alloc.AllocError.{AllocError}
 use Rattle.lru_limits.specs.Rules.{Rules, Offers}
 use Rattle.lru_limits.specs.Laws.{IsLookup, IsInsertion}
 use Rattle.schnellru.specs.State.{State, Contents, contents, pop, pops, trim, trim_from}
-use Rattle.schnellru.specs.Place.{Place, first_table, first_denied, first_too_large, into_empty, into_emptied, with_room, deleted_bucket, rehashed, grown}
+use Rattle.schnellru.specs.Place.{Place, first_table, first_denied, first_too_large, empty_with_room, empty_without_room, with_room, deleted_bucket, rehashed, grown}
 use Rattle.schnellru.specs.Place.{evicted, evicted_rehashed, Outcome, placed, refused, no_memory, IsPlaced, IsPlacedIfMemory, asked, without_oldest}
 use Rattle.schnellru.specs.Inserts.{Insert, replaced, given_up, no_memory_to_admit, not_admitted, admitted, make_way, Admits, replacement, with_replaced, Settles}
 use Rattle.schnellru.proofs.Leaving.{known_is}
@@ -101,8 +101,8 @@ module _ {K V S H : Type 0} (rules : Rules K V S) (hash_of : H → K → ℕ) (p
   place_ends outcome new (first_table e b bytes u g m) = if_memory_ends (asked rules bytes old) _ _ _ outcome new m (front_self old.pairs)
   place_ends outcome new (first_denied e b bytes u d o n) = inr (front_same _ _ (ap (λ st. st.pairs) n))
   place_ends outcome new (first_too_large e b u o n) = inr (front_same _ _ (ap (λ st. st.pairs) n))
-  place_ends outcome new (into_empty e b r s o n) = newest_of old new _ _ _ n (front_self old.pairs)
-  place_ends outcome new (into_emptied e b r o n) = newest_of old new _ _ _ n (front_self old.pairs)
+  place_ends outcome new (empty_with_room e b r s o n) = newest_of old new _ _ _ n (front_self old.pairs)
+  place_ends outcome new (empty_without_room e b r o n) = newest_of old new _ _ _ n (front_self old.pairs)
   place_ends outcome new (with_room e r s o n) = newest_of old new _ _ _ n (front_self old.pairs)
   place_ends outcome new (deleted_bucket f i b l o n) = newest_of old new _ _ _ n (front_self old.pairs)
   place_ends outcome new (rehashed f i l m) = if_memory_ends old _ _ _ outcome new m (front_self old.pairs)

@@ -9,7 +9,7 @@ use Rattle.schnellru.specs.Lists.{is_empty}
 use Rattle.schnellru.proofs.Emptiness.{is_empty-some}
 use Rattle.schnellru.specs.Sizes.{Target, target, no_table, same_table, new_table}
 use Rattle.schnellru.specs.State.{State, buckets, room, contents}
-use Rattle.schnellru.specs.Place.{Place, first_table, first_denied, first_too_large, into_empty, into_emptied, with_room, deleted_bucket, rehashed, grown, evicted, evicted_rehashed, CannotGrow, no_target, denied, next_table, Outcome, asked}
+use Rattle.schnellru.specs.Place.{Place, first_table, first_denied, first_too_large, empty_with_room, empty_without_room, with_room, deleted_bucket, rehashed, grown, evicted, evicted_rehashed, CannotGrow, no_target, denied, next_table, Outcome, asked}
 use Rattle.schnellru.specs.Inserts.{make_way}
 use Rattle.schnellru.specs.Exact.{Landing, lands, grows, asks, landing, AlwaysGrants, HasTables}
 use Rattle.schnellru.proofs.Exact.{LandsAs, if_memory, is_placed, PlacesExactly}
@@ -55,8 +55,8 @@ module _ {K V S H : Type 0} (rules : Rules K V S) (grants : AlwaysGrants rules) 
       no : true ≡ false → ⊥
       no h = grind arith
   place_granted outcome new (first_too_large e b u o n) = rw (ap is_empty e, eq-eqb (buckets old) 0 b, u, o) (sym (ap (λ x. record { there = false; left = contents x }) n))
-  place_granted outcome new (into_empty e b r s o n) = rw (ap is_empty e, ne_eqb (buckets old) 0 (λ none. omega (arith, b, none))) (is_placed rules pair old _ _ _ outcome new o n)
-  place_granted outcome new (into_emptied e b r o n) = rw (ap is_empty e, ne_eqb (buckets old) 0 (λ none. omega (arith, b, none))) (is_placed rules pair old _ _ _ outcome new o n)
+  place_granted outcome new (empty_with_room e b r s o n) = rw (ap is_empty e, ne_eqb (buckets old) 0 (λ none. omega (arith, b, none))) (is_placed rules pair old _ _ _ outcome new o n)
+  place_granted outcome new (empty_without_room e b r o n) = rw (ap is_empty e, ne_eqb (buckets old) 0 (λ none. omega (arith, b, none))) (is_placed rules pair old _ _ _ outcome new o n)
   place_granted outcome new (with_room e r s o n) = rw (lands_anyway e) (is_placed rules pair old _ _ _ outcome new o n)
   place_granted outcome new (deleted_bucket f i b l o n) = rw (lands_anyway f.0) (is_placed rules pair old _ _ _ outcome new o n)
   place_granted outcome new (rehashed f i l m) = rw (lands_anyway f.0) (if_memory rules pair old _ _ _ outcome new m)

@@ -4,7 +4,7 @@ use Rattle.std.specs.declared.alloc.AllocError.{AllocError}
 use Rattle.lru_limits.specs.Rules.{Rules, Offers}
 use Rattle.group_table.specs.Sizes.{full_capacity, IsBucketCount}
 use Rattle.schnellru.specs.State.{State, buckets, IsSized}
-use Rattle.schnellru.specs.Place.{Place, first_table, first_denied, first_too_large, into_empty, into_emptied, with_room, deleted_bucket, rehashed}
+use Rattle.schnellru.specs.Place.{Place, first_table, first_denied, first_too_large, empty_with_room, empty_without_room, with_room, deleted_bucket, rehashed}
 use Rattle.schnellru.specs.Place.{grown, evicted, evicted_rehashed, Outcome, placed, refused, no_memory, IsPlacedIfMemory, asked, turned_away}
 use Rattle.schnellru.specs.Inserts.{Insert, replaced, given_up, no_memory_to_admit, not_admitted, admitted, Settles}
 use Rattle.schnellru.proofs.Growth.{full_capacity-4, full_capacity-at_most}
@@ -40,8 +40,8 @@ module _ {K V S H : Type 0} (rules : Rules K V S) (hash_of : H → K → ℕ) (p
   place_grows ok outcome new (first_table e b bytes u g m) = if_memory_new (asked rules bytes old) 4 _ _ outcome new refl (omega (arith, full_capacity-4)) m
   place_grows ok outcome new (first_denied e b bytes u d o n) = same_table_grows new (same_marks _ new n refl)
   place_grows ok outcome new (first_too_large e b u o n) = same_table_grows new (same_marks _ new n refl)
-  place_grows ok outcome new (into_empty e b r s o n) = same_table_grows new n.table
-  place_grows ok outcome new (into_emptied e b r o n) = same_table_grows new n.table
+  place_grows ok outcome new (empty_with_room e b r s o n) = same_table_grows new n.table
+  place_grows ok outcome new (empty_without_room e b r o n) = same_table_grows new n.table
   place_grows ok outcome new (with_room e r s o n) = same_table_grows new n.table
   place_grows ok outcome new (deleted_bucket f i b l o n) = same_table_grows new n.table
   place_grows ok outcome new (rehashed f i l m) = if_memory_same old _ _ outcome new refl m

@@ -56,7 +56,7 @@ module _ {K V : Type 0} (t u : Linked K V) (hash : ℕ) (pair : K × V) (b : ℕ
       pub lands_placed : IsPlaced pair (buckets before) (room (marks_of u.slots)) 0 before after
       lands_placed = record {
         table = length-marks_of u.slots ∙ lands_length ∙ sym (length-marks_of t.slots);
-        left = refl;
+        room_left = refl;
         state = λ i. record after { pairs = lands_pairs i; moved = kept i };
       }
 

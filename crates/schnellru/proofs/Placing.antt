@@ -10,7 +10,7 @@ use Rattle.group_table.specs.Change.{HasNoPlace}
 use Rattle.lru_limits.specs.Rules.{Rules}
 use Rattle.schnellru.specs.Sizes.{usage, Target, no_table, new_table, target}
 use Rattle.schnellru.specs.State.{State, buckets, room, contents, IsSized, Leaves, pop, pops, FirstFreeIs}
-use Rattle.schnellru.specs.Place.{Place, first_table, first_denied, into_empty, into_emptied, with_room, deleted_bucket, rehashed, grown, evicted, evicted_rehashed, CannotGrow}
+use Rattle.schnellru.specs.Place.{Place, first_table, first_denied, empty_with_room, empty_without_room, with_room, deleted_bucket, rehashed, grown, evicted, evicted_rehashed, CannotGrow}
 use Rattle.schnellru.specs.Place.{Outcome, no_target, denied, outcome_of, placed, refused, IsPlaced, IsPlacedIfMemory, LacksRoom, asked, turned_away, without_oldest, next_table}
 use Rattle.schnellru.specs.Steps.{Evicts, finds_bucket, made_anew, UsesRoom, UsesDeleted}
 use Rattle.group_table.proofs.BucketLemmas.{length-marks_of}
@@ -92,10 +92,10 @@ module _ {K V S H : Type 0} (rules : Rules K V S) (hash_of : H → K → ℕ) (p
 
       go : Dec (0 < room old) → Dec (0 < length old.pairs) → Place rules hash_of pair old placed new
       go (yes r) (yes l) = with_room l r (used (roomy r)) refl step
-      go (yes r) (no l) = into_empty (nil_from_length old.pairs (omega (arith, l))) (omega (arith, r, fits old ok, full_capacity-at_most (buckets old))) r
+      go (yes r) (no l) = empty_with_room (nil_from_length old.pairs (omega (arith, l))) (omega (arith, r, fits old ok, full_capacity-at_most (buckets old))) r
           (used (roomy r)) refl step
       go (no r) (yes l) = let uses = none (omega (arith, r)) in
-          deleted_bucket (l, omega (arith, r)) uses.first uses.large uses.within refl (record { table = step.table; left = uses.none_left; state = step.state })
+          deleted_bucket (l, omega (arith, r)) uses.first uses.large uses.within refl (record { table = step.table; room_left = uses.none_left; state = step.state })
       go (no r) (no l) = elim some [ inl x ↦ absurd (r x) | inr x ↦ absurd (l x) ]
 
   -- the table was made anew at its size, where it had no room
@@ -117,7 +117,7 @@ module _ {K V S H : Type 0} (rules : Rules K V S) (hash_of : H → K → ℕ) (p
           let no_pairs : length old.pairs ≡ 0 = omega (arith, l) in let empty_list = nil_from_length old.pairs no_pairs in
           let there = placed_by result (succeeds empty_list) step in
           let spare : full_capacity (buckets old) - length old.pairs - 1 ≡ full_capacity (buckets old) - 1 = omega (arith, no_pairs) in
-          into_emptied empty_list (omega (arith, few, full_capacity-at_most (buckets old))) none there.0
+          empty_without_room empty_list (omega (arith, few, full_capacity-at_most (buckets old))) none there.0
           (subst (λ n. IsPlaced pair (buckets old) n 0 old new) spare
           (subst (λ n. IsPlaced pair (buckets old) (full_capacity (buckets old) - length old.pairs - 1) n old new) no_pairs there.1))
 

@@ -5,7 +5,7 @@ use Rattle.group_table.specs.Change.{count_up}
 use Rattle.schnellru.specs.Sizes.{new_table}
 use Rattle.lru_limits.specs.Rules.{Rules, Offers}
 use Rattle.schnellru.specs.State.{State, buckets, room, potential, Contents, contents, IsSized, Leaves, pops, trim}
-use Rattle.schnellru.specs.Place.{Place, first_table, first_denied, first_too_large, into_empty, into_emptied, with_room, deleted_bucket, rehashed, grown}
+use Rattle.schnellru.specs.Place.{Place, first_table, first_denied, first_too_large, empty_with_room, empty_without_room, with_room, deleted_bucket, rehashed, grown}
 use Rattle.schnellru.specs.Place.{evicted, evicted_rehashed, Outcome, placed, refused, no_memory, IsPlaced, without_oldest, asked, next_table, IsPlacedIfMemory}
 use Rattle.std.specs.declared.alloc.AllocError.{AllocError}
 use Rattle.schnellru.specs.Inserts.{Insert, replaced, given_up, no_memory_to_admit, not_admitted, admitted, Settles}
@@ -76,7 +76,7 @@ module _ {K V S H : Type 0} (rules : Rules K V S) (hash_of : H → K → ℕ) (p
   placed_pays : (st new : State K V S H) (count spare moves : ℕ) → IsPlaced pair count spare moves st new → st.moved ≡ old.moved → st.placed ≡ old.placed
       → moves + (full_capacity count - 2 * spare) ≤ potential old + 2 → PaysForMoves old new
   placed_pays st new count spare moves p m n f =
-      pays_placing old new moves ok.placed (ap (λ x. x.moved) p.state ∙ ap (λ x. count_up x moves) m) (ap (λ x. x.placed) p.state ∙ ap (λ x. count_up x 1) n) (rw (p.table, p.left) f)
+      pays_placing old new moves ok.placed (ap (λ x. x.moved) p.state ∙ ap (λ x. count_up x moves) m) (ap (λ x. x.placed) p.state ∙ ap (λ x. count_up x 1) n) (rw (p.table, p.room_left) f)
 
   if_memory_pays : (st : State K V S H) (count spare moves : ℕ) (outcome : Outcome) (new : State K V S H) → IsPlacedIfMemory rules pair count spare moves st outcome new
       → PaysForMoves old st → st.moved ≡ old.moved → st.placed ≡ old.placed → moves + (full_capacity count - 2 * spare) ≤ potential old + 2 → PaysForMoves old new
@@ -100,8 +100,8 @@ module _ {K V S H : Type 0} (rules : Rules K V S) (hash_of : H → K → ℕ) (p
   place_pays outcome new (first_table e b bytes u g m) = if_memory_pays (asked rules bytes old) 4 2 0 outcome new m (calm_asked bytes) refl refl (omega (arith, full_capacity-at_most 4))
   place_pays outcome new (first_denied e b bytes u d o n) = rw n (record { placed = omega arith; moved = λ h. omega arith })
   place_pays outcome new (first_too_large e b u o n) = rw n (record { placed = omega arith; moved = λ h. omega arith })
-  place_pays outcome new (into_empty e b r s o n) = placed_pays old new _ _ 0 n refl refl (omega arith)
-  place_pays outcome new (into_emptied e b r o n) = placed_pays old new _ _ 0 n refl refl (omega arith)
+  place_pays outcome new (empty_with_room e b r s o n) = placed_pays old new _ _ 0 n refl refl (omega arith)
+  place_pays outcome new (empty_without_room e b r o n) = placed_pays old new _ _ 0 n refl refl (omega arith)
   place_pays outcome new (with_room e r s o n) = placed_pays old new _ _ 0 n refl refl (omega arith)
   place_pays outcome new (deleted_bucket f i b l o n) = placed_pays old new _ _ 0 n refl refl (omega (arith, f.1))
   place_pays outcome new (rehashed f i l m) = if_memory_pays old _ _ _ outcome new m (pays_self old) refl refl (omega (arith, f.1, ok.fits))

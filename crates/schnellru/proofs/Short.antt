@@ -5,7 +5,7 @@ use Rattle.std.specs.declared.alloc.AllocError.{AllocError}
 use Rattle.group_table.specs.Bucket.{Mark, room as room_of}
 use Rattle.lru_limits.specs.Rules.{Rules, Offers}
 use Rattle.schnellru.specs.State.{State, buckets, room}
-use Rattle.schnellru.specs.Place.{Place, first_table, first_denied, first_too_large, into_empty, into_emptied, with_room, deleted_bucket, rehashed, grown, evicted, evicted_rehashed, Outcome, placed, refused, no_memory}
+use Rattle.schnellru.specs.Place.{Place, first_table, first_denied, first_too_large, empty_with_room, empty_without_room, with_room, deleted_bucket, rehashed, grown, evicted, evicted_rehashed, Outcome, placed, refused, no_memory}
 use Rattle.schnellru.specs.Inserts.{Insert, replaced, given_up, no_memory_to_admit, not_admitted, admitted, make_way, Settles, IsShort, LacksMemory}
 use Rattle.schnellru.specs.Lists.{IsFront}
 use Rattle.schnellru.proofs.Fronts.{front_same, front_trans, front_make_way}
@@ -27,8 +27,8 @@ module _ {K V S H : Type 0} (rules : Rules K V S) (hash_of : H → K → ℕ) (p
   place_lacks new outcome q (first_table e b bytes u g m) = (no_room old.marks b, inl b)
   place_lacks new outcome q (first_denied e b bytes u d o n) = refused-not_no_memory (sym o ∙ q)
   place_lacks new outcome q (first_too_large e b u o n) = refused-not_no_memory (sym o ∙ q)
-  place_lacks new outcome q (into_empty e b r s o n) = placed-not_no_memory (sym o ∙ q)
-  place_lacks new outcome q (into_emptied e b r o n) = placed-not_no_memory (sym o ∙ q)
+  place_lacks new outcome q (empty_with_room e b r s o n) = placed-not_no_memory (sym o ∙ q)
+  place_lacks new outcome q (empty_without_room e b r o n) = placed-not_no_memory (sym o ∙ q)
   place_lacks new outcome q (with_room e r s o n) = placed-not_no_memory (sym o ∙ q)
   place_lacks new outcome q (deleted_bucket f i b l o n) = placed-not_no_memory (sym o ∙ q)
   place_lacks new outcome q (rehashed f i l m) = (f.1, inr f.0)

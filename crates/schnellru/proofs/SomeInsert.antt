@@ -15,7 +15,7 @@ use Rattle.lru_limits.specs.Rules.{Rules, Offers}
 use Rattle.schnellru.specs.Lists.{is_empty, lookup_entry, without}
 use Rattle.schnellru.specs.Sizes.{usage, Target, no_table, same_table, new_table}
 use Rattle.schnellru.specs.State.{State, Contents, buckets, room, contents, IsSized, Leaves, FirstFreeIs, pops, trim}
-use Rattle.schnellru.specs.Place.{Place, first_table, first_denied, first_too_large, into_empty, into_emptied, with_room, deleted_bucket, rehashed, grown, evicted, evicted_rehashed}
+use Rattle.schnellru.specs.Place.{Place, first_table, first_denied, first_too_large, empty_with_room, empty_without_room, with_room, deleted_bucket, rehashed, grown, evicted, evicted_rehashed}
 use Rattle.schnellru.specs.Place.{Outcome, placed, refused, no_memory, IsPlaced, LacksRoom, CannotGrow, no_target, denied, next_table, asked, turned_away}
 use Rattle.schnellru.specs.Inserts.{Insert, replaced, given_up, not_admitted, admitted, make_way, replacement, with_replaced, with_given_up}
 use Rattle.schnellru.proofs.Growth.{full_capacity-at_most, full_capacity-some, target-same}
@@ -76,7 +76,7 @@ module _ {K V S H : Type 0} where
       let placed = count_up old.placed 1 in
       let new : State K V S H = record old { pairs = pairs; limiter = c.limiter; marks = marked old ok pairs deletions fit; moved = moved; placed = placed } in (
         new,
-        record { table = length-marked old ok pairs deletions fit; left = omega (arith, room-marked old ok pairs deletions fit); state = refl },
+        record { table = length-marked old ok pairs deletions fit; room_left = omega (arith, room-marked old ok pairs deletions fit); state = refl },
         sized-marked old ok pairs deletions fit none_deleted c.limiter moved placed (counted old.moved 0) (counted old.placed 1),
       )
 
@@ -114,18 +114,18 @@ module _ {K V S H : Type 0} (rules : Rules K V S) (hash_of : H → K → ℕ) (p
   emptied_ends e power r =
       let none : length old.pairs ≡ 0 = ap length e in
       let (new, is, sized) = some_bucket pair old ok (contents old) 0 (omega (arith, none, full_capacity-some (buckets old) power)) (λ _. refl) in
-      let one : IsPlaced pair (buckets old) (full_capacity (buckets old) - 1) 0 old new = record { table = is.table; left = omega (arith, is.left, none); state = is.state } in
-      (placed, new, into_emptied e (omega (arith, power_pos (buckets old) power)) r refl one, sized)
+      let one : IsPlaced pair (buckets old) (full_capacity (buckets old) - 1) 0 old new = record { table = is.table; room_left = omega (arith, is.room_left, none); state = is.state } in
+      (placed, new, empty_without_room e (omega (arith, power_pos (buckets old) power)) r refl one, sized)
 
   -- with room, one of the room goes
   roomy_ends : 0 < room old → Ends
   roomy_ends r =
       let (new, is, sized) = some_bucket pair old ok (contents old) deletions (omega (arith, r, spent)) ok.table.none_deleted in
-      let less : room new + 1 ≡ room old = omega (arith, is.left, r, spent) in
-      let here : IsPlaced pair (buckets old) (room new) 0 old new = record { table = is.table; left = refl; state = is.state } in
+      let less : room new + 1 ≡ room old = omega (arith, is.room_left, r, spent) in
+      let here : IsPlaced pair (buckets old) (room new) 0 old new = record { table = is.table; room_left = refl; state = is.state } in
       elim (dec_lt 0 (length old.pairs)) [
         | yes some ↦ (placed, new, with_room some r (inl less) refl here, sized)
-        | no none ↦ (placed, new, into_empty (nil_from_length old.pairs (omega (arith, none))) (omega (arith, r, spent, full_capacity-at_most (buckets old))) r (inl less) refl here, sized)
+        | no none ↦ (placed, new, empty_with_room (nil_from_length old.pairs (omega (arith, none))) (omega (arith, r, spent, full_capacity-at_most (buckets old))) r (inl less) refl here, sized)
       ]
 
   module _ (lacks : LacksRoom old) where
@@ -140,7 +140,7 @@ module _ {K V S H : Type 0} (rules : Rules K V S) (hash_of : H → K → ℕ) (p
         let (new, is, sized) = some_bucket pair old ok (contents old) (deletions - 1) (omega (arith, some, full_table)) (λ small. absurd (omega (arith, small, large))) in (
           placed,
           new,
-          deleted_bucket lacks free large (omega (arith, spare)) refl (record { table = is.table; left = omega (arith, is.left, some, full_table); state = is.state }),
+          deleted_bucket lacks free large (omega (arith, spare)) refl (record { table = is.table; room_left = omega (arith, is.room_left, some, full_table); state = is.state }),
           sized,
         )
 
@@ -157,7 +157,7 @@ module _ {K V S H : Type 0} (rules : Rules K V S) (hash_of : H → K → ℕ) (p
                   placed,
                   new,
                   evicted lacks free more mid cannot 1 (omega arith) (λ _. refl) (omega (arith, l)) refl
-                      (record { table = is.table; left = refl; state = is.state }),
+                      (record { table = is.table; room_left = refl; state = is.state }),
                   sized,
                 )
             | no l ↦

@@ -7,7 +7,7 @@ use Rattle.lru_limits.specs.Laws.{IsAccount, kept_value}
 use Rattle.schnellru.specs.Theorems.{IsSummed}
 use Rattle.schnellru.specs.Lists.{last, without_last, lookup_entry, without}
 use Rattle.schnellru.specs.State.{State, Contents, contents, Leaves, told_of, pop, pops, trim, trim_from}
-use Rattle.schnellru.specs.Place.{Place, first_table, first_denied, first_too_large, into_empty, into_emptied, with_room, deleted_bucket, rehashed, grown, evicted, evicted_rehashed}
+use Rattle.schnellru.specs.Place.{Place, first_table, first_denied, first_too_large, empty_with_room, empty_without_room, with_room, deleted_bucket, rehashed, grown, evicted, evicted_rehashed}
 use Rattle.schnellru.specs.Place.{CannotGrow, no_target, denied, Outcome, placed, refused, no_memory, IsPlaced, IsPlacedIfMemory, asked, turned_away, without_oldest}
 use Rattle.schnellru.specs.Inserts.{Insert, replaced, given_up, no_memory_to_admit, not_admitted, admitted, make_way, replacement, with_replaced, with_given_up, Settles}
 
@@ -123,8 +123,8 @@ module _ {K V S I : Type 0} (rules : Rules K V S) (offers : Offers K V S I) (cos
       place_holds outcome new (first_table e b bytes u g m) = if_memory_holds (asked rules bytes old) _ _ _ outcome new m (asked_holds bytes)
       place_holds outcome new (first_denied e b bytes u d o n) = rw n (turned_away_holds (asked rules bytes old) (asked_holds bytes))
       place_holds outcome new (first_too_large e b u o n) = rw n (turned_away_holds old owed)
-      place_holds outcome new (into_empty e b r s o n) = placed_holds old new _ _ _ n owed
-      place_holds outcome new (into_emptied e b r o n) = placed_holds old new _ _ _ n owed
+      place_holds outcome new (empty_with_room e b r s o n) = placed_holds old new _ _ _ n owed
+      place_holds outcome new (empty_without_room e b r o n) = placed_holds old new _ _ _ n owed
       place_holds outcome new (with_room e r s o n) = placed_holds old new _ _ _ n owed
       place_holds outcome new (deleted_bucket f i b l o n) = placed_holds old new _ _ _ n owed
       place_holds outcome new (rehashed f i l m) = if_memory_holds old _ _ _ outcome new m owed

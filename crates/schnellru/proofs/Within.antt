@@ -8,7 +8,7 @@ use Rattle.lru_limits.specs.Rules.{Rules, Offers}
 use Rattle.lru_limits.specs.Laws.{IsLookup, IsInsertion}
 use Rattle.schnellru.specs.Lists.{is_empty, IsFront, lookup_entry, without}
 use Rattle.schnellru.specs.State.{State, Contents, contents, Leaves, pop, trim, trim_from}
-use Rattle.schnellru.specs.Place.{Place, first_table, first_denied, first_too_large, into_empty, into_emptied, with_room, deleted_bucket, rehashed}
+use Rattle.schnellru.specs.Place.{Place, first_table, first_denied, first_too_large, empty_with_room, empty_without_room, with_room, deleted_bucket, rehashed}
 use Rattle.schnellru.specs.Place.{grown, evicted, evicted_rehashed, Outcome, placed, refused, no_memory, IsPlaced, IsPlacedIfMemory, asked}
 use Rattle.schnellru.specs.Inserts.{Insert, replaced, given_up, no_memory_to_admit, not_admitted, admitted, replacement, with_replaced, Settles}
 use Rattle.schnellru.specs.Theorems.{IsNewest, SaysWhether}
@@ -74,8 +74,8 @@ module _ {K V S H : Type 0} (rules : Rules K V S) (hash_of : H → K → ℕ) (p
   place_comes outcome new (first_table e b bytes u g m) = if_memory_comes (asked rules bytes old) _ _ _ outcome new m (front_self old.pairs)
   place_comes outcome new (first_denied e b bytes u d o n) = rw o (ap (λ st. st.pairs) n ∙ e)
   place_comes outcome new (first_too_large e b u o n) = rw o (ap (λ st. st.pairs) n ∙ e)
-  place_comes outcome new (into_empty e b r s o n) = placed_comes _ _ _ _ outcome new o n
-  place_comes outcome new (into_emptied e b r o n) = placed_comes _ _ _ _ outcome new o n
+  place_comes outcome new (empty_with_room e b r s o n) = placed_comes _ _ _ _ outcome new o n
+  place_comes outcome new (empty_without_room e b r o n) = placed_comes _ _ _ _ outcome new o n
   place_comes outcome new (with_room e r s o n) = placed_comes _ _ _ _ outcome new o n
   place_comes outcome new (deleted_bucket f i b l o n) = placed_comes _ _ _ _ outcome new o n
   place_comes outcome new (rehashed f i l m) = if_memory_comes old _ _ _ outcome new m (front_self old.pairs)

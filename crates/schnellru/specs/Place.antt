@@ -22,7 +22,7 @@ module _ {K V S H : Type 0} where
   -- anew for it
   pub record IsPlaced (pair : K × V) (count spare moves : ℕ) (old new : State K V S H) : Type 0 where
     pub table : buckets new ≡ count
-    pub left : room new ≡ spare
+    pub room_left : room new ≡ spare
     pub state : new ≡ record old {
       pairs = pair ∷ old.pairs;
       marks = new.marks;
@@ -89,11 +89,11 @@ module _ {K V S H : Type 0} (rules : Rules K V S) (hash_of : H → K → ℕ) wh
         outcome ≡ refused → new ≡ turned_away rules pair old →
         Place pair old outcome new
     -- A map without pairs that has a table places one, asks nothing and needs no memory.
-    into_empty : old.pairs ≡ [] → 0 < buckets old →
+    empty_with_room : old.pairs ≡ [] → 0 < buckets old →
         0 < room old → (room new + 1 ≡ room old) ⊎ ((16 < buckets old) × (room new ≡ room old)) →
         outcome ≡ placed → IsPlaced pair (buckets old) (room new) 0 old new →
         Place pair old outcome new
-    into_emptied : old.pairs ≡ [] → 0 < buckets old →
+    empty_without_room : old.pairs ≡ [] → 0 < buckets old →
         room old ≡ 0 →
         outcome ≡ placed → IsPlaced pair (buckets old) (full_capacity (buckets old) - 1) 0 old new →
         Place pair old outcome new

@@ -12,6 +12,6 @@ unreachable-requires g c = elim c.in-Err.ensures.no_place [
 
 pub returns : goal.returns
 returns g c = let e = c.in-Ok.ensures in elim (e.room c.requires.room) [
-  | inl left ↦ record { table = e.placed.table; left = omega (arith, left); state = e.placed.state }
+  | inl left ↦ record { table = e.placed.table; room_left = omega (arith, left); state = e.placed.state }
   | inr w ↦ absurd (omega (arith, w.2, c.requires.exact))
 ]
