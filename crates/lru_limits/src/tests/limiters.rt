@@ -21,7 +21,7 @@ fn says<L: Limiter<u64, u64> + Insertion<u64, u64, u64>>(
 }
 
 #[test]
-fn what_limiters_say(rt: HostRuntime) -> Result<(), Fail> {
+fn by_length_says(rt: HostRuntime) -> Result<(), Fail> {
     let alloc = rt.alloc();
     for (most, length, over, taken) in [
         (3u32, 3usize, false, true),
@@ -35,6 +35,13 @@ fn what_limiters_say(rt: HostRuntime) -> Result<(), Fail> {
             "{most}"
         );
     }
+    assert_eq!(rt; ByLength::from(7).max_length(), 7);
+    Ok(())
+}
+
+#[test]
+fn by_memory_usage_says(rt: HostRuntime) -> Result<(), Fail> {
+    let alloc = rt.alloc();
     for (most, bytes, permitted) in [
         (152usize, 152usize, true),
         (152, 153, false),
@@ -47,6 +54,13 @@ fn what_limiters_say(rt: HostRuntime) -> Result<(), Fail> {
             "{most}"
         );
     }
+    assert_eq!(rt; ByMemoryUsage::from(7usize).max_memory_usage(), 7);
+    Ok(())
+}
+
+#[test]
+fn others_say(rt: HostRuntime) -> Result<(), Fail> {
+    let alloc = rt.alloc();
     assert_eq!(rt;
         says(&mut Unlimited::default(), alloc, usize::MAX, usize::MAX)?,
         (false, true, true)
@@ -63,13 +77,6 @@ fn what_limiters_say(rt: HostRuntime) -> Result<(), Fail> {
     assert_eq!(rt;
         says(&mut ByCost::new(9), alloc, usize::MAX, usize::MAX)?,
         (false, false, true)
-    );
-    assert_eq!(rt;
-        (
-            ByLength::from(7).max_length(),
-            ByMemoryUsage::from(7usize).max_memory_usage()
-        ),
-        (7, 7)
     );
     Ok(())
 }
