@@ -6,7 +6,7 @@ use Rattle.lru_limits.specs.Rules.{Rules}
 use Rattle.schnellru.specs.Lists.{without_last}
 use Rattle.schnellru.specs.State.{State, buckets, room, contents, Leaves, pops}
 use Rattle.schnellru.specs.Sizes.{no_table, new_table}
-use Rattle.schnellru.specs.Place.{Place, first_table, first_denied, first_too_large, empty_with_room, empty_without_room, with_room, deleted_bucket, rehashed, grown, evicted, evicted_rehashed}
+use Rattle.schnellru.specs.Place.{Place, first_table, first_denied, first_too_large, empty_with_room, empty_without_room, with_room, deleted_bucket, rehashed, grown, evicting, finds_bucket, made_anew}
 use Rattle.schnellru.specs.Place.{CannotGrow, no_target, denied, Outcome, placed, refused, no_memory, IsPlaced, IsPlacedIfMemory, Grants, asked, next_table, without_oldest}
 use Rattle.schnellru.specs.Theorems.{IsRefusedGrowth}
 use Rattle.schnellru.proofs.Outcomes.{placed-not_no_memory, refused-not_no_memory, refused-not_placed}
@@ -66,7 +66,7 @@ module _ {K V S H : Type 0} (rules : Rules K V S) (hash_of : H → K → ℕ) (p
       inl (record { pairs = ap (λ st. st.pairs) (placed_if old new _ _ _ outcome q m).state; large = λ refusal. absurd (omega (arith, l, refusal.above_half)) })
   place_keeps outcome new q (grown f i l count bytes t g m) =
       inl (record { pairs = ap (λ st. st.pairs) (placed_if (asked rules bytes old) new _ _ _ outcome q m).state; large = λ refusal. not_granted count bytes t g refusal.known refusal.refused })
-  place_keeps outcome new q (evicted f i l mid c n pos one half o p) =
+  place_keeps outcome new q (evicting f i l mid c (finds_bucket n pos one half o p)) =
       let left = ap (λ st. st.pairs) p.state in
       inr (
         record { lacks_room = f; above_half = l; known = mid; refused = c },
@@ -76,7 +76,7 @@ module _ {K V S H : Type 0} (rules : Rules K V S) (hash_of : H → K → ℕ) (p
           same_table = p.table;
         },
       )
-  place_keeps outcome new q (evicted_rehashed f i l mid c n pos one half left lv m) =
+  place_keeps outcome new q (evicting f i l mid c (made_anew n pos one half left lv m)) =
       let p = placed_if left new _ _ _ outcome q m in
       let rest = ap (λ st. st.pairs) lv.is in
       inr (
@@ -102,8 +102,8 @@ module _ {K V S H : Type 0} (rules : Rules K V S) (hash_of : H → K → ℕ) (p
   place_lacks_half refusal outcome new q (deleted_bucket f i b l o n) = placed-not_no_memory (sym o ∙ q)
   place_lacks_half refusal outcome new q (rehashed f i l m) = absurd (omega (arith, l, refusal.above_half))
   place_lacks_half refusal outcome new q (grown f i l count bytes t g m) = not_granted count bytes t g refusal.known refusal.refused
-  place_lacks_half refusal outcome new q (evicted f i l mid c n pos one half o p) = placed-not_no_memory (sym o ∙ q)
-  place_lacks_half refusal outcome new q (evicted_rehashed f i l mid c n pos one half left lv m) =
+  place_lacks_half refusal outcome new q (evicting f i l mid c (finds_bucket n pos one half o p)) = placed-not_no_memory (sym o ∙ q)
+  place_lacks_half refusal outcome new q (evicting f i l mid c (made_anew n pos one half left lv m)) =
       omega (
         arith,
         ap length (left_if left new _ _ _ outcome q m),
@@ -124,8 +124,8 @@ module _ {K V S H : Type 0} (rules : Rules K V S) (hash_of : H → K → ℕ) (p
   place_lacks_keeps outcome new q (deleted_bucket f i b l o n) = placed-not_no_memory (sym o ∙ q)
   place_lacks_keeps outcome new q (rehashed f i l m) = inl (left_if old new _ _ _ outcome q m)
   place_lacks_keeps outcome new q (grown f i l count bytes t g m) = inl (left_if (asked rules bytes old) new _ _ _ outcome q m)
-  place_lacks_keeps outcome new q (evicted f i l mid c n pos one half o p) = placed-not_no_memory (sym o ∙ q)
-  place_lacks_keeps outcome new q (evicted_rehashed f i l mid c n pos one half left lv m) = inr (record { lacks_room = f; above_half = l; known = mid; refused = c })
+  place_lacks_keeps outcome new q (evicting f i l mid c (finds_bucket n pos one half o p)) = placed-not_no_memory (sym o ∙ q)
+  place_lacks_keeps outcome new q (evicting f i l mid c (made_anew n pos one half left lv m)) = inr (record { lacks_room = f; above_half = l; known = mid; refused = c })
 
   module _ (new : State K V S H) (step : Place rules hash_of pair old placed new) where
     pub refused_half : IsRefusedGrowth rules old → full_capacity (buckets old) / 2 ≤ length new.pairs

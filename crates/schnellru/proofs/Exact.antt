@@ -5,7 +5,7 @@ use Rattle.lru_limits.specs.Rules.{Rules, Offers}
 use Rattle.group_table.specs.Sizes.{full_capacity}
 use Rattle.schnellru.specs.Lists.{is_empty, lookup_entry}
 use Rattle.schnellru.specs.State.{State, buckets, room, Contents, contents, Leaves, pops, trim}
-use Rattle.schnellru.specs.Place.{Place, first_table, first_denied, first_too_large, empty_with_room, empty_without_room, with_room, deleted_bucket, rehashed, grown, evicted, evicted_rehashed}
+use Rattle.schnellru.specs.Place.{Place, first_table, first_denied, first_too_large, empty_with_room, empty_without_room, with_room, deleted_bucket, rehashed, grown, evicting, finds_bucket, made_anew}
 use Rattle.schnellru.specs.Place.{CannotGrow, no_target, denied, next_table, Outcome, placed, refused, no_memory, IsPlaced, IsPlacedIfMemory, asked, without_oldest}
 use Rattle.std.specs.declared.alloc.AllocError.{AllocError}
 use Rattle.std.proofs.lemmas.Bool.{eq-eqb, ne_eqb, lt-ltb, le-ltb, le-leb, lt-leb}
@@ -50,8 +50,8 @@ module _ {K V S H : Type 0} (rules : Rules K V S) (hash_of : H → K → ℕ) (p
   place_lands outcome new (deleted_bucket f i b l o n) = absurd (omega (arith, small))
   place_lands outcome new (rehashed f i l m) = rw (is_empty-some old.pairs f.0, le-ltb 0 (room old) (le_of_eq f.1), le-leb (length old.pairs + 1) (full_capacity (buckets old) / 2) l) (if_memory rules pair old _ _ _ outcome new m)
   place_lands outcome new (grown f i l count bytes t g m) = rw (full_lands f.0 f.1 l, t, g) (if_memory rules pair (asked rules bytes old) _ _ _ outcome new m)
-  place_lands outcome new (evicted f i l mid c n pos one half o p) = rw (full_lands f.0 f.1 l, evicts_from mid c) (rw (one small) at (is_placed rules pair (without_oldest rules n mid) _ _ _ outcome new o p))
-  place_lands outcome new (evicted_rehashed f i l mid c n pos one half left lv m) =
+  place_lands outcome new (evicting f i l mid c (finds_bucket n pos one half o p)) = rw (full_lands f.0 f.1 l, evicts_from mid c) (rw (one small) at (is_placed rules pair (without_oldest rules n mid) _ _ _ outcome new o p))
+  place_lands outcome new (evicting f i l mid c (made_anew n pos one half left lv m)) =
       let same : contents left ≡ pops rules 1 (contents mid) = ap contents lv.is ∙ ap (λ k. pops rules k (contents mid)) (one small) in
       rw (full_lands f.0 f.1 l, evicts_from mid c) (subst (λ x. LandsAs rules pair (lands rules pair x) outcome new) same (if_memory rules pair left _ _ _ outcome new m))
 
@@ -92,7 +92,7 @@ module _ {K V S H I : Type 0} (rules : Rules K V S) (offers : Offers K V S I) (n
   insert_ends places result new ok (given_up pair found y r l) = rw (found, y) (r, left_is old _ new l)
   insert_ends places result new ok (no_memory_to_admit a k r e) = ok-not_err result ok r
   insert_ends places result new ok (not_admitted a s n r e) = rw a (s, None, n, (r, ap contents e))
-  insert_ends places result new ok (admitted a s pair n ready l outcome landed p t) =
+  insert_ends places result new ok (admitted a s pair n (ready, l, outcome, landed, p, t)) =
       rw a (s, Some pair, n, settled_ends _ pair outcome landed result new ok (places s pair ready l outcome landed p) t)
 
 module _ {K V S H I : Type 0} (rules : Rules K V S) (offers : Offers K V S I) (names : I → K → Bool) (i : I) (v : V) (old : State K V S H)

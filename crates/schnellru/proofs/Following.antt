@@ -5,7 +5,7 @@ use Rattle.lru_limits.specs.Rules.{Rules, Offers}
 use Rattle.schnellru.specs.Sizes.{usage}
 use Rattle.schnellru.specs.Lists.{last}
 use Rattle.schnellru.specs.State.{State, Contents, buckets, contents, Leaves, told_of, pop, pops, trim, trim_from}
-use Rattle.schnellru.specs.Place.{Place, first_table, first_denied, first_too_large, empty_with_room, empty_without_room, with_room, deleted_bucket, rehashed, grown, evicted, evicted_rehashed}
+use Rattle.schnellru.specs.Place.{Place, first_table, first_denied, first_too_large, empty_with_room, empty_without_room, with_room, deleted_bucket, rehashed, grown, evicting, finds_bucket, made_anew}
 use Rattle.schnellru.specs.Place.{CannotGrow, no_target, denied, Outcome, placed, refused, no_memory, IsPlaced, IsPlacedIfMemory, asked, turned_away, without_oldest}
 use Rattle.schnellru.specs.Inserts.{Insert, replaced, given_up, no_memory_to_admit, not_admitted, admitted, make_way, Settles}
 use Rattle.schnellru.proofs.Growth.{target_usage}
@@ -139,8 +139,8 @@ module _ {K V S H : Type 0} (rules : Rules K V S) (P : S → Type 0) (kept : IsK
   place_follows outcome new (rehashed f i l m) = if_memory_follows old _ _ _ outcome new m self (inl refl)
   place_follows outcome new (grown f i l count bytes t g m) = if_memory_follows (asked rules bytes old) count _ _ outcome new m (asked_follows bytes)
       (inr (record { bytes = bytes; usable = target_usage old.max old.entry_bytes (buckets old) (length old.pairs + 1) count bytes t; limiter = old.limiter; holds = holds; granted = g }))
-  place_follows outcome new (evicted f i l mid c n pos one half o p) = placed_follows (without_oldest rules n mid) new _ _ _ p (oldest_follows n mid (denied_follows mid c)) (inl refl)
-  place_follows outcome new (evicted_rehashed f i l mid c n pos one half left lv m) = if_memory_follows left _ _ _ outcome new m (left_follows n mid left lv (denied_follows mid c)) (inl refl)
+  place_follows outcome new (evicting f i l mid c (finds_bucket n pos one half o p)) = placed_follows (without_oldest rules n mid) new _ _ _ p (oldest_follows n mid (denied_follows mid c)) (inl refl)
+  place_follows outcome new (evicting f i l mid c (made_anew n pos one half left lv m)) = if_memory_follows left _ _ _ outcome new m (left_follows n mid left lv (denied_follows mid c)) (inl refl)
 
 module _ {K V S I : Type 0} (offers : Offers K V S I) (P : S → Type 0) where
   -- what holds of the limiter holds after an offer and after a replacement
@@ -165,7 +165,7 @@ module _ {K V S H I : Type 0} (rules : Rules K V S) (offers : Offers K V S I) (P
       leaves_follows rules P old _ new l (kept.told _ _ _ (kept_by_offers.replaced old.limiter (length old.pairs) pair.0 i pair.1 v holds))
   insert_follows i v old result new holds (no_memory_to_admit a k r e) = rw e (limiter_follows rules P old old.limiter holds)
   insert_follows i v old result new holds (not_admitted a s n r e) = rw e (limiter_follows rules P old s (kept_by_offers.offered old.limiter (length old.pairs) i v s None n holds))
-  insert_follows i v old result new holds (admitted a s pair n ready l outcome landed p t) =
+  insert_follows i v old result new holds (admitted a s pair n (ready, l, outcome, landed, p, t)) =
       let admits : P s = kept_by_offers.offered old.limiter (length old.pairs) i v s (Some pair) n holds in
       let start = limiter_follows rules P old s admits in
       let way = leaves_follows rules P (record old { limiter = s }) _ ready l (make_way_kept rules P kept (record { pairs = old.pairs; limiter = s }) admits) in

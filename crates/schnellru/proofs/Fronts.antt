@@ -7,7 +7,7 @@ use Rattle.lru_limits.specs.Rules.{Rules, Offers}
 use Rattle.lru_limits.specs.Laws.{IsLookup, IsInsertion}
 use Rattle.schnellru.specs.State.{State, Contents, contents, pop, pops, trim, trim_from}
 use Rattle.schnellru.specs.Place.{Place, first_table, first_denied, first_too_large, empty_with_room, empty_without_room, with_room, deleted_bucket, rehashed, grown}
-use Rattle.schnellru.specs.Place.{evicted, evicted_rehashed, Outcome, placed, refused, no_memory, IsPlaced, IsPlacedIfMemory, asked, without_oldest}
+use Rattle.schnellru.specs.Place.{evicting, finds_bucket, made_anew, Outcome, placed, refused, no_memory, IsPlaced, IsPlacedIfMemory, asked, without_oldest}
 use Rattle.schnellru.specs.Inserts.{Insert, replaced, given_up, no_memory_to_admit, not_admitted, admitted, make_way, Admits, replacement, with_replaced, Settles}
 use Rattle.schnellru.proofs.Leaving.{known_is}
 use Rattle.schnellru.specs.Theorems.{GivesUp, behind, with_none, without_one}
@@ -107,9 +107,9 @@ module _ {K V S H : Type 0} (rules : Rules K V S) (hash_of : H → K → ℕ) (p
   place_ends outcome new (deleted_bucket f i b l o n) = newest_of old new _ _ _ n (front_self old.pairs)
   place_ends outcome new (rehashed f i l m) = if_memory_ends old _ _ _ outcome new m (front_self old.pairs)
   place_ends outcome new (grown f i l count bytes t g m) = if_memory_ends (asked rules bytes old) _ _ _ outcome new m (front_self old.pairs)
-  place_ends outcome new (evicted f i l mid c n pos one half o p) =
+  place_ends outcome new (evicting f i l mid c (finds_bucket n pos one half o p)) =
       newest_of (without_oldest rules n mid) new _ _ _ p (front_trans _ _ _ (front_pops rules n (contents mid)) (front_same _ _ (ap (λ st. st.pairs) (known_is rules old mid c))))
-  place_ends outcome new (evicted_rehashed f i l mid c n pos one half left lv m) =
+  place_ends outcome new (evicting f i l mid c (made_anew n pos one half left lv m)) =
       if_memory_ends left _ _ _ outcome new m
       (front_trans _ _ _ (front_same _ _ (ap (λ st. st.pairs) lv.is)) (front_trans _ _ _ (front_pops rules n (contents mid)) (front_same _ _ (ap (λ st. st.pairs) (known_is rules old mid c)))))
 
@@ -151,7 +151,7 @@ module _ {K V S H I : Type 0} (rules : Rules K V S) (offers : Offers K V S I) (n
     insert_gives_up result new (given_up pair found y r l) = without_one pair found y (ap (λ st. st.pairs) l.is)
     insert_gives_up result new (no_memory_to_admit a k r e) = with_none a (front_same _ _ (ap (λ st. st.pairs) e))
     insert_gives_up result new (not_admitted a s n r e) = with_none a (front_same _ _ (ap (λ st. st.pairs) e))
-    insert_gives_up result new (admitted a s pair n ready l outcome landed p t) = go (place_ends rules hash_of pair ready outcome landed p)
+    insert_gives_up result new (admitted a s pair n (ready, l, outcome, landed, p, t)) = go (place_ends rules hash_of pair ready outcome landed p)
       where
         ready_front : IsFront ready.pairs old.pairs
         ready_front = front_trans _ _ _ (front_same _ _ (ap (λ st. st.pairs) l.is)) (front_make_way rules (record { pairs = old.pairs; limiter = s }))

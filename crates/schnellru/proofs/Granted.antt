@@ -9,7 +9,7 @@ use Rattle.schnellru.specs.Lists.{is_empty}
 use Rattle.schnellru.proofs.Emptiness.{is_empty-some}
 use Rattle.schnellru.specs.Sizes.{Target, target, no_table, same_table, new_table}
 use Rattle.schnellru.specs.State.{State, buckets, room, contents}
-use Rattle.schnellru.specs.Place.{Place, first_table, first_denied, first_too_large, empty_with_room, empty_without_room, with_room, deleted_bucket, rehashed, grown, evicted, evicted_rehashed, CannotGrow, no_target, denied, next_table, Outcome, asked}
+use Rattle.schnellru.specs.Place.{Place, first_table, first_denied, first_too_large, empty_with_room, empty_without_room, with_room, deleted_bucket, rehashed, grown, evicting, finds_bucket, made_anew, CannotGrow, no_target, denied, next_table, Outcome, asked}
 use Rattle.schnellru.specs.Inserts.{make_way}
 use Rattle.schnellru.specs.Exact.{Landing, lands, grows, asks, landing, AlwaysGrants, HasTables}
 use Rattle.schnellru.proofs.Exact.{LandsAs, if_memory, is_placed, PlacesExactly}
@@ -61,8 +61,8 @@ module _ {K V S H : Type 0} (rules : Rules K V S) (grants : AlwaysGrants rules) 
   place_granted outcome new (deleted_bucket f i b l o n) = rw (lands_anyway f.0) (is_placed rules pair old _ _ _ outcome new o n)
   place_granted outcome new (rehashed f i l m) = rw (lands_anyway f.0) (if_memory rules pair old _ _ _ outcome new m)
   place_granted outcome new (grown f i l count bytes t g m) = rw (lands_anyway f.0, ← (asked_same bytes)) (if_memory rules pair (asked rules bytes old) _ _ _ outcome new m)
-  place_granted outcome new (evicted f i l mid c n pos one half o p) = no_refusal mid c
-  place_granted outcome new (evicted_rehashed f i l mid c n pos one half left lv m) = no_refusal mid c
+  place_granted outcome new (evicting f i l mid c (finds_bucket n pos one half o p)) = no_refusal mid c
+  place_granted outcome new (evicting f i l mid c (made_anew n pos one half left lv m)) = no_refusal mid c
 
 module _ {K V S H : Type 0} (rules : Rules K V S) (grants : AlwaysGrants rules) (hash_of : H → K → ℕ) (old : State K V S H) where
   pub granted_places : HasTables old → PlacesExactly rules hash_of old

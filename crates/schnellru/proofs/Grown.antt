@@ -5,7 +5,7 @@ use Rattle.lru_limits.specs.Rules.{Rules, Offers}
 use Rattle.group_table.specs.Sizes.{full_capacity, IsBucketCount}
 use Rattle.schnellru.specs.State.{State, buckets, IsSized}
 use Rattle.schnellru.specs.Place.{Place, first_table, first_denied, first_too_large, empty_with_room, empty_without_room, with_room, deleted_bucket, rehashed}
-use Rattle.schnellru.specs.Place.{grown, evicted, evicted_rehashed, Outcome, placed, refused, no_memory, IsPlacedIfMemory, asked, turned_away}
+use Rattle.schnellru.specs.Place.{grown, evicting, finds_bucket, made_anew, Outcome, placed, refused, no_memory, IsPlacedIfMemory, asked, turned_away}
 use Rattle.schnellru.specs.Inserts.{Insert, replaced, given_up, no_memory_to_admit, not_admitted, admitted, Settles}
 use Rattle.schnellru.proofs.Growth.{full_capacity-4, full_capacity-at_most}
 use Rattle.schnellru.proofs.Doubling.{target_small}
@@ -50,8 +50,8 @@ module _ {K V S H : Type 0} (rules : Rules K V S) (hash_of : H → K → ℕ) (p
       size : IsBucketCount (buckets old) → full_capacity count < 4 * (length old.pairs + 1)
       size (inl z) = absurd (omega (arith, z, f.0, ok.fits, full_capacity-at_most (buckets old)))
       size (inr k) = target_small k.0 old.max old.entry_bytes (buckets old) (length old.pairs + 1) count bytes k.1 l t
-  place_grows ok outcome new (evicted f i l mid c n pos one half o p) = same_table_grows new p.table
-  place_grows ok outcome new (evicted_rehashed f i l mid c n pos one half left lv m) = if_memory_same left _ _ outcome new (lv.room.table ∙ ap (λ st. buckets st) (known_is rules old mid c)) m
+  place_grows ok outcome new (evicting f i l mid c (finds_bucket n pos one half o p)) = same_table_grows new p.table
+  place_grows ok outcome new (evicting f i l mid c (made_anew n pos one half left lv m)) = if_memory_same left _ _ outcome new (lv.room.table ∙ ap (λ st. buckets st) (known_is rules old mid c)) m
 
 module _ {K V S H I : Type 0} (rules : Rules K V S) (offers : Offers K V S I) (names : I → K → Bool) (hash_of : H → K → ℕ) where
   settles_same : (outcome : Outcome) (landed : State K V S H) (result : Result Bool AllocError) (new : State K V S H) → Settles rules outcome landed result new → buckets new ≡ buckets landed
@@ -66,7 +66,7 @@ module _ {K V S H I : Type 0} (rules : Rules K V S) (offers : Offers K V S I) (n
   insert_grows i v old result new ok (given_up pair found y r l) h = absurd (omega (arith, l.room.table, h))
   insert_grows i v old result new ok (no_memory_to_admit a k r e) h = absurd (omega (arith, ap (λ x. length x.marks) e, h))
   insert_grows i v old result new ok (not_admitted a s n r e) h = absurd (omega (arith, ap (λ x. length x.marks) e, h))
-  insert_grows i v old result new ok (admitted a s pair n ready l outcome landed p t) h =
+  insert_grows i v old result new ok (admitted a s pair n (ready, l, outcome, landed, p, t)) h =
       let same = settles_same outcome landed result new t in
       let small =
       place_grows rules hash_of pair ready (leaves_bounded (record old { limiter = s }) _ ready l (bounded_of _ (sized_with_limiter old s ok))) outcome landed p

@@ -65,7 +65,7 @@ module _ {K V H I : Type 0} (rules : Rules K V ℕ) (offers : Offers K V ℕ I) 
     length_at_most i v old result new same few (given_up pair found y r l) = omega (arith, few, ap (λ st. length st.pairs) l.is, length-without (names i) old.pairs)
     length_at_most i v old result new same few (no_memory_to_admit a k r e) = omega (arith, few, ap (λ st. length st.pairs) e)
     length_at_most i v old result new same few (not_admitted a s n r e) = omega (arith, few, ap (λ st. length st.pairs) e)
-    length_at_most i v old result new same few (admitted a s pair n ready l outcome landed p t) = settled outcome (place_comes rules hash_of pair ready outcome landed p) t
+    length_at_most i v old result new same few (admitted a s pair n (ready, l, outcome, landed, p, t)) = settled outcome (place_comes rules hash_of pair ready outcome landed p) t
       where
         way : ready.limiter ≡ most
         way =

@@ -50,7 +50,7 @@ module _ {K V S H I : Type 0} (rules : Rules K V S) (offers : Offers K V S I) (n
   insert_paid i v old result new ok (given_up pair found y r l) paid = leaves_paid old _ new l paid
   insert_paid i v old result new ok (no_memory_to_admit a k r e) paid = rw e paid
   insert_paid i v old result new ok (not_admitted a s n r e) paid = rw e paid
-  insert_paid i v old result new ok (admitted a s pair n ready l outcome landed p t) paid =
+  insert_paid i v old result new ok (admitted a s pair n (ready, l, outcome, landed, p, t)) paid =
       let start : State K V S H = record old { limiter = s } in
       settles_paid outcome landed result new t
       (place_paid rules hash_of pair ready (leaves_bounded start _ ready l (bounded_of start (sized_with_limiter old s ok))) outcome landed p

@@ -10,9 +10,9 @@ use Rattle.group_table.specs.Change.{HasNoPlace}
 use Rattle.lru_limits.specs.Rules.{Rules}
 use Rattle.schnellru.specs.Sizes.{usage, Target, no_table, new_table, target}
 use Rattle.schnellru.specs.State.{State, buckets, room, contents, IsSized, Leaves, pop, pops, FirstFreeIs}
-use Rattle.schnellru.specs.Place.{Place, first_table, first_denied, empty_with_room, empty_without_room, with_room, deleted_bucket, rehashed, grown, evicted, evicted_rehashed, CannotGrow}
+use Rattle.schnellru.specs.Place.{Evicts, Place, first_table, first_denied, empty_with_room, empty_without_room, with_room, deleted_bucket, rehashed, grown, evicting, finds_bucket, made_anew, CannotGrow}
 use Rattle.schnellru.specs.Place.{Outcome, no_target, denied, outcome_of, placed, refused, IsPlaced, IsPlacedIfMemory, LacksRoom, asked, turned_away, without_oldest, next_table}
-use Rattle.schnellru.specs.Steps.{Evicts, finds_bucket, made_anew, UsesRoom, UsesDeleted}
+use Rattle.schnellru.specs.Steps.{UsesRoom, UsesDeleted}
 use Rattle.group_table.proofs.BucketLemmas.{length-marks_of}
 use Rattle.schnellru.specs.Linked.{Linked, IsLinked, pairs_of}
 use Rattle.schnellru.specs.Holds.{state_by}
@@ -61,7 +61,7 @@ module _ {K V S H : Type 0} (rules : Rules K V S) (hash_of : H → K → ℕ) (p
 
   -- the oldest left, where the table cannot grow
   pub evicts_place : (outcome : Outcome) (mid : State K V S H) → CannotGrow rules old mid → LacksRoom old → FirstFreeIs empty (hash_of old.hasher pair.0) old →
-      full_capacity (buckets old) / 2 < length old.pairs + 1 → Evicts rules pair mid outcome new → Place rules hash_of pair old outcome new
+      full_capacity (buckets old) / 2 < length old.pairs + 1 → Evicts rules pair mid mid outcome new → Place rules hash_of pair old outcome new
   evicts_place outcome mid cannot lacks first above e = go e
     where
       known : mid ≡ record old { limiter = mid.limiter }
@@ -73,13 +73,13 @@ module _ {K V S H : Type 0} (rules : Rules K V S) (hash_of : H → K → ℕ) (p
       pairs : length mid.pairs ≡ length old.pairs
       pairs = ap (λ st. length st.pairs) known
 
-      go : Evicts rules pair mid outcome new → Place rules hash_of pair old outcome new
-      go (finds_bucket n pos one half o p) = evicted lacks first above mid cannot n pos (λ small. one (omega (arith, same, small)))
+      go : Evicts rules pair mid mid outcome new → Place rules hash_of pair old outcome new
+      go (finds_bucket n pos one half o p) = evicting lacks first above mid cannot (finds_bucket n pos (λ small. one (omega (arith, same, small)))
           (omega (arith, half, pairs, ap full_capacity same)) o
-          (subst (λ b. IsPlaced pair b (room new) 0 (without_oldest rules n mid) new) same p)
-      go (made_anew n pos one half left leaves m) = evicted_rehashed lacks first above mid cannot n pos (λ small. one (omega (arith, same, small)))
+          (subst (λ b. IsPlaced pair b (room new) 0 (without_oldest rules n mid) new) same p))
+      go (made_anew n pos one half left leaves m) = evicting lacks first above mid cannot (made_anew n pos (λ small. one (omega (arith, same, small)))
           (omega (arith, half, pairs, ap full_capacity same)) left leaves
-          (subst (λ b. IsPlacedIfMemory rules pair b (full_capacity b / 2) (length left.pairs) left outcome new) same m)
+          (subst (λ b. IsPlacedIfMemory rules pair b (full_capacity b / 2) (length left.pairs) left outcome new) same m))
 
   -- the pair went into a bucket that the table has
   pub bucket_place : (0 < room old) ⊎ (0 < length old.pairs) → IsPlaced pair (buckets old) (room new) 0 old new →
@@ -130,11 +130,11 @@ module _ {K V S H : Type 0} (rules : Rules K V S) (hash_of : H → K → ℕ) (p
       grown_place granted step = grown lacks first above count bytes next granted
           (subst (λ l. IsPlacedIfMemory rules pair count (full_capacity count - length old.pairs - 1) (length old.pairs) (record old { limiter = l }) outcome new) told step)
 
-      pub denied_place : (rules.on_grow old.limiter bytes).allowed ≡ false → Evicts rules pair (record old { limiter = s }) outcome new → Place rules hash_of pair old outcome new
+      pub denied_place : (rules.on_grow old.limiter bytes).allowed ≡ false → Evicts rules pair (record old { limiter = s }) (record old { limiter = s }) outcome new → Place rules hash_of pair old outcome new
       denied_place refusal step = evicts_place outcome (record old { limiter = s })
           (denied count bytes next refusal (ap {A = S} {B = State K V S H} (λ l. record old { limiter = l }) told)) lacks first above step
 
-    pub untold_place : next_table rules old ≡ no_table → Evicts rules pair old outcome new → Place rules hash_of pair old outcome new
+    pub untold_place : next_table rules old ≡ no_table → Evicts rules pair old old outcome new → Place rules hash_of pair old outcome new
     untold_place none step = evicts_place outcome old (no_target none refl) lacks first above step
 
 -- a table that a map with pairs grows to
@@ -206,13 +206,13 @@ module _ {K V S H : Type 0} (rules : Rules K V S) (pair : K × V) (old prev left
       (subst (λ xs. IsFront xs old.pairs) (sym (ap (λ st. st.pairs) one_more.is)) (front_pops rules (suc n) (contents old))) absent
 
   module _ (new : State K V S H) where
-    pub finds : full_capacity (buckets old) / 2 ≤ length left.pairs → IsPlaced pair (buckets left) (room new) 0 left new → Evicts rules pair old placed new
+    pub finds : full_capacity (buckets old) / 2 ≤ length left.pairs → IsPlaced pair (buckets left) (room new) 0 left new → Evicts rules pair old old placed new
     finds enough p = finds_bucket (suc n) (omega arith) only_one (omega (arith, enough, one_fewer, in_all)) refl
         (placed_after rules (suc n) old left one_more pair new (buckets old) (room new) 0 (subst (λ b. IsPlaced pair b (room new) 0 left new) same_buckets p))
 
     pub makes_anew : (outcome : Outcome) → length left.pairs < full_capacity (buckets old) / 2 →
         IsPlacedIfMemory rules pair (buckets left) (full_capacity (buckets left) - length left.pairs - 1) (length left.pairs) left outcome new →
-        Evicts rules pair old outcome new
+        Evicts rules pair old old outcome new
     makes_anew outcome few m = made_anew (suc n) (omega arith) only_one (omega (arith, few, half, one_fewer, in_all)) left one_more
         (subst (λ s. IsPlacedIfMemory rules pair (buckets old) s (length left.pairs) left outcome new) (spare (dec_lt 8 (buckets old)))
         (subst (λ b. IsPlacedIfMemory rules pair b (full_capacity b - length left.pairs - 1) (length left.pairs) left outcome new) same_buckets m))

@@ -6,7 +6,7 @@ use Rattle.schnellru.specs.Sizes.{new_table}
 use Rattle.lru_limits.specs.Rules.{Rules, Offers}
 use Rattle.schnellru.specs.State.{State, buckets, room, potential, Contents, contents, IsSized, Leaves, pops, trim}
 use Rattle.schnellru.specs.Place.{Place, first_table, first_denied, first_too_large, empty_with_room, empty_without_room, with_room, deleted_bucket, rehashed, grown}
-use Rattle.schnellru.specs.Place.{evicted, evicted_rehashed, Outcome, placed, refused, no_memory, IsPlaced, without_oldest, asked, next_table, IsPlacedIfMemory}
+use Rattle.schnellru.specs.Place.{evicting, finds_bucket, made_anew, Outcome, placed, refused, no_memory, IsPlaced, without_oldest, asked, next_table, IsPlacedIfMemory}
 use Rattle.std.specs.declared.alloc.AllocError.{AllocError}
 use Rattle.schnellru.specs.Inserts.{Insert, replaced, given_up, no_memory_to_admit, not_admitted, admitted, Settles}
 use Rattle.schnellru.proofs.Sized.{fits}
@@ -107,9 +107,9 @@ module _ {K V S H : Type 0} (rules : Rules K V S) (hash_of : H → K → ℕ) (p
   place_pays outcome new (rehashed f i l m) = if_memory_pays old _ _ _ outcome new m (pays_self old) refl refl (omega (arith, f.1, ok.fits))
   place_pays outcome new (grown f i l count bytes t g m) = let large = grown_enough count bytes f.0 t in
       if_memory_pays (asked rules bytes old) _ _ _ outcome new m (calm_asked bytes) refl refl (omega (arith, large, f.1, ok.fits))
-  place_pays outcome new (evicted f i l mid c n pos one half o p) = let same = known_is rules old mid c in
+  place_pays outcome new (evicting f i l mid c (finds_bucket n pos one half o p)) = let same = known_is rules old mid c in
       placed_pays (without_oldest rules n mid) new _ _ 0 p (ap (λ st. st.moved) same) (ap (λ st. st.placed) same) (omega (arith, f.1))
-  place_pays outcome new (evicted_rehashed f i l mid c n pos one half left lv m) = let same = known_is rules old mid c in
+  place_pays outcome new (evicting f i l mid c (made_anew n pos one half left lv m)) = let same = known_is rules old mid c in
       if_memory_pays left _ _ _ outcome new m
       (pays_trans (pays_calm old mid (ap (λ st. st.placed) same) (ap (λ st. st.moved) same) (omega (arith, ap (λ st. potential st) same))) (leaves_pays mid (pops rules n (contents mid)) left lv))
       (ap (λ st. st.moved) lv.is ∙ ap (λ st. st.moved) same) (ap (λ st. st.placed) lv.is ∙ ap (λ st. st.placed) same)
@@ -130,7 +130,7 @@ module _ {K V S H I : Type 0} (rules : Rules K V S) (offers : Offers K V S I) (n
   insert_pays i v old result new ok (given_up pair found y r l) = leaves_pays old _ new l
   insert_pays i v old result new ok (no_memory_to_admit a k r e) = rw e (pays_self old)
   insert_pays i v old result new ok (not_admitted a s n r e) = rw e (with_limiter old s)
-  insert_pays i v old result new ok (admitted a s pair n ready l outcome landed p t) =
+  insert_pays i v old result new ok (admitted a s pair n (ready, l, outcome, landed, p, t)) =
       let start : State K V S H = record old { limiter = s } in
       let bounded = bounded_of start (sized_with_limiter old s ok) in
       pays_trans (with_limiter old s)

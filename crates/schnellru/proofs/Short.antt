@@ -5,7 +5,7 @@ use Rattle.std.specs.declared.alloc.AllocError.{AllocError}
 use Rattle.group_table.specs.Bucket.{Mark, room as room_of}
 use Rattle.lru_limits.specs.Rules.{Rules, Offers}
 use Rattle.schnellru.specs.State.{State, buckets, room}
-use Rattle.schnellru.specs.Place.{Place, first_table, first_denied, first_too_large, empty_with_room, empty_without_room, with_room, deleted_bucket, rehashed, grown, evicted, evicted_rehashed, Outcome, placed, refused, no_memory}
+use Rattle.schnellru.specs.Place.{Place, first_table, first_denied, first_too_large, empty_with_room, empty_without_room, with_room, deleted_bucket, rehashed, grown, evicting, finds_bucket, made_anew, Outcome, placed, refused, no_memory}
 use Rattle.schnellru.specs.Inserts.{Insert, replaced, given_up, no_memory_to_admit, not_admitted, admitted, make_way, Settles, IsShort, LacksMemory}
 use Rattle.schnellru.specs.Lists.{IsFront}
 use Rattle.schnellru.proofs.Fronts.{front_same, front_trans, front_make_way}
@@ -33,8 +33,8 @@ module _ {K V S H : Type 0} (rules : Rules K V S) (hash_of : H → K → ℕ) (p
   place_lacks new outcome q (deleted_bucket f i b l o n) = placed-not_no_memory (sym o ∙ q)
   place_lacks new outcome q (rehashed f i l m) = (f.1, inr f.0)
   place_lacks new outcome q (grown f i l count bytes t g m) = (f.1, inr f.0)
-  place_lacks new outcome q (evicted f i l mid c n pos one half o p) = placed-not_no_memory (sym o ∙ q)
-  place_lacks new outcome q (evicted_rehashed f i l mid c n pos one half left lv m) = (f.1, inr f.0)
+  place_lacks new outcome q (evicting f i l mid c (finds_bucket n pos one half o p)) = placed-not_no_memory (sym o ∙ q)
+  place_lacks new outcome q (evicting f i l mid c (made_anew n pos one half left lv m)) = (f.1, inr f.0)
 
 module _ {K V S H I : Type 0} (rules : Rules K V S) (offers : Offers K V S I) (names : I → K → Bool) (hash_of : H → K → ℕ) (i : I) (v : V) (old : State K V S H)
     (result : Result Bool AllocError) (new : State K V S H) where
@@ -44,7 +44,7 @@ module _ {K V S H I : Type 0} (rules : Rules K V S) (offers : Offers K V S I) (n
   err_is h (given_up pair found y r l) = ok-not_err result (rw r refl) h
   err_is h (no_memory_to_admit a k r e) = (a, inl (k, e))
   err_is h (not_admitted a s n r e) = ok-not_err result (rw r refl) h
-  err_is h (admitted a s pair n ready l outcome landed p t) = (a, inr (go outcome p t))
+  err_is h (admitted a s pair n (ready, l, outcome, landed, p, t)) = (a, inr (go outcome p t))
     where
       short : LacksTable rules hash_of pair ready → IsShort rules offers names hash_of i v old
       short k = record {
@@ -70,7 +70,7 @@ module _ {K V S H I : Type 0} (rules : Rules K V S) (offers : Offers K V S I) (n
   err_keeps h (given_up pair found y r l) = ok-not_err result (rw r refl) h
   err_keeps h (no_memory_to_admit a k r e) = front_same _ _ (ap (λ st. st.pairs) e)
   err_keeps h (not_admitted a s n r e) = ok-not_err result (rw r refl) h
-  err_keeps h (admitted a s pair n ready l outcome landed p t) = go outcome p t
+  err_keeps h (admitted a s pair n (ready, l, outcome, landed, p, t)) = go outcome p t
     where
       go : (outcome : Outcome) → Place rules hash_of pair ready outcome landed → Settles rules outcome landed result new → IsFront new.pairs old.pairs
       go placed p t = ok-not_err result (rw t.0 refl) h

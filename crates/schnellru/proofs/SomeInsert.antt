@@ -15,7 +15,7 @@ use Rattle.lru_limits.specs.Rules.{Rules, Offers}
 use Rattle.schnellru.specs.Lists.{is_empty, lookup_entry, without}
 use Rattle.schnellru.specs.Sizes.{usage, Target, no_table, same_table, new_table}
 use Rattle.schnellru.specs.State.{State, Contents, buckets, room, contents, IsSized, Leaves, FirstFreeIs, pops, trim}
-use Rattle.schnellru.specs.Place.{Place, first_table, first_denied, first_too_large, empty_with_room, empty_without_room, with_room, deleted_bucket, rehashed, grown, evicted, evicted_rehashed}
+use Rattle.schnellru.specs.Place.{Place, first_table, first_denied, first_too_large, empty_with_room, empty_without_room, with_room, deleted_bucket, rehashed, grown, evicting, finds_bucket, made_anew}
 use Rattle.schnellru.specs.Place.{Outcome, placed, refused, no_memory, IsPlaced, LacksRoom, CannotGrow, no_target, denied, next_table, asked, turned_away}
 use Rattle.schnellru.specs.Inserts.{Insert, replaced, given_up, not_admitted, admitted, make_way, replacement, with_replaced, with_given_up}
 use Rattle.schnellru.proofs.Growth.{full_capacity-at_most, full_capacity-some, target-same}
@@ -156,15 +156,15 @@ module _ {K V S H : Type 0} (rules : Rules K V S) (hash_of : H → K → ℕ) (p
                 let (new, is, sized) = some_bucket pair old ok left deletions (omega (arith, full_table, fewer, lacks.0)) ok.table.none_deleted in (
                   placed,
                   new,
-                  evicted lacks free more mid cannot 1 (omega arith) (λ _. refl) (omega (arith, l)) refl
-                      (record { table = is.table; room_left = refl; state = is.state }),
+                  evicting lacks free more mid cannot (finds_bucket 1 (omega arith) (λ _. refl) (omega (arith, l)) refl
+                      (record { table = is.table; room_left = refl; state = is.state })),
                   sized,
                 )
             | no l ↦
                 let (end, leaves, sized) = some_leave mid left (sized_with_limiter old s ok) (omega (arith, fewer)) in (
                   no_memory,
                   turned_away rules pair end,
-                  evicted_rehashed lacks free more mid cannot 1 (omega arith) (λ _. refl) (omega (arith, l, more)) end leaves refl,
+                  evicting lacks free more mid cannot (made_anew 1 (omega arith) (λ _. refl) (omega (arith, l, more)) end leaves refl),
                   sized_with_limiter end _ sized,
                 )
           ]
@@ -246,9 +246,9 @@ module _ {K V S H I : Type 0} (rules : Rules K V S) (offers : Offers K V S I) (n
           (outcome : Outcome) (landed : State K V S H) → Place rules hash_of pair way outcome landed → IsSized landed → Inserts
       settle way left placed landed place after =
           let (new, leaves, end) = some_leave landed (trim rules (contents landed)) after (length-front _ landed.pairs (front_trim rules (contents landed))) in
-          (Ok (not (is_empty new.pairs)), new, admitted absent s pair admits way left placed landed place (refl, leaves), end)
-      settle way left refused landed place after = (Ok false, landed, admitted absent s pair admits way left refused landed place (refl, refl), after)
-      settle way left no_memory landed place after = (Err (record {}), landed, admitted absent s pair admits way left no_memory landed place (refl, refl), after)
+          (Ok (not (is_empty new.pairs)), new, admitted absent s pair admits (way, left, placed, landed, place, (refl, leaves)), end)
+      settle way left refused landed place after = (Ok false, landed, admitted absent s pair admits (way, left, refused, landed, place, (refl, refl)), after)
+      settle way left no_memory landed place after = (Err (record {}), landed, admitted absent s pair admits (way, left, no_memory, landed, place, (refl, refl)), after)
 
   pub some_insert : Inserts
   some_insert = go (lookup_entry (names i) old.pairs) refl

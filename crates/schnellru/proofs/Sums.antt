@@ -7,7 +7,7 @@ use Rattle.lru_limits.specs.Laws.{IsAccount, kept_value}
 use Rattle.schnellru.specs.Theorems.{IsSummed}
 use Rattle.schnellru.specs.Lists.{last, without_last, lookup_entry, without}
 use Rattle.schnellru.specs.State.{State, Contents, contents, Leaves, told_of, pop, pops, trim, trim_from}
-use Rattle.schnellru.specs.Place.{Place, first_table, first_denied, first_too_large, empty_with_room, empty_without_room, with_room, deleted_bucket, rehashed, grown, evicted, evicted_rehashed}
+use Rattle.schnellru.specs.Place.{Place, first_table, first_denied, first_too_large, empty_with_room, empty_without_room, with_room, deleted_bucket, rehashed, grown, evicting, finds_bucket, made_anew}
 use Rattle.schnellru.specs.Place.{CannotGrow, no_target, denied, Outcome, placed, refused, no_memory, IsPlaced, IsPlacedIfMemory, asked, turned_away, without_oldest}
 use Rattle.schnellru.specs.Inserts.{Insert, replaced, given_up, no_memory_to_admit, not_admitted, admitted, make_way, replacement, with_replaced, with_given_up, Settles}
 
@@ -129,9 +129,9 @@ module _ {K V S I : Type 0} (rules : Rules K V S) (offers : Offers K V S I) (cos
       place_holds outcome new (deleted_bucket f i b l o n) = placed_holds old new _ _ _ n owed
       place_holds outcome new (rehashed f i l m) = if_memory_holds old _ _ _ outcome new m owed
       place_holds outcome new (grown f i l count bytes t g m) = if_memory_holds (asked rules bytes old) _ _ _ outcome new m (asked_holds bytes)
-      place_holds outcome new (evicted f i l mid c n pos one half o p) =
+      place_holds outcome new (evicting f i l mid c (finds_bucket n pos one half o p)) =
           placed_holds (without_oldest rules n mid) new _ _ _ p (pops_holds n mid (denied_holds mid c))
-      place_holds outcome new (evicted_rehashed f i l mid c n pos one half left lv m) =
+      place_holds outcome new (evicting f i l mid c (made_anew n pos one half left lv m)) =
           if_memory_holds left _ _ _ outcome new m (leaves_holds (price pair) mid (pops rules n (contents mid)) left lv (pops_holds n mid (denied_holds mid c)))
 
     settles_holds : (outcome : Outcome) (landed : State K V S H) (result : Result Bool AllocError) (new : State K V S H) → Settles rules outcome landed result new → Holds 0 landed → Holds 0 new
@@ -174,7 +174,7 @@ module _ {K V S I : Type 0} (rules : Rules K V S) (offers : Offers K V S I) (cos
       insert_holds result new (given_up pair found y r l) = leaves_holds 0 old _ new l (with_given_up_owes pair found y)
       insert_holds result new (no_memory_to_admit a k r e) = rw e summed
       insert_holds result new (not_admitted a s n r e) = rw e (laws.refuses old.limiter (length old.pairs) i v s n ∙ summed)
-      insert_holds result new (admitted a s pair n ready l outcome landed p t) =
+      insert_holds result new (admitted a s pair n (ready, l, outcome, landed, p, t)) =
           let start : State K V S H = record old { limiter = s } in
           let more : Holds (price pair) start = let r = laws.adds old.limiter (length old.pairs) i v s pair.0 pair.1 n in omega arith in
           settles_holds outcome landed result new t

@@ -9,7 +9,7 @@ use Rattle.lru_limits.specs.Laws.{IsLookup, IsInsertion}
 use Rattle.schnellru.specs.Lists.{is_empty, IsFront, lookup_entry, without}
 use Rattle.schnellru.specs.State.{State, Contents, contents, Leaves, pop, trim, trim_from}
 use Rattle.schnellru.specs.Place.{Place, first_table, first_denied, first_too_large, empty_with_room, empty_without_room, with_room, deleted_bucket, rehashed}
-use Rattle.schnellru.specs.Place.{grown, evicted, evicted_rehashed, Outcome, placed, refused, no_memory, IsPlaced, IsPlacedIfMemory, asked}
+use Rattle.schnellru.specs.Place.{grown, evicting, finds_bucket, made_anew, Outcome, placed, refused, no_memory, IsPlaced, IsPlacedIfMemory, asked}
 use Rattle.schnellru.specs.Inserts.{Insert, replaced, given_up, no_memory_to_admit, not_admitted, admitted, replacement, with_replaced, Settles}
 use Rattle.schnellru.specs.Theorems.{IsNewest, SaysWhether}
 use Rattle.schnellru.proofs.Leaving.{length-without_last, known_is}
@@ -80,8 +80,8 @@ module _ {K V S H : Type 0} (rules : Rules K V S) (hash_of : H → K → ℕ) (p
   place_comes outcome new (deleted_bucket f i b l o n) = placed_comes _ _ _ _ outcome new o n
   place_comes outcome new (rehashed f i l m) = if_memory_comes old _ _ _ outcome new m (front_self old.pairs)
   place_comes outcome new (grown f i l count bytes t g m) = if_memory_comes (asked rules bytes old) _ _ _ outcome new m (front_self old.pairs)
-  place_comes outcome new (evicted f i l mid c n pos one half o p) = placed_comes _ _ _ _ outcome new o p
-  place_comes outcome new (evicted_rehashed f i l mid c n pos one half left lv m) = if_memory_comes left _ _ _ outcome new m
+  place_comes outcome new (evicting f i l mid c (finds_bucket n pos one half o p)) = placed_comes _ _ _ _ outcome new o p
+  place_comes outcome new (evicting f i l mid c (made_anew n pos one half left lv m)) = if_memory_comes left _ _ _ outcome new m
       (front_trans _ _ _ (front_same _ _ (ap (λ st. st.pairs) lv.is)) (front_trans _ _ _ (front_pops rules n (contents mid)) (front_same _ _ (ap (λ st. st.pairs) (known_is rules old mid c)))))
 
 module _ {K V S H : Type 0} (rules : Rules K V S) (names : K → Bool) where
@@ -123,6 +123,6 @@ module _ {K V S H I : Type 0} (rules : Rules K V S) (offers : Offers K V S I) (n
   insert_says result new d (given_up pair found y r l) = rw r (ap (λ st. lookup_entry (names i) st.pairs) l.is ∙ absent_without eq (names i) (λ x y n. looks_up.one i x y n) old.pairs d)
   insert_says result new d (no_memory_to_admit a k r e) = err_says result new r (ap (λ st. lookup_entry (names i) st.pairs) e ∙ a)
   insert_says result new d (not_admitted a s n r e) = rw r (ap (λ st. lookup_entry (names i) st.pairs) e ∙ a)
-  insert_says result new d (admitted a s pair n ready l outcome landed p t) =
+  insert_says result new d (admitted a s pair n (ready, l, outcome, landed, p, t)) =
       settled_says pair ready outcome landed result new (given_named rules offers names hash_of looks_up laws i v old s pair n)
       (front_absent (names i) ready.pairs old.pairs (front_trans _ _ _ (front_same _ _ (ap (λ st. st.pairs) l.is)) (front_make_way rules (record { pairs = old.pairs; limiter = s }))) a) (place_comes rules hash_of pair ready outcome landed p) t

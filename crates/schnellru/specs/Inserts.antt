@@ -21,6 +21,12 @@ module _ {K V S H : Type 0} (rules : Rules K V S) where
   Settles refused landed result new = (result ≡ Ok false) × (new ≡ landed)
   Settles no_memory landed result new = IsErr result × (new ≡ landed)
 
+  -- a new pair that the limiter gave is placed, after way was made for it, and before what follows
+  abbrev pub Admitted : (H → K → ℕ) → K × V → State K V S H → Result Bool AllocError → State K V S H → Type 0
+  Admitted hash_of pair old result new = (ready : State K V S H) × Leaves old (make_way rules (contents old)) ready
+      × (outcome : Outcome) × (landed : State K V S H) × Place rules hash_of pair ready outcome landed
+      × Settles outcome landed result new
+
 module _ {K V S H I : Type 0} (rules : Rules K V S) (offers : Offers K V S I) (names : I → K → Bool) where
   -- what the limiter says of a new value for this pair
   abbrev pub replacement : K × V → I → V → State K V S H → Replaced K V S
@@ -65,10 +71,7 @@ module _ {K V S H I : Type 0} (rules : Rules K V S) (offers : Offers K V S I) (n
       -- or the pair that it gives is placed, with all that this takes.
       admitted : lookup_entry (names i) old.pairs ≡ None →
           (s : S) (pair : K × V) → Admits i v old s (Some pair) →
-          (ready : State K V S H) →
-          Leaves (record old { limiter = s }) (make_way rules (record { pairs = old.pairs; limiter = s })) ready →
-          (outcome : Outcome) (landed : State K V S H) → Place rules hash_of pair ready outcome landed →
-          Settles rules outcome landed result new →
+          Admitted rules hash_of pair (record old { limiter = s }) result new →
           Insert i v old result new
 
     -- memory is short for the table: there is no room, and no buckets or a pair beside which to place the new one, where

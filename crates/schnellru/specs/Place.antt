@@ -72,6 +72,19 @@ module _ {K V S H : Type 0} (rules : Rules K V S) where
     denied : (count bytes : ℕ) → next_table old ≡ new_table count bytes → Denies bytes old →
         mid ≡ asked bytes old → CannotGrow old mid
 
+  -- After so many of the oldest left mid, the pair found a bucket, or the table was made anew for it, as soon as they were
+  -- fewer than half of what it takes. The map was old before mid was known.
+  pub data Evicts (pair : K × V) (old mid : State K V S H) (outcome : Outcome) (new : State K V S H) : Type 0 where
+    finds_bucket : (n : ℕ) → 0 < n → (buckets old ≤ 16 → n ≡ 1) →
+        full_capacity (buckets old) / 2 + n ≤ length old.pairs →
+        outcome ≡ placed → IsPlaced pair (buckets old) (room new) 0 (without_oldest n mid) new →
+        Evicts pair old mid outcome new
+    made_anew : (n : ℕ) → 0 < n → (buckets old ≤ 16 → n ≡ 1) →
+        length old.pairs + 1 ≡ full_capacity (buckets old) / 2 + n →
+        (left : State K V S H) → Leaves mid (pops rules n (contents mid)) left →
+        IsPlacedIfMemory pair (buckets old) (full_capacity (buckets old) / 2) (length left.pairs) left outcome new →
+        Evicts pair old mid outcome new
+
 module _ {K V S H : Type 0} (rules : Rules K V S) (hash_of : H → K → ℕ) where
   -- what may come of placing the pair
   pub data Place (pair : K × V) (old : State K V S H) (outcome : Outcome) (new : State K V S H) : Type 0 where
@@ -120,21 +133,8 @@ module _ {K V S H : Type 0} (rules : Rules K V S) (hash_of : H → K → ℕ) wh
         IsPlacedIfMemory rules pair count (full_capacity count - length old.pairs - 1)
         (length old.pairs) (asked rules bytes old) outcome new →
         Place pair old outcome new
-    -- or it cannot be, and the oldest leave, at least one: then the pair finds a bucket,
-    evicted : LacksRoom old → FirstFreeIs empty (hash_of old.hasher pair.0) old →
+    -- or it cannot be, and the oldest leave, at least one.
+    evicting : LacksRoom old → FirstFreeIs empty (hash_of old.hasher pair.0) old →
         full_capacity (buckets old) / 2 < length old.pairs + 1 →
-        (mid : State K V S H) → CannotGrow rules old mid →
-        (n : ℕ) → 0 < n → (buckets old ≤ 16 → n ≡ 1) →
-        full_capacity (buckets old) / 2 + n ≤ length old.pairs →
-        outcome ≡ placed → IsPlaced pair (buckets old) (room new) 0 (without_oldest rules n mid) new →
-        Place pair old outcome new
-    -- or, as soon as they are fewer than half of what the table takes, it is made anew at its size.
-    evicted_rehashed : LacksRoom old → FirstFreeIs empty (hash_of old.hasher pair.0) old →
-        full_capacity (buckets old) / 2 < length old.pairs + 1 →
-        (mid : State K V S H) → CannotGrow rules old mid →
-        (n : ℕ) → 0 < n → (buckets old ≤ 16 → n ≡ 1) →
-        length old.pairs + 1 ≡ full_capacity (buckets old) / 2 + n →
-        (left : State K V S H) → Leaves mid (pops rules n (contents mid)) left →
-        IsPlacedIfMemory rules pair (buckets old) (full_capacity (buckets old) / 2)
-        (length left.pairs) left outcome new →
+        (mid : State K V S H) → CannotGrow rules old mid → Evicts rules pair old mid outcome new →
         Place pair old outcome new

@@ -1,14 +1,11 @@
 -- What the parts of a placing do. No public clause cites this module.
-use Rattle.std.specs.Prelude.{◌≡◌, ℕ, ◌+◌, ◌/◌, ◌≤◌, ◌<◌, ◌⊎◌, ◌∷◌, Bool, length, Result}
+use Rattle.std.specs.Prelude.{◌≡◌, ℕ, ◌+◌, ◌<◌, ◌⊎◌, ◌∷◌, length}
 use Rattle.group_table.specs.Sizes.{full_capacity}
 use Rattle.group_table.specs.Bucket.{deleted, marks_of, room as room_of, room_at}
 use Rattle.group_table.specs.Change.{count_up, Removes}
 use Rattle.lru_limits.specs.Rules.{Rules, Replaced}
-use Rattle.schnellru.specs.State.{State, buckets, room, FirstFreeIs, contents, Leaves, pops}
-use Rattle.std.specs.declared.alloc.AllocError.{AllocError}
+use Rattle.schnellru.specs.State.{State, buckets, room, FirstFreeIs}
 use Rattle.schnellru.specs.Linked.{Linked, with_pair, without_bucket}
-use Rattle.schnellru.specs.Inserts.{make_way, Settles}
-use Rattle.schnellru.specs.Place.{Place, Outcome, placed, IsPlaced, IsPlacedIfMemory, without_oldest}
 
 module _ {K V S H : Type 0} where
   -- all pairs moved into a table of so many buckets, none of which is deleted
@@ -27,27 +24,6 @@ module _ {K V S H : Type 0} where
     pub first : FirstFreeIs deleted hash old
     pub large : 16 < buckets old
     pub within : length old.pairs < full_capacity (buckets old)
-
-  -- after so many of the oldest left, the pair found a bucket, or the table was made anew for it
-  pub data Evicts (rules : Rules K V S) (pair : K × V) (old : State K V S H) (outcome : Outcome) (new : State K V S H) : Type 0 where
-    finds_bucket : (n : ℕ) → 0 < n → (buckets old ≤ 16 → n ≡ 1) →
-        full_capacity (buckets old) / 2 + n ≤ length old.pairs →
-        outcome ≡ placed → IsPlaced pair (buckets old) (room new) 0 (without_oldest rules n old) new →
-        Evicts rules pair old outcome new
-    made_anew : (n : ℕ) → 0 < n → (buckets old ≤ 16 → n ≡ 1) →
-        length old.pairs + 1 ≡ full_capacity (buckets old) / 2 + n →
-        (left : State K V S H) → Leaves old (pops rules n (contents old)) left →
-        IsPlacedIfMemory rules pair (buckets old) (full_capacity (buckets old) / 2) (length left.pairs) left outcome new →
-        Evicts rules pair old outcome new
-
--- the pair that the limiter gave is placed, with all that this takes
-pub record Admitted {K V S H : Type 0} (rules : Rules K V S) (hash_of : H → K → ℕ) (pair : K × V) (old : State K V S H) (result : Result Bool AllocError) (new : State K V S H) : Type 0 where
-  pub ready : State K V S H
-  pub way : Leaves old (make_way rules (contents old)) ready
-  pub outcome : Outcome
-  pub landed : State K V S H
-  pub place : Place rules hash_of pair ready outcome landed
-  pub settles : Settles rules outcome landed result new
 
 -- The limiter took the new value for the pair in a bucket, and the pair is the newest.
 pub record IsReplaced {K V S : Type 0} (by : Replaced K V S) (b : ℕ) (old new : Linked K V) (limiter : S) : Type 0 where

@@ -3,8 +3,7 @@ ghost use Rattle.std.specs.Prelude.{◌≡◌, ◌⊎◌, ℕ, ◌+◌, true, fa
 ghost use Rattle.lru_limits.specs.Hashing.{hash_by};
 ghost use Rattle.schnellru.specs.Lists.{lookup_entry, is_empty, IsFront};
 ghost use Rattle.schnellru.specs.State.{contents, trim, Leaves, IsMap};
-ghost use Rattle.schnellru.specs.Inserts.{Insert, LacksMemory, make_way};
-ghost use Rattle.schnellru.specs.Steps.{Admitted};
+ghost use Rattle.schnellru.specs.Inserts.{Insert, Admitted, LacksMemory, make_way};
 ghost use Rattle.schnellru.specs.Theorems.{SaysWhether};
 
 use crate::map::LruMap;

@@ -7,8 +7,8 @@ ghost use Rattle.lru_limits.specs.Hashing.{hash_by};
 ghost use Rattle.schnellru.specs.Lists.{lookup_entry};
 ghost use Rattle.schnellru.specs.Sizes.{usage};
 ghost use Rattle.schnellru.specs.State.{buckets, room, contents, pop, Leaves, FirstFreeIs};
-ghost use Rattle.schnellru.specs.Place.{Place, IsPlaced, IsPlacedIfMemory, LacksRoom, outcome_of, turned_away};
-ghost use Rattle.schnellru.specs.Steps.{IsMoved, Evicts, UsesRoom, UsesDeleted};
+ghost use Rattle.schnellru.specs.Place.{Place, Evicts, IsPlaced, IsPlacedIfMemory, LacksRoom, outcome_of, turned_away};
+ghost use Rattle.schnellru.specs.Steps.{IsMoved, UsesRoom, UsesDeleted};
 
 use crate::map::LruMap;
 use crate::sizes::{larger_table, usage};
@@ -124,7 +124,7 @@ impl<K: Eq + Hash + Drop, V: Drop, L: Limiter<K, V>, S: BuildHasher> LruMap<K, V
         requires absent { lookup_entry (K.eq pair.0) self.old.pairs ≡ None }
         requires lacks_room { LacksRoom self.old }
         requires half { full_capacity (buckets self.old) / 2 < length self.old.pairs + 1 }
-        ensures { Evicts L.rules pair self.old (outcome_of result) self.new }
+        ensures { Evicts L.rules pair self.old self.old (outcome_of result) self.new }
     {
         let half = full_capacity(self.entries.buckets()) / 2;
         'evictions: loop {

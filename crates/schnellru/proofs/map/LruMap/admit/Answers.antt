@@ -12,31 +12,31 @@ place-requires-clause-absent g c =
     (subst (λ xs. IsFront xs old.pairs) (sym (ap (λ st. st.pairs) c.make_way.ensures.is)) (front_make_way g.L.Limiter.rules (contents old))) c.requires.absent
 
 pub returns-in_err-place : goal.returns-in_err-place
-returns-in_err-place g c = record {
-  ready = c.make_way.new.self;
-  way = c.make_way.ensures;
-  outcome = no_memory;
-  landed = c.place.new.self;
-  place = c.in_err-place.ensures;
-  settles = (c.from_residual.ensures.0, refl);
-}
+returns-in_err-place g c = (
+  c.make_way.new.self,
+  c.make_way.ensures,
+  no_memory,
+  c.place.new.self,
+  c.in_err-place.ensures,
+  (c.from_residual.ensures.0, refl),
+)
 
 pub returns-then-not-branch : goal.returns-then-not-branch
-returns-then-not-branch g c = record {
-  ready = c.make_way.new.self;
-  way = c.make_way.ensures;
-  outcome = refused;
-  landed = c.place.new.self;
-  place = rw c.if-not-branch.true at c.in_ok-place.ensures;
-  settles = (refl, refl);
-}
+returns-then-not-branch g c = (
+  c.make_way.new.self,
+  c.make_way.ensures,
+  refused,
+  c.place.new.self,
+  rw c.if-not-branch.true at c.in_ok-place.ensures,
+  (refl, refl),
+)
 
 pub returns : goal.returns
-returns g c = record {
-  ready = c.make_way.new.self;
-  way = c.make_way.ensures;
-  outcome = placed;
-  landed = c.place.new.self;
-  place = rw c.if-not-branch.false at c.in_ok-place.ensures;
-  settles = (ap (λ b. Ok (not b)) c.is_empty.ensures, c.trim.ensures);
-}
+returns g c = (
+  c.make_way.new.self,
+  c.make_way.ensures,
+  placed,
+  c.place.new.self,
+  rw c.if-not-branch.false at c.in_ok-place.ensures,
+  (ap (λ b. Ok (not b)) c.is_empty.ensures, c.trim.ensures),
+)

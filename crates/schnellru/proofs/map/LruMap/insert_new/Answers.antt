@@ -35,7 +35,7 @@ returns-in-Some g c =
     let m = c.self.inside in let len = c.len.ensures.len ∙ sym (pairs-length m.entries c.self.invariant.linked) in let step = c.admit.ensures in
     rw (← c.self.view_is) (admitted (rw (← c.self.view_is) at c.requires.absent) c.on_insert.new.self c.in-Some.pair
     (subst (λ n. g.L.Insertion.offers.on_insert m.limiter n c.args.key c.args.value c.on_insert.new.self (Some c.in-Some.pair)) len (rw c.in-Some.is at c.in_ok-pair.ensures.offered))
-    step.ready step.way step.outcome step.landed step.place step.settles)
+    step)
 
 pub returns-in-None : goal.returns-in-None
 returns-in-None g c =
