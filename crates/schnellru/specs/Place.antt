@@ -30,6 +30,10 @@ module _ {K V S H : Type 0} where
       placed = count_up old.placed 1;
     }
 
+  -- a bucket is filled that was empty, which uses one of the room, or deleted, which uses none
+  abbrev pub FillsBucket : State K V S H → State K V S H → Type 0
+  FillsBucket old new = (room new + 1 ≡ room old) ⊎ ((16 < buckets old) × (room new ≡ room old))
+
   -- there is a pair, and no more is sure to fit
   abbrev pub LacksRoom : State K V S H → Type 0
   LacksRoom st = (0 < length st.pairs) × (room st ≡ 0)
@@ -103,7 +107,7 @@ module _ {K V S H : Type 0} (rules : Rules K V S) (hash_of : H → K → ℕ) wh
         Place pair old outcome new
     -- A map without pairs that has a table places one, asks nothing and needs no memory.
     empty_with_room : old.pairs ≡ [] → 0 < buckets old →
-        0 < room old → (room new + 1 ≡ room old) ⊎ ((16 < buckets old) × (room new ≡ room old)) →
+        0 < room old → FillsBucket old new →
         outcome ≡ placed → IsPlaced pair (buckets old) (room new) 0 old new →
         Place pair old outcome new
     empty_without_room : old.pairs ≡ [] → 0 < buckets old →
@@ -111,8 +115,7 @@ module _ {K V S H : Type 0} (rules : Rules K V S) (hash_of : H → K → ℕ) wh
         outcome ≡ placed → IsPlaced pair (buckets old) (full_capacity (buckets old) - 1) 0 old new →
         Place pair old outcome new
     -- So does a table with room.
-    with_room : 0 < length old.pairs → 0 < room old →
-        (room new + 1 ≡ room old) ⊎ ((16 < buckets old) × (room new ≡ room old)) →
+    with_room : 0 < length old.pairs → 0 < room old → FillsBucket old new →
         outcome ≡ placed → IsPlaced pair (buckets old) (room new) 0 old new →
         Place pair old outcome new
     -- With no room a deleted bucket serves, where it is the first free one that a search finds.
