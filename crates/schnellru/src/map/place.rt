@@ -244,7 +244,6 @@ impl<K: Eq + Hash + Drop, V: Drop, L: Limiter<K, V>, S: BuildHasher> LruMap<K, V
     }
 
     // Takes the oldest pair out, of which the limiter is told.
-    #[inline(never)]
     pub(crate) fn take_oldest(&mut self)
         requires { 0 < length self.old.pairs }
         ensures { Leaves self.old (pop L.rules (contents self.old)) self.new }
