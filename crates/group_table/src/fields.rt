@@ -74,6 +74,7 @@ pub(crate) fn fill_bucket<T: Drop>(
     ensures entries { entries.new.items ≡ slice_set entries.old.items b (Some entry) }
 {
     set_byte(control.as_mut_slice(), entries.len(), b, tag);
+    // The place has no entry, so that nothing is lost, and no old tag is read.
     mem::forget(mem::replace(&mut entries[b], Some(entry)));
 }
 

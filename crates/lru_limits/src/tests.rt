@@ -5,6 +5,6 @@ mod costs;
 mod hashing;
 mod insert_key;
 mod limiters;
-mod readme;
 mod removed_keys;
 mod spread;
+mod without_a_map;
