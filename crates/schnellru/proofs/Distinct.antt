@@ -1,14 +1,12 @@
 -- The keys of the pairs stay distinct, and a pair is found if its key is named.
-use Rattle.std.proofs.Common.{◌≡◌, ℕ, Bool, true, false, cond, List, [], ◌∷◌, ◌++◌, Some, None, Result, refl, sym, ◌∙◌, subst}
+use Rattle.std.proofs.Common.{◌≡◌, ℕ, Bool, true, false, cond, List, [], ◌∷◌, ◌++◌, length, Option, Some, None, refl, sym, ◌∙◌, subst}
 use Rattle.std.specs.List.{IsDistinct, AllByRecursion}
-use Rattle.std.specs.declared.alloc.AllocError.{AllocError}
 use Rattle.lru_limits.specs.Rules.{Rules, Offers}
-use Rattle.lru_limits.specs.Laws.{IsLookup, IsInsertion}
-use Rattle.schnellru.specs.Lists.{IsFront, lookup_entry, without, keys_of}
-use Rattle.schnellru.specs.State.{State}
-use Rattle.schnellru.specs.Inserts.{Insert}
-use Rattle.schnellru.specs.Theorems.{GivesUp, behind, with_none, without_one}
-use Rattle.schnellru.proofs.Fronts.{insert_gives_up}
+use Rattle.lru_limits.specs.Laws.{IsLookup, IsInsertion, kept_value}
+use Rattle.schnellru.specs.Lists.{IsFront, after, front, lookup_entry, without, keys_of}
+use Rattle.schnellru.specs.State.{Contents}
+use Rattle.schnellru.proofs.Fronts.{front_without_last, without_none, found_named}
+use Rattle.schnellru.proofs.Moves.{Keeps, KeepsOffers, exchange}
 
 module _ {K V : Type 0} (names : K → Bool) where
   -- none of the keys is named
@@ -45,6 +43,10 @@ module _ {K V : Type 0} (P : K → Type 0) where
 all_map : {K : Type 0} (P Q : K → Type 0) (xs : List K) → ((x : K) → P x → Q x) → AllByRecursion P xs → AllByRecursion Q xs
 all_map P Q [] f h = tt
 all_map P Q (x ∷ xs) f h = (f x h.0, all_map P Q xs f h.1)
+
+none_distinct : {K : Type 0} (eq : K → K → Bool) → IsDistinct eq []
+unfolding IsDistinct
+none_distinct eq = tt
 
 module _ {K V : Type 0} (eq : K → K → Bool) where
   abbrev pub AreDistinct : List (K × V) → Type 0
@@ -84,18 +86,45 @@ module _ {K V : Type 0} (eq : K → K → Bool) where
     distinct_newest newest xs n d =
         (all_map (λ y. names y ≡ false) (λ y. eq newest.0 y ≡ false) (keys_of (without names xs)) (λ y h. sym (one newest.0 y n) ∙ h) (others_unnamed xs d), distinct_without names xs d)
 
-    distinct_gives_up : (refuses : K × V → Type 0) (old new : List (K × V)) → GivesUp names refuses old new → AreDistinct old → AreDistinct new
-    distinct_gives_up refuses old new (behind newest n f) d = distinct_front new (newest ∷ without names old) f (distinct_newest newest old n d)
-    distinct_gives_up refuses old new (with_none a f) d = distinct_front new old f d
-    distinct_gives_up refuses old new (without_one pair found r e) d = subst AreDistinct (sym e) (distinct_without names old d)
+    pub distinct_first : (xs : List (K × V)) → AreDistinct xs → AreDistinct (front names xs)
+    distinct_first xs d = go (lookup_entry names xs) refl
+      where
+        go : (o : Option (K × V)) → lookup_entry names xs ≡ o → AreDistinct (after o (without names xs))
+        go None e = subst AreDistinct (sym (without_none names xs e)) d
+        go (Some pair) e = distinct_newest pair xs (found_named names xs pair e) d
 
     -- without the named pair none is named
     pub absent_without : (xs : List (K × V)) → AreDistinct xs → lookup_entry names (without names xs) ≡ None
     absent_without xs d = none_found names (without names xs) (others_unnamed xs d)
 
-module _ {K V S H I : Type 0} (rules : Rules K V S) (offers : Offers K V S I) (names : I → K → Bool) (hash_of : H → K → ℕ) {eq : K → K → Bool}
-    {query_input : I → List (List ℕ)} {key_input : K → List (List ℕ)} (looks_up : IsLookup names eq query_input key_input) (laws : IsInsertion names eq offers) (i : I)
-    (v : V) (old : State K V S H) where
-  pub insert_distinct : (result : Result Bool AllocError) (new : State K V S H) → Insert rules offers names hash_of i v old result new → AreDistinct eq old.pairs → AreDistinct eq new.pairs
-  insert_distinct result new h d =
-      distinct_gives_up eq (names i) (λ x y n. looks_up.one i x y n) _ old.pairs new.pairs (insert_gives_up rules offers names hash_of looks_up laws i v old result new h) d
+module _ {K V S Q : Type 0} (rules : Rules K V S) (names : Q → K → Bool) {eq : K → K → Bool} {query_input : Q → List (List ℕ)} {key_input : K → List (List ℕ)}
+    (looks_up : IsLookup names eq query_input key_input) where
+  pub keeps_distinct : Keeps rules names (λ c d. AreDistinct eq c.pairs → AreDistinct eq d.pairs)
+  keeps_distinct = record {
+    way = record {
+      self = λ c d. d;
+      trans = λ p q d. q (p d);
+      asked = λ bytes c d. d;
+      popped = λ c. distinct_front eq _ c.pairs (front_without_last c.pairs);
+    };
+    left = λ test c. distinct_without eq test c.pairs;
+    first = λ q c. distinct_first eq (names q) (looks_up.one q) c.pairs;
+    cleared = λ c d. none_distinct eq;
+  }
+
+module _ {K V S I : Type 0} (rules : Rules K V S) (offers : Offers K V S I) (names : I → K → Bool) {eq : K → K → Bool}
+    {query_input : I → List (List ℕ)} {key_input : K → List (List ℕ)} (looks_up : IsLookup names eq query_input key_input) (laws : IsInsertion names eq offers) where
+  came_distinct : (i : I) (pair : K × V) (xs : List (K × V)) → lookup_entry (names i) xs ≡ None → names i pair.0 ≡ true → AreDistinct eq xs → AreDistinct eq (pair ∷ xs)
+  came_distinct i pair xs a n d = subst (λ ys. AreDistinct eq (pair ∷ ys)) (without_none (names i) xs a) (distinct_newest eq (names i) (looks_up.one i) pair xs n d)
+
+  exchanged_distinct : (i : I) (v : V) (c : Contents K V S) (pair : K × V) → lookup_entry (names i) c.pairs ≡ Some pair → AreDistinct eq c.pairs → AreDistinct eq (exchange rules offers names pair i v c).pairs
+  exchanged_distinct i v c pair found = let r = offers.on_replace c.limiter (length c.pairs) pair.0 i pair.1 v in let n = found_named (names i) c.pairs pair found in
+      distinct_newest eq (names i) (looks_up.one i) (r.key, kept_value r) c.pairs (looks_up.one i pair.0 r.key n ∙ laws.keeps_key c.limiter (length c.pairs) pair.0 i pair.1 v n)
+
+  pub offers_distinct : KeepsOffers rules offers names (λ c d. AreDistinct eq c.pairs → AreDistinct eq d.pairs)
+  offers_distinct = record {
+    keeps = keeps_distinct rules names looks_up;
+    came = λ i v c s pair a n. came_distinct i pair c.pairs a (laws.names_given c.limiter (length c.pairs) i v s pair.0 pair.1 n);
+    turned_down = λ i v c s n d. d;
+    exchanged = exchanged_distinct;
+  }

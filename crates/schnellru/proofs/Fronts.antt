@@ -1,16 +1,16 @@
 -- Inserts give up pairs from the old end alone.
-use Rattle.std.proofs.Common.{◌≡◌, ℕ, zero, suc, ◌+◌, ◌⊎◌, inl, inr, Bool, true, false, cond, List, [], ◌∷◌, ◌++◌, length, Some}
+use Rattle.std.proofs.Common.{◌≡◌, ℕ, ◌⊎◌, inl, inr, Bool, true, false, cond, List, [], ◌∷◌, ◌++◌, length, Some}
 use Rattle.std.proofs.Common.{None, Result, refl, sym, ap, ◌∙◌, subst, append_assoc, append-nil, arith, ◌≤◌, length-append}
 use Rattle.schnellru.specs.Lists.{IsFront, without_last, lookup_entry, without}
 use Rattle.std.specs.declared.alloc.AllocError.{AllocError}
 use Rattle.lru_limits.specs.Rules.{Rules, Offers}
 use Rattle.lru_limits.specs.Laws.{IsLookup, IsInsertion}
-use Rattle.schnellru.specs.State.{State, Contents, contents, pop, pops, trim, trim_from}
-use Rattle.schnellru.specs.Place.{Place, first_table, first_denied, first_too_large, empty_with_room, empty_without_room, with_room, deleted_bucket, rehashed, grown}
-use Rattle.schnellru.specs.Place.{evicting, finds_bucket, made_anew, Outcome, placed, refused, no_memory, IsPlaced, IsPlacedIfMemory, asked, without_oldest}
-use Rattle.schnellru.specs.Inserts.{Insert, replaced, given_up, no_memory_to_admit, not_admitted, admitted, make_way, Admits, replacement, with_replaced, Settles}
-use Rattle.schnellru.proofs.Leaving.{known_is}
+use Rattle.schnellru.specs.State.{State, Contents, pops, trim}
+use Rattle.schnellru.specs.Place.{Place, Outcome, placed, refused, no_memory}
+use Rattle.schnellru.specs.Inserts.{Insert, replaced, given_up, no_memory_to_admit, not_admitted, admitted, make_way, Admits, replacement, with_replaced}
 use Rattle.schnellru.specs.Theorems.{GivesUp, behind, with_none, without_one}
+use Rattle.schnellru.proofs.Moves.{KeepsWay, pops_keep, trim_keeps, make_way_keeps, settles_keep}
+use Rattle.schnellru.proofs.Ways.{Lands, place_lands}
 
 module _ {X : Type 0} where
   pub front_self : (xs : List X) → IsFront xs xs
@@ -60,58 +60,35 @@ module _ {K V : Type 0} where
       go false f h = ap (λ l. x ∷ l) (f h)
 
 module _ {K V S : Type 0} (rules : Rules K V S) where
-  pub front_pops : (n : ℕ) (c : Contents K V S) → IsFront (pops rules n c).pairs c.pairs
-  front_pops zero c = front_self c.pairs
-  front_pops (suc n) c = front_trans _ _ _ (front_pops n (pop rules c)) (front_without_last c.pairs)
+  -- way is made from the old end
+  pub front_way : KeepsWay rules (λ c d. IsFront d.pairs c.pairs)
+  front_way = record {
+    self = λ c. front_self c.pairs;
+    trans = λ p q. front_trans _ _ _ q p;
+    asked = λ bytes c. front_self c.pairs;
+    popped = λ c. front_without_last c.pairs;
+  }
 
-  front_trim_from : (n : ℕ) (c : Contents K V S) → IsFront (trim_from rules n c).pairs c.pairs
-  front_trim_from zero c = front_self c.pairs
-  front_trim_from (suc n) c = go (rules.is_over_the_limit c.limiter (suc n)) (front_trans _ _ _ (front_trim_from n (pop rules c)) (front_without_last c.pairs))
-    where
-      go : (b : Bool) → IsFront (trim_from rules n (pop rules c)).pairs c.pairs → IsFront (cond b (trim_from rules n (pop rules c)) c).pairs c.pairs
-      go true p = p
-      go false p = front_self c.pairs
+  pub front_pops : (n : ℕ) (c : Contents K V S) → IsFront (pops rules n c).pairs c.pairs
+  front_pops = pops_keep rules _ front_way
 
   pub front_trim : (c : Contents K V S) → IsFront (trim rules c).pairs c.pairs
-  unfolding trim
-  front_trim c = front_trim_from (length c.pairs) c
+  front_trim = trim_keeps rules _ front_way
 
   pub front_make_way : (c : Contents K V S) → IsFront (make_way rules c).pairs c.pairs
-  front_make_way c = go (rules.is_over_the_limit c.limiter (length c.pairs + 1))
-    where
-      go : (b : Bool) → IsFront (cond b (pop rules c) c).pairs c.pairs
-      go true = front_without_last c.pairs
-      go false = front_self c.pairs
+  front_make_way = make_way_keeps rules _ front_way
 
-module _ {K V S H : Type 0} (rules : Rules K V S) (hash_of : H → K → ℕ) (pair : K × V) (old : State K V S H) where
   -- a front part is left, or the new pair and one
-  abbrev pub Ends : State K V S H → Type 0
-  Ends new = IsFront new.pairs (pair ∷ old.pairs) ⊎ IsFront new.pairs old.pairs
+  abbrev pub Ends : {H : Type 0} → K × V → State K V S H → State K V S H → Type 0
+  Ends pair old new = IsFront new.pairs (pair ∷ old.pairs) ⊎ IsFront new.pairs old.pairs
 
-  newest_of : (st new : State K V S H) (count spare moves : ℕ) → IsPlaced pair count spare moves st new → IsFront st.pairs old.pairs → Ends new
-  newest_of st new count spare moves p f = inl (front_trans _ _ _ (front_same _ _ (ap (λ x. x.pairs) p.state)) (front_more pair st.pairs old.pairs f))
-
-  if_memory_ends : (st : State K V S H) (count spare moves : ℕ) (outcome : Outcome) (new : State K V S H) → IsPlacedIfMemory rules pair count spare moves st outcome new
-      → IsFront st.pairs old.pairs → Ends new
-  if_memory_ends st count spare moves placed new h f = newest_of st new count spare moves h f
-  if_memory_ends st count spare moves no_memory new h f = inr (front_trans _ _ _ (front_same _ _ (ap (λ x. x.pairs) h)) f)
-  if_memory_ends st count spare moves refused new h f = absurd h
-
-  pub place_ends : (outcome : Outcome) (new : State K V S H) → Place rules hash_of pair old outcome new → Ends new
-  place_ends outcome new (first_table e b bytes u g m) = if_memory_ends (asked rules bytes old) _ _ _ outcome new m (front_self old.pairs)
-  place_ends outcome new (first_denied e b bytes u d o n) = inr (front_same _ _ (ap (λ st. st.pairs) n))
-  place_ends outcome new (first_too_large e b u o n) = inr (front_same _ _ (ap (λ st. st.pairs) n))
-  place_ends outcome new (empty_with_room e b r s o n) = newest_of old new _ _ _ n (front_self old.pairs)
-  place_ends outcome new (empty_without_room e b r o n) = newest_of old new _ _ _ n (front_self old.pairs)
-  place_ends outcome new (with_room e r s o n) = newest_of old new _ _ _ n (front_self old.pairs)
-  place_ends outcome new (deleted_bucket f i b l o n) = newest_of old new _ _ _ n (front_self old.pairs)
-  place_ends outcome new (rehashed f i l m) = if_memory_ends old _ _ _ outcome new m (front_self old.pairs)
-  place_ends outcome new (grown f i l count bytes t g m) = if_memory_ends (asked rules bytes old) _ _ _ outcome new m (front_self old.pairs)
-  place_ends outcome new (evicting f i l mid c (finds_bucket n pos one half o p)) =
-      newest_of (without_oldest rules n mid) new _ _ _ p (front_trans _ _ _ (front_pops rules n (contents mid)) (front_same _ _ (ap (λ st. st.pairs) (known_is rules old mid c))))
-  place_ends outcome new (evicting f i l mid c (made_anew n pos one half left lv m)) =
-      if_memory_ends left _ _ _ outcome new m
-      (front_trans _ _ _ (front_same _ _ (ap (λ st. st.pairs) lv.is)) (front_trans _ _ _ (front_pops rules n (contents mid)) (front_same _ _ (ap (λ st. st.pairs) (known_is rules old mid c)))))
+  place_ends : {H : Type 0} (hash_of : H → K → ℕ) (pair : K × V) (old : State K V S H) (outcome : Outcome) (new : State K V S H) → Place rules hash_of pair old outcome new → Ends pair old new
+  place_ends hash_of pair old outcome new p = let m = place_lands rules _ front_way (λ _. Unit {0}) hash_of pair old tt outcome new p in end outcome m.mid m.way m.lands
+    where
+      end : (outcome : Outcome) (mid : State _ _ _ _) → IsFront mid.pairs old.pairs → Lands rules (λ _. Unit {0}) pair old outcome mid new → Ends pair old new
+      end placed mid f l = inl (front_trans _ _ _ (front_same _ _ (ap (λ st. st.pairs) l.is.state)) (front_more pair _ _ f))
+      end refused mid f l = inr (front_trans _ _ _ (front_same _ _ (ap (λ st. st.pairs) l.1)) f)
+      end no_memory mid f l = inr (front_trans _ _ _ (front_same _ _ (ap (λ st. st.pairs) l)) f)
 
 module _ {K V : Type 0} where
   pub found_named : (names : K → Bool) (xs : List (K × V)) (p : K × V) → lookup_entry names xs ≡ Some p → names p.0 ≡ true
@@ -126,11 +103,6 @@ module _ {K V : Type 0} where
       go false e f h = f h
 
 module _ {K V S H I : Type 0} (rules : Rules K V S) (offers : Offers K V S I) (names : I → K → Bool) (hash_of : H → K → ℕ) where
-  pub settles_front : (outcome : Outcome) (landed : State K V S H) (result : Result Bool AllocError) (new : State K V S H) → Settles rules outcome landed result new → IsFront new.pairs landed.pairs
-  settles_front placed landed result new h = front_trans _ _ _ (front_same _ _ (ap (λ st. st.pairs) h.1.is)) (front_trim rules (contents landed))
-  settles_front refused landed result new h = front_same _ _ (ap (λ st. st.pairs) h.1)
-  settles_front no_memory landed result new h = front_same _ _ (ap (λ st. st.pairs) h.1)
-
   module _ {eq : K → K → Bool} {query_input : I → List (List ℕ)} {key_input : K → List (List ℕ)} (looks_up : IsLookup names eq query_input key_input)
       (laws : IsInsertion names eq offers) (i : I) (v : V) (old : State K V S H) where
     -- the pair that was given has a key that i names
@@ -159,6 +131,6 @@ module _ {K V S H I : Type 0} (rules : Rules K V S) (offers : Offers K V S I) (n
         others : IsFront ready.pairs (without (names i) old.pairs)
         others = subst (IsFront ready.pairs) (sym (without_none (names i) old.pairs a)) ready_front
 
-        go : Ends rules hash_of pair ready landed → GivesUp (names i) (λ pair. (replacement rules offers names pair i v old).taken ≡ false) old.pairs new.pairs
-        go (inl f) = behind pair (given_named s pair n) (front_trans _ _ _ (settles_front outcome landed result new t) (front_trans _ _ _ f (front_more pair _ _ others)))
-        go (inr f) = with_none a (front_trans _ _ _ (settles_front outcome landed result new t) (front_trans _ _ _ f ready_front))
+        go : Ends rules pair ready landed → GivesUp (names i) (λ pair. (replacement rules offers names pair i v old).taken ≡ false) old.pairs new.pairs
+        go (inl f) = behind pair (given_named s pair n) (front_trans _ _ _ (settles_keep rules _ (front_way rules) outcome landed result new t) (front_trans _ _ _ f (front_more pair _ _ others)))
+        go (inr f) = with_none a (front_trans _ _ _ (settles_keep rules _ (front_way rules) outcome landed result new t) (front_trans _ _ _ f ready_front))

@@ -3,13 +3,14 @@ pub mod Doubling
 pub mod Budgets
 pub mod Sized
 pub mod Leaving
+pub mod Moves
 pub mod Outcomes
 pub mod DeletedBuckets
 pub mod Potential
-pub mod Following
+pub mod Tables
+pub mod Ways
 pub mod Paid
 pub mod Fronts
-pub mod Grown
 pub mod Distinct
 pub mod Within
 pub mod Short
@@ -22,6 +23,9 @@ pub mod Ordered
 pub mod Evictions
 pub mod Limits
 pub mod Promotion
+pub mod Called
+pub mod Runs
+pub mod RunLaws
 pub mod Kept
 pub mod FilledBuckets
 pub mod Emptiness

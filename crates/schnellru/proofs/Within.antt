@@ -8,12 +8,12 @@ use Rattle.lru_limits.specs.Rules.{Rules, Offers}
 use Rattle.lru_limits.specs.Laws.{IsLookup, IsInsertion}
 use Rattle.schnellru.specs.Lists.{is_empty, IsFront, lookup_entry, without}
 use Rattle.schnellru.specs.State.{State, Contents, contents, Leaves, pop, trim, trim_from}
-use Rattle.schnellru.specs.Place.{Place, first_table, first_denied, first_too_large, empty_with_room, empty_without_room, with_room, deleted_bucket, rehashed}
-use Rattle.schnellru.specs.Place.{grown, evicting, finds_bucket, made_anew, Outcome, placed, refused, no_memory, IsPlaced, IsPlacedIfMemory, asked}
+use Rattle.schnellru.specs.Place.{Place, Outcome, placed, refused, no_memory}
 use Rattle.schnellru.specs.Inserts.{Insert, replaced, given_up, no_memory_to_admit, not_admitted, admitted, replacement, with_replaced, Settles}
 use Rattle.schnellru.specs.Theorems.{IsNewest, SaysWhether}
-use Rattle.schnellru.proofs.Leaving.{length-without_last, known_is}
-use Rattle.schnellru.proofs.Fronts.{front_self, front_same, front_trans, front_pops, front_trim, front_make_way, front_absent, front_cons, given_named, replaced_named}
+use Rattle.schnellru.proofs.Leaving.{length-without_last}
+use Rattle.schnellru.proofs.Fronts.{front_way, front_same, front_trans, front_trim, front_make_way, front_absent, front_cons, given_named, replaced_named}
+use Rattle.schnellru.proofs.Ways.{Lands, place_lands}
 use Rattle.schnellru.proofs.Distinct.{AreDistinct, absent_without}
 
 module _ {K V S : Type 0} (rules : Rules K V S) where
@@ -61,28 +61,13 @@ module _ {K V S H : Type 0} (rules : Rules K V S) (hash_of : H → K → ℕ) (p
   Comes refused new = new.pairs ≡ []
   Comes no_memory new = IsFront new.pairs old.pairs
 
-  if_memory_comes : (st : State K V S H) (count spare moves : ℕ) (outcome : Outcome) (new : State K V S H) → IsPlacedIfMemory rules pair count spare moves st outcome new
-      → IsFront st.pairs old.pairs → Comes outcome new
-  if_memory_comes st count spare moves placed new h f = (_, ap (λ x. x.pairs) h.state)
-  if_memory_comes st count spare moves no_memory new h f = front_trans _ _ _ (front_same _ _ (ap (λ x. x.pairs) h)) f
-  if_memory_comes st count spare moves refused new h f = absurd h
-
-  placed_comes : (st : State K V S H) (count spare moves : ℕ) (outcome : Outcome) (new : State K V S H) → outcome ≡ placed → IsPlaced pair count spare moves st new → Comes outcome new
-  placed_comes st count spare moves outcome new o p = rw o (_, ap (λ x. x.pairs) p.state)
-
   pub place_comes : (outcome : Outcome) (new : State K V S H) → Place rules hash_of pair old outcome new → Comes outcome new
-  place_comes outcome new (first_table e b bytes u g m) = if_memory_comes (asked rules bytes old) _ _ _ outcome new m (front_self old.pairs)
-  place_comes outcome new (first_denied e b bytes u d o n) = rw o (ap (λ st. st.pairs) n ∙ e)
-  place_comes outcome new (first_too_large e b u o n) = rw o (ap (λ st. st.pairs) n ∙ e)
-  place_comes outcome new (empty_with_room e b r s o n) = placed_comes _ _ _ _ outcome new o n
-  place_comes outcome new (empty_without_room e b r o n) = placed_comes _ _ _ _ outcome new o n
-  place_comes outcome new (with_room e r s o n) = placed_comes _ _ _ _ outcome new o n
-  place_comes outcome new (deleted_bucket f i b l o n) = placed_comes _ _ _ _ outcome new o n
-  place_comes outcome new (rehashed f i l m) = if_memory_comes old _ _ _ outcome new m (front_self old.pairs)
-  place_comes outcome new (grown f i l count bytes t g m) = if_memory_comes (asked rules bytes old) _ _ _ outcome new m (front_self old.pairs)
-  place_comes outcome new (evicting f i l mid c (finds_bucket n pos one half o p)) = placed_comes _ _ _ _ outcome new o p
-  place_comes outcome new (evicting f i l mid c (made_anew n pos one half left lv m)) = if_memory_comes left _ _ _ outcome new m
-      (front_trans _ _ _ (front_same _ _ (ap (λ st. st.pairs) lv.is)) (front_trans _ _ _ (front_pops rules n (contents mid)) (front_same _ _ (ap (λ st. st.pairs) (known_is rules old mid c)))))
+  place_comes outcome new p = let m = place_lands rules _ (front_way rules) (λ _. Unit {0}) hash_of pair old tt outcome new p in end outcome m.mid m.way m.lands
+    where
+      end : (outcome : Outcome) (mid : State K V S H) → IsFront mid.pairs old.pairs → Lands rules (λ _. Unit {0}) pair old outcome mid new → Comes outcome new
+      end placed mid f l = (mid.pairs, ap (λ st. st.pairs) l.is.state)
+      end refused mid f l = ap (λ st. st.pairs) l.1 ∙ l.0
+      end no_memory mid f l = front_trans _ _ _ (front_same _ _ (ap (λ st. st.pairs) l)) f
 
 module _ {K V S H : Type 0} (rules : Rules K V S) (names : K → Bool) where
   -- after a trimming that answers whether a pair is left

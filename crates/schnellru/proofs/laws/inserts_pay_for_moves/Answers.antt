@@ -1,11 +1,15 @@
 use Rattle.std.proofs.Common.{arith}
-use Rattle.schnellru.proofs.Potential.{insert_pays}
-use Rattle.schnellru.proofs.Paid.{insert_paid}
+use Rattle.schnellru.proofs.Moves.{keeps_nothing}
+use Rattle.schnellru.proofs.Ways.{insert_changes}
+use Rattle.schnellru.proofs.Potential.{bounded_of}
+use Rattle.schnellru.proofs.Paid.{stays_paid}
 use Rattle.schnellru.proofs.laws.inserts_pay_for_moves.Goals as goal
 
 pub returns-clause-rise : goal.returns-clause-rise
-returns-clause-rise g c = λ key value old result new ok step. insert_pays _ _ _ _ key value old result new ok step
+returns-clause-rise g c = λ key value old result new ok step.
+    (insert_changes _ _ _ _ (keeps_nothing _ _ _) _ key value old result new step).tables.pays (bounded_of old ok)
 
 pub returns-clause-paid : goal.returns-clause-paid
 returns-clause-paid g c = λ key value old result new ok paid step.
-    let after = insert_paid _ _ _ _ key value old result new ok step paid in (after, omega arith)
+    let after = stays_paid _ _ 1 old new (insert_changes _ _ _ _ (keeps_nothing _ _ _) _ key value old result new step).tables ok paid in
+    (after, omega arith)
