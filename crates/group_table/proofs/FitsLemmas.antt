@@ -70,9 +70,9 @@ Reaches-first marks hash b first = record {
 
 module _ {T : Type 0} where
   -- the hashes fit again, with that of the entry placed
-  pub Fits-placed : (slots : List (Slot T)) (hash_of : ℕ → ℕ) (hash b : ℕ) (entry : T) → b < length slots → IsFirstFree (marks_of slots) hash b → Fits slots hash_of
+  pub Fits-reached : (slots : List (Slot T)) (hash_of : ℕ → ℕ) (hash b : ℕ) (entry : T) → b < length slots → Reaches (marks_of slots) hash b → Fits slots hash_of
       → Fits (set slots b (full (record { tag = hash_tag hash; entry = entry }))) (with_hash hash_of b hash)
-  Fits-placed slots hash_of hash b entry p first fits =
+  Fits-reached slots hash_of hash b entry p reached fits =
       let now : Slot T = full (record { tag = hash_tag hash; entry = entry }) in
       let stays : mark_of now ≢ empty = λ e. empty_not_full {A = Unit {0}} (full tt) e refl in
       let in_marks : b < length (marks_of slots) = rw length-marks_of p in
@@ -84,11 +84,15 @@ module _ {T : Type 0} where
         ];
         reached = λ k there. elim (cases_eq k b) [
           | inl h ↦ rw (marks_of-set slots b now, with_hash-there hash_of b hash k h, h)
-              (Reaches-set (marks_of slots) b (mark_of now) in_marks stays hash b (Reaches-first (marks_of slots) hash b first))
+              (Reaches-set (marks_of slots) b (mark_of now) in_marks stays hash b reached)
           | inr h ↦ rw (marks_of-set slots b now, with_hash-elsewhere hash_of b hash k h)
               (Reaches-set (marks_of slots) b (mark_of now) in_marks stays _ k (fits.reached k (sym (ap is_full (bucket_at-set_other slots b k now h)) ∙ there)))
         ];
       }
+
+  pub Fits-placed : (slots : List (Slot T)) (hash_of : ℕ → ℕ) (hash b : ℕ) (entry : T) → b < length slots → IsFirstFree (marks_of slots) hash b → Fits slots hash_of
+      → Fits (set slots b (full (record { tag = hash_tag hash; entry = entry }))) (with_hash hash_of b hash)
+  Fits-placed slots hash_of hash b entry p first fits = Fits-reached slots hash_of hash b entry p (Reaches-first (marks_of slots) hash b first) fits
 
   -- hashes fit that are the same where a bucket is full
   pub Fits-agree : (slots : List (Slot T)) (f g : ℕ → ℕ) → ((b : ℕ) → IsFull slots b → f b ≡ g b) → Fits slots f → Fits slots g

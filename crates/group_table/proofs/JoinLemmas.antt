@@ -1,19 +1,17 @@
 -- An entry comes into a table with room and no deleted bucket.
-use Rattle.std.proofs.Common.{◌≡◌, ◌≢◌, ℕ, ◌+◌, ◌-◌, ◌<◌, ◌≤◌, cond, List, length, set, Option, Some, refl, ap, ◌∙◌, arith, inl, inr, count_by, length-set}
+use Rattle.std.proofs.Common.{◌≡◌, ◌≢◌, ℕ, ◌+◌, ◌-◌, ◌<◌, ◌≤◌, ◌⊎◌, cond, List, length, get_or, set, Option, Some, None, refl, ap, ◌∙◌, subst, arith, inl, inr, count_by, length-set}
 use Rattle.group_table.specs.Sizes.{full_capacity}
-use Rattle.group_table.specs.Bucket.{Slot, empty, full, bucket_at, is_deleted, entry_at, entry_count}
-use Rattle.group_table.specs.Probe.{hash_tag}
-use Rattle.group_table.specs.Table.{Table}
-use Rattle.group_table.specs.Change.{Places}
-use Rattle.group_table.specs.Layout.{slots_of, IsValid, written}
-use Rattle.group_table.specs.Group.{IsFirstFreeByte}
+use Rattle.group_table.specs.Bucket.{Slot, empty, deleted, full, bucket_at, is_full, is_deleted, entry_of, entry_at, entry_count}
+use Rattle.group_table.specs.Probe.{hash_tag, Reaches}
+use Rattle.group_table.specs.Layout.{slots_of, marks_by, IsValid, written}
+use Rattle.group_table.specs.Group.{IsFirstFreeByte, IsReachedFreeByte}
 use Rattle.group_table.specs.Moves.{Joins}
 use Rattle.group_table.proofs.SizeLemmas.{full_capacity-small, power_pos}
-use Rattle.group_table.proofs.BucketLemmas.{used_count-split, count_by-pos, count_by-set}
-use Rattle.group_table.proofs.LayoutLemmas.{length-laid_out}
+use Rattle.group_table.proofs.BucketLemmas.{used_count-split, count_by-pos, count_by-set, bucket_at-set_same, bucket_at-set_other}
+use Rattle.group_table.proofs.ProbeLemmas.{probed-lt}
+use Rattle.group_table.proofs.LayoutLemmas.{length-laid_out, length-marks_by, bucket_at-laid_out, byte_from_mark}
 use Rattle.group_table.proofs.WriteLemmas.{slots_of-written}
-use Rattle.group_table.proofs.PlaceLemmas.{Spends, place_within, place_first, place_free, IsValid-placed, entry_count-placed}
-use Rattle.group_table.proofs.ChangeLemmas.{entry_at-placed, entry_count-places, bucket_at-placed_other}
+use Rattle.group_table.proofs.PlaceLemmas.{Spends, free_slot, IsValid-placed, entry_count-placed}
 
 module _ {T : Type 0} (control : List ℕ) (entries : List (Option T)) (r : ℕ) (valid : IsValid control entries r)
     (none_deleted : count_by is_deleted (slots_of control entries) ≡ 0)
@@ -35,19 +33,38 @@ module _ {T : Type 0} (control : List ℕ) (entries : List (Option T)) (r : ℕ)
   pub with_repetition : length entries + 16 ≤ length control
   with_repetition = elim valid.laid_out.counts [ inl w ↦ absurd (omega (arith, w.0, some_buckets)) | inr w ↦ omega (arith, w.1) ]
 
-  module _ (hash b n : ℕ) (n_is : n ≡ length entries) (first : IsFirstFreeByte control n hash b) where
-    pos : 0 < n
-    pos = omega (arith, n_is, some_buckets)
+  module _ (hash b n : ℕ) (n_is : n ≡ length entries) (reached : IsReachedFreeByte control n hash b) where
+    byte_reached : IsReachedFreeByte control (length entries) hash b
+    byte_reached = subst (λ k. IsReachedFreeByte control k hash b) n_is reached
 
     pub join_within : b < length entries
-    join_within = place_within control entries r valid hash b n n_is pos first
+    join_within = rw (← byte_reached.there) (probed-lt (length entries) hash byte_reached.step some_buckets)
+
+    free_there : ((bucket_at (slots_of control entries) b ≡ empty) ⊎ (bucket_at (slots_of control entries) b ≡ deleted)) × (get_or entries b None ≡ None)
+    free_there = rw (bucket_at-laid_out control entries valid.laid_out b join_within) (free_slot _ _ (valid.laid_out.agrees b join_within) byte_reached.free_there)
+
+    pub join_none : get_or entries b None ≡ None
+    join_none = free_there.1
+
+    -- no group that a search reads before has an empty bucket
+    join_reached : Reaches (marks_by control entries) hash b
+    join_reached =
+        let same = length-marks_by control entries valid.laid_out in
+        record {
+          step = byte_reached.step;
+          there = rw same byte_reached.there;
+          goes_on = λ before p. rw same (λ e.
+              let full = byte_reached.full_before before p in
+              let byte = byte_from_mark control entries valid.laid_out _ (probed-lt (length entries) hash before some_buckets) e in
+              omega (arith, full, byte));
+        }
 
     in_slots : b < length (slots_of control entries)
     in_slots = omega (arith, join_within, length-laid_out control entries valid.laid_out)
 
     -- the first free bucket is empty
     join_empty : bucket_at (slots_of control entries) b ≡ empty
-    join_empty = elim (place_free control entries r valid hash b n n_is pos first).0 [
+    join_empty = elim free_there.0 [
       | inl e ↦ e
       | inr e ↦ absurd (omega (arith, none_deleted, count_by-pos is_deleted (slots_of control entries) b in_slots (ap is_deleted e)))
     ]
@@ -64,37 +81,41 @@ module _ {T : Type 0} (control : List ℕ) (entries : List (Option T)) (r : ℕ)
 
       pub joins_there : tag ≡ hash_tag hash → Joins (slots_of control entries) (slots_of (written control entries b tag) (set entries b (Some entry))) hash entry b
       joins_there is = record {
-        first = place_first control entries r valid hash b n n_is pos first;
+        reached = join_reached;
         within = in_slots;
         was_empty = join_empty;
         slots = slots_of-written control entries b tag (Some entry) ∙ ap (λ t. set (slots_of control entries) b (full (record { tag = t; entry = entry }))) is;
       }
 
+-- the first free bucket is one of these
+pub reached_first : (control : List ℕ) (buckets hash b : ℕ) → IsFirstFreeByte control buckets hash b → IsReachedFreeByte control buckets hash b
+reached_first control buckets hash b first = record {
+  step = first.step;
+  there = first.there;
+  free_there = first.free_there;
+  full_before = λ before p. first.full_before before (omega arith);
+}
+
 -- what comes of it
 module _ {T : Type 0} (old new : List (Slot T)) (hash : ℕ) (entry : T) (b : ℕ) (joins : Joins old new hash entry b) where
-  abbrev before : Table T
-  before = record { slots = old; placings = 0 }
-
-  abbrev after : Table T
-  after = record { slots = new; placings = 1 }
-
-  places : Places before after hash entry b
-  places = record { first = joins.first; slots = joins.slots; placings = refl }
+  abbrev filled : Slot T
+  filled = full (record { tag = hash_tag hash; entry = entry })
 
   pub length-joined : length new ≡ length old
   length-joined = ap length joins.slots ∙ length-set old b _
 
   pub entry_at-joined : entry_at new b ≡ Some entry
-  entry_at-joined = entry_at-placed before after hash entry b places joins.within
+  entry_at-joined = ap entry_of (ap (λ xs. bucket_at xs b) joins.slots ∙ bucket_at-set_same old b b filled refl joins.within)
 
   pub entry_count-joined : entry_count new ≡ entry_count old + 1
-  entry_count-joined = entry_count-places before after hash entry b places joins.within
+  entry_count-joined =
+      let none : ◌≡◌ {A = ℕ} (cond (is_full (bucket_at old b)) 1 0) 0 = ap (λ s. cond {A = ℕ} (is_full s) 1 0) joins.was_empty in
+      ap entry_count joins.slots ∙ omega (arith, count_by-set is_full old b filled joins.within, none)
 
   pub bucket_at-joined_other : (k : ℕ) → k ≢ b → bucket_at new k ≡ bucket_at old k
-  bucket_at-joined_other k other = bucket_at-placed_other before after hash entry b places k other
+  bucket_at-joined_other k other = ap (λ xs. bucket_at xs k) joins.slots ∙ bucket_at-set_other old b k filled other
 
   pub deleted_count-joined : count_by is_deleted new ≡ count_by is_deleted old
   deleted_count-joined =
       let none : ◌≡◌ {A = ℕ} (cond (is_deleted (bucket_at old b)) 1 0) 0 = ap (λ s. cond {A = ℕ} (is_deleted s) 1 0) joins.was_empty in
-      let counted = count_by-set is_deleted old b (full (record { tag = hash_tag hash; entry = entry })) joins.within in
-      ap (count_by is_deleted) joins.slots ∙ omega (arith, counted, none)
+      ap (count_by is_deleted) joins.slots ∙ omega (arith, count_by-set is_deleted old b filled joins.within, none)

@@ -1,3 +1,4 @@
+pub mod Masks
 pub mod SizeLemmas
 pub mod PowerLemmas
 pub mod Circle
@@ -8,6 +9,8 @@ pub mod FirstFree
 pub mod SearchLemmas
 pub mod LayoutLemmas
 pub mod FindLemmas
+pub mod LaneLemmas
+pub mod RunLanes
 pub mod WriteLemmas
 pub mod PlaceLemmas
 pub mod JoinLemmas
@@ -20,6 +23,10 @@ pub mod CopyLemmas
 pub mod FreshLemmas
 pub mod MoveLemmas
 pub mod RelocationLemmas
+pub mod PlaceCounts
+pub mod FreeBytes
+pub mod HalfwayLemmas
+pub mod TurnLemmas
 pub mod ChangeLemmas
 pub mod CallerLemmas
 pub mod CountedMarks

@@ -14,7 +14,7 @@ use Rattle.group_table.specs.Relocation.{moved_to}
 use Rattle.group_table.specs.Moves.{Joins, Moves, KeepsMovedHashes}
 use Rattle.group_table.proofs.BucketLemmas.{empty_not_full}
 use Rattle.group_table.proofs.SearchLemmas.{full_by_entry}
-use Rattle.group_table.proofs.FitsLemmas.{Fits-placed, Fits-agree, with_hash-there, with_hash-elsewhere}
+use Rattle.group_table.proofs.FitsLemmas.{Fits-reached, Fits-agree, with_hash-there, with_hash-elsewhere}
 use Rattle.group_table.proofs.JoinLemmas.{entry_at-joined, bucket_at-joined_other}
 
 module _ {T N : Type 0} (number : N → ℕ) (none : N) where
@@ -106,7 +106,7 @@ module _ {T N : Type 0} (number : N → ℕ) (none : N) where
         rw joins.slots (Fits-agree _ _ _ (λ k there. elim (cases_eq k c) [
           | inl h ↦ with_hash-there moved_hash_of c hash k h ∙ now ∙ ap moved_hash_of (sym h)
           | inr h ↦ with_hash-elsewhere moved_hash_of c hash k h
-        ]) (Fits-placed new moved_hash_of hash c entry joins.within joins.first before))
+        ]) (Fits-reached new moved_hash_of hash c entry joins.within joins.reached before))
 
 -- the entries that have come so far, and one place more
 module _ {T : Type 0} (places : List (Option T)) (b : ℕ) (b_is : b ≡ length places) where

@@ -21,7 +21,7 @@ module _ {T : Type 0} where
   free_empty byte None p q h = (rw h, refl)
 
   -- and it has no entry
-  free_slot : (byte : ℕ) (e : Option T) → Agrees byte e → 128 ≤ byte → ((slot_of byte e ≡ empty) ⊎ (slot_of byte e ≡ deleted)) × (e ≡ None)
+  pub free_slot : (byte : ℕ) (e : Option T) → Agrees byte e → 128 ≤ byte → ((slot_of byte e ≡ empty) ⊎ (slot_of byte e ≡ deleted)) × (e ≡ None)
   free_slot byte (Some entry) p q = absurd (omega arith)
   free_slot byte None (inl p) q = (inr (rw p), refl)
   free_slot byte None (inr p) q = (inl (rw p), refl)
@@ -39,12 +39,16 @@ module _ {T : Type 0} where
   free_of s room spent (inl w) = rw w.0 (refl, omega (arith, w.2), omega (arith, w.1, w.2))
   free_of s room spent (inr w) = rw w.0 (refl, omega (arith, w.1), omega (arith, w.1))
 
--- some byte is that of a free bucket
-pub some_free_byte : {T : Type 0} (control : List ℕ) (entries : List (Option T)) (r : ℕ) → IsValid control entries r → 0 < length entries → (b : ℕ) × (b < length entries) × (128 ≤ get_or control b 0)
-some_free_byte control entries r valid pos =
+-- some byte is that of an empty bucket
+pub some_empty_byte : {T : Type 0} (control : List ℕ) (entries : List (Option T)) (r : ℕ) → IsValid control entries r → 0 < length entries → (b : ℕ) × (b < length entries) × (get_or control b 0 ≡ 255)
+some_empty_byte control entries r valid pos =
     let w = empty_there control entries r valid pos in
     let within : w.0 < length entries = omega (arith, w.1, length-marks_by control entries valid.laid_out) in
-    (w.0, within, omega (arith, byte_from_mark control entries valid.laid_out w.0 within w.2))
+    (w.0, within, byte_from_mark control entries valid.laid_out w.0 within w.2)
+
+-- and so is it that of a free one
+pub some_free_byte : {T : Type 0} (control : List ℕ) (entries : List (Option T)) (r : ℕ) → IsValid control entries r → 0 < length entries → (b : ℕ) × (b < length entries) × (128 ≤ get_or control b 0)
+some_free_byte control entries r valid pos = let w = some_empty_byte control entries r valid pos in (w.0, w.1, omega (arith, w.2))
 
 module _ {T : Type 0} (control : List ℕ) (entries : List (Option T)) (r : ℕ) (valid : IsValid control entries r) (hash b n : ℕ) (n_is : n ≡ length entries) (pos : 0 < n)
     (first : IsFirstFreeByte control n hash b) where

@@ -22,6 +22,17 @@ probed-lt n hash s pos = mod-lt _ pos
 pub probed-first : (n hash : ℕ) → hash % n ≡ probed n hash 0
 probed-first n hash = let e : hash ≡ hash + 8 * 0 * (0 + 1) + 0 = omega arith in ap (λ m. m % n) e ∙ sym (probed-at n hash 0 0 0 (omega arith) (omega arith))
 
+-- the steps of a search to a bucket of the first group are those on the circle
+pub probed-first_group : (n hash b steps : ℕ) → b < n → steps < 16 → steps ≡ (b + (n - hash % n)) % n → probed n hash steps ≡ b
+probed-first_group n hash b steps p q e =
+    let pos : 0 < n = omega arith in
+    let below = mod-lt hash pos in
+    let whole = div-add-mod hash n in
+    let at : probed n hash steps ≡ (hash + 8 * 0 * (0 + 1) + steps) % n = probed-at n hash steps 0 steps (omega arith) q in
+    let turned : hash + 8 * 0 * (0 + 1) + steps ≡ steps + hash = omega arith in
+    let round : b + (n - hash % n) + hash ≡ b + n * (hash / n + 1) = omega (arith, below, whole) in
+    at ∙ ap (λ k. k % n) turned ∙ ap (λ k. (k + hash) % n) e ∙ mod-add-mod (b + (n - hash % n)) n hash ∙ ap (λ k. k % n) round ∙ add-mul-mod_self_left b n (hash / n + 1) ∙ mod-eq_of_lt p
+
 -- the lanes of a group stand side by side on the circle
 pub probed-lane : (n hash s lane : ℕ) → s % 16 ≡ 0 → lane < 16 → probed n hash (s + lane) ≡ (probed n hash s + lane) % n
 probed-lane n hash s lane e p =

@@ -1,5 +1,5 @@
 -- What the code reads in the group of buckets that begins at a place. No public clause cites this module.
-use Rattle.std.specs.Prelude.{◌≡◌, ◌≢◌, ℕ, ◌+◌, ◌%◌, ◌<◌, ◌≤◌, min, Bool, true, List, [], ◌∷◌, ◌++◌, length, map, filter, slice_index}
+use Rattle.std.specs.Prelude.{◌≡◌, ◌≢◌, ℕ, ◌+◌, ◌/◌, ◌%◌, ◌<◌, ◌≤◌, min, Bool, true, List, [], ◌∷◌, ◌++◌, length, map, filter, slice_index}
 use Rattle.std.specs.List.{range_with_len}
 use Rattle.std.specs.Borrow.{Bor}
 use Rattle.std.specs.Fn.{Mut}
@@ -65,6 +65,13 @@ pub record IsFirstFreeByte (control : List ℕ) (buckets hash b : ℕ) : Type 0 
   pub there : probed buckets hash step ≡ b
   pub free_there : 128 ≤ slice_index control b
   pub full_before : (before : ℕ) → before < step → slice_index control (probed buckets hash before) < 128
+
+-- the byte of the bucket is that of an empty or a deleted bucket, and a search for the hash reads none before its group
+pub record IsReachedFreeByte (control : List ℕ) (buckets hash b : ℕ) : Type 0 where
+  pub step : ℕ
+  pub there : probed buckets hash step ≡ b
+  pub free_there : 128 ≤ slice_index control b
+  pub full_before : (before : ℕ) → before / 16 < step / 16 → slice_index control (probed buckets hash before) < 128
 
 -- so many used buckets stand directly before this one: 16, or up to an empty one
 pub record IsRunBefore (control : List ℕ) (buckets b run : ℕ) : Type 0 where

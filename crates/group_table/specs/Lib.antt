@@ -9,8 +9,10 @@ pub mod Search
 pub mod Change
 pub mod Relocation
 pub mod Moves
+pub mod InPlace
 pub mod Copies
 pub mod Lends
 pub mod LendsSome
 pub mod Layout
 pub mod Group
+pub mod Lanes

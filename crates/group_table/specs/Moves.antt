@@ -3,7 +3,7 @@ use Rattle.std.specs.Prelude.{◌≡◌, ℕ, ◌<◌, List, length, slice_set, 
 use Rattle.std.specs.Borrow.{Bor}
 use Rattle.std.specs.Fn.{Shared, FnReturnsAt}
 use Rattle.group_table.specs.Bucket.{Slot, empty, full, bucket_at, entry_at, marks_of, IsFull}
-use Rattle.group_table.specs.Probe.{hash_tag, IsFirstFree}
+use Rattle.group_table.specs.Probe.{hash_tag, Reaches}
 use Rattle.group_table.specs.Fits.{Fits}
 use Rattle.group_table.specs.Relocation.{moved_to}
 
@@ -12,9 +12,9 @@ module _ {T : Type 0} where
   abbrev pub place_at : List (Option T) → ℕ → Option T
   place_at places b = slice_index_or places b None
 
-  -- the entry went into the first free bucket, which was empty, with the tag of its hash
+  -- the entry went into an empty bucket that a search for its hash reaches, with the tag of its hash
   pub record Joins (old new : List (Slot T)) (hash : ℕ) (entry : T) (b : ℕ) : Type 0 where
-    pub first : IsFirstFree (marks_of old) hash b
+    pub reached : Reaches (marks_of old) hash b
     pub within : b < length old
     pub was_empty : bucket_at old b ≡ empty
     pub slots : new ≡ slice_set old b (full (record { tag = hash_tag hash; entry = entry }))

@@ -39,14 +39,13 @@ pub(crate) fn wrap(place: usize, buckets: usize) -> usize
 // Writes the control byte of a bucket, and its repetition.
 #[inline]
 pub(crate) fn set_byte(control: &mut [u8], buckets: usize, b: usize, byte: u8)
+    requires count { IsPowerFromFour buckets }
     requires fits { length control.old < 2 ^ 63 }
-    requires within { buckets + 16 ≤ length control.old }
+    requires len { length control.old ≡ buckets + 16 }
     requires bucket { b < buckets }
     ensures { control.new ≡ slice_set (slice_set control.old b byte) (b + max 16 buckets) byte }
 {
     control[b] = byte;
-    let again = b + buckets.max(16);
-    if again < control.len() {
-        control[again] = byte;
-    }
+    // That of one of the first 16 buckets; else it is the same byte again, so that nothing has to be asked.
+    control[wrap(b + buckets.saturating_sub(16), buckets) + 16] = byte;
 }

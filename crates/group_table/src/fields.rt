@@ -1,6 +1,7 @@
 //! The fields of a table: the control bytes and the entries, written together.
-ghost use Rattle.std.specs.Prelude.{◌≡◌, ◌<◌, length, replicate, slice_set, slice_index_or, None, Some, IsSome, IfOk};
+ghost use Rattle.std.specs.Prelude.{◌≡◌, ◌+◌, ◌^◌, ◌<◌, length, max, replicate, slice_set, slice_index_or, None, Some, IsSome, IfOk};
 ghost use Rattle.std.specs.Borrow.{sem};
+ghost use Rattle.group_table.specs.Sizes.{IsPowerFromFour};
 ghost use Rattle.group_table.specs.Layout.{IsLaidOut, written};
 ghost use Rattle.group_table.specs.LendsSome.{lends_some};
 
@@ -76,6 +77,39 @@ pub(crate) fn fill_bucket<T: Drop>(
     set_byte(control.as_mut_slice(), entries.len(), b, tag);
     // The place has no entry, so that nothing is lost, and no old tag is read.
     mem::forget(mem::replace(&mut entries[b], Some(entry)));
+}
+
+// Writes the tag of a bucket whose entry stays.
+#[inline]
+pub(crate) fn set_tag(control: &mut Vec<u8>, buckets: usize, b: usize, tag: u8)
+    requires count { IsPowerFromFour buckets }
+    requires fits { length control.old.items < 2 ^ 63 }
+    requires len { length control.old.items ≡ buckets + 16 }
+    requires bucket { b < buckets }
+    ensures { control.new.items ≡ slice_set (slice_set control.old.items b tag) (b + max 16 buckets) tag }
+{
+    set_byte(control.as_mut_slice(), buckets, b, tag);
+}
+
+// Writes the tag and the entry of a bucket, and gives the entry that stood there, if one did.
+#[inline]
+pub(crate) fn put<T>(
+    control: &mut Vec<u8>,
+    entries: &mut Vec<Option<T>>,
+    b: usize,
+    tag: u8,
+    entry: T,
+) -> Option<T>
+    requires count { IsPowerFromFour (length entries.old.items) }
+    requires fits { length control.old.items < 2 ^ 63 }
+    requires len { length control.old.items ≡ length entries.old.items + 16 }
+    requires bucket { b < length entries.old.items }
+    ensures control { control.new.items ≡ written control.old.items entries.old.items b tag }
+    ensures entries { entries.new.items ≡ slice_set entries.old.items b (Some entry) }
+    ensures stood { result ≡ slice_index_or entries.old.items b None }
+{
+    set_byte(control.as_mut_slice(), entries.len(), b, tag);
+    mem::replace(&mut entries[b], Some(entry))
 }
 
 // Takes the entry out of a full bucket, and writes its byte.

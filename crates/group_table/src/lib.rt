@@ -3,6 +3,7 @@
 
 mod control;
 mod fields;
+mod group;
 mod link;
 mod neighbours;
 mod probe;

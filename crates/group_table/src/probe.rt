@@ -1,12 +1,15 @@
 //! Searches for a hash, group by group, over the control bytes and the entries as two slices.
-ghost use Rattle.std.specs.Prelude.{◌≡◌, ℕ, ◌+◌, ◌%◌, ◌^◌, ◌<◌, ◌≤◌, length, slice_index, IfSome, IfNone};
+ghost use Rattle.std.specs.Prelude.{◌≡◌, ℕ, ◌+◌, ◌%◌, ◌^◌, ◌<◌, ◌≤◌, length, slice_index, IfSome, IfNone, IsTrue};
 ghost use Rattle.group_table.specs.Sizes.{IsPowerFromFour};
 ghost use Rattle.group_table.specs.Bucket.{bucket_at, empty};
+ghost use Rattle.group_table.specs.Probe.{probed};
 ghost use Rattle.group_table.specs.Search.{Finds, FindsNone};
 ghost use Rattle.group_table.specs.Group.{AsksGroup, IsFreeLane, IsFirstFreeByte};
+ghost use Rattle.group_table.specs.Lanes.{IsRepeated};
 ghost use Rattle.group_table.specs.Layout.{IsLaidOut, slots_of, marks_by};
 
-use crate::control::{EMPTY, tag_of, wrap};
+use crate::control::{tag_of, wrap};
+use crate::group::{load, lowest_lane, match_empty, match_free, match_tag, without_lowest};
 
 // What came of asking about one group: a bucket whose entry was accepted, the end of the search at an empty
 // bucket, or neither.
@@ -26,6 +29,7 @@ fn ask_group<T, F: FnMut(&T) -> bool>(
     f: &mut F,
 ) -> Asked
     requires laid_out { IsLaidOut control.now entries.now }
+    requires some_empty { (b : ℕ) × (b < length entries.now) × (bucket_at (marks_by control.now entries.now) b ≡ empty) }
     requires start { start < length entries.now }
     requires tag { tag < 128 }
     requires callable { F.IsAlwaysCallable f.old }
@@ -33,24 +37,25 @@ fn ask_group<T, F: FnMut(&T) -> bool>(
     ensures asked { AsksGroup F.FnMut (slots_of control.now entries.now) tag start f.old result f.new }
 {
     let buckets = entries.len();
-    let mut ended = false;
-    for lane in 0..buckets.min(16) {
-        let b = wrap(start + lane, buckets);
-        let byte = control[b];
-        if byte == tag {
-            match &entries[b] {
-                Some(entry) => {
-                    if f(entry) {
-                        return Asked::Accepted(b);
-                    }
+    let group = load(control, start);
+    let mut mask = match_tag(&group, tag);
+    'lanes: while mask != 0 {
+        let b = wrap(start + lowest_lane(mask), buckets);
+        match &entries[b] {
+            Some(entry) => {
+                if f(entry) {
+                    return Asked::Accepted(b);
                 }
-                None => unreachable!(),
             }
-        } else if byte == EMPTY {
-            ended = true;
+            None => unreachable!(),
         }
+        mask = without_lowest(mask);
     }
-    if ended { Asked::Ended } else { Asked::GoesOn }
+    if match_empty(&group) != 0 {
+        Asked::Ended
+    } else {
+        Asked::GoesOn
+    }
 }
 
 // Asks about the entries with the tag of the hash, group by group, until one is accepted.
@@ -86,23 +91,29 @@ pub(crate) fn find_bucket<T, F: FnMut(&T) -> bool>(
 fn free_in_group(control: &[u8], buckets: usize, start: usize) -> Option<usize>
     requires count { IsPowerFromFour buckets }
     requires within { buckets + 16 ≤ length control.now }
+    requires repeated { IsRepeated control.now buckets }
+    requires some_free { (b : ℕ) × (b < buckets) × (128 ≤ slice_index control.now b) }
     requires start { start < buckets }
     ensures found { IfSome result (IsFreeLane control.now buckets start) }
     ensures none { IfNone result ((lane : ℕ) → lane < 16 → slice_index control.now ((start + lane) % buckets) < 128) }
 {
-    for lane in 0..16 {
-        let b = wrap(start + lane, buckets);
-        if control[b] >= 128 {
-            return Some(b);
-        }
+    let mask = match_free(&load(control, start));
+    if mask == 0 {
+        return None;
     }
-    None
+    let b = wrap(start + lowest_lane(mask), buckets);
+    if control[b] >= 128 {
+        return Some(b);
+    }
+    // Of 4 or 8 buckets, the lane was one of the bytes between them and their repetition: those from here on are full.
+    Some(lowest_lane(match_free(&load(control, 0))))
 }
 
 // The first bucket in the order of a search for the hash that is empty or deleted.
 pub(crate) fn first_free(control: &[u8], buckets: usize, hash: u64) -> usize
     requires count { IsPowerFromFour buckets }
     requires within { buckets + 16 ≤ length control.now }
+    requires repeated { IsRepeated control.now buckets }
     requires fits { length control.now < 2 ^ 63 }
     requires some_free { (b : ℕ) × (b < buckets) × (128 ≤ slice_index control.now b) }
     ensures { IsFirstFreeByte control.now buckets hash result }
@@ -116,4 +127,15 @@ pub(crate) fn first_free(control: &[u8], buckets: usize, hash: u64) -> usize
         stride += 16;
         start = wrap(start + stride, buckets);
     }
+}
+
+// Whether the bucket is among the 16 that a search for the hash reads first.
+#[inline]
+pub(crate) fn is_read_first(buckets: usize, hash: u64, b: usize) -> bool
+    requires count { IsPowerFromFour buckets }
+    requires fits { buckets < 2 ^ 63 }
+    requires bucket { b < buckets }
+    ensures { IsTrue result → (step : ℕ) × (step < 16) × (probed buckets hash step ≡ b) }
+{
+    wrap(b + (buckets - wrap(hash as usize, buckets)), buckets) < 16
 }

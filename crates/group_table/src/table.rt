@@ -20,6 +20,7 @@ use std::marker::Model;
 
 mod copies;
 mod figures;
+mod in_place;
 mod moves;
 mod relocation;
 
@@ -149,6 +150,7 @@ impl<T> Table<T> {
     ///
     /// The bucket is then empty, which gives the room back, if every 16 neighbouring buckets that hold it hold an empty
     /// one; else it is deleted, so that no search that went on past it ends there. Up to 16 buckets it is always empty.
+    #[inline(always)]
     pub fn take(&mut self, b: usize) -> T
         requires { IsFull self.old.slots b }
         ensures entry { entry_at self.old.slots b ≡ Some result }
@@ -171,6 +173,7 @@ impl<T: Drop> Table<T> {
     ///
     /// An empty bucket takes one of the room, a deleted one none. The entry comes back, and nothing has changed, where
     /// there are no buckets, or there is no room and the first free bucket is empty.
+    #[inline(always)]
     pub fn try_place(&mut self, hash: u64, entry: T) -> Result<usize, T>
         ensures placed { IfOk result (Places self.old self.new hash entry) }
         ensures may_fill { IfOk result (MayFill (marks_of self.old.slots)) }

@@ -159,6 +159,7 @@ impl<K, V, N: LinkType> Linked<K, V, N> {
     }
 
     // Takes the pair out of a full bucket.
+    #[inline(always)]
     pub(crate) fn take(&mut self, b: usize) -> (K, V)
         requires { IsFull self.old.slots b }
         ensures pair { entry_at self.old.slots b ≡ Some result }
@@ -176,6 +177,7 @@ impl<K, V, N: LinkType> Linked<K, V, N> {
 
 impl<K: Drop, V: Drop, N: LinkType> Linked<K, V, N> {
     // Puts a pair whose key has this hash into the first free bucket, as the newest.
+    #[inline(always)]
     pub(crate) fn place(&mut self, hash: u64, pair: (K, V)) -> Result<(), (K, V)>
         ensures placed { OnOk result ((b : ℕ) × Lands self.old self.new hash pair b) }
         ensures fits { OnOk result ((hash_of : K → ℕ) → KeysFit hash_of self.old.slots → hash_of pair.0 ≡ hash → KeysFit hash_of self.new.slots) }

@@ -6,9 +6,11 @@ ghost use Rattle.group_table.specs.Table.{IsTable};
 ghost use Rattle.group_table.specs.Change.{count_up};
 ghost use Rattle.group_table.specs.Relocation.{Renumbers, KeepsHashes, GivesHashes};
 
-use crate::fields::no_links;
+use crate::fields::{clear_bytes, no_links};
 use crate::link::LinkType;
+use crate::sizes::full_capacity;
 use crate::table::Table;
+use crate::table::in_place::place_again;
 use crate::table::moves::move_entries;
 use std::alloc::AllocError;
 use std::mem;
@@ -57,9 +59,10 @@ impl<T: Drop> Table<T> {
         Ok(links)
     }
 
-    /// Moves all entries so that no bucket is deleted, among as many buckets as now, and answers as `relocate` does.
+    /// Gives all entries new buckets so that none is deleted, among as many as now, and answers as `relocate` does.
     ///
-    /// A table without entries takes no memory for that: its buckets are emptied where they lie.
+    /// The entries are not moved into another table, and `hash_of` is asked once for each. The one request for memory is
+    /// that for the links; a table without entries makes none: its buckets are emptied where they lie.
     pub fn rehash<N: LinkType, H: Fn(&T) -> u64>(
         &mut self,
         hash_of: H,
@@ -79,12 +82,17 @@ impl<T: Drop> Table<T> {
         ensures unchanged { OnErr result (self.new ≡ self.old) }
         ensures succeeds { entry_count self.old.slots ≡ 0 → IsOk result }
     {
+        let alloc = *self.control.allocator();
         if self.len == 0 {
-            let alloc = *self.control.allocator();
             self.clear();
             return Ok(Vec::new(alloc));
         }
         let buckets = self.entries.len();
-        self.relocate(buckets, hash_of)
+        let mut links = no_links(alloc, buckets)?;
+        clear_bytes(&mut self.control);
+        place_again(&mut self.control, &mut self.entries, &mut links, &hash_of);
+        self.room = full_capacity(buckets) - self.len;
+        self.placings = self.placings.saturating_add(self.len as u64);
+        Ok(links)
     }
 }

@@ -27,7 +27,7 @@ impl<K: Eq + Hash + Drop, V: Drop, L: Limiter<K, V>, S: BuildHasher> LruMap<K, V
     /// room, but what `on_insert` takes.
     ///
     /// After schnellru's `LruMap::insert`.
-    #[inline]
+    #[inline(always)]
     pub fn insert<I: LookupKey<K>>(&mut self, key: I, value: V) -> Result<bool, AllocError>
     where
         L: Insertion<K, V, I>,
@@ -45,7 +45,7 @@ impl<K: Eq + Hash + Drop, V: Drop, L: Limiter<K, V>, S: BuildHasher> LruMap<K, V
     }
 
     // Inserts under a key that has this hash.
-    #[inline]
+    #[inline(always)]
     fn insert_hashed<I: LookupKey<K>>(
         &mut self,
         hash: u64,
@@ -70,6 +70,7 @@ impl<K: Eq + Hash + Drop, V: Drop, L: Limiter<K, V>, S: BuildHasher> LruMap<K, V
     }
 
     // Inserts under a key that is not there.
+    #[inline(never)]
     fn insert_new<I: LookupKey<K>>(
         &mut self,
         hash: u64,
@@ -111,11 +112,12 @@ impl<K: Eq + Hash + Drop, V: Drop, L: Limiter<K, V>, S: BuildHasher> LruMap<K, V
         ensures { Leaves self.old (make_way L.rules (contents self.old)) self.new }
     {
         if !self.is_empty() && self.limiter.is_over_the_limit(self.entries.len() + 1) {
-            self.take_oldest();
+            self.take_oldest_in_line();
         }
     }
 
     // Removes the oldest pairs while the limiter is over.
+    #[inline]
     fn trim(&mut self)
         ensures { Leaves self.old (trim L.rules (contents self.old)) self.new }
     {

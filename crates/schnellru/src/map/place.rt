@@ -35,7 +35,7 @@ impl<K: Eq + Hash + Drop, V: Drop, L: Limiter<K, V>, S: BuildHasher> LruMap<K, V
     }
 
     // Places the pair in the first free bucket, where the table may fill that.
-    #[inline]
+    #[inline(always)]
     fn place_in_bucket(&mut self, hash: u64, pair: (K, V)) -> Result<(), (K, V)>
         requires hash { hash ≡ hash_by K.hash_input S.BuildHasher S.Hasher.Hasher self.old.hasher pair.0 }
         requires absent { lookup_entry (K.eq pair.0) self.old.pairs ≡ None }
@@ -244,7 +244,17 @@ impl<K: Eq + Hash + Drop, V: Drop, L: Limiter<K, V>, S: BuildHasher> LruMap<K, V
     }
 
     // Takes the oldest pair out, of which the limiter is told.
+    #[inline(never)]
     pub(crate) fn take_oldest(&mut self)
+        requires { 0 < length self.old.pairs }
+        ensures { Leaves self.old (pop L.rules (contents self.old)) self.new }
+    {
+        self.take_oldest_in_line();
+    }
+
+    // The same, in line: for the one call that each placing of a full map makes.
+    #[inline(always)]
+    pub(crate) fn take_oldest_in_line(&mut self)
         requires { 0 < length self.old.pairs }
         ensures { Leaves self.old (pop L.rules (contents self.old)) self.new }
     {

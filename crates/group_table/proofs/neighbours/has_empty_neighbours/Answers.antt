@@ -1,6 +1,9 @@
-use Rattle.std.proofs.Common.{arith}
-use Rattle.group_table.proofs.RunLemmas.{run_tells}
+use Rattle.group_table.proofs.RunLanes.{lanes_tell}
 use Rattle.group_table.proofs.neighbours.has_empty_neighbours.Goals as goal
 
 pub returns : goal.returns
-returns c = run_tells _ _ _ _ _ (omega arith) c.requires.bucket c.run_before.ensures c.run_from.ensures c.requires.used
+returns c =
+    let e = c.requires.some_empty in
+    let before = c.run_before.ensures in
+    let after = c.run_from.ensures in
+    lanes_tell _ _ c.requires.count c.requires.repeated _ c.requires.bucket _ _ before.wide before.small after.wide after.small c.requires.used e.0 e.1 e.2

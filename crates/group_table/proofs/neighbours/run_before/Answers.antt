@@ -1,36 +1,18 @@
-use Rattle.std.proofs.Common.{◌≡◌, ◌+◌, ◌%◌, arith, sym, ap, ◌∙◌, slice_index}
-use native.Mathlib.Decide.{dec_lt}
-use Rattle.group_table.proofs.Circle.{same_place}
-use Rattle.group_table.proofs.RunLemmas.{step_back}
+use Rattle.std.proofs.Common.{◌≡◌, ◌+◌, ◌-◌, ◌%◌, ◌∙◌, ap, arith}
+use Rattle.group_table.proofs.Masks.{mask_at}
+use Rattle.group_table.proofs.RunLanes.{run_before_lanes, run_before_small}
 use Rattle.group_table.proofs.neighbours.run_before.Goals as goal
 
-pub overflow_add-at : goal.overflow_add-at
-overflow_add-at c = omega (arith, c.loop-run.invariant.within)
+pub returns-clause-wide : goal.returns-clause-wide
+returns-clause-wide c =
+    let empties = mask_at (λ byte. byte ≡ 255) _ c.args.control.now c.wrap-start.result _ c.load.ensures c.match_empty.ensures in
+    let r = c.lanes_above.ensures in
+    let is : c.wrap-start.result ≡ (c.args.b + (c.args.buckets - 16)) % c.args.buckets = c.wrap-start.ensures.value ∙ ap (λ k. (c.args.b + k) % c.args.buckets) (let e : c.saturating_sub.result ≡ c.args.buckets - 16 = omega (arith, c.saturating_sub.ensures) in e) in
+    run_before_lanes _ _ c.requires.count c.requires.repeated _ c.requires.bucket _ _ r.bound _ is empties r.none r.ends
 
-pub returns-then-control-at : goal.returns-then-control-at
-returns-then-control-at c =
-    let l = c.loop-run in
-    let n = c.args.buckets in
-    let back : (c.wrap-at.result + (l.run + 1)) % n ≡ c.args.b = ap (λ j. (j + (l.run + 1)) % n) c.wrap-at.ensures.value ∙ step_back n l.at l.run c.args.b l.invariant.within l.invariant.there in
-    record {
-      bound = omega arith;
-      used = l.invariant.used;
-      ends = λ _ x p e. ap (slice_index c.args.control.now) (same_place n x c.wrap-at.result (l.run + 1) c.args.b p c.wrap-at.ensures.bound e back) ∙ c.if-control-at.true;
-    }
-
-pub loop-run-preserved : goal.loop-run-preserved
-loop-run-preserved c =
-    let l = c.loop-run in
-    let n = c.args.buckets in
-    let back : (c.wrap-at.result + (l.run + 1)) % n ≡ c.args.b = ap (λ j. (j + (l.run + 1)) % n) c.wrap-at.ensures.value ∙ step_back n l.at l.run c.args.b l.invariant.within l.invariant.there in
-    record {
-      within = c.wrap-at.ensures.bound;
-      there = back;
-      used = λ x steps p q r e h. elim (dec_lt l.run steps) [
-        | yes s ↦
-            let whole : steps ≡ l.run + 1 = omega arith in
-            let same = same_place n x c.wrap-at.result (l.run + 1) c.args.b p c.wrap-at.ensures.bound (rw whole at e) back in
-            c.if-control-at.false (ap (slice_index c.args.control.now) (sym same) ∙ h)
-        | no s ↦ l.invariant.used x steps p q (omega arith) e h
-      ];
-    }
+pub returns-clause-small : goal.returns-clause-small
+returns-clause-small c =
+    let empties = mask_at (λ byte. byte ≡ 255) _ c.args.control.now c.wrap-start.result _ c.load.ensures c.match_empty.ensures in
+    let r = c.lanes_above.ensures in
+    let is : c.wrap-start.result ≡ (c.args.b + (c.args.buckets - 16)) % c.args.buckets = c.wrap-start.ensures.value ∙ ap (λ k. (c.args.b + k) % c.args.buckets) (let e : c.saturating_sub.result ≡ c.args.buckets - 16 = omega (arith, c.saturating_sub.ensures) in e) in
+    run_before_small _ _ c.requires.count c.requires.repeated _ c.requires.bucket _ _ r.bound _ is empties r.none

@@ -1,13 +1,11 @@
-use Rattle.std.proofs.Common.{MatchBool}
-use Rattle.group_table.specs.Search.{RefusesEach}
-use Rattle.group_table.specs.Group.{tagged_lanes, HasEmptyLane, HasNoEmptyLane}
-use Rattle.group_table.specs.Layout.{slots_of}
+use Rattle.group_table.proofs.LaneLemmas.{AsksLanes}
 use Rattle.group_table.proofs.probe.ask_group.Given as goal
 
-abbrev pub invariant-loop-lane : goal.invariant-loop-lane
-invariant-loop-lane g l =
-    let slots = slots_of l.control l.entries in record {
-      callable : goal.F-IsAlwaysCallable g l.f;
-      refused : RefusesEach g.F.FnMut slots l.initial.f (tagged_lanes slots l.tag l.start l.lane) l.f;
-      ended : MatchBool l.ended (HasEmptyLane slots l.start l.lane) (HasNoEmptyLane slots l.start l.lane);
-    }
+abbrev pub invariant-lanes : goal.invariant-lanes
+invariant-lanes g l = record {
+  callable : goal.F-IsAlwaysCallable g l.f;
+  asked : AsksLanes g.F.FnMut l.control l.entries l.tag l.start l.initial.f l.mask l.f;
+}
+
+abbrev pub decreases-lanes : goal.decreases-lanes
+decreases-lanes g l = l.mask

@@ -1,4 +1,5 @@
-//! Relocations, compared with a plain list in which each entry is placed anew.
+//! Relocations into another number of buckets, compared with a plain list in which each entry is placed anew, and
+//! rehashes where the entries stand.
 use super::hog::Hog;
 use super::orders::{Hashes, hash_of};
 use super::*;
@@ -112,10 +113,12 @@ fn relocate_to(
     })?;
     assert_eq!(rt; asked.get(), entries);
     follows(rt, table, old.as_slice(), links.as_slice(), hashes);
-    assert_eq!(rt;
-        contents(alloc, table)?,
-        put_anew(alloc, old.as_slice(), buckets, hashes)?
-    );
+    if old.len() != buckets {
+        assert_eq!(rt;
+            contents(alloc, table)?,
+            put_anew(alloc, old.as_slice(), buckets, hashes)?
+        );
+    }
     assert_eq!(rt; (table.buckets(), table.len()), (buckets, entries));
     assert_eq!(rt; table.room(), full_capacity(buckets).wrapping_sub(entries));
     assert_eq!(rt; table.placings(), placings.wrapping_add(entries as u64));

@@ -3,8 +3,9 @@ use Rattle.std.proofs.lemmas.List.Sums.{count_by-le-length}
 use Rattle.group_table.specs.Bucket.{is_full}
 use Rattle.group_table.specs.Layout.{slots_of}
 use Rattle.group_table.proofs.LayoutLemmas.{length-laid_out, entries_within, power_of}
-use Rattle.group_table.proofs.PlaceLemmas.{some_free_byte, place_none}
-use Rattle.group_table.proofs.JoinLemmas.{some_room, some_buckets, with_repetition, join_within, IsValid-joined, entry_count-written_joined, joins_there}
+use Rattle.group_table.proofs.PlaceLemmas.{some_free_byte}
+use Rattle.group_table.proofs.LaneLemmas.{repeated_bytes}
+use Rattle.group_table.proofs.JoinLemmas.{some_room, some_buckets, with_repetition, join_within, join_none, IsValid-joined, entry_count-written_joined, joins_there, reached_first}
 use Rattle.group_table.proofs.table.Table.place_fresh.Goals as goal
 
 pub first_free-b-requires-clause-count : goal.first_free-b-requires-clause-count
@@ -19,6 +20,13 @@ first_free-b-requires-clause-within g c =
     let valid = c.self.invariant.0 in
     omega (arith, c.as_slice.ensures.len, with_repetition _ _ _ valid (rw (← c.self.view_is) at c.requires.none_deleted) (rw (← c.self.view_is) at c.requires.room))
 
+pub first_free-b-requires-clause-repeated : goal.first_free-b-requires-clause-repeated
+first_free-b-requires-clause-repeated g c =
+    let valid = c.self.invariant.0 in
+    let pos = some_buckets _ _ _ valid (rw (← c.self.view_is) at c.requires.none_deleted) (rw (← c.self.view_is) at c.requires.room) in
+    let n : c.len.result ≡ length c.self.inside.entries.items = omega arith in
+    rw (c.as_slice.ensures.value, n) (repeated_bytes _ _ valid.laid_out pos)
+
 pub first_free-b-requires-clause-some_free : goal.first_free-b-requires-clause-some_free
 first_free-b-requires-clause-some_free g c =
     let valid = c.self.invariant.0 in
@@ -28,16 +36,15 @@ first_free-b-requires-clause-some_free g c =
 
 pub fill_bucket-requires-clause-bucket : goal.fill_bucket-requires-clause-bucket
 fill_bucket-requires-clause-bucket g c =
-    let first = rw c.as_slice.ensures.value at c.first_free-b.ensures in
+    let reached = reached_first _ _ _ _ (rw c.as_slice.ensures.value at c.first_free-b.ensures) in
     join_within _ _ _ c.self.invariant.0 (rw (← c.self.view_is) at c.requires.none_deleted)
-    (rw (← c.self.view_is) at c.requires.room) c.args.hash c.first_free-b.result c.len.result (omega arith) first
+    (rw (← c.self.view_is) at c.requires.room) c.args.hash c.first_free-b.result c.len.result (omega arith) reached
 
 pub fill_bucket-requires-clause-free_there : goal.fill_bucket-requires-clause-free_there
 fill_bucket-requires-clause-free_there g c =
     let valid = c.self.invariant.0 in
-    let pos = some_buckets _ _ _ valid (rw (← c.self.view_is) at c.requires.none_deleted) (rw (← c.self.view_is) at c.requires.room) in
-    let first = rw c.as_slice.ensures.value at c.first_free-b.ensures in
-    place_none _ _ _ valid c.args.hash c.first_free-b.result c.len.result (omega arith) (omega (arith, pos)) first
+    let reached = reached_first _ _ _ _ (rw c.as_slice.ensures.value at c.first_free-b.ensures) in
+    join_none _ _ _ valid (rw (← c.self.view_is) at c.requires.none_deleted) (rw (← c.self.view_is) at c.requires.room) c.args.hash c.first_free-b.result c.len.result (omega arith) reached
 
 pub overflow_sub-self : goal.overflow_sub-self
 overflow_sub-self g c = some_room _ _ _ c.self.invariant.0 (rw (← c.self.view_is) at c.requires.none_deleted) (rw (← c.self.view_is) at c.requires.room)
@@ -59,10 +66,10 @@ invariant_of-self g c =
     let valid = c.self.invariant.0 in
     let none_deleted = rw (← c.self.view_is) at c.requires.none_deleted in
     let room = rw (← c.self.view_is) at c.requires.room in
-    let first = rw c.as_slice.ensures.value at c.first_free-b.ensures in
-    let counted = entry_count-written_joined _ _ _ valid none_deleted room c.args.hash c.first_free-b.result c.len.result (omega arith) first c.tag_of.result c.args.entry c.tag_of.ensures.bound in
+    let reached = reached_first _ _ _ _ (rw c.as_slice.ensures.value at c.first_free-b.ensures) in
+    let counted = entry_count-written_joined _ _ _ valid none_deleted room c.args.hash c.first_free-b.result c.len.result (omega arith) reached c.tag_of.result c.args.entry c.tag_of.ensures.bound in
     rw (c.fill_bucket.ensures.control, c.fill_bucket.ensures.entries) (
-      IsValid-joined _ _ _ valid none_deleted room c.args.hash c.first_free-b.result c.len.result (omega arith) first c.tag_of.result c.args.entry c.tag_of.ensures.bound,
+      IsValid-joined _ _ _ valid none_deleted room c.args.hash c.first_free-b.result c.len.result (omega arith) reached c.tag_of.result c.args.entry c.tag_of.ensures.bound,
       rw counted (ap (λ n. n + 1) c.self.invariant.1),
     )
 
@@ -71,6 +78,6 @@ returns-clause-joins g c =
     let valid = c.self.invariant.0 in
     let none_deleted = rw (← c.self.view_is) at c.requires.none_deleted in
     let room = rw (← c.self.view_is) at c.requires.room in
-    let first = rw c.as_slice.ensures.value at c.first_free-b.ensures in
+    let reached = reached_first _ _ _ _ (rw c.as_slice.ensures.value at c.first_free-b.ensures) in
     rw (← c.self.view_is, c.fill_bucket.ensures.control, c.fill_bucket.ensures.entries)
-    (joins_there _ _ _ valid none_deleted room c.args.hash c.first_free-b.result c.len.result (omega arith) first c.tag_of.result c.args.entry c.tag_of.ensures.bound c.tag_of.ensures.value)
+    (joins_there _ _ _ valid none_deleted room c.args.hash c.first_free-b.result c.len.result (omega arith) reached c.tag_of.result c.args.entry c.tag_of.ensures.bound c.tag_of.ensures.value)

@@ -1,11 +1,12 @@
-use Rattle.std.proofs.Common.{◌≡◌, ◌≤◌, length, Result, Ok, Err, OnOk, OnErr, ap, arith}
+use Rattle.std.proofs.Common.{◌≡◌, ◌-◌, ◌≤◌, length, count_by, is_some, inr, ap, sym, ◌∙◌, subst, arith}
 use Rattle.group_table.specs.Sizes.{full_capacity}
 use Rattle.group_table.specs.Bucket.{entry_count}
-use Rattle.group_table.specs.Table.{Table}
-use Rattle.group_table.specs.Layout.{slots_of}
+use Rattle.group_table.specs.Layout.{slots_of, IsValid}
 use Rattle.group_table.proofs.BucketLemmas.{used_count-split}
 use Rattle.group_table.proofs.LayoutLemmas.{length-laid_out}
 use Rattle.group_table.proofs.FreshLemmas.{room-fresh}
+use Rattle.group_table.proofs.TableLemmas.{IsTable-by}
+use Rattle.group_table.proofs.RelocationLemmas.{room-none_deleted, entry_count-laid_out, IsRenumbering-moves, KeepsHashes-moves, GivesMovedHashes-from}
 use Rattle.group_table.proofs.table.Table.rehash.Goals as goal
 
 pub returns-then-self-eq0-clause-room : goal.returns-then-self-eq0-clause-room
@@ -14,25 +15,68 @@ returns-then-self-eq0-clause-room g c =
     let room = room-fresh g.row.T.Denot (length c.args.self.now.slots) in
     rw c.clear.ensures.slots (omega (arith, room, none))
 
-pub relocate-requires-clause-below : goal.relocate-requires-clause-below
-relocate-requires-clause-below g c =
-    let same : c.len-buckets.result ≡ length c.args.self.now.slots = rw (← c.self.view_is) (omega (arith, length-laid_out _ _ c.self.invariant.0.laid_out)) in
+pub returns-in_err-links-clause-table : goal.returns-in_err-links-clause-table
+returns-in_err-links-clause-table g c = rw (← c.self.view_is) (IsTable-by _ _ _ c.self.invariant.0)
+
+pub place_again-requires-clause-within : goal.place_again-requires-clause-within
+place_again-requires-clause-within g c =
+    let valid = c.self.invariant.0 in
+    omega (arith, entry_count-laid_out _ _ valid.laid_out, valid.room_left, used_count-split (slots_of c.self.inside.control.items c.self.inside.entries.items))
+
+pub place_again-requires-clause-below : goal.place_again-requires-clause-below
+place_again-requires-clause-below g c =
+    let same : length c.self.inside.entries.items ≡ length c.args.self.now.slots = rw (← c.self.view_is) (sym (length-laid_out _ _ c.self.invariant.0.laid_out)) in
     omega (arith, same, c.requires.below)
 
-pub relocate-requires-clause-within : goal.relocate-requires-clause-within
-relocate-requires-clause-within g c =
+pub overflow_sub-self : goal.overflow_sub-self
+overflow_sub-self g c =
     let valid = c.self.invariant.0 in
     let n : c.len-buckets.result ≡ length c.self.inside.entries.items = omega arith in
-    let counted : entry_count (slots_of c.self.inside.control.items c.self.inside.entries.items) ≤ full_capacity (length c.self.inside.entries.items) =
-    omega (arith, valid.room_left, used_count-split (slots_of c.self.inside.control.items c.self.inside.entries.items)) in
-    rw (← c.self.view_is, n) counted
+    let capacity : c.full_capacity.result ≡ full_capacity (length c.self.inside.entries.items) = c.full_capacity.ensures ∙ ap full_capacity n in
+    omega (arith, capacity, c.self.invariant.1, valid.room_left, used_count-split (slots_of c.self.inside.control.items c.self.inside.entries.items))
 
--- as many buckets after Ok, and the same table after Err
-buckets_left : {A E T : Type 0} (r : Result A E) (old new : Table T) → OnOk r (length new.slots ≡ length old.slots) → OnErr r (new ≡ old) → length new.slots ≡ length old.slots
-buckets_left (Ok x) old new ok err = ok
-buckets_left (Err e) old new ok err = ap (λ t. length t.slots) err
+pub returns-clause-entries : goal.returns-clause-entries
+returns-clause-entries g c =
+    let again = c.place_again.ensures in
+    rw (← c.self.view_is) (entry_count-laid_out _ _ again.valid.laid_out ∙ again.entries ∙ sym (entry_count-laid_out _ _ c.self.invariant.0.laid_out))
 
 pub returns-clause-buckets : goal.returns-clause-buckets
 returns-clause-buckets g c =
-    let same : c.len-buckets.result ≡ length c.args.self.now.slots = rw (← c.self.view_is) (omega (arith, length-laid_out _ _ c.self.invariant.0.laid_out)) in
-    buckets_left c.relocate.result c.args.self.now _ (rw same at c.relocate.ensures.buckets) c.relocate.ensures.unchanged
+    let again = c.place_again.ensures in
+    rw (← c.self.view_is) (length-laid_out _ _ again.valid.laid_out ∙ again.buckets ∙ sym (length-laid_out _ _ c.self.invariant.0.laid_out))
+
+pub invariant_of-self : goal.invariant_of-self
+invariant_of-self g c =
+    let again = c.place_again.ensures in
+    let counted = entry_count-laid_out _ _ c.self.invariant.0.laid_out in
+    let n : c.len-buckets.result ≡ length c.self.inside.entries.items = omega arith in
+    let capacity : c.full_capacity.result ≡ full_capacity (length c.self.inside.entries.items) = c.full_capacity.ensures ∙ ap full_capacity n in
+    let left : full_capacity (length c.self.inside.entries.items) - count_by is_some c.self.inside.entries.items ≡ c.full_capacity.result - c.self.inside.len =
+    omega (arith, capacity, counted, c.self.invariant.1) in (
+      subst (IsValid c.place_again.new.control.items c.place_again.new.entries.items) left again.valid,
+      c.self.invariant.1 ∙ counted ∙ sym again.entries ∙ sym (entry_count-laid_out _ _ again.valid.laid_out),
+    )
+
+pub returns-clause-renumbered : goal.returns-clause-renumbered
+returns-clause-renumbered g c =
+    let again = c.place_again.ensures in
+    rw (← c.self.view_is) (inr (IsRenumbering-moves _ _ c.self.invariant.0.laid_out g.N.LinkType.number g.N.LinkType.MAX _ _ again.one_each again.moves))
+
+pub returns-clause-room : goal.returns-clause-room
+returns-clause-room g c =
+    let again = c.place_again.ensures in
+    let moved = returns-clause-entries g c in
+    let slots = slots_of c.place_again.new.control.items c.place_again.new.entries.items in
+    let same = length-laid_out _ _ again.valid.laid_out in
+    let capacity : full_capacity (length slots) ≡ full_capacity (length c.place_again.new.entries.items) = ap full_capacity same in
+    let within : entry_count slots ≤ full_capacity (length slots) = omega (arith, capacity, again.valid.room_left, used_count-split slots) in
+    rw (← moved) (room-none_deleted slots again.none_deleted within)
+
+pub returns-clause-hashes : goal.returns-clause-hashes
+returns-clause-hashes g c hash_at gives =
+    let laid_out = c.self.invariant.0.laid_out in
+    rw (← c.self.view_is) (KeepsHashes-moves _ _ laid_out g.N.LinkType.number g.N.LinkType.MAX _ _ hash_at
+    (c.place_again.ensures.hashes hash_at (GivesMovedHashes-from _ _ laid_out g.H.Fn c.args.hash_of hash_at (rw (← c.self.view_is) at gives))))
+
+pub returns-clause-table : goal.returns-clause-table
+returns-clause-table g c = IsTable-by _ _ _ c.place_again.ensures.valid

@@ -2,6 +2,8 @@ use Rattle.std.proofs.Common.{◌≡◌, ◌<◌, length, arith}
 use Rattle.group_table.specs.Layout.{slots_of}
 use Rattle.group_table.proofs.LayoutLemmas.{length-laid_out, entries_within, power_of, full_within, full_byte, is_some_entry, entry_at-full}
 use Rattle.group_table.proofs.RemoveLemmas.{bool_byte-le, removed, room-removed, entry_count-pos}
+use Rattle.group_table.proofs.LaneLemmas.{repeated_bytes}
+use Rattle.group_table.proofs.PlaceLemmas.{some_empty_byte}
 use Rattle.group_table.proofs.FitsLemmas.{Fits-removed}
 use Rattle.group_table.proofs.TableLemmas.{IsTable-by, room_within}
 use Rattle.group_table.proofs.table.Table.take.Goals as goal
@@ -15,6 +17,20 @@ has_empty_neighbours-gives_room-requires-clause-count g c =
 pub has_empty_neighbours-gives_room-requires-clause-bucket : goal.has_empty_neighbours-gives_room-requires-clause-bucket
 has_empty_neighbours-gives_room-requires-clause-bucket g c =
     omega (arith, full_within _ _ c.self.invariant.0.laid_out c.args.b (rw (← c.self.view_is) at c.requires))
+
+pub has_empty_neighbours-gives_room-requires-clause-repeated : goal.has_empty_neighbours-gives_room-requires-clause-repeated
+has_empty_neighbours-gives_room-requires-clause-repeated g c =
+    let valid = c.self.invariant.0 in
+    let within = full_within _ _ valid.laid_out c.args.b (rw (← c.self.view_is) at c.requires) in
+    let n : c.len.result ≡ length c.self.inside.entries.items = omega arith in
+    rw (c.as_slice.ensures.value, n) (repeated_bytes _ _ valid.laid_out (omega (arith, within)))
+
+pub has_empty_neighbours-gives_room-requires-clause-some_empty : goal.has_empty_neighbours-gives_room-requires-clause-some_empty
+has_empty_neighbours-gives_room-requires-clause-some_empty g c =
+    let valid = c.self.invariant.0 in
+    let within = full_within _ _ valid.laid_out c.args.b (rw (← c.self.view_is) at c.requires) in
+    let n : c.len.result ≡ length c.self.inside.entries.items = omega arith in
+    rw (c.as_slice.ensures.value, n) (some_empty_byte _ _ _ valid (omega (arith, within)))
 
 pub has_empty_neighbours-gives_room-requires-clause-used : goal.has_empty_neighbours-gives_room-requires-clause-used
 has_empty_neighbours-gives_room-requires-clause-used g c =

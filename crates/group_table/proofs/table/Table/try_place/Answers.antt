@@ -1,4 +1,4 @@
-use Rattle.std.proofs.Common.{◌+◌, ◌<◌, length, arith, sym, ap, ◌∙◌, inr, Some}
+use Rattle.std.proofs.Common.{◌≡◌, ◌+◌, ◌<◌, length, arith, sym, ap, ◌∙◌, inr, Some}
 use Rattle.std.proofs.lemmas.List.Sums.{count_by-le-length}
 use Rattle.group_table.specs.Bucket.{is_full, mark_of}
 use Rattle.group_table.specs.Probe.{hash_tag}
@@ -8,11 +8,17 @@ use Rattle.group_table.proofs.LayoutLemmas.{length-laid_out, entries_within}
 use Rattle.group_table.proofs.TableLemmas.{IsTable-by, room_by}
 use Rattle.group_table.proofs.WriteLemmas.{slots_of-written}
 use Rattle.group_table.proofs.PlaceLemmas.{some_free_byte, place_first, place_within, no_place_left, place_none, place_spends, MayFill-from, IsValid-placed, entry_count-placed, room-placed}
+use Rattle.group_table.proofs.LaneLemmas.{repeated_bytes}
 use Rattle.group_table.proofs.FitsLemmas.{Fits-placed}
 use Rattle.group_table.proofs.table.Table.try_place.Goals as goal
 
 pub returns-then-buckets-eq0-clause-table : goal.returns-then-buckets-eq0-clause-table
 returns-then-buckets-eq0-clause-table g c = rw (← c.self.view_is) (IsTable-by _ _ _ c.self.invariant.0)
+
+pub first_free-b-requires-clause-repeated : goal.first_free-b-requires-clause-repeated
+first_free-b-requires-clause-repeated g c =
+    let n : c.len-buckets.result ≡ length c.self.inside.entries.items = omega arith in
+    rw (c.as_slice.ensures.value, n) (repeated_bytes _ _ c.self.invariant.0.laid_out (omega arith))
 
 pub first_free-b-requires-clause-some_free : goal.first_free-b-requires-clause-some_free
 first_free-b-requires-clause-some_free g c =

@@ -4,7 +4,7 @@ use Rattle.schnellru.proofs.Distinct.{AreDistinct, distinct_front}
 use Rattle.schnellru.proofs.Fronts.{front_without_last}
 use Rattle.schnellru.proofs.Ordered.{oldest_full}
 use Rattle.schnellru.proofs.Kept.{popped_pairs, popped_leaves, leaves_holds}
-use Rattle.schnellru.proofs.map.LruMap.take_oldest.Goals as goal
+use Rattle.schnellru.proofs.map.LruMap.take_oldest_in_line.Goals as goal
 
 pub take-key-requires : goal.take-key-requires
 take-key-requires g c = oldest_full c.self.inside.entries c.self.invariant.linked c.oldest-b.result c.oldest-b.ensures.oldest

@@ -1,0 +1,42 @@
+-- Entries take new places in the table where they stand. No public clause cites this module.
+use Rattle.std.specs.Prelude.{◌≡◌, ℕ, ◌<◌, ◌⊎◌, List, length, count_by, slice_set, Option, Some, None, is_some}
+use Rattle.group_table.specs.Bucket.{is_deleted}
+use Rattle.group_table.specs.Layout.{slots_of, IsValid}
+use Rattle.group_table.specs.Moves.{place_at, Moves, KeepsMovedHashes}
+
+-- one place, by what stood there, what of that has gone to its place, what is placed there, and what stands there now
+module _ {T : Type 0} (old gone placed now : List (Option T)) (b : ℕ) where
+  -- no entry waits: what stood there has gone, and what stands there is placed
+  pub record IsSettled : Type 0 where
+    pub went : place_at gone b ≡ place_at old b
+    pub stands : place_at now b ≡ place_at placed b
+
+  -- what stood there still stands there, has not gone, and nothing is placed there
+  pub record IsWaiting : Type 0 where
+    pub stays : place_at now b ≡ place_at old b
+    pub not_gone : place_at gone b ≡ None
+    pub none_placed : place_at placed b ≡ None
+
+module _ {T N : Type 0} (number : N → ℕ) (none : N) (IsGiven : (ℕ → ℕ) → Type 0) where
+  -- of the entries that stood in the old places, those that have gone stand as in a fresh table of the same control
+  -- bytes, and each other one where it stood; in the first places none waits
+  pub record IsHalfway (old now : List (Option T)) (control : List ℕ) (links : List N) (passed : ℕ) : Type 0 where
+    pub gone : List (Option T)
+    pub placed : List (Option T)
+    pub room : ℕ
+    pub gone_length : length gone ≡ length old
+    pub placed_length : length placed ≡ length old
+    pub now_length : length now ≡ length old
+    pub links_length : length links ≡ length old
+    pub valid : IsValid control placed room
+    pub none_deleted : count_by is_deleted (slots_of control placed) ≡ 0
+    pub counted : count_by is_some now ≡ count_by is_some old
+    pub settled : (b : ℕ) → b < passed → IsSettled old gone placed now b
+    pub each : (b : ℕ) → IsSettled old gone placed now b ⊎ IsWaiting old gone placed now b
+    pub moves : Moves number none (place_at gone) (slots_of control placed) links
+    pub hashes : (hash_at : ℕ → ℕ) → IsGiven hash_at → KeepsMovedHashes number none (place_at gone) (slots_of control placed) links hash_at
+
+  -- with the next one in hand, taken out of its old place, which is then as if it had been free; or with none
+  abbrev pub IsInTurn : List (Option T) → List (Option T) → List ℕ → List N → ℕ → ℕ → Option T → Type 0
+  IsInTurn old now control links passed b None = IsHalfway old now control links passed
+  IsInTurn old now control links passed b (Some entry) = (place_at old b ≡ Some entry) × IsHalfway (slice_set old b None) now control links passed

@@ -1,0 +1,24 @@
+-- Masks of the sixteen lanes of a group. No public clause cites this module.
+use Rattle.std.specs.Prelude.{ℕ, ◌≡◌, ◌+◌, ◌-◌, ◌<◌, ◌≤◌, ◌↔◌, max, List, slice_index}
+use Rattle.std.specs.Int.{w16, bit_at, trailing_zeros}
+
+-- bit i of the mask is set exactly if i names a lane whose byte has the property
+abbrev pub IsMaskOf : (ℕ → Type 0) → List ℕ → ℕ → Type 0
+IsMaskOf P bytes mask = (lane : ℕ) → (bit_at mask lane ≡ 1) ↔ ((lane < 16) × P (slice_index bytes lane))
+
+-- the same of the sixteen bytes from a place on
+abbrev pub IsMaskAt : (ℕ → Type 0) → List ℕ → ℕ → ℕ → Type 0
+IsMaskAt P bytes start mask = (lane : ℕ) → (bit_at mask lane ≡ 1) ↔ ((lane < 16) × P (slice_index bytes (start + lane)))
+
+-- the mask holds the lane
+abbrev pub HasLane : ℕ → ℕ → Type 0
+HasLane mask lane = bit_at mask lane ≡ 1
+
+-- the lowest lane of a mask that holds one
+abbrev pub lowest : ℕ → ℕ
+lowest mask = trailing_zeros w16 mask
+
+-- after the bytes of the buckets come those of the first buckets again; up to 16 bytes those between are 255
+pub record IsRepeated (control : List ℕ) (buckets : ℕ) : Type 0 where
+  pub again : (p : ℕ) → max 16 buckets ≤ p → p < buckets + 16 → slice_index control p ≡ slice_index control (p - max 16 buckets)
+  pub between : (p : ℕ) → buckets ≤ p → p < 16 → slice_index control p ≡ 255

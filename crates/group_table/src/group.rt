@@ -1,0 +1,85 @@
+//! Groups of sixteen control bytes, and masks of their lanes: bit i stands for lane i.
+ghost use Rattle.std.specs.Prelude.{◌≡◌, ◌≢◌, ◌≤◌, ◌<◌, ◌+◌, ◌-◌, ◌↔◌, ℕ, length, slice_index};
+ghost use Rattle.group_table.specs.Lanes.{IsMaskOf, IsMaskAt, HasLane, lowest};
+
+use crate::control::EMPTY;
+use std::simd::prelude::*;
+
+// The sixteen bytes from a place on.
+#[inline]
+pub(crate) fn load(bytes: &[u8], at: usize) -> [u8; 16]
+    requires { at + 16 ≤ length bytes.now }
+    ensures { (lane : ℕ) → lane < 16 → slice_index result lane ≡ slice_index bytes.now (at + lane) }
+{
+    u8x16::from_slice(&bytes[at..]).to_array()
+}
+
+// The lanes that hold the tag.
+#[inline]
+pub(crate) fn match_tag(bytes: &[u8; 16], tag: u8) -> u16
+    ensures { IsMaskOf (λ byte. byte ≡ tag) bytes.now result }
+{
+    u8x16::from_array(*bytes)
+        .simd_eq(u8x16::splat(tag))
+        .to_bitmask() as u16
+}
+
+// The lanes of empty buckets.
+#[inline]
+pub(crate) fn match_empty(bytes: &[u8; 16]) -> u16
+    ensures { IsMaskOf (λ byte. byte ≡ 255) bytes.now result }
+{
+    match_tag(bytes, EMPTY)
+}
+
+// The lanes of empty and deleted buckets.
+#[inline]
+pub(crate) fn match_free(bytes: &[u8; 16]) -> u16
+    ensures { IsMaskOf (λ byte. 128 ≤ byte) bytes.now result }
+{
+    u8x16::from_array(*bytes)
+        .simd_ge(u8x16::splat(0x80))
+        .to_bitmask() as u16
+}
+
+// The lowest lane of a mask that holds one.
+#[inline]
+pub(crate) fn lowest_lane(mask: u16) -> usize
+    requires { mask ≢ 0 }
+    ensures value { result ≡ lowest mask }
+    ensures bound { result < 16 }
+    ensures set { HasLane mask result }
+    ensures first { (lane : ℕ) → HasLane mask lane → result ≤ lane }
+{
+    mask.trailing_zeros() as usize
+}
+
+// The mask without its lowest lane.
+#[inline]
+pub(crate) fn without_lowest(mask: u16) -> u16
+    requires { mask ≢ 0 }
+    ensures less { result < mask }
+    ensures rest { (lane : ℕ) → HasLane result lane ↔ (HasLane mask lane × (lane ≢ lowest mask)) }
+{
+    mask & (mask - 1)
+}
+
+// How many lanes come before the lowest of a mask: all sixteen where it holds none.
+#[inline]
+pub(crate) fn lanes_below(mask: u16) -> usize
+    ensures bound { result ≤ 16 }
+    ensures none { (lane : ℕ) → lane < result → HasLane mask lane → ⊥ }
+    ensures ends { result < 16 → HasLane mask result }
+{
+    mask.trailing_zeros() as usize
+}
+
+// How many lanes come after the highest of a mask: all sixteen where it holds none.
+#[inline]
+pub(crate) fn lanes_above(mask: u16) -> usize
+    ensures bound { result ≤ 16 }
+    ensures none { (lane : ℕ) → lane < 16 → 16 ≤ lane + result → HasLane mask lane → ⊥ }
+    ensures ends { result < 16 → HasLane mask (15 - result) }
+{
+    mask.leading_zeros() as usize
+}
