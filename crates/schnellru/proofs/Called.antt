@@ -1,17 +1,18 @@
 -- The moves that calls make, one call after another.
-use Rattle.std.proofs.Common.{◌≡◌, ℕ, zero, suc, ◌+◌, ◌≤◌, inl, inr, Bool, true, List, [], ◌∷◌, length, map, Option, Some, Result, refl, sym, ap, subst, arith}
+use Rattle.std.proofs.Common.{◌≡◌, ℕ, zero, suc, ◌+◌, ◌≤◌, inl, inr, Bool, true, List, [], ◌∷◌, length, replicate, Option, Some, Result, refl, sym, ap, subst, arith}
 use Rattle.std.specs.List.{count_by}
-use Rattle.std.proofs.lemmas.List.{length-map}
+use Rattle.std.proofs.lemmas.List.{length-replicate}
 use Rattle.std.proofs.lemmas.Map.{length-set_value}
 use Rattle.std.specs.declared.alloc.AllocError.{AllocError}
 use Rattle.group_table.specs.Sizes.{full_capacity, IsBucketCount}
 use Rattle.group_table.specs.Bucket.{Mark, empty, is_used, room as room_of}
 use Rattle.lru_limits.specs.Rules.{Rules, Offers}
 use Rattle.schnellru.specs.State.{State, buckets, Contents, contents}
-use Rattle.schnellru.specs.Calls.{Get}
+use Rattle.schnellru.specs.Calls.{Get, pop_first, Remove, PopOldest, PopNewest, cleared}
 use Rattle.schnellru.specs.Place.{asked}
-use Rattle.schnellru.specs.Coming.{Write, pop_first, pops_first, Remove, PopOldest, PopNewest, cleared, Drain, IsReserved, ReserveError, GetOrInsert, there, inserted}
-use Rattle.schnellru.specs.Coming.{Reserve, too_many, enough_room, no_such_table, remade, no_memory_to_remake, denied_room, reserved, no_memory_to_grow}
+use Rattle.schnellru.specs.declared.map.reserve.ReserveError.{ReserveError}
+use Rattle.schnellru.specs.Coming.{Write, pops_first, Drain, GetOrInsert, there, inserted}
+use Rattle.schnellru.specs.Reservations.{IsReserved, Reserve, too_many, enough_room, no_such_table, remade, no_memory_to_remake, denied_room, reserved, no_memory_to_grow}
 use Rattle.schnellru.proofs.Growth.{full_capacity-at_most, full_capacity-double, target_doubles, target_usage}
 use Rattle.schnellru.proofs.Potential.{IsBounded, pays_calm}
 use Rattle.schnellru.proofs.Moves.{KeepsWay, Keeps, KeepsOffers, leaves_keep, pops_keep}
@@ -31,13 +32,14 @@ module _ {K V S Q : Type 0} (rules : Rules K V S) (names : Q → K → Bool) (R 
   pops_first_keep zero c = k.way.self c
   pops_first_keep (suc n) c = k.way.trans (pop_first_keeps c) (pops_first_keep n (pop_first rules c))
 
-none_used : (marks : List Mark) → count_by (is_used {A = Unit {0}}) (map (λ (m : Mark). empty) marks) ≡ 0
-none_used [] = refl
-none_used (m ∷ ms) = none_used ms
-
-room_cleared : (marks : List Mark) → room_of (map (λ (m : Mark). empty) marks) ≡ full_capacity (length marks)
+-- all of the table is room
+pub room_cleared : (n : ℕ) → room_of (replicate n empty) ≡ full_capacity n
 unfolding room_of
-room_cleared marks = omega (arith, none_used marks, ap full_capacity (length-map {B = Mark} marks (λ (m : Mark). empty)))
+room_cleared n = omega (arith, none_used n, ap full_capacity (length-replicate {A = Mark} n empty))
+  where
+    none_used : (n : ℕ) → count_by (is_used {A = Unit {0}}) (replicate n empty) ≡ 0
+    none_used zero = refl
+    none_used (suc n) = none_used n
 
 room_within : (marks : List Mark) → room_of marks ≤ full_capacity (length marks)
 unfolding room_of
@@ -53,10 +55,10 @@ module _ {K V S H : Type 0} (rules : Rules K V S) (old : State K V S H) where
     entry_bytes = refl;
     moved = refl;
     placed = refl;
-    table = length-map old.marks _;
-    keeps = omega (arith, room_cleared old.marks, room_within old.marks);
+    table = length-replicate {A = Mark} (buckets old) empty;
+    keeps = omega (arith, room_cleared (buckets old), room_within old.marks);
     few = omega arith;
-    fits = λ f. omega (arith, room_cleared old.marks);
+    fits = λ f. omega (arith, room_cleared (buckets old));
   }
 
 module _ {K V S H Q : Type 0} (rules : Rules K V S) (names : Q → K → Bool) (R : Contents K V S → Contents K V S → Type 0) (k : Keeps rules names R) (old : State K V S H) where
@@ -114,20 +116,20 @@ module _ {K V S H : Type 0} (rules : Rules K V S) (R : Contents K V S → Conten
   }
 
   pub reserve_changes : (result : Result (Unit {0}) ReserveError) (new : State K V S H) → Reserve rules n old result new → Grows new
-  reserve_changes result new (too_many l r e) = remains new e
   reserve_changes result new (enough_room s l r e) = remains new e
-  reserve_changes result new (no_such_table s l t r e) = remains new e
-  reserve_changes result new (remade s l t r m) = reserves old.limiter new _ m (k.self (contents old)) (inl refl) (λ ok. omega arith)
-  reserve_changes result new (no_memory_to_remake s l t p r e) = remains new e
-  reserve_changes result new (denied_room s l count bytes t d r e) = asks_only bytes new e
-  reserve_changes result new (reserved s l count bytes t g r m) = reserves _ new count m (k.asked bytes (contents old))
+  reserve_changes result new (too_many l r e) = remains new e
+  reserve_changes result new (no_such_table l t r e) = remains new e
+  reserve_changes result new (remade l t r m) = reserves old.limiter new _ m (k.self (contents old)) (inl refl) (λ ok. omega arith)
+  reserve_changes result new (no_memory_to_remake l t p r e) = remains new e
+  reserve_changes result new (reserved l count bytes t g r m) = reserves _ new count m (k.asked bytes (contents old))
       (inr (record { bytes = bytes; usable = target_usage old.max old.entry_bytes (buckets old) (length old.pairs + n) count bytes t; limiter = old.limiter; holds = (_, k.self (contents old)); granted = g }))
       (λ ok. larger ok.count)
     where
       larger : IsBucketCount (buckets old) → full_capacity (buckets old) ≤ full_capacity count
       larger (inl z) = omega (arith, z, full_capacity-at_most (buckets old))
       larger (inr j) = omega (arith, full_capacity-double j.0 (buckets old) count j.1 (target_doubles j.0 old.max old.entry_bytes (buckets old) (length old.pairs + n) count bytes j.1 t))
-  reserve_changes result new (no_memory_to_grow s l count bytes t g r e) = asks_only bytes new e
+  reserve_changes result new (no_memory_to_grow l count bytes t g r e) = asks_only bytes new e
+  reserve_changes result new (denied_room l count bytes t d r e) = asks_only bytes new e
 
 module _ {K V S H I : Type 0} (rules : Rules K V S) (offers : Offers K V S I) (names : I → K → Bool) (R : Contents K V S → Contents K V S → Type 0) (k : KeepsOffers rules offers names R)
     (hash_of : H → K → ℕ) (makes : V → Type 0) (i : I) (old : State K V S H) (result : Result (Option V) AllocError) (new : State K V S H) where

@@ -3,10 +3,11 @@ use Rattle.std.proofs.Common.{◌≡◌, ℕ, zero, suc, ◌<◌, Bool, true, fa
 use Rattle.std.specs.Prelude.{◌≢◌, nat_eq, not, Contains, AllPairs, option_to_list}
 use Rattle.std.proofs.lemmas.Bool.Decides.{nat_tests}
 use Rattle.std.proofs.lemmas.List.{append_assoc, get_or-set_other}
+use Rattle.std.proofs.lemmas.Option.{same_Some}
 use Rattle.group_table.specs.Bucket.{Slot, entry_at, entry_of, empty}
 use Rattle.schnellru.proofs.OrderLemmas.{Lacks, lacks_unless, without-lacking, distinct_head, distinct_tail, last_in}
 use Rattle.schnellru.specs.Linked.{without_bucket, entries_in}
-use Rattle.schnellru.specs.Chain.{last_bucket}
+use Rattle.schnellru.specs.Chain.{first_bucket, last_bucket}
 
 -- the buckets before this one, and those after
 pub record Cut (b : ℕ) (order : List ℕ) : Type 0 where
@@ -39,6 +40,12 @@ cut_at b (x ∷ xs) d (k, within, is) = go (nat_eq x b) refl k within is (λ h. 
       none_before = (t, cut.none_before);
       none_after = cut.none_after;
     }
+
+-- cut at the first, none come before it
+pub cut_first : (b : ℕ) (order : List ℕ) → AllPairs ◌≢◌ order → first_bucket order ≡ Some b → (cut : Cut b order) × (cut.before ≡ [])
+cut_first b [] d e = absurd cc
+cut_first b (x ∷ xs) d e = let same = same_Some x b e in
+    (record { before = []; after = xs; whole = ap (λ y. y ∷ xs) same; none_before = tt; none_after = subst (λ y. Lacks y xs) same (head_lacks x xs d) }, refl)
 
 -- cut at the last, none come after it
 pub cut_last : (b : ℕ) (order : List ℕ) → AllPairs ◌≢◌ order → last_bucket order ≡ Some b → (cut : Cut b order) × (cut.after ≡ [])

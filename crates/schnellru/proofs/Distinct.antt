@@ -44,7 +44,7 @@ all_map : {K : Type 0} (P Q : K → Type 0) (xs : List K) → ((x : K) → P x �
 all_map P Q [] f h = tt
 all_map P Q (x ∷ xs) f h = (f x h.0, all_map P Q xs f h.1)
 
-none_distinct : {K : Type 0} (eq : K → K → Bool) → IsDistinct eq []
+pub none_distinct : {K : Type 0} (eq : K → K → Bool) → IsDistinct eq []
 unfolding IsDistinct
 none_distinct eq = tt
 

@@ -6,8 +6,9 @@ use Rattle.std.proofs.lemmas.Bool.Decides.{nat_tests}
 use Rattle.std.proofs.lemmas.Option.{cond_some}
 use Rattle.group_table.specs.Sizes.{full_capacity, least_power, below, buckets_for}
 use Rattle.group_table.proofs.PowerLemmas.{first_power_upper, power_gap}
+use Rattle.group_table.proofs.SizeLemmas.{full_capacity-large, power_pos}
 use Rattle.schnellru.specs.Sizes.{same_table, new_table, table_with, target_from, target}
-use Rattle.schnellru.proofs.Growth.{sizes_of, least_power_shape, buckets_double, table_with_is}
+use Rattle.schnellru.proofs.Growth.{full_capacity-at_most, sizes_of, least_power_shape, buckets_double, table_with_is}
 
 least_power_upper : (n : ℕ) → 0 < n → least_power n < 2 * n
 unfolding least_power
@@ -110,3 +111,42 @@ target_small k max e b c n bytes size f = from (buckets_for max c) refl
         split true u h = let p : Some need ≡ Some n = (table_with_is e n bytes (Some need) h).0 in need_small c n (omega arith) (need_is max c n (q ∙ p))
         split false true h = absurd (grind arith)
         split false false h = double_small k b c max n size f (table_with_is e n bytes _ h).0
+
+-- at most half of what a table takes needs no larger one
+half_needs : (k max b c : ℕ) → b ≡ 4 * 2 ^ k → b < max → b < 2 ^ 63 → c ≤ full_capacity b / 2 → (need : ℕ) × (buckets_for max c ≡ Some need) × (need ≤ b)
+unfolding buckets_for
+half_needs k max b c size reached addressable half =
+    pick (c == 0) (nat_lt c 4) (nat_lt c 8) (nat_lt (8 * c) (2 ^ 64)) (λ e. grind (arith, nat_tests)) (λ e. grind (arith, nat_tests)) (λ e. grind (arith, nat_tests))
+  where
+    four : 4 ≤ b
+    four = power_pos b (k, size)
+
+    most : full_capacity b ≤ b
+    most = full_capacity-at_most b
+
+    eighths : 8 < b → full_capacity b ≡ b / 8 * 7
+    eighths = full_capacity-large b
+
+    within : (m : ℕ) → m ≤ b → below max m ≡ Some m
+    within m h = let l : m < max = omega arith in grind (arith, nat_tests)
+
+    gap : 2 * 2 ^ (k + 2) ≤ 2 ^ 63
+    gap = power_gap (k + 2) 63 (omega (arith, size, addressable, pow-add 2 k 2))
+
+    pick : (a d e f : Bool) → (d ≡ false → 4 ≤ c) → (e ≡ false → 8 ≤ c) → (f ≡ false → 2 ^ 64 ≤ 8 * c)
+        → (need : ℕ) × (cond a (Some 0) (cond d (below max 4) (cond e (below max 8) (cond f (below max (least_power (8 * c / 7))) None))) ≡ Some need) × (need ≤ b)
+    pick true d e f p q r = (0, refl, omega arith)
+    pick false true e f p q r = (4, within 4 four, four)
+    pick false false true f p q r = let l : 8 ≤ b = omega (arith, p refl, most, half) in (8, within 8 l, l)
+    pick false false false true p q r =
+        let l : 8 ≤ c = q refl in let u = least_power_upper (8 * c / 7) (omega arith) in
+        let m : least_power (8 * c / 7) ≤ b = omega (arith, u, half, eighths (omega (arith, l, most, half))) in (least_power (8 * c / 7), within _ m, m)
+    pick false false false false p q r = absurd (omega (arith, r refl, half, eighths (omega (arith, q refl, most, half)), gap, size, pow-add 2 k 2))
+
+-- so it is kept
+pub target_keeps : (k max e b c : ℕ) → b ≡ 4 * 2 ^ k → b < max → b < 2 ^ 63 → c ≤ full_capacity b / 2 → target max e b c ≡ same_table
+unfolding target
+target_keeps k max e b c size reached addressable half = from (half_needs k max b c size reached addressable half)
+  where
+    from : (need : ℕ) × (buckets_for max c ≡ Some need) × (need ≤ b) → target_from max e b c (buckets_for max c) ≡ same_table
+    from (need, is, small) = let t : nat_lt b need ≡ false = grind (arith, nat_tests) in let u : nat_le c (full_capacity b / 2) ≡ true = grind (arith, nat_tests) in rw (is, t, u) refl

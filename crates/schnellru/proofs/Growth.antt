@@ -1,12 +1,12 @@
 -- The next table has at least twice the buckets, and takes at least twice the pairs.
 use Rattle.std.proofs.Common.{◌≡◌, ℕ, zero, suc, ◌+◌, ◌-◌, ◌*◌, ◌/◌, ◌^◌, ◌<◌, ◌≤◌, ◌⊎◌, Bool, true, false, cond, Option}
-use Rattle.std.proofs.Common.{Some, None, refl, sym, ap, ◌∙◌, arith, le_of_eq, pow_pos, pow-add, inl, inr, unwrap_or}
+use Rattle.std.proofs.Common.{Some, None, refl, sym, ap, ◌∙◌, arith, le_of_eq, pow_pos, pow-add, inl, inr, unwrap_or, subst}
 use native.Mathlib.Decide.{dec_lt}
 use Rattle.std.proofs.Math.Pow.{pow_mono}
 use Rattle.std.specs.Prelude.{nat_lt, nat_le, ◌==◌}
 use Rattle.std.proofs.lemmas.Bool.Decides.{nat_tests}
-use Rattle.std.proofs.lemmas.Option.{cond_some}
-use Rattle.group_table.specs.Sizes.{IsPowerFromFour, full_capacity, least_power, below, buckets_for}
+use Rattle.std.proofs.lemmas.Option.{cond_some, same_Some}
+use Rattle.group_table.specs.Sizes.{IsPowerFromFour, IsBucketCount, full_capacity, least_power, below, buckets_for}
 use Rattle.group_table.proofs.PowerLemmas.{doubled, first_power_least, first_power_shape, power_gap}
 use Rattle.group_table.proofs.SizeLemmas.{full_capacity-large, power_pos}
 use Rattle.schnellru.specs.Sizes.{bytes_of, usage, same_table, new_table, table_of, table_with, target_from, target}
@@ -186,10 +186,20 @@ target_need max e b c n bytes = from (buckets_for max c) refl
         split false true h = absurd (grind arith)
         split false false h = (full_capacity (2 * b), (table_with_is e n bytes _ h).0)
 
+-- a power of two that is 4 or more
+size_power : (n : ℕ) → 4 ≤ n → IsSize n → IsPowerFromFour n
+unfolding IsSize
+size_power n least (inl none) = absurd (omega (arith, least, none))
+size_power n least (inr (j, e)) = go (dec_lt j 2)
+  where
+    go : Dec (j < 2) → IsPowerFromFour n
+    go (yes small) = absurd (let z : 2 ^ j ≤ 2 ^ 1 = pow_mono {i = j} {j = 1} (omega arith) in omega (arith, z, e, least))
+    go (no large) = let f : j ≡ 2 + (j - 2) = omega arith in (j - 2, e ∙ ap (λ k. 2 ^ k) f ∙ pow-add 2 2 (j - 2))
+
 -- links reach a new table, and it has a number of buckets that a table can have
 pub target_reached : (max e b c n bytes : ℕ) → IsPowerFromFour b → target max e b c ≡ new_table n bytes → IsPowerFromFour n × (n < max)
 unfolding IsSize
-target_reached max e b c n bytes power h = (size (buckets_shape max need.0 n need.1), buckets_below max need.0 n need.1 (omega (arith, doubles, least)))
+target_reached max e b c n bytes power h = (size_power n (omega (arith, doubles, least)) (buckets_shape max need.0 n need.1), buckets_below max need.0 n need.1 (omega (arith, doubles, least)))
   where
     need : (pairs : ℕ) × (buckets_for max pairs ≡ Some n)
     need = target_need max e b c n bytes h
@@ -200,13 +210,46 @@ target_reached max e b c n bytes power h = (size (buckets_shape max need.0 n nee
     least : 4 ≤ b
     least = power_pos b power
 
-    size : IsSize n → IsPowerFromFour n
-    size (inl none) = absurd (omega (arith, doubles, least, none))
-    size (inr (j, e)) = go (dec_lt j 2)
+-- some pairs need a table
+buckets_some : (max c n : ℕ) → 0 < c → buckets_for max c ≡ Some n → 4 ≤ n
+unfolding buckets_for
+buckets_some max c n some = pick (c == 0) (nat_lt c 4) (nat_lt c 8) (nat_lt (8 * c) (2 ^ 64)) (grind (arith, nat_tests)) (λ e. grind (arith, nat_tests)) (λ e. grind (arith, nat_tests))
+  where
+    pick : (a b d e : Bool) → a ≡ false → (d ≡ false → 8 ≤ c) → (e ≡ true → 8 * c < 2 ^ 64)
+        → cond a (Some 0) (cond b (below max 4) (cond d (below max 8) (cond e (below max (least_power (8 * c / 7))) None))) ≡ Some n → 4 ≤ n
+    pick true b d e p q r h = absurd cc
+    pick false true d e p q r h = omega (arith, (cond_some (nat_lt 4 max) 4 n h).1)
+    pick false false true e p q r h = omega (arith, (cond_some (nat_lt 8 max) 8 n h).1)
+    pick false false false true p q r h = let l = q refl in let u = r refl in let m = least_power_at_least (8 * c / 7) (omega (arith, u)) in
+        omega (arith, (cond_some (nat_lt (least_power (8 * c / 7)) max) (least_power (8 * c / 7)) n h).1, l, m)
+    pick false false false false p q r h = absurd (grind arith)
+
+-- so does the first table
+first_least : (max e c n bytes : ℕ) → 0 < c → target max e 0 c ≡ new_table n bytes → 4 ≤ n
+unfolding target
+first_least max e c n bytes some = from (buckets_for max c) refl
+  where
+    from : (need : Option ℕ) → buckets_for max c ≡ need → target_from max e 0 c need ≡ new_table n bytes → 4 ≤ n
+    from None q h = absurd (grind arith)
+    from (Some need) q h = split (nat_lt 0 need) (grind (arith, nat_tests, least)) h
       where
-        go : Dec (j < 2) → IsPowerFromFour n
-        go (yes small) = absurd (let z : 2 ^ j ≤ 2 ^ 1 = pow_mono {i = j} {j = 1} (omega arith) in omega (arith, z, e, doubles, least))
-        go (no large) = let f : j ≡ 2 + (j - 2) = omega arith in (j - 2, e ∙ ap (λ k. 2 ^ k) f ∙ pow-add 2 2 (j - 2))
+        least : 4 ≤ need
+        least = buckets_some max c need some q
+
+        split : (t : Bool) → t ≡ true → cond t (table_with e (Some need)) (cond (nat_le c (full_capacity 0 / 2)) same_table (table_with e (buckets_for max (full_capacity (2 * 0))))) ≡ new_table n bytes → 4 ≤ n
+        split true p h = subst (λ m. 4 ≤ m) (same_Some need n (table_with_is e n bytes (Some need) h).0) least
+        split false p h = absurd cc
+
+-- what a table goes to that has none or some buckets, and is to take some pairs
+pub target_new : (max e b c n bytes : ℕ) → IsBucketCount b → 0 < c → target max e b c ≡ new_table n bytes → IsPowerFromFour n × (n < max) × (full_capacity b ≤ full_capacity n)
+target_new max e b c n bytes (inr power) some h =
+    let r = target_reached max e b c n bytes power h in
+    (r.0, r.1, omega (arith, full_capacity-double power.0 b n power.1 (target_doubles power.0 max e b c n bytes power.1 h)))
+target_new max e b c n bytes (inl none) some h =
+    let first : target max e 0 c ≡ new_table n bytes = subst (λ m. target max e m c ≡ new_table n bytes) none h in
+    let least = first_least max e c n bytes some first in
+    let need = target_need max e b c n bytes h in
+    (size_power n least (buckets_shape max need.0 n need.1), buckets_below max need.0 n need.1 (omega (arith, least)), omega (arith, none, full_capacity-at_most b))
 
 -- a table of the same size is kept where at most half of it is needed
 pub target-same : (max e b c : ℕ) → target max e b c ≡ same_table → c ≤ full_capacity b / 2

@@ -9,7 +9,7 @@ use Rattle.lru_limits.specs.Laws.{kept_value}
 use Rattle.schnellru.specs.Lists.{front, lookup_entry, without}
 use Rattle.schnellru.specs.State.{State, Contents, contents, Leaves, pop, pops, trim, trim_from}
 use Rattle.schnellru.specs.Place.{Outcome, placed, refused, no_memory}
-use Rattle.schnellru.specs.Coming.{removal}
+use Rattle.schnellru.specs.Calls.{removal}
 use Rattle.schnellru.specs.Inserts.{make_way, Settles}
 
 module _ {K V S : Type 0} where

@@ -86,6 +86,11 @@ pub first_in : (cs : List ℕ) (x : ℕ) → first_bucket cs ≡ Some x → Cont
 first_in [] x e = absurd (none-some x e)
 first_in (c ∷ cs) x e = subst (Contains (c ∷ cs)) (same_Some c x e) (Contains-here c cs)
 
+-- without elements there is no first one
+pub no_first : (order : List ℕ) → first_bucket order ≡ None → order ≡ []
+no_first [] e = refl
+no_first (c ∷ cs) e = absurd (none-some c (sym e))
+
 pub last_in : (order : List ℕ) (x : ℕ) → last_bucket order ≡ Some x → Contains order x
 last_in [] x e = absurd (none-some x e)
 last_in (c ∷ []) x e = subst (Contains (c ∷ [])) (same_Some c x e) (Contains-here c [])

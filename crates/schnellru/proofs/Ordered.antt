@@ -6,13 +6,13 @@ use Rattle.std.specs.List.{AllByRecursion}
 use Rattle.group_table.specs.Bucket.{Slot, empty, deleted, IsFull, bucket_at, entry_at}
 use Rattle.group_table.specs.Change.{Removes}
 use Rattle.group_table.proofs.SearchLemmas.{entry_by_full, full_by_entry}
-use Rattle.schnellru.specs.Lists.{lookup, lookup_entry, without, last, without_last}
+use Rattle.schnellru.specs.Lists.{lookup, lookup_entry, without, first, last, without_first, without_last}
 use Rattle.schnellru.specs.Linked.{Linked, IsLinked, entries_in, pairs_of, without_bucket}
-use Rattle.schnellru.specs.Chain.{last_bucket}
+use Rattle.schnellru.specs.Chain.{first_bucket, last_bucket}
 use Rattle.schnellru.proofs.Distinct.{AreDistinct, NoneNamed, none_found}
-use Rattle.schnellru.proofs.OrderLemmas.{last_in, length-without}
+use Rattle.schnellru.proofs.OrderLemmas.{first_in, no_first, last_in, length-without}
 use Rattle.schnellru.proofs.Named.{lookup-entry, cut_found, cut_without, others_unnamed, last_end, without_last_end}
-use Rattle.schnellru.proofs.Cuts.{Cut, cut_at, cut_last, without_lacks, entries-cut, entries-without, entries-apart}
+use Rattle.schnellru.proofs.Cuts.{Cut, cut_at, cut_first, cut_last, without_lacks, entries-cut, entries-without, entries-apart}
 
 module _ {T : Type 0} where
   -- these buckets are full
@@ -31,15 +31,15 @@ module _ {T : Type 0} where
 module _ {K V : Type 0} (t : Linked K V) (linked : IsLinked t) where
   -- the pair of the bucket b, the order cut there
   module _ (b : ℕ) (p : K × V) (there : entry_at t.slots b ≡ Some p) where
-    cut_here : Cut b t.order
+    pub cut_here : Cut b t.order
     cut_here = cut_at b t.order linked.distinct (linked.all b (full_by_entry (bucket_at t.slots b) p there))
 
     module _ (names : K → Bool) {eq : K → K → Bool} (laws : IsEquivalence eq) (one : (x y : K) → names x ≡ true → names y ≡ eq x y)
         (distinct : AreDistinct eq (pairs_of t)) (named : names p.0 ≡ true) where
-      cut_pairs : pairs_of t ≡ entries_in t.slots cut_here.before ++ p ∷ entries_in t.slots cut_here.after
+      pub cut_pairs : pairs_of t ≡ entries_in t.slots cut_here.before ++ p ∷ entries_in t.slots cut_here.after
       cut_pairs = entries-cut t.slots cut_here p there
 
-      unnamed : NoneNamed names (entries_in t.slots cut_here.before)
+      pub unnamed : NoneNamed names (entries_in t.slots cut_here.before)
       unnamed = others_unnamed names laws one (entries_in t.slots cut_here.before) (entries_in t.slots cut_here.after) p named (subst (AreDistinct eq) cut_pairs distinct)
 
       pub pair_found : lookup_entry names (pairs_of t) ≡ Some p
@@ -67,6 +67,29 @@ module _ {K V : Type 0} (t : Linked K V) (linked : IsLinked t) where
       go : (order : List ℕ) → AreFull t.slots order → NoneNamed names (entries_in t.slots order)
       go [] f = tt
       go (b ∷ bs) f = let e = entry_by_full (bucket_at t.slots b) f.0 in subst (λ o. NoneNamed names (option_to_list o ++ entries_in t.slots bs)) (sym e.1) (h b e.0 e.1, go bs f.1)
+
+  -- the first bucket holds the newest pair
+  module _ (b : ℕ) (is_first : first_bucket t.order ≡ Some b) where
+    first_cut : (cut : Cut b t.order) × (cut.before ≡ [])
+    first_cut = cut_first b t.order linked.distinct is_first
+
+    pub newest_full : IsFull t.slots b
+    newest_full = linked.only b (first_in t.order b is_first)
+
+    module _ (p : K × V) (there : entry_at t.slots b ≡ Some p) where
+      first_pairs : pairs_of t ≡ p ∷ entries_in t.slots first_cut.0.after
+      first_pairs = entries-cut t.slots first_cut.0 p there ∙ ap (λ l. entries_in t.slots l ++ p ∷ entries_in t.slots first_cut.0.after) first_cut.1
+
+      pub newest_is : first (pairs_of t) ≡ Some p
+      newest_is = ap first first_pairs
+
+      pub others_newest : without_first (pairs_of t) ≡ entries_in t.slots (without_bucket b t.order)
+      others_newest = ap without_first first_pairs
+          ∙ sym (entries-without t.slots first_cut.0 p there ∙ ap (λ l. entries_in t.slots l ++ entries_in t.slots first_cut.0.after) first_cut.1)
+
+  -- without pairs there is no first bucket
+  pub none_first : first_bucket t.order ≡ None → pairs_of t ≡ []
+  none_first e = ap (entries_in t.slots) (no_first t.order e)
 
   -- the last bucket holds the oldest pair
   module _ (b : ℕ) (is_last : last_bucket t.order ≡ Some b) where

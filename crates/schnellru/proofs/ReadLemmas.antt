@@ -43,6 +43,9 @@ module _ {N : Type 0} (number : N → ℕ) (link : ℕ → N) (none : N) (eq : N
     pub newest_shown : (r : Option ℕ) → IfNone r (newest ≡ none) → IfSome r (λ b. (newest ≢ none) × (b ≡ number newest)) → r ≡ first_bucket order
     newest_shown r = read_link r (first_bucket order) newest whole.chain.newest_first (λ y e. chained_below whole.chain y (first_in order y e))
 
+    pub last_shown : (r : Option ℕ) → IfNone r (oldest ≡ none) → IfSome r (λ b. (oldest ≢ none) × (b ≡ number oldest)) → r ≡ last_bucket order
+    last_shown r = read_link r (last_bucket order) oldest whole.chain.oldest_last (λ y e. chained_below whole.chain y (last_in order y e))
+
     pub oldest_shown : 0 < length order → last_bucket order ≡ Some (number oldest)
     oldest_shown p = leads_to (last_bucket order) oldest whole.chain.oldest_last (λ y e. chained_below whole.chain y (last_in order y e)) (last_some order p)
 
@@ -58,6 +61,11 @@ module _ {N : Type 0} (number : N → ℕ) (link : ℕ → N) (none : N) (eq : N
         older_shown r at_none at_some =
             read_link r (bucket_after b order) entry.older (older_link number link none eq laws slots newest oldest order whole.chain b inside entry is)
             (λ y e. chained_below whole.chain y (after_in b y order e)) at_none at_some
+
+        pub newer_shown : (r : Option ℕ) → IfNone r (entry.newer ≡ none) → IfSome r (λ c. (entry.newer ≢ none) × (c ≡ number entry.newer)) → r ≡ bucket_before b order
+        newer_shown r at_none at_some =
+            read_link r (bucket_before b order) entry.newer (newer_link number link none eq laws slots newest oldest order whole.chain b inside entry is)
+            (λ y e. chained_below whole.chain y (before_in b y order whole.chain.distinct e)) at_none at_some
 
         -- the bucket with no newer one is the newest already
         pub newest_already : entry.newer ≡ none → order ≡ b ∷ without_bucket b order

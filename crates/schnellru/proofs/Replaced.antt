@@ -14,30 +14,29 @@ use Rattle.schnellru.specs.Lists.{without}
 use Rattle.schnellru.specs.Linked.{Linked, IsLinked, KeysFit, with_pair, without_bucket, pairs_of, entries_in}
 use Rattle.schnellru.specs.State.{State, Leaves}
 use Rattle.schnellru.specs.Holds.{state_by, Holds}
-use Rattle.schnellru.specs.Steps.{IsReplaced, IsGivenUp}
+use Rattle.schnellru.specs.Steps.{IsReplaced, IsGivenUp, IsTakenOut}
 use Rattle.schnellru.proofs.Distinct.{AreDistinct, distinct_newest, distinct_without}
 use Rattle.schnellru.proofs.Cuts.{entries-apart, without_lacks}
 use Rattle.schnellru.proofs.Ordered.{pairs-length, shorter, others_are, removed-entries}
 use Rattle.schnellru.proofs.Kept.{frees_room, leaves_holds}
 
 module _ {K V S : Type 0} (rules : Rules K V S) (by : Replaced K V S) (old new : Linked K V) (b : ℕ) (was : K × V) (there : entry_at old.slots b ≡ Some was)
-    (k : K) (v : V) (key_is : k ≡ by.key) (value_is : v ≡ by.old_value) (s : S) (told : s ≡ by.limiter) (taken : K × V) where
+    (k : K) (v : V) (key_is : k ≡ by.key) (value_is : v ≡ by.old_value) (s : S) (told : s ≡ by.limiter) (result : K × V) (l : S)
+    (out : IsTakenOut rules b (with_pair old b (k, v)) new s result l) where
   -- a replacement was refused, and the pair taken out
-  pub gives_up : entry_at (with_pair old b (k, v)).slots b ≡ Some taken → Removes (with_pair old b (k, v)).slots new.slots b → new.order ≡ without_bucket b old.order →
-      room (marks_of new.slots) ≡ room (marks_of (with_pair old b (k, v)).slots) + room_at (marks_of new.slots) b →
-      (l : S) → l ≡ (rules.on_removed s taken.0 taken.1).limiter → IsGivenUp rules by b old new l
-  gives_up held removed order freed l is = record {
-    slots = subst (λ p. Removes (with_pair old b p).slots new.slots b) pair_is removed;
-    order = order;
-    room = freed ∙ ap (λ m. room m + room_at (marks_of new.slots) b) (marks_of-refilled old.slots b (k, v));
-    told = is ∙ (λ i. (rules.on_removed (told i) ((taken_is ∙ pair_is) i).0 ((taken_is ∙ pair_is) i).1).limiter);
+  pub gives_up : IsGivenUp rules by b old new l
+  gives_up = record {
+    slots = subst (λ p. Removes (with_pair old b p).slots new.slots b) pair_is out.slots;
+    order = out.order;
+    room = out.room ∙ ap (λ m. room m + room_at (marks_of new.slots) b) (marks_of-refilled old.slots b (k, v));
+    told = out.told ∙ (λ i. (rules.on_removed (told i) ((taken_is ∙ pair_is) i).0 ((taken_is ∙ pair_is) i).1).limiter);
   }
     where
       pair_is : ◌≡◌ {A = K × V} (k, v) (by.key, by.old_value)
       pair_is = λ i. (key_is i, value_is i)
 
-      taken_is : taken ≡ (k, v)
-      taken_is = same_Some taken (k, v) (sym held ∙ entry_at-refilled old.slots b (k, v) (full_by_entry (bucket_at old.slots b) was there))
+      taken_is : out.pair ≡ (k, v)
+      taken_is = same_Some out.pair (k, v) (sym out.there ∙ entry_at-refilled old.slots b (k, v) (full_by_entry (bucket_at old.slots b) was there))
 
 module _ {K V S H : Type 0} (by : Replaced K V S) (old new : Linked K V) (b : ℕ) (l : S) (first : IsLinked old) (next : IsLinked new)
     (was : K × V) (there : entry_at old.slots b ≡ Some was) (names : K → Bool) {eq : K → K → Bool} (laws : IsEquivalence eq)

@@ -7,7 +7,9 @@ use Rattle.lru_limits.specs.Laws.{IsLookup, IsInsertion, IsAccount}
 use Rattle.lru_limits.specs.Stores.{plain, hands_over}
 use Rattle.schnellru.specs.State.{State, IsSized, IsMap}
 use Rattle.schnellru.specs.Theorems.{IsSummed, UsesAtMost}
-use Rattle.schnellru.specs.Coming.{Remove, Reserve, ReserveError}
+use Rattle.schnellru.specs.Calls.{Remove}
+use Rattle.schnellru.specs.Reservations.{Reserve}
+use Rattle.schnellru.specs.declared.map.reserve.ReserveError.{ReserveError}
 use Rattle.schnellru.proofs.Distinct.{AreDistinct, keeps_distinct, offers_distinct}
 use Rattle.schnellru.proofs.Paid.{stays_map}
 use Rattle.schnellru.proofs.Called.{remove_changes, reserve_changes}

@@ -3,8 +3,10 @@ use Rattle.std.proofs.Common.{◌≡◌, ℕ, Bool, List, Option, Result}
 use Rattle.std.specs.declared.alloc.AllocError.{AllocError}
 use Rattle.lru_limits.specs.Rules.{Rules, Offers}
 use Rattle.schnellru.specs.State.{State, Contents, contents, IsSized}
-use Rattle.schnellru.specs.Calls.{Get}
-use Rattle.schnellru.specs.Coming.{Remove, PopOldest, PopNewest, cleared, Drain, Reserve, ReserveError, GetOrInsert}
+use Rattle.schnellru.specs.Calls.{Get, Remove, PopOldest, PopNewest, cleared}
+use Rattle.schnellru.specs.Coming.{Drain, GetOrInsert}
+use Rattle.schnellru.specs.Reservations.{Reserve}
+use Rattle.schnellru.specs.declared.map.reserve.ReserveError.{ReserveError}
 use Rattle.schnellru.specs.Inserts.{Insert}
 use Rattle.schnellru.specs.Theorems.{PaysForMoves}
 use Rattle.schnellru.proofs.Moves.{KeepsOffers, keeps_nothing}

@@ -1,19 +1,21 @@
 -- A pair of a linked table is written, or comes first.
-use Rattle.std.proofs.Common.{◌≡◌, ℕ, ◌+◌, ◌-◌, ◌*◌, ◌≤◌, Bool, true, cond, List, ◌∷◌, ◌++◌, length, Some, sym, ap, ◌∙◌, subst, slice_set, ◌⊎◌, inl}
+use Rattle.std.proofs.Common.{◌≡◌, ℕ, ◌+◌, ◌-◌, ◌*◌, ◌≤◌, Bool, true, cond, List, [], ◌∷◌, ◌++◌, length, Some, sym, ap, ◌∙◌, subst, slice_set, ◌⊎◌, inl}
 use Rattle.std.specs.Prelude.{option_to_list}
 use Rattle.std.specs.Cmp.{IsEquivalence}
 use Rattle.std.specs.Map.{set_value}
+use Rattle.std.specs.List.{IsDistinct}
 use Rattle.std.proofs.lemmas.List.{length-set}
+use Rattle.std.proofs.lemmas.Map.{keys-set_value}
 use Rattle.group_table.specs.Bucket.{IsFull, bucket_at, entry_at, refilled, marks_of, room}
 use Rattle.group_table.specs.Sizes.{full_capacity}
 use Rattle.group_table.proofs.RefillLemmas.{entry_at-refilled, marks_of-refilled}
 use Rattle.group_table.proofs.SearchLemmas.{full_by_entry}
-use Rattle.schnellru.specs.Lists.{without, front, after}
+use Rattle.schnellru.specs.Lists.{without, front, after, keys_of}
 use Rattle.schnellru.specs.Linked.{Linked, IsLinked, KeysFit, pairs_of, entries_in, without_bucket, with_pair}
 use Rattle.schnellru.specs.Holds.{state_by, Holds}
-use Rattle.schnellru.proofs.Cuts.{without_lacks, entries-apart}
-use Rattle.schnellru.proofs.Distinct.{AreDistinct, distinct_newest}
-use Rattle.schnellru.proofs.Ordered.{pair_found, others_are}
+use Rattle.schnellru.proofs.Cuts.{without_lacks, entries-apart, entries-cut}
+use Rattle.schnellru.proofs.Distinct.{AreDistinct, NoneNamed, distinct_newest}
+use Rattle.schnellru.proofs.Ordered.{cut_here, cut_pairs, unnamed, pair_found, others_are}
 use Rattle.schnellru.proofs.Kept.{sized_same}
 
 module _ {K V : Type 0} (t : Linked K V) (b : ℕ) (q : K × V) where
@@ -25,6 +27,12 @@ module _ {K V : Type 0} (t : Linked K V) (b : ℕ) (q : K × V) where
   written_first h order =
       ap (λ o. option_to_list o ++ entries_in (with_pair t b q).slots (without_bucket b order)) (entry_at-refilled t.slots b q h)
       ∙ ap (λ l. q ∷ l) (entries-apart t.slots b (refilled (bucket_at t.slots b) q) (without_bucket b order) (without_lacks b order))
+
+-- a value is written at the first pair that is named
+set_end : {K V : Type 0} (names : K → Bool) (p : K × V) → names p.0 ≡ true → (w : V) (xs ys : List (K × V)) → NoneNamed names xs
+    → set_value names (xs ++ p ∷ ys) w ≡ xs ++ (p.0, w) ∷ ys
+set_end names p named w [] ys h = ap (λ y. cond y ((p.0, w) ∷ ys) (p ∷ set_value names ys w)) named
+set_end names p named w (x ∷ xs) ys h = ap (λ y. cond y ((x.0, w) ∷ (xs ++ p ∷ ys)) (x ∷ set_value names (xs ++ p ∷ ys) w)) h.0 ∙ ap (λ l. x ∷ l) (set_end names p named w xs ys h.1)
 
 -- the pair in the bucket b of t comes first, in v
 module _ {K V : Type 0} (t v : Linked K V) (linked : IsLinked t) (b : ℕ) (p : K × V) (there : entry_at t.slots b ≡ Some p)
@@ -60,6 +68,36 @@ module _ {K V : Type 0} (t v : Linked K V) (linked : IsLinked t) (b : ℕ) (p : 
         distinct = subst (AreDistinct eq) (sym (first_pairs w)) (distinct_newest eq names one (p.0, w) (pairs_of t) named distinct);
         sized = sized_same hasher moved placed entry_bytes max t (with_pair v b (p.0, w)) limiter limiter holds.map.sized next (written_length v b (p.0, w) ∙ ap length slots);
         paid = subst (λ m. moved + (full_capacity (length m) - 2 * room m) ≤ 2 * placed) (sym marks) holds.map.paid;
+      };
+    }
+
+-- the pair of the named key is in the bucket b of t, and stays at its place
+module _ {K V : Type 0} (t : Linked K V) (linked : IsLinked t) (b : ℕ) (p : K × V) (there : entry_at t.slots b ≡ Some p)
+    (names : K → Bool) {eq : K → K → Bool} (laws : IsEquivalence eq) (one : (x y : K) → names x ≡ true → names y ≡ eq x y) (named : names p.0 ≡ true)
+    (distinct : AreDistinct eq (pairs_of t)) where
+  pub kept_pairs : (w : V) → pairs_of (with_pair t b (p.0, w)) ≡ set_value names (pairs_of t) w
+  kept_pairs w =
+      let cut = cut_here t linked b p there in let s = refilled (bucket_at t.slots b) (p.0, w) in
+      entries-cut (with_pair t b (p.0, w)).slots cut (p.0, w) (entry_at-refilled t.slots b (p.0, w) (full_by_entry (bucket_at t.slots b) p there))
+      ∙ (λ i. entries-apart t.slots b s cut.before cut.none_before i ++ (p.0, w) ∷ entries-apart t.slots b s cut.after cut.none_after i)
+      ∙ sym (ap (λ l. set_value names l w) (cut_pairs t linked b p there names laws one distinct named)
+      ∙ set_end names p named w (entries_in t.slots cut.before) (entries_in t.slots cut.after) (unnamed t linked b p there names laws one distinct named))
+
+  module _ {S H : Type 0} (limiter : S) (hasher : H) (moved placed entry_bytes max : ℕ) (w : V) where
+    pub kept_state : state_by (with_pair t b (p.0, w)) limiter hasher moved placed entry_bytes max
+        ≡ record (state_by t limiter hasher moved placed entry_bytes max) { pairs = set_value names (pairs_of t) w }
+    kept_state = λ i. record (state_by (with_pair t b (p.0, w)) limiter hasher moved placed entry_bytes max) { pairs = kept_pairs w i; marks = marks_of-refilled t.slots b (p.0, w) i }
+
+    pub kept_holds : (hash_of : H → K → ℕ) → Holds eq hash_of t (state_by t limiter hasher moved placed entry_bytes max) → IsLinked (with_pair t b (p.0, w))
+        → KeysFit (hash_of hasher) (with_pair t b (p.0, w)).slots
+        → Holds eq hash_of (with_pair t b (p.0, w)) (state_by (with_pair t b (p.0, w)) limiter hasher moved placed entry_bytes max)
+    kept_holds hash_of holds next fits = record {
+      linked = next;
+      fits = fits;
+      map = record {
+        distinct = subst (IsDistinct eq) (sym (ap keys_of (kept_pairs w) ∙ keys-set_value names (pairs_of t) w)) distinct;
+        sized = sized_same hasher moved placed entry_bytes max t (with_pair t b (p.0, w)) limiter limiter holds.map.sized next (written_length t b (p.0, w));
+        paid = subst (λ m. moved + (full_capacity (length m) - 2 * room m) ≤ 2 * placed) (sym (marks_of-refilled t.slots b (p.0, w))) holds.map.paid;
       };
     }
 

@@ -1,10 +1,47 @@
--- What each call of a map does; `Inserts` has the inserts.
-use Rattle.std.specs.Prelude.{◌≡◌, Bool, Option}
-use Rattle.schnellru.specs.Lists.{lookup, front}
-use Rattle.schnellru.specs.State.{State}
+-- What each call of a map does; `Inserts` has the inserts, and `Reservations` those of room.
+--     rules      what the limiter says (`Rules` of `lru_limits`)
+--     names      whether a key is the one that is looked up
+use Rattle.std.specs.Prelude.{◌≡◌, Bool, [], Option, option_map, replicate}
+use Rattle.group_table.specs.Bucket.{empty}
+use Rattle.lru_limits.specs.Rules.{Rules}
+use Rattle.schnellru.specs.Lists.{first, last, without_first, lookup, lookup_entry, without, front}
+use Rattle.schnellru.specs.State.{State, buckets, Contents, contents, Leaves, told_of, pop}
 
 module _ {K V S H : Type 0} where
   -- the pair of the named key comes first, and its value is answered
   pub record Get (names : K → Bool) (old : State K V S H) (result : Option V) (new : State K V S H) : Type 0 where
     pub value : result ≡ lookup names old.pairs
     pub state : new ≡ record old { pairs = front names old.pairs }
+
+module _ {K V S : Type 0} (rules : Rules K V S) where
+  -- what the limiter leaves of the pair as it goes, if there is one
+  abbrev pub left_of : S → Option (K × V) → Option (K × V)
+  left_of s pair = option_map (λ p. ((rules.on_removed s p.0 p.1).key, (rules.on_removed s p.0 p.1).value)) pair
+
+  -- without the pair of the named key, of which the limiter is told
+  abbrev pub removal : (K → Bool) → Contents K V S → Contents K V S
+  removal names c = record { pairs = without names c.pairs; limiter = told_of rules (lookup_entry names c.pairs) c.limiter }
+
+  -- without the newest pair, of which the limiter is told
+  abbrev pub pop_first : Contents K V S → Contents K V S
+  pop_first c = record { pairs = without_first c.pairs; limiter = told_of rules (first c.pairs) c.limiter }
+
+module _ {K V S H : Type 0} (rules : Rules K V S) where
+  -- the pair of the named key leaves, and what the limiter leaves of its value is answered
+  pub record Remove (names : K → Bool) (old : State K V S H) (result : Option V) (new : State K V S H) : Type 0 where
+    pub value : result ≡ option_map (λ p. p.1) (left_of rules old.limiter (lookup_entry names old.pairs))
+    pub state : Leaves old (removal rules names (contents old)) new
+
+  -- the oldest pair leaves, and what the limiter leaves of it is answered
+  pub record PopOldest (old : State K V S H) (result : Option (K × V)) (new : State K V S H) : Type 0 where
+    pub pair : result ≡ left_of rules old.limiter (last old.pairs)
+    pub state : Leaves old (pop rules (contents old)) new
+
+  -- so does the newest
+  pub record PopNewest (old : State K V S H) (result : Option (K × V)) (new : State K V S H) : Type 0 where
+    pub pair : result ≡ left_of rules old.limiter (first old.pairs)
+    pub state : Leaves old (pop_first rules (contents old)) new
+
+  -- Without pairs, in a table of as many buckets, all empty. The limiter is told of the clear alone.
+  abbrev pub cleared : State K V S H → State K V S H
+  cleared st = record st { pairs = []; limiter = rules.on_cleared st.limiter; marks = replicate (buckets st) empty }

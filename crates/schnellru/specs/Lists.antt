@@ -8,6 +8,16 @@ module _ {X : Type 0} where
   is_empty [] = true
   is_empty (x ∷ xs) = false
 
+  -- the first, if there is one
+  abbrev pub first : List X → Option X
+  first [] = None
+  first (x ∷ xs) = Some x
+
+  -- all but the first
+  abbrev pub without_first : List X → List X
+  without_first [] = []
+  without_first (x ∷ xs) = xs
+
   -- the last, if there is one
   abbrev pub last : List X → Option X
   last [] = None
@@ -33,3 +43,13 @@ module _ {K V : Type 0} where
   -- the pair of the named key first, and then the others in their order
   abbrev pub front : (K → Bool) → List (K × V) → List (K × V)
   front names pairs = after (lookup_entry names pairs) (without names pairs)
+
+  -- the value of the first pair
+  abbrev pub newest_value : List (K × V) → Option V
+  newest_value [] = None
+  newest_value (pair ∷ pairs) = Some pair.1
+
+  -- with this value in the first pair
+  abbrev pub set_newest : List (K × V) → V → List (K × V)
+  set_newest [] w = []
+  set_newest (pair ∷ pairs) w = (pair.0, w) ∷ pairs

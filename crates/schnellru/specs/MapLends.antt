@@ -9,6 +9,7 @@ use Rattle.std.specs.declared.hash.Hasher as hasher
 use Rattle.std.specs.declared.hash.BuildHasher as builder
 use Rattle.group_table.specs.declared.link.LinkType as link_type
 use Rattle.lru_limits.specs.declared.limiter.Limiter as limiter
+use Rattle.schnellru.specs.Lists.{set_newest}
 use Rattle.schnellru.specs.State.{State}
 use Rattle.schnellru.specs.contracts.map.LruMap.{the_row}
 
@@ -23,6 +24,13 @@ module _ (K V L S N H : RattleType) (key : HashMembers K.Denot) (limits : limite
     -- it has these pairs, with the last value written through r at the key that is named, and at `None` it stays as it is
     abbrev pub lends_value : (K.Denot → Bool) → List (K.Denot × V.Denot) → Option (MutBor V.Denot) → Fml
     lends_value names pairs r = LendsIf map_row V m r (λ last. record m.now { pairs = set_value names pairs last }) m.now
+
+    -- its newest pair has the last value written through r, and at `None` it stays as it is
+    abbrev pub lends_newest : Option (MutBor V.Denot) → Fml
+    lends_newest r = LendsIf map_row V m r (λ last. record m.now { pairs = set_newest m.now.pairs last }) m.now
+
+    abbrev pub lends_newest_value : MutBor V.Denot → Fml
+    lends_newest_value r = Lends map_row V m r (λ last. record m.now { pairs = set_newest m.now.pairs last })
 
     -- it has the last limiter written through r
     abbrev pub lends_limiter : MutBor L.Denot → Fml

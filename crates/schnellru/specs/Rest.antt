@@ -1,19 +1,26 @@
--- How the fields of an `Iter` hold what is left of a walk. No public clause cites this module.
-use Rattle.std.specs.Prelude.{◌≡◌, ℕ, ◌-◌, ◌≤◌, List, length, drop, Option}
+-- How the fields of a walk hold what is left of it. No public clause cites this module.
+use Rattle.std.specs.Prelude.{◌≡◌, ℕ, List, [], ◌∷◌, ◌++◌, length, take, nat_eq, if◌then◌else◌, Option, None, Some}
 use Rattle.schnellru.specs.Linked.{Linked, IsLinked, entries_in}
-use Rattle.schnellru.specs.Chain.{first_bucket}
+use Rattle.schnellru.specs.Chain.{first_bucket, last_bucket}
+
+-- the buckets from this one on
+abbrev pub from_bucket : Option ℕ → List ℕ → List ℕ
+from_bucket None order = []
+from_bucket (Some b) [] = []
+from_bucket (Some b) (c ∷ cs) = if nat_eq c b then c ∷ cs else from_bucket (Some b) cs
 
 module _ {K V : Type 0} (t : Linked K V) where
-  -- the last so many buckets of the order
-  abbrev pub last_buckets : ℕ → List ℕ
-  last_buckets left = drop (length t.order - left) t.order
+  -- so many pairs, from that in the bucket in front on
+  abbrev pub rest_of : Option ℕ → ℕ → List (K × V)
+  rest_of front left = entries_in t.slots (take left (from_bucket front t.order))
 
-  -- the pairs in them
-  abbrev pub rest_of : ℕ → List (K × V)
-  rest_of left = entries_in t.slots (last_buckets left)
-
-  -- the walk is at the first of them
-  pub record IsRest (at : Option ℕ) (left : ℕ) : Type 0 where
+  -- some buckets were given from the front, some from the back, and so many are left between
+  pub record IsRest (front back : Option ℕ) (left : ℕ) : Type 0 where
     pub linked : IsLinked t
-    pub within : left ≤ length t.order
-    pub first : at ≡ first_bucket (last_buckets left)
+    pub before : List ℕ
+    pub middle : List ℕ
+    pub after : List ℕ
+    pub order : t.order ≡ before ++ (middle ++ after)
+    pub count : length middle ≡ left
+    pub first : front ≡ first_bucket (middle ++ after)
+    pub last : back ≡ last_bucket (before ++ middle)

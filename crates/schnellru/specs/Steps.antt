@@ -1,10 +1,11 @@
 -- What the parts of a placing do. No public clause cites this module.
-use Rattle.std.specs.Prelude.{◌≡◌, ℕ, ◌+◌, ◌<◌, ◌⊎◌, ◌∷◌, length}
+use Rattle.std.specs.Prelude.{◌≡◌, ℕ, ◌+◌, ◌<◌, ◌⊎◌, ◌∷◌, length, Some}
 use Rattle.group_table.specs.Sizes.{full_capacity}
-use Rattle.group_table.specs.Bucket.{deleted, marks_of, room as room_of, room_at}
+use Rattle.group_table.specs.Bucket.{deleted, marks_of, entry_at, room as room_of, room_at}
 use Rattle.group_table.specs.Change.{count_up, Removes}
 use Rattle.lru_limits.specs.Rules.{Rules, Replaced}
-use Rattle.schnellru.specs.State.{State, buckets, room, FirstFreeIs}
+use Rattle.schnellru.specs.State.{State, buckets, room, FirstFreeIs, told_of}
+use Rattle.schnellru.specs.Calls.{left_of}
 use Rattle.schnellru.specs.Linked.{Linked, with_pair, without_bucket}
 
 module _ {K V S H : Type 0} where
@@ -37,3 +38,13 @@ pub record IsGivenUp {K V S : Type 0} (rules : Rules K V S) (by : Replaced K V S
   pub order : new.order ≡ without_bucket b old.order
   pub room : room_of (marks_of new.slots) ≡ room_of (marks_of old.slots) + room_at (marks_of new.slots) b
   pub told : limiter ≡ (rules.on_removed by.limiter by.key by.old_value).limiter
+
+-- The pair in a bucket left, the limiter was told, and what it left of the pair is answered.
+pub record IsTakenOut {K V S : Type 0} (rules : Rules K V S) (b : ℕ) (old new : Linked K V) (limiter : S) (result : K × V) (after : S) : Type 0 where
+  pub pair : K × V
+  pub there : entry_at old.slots b ≡ Some pair
+  pub left : Some result ≡ left_of rules limiter (Some pair)
+  pub told : after ≡ told_of rules (Some pair) limiter
+  pub slots : Removes old.slots new.slots b
+  pub order : new.order ≡ without_bucket b old.order
+  pub room : room_of (marks_of new.slots) ≡ room_of (marks_of old.slots) + room_at (marks_of new.slots) b

@@ -1,16 +1,18 @@
 //! What is proved of every insert and of every get. Each theorem is the contract of a function that does nothing.
 
-ghost use Rattle.std.specs.Prelude.{◌≡◌, ◌≢◌, ℕ, ◌≤◌, ◌<◌, ◌+◌, ◌*◌, ◌/◌, ◌⊎◌, ◌∷◌, Bool, false, Option, Some, Result, IsOk, IsErr, length};
+ghost use Rattle.std.specs.Prelude.{◌≡◌, ◌≢◌, ℕ, ◌≤◌, ◌<◌, ◌+◌, ◌*◌, ◌/◌, ◌⊎◌, ◌∷◌, Bool, false, Option, Some, None, Result, Ok, IsOk, IsErr, length};
 ghost use Rattle.std.specs.List.{IsDistinct};
 ghost use Rattle.std.specs.declared.alloc.AllocError.{AllocError};
 ghost use Rattle.group_table.specs.Bucket.{deleted};
 ghost use Rattle.group_table.specs.Sizes.{full_capacity};
 ghost use Rattle.lru_limits.specs.Hashing.{hash_by};
-ghost use Rattle.schnellru.specs.Lists.{without_last, keys_of, IsFront};
+ghost use Rattle.schnellru.specs.Lists.{without_last, keys_of, lookup_entry, IsFront};
 ghost use Rattle.schnellru.specs.Sizes.{usage, IsGreatestUsage};
 ghost use Rattle.schnellru.specs.State.{State, buckets, room, FirstFreeIs, IsSized, IsPaid, IsMap};
 ghost use Rattle.schnellru.specs.Place.{Place, Outcome, placed, no_memory, IsPlaced, LacksRoom};
-ghost use Rattle.schnellru.specs.Calls.{Get};
+ghost use Rattle.schnellru.specs.Calls.{Get, Remove, PopOldest, PopNewest, cleared};
+ghost use Rattle.schnellru.specs.Reservations.{Reserve};
+ghost use Rattle.schnellru.specs.declared.map.reserve.ReserveError.{ReserveError};
 ghost use Rattle.schnellru.specs.Inserts.{Insert, replacement, LacksMemory};
 ghost use Rattle.schnellru.specs.Exact.{IsDetermined, EndsExactly, EndsAlike, AlwaysGrants, HasTables};
 ghost use Rattle.schnellru.specs.Theorems.{PaysForMoves, IsRefusedGrowth, UsesAtMost, GivesUp, IsSummed, SaysWhether};
@@ -246,6 +248,91 @@ pub fn gets_keep_maps<K: Eq + Hash, V, I: LookupKey<K>, L: Limiter<K, V>, S: Bui
 pub fn gets_keep_sums<K: Eq + Hash, V, I: LookupKey<K>, L: Summing<K, V, I>, S: BuildHasher>()
     ensures { (key : I) (old : State K V L S) (result : Option V) (new : State K V L S) →
         IsSummed L.cost_of L.account old → Get (I.names key) old result new → IsSummed L.cost_of L.account new }
+{}
+
+/// What holds of every map holds after a removal, a pop and a clear, where the table is sound, as every table is.
+pub fn removals_keep_maps<K: Eq + Hash, V, L: Limiter<K, V>, S: BuildHasher>()
+    ensures removed { (names : K → Bool) (old : State K V L S) (result : Option V) (new : State K V L S) →
+        IsMap K.eq old → IsSized new → Remove L.rules names old result new → IsMap K.eq new }
+    ensures oldest { (old : State K V L S) (result : Option (K × V)) (new : State K V L S) →
+        IsMap K.eq old → IsSized new → PopOldest L.rules old result new → IsMap K.eq new }
+    ensures newest { (old : State K V L S) (result : Option (K × V)) (new : State K V L S) →
+        IsMap K.eq old → IsSized new → PopNewest L.rules old result new → IsMap K.eq new }
+    ensures cleared { (old : State K V L S) →
+        IsMap K.eq old → IsSized (cleared L.rules old) → IsMap K.eq (cleared L.rules old) }
+{}
+
+/// A summing limiter that held the sum of the costs holds it after a removal, a pop and a clear.
+pub fn removals_keep_sums<K: Eq + Hash, V, I: LookupKey<K>, L: Summing<K, V, I>, S: BuildHasher>()
+    ensures removed { (names : K → Bool) (old : State K V L S) (result : Option V) (new : State K V L S) →
+        IsSummed L.cost_of L.account old → Remove L.rules names old result new → IsSummed L.cost_of L.account new }
+    ensures oldest { (old : State K V L S) (result : Option (K × V)) (new : State K V L S) →
+        IsSummed L.cost_of L.account old → PopOldest L.rules old result new → IsSummed L.cost_of L.account new }
+    ensures newest { (old : State K V L S) (result : Option (K × V)) (new : State K V L S) →
+        IsSummed L.cost_of L.account old → PopNewest L.rules old result new → IsSummed L.cost_of L.account new }
+    ensures cleared { (old : State K V L S) →
+        IsSummed L.cost_of L.account old → IsSummed L.cost_of L.account (cleared L.rules old) }
+{}
+
+/// Removals, pops and clears move nothing: moved and potential together do not rise.
+pub fn removals_pay_for_moves<K: Eq + Hash, V, L: Limiter<K, V>, S: BuildHasher>()
+    ensures removed { (names : K → Bool) (old : State K V L S) (result : Option V) (new : State K V L S) →
+        IsSized old → Remove L.rules names old result new → PaysForMoves old new }
+    ensures oldest { (old : State K V L S) (result : Option (K × V)) (new : State K V L S) →
+        IsSized old → PopOldest L.rules old result new → PaysForMoves old new }
+    ensures newest { (old : State K V L S) (result : Option (K × V)) (new : State K V L S) →
+        IsSized old → PopNewest L.rules old result new → PaysForMoves old new }
+    ensures cleared { (old : State K V L S) →
+        IsSized old → PaysForMoves old (cleared L.rules old) }
+{}
+
+/// A key that was removed is not there.
+pub fn removed_keys_are_absent<K: Eq + Hash, V, I: LookupKey<K>, L: Limiter<K, V>, S: BuildHasher>()
+    ensures { (key : I) (old : State K V L S) (result : Option V) (new : State K V L S) →
+        IsDistinct K.eq (keys_of old.pairs) → Remove L.rules (I.names key) old result new →
+        lookup_entry (I.names key) new.pairs ≡ None }
+{}
+
+/// What holds of every map holds after a reservation, and the pairs stay, with the counts of moves.
+pub fn reservations_keep_maps<K: Eq + Hash, V, L: Limiter<K, V>, S: BuildHasher>()
+    ensures map { (n : ℕ) (old : State K V L S) (result : Result (Unit {0}) ReserveError) (new : State K V L S) →
+        IsMap K.eq old → IsSized new → Reserve L.rules n old result new → IsMap K.eq new }
+    ensures list { (n : ℕ) (old : State K V L S) (result : Result (Unit {0}) ReserveError) (new : State K V L S) →
+        Reserve L.rules n old result new →
+        (new.pairs ≡ old.pairs) × (new.moved ≡ old.moved) × (new.placed ≡ old.placed) }
+{}
+
+/// A summing limiter that held the sum of the costs holds it after a reservation.
+pub fn reservations_keep_sums<
+    K: Eq + Hash,
+    V,
+    I: LookupKey<K>,
+    L: Summing<K, V, I>,
+    S: BuildHasher,
+>()
+    ensures { (n : ℕ) (old : State K V L S) (result : Result (Unit {0}) ReserveError) (new : State K V L S) →
+        IsSummed L.cost_of L.account old → Reserve L.rules n old result new → IsSummed L.cost_of L.account new }
+{}
+
+/// A reservation does not count its moves, and the potential does not rise.
+pub fn reservations_pay_for_moves<K: Eq + Hash, V, L: Limiter<K, V>, S: BuildHasher>()
+    ensures { (n : ℕ) (old : State K V L S) (result : Result (Unit {0}) ReserveError) (new : State K V L S) →
+        IsSized old → Reserve L.rules n old result new → PaysForMoves old new }
+{}
+
+/// Where room is reserved, there is room.
+pub fn reservations_make_room<K: Eq + Hash, V, L: Limiter<K, V>, S: BuildHasher>()
+    ensures { (n : ℕ) (old new : State K V L S) →
+        IsSized old → Reserve L.rules n old (Ok tt) new → n ≤ room new }
+{}
+
+/// With `ByMemoryUsage` a reservation leaves the limiter as it was, and a table of at most `max_memory_usage` bytes, if it
+/// had no more before.
+pub fn reservations_keep_the_memory_usage<K: Eq + Hash + Drop, V: Drop, S: BuildHasher>()
+    ensures { (n : ℕ) (old : State K V ByMemoryUsage S) (result : Result (Unit {0}) ReserveError)
+        (new : State K V ByMemoryUsage S) →
+        Reserve ⟦<ByMemoryUsage as Limiter<K, V>>⟧.rules n old result new →
+        UsesAtMost old.limiter old → UsesAtMost old.limiter new }
 {}
 
 /// The memory that a map uses, as a budget, gives itself.

@@ -11,6 +11,7 @@ pub use lru_limits::{
     ByCost, ByLength, ByMemoryUsage, Costed, DefaultHasher, Insertion, Limiter, LinkType,
     LookupKey, RandomState, Summing, Unlimited, UnlimitedCompact,
 };
+pub use map::reserve::ReserveError;
 pub use map::{DEFAULT_ENTRY_BYTES, LruMap};
 pub use walk::{Iter, Walk};
 

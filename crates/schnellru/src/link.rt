@@ -2,14 +2,15 @@
 //!
 //! Each entry keeps the numbers of its newer and its older neighbour as links, so that it is promoted or taken without
 //! a walk. A clause sees a `Linked` as its `slots` and the `order` of the full ones.
-ghost use Rattle.std.specs.Prelude.{◌≡◌, ◌≢◌, ℕ, ◌+◌, ◌^◌, ◌<◌, ◌≤◌, false, [], ◌∷◌, length, Some, None, IfSome, IfNone, IfOk, IfErr, OnOk, OnErr, IsOk, IsTrue, slice_set};
+ghost use Rattle.std.specs.Prelude.{◌≡◌, ◌≢◌, ℕ, ◌+◌, ◌^◌, ◌<◌, ◌≤◌, false, [], ◌∷◌, length, Some, None, IfSome, IfNone, IfOk, IfErr, OnOk, OnErr, IsOk, IsTrue, replicate, slice_set};
 ghost use Rattle.std.specs.Borrow.{sem};
 ghost use Rattle.group_table.specs.Sizes.{IsPowerFromFour, full_capacity};
-ghost use Rattle.group_table.specs.Bucket.{marks_of, IsFull, entry_at, entry_count, room, room_at};
+ghost use Rattle.group_table.specs.Bucket.{empty, marks_of, IsFull, entry_at, entry_count, room, room_at};
 ghost use Rattle.group_table.specs.Change.{HasNoPlace, Removes};
 ghost use Rattle.lru_limits.specs.Hashing.{hash_by};
 ghost use Rattle.schnellru.specs.Linked.{IsLinked, KeysFit, Lands, pairs_of, without_bucket, with_pair};
-ghost use Rattle.schnellru.specs.Chain.{first_bucket, last_bucket, bucket_after};
+ghost use Rattle.schnellru.specs.ByHash.{Asks, Finds, FindsNone};
+ghost use Rattle.schnellru.specs.Chain.{first_bucket, last_bucket, bucket_after, bucket_before};
 
 use crate::link::chain::{link_newest, rewrite, unlink};
 use group_table::{LinkType, Table};
@@ -122,6 +123,14 @@ impl<K, V, N: LinkType> Linked<K, V, N> {
         self.oldest.into_usize()
     }
 
+    // The same, if there is one.
+    #[inline]
+    pub(crate) fn last(&self) -> Option<usize>
+        ensures last { result ≡ last_bucket self.now.order }
+    {
+        bucket_of(self.oldest)
+    }
+
     // The bucket after this one in the order, towards the oldest.
     #[inline]
     pub(crate) fn older(&self, b: usize) -> Option<usize>
@@ -129,6 +138,15 @@ impl<K, V, N: LinkType> Linked<K, V, N> {
         ensures older { result ≡ bucket_after b self.now.order }
     {
         bucket_of(self.table.get(b).older)
+    }
+
+    // The bucket before this one in the order, towards the newest.
+    #[inline]
+    pub(crate) fn newer(&self, b: usize) -> Option<usize>
+        requires { IsFull self.now.slots b }
+        ensures newer { result ≡ bucket_before b self.now.order }
+    {
+        bucket_of(self.table.get(b).newer)
     }
 
     // The pair in a full bucket for writing. What is written there keeps the hash of the key.
@@ -142,6 +160,22 @@ impl<K, V, N: LinkType> Linked<K, V, N> {
         ensures linked { (last : K × V) → IsLinked (with_pair self.old b last) }
     {
         &mut self.table.get_mut(b).pair
+    }
+
+    // The bucket of the first pair that `f` accepts, of those with the tag of the hash.
+    pub(crate) fn find_by<F: FnMut(&K, &V) -> bool>(&self, hash: u64, mut f: F) -> Option<usize>
+        requires { (f : _) (key : _) (value : _) → F.pre f key value }
+        ensures found { IfSome result (Finds F.FnMut self.now.slots hash f) }
+        ensures full { IfSome result (IsFull self.now.slots) }
+        ensures none { IfNone result (FindsNone F.FnMut self.now.slots hash f) }
+    {
+        self.table.find(
+            hash,
+            move |entry: &Entry<K, V, N>| -> bool
+                requires { (f : _) (key : _) (value : _) → F.pre f key value }
+                ensures { Asks F.FnMut f.entry (entry.now.pair.key, entry.now.pair.value) result f.exit }
+            { f(&entry.pair.key, &entry.pair.value) },
+        )
     }
 
     // The pair in a full bucket becomes the newest.
@@ -199,6 +233,18 @@ impl<K: Drop, V: Drop, N: LinkType> Linked<K, V, N> {
             }
             Err(entry) => Err((entry.pair.key, entry.pair.value)),
         }
+    }
+
+    // Drops all pairs. The buckets stay, and are empty.
+    pub(crate) fn clear(&mut self)
+        ensures slots { self.new.slots ≡ replicate (length self.old.slots) empty }
+        ensures order { self.new.order ≡ [] }
+        ensures fits { (hash_of : K → ℕ) → KeysFit hash_of self.new.slots }
+        ensures linked { IsLinked self.new }
+    {
+        self.table.clear();
+        self.newest = N::MAX;
+        self.oldest = N::MAX;
     }
 }
 

@@ -10,11 +10,15 @@ use std::alloc::Global;
 use std::hash::{BuildHasher, Hash};
 use std::marker::Model;
 
+mod evict;
 mod figures;
+mod get_or_insert;
 mod insert;
 mod look_up;
 mod place;
+mod remove;
 mod replace;
+pub(crate) mod reserve;
 
 /// The bytes of an entry of a map that `LruMap::default` makes.
 pub const DEFAULT_ENTRY_BYTES: usize = 32;

@@ -15,6 +15,7 @@ mod limits;
 mod orders;
 mod readme;
 mod refusals;
+mod removals;
 mod texts;
 
 // A map of numbers with entries of 16 bytes.

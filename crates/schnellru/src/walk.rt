@@ -1,7 +1,7 @@
 //! Walking the pairs of a map in their order of use.
 ghost use Rattle.std.specs.Prelude.{◌≡◌, length};
 ghost use Rattle.std.specs.Iterator.{at_most};
-ghost use Rattle.std.specs.Map.Iter.{ShowsInOrder, TakesFirst, deref_pair};
+ghost use Rattle.std.specs.Map.Iter.{ShowsInOrder, ShowsInReverse, TakesFirst, TakesLast, deref_pair};
 
 use crate::link::Linked;
 use crate::map::LruMap;
@@ -16,11 +16,13 @@ use std::marker::Model;
 /// After schnellru's `Iter`.
 pub type Iter<'a, K, V, L> = Walk<'a, K, V, <L as Limiter<K, V>>::LinkType>;
 
-/// The pairs of a map that a walk has not given yet, newest first. Of the map's limiter it knows the type of the links.
+/// The pairs of a map that a walk has not given yet from either end, newest first. Of the map's limiter it knows the type
+/// of the links.
 #[derive(Drop)]
 pub struct Walk<'a, K, V, N: LinkType> {
     entries: &'a Linked<K, V, N>,
-    at: Option<usize>,
+    front: Option<usize>,
+    back: Option<usize>,
     left: usize,
 }
 
@@ -30,9 +32,9 @@ impl<'a, K, V, N: LinkType> Model for Walk<'a, K, V, N> {
 
     ghost Value = { List (K × V) };
 
-    ghost view = { λ a. rest_of a.entries.now a.left };
+    ghost view = { λ a. rest_of a.entries.now a.front a.left };
 
-    ghost invariant = { λ a. IsRest a.entries.now a.at a.left };
+    ghost invariant = { λ a. IsRest a.entries.now a.front a.back a.left };
 }
 
 impl<'a, K, V, N: LinkType> Iterator for Walk<'a, K, V, N> {
@@ -44,15 +46,34 @@ impl<'a, K, V, N: LinkType> Iterator for Walk<'a, K, V, N> {
 
     #[inline]
     fn next(&mut self) -> Option<(&'a K, &'a V)> {
-        let b = self.at?;
+        if self.left == 0 {
+            return None;
+        }
+        let b = self.front?;
         let pair = self.entries.pair(b);
-        self.at = self.entries.older(b);
+        self.front = self.entries.older(b);
         self.left -= 1;
         Some((&pair.key, &pair.value))
     }
 
     fn size_hint(&self) -> (usize, Option<usize>) {
         (self.left, Some(self.left))
+    }
+}
+
+impl<'a, K, V, N: LinkType> DoubleEndedIterator for Walk<'a, K, V, N> {
+    ghost next_back_gives = { TakesLast deref_pair };
+
+    #[inline]
+    fn next_back(&mut self) -> Option<(&'a K, &'a V)> {
+        if self.left == 0 {
+            return None;
+        }
+        let b = self.back?;
+        let pair = self.entries.pair(b);
+        self.back = self.entries.newer(b);
+        self.left -= 1;
+        Some((&pair.key, &pair.value))
     }
 }
 
@@ -77,10 +98,12 @@ impl<K: Eq + Hash, V, L: Limiter<K, V>, S: BuildHasher> LruMap<K, V, L, S> {
     pub fn iter(&self) -> Iter<'_, K, V, L>
         ensures rest { result ≡ self.now.pairs }
         ensures runs { ShowsInOrder (deref_pair {K = K} {X = V}) }
+        ensures runs_back { ShowsInReverse (deref_pair {K = K} {X = V}) }
     {
         Walk {
             entries: &self.entries,
-            at: self.entries.newest(),
+            front: self.entries.newest(),
+            back: self.entries.last(),
             left: self.entries.len(),
         }
     }

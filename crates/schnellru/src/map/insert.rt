@@ -71,7 +71,7 @@ impl<K: Eq + Hash + Drop, V: Drop, L: Limiter<K, V>, S: BuildHasher> LruMap<K, V
 
     // Inserts under a key that is not there.
     #[inline(never)]
-    fn insert_new<I: LookupKey<K>>(
+    pub(crate) fn insert_new<I: LookupKey<K>>(
         &mut self,
         hash: u64,
         key: I,
@@ -104,25 +104,5 @@ impl<K: Eq + Hash + Drop, V: Drop, L: Limiter<K, V>, S: BuildHasher> LruMap<K, V
         }
         self.trim();
         Ok(!self.is_empty())
-    }
-
-    // Removes the oldest pair, if the limiter would be over with one more.
-    #[inline]
-    fn make_way(&mut self)
-        ensures { Leaves self.old (make_way L.rules (contents self.old)) self.new }
-    {
-        if !self.is_empty() && self.limiter.is_over_the_limit(self.entries.len() + 1) {
-            self.take_oldest_in_line();
-        }
-    }
-
-    // Removes the oldest pairs while the limiter is over.
-    #[inline]
-    fn trim(&mut self)
-        ensures { Leaves self.old (trim L.rules (contents self.old)) self.new }
-    {
-        while !self.is_empty() && self.limiter.is_over_the_limit(self.entries.len()) {
-            self.take_oldest();
-        }
     }
 }

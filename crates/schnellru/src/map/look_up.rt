@@ -1,15 +1,16 @@
 //! Looking up a key.
-ghost use Rattle.std.specs.Prelude.{◌≡◌};
+ghost use Rattle.std.specs.Prelude.{◌≡◌, ◌<◌, length, option_map, Some};
 ghost use Rattle.std.specs.Option.{option_copied, option_copied_mut};
 ghost use Rattle.std.specs.Borrow.{sem};
-ghost use Rattle.schnellru.specs.Lists.{lookup, front};
+ghost use Rattle.std.specs.Map.Iter.{deref_pair};
+ghost use Rattle.schnellru.specs.Lists.{lookup, front, first, last, newest_value};
 
 use crate::map::LruMap;
 use lru_limits::{Limiter, LookupKey};
 use std::hash::{BuildHasher, Hash};
 
 impl<K: Eq + Hash, V, L: Limiter<K, V>, S: BuildHasher> LruMap<K, V, L, S> {
-    ghost use Rattle.schnellru.specs.MapLends.{lends_value};
+    ghost use Rattle.schnellru.specs.MapLends.{lends_value, lends_newest, lends_newest_value};
 
     /// The value of a key, to be changed. Its pair becomes the newest; what is written is not told to the limiter.
     ///
@@ -28,6 +29,35 @@ impl<K: Eq + Hash, V, L: Limiter<K, V>, S: BuildHasher> LruMap<K, V, L, S> {
         Some(&mut self.entries.pair_mut(b).value)
     }
 
+    /// The value of the newest pair, to be changed. What is written is not told to the limiter.
+    ///
+    /// `None` says that there are no pairs. After `ensure_newest` answered true it is the value of that key.
+    #[inline]
+    pub fn newest_mut(&mut self) -> Option<&mut V>
+        ensures* writes_back { sem 𝓛 (lends_newest K.row V.row L.row S.row L.LinkType.row S.Hasher.row K.Hash L.Limiter
+            L.LinkType.LinkType.own L.LinkType.PartialEq L.LinkType.Debug S.BuildHasher S.Hasher.Hasher
+            self.entry result) }
+        ensures value { option_copied_mut result ≡ newest_value self.old.pairs }
+    {
+        let b = self.entries.newest()?;
+        Some(&mut self.entries.pair_mut(b).value)
+    }
+
+    // The same of a map with pairs.
+    #[inline]
+    pub(crate) fn newest_value_mut(&mut self) -> &mut V
+        requires { 0 < length self.old.pairs }
+        ensures* writes_back { sem 𝓛 (lends_newest_value K.row V.row L.row S.row L.LinkType.row S.Hasher.row K.Hash L.Limiter
+            L.LinkType.LinkType.own L.LinkType.PartialEq L.LinkType.Debug S.BuildHasher S.Hasher.Hasher
+            self.entry result) }
+        ensures value { newest_value self.old.pairs ≡ Some result.now }
+    {
+        match self.entries.newest() {
+            Some(b) => &mut self.entries.pair_mut(b).value,
+            None => unreachable!(),
+        }
+    }
+
     /// The value of a key. The order stays.
     ///
     /// After schnellru's `LruMap::peek`.
@@ -37,5 +67,42 @@ impl<K: Eq + Hash, V, L: Limiter<K, V>, S: BuildHasher> LruMap<K, V, L, S> {
     {
         let b = self.entries.find(self.hasher.hash_one(key), key)?;
         Some(&self.entries.pair(b).value)
+    }
+
+    /// The value of a key, to be changed. The order stays; what is written is not told to the limiter.
+    ///
+    /// After schnellru's `LruMap::peek_mut`.
+    #[inline]
+    pub fn peek_mut<Q: LookupKey<K>>(&mut self, key: &Q) -> Option<&mut V>
+        ensures* writes_back { sem 𝓛 (lends_value K.row V.row L.row S.row L.LinkType.row S.Hasher.row K.Hash L.Limiter
+            L.LinkType.LinkType.own L.LinkType.PartialEq L.LinkType.Debug S.BuildHasher S.Hasher.Hasher
+            self.entry (Q.names key.now) self.old.pairs result) }
+        ensures value { option_copied_mut result ≡ lookup (Q.names key.now) self.old.pairs }
+    {
+        let b = self.entries.find(self.hasher.hash_one(key), key)?;
+        Some(&mut self.entries.pair_mut(b).value)
+    }
+
+    /// The oldest pair. The order stays.
+    ///
+    /// After schnellru's `LruMap::peek_oldest`.
+    pub fn peek_oldest(&self) -> Option<(&K, &V)>
+        ensures { option_map deref_pair result ≡ last self.now.pairs }
+    {
+        if self.is_empty() {
+            return None;
+        }
+        let pair = self.entries.pair(self.entries.oldest());
+        Some((&pair.key, &pair.value))
+    }
+
+    /// The newest pair. The order stays.
+    ///
+    /// After schnellru's `LruMap::peek_newest`.
+    pub fn peek_newest(&self) -> Option<(&K, &V)>
+        ensures { option_map deref_pair result ≡ first self.now.pairs }
+    {
+        let pair = self.entries.pair(self.entries.newest()?);
+        Some((&pair.key, &pair.value))
     }
 }

@@ -11,6 +11,7 @@ ghost use Rattle.schnellru.specs.Place.{Place, Evicts, IsPlaced, IsPlacedIfMemor
 ghost use Rattle.schnellru.specs.Steps.{IsMoved, UsesRoom, UsesDeleted};
 
 use crate::map::LruMap;
+use crate::map::remove::tell;
 use crate::sizes::{larger_table, usage};
 use group_table::{LinkType, full_capacity};
 use lru_limits::Limiter;
@@ -36,7 +37,7 @@ impl<K: Eq + Hash + Drop, V: Drop, L: Limiter<K, V>, S: BuildHasher> LruMap<K, V
 
     // Places the pair in the first free bucket, where the table may fill that.
     #[inline(always)]
-    fn place_in_bucket(&mut self, hash: u64, pair: (K, V)) -> Result<(), (K, V)>
+    pub(super) fn place_in_bucket(&mut self, hash: u64, pair: (K, V)) -> Result<(), (K, V)>
         requires hash { hash ≡ hash_by K.hash_input S.BuildHasher S.Hasher.Hasher self.old.hasher pair.0 }
         requires absent { lookup_entry (K.eq pair.0) self.old.pairs ≡ None }
         ensures placed { OnOk result (IsPlaced pair (buckets self.old) (room self.new) 0 self.old self.new) }
@@ -118,27 +119,6 @@ impl<K: Eq + Hash + Drop, V: Drop, L: Limiter<K, V>, S: BuildHasher> LruMap<K, V
         }
     }
 
-    // Places the pair after the oldest left, at least one.
-    fn place_evicting(&mut self, hash: u64, mut pair: (K, V)) -> Result<bool, AllocError>
-        requires hash { hash ≡ hash_by K.hash_input S.BuildHasher S.Hasher.Hasher self.old.hasher pair.0 }
-        requires absent { lookup_entry (K.eq pair.0) self.old.pairs ≡ None }
-        requires lacks_room { LacksRoom self.old }
-        requires half { full_capacity (buckets self.old) / 2 < length self.old.pairs + 1 }
-        ensures { Evicts L.rules pair self.old self.old (outcome_of result) self.new }
-    {
-        let half = full_capacity(self.entries.buckets()) / 2;
-        'evictions: loop {
-            self.take_oldest();
-            if self.entries.len() < half {
-                return self.place_after_rehash(hash, pair);
-            }
-            match self.place_in_bucket(hash, pair) {
-                Ok(()) => return Ok(true),
-                Err(back) => pair = back,
-            }
-        }
-    }
-
     // Places the pair in a table of so many buckets, to which all pairs move.
     #[cold]
     fn place_after_move(
@@ -171,7 +151,7 @@ impl<K: Eq + Hash + Drop, V: Drop, L: Limiter<K, V>, S: BuildHasher> LruMap<K, V
 
     // Places the pair in a table of as many buckets that is made anew. A map without pairs needs no memory for it.
     #[cold]
-    fn place_after_rehash(&mut self, hash: u64, pair: (K, V)) -> Result<bool, AllocError>
+    pub(super) fn place_after_rehash(&mut self, hash: u64, pair: (K, V)) -> Result<bool, AllocError>
         requires hash { hash ≡ hash_by K.hash_input S.BuildHasher S.Hasher.Hasher self.old.hasher pair.0 }
         requires absent { lookup_entry (K.eq pair.0) self.old.pairs ≡ None }
         requires half { 2 * length self.old.pairs < full_capacity (buckets self.old) }
@@ -239,27 +219,6 @@ impl<K: Eq + Hash + Drop, V: Drop, L: Limiter<K, V>, S: BuildHasher> LruMap<K, V
     fn turn_away(&mut self, pair: (K, V))
         ensures { self.new ≡ turned_away L.rules pair self.old }
     {
-        let (mut key, mut value) = pair;
-        self.limiter.on_removed(&mut key, &mut value);
-    }
-
-    // Takes the oldest pair out, of which the limiter is told.
-    #[inline(never)]
-    pub(crate) fn take_oldest(&mut self)
-        requires { 0 < length self.old.pairs }
-        ensures { Leaves self.old (pop L.rules (contents self.old)) self.new }
-    {
-        self.take_oldest_in_line();
-    }
-
-    // The same, in line: for the one call that each placing of a full map makes.
-    #[inline(always)]
-    pub(crate) fn take_oldest_in_line(&mut self)
-        requires { 0 < length self.old.pairs }
-        ensures { Leaves self.old (pop L.rules (contents self.old)) self.new }
-    {
-        let b = self.entries.oldest();
-        let (mut key, mut value) = self.entries.take(b);
-        self.limiter.on_removed(&mut key, &mut value);
+        tell(&mut self.limiter, pair);
     }
 }

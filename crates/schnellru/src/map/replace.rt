@@ -5,6 +5,7 @@ ghost use Rattle.schnellru.specs.Linked.{IsLinked, KeysFit};
 ghost use Rattle.schnellru.specs.Steps.{IsReplaced, IsGivenUp};
 
 use crate::link::Linked;
+use crate::map::remove::take_out;
 use lru_limits::{Insertion, Limiter, LookupKey};
 use std::hash::Hash;
 
@@ -35,8 +36,7 @@ pub(super) fn replace<K: Eq + Hash + Drop, V: Drop, I: LookupKey<K>, L: Insertio
         pair.value = value;
         entries.promote(b);
     } else {
-        let (mut key, mut value) = entries.take(b);
-        limiter.on_removed(&mut key, &mut value);
+        take_out(entries, limiter, b);
     }
     taken
 }

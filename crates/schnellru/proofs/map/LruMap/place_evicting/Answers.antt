@@ -13,14 +13,14 @@ place_after_rehash-requires-clause-absent g c =
     let i = c.evictions.invariant in
     subst (λ p. lookup_entry (g.K.PartialEq.eq p.0) c.take_oldest.new.self.pairs ≡ None) (sym i.same_pair)
     (left_absent g.L.Limiter.rules c.args.pair c.args.self.now c.evictions.self c.take_oldest.new.self (subst IsSized c.self.view_is c.self.invariant.map.sized) c.requires.lacks_room
-    i.n i.leaves i.some i.half i.no_room c.take_oldest.ensures (g.K.PartialEq.eq c.args.pair.0) c.requires.absent)
+    i.n i.leaves i.some i.half i.no_room c.take_oldest.ensures.state (g.K.PartialEq.eq c.args.pair.0) c.requires.absent)
 
 pub place_in_bucket-requires-clause-absent : goal.place_in_bucket-requires-clause-absent
 place_in_bucket-requires-clause-absent g c =
     let i = c.evictions.invariant in
     subst (λ p. lookup_entry (g.K.PartialEq.eq p.0) c.take_oldest.new.self.pairs ≡ None) (sym i.same_pair)
     (left_absent g.L.Limiter.rules c.args.pair c.args.self.now c.evictions.self c.take_oldest.new.self (subst IsSized c.self.view_is c.self.invariant.map.sized) c.requires.lacks_room
-    i.n i.leaves i.some i.half i.no_room c.take_oldest.ensures (g.K.PartialEq.eq c.args.pair.0) c.requires.absent)
+    i.n i.leaves i.some i.half i.no_room c.take_oldest.ensures.state (g.K.PartialEq.eq c.args.pair.0) c.requires.absent)
 
 pub place_after_rehash-requires-clause-half : goal.place_after_rehash-requires-clause-half
 place_after_rehash-requires-clause-half g c =
@@ -29,7 +29,7 @@ place_after_rehash-requires-clause-half g c =
     rw (← c.self.view_is) (c.full_capacity-half.ensures ∙ ap full_capacity (c.buckets.ensures.buckets ∙ sym (length-marks_of m.entries.slots))) in
     let len : c.len.result ≡ length c.take_oldest.new.self.pairs =
     rw (← c.self-in-evictions.view_is) (c.len.ensures.len ∙ sym (pairs-length n.entries c.self-in-evictions.invariant.linked)) in
-    omega (arith, takes, len, c.if-len-half.true, ap full_capacity (c.take_oldest.ensures.room.table ∙ i.leaves.room.table))
+    omega (arith, takes, len, c.if-len-half.true, ap full_capacity (c.take_oldest.ensures.state.room.table ∙ i.leaves.room.table))
 
 pub returns-then-len-half : goal.returns-then-len-half
 returns-then-len-half g c =
@@ -39,7 +39,7 @@ returns-then-len-half g c =
     let len : c.len.result ≡ length c.take_oldest.new.self.pairs =
     rw (← c.self-in-evictions.view_is) (c.len.ensures.len ∙ sym (pairs-length n.entries c.self-in-evictions.invariant.linked)) in
     makes_anew g.L.Limiter.rules c.args.pair c.args.self.now c.evictions.self c.take_oldest.new.self (subst IsSized c.self.view_is c.self.invariant.map.sized) c.requires.lacks_room
-    i.n i.leaves i.some i.half i.no_room c.take_oldest.ensures c.place_after_rehash.new.self _ (omega (arith, takes, len, c.if-len-half.true))
+    i.n i.leaves i.some i.half i.no_room c.take_oldest.ensures.state c.place_after_rehash.new.self _ (omega (arith, takes, len, c.if-len-half.true))
     (rw i.same_pair at c.place_after_rehash.ensures.placed)
 
 pub returns-in-Ok : goal.returns-in-Ok
@@ -50,14 +50,14 @@ returns-in-Ok g c =
     let len : c.len.result ≡ length c.take_oldest.new.self.pairs =
     rw (← c.self-in-evictions.view_is) (c.len.ensures.len ∙ sym (pairs-length n.entries c.self-in-evictions.invariant.linked)) in
     finds g.L.Limiter.rules c.args.pair c.args.self.now c.evictions.self c.take_oldest.new.self (subst IsSized c.self.view_is c.self.invariant.map.sized) c.requires.lacks_room
-    i.n i.leaves i.some i.half i.no_room c.take_oldest.ensures c.place_in_bucket.new.self (omega (arith, takes, len, c.if-len-half.false))
+    i.n i.leaves i.some i.half i.no_room c.take_oldest.ensures.state c.place_in_bucket.new.self (omega (arith, takes, len, c.if-len-half.false))
     (rw i.same_pair at c.in-Ok.ensures.placed)
 
 pub evictions-smaller : goal.evictions-smaller
 evictions-smaller g c =
     let i = c.evictions.invariant in
     let one = one_fewer g.L.Limiter.rules c.args.pair c.args.self.now c.evictions.self c.take_oldest.new.self (subst IsSized c.self.view_is c.self.invariant.map.sized)
-    c.requires.lacks_room i.n i.leaves i.some i.half i.no_room c.take_oldest.ensures in
+    c.requires.lacks_room i.n i.leaves i.some i.half i.no_room c.take_oldest.ensures.state in
     let fewer : length c.place_in_bucket.new.self.pairs < length c.evictions.self.pairs = omega (arith, one, ap (λ st. length st.pairs) c.in-Err.ensures.unchanged) in fewer
 
 pub evictions-preserved : goal.evictions-preserved
@@ -72,7 +72,7 @@ evictions-preserved g c =
     rw c.in-Err.ensures.unchanged (record {
       n = suc i.n;
       leaves = one_more g.L.Limiter.rules c.args.pair c.args.self.now c.evictions.self c.take_oldest.new.self sized c.requires.lacks_room
-          i.n i.leaves i.some i.half i.no_room c.take_oldest.ensures;
+          i.n i.leaves i.some i.half i.no_room c.take_oldest.ensures.state;
       some = omega (arith, enough, full_capacity-some (buckets c.args.self.now) (power_with_pairs c.args.self.now sized c.requires.lacks_room.0));
       half = enough;
       no_room = no_place_room c.take_oldest.new.self (subst IsSized c.self-in-evictions.view_is c.self-in-evictions.invariant.map.sized) c.args.hash c.in-Err.ensures.no_place;

@@ -11,7 +11,7 @@ take_oldest-requires g c = some-length c.loop-self.self.pairs (sym c.is_empty.en
 pub loop-self-smaller : goal.loop-self-smaller
 loop-self-smaller g c =
     let some = some-length c.loop-self.self.pairs (sym c.is_empty.ensures ∙ c.loop-self-test.true) in
-    let one = ap (λ st. length st.pairs) c.take_oldest.ensures.is ∙ length-without_last c.loop-self.self.pairs in
+    let one = ap (λ st. length st.pairs) c.take_oldest.ensures.state.is ∙ length-without_last c.loop-self.self.pairs in
     let fewer : length c.take_oldest.new.self.pairs < length c.loop-self.self.pairs = omega (arith, one, some) in fewer
 
 pub loop-self-preserved : goal.loop-self-preserved
@@ -22,9 +22,9 @@ loop-self-preserved g c =
     let over : rules.is_over_the_limit st.limiter (length st.pairs) ≡ true = rw (← c.self.view_is)
     (ap (rules.is_over_the_limit m.limiter) (pairs-length m.entries c.self.invariant.linked ∙ sym c.len.ensures.len)
     ∙ sym c.is_over_the_limit.ensures ∙ c.if-is_over_the_limit.true) in
-    let left = ap contents c.take_oldest.ensures.is in record {
+    let left = ap contents c.take_oldest.ensures.state.is in record {
       leaves = leaves_trans c.args.self.now st u (contents st) (contents u) i.leaves
-          (subst (λ left. Leaves st left u) (sym left) c.take_oldest.ensures);
+          (subst (λ left. Leaves st left u) (sym left) c.take_oldest.ensures.state);
       same_end = i.same_end ∙ trim-over rules (contents st) some over ∙ ap (trim rules) (sym left);
     }
 

@@ -1,0 +1,12 @@
+use Rattle.schnellru.proofs.Paid.{stays_map}
+use Rattle.schnellru.proofs.Called.{reserve_changes}
+use Rattle.schnellru.proofs.Removals.{stay_distinct, reserved_list}
+use Rattle.schnellru.proofs.laws.reservations_keep_maps.Goals as goal
+
+pub returns-clause-map : goal.returns-clause-map
+returns-clause-map g c = λ n old result new ok sized step.
+    stays_map _ _ old new (reserve_changes _ _ (stay_distinct _ _).way n old result new step) ok sized
+
+pub returns-clause-list : goal.returns-clause-list
+returns-clause-list g c = λ n old result new step.
+    reserved_list _ n old result new step

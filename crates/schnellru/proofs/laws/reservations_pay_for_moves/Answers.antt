@@ -1,0 +1,8 @@
+use Rattle.schnellru.proofs.Potential.{bounded_of}
+use Rattle.schnellru.proofs.Called.{reserve_changes}
+use Rattle.schnellru.proofs.Removals.{stay_any}
+use Rattle.schnellru.proofs.laws.reservations_pay_for_moves.Goals as goal
+
+pub returns : goal.returns
+returns g c = λ n old result new ok step.
+    (reserve_changes _ _ (stay_any _).way n old result new step).tables.pays (bounded_of old ok)

@@ -1,0 +1,9 @@
+use Rattle.std.proofs.Common.{sym}
+use Rattle.schnellru.proofs.Ordered.{oldest_full, oldest_is}
+use Rattle.schnellru.proofs.map.LruMap.peek_oldest.Goals as goal
+
+pub pair-pair-requires : goal.pair-pair-requires
+pair-pair-requires g c = oldest_full c.self.inside.entries c.self.invariant.linked c.oldest.result c.oldest.ensures.oldest
+
+pub returns : goal.returns
+returns g c = rw (← c.self.view_is) (sym (oldest_is c.self.inside.entries c.self.invariant.linked c.oldest.result c.oldest.ensures.oldest _ c.pair-pair.ensures.pair))

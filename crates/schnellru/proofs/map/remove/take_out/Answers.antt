@@ -1,0 +1,12 @@
+use Rattle.schnellru.proofs.map.remove.take_out.Goals as goal
+
+pub returns-clause-taken : goal.returns-clause-taken
+returns-clause-taken g c = record {
+  pair = c.take.result;
+  there = c.take.ensures.pair;
+  left = c.tell.ensures.pair;
+  told = c.tell.ensures.limiter;
+  slots = c.take.ensures.removed;
+  order = c.take.ensures.order;
+  room = c.take.ensures.room;
+}

@@ -1,0 +1,30 @@
+-- What a get does that inserts where the key is not there.
+--     rules, offers       what the limiter says (`Rules`, `Offers` of `lru_limits`)
+--     names i k           the inserted key i names the key k
+--     hash_of h k         the hash of the key k, by the hasher h
+--     makes v             the closure may answer v
+use Rattle.std.specs.Prelude.{◌≡◌, ℕ, Bool, true, false, Some, None, Result, Ok, Err}
+use Rattle.std.specs.declared.alloc.AllocError.{AllocError}
+use Rattle.lru_limits.specs.Rules.{Rules, Offers}
+use Rattle.schnellru.specs.Lists.{lookup, lookup_entry}
+use Rattle.schnellru.specs.State.{State}
+use Rattle.schnellru.specs.Calls.{Get}
+use Rattle.schnellru.specs.Inserts.{Insert}
+use Rattle.schnellru.specs.Theorems.{IsNewest}
+
+module _ {K V S H I : Type 0} (rules : Rules K V S) (offers : Offers K V S I) (names : I → K → Bool) (hash_of : H → K → ℕ) where
+  -- A key that is there is got; else a value that the closure makes is inserted. The answer is whether the key is there.
+  pub data MakesNewest (makes : V → Type 0) (i : I) (old : State K V S H) (result : Result Bool AllocError) (new : State K V S H) : Type 0 where
+    got : (w : V) → lookup (names i) old.pairs ≡ Some w →
+        result ≡ Ok true → Get (names i) old (Some w) new →
+        MakesNewest makes i old result new
+    inserted : lookup (names i) old.pairs ≡ None →
+        (v : V) → makes v → Insert rules offers names hash_of i v old result new →
+        MakesNewest makes i old result new
+
+module _ {K V S H : Type 0} where
+  -- true says that the key is there, as the newest; false, or an error, that it is not there
+  abbrev pub SaysNewest : (K → Bool) → Result Bool AllocError → State K V S H → Type 0
+  SaysNewest names (Ok true) new = IsNewest names new.pairs
+  SaysNewest names (Ok false) new = lookup_entry names new.pairs ≡ None
+  SaysNewest names (Err e) new = lookup_entry names new.pairs ≡ None

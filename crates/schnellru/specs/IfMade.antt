@@ -1,0 +1,28 @@
+-- The same as `GetOrInserts` where the closure may fail.
+use Rattle.std.specs.Prelude.{◌≡◌, ℕ, Bool, true, Some, None, Result, Ok, Err}
+use Rattle.std.specs.declared.alloc.AllocError.{AllocError}
+use Rattle.lru_limits.specs.Rules.{Rules, Offers}
+use Rattle.schnellru.specs.Lists.{lookup}
+use Rattle.schnellru.specs.State.{State}
+use Rattle.schnellru.specs.Calls.{Get}
+use Rattle.schnellru.specs.Inserts.{Insert}
+use Rattle.schnellru.specs.declared.map.get_or_insert.GetOrInsertError.{GetOrInsertError}
+use Rattle.schnellru.specs.declared.map.get_or_insert.GetOrInsertError.TheVariants.{Memory, Caller}
+
+-- the answer of an insert, with its error as one of two
+abbrev pub or_memory : {E : Type 0} → Result Bool AllocError → Result Bool (GetOrInsertError E)
+or_memory (Ok kept) = Ok kept
+or_memory (Err e) = Err Memory
+
+module _ {K V S H I E : Type 0} (rules : Rules K V S) (offers : Offers K V S I) (names : I → K → Bool) (hash_of : H → K → ℕ) where
+  pub data MakesNewestIfMade (makes : Result V E → Type 0) (i : I) (old : State K V S H) (result : Result Bool (GetOrInsertError E)) (new : State K V S H) : Type 0 where
+    got : (w : V) → lookup (names i) old.pairs ≡ Some w →
+        result ≡ Ok true → Get (names i) old (Some w) new →
+        MakesNewestIfMade makes i old result new
+    failed : lookup (names i) old.pairs ≡ None →
+        (e : E) → makes (Err e) → result ≡ Err (Caller e) → new ≡ old →
+        MakesNewestIfMade makes i old result new
+    inserted : lookup (names i) old.pairs ≡ None →
+        (v : V) → makes (Ok v) → (flag : Result Bool AllocError) → Insert rules offers names hash_of i v old flag new →
+        result ≡ or_memory flag →
+        MakesNewestIfMade makes i old result new

@@ -1,0 +1,35 @@
+-- What is lent of a map that may have been inserted into.
+use Rattle.std.specs.Prelude.{◌≡◌, Bool, true, Option, Some, None, Result, Ok, Err, is_some}
+use Rattle.std.specs.Borrow.{GName, MutBor}
+use Rattle.schnellru.specs.declared.map.get_or_insert.NotLent.{NotLent}
+use Rattle.schnellru.specs.declared.map.get_or_insert.NotLent.TheVariants.{NotKept, Failed}
+use mathlib.Core.Option as maybe
+
+module _ {V E : Type 0} where
+  -- the answer where it is no error that the key is not there
+  abbrev pub kept_of : Result (MutBor V) (NotLent E) → Result (Option (MutBor V)) E
+  kept_of (Ok x) = Ok (Some x)
+  kept_of (Err NotKept) = Ok None
+  kept_of (Err (Failed e)) = Err e
+
+  -- the answer that tells whether a value is lent
+  abbrev pub is_kept : Result (Option (MutBor V)) E → Result Bool E
+  is_kept (Ok o) = Ok (is_some o)
+  is_kept (Err e) = Err e
+
+  abbrev pub IsLent : Result (Option (MutBor V)) E → Type 0
+  IsLent r = is_kept r ≡ Ok true
+
+  abbrev pub NoneLent : Result (Option (MutBor V)) E → Type 0
+  NoneLent r = is_kept r ≡ Ok true → ⊥
+
+  -- the value that is lent, and its ghost name, if one is
+  abbrev pub value_lent : Result (Option (MutBor V)) E → Option V
+  value_lent (Ok (Some x)) = Some x.now
+  value_lent (Ok None) = None
+  value_lent (Err e) = None
+
+  abbrev pub name_lent : Result (Option (MutBor V)) E → maybe.Option GName
+  name_lent (Ok (Some x)) = maybe.some x.ghost_name
+  name_lent (Ok None) = maybe.none
+  name_lent (Err e) = maybe.none

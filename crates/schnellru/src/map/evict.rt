@@ -1,0 +1,71 @@
+//! Eviction: the oldest pairs leave.
+ghost use Rattle.std.specs.Prelude.{◌≡◌, ℕ, ◌+◌, ◌/◌, ◌<◌, length, None, Some};
+ghost use Rattle.group_table.specs.Sizes.{full_capacity};
+ghost use Rattle.lru_limits.specs.Hashing.{hash_by};
+ghost use Rattle.schnellru.specs.Lists.{lookup_entry};
+ghost use Rattle.schnellru.specs.State.{buckets, contents, trim, Leaves};
+ghost use Rattle.schnellru.specs.Place.{Evicts, LacksRoom, outcome_of};
+ghost use Rattle.schnellru.specs.Calls.{PopOldest};
+ghost use Rattle.schnellru.specs.Inserts.{make_way};
+
+use crate::map::LruMap;
+use crate::map::remove::take_out;
+use group_table::full_capacity;
+use lru_limits::Limiter;
+use std::alloc::AllocError;
+use std::hash::{BuildHasher, Hash};
+
+impl<K: Eq + Hash, V, L: Limiter<K, V>, S: BuildHasher> LruMap<K, V, L, S> {
+    // Takes the oldest pair out, of which the limiter is told, and gives what that left of it.
+    #[inline]
+    pub(super) fn take_oldest(&mut self) -> (K, V)
+        requires { 0 < length self.old.pairs }
+        ensures { PopOldest L.rules self.old (Some result) self.new }
+    {
+        let b = self.entries.oldest();
+        take_out(&mut self.entries, &mut self.limiter, b)
+    }
+}
+
+impl<K: Eq + Hash + Drop, V: Drop, L: Limiter<K, V>, S: BuildHasher> LruMap<K, V, L, S> {
+    // Removes the oldest pair, if the limiter would be over with one more.
+    #[inline]
+    pub(super) fn make_way(&mut self)
+        ensures { Leaves self.old (make_way L.rules (contents self.old)) self.new }
+    {
+        if !self.is_empty() && self.limiter.is_over_the_limit(self.entries.len() + 1) {
+            self.take_oldest();
+        }
+    }
+
+    // Removes the oldest pairs while the limiter is over.
+    #[inline]
+    pub(super) fn trim(&mut self)
+        ensures { Leaves self.old (trim L.rules (contents self.old)) self.new }
+    {
+        while !self.is_empty() && self.limiter.is_over_the_limit(self.entries.len()) {
+            self.take_oldest();
+        }
+    }
+
+    // Places the pair after the oldest left, at least one.
+    pub(super) fn place_evicting(&mut self, hash: u64, mut pair: (K, V)) -> Result<bool, AllocError>
+        requires hash { hash ≡ hash_by K.hash_input S.BuildHasher S.Hasher.Hasher self.old.hasher pair.0 }
+        requires absent { lookup_entry (K.eq pair.0) self.old.pairs ≡ None }
+        requires lacks_room { LacksRoom self.old }
+        requires half { full_capacity (buckets self.old) / 2 < length self.old.pairs + 1 }
+        ensures { Evicts L.rules pair self.old self.old (outcome_of result) self.new }
+    {
+        let half = full_capacity(self.entries.buckets()) / 2;
+        'evictions: loop {
+            self.take_oldest();
+            if self.entries.len() < half {
+                return self.place_after_rehash(hash, pair);
+            }
+            match self.place_in_bucket(hash, pair) {
+                Ok(()) => return Ok(true),
+                Err(back) => pair = back,
+            }
+        }
+    }
+}

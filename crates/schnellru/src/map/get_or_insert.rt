@@ -1,0 +1,213 @@
+//! Getting a value that is inserted where its key is not there.
+ghost use Rattle.std.specs.Prelude.{◌≡◌, ◌<◌, None, Ok, true, length};
+ghost use Rattle.lru_limits.specs.Hashing.{hash_by};
+ghost use Rattle.schnellru.specs.Lists.{lookup};
+ghost use Rattle.schnellru.specs.State.{IsMap};
+ghost use Rattle.schnellru.specs.GetOrInserts.{MakesNewest, SaysNewest};
+ghost use Rattle.schnellru.specs.IfMade.{MakesNewestIfMade};
+ghost use Rattle.std.specs.Borrow.{sem};
+ghost use Rattle.schnellru.specs.Lent.{kept_of};
+
+use crate::map::LruMap;
+use lru_limits::{Insertion, Limiter, LookupKey};
+use std::alloc::AllocError;
+use std::hash::{BuildHasher, Hash};
+
+/// Why no value is lent.
+#[derive(Drop)]
+pub enum NotLent<E> {
+    /// The key is not there.
+    NotKept,
+    /// A refusal.
+    Failed(E),
+}
+
+/// Why no value is lent by `get_or_insert_fallible`.
+#[derive(Debug, Drop, PartialEq, Eq)]
+pub enum GetOrInsertError<E> {
+    /// Memory was refused.
+    Memory,
+    /// The closure failed.
+    Caller(E),
+}
+
+fn kept_or_error<V, E>(
+    lent: Result<&mut V, NotLent<GetOrInsertError<E>>>,
+) -> Result<Option<&mut V>, GetOrInsertError<E>>
+    ensures { result ≡ kept_of lent.entry }
+{
+    match lent {
+        Ok(value) => Ok(Some(value)),
+        Err(NotLent::NotKept) => Ok(None),
+        Err(NotLent::Failed(error)) => Err(error),
+    }
+}
+
+fn kept_or<V>(lent: Result<&mut V, NotLent<AllocError>>) -> Result<Option<&mut V>, AllocError>
+    ensures { result ≡ kept_of lent.entry }
+{
+    match lent {
+        Ok(value) => Ok(Some(value)),
+        Err(NotLent::NotKept) => Ok(None),
+        Err(NotLent::Failed(e)) => Err(e),
+    }
+}
+
+impl<K: Eq + Hash + Drop, V: Drop, L: Limiter<K, V>, S: BuildHasher> LruMap<K, V, L, S> {
+    ghost use Rattle.schnellru.specs.MadeLends.{lends_or, lends_made};
+
+    /// Makes the pair of a key the newest, and inserts it with the value that the closure makes where the key is not
+    /// there. It answers whether the key is in the map then.
+    ///
+    /// The key is looked up once. For a key that is there the closure is not called, and nothing is told to the limiter.
+    /// Otherwise the pair is inserted as `insert` inserts it. `newest_mut` lends the value then.
+    pub fn ensure_newest<I: LookupKey<K> + Drop, F: FnOnce() -> V>(
+        &mut self,
+        key: I,
+        make: F,
+    ) -> Result<bool, AllocError>
+    where
+        L: Insertion<K, V, I>,
+        requires { lookup (I.names key) self.old.pairs ≡ None → F.pre make }
+        ensures step { MakesNewest L.rules L.offers I.names (hash_by K.hash_input S.BuildHasher S.Hasher.Hasher) (F.post make) key self.old result self.new }
+        ensures says { SaysNewest (I.names key) result self.new }
+        ensures map { IsMap K.eq self.new }
+    {
+        // Nothing at run time: it opens the map, whose invariant is the clause `map`.
+        let _ = &self.entries;
+        let answer = self.make_newest(key, make);
+        let _ = &self.entries;
+        answer
+    }
+
+    fn make_newest<I: LookupKey<K> + Drop, F: FnOnce() -> V>(
+        &mut self,
+        key: I,
+        make: F,
+    ) -> Result<bool, AllocError>
+    where
+        L: Insertion<K, V, I>,
+        requires { lookup (I.names key) self.old.pairs ≡ None → F.pre make }
+        ensures { MakesNewest L.rules L.offers I.names (hash_by K.hash_input S.BuildHasher S.Hasher.Hasher) (F.post make) key self.old result self.new }
+    {
+        let hash = self.hasher.hash_one(&key);
+        match self.entries.find(hash, &key) {
+            Some(b) => {
+                self.entries.promote(b);
+                Ok(true)
+            }
+            None => self.insert_new(hash, key, make()),
+        }
+    }
+
+    // What `get_or_insert` lends, in a form of which a caller's proof learns.
+    pub fn lend_or_insert<I: LookupKey<K> + Drop, F: FnOnce() -> V>(
+        &mut self,
+        key: I,
+        make: F,
+    ) -> Result<&mut V, NotLent<AllocError>>
+    where
+        L: Insertion<K, V, I>,
+        requires { lookup (I.names key) self.old.pairs ≡ None → F.pre make }
+        ensures* writes_back { sem 𝓛 (lends_or K.row V.row L.row S.row L.LinkType.row S.Hasher.row K.Hash L.Limiter
+            L.LinkType.LinkType.own L.LinkType.PartialEq L.LinkType.Debug S.BuildHasher S.Hasher.Hasher self.entry
+            (MakesNewest L.rules L.offers I.names (hash_by K.hash_input S.BuildHasher S.Hasher.Hasher) (F.post make) key self.old) result) }
+    {
+        match self.ensure_newest(key, make) {
+            Ok(true) => Ok(self.newest_value_mut()),
+            Ok(false) => Err(NotLent::NotKept),
+            Err(error) => Err(NotLent::Failed(error)),
+        }
+    }
+
+    /// The value of a key, to be changed. Where the key is not there, it is inserted with the value that the closure makes.
+    ///
+    /// After schnellru's `LruMap::get_or_insert`.
+    pub fn get_or_insert<I: LookupKey<K> + Drop, F: FnOnce() -> V>(
+        &mut self,
+        key: I,
+        make: F,
+    ) -> Result<Option<&mut V>, AllocError>
+    where
+        L: Insertion<K, V, I>,
+        requires { lookup (I.names key) self.old.pairs ≡ None → F.pre make }
+        ensures* writes_back { sem 𝓛 (lends_made K.row V.row L.row S.row L.LinkType.row S.Hasher.row K.Hash L.Limiter
+            L.LinkType.LinkType.own L.LinkType.PartialEq L.LinkType.Debug S.BuildHasher S.Hasher.Hasher self.entry
+            (MakesNewest L.rules L.offers I.names (hash_by K.hash_input S.BuildHasher S.Hasher.Hasher) (F.post make) key self.old) result) }
+    {
+        let lent = self.lend_or_insert(key, make);
+        kept_or(lent)
+    }
+
+    /// The same as `ensure_newest` with a closure that may fail. Where it fails nothing has changed.
+    pub fn ensure_newest_fallible<I: LookupKey<K> + Drop, E, F: FnOnce() -> Result<V, E>>(
+        &mut self,
+        key: I,
+        make: F,
+    ) -> Result<bool, GetOrInsertError<E>>
+    where
+        L: Insertion<K, V, I>,
+        requires { lookup (I.names key) self.old.pairs ≡ None → F.pre make }
+        ensures step { MakesNewestIfMade L.rules L.offers I.names (hash_by K.hash_input S.BuildHasher S.Hasher.Hasher) (F.post make) key self.old result self.new }
+        ensures some { result ≡ Ok true → 0 < length self.new.pairs }
+    {
+        // Nothing at run time: it opens the map.
+        let _ = &self.entries;
+        let hash = self.hasher.hash_one(&key);
+        match self.entries.find(hash, &key) {
+            Some(b) => {
+                self.entries.promote(b);
+                Ok(true)
+            }
+            None => {
+                let value = match make() {
+                    Ok(value) => value,
+                    Err(error) => return Err(GetOrInsertError::Caller(error)),
+                };
+                match self.insert_new(hash, key, value) {
+                    Ok(kept) => Ok(kept),
+                    Err(_refused) => Err(GetOrInsertError::Memory),
+                }
+            }
+        }
+    }
+
+    // What `get_or_insert_fallible` lends, in a form of which a caller's proof learns.
+    pub fn lend_or_insert_fallible<I: LookupKey<K> + Drop, E, F: FnOnce() -> Result<V, E>>(
+        &mut self,
+        key: I,
+        make: F,
+    ) -> Result<&mut V, NotLent<GetOrInsertError<E>>>
+    where
+        L: Insertion<K, V, I>,
+        requires { lookup (I.names key) self.old.pairs ≡ None → F.pre make }
+        ensures* writes_back { sem 𝓛 (lends_or K.row V.row L.row S.row L.LinkType.row S.Hasher.row K.Hash L.Limiter
+            L.LinkType.LinkType.own L.LinkType.PartialEq L.LinkType.Debug S.BuildHasher S.Hasher.Hasher self.entry
+            (MakesNewestIfMade L.rules L.offers I.names (hash_by K.hash_input S.BuildHasher S.Hasher.Hasher) (F.post make) key self.old) result) }
+    {
+        match self.ensure_newest_fallible(key, make) {
+            Ok(true) => Ok(self.newest_value_mut()),
+            Ok(false) => Err(NotLent::NotKept),
+            Err(error) => Err(NotLent::Failed(error)),
+        }
+    }
+
+    /// The same as `get_or_insert` with a closure that may fail. Where it fails nothing has changed.
+    ///
+    /// After schnellru's `LruMap::get_or_insert_fallible`.
+    pub fn get_or_insert_fallible<I: LookupKey<K> + Drop, E, F: FnOnce() -> Result<V, E>>(
+        &mut self,
+        key: I,
+        make: F,
+    ) -> Result<Option<&mut V>, GetOrInsertError<E>>
+    where
+        L: Insertion<K, V, I>,
+        requires { lookup (I.names key) self.old.pairs ≡ None → F.pre make }
+        ensures* writes_back { sem 𝓛 (lends_made K.row V.row L.row S.row L.LinkType.row S.Hasher.row K.Hash L.Limiter
+            L.LinkType.LinkType.own L.LinkType.PartialEq L.LinkType.Debug S.BuildHasher S.Hasher.Hasher self.entry
+            (MakesNewestIfMade L.rules L.offers I.names (hash_by K.hash_input S.BuildHasher S.Hasher.Hasher) (F.post make) key self.old) result) }
+    {
+        let lent = self.lend_or_insert_fallible(key, make);
+        kept_or_error(lent)
+    }
+}

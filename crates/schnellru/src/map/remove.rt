@@ -1,0 +1,87 @@
+//! Removal: a pair leaves the map, or all do, and the limiter is told.
+ghost use Rattle.std.specs.Prelude.{◌≡◌, ℕ, Some};
+ghost use Rattle.group_table.specs.Bucket.{IsFull};
+ghost use Rattle.schnellru.specs.Linked.{IsLinked, KeysFit};
+ghost use Rattle.schnellru.specs.State.{told_of};
+ghost use Rattle.schnellru.specs.Calls.{left_of, Remove, PopOldest, PopNewest, cleared};
+ghost use Rattle.schnellru.specs.Steps.{IsTakenOut};
+
+use crate::link::Linked;
+use crate::map::LruMap;
+use lru_limits::{Limiter, LookupKey};
+use std::hash::{BuildHasher, Hash};
+
+impl<K: Eq + Hash, V, L: Limiter<K, V>, S: BuildHasher> LruMap<K, V, L, S> {
+    /// Takes out the oldest pair, as the limiter leaves it, if there is a pair.
+    ///
+    /// After schnellru's `LruMap::pop_oldest`.
+    pub fn pop_oldest(&mut self) -> Option<(K, V)>
+        ensures step { PopOldest L.rules self.old result self.new }
+    {
+        if self.is_empty() {
+            return None;
+        }
+        Some(self.take_oldest())
+    }
+
+    /// Takes out the newest pair, as the limiter leaves it, if there is a pair.
+    ///
+    /// After schnellru's `LruMap::pop_newest`.
+    pub fn pop_newest(&mut self) -> Option<(K, V)>
+        ensures step { PopNewest L.rules self.old result self.new }
+    {
+        let b = self.entries.newest()?;
+        Some(take_out(&mut self.entries, &mut self.limiter, b))
+    }
+}
+
+impl<K: Eq + Hash + Drop, V, L: Limiter<K, V>, S: BuildHasher> LruMap<K, V, L, S> {
+    /// Takes out the pair of a key, and answers its value as the limiter leaves it. The others keep their order.
+    ///
+    /// After schnellru's `LruMap::remove`.
+    pub fn remove<Q: LookupKey<K>>(&mut self, key: &Q) -> Option<V>
+        ensures step { Remove L.rules (Q.names key.now) self.old result self.new }
+    {
+        let b = self.entries.find(self.hasher.hash_one(key), key)?;
+        let (_, value) = take_out(&mut self.entries, &mut self.limiter, b);
+        Some(value)
+    }
+}
+
+impl<K: Eq + Hash + Drop, V: Drop, L: Limiter<K, V>, S: BuildHasher> LruMap<K, V, L, S> {
+    /// Drops all pairs. The limiter is told of the clear alone, also where there is no pair. The table keeps its buckets.
+    ///
+    /// After schnellru's `LruMap::clear`.
+    pub fn clear(&mut self)
+        ensures step { self.new ≡ cleared L.rules self.old }
+    {
+        self.entries.clear();
+        self.limiter.on_cleared();
+    }
+}
+
+// Takes the pair out of a full bucket, and tells the limiter.
+#[inline]
+pub(super) fn take_out<K: Eq + Hash, V, L: Limiter<K, V>>(
+    entries: &mut Linked<K, V, L::LinkType>,
+    limiter: &mut L,
+    b: usize,
+) -> (K, V)
+    requires { IsFull entries.old.slots b }
+    ensures taken { IsTakenOut L.rules b entries.old entries.new limiter.old result limiter.new }
+    ensures linked { IsLinked entries.new }
+    ensures fits { (hash_of : K → ℕ) → KeysFit hash_of entries.old.slots → KeysFit hash_of entries.new.slots }
+{
+    tell(limiter, entries.take(b))
+}
+
+// Tells the limiter of a pair that left, or was not placed, and gives what it left of the pair.
+#[inline]
+pub(super) fn tell<K, V, L: Limiter<K, V>>(limiter: &mut L, pair: (K, V)) -> (K, V)
+    ensures limiter { limiter.new ≡ told_of L.rules (Some pair) limiter.old }
+    ensures pair { Some result ≡ left_of L.rules limiter.old (Some pair) }
+{
+    let (mut key, mut value) = pair;
+    limiter.on_removed(&mut key, &mut value);
+    (key, value)
+}
