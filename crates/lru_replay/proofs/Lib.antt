@@ -5,7 +5,6 @@ pub mod Written
 pub mod LineLists
 pub mod Spelled
 pub mod Held
-pub mod Found
 pub mod EmptyMaps
 pub mod RunLists
 pub mod AnsweredLines

@@ -4,9 +4,9 @@ use Rattle.std.specs.Prelude.{nat_eq}
 use Rattle.std.proofs.lemmas.List.{append-nil}
 use Rattle.lru_limits.specs.Rules.{Rules, Offers}
 use Rattle.schnellru.specs.Lists.{lookup, front}
-use Rattle.schnellru.specs.Calls.{Get}
+use Rattle.schnellru.specs.Calls.{promoted}
 use Rattle.schnellru.specs.State.{IsSized}
-use Rattle.schnellru.proofs.Promotion.{get_sized}
+use Rattle.schnellru.proofs.Promotion.{promoted_sized}
 use Rattle.schnellru.proofs.SomeInsert.{some_insert}
 use Rattle.lru_replay.specs.declared.call.Call.{Call}
 use Rattle.lru_replay.specs.declared.call.Call.TheVariants as calls
@@ -34,10 +34,7 @@ module _ {S : Type 0} (rules : Rules ℕ ℕ S) (offers : Offers ℕ ℕ S ℕ) 
         let (result, new, is, after) = some_insert rules offers nat_eq hash_of k v old ok offered in
         (insert_answer result, new, (result, is, refl), after)
     some_step old ok (calls.Get k) =
-        let new : Map S = record old { pairs = front (nat_eq k) old.pairs } in
-        let found = lookup (nat_eq k) old.pairs in
-        let step : Get (nat_eq k) old found new = record { value = refl; state = refl } in
-        (value found, new, (found, step, refl), get_sized (nat_eq k) old found new step ok)
+        (value (lookup (nat_eq k) old.pairs), promoted (nat_eq k) old, (refl, refl), promoted_sized old (nat_eq k) ok)
     some_step old ok (calls.Peek k) = (value (lookup (nat_eq k) old.pairs), old, (refl, refl), ok)
     some_step old ok calls.List = (listed old.pairs, old, (refl, refl), ok)
 

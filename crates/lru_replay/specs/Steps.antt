@@ -2,7 +2,7 @@
 use Rattle.std.specs.Prelude.{◌≡◌, ℕ, nat_eq, Bool, List, Option, Result, Ok, Err}
 use Rattle.std.specs.declared.alloc.AllocError.{AllocError}
 use Rattle.lru_limits.specs.Rules.{Rules, Offers}
-use Rattle.schnellru.specs.Calls.{Get}
+use Rattle.schnellru.specs.Calls.{promoted}
 use Rattle.schnellru.specs.Inserts.{Insert}
 use Rattle.schnellru.specs.Lists.{lookup}
 use Rattle.lru_replay.specs.declared.call.Call.{Call}
@@ -30,6 +30,6 @@ module _ {S : Type 0} (rules : Rules ℕ ℕ S) (offers : Offers ℕ ℕ S ℕ) 
   abbrev pub Step : Map S → Call → Answer → Map S → Type 0
   Step old (calls.Insert key new_value) answer new = (result : Result Bool AllocError)
       × Insert rules offers nat_eq hash_of key new_value old result new × (answer ≡ insert_answer result)
-  Step old (calls.Get key) answer new = (found : Option ℕ) × Get (nat_eq key) old found new × (answer ≡ value found)
+  Step old (calls.Get key) answer new = (answer ≡ value (lookup (nat_eq key) old.pairs)) × (new ≡ promoted (nat_eq key) old)
   Step old (calls.Peek key) answer new = (answer ≡ value (lookup (nat_eq key) old.pairs)) × (new ≡ old)
   Step old calls.List answer new = (answer ≡ listed old.pairs) × (new ≡ old)

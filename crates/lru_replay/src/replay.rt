@@ -2,7 +2,8 @@
 ghost use Rattle.std.specs.Prelude.{◌≡◌, ◌↔◌, nat_eq, IfSome, OnOk, OnErr, IsErrOf};
 ghost use Rattle.std.specs.Io.KnownBytes.{Appends, IsAtEnd};
 ghost use Rattle.std.specs.Option.{OnSome};
-ghost use Rattle.schnellru.specs.Calls.{Get};
+ghost use Rattle.schnellru.specs.Calls.{promoted};
+ghost use Rattle.schnellru.specs.Lists.{lookup};
 ghost use Rattle.schnellru.specs.State.{IsMap};
 ghost use Rattle.lru_replay.specs.Limits.{AlwaysOffers};
 ghost use Rattle.lru_replay.specs.Lines.{lines_of};
@@ -25,7 +26,8 @@ const ENTRY_BYTES: usize = 32;
 
 /// The value of the key, whose pair becomes the newest.
 fn get<L: Insertion<u64, u64, u64>>(map: &mut LruMap<u64, u64, L>, key: u64) -> Option<u64>
-    ensures { Get (nat_eq key) map.old result map.new }
+    ensures value { result ≡ lookup (nat_eq key) map.old.pairs }
+    ensures promoted { map.new ≡ promoted (nat_eq key) map.old }
 {
     match map.get(&key) {
         Some(value) => Some(*value),

@@ -7,12 +7,13 @@ use Rattle.std.specs.declared.alloc.AllocError.{AllocError}
 use Rattle.group_table.specs.Sizes.{full_capacity, IsBucketCount}
 use Rattle.group_table.specs.Bucket.{Mark, empty, is_used, room as room_of}
 use Rattle.lru_limits.specs.Rules.{Rules, Offers}
-use Rattle.schnellru.specs.State.{State, buckets, Contents, contents}
-use Rattle.schnellru.specs.Calls.{Get, pop_first, Remove, PopOldest, PopNewest, cleared}
+use Rattle.schnellru.specs.State.{State, buckets, Contents, contents, MovesTo}
+use Rattle.schnellru.specs.Calls.{promoted, pop_first, Remove, PopOldest, PopNewest, cleared}
 use Rattle.schnellru.specs.Place.{asked}
 use Rattle.schnellru.specs.declared.map.reserve.ReserveError.{ReserveError}
-use Rattle.schnellru.specs.Coming.{Write, pops_first, Drain, GetOrInsert, there, inserted}
-use Rattle.schnellru.specs.Reservations.{IsReserved, Reserve, too_many, enough_room, no_such_table, remade, no_memory_to_remake, denied_room, reserved, no_memory_to_grow}
+use Rattle.schnellru.specs.Coming.{Write, pops_first, Drain}
+use Rattle.schnellru.specs.GetOrInserts.{MakesNewest, got, inserted}
+use Rattle.schnellru.specs.Reservations.{Reserve, too_many, enough_room, no_such_table, remade, no_memory_to_remake, denied_room, reserved, no_memory_to_grow}
 use Rattle.schnellru.proofs.Growth.{full_capacity-at_most, full_capacity-double, target_doubles, target_usage}
 use Rattle.schnellru.proofs.Potential.{IsBounded, pays_calm}
 use Rattle.schnellru.proofs.Moves.{KeepsWay, Keeps, KeepsOffers, leaves_keep, pops_keep}
@@ -46,13 +47,23 @@ unfolding room_of
 room_within marks = omega arith
 
 module _ {K V S H : Type 0} (rules : Rules K V S) (old : State K V S H) where
-  pub get_calm : (names : K → Bool) (result : Option V) (new : State K V S H) → Get names old result new → Calm old new
-  get_calm names result new h = let same = length-front_pairs names old.pairs in
-      rw h.state (record { entry_bytes = refl; moved = refl; placed = refl; table = refl; keeps = omega arith; few = omega (arith, same); fits = λ f. omega (arith, f, same) })
+  -- other pairs, no more than before
+  pairs_calm : (pairs : List (K × V)) → length pairs ≡ length old.pairs → Calm old (record old { pairs = pairs })
+  pairs_calm pairs same = record {
+    entry_bytes = refl;
+    placings = refl;
+    moved = refl;
+    placed = refl;
+    table = refl;
+    keeps = omega arith;
+    few = omega (arith, same);
+    fits = λ f. omega (arith, f, same);
+  }
 
   pub cleared_calm : Calm old (cleared rules old)
   cleared_calm = record {
     entry_bytes = refl;
+    placings = refl;
     moved = refl;
     placed = refl;
     table = length-replicate {A = Mark} (buckets old) empty;
@@ -62,8 +73,8 @@ module _ {K V S H : Type 0} (rules : Rules K V S) (old : State K V S H) where
   }
 
 module _ {K V S H Q : Type 0} (rules : Rules K V S) (names : Q → K → Bool) (R : Contents K V S → Contents K V S → Type 0) (k : Keeps rules names R) (old : State K V S H) where
-  pub get_changes : (q : Q) (result : Option V) (new : State K V S H) → Get (names q) old result new → Changes rules R 0 old new
-  get_changes q result new h = calm_changes rules R 0 old new (get_calm rules old (names q) result new h) (rw h.state (k.first q (contents old)))
+  pub promoted_changes : (q : Q) → Changes rules R 0 old (promoted (names q) old)
+  promoted_changes q = calm_changes rules R 0 old _ (pairs_calm rules old _ (length-front_pairs (names q) old.pairs)) (k.first q (contents old))
 
   pub remove_changes : (test : K → Bool) (result : Option V) (new : State K V S H) → Remove rules test old result new → Changes rules R 0 old new
   remove_changes test result new h = leaves_changes rules R 0 old _ new h.state (k.left test (contents old))
@@ -85,8 +96,7 @@ module _ {K V S H Q : Type 0} (rules : Rules K V S) (names : Q → K → Bool) (
 module _ {K V S H : Type 0} (rules : Rules K V S) (R : Contents K V S → Contents K V S → Type 0) (old : State K V S H) where
   -- what a value that is written or a limiter that is set keeps is for the law to say
   pub write_changes : (names : K → Bool) (value : V) (result : Bool) (new : State K V S H) → Write names value old result new → R (contents old) (contents new) → Changes rules R 0 old new
-  write_changes names value result new h r = let same = length-set_value names old.pairs value in
-      calm_changes rules R 0 old new (rw h.state (record { entry_bytes = refl; moved = refl; placed = refl; table = refl; keeps = omega arith; few = omega (arith, same); fits = λ f. omega (arith, f, same) })) r
+  write_changes names value result new h r = calm_changes rules R 0 old new (rw h.state (pairs_calm rules old _ (length-set_value names old.pairs value))) r
 
   pub set_changes : (s : S) → R (contents old) (record { pairs = old.pairs; limiter = s }) → Changes rules R 0 old (record old { limiter = s })
   set_changes s r = calm_changes rules R 0 old _ (limiter_calm old s) r
@@ -102,7 +112,7 @@ module _ {K V S H : Type 0} (rules : Rules K V S) (R : Contents K V S → Conten
   asks_only : (bytes : ℕ) (new : State K V S H) → new ≡ asked rules bytes old → Grows new
   asks_only bytes new e = rw e (calm_changes rules R _ old _ (limiter_calm old _) (k.asked bytes (contents old)))
 
-  reserves : (s : S) (new : State K V S H) (count : ℕ) → IsReserved count (record old { limiter = s }) new → R (contents old) (record { pairs = old.pairs; limiter = s })
+  reserves : (s : S) (new : State K V S H) (count : ℕ) → MovesTo count (record old { limiter = s }) new → R (contents old) (record { pairs = old.pairs; limiter = s })
       → IsNextCount rules (Reaches rules R old) old count → (IsBounded old → full_capacity (buckets old) ≤ full_capacity count) → Grows new
   reserves s new count m r next large = record {
     moves = subst (R (contents old)) (sym (ap contents m.state)) r;
@@ -132,7 +142,7 @@ module _ {K V S H : Type 0} (rules : Rules K V S) (R : Contents K V S → Conten
   reserve_changes result new (denied_room l count bytes t d r e) = asks_only bytes new e
 
 module _ {K V S H I : Type 0} (rules : Rules K V S) (offers : Offers K V S I) (names : I → K → Bool) (R : Contents K V S → Contents K V S → Type 0) (k : KeepsOffers rules offers names R)
-    (hash_of : H → K → ℕ) (makes : V → Type 0) (i : I) (old : State K V S H) (result : Result (Option V) AllocError) (new : State K V S H) where
-  pub get_or_insert_changes : GetOrInsert rules offers names hash_of makes i old result new → Changes rules R 1 old new
-  get_or_insert_changes (there w e r h) = calm_changes rules R 1 old new (get_calm rules old (names i) (Some w) new h) (rw h.state (k.keeps.first i (contents old)))
-  get_or_insert_changes (inserted e v m flag h) = insert_changes rules offers names R k hash_of i v old flag new h
+    (hash_of : H → K → ℕ) (makes : V → Type 0) (i : I) (old : State K V S H) (result : Result Bool AllocError) (new : State K V S H) where
+  pub makes_newest_changes : MakesNewest rules offers names hash_of makes i old result new → Changes rules R 1 old new
+  makes_newest_changes (got w e r step) = calm_changes rules R 1 old new (rw step (pairs_calm rules old _ (length-front_pairs (names i) old.pairs))) (rw step (k.keeps.first i (contents old)))
+  makes_newest_changes (inserted e v m step) = insert_changes rules offers names R k hash_of i v old result new step

@@ -7,7 +7,7 @@ use Rattle.group_table.proofs.FirstFree.{IsFirstFree-unique}
 use Rattle.lru_limits.specs.Rules.{Rules}
 use Rattle.schnellru.specs.State.{State, buckets, room, contents, FirstFreeIs}
 use Rattle.schnellru.specs.Place.{Place, first_table, first_denied, first_too_large, empty_with_room, empty_without_room, with_room, deleted_bucket, rehashed, grown, evicting, finds_bucket, made_anew, Outcome, placed, IsPlaced, asked}
-use Rattle.schnellru.proofs.Evictions.{placed_if}
+use Rattle.schnellru.proofs.Evictions.{left_length, placed_if}
 use Rattle.schnellru.proofs.Growth.{full_capacity-at_most, target_doubles}
 use Rattle.schnellru.proofs.Leaving.{length-pops, known_is}
 use Rattle.schnellru.proofs.Potential.{IsBounded}
@@ -34,8 +34,8 @@ module _ {K V S H : Type 0} (rules : Rules K V S) (hash_of : H → K → ℕ) (p
   deleted_serves p outcome new (deleted_bucket f i b l o n) = (o, n)
   deleted_serves p outcome new (rehashed f i l m) = absurd (not_both p i)
   deleted_serves p outcome new (grown f i l count bytes t g m) = absurd (not_both p i)
-  deleted_serves p outcome new (evicting f i l mid c (finds_bucket n pos one half o is)) = absurd (not_both p i)
-  deleted_serves p outcome new (evicting f i l mid c (made_anew n pos one half left lv m)) = absurd (not_both p i)
+  deleted_serves p outcome new (evicting f i l mid c (finds_bucket n pos one half left gone fills o is)) = absurd (not_both p i)
+  deleted_serves p outcome new (evicting f i l mid c (made_anew n pos one half left gone m)) = absurd (not_both p i)
 
   -- and no other placing ends as one into a deleted bucket does
   pub only_deleted : IsBounded old → (outcome : Outcome) (new : State K V S H) → outcome ≡ placed → Place rules hash_of pair old outcome new → IsPlaced pair (buckets old) 0 0 old new → FirstFreeIs deleted (hash_of old.hasher pair.0) old
@@ -56,7 +56,7 @@ module _ {K V S H : Type 0} (rules : Rules K V S) (hash_of : H → K → ℕ) (p
       larger : IsBucketCount (buckets old) → ⊥
       larger (inl z) = absurd (omega (arith, z, f.0, ok.fits, full_capacity-at_most (buckets old)))
       larger (inr k) = absurd (omega (arith, same, power_pos (buckets old) k, target_doubles k.0 old.max old.entry_bytes (buckets old) (length old.pairs + 1) count bytes k.1 t))
-  only_deleted ok outcome new q (evicting f i l mid c (finds_bucket n pos one half o is)) p =
-      absurd (omega (arith, pos, half, ap (λ st. length st.pairs) is.state, ap (λ st. length st.pairs) p.state, length-pops rules n (contents mid), ap (λ st. length st.pairs) (known_is rules old mid c)))
-  only_deleted ok outcome new q (evicting f i l mid c (made_anew n pos one half left lv m)) p =
-      absurd (omega (arith, pos, half, some, ap (λ st. length st.pairs) (placed_if rules hash_of pair old left new _ _ _ outcome q m).state, ap (λ st. length st.pairs) p.state, ap (λ st. length st.pairs) lv.is, length-pops rules n (contents mid), ap (λ st. length st.pairs) (known_is rules old mid c)))
+  only_deleted ok outcome new q (evicting f i l mid c (finds_bucket n pos one half left gone fills o is)) p =
+      absurd (omega (arith, pos, half, ap (λ st. length st.pairs) is.state, ap (λ st. length st.pairs) p.state, left_length rules hash_of pair old n mid left c gone))
+  only_deleted ok outcome new q (evicting f i l mid c (made_anew n pos one half left gone m)) p =
+      absurd (omega (arith, pos, half, some, ap (λ st. length st.pairs) (placed_if rules hash_of pair old left new _ _ _ outcome q m).state, ap (λ st. length st.pairs) p.state, left_length rules hash_of pair old n mid left c gone))

@@ -1,16 +1,15 @@
 -- Which pairs a placing gives up.
-use Rattle.std.proofs.Common.{◌≡◌, ◌≢◌, ℕ, ◌+◌, ◌/◌, ◌<◌, ◌≤◌, ◌⊎◌, inl, inr, true, false, [], ◌∷◌, length, refl, sym, ap, ◌∙◌, arith}
+use Rattle.std.proofs.Common.{◌≡◌, ◌≢◌, ℕ, suc, ◌+◌, ◌-◌, ◌/◌, ◌<◌, ◌≤◌, ◌⊎◌, inl, inr, true, false, [], ◌∷◌, length, refl, sym, ap, ◌∙◌, arith}
 use Rattle.group_table.specs.Sizes.{full_capacity}
-use Rattle.group_table.specs.Change.{count_up}
 use Rattle.lru_limits.specs.Rules.{Rules}
 use Rattle.schnellru.specs.Lists.{without_last}
 use Rattle.schnellru.specs.State.{State, buckets, room, contents, Leaves, pops}
 use Rattle.schnellru.specs.Sizes.{no_table, new_table}
 use Rattle.schnellru.specs.Place.{Place, first_table, first_denied, first_too_large, empty_with_room, empty_without_room, with_room, deleted_bucket, rehashed, grown, evicting, finds_bucket, made_anew}
-use Rattle.schnellru.specs.Place.{CannotGrow, no_target, denied, Outcome, placed, refused, no_memory, IsPlaced, IsPlacedIfMemory, Grants, asked, next_table, without_oldest}
+use Rattle.schnellru.specs.Place.{CannotGrow, no_target, denied, Outcome, placed, refused, no_memory, IsPlaced, IsPlacedIfMemory, Grants, asked, table_for, LacksRoom, OldestLeave}
 use Rattle.schnellru.specs.Theorems.{IsRefusedGrowth}
 use Rattle.schnellru.proofs.Outcomes.{placed-not_no_memory, refused-not_no_memory, refused-not_placed}
-use Rattle.schnellru.proofs.Leaving.{length-pops, known_is}
+use Rattle.schnellru.proofs.Leaving.{length-pops, known_is, oldest_leaves}
 
 module _ {K V S H : Type 0} (rules : Rules K V S) (hash_of : H → K → ℕ) (pair : K × V) (old : State K V S H) where
   -- what is left of the pairs, the new one included: at least half of what the table takes, and up to 16 buckets all
@@ -40,7 +39,7 @@ module _ {K V S H : Type 0} (rules : Rules K V S) (hash_of : H → K → ℕ) (p
   with_pairs e r = absurd (omega (arith, ap length e, r.lacks_room.0))
 
   -- what the limiter grants is not refused
-  not_granted : {A : Type 0} (count bytes : ℕ) → next_table rules old ≡ new_table count bytes → Grants rules bytes old → (mid : State K V S H) → CannotGrow rules old mid → A
+  not_granted : {A : Type 0} (count bytes : ℕ) → table_for 1 old ≡ new_table count bytes → Grants rules bytes old → (mid : State K V S H) → CannotGrow rules old mid → A
   not_granted count bytes t g mid (no_target u e) = absurd (no (sym t ∙ u))
     where
       no : new_table count bytes ≡ no_table → ⊥
@@ -52,6 +51,29 @@ module _ {K V S H : Type 0} (rules : Rules K V S) (hash_of : H → K → ℕ) (p
 
       no : true ≡ false → ⊥
       no h = grind arith
+
+  -- after so many of the oldest left, so many are left
+  pub left_length : (n : ℕ) (mid left : State K V S H) → CannotGrow rules old mid → OldestLeave rules (hash_of old.hasher pair.0) n mid left
+      → length left.pairs ≡ length old.pairs - n
+  left_length n mid left c gone = let gone = oldest_leaves rules _ n mid left gone in
+      ap (λ st. length st.pairs) gone.is ∙ length-pops rules n (contents mid) ∙ ap (λ st. length st.pairs - n) (known_is rules old mid c)
+
+  -- growth is refused, so many of the oldest leave, and the pair is placed beside the others
+  gives_way : LacksRoom old → full_capacity (buckets old) / 2 < length old.pairs + 1 → (mid : State K V S H) → CannotGrow rules old mid → (n : ℕ) → (buckets old ≤ 16 → n ≡ 1)
+      → (left : State K V S H) → OldestLeave rules (hash_of old.hasher pair.0) n mid left → (new : State K V S H)
+      → (length left.pairs ≡ length old.pairs - n → full_capacity (buckets old) / 2 ≤ suc (length left.pairs)) → new.pairs ≡ pair ∷ left.pairs → buckets new ≡ buckets old
+      → KeepsAll new ⊎ (IsRefusedGrowth rules old × GivesWay new)
+  gives_way f l mid c n one left gone new half there same = inr (
+    record { lacks_room = f; above_half = l; known = mid; refused = c },
+    record {
+      half = omega (arith, ap length there, half (left_length n mid left c gone));
+      one = λ small.
+          there ∙ ap (λ xs. pair ∷ xs) (ap (λ st. st.pairs) (oldest_leaves rules _ n mid left gone).is)
+          ∙ ap (λ k. pair ∷ (pops rules k (contents mid)).pairs) (one small)
+          ∙ ap (λ st. pair ∷ without_last st.pairs) (known_is rules old mid c);
+      same_table = same;
+    },
+  )
 
   -- a pair is placed beside all others, or growth is refused and the oldest give way
   pub place_keeps : (outcome : Outcome) (new : State K V S H) → outcome ≡ placed → Place rules hash_of pair old outcome new → KeepsAll new ⊎ (IsRefusedGrowth rules old × GivesWay new)
@@ -66,29 +88,11 @@ module _ {K V S H : Type 0} (rules : Rules K V S) (hash_of : H → K → ℕ) (p
       inl (record { pairs = ap (λ st. st.pairs) (placed_if old new _ _ _ outcome q m).state; large = λ refusal. absurd (omega (arith, l, refusal.above_half)) })
   place_keeps outcome new q (grown f i l count bytes t g m) =
       inl (record { pairs = ap (λ st. st.pairs) (placed_if (asked rules bytes old) new _ _ _ outcome q m).state; large = λ refusal. not_granted count bytes t g refusal.known refusal.refused })
-  place_keeps outcome new q (evicting f i l mid c (finds_bucket n pos one half o p)) =
-      let left = ap (λ st. st.pairs) p.state in
-      inr (
-        record { lacks_room = f; above_half = l; known = mid; refused = c },
-        record {
-          half = omega (arith, ap length left, length-pops rules n (contents mid), ap length (ap (λ st. st.pairs) (known_is rules old mid c)), half);
-          one = λ small. left ∙ ap (λ k. pair ∷ (pops rules k (contents mid)).pairs) (one small) ∙ ap (λ xs. pair ∷ without_last xs) (ap (λ st. st.pairs) (known_is rules old mid c));
-          same_table = p.table;
-        },
-      )
-  place_keeps outcome new q (evicting f i l mid c (made_anew n pos one half left lv m)) =
+  place_keeps outcome new q (evicting f i l mid c (finds_bucket n pos one half left gone fills o p)) =
+      gives_way f l mid c n one left gone new (λ taken. omega (arith, half, taken)) (ap (λ st. st.pairs) p.state) p.table
+  place_keeps outcome new q (evicting f i l mid c (made_anew n pos one half left gone m)) =
       let p = placed_if left new _ _ _ outcome q m in
-      let rest = ap (λ st. st.pairs) lv.is in
-      inr (
-        record { lacks_room = f; above_half = l; known = mid; refused = c },
-        record {
-          half = omega (arith, ap (λ st. length st.pairs) p.state, ap length rest, length-pops rules n (contents mid), ap length (ap (λ st. st.pairs) (known_is rules old mid c)), half);
-          one =
-              λ small. ap (λ st. st.pairs) p.state ∙ ap (λ xs. pair ∷ xs) rest ∙ ap (λ k. pair ∷ (pops rules k (contents mid)).pairs) (one small)
-              ∙ ap (λ xs. pair ∷ without_last xs) (ap (λ st. st.pairs) (known_is rules old mid c));
-          same_table = p.table;
-        },
-      )
+      gives_way f l mid c n one left gone new (λ taken. omega (arith, half, taken)) (ap (λ st. st.pairs) p.state) p.table
 
   -- where memory lacks after that, one fewer than half are left at the least
   pub place_lacks_half : IsRefusedGrowth rules old → (outcome : Outcome) (new : State K V S H) → outcome ≡ no_memory → Place rules hash_of pair old outcome new
@@ -102,16 +106,9 @@ module _ {K V S H : Type 0} (rules : Rules K V S) (hash_of : H → K → ℕ) (p
   place_lacks_half refusal outcome new q (deleted_bucket f i b l o n) = placed-not_no_memory (sym o ∙ q)
   place_lacks_half refusal outcome new q (rehashed f i l m) = absurd (omega (arith, l, refusal.above_half))
   place_lacks_half refusal outcome new q (grown f i l count bytes t g m) = not_granted count bytes t g refusal.known refusal.refused
-  place_lacks_half refusal outcome new q (evicting f i l mid c (finds_bucket n pos one half o p)) = placed-not_no_memory (sym o ∙ q)
-  place_lacks_half refusal outcome new q (evicting f i l mid c (made_anew n pos one half left lv m)) =
-      omega (
-        arith,
-        ap length (left_if left new _ _ _ outcome q m),
-        ap (λ st. length st.pairs) lv.is,
-        length-pops rules n (contents mid),
-        ap length (ap (λ st. st.pairs) (known_is rules old mid c)),
-        half,
-      )
+  place_lacks_half refusal outcome new q (evicting f i l mid c (finds_bucket n pos one half left gone fills o p)) = placed-not_no_memory (sym o ∙ q)
+  place_lacks_half refusal outcome new q (evicting f i l mid c (made_anew n pos one half left gone m)) =
+      omega (arith, ap length (left_if left new _ _ _ outcome q m), left_length n mid left c gone, half)
 
   -- where memory lacks, all pairs are left, or growth was refused
   pub place_lacks_keeps : (outcome : Outcome) (new : State K V S H) → outcome ≡ no_memory → Place rules hash_of pair old outcome new → (new.pairs ≡ old.pairs) ⊎ IsRefusedGrowth rules old
@@ -124,8 +121,8 @@ module _ {K V S H : Type 0} (rules : Rules K V S) (hash_of : H → K → ℕ) (p
   place_lacks_keeps outcome new q (deleted_bucket f i b l o n) = placed-not_no_memory (sym o ∙ q)
   place_lacks_keeps outcome new q (rehashed f i l m) = inl (left_if old new _ _ _ outcome q m)
   place_lacks_keeps outcome new q (grown f i l count bytes t g m) = inl (left_if (asked rules bytes old) new _ _ _ outcome q m)
-  place_lacks_keeps outcome new q (evicting f i l mid c (finds_bucket n pos one half o p)) = placed-not_no_memory (sym o ∙ q)
-  place_lacks_keeps outcome new q (evicting f i l mid c (made_anew n pos one half left lv m)) = inr (record { lacks_room = f; above_half = l; known = mid; refused = c })
+  place_lacks_keeps outcome new q (evicting f i l mid c (finds_bucket n pos one half left gone fills o p)) = placed-not_no_memory (sym o ∙ q)
+  place_lacks_keeps outcome new q (evicting f i l mid c (made_anew n pos one half left gone m)) = inr (record { lacks_room = f; above_half = l; known = mid; refused = c })
 
   module _ (new : State K V S H) (step : Place rules hash_of pair old placed new) where
     pub refused_half : IsRefusedGrowth rules old → full_capacity (buckets old) / 2 ≤ length new.pairs
@@ -152,16 +149,8 @@ module _ {K V S H : Type 0} (rules : Rules K V S) (hash_of : H → K → ℕ) (p
     pub keeps_or_refused : (new.pairs ≡ pair ∷ old.pairs) ⊎ IsRefusedGrowth rules old
     keeps_or_refused = elim (place_keeps placed new refl step) [ inl k ↦ inl k.pairs | inr w ↦ inr w.0 ]
 
-module _ {K V S H : Type 0} (rules : Rules K V S) (n : ℕ) (mid left : State K V S H) (step : Leaves mid (pops rules n (contents mid)) left) where
-  -- a pair that is placed after the oldest left is placed beside the others
-  pub placed_after : (pair : K × V) (new : State K V S H) (count spare moves : ℕ) → IsPlaced pair count spare moves left new → IsPlaced pair count spare moves (without_oldest rules n mid) new
-  placed_after pair new count spare moves p = record {
-    table = p.table;
-    room_left = p.room_left;
-    state =
-        p.state ∙ ap {A = State K V S H} {B = State K V S H} (λ st. record st { pairs = pair ∷ st.pairs; marks = new.marks; moved = count_up st.moved moves; placed = count_up st.placed 1 }) step.is;
-  }
-
-  -- in a table of up to 16 buckets, one that leaves makes room
-  pub room_after : buckets mid ≤ 16 → n ≤ length mid.pairs → room mid ≡ 0 → room left ≡ 0 → n ≡ 0
-  room_after small enough none still = omega (arith, step.room.exact small, none, still, ap (λ st. length st.pairs) step.is, length-pops rules n (contents mid), enough)
+-- in a table of up to 16 buckets, one that leaves makes room
+pub room_after : {K V S H : Type 0} (rules : Rules K V S) (n : ℕ) (mid left : State K V S H) → Leaves mid (pops rules n (contents mid)) left
+    → buckets mid ≤ 16 → n ≤ length mid.pairs → room mid ≡ 0 → room left ≡ 0 → n ≡ 0
+room_after rules n mid left step small enough none still =
+    omega (arith, step.room.exact small, none, still, ap (λ st. length st.pairs) step.is, length-pops rules n (contents mid), enough)

@@ -6,11 +6,12 @@ use Rattle.group_table.specs.Sizes.{full_capacity}
 use Rattle.schnellru.specs.Lists.{is_empty, lookup_entry}
 use Rattle.schnellru.specs.State.{State, buckets, room, Contents, contents, Leaves, pops, trim}
 use Rattle.schnellru.specs.Place.{Place, first_table, first_denied, first_too_large, empty_with_room, empty_without_room, with_room, deleted_bucket, rehashed, grown, evicting, finds_bucket, made_anew}
-use Rattle.schnellru.specs.Place.{CannotGrow, no_target, denied, next_table, Outcome, placed, refused, no_memory, IsPlaced, IsPlacedIfMemory, asked, without_oldest}
+use Rattle.schnellru.specs.Place.{CannotGrow, no_target, denied, table_for, Outcome, placed, refused, no_memory, IsPlaced, IsPlacedIfMemory, asked, OldestLeave}
 use Rattle.std.specs.declared.alloc.AllocError.{AllocError}
 use Rattle.std.proofs.lemmas.Bool.{eq-eqb, ne_eqb, lt-ltb, le-ltb, le-leb, lt-leb}
 use Rattle.schnellru.proofs.Emptiness.{is_empty-some}
 use Rattle.schnellru.specs.Inserts.{Insert, replaced, given_up, no_memory_to_admit, not_admitted, admitted, make_way, with_replaced, Settles}
+use Rattle.schnellru.proofs.Leaving.{oldest_leaves}
 use Rattle.schnellru.proofs.Outcomes.{ok-not_err}
 use Rattle.schnellru.specs.Exact.{Landing, Ending, lands, evicts, grows, landing, trimmed, settled, ending_there, ending_new, IsEnding, EndsBy, EndsExactly, EndsAlike, IsDetermined}
 
@@ -33,12 +34,15 @@ module _ {K V S H : Type 0} (rules : Rules K V S) (hash_of : H → K → ℕ) (p
   abbrev pub here : Landing K V S
   here = landing rules pair (buckets old) (room old) old.entry_bytes old.max (contents old)
 
-  full_lands : 0 < length old.pairs → room old ≡ 0 → full_capacity (buckets old) / 2 < length old.pairs + 1 → here ≡ grows rules pair (next_table rules old) (contents old)
+  full_lands : 0 < length old.pairs → room old ≡ 0 → full_capacity (buckets old) / 2 < length old.pairs + 1 → here ≡ grows rules pair (table_for 1 old) (contents old)
   full_lands l r f = rw (is_empty-some old.pairs l, le-ltb 0 (room old) (le_of_eq r), lt-leb (length old.pairs + 1) (full_capacity (buckets old) / 2) f)
 
-  evicts_from : (mid : State K V S H) → CannotGrow rules old mid → grows rules pair (next_table rules old) (contents old) ≡ evicts rules pair (contents mid)
+  evicts_from : (mid : State K V S H) → CannotGrow rules old mid → grows rules pair (table_for 1 old) (contents old) ≡ evicts rules pair (contents mid)
   evicts_from mid (no_target t e) = rw (t, e)
   evicts_from mid (denied count bytes t d e) = rw (t, d, e)
+
+  one_left : (n : ℕ) (mid left : State K V S H) → n ≡ 1 → OldestLeave rules (hash_of old.hasher pair.0) n mid left → contents left ≡ pops rules 1 (contents mid)
+  one_left n mid left one gone = ap contents (oldest_leaves rules _ n mid left gone).is ∙ ap (λ k. pops rules k (contents mid)) one
 
   pub place_lands : (outcome : Outcome) (new : State K V S H) → Place rules hash_of pair old outcome new → LandsAs rules pair here outcome new
   place_lands outcome new (first_table e b bytes u g m) = rw (ap is_empty e, eq-eqb (buckets old) 0 b, u, g) (if_memory rules pair (asked rules bytes old) _ _ _ outcome new m)
@@ -50,10 +54,9 @@ module _ {K V S H : Type 0} (rules : Rules K V S) (hash_of : H → K → ℕ) (p
   place_lands outcome new (deleted_bucket f i b l o n) = absurd (omega (arith, small))
   place_lands outcome new (rehashed f i l m) = rw (is_empty-some old.pairs f.0, le-ltb 0 (room old) (le_of_eq f.1), le-leb (length old.pairs + 1) (full_capacity (buckets old) / 2) l) (if_memory rules pair old _ _ _ outcome new m)
   place_lands outcome new (grown f i l count bytes t g m) = rw (full_lands f.0 f.1 l, t, g) (if_memory rules pair (asked rules bytes old) _ _ _ outcome new m)
-  place_lands outcome new (evicting f i l mid c (finds_bucket n pos one half o p)) = rw (full_lands f.0 f.1 l, evicts_from mid c) (rw (one small) at (is_placed rules pair (without_oldest rules n mid) _ _ _ outcome new o p))
-  place_lands outcome new (evicting f i l mid c (made_anew n pos one half left lv m)) =
-      let same : contents left ≡ pops rules 1 (contents mid) = ap contents lv.is ∙ ap (λ k. pops rules k (contents mid)) (one small) in
-      rw (full_lands f.0 f.1 l, evicts_from mid c) (subst (λ x. LandsAs rules pair (lands rules pair x) outcome new) same (if_memory rules pair left _ _ _ outcome new m))
+  place_lands outcome new (evicting f i l mid c (finds_bucket n pos one half left gone fills o p)) = rw (full_lands f.0 f.1 l, evicts_from mid c) (subst (λ x. LandsAs rules pair (lands rules pair x) outcome new) (one_left n mid left (one small) gone) (is_placed rules pair left _ _ _ outcome new o p))
+  place_lands outcome new (evicting f i l mid c (made_anew n pos one half left gone m)) =
+      rw (full_lands f.0 f.1 l, evicts_from mid c) (subst (λ x. LandsAs rules pair (lands rules pair x) outcome new) (one_left n mid left (one small) gone) (if_memory rules pair left _ _ _ outcome new m))
 
 module _ {K V S H : Type 0} (rules : Rules K V S) (hash_of : H → K → ℕ) (old : State K V S H) where
   -- a pair that the limiter gave lands as it is to, after way was made for it

@@ -1,10 +1,15 @@
 -- A table with a deleted bucket is a large one, and some of its room is spent.
-use Rattle.std.proofs.Common.{◌≡◌, ℕ, ◌+◌, ◌<◌, length, ap, arith, count_by}
+use Rattle.std.proofs.Common.{inl, inr, ◌≡◌, ℕ, ◌+◌, ◌<◌, length, sym, ap, ◌∙◌, arith, count_by}
+use Rattle.std.proofs.lemmas.List.{get_or_past}
 use native.Mathlib.Decide.{dec_lt}
 use Rattle.group_table.specs.Sizes.{full_capacity}
-use Rattle.group_table.specs.Bucket.{deleted, bucket_at, is_deleted, room}
+use Rattle.group_table.specs.Bucket.{Mark, empty, deleted, bucket_at, is_deleted, room}
 use Rattle.group_table.proofs.BucketLemmas.{count_by-pos, used_count-split, room_is}
-use Rattle.schnellru.specs.State.{State, buckets, IsSized}
+use Rattle.schnellru.specs.State.{State, buckets, room as room_of, FirstFreeIs, IsSized}
+use Rattle.schnellru.specs.Place.{FillsBucket}
+
+empty-not_deleted : ◌≡◌ {A = Mark} empty deleted → ⊥
+empty-not_deleted e = cc
 
 module _ {K V S H : Type 0} (old : State K V S H) (ok : IsSized old) (b : ℕ) (within : b < buckets old) where
   -- a table with a deleted bucket has more than 16, and its pairs and its room are less than it takes
@@ -17,3 +22,17 @@ module _ {K V S H : Type 0} (old : State K V S H) (ok : IsSized old) (b : ℕ) (
       large : Dec (16 < buckets old) → 16 < buckets old
       large (yes l) = l
       large (no l) = absurd (omega (arith, some, ok.table.none_deleted (omega arith)))
+
+module _ {K V S H : Type 0} (old : State K V S H) (ok : IsSized old) (hash : ℕ) where
+  -- so does one in which a search finds a deleted bucket first
+  pub deleted_first_large : FirstFreeIs deleted hash old → (16 < buckets old) × (length old.pairs + room old.marks < full_capacity (buckets old))
+  deleted_first_large (b, first, there) = go (dec_lt b (buckets old))
+    where
+      go : Dec (b < buckets old) → (16 < buckets old) × (length old.pairs + room old.marks < full_capacity (buckets old))
+      go (yes within) = deleted_large old ok b within there
+      go (no past) = absurd (empty-not_deleted (sym (get_or_past old.marks b empty (omega (arith, past))) ∙ there))
+
+  -- a filled bucket of a table with no deleted one was empty
+  pub fills_exact : (new : State K V S H) → FillsBucket hash old new → length old.pairs + room_of old ≡ full_capacity (buckets old) → room_of new + 1 ≡ room_of old
+  fills_exact new (inl (first, one)) exact = one
+  fills_exact new (inr (first, large, same)) exact = absurd (omega (arith, (deleted_first_large first).1, exact))

@@ -1,13 +1,13 @@
 -- Inserts give up pairs from the old end alone.
 use Rattle.std.proofs.Common.{◌≡◌, ℕ, ◌⊎◌, inl, inr, Bool, true, false, cond, List, [], ◌∷◌, ◌++◌, length, Some}
 use Rattle.std.proofs.Common.{None, Result, refl, sym, ap, ◌∙◌, subst, append_assoc, append-nil, arith, ◌≤◌, length-append}
-use Rattle.schnellru.specs.Lists.{IsFront, without_last, lookup_entry, without}
+use Rattle.schnellru.specs.Lists.{is_empty, first, IsFront, without_last, lookup_entry, without}
 use Rattle.std.specs.declared.alloc.AllocError.{AllocError}
 use Rattle.lru_limits.specs.Rules.{Rules, Offers}
 use Rattle.lru_limits.specs.Laws.{IsLookup, IsInsertion}
 use Rattle.schnellru.specs.State.{State, Contents, pops, trim}
 use Rattle.schnellru.specs.Place.{Place, Outcome, placed, refused, no_memory}
-use Rattle.schnellru.specs.Inserts.{Insert, replaced, given_up, no_memory_to_admit, not_admitted, admitted, make_way, Admits, replacement, with_replaced}
+use Rattle.schnellru.specs.Inserts.{Insert, replaced, given_up, no_memory_to_admit, not_admitted, admitted, make_way, MayGive, replacement, with_replaced}
 use Rattle.schnellru.specs.Theorems.{GivesUp, behind, with_none, without_one}
 use Rattle.schnellru.proofs.Moves.{KeepsWay, pops_keep, trim_keeps, make_way_keeps, settles_keep}
 use Rattle.schnellru.proofs.Ways.{Lands, place_lands}
@@ -34,6 +34,11 @@ module _ {X : Type 0} where
   pub front_cons : (x : X) (xs zs : List X) → IsFront zs (x ∷ xs) → (zs ≡ []) ⊎ ((ys : List X) × IsFront ys xs × (zs ≡ x ∷ ys))
   front_cons x xs [] p = inl refl
   front_cons x xs (z ∷ zs) p = inr (zs, (p.0, grind arith), grind arith)
+
+  -- and it begins alike, if it is not empty
+  pub front_first : (xs ys : List X) → IsFront xs ys → is_empty xs ≡ false → first xs ≡ first ys
+  front_first [] ys f e = absurd cc
+  front_first (x ∷ xs) ys f e = sym (ap first f.1)
 
   pub front_more : (x : X) (ys xs : List X) → IsFront ys xs → IsFront (x ∷ ys) (x ∷ xs)
   front_more x ys xs p = (p.0, ap (λ l. x ∷ l) p.1)
@@ -106,7 +111,7 @@ module _ {K V S H I : Type 0} (rules : Rules K V S) (offers : Offers K V S I) (n
   module _ {eq : K → K → Bool} {query_input : I → List (List ℕ)} {key_input : K → List (List ℕ)} (looks_up : IsLookup names eq query_input key_input)
       (laws : IsInsertion names eq offers) (i : I) (v : V) (old : State K V S H) where
     -- the pair that was given has a key that i names
-    pub given_named : (s : S) (pair : K × V) → Admits rules offers names i v old s (Some pair) → names i pair.0 ≡ true
+    pub given_named : (s : S) (pair : K × V) → MayGive rules offers names i v old s (Some pair) → names i pair.0 ≡ true
     given_named s pair n = laws.names_given old.limiter (length old.pairs) i v s pair.0 pair.1 n
 
     -- and so has the pair that was replaced

@@ -21,9 +21,6 @@ first_named {K} {V} names xs w e = go (lookup_entry names xs) refl (sym (lookup-
     go None is h = absurd (none-some w h)
     go (Some pair) is h = record { pair = pair; rest = without names xs; first = refl; named = found_named names xs pair is }
 
-pub same_kept : {E : Type 0} (x y : Bool) → ◌≡◌ {A = Result Bool E} (Ok x) (Ok y) → x ≡ y
-same_kept x y e = cc
-
 module _ {K V S H : Type 0} (rules : Rules K V S) (names : K → Bool) (new : State K V S H) where
   says_newest : (result : Result Bool AllocError) → SaysWhether rules names result new → SaysNewest names result new
   says_newest (Ok true) s = s.0
@@ -39,5 +36,5 @@ newest_some rules names new kept result is e says =
 module _ {K V S H I : Type 0} (rules : Rules K V S) (offers : Offers K V S I) (names : I → K → Bool) (hash_of : H → K → ℕ) {eq : K → K → Bool} {query_input : I → List (List ℕ)} {key_input : K → List (List ℕ)}
     (looks_up : IsLookup names eq query_input key_input) (laws : IsInsertion names eq offers) (i : I) (makes : V → Type 0) (old : State K V S H) where
   pub makes_says : (result : Result Bool AllocError) (new : State K V S H) → AreDistinct eq old.pairs → MakesNewest rules offers names hash_of makes i old result new → SaysNewest (names i) result new
-  makes_says result new d (got w there r step) = rw r (rw step.state (first_named (names i) old.pairs w there))
+  makes_says result new d (got w there r step) = rw r (rw step (first_named (names i) old.pairs w there))
   makes_says result new d (inserted absent v made step) = says_newest rules (names i) new result (insert_says rules offers names hash_of looks_up laws i v old result new d step)

@@ -1,9 +1,9 @@
 -- What is left when pairs leave, and when growth is refused.
-use Rattle.std.proofs.Common.{◌≡◌, ℕ, zero, suc, ◌-◌, ◌<◌, true, false, List, [], ◌∷◌, length, refl, ap, ◌∙◌, subst, arith}
+use Rattle.std.proofs.Common.{◌≡◌, ℕ, zero, suc, ◌-◌, ◌<◌, true, false, List, [], ◌∷◌, length, refl, sym, ap, ◌∙◌, subst, arith}
 use Rattle.schnellru.specs.Lists.{without_last}
 use Rattle.lru_limits.specs.Rules.{Rules}
 use Rattle.schnellru.specs.State.{State, Contents, contents, FreesRoom, Leaves, pop, pops, trim, trim_from}
-use Rattle.schnellru.specs.Place.{CannotGrow, no_target, denied}
+use Rattle.schnellru.specs.Place.{CannotGrow, no_target, denied, OldestLeave}
 
 pub length-without_last : {X : Type 0} (xs : List X) → length (without_last xs) ≡ length xs - 1
 length-without_last [] = refl
@@ -59,12 +59,38 @@ module _ {K V S H : Type 0} where
     untouched = λ same. g.untouched (omega (arith, same, f.keeps, g.keeps, f.at_most, g.at_most)) ∙ f.untouched (omega (arith, same, f.keeps, g.keeps, f.at_most, g.at_most));
   }
 
+  -- none leaves
+  pub leaves_self : (st : State K V S H) → Leaves st (contents st) st
+  leaves_self st = record {
+    is = refl;
+    room = record {
+      table = refl;
+      keeps = omega arith;
+      at_most = omega arith;
+      exact = λ _. refl;
+      untouched = λ _. refl;
+    };
+  }
+
   -- what left in two steps left
   pub leaves_trans : (old mid new : State K V S H) (some all : Contents K V S) → Leaves old some mid → Leaves mid all new → Leaves old all new
   leaves_trans old mid new some all l m = record {
     is = m.is ∙ ap {A = State K V S H} {B = State K V S H} (λ st. record st { pairs = all.pairs; limiter = all.limiter; marks = new.marks }) l.is;
     room = frees_trans old mid new l.room m.room;
   }
+
+module _ {K V S H : Type 0} (rules : Rules K V S) where
+  -- one more leaves, after so many did
+  pub leaves_more : (n : ℕ) (old before new : State K V S H) → Leaves old (pops rules n (contents old)) before
+      → Leaves before (pop rules (contents before)) new → Leaves old (pops rules (suc n) (contents old)) new
+  leaves_more n old before new first last =
+      subst (λ l. Leaves old l new) (ap (λ st. pop rules (contents st)) first.is ∙ sym (pops-more rules n (contents old)))
+      (leaves_trans old before new (pops rules n (contents old)) (pop rules (contents before)) first last)
+
+  -- those of the oldest that left one after another left
+  pub oldest_leaves : (hash n : ℕ) (old new : State K V S H) → OldestLeave rules hash n old new → Leaves old (pops rules n (contents old)) new
+  oldest_leaves hash zero old new h = rw h (leaves_self old)
+  oldest_leaves hash (suc n) old new (before, first, no_place, last) = leaves_more n old before new (oldest_leaves hash n old before first) last
 
 -- what is trimmed after some left
 pub leaves_trimmed : {K V S H : Type 0} (rules : Rules K V S) (old mid new : State K V S H) (left : Contents K V S) → Leaves old left mid →

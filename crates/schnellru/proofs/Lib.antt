@@ -10,6 +10,7 @@ pub mod Potential
 pub mod Tables
 pub mod Ways
 pub mod Paid
+pub mod Counts
 pub mod Fronts
 pub mod Distinct
 pub mod Within
@@ -26,12 +27,14 @@ pub mod Promotion
 pub mod Called
 pub mod Runs
 pub mod RunLaws
+pub mod Inside
 pub mod Kept
 pub mod Taken
 pub mod Reserving
 pub mod AskedPairs
 pub mod Removals
 pub mod Cleared
+pub mod ClearedTable
 pub mod FilledBuckets
 pub mod Emptiness
 pub mod Landed
@@ -39,6 +42,7 @@ pub mod MovedPairs
 pub mod Searched
 pub mod Written
 pub mod Newest
+pub mod CallerLemmas
 pub mod GetOrInsertLaws
 pub mod OrderLemmas
 pub mod NeighbourLemmas
@@ -50,6 +54,7 @@ pub mod ReadLemmas
 pub mod MovedChain
 pub mod RelocateLemmas
 pub mod RestLemmas
+pub mod NextTable
 pub mod Placing
 pub mod Replaced
 pub mod SomeMarks

@@ -1,6 +1,6 @@
 -- No two outcomes of a placing are the same, and no result is both.
 use Rattle.std.proofs.Common.{◌≡◌, Bool, Result, Ok, Err, arith}
-use Rattle.std.specs.Prelude.{IsOk, IsErr}
+use Rattle.std.specs.Prelude.{IsOk, IsErr, IfOk}
 use Rattle.std.specs.declared.alloc.AllocError.{AllocError}
 use Rattle.schnellru.specs.Place.{placed, refused, no_memory}
 
@@ -16,3 +16,12 @@ refused-not_placed e = absurd (grind arith)
 pub ok-not_err : {A : Type 0} (result : Result Bool AllocError) → IsOk result → IsErr result → A
 ok-not_err (Ok b) h k = absurd (grind (arith, k))
 ok-not_err (Err e) h k = absurd (grind (arith, h))
+
+-- what holds of a value that is there, and leads to more
+pub if_ok : {T E : Type 0} (result : Result T E) (P Q : T → Type 0) → ((v : T) → P v → Q v) → IfOk result P → IfOk result Q
+if_ok (Ok v) P Q more h = more v h
+if_ok (Err e) P Q more h = h
+
+-- equal answers have equal flags
+pub same_kept : {E : Type 0} (x y : Bool) → ◌≡◌ {A = Result Bool E} (Ok x) (Ok y) → x ≡ y
+same_kept x y e = cc

@@ -11,17 +11,16 @@ use Rattle.lru_limits.specs.Rules.{Rules}
 use Rattle.schnellru.specs.Sizes.{usage, Target, no_table, new_table, target}
 use Rattle.schnellru.specs.State.{State, buckets, room, contents, IsSized, Leaves, pop, pops, FirstFreeIs}
 use Rattle.schnellru.specs.Place.{Evicts, Place, first_table, first_denied, empty_with_room, empty_without_room, with_room, deleted_bucket, rehashed, grown, evicting, finds_bucket, made_anew, CannotGrow}
-use Rattle.schnellru.specs.Place.{Outcome, no_target, denied, outcome_of, placed, refused, IsPlaced, IsPlacedIfMemory, LacksRoom, asked, turned_away, without_oldest, next_table}
-use Rattle.schnellru.specs.Steps.{UsesRoom, UsesDeleted}
+use Rattle.schnellru.specs.Place.{Outcome, no_target, denied, outcome_of, placed, refused, IsPlaced, IsPlacedIfMemory, LacksRoom, FillsBucket, OldestLeave, asked, turned_away, table_for}
 use Rattle.group_table.proofs.BucketLemmas.{length-marks_of}
 use Rattle.schnellru.specs.Linked.{Linked, IsLinked, pairs_of}
-use Rattle.schnellru.specs.Holds.{state_by}
 use Rattle.schnellru.proofs.Ordered.{pairs-length}
 use Rattle.schnellru.proofs.Sized.{fits, exact}
 use Rattle.schnellru.proofs.Growth.{full_capacity-4, full_capacity-at_most, full_capacity-some, full_capacity-even, full_capacity-double, target_doubles, target_usage, target_reached}
 use Rattle.schnellru.proofs.Short.{no_room}
-use Rattle.schnellru.proofs.Leaving.{length-without_last, length-pops, known_is, pops-more, leaves_trans}
-use Rattle.schnellru.proofs.Evictions.{placed_after, room_after}
+use Rattle.schnellru.proofs.Leaving.{length-without_last, length-pops, known_is, leaves_more, oldest_leaves}
+use Rattle.schnellru.proofs.FilledBuckets.{deleted_first_large}
+use Rattle.schnellru.proofs.Evictions.{room_after}
 use Rattle.schnellru.proofs.Fronts.{front_pops, front_absent}
 use Rattle.schnellru.specs.Lists.{lookup_entry, IsFront}
 
@@ -61,8 +60,8 @@ module _ {K V S H : Type 0} (rules : Rules K V S) (hash_of : H → K → ℕ) (p
 
   -- the oldest left, where the table cannot grow
   pub evicts_place : (outcome : Outcome) (mid : State K V S H) → CannotGrow rules old mid → LacksRoom old → FirstFreeIs empty (hash_of old.hasher pair.0) old →
-      full_capacity (buckets old) / 2 < length old.pairs + 1 → Evicts rules pair mid mid outcome new → Place rules hash_of pair old outcome new
-  evicts_place outcome mid cannot lacks first above e = go e
+      full_capacity (buckets old) / 2 < length old.pairs + 1 → (hash : ℕ) → hash ≡ hash_of old.hasher pair.0 → Evicts rules hash pair mid mid outcome new → Place rules hash_of pair old outcome new
+  evicts_place outcome mid cannot lacks first above hash is_hash e = go (subst (λ h. Evicts rules h pair mid mid outcome new) is_hash e)
     where
       known : mid ≡ record old { limiter = mid.limiter }
       known = known_is rules old mid cannot
@@ -73,29 +72,30 @@ module _ {K V S H : Type 0} (rules : Rules K V S) (hash_of : H → K → ℕ) (p
       pairs : length mid.pairs ≡ length old.pairs
       pairs = ap (λ st. length st.pairs) known
 
-      go : Evicts rules pair mid mid outcome new → Place rules hash_of pair old outcome new
-      go (finds_bucket n pos one half o p) = evicting lacks first above mid cannot (finds_bucket n pos (λ small. one (omega (arith, same, small)))
-          (omega (arith, half, pairs, ap full_capacity same)) o
-          (subst (λ b. IsPlaced pair b (room new) 0 (without_oldest rules n mid) new) same p))
-      go (made_anew n pos one half left leaves m) = evicting lacks first above mid cannot (made_anew n pos (λ small. one (omega (arith, same, small)))
-          (omega (arith, half, pairs, ap full_capacity same)) left leaves
+      go : Evicts rules (hash_of old.hasher pair.0) pair mid mid outcome new → Place rules hash_of pair old outcome new
+      go (finds_bucket n pos one half left gone fills o p) = evicting lacks first above mid cannot (finds_bucket n pos (λ small. one (omega (arith, same, small)))
+          (omega (arith, half, pairs, ap full_capacity same)) left gone fills o
+          (subst (λ b. IsPlaced pair b (room new) 0 left new) same p))
+      go (made_anew n pos one half left gone m) = evicting lacks first above mid cannot (made_anew n pos (λ small. one (omega (arith, same, small)))
+          (omega (arith, half, pairs, ap full_capacity same)) left gone
           (subst (λ b. IsPlacedIfMemory rules pair b (full_capacity b / 2) (length left.pairs) left outcome new) same m))
 
   -- the pair went into a bucket that the table has
   pub bucket_place : (0 < room old) ⊎ (0 < length old.pairs) → IsPlaced pair (buckets old) (room new) 0 old new →
-      (0 < room old → UsesRoom old new) → (room old ≡ 0 → UsesDeleted (hash_of old.hasher pair.0) old new) → Place rules hash_of pair old placed new
-  bucket_place some step roomy none = go (dec_lt 0 (room old)) (dec_lt 0 (length old.pairs))
+      FillsBucket (hash_of old.hasher pair.0) old new → Place rules hash_of pair old placed new
+  bucket_place some step fills = go (dec_lt 0 (room old)) (dec_lt 0 (length old.pairs))
     where
-      used : UsesRoom old new → (room new + 1 ≡ room old) ⊎ ((16 < buckets old) × (room new ≡ room old))
-      used (inl less) = inl less
-      used (inr same) = inr (same.0, same.1)
+      deleted_first : 0 < length old.pairs → room old ≡ 0 → FillsBucket (hash_of old.hasher pair.0) old new → Place rules hash_of pair old placed new
+      deleted_first l none (inl less) = absurd (omega (arith, none, less.1))
+      deleted_first l none (inr (first, large, same)) =
+          let within : length old.pairs < full_capacity (buckets old) = omega (arith, (deleted_first_large old ok (hash_of old.hasher pair.0) first).1) in
+          deleted_bucket (l, none) first large within refl (record { table = step.table; room_left = omega (arith, same, none); state = step.state })
 
       go : Dec (0 < room old) → Dec (0 < length old.pairs) → Place rules hash_of pair old placed new
-      go (yes r) (yes l) = with_room l r (used (roomy r)) refl step
+      go (yes r) (yes l) = with_room l r fills refl step
       go (yes r) (no l) = empty_with_room (nil_from_length old.pairs (omega (arith, l))) (omega (arith, r, fits old ok, full_capacity-at_most (buckets old))) r
-          (used (roomy r)) refl step
-      go (no r) (yes l) = let uses = none (omega (arith, r)) in
-          deleted_bucket (l, omega (arith, r)) uses.first uses.large uses.within refl (record { table = step.table; room_left = uses.none_left; state = step.state })
+          fills refl step
+      go (no r) (yes l) = deleted_first l (omega (arith, r)) fills
       go (no r) (no l) = elim some [ inl x ↦ absurd (r x) | inr x ↦ absurd (l x) ]
 
   -- the table was made anew at its size, where it had no room
@@ -123,36 +123,20 @@ module _ {K V S H : Type 0} (rules : Rules K V S) (hash_of : H → K → ℕ) (p
 
   module _ (lacks : LacksRoom old) (first : FirstFreeIs empty (hash_of old.hasher pair.0) old) (above : full_capacity (buckets old) / 2 < length old.pairs + 1)
       (outcome : Outcome) where
-    module _ (count bytes : ℕ) (next : next_table rules old ≡ new_table count bytes) (s : S) (told : s ≡ (rules.on_grow old.limiter bytes).limiter) where
+    module _ (count bytes : ℕ) (next : table_for 1 old ≡ new_table count bytes) (s : S) (told : s ≡ (rules.on_grow old.limiter bytes).limiter) where
       pub grown_place : (rules.on_grow old.limiter bytes).allowed ≡ true →
           IsPlacedIfMemory rules pair count (full_capacity count - length old.pairs - 1) (length old.pairs) (record old { limiter = s }) outcome new →
           Place rules hash_of pair old outcome new
       grown_place granted step = grown lacks first above count bytes next granted
           (subst (λ l. IsPlacedIfMemory rules pair count (full_capacity count - length old.pairs - 1) (length old.pairs) (record old { limiter = l }) outcome new) told step)
 
-      pub denied_place : (rules.on_grow old.limiter bytes).allowed ≡ false → Evicts rules pair (record old { limiter = s }) (record old { limiter = s }) outcome new → Place rules hash_of pair old outcome new
-      denied_place refusal step = evicts_place outcome (record old { limiter = s })
-          (denied count bytes next refusal (ap {A = S} {B = State K V S H} (λ l. record old { limiter = l }) told)) lacks first above step
+      pub denied_place : (rules.on_grow old.limiter bytes).allowed ≡ false → (hash : ℕ) → hash ≡ hash_of old.hasher pair.0 →
+          Evicts rules hash pair (record old { limiter = s }) (record old { limiter = s }) outcome new → Place rules hash_of pair old outcome new
+      denied_place refusal hash is_hash step = evicts_place outcome (record old { limiter = s })
+          (denied count bytes next refusal (ap {A = S} {B = State K V S H} (λ l. record old { limiter = l }) told)) lacks first above hash is_hash step
 
-    pub untold_place : next_table rules old ≡ no_table → Evicts rules pair old old outcome new → Place rules hash_of pair old outcome new
-    untold_place none step = evicts_place outcome old (no_target none refl) lacks first above step
-
--- a table that a map with pairs grows to
-module _ {K V S H : Type 0} (rules : Rules K V S) (old : State K V S H) (ok : IsSized old) (some : 0 < length old.pairs) (count bytes : ℕ) (next : next_table rules old ≡ new_table count bytes) where
-  pub next_reached : IsPowerFromFour count × (count < old.max)
-  next_reached = target_reached old.max old.entry_bytes (buckets old) (length old.pairs + 1) count bytes (power_with_pairs old ok some) next
-
-  pub next_usable : usage old.entry_bytes count ≡ Some bytes
-  next_usable = target_usage old.max old.entry_bytes (buckets old) (length old.pairs + 1) count bytes next
-
-  pub next_half : 2 * length old.pairs ≤ full_capacity count
-  next_half = let power = power_with_pairs old ok some in
-      omega (
-        arith,
-        fits old ok,
-        full_capacity-double power.0 (buckets old) count power.1
-            (target_doubles power.0 old.max old.entry_bytes (buckets old) (length old.pairs + 1) count bytes power.1 next),
-      )
+    pub untold_place : table_for 1 old ≡ no_table → (hash : ℕ) → hash ≡ hash_of old.hasher pair.0 → Evicts rules hash pair old old outcome new → Place rules hash_of pair old outcome new
+    untold_place none hash is_hash step = evicts_place outcome old (no_target none refl) lacks first above hash is_hash step
 
 -- the first free bucket of a map that has no place for a hash is empty
 module _ {K V S H : Type 0} (st : State K V S H) (ok : IsSized st) (hash : ℕ) where
@@ -164,15 +148,6 @@ module _ {K V S H : Type 0} (st : State K V S H) (ok : IsSized st) (hash : ℕ) 
   no_place_empty (inl none) some = absurd (omega (arith, ap length (none_without_buckets st ok none), some))
   no_place_empty (inr (none, b, first, is)) some = (b, first, is)
 
-module _ {K V S H : Type 0} (rules : Rules K V S) (limiter : S) (hasher : H) (moved placed entry_bytes max : ℕ) (t : Linked K V) (linked : IsLinked t) where
-  -- where the table of a map goes, from the figures of its linked table
-  pub next_is : (next : Target) (most count pairs : ℕ) → most ≡ max → count ≡ length t.slots → pairs ≡ length t.order →
-      target most entry_bytes count (pairs + 1) ≡ next → next_table rules (state_by t limiter hasher moved placed entry_bytes max) ≡ next
-  next_is next most count pairs is_max is_count is_pairs is =
-      let buckets_are : count ≡ length (marks_of t.slots) = is_count ∙ sym (length-marks_of t.slots) in
-      let pairs_are : pairs ≡ length (pairs_of t) = is_pairs ∙ sym (pairs-length t linked) in
-      (λ i. target (sym is_max i) entry_bytes (sym buckets_are i) (sym pairs_are i + 1)) ∙ is
-
 -- a table with buckets that is at least half full has a pair
 pub some_of_half : {K V : Type 0} (t : Linked K V) → IsLinked t → (length t.slots ≡ 0 → ⊥) → full_capacity (length t.slots) / 2 ≤ length t.order → 0 < length (pairs_of t)
 some_of_half t linked there half = go linked.table.count
@@ -181,41 +156,42 @@ some_of_half t linked there half = go linked.table.count
     go (inl none) = absurd (there (sym (length-marks_of t.slots) ∙ none))
     go (inr power) = omega (arith, full_capacity-some (length (marks_of t.slots)) power, ap full_capacity (length-marks_of t.slots), half, pairs-length t linked)
 
--- so many of the oldest left, none of which made room, and then one more
-module _ {K V S H : Type 0} (rules : Rules K V S) (pair : K × V) (old prev left : State K V S H) (ok : IsSized old) (lacks : LacksRoom old) (n : ℕ)
-    (before : Leaves old (pops rules n (contents old)) prev) (some : 0 < length prev.pairs) (half : full_capacity (buckets old) / 2 ≤ length prev.pairs)
-    (still : room prev ≡ 0) (step : Leaves prev (pop rules (contents prev)) left) where
-  pub one_more : Leaves old (pops rules (suc n) (contents old)) left
-  one_more = subst (λ l. Leaves old l left) (ap (λ st. pop rules (contents st)) before.is ∙ sym (pops-more rules n (contents old)))
-      (leaves_trans old prev left (pops rules n (contents old)) (pop rules (contents prev)) before step)
+-- so many of the oldest left, after none of which the pair had a place, and then one more
+module _ {K V S H : Type 0} (rules : Rules K V S) (hash : ℕ) (pair : K × V) (old before left : State K V S H) (ok : IsSized old) (lacks : LacksRoom old) (n : ℕ)
+    (gone : OldestLeave rules hash n old before) (some : 0 < length before.pairs) (half : full_capacity (buckets old) / 2 ≤ length before.pairs)
+    (still : HasNoPlace before.marks hash) (none : room before ≡ 0) (step : Leaves before (pop rules (contents before)) left) where
+  pub one_more : OldestLeave rules hash (suc n) old left
+  one_more = (before, gone, still, step)
 
-  pub one_fewer : length left.pairs + 1 ≡ length prev.pairs
-  one_fewer = omega (arith, ap (λ st. length st.pairs) step.is, length-without_last prev.pairs, some)
+  leaves : Leaves old (pops rules n (contents old)) before
+  leaves = oldest_leaves rules hash n old before gone
 
-  in_all : length old.pairs ≡ n + length prev.pairs
-  in_all = omega (arith, ap (λ st. length st.pairs) before.is, length-pops rules n (contents old), some)
+  pub one_fewer : length left.pairs + 1 ≡ length before.pairs
+  one_fewer = omega (arith, ap (λ st. length st.pairs) step.is, length-without_last before.pairs, some)
+
+  in_all : length old.pairs ≡ n + length before.pairs
+  in_all = omega (arith, ap (λ st. length st.pairs) leaves.is, length-pops rules n (contents old), some)
 
   only_one : buckets old ≤ 16 → suc n ≡ 1
-  only_one small = omega (arith, room_after rules n old prev before small (omega (arith, in_all)) lacks.1 still)
+  only_one small = omega (arith, room_after rules n old before leaves small (omega (arith, in_all)) lacks.1 none)
 
-  same_buckets : buckets left ≡ buckets old
-  same_buckets = step.room.table ∙ before.room.table
+  pub same_buckets : buckets left ≡ buckets old
+  same_buckets = step.room.table ∙ leaves.room.table
 
   pub left_absent : (names : K → Bool) → lookup_entry names old.pairs ≡ None → lookup_entry names left.pairs ≡ None
   left_absent names absent = front_absent names left.pairs old.pairs
-      (subst (λ xs. IsFront xs old.pairs) (sym (ap (λ st. st.pairs) one_more.is)) (front_pops rules (suc n) (contents old))) absent
+      (subst (λ xs. IsFront xs old.pairs) (sym (ap (λ st. st.pairs) (leaves_more rules n old before left leaves step).is)) (front_pops rules (suc n) (contents old))) absent
 
   module _ (new : State K V S H) where
-    pub finds : full_capacity (buckets old) / 2 ≤ length left.pairs → IsPlaced pair (buckets left) (room new) 0 left new → Evicts rules pair old old placed new
-    finds enough p = finds_bucket (suc n) (omega arith) only_one (omega (arith, enough, one_fewer, in_all)) refl
-        (placed_after rules (suc n) old left one_more pair new (buckets old) (room new) 0 (subst (λ b. IsPlaced pair b (room new) 0 left new) same_buckets p))
+    pub finds : full_capacity (buckets old) / 2 ≤ length left.pairs → IsPlaced pair (buckets left) (room new) 0 left new → FillsBucket hash left new → Evicts rules hash pair old old placed new
+    finds enough p fills = finds_bucket (suc n) (omega arith) only_one (omega (arith, enough, one_fewer, in_all)) left one_more fills refl
+        (subst (λ b. IsPlaced pair b (room new) 0 left new) same_buckets p)
 
     pub makes_anew : (outcome : Outcome) → length left.pairs < full_capacity (buckets old) / 2 →
-        IsPlacedIfMemory rules pair (buckets left) (full_capacity (buckets left) - length left.pairs - 1) (length left.pairs) left outcome new →
-        Evicts rules pair old old outcome new
+        IsPlacedIfMemory rules pair (buckets old) (full_capacity (buckets old) - length left.pairs - 1) (length left.pairs) left outcome new →
+        Evicts rules hash pair old old outcome new
     makes_anew outcome few m = made_anew (suc n) (omega arith) only_one (omega (arith, few, half, one_fewer, in_all)) left one_more
-        (subst (λ s. IsPlacedIfMemory rules pair (buckets old) s (length left.pairs) left outcome new) (spare (dec_lt 8 (buckets old)))
-        (subst (λ b. IsPlacedIfMemory rules pair b (full_capacity b - length left.pairs - 1) (length left.pairs) left outcome new) same_buckets m))
+        (subst (λ s. IsPlacedIfMemory rules pair (buckets old) s (length left.pairs) left outcome new) (spare (dec_lt 8 (buckets old))) m)
       where
         spare : Dec (8 < buckets old) → full_capacity (buckets old) - length left.pairs - 1 ≡ full_capacity (buckets old) / 2
         spare (yes large) = omega (arith, few, half, one_fewer, full_capacity-even (buckets old) (power_with_pairs old ok lacks.0) large)

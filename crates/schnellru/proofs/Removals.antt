@@ -14,7 +14,7 @@ use Rattle.schnellru.specs.Reservations.{too_many, no_such_table, no_memory_to_r
 use Rattle.schnellru.specs.declared.map.reserve.ReserveError.{ReserveError}
 use Rattle.schnellru.proofs.Distinct.{AreDistinct, keeps_distinct}
 use Rattle.schnellru.proofs.Moves.{Keeps}
-use Rattle.schnellru.proofs.Reserving.{larger_takes}
+use Rattle.schnellru.proofs.NextTable.{larger_takes}
 use Rattle.schnellru.proofs.Growth.{least_power_shape, table_with_is, target-same}
 
 module _ {K V S : Type 0} (rules : Rules K V S) where
@@ -89,6 +89,6 @@ module _ {K V S H : Type 0} (rules : Rules K V S) (n : ℕ) (old : State K V S H
   makes_room new ok (no_such_table l t r e) = absurd cc
   makes_room new ok (remade l t r m) = omega (arith, m.exact, target-same old.max old.entry_bytes (buckets old) (length old.pairs + n) t)
   makes_room new ok (no_memory_to_remake l t p r e) = absurd cc
-  makes_room new ok (reserved l count bytes t g r m) = omega (arith, m.exact, target_takes old.max old.entry_bytes (buckets old) (length old.pairs + n) count bytes (larger_takes n old ok l count bytes t) t)
+  makes_room new ok (reserved l count bytes t g r m) = omega (arith, m.exact, target_takes old.max old.entry_bytes (buckets old) (length old.pairs + n) count bytes (larger_takes n old ok (omega (arith, l.0)) count bytes t) t)
   makes_room new ok (no_memory_to_grow l count bytes t g r e) = absurd cc
   makes_room new ok (denied_room l count bytes t d r e) = absurd cc

@@ -13,7 +13,7 @@ use Rattle.lru_limits.specs.Rules.{Rules, Replaced}
 use Rattle.schnellru.specs.Lists.{without}
 use Rattle.schnellru.specs.Linked.{Linked, IsLinked, KeysFit, with_pair, without_bucket, pairs_of, entries_in}
 use Rattle.schnellru.specs.State.{State, Leaves}
-use Rattle.schnellru.specs.Holds.{state_by, Holds}
+use Rattle.schnellru.specs.Holds.{Beside, state_of, Holds}
 use Rattle.schnellru.specs.Steps.{IsReplaced, IsGivenUp, IsTakenOut}
 use Rattle.schnellru.proofs.Distinct.{AreDistinct, distinct_newest, distinct_without}
 use Rattle.schnellru.proofs.Cuts.{entries-apart, without_lacks}
@@ -28,6 +28,7 @@ module _ {K V S : Type 0} (rules : Rules K V S) (by : Replaced K V S) (old new :
   gives_up = record {
     slots = subst (λ p. Removes (with_pair old b p).slots new.slots b) pair_is out.slots;
     order = out.order;
+    placings = out.placings;
     room = out.room ∙ ap (λ m. room m + room_at (marks_of new.slots) b) (marks_of-refilled old.slots b (k, v));
     told = out.told ∙ (λ i. (rules.on_removed (told i) ((taken_is ∙ pair_is) i).0 ((taken_is ∙ pair_is) i).1).limiter);
   }
@@ -41,12 +42,12 @@ module _ {K V S : Type 0} (rules : Rules K V S) (by : Replaced K V S) (old new :
 module _ {K V S H : Type 0} (by : Replaced K V S) (old new : Linked K V) (b : ℕ) (l : S) (first : IsLinked old) (next : IsLinked new)
     (was : K × V) (there : entry_at old.slots b ≡ Some was) (names : K → Bool) {eq : K → K → Bool} (laws : IsEquivalence eq)
     (one : (x y : K) → names x ≡ true → names y ≡ eq x y) (distinct : AreDistinct eq (pairs_of old)) (named : names was.0 ≡ true)
-    (limiter : S) (hasher : H) (moved placed entry_bytes max : ℕ) where
+    (beside : Beside S H) where
   abbrev before : State K V S H
-  before = state_by old limiter hasher moved placed entry_bytes max
+  before = state_of old beside
 
   abbrev after : State K V S H
-  after = state_by new l hasher moved placed entry_bytes max
+  after = state_of new (record beside { limiter = l })
 
   others : (p : K × V) → entries_in (with_pair old b p).slots (without_bucket b old.order) ≡ without names (pairs_of old)
   others p = entries-apart old.slots b (refilled (bucket_at old.slots b) p) (without_bucket b old.order) (without_lacks b old.order)
@@ -68,7 +69,7 @@ module _ {K V S H : Type 0} (by : Replaced K V S) (old new : Linked K V) (b : �
     replaced_leaves =
         let marks = ap marks_of step.slots ∙ marks_of-refilled old.slots b (by.key, by.new_value) in
         let lengths : length (pairs_of new) ≡ length (pairs_of old) = omega (arith, pairs-length old first, pairs-length new next, ap length step.order, fewer) in record {
-          is = λ i. record (state_by new (step.told i) hasher moved placed entry_bytes max) { pairs = replaced_pairs i };
+          is = λ i. record (state_of new (record beside { limiter = step.told i })) { pairs = replaced_pairs i; placings = step.placings i };
           room = record {
             table = ap length marks;
             keeps = omega (arith, ap room marks);
@@ -78,8 +79,8 @@ module _ {K V S H : Type 0} (by : Replaced K V S) (old new : Linked K V) (b : �
           };
         }
 
-    pub replaced_holds : (hash_of : H → K → ℕ) → names by.key ≡ true → Holds eq hash_of old before → KeysFit (hash_of hasher) new.slots → Holds eq hash_of new after
-    replaced_holds hash_of kept holds fits = leaves_holds hasher moved placed entry_bytes max eq hash_of old new limiter _ l holds next fits
+    pub replaced_holds : (hash_of : H → K → ℕ) → names by.key ≡ true → Holds eq hash_of old beside → KeysFit (hash_of beside.hasher) new.slots → Holds eq hash_of new (record beside { limiter = l })
+    replaced_holds hash_of kept holds fits = leaves_holds beside eq hash_of old new _ l holds next fits
         (ap length step.slots ∙ length-set old.slots b _) replaced_leaves
         (subst (AreDistinct eq) (sym replaced_pairs) (distinct_newest eq names one (by.key, by.new_value) (pairs_of old) kept distinct))
 
@@ -94,10 +95,10 @@ module _ {K V S H : Type 0} (by : Replaced K V S) (old new : Linked K V) (b : �
 
     pub given_up_leaves : Leaves before (record { pairs = without names (pairs_of old); limiter = (rules.on_removed by.limiter by.key by.old_value).limiter }) after
     given_up_leaves = record {
-      is = λ i. record (state_by new (step.told i) hasher moved placed entry_bytes max) { pairs = given_up_pairs i };
-      room = frees_room old new b first next given_up_length (ap (λ o. suc (length o)) step.order ∙ fewer) step.room before l refl refl;
+      is = λ i. record (state_of new (record beside { limiter = step.told i })) { pairs = given_up_pairs i; placings = step.placings i };
+      room = frees_room old new b first next given_up_length (ap (λ o. suc (length o)) step.order ∙ fewer) step.room beside (record beside { limiter = l });
     }
 
-    pub given_up_holds : (hash_of : H → K → ℕ) → Holds eq hash_of old before → KeysFit (hash_of hasher) new.slots → Holds eq hash_of new after
-    given_up_holds hash_of holds fits = leaves_holds hasher moved placed entry_bytes max eq hash_of old new limiter _ l holds next fits given_up_length given_up_leaves
+    pub given_up_holds : (hash_of : H → K → ℕ) → Holds eq hash_of old beside → KeysFit (hash_of beside.hasher) new.slots → Holds eq hash_of new (record beside { limiter = l })
+    given_up_holds hash_of holds fits = leaves_holds beside eq hash_of old new _ l holds next fits given_up_length given_up_leaves
         (subst (AreDistinct eq) (sym given_up_pairs) (distinct_without eq names (pairs_of old) distinct))

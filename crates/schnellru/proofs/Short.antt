@@ -33,8 +33,8 @@ module _ {K V S H : Type 0} (rules : Rules K V S) (hash_of : H → K → ℕ) (p
   place_lacks new outcome q (deleted_bucket f i b l o n) = placed-not_no_memory (sym o ∙ q)
   place_lacks new outcome q (rehashed f i l m) = (f.1, inr f.0)
   place_lacks new outcome q (grown f i l count bytes t g m) = (f.1, inr f.0)
-  place_lacks new outcome q (evicting f i l mid c (finds_bucket n pos one half o p)) = placed-not_no_memory (sym o ∙ q)
-  place_lacks new outcome q (evicting f i l mid c (made_anew n pos one half left lv m)) = (f.1, inr f.0)
+  place_lacks new outcome q (evicting f i l mid c (finds_bucket n pos one half left gone fills o p)) = placed-not_no_memory (sym o ∙ q)
+  place_lacks new outcome q (evicting f i l mid c (made_anew n pos one half left gone m)) = (f.1, inr f.0)
 
 module _ {K V S H I : Type 0} (rules : Rules K V S) (offers : Offers K V S I) (names : I → K → Bool) (hash_of : H → K → ℕ) (i : I) (v : V) (old : State K V S H)
     (result : Result Bool AllocError) (new : State K V S H) where
@@ -51,7 +51,7 @@ module _ {K V S H I : Type 0} (rules : Rules K V S) (offers : Offers K V S I) (n
         no_room = omega (arith, l.room.keeps, k.0);
         s = s;
         pair = pair;
-        admits = n;
+        given = n;
         beside = side k.1;
       }
         where

@@ -1,6 +1,6 @@
 -- What the marks of a sized map's table say of its pairs.
-use Rattle.std.proofs.Common.{◌≡◌, ◌+◌, ◌≤◌, length, arith}
-use Rattle.group_table.specs.Sizes.{full_capacity}
+use Rattle.std.proofs.Common.{◌≡◌, ◌+◌, ◌<◌, ◌≤◌, inl, inr, length, arith}
+use Rattle.group_table.specs.Sizes.{IsPowerFromFour, full_capacity}
 use Rattle.schnellru.specs.State.{State, buckets, room, IsSized}
 
 module _ {K V S H : Type 0} (st : State K V S H) (ok : IsSized st) where
@@ -11,3 +11,11 @@ module _ {K V S H : Type 0} (st : State K V S H) (ok : IsSized st) where
   -- up to 16 buckets they are all of it
   pub exact : buckets st ≤ 16 → length st.pairs + room st ≡ full_capacity (buckets st)
   exact small = omega (arith, ok.table.exact small, ok.taken)
+
+  -- where there are buckets, they are as many as a table can have
+  pub own_count : 0 < buckets st → IsPowerFromFour (buckets st)
+  own_count some = elim ok.table.count [ inl none ↦ absurd (omega (arith, none, some)) | inr power ↦ power ]
+
+  -- and links reach them
+  pub own_reached : 0 < buckets st → buckets st < st.max
+  own_reached some = elim ok.reachable [ inl none ↦ absurd (omega (arith, none, some)) | inr below ↦ below ]

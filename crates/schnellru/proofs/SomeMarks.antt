@@ -60,9 +60,9 @@ module _ {K V S H : Type 0} (old : State K V S H) (ok : IsSized old) (pairs : Li
         (λ small. omega (arith, count-row is_deleted (length pairs) d (buckets old - length pairs - d), none_deleted (omega (arith, small, length-marked))))
 
     -- With these pairs they are a map's, as large as old.
-    pub sized-marked : (limiter : S) (moved placed : ℕ) → moved < 2 ^ 64 → placed < 2 ^ 64
-        → IsSized (record old { pairs = pairs; limiter = limiter; marks = marked; moved = moved; placed = placed })
-    sized-marked limiter moved placed m p = record {
+    pub sized-marked : (limiter : S) (placings moved placed : ℕ) → moved < 2 ^ 64 → placed < 2 ^ 64
+        → IsSized (record old { pairs = pairs; limiter = limiter; marks = marked; placings = placings; moved = moved; placed = placed })
+    sized-marked limiter placings moved placed m p = record {
       table = table-marked;
       taken = omega (arith, count-row is_full (length pairs) d (buckets old - length pairs - d));
       reachable = subst (λ n. (n ≡ 0) ⊎ (n < old.max)) (sym length-marked) ok.reachable;

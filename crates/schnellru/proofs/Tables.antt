@@ -1,9 +1,12 @@
 -- What calls make of the table: what it costs, how far it grows, and who permitted it.
-use Rattle.std.proofs.Common.{◌≡◌, ℕ, ◌+◌, ◌*◌, ◌^◌, ◌<◌, ◌≤◌, ◌⊎◌, inl, inr, true, List, length, Some, refl, ap, ◌∙◌, subst, arith}
+use Rattle.std.specs.declared.alloc.AllocError.{AllocError}
+use Rattle.std.proofs.Common.{◌≡◌, Bool, Result, ℕ, ◌+◌, ◌*◌, ◌^◌, ◌<◌, ◌≤◌, ◌⊎◌, inl, inr, true, List, length, Some, refl, ap, ◌∙◌, subst, arith}
 use Rattle.group_table.specs.Sizes.{full_capacity}
 use Rattle.lru_limits.specs.Rules.{Rules}
 use Rattle.schnellru.specs.Sizes.{usage}
 use Rattle.schnellru.specs.State.{State, buckets, room, Contents, contents, Leaves}
+use Rattle.schnellru.specs.Place.{Outcome, placed, refused, no_memory}
+use Rattle.schnellru.specs.Inserts.{Settles}
 use Rattle.schnellru.specs.Theorems.{PaysForMoves}
 use Rattle.schnellru.proofs.Moves.{leaves_keep}
 use Rattle.schnellru.proofs.Potential.{IsBounded, pays_trans, pays_calm}
@@ -12,6 +15,7 @@ module _ {K V S H : Type 0} where
   -- nothing is placed, and the table has as many buckets, with as much room or more, and no more pairs
   pub record Calm (old new : State K V S H) : Type 0 where
     pub entry_bytes : new.entry_bytes ≡ old.entry_bytes
+    pub placings : new.placings ≡ old.placings
     pub moved : new.moved ≡ old.moved
     pub placed : new.placed ≡ old.placed
     pub table : buckets new ≡ buckets old
@@ -21,7 +25,7 @@ module _ {K V S H : Type 0} where
 
   -- another limiter
   pub limiter_calm : (st : State K V S H) (s : S) → Calm st (record st { limiter = s })
-  limiter_calm st s = record { entry_bytes = refl; moved = refl; placed = refl; table = refl; keeps = omega arith; few = omega arith; fits = λ h. h }
+  limiter_calm st s = record { entry_bytes = refl; placings = refl; moved = refl; placed = refl; table = refl; keeps = omega arith; few = omega arith; fits = λ h. h }
 
   pub self_calm : (st : State K V S H) → Calm st st
   self_calm st = limiter_calm st st.limiter
@@ -29,6 +33,7 @@ module _ {K V S H : Type 0} where
   pub calm_trans : (old mid new : State K V S H) → Calm old mid → Calm mid new → Calm old new
   calm_trans old mid new f g = record {
     entry_bytes = g.entry_bytes ∙ f.entry_bytes;
+    placings = g.placings ∙ f.placings;
     moved = g.moved ∙ f.moved;
     placed = g.placed ∙ f.placed;
     table = g.table ∙ f.table;
@@ -40,6 +45,7 @@ module _ {K V S H : Type 0} where
   pub leaves_calm : (old : State K V S H) (left : Contents K V S) (new : State K V S H) → Leaves old left new → Calm old new
   leaves_calm old left new l = record {
     entry_bytes = ap (λ st. st.entry_bytes) l.is;
+    placings = ap (λ st. st.placings) l.is;
     moved = ap (λ st. st.moved) l.is;
     placed = ap (λ st. st.placed) l.is;
     table = l.room.table;
@@ -47,6 +53,13 @@ module _ {K V S H : Type 0} where
     few = omega (arith, l.room.keeps, l.room.at_most);
     fits = λ h. omega (arith, h, l.room.at_most);
   }
+
+  -- what follows a placing
+  pub settles_calm : (rules : Rules K V S) (outcome : Outcome) (landed : State K V S H) (result : Result Bool AllocError) (new : State K V S H)
+      → Settles rules outcome landed result new → Calm landed new
+  settles_calm rules placed landed result new h = leaves_calm landed _ new h.1
+  settles_calm rules refused landed result new h = rw h.1 (self_calm landed)
+  settles_calm rules no_memory landed result new h = rw h.1 (self_calm landed)
 
   pub calm_pays : (old new : State K V S H) → Calm old new → PaysForMoves old new
   calm_pays old new f = pays_calm old new f.placed f.moved (omega (arith, f.keeps, ap full_capacity f.table))

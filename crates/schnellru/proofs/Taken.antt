@@ -10,10 +10,11 @@ use Rattle.schnellru.specs.Lists.{lookup_entry}
 use Rattle.schnellru.specs.State.{State, Contents, contents, Leaves, told_of}
 use Rattle.schnellru.specs.Calls.{left_of, Remove}
 use Rattle.schnellru.specs.Steps.{IsTakenOut}
-use Rattle.schnellru.specs.Holds.{state_by, Holds}
+use Rattle.schnellru.specs.Holds.{Beside, state_of, Holds}
 use Rattle.schnellru.proofs.Distinct.{AreDistinct, distinct_without}
 use Rattle.schnellru.proofs.Fronts.{without_none}
 use Rattle.schnellru.proofs.Kept.{frees_room, leaves_holds}
+use Rattle.schnellru.proofs.Leaving.{leaves_self}
 use Rattle.schnellru.proofs.Ordered.{shorter, others_are, removed-entries}
 
 module _ {K V S : Type 0} (rules : Rules K V S) (t u : Linked K V) (b : ℕ) (limiter told : S) (result : K × V) (out : IsTakenOut rules b t u limiter result told) where
@@ -29,24 +30,19 @@ module _ {K V S : Type 0} (rules : Rules K V S) (t u : Linked K V) (b : ℕ) (li
     pub taken_told : told ≡ told_of rules pair limiter
     taken_told = out.told ∙ ap (λ o. told_of rules o limiter) (sym is)
 
-  module _ {H : Type 0} (first : IsLinked t) (next : IsLinked u) (hasher : H) (moved placed entry_bytes max : ℕ) where
-    abbrev before : State K V S H
-    before = state_by t limiter hasher moved placed entry_bytes max
-
-    abbrev after : State K V S H
-    after = state_by u told hasher moved placed entry_bytes max
-
-    pub taken_leaves : (left : Contents K V S) → pairs_of u ≡ left.pairs → told ≡ left.limiter → Leaves before left after
+  module _ {H : Type 0} (first : IsLinked t) (next : IsLinked u) (beside : Beside S H) where
+    pub taken_leaves : (left : Contents K V S) → pairs_of u ≡ left.pairs → told ≡ left.limiter → Leaves (state_of t beside) left (state_of u (record beside { limiter = told }))
     taken_leaves left pairs_are told_is = record {
-      is = λ i. record (state_by u (told_is i) hasher moved placed entry_bytes max) { pairs = pairs_are i };
+      is = λ i. record (state_of u (record beside { limiter = told_is i })) { pairs = pairs_are i; placings = out.placings i };
       room = frees_room t u b first next (length-removed t.slots u.slots b out.slots)
-          (ap (λ o. suc (length o)) out.order ∙ shorter t first b (full_by_entry (bucket_at t.slots b) out.pair out.there)) out.room before told refl refl;
+          (ap (λ o. suc (length o)) out.order ∙ shorter t first b (full_by_entry (bucket_at t.slots b) out.pair out.there)) out.room beside (record beside { limiter = told });
     }
 
     -- what holds of a map holds of what is left
-    pub taken_holds : {eq : K → K → Bool} → IsEquivalence eq → (hash_of : H → K → ℕ) → Holds eq hash_of t before → KeysFit (hash_of hasher) u.slots → Holds eq hash_of u after
+    pub taken_holds : {eq : K → K → Bool} → IsEquivalence eq → (hash_of : H → K → ℕ) → Holds eq hash_of t beside → KeysFit (hash_of beside.hasher) u.slots
+        → Holds eq hash_of u (record beside { limiter = told })
     taken_holds {eq} laws hash_of holds fits =
-        leaves_holds hasher moved placed entry_bytes max eq hash_of t u limiter (record { pairs = pairs_of u; limiter = told }) told holds next fits
+        leaves_holds beside eq hash_of t u (record { pairs = pairs_of u; limiter = told }) told holds next fits
         (length-removed t.slots u.slots b out.slots) (taken_leaves (record { pairs = pairs_of u; limiter = told }) refl refl)
         (subst (AreDistinct eq) (others_are t first b out.pair out.there (eq out.pair.0) laws (λ x y e. laws.congr out.pair.0 x y e) holds.map.distinct (laws.refl out.pair.0) ∙ sym taken_pairs)
         (distinct_without eq (eq out.pair.0) (pairs_of t) holds.map.distinct))
@@ -56,8 +52,5 @@ module _ {K V S H : Type 0} (rules : Rules K V S) (names : K → Bool) (st : Sta
   pub none_removed : lookup_entry names st.pairs ≡ None → Remove rules names st None st
   none_removed none = record {
     value = ap (λ o. option_map (λ p. p.1) (left_of rules st.limiter o)) (sym none);
-    state = subst (λ left. Leaves st left st) (λ i. record { pairs = sym (without_none names st.pairs none) i; limiter = told_of rules (sym none i) st.limiter }) stays;
+    state = subst (λ left. Leaves st left st) (λ i. record { pairs = sym (without_none names st.pairs none) i; limiter = told_of rules (sym none i) st.limiter }) (leaves_self st);
   }
-    where
-      stays : Leaves st (contents st) st
-      stays = record { is = refl; room = record { table = refl; keeps = omega arith; at_most = omega arith; exact = λ _. refl; untouched = λ _. refl } }

@@ -8,14 +8,14 @@ use Rattle.lru_limits.specs.Laws.{kept_value}
 use Rattle.schnellru.specs.Lists.{without}
 use Rattle.schnellru.specs.State.{State, buckets, potential, Contents, contents}
 use Rattle.schnellru.specs.Place.{Place, first_table, first_denied, first_too_large, empty_with_room, empty_without_room, with_room, deleted_bucket, rehashed, grown}
-use Rattle.schnellru.specs.Place.{evicting, finds_bucket, made_anew, Outcome, placed, refused, no_memory, IsPlaced, without_oldest, asked, turned_away, IsPlacedIfMemory, CannotGrow, no_target, denied}
+use Rattle.schnellru.specs.Place.{evicting, finds_bucket, made_anew, Outcome, placed, refused, no_memory, IsPlaced, asked, turned_away, IsPlacedIfMemory, CannotGrow, no_target, denied}
 use Rattle.schnellru.specs.Inserts.{Insert, replaced, given_up, no_memory_to_admit, not_admitted, admitted, Settles, replacement}
-use Rattle.schnellru.proofs.Leaving.{length-pops}
+use Rattle.schnellru.proofs.Leaving.{length-pops, oldest_leaves}
 use Rattle.schnellru.proofs.Growth.{full_capacity-4, full_capacity-double, target_doubles, target_usage}
 use Rattle.schnellru.proofs.Doubling.{target_small}
 use Rattle.schnellru.proofs.Potential.{IsBounded, pays_placing, no_buckets}
 use Rattle.schnellru.proofs.Moves.{KeepsWay, Keeps, KeepsOffers, behind, exchange, leaves_keep, pops_keep, trim_keeps, make_way_keeps, settles_keep, way_behind}
-use Rattle.schnellru.proofs.Tables.{Calm, Tables, IsNextCount, Changes, self_calm, limiter_calm, leaves_calm, calm_trans, calm_tables, calm_then, then_calm, calm_changes, leaves_changes}
+use Rattle.schnellru.proofs.Tables.{settles_calm, Calm, Tables, IsNextCount, Changes, self_calm, limiter_calm, leaves_calm, calm_trans, calm_tables, calm_then, then_calm, calm_changes, leaves_changes}
 
 module _ {K V S H : Type 0} (rules : Rules K V S) (P : S → Type 0) (pair : K × V) (old : State K V S H) where
   -- the pair is placed after way was made for it, in a table that is the old one or is permitted, and its moves are paid
@@ -81,10 +81,6 @@ module _ {K V S H : Type 0} (rules : Rules K V S) (R : Contents K V S → Conten
   known mid (no_target t e) = rw e (self, self_calm old)
   known mid (denied count bytes t d e) = rw e (k.asked bytes (contents old), limiter_calm old _)
 
-  oldest_calm : (n : ℕ) (mid : State K V S H) → Calm mid (without_oldest rules n mid)
-  oldest_calm n mid = let l = length-pops rules n (contents mid) in
-      record { entry_bytes = refl; moved = refl; placed = refl; table = refl; keeps = omega arith; few = omega (arith, l); fits = λ h. omega (arith, l, h) }
-
   -- Placing a pair makes way for it first.
   pub place_lands : (outcome : Outcome) (new : State K V S H) → Place rules hash_of pair old outcome new → Ends outcome new
   place_lands outcome new (first_table e b bytes u g m) =
@@ -108,9 +104,12 @@ module _ {K V S H : Type 0} (rules : Rules K V S) (R : Contents K V S → Conten
       small : IsBounded old → IsBucketCount (buckets old) → full_capacity count < 4 * (length old.pairs + 1)
       small ok (inl z) = absurd (no_buckets old ok f.0 z)
       small ok (inr j) = target_small j.0 old.max old.entry_bytes (buckets old) (length old.pairs + 1) count bytes j.1 l t
-  place_lands outcome new (evicting f i l mid c (finds_bucket n pos one half o p)) = let (r, s) = known mid c in
-      rw o (if_memory (without_oldest rules n mid) _ _ 0 placed new p (k.trans r (pops_keep rules R k n (contents mid))) (calm_trans old mid _ s (oldest_calm n mid)) (inl refl) (λ ok. omega (arith, f.1)) same_little)
-  place_lands outcome new (evicting f i l mid c (made_anew n pos one half left lv m)) = let (r, s) = known mid c in
+  place_lands outcome new (evicting f i l mid c (finds_bucket n pos one half left gone fills o p)) = let (r, s) = known mid c in
+      let lv = oldest_leaves rules _ n mid left gone in
+      rw o (if_memory left _ _ 0 placed new p (k.trans r (leaves_keep R mid _ left lv (pops_keep rules R k n (contents mid)))) (calm_trans old mid left s (leaves_calm mid _ left lv)) (inl refl)
+      (λ ok. omega (arith, f.1)) same_little)
+  place_lands outcome new (evicting f i l mid c (made_anew n pos one half left gone m)) = let (r, s) = known mid c in
+      let lv = oldest_leaves rules _ n mid left gone in
       if_memory left _ _ _ outcome new m (k.trans r (leaves_keep R mid _ left lv (pops_keep rules R k n (contents mid)))) (calm_trans old mid left s (leaves_calm mid _ left lv)) (inl refl)
       (λ ok. omega (arith, f.1, half, s.few, ap (λ st. length st.pairs) lv.is, length-pops rules n (contents mid))) same_little
 
@@ -134,11 +133,6 @@ module _ {K V S Q : Type 0} (rules : Rules K V S) (names : Q → K → Bool) (R 
 
 module _ {K V S H I : Type 0} (rules : Rules K V S) (offers : Offers K V S I) (names : I → K → Bool) (R : Contents K V S → Contents K V S → Type 0) (k : KeepsOffers rules offers names R)
     (hash_of : H → K → ℕ) (i : I) (v : V) (old : State K V S H) where
-  settles_calm : (outcome : Outcome) (landed : State K V S H) (result : Result Bool AllocError) (new : State K V S H) → Settles rules outcome landed result new → Calm landed new
-  settles_calm placed landed result new h = leaves_calm landed _ new h.1
-  settles_calm refused landed result new h = rw h.1 (self_calm landed)
-  settles_calm no_memory landed result new h = rw h.1 (self_calm landed)
-
   -- what a replacement leaves, where this value of the two stays
   exchanges : (pair : K × V) (w : V) → kept_value (replacement rules offers names pair i v old) ≡ w → R (contents old) (exchange rules offers names pair i v (contents old))
       → R (contents old) (record { pairs = ((replacement rules offers names pair i v old).key, w) ∷ without (names i) old.pairs; limiter = (replacement rules offers names pair i v old).limiter })
@@ -159,5 +153,5 @@ module _ {K V S H I : Type 0} (rules : Rules K V S) (offers : Offers K V S I) (n
       record {
         moves = k.keeps.way.trans reached (k.keeps.way.trans (place_keeps rules names R k.keeps hash_of pair ready outcome landed p) (settles_keep rules R k.keeps.way outcome landed result new t));
         tables = calm_then rules _ 1 old start new (limiter_calm old s) (calm_then rules _ 1 start ready new (leaves_calm start _ ready l)
-            (then_calm rules _ 1 ready landed new (place_tables rules _ hand _ hash_of pair ready (_, reached) outcome landed p) (settles_calm outcome landed result new t)));
+            (then_calm rules _ 1 ready landed new (place_tables rules _ hand _ hash_of pair ready (_, reached) outcome landed p) (settles_calm rules outcome landed result new t)));
       }

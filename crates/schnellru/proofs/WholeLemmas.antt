@@ -60,8 +60,8 @@ module _ {N : Type 0} (number : N → ℕ) (link : ℕ → N) (none : N) (eq : N
   IsWhole-shown slots newest oldest order whole = subst (IsWhole number link none slots newest oldest) (sym (whole_order slots newest oldest order whole)) whole
 
   -- a whole table is linked
-  pub IsLinked-view : (slots : List (Slot (Entry K V N))) (newest oldest : N) (order : List ℕ) → IsWhole number link none slots newest oldest order
-      → IsTable (marks_of slots) → IsLinked {K = K} {V = V} (record { slots = pair_slots slots; order = order })
+  pub IsLinked-view : {placings : ℕ} (slots : List (Slot (Entry K V N))) (newest oldest : N) (order : List ℕ) → IsWhole number link none slots newest oldest order
+      → IsTable (marks_of slots) → IsLinked {K = K} {V = V} (record { slots = pair_slots slots; order = order; placings = placings })
   IsLinked-view slots newest oldest order whole table = record {
     table = rw (marks_of-pair_slots slots) table;
     distinct = whole.chain.distinct;
@@ -167,14 +167,15 @@ module _ {N : Type 0} (number : N → ℕ) (link : ℕ → N) (none : N) (eq : N
     }
 
     -- and the table shows it
-    pub view-refilled : ◌≡◌ {A = Linked K V}
-        (record { slots = pair_slots after; order = along number (length after) after newest })
-        (with_pair (record { slots = pair_slots slots; order = order }) b (pair.key, pair.value))
-    view-refilled =
+    pub view-refilled : (placings : ℕ) → ◌≡◌ {A = Linked K V}
+        (record { slots = pair_slots after; order = along number (length after) after newest; placings = placings })
+        (with_pair (record { slots = pair_slots slots; order = order; placings = placings }) b (pair.key, pair.value))
+    view-refilled placings =
         let wrote = pair_slots-rewritten slots b next in
         let stays = whole_order after newest oldest order IsWhole-refilled in
         cc
 
-    pub IsLinked-refilled : IsTable (marks_of slots) → IsLinked (with_pair (record { slots = pair_slots slots; order = order }) b (pair.key, pair.value))
-    IsLinked-refilled table =
+    pub IsLinked-refilled : {placings : ℕ} → IsTable (marks_of slots)
+        → IsLinked (with_pair (record { slots = pair_slots slots; order = order; placings = placings }) b (pair.key, pair.value))
+    IsLinked-refilled {placings} table =
         rw (← pair_slots-rewritten slots b next) (IsLinked-view after newest oldest order IsWhole-refilled (rw (marks_of-refilled slots b next) table))

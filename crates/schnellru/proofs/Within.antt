@@ -1,18 +1,20 @@
 -- What the answer of an insert says.
-use Rattle.std.proofs.Common.{None, ◌≡◌, ℕ, zero, suc, ◌⊎◌, inl, inr, Bool, true, false, cond, not, List, [], ◌∷◌, length, Result, Ok, Err, refl, ap, ◌∙◌, subst, arith}
-use Rattle.std.specs.Prelude.{IsErr}
+use Rattle.std.proofs.Common.{None, ◌≡◌, ℕ, zero, suc, ◌⊎◌, inl, inr, Bool, true, false, cond, not, List, [], ◌∷◌, length, Result, Ok, Err, refl, sym, ap, ◌∙◌, subst, arith}
+use Rattle.std.proofs.lemmas.Bool.{false≢true}
+use Rattle.std.specs.Prelude.{IsErr, Some, IfSome}
 use Rattle.std.specs.declared.alloc.AllocError.{AllocError}
 use Rattle.std.proofs.lemmas.List.{nil_from_length}
 use Rattle.schnellru.proofs.Emptiness.{empty-length, is_empty-none}
 use Rattle.lru_limits.specs.Rules.{Rules, Offers}
 use Rattle.lru_limits.specs.Laws.{IsLookup, IsInsertion}
-use Rattle.schnellru.specs.Lists.{is_empty, IsFront, lookup_entry, without}
+use Rattle.schnellru.specs.Lists.{is_empty, first, IsFront, lookup, lookup_entry, without}
 use Rattle.schnellru.specs.State.{State, Contents, contents, Leaves, pop, trim, trim_from}
 use Rattle.schnellru.specs.Place.{Place, Outcome, placed, refused, no_memory}
 use Rattle.schnellru.specs.Inserts.{Insert, replaced, given_up, no_memory_to_admit, not_admitted, admitted, replacement, with_replaced, Settles}
-use Rattle.schnellru.specs.Theorems.{IsNewest, SaysWhether}
+use Rattle.schnellru.specs.Theorems.{IsNewest, SaysWhether, Stores, left, given, KeepsValues}
 use Rattle.schnellru.proofs.Leaving.{length-without_last}
-use Rattle.schnellru.proofs.Fronts.{front_way, front_same, front_trans, front_trim, front_make_way, front_absent, front_cons, given_named, replaced_named}
+use Rattle.schnellru.proofs.Outcomes.{ok-not_err, same_kept}
+use Rattle.schnellru.proofs.Fronts.{front_first, front_way, front_same, front_trans, front_trim, front_make_way, front_absent, front_cons, given_named, replaced_named}
 use Rattle.schnellru.proofs.Ways.{Lands, place_lands}
 use Rattle.schnellru.proofs.Distinct.{AreDistinct, absent_without}
 
@@ -69,6 +71,10 @@ module _ {K V S H : Type 0} (rules : Rules K V S) (hash_of : H → K → ℕ) (p
       end refused mid f l = ap (λ st. st.pairs) l.1 ∙ l.0
       end no_memory mid f l = front_trans _ _ _ (front_same _ _ (ap (λ st. st.pairs) l)) f
 
+not_true : (b : Bool) → true ≡ not b → b ≡ false
+not_true true e = absurd (false≢true (sym e))
+not_true false e = refl
+
 module _ {K V S H : Type 0} (rules : Rules K V S) (names : K → Bool) where
   -- after a trimming that answers whether a pair is left
   trimmed_says : (mid : State K V S H) (c : Contents K V S) (result : Result Bool AllocError) (new : State K V S H) → Leaves mid (trim rules c) new
@@ -111,3 +117,33 @@ module _ {K V S H I : Type 0} (rules : Rules K V S) (offers : Offers K V S I) (n
   insert_says result new d (admitted a s pair n (ready, l, outcome, landed, p, t)) =
       settled_says pair ready outcome landed result new (given_named rules offers names hash_of looks_up laws i v old s pair n)
       (front_absent (names i) ready.pairs old.pairs (front_trans _ _ _ (front_same _ _ (ap (λ st. st.pairs) l.is)) (front_make_way rules (record { pairs = old.pairs; limiter = s }))) a) (place_comes rules hash_of pair ready outcome landed p) t
+
+  -- The newest pair is the one that the insert stores.
+  stored : (c : Contents K V S) (mid : State K V S H) (new : State K V S H) → Leaves mid (trim rules c) new → ◌≡◌ {A = Result Bool AllocError} (Ok true) (Ok (not (is_empty new.pairs))) → (pair : K × V) (rest : List (K × V))
+      → c.pairs ≡ pair ∷ rest → Stores rules offers names i v old pair → IfSome (first new.pairs) (Stores rules offers names i v old)
+  stored c mid new l r pair rest is h =
+      let there : is_empty new.pairs ≡ false = not_true (is_empty new.pairs) (same_kept true _ r) in
+      let same : new.pairs ≡ (trim rules c).pairs = ap (λ st. st.pairs) l.is in
+      subst (λ o. IfSome o (Stores rules offers names i v old)) (sym (front_first new.pairs c.pairs (subst (λ xs. IsFront xs c.pairs) (sym same) (front_trim rules c)) there ∙ ap first is)) h
+
+  pub insert_stores : (result : Result Bool AllocError) (new : State K V S H) → result ≡ Ok true → Insert rules offers names hash_of i v old result new
+      → IfSome (first new.pairs) (Stores rules offers names i v old)
+  insert_stores result new q (replaced pair found y r l) = stored (with_replaced rules offers names pair i v old) old new l (sym q ∙ r) _ _ refl (left pair found y refl)
+  insert_stores result new q (given_up pair found y r l) = absurd (false≢true (same_kept false true (sym r ∙ q)))
+  insert_stores result new q (no_memory_to_admit a k r e) = ok-not_err result (rw q refl) r
+  insert_stores result new q (not_admitted a s n r e) = absurd (false≢true (same_kept false true (sym r ∙ q)))
+  insert_stores result new q (admitted a s pair n (ready, l, outcome, landed, p, t)) = go outcome (place_comes rules hash_of pair ready outcome landed p) t
+    where
+      go : (outcome : Outcome) → Comes rules hash_of pair ready outcome landed → Settles rules outcome landed result new → IfSome (first new.pairs) (Stores rules offers names i v old)
+      go placed b t = stored (contents landed) landed new t.1 (sym q ∙ t.0) pair b.0 b.1 (given a s n)
+      go refused b t = absurd (false≢true (same_kept false true (sym t.0 ∙ q)))
+      go no_memory b t = ok-not_err result (rw q refl) t.0
+
+module _ {K V S H I : Type 0} (rules : Rules K V S) (offers : Offers K V S I) (names : I → K → Bool) (i : I) (v : V) (old : State K V S H) where
+  -- where the limiter keeps values, the key is found with its own
+  pub insert_found : KeepsValues offers → (new : State K V S H) → IsNewest (names i) new.pairs → IfSome (first new.pairs) (Stores rules offers names i v old) → lookup (names i) new.pairs ≡ Some v
+  insert_found keeps new n h = rw n.first (rw n.named (ap Some (value n.pair (rw n.first at h))))
+    where
+      value : (pair : K × V) → Stores rules offers names i v old pair → pair.1 ≡ v
+      value pair (left was found y is) = ap (λ p. p.1) is ∙ keeps.replaced old.limiter (length old.pairs) was.0 i was.1 v
+      value pair (given a s n) = keeps.given old.limiter (length old.pairs) i v s pair.0 pair.1 n

@@ -12,11 +12,12 @@ use Rattle.group_table.proofs.RefillLemmas.{entry_at-refilled, marks_of-refilled
 use Rattle.group_table.proofs.SearchLemmas.{full_by_entry}
 use Rattle.schnellru.specs.Lists.{without, front, after, keys_of}
 use Rattle.schnellru.specs.Linked.{Linked, IsLinked, KeysFit, pairs_of, entries_in, without_bucket, with_pair}
-use Rattle.schnellru.specs.Holds.{state_by, Holds}
+use Rattle.schnellru.specs.Holds.{Beside, state_of, Holds}
+use Rattle.schnellru.specs.Calls.{promoted, written}
 use Rattle.schnellru.proofs.Cuts.{without_lacks, entries-apart, entries-cut}
 use Rattle.schnellru.proofs.Distinct.{AreDistinct, NoneNamed, distinct_newest}
 use Rattle.schnellru.proofs.Ordered.{cut_here, cut_pairs, unnamed, pair_found, others_are}
-use Rattle.schnellru.proofs.Kept.{sized_same}
+use Rattle.schnellru.proofs.Kept.{alike_holds}
 
 module _ {K V : Type 0} (t : Linked K V) (b : ℕ) (q : K × V) where
   pub written_length : length (with_pair t b q).slots ≡ length t.slots
@@ -36,7 +37,7 @@ set_end names p named w (x ∷ xs) ys h = ap (λ y. cond y ((x.0, w) ∷ (xs ++ 
 
 -- the pair in the bucket b of t comes first, in v
 module _ {K V : Type 0} (t v : Linked K V) (linked : IsLinked t) (b : ℕ) (p : K × V) (there : entry_at t.slots b ≡ Some p)
-    (slots : v.slots ≡ t.slots) (order : v.order ≡ b ∷ without_bucket b t.order)
+    (slots : v.slots ≡ t.slots) (order : v.order ≡ b ∷ without_bucket b t.order) (counted : v.placings ≡ t.placings)
     (names : K → Bool) {eq : K → K → Bool} (laws : IsEquivalence eq) (one : (x y : K) → names x ≡ true → names y ≡ eq x y) (named : names p.0 ≡ true)
     (distinct : AreDistinct eq (pairs_of t)) where
   pub first_pairs : (w : V) → pairs_of (with_pair v b (p.0, w)) ≡ (p.0, w) ∷ without names (pairs_of t)
@@ -50,26 +51,17 @@ module _ {K V : Type 0} (t v : Linked K V) (linked : IsLinked t) (b : ℕ) (p : 
   first_set w = ap (λ o. set_value names (after o (without names (pairs_of t))) w) (pair_found t linked b p there names laws one distinct named)
       ∙ ap (λ y. cond y ((p.0, w) ∷ without names (pairs_of t)) (p ∷ set_value names (without names (pairs_of t)) w)) named
 
-  module _ {S H : Type 0} (limiter : S) (hasher : H) (moved placed entry_bytes max : ℕ) (w : V) where
+  module _ {S H : Type 0} (beside : Beside S H) (w : V) where
     marks : marks_of (with_pair v b (p.0, w)).slots ≡ marks_of t.slots
     marks = marks_of-refilled v.slots b (p.0, w) ∙ ap marks_of slots
 
-    pub first_state : state_by (with_pair v b (p.0, w)) limiter hasher moved placed entry_bytes max
-        ≡ record (state_by t limiter hasher moved placed entry_bytes max) { pairs = set_value names (front names (pairs_of t)) w }
-    first_state = λ i. record (state_by (with_pair v b (p.0, w)) limiter hasher moved placed entry_bytes max) { pairs = (first_pairs w ∙ sym (first_set w)) i; marks = marks i }
+    pub first_state : state_of (with_pair v b (p.0, w)) beside ≡ written names w (promoted names (state_of t beside))
+    first_state = λ i. record (state_of (with_pair v b (p.0, w)) beside) { pairs = (first_pairs w ∙ sym (first_set w)) i; marks = marks i; placings = counted i }
 
-    pub first_holds : (hash_of : H → K → ℕ) → Holds eq hash_of t (state_by t limiter hasher moved placed entry_bytes max) → IsLinked (with_pair v b (p.0, w))
-        → KeysFit (hash_of hasher) (with_pair v b (p.0, w)).slots
-        → Holds eq hash_of (with_pair v b (p.0, w)) (state_by (with_pair v b (p.0, w)) limiter hasher moved placed entry_bytes max)
-    first_holds hash_of holds next fits = record {
-      linked = next;
-      fits = fits;
-      map = record {
-        distinct = subst (AreDistinct eq) (sym (first_pairs w)) (distinct_newest eq names one (p.0, w) (pairs_of t) named distinct);
-        sized = sized_same hasher moved placed entry_bytes max t (with_pair v b (p.0, w)) limiter limiter holds.map.sized next (written_length v b (p.0, w) ∙ ap length slots);
-        paid = subst (λ m. moved + (full_capacity (length m) - 2 * room m) ≤ 2 * placed) (sym marks) holds.map.paid;
-      };
-    }
+    pub first_holds : (hash_of : H → K → ℕ) → Holds eq hash_of t beside → IsLinked (with_pair v b (p.0, w))
+        → KeysFit (hash_of beside.hasher) (with_pair v b (p.0, w)).slots → Holds eq hash_of (with_pair v b (p.0, w)) beside
+    first_holds hash_of holds next fits = alike_holds beside eq hash_of t (with_pair v b (p.0, w)) holds next fits marks
+        (subst (AreDistinct eq) (sym (first_pairs w)) (distinct_newest eq names one (p.0, w) (pairs_of t) named distinct))
 
 -- the pair of the named key is in the bucket b of t, and stays at its place
 module _ {K V : Type 0} (t : Linked K V) (linked : IsLinked t) (b : ℕ) (p : K × V) (there : entry_at t.slots b ≡ Some p)
@@ -83,23 +75,14 @@ module _ {K V : Type 0} (t : Linked K V) (linked : IsLinked t) (b : ℕ) (p : K 
       ∙ sym (ap (λ l. set_value names l w) (cut_pairs t linked b p there names laws one distinct named)
       ∙ set_end names p named w (entries_in t.slots cut.before) (entries_in t.slots cut.after) (unnamed t linked b p there names laws one distinct named))
 
-  module _ {S H : Type 0} (limiter : S) (hasher : H) (moved placed entry_bytes max : ℕ) (w : V) where
-    pub kept_state : state_by (with_pair t b (p.0, w)) limiter hasher moved placed entry_bytes max
-        ≡ record (state_by t limiter hasher moved placed entry_bytes max) { pairs = set_value names (pairs_of t) w }
-    kept_state = λ i. record (state_by (with_pair t b (p.0, w)) limiter hasher moved placed entry_bytes max) { pairs = kept_pairs w i; marks = marks_of-refilled t.slots b (p.0, w) i }
+  module _ {S H : Type 0} (beside : Beside S H) (w : V) where
+    pub kept_state : state_of (with_pair t b (p.0, w)) beside ≡ written names w (state_of t beside)
+    kept_state = λ i. record (state_of (with_pair t b (p.0, w)) beside) { pairs = kept_pairs w i; marks = marks_of-refilled t.slots b (p.0, w) i }
 
-    pub kept_holds : (hash_of : H → K → ℕ) → Holds eq hash_of t (state_by t limiter hasher moved placed entry_bytes max) → IsLinked (with_pair t b (p.0, w))
-        → KeysFit (hash_of hasher) (with_pair t b (p.0, w)).slots
-        → Holds eq hash_of (with_pair t b (p.0, w)) (state_by (with_pair t b (p.0, w)) limiter hasher moved placed entry_bytes max)
-    kept_holds hash_of holds next fits = record {
-      linked = next;
-      fits = fits;
-      map = record {
-        distinct = subst (IsDistinct eq) (sym (ap keys_of (kept_pairs w) ∙ keys-set_value names (pairs_of t) w)) distinct;
-        sized = sized_same hasher moved placed entry_bytes max t (with_pair t b (p.0, w)) limiter limiter holds.map.sized next (written_length t b (p.0, w));
-        paid = subst (λ m. moved + (full_capacity (length m) - 2 * room m) ≤ 2 * placed) (sym (marks_of-refilled t.slots b (p.0, w))) holds.map.paid;
-      };
-    }
+    pub kept_holds : (hash_of : H → K → ℕ) → Holds eq hash_of t beside → IsLinked (with_pair t b (p.0, w))
+        → KeysFit (hash_of beside.hasher) (with_pair t b (p.0, w)).slots → Holds eq hash_of (with_pair t b (p.0, w)) beside
+    kept_holds hash_of holds next fits = alike_holds beside eq hash_of t (with_pair t b (p.0, w)) holds next fits (marks_of-refilled t.slots b (p.0, w))
+        (subst (IsDistinct eq) (sym (ap keys_of (kept_pairs w) ∙ keys-set_value names (pairs_of t) w)) distinct)
 
 -- what a lender ends as, as a function of the last value written
 pub same_follow : {N W M E : Type 0} (n : N) (f g : W → M) → ((w : W) → f w ≡ g w) → ◌≡◌ {A = (N × (W → M)) ⊎ E} (inl (n, f)) (inl (n, g))

@@ -1,17 +1,31 @@
 -- What each call of a map does; `Inserts` has the inserts, and `Reservations` those of room.
 --     rules      what the limiter says (`Rules` of `lru_limits`)
 --     names      whether a key is the one that is looked up
-use Rattle.std.specs.Prelude.{◌≡◌, Bool, [], Option, option_map, replicate}
+use Rattle.std.specs.Prelude.{◌≡◌, Bool, [], Option, Some, None, option_map, replicate}
+use Rattle.std.specs.Map.{set_value}
 use Rattle.group_table.specs.Bucket.{empty}
 use Rattle.lru_limits.specs.Rules.{Rules}
 use Rattle.schnellru.specs.Lists.{first, last, without_first, lookup, lookup_entry, without, front}
 use Rattle.schnellru.specs.State.{State, buckets, Contents, contents, Leaves, told_of, pop}
 
 module _ {K V S H : Type 0} where
-  -- the pair of the named key comes first, and its value is answered
-  pub record Get (names : K → Bool) (old : State K V S H) (result : Option V) (new : State K V S H) : Type 0 where
-    pub value : result ≡ lookup names old.pairs
-    pub state : new ≡ record old { pairs = front names old.pairs }
+  -- the pair of the named key comes first
+  abbrev pub promoted : (K → Bool) → State K V S H → State K V S H
+  promoted names st = record st { pairs = front names st.pairs }
+
+  -- the named key has this value
+  abbrev pub written : (K → Bool) → V → State K V S H → State K V S H
+  written names value st = record st { pairs = set_value names st.pairs value }
+
+  -- The value of the named key is lent, and its pair comes first, with what is left in the value. Where there is none,
+  -- nothing changes.
+  pub data Get (names : K → Bool) (old : State K V S H) (result : Option V) (new : State K V S H) : Type 0 where
+    found : (value left : V) → lookup names old.pairs ≡ Some value →
+        result ≡ Some value → new ≡ written names left (promoted names old) →
+        Get names old result new
+    absent : lookup names old.pairs ≡ None →
+        result ≡ None → new ≡ old →
+        Get names old result new
 
 module _ {K V S : Type 0} (rules : Rules K V S) where
   -- what the limiter leaves of the pair as it goes, if there is one

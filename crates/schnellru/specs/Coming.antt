@@ -5,7 +5,7 @@ use Rattle.std.specs.declared.alloc.AllocError.{AllocError}
 use Rattle.lru_limits.specs.Rules.{Rules, Offers}
 use Rattle.schnellru.specs.Lists.{first, last, lookup}
 use Rattle.schnellru.specs.State.{State, Contents, contents, Leaves, pop, pops}
-use Rattle.schnellru.specs.Calls.{Get, left_of, pop_first, cleared}
+use Rattle.schnellru.specs.Calls.{promoted, left_of, pop_first, cleared}
 use Rattle.schnellru.specs.Inserts.{Insert}
 
 module _ {K V S H : Type 0} where
@@ -34,14 +34,3 @@ module _ {K V S H : Type 0} (rules : Rules K V S) where
   pub record Drain (newest oldest : ℕ) (old : State K V S H) (result : List (K × V)) (new : State K V S H) : Type 0 where
     pub pairs : result ≡ newest_given rules newest (contents old) ++ oldest_given rules oldest (pops_first rules newest (contents old))
     pub state : (mid : State K V S H) × Leaves old (pops rules oldest (pops_first rules newest (contents old))) mid × (new ≡ cleared rules mid)
-
-module _ {K V S H I : Type 0} (rules : Rules K V S) (offers : Offers K V S I) (names : I → K → Bool) (hash_of : H → K → ℕ) where
-  -- the value of a key that is there is lent; else one that `makes` allows is inserted
-  pub data GetOrInsert (makes : V → Type 0) (i : I) (old : State K V S H) (result : Result (Option V) AllocError) (new : State K V S H) : Type 0 where
-    there : (w : V) → lookup (names i) old.pairs ≡ Some w →
-        result ≡ Ok (Some w) → Get (names i) old (Some w) new →
-        GetOrInsert makes i old result new
-    inserted : lookup (names i) old.pairs ≡ None →
-        (v : V) → makes v →
-        (flag : Result Bool AllocError) → Insert rules offers names hash_of i v old flag new →
-        GetOrInsert makes i old result new

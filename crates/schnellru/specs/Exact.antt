@@ -7,7 +7,8 @@ use Rattle.group_table.specs.Sizes.{full_capacity}
 use Rattle.schnellru.specs.Sizes.{usage, Target, target, no_table, same_table, new_table}
 use Rattle.schnellru.specs.Lists.{is_empty, lookup_entry}
 use Rattle.schnellru.specs.State.{State, buckets, room, Contents, contents, pops, trim}
-use Rattle.schnellru.specs.Inserts.{make_way, replacement, with_replaced, with_given_up, Admits}
+use Rattle.schnellru.specs.Place.{table_for}
+use Rattle.schnellru.specs.Inserts.{make_way, replacement, with_replaced, with_given_up, MayGive}
 
 -- whether a pair was placed, and the pairs and the limiter then
 pub record Landing (K V S : Type 0) : Type 0 where
@@ -90,7 +91,7 @@ module _ {K V S H I : Type 0} (rules : Rules K V S) (offers : Offers K V S I) (n
   -- by the pair whose key is there, if there is one, and else by what the limiter may give
   abbrev pub EndsBy : Option (K × V) → Result Bool AllocError → State K V S H → Type 0
   EndsBy (Some pair) result new = IsEnding (ending_there pair) result new
-  EndsBy None result new = (s : S) × (given : Option (K × V)) × Admits rules offers names i v old s given
+  EndsBy None result new = (s : S) × (given : Option (K × V)) × MayGive rules offers names i v old s given
       × IsEnding (ending_new s given) result new
 
   -- an insert ends as the pairs and the limiter have it
@@ -113,6 +114,6 @@ abbrev pub AlwaysGrants : {K V S : Type 0} → Rules K V S → Type 0
 AlwaysGrants {K} {V} {S} rules = (s : S) (bytes : ℕ) →
     ((rules.on_grow s bytes).allowed ≡ true) × ((rules.on_grow s bytes).limiter ≡ s)
 
--- there is a table for one pair more, and for each smaller number
+-- there is a table for one pair more, and for as many as there are
 abbrev pub HasTables : {K V S H : Type 0} → State K V S H → Type 0
-HasTables st = (pairs : ℕ) → pairs ≤ length st.pairs + 1 → target st.max st.entry_bytes (buckets st) pairs ≢ no_table
+HasTables st = (table_for 1 st ≢ no_table) × (table_for 0 st ≢ no_table)

@@ -8,7 +8,7 @@ use Rattle.std.specs.declared.alloc.AllocError.{AllocError}
 use Rattle.lru_limits.specs.Rules.{Rules, Offers}
 use Rattle.schnellru.specs.Lists.{lookup, lookup_entry}
 use Rattle.schnellru.specs.State.{State}
-use Rattle.schnellru.specs.Calls.{Get}
+use Rattle.schnellru.specs.Calls.{promoted}
 use Rattle.schnellru.specs.Inserts.{Insert}
 use Rattle.schnellru.specs.Theorems.{IsNewest}
 
@@ -16,7 +16,7 @@ module _ {K V S H I : Type 0} (rules : Rules K V S) (offers : Offers K V S I) (n
   -- A key that is there is got; else a value that the closure makes is inserted. The answer is whether the key is there.
   pub data MakesNewest (makes : V → Type 0) (i : I) (old : State K V S H) (result : Result Bool AllocError) (new : State K V S H) : Type 0 where
     got : (w : V) → lookup (names i) old.pairs ≡ Some w →
-        result ≡ Ok true → Get (names i) old (Some w) new →
+        result ≡ Ok true → new ≡ promoted (names i) old →
         MakesNewest makes i old result new
     inserted : lookup (names i) old.pairs ≡ None →
         (v : V) → makes v → Insert rules offers names hash_of i v old result new →

@@ -4,21 +4,32 @@ use Rattle.group_table.specs.Bucket.{marks_of}
 use Rattle.schnellru.specs.State.{State, IsMap}
 use Rattle.schnellru.specs.Linked.{Linked, IsLinked, KeysFit, pairs_of}
 
+-- what a map has beside its entries
+pub record Beside (S H : Type 0) : Type 0 where
+  pub limiter : S
+  pub hasher : H
+  pub moved : ℕ
+  pub placed : ℕ
+  pub entry_bytes : ℕ
+  pub max : ℕ
+
 module _ {K V S H : Type 0} where
-  abbrev pub state_by : Linked K V → S → H → ℕ → ℕ → ℕ → ℕ → State K V S H
-  state_by entries limiter hasher moved placed entry_bytes max = record {
+  -- a map of these entries
+  abbrev pub state_of : Linked K V → Beside S H → State K V S H
+  state_of entries beside = record {
     pairs = pairs_of entries;
-    limiter = limiter;
-    hasher = hasher;
+    limiter = beside.limiter;
+    hasher = beside.hasher;
     marks = marks_of entries.slots;
-    moved = moved;
-    placed = placed;
-    entry_bytes = entry_bytes;
-    max = max;
+    placings = entries.placings;
+    moved = beside.moved;
+    placed = beside.placed;
+    entry_bytes = beside.entry_bytes;
+    max = beside.max;
   }
 
   -- the buckets are linked, the hashes of the keys fit, and what holds of every map holds
-  pub record Holds (eq : K → K → Bool) (hash_of : H → K → ℕ) (entries : Linked K V) (st : State K V S H) : Type 0 where
+  pub record Holds (eq : K → K → Bool) (hash_of : H → K → ℕ) (entries : Linked K V) (beside : Beside S H) : Type 0 where
     pub linked : IsLinked entries
-    pub fits : KeysFit (hash_of st.hasher) entries.slots
-    pub map : IsMap eq st
+    pub fits : KeysFit (hash_of beside.hasher) entries.slots
+    pub map : IsMap eq (state_of entries beside)

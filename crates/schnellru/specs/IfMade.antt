@@ -4,7 +4,7 @@ use Rattle.std.specs.declared.alloc.AllocError.{AllocError}
 use Rattle.lru_limits.specs.Rules.{Rules, Offers}
 use Rattle.schnellru.specs.Lists.{lookup}
 use Rattle.schnellru.specs.State.{State}
-use Rattle.schnellru.specs.Calls.{Get}
+use Rattle.schnellru.specs.Calls.{promoted}
 use Rattle.schnellru.specs.Inserts.{Insert}
 use Rattle.schnellru.specs.declared.map.get_or_insert.GetOrInsertError.{GetOrInsertError}
 use Rattle.schnellru.specs.declared.map.get_or_insert.GetOrInsertError.TheVariants.{Memory, Caller}
@@ -17,7 +17,7 @@ or_memory (Err e) = Err Memory
 module _ {K V S H I E : Type 0} (rules : Rules K V S) (offers : Offers K V S I) (names : I → K → Bool) (hash_of : H → K → ℕ) where
   pub data MakesNewestIfMade (makes : Result V E → Type 0) (i : I) (old : State K V S H) (result : Result Bool (GetOrInsertError E)) (new : State K V S H) : Type 0 where
     got : (w : V) → lookup (names i) old.pairs ≡ Some w →
-        result ≡ Ok true → Get (names i) old (Some w) new →
+        result ≡ Ok true → new ≡ promoted (names i) old →
         MakesNewestIfMade makes i old result new
     failed : lookup (names i) old.pairs ≡ None →
         (e : E) → makes (Err e) → result ≡ Err (Caller e) → new ≡ old →

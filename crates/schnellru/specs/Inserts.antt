@@ -21,9 +21,9 @@ module _ {K V S H : Type 0} (rules : Rules K V S) where
   Settles refused landed result new = (result ≡ Ok false) × (new ≡ landed)
   Settles no_memory landed result new = IsErr result × (new ≡ landed)
 
-  -- a new pair that the limiter gave is placed, after way was made for it, and before what follows
-  abbrev pub Admitted : (H → K → ℕ) → K × V → State K V S H → Result Bool AllocError → State K V S H → Type 0
-  Admitted hash_of pair old result new = (ready : State K V S H) × Leaves old (make_way rules (contents old)) ready
+  -- a pair of a new key, which the limiter gave, is placed, after way was made for it and before what follows
+  abbrev pub PlacesNew : (H → K → ℕ) → K × V → State K V S H → Result Bool AllocError → State K V S H → Type 0
+  PlacesNew hash_of pair old result new = (ready : State K V S H) × Leaves old (make_way rules (contents old)) ready
       × (outcome : Outcome) × (landed : State K V S H) × Place rules hash_of pair ready outcome landed
       × Settles outcome landed result new
 
@@ -42,9 +42,9 @@ module _ {K V S H I : Type 0} (rules : Rules K V S) (offers : Offers K V S I) (n
   with_given_up pair i v st = let r = replacement pair i v st in
       record { pairs = without (names i) st.pairs; limiter = (rules.on_removed r.limiter r.key r.old_value).limiter }
 
-  -- the limiter may give this of a new key, and be s then
-  abbrev pub Admits : I → V → State K V S H → S → Option (K × V) → Type 0
-  Admits i v st s given = offers.on_insert st.limiter (length st.pairs) i v s given
+  -- of a new key the limiter may give this, and be s then
+  abbrev pub MayGive : I → V → State K V S H → S → Option (K × V) → Type 0
+  MayGive i v st s given = offers.on_insert st.limiter (length st.pairs) i v s given
 
   module _ (hash_of : H → K → ℕ) where
     -- what an insert may answer and leave
@@ -65,13 +65,13 @@ module _ {K V S H I : Type 0} (rules : Rules K V S) (offers : Offers K V S I) (n
           IsErr result → new ≡ old →
           Insert i v old result new
       not_admitted : lookup_entry (names i) old.pairs ≡ None →
-          (s : S) → Admits i v old s None →
+          (s : S) → MayGive i v old s None →
           result ≡ Ok false → new ≡ record old { limiter = s } →
           Insert i v old result new
       -- or the pair that it gives is placed, with all that this takes.
       admitted : lookup_entry (names i) old.pairs ≡ None →
-          (s : S) (pair : K × V) → Admits i v old s (Some pair) →
-          Admitted rules hash_of pair (record old { limiter = s }) result new →
+          (s : S) (pair : K × V) → MayGive i v old s (Some pair) →
+          PlacesNew rules hash_of pair (record old { limiter = s }) result new →
           Insert i v old result new
 
     -- memory is short for the table: there is no room, and no buckets or a pair beside which to place the new one, where
@@ -80,7 +80,7 @@ module _ {K V S H I : Type 0} (rules : Rules K V S) (offers : Offers K V S I) (n
       pub no_room : room old ≡ 0
       pub s : S
       pub pair : K × V
-      pub admits : Admits i v old s (Some pair)
+      pub given : MayGive i v old s (Some pair)
       pub beside : (buckets old ≡ 0) ⊎ (0 < length (make_way rules (record { pairs = old.pairs; limiter = s })).pairs)
 
     -- why an insert finds no memory: the key is new, and the limiter found none for it, so that nothing has changed, or

@@ -2,7 +2,7 @@
 use Rattle.std.specs.Prelude.{◌≡◌, ◌≢◌, ℕ, ◌+◌, List, [], ◌∷◌, ◌++◌, length, filter, not, nat_eq, slice_set, option_map, option_to_list, unwrap_or, Contains, AllPairs}
 use Rattle.group_table.specs.Bucket.{Slot, full, IsFull, entry_at, entry_count, bucket_at, refilled, marks_of, room, room_at}
 use Rattle.group_table.specs.Probe.{hash_tag, IsFirstFree}
-use Rattle.group_table.specs.Change.{MayFill}
+use Rattle.group_table.specs.Change.{MayFill, count_up}
 use Rattle.group_table.specs.Table.{IsTable}
 use Rattle.group_table.specs.Fits.{Fits}
 
@@ -11,6 +11,8 @@ pub record Linked (K V : Type 0) : Type 0 where
   pub slots : List (Slot (K × V))
   -- the full buckets, newest first
   pub order : List ℕ
+  -- how many placings the table has made
+  pub placings : ℕ
 
 -- the buckets without this one
 abbrev pub without_bucket : ℕ → List ℕ → List ℕ
@@ -44,6 +46,7 @@ module _ {K V : Type 0} where
     pub may : MayFill (marks_of old.slots) b
     pub slots : new.slots ≡ slice_set old.slots b (full (record { tag = hash_tag hash; entry = pair }))
     pub order : new.order ≡ b ∷ old.order
+    pub placings : new.placings ≡ count_up old.placings 1
     pub room : room (marks_of new.slots) + room_at (marks_of old.slots) b ≡ room (marks_of old.slots)
 
   -- what holds of every table whose buckets are linked

@@ -1,7 +1,6 @@
 -- What a map ends as, once a reference into it has ended.
-use Rattle.std.specs.Prelude.{Bool, List, Option}
+use Rattle.std.specs.Prelude.{Bool, Option}
 use Rattle.std.specs.Borrow.{Fml, RattleType, MutBor, Lends, LendsIf}
-use Rattle.std.specs.Map.{set_value}
 use Rattle.std.specs.declared.cmp.PartialEq as equality
 use Rattle.std.specs.declared.fmt.Debug as debug
 use Rattle.std.specs.HashMap.Lent.{HashMembers}
@@ -11,6 +10,7 @@ use Rattle.group_table.specs.declared.link.LinkType as link_type
 use Rattle.lru_limits.specs.declared.limiter.Limiter as limiter
 use Rattle.schnellru.specs.Lists.{set_newest}
 use Rattle.schnellru.specs.State.{State}
+use Rattle.schnellru.specs.Calls.{written}
 use Rattle.schnellru.specs.contracts.map.LruMap.{the_row}
 
 module _ (K V L S N H : RattleType) (key : HashMembers K.Denot) (limits : limiter.Ghosts L.Denot K.Denot V.Denot N.Denot)
@@ -21,9 +21,9 @@ module _ (K V L S N H : RattleType) (key : HashMembers K.Denot) (limits : limite
   map_row = the_row K V L S N H (record { eq = key.eq }) (record { hash_input = key.hash_input }) limits links link_eq link_shown build hash
 
   module _ (m : MutBor (State K.Denot V.Denot L.Denot S.Denot)) where
-    -- it has these pairs, with the last value written through r at the key that is named, and at `None` it stays as it is
-    abbrev pub lends_value : (K.Denot → Bool) → List (K.Denot × V.Denot) → Option (MutBor V.Denot) → Fml
-    lends_value names pairs r = LendsIf map_row V m r (λ last. record m.now { pairs = set_value names pairs last }) m.now
+    -- it ends as this map, but with the last value written through r at the key that is named, and at `None` it stays as it is
+    abbrev pub lends_value : (K.Denot → Bool) → State K.Denot V.Denot L.Denot S.Denot → Option (MutBor V.Denot) → Fml
+    lends_value names base r = LendsIf map_row V m r (λ last. written names last base) m.now
 
     -- its newest pair has the last value written through r, and at `None` it stays as it is
     abbrev pub lends_newest : Option (MutBor V.Denot) → Fml

@@ -1,11 +1,11 @@
 -- Placing a new pair: what the table's room allows, what the limiter is asked, and what it costs.
-use Rattle.std.specs.Prelude.{◌≡◌, ℕ, ◌+◌, ◌-◌, ◌/◌, ◌≤◌, ◌<◌, ◌⊎◌, Bool, true, false, [], ◌∷◌, length, Some, None, Result, Ok, Err}
+use Rattle.std.specs.Prelude.{◌≡◌, ℕ, zero, suc, ◌+◌, ◌-◌, ◌/◌, ◌≤◌, ◌<◌, ◌⊎◌, Bool, true, false, [], ◌∷◌, length, Some, None, Result, Ok, Err}
 use Rattle.group_table.specs.Sizes.{full_capacity}
 use Rattle.group_table.specs.Bucket.{empty, deleted}
-use Rattle.group_table.specs.Change.{count_up}
+use Rattle.group_table.specs.Change.{count_up, HasNoPlace}
 use Rattle.lru_limits.specs.Rules.{Rules}
 use Rattle.schnellru.specs.Sizes.{usage, target, Target, no_table, new_table}
-use Rattle.schnellru.specs.State.{State, buckets, room, FirstFreeIs, contents, Leaves, pops}
+use Rattle.schnellru.specs.State.{State, buckets, room, FirstFreeIs, contents, Leaves, pop}
 
 -- what comes of placing a pair: it is in the map, the limiter or the size refused it, or memory did
 pub data Outcome : Type 0 where
@@ -26,13 +26,20 @@ module _ {K V S H : Type 0} where
     pub state : new ≡ record old {
       pairs = pair ∷ old.pairs;
       marks = new.marks;
+      placings = count_up old.placings (moves + 1);
       moved = count_up old.moved moves;
       placed = count_up old.placed 1;
     }
 
-  -- a bucket is filled that was empty, which uses one of the room, or deleted, which uses none
-  abbrev pub FillsBucket : State K V S H → State K V S H → Type 0
-  FillsBucket old new = (room new + 1 ≡ room old) ⊎ ((16 < buckets old) × (room new ≡ room old))
+  -- The first free bucket that a search for the hash finds was filled: an empty one, which uses one of the room, or, in a
+  -- table of more than 16 buckets, a deleted one, which uses none.
+  abbrev pub FillsBucket : ℕ → State K V S H → State K V S H → Type 0
+  FillsBucket hash old new = (FirstFreeIs empty hash old × (room new + 1 ≡ room old))
+      ⊎ (FirstFreeIs deleted hash old × (16 < buckets old) × (room new ≡ room old))
+
+  -- where the table goes for n pairs more
+  abbrev pub table_for : ℕ → State K V S H → Target
+  table_for n st = target st.max st.entry_bytes (buckets st) (length st.pairs + n)
 
   -- there is a pair, and no more is sure to fit
   abbrev pub LacksRoom : State K V S H → Type 0
@@ -55,9 +62,11 @@ module _ {K V S H : Type 0} (rules : Rules K V S) where
   abbrev pub turned_away : K × V → State K V S H → State K V S H
   turned_away pair st = record st { limiter = (rules.on_removed st.limiter pair.0 pair.1).limiter }
 
-  -- after so many of the oldest left, with the marks as they were
-  abbrev pub without_oldest : ℕ → State K V S H → State K V S H
-  without_oldest n st = let c = pops rules n (contents st) in record st { pairs = c.pairs; limiter = c.limiter }
+  -- So many of the oldest left, one after another, each because a pair of this hash had no place.
+  abbrev pub OldestLeave : ℕ → ℕ → State K V S H → State K V S H → Type 0
+  OldestLeave hash zero old new = new ≡ old
+  OldestLeave hash (suc n) old new = (before : State K V S H) × OldestLeave hash n old before
+      × HasNoPlace before.marks hash × Leaves before (pop rules (contents before)) new
 
   -- the pair is placed, or no memory is found for it and the rest stays
   abbrev pub IsPlacedIfMemory : K × V → ℕ → ℕ → ℕ → State K V S H → Outcome → State K V S H → Type 0
@@ -65,29 +74,26 @@ module _ {K V S H : Type 0} (rules : Rules K V S) where
   IsPlacedIfMemory pair count spare moves old no_memory new = new ≡ turned_away pair old
   IsPlacedIfMemory pair count spare moves old refused new = ⊥
 
-  -- where a table without room goes for one more pair
-  abbrev pub next_table : State K V S H → Target
-  next_table st = target st.max st.entry_bytes (buckets st) (length st.pairs + 1)
-
   -- there is no larger table, and mid is the state in which this is known: links or bytes do not reach one, or the
   -- limiter refuses it
   pub data CannotGrow (old mid : State K V S H) : Type 0 where
-    no_target : next_table old ≡ no_table → mid ≡ old → CannotGrow old mid
-    denied : (count bytes : ℕ) → next_table old ≡ new_table count bytes → Denies bytes old →
+    no_target : table_for 1 old ≡ no_table → mid ≡ old → CannotGrow old mid
+    denied : (count bytes : ℕ) → table_for 1 old ≡ new_table count bytes → Denies bytes old →
         mid ≡ asked bytes old → CannotGrow old mid
 
-  -- After so many of the oldest left mid, the pair found a bucket, or the table was made anew for it, as soon as they were
-  -- fewer than half of what it takes. The map was old before mid was known.
-  pub data Evicts (pair : K × V) (old mid : State K V S H) (outcome : Outcome) (new : State K V S H) : Type 0 where
+  -- The oldest leave mid until the pair of this hash finds a bucket, or until they are fewer than half of what the table
+  -- takes, and it is made anew for the pair. The map was old before mid was known.
+  pub data Evicts (hash : ℕ) (pair : K × V) (old mid : State K V S H) (outcome : Outcome) (new : State K V S H) : Type 0 where
     finds_bucket : (n : ℕ) → 0 < n → (buckets old ≤ 16 → n ≡ 1) →
         full_capacity (buckets old) / 2 + n ≤ length old.pairs →
-        outcome ≡ placed → IsPlaced pair (buckets old) (room new) 0 (without_oldest n mid) new →
-        Evicts pair old mid outcome new
+        (left : State K V S H) → OldestLeave hash n mid left → FillsBucket hash left new →
+        outcome ≡ placed → IsPlaced pair (buckets old) (room new) 0 left new →
+        Evicts hash pair old mid outcome new
     made_anew : (n : ℕ) → 0 < n → (buckets old ≤ 16 → n ≡ 1) →
         length old.pairs + 1 ≡ full_capacity (buckets old) / 2 + n →
-        (left : State K V S H) → Leaves mid (pops rules n (contents mid)) left →
+        (left : State K V S H) → OldestLeave hash n mid left →
         IsPlacedIfMemory pair (buckets old) (full_capacity (buckets old) / 2) (length left.pairs) left outcome new →
-        Evicts pair old mid outcome new
+        Evicts hash pair old mid outcome new
 
 module _ {K V S H : Type 0} (rules : Rules K V S) (hash_of : H → K → ℕ) where
   -- what may come of placing the pair
@@ -107,7 +113,7 @@ module _ {K V S H : Type 0} (rules : Rules K V S) (hash_of : H → K → ℕ) wh
         Place pair old outcome new
     -- A map without pairs that has a table places one, asks nothing and needs no memory.
     empty_with_room : old.pairs ≡ [] → 0 < buckets old →
-        0 < room old → FillsBucket old new →
+        0 < room old → FillsBucket (hash_of old.hasher pair.0) old new →
         outcome ≡ placed → IsPlaced pair (buckets old) (room new) 0 old new →
         Place pair old outcome new
     empty_without_room : old.pairs ≡ [] → 0 < buckets old →
@@ -115,7 +121,7 @@ module _ {K V S H : Type 0} (rules : Rules K V S) (hash_of : H → K → ℕ) wh
         outcome ≡ placed → IsPlaced pair (buckets old) (full_capacity (buckets old) - 1) 0 old new →
         Place pair old outcome new
     -- So does a table with room.
-    with_room : 0 < length old.pairs → 0 < room old → FillsBucket old new →
+    with_room : 0 < length old.pairs → 0 < room old → FillsBucket (hash_of old.hasher pair.0) old new →
         outcome ≡ placed → IsPlaced pair (buckets old) (room new) 0 old new →
         Place pair old outcome new
     -- With no room a deleted bucket serves, where it is the first free one that a search finds.
@@ -132,12 +138,13 @@ module _ {K V S H : Type 0} (rules : Rules K V S) (hash_of : H → K → ℕ) wh
     -- or, with more pairs, larger,
     grown : LacksRoom old → FirstFreeIs empty (hash_of old.hasher pair.0) old →
         full_capacity (buckets old) / 2 < length old.pairs + 1 →
-        (count bytes : ℕ) → next_table rules old ≡ new_table count bytes → Grants rules bytes old →
+        (count bytes : ℕ) → table_for 1 old ≡ new_table count bytes → Grants rules bytes old →
         IsPlacedIfMemory rules pair count (full_capacity count - length old.pairs - 1)
         (length old.pairs) (asked rules bytes old) outcome new →
         Place pair old outcome new
     -- or it cannot be, and the oldest leave, at least one.
     evicting : LacksRoom old → FirstFreeIs empty (hash_of old.hasher pair.0) old →
         full_capacity (buckets old) / 2 < length old.pairs + 1 →
-        (mid : State K V S H) → CannotGrow rules old mid → Evicts rules pair old mid outcome new →
+        (mid : State K V S H) → CannotGrow rules old mid →
+        Evicts rules (hash_of old.hasher pair.0) pair old mid outcome new →
         Place pair old outcome new

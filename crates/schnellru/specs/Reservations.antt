@@ -1,24 +1,13 @@
 -- What `try_reserve` does.
 use Rattle.std.specs.Prelude.{◌≡◌, ℕ, ◌+◌, ◌^◌, ◌≤◌, ◌<◌, length, Result, Ok, Err}
-use Rattle.group_table.specs.Sizes.{full_capacity}
 use Rattle.lru_limits.specs.Rules.{Rules}
-use Rattle.schnellru.specs.Sizes.{target, Target, no_table, same_table, new_table}
-use Rattle.schnellru.specs.State.{State, buckets, room}
-use Rattle.schnellru.specs.Place.{asked, Grants, Denies}
+use Rattle.schnellru.specs.Sizes.{no_table, same_table, new_table}
+use Rattle.schnellru.specs.State.{State, buckets, room, MovesTo}
+use Rattle.schnellru.specs.Place.{table_for, asked, Grants, Denies}
 use Rattle.schnellru.specs.declared.map.reserve.ReserveError.{ReserveError}
 use Rattle.schnellru.specs.declared.map.reserve.ReserveError.TheVariants.{TooLarge, Refused, Memory}
 
 module _ {K V S H : Type 0} where
-  -- the pairs stand in a table of so many buckets, none of which is deleted
-  pub record IsReserved (count : ℕ) (old new : State K V S H) : Type 0 where
-    pub table : buckets new ≡ count
-    pub exact : length old.pairs + room new ≡ full_capacity count
-    pub state : new ≡ record old { marks = new.marks }
-
-  -- where the table goes for n more
-  abbrev pub table_for : ℕ → State K V S H → Target
-  table_for n st = target st.max st.entry_bytes (buckets st) (length st.pairs + n)
-
   -- n more are not sure to fit, and their number with the pairs is one of 64 bits
   abbrev pub LacksRoomFor : ℕ → State K V S H → Type 0
   LacksRoomFor n st = (room st < n) × (length st.pairs + n < 2 ^ 64)
@@ -39,14 +28,14 @@ module _ {K V S H : Type 0} (rules : Rules K V S) where
         Reserve n old result new
     -- The table is made anew at its size, for which nothing is asked; without pairs it needs no memory.
     remade : LacksRoomFor n old → table_for n old ≡ same_table →
-        result ≡ Ok tt → IsReserved (buckets old) old new →
+        result ≡ Ok tt → MovesTo (buckets old) old new →
         Reserve n old result new
     no_memory_to_remake : LacksRoomFor n old → table_for n old ≡ same_table → 0 < length old.pairs →
         result ≡ Err Memory → new ≡ old →
         Reserve n old result new
     -- Or it is made larger, where the limiter permits it.
     reserved : LacksRoomFor n old → (count bytes : ℕ) → table_for n old ≡ new_table count bytes → Grants rules bytes old →
-        result ≡ Ok tt → IsReserved count (asked rules bytes old) new →
+        result ≡ Ok tt → MovesTo count (asked rules bytes old) new →
         Reserve n old result new
     no_memory_to_grow : LacksRoomFor n old → (count bytes : ℕ) → table_for n old ≡ new_table count bytes → Grants rules bytes old →
         result ≡ Err Memory → new ≡ asked rules bytes old →

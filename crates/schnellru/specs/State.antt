@@ -3,6 +3,7 @@ use Rattle.std.specs.Prelude.{◌≡◌, ℕ, zero, suc, ◌+◌, ◌-◌, ◌*�
 use Rattle.std.specs.List.{IsDistinct}
 use Rattle.group_table.specs.Sizes.{full_capacity}
 use Rattle.group_table.specs.Bucket.{Mark, bucket_at, entry_count, room as room_of}
+use Rattle.group_table.specs.Change.{count_up}
 use Rattle.group_table.specs.Probe.{IsFirstFree}
 use Rattle.group_table.specs.Table.{IsTable}
 use Rattle.lru_limits.specs.Rules.{Rules}
@@ -23,6 +24,8 @@ pub record State (K V S H : Type 0) : Type 0 where
   pub hasher : H
   -- whether each bucket of the table is empty, deleted or full
   pub marks : List Mark
+  -- how many placings the table has made
+  pub placings : ℕ
   -- how many entries inserts placed anew, and how many new ones they placed
   pub moved : ℕ
   pub placed : ℕ
@@ -38,6 +41,7 @@ module _ {K V S H : Type 0} where
     limiter = limiter;
     hasher = hasher;
     marks = [];
+    placings = 0;
     moved = 0;
     placed = 0;
     entry_bytes = entry_bytes;
@@ -96,6 +100,12 @@ module _ {K V S H : Type 0} where
     pub exact : buckets old ≤ 16 → length new.pairs + room new ≡ length old.pairs + room old
     -- where nothing left, no mark has changed
     pub untouched : length new.pairs ≡ length old.pairs → new.marks ≡ old.marks
+
+  -- all pairs moved into a table of so many buckets, none of which is deleted
+  pub record MovesTo (count : ℕ) (old new : State K V S H) : Type 0 where
+    pub table : buckets new ≡ count
+    pub exact : length old.pairs + room new ≡ full_capacity count
+    pub state : new ≡ record old { marks = new.marks; placings = count_up old.placings (length old.pairs) }
 
   -- new is old with these contents, after some pairs left
   pub record Leaves (old : State K V S H) (left : Contents K V S) (new : State K V S H) : Type 0 where

@@ -1,41 +1,24 @@
--- What the parts of a placing do. No public clause cites this module.
-use Rattle.std.specs.Prelude.{◌≡◌, ℕ, ◌+◌, ◌<◌, ◌⊎◌, ◌∷◌, length, Some}
-use Rattle.group_table.specs.Sizes.{full_capacity}
-use Rattle.group_table.specs.Bucket.{deleted, marks_of, entry_at, room as room_of, room_at}
-use Rattle.group_table.specs.Change.{count_up, Removes}
+-- What becomes of a pair in a bucket: it is replaced, given up, or taken out. No public clause cites this module.
+use Rattle.std.specs.Prelude.{◌≡◌, ℕ, ◌+◌, ◌∷◌, Some}
+use Rattle.group_table.specs.Bucket.{marks_of, entry_at, room as room_of, room_at}
+use Rattle.group_table.specs.Change.{Removes}
 use Rattle.lru_limits.specs.Rules.{Rules, Replaced}
-use Rattle.schnellru.specs.State.{State, buckets, room, FirstFreeIs, told_of}
+use Rattle.schnellru.specs.State.{told_of}
 use Rattle.schnellru.specs.Calls.{left_of}
 use Rattle.schnellru.specs.Linked.{Linked, with_pair, without_bucket}
-
-module _ {K V S H : Type 0} where
-  -- all pairs moved into a table of so many buckets, none of which is deleted
-  pub record IsMoved (count : ℕ) (old new : State K V S H) : Type 0 where
-    pub table : buckets new ≡ count
-    pub exact : length old.pairs + room new ≡ full_capacity count
-    pub state : new ≡ record old { marks = new.marks; moved = count_up old.moved (length old.pairs) }
-
-  -- of the room that there was one is used, or none, in a deleted bucket
-  abbrev pub UsesRoom : State K V S H → State K V S H → Type 0
-  UsesRoom old new = (room new + 1 ≡ room old) ⊎ ((16 < buckets old) × (room new ≡ room old) × (length old.pairs + room old < full_capacity (buckets old)))
-
-  -- without room a deleted bucket is used
-  pub record UsesDeleted (hash : ℕ) (old new : State K V S H) : Type 0 where
-    pub none_left : room new ≡ 0
-    pub first : FirstFreeIs deleted hash old
-    pub large : 16 < buckets old
-    pub within : length old.pairs < full_capacity (buckets old)
 
 -- The limiter took the new value for the pair in a bucket, and the pair is the newest.
 pub record IsReplaced {K V S : Type 0} (by : Replaced K V S) (b : ℕ) (old new : Linked K V) (limiter : S) : Type 0 where
   pub slots : new.slots ≡ (with_pair old b (by.key, by.new_value)).slots
   pub order : new.order ≡ b ∷ without_bucket b old.order
+  pub placings : new.placings ≡ old.placings
   pub told : limiter ≡ by.limiter
 
 -- The limiter refused it, and the pair left.
 pub record IsGivenUp {K V S : Type 0} (rules : Rules K V S) (by : Replaced K V S) (b : ℕ) (old new : Linked K V) (limiter : S) : Type 0 where
   pub slots : Removes (with_pair old b (by.key, by.old_value)).slots new.slots b
   pub order : new.order ≡ without_bucket b old.order
+  pub placings : new.placings ≡ old.placings
   pub room : room_of (marks_of new.slots) ≡ room_of (marks_of old.slots) + room_at (marks_of new.slots) b
   pub told : limiter ≡ (rules.on_removed by.limiter by.key by.old_value).limiter
 
@@ -47,4 +30,5 @@ pub record IsTakenOut {K V S : Type 0} (rules : Rules K V S) (b : ℕ) (old new 
   pub told : after ≡ told_of rules (Some pair) limiter
   pub slots : Removes old.slots new.slots b
   pub order : new.order ≡ without_bucket b old.order
+  pub placings : new.placings ≡ old.placings
   pub room : room_of (marks_of new.slots) ≡ room_of (marks_of old.slots) + room_at (marks_of new.slots) b

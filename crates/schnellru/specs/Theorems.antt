@@ -1,12 +1,13 @@
 -- What the theorems say.
-use Rattle.std.specs.Prelude.{◌≡◌, ℕ, ◌+◌, ◌-◌, ◌*◌, ◌/◌, ◌^◌, ◌≤◌, ◌<◌, Bool, true, false, List, ◌∷◌, length, sum_by, Some, None, Result, Ok, Err}
+use Rattle.std.specs.Prelude.{◌≡◌, ℕ, ◌+◌, ◌-◌, ◌*◌, ◌/◌, ◌^◌, ◌≤◌, ◌<◌, Bool, true, false, List, ◌∷◌, length, sum_by, Option, Some, None, Result, Ok, Err}
 use Rattle.std.specs.declared.alloc.AllocError.{AllocError}
 use Rattle.group_table.specs.Sizes.{full_capacity}
-use Rattle.lru_limits.specs.Rules.{Rules}
+use Rattle.lru_limits.specs.Rules.{Rules, Offers}
 use Rattle.schnellru.specs.Sizes.{usage}
 use Rattle.schnellru.specs.Lists.{IsFront, lookup_entry, without}
 use Rattle.schnellru.specs.State.{State, buckets, potential}
 use Rattle.schnellru.specs.Place.{LacksRoom, CannotGrow}
+use Rattle.schnellru.specs.Inserts.{replacement, MayGive}
 
 module _ {K V S H : Type 0} where
   -- from old to new, moved and potential together rise by at most 2 for each element placed, while the count of these
@@ -15,6 +16,11 @@ module _ {K V S H : Type 0} where
     pub placed : old.placed ≤ new.placed
     pub moved : new.placed < 2 ^ 64 - 1 →
         new.moved + potential new + 2 * old.placed ≤ old.moved + potential old + 2 * new.placed
+
+  -- the placings of the table rise by what moved and placed rise by, while no count has stopped
+  abbrev pub CountsPlacings : State K V S H → State K V S H → Type 0
+  CountsPlacings old new = new.placings < 2 ^ 64 - 1 → new.moved < 2 ^ 64 - 1 → new.placed < 2 ^ 64 - 1 →
+      new.placings + old.moved + old.placed ≡ old.placings + new.moved + new.placed
 
   -- the table takes at most so many bytes
   abbrev pub UsesAtMost : ℕ → State K V S H → Type 0
@@ -57,3 +63,17 @@ module _ {K V S H : Type 0} (rules : Rules K V S) where
       IsNewest names new.pairs × (rules.is_over_the_limit new.limiter (length new.pairs) ≡ false)
   SaysWhether names (Ok false) new = lookup_entry names new.pairs ≡ None
   SaysWhether names (Err e) new = lookup_entry names new.pairs ≡ None
+
+module _ {K V S H I : Type 0} (rules : Rules K V S) (offers : Offers K V S I) (names : I → K → Bool) where
+  -- the pair that an insert stores: what a replacement left of the one that was there, or what the limiter gave
+  pub data Stores (i : I) (v : V) (old : State K V S H) (pair : K × V) : Type 0 where
+    left : (was : K × V) → lookup_entry (names i) old.pairs ≡ Some was → (replacement rules offers names was i v old).taken ≡ true →
+        pair ≡ ((replacement rules offers names was i v old).key, (replacement rules offers names was i v old).new_value) →
+        Stores i v old pair
+    given : lookup_entry (names i) old.pairs ≡ None → (s : S) → MayGive rules offers names i v old s (Some pair) →
+        Stores i v old pair
+
+-- the limiter stores each value as it was inserted
+pub record KeepsValues {K V S I : Type 0} (offers : Offers K V S I) : Type 0 where
+  pub given : (s : S) (n : ℕ) (i : I) (v : V) (t : S) (k : K) (w : V) → offers.on_insert s n i v t (Some (k, w)) → w ≡ v
+  pub replaced : (s : S) (n : ℕ) (k : K) (i : I) (v w : V) → (offers.on_replace s n k i v w).new_value ≡ w

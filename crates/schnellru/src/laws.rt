@@ -1,21 +1,21 @@
 //! What is proved of every insert and of every get. Each theorem is the contract of a function that does nothing.
 
-ghost use Rattle.std.specs.Prelude.{◌≡◌, ◌≢◌, ℕ, ◌≤◌, ◌<◌, ◌+◌, ◌*◌, ◌/◌, ◌⊎◌, ◌∷◌, Bool, false, Option, Some, None, Result, Ok, IsOk, IsErr, length};
+ghost use Rattle.std.specs.Prelude.{◌≡◌, ◌≢◌, ℕ, ◌≤◌, ◌<◌, ◌+◌, ◌*◌, ◌/◌, ◌⊎◌, ◌∷◌, Bool, false, Option, Some, None, IfSome, Result, Ok, true, IsOk, IsErr, length};
 ghost use Rattle.std.specs.List.{IsDistinct};
 ghost use Rattle.std.specs.declared.alloc.AllocError.{AllocError};
 ghost use Rattle.group_table.specs.Bucket.{deleted};
 ghost use Rattle.group_table.specs.Sizes.{full_capacity};
 ghost use Rattle.lru_limits.specs.Hashing.{hash_by};
-ghost use Rattle.schnellru.specs.Lists.{without_last, keys_of, lookup_entry, IsFront};
+ghost use Rattle.schnellru.specs.Lists.{first, without_last, keys_of, lookup, lookup_entry, IsFront};
 ghost use Rattle.schnellru.specs.Sizes.{usage, IsGreatestUsage};
 ghost use Rattle.schnellru.specs.State.{State, buckets, room, FirstFreeIs, IsSized, IsPaid, IsMap};
 ghost use Rattle.schnellru.specs.Place.{Place, Outcome, placed, no_memory, IsPlaced, LacksRoom};
-ghost use Rattle.schnellru.specs.Calls.{Get, Remove, PopOldest, PopNewest, cleared};
+ghost use Rattle.schnellru.specs.Calls.{Get, promoted, Remove, PopOldest, PopNewest, cleared};
 ghost use Rattle.schnellru.specs.Reservations.{Reserve};
 ghost use Rattle.schnellru.specs.declared.map.reserve.ReserveError.{ReserveError};
 ghost use Rattle.schnellru.specs.Inserts.{Insert, replacement, LacksMemory};
 ghost use Rattle.schnellru.specs.Exact.{IsDetermined, EndsExactly, EndsAlike, AlwaysGrants, HasTables};
-ghost use Rattle.schnellru.specs.Theorems.{PaysForMoves, IsRefusedGrowth, UsesAtMost, GivesUp, IsSummed, SaysWhether};
+ghost use Rattle.schnellru.specs.Theorems.{PaysForMoves, CountsPlacings, Stores, KeepsValues, IsRefusedGrowth, UsesAtMost, GivesUp, IsSummed, SaysWhether};
 
 use lru_limits::{ByLength, ByMemoryUsage, Insertion, Limiter, LookupKey, Summing};
 use std::hash::{BuildHasher, Hash};
@@ -47,6 +47,24 @@ pub fn inserts_say_whether<
         IsDistinct K.eq (keys_of old.pairs) →
         Insert L.rules L.offers I.names (hash_by K.hash_input S.BuildHasher S.Hasher.Hasher) key value old result new →
         SaysWhether L.rules (I.names key) result new }
+{}
+
+/// Where an insert answers true, the newest pair is the one that the limiter gave of a new key, or left of the pair that was
+/// there. So under a limiter that stores values as they come, a look-up of the key then gives the value.
+pub fn inserts_store_the_value<
+    K: Eq + Hash,
+    V,
+    I: LookupKey<K>,
+    L: Insertion<K, V, I>,
+    S: BuildHasher,
+>()
+    ensures stores { (key : I) (value : V) (old new : State K V L S) →
+        Insert L.rules L.offers I.names (hash_by K.hash_input S.BuildHasher S.Hasher.Hasher) key value old (Ok true) new →
+        IfSome (first new.pairs) (Stores L.rules L.offers I.names key value old) }
+    ensures found { (key : I) (value : V) (old new : State K V L S) →
+        KeepsValues L.offers → IsDistinct K.eq (keys_of old.pairs) →
+        Insert L.rules L.offers I.names (hash_by K.hash_input S.BuildHasher S.Hasher.Hasher) key value old (Ok true) new →
+        lookup (I.names key) new.pairs ≡ Some value }
 {}
 
 /// Want of memory in an insert is that of `on_insert`, or that of a table without room. It leaves a front part of the
@@ -154,7 +172,7 @@ pub fn inserts_keep_sums<K: Eq + Hash, V, I: LookupKey<K>, L: Summing<K, V, I>, 
 {}
 
 /// An insert pays for the entries that it moves: moved and potential together rise by at most 2 for the one that it
-/// places, and so moved stays at most twice what was placed.
+/// places, and so moved stays at most twice what was placed. It moves and places no entry that it does not count.
 pub fn inserts_pay_for_moves<
     K: Eq + Hash,
     V,
@@ -170,6 +188,9 @@ pub fn inserts_pay_for_moves<
         IsSized old → IsPaid old →
         Insert L.rules L.offers I.names (hash_by K.hash_input S.BuildHasher S.Hasher.Hasher) key value old result new →
         IsPaid new × (new.moved ≤ 2 * new.placed) }
+    ensures counted { (key : I) (value : V) (old : State K V L S) (result : Result Bool AllocError) (new : State K V L S) →
+        Insert L.rules L.offers I.names (hash_by K.hash_input S.BuildHasher S.Hasher.Hasher) key value old result new →
+        CountsPlacings old new }
 {}
 
 /// Where growth is refused, at least half of what the table takes stays, the new pair included, and in a table of up to
@@ -246,8 +267,8 @@ pub fn gets_keep_maps<K: Eq + Hash, V, I: LookupKey<K>, L: Limiter<K, V>, S: Bui
 
 /// A summing limiter that held the sum of the costs holds it after a get through which nothing is written.
 pub fn gets_keep_sums<K: Eq + Hash, V, I: LookupKey<K>, L: Summing<K, V, I>, S: BuildHasher>()
-    ensures { (key : I) (old : State K V L S) (result : Option V) (new : State K V L S) →
-        IsSummed L.cost_of L.account old → Get (I.names key) old result new → IsSummed L.cost_of L.account new }
+    ensures { (key : I) (old : State K V L S) →
+        IsSummed L.cost_of L.account old → IsSummed L.cost_of L.account (promoted (I.names key) old) }
 {}
 
 /// What holds of every map holds after a removal, a pop and a clear, where the table is sound, as every table is.

@@ -6,11 +6,13 @@ ghost use Rattle.std.specs.Prelude.{◌≡◌, ◌≢◌, ℕ, ◌+◌, ◌^◌,
 ghost use Rattle.std.specs.Borrow.{sem};
 ghost use Rattle.group_table.specs.Sizes.{IsPowerFromFour, full_capacity};
 ghost use Rattle.group_table.specs.Bucket.{empty, marks_of, IsFull, entry_at, entry_count, room, room_at};
-ghost use Rattle.group_table.specs.Change.{HasNoPlace, Removes};
+ghost use Rattle.group_table.specs.Change.{HasNoPlace, Removes, count_up};
+ghost use Rattle.group_table.specs.Relocation.{Renumbers, KeepsHashes};
+ghost use Rattle.group_table.specs.Table.{IsTable};
 ghost use Rattle.lru_limits.specs.Hashing.{hash_by};
-ghost use Rattle.schnellru.specs.Linked.{IsLinked, KeysFit, Lands, pairs_of, without_bucket, with_pair};
+ghost use Rattle.schnellru.specs.Linked.{IsLinked, KeysFit, Lands, pairs_of, without_bucket, with_pair, hash_in};
 ghost use Rattle.schnellru.specs.ByHash.{Asks, Finds, FindsNone};
-ghost use Rattle.schnellru.specs.Chain.{first_bucket, last_bucket, bucket_after, bucket_before};
+ghost use Rattle.schnellru.specs.Chain.{first_bucket, last_bucket, bucket_after, bucket_before, pair_slots};
 
 use crate::link::chain::{link_newest, rewrite, unlink};
 use group_table::{LinkType, Table};
@@ -50,7 +52,11 @@ impl<K, V, N: LinkType> Model for Linked<K, V, N> {
     ghost use Rattle.std.specs.Prelude.{length};
     ghost use Rattle.schnellru.specs.Chain.{pair_slots, along, IsWhole};
 
-    ghost view = { λ t. record { slots = pair_slots t.table.slots; order = along N.number (length t.table.slots) t.table.slots t.newest } };
+    ghost view = { λ t. record {
+      slots = pair_slots t.table.slots;
+      order = along N.number (length t.table.slots) t.table.slots t.newest;
+      placings = t.table.placings;
+    } };
 
     ghost invariant = { λ t. IsWhole N.number N.link N.MAX t.table.slots t.newest t.oldest (along N.number (length t.table.slots) t.table.slots t.newest) };
 }
@@ -62,6 +68,7 @@ impl<K, V, N: LinkType> Linked<K, V, N> {
     pub(crate) fn new(alloc: Global) -> Self
         ensures slots { result.slots ≡ [] }
         ensures order { result.order ≡ [] }
+        ensures placings { result.placings ≡ 0 }
         ensures linked { IsLinked result }
         ensures fits { (hash_of : K → ℕ) → KeysFit hash_of result.slots }
     {
@@ -183,6 +190,7 @@ impl<K, V, N: LinkType> Linked<K, V, N> {
         requires { IsFull self.old.slots b }
         ensures slots { self.new.slots ≡ self.old.slots }
         ensures order { self.new.order ≡ b ∷ without_bucket b self.old.order }
+        ensures placings { self.new.placings ≡ self.old.placings }
         ensures linked { IsLinked self.new }
     {
         if self.table.get(b).newer == N::MAX {
@@ -199,6 +207,7 @@ impl<K, V, N: LinkType> Linked<K, V, N> {
         ensures pair { entry_at self.old.slots b ≡ Some result }
         ensures removed { Removes self.old.slots self.new.slots b }
         ensures order { self.new.order ≡ without_bucket b self.old.order }
+        ensures placings { self.new.placings ≡ self.old.placings }
         ensures room { room (marks_of self.new.slots) ≡ room (marks_of self.old.slots) + room_at (marks_of self.new.slots) b }
         ensures fits { (hash_of : K → ℕ) → KeysFit hash_of self.old.slots → KeysFit hash_of self.new.slots }
         ensures linked { IsLinked self.new }
@@ -239,6 +248,7 @@ impl<K: Drop, V: Drop, N: LinkType> Linked<K, V, N> {
     pub(crate) fn clear(&mut self)
         ensures slots { self.new.slots ≡ replicate (length self.old.slots) empty }
         ensures order { self.new.order ≡ [] }
+        ensures placings { self.new.placings ≡ self.old.placings }
         ensures fits { (hash_of : K → ℕ) → KeysFit hash_of self.new.slots }
         ensures linked { IsLinked self.new }
     {
@@ -262,8 +272,9 @@ impl<K: Eq + Hash, V, N: LinkType> Linked<K, V, N> {
 }
 
 impl<K: Eq + Hash + Drop, V: Drop, N: LinkType> Linked<K, V, N> {
-    // Moves all pairs into a table of so many buckets, in the same order.
-    pub(crate) fn relocate<S: BuildHasher>(
+    // Moves all pairs into a table of so many buckets, in the same order. Among as many buckets as now they stay in this
+    // table, and without pairs that needs no memory.
+    pub(crate) fn move_to<S: BuildHasher>(
         &mut self,
         buckets: usize,
         hasher: &S,
@@ -275,13 +286,13 @@ impl<K: Eq + Hash + Drop, V: Drop, N: LinkType> Linked<K, V, N> {
         ensures buckets { OnOk result (length self.new.slots ≡ buckets) }
         ensures pairs { pairs_of self.new ≡ pairs_of self.old }
         ensures room { OnOk result (room (marks_of self.new.slots) + length self.old.order ≡ full_capacity buckets) }
+        ensures placings { OnOk result (self.new.placings ≡ count_up self.old.placings (length self.old.order)) }
         ensures fits { OnOk result (KeysFit (hash_by K.hash_input S.BuildHasher S.Hasher.Hasher hasher.now) self.new.slots) }
         ensures linked { IsLinked self.new }
         ensures unchanged { OnErr result (self.new ≡ self.old) }
+        ensures succeeds { length self.old.order ≡ 0 → length self.old.slots ≡ buckets → IsOk result }
     {
-        let links = self
-            .table
-            .relocate(buckets, |entry| hasher.hash_one(&entry.pair.key))?;
+        let links = move_entries(&mut self.table, buckets, hasher)?;
         rewrite(
             &mut self.table,
             &mut self.newest,
@@ -290,25 +301,33 @@ impl<K: Eq + Hash + Drop, V: Drop, N: LinkType> Linked<K, V, N> {
         );
         Ok(())
     }
+}
 
-    // Moves all pairs into a table of as many buckets, in the same order. Without pairs it takes no memory.
-    pub(crate) fn rehash<S: BuildHasher>(&mut self, hasher: &S) -> Result<(), AllocError>
-        ensures buckets { length self.new.slots ≡ length self.old.slots }
-        ensures pairs { pairs_of self.new ≡ pairs_of self.old }
-        ensures room { OnOk result (room (marks_of self.new.slots) + length self.old.order ≡ full_capacity (length self.old.slots)) }
-        ensures fits { OnOk result (KeysFit (hash_by K.hash_input S.BuildHasher S.Hasher.Hasher hasher.now) self.new.slots) }
-        ensures linked { IsLinked self.new }
-        ensures unchanged { OnErr result (self.new ≡ self.old) }
-        ensures succeeds { length self.old.order ≡ 0 → IsOk result }
-    {
-        let links = self.table.rehash(|entry| hasher.hash_one(&entry.pair.key))?;
-        rewrite(
-            &mut self.table,
-            &mut self.newest,
-            &mut self.oldest,
-            links.as_slice(),
-        );
-        Ok(())
+// Moves the entries into a table of so many buckets, or, among as many as now, within this one, and answers where each is.
+fn move_entries<K: Eq + Hash + Drop, V: Drop, N: LinkType, S: BuildHasher>(
+    table: &mut Table<Entry<K, V, N>>,
+    buckets: usize,
+    hasher: &S,
+) -> Result<Vec<N>, AllocError>
+    requires count { IsPowerFromFour buckets }
+    requires addressable { buckets + 16 < 2 ^ 63 }
+    requires below { buckets < N.number N.MAX }
+    requires within { entry_count table.old.slots ≤ full_capacity buckets }
+    ensures buckets { OnOk result (length table.new.slots ≡ buckets) }
+    ensures renumbered { IfOk result (λ links. Renumbers N.number N.MAX table.old.slots table.new.slots links.items) }
+    ensures entries { OnOk result (entry_count table.new.slots ≡ entry_count table.old.slots) }
+    ensures room { OnOk result (room (marks_of table.new.slots) + entry_count table.old.slots ≡ full_capacity buckets) }
+    ensures placings { OnOk result (table.new.placings ≡ count_up table.old.placings (entry_count table.old.slots)) }
+    ensures hashes { IfOk result (λ links. KeepsHashes N.number N.MAX table.old.slots table.new.slots links.items
+        (hash_in (hash_by K.hash_input S.BuildHasher S.Hasher.Hasher hasher.now) (pair_slots table.old.slots))) }
+    ensures table { IsTable (marks_of table.new.slots) }
+    ensures unchanged { OnErr result (table.new ≡ table.old) }
+    ensures succeeds { entry_count table.old.slots ≡ 0 → length table.old.slots ≡ buckets → IsOk result }
+{
+    if buckets == table.buckets() {
+        table.rehash(|entry| hasher.hash_one(&entry.pair.key))
+    } else {
+        table.relocate(buckets, |entry| hasher.hash_one(&entry.pair.key))
     }
 }
 

@@ -15,6 +15,7 @@ mod figures;
 mod get_or_insert;
 mod insert;
 mod look_up;
+mod moves;
 mod place;
 mod remove;
 mod replace;
@@ -57,12 +58,26 @@ impl<K: Eq + Hash, V, L: Limiter<K, V>, S: BuildHasher> Model for LruMap<K, V, L
     ghost Value = { State K V L S };
 
     ghost use Rattle.lru_limits.specs.Hashing.{hash_by};
-    ghost use Rattle.schnellru.specs.Holds.{state_by, Holds};
+    ghost use Rattle.schnellru.specs.Holds.{state_of, Holds};
 
-    ghost view = { λ m. state_by m.entries m.limiter m.hasher m.moved m.placed m.entry_bytes (L.LinkType.number L.LinkType.MAX) };
+    ghost view = { λ m. state_of m.entries (record {
+      limiter = m.limiter;
+      hasher = m.hasher;
+      moved = m.moved;
+      placed = m.placed;
+      entry_bytes = m.entry_bytes;
+      max = L.LinkType.number L.LinkType.MAX;
+    }) };
 
     ghost invariant = { λ m. Holds K.eq (hash_by K.hash_input S.BuildHasher S.Hasher.Hasher) m.entries
-        (state_by m.entries m.limiter m.hasher m.moved m.placed m.entry_bytes (L.LinkType.number L.LinkType.MAX)) };
+        (record {
+          limiter = m.limiter;
+          hasher = m.hasher;
+          moved = m.moved;
+          placed = m.placed;
+          entry_bytes = m.entry_bytes;
+          max = L.LinkType.number L.LinkType.MAX;
+        }) };
 }
 
 impl<K: Eq + Hash, V, L: Limiter<K, V>, S: BuildHasher> LruMap<K, V, L, S> {

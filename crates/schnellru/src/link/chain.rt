@@ -20,6 +20,7 @@ pub(crate) fn unlink<K, V, N: LinkType>(
 )
     requires { InChain N.number N.link N.MAX table.old.slots newest.old oldest.old b }
     ensures pairs { pair_slots table.new.slots ≡ pair_slots table.old.slots }
+    ensures placings { table.new.placings ≡ table.old.placings }
     ensures chain { (order : List ℕ) → IsChain N.number N.link N.MAX table.old.slots newest.old oldest.old order → Contains order b →
         IsChain N.number N.link N.MAX table.new.slots newest.new oldest.new (without_bucket b order) }
 {
@@ -39,6 +40,7 @@ pub(crate) fn link_newest<K, V, N: LinkType>(
     requires full { IsFull table.old.slots b }
     requires chained { OutOfChain N.number N.link N.MAX table.old.slots newest.old oldest.old b }
     ensures pairs { pair_slots table.new.slots ≡ pair_slots table.old.slots }
+    ensures placings { table.new.placings ≡ table.old.placings }
     ensures chain { (order : List ℕ) → IsChain N.number N.link N.MAX table.old.slots newest.old oldest.old order → (Contains order b → ⊥) →
         IsChain N.number N.link N.MAX table.new.slots newest.new oldest.new (b ∷ order) }
 {
@@ -55,6 +57,7 @@ fn set_newer<K, V, N: LinkType>(table: &mut Table<Entry<K, V, N>>, oldest: &mut 
     requires there { at ≡ N.MAX ⊎ IsFull table.old.slots (N.number at) }
     ensures slots { SetsNewer N.number table.old.slots table.new.slots at to }
     ensures end { SetsEnd N.MAX oldest.old oldest.new at to }
+    ensures placings { table.new.placings ≡ table.old.placings }
 {
     if at == N::MAX {
         *oldest = to;
@@ -70,6 +73,7 @@ fn set_older<K, V, N: LinkType>(table: &mut Table<Entry<K, V, N>>, newest: &mut 
     requires there { at ≡ N.MAX ⊎ IsFull table.old.slots (N.number at) }
     ensures slots { SetsOlder N.number table.old.slots table.new.slots at to }
     ensures end { SetsEnd N.MAX newest.old newest.new at to }
+    ensures placings { table.new.placings ≡ table.old.placings }
 {
     if at == N::MAX {
         *newest = to;
@@ -82,7 +86,8 @@ fn set_older<K, V, N: LinkType>(table: &mut Table<Entry<K, V, N>>, newest: &mut 
 #[inline]
 fn set_links<K, V, N: LinkType>(table: &mut Table<Entry<K, V, N>>, b: usize, newer: N, older: N)
     requires { IsFull table.old.slots b }
-    ensures { SetsLinks table.old.slots table.new.slots b newer older }
+    ensures links { SetsLinks table.old.slots table.new.slots b newer older }
+    ensures placings { table.new.placings ≡ table.old.placings }
 {
     let entry = table.get_mut(b);
     entry.newer = newer;
@@ -100,6 +105,7 @@ pub(crate) fn rewrite<K, V, N: LinkType>(
     requires reached { length table.old.slots < N.number N.MAX }
     requires moved { Moved N.number N.link N.MAX table.old.slots newest.old oldest.old links.now }
     ensures pairs { pair_slots table.new.slots ≡ pair_slots table.old.slots }
+    ensures placings { table.new.placings ≡ table.old.placings }
     ensures chain { (before : List (Slot (Entry K V N))) (order : List ℕ) →
         IsWhole N.number N.link N.MAX before newest.old oldest.old order → Renumbers N.number N.MAX before table.old.slots links.now →
         IsChain N.number N.link N.MAX table.new.slots newest.new oldest.new (map (moved_to N.number N.MAX links.now) order) }
@@ -121,7 +127,8 @@ fn move_links<K, V, N: LinkType>(table: &mut Table<Entry<K, V, N>>, b: usize, li
     requires fewer { length links.now ≤ N.number N.MAX }
     requires newer { (l : N) → newer_at table.old.slots b ≡ Some l → HasPlace N.number N.MAX links.now l }
     requires older { (l : N) → older_at table.old.slots b ≡ Some l → HasPlace N.number N.MAX links.now l }
-    ensures { MovesLinks N.number N.MAX links.now table.old.slots table.new.slots b }
+    ensures links { MovesLinks N.number N.MAX links.now table.old.slots table.new.slots b }
+    ensures placings { table.new.placings ≡ table.old.placings }
 {
     let entry = table.get_mut(b);
     entry.newer = moved_link(links, entry.newer);

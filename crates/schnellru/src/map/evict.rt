@@ -1,6 +1,7 @@
 //! Eviction: the oldest pairs leave.
 ghost use Rattle.std.specs.Prelude.{◌≡◌, ℕ, ◌+◌, ◌/◌, ◌<◌, length, None, Some};
 ghost use Rattle.group_table.specs.Sizes.{full_capacity};
+ghost use Rattle.group_table.specs.Change.{HasNoPlace};
 ghost use Rattle.lru_limits.specs.Hashing.{hash_by};
 ghost use Rattle.schnellru.specs.Lists.{lookup_entry};
 ghost use Rattle.schnellru.specs.State.{buckets, contents, trim, Leaves};
@@ -53,14 +54,16 @@ impl<K: Eq + Hash + Drop, V: Drop, L: Limiter<K, V>, S: BuildHasher> LruMap<K, V
         requires hash { hash ≡ hash_by K.hash_input S.BuildHasher S.Hasher.Hasher self.old.hasher pair.0 }
         requires absent { lookup_entry (K.eq pair.0) self.old.pairs ≡ None }
         requires lacks_room { LacksRoom self.old }
+        requires no_place { HasNoPlace self.old.marks hash }
         requires half { full_capacity (buckets self.old) / 2 < length self.old.pairs + 1 }
-        ensures { Evicts L.rules pair self.old self.old (outcome_of result) self.new }
+        ensures { Evicts L.rules hash pair self.old self.old (outcome_of result) self.new }
     {
-        let half = full_capacity(self.entries.buckets()) / 2;
+        let buckets = self.entries.buckets();
+        let half = full_capacity(buckets) / 2;
         'evictions: loop {
             self.take_oldest();
             if self.entries.len() < half {
-                return self.place_after_rehash(hash, pair);
+                return self.place_after_move(buckets, hash, pair);
             }
             match self.place_in_bucket(hash, pair) {
                 Ok(()) => return Ok(true),

@@ -1,10 +1,10 @@
 //! `insert`.
-ghost use Rattle.std.specs.Prelude.{◌≡◌, ◌⊎◌, ℕ, ◌+◌, true, false, not, length, None, Some, Ok, OnErr, if◌then◌else◌};
+ghost use Rattle.std.specs.Prelude.{◌≡◌, ◌⊎◌, ℕ, ◌+◌, true, false, not, length, None, Some, IfSome, Ok, OnErr, if◌then◌else◌};
 ghost use Rattle.lru_limits.specs.Hashing.{hash_by};
-ghost use Rattle.schnellru.specs.Lists.{lookup_entry, is_empty, IsFront};
+ghost use Rattle.schnellru.specs.Lists.{first, lookup_entry, is_empty, IsFront};
 ghost use Rattle.schnellru.specs.State.{contents, trim, Leaves, IsMap};
-ghost use Rattle.schnellru.specs.Inserts.{Insert, Admitted, LacksMemory, make_way};
-ghost use Rattle.schnellru.specs.Theorems.{SaysWhether};
+ghost use Rattle.schnellru.specs.Inserts.{Insert, PlacesNew, LacksMemory, make_way};
+ghost use Rattle.schnellru.specs.Theorems.{SaysWhether, Stores};
 
 use crate::map::LruMap;
 use crate::map::replace::replace;
@@ -33,6 +33,7 @@ impl<K: Eq + Hash + Drop, V: Drop, L: Limiter<K, V>, S: BuildHasher> LruMap<K, V
         L: Insertion<K, V, I>,
         ensures step { Insert L.rules L.offers I.names (hash_by K.hash_input S.BuildHasher S.Hasher.Hasher) key value self.old result self.new }
         ensures says { SaysWhether L.rules (I.names key) result self.new }
+        ensures stores { result ≡ Ok true → IfSome (first self.new.pairs) (Stores L.rules L.offers I.names key value self.old) }
         ensures lacks { OnErr result (LacksMemory L.rules L.offers I.names (hash_by K.hash_input S.BuildHasher S.Hasher.Hasher) key value self.old self.new) }
         ensures keeps { OnErr result (IsFront self.new.pairs self.old.pairs) }
         ensures map { IsMap K.eq self.new }
@@ -87,16 +88,16 @@ impl<K: Eq + Hash + Drop, V: Drop, L: Limiter<K, V>, S: BuildHasher> LruMap<K, V
             .limiter
             .on_insert(self.alloc, self.entries.len(), key, value)?
         {
-            Some(pair) => self.admit(hash, pair),
+            Some(pair) => self.place_new(hash, pair),
             None => Ok(false),
         }
     }
 
     // Places a pair that the limiter gave, whose key is new, after it made way and before it trims.
-    fn admit(&mut self, hash: u64, pair: (K, V)) -> Result<bool, AllocError>
+    fn place_new(&mut self, hash: u64, pair: (K, V)) -> Result<bool, AllocError>
         requires hash { hash ≡ hash_by K.hash_input S.BuildHasher S.Hasher.Hasher self.old.hasher pair.0 }
         requires absent { lookup_entry (K.eq pair.0) self.old.pairs ≡ None }
-        ensures { Admitted L.rules (hash_by K.hash_input S.BuildHasher S.Hasher.Hasher) pair self.old result self.new }
+        ensures { PlacesNew L.rules (hash_by K.hash_input S.BuildHasher S.Hasher.Hasher) pair self.old result self.new }
     {
         self.make_way();
         if !self.place(hash, pair)? {

@@ -3,7 +3,9 @@ ghost use Rattle.std.specs.Prelude.{◌≡◌, ◌<◌, length, option_map, Some
 ghost use Rattle.std.specs.Option.{option_copied, option_copied_mut};
 ghost use Rattle.std.specs.Borrow.{sem};
 ghost use Rattle.std.specs.Map.Iter.{deref_pair};
-ghost use Rattle.schnellru.specs.Lists.{lookup, front, first, last, newest_value};
+ghost use Rattle.schnellru.specs.Lists.{lookup, first, last, newest_value};
+ghost use Rattle.schnellru.specs.State.{State, IsMap};
+ghost use Rattle.schnellru.specs.Calls.{Get, promoted, written};
 
 use crate::map::LruMap;
 use lru_limits::{Limiter, LookupKey};
@@ -21,8 +23,9 @@ impl<K: Eq + Hash, V, L: Limiter<K, V>, S: BuildHasher> LruMap<K, V, L, S> {
     pub fn get<Q: LookupKey<K>>(&mut self, key: &Q) -> Option<&mut V>
         ensures* writes_back { sem 𝓛 (lends_value K.row V.row L.row S.row L.LinkType.row S.Hasher.row K.Hash L.Limiter
             L.LinkType.LinkType.own L.LinkType.PartialEq L.LinkType.Debug S.BuildHasher S.Hasher.Hasher
-            self.entry (Q.names key.now) (front (Q.names key.now) self.old.pairs) result) }
+            self.entry (Q.names key.now) (promoted (Q.names key.now) self.old) result) }
         ensures value { option_copied_mut result ≡ lookup (Q.names key.now) self.old.pairs }
+        ensures map { (new : State K V L S) → Get (Q.names key.now) self.old (option_copied_mut result) new → IsMap K.eq new }
     {
         let b = self.entries.find(self.hasher.hash_one(key), key)?;
         self.entries.promote(b);
@@ -76,8 +79,9 @@ impl<K: Eq + Hash, V, L: Limiter<K, V>, S: BuildHasher> LruMap<K, V, L, S> {
     pub fn peek_mut<Q: LookupKey<K>>(&mut self, key: &Q) -> Option<&mut V>
         ensures* writes_back { sem 𝓛 (lends_value K.row V.row L.row S.row L.LinkType.row S.Hasher.row K.Hash L.Limiter
             L.LinkType.LinkType.own L.LinkType.PartialEq L.LinkType.Debug S.BuildHasher S.Hasher.Hasher
-            self.entry (Q.names key.now) self.old.pairs result) }
+            self.entry (Q.names key.now) self.old result) }
         ensures value { option_copied_mut result ≡ lookup (Q.names key.now) self.old.pairs }
+        ensures map { (last : V) → IsMap K.eq (written (Q.names key.now) last self.old) }
     {
         let b = self.entries.find(self.hasher.hash_one(key), key)?;
         Some(&mut self.entries.pair_mut(b).value)

@@ -1,19 +1,18 @@
 //! Placing a new pair: into a bucket that the table has, or after it was made anew, made larger, or the oldest left.
 ghost use Rattle.std.specs.Prelude.{◌≡◌, ◌⊎◌, ℕ, ◌+◌, ◌-◌, ◌*◌, ◌/◌, ◌^◌, ◌<◌, ◌≤◌, [], length, None, Some, OnOk, OnErr, IfErr, IsOk};
 ghost use Rattle.group_table.specs.Sizes.{IsPowerFromFour, full_capacity};
-ghost use Rattle.group_table.specs.Bucket.{empty, deleted};
+ghost use Rattle.group_table.specs.Bucket.{empty};
 ghost use Rattle.group_table.specs.Change.{HasNoPlace};
 ghost use Rattle.lru_limits.specs.Hashing.{hash_by};
 ghost use Rattle.schnellru.specs.Lists.{lookup_entry};
 ghost use Rattle.schnellru.specs.Sizes.{usage};
-ghost use Rattle.schnellru.specs.State.{buckets, room, contents, pop, Leaves, FirstFreeIs};
-ghost use Rattle.schnellru.specs.Place.{Place, Evicts, IsPlaced, IsPlacedIfMemory, LacksRoom, outcome_of, turned_away};
-ghost use Rattle.schnellru.specs.Steps.{IsMoved, UsesRoom, UsesDeleted};
+ghost use Rattle.schnellru.specs.State.{buckets, room, FirstFreeIs};
+ghost use Rattle.schnellru.specs.Place.{Place, IsPlaced, IsPlacedIfMemory, FillsBucket, LacksRoom, outcome_of, turned_away};
 
 use crate::map::LruMap;
 use crate::map::remove::tell;
-use crate::sizes::{larger_table, usage};
-use group_table::{LinkType, full_capacity};
+use crate::sizes::usage;
+use group_table::full_capacity;
 use lru_limits::Limiter;
 use std::alloc::AllocError;
 use std::hash::{BuildHasher, Hash};
@@ -41,8 +40,9 @@ impl<K: Eq + Hash + Drop, V: Drop, L: Limiter<K, V>, S: BuildHasher> LruMap<K, V
         requires hash { hash ≡ hash_by K.hash_input S.BuildHasher S.Hasher.Hasher self.old.hasher pair.0 }
         requires absent { lookup_entry (K.eq pair.0) self.old.pairs ≡ None }
         ensures placed { OnOk result (IsPlaced pair (buckets self.old) (room self.new) 0 self.old self.new) }
-        ensures room { OnOk result (0 < room self.old → UsesRoom self.old self.new) }
-        ensures deleted { OnOk result (room self.old ≡ 0 → UsesDeleted hash self.old self.new) }
+        ensures fills { OnOk result (FillsBucket hash self.old self.new) }
+        ensures spends { OnOk result (length self.old.pairs + room self.old ≡ full_capacity (buckets self.old) →
+            room self.new + 1 ≡ room self.old) }
         ensures returned { IfErr result (λ back. back ≡ pair) }
         ensures unchanged { OnErr result (self.new ≡ self.old) }
         ensures no_place { OnErr result (HasNoPlace self.old.marks hash) }
@@ -67,7 +67,7 @@ impl<K: Eq + Hash + Drop, V: Drop, L: Limiter<K, V>, S: BuildHasher> LruMap<K, V
         if buckets == 0 {
             self.place_first(hash, pair)
         } else if len < full_capacity(buckets) / 2 {
-            self.place_after_rehash(hash, pair)
+            self.place_after_move(buckets, hash, pair)
         } else {
             self.place_in_larger(hash, pair)
         }
@@ -105,9 +105,7 @@ impl<K: Eq + Hash + Drop, V: Drop, L: Limiter<K, V>, S: BuildHasher> LruMap<K, V
         requires half { full_capacity (buckets self.old) / 2 < length self.old.pairs + 1 }
         ensures { Place L.rules (hash_by K.hash_input S.BuildHasher S.Hasher.Hasher) pair self.old (outcome_of result) self.new }
     {
-        let max = L::LinkType::MAX.into_usize();
-        let buckets = self.entries.buckets();
-        match larger_table(max, self.entry_bytes, buckets, self.entries.len() + 1) {
+        match self.larger_table(1) {
             Some((count, bytes)) => {
                 if self.limiter.on_grow(bytes) {
                     self.place_after_move(count, hash, pair)
@@ -119,9 +117,10 @@ impl<K: Eq + Hash + Drop, V: Drop, L: Limiter<K, V>, S: BuildHasher> LruMap<K, V
         }
     }
 
-    // Places the pair in a table of so many buckets, to which all pairs move.
+    // Places the pair in a table of so many buckets, to which all pairs move, which is counted. Among as many buckets as now
+    // that needs no memory without pairs.
     #[cold]
-    fn place_after_move(
+    pub(super) fn place_after_move(
         &mut self,
         count: usize,
         hash: u64,
@@ -134,34 +133,13 @@ impl<K: Eq + Hash + Drop, V: Drop, L: Limiter<K, V>, S: BuildHasher> LruMap<K, V
         requires usable { (bytes : ℕ) × (usage self.old.entry_bytes count ≡ Some bytes) }
         requires half { 2 * length self.old.pairs ≤ full_capacity count }
         requires paid { self.old.moved + length self.old.pairs ≤ 2 * self.old.placed }
-        ensures { IsPlacedIfMemory L.rules pair count (full_capacity count - length self.old.pairs - 1) (length self.old.pairs)
-            self.old (outcome_of result) self.new }
+        ensures placed { IsPlacedIfMemory L.rules pair count (full_capacity count - length self.old.pairs - 1)
+            (length self.old.pairs) self.old (outcome_of result) self.new }
+        ensures succeeds { self.old.pairs ≡ [] → count ≡ buckets self.old → IsOk result }
     {
         match self.move_to(count) {
             Ok(()) => {
-                self.place_surely(hash, pair);
-                Ok(true)
-            }
-            Err(error) => {
-                self.turn_away(pair);
-                Err(error)
-            }
-        }
-    }
-
-    // Places the pair in a table of as many buckets that is made anew. A map without pairs needs no memory for it.
-    #[cold]
-    pub(super) fn place_after_rehash(&mut self, hash: u64, pair: (K, V)) -> Result<bool, AllocError>
-        requires hash { hash ≡ hash_by K.hash_input S.BuildHasher S.Hasher.Hasher self.old.hasher pair.0 }
-        requires absent { lookup_entry (K.eq pair.0) self.old.pairs ≡ None }
-        requires half { 2 * length self.old.pairs < full_capacity (buckets self.old) }
-        requires paid { self.old.moved + length self.old.pairs ≤ 2 * self.old.placed }
-        ensures placed { IsPlacedIfMemory L.rules pair (buckets self.old) (full_capacity (buckets self.old) - length self.old.pairs - 1)
-            (length self.old.pairs) self.old (outcome_of result) self.new }
-        ensures succeeds { self.old.pairs ≡ [] → IsOk result }
-    {
-        match self.rehash() {
-            Ok(()) => {
+                self.count_moves();
                 self.place_surely(hash, pair);
                 Ok(true)
             }
@@ -184,35 +162,6 @@ impl<K: Eq + Hash + Drop, V: Drop, L: Limiter<K, V>, S: BuildHasher> LruMap<K, V
             Ok(()) => {}
             Err(_) => unreachable!(),
         }
-    }
-
-    // Moves all pairs into a table of so many buckets.
-    fn move_to(&mut self, count: usize) -> Result<(), AllocError>
-        requires count { IsPowerFromFour count }
-        requires reached { count < L.LinkType.number L.LinkType.MAX }
-        requires usable { (bytes : ℕ) × (usage self.old.entry_bytes count ≡ Some bytes) }
-        requires half { 2 * length self.old.pairs ≤ full_capacity count }
-        requires paid { self.old.moved + length self.old.pairs ≤ 2 * self.old.placed }
-        ensures moved { OnOk result (IsMoved count self.old self.new) }
-        ensures unchanged { OnErr result (self.new ≡ self.old) }
-    {
-        self.entries.relocate(count, &self.hasher)?;
-        self.moved = self.moved.saturating_add(self.entries.len() as u64);
-        Ok(())
-    }
-
-    // Moves all pairs into a table of as many buckets.
-    fn rehash(&mut self) -> Result<(), AllocError>
-        requires some { 0 < buckets self.old }
-        requires half { 2 * length self.old.pairs ≤ full_capacity (buckets self.old) }
-        requires paid { self.old.moved + length self.old.pairs ≤ 2 * self.old.placed }
-        ensures moved { OnOk result (IsMoved (buckets self.old) self.old self.new) }
-        ensures unchanged { OnErr result (self.new ≡ self.old) }
-        ensures succeeds { self.old.pairs ≡ [] → IsOk result }
-    {
-        self.entries.rehash(&self.hasher)?;
-        self.moved = self.moved.saturating_add(self.entries.len() as u64);
-        Ok(())
     }
 
     // Tells the limiter of a pair that was not placed.

@@ -1,15 +1,12 @@
 //! Room for pairs that are to come.
-ghost use Rattle.std.specs.Prelude.{◌≡◌, ℕ, ◌+◌, ◌/◌, ◌^◌, ◌<◌, ◌≤◌, [], length, Some, OnOk, OnErr, IsOk};
-ghost use Rattle.group_table.specs.Sizes.{IsPowerFromFour, full_capacity};
-ghost use Rattle.schnellru.specs.Sizes.{usage};
+ghost use Rattle.std.specs.Prelude.{◌+◌, ◌/◌, ◌<◌, length};
+ghost use Rattle.group_table.specs.Sizes.{full_capacity};
 ghost use Rattle.schnellru.specs.State.{buckets};
-ghost use Rattle.schnellru.specs.Reservations.{IsReserved, LacksRoomFor, Reserve};
+ghost use Rattle.schnellru.specs.Reservations.{LacksRoomFor, Reserve};
 
 use crate::map::LruMap;
-use crate::sizes::larger_table;
-use group_table::{LinkType, full_capacity};
+use group_table::full_capacity;
 use lru_limits::Limiter;
-use std::alloc::AllocError;
 use std::hash::{BuildHasher, Hash};
 
 /// Why no room is reserved.
@@ -41,10 +38,11 @@ impl<K: Eq + Hash + Drop, V: Drop, L: Limiter<K, V>, S: BuildHasher> LruMap<K, V
         if n <= self.entries.room() {
             return Ok(());
         }
-        if full_capacity(self.entries.buckets()) / 2 < pairs {
+        let buckets = self.entries.buckets();
+        if full_capacity(buckets) / 2 < pairs {
             return self.reserve_larger(n);
         }
-        match self.make_anew() {
+        match self.move_to(buckets) {
             Ok(()) => Ok(()),
             Err(_) => Err(ReserveError::Memory),
         }
@@ -56,42 +54,17 @@ impl<K: Eq + Hash + Drop, V: Drop, L: Limiter<K, V>, S: BuildHasher> LruMap<K, V
         requires half { full_capacity (buckets self.old) / 2 < length self.old.pairs + n }
         ensures { Reserve L.rules n self.old result self.new }
     {
-        let max = L::LinkType::MAX.into_usize();
-        let buckets = self.entries.buckets();
-        match larger_table(max, self.entry_bytes, buckets, self.entries.len() + n) {
+        match self.larger_table(n) {
             Some((count, bytes)) => {
                 if !self.limiter.on_grow(bytes) {
                     return Err(ReserveError::Refused);
                 }
-                match self.enlarge(count) {
+                match self.move_to(count) {
                     Ok(()) => Ok(()),
                     Err(_) => Err(ReserveError::Memory),
                 }
             }
             None => Err(ReserveError::TooLarge),
         }
-    }
-
-    // Moves all pairs into a larger table, of so many buckets.
-    fn enlarge(&mut self, count: usize) -> Result<(), AllocError>
-        requires count { IsPowerFromFour count }
-        requires reached { count < L.LinkType.number L.LinkType.MAX }
-        requires usable { (bytes : ℕ) × (usage self.old.entry_bytes count ≡ Some bytes) }
-        requires larger { full_capacity (buckets self.old) ≤ full_capacity count }
-        ensures reserved { OnOk result (IsReserved count self.old self.new) }
-        ensures unchanged { OnErr result (self.new ≡ self.old) }
-    {
-        self.entries.relocate(count, &self.hasher)?;
-        Ok(())
-    }
-
-    // Moves all pairs into a table of as many buckets.
-    fn make_anew(&mut self) -> Result<(), AllocError>
-        ensures reserved { OnOk result (IsReserved (buckets self.old) self.old self.new) }
-        ensures unchanged { OnErr result (self.new ≡ self.old) }
-        ensures succeeds { self.old.pairs ≡ [] → IsOk result }
-    {
-        self.entries.rehash(&self.hasher)?;
-        Ok(())
     }
 }

@@ -1,11 +1,11 @@
-use Rattle.std.proofs.Common.{inl, refl, subst}
+use Rattle.std.proofs.Common.{ap, inl, refl, subst}
 use Rattle.std.specs.Prelude.{nat_eq}
 use Rattle.schnellru.specs.Lists.{lookup}
 use Rattle.lru_replay.specs.declared.call.Call.TheVariants as calls
 use Rattle.lru_replay.specs.Grammar.{SpellsCall}
 use Rattle.lru_replay.specs.Output.{Writes, pairs_text}
 use Rattle.lru_replay.specs.Steps.{flag, value, listed, no_memory}
-use Rattle.lru_replay.proofs.EmptyMaps.{get_keeps_map}
+use Rattle.lru_replay.proofs.EmptyMaps.{promoted_keeps_map}
 use Rattle.lru_replay.proofs.replay.carry_out.Goals as goal
 
 pub returns-in-Ok-clause-step : goal.returns-in-Ok-clause-step
@@ -21,10 +21,10 @@ returns-in-Err-clause-step g c =
 pub returns-in-Some-Get-clause-step : goal.returns-in-Some-Get-clause-step
 returns-in-Some-Get-clause-step g c =
     let spells = subst (SpellsCall c.args.line.now) c.in-Some-Get.field-0-is c.in-Some-Get.ensures.some in
-    (value c.get-value.result, inl (calls.Get c.in-Some-Get.key, spells, (c.get-value.result, c.get-value.ensures, refl)), c.write_value.ensures)
+    (value c.get-value.result, inl (calls.Get c.in-Some-Get.key, spells, (ap value c.get-value.ensures.value, c.get-value.ensures.promoted)), c.write_value.ensures)
 
 pub returns-in-Some-Get-clause-map : goal.returns-in-Some-Get-clause-map
-returns-in-Some-Get-clause-map g c = get_keeps_map _ c.args.map.now c.get-value.result _ c.get-value.ensures c.requires.map
+returns-in-Some-Get-clause-map g c = rw c.get-value.ensures.promoted (promoted_keeps_map _ c.args.map.now c.requires.map)
 
 pub returns-in-Some-Peek-clause-step : goal.returns-in-Some-Peek-clause-step
 returns-in-Some-Peek-clause-step g c =

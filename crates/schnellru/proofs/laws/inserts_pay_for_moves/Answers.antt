@@ -3,6 +3,7 @@ use Rattle.schnellru.proofs.Moves.{keeps_nothing}
 use Rattle.schnellru.proofs.Ways.{insert_changes}
 use Rattle.schnellru.proofs.Potential.{bounded_of}
 use Rattle.schnellru.proofs.Paid.{stays_paid}
+use Rattle.schnellru.proofs.Counts.{insert_counts}
 use Rattle.schnellru.proofs.laws.inserts_pay_for_moves.Goals as goal
 
 pub returns-clause-rise : goal.returns-clause-rise
@@ -13,3 +14,6 @@ pub returns-clause-paid : goal.returns-clause-paid
 returns-clause-paid g c = λ key value old result new ok paid step.
     let after = stays_paid _ _ 1 old new (insert_changes _ _ _ _ (keeps_nothing _ _ _) _ key value old result new step).tables ok paid in
     (after, omega arith)
+
+pub returns-clause-counted : goal.returns-clause-counted
+returns-clause-counted g c = λ key value old result new step. insert_counts _ _ _ _ key value old result new step

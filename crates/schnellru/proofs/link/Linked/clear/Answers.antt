@@ -3,7 +3,7 @@ use Rattle.group_table.specs.Bucket.{empty}
 use Rattle.schnellru.specs.Chain.{pair_slots}
 use Rattle.schnellru.proofs.PairSlotLemmas.{length-pair_slots, Fits-pair_slots}
 use Rattle.schnellru.proofs.WholeLemmas.{whole_order, IsWhole-shown, IsLinked-view}
-use Rattle.schnellru.proofs.Cleared.{pair_slots-cleared, IsWhole-cleared}
+use Rattle.schnellru.proofs.ClearedTable.{pair_slots-cleared, IsWhole-cleared}
 use Rattle.schnellru.proofs.link.Linked.clear.Goals as goal
 
 pub invariant_of-self : goal.invariant_of-self

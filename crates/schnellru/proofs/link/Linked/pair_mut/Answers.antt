@@ -12,7 +12,7 @@ invariant_of-self-lent g c w =
 
 pub returns : goal.returns
 returns g c = (
-  (refl, λ w. rw (← c.self.view_is) (view-refilled _ _ _ _ g.met.N.LinkType.laws _ _ _ _ c.self.invariant c.args.b c.get_mut.result.now c.get_mut.ensures.entry w)),
+  (refl, λ w. rw (← c.self.view_is) (view-refilled _ _ _ _ g.met.N.LinkType.laws _ _ _ _ c.self.invariant c.args.b c.get_mut.result.now c.get_mut.ensures.entry w _)),
   record {
     writes_back = tt;
     pair = rw (← c.self.view_is) (entry_at-pair_slots c.self.inside.table.slots c.args.b ∙ ap (option_map pair_of) c.get_mut.ensures.entry);

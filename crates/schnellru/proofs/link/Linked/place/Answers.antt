@@ -41,6 +41,7 @@ returns-in-Ok-clause-placed g c =
         may = rw (marks_of-pair_slots c.self.inside.table.slots) c.in-Ok.ensures.may_fill;
         slots = c.link_newest.ensures.pairs ∙ ap pair_slots placed.slots ∙ pair_slots-set c.self.inside.table.slots c.in-Ok.b _;
         order = order;
+        placings = c.link_newest.ensures.placings ∙ placed.placings;
         room = rw (c.link_newest.ensures.pairs, marks_of-pair_slots c.try_place.new.self.slots, marks_of-pair_slots c.self.inside.table.slots) c.in-Ok.ensures.room;
       },
     )

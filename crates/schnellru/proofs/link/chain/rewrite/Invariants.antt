@@ -1,5 +1,9 @@
+use Rattle.std.proofs.Common.{◌≡◌}
 use Rattle.schnellru.proofs.MovedChain.{MovedUpTo}
 use Rattle.schnellru.proofs.link.chain.rewrite.Given as goal
 
 abbrev pub invariant-loop-old : goal.invariant-loop-old
-invariant-loop-old g l = MovedUpTo g.N.LinkType.number g.N.LinkType.MAX l.fn.table.slots l.table.slots l.links l.old
+invariant-loop-old g l = record {
+  links : MovedUpTo g.N.LinkType.number g.N.LinkType.MAX l.fn.table.slots l.table.slots l.links l.old;
+  placings : l.table.placings ≡ l.fn.table.placings;
+}

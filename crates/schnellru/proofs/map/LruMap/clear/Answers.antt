@@ -1,16 +1,18 @@
+use Rattle.schnellru.proofs.Inside.{beside}
 use Rattle.schnellru.proofs.Cleared.{cleared_is, cleared_holds}
 use Rattle.schnellru.proofs.map.LruMap.clear.Goals as goal
 
 pub invariant_of-self : goal.invariant_of-self
 invariant_of-self g c =
-    let m = c.self.inside in
-    cleared_holds g.L.Limiter.rules m.entries c.clear.new.self c.clear.ensures.slots c.clear.ensures.order m.limiter c.on_cleared.new.self c.on_cleared.ensures
-    m.hasher m.moved m.placed m.entry_bytes (g.L.LinkType.LinkType.number g.L.LinkType.LinkType.MAX) _ _ c.self.invariant c.clear.ensures.linked (c.clear.ensures.fits _)
+    let m = c.self.inside in let e = c.clear.ensures in
+    let rest = beside m.limiter m.hasher m.moved m.placed m.entry_bytes (g.L.LinkType.LinkType.number g.L.LinkType.LinkType.MAX) in
+    cleared_holds g.L.Limiter.rules m.entries c.clear.new.self e.slots e.order e.placings rest c.on_cleared.new.self c.on_cleared.ensures
+    _ _ c.self.invariant e.linked (e.fits _)
 
 pub returns : goal.returns
 returns g c =
-    let m = c.self.inside in
+    let m = c.self.inside in let e = c.clear.ensures in
+    let rest = beside m.limiter m.hasher m.moved m.placed m.entry_bytes (g.L.LinkType.LinkType.number g.L.LinkType.LinkType.MAX) in
     rw (← c.self.view_is) (record {
-      step = cleared_is g.L.Limiter.rules m.entries c.clear.new.self c.clear.ensures.slots c.clear.ensures.order m.limiter c.on_cleared.new.self c.on_cleared.ensures
-          m.hasher m.moved m.placed m.entry_bytes (g.L.LinkType.LinkType.number g.L.LinkType.LinkType.MAX);
+      step = cleared_is g.L.Limiter.rules m.entries c.clear.new.self e.slots e.order e.placings rest c.on_cleared.new.self c.on_cleared.ensures;
     })

@@ -2,21 +2,25 @@ use Rattle.std.proofs.Common.{refl, sym, ap, ◌∙◌, ◌≡◌, None, subst}
 use Rattle.lru_limits.specs.Hashing.{hash_by, hash_by-named}
 use Rattle.schnellru.specs.Lists.{lookup}
 use Rattle.schnellru.specs.IfMade.{got, failed, inserted}
+use Rattle.schnellru.proofs.Inside.{beside}
 use Rattle.schnellru.proofs.Searched.{not_found, no_value}
 use Rattle.schnellru.proofs.Ordered.{value_found}
 use Rattle.schnellru.proofs.Newest.{promoted_state, promoted_holds}
 use Rattle.schnellru.specs.IfMade.{or_memory}
 use Rattle.schnellru.specs.State.{IsMap}
 use Rattle.schnellru.proofs.Within.{insert_says}
-use Rattle.schnellru.proofs.GetOrInsertLaws.{newest_some, same_kept}
+use Rattle.schnellru.proofs.GetOrInsertLaws.{newest_some}
+use Rattle.schnellru.proofs.Outcomes.{same_kept}
 use Rattle.schnellru.proofs.map.LruMap.ensure_newest_fallible.Goals as goal
 
 pub invariant_of-self : goal.invariant_of-self
 invariant_of-self g c =
-    let m = c.self.inside in let t = m.entries in let holds = c.self.invariant in let found = c.in-Some.ensures.found in
-    promoted_holds t c.promote.new.self holds.linked c.in-Some.b found.0 found.1 c.promote.ensures.slots c.promote.ensures.order
+    let m = c.self.inside in
+    let rest = beside m.limiter m.hasher m.moved m.placed m.entry_bytes (g.L.LinkType.LinkType.number g.L.LinkType.LinkType.MAX) in
+    let t = m.entries in let holds = c.self.invariant in let found = c.in-Some.ensures.found in
+    promoted_holds t c.promote.new.self holds.linked c.in-Some.b found.0 found.1 c.promote.ensures.slots c.promote.ensures.order c.promote.ensures.placings
     (g.I.LookupKey.names c.args.key) g.met.K.Eq.laws (g.met.I.LookupKey.laws.one c.args.key) found.2 holds.map.distinct
-    m.limiter m.hasher m.moved m.placed m.entry_bytes (g.L.LinkType.LinkType.number g.L.LinkType.LinkType.MAX)
+    rest
     (hash_by g.K.Hash.hash_input g.S.BuildHasher g.S.Hasher.Hasher) holds c.promote.ensures.linked
 
 pub make-requires : goal.make-requires
@@ -39,14 +43,12 @@ insert_new-requires-clause-absent g c =
 
 pub returns-in-Some-clause-step : goal.returns-in-Some-clause-step
 returns-in-Some-clause-step g c =
-    let m = c.self.inside in let t = m.entries in let holds = c.self.invariant in let found = c.in-Some.ensures.found in
+    let m = c.self.inside in
+    let rest = beside m.limiter m.hasher m.moved m.placed m.entry_bytes (g.L.LinkType.LinkType.number g.L.LinkType.LinkType.MAX) in
+    let t = m.entries in let holds = c.self.invariant in let found = c.in-Some.ensures.found in
     let names = g.I.LookupKey.names c.args.key in let one = g.met.I.LookupKey.laws.one c.args.key in
     let value = value_found t holds.linked c.in-Some.b found.0 found.1 names g.met.K.Eq.laws one holds.map.distinct found.2 in
-    rw (← c.self.view_is) (got found.0.1 value refl (record {
-      value = sym value;
-      state = promoted_state t c.promote.new.self holds.linked c.in-Some.b found.0 found.1 c.promote.ensures.slots c.promote.ensures.order names g.met.K.Eq.laws one found.2 holds.map.distinct
-          m.limiter m.hasher m.moved m.placed m.entry_bytes (g.L.LinkType.LinkType.number g.L.LinkType.LinkType.MAX);
-    }))
+    rw (← c.self.view_is) (got found.0.1 value refl (promoted_state t c.promote.new.self holds.linked c.in-Some.b found.0 found.1 c.promote.ensures.slots c.promote.ensures.order c.promote.ensures.placings names g.met.K.Eq.laws one found.2 holds.map.distinct rest))
 
 pub returns-in-Err-clause-step : goal.returns-in-Err-clause-step
 returns-in-Err-clause-step g c =

@@ -1,6 +1,6 @@
 use Rattle.std.proofs.Common.{subst}
 use Rattle.schnellru.specs.State.{IsMap}
-use Rattle.schnellru.proofs.Within.{insert_says}
+use Rattle.schnellru.proofs.Within.{insert_says, insert_stores}
 use Rattle.schnellru.proofs.Short.{err_is, err_keeps, on_err}
 use Rattle.schnellru.proofs.map.LruMap.insert.Goals as goal
 
@@ -17,3 +17,7 @@ returns-clause-keeps g c = on_err _ (λ failed. err_keeps _ _ _ _ c.args.key c.a
 
 pub returns-clause-map : goal.returns-clause-map
 returns-clause-map g c = subst (IsMap g.K.PartialEq.eq) c.self-2.view_is c.self-2.invariant.map
+
+pub returns-clause-stores : goal.returns-clause-stores
+returns-clause-stores g c = λ yes.
+    insert_stores _ _ _ _ g.met.I.LookupKey.laws g.met.L.Insertion.laws c.args.key c.args.value c.args.self.now _ _ yes c.insert_hashed-answer.ensures

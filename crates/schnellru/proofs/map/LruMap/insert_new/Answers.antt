@@ -1,29 +1,32 @@
 use Rattle.std.proofs.Common.{Some, None, refl, ap, sym, ◌∙◌, subst}
 use Rattle.lru_limits.specs.Hashing.{hash_by-named}
 use Rattle.schnellru.specs.Linked.{pairs_of}
-use Rattle.schnellru.specs.Holds.{state_by}
+use Rattle.schnellru.specs.Holds.{state_of}
 use Rattle.schnellru.specs.Inserts.{no_memory_to_admit, not_admitted, admitted}
+use Rattle.schnellru.proofs.Inside.{beside}
 use Rattle.schnellru.proofs.Ordered.{pairs-length}
 use Rattle.schnellru.proofs.Searched.{lookup_alike}
 use Rattle.schnellru.proofs.map.LruMap.insert_new.Goals as goal
 
 pub returns-in_err-pair : goal.returns-in_err-pair
 returns-in_err-pair g c =
-    let m = c.self.inside in let len = c.len.ensures.len ∙ sym (pairs-length m.entries c.self.invariant.linked) in
+    let m = c.self.inside in
+    let rest = beside m.limiter m.hasher m.moved m.placed m.entry_bytes (g.L.LinkType.LinkType.number g.L.LinkType.LinkType.MAX) in
+    let len = c.len.ensures.len ∙ sym (pairs-length m.entries c.self.invariant.linked) in
     rw (← c.self.view_is) (no_memory_to_admit (rw (← c.self.view_is) at c.requires.absent)
     (subst (λ n. g.L.Insertion.offers.may_lack m.limiter n c.args.key c.args.value) len c.in_err-pair.ensures.lacks)
     c.from_residual.ensures.0
-    (ap (λ l. state_by m.entries l m.hasher m.moved m.placed m.entry_bytes (g.L.LinkType.LinkType.number g.L.LinkType.LinkType.MAX)) c.in_err-pair.ensures.unchanged))
+    (ap (λ l. state_of m.entries (record rest { limiter = l })) c.in_err-pair.ensures.unchanged))
 
-pub admit-requires-clause-hash : goal.admit-requires-clause-hash
-admit-requires-clause-hash g c =
+pub place_new-requires-clause-hash : goal.place_new-requires-clause-hash
+place_new-requires-clause-hash g c =
     let m = c.self.inside in let pair = c.in-Some.pair in
     let given : g.L.Insertion.offers.on_insert m.limiter c.len.result c.args.key c.args.value c.on_insert.new.self (Some pair) = rw c.in-Some.is at c.in_ok-pair.ensures.offered in
     let named = g.met.L.Insertion.laws.names_given m.limiter c.len.result c.args.key c.args.value c.on_insert.new.self pair.0 pair.1 given in
     (rw (← c.self.view_is) at c.requires.hash) ∙ hash_by-named g.met.I.LookupKey.laws g.S.BuildHasher g.S.Hasher.Hasher m.hasher c.args.key pair.0 named
 
-pub admit-requires-clause-absent : goal.admit-requires-clause-absent
-admit-requires-clause-absent g c =
+pub place_new-requires-clause-absent : goal.place_new-requires-clause-absent
+place_new-requires-clause-absent g c =
     let m = c.self.inside in let pair = c.in-Some.pair in
     let given : g.L.Insertion.offers.on_insert m.limiter c.len.result c.args.key c.args.value c.on_insert.new.self (Some pair) = rw c.in-Some.is at c.in_ok-pair.ensures.offered in
     let named = g.met.L.Insertion.laws.names_given m.limiter c.len.result c.args.key c.args.value c.on_insert.new.self pair.0 pair.1 given in
@@ -32,7 +35,7 @@ admit-requires-clause-absent g c =
 
 pub returns-in-Some : goal.returns-in-Some
 returns-in-Some g c =
-    let m = c.self.inside in let len = c.len.ensures.len ∙ sym (pairs-length m.entries c.self.invariant.linked) in let step = c.admit.ensures in
+    let m = c.self.inside in let len = c.len.ensures.len ∙ sym (pairs-length m.entries c.self.invariant.linked) in let step = c.place_new.ensures in
     rw (← c.self.view_is) (admitted (rw (← c.self.view_is) at c.requires.absent) c.on_insert.new.self c.in-Some.pair
     (subst (λ n. g.L.Insertion.offers.on_insert m.limiter n c.args.key c.args.value c.on_insert.new.self (Some c.in-Some.pair)) len (rw c.in-Some.is at c.in_ok-pair.ensures.offered))
     step)

@@ -2,6 +2,7 @@ use Rattle.std.proofs.Common.{refl, sym, ◌∙◌, ◌≡◌, None}
 use Rattle.lru_limits.specs.Hashing.{hash_by, hash_by-named}
 use Rattle.schnellru.specs.Lists.{lookup}
 use Rattle.schnellru.specs.GetOrInserts.{got, inserted}
+use Rattle.schnellru.proofs.Inside.{beside}
 use Rattle.schnellru.proofs.Searched.{not_found, no_value}
 use Rattle.schnellru.proofs.Ordered.{value_found}
 use Rattle.schnellru.proofs.Newest.{promoted_state, promoted_holds}
@@ -9,10 +10,12 @@ use Rattle.schnellru.proofs.map.LruMap.make_newest.Goals as goal
 
 pub invariant_of-self : goal.invariant_of-self
 invariant_of-self g c =
-    let m = c.self.inside in let t = m.entries in let holds = c.self.invariant in let found = c.in-Some.ensures.found in
-    promoted_holds t c.promote.new.self holds.linked c.in-Some.b found.0 found.1 c.promote.ensures.slots c.promote.ensures.order
+    let m = c.self.inside in
+    let rest = beside m.limiter m.hasher m.moved m.placed m.entry_bytes (g.L.LinkType.LinkType.number g.L.LinkType.LinkType.MAX) in
+    let t = m.entries in let holds = c.self.invariant in let found = c.in-Some.ensures.found in
+    promoted_holds t c.promote.new.self holds.linked c.in-Some.b found.0 found.1 c.promote.ensures.slots c.promote.ensures.order c.promote.ensures.placings
     (g.I.LookupKey.names c.args.key) g.met.K.Eq.laws (g.met.I.LookupKey.laws.one c.args.key) found.2 holds.map.distinct
-    m.limiter m.hasher m.moved m.placed m.entry_bytes (g.L.LinkType.LinkType.number g.L.LinkType.LinkType.MAX)
+    rest
     (hash_by g.K.Hash.hash_input g.S.BuildHasher g.S.Hasher.Hasher) holds c.promote.ensures.linked
 
 pub make-requires : goal.make-requires
@@ -35,14 +38,12 @@ insert_new-requires-clause-absent g c =
 
 pub returns-in-Some : goal.returns-in-Some
 returns-in-Some g c =
-    let m = c.self.inside in let t = m.entries in let holds = c.self.invariant in let found = c.in-Some.ensures.found in
+    let m = c.self.inside in
+    let rest = beside m.limiter m.hasher m.moved m.placed m.entry_bytes (g.L.LinkType.LinkType.number g.L.LinkType.LinkType.MAX) in
+    let t = m.entries in let holds = c.self.invariant in let found = c.in-Some.ensures.found in
     let names = g.I.LookupKey.names c.args.key in let one = g.met.I.LookupKey.laws.one c.args.key in
     let value = value_found t holds.linked c.in-Some.b found.0 found.1 names g.met.K.Eq.laws one holds.map.distinct found.2 in
-    rw (← c.self.view_is) (got found.0.1 value refl (record {
-      value = sym value;
-      state = promoted_state t c.promote.new.self holds.linked c.in-Some.b found.0 found.1 c.promote.ensures.slots c.promote.ensures.order names g.met.K.Eq.laws one found.2 holds.map.distinct
-          m.limiter m.hasher m.moved m.placed m.entry_bytes (g.L.LinkType.LinkType.number g.L.LinkType.LinkType.MAX);
-    }))
+    rw (← c.self.view_is) (got found.0.1 value refl (promoted_state t c.promote.new.self holds.linked c.in-Some.b found.0 found.1 c.promote.ensures.slots c.promote.ensures.order c.promote.ensures.placings names g.met.K.Eq.laws one found.2 holds.map.distinct rest))
 
 pub returns-in-None : goal.returns-in-None
 returns-in-None g c =

@@ -1,30 +1,37 @@
-use Rattle.std.proofs.Common.{ap, sym, ◌∙◌, min, ◌+◌, ◌^◌, ◌-◌, length, arith}
+use Rattle.std.proofs.Common.{sym, ◌∙◌, ap, length, arith}
+use Rattle.std.proofs.lemmas.Bool.{false≢true}
+use Rattle.group_table.proofs.BucketLemmas.{length-marks_of}
 use Rattle.schnellru.proofs.Growth.{usage_addressable}
+use Rattle.schnellru.proofs.Inside.{beside}
 use Rattle.schnellru.proofs.Ordered.{pairs-length}
-use Rattle.schnellru.proofs.MovedPairs.{moved_is, moved_holds}
+use Rattle.schnellru.proofs.MovedPairs.{moves_to, moves_holds}
 use Rattle.schnellru.proofs.map.LruMap.move_to.Goals as goal
 
-pub relocate-requires-clause-addressable : goal.relocate-requires-clause-addressable
-relocate-requires-clause-addressable g c = usage_addressable _ c.args.count _ c.requires.usable.1
+pub move_to-requires-clause-addressable : goal.move_to-requires-clause-addressable
+move_to-requires-clause-addressable g c = usage_addressable _ c.args.count _ c.requires.usable.1
 
-pub relocate-requires-clause-within : goal.relocate-requires-clause-within
-relocate-requires-clause-within g c =
+pub move_to-requires-clause-within : goal.move_to-requires-clause-within
+move_to-requires-clause-within g c =
     let holds = c.self.invariant in let half = rw (← c.self.view_is) at c.requires.half in
     omega (arith, half, holds.linked.count, pairs-length c.self.inside.entries holds.linked)
 
+pub returns-in_err-move_to-clause-succeeds : goal.returns-in_err-move_to-clause-succeeds
+returns-in_err-move_to-clause-succeeds g c = λ none same.
+    let t = c.self.inside.entries in
+    let no_pairs = sym (pairs-length t c.self.invariant.linked) ∙ ap length (rw (← c.self.view_is) at none) in
+    let as_many = sym (length-marks_of t.slots) ∙ sym (rw (← c.self.view_is) at same) in
+    absurd (false≢true (c.in_err-move_to.ensures.succeeds no_pairs as_many))
+
 pub invariant_of-self-2 : goal.invariant_of-self-2
 invariant_of-self-2 g c =
-    let m = c.self.inside in let t = m.entries in let u = c.relocate.new.self in let e = c.in_ok-relocate.ensures in let holds = c.self.invariant in
-    let rises = c.saturating_add-self-inside.ensures
-    ∙ ap (λ n. min (m.moved + n) (2 ^ 64 - 1)) (c.len.ensures.len ∙ sym (pairs-length u e.linked) ∙ ap length e.pairs) in
-    rw rises (moved_holds t u c.args.count holds.linked e.linked e.buckets e.pairs e.room m.limiter m.hasher m.moved m.placed m.entry_bytes
-    (g.L.LinkType.LinkType.number g.L.LinkType.LinkType.MAX) _ _ holds e.fits c.requires.reached (rw (← c.self.view_is) at c.requires.usable)
-    (rw (← c.self.view_is) at c.requires.half) (rw (← c.self.view_is) at c.requires.paid))
+    let m = c.self.inside in let e = c.in_ok-move_to.ensures in let holds = c.self.invariant in
+    let rest = beside m.limiter m.hasher m.moved m.placed m.entry_bytes (g.L.LinkType.LinkType.number g.L.LinkType.LinkType.MAX) in
+    moves_holds m.entries c.move_to.new.self c.args.count holds.linked e.linked e.buckets e.pairs e.room e.placings rest _ _ holds e.fits
+    c.requires.reached (rw (← c.self.view_is) at c.requires.usable) (rw (← c.self.view_is) at c.requires.half)
 
 pub returns-clause-moved : goal.returns-clause-moved
 returns-clause-moved g c =
-    let m = c.self.inside in let t = m.entries in let u = c.relocate.new.self in let e = c.in_ok-relocate.ensures in let holds = c.self.invariant in
-    let rises = c.saturating_add-self-inside.ensures
-    ∙ ap (λ n. min (m.moved + n) (2 ^ 64 - 1)) (c.len.ensures.len ∙ sym (pairs-length u e.linked) ∙ ap length e.pairs) in
-    rw (← c.self.view_is, rises) (moved_is t u c.args.count holds.linked e.linked e.buckets e.pairs e.room m.limiter m.hasher m.moved m.placed m.entry_bytes
-    (g.L.LinkType.LinkType.number g.L.LinkType.LinkType.MAX))
+    let m = c.self.inside in let e = c.in_ok-move_to.ensures in
+    let rest = beside m.limiter m.hasher m.moved m.placed m.entry_bytes (g.L.LinkType.LinkType.number g.L.LinkType.LinkType.MAX) in
+    rw (← c.self.view_is)
+    (moves_to m.entries c.move_to.new.self c.args.count c.self.invariant.linked e.linked e.buckets e.pairs e.room e.placings rest)

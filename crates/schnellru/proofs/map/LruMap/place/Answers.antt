@@ -1,7 +1,7 @@
 use Rattle.std.proofs.Common.{◌≡◌, ◌<◌, ◌⊎◌, inl, inr, length, sym, subst, arith}
 use Rattle.group_table.specs.Bucket.{empty, marks_of, room as room_of}
 use Rattle.schnellru.specs.State.{IsSized, FirstFreeIs, room}
-use Rattle.schnellru.specs.Steps.{UsesDeleted}
+use Rattle.schnellru.specs.Place.{FillsBucket}
 use Rattle.schnellru.specs.Linked.{pairs_of}
 use Rattle.schnellru.proofs.Ordered.{pairs-length}
 use Rattle.schnellru.proofs.Placing.{bucket_place, no_place_room, no_place_empty}
@@ -24,5 +24,4 @@ returns-in-Ok g c =
       | else-room-eq0-via-else-room-eq0 w ↦ inl (omega (arith, w.if-room-eq0.false, c.room.ensures.room))
     ] in
     bucket_place g.L.Limiter.rules _ c.args.pair c.args.self.now c.place_in_bucket.new.self (subst IsSized c.self.view_is c.self.invariant.map.sized)
-    (rw (← c.self.view_is) some) step.placed step.room
-    (subst (λ h. room c.args.self.now ≡ 0 → UsesDeleted h c.args.self.now c.place_in_bucket.new.self) c.requires.hash step.deleted)
+    (rw (← c.self.view_is) some) step.placed (subst (λ h. FillsBucket h c.args.self.now c.place_in_bucket.new.self) c.requires.hash step.fills)

@@ -1,15 +1,19 @@
--- Some of the oldest have left, at least half of what the table takes is left, and there is no room yet.
+-- Some of the oldest have left, at least half of what the table takes is left, and the pair has no place yet.
 use Rattle.std.proofs.Common.{◌≡◌, ℕ, ◌/◌, ◌<◌, ◌≤◌, length}
 use Rattle.group_table.specs.Sizes.{full_capacity}
+use Rattle.group_table.specs.Change.{HasNoPlace}
 use Rattle.schnellru.specs.State.{buckets, room, contents, Leaves, pops}
+use Rattle.schnellru.specs.Place.{OldestLeave}
 use Rattle.schnellru.proofs.map.LruMap.place_evicting.Given as goal
 
 abbrev pub invariant-evictions : goal.invariant-evictions
 invariant-evictions g l = record {
   n : ℕ;
+  gone : OldestLeave g.L.Limiter.rules l.hash n l.fn.self l.self;
   leaves : Leaves l.fn.self (pops g.L.Limiter.rules n (contents l.fn.self)) l.self;
   some : 0 < length l.self.pairs;
   half : full_capacity (buckets l.fn.self) / 2 ≤ length l.self.pairs;
+  no_place : HasNoPlace l.self.marks l.hash;
   no_room : room l.self ≡ 0;
   same_pair : l.pair ≡ l.fn.pair;
 }

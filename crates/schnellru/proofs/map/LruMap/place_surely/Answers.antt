@@ -11,7 +11,5 @@ unreachable-requires g c = elim c.in-Err.ensures.no_place [
 ]
 
 pub returns : goal.returns
-returns g c = let e = c.in-Ok.ensures in elim (e.room c.requires.room) [
-  | inl left ↦ record { table = e.placed.table; room_left = omega (arith, left); state = e.placed.state }
-  | inr w ↦ absurd (omega (arith, w.2, c.requires.exact))
-]
+returns g c = let e = c.in-Ok.ensures in
+    record { table = e.placed.table; room_left = omega (arith, e.spends c.requires.exact); state = e.placed.state }

@@ -1,5 +1,6 @@
 use Rattle.std.proofs.Common.{◌≡◌, true, sym, ap, ◌∙◌, subst, unwrap_or, option_map}
 use Rattle.lru_limits.specs.Hashing.{hash_by, hash_by-named}
+use Rattle.schnellru.proofs.Inside.{beside}
 use Rattle.schnellru.proofs.Ordered.{pair_found, others_are}
 use Rattle.schnellru.proofs.Searched.{not_found}
 use Rattle.schnellru.proofs.Taken.{none_removed, taken_pairs, taken_left, taken_told, taken_leaves, taken_holds}
@@ -16,13 +17,17 @@ returns-in_err-b g c =
 
 pub invariant_of-self : goal.invariant_of-self
 invariant_of-self g c =
-    let m = c.self.inside in let holds = c.self.invariant in
+    let m = c.self.inside in
+    let rest = beside m.limiter m.hasher m.moved m.placed m.entry_bytes (g.L.LinkType.LinkType.number g.L.LinkType.LinkType.MAX) in
+    let holds = c.self.invariant in
     taken_holds g.L.Limiter.rules m.entries c.take_out-value.new.entries c.in_ok-b.b m.limiter c.take_out-value.new.limiter c.take_out-value.result c.take_out-value.ensures.taken holds.linked
-    c.take_out-value.ensures.linked m.hasher m.moved m.placed m.entry_bytes (g.L.LinkType.LinkType.number g.L.LinkType.LinkType.MAX) g.met.K.Eq.laws _ holds (c.take_out-value.ensures.fits _ holds.fits)
+    c.take_out-value.ensures.linked rest g.met.K.Eq.laws _ holds (c.take_out-value.ensures.fits _ holds.fits)
 
 pub returns : goal.returns
 returns g c =
-    let m = c.self.inside in let holds = c.self.invariant in let found = c.in_ok-b.ensures.found in
+    let m = c.self.inside in
+    let rest = beside m.limiter m.hasher m.moved m.placed m.entry_bytes (g.L.LinkType.LinkType.number g.L.LinkType.LinkType.MAX) in
+    let holds = c.self.invariant in let found = c.in_ok-b.ensures.found in
     let names = g.Q.LookupKey.names c.args.key.now in let one = g.met.Q.LookupKey.laws.one c.args.key.now in
     let took = c.take_out-value in let out = took.ensures.taken in
     let rules = g.L.Limiter.rules in let t = m.entries in let u = took.new.entries in let l = took.new.limiter in
@@ -32,8 +37,7 @@ returns g c =
     rw (← c.self.view_is) (record {
       step = record {
         value = ap (option_map (λ p. p.1)) (taken_left rules t u c.in_ok-b.b m.limiter l took.result out _ is);
-        state = taken_leaves rules t u c.in_ok-b.b m.limiter l took.result out holds.linked took.ensures.linked m.hasher m.moved m.placed m.entry_bytes
-            (g.L.LinkType.LinkType.number g.L.LinkType.LinkType.MAX) _
+        state = taken_leaves rules t u c.in_ok-b.b m.limiter l took.result out holds.linked took.ensures.linked rest _
             (taken_pairs rules t u c.in_ok-b.b m.limiter l took.result out ∙ sym (others_are t holds.linked c.in_ok-b.b out.pair out.there names g.met.K.Eq.laws one holds.map.distinct named))
             (taken_told rules t u c.in_ok-b.b m.limiter l took.result out _ is);
       };

@@ -5,6 +5,7 @@ use Rattle.group_table.specs.Bucket.{marks_of, room}
 use Rattle.schnellru.specs.Sizes.{usage}
 use Rattle.schnellru.specs.Linked.{entries_in}
 use Rattle.schnellru.proofs.Distinct.{AreDistinct}
+use Rattle.schnellru.proofs.Inside.{beside}
 use Rattle.schnellru.proofs.Kept.{sized_by}
 use Rattle.schnellru.proofs.map.LruMap.with_hasher.Goals as goal
 
@@ -16,7 +17,7 @@ invariant_of-result g c =
       fits = c.new.ensures.fits _;
       map = record {
         distinct = subst (λ o. AreDistinct g.K.PartialEq.eq (entries_in c.new.result.slots o)) (sym c.new.ensures.order) tt;
-        sized = sized_by _ _ _ _ _ _ c.new.result c.new.ensures.linked (inl none)
+        sized = sized_by (beside c.args.limiter c.args.hasher 0 0 c.args.entry_bytes (g.L.LinkType.LinkType.number g.L.LinkType.LinkType.MAX)) c.new.result c.new.ensures.linked (inl none)
             (0, ap (usage c.args.entry_bytes) none) (omega arith) (omega arith);
         paid = subst (λ s. 0 + (full_capacity (length (marks_of s)) - 2 * room (marks_of s)) ≤ 0) (sym c.new.ensures.slots) (omega arith);
       };

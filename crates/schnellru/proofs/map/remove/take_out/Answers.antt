@@ -8,5 +8,6 @@ returns-clause-taken g c = record {
   told = c.tell.ensures.limiter;
   slots = c.take.ensures.removed;
   order = c.take.ensures.order;
+  placings = c.take.ensures.placings;
   room = c.take.ensures.room;
 }

@@ -1,17 +1,16 @@
 use Rattle.std.proofs.Common.{◌≡◌, rules, ap, sym, ◌∙◌}
-use Rattle.std.proofs.lemmas.Bool.{false≢true}
 use Rattle.group_table.specs.Sizes.{full_capacity}
 use Rattle.schnellru.specs.Linked.{entries_in}
 use Rattle.schnellru.specs.Chain.{pair_slots}
 use Rattle.lru_limits.specs.Hashing.{hash_by}
-use Rattle.schnellru.proofs.PairSlotLemmas.{length-pair_slots, marks_of-pair_slots, same_marks}
+use Rattle.schnellru.proofs.PairSlotLemmas.{marks_of-pair_slots, same_marks}
 use Rattle.schnellru.proofs.WholeLemmas.{whole_order, IsWhole-shown, IsLinked-view}
 use Rattle.schnellru.proofs.RelocateLemmas.{IsWhole-moved, pairs-moved, KeysFit-moved, hash_in-pair_slots}
-use Rattle.schnellru.proofs.link.Linked.rehash.Goals as goal
+use Rattle.schnellru.proofs.link.Linked.move_to.Goals as goal
 
 pub returns-in_err-links-clause-linked : goal.returns-in_err-links-clause-linked
 returns-in_err-links-clause-linked g c =
-    rw c.in_err-links.ensures.unchanged (IsLinked-view _ _ _ _ g.met.N.LinkType.laws _ _ _ _ c.self.invariant (rw c.in_err-links.ensures.unchanged at c.rehash.ensures.table))
+    rw c.in_err-links.ensures.unchanged (IsLinked-view _ _ _ _ g.met.N.LinkType.laws _ _ _ _ c.self.invariant (rw c.in_err-links.ensures.unchanged at c.move_entries.ensures.table))
 
 pub rewrite-requires-clause-moved : goal.rewrite-requires-clause-moved
 rewrite-requires-clause-moved g c = (_, _, c.self.invariant, rw c.as_slice.ensures.value c.in_ok-links.ensures.renumbered)
@@ -35,22 +34,17 @@ returns-clause-pairs g c =
 
 pub returns-clause-room : goal.returns-clause-room
 returns-clause-room g c =
-    let marks = same_marks c.rehash.new.self.slots c.rewrite.new.table.slots c.rewrite.ensures.pairs in
-    rw (← c.self.view_is, marks_of-pair_slots c.rewrite.new.table.slots, marks, ← c.self.invariant.count, length-pair_slots c.self.inside.table.slots)
-    (c.in_ok-links.ensures.room ∙ ap full_capacity c.in_ok-links.ensures.buckets)
+    let marks = same_marks c.move_entries.new.table.slots c.rewrite.new.table.slots c.rewrite.ensures.pairs in
+    rw (← c.self.view_is, marks_of-pair_slots c.rewrite.new.table.slots, marks, ← c.self.invariant.count)
+    c.in_ok-links.ensures.room
 
 pub returns-clause-fits : goal.returns-clause-fits
 returns-clause-fits g c =
     KeysFit-moved g.N.LinkType.number g.N.LinkType.link g.N.LinkType.MAX _ _ _ _ c.in_ok-links.ensures.renumbered c.rewrite.ensures.pairs
     (hash_by g.K.Hash.hash_input g.S.BuildHasher g.S.Hasher.Hasher c.args.hasher.now)
-    (c.in_ok-links.ensures.hashes _ (λ b hash entry is called.
-    let told : hash ≡ hash_by g.K.Hash.hash_input g.S.BuildHasher g.S.Hasher.Hasher c.args.hasher.now entry.pair.key = search rules in
-    told ∙ sym (hash_in-pair_slots (hash_by g.K.Hash.hash_input g.S.BuildHasher g.S.Hasher.Hasher c.args.hasher.now) c.self.inside.table.slots b entry is)))
+    c.in_ok-links.ensures.hashes
 
 pub returns-clause-linked : goal.returns-clause-linked
 returns-clause-linked g c =
-    let marks = same_marks c.rehash.new.self.slots c.rewrite.new.table.slots c.rewrite.ensures.pairs in
-    IsLinked-view _ _ _ _ g.met.N.LinkType.laws _ _ _ _ (invariant_of-self-2 g c) (rw marks c.rehash.ensures.table)
-
-pub returns-in_err-links-clause-succeeds : goal.returns-in_err-links-clause-succeeds
-returns-in_err-links-clause-succeeds g c none = absurd (false≢true (c.in_err-links.ensures.succeeds (c.self.invariant.count ∙ (rw (← c.self.view_is) at none))))
+    let marks = same_marks c.move_entries.new.table.slots c.rewrite.new.table.slots c.rewrite.ensures.pairs in
+    IsLinked-view _ _ _ _ g.met.N.LinkType.laws _ _ _ _ (invariant_of-self-2 g c) (rw marks c.move_entries.ensures.table)

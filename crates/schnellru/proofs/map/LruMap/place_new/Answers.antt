@@ -3,7 +3,7 @@ use Rattle.schnellru.specs.Lists.{IsFront}
 use Rattle.schnellru.specs.State.{contents}
 use Rattle.schnellru.specs.Place.{placed, refused, no_memory}
 use Rattle.schnellru.proofs.Fronts.{front_make_way, front_absent}
-use Rattle.schnellru.proofs.map.LruMap.admit.Goals as goal
+use Rattle.schnellru.proofs.map.LruMap.place_new.Goals as goal
 
 pub place-requires-clause-absent : goal.place-requires-clause-absent
 place-requires-clause-absent g c =

@@ -1,0 +1,28 @@
+use Rattle.std.proofs.Common.{◌+◌, ◌-◌, ◌^◌, min, length, sym, ap, ◌∙◌, arith}
+use Rattle.schnellru.specs.Linked.{pairs_of}
+use Rattle.schnellru.specs.State.{potential}
+use Rattle.schnellru.specs.Holds.{state_of}
+use Rattle.schnellru.proofs.Inside.{beside}
+use Rattle.schnellru.proofs.Ordered.{pairs-length}
+use Rattle.schnellru.proofs.map.LruMap.count_moves.Goals as goal
+
+pub invariant_of-self : goal.invariant_of-self
+invariant_of-self g c =
+    let m = c.self.inside in let holds = c.self.invariant in let sized = holds.map.sized in
+    let paid = rw (← c.self.view_is) at c.requires.paid in
+    let len = c.len.ensures.len ∙ sym (pairs-length m.entries holds.linked) in record {
+      linked = holds.linked;
+      fits = holds.fits;
+      map = record {
+        distinct = holds.map.distinct;
+        sized = record { table = sized.table; taken = sized.taken; reachable = sized.reachable; usable = sized.usable; moved = c.saturating_add-self-inside.type_inv; placed = sized.placed };
+        paid = omega (arith, paid, len, c.saturating_add-self-inside.ensures);
+      };
+    }
+
+pub returns : goal.returns
+returns g c =
+    let m = c.self.inside in let rises = c.saturating_add-self-inside.ensures
+    ∙ ap (λ n. min (m.moved + n) (2 ^ 64 - 1)) (c.len.ensures.len ∙ sym (pairs-length m.entries c.self.invariant.linked)) in
+    let rest = beside m.limiter m.hasher m.moved m.placed m.entry_bytes (g.L.LinkType.LinkType.number g.L.LinkType.LinkType.MAX) in
+    rw (← c.self.view_is) (λ i. record (state_of m.entries rest) { moved = rises i })
