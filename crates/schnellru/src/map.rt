@@ -58,7 +58,7 @@ impl<K: Eq + Hash, V, L: Limiter<K, V>, S: BuildHasher> Model for LruMap<K, V, L
     ghost Value = { State K V L S };
 
     ghost use Rattle.lru_limits.specs.Hashing.{hash_by};
-    ghost use Rattle.schnellru.specs.Holds.{state_of, Holds};
+    ghost use Rattle.schnellru.specs.Inside.Holds.{state_of, Holds};
 
     ghost view = { λ m. state_of m.entries (record {
       limiter = m.limiter;

@@ -6,7 +6,7 @@ ghost use Rattle.schnellru.specs.State.{IsMap};
 ghost use Rattle.schnellru.specs.GetOrInserts.{MakesNewest, SaysNewest};
 ghost use Rattle.schnellru.specs.IfMade.{MakesNewestIfMade};
 ghost use Rattle.std.specs.Borrow.{sem};
-ghost use Rattle.schnellru.specs.Lent.{kept_of};
+ghost use Rattle.schnellru.specs.Lending.Answers.{kept_of};
 
 use crate::map::LruMap;
 use lru_limits::{Insertion, Limiter, LookupKey};
@@ -54,7 +54,7 @@ fn kept_or<V>(lent: Result<&mut V, NotLent<AllocError>>) -> Result<Option<&mut V
 }
 
 impl<K: Eq + Hash + Drop, V: Drop, L: Limiter<K, V>, S: BuildHasher> LruMap<K, V, L, S> {
-    ghost use Rattle.schnellru.specs.MadeLends.{lends_or, lends_made};
+    ghost use Rattle.schnellru.specs.Lending.Made.{lends_or, lends_made};
 
     /// Makes the pair of a key the newest, and inserts it with the value that the closure makes where the key is not
     /// there. It answers whether the key is in the map then.

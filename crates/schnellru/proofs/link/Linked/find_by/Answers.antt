@@ -1,7 +1,7 @@
 use Rattle.std.proofs.Common.{rules}
 use Rattle.std.proofs.lemmas.Option.{IfSome_then}
-use Rattle.schnellru.proofs.AskedPairs.{finds_pair, finds_no_pair}
-use Rattle.schnellru.proofs.KeyLemmas.{if_none}
+use Rattle.schnellru.proofs.LinkedTables.AskedPairs.{finds_pair, finds_no_pair}
+use Rattle.schnellru.proofs.LinkedTables.KeyHashes.{if_none}
 use Rattle.schnellru.proofs.link.Linked.find_by.Goals as goal
 
 pub returns-clause-found : goal.returns-clause-found

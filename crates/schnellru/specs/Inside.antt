@@ -1,0 +1,6 @@
+pub mod Linked
+pub mod Chain
+pub mod PairLends
+pub mod Holds
+pub mod Steps
+pub mod Rest
