@@ -12,3 +12,4 @@ pub mod KeyHashes
 pub mod Relocations
 pub mod WalkRests
 pub mod Replacements
+pub mod ByHash

@@ -4,3 +4,4 @@ pub mod PairLends
 pub mod Holds
 pub mod Steps
 pub mod Rest
+pub mod Searches

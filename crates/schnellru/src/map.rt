@@ -10,15 +10,17 @@ use std::alloc::Global;
 use std::hash::{BuildHasher, Hash};
 use std::marker::Model;
 
+mod by_hash;
 mod evict;
 mod figures;
-mod get_or_insert;
+pub(crate) mod get_or_insert;
 mod insert;
 mod look_up;
 mod moves;
 mod place;
 mod remove;
 mod replace;
+pub(crate) mod report;
 pub(crate) mod reserve;
 
 /// The bytes of an entry of a map that `LruMap::default` makes.

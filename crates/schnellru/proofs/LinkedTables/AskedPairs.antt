@@ -9,7 +9,8 @@ use Rattle.group_table.specs.Probe.{hash_tag, probed}
 use Rattle.group_table.specs.Search.{IsSearch, Answers as AnswersEntry, Finds as FindsEntry, FindsNone as FindsNoEntry}
 use Rattle.schnellru.specs.declared.link.Entry.{Entry}
 use Rattle.schnellru.specs.Inside.Chain.{pair_slot, pair_slots}
-use Rattle.schnellru.specs.ByHash.{Asks, Answers, Finds, FindsNone}
+use Rattle.schnellru.specs.ByHash.{Asks}
+use Rattle.schnellru.specs.Inside.Searches.{Answers, Finds, FindsNone}
 use Rattle.schnellru.proofs.LinkedTables.PairSlots.{pair_of, length-pair_slots, bucket_at-pair_slots, marks_of-pair_slots, entry_at-pair_slots, is_full-pair_slots, Fits-entries}
 
 module _ {K V N : Type 0} (slots : List (Slot (Entry K V N))) (hash : ℕ) where

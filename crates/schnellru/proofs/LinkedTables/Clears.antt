@@ -1,14 +1,12 @@
 -- A linked table of which every bucket was emptied.
-use Rattle.std.proofs.Common.{◌≡◌, ℕ, zero, suc, ◌<◌, Bool, List, [], ◌∷◌, length, replicate, refl, sym, ap, ◌∙◌, subst, arith}
+use Rattle.std.proofs.Common.{◌≡◌, ℕ, zero, suc, ◌<◌, List, [], ◌∷◌, replicate, refl, sym, ap, ◌∙◌, arith}
 use Rattle.std.proofs.lemmas.List.{length-replicate}
 use Rattle.std.specs.Prelude.{Contains}
 use Rattle.std.proofs.lemmas.Bool.{false≢true}
-use Rattle.group_table.specs.Bucket.{Slot, Mark, empty, is_full, IsFull, marks_of, room}
-use Rattle.group_table.proofs.BucketLemmas.{length-marks_of}
+use Rattle.group_table.specs.Bucket.{Slot, empty, is_full, IsFull, marks_of}
 use Rattle.group_table.proofs.CopyLemmas.{copy_at}
 use Rattle.group_table.proofs.FreshLemmas.{entry_count-none}
 use Rattle.schnellru.specs.declared.link.Entry.{Entry}
-use Rattle.schnellru.specs.Inside.Linked.{Linked, IsLinked, KeysFit, pairs_of, entries_in}
 use Rattle.schnellru.specs.Inside.Chain.{pair_slots, IsWhole}
 
 none_in : (b : ℕ) → Contains [] b → ⊥

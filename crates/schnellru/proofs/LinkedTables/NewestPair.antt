@@ -1,9 +1,8 @@
 -- The newest pair of a linked table: a pair that comes first, and one that is written there.
-use Rattle.std.proofs.Common.{◌≡◌, ℕ, ◌+◌, ◌-◌, ◌*◌, ◌≤◌, Bool, true, List, [], ◌∷◌, ◌++◌, length, Some, None, refl, sym, ap, ◌∙◌, subst}
+use Rattle.std.proofs.Common.{◌≡◌, ℕ, Bool, true, List, [], ◌∷◌, ◌++◌, Some, None, refl, sym, ap, ◌∙◌, subst}
 use Rattle.std.specs.Prelude.{option_to_list}
 use Rattle.std.specs.Cmp.{IsEquivalence}
-use Rattle.group_table.specs.Sizes.{full_capacity}
-use Rattle.group_table.specs.Bucket.{bucket_at, entry_at, marks_of, room}
+use Rattle.group_table.specs.Bucket.{bucket_at, entry_at, marks_of}
 use Rattle.group_table.proofs.RefillLemmas.{marks_of-refilled}
 use Rattle.group_table.proofs.SearchLemmas.{full_by_entry}
 use Rattle.schnellru.specs.Lists.{without, front, after, newest_value, set_newest}

@@ -1,5 +1,5 @@
 -- A pair was taken out of its bucket, and the limiter was told.
-use Rattle.std.proofs.Common.{◌≡◌, ℕ, suc, Bool, Option, Some, None, option_map, length, arith, refl, sym, ap, ◌∙◌, subst}
+use Rattle.std.proofs.Common.{◌≡◌, ℕ, suc, Bool, Option, Some, None, option_map, length, refl, sym, ap, ◌∙◌, subst}
 use Rattle.std.specs.Cmp.{IsEquivalence}
 use Rattle.group_table.proofs.ChangeLemmas.{length-removed}
 use Rattle.group_table.proofs.SearchLemmas.{full_by_entry}
@@ -7,7 +7,7 @@ use Rattle.group_table.specs.Bucket.{bucket_at}
 use Rattle.lru_limits.specs.Rules.{Rules}
 use Rattle.schnellru.specs.Inside.Linked.{Linked, IsLinked, KeysFit, pairs_of, entries_in, without_bucket}
 use Rattle.schnellru.specs.Lists.{lookup_entry}
-use Rattle.schnellru.specs.State.{State, Contents, contents, Leaves, told_of}
+use Rattle.schnellru.specs.State.{State, Contents, Leaves, told_of}
 use Rattle.schnellru.specs.Calls.{left_of, Remove}
 use Rattle.schnellru.specs.Inside.Steps.{IsTakenOut}
 use Rattle.schnellru.specs.Inside.Holds.{Beside, state_of, Holds}

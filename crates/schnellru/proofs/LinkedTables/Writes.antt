@@ -1,13 +1,12 @@
 -- A pair of a linked table is written, or comes first.
-use Rattle.std.proofs.Common.{◌≡◌, ℕ, ◌+◌, ◌-◌, ◌*◌, ◌≤◌, Bool, true, cond, List, [], ◌∷◌, ◌++◌, length, Some, sym, ap, ◌∙◌, subst, slice_set, ◌⊎◌, inl}
+use Rattle.std.proofs.Common.{◌≡◌, ℕ, Bool, true, cond, List, [], ◌∷◌, ◌++◌, length, Some, sym, ap, ◌∙◌, subst, slice_set, ◌⊎◌, inl}
 use Rattle.std.specs.Prelude.{option_to_list}
 use Rattle.std.specs.Cmp.{IsEquivalence}
 use Rattle.std.specs.Map.{set_value}
 use Rattle.std.specs.List.{IsDistinct}
 use Rattle.std.proofs.lemmas.List.{length-set}
 use Rattle.std.proofs.lemmas.Map.{keys-set_value}
-use Rattle.group_table.specs.Bucket.{IsFull, bucket_at, entry_at, refilled, marks_of, room}
-use Rattle.group_table.specs.Sizes.{full_capacity}
+use Rattle.group_table.specs.Bucket.{IsFull, bucket_at, entry_at, refilled, marks_of}
 use Rattle.group_table.proofs.RefillLemmas.{entry_at-refilled, marks_of-refilled}
 use Rattle.group_table.proofs.SearchLemmas.{full_by_entry}
 use Rattle.schnellru.specs.Lists.{without, front, after, keys_of}

@@ -1,12 +1,12 @@
 -- A map of which every bucket was emptied.
-use Rattle.std.proofs.Common.{◌≡◌, ℕ, ◌-◌, ◌*◌, ◌≤◌, Bool, [], length, replicate, sym, ap, ◌∙◌, subst, arith}
+use Rattle.std.proofs.Common.{◌≡◌, ℕ, Bool, [], length, replicate, sym, ap, ◌∙◌, subst, arith}
 use Rattle.std.proofs.lemmas.List.{length-replicate}
 use Rattle.group_table.specs.Sizes.{full_capacity}
 use Rattle.group_table.specs.Bucket.{Mark, empty, marks_of, room}
 use Rattle.group_table.proofs.BucketLemmas.{length-marks_of}
 use Rattle.lru_limits.specs.Rules.{Rules}
 use Rattle.schnellru.specs.Inside.Linked.{Linked, IsLinked, KeysFit, pairs_of, entries_in}
-use Rattle.schnellru.specs.State.{State, buckets}
+use Rattle.schnellru.specs.State.{buckets}
 use Rattle.schnellru.specs.Calls.{cleared}
 use Rattle.schnellru.specs.Inside.Holds.{Beside, state_of, Holds}
 use Rattle.schnellru.proofs.LinkedTables.Clears.{marks_of-cleared}

@@ -1,21 +1,15 @@
 -- What holds of every map, from what holds of its linked table.
-use Rattle.std.proofs.Common.{◌≡◌, ℕ, suc, ◌+◌, ◌-◌, ◌*◌, ◌^◌, ◌<◌, ◌≤◌, ◌⊎◌, Bool, true, false, cond, List, length, Some, refl, sym, ap, ◌∙◌, subst, arith}
-use Rattle.group_table.proofs.SearchLemmas.{full_by_entry}
-use Rattle.group_table.proofs.ChangeLemmas.{length-removed}
+use Rattle.std.proofs.Common.{◌≡◌, ℕ, suc, ◌+◌, ◌-◌, ◌*◌, ◌^◌, ◌<◌, ◌≤◌, ◌⊎◌, Bool, true, false, cond, List, length, Some, sym, ap, ◌∙◌, subst, arith}
 use Rattle.group_table.specs.Sizes.{full_capacity}
-use Rattle.group_table.specs.Bucket.{Mark, marks_of, room, room_at, is_used, bucket_at, entry_at, entry_count}
-use Rattle.group_table.specs.Change.{Removes}
-use Rattle.lru_limits.specs.Rules.{Rules}
-use Rattle.schnellru.specs.Lists.{last, without_last}
+use Rattle.group_table.specs.Bucket.{Mark, marks_of, room, room_at, is_used, bucket_at}
 use Rattle.group_table.proofs.BucketLemmas.{length-marks_of, entry_count-marks_of}
 use Rattle.schnellru.specs.Sizes.{usage}
-use Rattle.schnellru.specs.State.{State, Contents, contents, IsSized, FreesRoom, Leaves, pop, told_of}
-use Rattle.schnellru.specs.Inside.Linked.{Linked, IsLinked, KeysFit, pairs_of, entries_in, without_bucket}
-use Rattle.schnellru.specs.Inside.Chain.{last_bucket}
+use Rattle.schnellru.specs.State.{Contents, IsSized, FreesRoom, Leaves}
+use Rattle.schnellru.specs.Inside.Linked.{Linked, IsLinked, KeysFit, pairs_of}
 use Rattle.schnellru.specs.Inside.Holds.{Beside, state_of, Holds}
 use Rattle.schnellru.proofs.PairLists.DistinctKeys.{AreDistinct}
 use Rattle.schnellru.proofs.Theorems.PaidMoves.{leaves_paid}
-use Rattle.schnellru.proofs.LinkedTables.BucketPairs.{pairs-length, shorter, oldest_is, others_oldest, removed-entries}
+use Rattle.schnellru.proofs.LinkedTables.BucketPairs.{pairs-length}
 
 module _ {K V S H : Type 0} (beside : Beside S H) where
   pub sized_by : (t : Linked K V) → IsLinked t → (length t.slots ≡ 0) ⊎ (length t.slots < beside.max)

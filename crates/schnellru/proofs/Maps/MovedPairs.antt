@@ -5,7 +5,7 @@ use Rattle.group_table.specs.Bucket.{marks_of, room}
 use Rattle.group_table.specs.Change.{count_up}
 use Rattle.group_table.proofs.BucketLemmas.{length-marks_of}
 use Rattle.schnellru.specs.Sizes.{usage}
-use Rattle.schnellru.specs.State.{State, MovesTo}
+use Rattle.schnellru.specs.State.{MovesTo}
 use Rattle.schnellru.specs.Inside.Linked.{Linked, IsLinked, KeysFit, pairs_of}
 use Rattle.schnellru.specs.Inside.Holds.{Beside, state_of, Holds}
 use Rattle.schnellru.proofs.PairLists.DistinctKeys.{AreDistinct}

@@ -1,5 +1,5 @@
 -- What the steps of a placing come to.
-use Rattle.std.proofs.Common.{◌≡◌, ℕ, suc, ◌+◌, ◌-◌, ◌*◌, ◌/◌, ◌<◌, ◌≤◌, ◌⊎◌, inl, inr, Bool, true, false, [], length, Some, None, Result, Ok, Err, refl, sym, ap, ◌∙◌, subst, arith}
+use Rattle.std.proofs.Common.{◌≡◌, ℕ, suc, ◌+◌, ◌-◌, ◌/◌, ◌<◌, ◌≤◌, ◌⊎◌, inl, inr, Bool, true, false, [], length, Some, None, Result, Ok, Err, refl, sym, ap, ◌∙◌, subst, arith}
 use Rattle.std.specs.Prelude.{IsOk}
 use Rattle.std.specs.declared.alloc.AllocError.{AllocError}
 use native.Mathlib.Decide.{dec_lt}
@@ -8,7 +8,7 @@ use Rattle.group_table.specs.Sizes.{IsPowerFromFour, IsBucketCount, full_capacit
 use Rattle.group_table.specs.Bucket.{empty, marks_of}
 use Rattle.group_table.specs.Change.{HasNoPlace}
 use Rattle.lru_limits.specs.Rules.{Rules}
-use Rattle.schnellru.specs.Sizes.{usage, Target, no_table, new_table, target}
+use Rattle.schnellru.specs.Sizes.{usage, no_table, new_table}
 use Rattle.schnellru.specs.State.{State, buckets, room, contents, IsSized, Leaves, pop, pops, FirstFreeIs}
 use Rattle.schnellru.specs.Place.{Evicts, Place, first_table, first_denied, empty_with_room, empty_without_room, with_room, deleted_bucket, rehashed, grown, evicting, finds_bucket, made_anew, CannotGrow}
 use Rattle.schnellru.specs.Place.{Outcome, no_target, denied, outcome_of, placed, refused, IsPlaced, IsPlacedIfMemory, LacksRoom, FillsBucket, OldestLeave, asked, turned_away, table_for}
@@ -16,7 +16,7 @@ use Rattle.group_table.proofs.BucketLemmas.{length-marks_of}
 use Rattle.schnellru.specs.Inside.Linked.{Linked, IsLinked, pairs_of}
 use Rattle.schnellru.proofs.LinkedTables.BucketPairs.{pairs-length}
 use Rattle.schnellru.proofs.TableSizes.SizedMarks.{fits, exact}
-use Rattle.schnellru.proofs.TableSizes.Growth.{full_capacity-4, full_capacity-at_most, full_capacity-some, full_capacity-even, full_capacity-double, target_doubles, target_usage, target_reached}
+use Rattle.schnellru.proofs.TableSizes.Growth.{full_capacity-4, full_capacity-at_most, full_capacity-some, full_capacity-even}
 use Rattle.schnellru.proofs.Theorems.LackOfMemory.{no_room}
 use Rattle.schnellru.proofs.Maps.LeavingPairs.{length-without_last, length-pops, known_is, leaves_more, oldest_leaves}
 use Rattle.schnellru.proofs.TableSizes.FilledBuckets.{deleted_first_large}

@@ -1,7 +1,7 @@
 -- A pair comes first, or has another value: what holds of a map goes on to hold.
 use Rattle.std.proofs.Common.{◌≡◌, ℕ, Bool, List, [], ◌∷◌, length, Option, refl, sym, subst, ◌∙◌, arith}
+use Rattle.std.specs.Cmp.{IsEquivalence}
 use Rattle.std.specs.List.{IsDistinct}
-use Rattle.std.specs.Map.{set_value}
 use Rattle.std.proofs.lemmas.Map.{length-set_value, keys-set_value}
 use Rattle.lru_limits.specs.Laws.{IsLookup}
 use Rattle.schnellru.specs.Lists.{front}
@@ -52,3 +52,9 @@ module _ {K V S H Q : Type 0} {names : Q → K → Bool} {eq : K → K → Bool}
   pub get_is_map : (result : Option V) (new : State K V S H) → Get (names q) old result new → IsMap eq old → IsMap eq new
   get_is_map result new (found value left there r e) ok = rw e (written_is_map (promoted (names q) old) (names q) left (promoted_is_map ok))
   get_is_map result new (absent none r e) ok = rw e ok
+
+-- so it is for the keys that equal one
+pub equal_is_map : {K V S H : Type 0} {eq : K → K → Bool} → IsEquivalence eq → (key : K) (old : State K V S H) → IsMap eq old
+    → IsMap eq (promoted (eq key) old)
+equal_is_map {K} {eq} laws key old ok = promoted_is_map {names = eq} {query_input = λ k. []} {key_input = λ k. []}
+    (record { writes = λ q k h. refl; one = laws.congr }) key old ok

@@ -1,5 +1,5 @@
 -- What the steps of a reservation come to.
-use Rattle.std.proofs.Common.{◌≡◌, ℕ, ◌+◌, ◌/◌, ◌<◌, ◌≤◌, inl, inr, Some, Ok, Err, true, false, List, [], ◌∷◌, length, refl, sym, ap, ◌∙◌, subst, arith, ◌⊎◌}
+use Rattle.std.proofs.Common.{◌≡◌, ℕ, ◌<◌, Ok, Err, true, false, List, [], ◌∷◌, length, refl, ap, ◌∙◌, subst, arith}
 use Rattle.lru_limits.specs.Rules.{Rules}
 use Rattle.schnellru.specs.Sizes.{new_table}
 use Rattle.schnellru.specs.State.{State, MovesTo}

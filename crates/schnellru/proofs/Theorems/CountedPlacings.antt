@@ -1,9 +1,8 @@
 -- An insert counts each placing that its table makes.
-use Rattle.std.proofs.Common.{◌≡◌, ℕ, ◌+◌, ◌<◌, Bool, Result, refl, sym, ap, ◌∙◌, arith}
+use Rattle.std.proofs.Common.{◌≡◌, ℕ, Bool, Result, ap, arith}
 use Rattle.std.specs.declared.alloc.AllocError.{AllocError}
-use Rattle.group_table.specs.Change.{count_up}
 use Rattle.lru_limits.specs.Rules.{Rules, Offers}
-use Rattle.schnellru.specs.State.{State, contents}
+use Rattle.schnellru.specs.State.{State}
 use Rattle.schnellru.specs.Place.{Place, Outcome, placed, refused, no_memory, turned_away}
 use Rattle.schnellru.specs.Inserts.{Insert, replaced, given_up, no_memory_to_admit, not_admitted, admitted}
 use Rattle.schnellru.specs.Theorems.{CountsPlacings}

@@ -5,11 +5,10 @@ use Rattle.group_table.proofs.SizeLemmas.{power_pos}
 use Rattle.group_table.specs.Bucket.{Mark, empty, deleted, bucket_at}
 use Rattle.group_table.proofs.FirstFree.{IsFirstFree-unique}
 use Rattle.lru_limits.specs.Rules.{Rules}
-use Rattle.schnellru.specs.State.{State, buckets, room, contents, FirstFreeIs}
+use Rattle.schnellru.specs.State.{State, buckets, room, FirstFreeIs}
 use Rattle.schnellru.specs.Place.{Place, first_table, first_denied, first_too_large, empty_with_room, empty_without_room, with_room, deleted_bucket, rehashed, grown, evicting, finds_bucket, made_anew, Outcome, placed, IsPlaced, asked}
 use Rattle.schnellru.proofs.Maps.Evictions.{left_length, placed_if}
 use Rattle.schnellru.proofs.TableSizes.Growth.{full_capacity-at_most, target_doubles}
-use Rattle.schnellru.proofs.Maps.LeavingPairs.{length-pops, known_is}
 use Rattle.schnellru.proofs.Theorems.Potential.{IsBounded}
 
 module _ {K V S H : Type 0} (rules : Rules K V S) (hash_of : H → K → ℕ) (pair : K × V) (old : State K V S H) (some : 0 < length old.pairs) (no_room : room old ≡ 0) where

@@ -9,7 +9,7 @@ use Rattle.schnellru.specs.Lists.{without}
 use Rattle.schnellru.specs.State.{State, buckets, potential, Contents, contents}
 use Rattle.schnellru.specs.Place.{Place, first_table, first_denied, first_too_large, empty_with_room, empty_without_room, with_room, deleted_bucket, rehashed, grown}
 use Rattle.schnellru.specs.Place.{evicting, finds_bucket, made_anew, Outcome, placed, refused, no_memory, IsPlaced, asked, turned_away, IsPlacedIfMemory, CannotGrow, no_target, denied}
-use Rattle.schnellru.specs.Inserts.{Insert, replaced, given_up, no_memory_to_admit, not_admitted, admitted, Settles, replacement}
+use Rattle.schnellru.specs.Inserts.{Insert, replaced, given_up, no_memory_to_admit, not_admitted, admitted, replacement}
 use Rattle.schnellru.proofs.Maps.LeavingPairs.{length-pops, oldest_leaves}
 use Rattle.schnellru.proofs.TableSizes.Growth.{full_capacity-4, full_capacity-double, target_doubles, target_usage}
 use Rattle.schnellru.proofs.TableSizes.Doubling.{target_small}

@@ -1,6 +1,7 @@
 -- What a map ends as, once a reference into it has ended.
-use Rattle.std.specs.Prelude.{Bool, Option}
-use Rattle.std.specs.Borrow.{Fml, RattleType, MutBor, Lends, LendsIf}
+use Rattle.std.specs.Prelude.{◌≡◌, Bool, Option, Some, OnSome, IfNone}
+use Rattle.std.specs.Option.{option_copied_mut}
+use Rattle.std.specs.Borrow.{Fml, RattleType, MutBor, Lends, LendsIf, LendsSo}
 use Rattle.std.specs.declared.cmp.PartialEq as equality
 use Rattle.std.specs.declared.fmt.Debug as debug
 use Rattle.std.specs.HashMap.Lent.{HashMembers}
@@ -24,6 +25,15 @@ module _ (K V L S N H : RattleType) (key : HashMembers K.Denot) (limits : limite
     -- it ends as this map, but with the last value written through r at the key that is named, and at `None` it stays as it is
     abbrev pub lends_value : (K.Denot → Bool) → State K.Denot V.Denot L.Denot S.Denot → Option (MutBor V.Denot) → Fml
     lends_value names base r = LendsIf map_row V m r (λ last. written names last base) m.now
+
+    -- It ends as turned makes it of a pair that is given, with the last value written through r at that pair's key. At
+    -- `None` it stays as it is.
+    abbrev pub lends_given : (K.Denot × V.Denot → Type 0) → ((K.Denot → Bool) → State K.Denot V.Denot L.Denot S.Denot → State K.Denot V.Denot L.Denot S.Denot)
+        → Option (MutBor V.Denot) → Fml
+    lends_given gives turned r = LendsSo map_row V m r
+        (λ n last. OnSome r ((pair : K.Denot × V.Denot) × gives pair × (option_copied_mut r ≡ Some pair.1)
+            × (n ≡ written (key.eq pair.0) last (turned (key.eq pair.0) m.now))))
+        (λ n. IfNone r (n ≡ m.now))
 
     -- its newest pair has the last value written through r, and at `None` it stays as it is
     abbrev pub lends_newest : Option (MutBor V.Denot) → Fml

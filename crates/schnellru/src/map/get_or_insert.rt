@@ -12,22 +12,23 @@ use crate::map::LruMap;
 use lru_limits::{Insertion, Limiter, LookupKey};
 use std::alloc::AllocError;
 use std::hash::{BuildHasher, Hash};
+use thiserror::Error;
 
-/// Why no value is lent.
+// Why no value is lent: the key is not there, or there was a refusal.
 #[derive(Drop)]
-pub enum NotLent<E> {
-    /// The key is not there.
+pub(crate) enum NotLent<E> {
     NotKept,
-    /// A refusal.
     Failed(E),
 }
 
 /// Why no value is lent by `get_or_insert_fallible`.
-#[derive(Debug, Drop, PartialEq, Eq)]
+#[derive(Debug, Drop, PartialEq, Eq, Error)]
 pub enum GetOrInsertError<E> {
     /// Memory was refused.
+    #[error("no memory")]
     Memory,
     /// The closure failed.
+    #[error("the closure failed")]
     Caller(E),
 }
 
@@ -101,7 +102,7 @@ impl<K: Eq + Hash + Drop, V: Drop, L: Limiter<K, V>, S: BuildHasher> LruMap<K, V
     }
 
     // What `get_or_insert` lends, in a form of which a caller's proof learns.
-    pub fn lend_or_insert<I: LookupKey<K> + Drop, F: FnOnce() -> V>(
+    pub(crate) fn lend_or_insert<I: LookupKey<K> + Drop, F: FnOnce() -> V>(
         &mut self,
         key: I,
         make: F,
@@ -173,7 +174,7 @@ impl<K: Eq + Hash + Drop, V: Drop, L: Limiter<K, V>, S: BuildHasher> LruMap<K, V
     }
 
     // What `get_or_insert_fallible` lends, in a form of which a caller's proof learns.
-    pub fn lend_or_insert_fallible<I: LookupKey<K> + Drop, E, F: FnOnce() -> Result<V, E>>(
+    pub(crate) fn lend_or_insert_fallible<I: LookupKey<K> + Drop, E, F: FnOnce() -> Result<V, E>>(
         &mut self,
         key: I,
         make: F,

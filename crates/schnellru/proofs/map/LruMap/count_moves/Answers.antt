@@ -1,6 +1,4 @@
-use Rattle.std.proofs.Common.{◌+◌, ◌-◌, ◌^◌, min, length, sym, ap, ◌∙◌, arith}
-use Rattle.schnellru.specs.Inside.Linked.{pairs_of}
-use Rattle.schnellru.specs.State.{potential}
+use Rattle.std.proofs.Common.{◌+◌, ◌-◌, ◌^◌, min, sym, ap, ◌∙◌, arith}
 use Rattle.schnellru.specs.Inside.Holds.{state_of}
 use Rattle.schnellru.proofs.Maps.Fields.{beside}
 use Rattle.schnellru.proofs.LinkedTables.BucketPairs.{pairs-length}

@@ -1,4 +1,4 @@
-use Rattle.std.proofs.Common.{refl, sym, ◌∙◌, ◌≡◌, None}
+use Rattle.std.proofs.Common.{refl, ◌∙◌, ◌≡◌, None}
 use Rattle.lru_limits.specs.Hashing.{hash_by, hash_by-named}
 use Rattle.schnellru.specs.Lists.{lookup}
 use Rattle.schnellru.specs.GetOrInserts.{got, inserted}

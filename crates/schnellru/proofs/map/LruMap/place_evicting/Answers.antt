@@ -6,7 +6,7 @@ use Rattle.schnellru.specs.State.{IsSized, buckets}
 use Rattle.schnellru.proofs.LinkedTables.BucketPairs.{pairs-length}
 use Rattle.schnellru.proofs.TableSizes.Growth.{full_capacity-some}
 use Rattle.schnellru.proofs.Maps.LeavingPairs.{leaves_more}
-use Rattle.schnellru.proofs.Maps.Placements.{one_more, one_fewer, left_absent, finds, makes_anew, same_buckets, no_place_room, power_with_pairs}
+use Rattle.schnellru.proofs.Maps.Placements.{one_more, one_fewer, left_absent, finds, makes_anew, no_place_room, power_with_pairs}
 use Rattle.schnellru.proofs.map.LruMap.place_evicting.Goals as goal
 
 pub place_after_move-requires-clause-absent : goal.place_after_move-requires-clause-absent

@@ -1,4 +1,4 @@
-use Rattle.std.proofs.Common.{◌≡◌, ◌<◌, ◌/◌, inl, inr, length, ap, sym, ◌∙◌, subst, arith}
+use Rattle.std.proofs.Common.{◌≡◌, ◌<◌, ◌/◌, length, ap, sym, ◌∙◌, subst, arith}
 use Rattle.group_table.specs.Sizes.{full_capacity}
 use Rattle.group_table.specs.Bucket.{empty, marks_of}
 use Rattle.group_table.proofs.BucketLemmas.{length-marks_of}
