@@ -13,3 +13,4 @@ pub mod Exact
 pub mod ByHash
 pub mod Inside
 pub mod Lending
+pub mod Drains

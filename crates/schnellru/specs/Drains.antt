@@ -1,0 +1,32 @@
+-- What a drain takes out of a map. Each step is one of `PopNewest` and `PopOldest`, and its drop is `cleared`.
+use Rattle.std.specs.Prelude.{◌≡◌, length, Option}
+use Rattle.std.specs.Borrow.{GName}
+use Rattle.std.specs.Iterator.{at_most, Count}
+use Rattle.lru_limits.specs.Rules.{Rules}
+use Rattle.schnellru.specs.State.{State}
+use Rattle.schnellru.specs.Calls.{PopNewest, PopOldest}
+use Rattle.schnellru.specs.declared.walk.drain.Drain.{Drain}
+
+module _ {K V L S N H : Type 0} where
+  -- the map that a drain takes from, as it is now
+  abbrev pub drain_map : Drain K V L S N H → State K V L S
+  drain_map d = d.map.now
+
+  -- the ghost name of the reference to it
+  abbrev pub drain_lender : Drain K V L S N H → GName
+  drain_lender d = d.map.ghost_name
+
+  -- how many pairs are left
+  abbrev pub drain_left : Drain K V L S N H → Count
+  drain_left d = at_most (length (drain_map d).pairs)
+
+  module _ (rules : Rules K V L) where
+    -- it takes the newest pair, if there is one
+    pub record TakesNewest (old : Drain K V L S N H) (result : Option (K × V)) (new : Drain K V L S N H) : Type 0 where
+      pub pops : PopNewest rules (drain_map old) result (drain_map new)
+      pub same_reference : drain_lender new ≡ drain_lender old
+
+    -- or the oldest
+    pub record TakesOldest (old : Drain K V L S N H) (result : Option (K × V)) (new : Drain K V L S N H) : Type 0 where
+      pub pops : PopOldest rules (drain_map old) result (drain_map new)
+      pub same_reference : drain_lender new ≡ drain_lender old
