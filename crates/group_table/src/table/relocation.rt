@@ -1,5 +1,5 @@
 //! The calls of `Table` that move every entry.
-ghost use Rattle.std.specs.Prelude.{◌≡◌, ℕ, ◌+◌, ◌^◌, ◌<◌, ◌≤◌, length, count_by, IfOk, OnErr, OnOk, IsOk};
+ghost use Rattle.std.specs.Prelude.{◌≡◌, ℕ, ◌+◌, ◌^◌, ◌<◌, ◌≤◌, [], length, count_by, IfOk, OnErr, OnOk, IsOk};
 ghost use Rattle.group_table.specs.Sizes.{IsPowerFromFour, full_capacity};
 ghost use Rattle.group_table.specs.Bucket.{marks_of, entry_count, is_deleted, room};
 ghost use Rattle.group_table.specs.Table.{IsTable};
@@ -34,6 +34,7 @@ impl<T: Drop> Table<T> {
         requires callable { H.IsAlwaysCallable hash_of }
         ensures buckets { OnOk result (length self.new.slots ≡ buckets) }
         ensures renumbered { IfOk result (λ links. Renumbers N.number N.MAX self.old.slots self.new.slots links.items) }
+        ensures no_links { IfOk result (λ links. entry_count self.old.slots ≡ 0 → links.items ≡ []) }
         ensures entries { OnOk result (entry_count self.new.slots ≡ entry_count self.old.slots) }
         ensures room { OnOk result (
             room (marks_of self.new.slots) + entry_count self.old.slots ≡ full_capacity (length self.new.slots)) }
@@ -71,6 +72,7 @@ impl<T: Drop> Table<T> {
         requires callable { H.IsAlwaysCallable hash_of }
         ensures buckets { length self.new.slots ≡ length self.old.slots }
         ensures renumbered { IfOk result (λ links. Renumbers N.number N.MAX self.old.slots self.new.slots links.items) }
+        ensures no_links { IfOk result (λ links. entry_count self.old.slots ≡ 0 → links.items ≡ []) }
         ensures entries { OnOk result (entry_count self.new.slots ≡ entry_count self.old.slots) }
         ensures room { OnOk result (
             room (marks_of self.new.slots) + entry_count self.old.slots ≡ full_capacity (length self.new.slots)) }
