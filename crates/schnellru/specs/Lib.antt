@@ -14,3 +14,4 @@ pub mod ByHash
 pub mod Inside
 pub mod Lending
 pub mod Drains
+pub mod Clones

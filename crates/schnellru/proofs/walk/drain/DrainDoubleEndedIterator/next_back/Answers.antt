@@ -1,4 +1,4 @@
-use Rattle.std.proofs.Common.{◌≡◌, length, ap, ◌∙◌, arith, inl, inr}
+use Rattle.std.proofs.Common.{length, ap, ◌∙◌, arith, inl, inr}
 use Rattle.schnellru.proofs.PairLists.Emptiness.{last_cases}
 use Rattle.schnellru.proofs.Maps.LeavingPairs.{length-without_last}
 use Rattle.schnellru.proofs.walk.drain.DrainDoubleEndedIterator.next_back.Goals as goal
