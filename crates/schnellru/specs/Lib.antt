@@ -5,7 +5,6 @@ pub mod Place
 pub mod Calls
 pub mod Inserts
 pub mod Reservations
-pub mod Coming
 pub mod Theorems
 pub mod GetOrInserts
 pub mod IfMade
@@ -15,3 +14,4 @@ pub mod Inside
 pub mod Lending
 pub mod Drains
 pub mod Clones
+pub mod Runs
