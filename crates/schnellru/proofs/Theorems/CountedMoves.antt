@@ -48,8 +48,8 @@ room_within marks = omega arith
 
 module _ {K V S H : Type 0} (rules : Rules K V S) (old : State K V S H) where
   -- other pairs, no more than before
-  pairs_calm : (pairs : List (K × V)) → length pairs ≡ length old.pairs → Calm old (record old { pairs = pairs })
-  pairs_calm pairs same = record {
+  pairs_calm : (pairs : List (K × V)) (places : List ℕ) → length pairs ≡ length old.pairs → Calm old (record old { pairs = pairs; places = places })
+  pairs_calm pairs places same = record {
     entry_bytes = refl;
     placings = refl;
     moved = refl;
@@ -74,7 +74,7 @@ module _ {K V S H : Type 0} (rules : Rules K V S) (old : State K V S H) where
 
 module _ {K V S H Q : Type 0} (rules : Rules K V S) (names : Q → K → Bool) (R : Contents K V S → Contents K V S → Type 0) (k : Keeps rules names R) (old : State K V S H) where
   pub promoted_changes : (q : Q) → Changes rules R 0 old (promoted (names q) old)
-  promoted_changes q = calm_changes rules R 0 old _ (pairs_calm rules old _ (length-front_pairs (names q) old.pairs)) (k.first q (contents old))
+  promoted_changes q = calm_changes rules R 0 old _ (pairs_calm rules old _ _ (length-front_pairs (names q) old.pairs)) (k.first q (contents old))
 
   pub remove_changes : (test : K → Bool) (result : Option V) (new : State K V S H) → Remove rules test old result new → Changes rules R 0 old new
   remove_changes test result new h = leaves_changes rules R 0 old _ new h.state (k.left test (contents old))
@@ -96,7 +96,7 @@ module _ {K V S H Q : Type 0} (rules : Rules K V S) (names : Q → K → Bool) (
 module _ {K V S H : Type 0} (rules : Rules K V S) (R : Contents K V S → Contents K V S → Type 0) (old : State K V S H) where
   -- what a value that is written or a limiter that is set keeps is for the law to say
   pub written_changes : (test : K → Bool) (value : V) → R (contents old) (contents (written test value old)) → Changes rules R 0 old (written test value old)
-  written_changes test value r = calm_changes rules R 0 old _ (pairs_calm rules old _ (length-set_value test old.pairs value)) r
+  written_changes test value r = calm_changes rules R 0 old _ (pairs_calm rules old _ _ (length-set_value test old.pairs value)) r
 
   pub set_changes : (s : S) → R (contents old) (record { pairs = old.pairs; limiter = s }) → Changes rules R 0 old (record old { limiter = s })
   set_changes s r = calm_changes rules R 0 old _ (limiter_calm old s) r
@@ -144,5 +144,5 @@ module _ {K V S H : Type 0} (rules : Rules K V S) (R : Contents K V S → Conten
 module _ {K V S H I : Type 0} (rules : Rules K V S) (offers : Offers K V S I) (names : I → K → Bool) (R : Contents K V S → Contents K V S → Type 0) (k : KeepsOffers rules offers names R)
     (hash_of : H → K → ℕ) (makes : V → Type 0) (i : I) (old : State K V S H) (result : Result Bool AllocError) (new : State K V S H) where
   pub makes_newest_changes : MakesNewest rules offers names hash_of makes i old result new → Changes rules R 1 old new
-  makes_newest_changes (got w e r step) = calm_changes rules R 1 old new (rw step (pairs_calm rules old _ (length-front_pairs (names i) old.pairs))) (rw step (k.keeps.first i (contents old)))
+  makes_newest_changes (got w e r step) = calm_changes rules R 1 old new (rw step (pairs_calm rules old _ _ (length-front_pairs (names i) old.pairs))) (rw step (k.keeps.first i (contents old)))
   makes_newest_changes (inserted e v m step) = insert_changes rules offers names R k hash_of i v old result new step

@@ -30,5 +30,5 @@ returns g c =
       pairs = done.pairs;
       limiter = c.in_ok-limiter.ensures.cases;
       hasher = c.in_ok-hasher.ensures.cases;
-      rest = λ i. record (state_of c.in_ok-entries.entries rest) { marks = done.marks i; placings = done.placings i };
+      rest = λ i. record (state_of c.in_ok-entries.entries rest) { marks = done.marks i; places = done.order i; placings = done.placings i };
     } })
