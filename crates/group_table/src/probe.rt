@@ -4,12 +4,48 @@ ghost use Rattle.group_table.specs.Sizes.{IsPowerFromFour};
 ghost use Rattle.group_table.specs.Bucket.{bucket_at, empty};
 ghost use Rattle.group_table.specs.Probe.{probed};
 ghost use Rattle.group_table.specs.Search.{Finds, FindsNone};
-ghost use Rattle.group_table.specs.Group.{AsksGroup, IsFreeLane, IsFirstFreeByte};
+ghost use Rattle.group_table.specs.Group.{IsProbe, AsksGroup, IsFreeLane, IsFirstFreeByte};
 ghost use Rattle.group_table.specs.Lanes.{IsRepeated};
 ghost use Rattle.group_table.specs.Layout.{IsLaidOut, slots_of, marks_by};
 
 use crate::control::{tag_of, wrap};
 use crate::group::{load, lowest_lane, match_empty, match_free, match_tag, without_lowest};
+
+// The row of groups of a search: the bucket at which the next one begins, and how many buckets those before it have.
+#[derive(Drop)]
+pub(crate) struct Probe {
+    start: usize,
+    passed: usize,
+}
+
+impl Probe {
+    // The row of a search for the hash, which begins there.
+    #[inline]
+    fn of(hash: u64, buckets: usize) -> Probe
+        requires { IsPowerFromFour buckets }
+        ensures at { IsProbe buckets hash result }
+        ensures none_passed { result.passed ≡ 0 }
+    {
+        Probe {
+            start: wrap(hash as usize, buckets),
+            passed: 0,
+        }
+    }
+
+    // Goes past a group: the next one begins 16, 32, 48, .. buckets later.
+    #[inline]
+    fn go_on(&mut self, buckets: usize)
+        requires count { IsPowerFromFour buckets }
+        requires fits { buckets + 16 < 2 ^ 63 }
+        requires start { self.old.start < buckets }
+        requires within { self.old.passed < buckets }
+        ensures at { (hash : ℕ) → IsProbe buckets hash self.old → IsProbe buckets hash self.new }
+        ensures passed { self.new.passed ≡ self.old.passed + 16 }
+    {
+        self.passed += 16;
+        self.start = wrap(self.start + self.passed, buckets);
+    }
+}
 
 // What came of asking about one group: a bucket whose entry was accepted, the end of the search at an empty
 // bucket, or neither.
@@ -73,16 +109,13 @@ pub(crate) fn find_bucket<T, F: FnMut(&T) -> bool>(
 {
     let buckets = entries.len();
     let tag = tag_of(hash);
-    let mut start = wrap(hash as usize, buckets);
-    let mut stride = 0;
+    let mut probe = Probe::of(hash, buckets);
     'groups: loop {
-        match ask_group(control, entries, start, tag, &mut f) {
+        match ask_group(control, entries, probe.start, tag, &mut f) {
             Asked::Accepted(b) => return Some(b),
             Asked::Ended => return None,
-            Asked::GoesOn => {}
+            Asked::GoesOn => probe.go_on(buckets),
         }
-        stride += 16;
-        start = wrap(start + stride, buckets);
     }
 }
 
@@ -118,14 +151,12 @@ pub(crate) fn first_free(control: &[u8], buckets: usize, hash: u64) -> usize
     requires some_free { (b : ℕ) × (b < buckets) × (128 ≤ slice_index control.now b) }
     ensures { IsFirstFreeByte control.now buckets hash result }
 {
-    let mut start = wrap(hash as usize, buckets);
-    let mut stride = 0;
+    let mut probe = Probe::of(hash, buckets);
     'groups: loop {
-        if let Some(b) = free_in_group(control, buckets, start) {
+        if let Some(b) = free_in_group(control, buckets, probe.start) {
             return b;
         }
-        stride += 16;
-        start = wrap(start + stride, buckets);
+        probe.go_on(buckets);
     }
 }
 
