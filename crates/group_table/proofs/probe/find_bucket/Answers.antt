@@ -1,6 +1,6 @@
-use Rattle.std.proofs.Common.{◌≡◌, length, arith, of_calls, refl, ap, ◌%◌, ◌+◌, ◌<◌, ◌∙◌, min}
+use Rattle.std.proofs.Common.{◌≡◌, length, arith, of_calls, refl, ◌+◌, ◌<◌, min}
 use Rattle.group_table.specs.Layout.{slots_of}
-use Rattle.group_table.proofs.LayoutLemmas.{length-laid_out, power_of, entries_within}
+use Rattle.group_table.proofs.LayoutLemmas.{length-laid_out, power_of}
 use Rattle.group_table.proofs.ProbeLemmas.{probe_within}
 use Rattle.group_table.proofs.FindLemmas.{Finds-from, FindsNone-from, refused_group, not_ended, none_on}
 use Rattle.group_table.proofs.probe.find_bucket.Goals as goal

@@ -1,4 +1,4 @@
-use Rattle.std.proofs.Common.{◌≡◌, ◌≢◌, ℕ, ◌-◌, ◌%◌, ◌<◌, length}
+use Rattle.std.proofs.Common.{◌≢◌, ℕ, ◌-◌, ◌<◌, length}
 use Rattle.group_table.specs.Bucket.{empty}
 use Rattle.group_table.specs.Probe.{mark_probed}
 use Rattle.group_table.specs.Group.{IsProbe}

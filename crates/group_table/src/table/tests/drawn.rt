@@ -87,7 +87,11 @@ fn drawn_placings_and_removals(rt: HostRuntime) -> Result<(), Fail> {
                 place(&rt, &mut table, bytes.as_mut_slice(), number);
             }
             let all = with_repetition(rt.alloc(), bytes.as_slice())?;
-            assert_eq!(rt; table.control, all, "{buckets} buckets, step {step}");
+            assert_eq!(rt;
+                table.control.as_slice(),
+                all.as_slice(),
+                "{buckets} buckets, step {step}"
+            );
             let used = bytes.iter().filter(|byte| **byte != 255).count();
             assert_eq!(rt; table.room(), full.saturating_sub(used), "at {step}");
         }

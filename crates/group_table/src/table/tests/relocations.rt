@@ -333,7 +333,7 @@ fn copies(rt: HostRuntime) -> Result<(), Fail> {
         assert_eq!(rt; asked.get(), table.len());
         let figures = (table.len(), table.room(), table.placings());
         assert_eq!(rt; (copy.len(), copy.room(), copy.placings()), figures);
-        assert_eq!(rt; copy.control, table.control);
+        assert_eq!(rt; copy.control.as_slice(), table.control.as_slice());
         for b in 0..table.buckets() {
             let key = if table.is_full(b) {
                 Some(table.get(b).wrapping_add(1000))
