@@ -29,13 +29,13 @@ impl<T: Drop> Table<T> {
         ensures table { IfOk result (λ t. IsTable (marks_of t.slots)) }
         ensures succeeds { length self.now.slots ≡ 0 → IsOk result }
     {
-        let alloc = *self.control.allocator();
+        let alloc = *self.entries.allocator();
         if self.entries.is_empty() {
             let mut none = Table::new(alloc);
             none.placings = self.placings;
             return Ok(none);
         }
-        let control = Vec::from_slice(alloc, self.control.as_slice())?;
+        let control = self.control.copied(alloc)?;
         let entries = copy_entries(alloc, self.entries.as_slice(), &f)?;
         Ok(Table {
             control,

@@ -6,7 +6,7 @@ ghost use Rattle.group_table.specs.Table.{IsTable};
 ghost use Rattle.group_table.specs.Change.{count_up};
 ghost use Rattle.group_table.specs.Relocation.{Renumbers, KeepsHashes, GivesHashes};
 
-use crate::fields::{clear_bytes, no_links};
+use crate::fields::no_links;
 use crate::link::LinkType;
 use crate::sizes::full_capacity;
 use crate::table::Table;
@@ -45,7 +45,7 @@ impl<T: Drop> Table<T> {
         ensures table { IsTable (marks_of self.new.slots) }
         ensures unchanged { OnErr result (self.new ≡ self.old) }
     {
-        let alloc = *self.control.allocator();
+        let alloc = *self.entries.allocator();
         let mut fresh = Table::with_buckets(alloc, buckets)?;
         if self.len == 0 {
             fresh.placings = self.placings;
@@ -84,14 +84,14 @@ impl<T: Drop> Table<T> {
         ensures unchanged { OnErr result (self.new ≡ self.old) }
         ensures succeeds { entry_count self.old.slots ≡ 0 → IsOk result }
     {
-        let alloc = *self.control.allocator();
+        let alloc = *self.entries.allocator();
         if self.len == 0 {
             self.clear();
             return Ok(Vec::new(alloc));
         }
         let buckets = self.entries.len();
         let mut links = no_links(alloc, buckets)?;
-        clear_bytes(&mut self.control);
+        self.control.clear();
         place_again(&mut self.control, &mut self.entries, &mut links, &hash_of);
         self.room = full_capacity(buckets) - self.len;
         self.placings = self.placings.saturating_add(self.len as u64);

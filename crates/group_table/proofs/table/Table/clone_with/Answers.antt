@@ -8,16 +8,16 @@ use Rattle.group_table.proofs.table.Table.clone_with.Goals as goal
 pub invariant_of-result : goal.invariant_of-result
 invariant_of-result g c =
     let valid = c.self.invariant.0 in
-    let copied = rw c.as_slice-2.ensures.value at c.in_ok-entries.ensures in
-    rw (c.in_ok-control.ensures.items, c.as_slice.ensures.value) (
+    let copied = rw c.as_slice.ensures.value at c.in_ok-entries.ensures in
+    rw (c.in_ok-control.ensures) (
       IsValid-copied g.F.Fn c.args.f _ _ _ _ valid copied,
       c.self.invariant.1 ∙ sym (entry_count-copied g.F.Fn c.args.f _ _ _ _ valid copied),
     )
 
 pub returns-clause-copies : goal.returns-clause-copies
 returns-clause-copies g c =
-    let copied = rw c.as_slice-2.ensures.value at c.in_ok-entries.ensures in
-    rw (← c.self.view_is, c.in_ok-control.ensures.items, c.as_slice.ensures.value) (Copies-places g.F.Fn c.args.f _ _ _ copied)
+    let copied = rw c.as_slice.ensures.value at c.in_ok-entries.ensures in
+    rw (← c.self.view_is, c.in_ok-control.ensures) (Copies-places g.F.Fn c.args.f _ _ _ copied)
 
 pub returns-clause-marks : goal.returns-clause-marks
 returns-clause-marks g c = marks_of-copies g.F.Fn c.args.f _ _ (returns-clause-copies g c)
@@ -27,8 +27,8 @@ returns-clause-fits g c hash_of fits = Fits-copies g.F.Fn c.args.f _ _ hash_of (
 
 pub returns-clause-table : goal.returns-clause-table
 returns-clause-table g c =
-    let copied = rw c.as_slice-2.ensures.value at c.in_ok-entries.ensures in
-    rw (c.in_ok-control.ensures.items, c.as_slice.ensures.value) (IsTable-by _ _ _ (IsValid-copied g.F.Fn c.args.f _ _ _ _ c.self.invariant.0 copied))
+    let copied = rw c.as_slice.ensures.value at c.in_ok-entries.ensures in
+    rw (c.in_ok-control.ensures) (IsTable-by _ _ _ (IsValid-copied g.F.Fn c.args.f _ _ _ _ c.self.invariant.0 copied))
 
 pub returns-in_err-control-clause-succeeds : goal.returns-in_err-control-clause-succeeds
 returns-in_err-control-clause-succeeds g c none =
