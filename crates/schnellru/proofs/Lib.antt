@@ -4,4 +4,5 @@ pub mod Chains
 pub mod LinkedTables
 pub mod Maps
 pub mod Theorems
+mod SameWalks
 pub mod CallerLemmas

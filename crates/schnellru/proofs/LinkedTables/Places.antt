@@ -8,7 +8,7 @@ use Rattle.std.proofs.lemmas.Option.{none-some, same_Some}
 use Rattle.group_table.specs.Bucket.{Slot, entry_at, bucket_at}
 use Rattle.group_table.proofs.SearchLemmas.{entry_by_full}
 use Rattle.schnellru.specs.Lists.{keys_of, set_value_at, last_of}
-use Rattle.schnellru.specs.Inside.Chain.{first_bucket, bucket_after, bucket_before}
+use Rattle.schnellru.specs.Inside.Chain.{first_bucket, last_bucket, bucket_after, bucket_before}
 use Rattle.schnellru.specs.Inside.Linked.{entries_in}
 use Rattle.schnellru.proofs.Chains.Orders.{Contains-here, Contains-later, distinct_head, distinct_tail}
 use Rattle.schnellru.proofs.PairLists.DistinctKeys.{AreDistinct}
@@ -19,14 +19,20 @@ got_in [] i b e = absurd (none-some b e)
 got_in (c ∷ cs) zero b e = (0, omega arith, same_Some c b e)
 got_in (c ∷ cs) (suc i) b e = Contains-later c b cs (got_in cs i b e)
 
+-- the first bucket, and the last
+pub first_at : (order : List ℕ) → first_bucket order ≡ slice_get order 0
+first_at [] = refl
+first_at (x ∷ xs) = refl
+
+pub last_at : (order : List ℕ) → last_bucket order ≡ last_of (length order) order
+last_at [] = refl
+last_at (x ∷ []) = refl
+last_at (x ∷ y ∷ ys) = last_at (y ∷ ys)
+
 -- the bucket after the one at a place is that at the next
 pub after_at : (order : List ℕ) (i b : ℕ) → AllPairs ◌≢◌ order → slice_get order i ≡ Some b → bucket_after b order ≡ slice_get order (suc i)
 after_at [] i b d e = absurd (none-some b e)
-after_at (c ∷ cs) zero b d e = rw (eq-eqb c b (same_Some c b e)) (head cs)
-  where
-    head : (cs : List ℕ) → first_bucket cs ≡ slice_get cs 0
-    head [] = refl
-    head (x ∷ xs) = refl
+after_at (c ∷ cs) zero b d e = rw (eq-eqb c b (same_Some c b e)) (first_at cs)
 after_at (c ∷ cs) (suc i) b d e =
     rw (ne_eqb c b (λ same. distinct_head c cs d (subst (Contains cs) (sym same) (got_in cs i b e)))) (after_at cs i b (distinct_tail c cs d) e)
 

@@ -1,8 +1,8 @@
 // A map by the places of its pairs, counted from the newest on, for walks.
-ghost use Rattle.std.specs.Prelude.{◌≡◌, ℕ, ◌+◌, slice_get, Some, Contains};
+ghost use Rattle.std.specs.Prelude.{◌≡◌, ℕ, ◌+◌, length, slice_get, Some, Contains};
 ghost use Rattle.std.specs.Borrow.{sem};
 ghost use Rattle.std.specs.Map.Iter.{deref_pair_mut};
-ghost use Rattle.schnellru.specs.Lists.{first, last, last_of};
+ghost use Rattle.schnellru.specs.Lists.{last_of};
 
 use crate::map::LruMap;
 use lru_limits::Limiter;
@@ -14,8 +14,9 @@ impl<K: Eq + Hash, V, L: Limiter<K, V>, S: BuildHasher> LruMap<K, V, L, S> {
     // The bucket of the newest pair, and that of the oldest.
     #[inline]
     pub(crate) fn ends(&self) -> (Option<usize>, Option<usize>)
-        ensures newest { result.0 ≡ first self.now.places }
-        ensures oldest { result.1 ≡ last self.now.places }
+        ensures newest { result.0 ≡ slice_get self.now.places 0 }
+        ensures oldest { result.1 ≡ last_of (length self.now.pairs) self.now.places }
+        ensures places { length self.now.places ≡ length self.now.pairs }
     {
         (self.entries.newest(), self.entries.last())
     }
