@@ -5,4 +5,5 @@ pub mod LinkedTables
 pub mod Maps
 pub mod Theorems
 mod SameWalks
+mod LentPairs
 pub mod CallerLemmas

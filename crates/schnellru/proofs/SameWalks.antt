@@ -1,5 +1,5 @@
 -- Walks of the same map, at the same places, are the same: what they know of their buckets is known in one way.
-use Rattle.std.proofs.Common.{◌≡◌, ℕ, ◌≤◌, Option, length, ap, sym, ◌∙◌, subst}
+use Rattle.std.proofs.Common.{◌≡◌, ℕ, ◌≤◌, Option, length, sym, ◌∙◌, subst}
 use Rattle.std.specs.Prelude.{slice_get}
 use Rattle.std.specs.Borrow.{MutBor}
 use Rattle.std.specs.Coded.{Coded-set, coded_option, coded_ℕ, le_prop}

@@ -25,16 +25,43 @@ pub struct IterMut<'a, K: Eq + Hash, V, L: Limiter<K, V>, S: BuildHasher> {
 }
 
 impl<'a, K: Eq + Hash, V, L: Limiter<K, V>, S: BuildHasher> IterMut<'a, K, V, L, S> {
-    ghost use Rattle.std.specs.Prelude.{◌-◌, ◌<◌, Some};
+    ghost use Rattle.std.specs.Prelude.{◌-◌, ◌<◌, Some, option_map};
     ghost use Rattle.std.specs.Borrow.{sem};
     ghost use Rattle.std.specs.Map.Iter.{deref_pair_mut};
     ghost use Rattle.schnellru.specs.Walks.{walk_map, walk_start, walk_end, lends_first, lends_last};
+    ghost use Rattle.schnellru.specs.Walks.{lends_next, lends_next_back, next_pair, next_back_pair};
 
     /// How many pairs are left.
     pub fn len(&self) -> usize
         ensures { result ≡ walk_end self.now - walk_start self.now }
     {
         self.end.saturating_sub(self.start)
+    }
+
+    /// The newest pair that is left, with its value to be changed until the next call; `None` where none is left.
+    ///
+    /// A caller's proof learns nothing of this shape of a result; `len` and `lend_next` serve it.
+    pub fn next(&mut self) -> Option<(&K, &mut V)>
+        ensures* writes_back { sem 𝓛 (lends_next K.row V.row L.row S.row L.LinkType.row S.Hasher.row K.Hash L.Limiter
+            L.LinkType.LinkType.own L.LinkType.PartialEq L.LinkType.Debug S.BuildHasher S.Hasher.Hasher self.entry result) }
+        ensures value { option_map deref_pair_mut result ≡ next_pair self.old }
+    {
+        if self.start < self.end {
+            return Some(self.lend_next());
+        }
+        None
+    }
+
+    /// The oldest pair that is left, as `next` gives the newest.
+    pub fn next_back(&mut self) -> Option<(&K, &mut V)>
+        ensures* writes_back { sem 𝓛 (lends_next_back K.row V.row L.row S.row L.LinkType.row S.Hasher.row K.Hash L.Limiter
+            L.LinkType.LinkType.own L.LinkType.PartialEq L.LinkType.Debug S.BuildHasher S.Hasher.Hasher self.entry result) }
+        ensures value { option_map deref_pair_mut result ≡ next_back_pair self.old }
+    {
+        if self.start < self.end {
+            return Some(self.lend_next_back());
+        }
+        None
     }
 
     /// The same as `next`, where a pair is left.

@@ -1,5 +1,4 @@
-use Rattle.std.proofs.Common.{ap, ◌∙◌, arith}
-use Rattle.schnellru.specs.Lists.{last_of}
+use Rattle.std.proofs.Common.{arith}
 use Rattle.schnellru.proofs.map.LruMap.iter_mut.Goals as goal
 
 pub invariant_of-result : goal.invariant_of-result
