@@ -1,13 +1,16 @@
 -- An entry comes into a table with room and no deleted bucket.
-use Rattle.std.proofs.Common.{◌≡◌, ◌≢◌, ℕ, ◌+◌, ◌-◌, ◌<◌, ◌⊎◌, cond, List, length, get_or, set, Option, Some, None, refl, ap, ◌∙◌, subst, arith, inl, inr, count_by, length-set}
+use Rattle.std.proofs.Common.{◌≡◌, ◌≢◌, ℕ, ◌+◌, ◌-◌, ◌<◌, ◌⊎◌, cond, List, length, get_or, set, Option, Some, None}
+use Rattle.std.proofs.Common.{refl, ap, ◌∙◌, subst, arith, inl, inr, count_by, length-set}
 use Rattle.group_table.specs.Sizes.{full_capacity}
-use Rattle.group_table.specs.Bucket.{Slot, empty, deleted, full, bucket_at, is_full, is_deleted, entry_of, entry_at, entry_count}
+use Rattle.group_table.specs.Bucket.{Slot, empty, deleted, full, bucket_at, is_full, is_deleted, entry_of, entry_at}
+use Rattle.group_table.specs.Bucket.{entry_count}
 use Rattle.group_table.specs.Probe.{hash_tag, Reaches}
 use Rattle.group_table.specs.Layout.{slots_of, marks_by, IsValid, written}
 use Rattle.group_table.specs.Group.{IsFirstFreeByte, IsReachedFreeByte}
 use Rattle.group_table.specs.Moves.{Joins}
 use Rattle.group_table.proofs.SizeLemmas.{full_capacity-small, power_pos}
-use Rattle.group_table.proofs.BucketLemmas.{used_count-split, count_by-pos, count_by-set, bucket_at-set_same, bucket_at-set_other}
+use Rattle.group_table.proofs.BucketLemmas.{used_count-split, count_by-pos, count_by-set, bucket_at-set_same}
+use Rattle.group_table.proofs.BucketLemmas.{bucket_at-set_other}
 use Rattle.group_table.proofs.ProbeLemmas.{probed-lt}
 use Rattle.group_table.proofs.LayoutLemmas.{length-laid_out, length-marks_by, bucket_at-laid_out, byte_from_mark}
 use Rattle.group_table.proofs.WriteLemmas.{slots_of-written}

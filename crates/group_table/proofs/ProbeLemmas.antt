@@ -1,5 +1,6 @@
 -- The order in which a search visits the buckets: group by group, each bucket, and each only once.
-use Rattle.std.proofs.Common.{◌≡◌, ℕ, suc, ◌+◌, ◌-◌, ◌*◌, ◌/◌, ◌%◌, ◌^◌, ◌<◌, ◌≤◌, min, refl, ap, sym, ◌∙◌, subst, arith, pow-suc}
+use Rattle.std.proofs.Common.{◌≡◌, ℕ, suc, ◌+◌, ◌-◌, ◌*◌, ◌/◌, ◌%◌, ◌^◌, ◌<◌, ◌≤◌, min, refl, ap, sym, ◌∙◌, subst}
+use Rattle.std.proofs.Common.{arith, pow-suc}
 use Rattle.std.proofs.Math.Nat.{mod-add-mod, add-mul-mod_self_left, mod-eq_of_lt, mod-lt, div-add-mod}
 use Rattle.std.proofs.lemmas.Nat.{pow-add, div-add-mod'}
 use native.Mathlib.Decide.{dec_lt}

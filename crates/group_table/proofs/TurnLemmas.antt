@@ -1,6 +1,7 @@
 -- Entries take new places in the table where they stand: the turn of one.
 use Rattle.std.proofs.Common.{◌≡◌, ◌≢◌, ℕ, ◌+◌, ◌-◌, ◌<◌, ◌≤◌, ◌⊎◌, Bool, max, List, length, get_or, set}
-use Rattle.std.proofs.Common.{Option, Some, None, refl, ap, sym, ◌∙◌, subst, arith, inl, inr, count_by, is_some, get_or-set_same, get_or-set_other, length-set}
+use Rattle.std.proofs.Common.{Option, Some, None, refl, ap, sym, ◌∙◌, subst, arith, inl, inr, count_by, is_some}
+use Rattle.std.proofs.Common.{get_or-set_same, get_or-set_other, length-set}
 use Rattle.std.proofs.lemmas.Bool.{cases_eq}
 use Rattle.std.proofs.lemmas.Option.{none-some}
 use Rattle.std.proofs.lemmas.List.{ext_get_or}
@@ -14,7 +15,8 @@ use Rattle.group_table.specs.Moves.{place_at, Joins, Moves}
 use Rattle.group_table.specs.InPlace.{IsSettled, IsWaiting, IsHalfway, IsInTurn}
 use Rattle.group_table.proofs.LayoutLemmas.{length-laid_out}
 use Rattle.group_table.proofs.PlaceLemmas.{some_free_byte}
-use Rattle.group_table.proofs.JoinLemmas.{some_buckets, join_within, join_none, IsValid-joined, joins_there, deleted_count-joined}
+use Rattle.group_table.proofs.JoinLemmas.{some_buckets, join_within, join_none, IsValid-joined, joins_there}
+use Rattle.group_table.proofs.JoinLemmas.{deleted_count-joined}
 use Rattle.group_table.proofs.MoveLemmas.{Moves-more, KeepsMovedHashes-more}
 use Rattle.group_table.proofs.RelocationLemmas.{entry_count-laid_out}
 use Rattle.group_table.proofs.PlaceCounts.{place_within, count-filled, count-changed, count-taken, count-fewer}

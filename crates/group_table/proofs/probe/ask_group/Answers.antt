@@ -3,7 +3,8 @@ use Rattle.group_table.proofs.LayoutLemmas.{bucket_at-read}
 use Rattle.group_table.proofs.ControlLemmas.{buckets_are}
 use Rattle.group_table.proofs.SearchLemmas.{Answers-from_call}
 use Rattle.group_table.proofs.Masks.{mask_at, none_of_zero, some_lane}
-use Rattle.group_table.proofs.LaneLemmas.{AsksLanes-first, AsksLanes-next, AcceptsIn-lane, RefusesGroup-from, lane_tag, read_some, ended_lane, none_ended}
+use Rattle.group_table.proofs.LaneLemmas.{AsksLanes-first, AsksLanes-next, AcceptsIn-lane, RefusesGroup-from, lane_tag}
+use Rattle.group_table.proofs.LaneLemmas.{read_some, ended_lane, none_ended}
 use Rattle.group_table.proofs.probe.ask_group.Goals as goal
 
 pub lanes-init : goal.lanes-init

@@ -2,7 +2,8 @@ use Rattle.std.proofs.Common.{sym, ◌∙◌, arith}
 use Rattle.std.proofs.lemmas.Bool.{eqb-false}
 use Rattle.group_table.proofs.LayoutLemmas.{length-laid_out}
 use Rattle.group_table.proofs.TableLemmas.{IsTable-by}
-use Rattle.group_table.proofs.CloneLemmas.{Copies-places, marks_of-copies, Fits-copies, IsValid-copied, entry_count-copied}
+use Rattle.group_table.proofs.CloneLemmas.{Copies-places, marks_of-copies, Fits-copies, IsValid-copied}
+use Rattle.group_table.proofs.CloneLemmas.{entry_count-copied}
 use Rattle.group_table.proofs.table.Table.clone_with.Goals as goal
 
 pub invariant_of-result : goal.invariant_of-result

@@ -1,4 +1,5 @@
-use Rattle.std.proofs.Common.{◌+◌, ◌≡◌, ◌∷◌, ◌++◌, [], ◌<◌, length, is_some, refl, ap, sym, ◌∙◌, arith, append_assoc, append-nil, length-set}
+use Rattle.std.proofs.Common.{◌+◌, ◌≡◌, ◌∷◌, ◌++◌, [], ◌<◌, length, is_some, refl, ap, sym, ◌∙◌, arith, append_assoc}
+use Rattle.std.proofs.Common.{append-nil, length-set}
 use Rattle.std.specs.Vec.Iter.{into_iter_items, into_iter_len}
 use Rattle.group_table.specs.Moves.{place_at}
 use Rattle.group_table.proofs.BucketLemmas.{empty_not_deleted, deleted_count-none}
@@ -6,8 +7,10 @@ use Rattle.std.proofs.lemmas.List.{length-append, nil_from_length}
 use Rattle.group_table.proofs.FreshLemmas.{entry_count-none}
 use Rattle.group_table.proofs.FitsLemmas.{Fits-none}
 use Rattle.group_table.proofs.JoinLemmas.{length-joined, entry_count-joined, deleted_count-joined}
-use Rattle.group_table.proofs.MoveLemmas.{Moves-none, Moves-same, Moves-more, KeepsMovedHashes-same, KeepsMovedHashes-more, come_before, come_there}
-use Rattle.group_table.proofs.MoveLemmas.{come_elsewhere, come_none, come_within, come_next, come_fewer, count_by-push, one_more, none_more}
+use Rattle.group_table.proofs.MoveLemmas.{Moves-none, Moves-same, Moves-more, KeepsMovedHashes-same}
+use Rattle.group_table.proofs.MoveLemmas.{KeepsMovedHashes-more, come_before, come_there}
+use Rattle.group_table.proofs.MoveLemmas.{come_elsewhere, come_none, come_within, come_next, come_fewer, count_by-push}
+use Rattle.group_table.proofs.MoveLemmas.{one_more, none_more}
 use Rattle.group_table.proofs.table.moves.move_entries.Goals.{in-Some-place, in_default}
 use Rattle.group_table.proofs.table.moves.move_entries.Goals as goal
 
