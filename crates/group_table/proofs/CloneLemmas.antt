@@ -81,7 +81,8 @@ module _ {T F : Type 0} (closure : Shared F (Bor T × Unit {0}) (Result T AllocE
   agrees_copy byte None y h agrees = rw h agrees
   agrees_copy byte (Some entry) y h agrees = rw h.2 agrees
 
-  module _ (control : List ℕ) (entries copies : List (Option T)) (r : ℕ) (valid : IsValid control entries r) (h : AllZip (IsPlaceCopy closure f) entries copies) where
+  module _ {control : List ℕ} {entries : List (Option T)} (copies : List (Option T)) {r : ℕ} (valid : IsValid control entries r)
+      (h : AllZip (IsPlaceCopy closure f) entries copies) where
     same_length : length copies ≡ length entries
     same_length = sym (length_all_zip (IsPlaceCopy closure f) entries copies h)
 

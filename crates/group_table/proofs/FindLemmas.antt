@@ -111,14 +111,14 @@ module _ {T F : Type 0} (closure : Mut F (Bor T × Unit {0}) Bool) (slots : List
               distinct = rw order (candidates-distinct slots hash (s + here.lanes) power fits);
             };
         between = here.between;
-        refused = FoldsTo-append _ _ _ _ _ _ before here.refused;
+        refused = FoldsTo-append _ f _ between _ here.between before here.refused;
         last = g;
         accepted = here.accepted;
       }
 
   -- the whole group was refused
   pub refused_group : RefusesGroup closure slots (hash_tag hash) (probed (length slots) hash s) between g → RefusesEach closure slots f (candidates slots hash (s + min 16 (length slots))) g
-  refused_group here = rw (candidates-group slots hash s (min 16 (length slots)) whole (omega arith)) (FoldsTo-append _ _ _ _ _ _ before here)
+  refused_group here = rw (candidates-group slots hash s (min 16 (length slots)) whole (omega arith)) (FoldsTo-append _ f _ between _ g before here)
 
   -- an empty bucket ends the search: what a search reaches was among the groups before, or in this one
   reached_by : (lane : ℕ) → lane < min 16 (length slots) → IsEmptyLane slots (probed (length slots) hash s) lane → (b : ℕ) → b < length slots

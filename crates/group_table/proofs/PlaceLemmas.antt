@@ -102,7 +102,8 @@ module _ {T : Type 0} (control : List ℕ) (entries : List (Option T)) (r : ℕ)
           | inr h ↦ let none : bool_byte (nat_eq read 255) ≡ 0 = ap bool_byte (ne_eqb read 255 h) in absurd (omega (arith, none, less))
         ]
 
-module _ {T : Type 0} (control : List ℕ) (entries : List (Option T)) (r spent : ℕ) (valid : IsValid control entries r) (b : ℕ) (spends : Spends (bucket_at (slots_of control entries) b) r spent) where
+module _ {T : Type 0} {control : List ℕ} {entries : List (Option T)} {r spent : ℕ} (valid : IsValid control entries r) (b : ℕ)
+    (spends : Spends (bucket_at (slots_of control entries) b) r spent) where
   pub MayFill-from : MayFill (marks_by control entries) b
   MayFill-from = elim spends [
     | inl w ↦ inl (rw (← room_by control entries r valid) w.1)

@@ -62,7 +62,7 @@ pub first_free-place-requires : goal.first_free-place-requires
 first_free-place-requires g c =
     let l = c.turns in
     let turn = rw c.in-Some-next.is at l.invariant.turn in
-    let w = some_free g.N.LinkType.number g.N.LinkType.MAX g.N.LinkType.link _ g.met.N.LinkType.laws _ c.args.entries.now.items _ _ _ _ _ _ turn.1 turn.0 c.requires.within c.requires.below in
+    let w = some_free g.N.LinkType.number g.N.LinkType.MAX g.N.LinkType.link _ g.met.N.LinkType.laws _ c.args.entries.now.items _ turn.1 turn.0 c.requires.within c.requires.below in
     (w.0, omega (arith, w.1, buckets_are _ _ turn.1.valid.laid_out, turn.1.placed_length, turn.1.now_length), w.2)
 
 pub returns-clause-valid : goal.returns-clause-valid
@@ -91,8 +91,8 @@ turns-smaller g c =
     let turn = rw c.in-Some-next.is at l.invariant.turn in
     let n : buckets_of l.control ≡ length l.entries.items = omega (arith, buckets_are _ _ turn.1.valid.laid_out, turn.1.placed_length, turn.1.now_length) in
     let first = c.first_free-place.ensures in
-    let in_now = put_within g.N.LinkType.number g.N.LinkType.MAX g.N.LinkType.link _ g.met.N.LinkType.laws _ c.args.entries.now.items _ _ _ _ _ _ turn.1 turn.0 c.requires.within c.requires.below
-    l.hash c.first_free-place.result _ c.tag_of-in-Some-next.result n (reached_first _ _ _ _ first) c.tag_of-in-Some-next.ensures.value c.tag_of-in-Some-next.ensures.tag
+    let in_now = put_within g.N.LinkType.number g.N.LinkType.MAX g.N.LinkType.link _ g.met.N.LinkType.laws _ c.args.entries.now.items _ turn.1 turn.0 c.requires.within c.requires.below
+    l.hash c.first_free-place.result _ c.tag_of-in-Some-next.result n (reached_first first) c.tag_of-in-Some-next.ensures.value c.tag_of-in-Some-next.ensures.tag
     (l.invariant.hashed _ c.in-Some-next.is) in
     rw c.put-next.ensures.control (free_bytes-fewer c.tag_of-in-Some-next.result c.tag_of-in-Some-next.ensures.tag l.control l.entries.items c.first_free-place.result
     (omega (arith, in_now, turn.1.now_length, turn.1.placed_length, entries_within _ _ turn.1.valid.laid_out)) first.free_there)
@@ -103,8 +103,8 @@ turns-preserved g c =
     let turn = rw c.in-Some-next.is at l.invariant.turn in
     let n : buckets_of l.control ≡ length l.entries.items = omega (arith, buckets_are _ _ turn.1.valid.laid_out, turn.1.placed_length, turn.1.now_length) in
     let first = c.first_free-place.ensures in
-    let next = IsInTurn-next g.N.LinkType.number g.N.LinkType.MAX g.N.LinkType.link _ g.met.N.LinkType.laws _ c.args.entries.now.items _ _ _ _ _ _ turn.1 turn.0 c.requires.within c.requires.below
-    l.hash c.first_free-place.result _ c.tag_of-in-Some-next.result n (reached_first _ _ _ _ first) c.tag_of-in-Some-next.ensures.value c.tag_of-in-Some-next.ensures.tag
+    let next = IsInTurn-next g.N.LinkType.number g.N.LinkType.MAX g.N.LinkType.link _ g.met.N.LinkType.laws _ c.args.entries.now.items _ turn.1 turn.0 c.requires.within c.requires.below
+    l.hash c.first_free-place.result _ c.tag_of-in-Some-next.result n (reached_first first) c.tag_of-in-Some-next.ensures.value c.tag_of-in-Some-next.ensures.tag
     (l.invariant.hashed _ c.in-Some-next.is) in
     record {
       turn = rw (c.put-next.ensures.stood, c.put-next.ensures.entries, c.put-next.ensures.control, c.from_usize-in-Some-next.ensures) next;
@@ -117,8 +117,8 @@ turns-smaller-in-Some-next-2 g c =
     let turn = rw c.in-Some-next.is at l.invariant.turn in
     let n : buckets_of l.control ≡ length l.entries.items = omega (arith, buckets_are _ _ turn.1.valid.laid_out, turn.1.placed_length, turn.1.now_length) in
     let first = c.first_free-place.ensures in
-    let in_now = put_within g.N.LinkType.number g.N.LinkType.MAX g.N.LinkType.link _ g.met.N.LinkType.laws _ c.args.entries.now.items _ _ _ _ _ _ turn.1 turn.0 c.requires.within c.requires.below
-    l.hash c.first_free-place.result _ c.tag_of-in-Some-next.result n (reached_first _ _ _ _ first) c.tag_of-in-Some-next.ensures.value c.tag_of-in-Some-next.ensures.tag
+    let in_now = put_within g.N.LinkType.number g.N.LinkType.MAX g.N.LinkType.link _ g.met.N.LinkType.laws _ c.args.entries.now.items _ turn.1 turn.0 c.requires.within c.requires.below
+    l.hash c.first_free-place.result _ c.tag_of-in-Some-next.result n (reached_first first) c.tag_of-in-Some-next.ensures.value c.tag_of-in-Some-next.ensures.tag
     (l.invariant.hashed _ c.in-Some-next.is) in
     rw c.put-next.ensures.control (free_bytes-fewer c.tag_of-in-Some-next.result c.tag_of-in-Some-next.ensures.tag l.control l.entries.items c.first_free-place.result
     (omega (arith, in_now, turn.1.now_length, turn.1.placed_length, entries_within _ _ turn.1.valid.laid_out)) first.free_there)
@@ -129,8 +129,8 @@ turns-preserved-in-Some-next-2 g c =
     let turn = rw c.in-Some-next.is at l.invariant.turn in
     let n : buckets_of l.control ≡ length l.entries.items = omega (arith, buckets_are _ _ turn.1.valid.laid_out, turn.1.placed_length, turn.1.now_length) in
     let first = c.first_free-place.ensures in
-    let next = IsInTurn-next g.N.LinkType.number g.N.LinkType.MAX g.N.LinkType.link _ g.met.N.LinkType.laws _ c.args.entries.now.items _ _ _ _ _ _ turn.1 turn.0 c.requires.within c.requires.below
-    l.hash c.first_free-place.result _ c.tag_of-in-Some-next.result n (reached_first _ _ _ _ first) c.tag_of-in-Some-next.ensures.value c.tag_of-in-Some-next.ensures.tag
+    let next = IsInTurn-next g.N.LinkType.number g.N.LinkType.MAX g.N.LinkType.link _ g.met.N.LinkType.laws _ c.args.entries.now.items _ turn.1 turn.0 c.requires.within c.requires.below
+    l.hash c.first_free-place.result _ c.tag_of-in-Some-next.result n (reached_first first) c.tag_of-in-Some-next.ensures.value c.tag_of-in-Some-next.ensures.tag
     (l.invariant.hashed _ c.in-Some-next.is) in
     let then = rw (sym c.put-next.ensures.stood, c.in-Some-next-2.is) at next in
     record {

@@ -84,13 +84,13 @@ loop-place-preserved g c =
             rest = rest_is;
             bucket = next;
             same = length-set _ _ _ ∙ l.same;
-            buckets = length-joined _ _ _ _ _ joins ∙ l.buckets;
+            buckets = length-joined joins ∙ l.buckets;
             placings = w.place_fresh.ensures.placings ∙ l.placings;
-            none_deleted = deleted_count-joined _ _ _ _ _ joins ∙ l.none_deleted;
-            entries = entry_count-joined _ _ _ _ _ joins ∙ omega (arith, l.entries, count_by-push at.yielded c.in-Some.place, one_more c.in-Some.place (ap is_some place_is));
-            moves = Moves-more g.N.LinkType.number g.N.LinkType.MAX g.N.LinkType.link _ g.met.N.LinkType.laws _ _ _ _ _ at.b _ _ _ before there elsewhere bound below joins l.moves;
+            none_deleted = deleted_count-joined joins ∙ l.none_deleted;
+            entries = entry_count-joined joins ∙ omega (arith, l.entries, count_by-push at.yielded c.in-Some.place, one_more c.in-Some.place (ap is_some place_is));
+            moves = Moves-more g.N.LinkType.number g.N.LinkType.MAX g.N.LinkType.link _ g.met.N.LinkType.laws _ _ at.b before there elsewhere bound below joins l.moves;
             hashes =
-                λ hash_at gives. KeepsMovedHashes-more g.N.LinkType.number g.N.LinkType.MAX g.N.LinkType.link _ g.met.N.LinkType.laws _ _ _ _ _ at.b _ _ _
+                λ hash_at gives. KeepsMovedHashes-more g.N.LinkType.number g.N.LinkType.MAX g.N.LinkType.link _ g.met.N.LinkType.laws _ _ at.b
                 before there elsewhere bound below joins l.moves hash_at
                 (gives at.b _ _ (ap (λ xs. place_at xs at.b) total ∙ ap (place_at _) l.bucket ∙ come_next at.yielded c.in-Some.place _ _ order ∙ place_is)
                 (record { shown = _; shows = refl; says = record { met = w.hash_of-hash.ensures } })) (l.hashes hash_at gives);
@@ -105,9 +105,9 @@ loop-place-preserved g c =
             placings = l.placings;
             none_deleted = l.none_deleted;
             entries = l.entries ∙ sym (count_by-push at.yielded c.in-Some.place ∙ omega (arith, none_more c.in-Some.place w.in_default.is));
-            moves = Moves-same g.N.LinkType.number g.N.LinkType.MAX _ _ _ _ (come_none at.yielded at.b l.bucket c.in-Some.place w.in_default.is) l.moves;
+            moves = Moves-same g.N.LinkType.number g.N.LinkType.MAX _ _ _ (come_none at.yielded at.b l.bucket c.in-Some.place w.in_default.is) l.moves;
             hashes =
-                λ hash_at gives. KeepsMovedHashes-same g.N.LinkType.number g.N.LinkType.MAX _ _ _ _ (come_none at.yielded at.b l.bucket c.in-Some.place w.in_default.is) hash_at
+                λ hash_at gives. KeepsMovedHashes-same g.N.LinkType.number g.N.LinkType.MAX _ _ _ (come_none at.yielded at.b l.bucket c.in-Some.place w.in_default.is) hash_at
                 (l.hashes hash_at gives);
           }
     ]
