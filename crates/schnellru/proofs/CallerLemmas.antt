@@ -112,15 +112,18 @@ hands_over-keeps admits = record {
 
 module _ {K V S H I : Type 0} {offers : Offers K V S I} {v : V} (keeps : KeepsValues offers)
     (rules : Rules K V S) (names : I → K → Bool) (i : I) (old new : State K V S H) where
-  pub inserted-found : SaysWhether rules (names i) (Ok true) new
-      → IfSome (first new.pairs) (Stores rules offers names i v old) → lookup (names i) new.pairs ≡ Some v
-  inserted-found says stores = insert_found rules offers names i v old keeps new says.0 stores
+  pub inserted-found : (result : Result Bool AllocError) → result ≡ Ok true → SaysWhether rules (names i) result new
+      → (result ≡ Ok true → IfSome (first new.pairs) (Stores rules offers names i v old))
+      → lookup (names i) new.pairs ≡ Some v
+  inserted-found result told says stores =
+      let newest = subst (λ r. SaysWhether rules (names i) r new) told says in
+      insert_found rules offers names i v old keeps new newest.0 (stores told)
 
   pub inserted-only : (result : Result Bool AllocError) → SaysWhether rules (names i) result new
       → (result ≡ Ok true → IfSome (first new.pairs) (Stores rules offers names i v old))
       → (w : V) → lookup (names i) new.pairs ≡ Some w → w ≡ v
   inserted-only (Ok true) says stores w found =
-      ap (λ o. unwrap_or o w) (sym found ∙ inserted-found says (stores refl))
+      ap (λ o. unwrap_or o w) (sym found ∙ inserted-found (Ok true) refl says stores)
   inserted-only (Ok false) says stores w found = absurd (not-found (names i) new.pairs says w found)
   inserted-only (Err e) says stores w found = absurd (not-found (names i) new.pairs says w found)
 

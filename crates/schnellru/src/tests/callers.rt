@@ -2,10 +2,11 @@
 ghost use Rattle.std.specs.Prelude.{◌≡◌, ◌≤◌, length, nat_eq, Some, Ok, IfOk, true};
 ghost use Rattle.std.specs.List.{All};
 ghost use Rattle.schnellru.specs.Lists.{lookup};
-ghost use Rattle.schnellru.specs.Theorems.{IsSummed};
+ghost use Rattle.schnellru.specs.Theorems.{IsSummed, KeepsValues};
 
-use crate::{ByCost, ByLength, LruMap, RandomState, Summing, laws};
+use crate::{ByCost, ByLength, Insertion, LruMap, RandomState, Summing, laws};
 use std::alloc::AllocError;
+use std::hash::Hash;
 use std::test::Fail;
 
 /// Puts a value under a key, and answers whether the key is there then. A look-up gives the value, if it is.
@@ -18,6 +19,18 @@ fn put(map: &mut LruMap<u64, u64>, key: u64, value: u64) -> Result<bool, AllocEr
         prove!(found == Some(value));
     }
     Ok(kept)
+}
+
+/// The same for any types, under a limiter that stores each value as it comes.
+fn put_any<K: Eq + Hash + Drop, V: Drop, L: Insertion<K, V, K>>(
+    map: &mut LruMap<K, V, L>,
+    key: K,
+    value: V,
+) -> Result<bool, AllocError>
+    requires { KeepsValues L.offers }
+    ensures { result ≡ Ok true → lookup (K.eq key) map.new.pairs ≡ Some value }
+{
+    map.insert(key, value)
 }
 
 /// Writes a value under a key that is there, and answers whether it is. A look-up gives the value then.
@@ -82,23 +95,33 @@ fn exchange(
 }
 
 #[test]
-fn callers(rt: HostRuntime) -> Result<(), Fail> {
-    let words = [1, 2, 3, 4];
-    let mut map = LruMap::new(rt.alloc(), ByLength::new(2), words, 16);
+fn what_is_put_is_found(rt: HostRuntime) -> Result<(), Fail> {
+    let mut map = LruMap::new(rt.alloc(), ByLength::new(2), [1, 2, 3, 4], 16);
     assert!(rt; put(&mut map, 1, 10)?);
+    assert!(rt; put_any(&mut map, 1, 15)?);
     assert!(rt; overwrite(&mut map, 1, 20));
     assert!(rt; !overwrite(&mut map, 2, 20));
     assert_eq!(rt; map.peek(&1).copied(), Some(20));
+    Ok(())
+}
+
+#[test]
+fn answers_are_remembered(rt: HostRuntime) -> Result<(), Fail> {
     let square = |n: u64| n.wrapping_mul(n);
-    let mut squares = LruMap::new(rt.alloc(), ByLength::new(2), words, 16);
+    let mut squares = LruMap::new(rt.alloc(), ByLength::new(2), [1, 2, 3, 4], 16);
     assert_eq!(rt; memo(&mut squares, square, 3)?, 9);
     assert_eq!(rt; memo(&mut squares, square, 4)?, 16);
     assert_eq!(rt; memo(&mut squares, square, 3)?, 9);
-    let mut costs = LruMap::new(rt.alloc(), ByCost::new(10), words, 16);
+    Ok(())
+}
+
+#[test]
+fn laws_are_cited(rt: HostRuntime) -> Result<(), Fail> {
+    let mut short = LruMap::new(rt.alloc(), ByLength::new(1), [1, 2, 3, 4], 16);
+    assert!(rt; put_within(&mut short, 1, 10)?);
+    let mut costs = LruMap::new(rt.alloc(), ByCost::new(10), [1, 2, 3, 4], 16);
     assert!(rt; exchange(&mut costs, 1, 2, 7)?);
     assert!(rt; exchange(&mut costs, 2, 3, 9)?);
     assert_eq!(rt; costs.limiter().cost(), 9);
-    let mut short = LruMap::new(rt.alloc(), ByLength::new(1), words, 16);
-    assert!(rt; put_within(&mut short, 1, 10)?);
     Ok(())
 }
