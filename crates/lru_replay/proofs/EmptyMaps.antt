@@ -7,7 +7,7 @@ use Rattle.group_table.proofs.CountedMarks.{IsTable-counted}
 use Rattle.schnellru.specs.Sizes.{usage}
 use Rattle.schnellru.specs.State.{State, IsSized, IsMap}
 use Rattle.schnellru.specs.Calls.{promoted}
-use Rattle.schnellru.proofs.Promotion.{promoted_is_map}
+use Rattle.schnellru.proofs.Maps.Promotions.{promoted_is_map}
 use Rattle.std.proofs.lemmas.Bool.Decides.{nat_tests}
 use Rattle.lru_replay.specs.Limits.{length_offers, all_offers, AlwaysOffers}
 use Rattle.lru_replay.specs.Maps.{empty}

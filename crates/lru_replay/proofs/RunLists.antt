@@ -6,8 +6,8 @@ use Rattle.lru_limits.specs.Rules.{Rules, Offers}
 use Rattle.schnellru.specs.Lists.{lookup, front}
 use Rattle.schnellru.specs.Calls.{promoted}
 use Rattle.schnellru.specs.State.{IsSized}
-use Rattle.schnellru.proofs.Promotion.{promoted_sized}
-use Rattle.schnellru.proofs.SomeInsert.{some_insert}
+use Rattle.schnellru.proofs.Maps.Promotions.{promoted_sized}
+use Rattle.schnellru.proofs.Maps.SomeInsert.{some_insert}
 use Rattle.lru_replay.specs.declared.call.Call.{Call}
 use Rattle.lru_replay.specs.declared.call.Call.TheVariants as calls
 use Rattle.lru_replay.specs.Grammar.{SpellsCall}

@@ -7,7 +7,7 @@
 --     inserted-found       under such a limiter, after an insert that answered true, a look-up finds the value
 --     inserted-only        whatever it answered, a look-up finds no other one
 --     inserted-all         what holds of each pair holds of each after an insert, if it holds of the inserted one
-use Rattle.std.proofs.Common.{◌≡◌, Bool, true, false, cond, List, [], ◌∷◌, ◌++◌, refl, sym, ap, ◌∙◌, subst}
+use Rattle.std.proofs.Common.{◌≡◌, ℕ, Bool, true, false, cond, List, [], ◌∷◌, ◌++◌, refl, sym, ap, ◌∙◌, subst}
 use Rattle.std.proofs.Common.{Option, Some, None, Result, Ok, Err}
 use Rattle.std.specs.Prelude.{IfSome, option_map, unwrap_or}
 use Rattle.std.specs.List.{All}
@@ -19,12 +19,13 @@ use Rattle.std.specs.declared.alloc.AllocError.{AllocError}
 use Rattle.lru_limits.specs.Rules.{Rules, Offers}
 use Rattle.lru_limits.specs.Stores.{hands_over, given-is}
 use Rattle.schnellru.specs.Lists.{first, without_first, lookup, lookup_entry, without, after, front}
+use Rattle.schnellru.specs.Lists.{place_of, other_places, front_places}
 use Rattle.schnellru.specs.State.{State}
 use Rattle.schnellru.specs.Calls.{promoted, written}
 use Rattle.schnellru.specs.Theorems.{SaysWhether, Stores, KeepsValues, GivesUp, behind, with_none, without_one}
-use Rattle.schnellru.proofs.Fronts.{found_named, without_none}
-use Rattle.schnellru.proofs.Named.{lookup-entry}
-use Rattle.schnellru.proofs.Within.{insert_found}
+use Rattle.schnellru.proofs.Theorems.Fronts.{found_named, without_none}
+use Rattle.schnellru.proofs.PairLists.NamedPairs.{lookup-entry}
+use Rattle.schnellru.proofs.Theorems.InsertAnswers.{insert_found}
 
 module _ {K V : Type 0} (names : K → Bool) where
   lookup-front : (xs : List (K × V)) → lookup names (front names xs) ≡ lookup names xs
@@ -43,6 +44,32 @@ module _ {K V : Type 0} (names : K → Bool) where
       go : (o : Option (K × V)) → lookup_entry names xs ≡ o → after o (without names xs) ≡ xs
       go None e = without_none names xs e
       go (Some p) e = absurd (none-some p.1 (sym none ∙ lookup-entry names xs ∙ ap (option_map (λ p. p.1)) e))
+
+  places-none : (xs : List (K × V)) (places : List ℕ) → lookup names xs ≡ None → front_places names xs places ≡ places
+  places-none xs places none =
+      (λ i. after (of_none xs places none i) (other_places names xs places)) ∙ others xs places none
+    where
+      of_none : (xs : List (K × V)) (places : List ℕ) → lookup names xs ≡ None → place_of names xs places ≡ None
+      of_none [] places none = refl
+      of_none (x ∷ xs) [] none = refl
+      of_none (x ∷ xs) (b ∷ places) none = go (names x.0) none (λ h. of_none xs places h)
+        where
+          go : (y : Bool) → cond y (Some x.1) (lookup names xs) ≡ None
+              → (lookup names xs ≡ None → place_of names xs places ≡ None)
+              → cond y (Some b) (place_of names xs places) ≡ None
+          go true e r = absurd cc
+          go false e r = r e
+
+      others : (xs : List (K × V)) (places : List ℕ) → lookup names xs ≡ None → other_places names xs places ≡ places
+      others [] places none = refl
+      others (x ∷ xs) [] none = refl
+      others (x ∷ xs) (b ∷ places) none = go (names x.0) none (λ h. others xs places h)
+        where
+          go : (y : Bool) → cond y (Some x.1) (lookup names xs) ≡ None
+              → (lookup names xs ≡ None → other_places names xs places ≡ places)
+              → cond y places (b ∷ other_places names xs places) ≡ b ∷ places
+          go true e r = absurd cc
+          go false e r = ap (λ bs. b ∷ bs) (r e)
 
   not-found : (xs : List (K × V)) → lookup_entry names xs ≡ None → (w : V) → lookup names xs ≡ Some w → ⊥
   not-found xs none w found = none-some w (sym (ap (option_map (λ p. p.1)) none) ∙ sym (lookup-entry names xs) ∙ found)
@@ -130,11 +157,12 @@ module _ {K V S H I : Type 0} {offers : Offers K V S I} {v : V} (keeps : KeepsVa
 module _ {K V S H : Type 0} (names : K → Bool) (st : State K V S H) where
   pub read_back : (value : V) → lookup names st.pairs ≡ Some value
       → written names value (promoted names st) ≡ promoted names st
-  read_back value found = ap (λ pairs. record st { pairs = pairs })
+  read_back value found = ap (λ pairs. record (promoted names st) { pairs = pairs })
       (set_value_same names (front names st.pairs) value (lookup-front names st.pairs ∙ found))
 
   pub promoted-absent : lookup names st.pairs ≡ None → promoted names st ≡ st
-  promoted-absent none = ap (λ pairs. record st { pairs = pairs }) (front-none names st.pairs none)
+  promoted-absent none = λ i.
+      record st { pairs = front-none names st.pairs none i; places = places-none names st.pairs st.places none i }
 
   pub written-found : (v w : V) → lookup names st.pairs ≡ Some v
       → lookup names (written names w (promoted names st)).pairs ≡ Some w

@@ -11,8 +11,11 @@ pub use lru_limits::{
     ByCost, ByLength, ByMemoryUsage, Costed, DefaultHasher, Insertion, Limiter, LinkType,
     LookupKey, RandomState, Summing, Unlimited, UnlimitedCompact,
 };
+pub use map::get_or_insert::GetOrInsertError;
+pub use map::report::MoveReport;
 pub use map::reserve::ReserveError;
 pub use map::{DEFAULT_ENTRY_BYTES, LruMap};
+pub use walk::drain::Drain;
 pub use walk::{Iter, Walk};
 
 #[cfg(test)]
