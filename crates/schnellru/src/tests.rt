@@ -4,6 +4,7 @@ use std::alloc::{AllocError, Global};
 use std::hash::{BuildHasher, Hash};
 use std::ops::RangeInclusive;
 
+mod callers;
 mod capacities;
 mod costs;
 mod drops;
