@@ -21,6 +21,10 @@ short_call : (call : Call) → FitsCall call → length (call_spelling call) < 4
 short_call (calls.Insert k v) h = omega (arith, short_number k h.0, short_number v h.1, length-append (decimal k) (32 ∷ decimal v))
 short_call (calls.Get k) h = omega (arith, short_number k h)
 short_call (calls.Peek k) h = omega (arith, short_number k h)
+short_call (calls.Remove k) h = omega (arith, short_number k h)
+short_call calls.PopOldest h = omega arith
+short_call calls.PopNewest h = omega arith
+short_call calls.Clear h = omega arith
 short_call calls.List h = omega arith
 
 short_limit : (limit : Limit) → FitsLimit limit → length (limit_spelling limit) < 49

@@ -3,7 +3,7 @@ use Rattle.std.specs.Prelude.{◌≡◌, ℕ, Bool, true, false, List, [], ◌�
 use Rattle.std.specs.Io.KnownBytes.{Appends}
 use Rattle.lru_replay.specs.declared.outcome.ReplayError.{ReplayError}
 use Rattle.lru_replay.specs.declared.outcome.ReplayError.TheVariants as errors
-use Rattle.lru_replay.specs.Steps.{Answer, flag, value, listed, no_memory, bad}
+use Rattle.lru_replay.specs.Steps.{Answer, flag, value, pair, listed, done, no_memory, bad}
 
 -- the text begins so
 abbrev pub IsBeginning : List ℕ → List ℕ → Type 0
@@ -36,6 +36,11 @@ abbrev pub value_text : Option ℕ → List ℕ
 value_text None = codes "none"
 value_text (Some v) = decimal v
 
+-- as `3:30`, and `none` for none
+abbrev pub left_text : Option (ℕ × ℕ) → List ℕ
+left_text None = codes "none"
+left_text (Some p) = pair_text p
+
 abbrev pub flag_text : Bool → List ℕ
 flag_text true = codes "true"
 flag_text false = codes "false"
@@ -43,7 +48,9 @@ flag_text false = codes "false"
 abbrev pub answer_text : Answer → List ℕ
 answer_text (flag there) = flag_text there
 answer_text (value v) = value_text v
+answer_text (pair left) = left_text left
 answer_text (listed pairs) = pairs_text pairs
+answer_text done = codes "ok"
 answer_text no_memory = codes "no memory"
 answer_text bad = codes "bad"
 

@@ -2,7 +2,7 @@
 use Rattle.std.specs.Prelude.{◌≡◌, ℕ, nat_eq, Bool, List, Option, Result, Ok, Err}
 use Rattle.std.specs.declared.alloc.AllocError.{AllocError}
 use Rattle.lru_limits.specs.Rules.{Rules, Offers}
-use Rattle.schnellru.specs.Calls.{promoted}
+use Rattle.schnellru.specs.Calls.{promoted, Remove, PopOldest, PopNewest, cleared}
 use Rattle.schnellru.specs.Inserts.{Insert}
 use Rattle.schnellru.specs.Lists.{lookup}
 use Rattle.lru_replay.specs.declared.call.Call.{Call}
@@ -14,8 +14,12 @@ pub data Answer : Type 0 where
   flag : Bool → Answer
   -- the value of a key, if it is there
   value : Option ℕ → Answer
+  -- the pair that leaves, if there is one
+  pair : Option (ℕ × ℕ) → Answer
   -- pairs, newest first
   listed : List (ℕ × ℕ) → Answer
+  -- it is done, and there is nothing to say of it
+  done : Answer
   no_memory : Answer
   -- the line says nothing
   bad : Answer
@@ -32,4 +36,8 @@ module _ {S : Type 0} (rules : Rules ℕ ℕ S) (offers : Offers ℕ ℕ S ℕ) 
       × Insert rules offers nat_eq hash_of key new_value old result new × (answer ≡ insert_answer result)
   Step old (calls.Get key) answer new = (answer ≡ value (lookup (nat_eq key) old.pairs)) × (new ≡ promoted (nat_eq key) old)
   Step old (calls.Peek key) answer new = (answer ≡ value (lookup (nat_eq key) old.pairs)) × (new ≡ old)
+  Step old (calls.Remove key) answer new = (result : Option ℕ) × Remove rules (nat_eq key) old result new × (answer ≡ value result)
+  Step old calls.PopOldest answer new = (result : Option (ℕ × ℕ)) × PopOldest rules old result new × (answer ≡ pair result)
+  Step old calls.PopNewest answer new = (result : Option (ℕ × ℕ)) × PopNewest rules old result new × (answer ≡ pair result)
+  Step old calls.Clear answer new = (answer ≡ done) × (new ≡ cleared rules old)
   Step old calls.List answer new = (answer ≡ listed old.pairs) × (new ≡ old)

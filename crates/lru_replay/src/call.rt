@@ -1,6 +1,6 @@
 //! What a line says: a call on the map, or, the first line, what limits the map.
 ghost use Rattle.std.specs.Prelude.{◌≡◌, ◌≢◌, ℕ, List, ◌++◌, IfSome, IfNone, true, false};
-ghost use Rattle.lru_replay.specs.Grammar.{SpellsCall, SpellsLimit, SpellsPair, SpellsNumber, StartsAsNumber};
+ghost use Rattle.lru_replay.specs.Grammar.{SpellsCall, IsPlain, SpellsLimit, SpellsPair, SpellsNumber, StartsAsNumber};
 
 use crate::bytes::index_of;
 
@@ -13,6 +13,14 @@ pub enum Call {
     Get(u64),
     /// `peek K`: gives the value of the key.
     Peek(u64),
+    /// `remove K`: takes the pair of the key out, and gives its value.
+    Remove(u64),
+    /// `pop-oldest`: takes the oldest pair out, and gives it.
+    PopOldest,
+    /// `pop-newest`: takes the newest pair out, and gives it.
+    PopNewest,
+    /// `clear`: drops all pairs.
+    Clear,
     /// `list`: gives all pairs.
     List,
 }
@@ -88,8 +96,29 @@ pub fn call_of(line: &[u8]) -> Option<Call>
         let key = number(rest)?;
         return Some(Call::Peek(key));
     }
+    if let Some(rest) = after(line, b"remove ") {
+        let key = number(rest)?;
+        return Some(Call::Remove(key));
+    }
+    plain_call_of(line)
+}
+
+/// The call that the line spells by one word alone.
+fn plain_call_of(line: &[u8]) -> Option<Call>
+    ensures some { IfSome result (λ call. SpellsCall line.now call) }
+    ensures none { IfNone result ((call : Call) → IsPlain call → SpellsCall line.now call → ⊥) }
+{
     if line == b"list".as_slice() {
         return Some(Call::List);
+    }
+    if line == b"pop-oldest".as_slice() {
+        return Some(Call::PopOldest);
+    }
+    if line == b"pop-newest".as_slice() {
+        return Some(Call::PopNewest);
+    }
+    if line == b"clear".as_slice() {
+        return Some(Call::Clear);
     }
     None
 }

@@ -1,6 +1,6 @@
 //! The texts of answers, written piece by piece.
 ghost use Rattle.std.specs.Prelude.{◌≡◌, ℕ, Bool, Option, [], ◌∷◌, decimal};
-ghost use Rattle.lru_replay.specs.Output.{Writes, flag_text, value_text, pair_text, rest_text, pairs_text};
+ghost use Rattle.lru_replay.specs.Output.{Writes, flag_text, value_text, left_text, pair_text, rest_text, pairs_text};
 
 use crate::outcome::ReplayError;
 use schnellru::{LinkType, Walk};
@@ -45,6 +45,16 @@ pub fn write_value<W: Write>(writer: &mut W, value: Option<u64>) -> Result<(), R
 {
     match value {
         Some(value) => write_number(writer, value),
+        None => write_bytes(writer, b"none"),
+    }
+}
+
+/// Writes the pair, or `none`.
+pub fn write_left<W: Write>(writer: &mut W, left: Option<(u64, u64)>) -> Result<(), ReplayError>
+    ensures { Writes (W.contents writer.old) (W.contents writer.new) result (left_text left) }
+{
+    match left {
+        Some((key, value)) => write_pair(writer, key, value),
         None => write_bytes(writer, b"none"),
     }
 }

@@ -16,7 +16,7 @@ ghost use Rattle.lru_replay.specs.Steps.{Answer};
 use crate::call::{Call, Limit, call_of, limit_of};
 use crate::line::{Ending, Line, read_line};
 use crate::outcome::{ReplayEnd, ReplayError};
-use crate::output::{write_bytes, write_flag, write_pairs, write_value};
+use crate::output::{write_bytes, write_flag, write_left, write_pairs, write_value};
 use schnellru::{ByLength, Insertion, LruMap, RandomState, UnlimitedCompact};
 use std::alloc::Global;
 use std::io::{BufRead, Write};
@@ -41,10 +41,8 @@ fn carry_out<L: Insertion<u64, u64, u64>, W: Write>(
     line: &[u8],
     writer: &mut W,
 ) -> Result<(), ReplayError>
-    requires map { IsMap nat_eq map.old }
-    ensures step { (answer : Answer) × LineStep L.rules L.offers map.old line.now answer map.new
+    ensures { (answer : Answer) × LineStep L.rules L.offers map.old line.now answer map.new
         × Writes (W.contents writer.old) (W.contents writer.new) result (answer_text answer) }
-    ensures map { IsMap nat_eq map.new }
 {
     match call_of(line) {
         Some(Call::Insert(key, value)) => match map.insert(key, value) {
@@ -59,6 +57,22 @@ fn carry_out<L: Insertion<u64, u64, u64>, W: Write>(
             let value = map.peek(&key).copied();
             write_value(writer, value)
         }
+        Some(Call::Remove(key)) => {
+            let value = map.remove(&key);
+            write_value(writer, value)
+        }
+        Some(Call::PopOldest) => {
+            let left = map.pop_oldest();
+            write_left(writer, left)
+        }
+        Some(Call::PopNewest) => {
+            let left = map.pop_newest();
+            write_left(writer, left)
+        }
+        Some(Call::Clear) => {
+            map.clear();
+            write_bytes(writer, b"ok")
+        }
         Some(Call::List) => write_pairs(writer, map.iter()),
         None => write_bytes(writer, b"bad"),
     }
@@ -70,13 +84,21 @@ fn answer_line<L: Insertion<u64, u64, u64>, W: Write>(
     line: &[u8],
     writer: &mut W,
 ) -> Result<(), ReplayError>
-    requires map { IsMap nat_eq map.old }
     ensures step { AnswersLine L.rules L.offers map.old line.now map.new
         (W.contents writer.old) (W.contents writer.new) result }
     ensures map { IsMap nat_eq map.new }
 {
-    carry_out(map, line, writer)?;
+    let carried_out = carry_out(map, line, writer);
+    learn(map);
+    carried_out?;
     write_bytes(writer, b"\n")
+}
+
+/// Does nothing: what holds of every map holds of this one, as `len` says.
+fn learn<L: Insertion<u64, u64, u64>>(map: &LruMap<u64, u64, L>)
+    ensures { IsMap nat_eq map.now }
+{
+    let _len = map.len();
 }
 
 /// Answers the lines up to the reader's end.

@@ -45,6 +45,31 @@ fn answers_examples(rt: HostRuntime) {
     expect(&rt, b"compact", b"", 0);
 }
 
+#[test]
+fn takes_pairs_out(rt: HostRuntime) {
+    // The oldest, the newest and a named pair leave.
+    expect(
+        &rt,
+        b"compact\ninsert 1 10\ninsert 2 20\ninsert 3 30\npop-oldest\npop-newest\nremove 2\npop-oldest\nclear\n",
+        b"true\ntrue\ntrue\n1:10\n3:30\n20\nnone\nok\n",
+        0,
+    );
+    // The order of the others stays.
+    expect(
+        &rt,
+        b"length 6\ninsert 1 10\ninsert 2 20\ninsert 3 30\ninsert 4 40\ninsert 5 50\ninsert 6 60\nremove 123\nremove 3\nremove 1\nremove 6\nlist\n",
+        b"true\ntrue\ntrue\ntrue\ntrue\ntrue\nnone\n30\n10\n60\n5:50 4:40 2:20\n",
+        0,
+    );
+    // A cleared map takes pairs again.
+    expect(
+        &rt,
+        b"length 2\nclear\ninsert 1 10\ninsert 2 20\nclear\nlist\npop-newest\ninsert 3 30\nlist",
+        b"ok\ntrue\ntrue\nok\n-\nnone\ntrue\n3:30\n",
+        0,
+    );
+}
+
 /// Inserts the keys, each with its tenfold as the value, and expects that the newest so many are listed.
 fn expect_newest(
     rt: &(impl Abort + AllocGlobal),
@@ -125,6 +150,13 @@ fn answers_bad_lines(rt: HostRuntime) {
         b"get 1\t\n",
         b"peek 1x\n",
         b"peek \xff\n",
+        b"remove\n",
+        b"remove 01\n",
+        b"remove 1 10\n",
+        b"pop-oldest 1\n",
+        b"pop_oldest\n",
+        b"pop-newest \n",
+        b"clear 1\n",
         b"list list\n",
         b"lists\n",
         b"length 3\n",

@@ -1,0 +1,123 @@
+-- From every map with a sound table each call can end: there is an answer that it may give, and a map that it may leave.
+use Rattle.std.proofs.Common.{◌≡◌, ℕ, suc, ◌+◌, ◌-◌, ◌<◌, ◌≤◌, Bool, true, false, cond, List, [], ◌∷◌, length, replicate, option_map, refl, subst, arith, count_by}
+use Rattle.std.specs.Prelude.{nat_eq}
+use native.Mathlib.Decide.{dec_lt}
+use Rattle.group_table.specs.Bucket.{empty, is_deleted}
+use Rattle.group_table.specs.Sizes.{full_capacity}
+use Rattle.group_table.proofs.BucketLemmas.{room_is, used_count-split}
+use Rattle.lru_limits.specs.Rules.{Rules, Offers}
+use Rattle.schnellru.specs.Lists.{lookup, lookup_entry, without, first, last, without_first, without_last}
+use Rattle.schnellru.specs.Calls.{promoted, removal, pop_first, cleared, left_of}
+use Rattle.schnellru.specs.State.{State, Contents, buckets, room, contents, IsSized, Leaves, pop}
+use Rattle.schnellru.proofs.Promotion.{promoted_sized}
+use Rattle.schnellru.proofs.SomeInsert.{some_insert}
+use Rattle.schnellru.proofs.SomeMarks.{marked, length-marked, room-marked, sized-marked}
+use Rattle.lru_replay.specs.declared.call.Call.{Call}
+use Rattle.lru_replay.specs.declared.call.Call.TheVariants as calls
+use Rattle.lru_replay.specs.Limits.{AlwaysOffers}
+use Rattle.lru_replay.specs.Maps.{Map, hash_of}
+use Rattle.lru_replay.specs.Steps.{Answer, value, pair, listed, done, insert_answer, Step}
+
+length-without : {K V : Type 0} (names : K → Bool) (xs : List (K × V)) → length (without names xs) ≤ length xs
+length-without names [] = omega arith
+length-without names (x ∷ xs) = by (names x.0) (length-without names xs)
+  where
+    by : (b : Bool) → length (without names xs) ≤ length xs → length (cond b xs (x ∷ without names xs)) ≤ suc (length xs)
+    by true h = omega arith
+    by false h = omega (arith, h)
+
+length-without_last : {X : Type 0} (xs : List X) → length (without_last xs) ≤ length xs
+length-without_last [] = omega arith
+length-without_last (x ∷ []) = omega arith
+length-without_last (x ∷ y ∷ ys) = omega (arith, length-without_last (y ∷ ys))
+
+length-without_first : {X : Type 0} (xs : List X) → length (without_first xs) ≤ length xs
+length-without_first [] = omega arith
+length-without_first (x ∷ xs) = omega arith
+
+module _ {K V S H : Type 0} (old : State K V S H) (left : Contents K V S) (ok : IsSized old) where
+  -- a map with these pairs is what a call may leave
+  abbrev pub CanLeave : Type 0
+  CanLeave = (new : State K V S H) × Leaves old left new × IsSized new
+
+  all_stay : length left.pairs ≡ length old.pairs → CanLeave
+  all_stay same = (
+    record old { pairs = left.pairs; limiter = left.limiter },
+    record {
+      is = refl;
+      room = record { table = refl; keeps = omega arith; at_most = omega (arith, same); exact = λ _. omega (arith, same); untouched = λ _. refl };
+    },
+    record { table = ok.table; taken = omega (arith, ok.taken, same); reachable = ok.reachable; usable = ok.usable; moved = ok.moved; placed = ok.placed },
+  )
+
+  -- each pair that leaves gives its room back
+  fewer_stay : length left.pairs < length old.pairs → CanLeave
+  fewer_stay fewer =
+      let deletions = count_by is_deleted old.marks in
+      let split = used_count-split old.marks in
+      let within : length left.pairs + deletions ≤ full_capacity (buckets old) = omega (arith, split, ok.taken, ok.table.used_within, fewer) in
+      let new : State K V S H = record old { pairs = left.pairs; limiter = left.limiter; marks = marked old ok left.pairs deletions within } in
+      let rooms = room-marked old ok left.pairs deletions within in
+      let freed : length left.pairs + room new ≡ length old.pairs + room old = omega (arith, rooms, room_is old.marks, split, ok.taken, ok.table.used_within, fewer) in (
+        new,
+        record {
+          is = refl;
+          room = record {
+            table = length-marked old ok left.pairs deletions within;
+            keeps = omega (arith, freed, fewer);
+            at_most = omega (arith, freed);
+            exact = λ _. freed;
+            untouched = λ same. absurd (omega (arith, same, fewer));
+          };
+        },
+        sized-marked old ok left.pairs deletions within ok.table.none_deleted left.limiter old.placings old.moved old.placed ok.moved ok.placed,
+      )
+
+  some_leave : length left.pairs ≤ length old.pairs → CanLeave
+  some_leave at_most = elim (dec_lt (length left.pairs) (length old.pairs)) [
+    | yes fewer ↦ fewer_stay fewer
+    | no all ↦ all_stay (omega (arith, at_most, all))
+  ]
+
+-- an emptied table is sound
+cleared_sized : {K V S H : Type 0} (rules : Rules K V S) (old : State K V S H) → IsSized old → IsSized (cleared rules old)
+cleared_sized {K = K} {V = V} rules old ok =
+    let none : List (K × V) = [] in
+    let sized = sized-marked old ok none 0 (omega arith) (λ _. refl) (rules.on_cleared old.limiter) old.placings old.moved old.placed ok.moved ok.placed in
+    let as_many : buckets old - 0 - 0 ≡ buckets old = omega arith in
+    subst (λ n. IsSized (record old { pairs = none; limiter = rules.on_cleared old.limiter; marks = replicate n empty })) as_many sized
+
+module _ {S : Type 0} (rules : Rules ℕ ℕ S) (offers : Offers ℕ ℕ S ℕ) (offered : AlwaysOffers offers) (old : Map S) (ok : IsSized old) where
+  -- the call can end
+  abbrev pub CanEnd : Call → Type 0
+  CanEnd call = (answer : Answer) × (new : Map S) × Step rules offers old call answer new × IsSized new
+
+  some_removal : (key : ℕ) → CanEnd (calls.Remove key)
+  some_removal key =
+      let result = option_map (λ p. p.1) (left_of rules old.limiter (lookup_entry (nat_eq key) old.pairs)) in
+      let (new, leaves, sized) = some_leave old (removal rules (nat_eq key) (contents old)) ok (length-without (nat_eq key) old.pairs) in
+      (value result, new, (result, record { value = refl; state = leaves }, refl), sized)
+
+  some_pop_oldest : CanEnd calls.PopOldest
+  some_pop_oldest =
+      let result = left_of rules old.limiter (last old.pairs) in
+      let (new, leaves, sized) = some_leave old (pop rules (contents old)) ok (length-without_last old.pairs) in
+      (pair result, new, (result, record { pair = refl; state = leaves }, refl), sized)
+
+  some_pop_newest : CanEnd calls.PopNewest
+  some_pop_newest =
+      let result = left_of rules old.limiter (first old.pairs) in
+      let (new, leaves, sized) = some_leave old (pop_first rules (contents old)) ok (length-without_first old.pairs) in
+      (pair result, new, (result, record { pair = refl; state = leaves }, refl), sized)
+
+  pub some_step : (call : Call) → CanEnd call
+  some_step (calls.Insert k v) =
+      let (result, new, is, after) = some_insert rules offers nat_eq hash_of k v old ok offered in
+      (insert_answer result, new, (result, is, refl), after)
+  some_step (calls.Get k) = (value (lookup (nat_eq k) old.pairs), promoted (nat_eq k) old, (refl, refl), promoted_sized old (nat_eq k) ok)
+  some_step (calls.Peek k) = (value (lookup (nat_eq k) old.pairs), old, (refl, refl), ok)
+  some_step (calls.Remove k) = some_removal k
+  some_step calls.PopOldest = some_pop_oldest
+  some_step calls.PopNewest = some_pop_newest
+  some_step calls.Clear = (done, cleared rules old, (refl, refl), cleared_sized rules old ok)
+  some_step calls.List = (listed old.pairs, old, (refl, refl), ok)
