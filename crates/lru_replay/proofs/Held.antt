@@ -22,6 +22,7 @@ short_call (calls.Insert k v) h = omega (arith, short_number k h.0, short_number
 short_call (calls.Get k) h = omega (arith, short_number k h)
 short_call (calls.Peek k) h = omega (arith, short_number k h)
 short_call (calls.Remove k) h = omega (arith, short_number k h)
+short_call (calls.Reserve n) h = omega (arith, short_number n h)
 short_call calls.PopOldest h = omega arith
 short_call calls.PopNewest h = omega arith
 short_call calls.Clear h = omega arith

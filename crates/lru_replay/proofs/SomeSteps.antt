@@ -1,14 +1,20 @@
 -- From every map with a sound table each call can end: there is an answer that it may give, and a map that it may leave.
-use Rattle.std.proofs.Common.{◌≡◌, ℕ, suc, ◌+◌, ◌-◌, ◌<◌, ◌≤◌, Bool, true, false, cond, List, [], ◌∷◌, length, replicate, option_map, refl, subst, arith, count_by}
+use Rattle.std.proofs.Common.{◌≡◌, ℕ, suc, ◌+◌, ◌-◌, ◌^◌, ◌<◌, ◌≤◌, Bool, true, false, cond, Result, Ok, Err, List, [], ◌∷◌, length, replicate, option_map, refl, subst, arith, count_by}
 use Rattle.std.specs.Prelude.{nat_eq}
 use native.Mathlib.Decide.{dec_lt}
 use Rattle.group_table.specs.Bucket.{empty, is_deleted}
+use Rattle.group_table.specs.Change.{count_up}
 use Rattle.group_table.specs.Sizes.{full_capacity}
 use Rattle.group_table.proofs.BucketLemmas.{room_is, used_count-split}
 use Rattle.lru_limits.specs.Rules.{Rules, Offers}
 use Rattle.schnellru.specs.Lists.{lookup, lookup_entry, without, first, last, without_first, without_last}
 use Rattle.schnellru.specs.Calls.{promoted, removal, pop_first, cleared, left_of}
 use Rattle.schnellru.specs.State.{State, Contents, buckets, room, contents, IsSized, Leaves, pop}
+use Rattle.schnellru.specs.Place.{table_for, asked}
+use Rattle.schnellru.specs.Reservations.{LacksRoomFor, Reserve, enough_room, too_many, no_such_table, remade, no_memory_to_grow, denied_room}
+use Rattle.schnellru.specs.Sizes.{Target, no_table, same_table, new_table}
+use Rattle.schnellru.specs.declared.map.reserve.ReserveError.{ReserveError}
+use Rattle.schnellru.specs.declared.map.reserve.ReserveError.TheVariants.{TooLarge, Refused, Memory}
 use Rattle.schnellru.proofs.Promotion.{promoted_sized}
 use Rattle.schnellru.proofs.SomeInsert.{some_insert}
 use Rattle.schnellru.proofs.SomeMarks.{marked, length-marked, room-marked, sized-marked}
@@ -16,7 +22,7 @@ use Rattle.lru_replay.specs.declared.call.Call.{Call}
 use Rattle.lru_replay.specs.declared.call.Call.TheVariants as calls
 use Rattle.lru_replay.specs.Limits.{AlwaysOffers}
 use Rattle.lru_replay.specs.Maps.{Map, hash_of}
-use Rattle.lru_replay.specs.Steps.{Answer, value, pair, listed, done, insert_answer, Step}
+use Rattle.lru_replay.specs.Steps.{Answer, value, pair, listed, reservation, done, insert_answer, Step}
 
 length-without : {K V : Type 0} (names : K → Bool) (xs : List (K × V)) → length (without names xs) ≤ length xs
 length-without names [] = omega arith
@@ -87,6 +93,46 @@ cleared_sized {K = K} {V = V} rules old ok =
     let as_many : buckets old - 0 - 0 ≡ buckets old = omega arith in
     subst (λ n. IsSized (record old { pairs = none; limiter = rules.on_cleared old.limiter; marks = replicate n empty })) as_many sized
 
+module _ {K V S H : Type 0} (rules : Rules K V S) (n : ℕ) (old : State K V S H) (ok : IsSized old) where
+  -- the reservation can end
+  abbrev pub CanReserve : Type 0
+  CanReserve = (result : Result (Unit {0}) ReserveError) × (new : State K V S H) × Reserve rules n old result new × IsSized new
+
+  -- the limiter is another
+  told_sized : (s : S) → IsSized (record old { limiter = s })
+  told_sized s = record { table = ok.table; taken = ok.taken; reachable = ok.reachable; usable = ok.usable; moved = ok.moved; placed = ok.placed }
+
+  -- the table is made anew at its size
+  some_remade : LacksRoomFor n old → table_for n old ≡ same_table → CanReserve
+  some_remade lacks is =
+      let placings = count_up old.placings (length old.pairs) in
+      let within : length old.pairs + 0 ≤ full_capacity (buckets old) = omega (arith, used_count-split old.marks, ok.taken, ok.table.used_within) in
+      let new : State K V S H = record old { marks = marked old ok old.pairs 0 within; placings = placings } in (
+        Ok tt,
+        new,
+        remade lacks is refl (record { table = length-marked old ok old.pairs 0 within; exact = omega (arith, room-marked old ok old.pairs 0 within, within); state = refl }),
+        sized-marked old ok old.pairs 0 within (λ _. refl) old.limiter placings old.moved old.placed ok.moved ok.placed,
+      )
+
+  -- the limiter is asked for a larger one
+  some_asked : LacksRoomFor n old → (count bytes : ℕ) → table_for n old ≡ new_table count bytes → (allowed : Bool) → (rules.on_grow old.limiter bytes).allowed ≡ allowed → CanReserve
+  some_asked lacks count bytes is true grants = (Err Memory, asked rules bytes old, no_memory_to_grow lacks count bytes is grants refl refl, told_sized _)
+  some_asked lacks count bytes is false denies = (Err Refused, asked rules bytes old, denied_room lacks count bytes is denies refl refl, told_sized _)
+
+  some_table : LacksRoomFor n old → (t : Target) → table_for n old ≡ t → CanReserve
+  some_table lacks no_table is = (Err TooLarge, old, no_such_table lacks is refl refl, ok)
+  some_table lacks same_table is = some_remade lacks is
+  some_table lacks (new_table count bytes) is = some_asked lacks count bytes is (rules.on_grow old.limiter bytes).allowed refl
+
+  some_reservation : CanReserve
+  some_reservation = elim (dec_lt (length old.pairs + n) (2 ^ 64)) [
+    | no many ↦ (Err TooLarge, old, too_many (omega (arith, many)) refl refl, ok)
+    | yes fits ↦ elim (dec_lt (room old) n) [
+      | no enough ↦ (Ok tt, old, enough_room (omega (arith, enough)) fits refl refl, ok)
+      | yes lacks ↦ some_table (lacks, fits) (table_for n old) refl
+    ]
+  ]
+
 module _ {S : Type 0} (rules : Rules ℕ ℕ S) (offers : Offers ℕ ℕ S ℕ) (offered : AlwaysOffers offers) (old : Map S) (ok : IsSized old) where
   -- the call can end
   abbrev pub CanEnd : Call → Type 0
@@ -117,6 +163,7 @@ module _ {S : Type 0} (rules : Rules ℕ ℕ S) (offers : Offers ℕ ℕ S ℕ) 
   some_step (calls.Get k) = (value (lookup (nat_eq k) old.pairs), promoted (nat_eq k) old, (refl, refl), promoted_sized old (nat_eq k) ok)
   some_step (calls.Peek k) = (value (lookup (nat_eq k) old.pairs), old, (refl, refl), ok)
   some_step (calls.Remove k) = some_removal k
+  some_step (calls.Reserve n) = let (result, new, is, after) = some_reservation rules n old ok in (reservation result, new, (result, is, refl), after)
   some_step calls.PopOldest = some_pop_oldest
   some_step calls.PopNewest = some_pop_newest
   some_step calls.Clear = (done, cleared rules old, (refl, refl), cleared_sized rules old ok)

@@ -42,7 +42,8 @@ value_of_decimal n h = (decimal_is_IsNumeral n h).1
 abbrev pub guesses : List ℕ → List Call
 guesses line = calls.Insert (digits_value 10 (front_word (drop 7 line))) (digits_value 10 (after_word (drop 7 line)))
     ∷ calls.Get (digits_value 10 (drop 4 line)) ∷ calls.Peek (digits_value 10 (drop 5 line))
-    ∷ calls.Remove (digits_value 10 (drop 7 line)) ∷ calls.PopOldest ∷ calls.PopNewest ∷ calls.Clear ∷ calls.List ∷ []
+    ∷ calls.Remove (digits_value 10 (drop 7 line)) ∷ calls.Reserve (digits_value 10 (drop 8 line))
+    ∷ calls.PopOldest ∷ calls.PopNewest ∷ calls.Clear ∷ calls.List ∷ []
 
 abbrev pub Spelled : List ℕ → Type 0
 Spelled line = (call : Call) × SpellsCall line call
@@ -66,6 +67,7 @@ fits_call (calls.Insert k v) = both_or (lt_or k (2 ^ 64)) (lt_or v (2 ^ 64))
 fits_call (calls.Get k) = lt_or k (2 ^ 64)
 fits_call (calls.Peek k) = lt_or k (2 ^ 64)
 fits_call (calls.Remove k) = lt_or k (2 ^ 64)
+fits_call (calls.Reserve n) = lt_or n (2 ^ 64)
 fits_call calls.PopOldest = inl tt
 fits_call calls.PopNewest = inl tt
 fits_call calls.Clear = inl tt
@@ -94,10 +96,11 @@ guessed line P all (calls.Insert k v) (fits, is) =
 guessed line P all (calls.Get k) (fits, is) = subst (λ n. P (calls.Get n)) (ap (λ l. digits_value 10 (drop 4 l)) is ∙ value_of_decimal k fits) all.1.0
 guessed line P all (calls.Peek k) (fits, is) = subst (λ n. P (calls.Peek n)) (ap (λ l. digits_value 10 (drop 5 l)) is ∙ value_of_decimal k fits) all.1.1.0
 guessed line P all (calls.Remove k) (fits, is) = subst (λ n. P (calls.Remove n)) (ap (λ l. digits_value 10 (drop 7 l)) is ∙ value_of_decimal k fits) all.1.1.1.0
-guessed line P all calls.PopOldest s = all.1.1.1.1.0
-guessed line P all calls.PopNewest s = all.1.1.1.1.1.0
-guessed line P all calls.Clear s = all.1.1.1.1.1.1.0
-guessed line P all calls.List s = all.1.1.1.1.1.1.1.0
+guessed line P all (calls.Reserve n) (fits, is) = subst (λ n. P (calls.Reserve n)) (ap (λ l. digits_value 10 (drop 8 l)) is ∙ value_of_decimal n fits) all.1.1.1.1.0
+guessed line P all calls.PopOldest s = all.1.1.1.1.1.0
+guessed line P all calls.PopNewest s = all.1.1.1.1.1.1.0
+guessed line P all calls.Clear s = all.1.1.1.1.1.1.1.0
+guessed line P all calls.List s = all.1.1.1.1.1.1.1.1.0
 
 -- some call of the list is spelled, or none is
 any_or : (line : List ℕ) (calls : List Call) → Spelled line ⊎ AllByRecursion (λ call. SpellsCall line call → ⊥) calls

@@ -1,9 +1,11 @@
 -- What is written: the text of an answer, or a beginning of it where a write fails.
 use Rattle.std.specs.Prelude.{◌≡◌, ℕ, Bool, true, false, List, [], ◌∷◌, ◌++◌, Option, Some, None, Result, Ok, Err, decimal, codes}
 use Rattle.std.specs.Io.KnownBytes.{Appends}
+use Rattle.schnellru.specs.declared.map.reserve.ReserveError.{ReserveError}
+use Rattle.schnellru.specs.declared.map.reserve.ReserveError.TheVariants.{TooLarge, Refused, Memory}
 use Rattle.lru_replay.specs.declared.outcome.ReplayError.{ReplayError}
 use Rattle.lru_replay.specs.declared.outcome.ReplayError.TheVariants as errors
-use Rattle.lru_replay.specs.Steps.{Answer, flag, value, pair, listed, done, no_memory, bad}
+use Rattle.lru_replay.specs.Steps.{Answer, flag, value, pair, listed, reservation, done, no_memory, bad}
 
 -- the text begins so
 abbrev pub IsBeginning : List ℕ → List ℕ → Type 0
@@ -45,11 +47,18 @@ abbrev pub flag_text : Bool → List ℕ
 flag_text true = codes "true"
 flag_text false = codes "false"
 
+abbrev pub reservation_text : Result (Unit {0}) ReserveError → List ℕ
+reservation_text (Ok _) = codes "ok"
+reservation_text (Err TooLarge) = codes "too large"
+reservation_text (Err Refused) = codes "refused"
+reservation_text (Err Memory) = codes "no memory"
+
 abbrev pub answer_text : Answer → List ℕ
 answer_text (flag there) = flag_text there
 answer_text (value v) = value_text v
 answer_text (pair left) = left_text left
 answer_text (listed pairs) = pairs_text pairs
+answer_text (reservation result) = reservation_text result
 answer_text done = codes "ok"
 answer_text no_memory = codes "no memory"
 answer_text bad = codes "bad"

@@ -5,6 +5,8 @@ use Rattle.lru_limits.specs.Rules.{Rules, Offers}
 use Rattle.schnellru.specs.Calls.{promoted, Remove, PopOldest, PopNewest, cleared}
 use Rattle.schnellru.specs.Inserts.{Insert}
 use Rattle.schnellru.specs.Lists.{lookup}
+use Rattle.schnellru.specs.Reservations.{Reserve}
+use Rattle.schnellru.specs.declared.map.reserve.ReserveError.{ReserveError}
 use Rattle.lru_replay.specs.declared.call.Call.{Call}
 use Rattle.lru_replay.specs.declared.call.Call.TheVariants as calls
 use Rattle.lru_replay.specs.Maps.{Map, hash_of}
@@ -18,6 +20,8 @@ pub data Answer : Type 0 where
   pair : Option (ℕ × ℕ) → Answer
   -- pairs, newest first
   listed : List (ℕ × ℕ) → Answer
+  -- whether room is reserved
+  reservation : Result (Unit {0}) ReserveError → Answer
   -- it is done, and there is nothing to say of it
   done : Answer
   no_memory : Answer
@@ -39,5 +43,6 @@ module _ {S : Type 0} (rules : Rules ℕ ℕ S) (offers : Offers ℕ ℕ S ℕ) 
   Step old (calls.Remove key) answer new = (result : Option ℕ) × Remove rules (nat_eq key) old result new × (answer ≡ value result)
   Step old calls.PopOldest answer new = (result : Option (ℕ × ℕ)) × PopOldest rules old result new × (answer ≡ pair result)
   Step old calls.PopNewest answer new = (result : Option (ℕ × ℕ)) × PopNewest rules old result new × (answer ≡ pair result)
+  Step old (calls.Reserve n) answer new = (result : Result (Unit {0}) ReserveError) × Reserve rules n old result new × (answer ≡ reservation result)
   Step old calls.Clear answer new = (answer ≡ done) × (new ≡ cleared rules old)
   Step old calls.List answer new = (answer ≡ listed old.pairs) × (new ≡ old)

@@ -19,6 +19,8 @@ pub enum Call {
     PopOldest,
     /// `pop-newest`: takes the newest pair out, and gives it.
     PopNewest,
+    /// `reserve N`: makes room for so many pairs more.
+    Reserve(u64),
     /// `clear`: drops all pairs.
     Clear,
     /// `list`: gives all pairs.
@@ -99,6 +101,10 @@ pub fn call_of(line: &[u8]) -> Option<Call>
     if let Some(rest) = after(line, b"remove ") {
         let key = number(rest)?;
         return Some(Call::Remove(key));
+    }
+    if let Some(rest) = after(line, b"reserve ") {
+        let n = number(rest)?;
+        return Some(Call::Reserve(n));
     }
     plain_call_of(line)
 }

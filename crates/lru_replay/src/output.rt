@@ -1,9 +1,9 @@
 //! The texts of answers, written piece by piece.
 ghost use Rattle.std.specs.Prelude.{◌≡◌, ℕ, Bool, Option, [], ◌∷◌, decimal};
-ghost use Rattle.lru_replay.specs.Output.{Writes, flag_text, value_text, left_text, pair_text, rest_text, pairs_text};
+ghost use Rattle.lru_replay.specs.Output.{Writes, flag_text, value_text, left_text, pair_text, rest_text, pairs_text, reservation_text};
 
 use crate::outcome::ReplayError;
-use schnellru::{LinkType, Walk};
+use schnellru::{LinkType, ReserveError, Walk};
 use std::io::{ErrorKind, Write};
 
 /// Writes all the bytes. A write that was interrupted is tried again.
@@ -56,6 +56,21 @@ pub fn write_left<W: Write>(writer: &mut W, left: Option<(u64, u64)>) -> Result<
     match left {
         Some((key, value)) => write_pair(writer, key, value),
         None => write_bytes(writer, b"none"),
+    }
+}
+
+/// Writes whether room is reserved, or why not.
+pub fn write_reservation<W: Write>(
+    writer: &mut W,
+    reserved: Result<(), ReserveError>,
+) -> Result<(), ReplayError>
+    ensures { Writes (W.contents writer.old) (W.contents writer.new) result (reservation_text reserved) }
+{
+    match reserved {
+        Ok(()) => write_bytes(writer, b"ok"),
+        Err(ReserveError::TooLarge) => write_bytes(writer, b"too large"),
+        Err(ReserveError::Refused) => write_bytes(writer, b"refused"),
+        Err(ReserveError::Memory) => write_bytes(writer, b"no memory"),
     }
 }
 

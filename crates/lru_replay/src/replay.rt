@@ -16,7 +16,9 @@ ghost use Rattle.lru_replay.specs.Steps.{Answer};
 use crate::call::{Call, Limit, call_of, limit_of};
 use crate::line::{Ending, Line, read_line};
 use crate::outcome::{ReplayEnd, ReplayError};
-use crate::output::{write_bytes, write_flag, write_left, write_pairs, write_value};
+use crate::output::{
+    write_bytes, write_flag, write_left, write_pairs, write_reservation, write_value,
+};
 use schnellru::{ByLength, Insertion, LruMap, RandomState, UnlimitedCompact};
 use std::alloc::Global;
 use std::io::{BufRead, Write};
@@ -49,26 +51,12 @@ fn carry_out<L: Insertion<u64, u64, u64>, W: Write>(
             Ok(there) => write_flag(writer, there),
             Err(_) => write_bytes(writer, b"no memory"),
         },
-        Some(Call::Get(key)) => {
-            let value = get(map, key);
-            write_value(writer, value)
-        }
-        Some(Call::Peek(key)) => {
-            let value = map.peek(&key).copied();
-            write_value(writer, value)
-        }
-        Some(Call::Remove(key)) => {
-            let value = map.remove(&key);
-            write_value(writer, value)
-        }
-        Some(Call::PopOldest) => {
-            let left = map.pop_oldest();
-            write_left(writer, left)
-        }
-        Some(Call::PopNewest) => {
-            let left = map.pop_newest();
-            write_left(writer, left)
-        }
+        Some(Call::Get(key)) => write_value(writer, get(map, key)),
+        Some(Call::Peek(key)) => write_value(writer, map.peek(&key).copied()),
+        Some(Call::Remove(key)) => write_value(writer, map.remove(&key)),
+        Some(Call::PopOldest) => write_left(writer, map.pop_oldest()),
+        Some(Call::PopNewest) => write_left(writer, map.pop_newest()),
+        Some(Call::Reserve(n)) => write_reservation(writer, map.try_reserve(n as usize)),
         Some(Call::Clear) => {
             map.clear();
             write_bytes(writer, b"ok")

@@ -70,6 +70,17 @@ fn takes_pairs_out(rt: HostRuntime) {
     );
 }
 
+#[test]
+fn reserves(rt: HostRuntime) {
+    // Links of 32 bits end at 1,879,048,192 pairs.
+    expect(
+        &rt,
+        b"compact\nreserve 0\nreserve 7\ninsert 1 10\nreserve 18446744073709551615\nreserve 1879048192\nreserve 6\nlist\n",
+        b"ok\nok\ntrue\ntoo large\ntoo large\nok\n1:10\n",
+        0,
+    );
+}
+
 /// Inserts the keys, each with its tenfold as the value, and expects that the newest so many are listed.
 fn expect_newest(
     rt: &(impl Abort + AllocGlobal),
@@ -157,6 +168,8 @@ fn answers_bad_lines(rt: HostRuntime) {
         b"pop_oldest\n",
         b"pop-newest \n",
         b"clear 1\n",
+        b"reserve\n",
+        b"reserve 18446744073709551616\n",
         b"list list\n",
         b"lists\n",
         b"length 3\n",

@@ -4,7 +4,7 @@ use Rattle.schnellru.specs.Lists.{lookup}
 use Rattle.lru_replay.specs.declared.call.Call.TheVariants as calls
 use Rattle.lru_replay.specs.Grammar.{SpellsCall}
 use Rattle.lru_replay.specs.Output.{Writes, pairs_text}
-use Rattle.lru_replay.specs.Steps.{flag, value, pair, listed, done, no_memory, bad}
+use Rattle.lru_replay.specs.Steps.{flag, value, pair, listed, reservation, done, no_memory, bad}
 use Rattle.lru_replay.proofs.replay.carry_out.Goals as goal
 
 pub returns-in-Ok : goal.returns-in-Ok
@@ -20,28 +20,33 @@ returns-in-Err g c =
 pub returns-in-Some-Get : goal.returns-in-Some-Get
 returns-in-Some-Get g c =
     let spells = subst (SpellsCall c.args.line.now) c.in-Some-Get.field-0-is c.in-Some-Get.ensures.some in
-    (value c.get-value.result, inl (calls.Get c.in-Some-Get.key, spells, (ap value c.get-value.ensures.value, c.get-value.ensures.promoted)), c.write_value.ensures)
+    (value c.get.result, inl (calls.Get c.in-Some-Get.key, spells, (ap value c.get.ensures.value, c.get.ensures.promoted)), c.write_value.ensures)
 
 pub returns-in-Some-Peek : goal.returns-in-Some-Peek
 returns-in-Some-Peek g c =
     let spells = subst (SpellsCall c.args.line.now) c.in-Some-Peek.field-0-is c.in-Some-Peek.ensures.some in
     let found = value (lookup (nat_eq c.in-Some-Peek.key) c.args.map.now.pairs) in
-    (found, inl (calls.Peek c.in-Some-Peek.key, spells, (refl, refl)), rw (← c.peek.ensures, ← c.copied-value.ensures) c.write_value-in-Some-Peek.ensures)
+    (found, inl (calls.Peek c.in-Some-Peek.key, spells, (refl, refl)), rw (← c.peek.ensures, ← c.copied.ensures) c.write_value-in-Some-Peek.ensures)
 
 pub returns-in-Some-Remove : goal.returns-in-Some-Remove
 returns-in-Some-Remove g c =
     let spells = subst (SpellsCall c.args.line.now) c.in-Some-Remove.field-0-is c.in-Some-Remove.ensures.some in
-    (value c.remove-value.result, inl (calls.Remove c.in-Some-Remove.key, spells, (_, c.remove-value.ensures.step, refl)), c.write_value-in-Some-Remove.ensures)
+    (value c.remove.result, inl (calls.Remove c.in-Some-Remove.key, spells, (_, c.remove.ensures.step, refl)), c.write_value-in-Some-Remove.ensures)
 
 pub returns-in-Some-PopOldest : goal.returns-in-Some-PopOldest
 returns-in-Some-PopOldest g c =
     let spells = subst (SpellsCall c.args.line.now) c.in-Some-PopOldest.field-0-is c.in-Some-PopOldest.ensures.some in
-    (pair c.pop_oldest-left.result, inl (calls.PopOldest, spells, (_, c.pop_oldest-left.ensures.step, refl)), c.write_left.ensures)
+    (pair c.pop_oldest.result, inl (calls.PopOldest, spells, (_, c.pop_oldest.ensures.step, refl)), c.write_left.ensures)
 
 pub returns-in-Some-PopNewest : goal.returns-in-Some-PopNewest
 returns-in-Some-PopNewest g c =
     let spells = subst (SpellsCall c.args.line.now) c.in-Some-PopNewest.field-0-is c.in-Some-PopNewest.ensures.some in
-    (pair c.pop_newest-left.result, inl (calls.PopNewest, spells, (_, c.pop_newest-left.ensures.step, refl)), c.write_left-in-Some-PopNewest.ensures)
+    (pair c.pop_newest.result, inl (calls.PopNewest, spells, (_, c.pop_newest.ensures.step, refl)), c.write_left-in-Some-PopNewest.ensures)
+
+pub returns-in-Some-Reserve : goal.returns-in-Some-Reserve
+returns-in-Some-Reserve g c =
+    let spells = subst (SpellsCall c.args.line.now) c.in-Some-Reserve.field-0-is c.in-Some-Reserve.ensures.some in
+    (reservation c.try_reserve.result, inl (calls.Reserve c.in-Some-Reserve.n, spells, (_, c.try_reserve.ensures.step, refl)), c.write_reservation.ensures)
 
 pub returns-in-Some-Clear : goal.returns-in-Some-Clear
 returns-in-Some-Clear g c =
