@@ -15,9 +15,9 @@ use Rattle.schnellru.specs.Reservations.{LacksRoomFor, Reserve, enough_room, too
 use Rattle.schnellru.specs.Sizes.{Target, no_table, same_table, new_table}
 use Rattle.schnellru.specs.declared.map.reserve.ReserveError.{ReserveError}
 use Rattle.schnellru.specs.declared.map.reserve.ReserveError.TheVariants.{TooLarge, Refused, Memory}
-use Rattle.schnellru.proofs.Promotion.{promoted_sized}
-use Rattle.schnellru.proofs.SomeInsert.{some_insert}
-use Rattle.schnellru.proofs.SomeMarks.{marked, length-marked, room-marked, sized-marked}
+use Rattle.schnellru.proofs.Maps.Promotions.{promoted_sized}
+use Rattle.schnellru.proofs.Maps.SomeInsert.{some_insert}
+use Rattle.schnellru.proofs.TableSizes.SomeMarks.{marked, length-marked, room-marked, sized-marked}
 use Rattle.lru_replay.specs.declared.call.Call.{Call}
 use Rattle.lru_replay.specs.declared.call.Call.TheVariants as calls
 use Rattle.lru_replay.specs.Limits.{AlwaysOffers}

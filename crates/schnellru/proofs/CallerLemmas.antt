@@ -8,8 +8,8 @@ use Rattle.std.proofs.lemmas.Option.{none-some}
 use Rattle.schnellru.specs.Lists.{lookup, lookup_entry, without, after, front}
 use Rattle.schnellru.specs.State.{State}
 use Rattle.schnellru.specs.Calls.{promoted, written}
-use Rattle.schnellru.proofs.Fronts.{found_named, without_none}
-use Rattle.schnellru.proofs.Named.{lookup-entry}
+use Rattle.schnellru.proofs.Theorems.Fronts.{found_named, without_none}
+use Rattle.schnellru.proofs.PairLists.NamedPairs.{lookup-entry}
 
 module _ {K V : Type 0} (names : K → Bool) where
   lookup-front : (xs : List (K × V)) → lookup names (front names xs) ≡ lookup names xs

@@ -1,12 +1,10 @@
 -- What the calls to come do. No public clause cites this module yet.
-use Rattle.std.specs.Prelude.{◌≡◌, ℕ, zero, suc, Bool, List, [], Option, Some, None, option_to_list, ◌++◌, is_some, Result, Ok}
+use Rattle.std.specs.Prelude.{◌≡◌, ℕ, zero, suc, Bool, List, [], option_to_list, ◌++◌, is_some}
 use Rattle.std.specs.Map.{set_value}
-use Rattle.std.specs.declared.alloc.AllocError.{AllocError}
-use Rattle.lru_limits.specs.Rules.{Rules, Offers}
+use Rattle.lru_limits.specs.Rules.{Rules}
 use Rattle.schnellru.specs.Lists.{first, last, lookup}
 use Rattle.schnellru.specs.State.{State, Contents, contents, Leaves, pop, pops}
-use Rattle.schnellru.specs.Calls.{promoted, left_of, pop_first, cleared}
-use Rattle.schnellru.specs.Inserts.{Insert}
+use Rattle.schnellru.specs.Calls.{left_of, pop_first, cleared}
 
 module _ {K V S H : Type 0} where
   -- the value of the named key is written, and the answer is whether there was one

@@ -10,13 +10,6 @@ pub mod Theorems
 pub mod GetOrInserts
 pub mod IfMade
 pub mod Exact
-pub mod Linked
 pub mod ByHash
-pub mod Chain
-pub mod Lends
-pub mod Holds
-pub mod Steps
-pub mod MapLends
-pub mod Lent
-pub mod MadeLends
-pub mod Rest
+pub mod Inside
+pub mod Lending

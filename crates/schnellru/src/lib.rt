@@ -11,6 +11,8 @@ pub use lru_limits::{
     ByCost, ByLength, ByMemoryUsage, Costed, DefaultHasher, Insertion, Limiter, LinkType,
     LookupKey, RandomState, Summing, Unlimited, UnlimitedCompact,
 };
+pub use map::get_or_insert::GetOrInsertError;
+pub use map::report::MoveReport;
 pub use map::reserve::ReserveError;
 pub use map::{DEFAULT_ENTRY_BYTES, LruMap};
 pub use walk::{Iter, Walk};

@@ -10,9 +10,10 @@ ghost use Rattle.group_table.specs.Change.{HasNoPlace, Removes, count_up};
 ghost use Rattle.group_table.specs.Relocation.{Renumbers, KeepsHashes};
 ghost use Rattle.group_table.specs.Table.{IsTable};
 ghost use Rattle.lru_limits.specs.Hashing.{hash_by};
-ghost use Rattle.schnellru.specs.Linked.{IsLinked, KeysFit, Lands, pairs_of, without_bucket, with_pair, hash_in};
-ghost use Rattle.schnellru.specs.ByHash.{Asks, Finds, FindsNone};
-ghost use Rattle.schnellru.specs.Chain.{first_bucket, last_bucket, bucket_after, bucket_before, pair_slots};
+ghost use Rattle.schnellru.specs.Inside.Linked.{IsLinked, KeysFit, Lands, pairs_of, without_bucket, with_pair, hash_in};
+ghost use Rattle.schnellru.specs.ByHash.{Asks};
+ghost use Rattle.schnellru.specs.Inside.Searches.{Finds, FindsNone};
+ghost use Rattle.schnellru.specs.Inside.Chain.{first_bucket, last_bucket, bucket_after, bucket_before, pair_slots};
 
 use crate::link::chain::{link_newest, rewrite, unlink};
 use group_table::{LinkType, Table};
@@ -45,12 +46,12 @@ pub(crate) struct Linked<K, V, N: LinkType> {
 }
 
 impl<K, V, N: LinkType> Model for Linked<K, V, N> {
-    ghost use Rattle.schnellru.specs.Linked.{Linked as Seen};
+    ghost use Rattle.schnellru.specs.Inside.Linked.{Linked as Seen};
 
     ghost Value = { Seen K V };
 
     ghost use Rattle.std.specs.Prelude.{length};
-    ghost use Rattle.schnellru.specs.Chain.{pair_slots, along, IsWhole};
+    ghost use Rattle.schnellru.specs.Inside.Chain.{pair_slots, along, IsWhole};
 
     ghost view = { λ t. record {
       slots = pair_slots t.table.slots;
@@ -62,7 +63,7 @@ impl<K, V, N: LinkType> Model for Linked<K, V, N> {
 }
 
 impl<K, V, N: LinkType> Linked<K, V, N> {
-    ghost use Rattle.schnellru.specs.Lends.{lends_pair};
+    ghost use Rattle.schnellru.specs.Inside.PairLends.{lends_pair};
 
     // No buckets; takes no memory.
     pub(crate) fn new(alloc: Global) -> Self
@@ -171,7 +172,7 @@ impl<K, V, N: LinkType> Linked<K, V, N> {
 
     // The bucket of the first pair that `f` accepts, of those with the tag of the hash.
     pub(crate) fn find_by<F: FnMut(&K, &V) -> bool>(&self, hash: u64, mut f: F) -> Option<usize>
-        requires { (f : _) (key : _) (value : _) → F.pre f key value }
+        requires { F.IsAlwaysCallable f }
         ensures found { IfSome result (Finds F.FnMut self.now.slots hash f) }
         ensures full { IfSome result (IsFull self.now.slots) }
         ensures none { IfNone result (FindsNone F.FnMut self.now.slots hash f) }
@@ -179,7 +180,7 @@ impl<K, V, N: LinkType> Linked<K, V, N> {
         self.table.find(
             hash,
             move |entry: &Entry<K, V, N>| -> bool
-                requires { (f : _) (key : _) (value : _) → F.pre f key value }
+                requires { F.IsAlwaysCallable f }
                 ensures { Asks F.FnMut f.entry (entry.now.pair.key, entry.now.pair.value) result f.exit }
             { f(&entry.pair.key, &entry.pair.value) },
         )

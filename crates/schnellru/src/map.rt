@@ -10,15 +10,17 @@ use std::alloc::Global;
 use std::hash::{BuildHasher, Hash};
 use std::marker::Model;
 
+mod by_hash;
 mod evict;
 mod figures;
-mod get_or_insert;
+pub(crate) mod get_or_insert;
 mod insert;
 mod look_up;
 mod moves;
 mod place;
 mod remove;
 mod replace;
+pub(crate) mod report;
 pub(crate) mod reserve;
 
 /// The bytes of an entry of a map that `LruMap::default` makes.
@@ -58,7 +60,7 @@ impl<K: Eq + Hash, V, L: Limiter<K, V>, S: BuildHasher> Model for LruMap<K, V, L
     ghost Value = { State K V L S };
 
     ghost use Rattle.lru_limits.specs.Hashing.{hash_by};
-    ghost use Rattle.schnellru.specs.Holds.{state_of, Holds};
+    ghost use Rattle.schnellru.specs.Inside.Holds.{state_of, Holds};
 
     ghost view = { λ m. state_of m.entries (record {
       limiter = m.limiter;

@@ -28,7 +28,7 @@ pub struct Walk<'a, K, V, N: LinkType> {
 
 impl<'a, K, V, N: LinkType> Model for Walk<'a, K, V, N> {
     ghost use Rattle.std.specs.Prelude.{List};
-    ghost use Rattle.schnellru.specs.Rest.{rest_of, IsRest};
+    ghost use Rattle.schnellru.specs.Inside.Rest.{rest_of, IsRest};
 
     ghost Value = { List (K × V) };
 

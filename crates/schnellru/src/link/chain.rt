@@ -4,9 +4,9 @@
 ghost use Rattle.std.specs.Prelude.{◌≡◌, ◌⊎◌, ◌<◌, ◌≤◌, ℕ, ◌∷◌, List, Some, Contains, map, length};
 ghost use Rattle.group_table.specs.Bucket.{Slot, IsFull};
 ghost use Rattle.group_table.specs.Relocation.{Renumbers, moved_to};
-ghost use Rattle.schnellru.specs.Linked.{without_bucket};
+ghost use Rattle.schnellru.specs.Inside.Linked.{without_bucket};
 ghost use Rattle.schnellru.specs.declared.link.Entry.{Entry};
-ghost use Rattle.schnellru.specs.Chain.{IsChain, IsWhole, InChain, OutOfChain, Moved, MovesLinks, HasPlace, moved_link, SetsNewer, SetsOlder, SetsLinks, SetsEnd, newer_at, older_at, pair_slots};
+ghost use Rattle.schnellru.specs.Inside.Chain.{IsChain, IsWhole, InChain, OutOfChain, Moved, MovesLinks, HasPlace, moved_link, SetsNewer, SetsOlder, SetsLinks, SetsEnd, newer_at, older_at, pair_slots};
 
 use crate::link::Entry;
 use group_table::{LinkType, Table};

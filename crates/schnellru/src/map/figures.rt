@@ -13,7 +13,7 @@ use std::fmt;
 use std::hash::{BuildHasher, Hash};
 
 impl<K: Eq + Hash, V, L: Limiter<K, V>, S: BuildHasher> LruMap<K, V, L, S> {
-    ghost use Rattle.schnellru.specs.MapLends.{lends_limiter};
+    ghost use Rattle.schnellru.specs.Lending.Values.{lends_limiter};
 
     /// The number of pairs.
     #[inline]

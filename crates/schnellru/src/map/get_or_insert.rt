@@ -6,28 +6,29 @@ ghost use Rattle.schnellru.specs.State.{IsMap};
 ghost use Rattle.schnellru.specs.GetOrInserts.{MakesNewest, SaysNewest};
 ghost use Rattle.schnellru.specs.IfMade.{MakesNewestIfMade};
 ghost use Rattle.std.specs.Borrow.{sem};
-ghost use Rattle.schnellru.specs.Lent.{kept_of};
+ghost use Rattle.schnellru.specs.Lending.Answers.{kept_of};
 
 use crate::map::LruMap;
 use lru_limits::{Insertion, Limiter, LookupKey};
 use std::alloc::AllocError;
 use std::hash::{BuildHasher, Hash};
+use thiserror::Error;
 
-/// Why no value is lent.
+// Why no value is lent: the key is not there, or there was a refusal.
 #[derive(Drop)]
-pub enum NotLent<E> {
-    /// The key is not there.
+pub(crate) enum NotLent<E> {
     NotKept,
-    /// A refusal.
     Failed(E),
 }
 
 /// Why no value is lent by `get_or_insert_fallible`.
-#[derive(Debug, Drop, PartialEq, Eq)]
+#[derive(Debug, Drop, PartialEq, Eq, Error)]
 pub enum GetOrInsertError<E> {
     /// Memory was refused.
+    #[error("no memory")]
     Memory,
     /// The closure failed.
+    #[error("the closure failed")]
     Caller(E),
 }
 
@@ -54,7 +55,7 @@ fn kept_or<V>(lent: Result<&mut V, NotLent<AllocError>>) -> Result<Option<&mut V
 }
 
 impl<K: Eq + Hash + Drop, V: Drop, L: Limiter<K, V>, S: BuildHasher> LruMap<K, V, L, S> {
-    ghost use Rattle.schnellru.specs.MadeLends.{lends_or, lends_made};
+    ghost use Rattle.schnellru.specs.Lending.Made.{lends_or, lends_made};
 
     /// Makes the pair of a key the newest, and inserts it with the value that the closure makes where the key is not
     /// there. It answers whether the key is in the map then.
@@ -101,7 +102,7 @@ impl<K: Eq + Hash + Drop, V: Drop, L: Limiter<K, V>, S: BuildHasher> LruMap<K, V
     }
 
     // What `get_or_insert` lends, in a form of which a caller's proof learns.
-    pub fn lend_or_insert<I: LookupKey<K> + Drop, F: FnOnce() -> V>(
+    pub(crate) fn lend_or_insert<I: LookupKey<K> + Drop, F: FnOnce() -> V>(
         &mut self,
         key: I,
         make: F,
@@ -173,7 +174,7 @@ impl<K: Eq + Hash + Drop, V: Drop, L: Limiter<K, V>, S: BuildHasher> LruMap<K, V
     }
 
     // What `get_or_insert_fallible` lends, in a form of which a caller's proof learns.
-    pub fn lend_or_insert_fallible<I: LookupKey<K> + Drop, E, F: FnOnce() -> Result<V, E>>(
+    pub(crate) fn lend_or_insert_fallible<I: LookupKey<K> + Drop, E, F: FnOnce() -> Result<V, E>>(
         &mut self,
         key: I,
         make: F,

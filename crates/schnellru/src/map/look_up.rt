@@ -12,7 +12,7 @@ use lru_limits::{Limiter, LookupKey};
 use std::hash::{BuildHasher, Hash};
 
 impl<K: Eq + Hash, V, L: Limiter<K, V>, S: BuildHasher> LruMap<K, V, L, S> {
-    ghost use Rattle.schnellru.specs.MapLends.{lends_value, lends_newest, lends_newest_value};
+    ghost use Rattle.schnellru.specs.Lending.Values.{lends_value, lends_newest, lends_newest_value};
 
     /// The value of a key, to be changed. Its pair becomes the newest; what is written is not told to the limiter.
     ///

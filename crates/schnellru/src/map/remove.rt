@@ -1,10 +1,10 @@
 //! Removal: a pair leaves the map, or all do, and the limiter is told.
 ghost use Rattle.std.specs.Prelude.{◌≡◌, ℕ, Some};
 ghost use Rattle.group_table.specs.Bucket.{IsFull};
-ghost use Rattle.schnellru.specs.Linked.{IsLinked, KeysFit};
+ghost use Rattle.schnellru.specs.Inside.Linked.{IsLinked, KeysFit};
 ghost use Rattle.schnellru.specs.State.{told_of};
 ghost use Rattle.schnellru.specs.Calls.{left_of, Remove, PopOldest, PopNewest, cleared};
-ghost use Rattle.schnellru.specs.Steps.{IsTakenOut};
+ghost use Rattle.schnellru.specs.Inside.Steps.{IsTakenOut};
 
 use crate::link::Linked;
 use crate::map::LruMap;

@@ -1,8 +1,8 @@
 //! Replacing the value of a key that is there, over the linked table and the limiter.
 ghost use Rattle.std.specs.Prelude.{◌≡◌, ℕ, true, false, length, Some, IsTrue};
 ghost use Rattle.group_table.specs.Bucket.{entry_at};
-ghost use Rattle.schnellru.specs.Linked.{IsLinked, KeysFit};
-ghost use Rattle.schnellru.specs.Steps.{IsReplaced, IsGivenUp};
+ghost use Rattle.schnellru.specs.Inside.Linked.{IsLinked, KeysFit};
+ghost use Rattle.schnellru.specs.Inside.Steps.{IsReplaced, IsGivenUp};
 
 use crate::link::Linked;
 use crate::map::remove::take_out;

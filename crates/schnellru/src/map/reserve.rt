@@ -8,15 +8,19 @@ use crate::map::LruMap;
 use group_table::full_capacity;
 use lru_limits::Limiter;
 use std::hash::{BuildHasher, Hash};
+use thiserror::Error;
 
 /// Why no room is reserved.
-#[derive(Clone, Copy, Debug, PartialEq, Eq)]
+#[derive(Clone, Copy, Debug, PartialEq, Eq, Error)]
 pub enum ReserveError {
     /// There is no table for so many pairs.
+    #[error("too large")]
     TooLarge = 1,
     /// The limiter did not permit the table.
+    #[error("refused")]
     Refused = 2,
     /// Memory was refused.
+    #[error("no memory")]
     Memory = 3,
 }
 

@@ -1,6 +1,6 @@
 use Rattle.std.proofs.Common.{refl}
-use Rattle.schnellru.proofs.DeletedBuckets.{deleted_serves, only_deleted}
-use Rattle.schnellru.proofs.Potential.{bounded_of}
+use Rattle.schnellru.proofs.Theorems.DeletedBuckets.{deleted_serves, only_deleted}
+use Rattle.schnellru.proofs.Theorems.Potential.{bounded_of}
 use Rattle.schnellru.proofs.laws.deleted_buckets_serve.Goals as goal
 
 pub returns-clause-served : goal.returns-clause-served

@@ -1,4 +1,4 @@
-use Rattle.schnellru.proofs.Promotion.{get_is_map}
+use Rattle.schnellru.proofs.Maps.Promotions.{get_is_map}
 use Rattle.schnellru.proofs.laws.gets_keep_maps.Goals as goal
 
 pub returns : goal.returns

@@ -1,5 +1,5 @@
-use Rattle.schnellru.proofs.Exact.{insert_ends}
-use Rattle.schnellru.proofs.Granted.{granted_places}
+use Rattle.schnellru.proofs.Theorems.Exactness.{insert_ends}
+use Rattle.schnellru.proofs.Theorems.GrantedGrowth.{granted_places}
 use Rattle.schnellru.proofs.laws.granted_inserts_are_exact.Goals as goal
 
 pub returns : goal.returns

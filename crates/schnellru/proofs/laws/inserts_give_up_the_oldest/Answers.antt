@@ -1,4 +1,4 @@
-use Rattle.schnellru.proofs.Fronts.{insert_gives_up}
+use Rattle.schnellru.proofs.Theorems.Fronts.{insert_gives_up}
 use Rattle.schnellru.proofs.laws.inserts_give_up_the_oldest.Goals as goal
 
 pub returns : goal.returns

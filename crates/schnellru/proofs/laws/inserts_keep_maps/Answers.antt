@@ -1,6 +1,6 @@
-use Rattle.schnellru.proofs.Ways.{insert_changes}
-use Rattle.schnellru.proofs.Distinct.{offers_distinct}
-use Rattle.schnellru.proofs.Paid.{stays_map}
+use Rattle.schnellru.proofs.Theorems.Ways.{insert_changes}
+use Rattle.schnellru.proofs.PairLists.DistinctKeys.{offers_distinct}
+use Rattle.schnellru.proofs.Theorems.PaidMoves.{stays_map}
 use Rattle.schnellru.proofs.laws.inserts_keep_maps.Goals as goal
 
 pub returns-clause-keys : goal.returns-clause-keys

@@ -1,5 +1,5 @@
-use Rattle.schnellru.proofs.Ways.{insert_changes}
-use Rattle.schnellru.proofs.Sums.{keeps_sums, stays_summed}
+use Rattle.schnellru.proofs.Theorems.Ways.{insert_changes}
+use Rattle.schnellru.proofs.Theorems.Sums.{keeps_sums, stays_summed}
 use Rattle.schnellru.proofs.laws.inserts_keep_sums.Goals as goal
 
 pub returns : goal.returns

@@ -1,4 +1,4 @@
-use Rattle.schnellru.proofs.Limits.{plain_stays, by_length_stays}
+use Rattle.schnellru.proofs.Theorems.Limits.{plain_stays, by_length_stays}
 use Rattle.schnellru.proofs.laws.inserts_keep_the_length.Goals as goal
 
 pub returns-clause-limiter : goal.returns-clause-limiter

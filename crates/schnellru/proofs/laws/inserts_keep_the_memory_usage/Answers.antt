@@ -1,4 +1,4 @@
-use Rattle.schnellru.proofs.Limits.{plain_stays, by_memory_usage_stays}
+use Rattle.schnellru.proofs.Theorems.Limits.{plain_stays, by_memory_usage_stays}
 use Rattle.schnellru.proofs.laws.inserts_keep_the_memory_usage.Goals as goal
 
 pub returns-clause-limiter : goal.returns-clause-limiter

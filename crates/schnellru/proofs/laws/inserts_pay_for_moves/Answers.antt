@@ -1,9 +1,9 @@
 use Rattle.std.proofs.Common.{arith}
-use Rattle.schnellru.proofs.Moves.{keeps_nothing}
-use Rattle.schnellru.proofs.Ways.{insert_changes}
-use Rattle.schnellru.proofs.Potential.{bounded_of}
-use Rattle.schnellru.proofs.Paid.{stays_paid}
-use Rattle.schnellru.proofs.Counts.{insert_counts}
+use Rattle.schnellru.proofs.Theorems.Moves.{keeps_nothing}
+use Rattle.schnellru.proofs.Theorems.Ways.{insert_changes}
+use Rattle.schnellru.proofs.Theorems.Potential.{bounded_of}
+use Rattle.schnellru.proofs.Theorems.PaidMoves.{stays_paid}
+use Rattle.schnellru.proofs.Theorems.CountedPlacings.{insert_counts}
 use Rattle.schnellru.proofs.laws.inserts_pay_for_moves.Goals as goal
 
 pub returns-clause-rise : goal.returns-clause-rise

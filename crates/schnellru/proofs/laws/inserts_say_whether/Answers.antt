@@ -1,4 +1,4 @@
-use Rattle.schnellru.proofs.Within.{insert_says}
+use Rattle.schnellru.proofs.Theorems.InsertAnswers.{insert_says}
 use Rattle.schnellru.proofs.laws.inserts_say_whether.Goals as goal
 
 pub returns : goal.returns

@@ -1,5 +1,5 @@
 use Rattle.std.proofs.Common.{Ok, true, refl}
-use Rattle.schnellru.proofs.Within.{insert_says, insert_stores, insert_found}
+use Rattle.schnellru.proofs.Theorems.InsertAnswers.{insert_says, insert_stores, insert_found}
 use Rattle.schnellru.proofs.laws.inserts_store_the_value.Goals as goal
 
 pub returns-clause-stores : goal.returns-clause-stores

@@ -1,6 +1,6 @@
 use Rattle.std.proofs.Common.{ap, ◌∙◌}
 use Rattle.schnellru.specs.Lists.{lookup_entry}
-use Rattle.schnellru.proofs.Distinct.{absent_without}
+use Rattle.schnellru.proofs.PairLists.DistinctKeys.{absent_without}
 use Rattle.schnellru.proofs.laws.removed_keys_are_absent.Goals as goal
 
 pub returns : goal.returns

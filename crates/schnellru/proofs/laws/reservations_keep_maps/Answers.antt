@@ -1,6 +1,6 @@
-use Rattle.schnellru.proofs.Paid.{stays_map}
-use Rattle.schnellru.proofs.Called.{reserve_changes}
-use Rattle.schnellru.proofs.Removals.{stay_distinct, reserved_list}
+use Rattle.schnellru.proofs.Theorems.PaidMoves.{stays_map}
+use Rattle.schnellru.proofs.Theorems.CountedMoves.{reserve_changes}
+use Rattle.schnellru.proofs.Theorems.Removals.{stay_distinct, reserved_list}
 use Rattle.schnellru.proofs.laws.reservations_keep_maps.Goals as goal
 
 pub returns-clause-map : goal.returns-clause-map

@@ -1,6 +1,6 @@
-use Rattle.schnellru.proofs.Potential.{bounded_of}
-use Rattle.schnellru.proofs.Called.{reserve_changes}
-use Rattle.schnellru.proofs.Removals.{stay_any}
+use Rattle.schnellru.proofs.Theorems.Potential.{bounded_of}
+use Rattle.schnellru.proofs.Theorems.CountedMoves.{reserve_changes}
+use Rattle.schnellru.proofs.Theorems.Removals.{stay_any}
 use Rattle.schnellru.proofs.laws.reservations_pay_for_moves.Goals as goal
 
 pub returns : goal.returns

@@ -1,4 +1,4 @@
-use Rattle.schnellru.proofs.Exact.{insert_ends, small_places, inserts_alike}
+use Rattle.schnellru.proofs.Theorems.Exactness.{insert_ends, small_places, inserts_alike}
 use Rattle.schnellru.proofs.laws.small_inserts_are_exact.Goals as goal
 
 pub returns-clause-exact : goal.returns-clause-exact

@@ -1,4 +1,4 @@
-use Rattle.schnellru.proofs.Budgets.{usage_is_budget}
+use Rattle.schnellru.proofs.TableSizes.Budgets.{usage_is_budget}
 use Rattle.schnellru.proofs.laws.usages_are_their_budgets.Goals as goal
 
 pub returns : goal.returns

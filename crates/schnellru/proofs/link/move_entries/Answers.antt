@@ -1,7 +1,7 @@
 use Rattle.std.proofs.Common.{◌≡◌, rules, sym, ◌∙◌}
 use Rattle.lru_limits.specs.Hashing.{hash_by}
-use Rattle.schnellru.proofs.Outcomes.{if_ok}
-use Rattle.schnellru.proofs.RelocateLemmas.{hash_in-pair_slots}
+use Rattle.schnellru.proofs.Maps.Outcomes.{if_ok}
+use Rattle.schnellru.proofs.LinkedTables.Relocations.{hash_in-pair_slots}
 use Rattle.schnellru.proofs.link.move_entries.Goals as goal
 
 pub returns-then-buckets-clause-hashes : goal.returns-then-buckets-clause-hashes

@@ -3,7 +3,7 @@ use Rattle.std.proofs.Math.Nat.{mod-eq_of_lt}
 use Rattle.std.proofs.Math.Pow.{pow_mono}
 use Rattle.std.proofs.lemmas.Option.{same_Some, none-some}
 use Rattle.schnellru.specs.Sizes.{usage}
-use Rattle.schnellru.proofs.Budgets.{IsBest, best_none, best_takes, best_stays, best_of_all}
+use Rattle.schnellru.proofs.TableSizes.Budgets.{IsBest, best_none, best_takes, best_stays, best_of_all}
 use Rattle.schnellru.proofs.sizes.usage_within.Goals as goal
 use Rattle.schnellru.proofs.sizes.usage_within.Goals.{then-buckets-max+in-Some+then-bytes-budget, then-buckets-max+in-Some+else-bytes-budget, then-buckets-max+in_default, else-buckets-max}
 

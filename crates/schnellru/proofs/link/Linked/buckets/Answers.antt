@@ -1,4 +1,4 @@
-use Rattle.schnellru.proofs.WholeLemmas.{IsLinked-view}
+use Rattle.schnellru.proofs.Chains.WholeChains.{IsLinked-view}
 use Rattle.schnellru.proofs.link.Linked.buckets.Goals as goal
 
 pub returns-clause-linked : goal.returns-clause-linked

@@ -1,9 +1,9 @@
 use Rattle.std.proofs.Common.{ap, sym, ◌∙◌, replicate}
 use Rattle.group_table.specs.Bucket.{empty}
-use Rattle.schnellru.specs.Chain.{pair_slots}
-use Rattle.schnellru.proofs.PairSlotLemmas.{length-pair_slots, Fits-pair_slots}
-use Rattle.schnellru.proofs.WholeLemmas.{whole_order, IsWhole-shown, IsLinked-view}
-use Rattle.schnellru.proofs.ClearedTable.{pair_slots-cleared, IsWhole-cleared}
+use Rattle.schnellru.specs.Inside.Chain.{pair_slots}
+use Rattle.schnellru.proofs.LinkedTables.PairSlots.{length-pair_slots, Fits-pair_slots}
+use Rattle.schnellru.proofs.Chains.WholeChains.{whole_order, IsWhole-shown, IsLinked-view}
+use Rattle.schnellru.proofs.LinkedTables.Clears.{pair_slots-cleared, IsWhole-cleared}
 use Rattle.schnellru.proofs.link.Linked.clear.Goals as goal
 
 pub invariant_of-self : goal.invariant_of-self

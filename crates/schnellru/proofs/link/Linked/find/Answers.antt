@@ -2,8 +2,8 @@ use Rattle.std.proofs.Common.{rules, ap, sym, ◌∙◌}
 use Rattle.std.specs.Prelude.{option_map}
 use Rattle.std.proofs.lemmas.Option.{IfSome_then}
 use Rattle.group_table.proofs.CallerLemmas.{Finds-test, FindsNone-test}
-use Rattle.schnellru.proofs.PairSlotLemmas.{pair_of, entry_at-pair_slots, entry_of-pair_at, Fits-entries}
-use Rattle.schnellru.proofs.KeyLemmas.{if_none, hash_in-entry}
+use Rattle.schnellru.proofs.LinkedTables.PairSlots.{pair_of, entry_at-pair_slots, entry_of-pair_at, Fits-entries}
+use Rattle.schnellru.proofs.LinkedTables.KeyHashes.{if_none, hash_in-entry}
 use Rattle.schnellru.proofs.link.Linked.find.Goals as goal
 
 pub returns-clause-found : goal.returns-clause-found

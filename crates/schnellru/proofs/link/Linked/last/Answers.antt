@@ -1,4 +1,4 @@
-use Rattle.schnellru.proofs.ReadLemmas.{last_shown}
+use Rattle.schnellru.proofs.Chains.LinkReads.{last_shown}
 use Rattle.schnellru.proofs.link.Linked.last.Goals as goal
 
 pub returns : goal.returns

@@ -1,11 +1,10 @@
-use Rattle.std.proofs.Common.{◌≡◌, rules, ap, sym, ◌∙◌}
-use Rattle.group_table.specs.Sizes.{full_capacity}
-use Rattle.schnellru.specs.Linked.{entries_in}
-use Rattle.schnellru.specs.Chain.{pair_slots}
+use Rattle.std.proofs.Common.{ap, ◌∙◌}
+use Rattle.schnellru.specs.Inside.Linked.{entries_in}
+use Rattle.schnellru.specs.Inside.Chain.{pair_slots}
 use Rattle.lru_limits.specs.Hashing.{hash_by}
-use Rattle.schnellru.proofs.PairSlotLemmas.{marks_of-pair_slots, same_marks}
-use Rattle.schnellru.proofs.WholeLemmas.{whole_order, IsWhole-shown, IsLinked-view}
-use Rattle.schnellru.proofs.RelocateLemmas.{IsWhole-moved, pairs-moved, KeysFit-moved, hash_in-pair_slots}
+use Rattle.schnellru.proofs.LinkedTables.PairSlots.{marks_of-pair_slots, same_marks}
+use Rattle.schnellru.proofs.Chains.WholeChains.{whole_order, IsWhole-shown, IsLinked-view}
+use Rattle.schnellru.proofs.LinkedTables.Relocations.{IsWhole-moved, pairs-moved, KeysFit-moved}
 use Rattle.schnellru.proofs.link.Linked.move_to.Goals as goal
 
 pub returns-in_err-links-clause-linked : goal.returns-in_err-links-clause-linked

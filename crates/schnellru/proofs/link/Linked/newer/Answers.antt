@@ -1,4 +1,4 @@
-use Rattle.schnellru.proofs.ReadLemmas.{newer_shown}
+use Rattle.schnellru.proofs.Chains.LinkReads.{newer_shown}
 use Rattle.schnellru.proofs.link.Linked.newer.Goals as goal
 
 pub returns : goal.returns

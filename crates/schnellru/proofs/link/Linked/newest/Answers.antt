@@ -1,4 +1,4 @@
-use Rattle.schnellru.proofs.ReadLemmas.{newest_shown}
+use Rattle.schnellru.proofs.Chains.LinkReads.{newest_shown}
 use Rattle.schnellru.proofs.link.Linked.newest.Goals as goal
 
 pub returns : goal.returns

@@ -1,4 +1,4 @@
-use Rattle.schnellru.proofs.ReadLemmas.{older_shown}
+use Rattle.schnellru.proofs.Chains.LinkReads.{older_shown}
 use Rattle.schnellru.proofs.link.Linked.older.Goals as goal
 
 pub returns : goal.returns

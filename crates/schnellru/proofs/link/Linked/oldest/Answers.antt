@@ -1,5 +1,5 @@
 use Rattle.std.proofs.Common.{ap, sym, ◌∙◌, Some}
-use Rattle.schnellru.proofs.ReadLemmas.{oldest_shown}
+use Rattle.schnellru.proofs.Chains.LinkReads.{oldest_shown}
 use Rattle.schnellru.proofs.link.Linked.oldest.Goals as goal
 
 pub returns : goal.returns

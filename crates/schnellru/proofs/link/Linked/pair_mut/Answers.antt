@@ -1,8 +1,8 @@
 use Rattle.std.proofs.Common.{refl, ap, ◌∙◌}
 use Rattle.std.specs.Prelude.{option_map}
-use Rattle.schnellru.proofs.PairSlotLemmas.{pair_of, entry_at-pair_slots}
-use Rattle.schnellru.proofs.KeyLemmas.{KeysFit-refilled}
-use Rattle.schnellru.proofs.WholeLemmas.{IsWhole-shown, IsWhole-refilled, view-refilled, IsLinked-refilled}
+use Rattle.schnellru.proofs.LinkedTables.PairSlots.{pair_of, entry_at-pair_slots}
+use Rattle.schnellru.proofs.LinkedTables.KeyHashes.{KeysFit-refilled}
+use Rattle.schnellru.proofs.Chains.WholeChains.{IsWhole-shown, IsWhole-refilled, view-refilled, IsLinked-refilled}
 use Rattle.schnellru.proofs.link.Linked.pair_mut.Goals as goal
 
 pub invariant_of-self-lent : goal.invariant_of-self-lent

@@ -1,9 +1,9 @@
 use Rattle.std.proofs.Common.{ap, ◌∙◌}
 use Rattle.group_table.proofs.FirstFree.{fills_within}
-use Rattle.schnellru.specs.Chain.{pair_slots}
-use Rattle.schnellru.proofs.PairSlotLemmas.{marks_of-pair_slots, length-pair_slots, same_marks, pair_slots-set, Fits-pair_slots, Fits-entries}
-use Rattle.schnellru.proofs.KeyLemmas.{KeysFit-placed}
-use Rattle.schnellru.proofs.WholeLemmas.{whole_order, IsWhole-shown, IsLinked-view, placed_absent, IsChain-placed, IsWhole-placed}
+use Rattle.schnellru.specs.Inside.Chain.{pair_slots}
+use Rattle.schnellru.proofs.LinkedTables.PairSlots.{marks_of-pair_slots, length-pair_slots, same_marks, pair_slots-set, Fits-pair_slots, Fits-entries}
+use Rattle.schnellru.proofs.LinkedTables.KeyHashes.{KeysFit-placed}
+use Rattle.schnellru.proofs.Chains.WholeChains.{whole_order, IsWhole-shown, IsLinked-view, placed_absent, IsChain-placed, IsWhole-placed}
 use Rattle.schnellru.proofs.link.Linked.place.Goals as goal
 
 pub link_newest-requires-clause-chained : goal.link_newest-requires-clause-chained

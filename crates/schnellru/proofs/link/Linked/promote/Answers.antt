@@ -1,8 +1,8 @@
 use Rattle.std.proofs.Common.{refl, sym, ◌∙◌}
-use Rattle.schnellru.proofs.OrderLemmas.{without_in}
-use Rattle.schnellru.proofs.PairSlotLemmas.{same_marks}
-use Rattle.schnellru.proofs.WholeLemmas.{whole_order, IsWhole-shown, IsLinked-view, IsWhole-promoted}
-use Rattle.schnellru.proofs.ReadLemmas.{equal_links, full_entry, inside, newest_already}
+use Rattle.schnellru.proofs.Chains.Orders.{without_in}
+use Rattle.schnellru.proofs.LinkedTables.PairSlots.{same_marks}
+use Rattle.schnellru.proofs.Chains.WholeChains.{whole_order, IsWhole-shown, IsLinked-view, IsWhole-promoted}
+use Rattle.schnellru.proofs.Chains.LinkReads.{equal_links, full_entry, inside, newest_already}
 use Rattle.schnellru.proofs.link.Linked.promote.Goals as goal
 
 pub returns-then-eq-clause-order : goal.returns-then-eq-clause-order

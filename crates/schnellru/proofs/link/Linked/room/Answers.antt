@@ -1,7 +1,7 @@
 use Rattle.std.proofs.Common.{ap, sym, ◌∙◌}
 use Rattle.group_table.specs.Bucket.{room}
-use Rattle.schnellru.proofs.PairSlotLemmas.{marks_of-pair_slots}
-use Rattle.schnellru.proofs.WholeLemmas.{IsLinked-view}
+use Rattle.schnellru.proofs.LinkedTables.PairSlots.{marks_of-pair_slots}
+use Rattle.schnellru.proofs.Chains.WholeChains.{IsLinked-view}
 use Rattle.schnellru.proofs.link.Linked.room.Goals as goal
 
 pub returns-clause-room : goal.returns-clause-room

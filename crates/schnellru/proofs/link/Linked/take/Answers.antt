@@ -1,7 +1,7 @@
-use Rattle.schnellru.proofs.PairSlotLemmas.{marks_of-pair_slots, Removes-pair_slots, Fits-pair_slots, Fits-entries}
-use Rattle.schnellru.proofs.WholeLemmas.{whole_order, IsWhole-shown, IsLinked-view, IsWhole-taken}
-use Rattle.schnellru.proofs.KeyLemmas.{KeysFit-removed}
-use Rattle.schnellru.proofs.ReadLemmas.{full_entry, inside}
+use Rattle.schnellru.proofs.LinkedTables.PairSlots.{marks_of-pair_slots, Removes-pair_slots, Fits-pair_slots, Fits-entries}
+use Rattle.schnellru.proofs.Chains.WholeChains.{whole_order, IsWhole-shown, IsLinked-view, IsWhole-taken}
+use Rattle.schnellru.proofs.LinkedTables.KeyHashes.{KeysFit-removed}
+use Rattle.schnellru.proofs.Chains.LinkReads.{full_entry, inside}
 use Rattle.schnellru.proofs.link.Linked.take.Goals as goal
 
 pub invariant_of-self : goal.invariant_of-self

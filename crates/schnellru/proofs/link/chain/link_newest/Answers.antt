@@ -1,4 +1,4 @@
-use Rattle.schnellru.proofs.ChainLemmas.{newest_leads, IsChain-linked}
+use Rattle.schnellru.proofs.Chains.LinkWrites.{newest_leads, IsChain-linked}
 use Rattle.schnellru.proofs.link.chain.link_newest.Goals as goal
 
 pub set_newer-requires-clause-there : goal.set_newer-requires-clause-there

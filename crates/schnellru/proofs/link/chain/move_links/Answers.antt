@@ -1,4 +1,4 @@
-use Rattle.schnellru.proofs.MovedChain.{MovesLinks-written}
+use Rattle.schnellru.proofs.Chains.MovedChain.{MovesLinks-written}
 use Rattle.schnellru.proofs.link.chain.move_links.Goals as goal
 
 pub returns-clause-links : goal.returns-clause-links

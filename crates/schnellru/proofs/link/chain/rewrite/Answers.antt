@@ -1,8 +1,8 @@
 use Rattle.std.proofs.Common.{◌≡◌, refl, length, ap, sym, ◌∙◌, arith}
 use Rattle.std.specs.Prelude.{option_map}
 use Rattle.std.proofs.lemmas.List.{get_or_read}
-use Rattle.schnellru.proofs.ReadLemmas.{equal_by_test, other_by_test}
-use Rattle.schnellru.proofs.MovedChain.{newest_place, oldest_place, newer_place, older_place, full_by_link, MovedUpTo-none, MovedUpTo-passed, MovedUpTo-more, IsChain-moved}
+use Rattle.schnellru.proofs.Chains.LinkReads.{equal_by_test, other_by_test}
+use Rattle.schnellru.proofs.Chains.MovedChain.{newest_place, oldest_place, newer_place, older_place, full_by_link, MovedUpTo-none, MovedUpTo-passed, MovedUpTo-more, IsChain-moved}
 use Rattle.schnellru.proofs.link.chain.rewrite.Goals as goal
 use Rattle.schnellru.proofs.link.chain.rewrite.Goals.{then-ne, else-ne}
 

@@ -1,5 +1,5 @@
 use Rattle.std.proofs.Common.{◌≡◌}
-use Rattle.schnellru.proofs.MovedChain.{MovedUpTo}
+use Rattle.schnellru.proofs.Chains.MovedChain.{MovedUpTo}
 use Rattle.schnellru.proofs.link.chain.rewrite.Given as goal
 
 abbrev pub invariant-loop-old : goal.invariant-loop-old

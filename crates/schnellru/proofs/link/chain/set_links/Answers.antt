@@ -1,4 +1,4 @@
-use Rattle.schnellru.proofs.ChainLemmas.{SetsLinks-written}
+use Rattle.schnellru.proofs.Chains.LinkWrites.{SetsLinks-written}
 use Rattle.schnellru.proofs.link.chain.set_links.Goals as goal
 
 pub returns-clause-links : goal.returns-clause-links

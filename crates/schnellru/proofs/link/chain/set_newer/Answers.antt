@@ -1,4 +1,4 @@
-use Rattle.schnellru.proofs.ChainLemmas.{SetsNewer-written}
+use Rattle.schnellru.proofs.Chains.LinkWrites.{SetsNewer-written}
 use Rattle.schnellru.proofs.link.chain.set_newer.Goals as goal
 
 pub returns-else-eq-clause-slots : goal.returns-else-eq-clause-slots

@@ -1,4 +1,4 @@
-use Rattle.schnellru.proofs.ChainLemmas.{SetsOlder-written}
+use Rattle.schnellru.proofs.Chains.LinkWrites.{SetsOlder-written}
 use Rattle.schnellru.proofs.link.chain.set_older.Goals as goal
 
 pub returns-else-eq-clause-slots : goal.returns-else-eq-clause-slots

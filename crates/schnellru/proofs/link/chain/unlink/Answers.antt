@@ -1,6 +1,6 @@
 use Rattle.std.proofs.Common.{◌∙◌, inl, inr}
-use Rattle.schnellru.proofs.PairSlotLemmas.{same_full}
-use Rattle.schnellru.proofs.ChainLemmas.{newer_link, older_link, newer_leads, older_leads, IsChain-unlinked}
+use Rattle.schnellru.proofs.LinkedTables.PairSlots.{same_full}
+use Rattle.schnellru.proofs.Chains.LinkWrites.{newer_link, older_link, newer_leads, older_leads, IsChain-unlinked}
 use Rattle.schnellru.proofs.link.chain.unlink.Goals as goal
 
 pub set_older-requires-clause-there : goal.set_older-requires-clause-there

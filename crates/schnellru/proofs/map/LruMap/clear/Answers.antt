@@ -1,5 +1,5 @@
-use Rattle.schnellru.proofs.Inside.{beside}
-use Rattle.schnellru.proofs.Cleared.{cleared_is, cleared_holds}
+use Rattle.schnellru.proofs.Maps.Fields.{beside}
+use Rattle.schnellru.proofs.Maps.ClearedMaps.{cleared_is, cleared_holds}
 use Rattle.schnellru.proofs.map.LruMap.clear.Goals as goal
 
 pub invariant_of-self : goal.invariant_of-self

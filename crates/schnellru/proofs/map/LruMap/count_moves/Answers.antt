@@ -1,9 +1,7 @@
-use Rattle.std.proofs.Common.{◌+◌, ◌-◌, ◌^◌, min, length, sym, ap, ◌∙◌, arith}
-use Rattle.schnellru.specs.Linked.{pairs_of}
-use Rattle.schnellru.specs.State.{potential}
-use Rattle.schnellru.specs.Holds.{state_of}
-use Rattle.schnellru.proofs.Inside.{beside}
-use Rattle.schnellru.proofs.Ordered.{pairs-length}
+use Rattle.std.proofs.Common.{◌+◌, ◌-◌, ◌^◌, min, sym, ap, ◌∙◌, arith}
+use Rattle.schnellru.specs.Inside.Holds.{state_of}
+use Rattle.schnellru.proofs.Maps.Fields.{beside}
+use Rattle.schnellru.proofs.LinkedTables.BucketPairs.{pairs-length}
 use Rattle.schnellru.proofs.map.LruMap.count_moves.Goals as goal
 
 pub invariant_of-self : goal.invariant_of-self

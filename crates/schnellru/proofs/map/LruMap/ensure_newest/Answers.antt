@@ -1,6 +1,6 @@
 use Rattle.std.proofs.Common.{subst}
 use Rattle.schnellru.specs.State.{IsMap}
-use Rattle.schnellru.proofs.GetOrInsertLaws.{makes_says}
+use Rattle.schnellru.proofs.Theorems.GetOrInserts.{makes_says}
 use Rattle.schnellru.proofs.map.LruMap.ensure_newest.Goals as goal
 
 pub returns-clause-says : goal.returns-clause-says

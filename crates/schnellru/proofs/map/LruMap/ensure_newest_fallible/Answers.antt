@@ -2,15 +2,15 @@ use Rattle.std.proofs.Common.{refl, sym, ap, ◌∙◌, ◌≡◌, None, subst}
 use Rattle.lru_limits.specs.Hashing.{hash_by, hash_by-named}
 use Rattle.schnellru.specs.Lists.{lookup}
 use Rattle.schnellru.specs.IfMade.{got, failed, inserted}
-use Rattle.schnellru.proofs.Inside.{beside}
-use Rattle.schnellru.proofs.Searched.{not_found, no_value}
-use Rattle.schnellru.proofs.Ordered.{value_found}
-use Rattle.schnellru.proofs.Newest.{promoted_state, promoted_holds}
+use Rattle.schnellru.proofs.Maps.Fields.{beside}
+use Rattle.schnellru.proofs.LinkedTables.Searches.{not_found, no_value}
+use Rattle.schnellru.proofs.LinkedTables.BucketPairs.{value_found}
+use Rattle.schnellru.proofs.LinkedTables.NewestPair.{promoted_state, promoted_holds}
 use Rattle.schnellru.specs.IfMade.{or_memory}
 use Rattle.schnellru.specs.State.{IsMap}
-use Rattle.schnellru.proofs.Within.{insert_says}
-use Rattle.schnellru.proofs.GetOrInsertLaws.{newest_some}
-use Rattle.schnellru.proofs.Outcomes.{same_kept}
+use Rattle.schnellru.proofs.Theorems.InsertAnswers.{insert_says}
+use Rattle.schnellru.proofs.Theorems.GetOrInserts.{newest_some}
+use Rattle.schnellru.proofs.Maps.Outcomes.{same_kept}
 use Rattle.schnellru.proofs.map.LruMap.ensure_newest_fallible.Goals as goal
 
 pub invariant_of-self : goal.invariant_of-self

@@ -1,12 +1,12 @@
 use Rattle.std.proofs.Common.{Some, None, refl, sym, ap, ◌∙◌, subst, unwrap_or, ◌≡◌, true}
 use Rattle.group_table.specs.Bucket.{entry_at}
 use Rattle.lru_limits.specs.Hashing.{hash_by, hash_by-named}
-use Rattle.schnellru.specs.Linked.{KeysFit}
-use Rattle.schnellru.proofs.Inside.{beside}
-use Rattle.schnellru.proofs.Ordered.{value_found}
-use Rattle.schnellru.proofs.Searched.{no_value}
-use Rattle.schnellru.proofs.Promotion.{get_is_map}
-use Rattle.schnellru.proofs.Written.{first_holds, first_state, same_follow}
+use Rattle.schnellru.specs.Inside.Linked.{KeysFit}
+use Rattle.schnellru.proofs.Maps.Fields.{beside}
+use Rattle.schnellru.proofs.LinkedTables.BucketPairs.{value_found}
+use Rattle.schnellru.proofs.LinkedTables.Searches.{no_value}
+use Rattle.schnellru.proofs.Maps.Promotions.{get_is_map}
+use Rattle.schnellru.proofs.LinkedTables.Writes.{first_holds, first_state, same_follow}
 use Rattle.schnellru.proofs.map.LruMap.get.Goals as goal
 
 pub returns-in_err-b : goal.returns-in_err-b

@@ -52,9 +52,9 @@ use Rattle.std.proofs.option.Option.TheLaws as option_laws
 use Rattle.std.proofs.result.Result.TheLaws as result_laws
 use Rattle.std.proofs.alloc.AllocError.TheLaws as AE_laws
 use Rattle.schnellru.specs.State.{State}
-use Rattle.schnellru.specs.MapLends.{map_row}
-use Rattle.schnellru.specs.Lent.{kept_of, is_kept, IsLent, NoneLent, name_lent}
-use Rattle.schnellru.specs.MadeLends.{Made, lends_or, lends_made}
+use Rattle.schnellru.specs.Lending.Values.{map_row}
+use Rattle.schnellru.specs.Lending.Answers.{kept_of, is_kept, IsLent, NoneLent, name_lent}
+use Rattle.schnellru.specs.Lending.Made.{Made, lends_or, lends_made}
 use Rattle.schnellru.specs.GetOrInserts.{MakesNewest}
 use Rattle.schnellru.specs.declared.map.get_or_insert.NotLent.{NotLent}
 use Rattle.schnellru.specs.declared.map.get_or_insert.NotLent.TheVariants.{NotKept, Failed}

@@ -1,7 +1,7 @@
 use Rattle.std.proofs.Common.{subst}
 use Rattle.schnellru.specs.State.{IsMap}
-use Rattle.schnellru.proofs.Within.{insert_says, insert_stores}
-use Rattle.schnellru.proofs.Short.{err_is, err_keeps, on_err}
+use Rattle.schnellru.proofs.Theorems.InsertAnswers.{insert_says, insert_stores}
+use Rattle.schnellru.proofs.Theorems.LackOfMemory.{err_is, err_keeps, on_err}
 use Rattle.schnellru.proofs.map.LruMap.insert.Goals as goal
 
 pub returns-clause-says : goal.returns-clause-says

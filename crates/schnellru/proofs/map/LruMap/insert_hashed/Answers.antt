@@ -1,14 +1,14 @@
 use Rattle.std.proofs.Common.{◌≡◌, ℕ, true, false, not, Ok, length, refl, ap, sym, ◌∙◌, subst}
 use Rattle.std.specs.Prelude.{fold}
 use Rattle.lru_limits.specs.Hashing.{hash_by, hash_by-named}
-use Rattle.schnellru.proofs.Inside.{beside}
-use Rattle.schnellru.proofs.Searched.{not_found}
-use Rattle.schnellru.proofs.Replaced.{replaced_leaves, replaced_holds, given_up_leaves, given_up_holds}
-use Rattle.schnellru.proofs.Leaving.{leaves_trimmed}
-use Rattle.schnellru.proofs.Ordered.{pairs-length, pair_found}
-use Rattle.schnellru.specs.Linked.{pairs_of}
-use Rattle.schnellru.specs.Holds.{state_of}
-use Rattle.schnellru.specs.Steps.{IsReplaced, IsGivenUp}
+use Rattle.schnellru.proofs.Maps.Fields.{beside}
+use Rattle.schnellru.proofs.LinkedTables.Searches.{not_found}
+use Rattle.schnellru.proofs.LinkedTables.Replacements.{replaced_leaves, replaced_holds, given_up_leaves, given_up_holds}
+use Rattle.schnellru.proofs.Maps.LeavingPairs.{leaves_trimmed}
+use Rattle.schnellru.proofs.LinkedTables.BucketPairs.{pairs-length, pair_found}
+use Rattle.schnellru.specs.Inside.Linked.{pairs_of}
+use Rattle.schnellru.specs.Inside.Holds.{state_of}
+use Rattle.schnellru.specs.Inside.Steps.{IsReplaced, IsGivenUp}
 use Rattle.schnellru.specs.Inserts.{replaced, given_up}
 use Rattle.schnellru.proofs.map.LruMap.insert_hashed.Goals as goal
 

@@ -1,11 +1,11 @@
 use Rattle.std.proofs.Common.{Some, None, refl, ap, sym, ◌∙◌, subst}
 use Rattle.lru_limits.specs.Hashing.{hash_by-named}
-use Rattle.schnellru.specs.Linked.{pairs_of}
-use Rattle.schnellru.specs.Holds.{state_of}
+use Rattle.schnellru.specs.Inside.Linked.{pairs_of}
+use Rattle.schnellru.specs.Inside.Holds.{state_of}
 use Rattle.schnellru.specs.Inserts.{no_memory_to_admit, not_admitted, admitted}
-use Rattle.schnellru.proofs.Inside.{beside}
-use Rattle.schnellru.proofs.Ordered.{pairs-length}
-use Rattle.schnellru.proofs.Searched.{lookup_alike}
+use Rattle.schnellru.proofs.Maps.Fields.{beside}
+use Rattle.schnellru.proofs.LinkedTables.BucketPairs.{pairs-length}
+use Rattle.schnellru.proofs.LinkedTables.Searches.{lookup_alike}
 use Rattle.schnellru.proofs.map.LruMap.insert_new.Goals as goal
 
 pub returns-in_err-pair : goal.returns-in_err-pair

@@ -1,6 +1,6 @@
 use Rattle.std.specs.Map.Iter.{deref_pair}
 use Rattle.std_collections.proofs.IterRuns.{shows_in_order, shows_in_reverse}
-use Rattle.schnellru.proofs.RestLemmas.{rest-whole}
+use Rattle.schnellru.proofs.LinkedTables.WalkRests.{rest-whole}
 use Rattle.schnellru.proofs.map.LruMap.iter.Goals as goal
 
 pub returns-clause-runs : goal.returns-clause-runs

@@ -2,9 +2,9 @@ use Rattle.std.proofs.Common.{◌<◌, ◌+◌, length, ap, ◌∙◌, sym, subs
 use Rattle.group_table.specs.Sizes.{full_capacity}
 use Rattle.group_table.proofs.BucketLemmas.{length-marks_of}
 use Rattle.schnellru.specs.State.{IsSized}
-use Rattle.schnellru.proofs.Inside.{beside}
-use Rattle.schnellru.proofs.Ordered.{pairs-length}
-use Rattle.schnellru.proofs.NextTable.{goes_to, if_larger, larger_count, larger_reached, larger_usable, larger_half}
+use Rattle.schnellru.proofs.Maps.Fields.{beside}
+use Rattle.schnellru.proofs.LinkedTables.BucketPairs.{pairs-length}
+use Rattle.schnellru.proofs.TableSizes.NextTable.{goes_to, if_larger, larger_count, larger_reached, larger_usable, larger_half}
 use Rattle.schnellru.proofs.map.LruMap.larger_table.Goals as goal
 
 pub overflow_add-len : goal.overflow_add-len

@@ -1,11 +1,11 @@
-use Rattle.std.proofs.Common.{refl, sym, ◌∙◌, ◌≡◌, None}
+use Rattle.std.proofs.Common.{refl, ◌∙◌, ◌≡◌, None}
 use Rattle.lru_limits.specs.Hashing.{hash_by, hash_by-named}
 use Rattle.schnellru.specs.Lists.{lookup}
 use Rattle.schnellru.specs.GetOrInserts.{got, inserted}
-use Rattle.schnellru.proofs.Inside.{beside}
-use Rattle.schnellru.proofs.Searched.{not_found, no_value}
-use Rattle.schnellru.proofs.Ordered.{value_found}
-use Rattle.schnellru.proofs.Newest.{promoted_state, promoted_holds}
+use Rattle.schnellru.proofs.Maps.Fields.{beside}
+use Rattle.schnellru.proofs.LinkedTables.Searches.{not_found, no_value}
+use Rattle.schnellru.proofs.LinkedTables.BucketPairs.{value_found}
+use Rattle.schnellru.proofs.LinkedTables.NewestPair.{promoted_state, promoted_holds}
 use Rattle.schnellru.proofs.map.LruMap.make_newest.Goals as goal
 
 pub invariant_of-self : goal.invariant_of-self

@@ -1,7 +1,7 @@
 use Rattle.std.proofs.Common.{◌≤◌, ◌-◌, ◌^◌, Some, sym, ap, ◌∙◌, subst, arith}
 use Rattle.group_table.proofs.BucketLemmas.{length-marks_of}
 use Rattle.schnellru.specs.Sizes.{usage, bytes_of}
-use Rattle.schnellru.proofs.Growth.{usage_bytes}
+use Rattle.schnellru.proofs.TableSizes.Growth.{usage_bytes}
 use Rattle.schnellru.proofs.map.LruMap.memory_usage.Goals as goal
 
 pub returns-then-buckets-eq0 : goal.returns-then-buckets-eq0

@@ -1,10 +1,10 @@
 use Rattle.std.proofs.Common.{sym, ◌∙◌, ap, length, arith}
 use Rattle.std.proofs.lemmas.Bool.{false≢true}
 use Rattle.group_table.proofs.BucketLemmas.{length-marks_of}
-use Rattle.schnellru.proofs.Growth.{usage_addressable}
-use Rattle.schnellru.proofs.Inside.{beside}
-use Rattle.schnellru.proofs.Ordered.{pairs-length}
-use Rattle.schnellru.proofs.MovedPairs.{moves_to, moves_holds}
+use Rattle.schnellru.proofs.TableSizes.Growth.{usage_addressable}
+use Rattle.schnellru.proofs.Maps.Fields.{beside}
+use Rattle.schnellru.proofs.LinkedTables.BucketPairs.{pairs-length}
+use Rattle.schnellru.proofs.Maps.MovedPairs.{moves_to, moves_holds}
 use Rattle.schnellru.proofs.map.LruMap.move_to.Goals as goal
 
 pub move_to-requires-clause-addressable : goal.move_to-requires-clause-addressable

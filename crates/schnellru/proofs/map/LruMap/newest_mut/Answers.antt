@@ -1,8 +1,8 @@
 use Rattle.std.proofs.Common.{refl, sym, ◌∙◌}
 use Rattle.lru_limits.specs.Hashing.{hash_by}
-use Rattle.schnellru.proofs.Inside.{beside}
-use Rattle.schnellru.proofs.Newest.{newest_state, newest_holds, newest_is}
-use Rattle.schnellru.proofs.Written.{same_follow}
+use Rattle.schnellru.proofs.Maps.Fields.{beside}
+use Rattle.schnellru.proofs.LinkedTables.NewestPair.{newest_state, newest_holds, newest_is}
+use Rattle.schnellru.proofs.LinkedTables.Writes.{same_follow}
 use Rattle.schnellru.proofs.map.LruMap.newest_mut.Goals as goal
 
 pub invariant_of-self-lent : goal.invariant_of-self-lent

@@ -1,7 +1,7 @@
 use Rattle.std.proofs.Common.{sym, ap, ◌∙◌, option_map}
 use Rattle.lru_limits.specs.Hashing.{hash_by, hash_by-named}
-use Rattle.schnellru.proofs.Ordered.{value_found}
-use Rattle.schnellru.proofs.Searched.{no_value}
+use Rattle.schnellru.proofs.LinkedTables.BucketPairs.{value_found}
+use Rattle.schnellru.proofs.LinkedTables.Searches.{no_value}
 use Rattle.schnellru.proofs.map.LruMap.peek.Goals as goal
 
 pub returns-in_err-b : goal.returns-in_err-b

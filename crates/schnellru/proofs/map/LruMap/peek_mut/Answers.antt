@@ -1,10 +1,10 @@
 use Rattle.std.proofs.Common.{refl, sym, ap, ◌∙◌, subst, unwrap_or, ◌≡◌, true}
 use Rattle.lru_limits.specs.Hashing.{hash_by, hash_by-named}
-use Rattle.schnellru.proofs.Inside.{beside}
-use Rattle.schnellru.proofs.Ordered.{value_found}
-use Rattle.schnellru.proofs.Searched.{no_value}
-use Rattle.schnellru.proofs.Promotion.{written_is_map}
-use Rattle.schnellru.proofs.Written.{kept_holds, kept_state, same_follow}
+use Rattle.schnellru.proofs.Maps.Fields.{beside}
+use Rattle.schnellru.proofs.LinkedTables.BucketPairs.{value_found}
+use Rattle.schnellru.proofs.LinkedTables.Searches.{no_value}
+use Rattle.schnellru.proofs.Maps.Promotions.{written_is_map}
+use Rattle.schnellru.proofs.LinkedTables.Writes.{kept_holds, kept_state, same_follow}
 use Rattle.schnellru.proofs.map.LruMap.peek_mut.Goals as goal
 
 pub returns-in_err-b : goal.returns-in_err-b

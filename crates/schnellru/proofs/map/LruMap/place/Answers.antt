@@ -2,9 +2,9 @@ use Rattle.std.proofs.Common.{◌≡◌, ◌<◌, ◌⊎◌, inl, inr, length, s
 use Rattle.group_table.specs.Bucket.{empty, marks_of, room as room_of}
 use Rattle.schnellru.specs.State.{IsSized, FirstFreeIs, room}
 use Rattle.schnellru.specs.Place.{FillsBucket}
-use Rattle.schnellru.specs.Linked.{pairs_of}
-use Rattle.schnellru.proofs.Ordered.{pairs-length}
-use Rattle.schnellru.proofs.Placing.{bucket_place, no_place_room, no_place_empty}
+use Rattle.schnellru.specs.Inside.Linked.{pairs_of}
+use Rattle.schnellru.proofs.LinkedTables.BucketPairs.{pairs-length}
+use Rattle.schnellru.proofs.Maps.Placements.{bucket_place, no_place_room, no_place_empty}
 use Rattle.schnellru.proofs.map.LruMap.place.Goals as goal
 use Rattle.schnellru.proofs.map.LruMap.place.Goals.{else-room-eq0-via-then-room-eq0+else-len-eq0, else-room-eq0-via-else-room-eq0}
 

@@ -1,6 +1,6 @@
 use Rattle.std.proofs.Common.{ap, arith}
 use Rattle.schnellru.specs.State.{room}
-use Rattle.schnellru.proofs.Growth.{full_capacity-some}
+use Rattle.schnellru.proofs.TableSizes.Growth.{full_capacity-some}
 use Rattle.schnellru.proofs.map.LruMap.place_after_move.Goals as goal
 
 pub place_surely-requires-clause-room : goal.place_surely-requires-clause-room

@@ -3,10 +3,10 @@ use Rattle.group_table.specs.Sizes.{full_capacity}
 use Rattle.group_table.proofs.BucketLemmas.{length-marks_of}
 use Rattle.schnellru.specs.Lists.{lookup_entry}
 use Rattle.schnellru.specs.State.{IsSized, buckets}
-use Rattle.schnellru.proofs.Ordered.{pairs-length}
-use Rattle.schnellru.proofs.Growth.{full_capacity-some}
-use Rattle.schnellru.proofs.Leaving.{leaves_more}
-use Rattle.schnellru.proofs.Placing.{one_more, one_fewer, left_absent, finds, makes_anew, same_buckets, no_place_room, power_with_pairs}
+use Rattle.schnellru.proofs.LinkedTables.BucketPairs.{pairs-length}
+use Rattle.schnellru.proofs.TableSizes.Growth.{full_capacity-some}
+use Rattle.schnellru.proofs.Maps.LeavingPairs.{leaves_more}
+use Rattle.schnellru.proofs.Maps.Placements.{one_more, one_fewer, left_absent, finds, makes_anew, no_place_room, power_with_pairs}
 use Rattle.schnellru.proofs.map.LruMap.place_evicting.Goals as goal
 
 pub place_after_move-requires-clause-absent : goal.place_after_move-requires-clause-absent

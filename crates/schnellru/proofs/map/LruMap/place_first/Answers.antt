@@ -1,7 +1,7 @@
 use Rattle.std.proofs.Common.{sym, ◌∙◌}
-use Rattle.schnellru.specs.Holds.{state_of}
-use Rattle.schnellru.proofs.Inside.{beside}
-use Rattle.schnellru.proofs.Placing.{first_granted, first_refused}
+use Rattle.schnellru.specs.Inside.Holds.{state_of}
+use Rattle.schnellru.proofs.Maps.Fields.{beside}
+use Rattle.schnellru.proofs.Maps.Placements.{first_granted, first_refused}
 use Rattle.schnellru.proofs.map.LruMap.place_first.Goals as goal
 
 pub returns-then-on_grow : goal.returns-then-on_grow

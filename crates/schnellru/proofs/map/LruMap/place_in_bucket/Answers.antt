@@ -1,10 +1,10 @@
 use Rattle.std.proofs.Common.{◌≡◌, ◌+◌, length, sym, subst}
 use Rattle.group_table.specs.Sizes.{full_capacity}
 use Rattle.schnellru.specs.State.{buckets, room}
-use Rattle.schnellru.specs.Holds.{state_of}
-use Rattle.schnellru.proofs.FilledBuckets.{fills_exact}
-use Rattle.schnellru.proofs.Inside.{beside}
-use Rattle.schnellru.proofs.Landed.{lands_placed, lands_fills, lands_holds}
+use Rattle.schnellru.specs.Inside.Holds.{state_of}
+use Rattle.schnellru.proofs.TableSizes.FilledBuckets.{fills_exact}
+use Rattle.schnellru.proofs.Maps.Fields.{beside}
+use Rattle.schnellru.proofs.LinkedTables.Landings.{lands_placed, lands_fills, lands_holds}
 use Rattle.schnellru.proofs.map.LruMap.place_in_bucket.Goals as goal
 
 pub invariant_of-self-2 : goal.invariant_of-self-2

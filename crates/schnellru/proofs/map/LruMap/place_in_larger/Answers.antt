@@ -1,10 +1,9 @@
-use Rattle.std.proofs.Common.{◌≡◌, ◌+◌, ◌/◌, ◌<◌, length, sym, subst, ◌∙◌, arith}
-use Rattle.group_table.specs.Sizes.{full_capacity}
+use Rattle.std.proofs.Common.{sym, subst, ◌∙◌}
 use Rattle.group_table.specs.Bucket.{empty}
-use Rattle.schnellru.specs.State.{FirstFreeIs, buckets, IsSized}
-use Rattle.schnellru.specs.Holds.{state_of}
-use Rattle.schnellru.proofs.Inside.{beside}
-use Rattle.schnellru.proofs.Placing.{grown_place, denied_place, untold_place}
+use Rattle.schnellru.specs.State.{FirstFreeIs, IsSized}
+use Rattle.schnellru.specs.Inside.Holds.{state_of}
+use Rattle.schnellru.proofs.Maps.Fields.{beside}
+use Rattle.schnellru.proofs.Maps.Placements.{grown_place, denied_place, untold_place}
 use Rattle.schnellru.proofs.map.LruMap.place_in_larger.Goals as goal
 
 pub returns-then-on_grow : goal.returns-then-on_grow

@@ -2,7 +2,7 @@ use Rattle.std.proofs.Common.{Ok, not, refl, ap, sym, subst}
 use Rattle.schnellru.specs.Lists.{IsFront}
 use Rattle.schnellru.specs.State.{contents}
 use Rattle.schnellru.specs.Place.{placed, refused, no_memory}
-use Rattle.schnellru.proofs.Fronts.{front_make_way, front_absent}
+use Rattle.schnellru.proofs.Theorems.Fronts.{front_make_way, front_absent}
 use Rattle.schnellru.proofs.map.LruMap.place_new.Goals as goal
 
 pub place-requires-clause-absent : goal.place-requires-clause-absent

@@ -1,12 +1,12 @@
-use Rattle.std.proofs.Common.{◌≡◌, ◌<◌, ◌/◌, inl, inr, length, ap, sym, ◌∙◌, subst, arith}
+use Rattle.std.proofs.Common.{◌≡◌, ◌<◌, ◌/◌, length, ap, sym, ◌∙◌, subst, arith}
 use Rattle.group_table.specs.Sizes.{full_capacity}
 use Rattle.group_table.specs.Bucket.{empty, marks_of}
 use Rattle.group_table.proofs.BucketLemmas.{length-marks_of}
 use Rattle.schnellru.specs.State.{IsSized, FirstFreeIs, buckets}
-use Rattle.schnellru.specs.Linked.{pairs_of}
-use Rattle.schnellru.proofs.Ordered.{pairs-length}
-use Rattle.schnellru.proofs.Sized.{own_count}
-use Rattle.schnellru.proofs.Placing.{rehash_place, some_of_half}
+use Rattle.schnellru.specs.Inside.Linked.{pairs_of}
+use Rattle.schnellru.proofs.LinkedTables.BucketPairs.{pairs-length}
+use Rattle.schnellru.proofs.TableSizes.SizedMarks.{own_count}
+use Rattle.schnellru.proofs.Maps.Placements.{rehash_place, some_of_half}
 use Rattle.schnellru.proofs.map.LruMap.place_without_room.Goals as goal
 
 pub place_after_move-requires-clause-count : goal.place_after_move-requires-clause-count

@@ -1,9 +1,9 @@
 use Rattle.std.proofs.Common.{◌≡◌, true, sym, ap, ◌∙◌, subst, unwrap_or, option_map}
 use Rattle.lru_limits.specs.Hashing.{hash_by, hash_by-named}
-use Rattle.schnellru.proofs.Inside.{beside}
-use Rattle.schnellru.proofs.Ordered.{pair_found, others_are}
-use Rattle.schnellru.proofs.Searched.{not_found}
-use Rattle.schnellru.proofs.Taken.{none_removed, taken_pairs, taken_left, taken_told, taken_leaves, taken_holds}
+use Rattle.schnellru.proofs.Maps.Fields.{beside}
+use Rattle.schnellru.proofs.LinkedTables.BucketPairs.{pair_found, others_are}
+use Rattle.schnellru.proofs.LinkedTables.Searches.{not_found}
+use Rattle.schnellru.proofs.LinkedTables.TakenPairs.{none_removed, taken_pairs, taken_left, taken_told, taken_leaves, taken_holds}
 use Rattle.schnellru.proofs.map.LruMap.remove.Goals as goal
 
 pub returns-in_err-b : goal.returns-in_err-b

@@ -1,8 +1,8 @@
 use Rattle.std.proofs.Common.{refl, sym, ◌∙◌}
-use Rattle.schnellru.specs.Holds.{state_of}
+use Rattle.schnellru.specs.Inside.Holds.{state_of}
 use Rattle.schnellru.specs.Reservations.{no_such_table}
-use Rattle.schnellru.proofs.Inside.{beside}
-use Rattle.schnellru.proofs.Reserving.{is_reserved, lacks_memory, is_denied}
+use Rattle.schnellru.proofs.Maps.Fields.{beside}
+use Rattle.schnellru.proofs.Maps.Reservations.{is_reserved, lacks_memory, is_denied}
 use Rattle.schnellru.proofs.map.LruMap.reserve_larger.Goals as goal
 
 pub returns-then-not-on_grow : goal.returns-then-not-on_grow

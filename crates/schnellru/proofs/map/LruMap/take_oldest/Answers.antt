@@ -1,7 +1,7 @@
-use Rattle.schnellru.proofs.Inside.{beside}
-use Rattle.schnellru.proofs.Ordered.{oldest_full, oldest_is, others_oldest}
+use Rattle.schnellru.proofs.Maps.Fields.{beside}
+use Rattle.schnellru.proofs.LinkedTables.BucketPairs.{oldest_full, oldest_is, others_oldest}
 use Rattle.std.proofs.Common.{sym, ◌∙◌}
-use Rattle.schnellru.proofs.Taken.{taken_pairs, taken_left, taken_told, taken_leaves, taken_holds}
+use Rattle.schnellru.proofs.LinkedTables.TakenPairs.{taken_pairs, taken_left, taken_told, taken_leaves, taken_holds}
 use Rattle.schnellru.proofs.map.LruMap.take_oldest.Goals as goal
 
 pub take_out-requires : goal.take_out-requires

@@ -1,8 +1,8 @@
 use Rattle.std.proofs.Common.{◌≡◌, ◌<◌, true, false, length, ap, sym, ◌∙◌, subst, arith}
 use Rattle.schnellru.specs.State.{contents, trim, Leaves}
-use Rattle.schnellru.proofs.Emptiness.{empty-length, some-length}
-use Rattle.schnellru.proofs.Ordered.{pairs-length}
-use Rattle.schnellru.proofs.Leaving.{length-without_last, leaves_trans, trim-within, trim-empty, trim-over}
+use Rattle.schnellru.proofs.PairLists.Emptiness.{empty-length, some-length}
+use Rattle.schnellru.proofs.LinkedTables.BucketPairs.{pairs-length}
+use Rattle.schnellru.proofs.Maps.LeavingPairs.{length-without_last, leaves_trans, trim-within, trim-empty, trim-over}
 use Rattle.schnellru.proofs.map.LruMap.trim.Goals as goal
 
 pub take_oldest-requires : goal.take_oldest-requires

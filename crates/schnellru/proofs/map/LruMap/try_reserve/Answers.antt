@@ -3,12 +3,12 @@ use Rattle.std.proofs.lemmas.Bool.{false≢true}
 use Rattle.group_table.specs.Sizes.{full_capacity}
 use Rattle.group_table.proofs.BucketLemmas.{length-marks_of}
 use Rattle.schnellru.specs.State.{buckets}
-use Rattle.schnellru.specs.Holds.{state_of}
+use Rattle.schnellru.specs.Inside.Holds.{state_of}
 use Rattle.schnellru.specs.Reservations.{LacksRoomFor, too_many, enough_room, remade, no_memory_to_remake}
-use Rattle.schnellru.proofs.Inside.{beside}
-use Rattle.schnellru.proofs.Ordered.{pairs-length}
-use Rattle.schnellru.proofs.NextTable.{stays}
-use Rattle.schnellru.proofs.Reserving.{some_there}
+use Rattle.schnellru.proofs.Maps.Fields.{beside}
+use Rattle.schnellru.proofs.LinkedTables.BucketPairs.{pairs-length}
+use Rattle.schnellru.proofs.TableSizes.NextTable.{stays}
+use Rattle.schnellru.proofs.Maps.Reservations.{some_there}
 use Rattle.schnellru.proofs.map.LruMap.try_reserve.Goals as goal
 
 pub returns-in-None : goal.returns-in-None

@@ -3,10 +3,10 @@ use Rattle.std.specs.List.{IsDistinct}
 use Rattle.group_table.specs.Sizes.{full_capacity}
 use Rattle.group_table.specs.Bucket.{marks_of, room}
 use Rattle.schnellru.specs.Sizes.{usage}
-use Rattle.schnellru.specs.Linked.{entries_in}
-use Rattle.schnellru.proofs.Distinct.{AreDistinct}
-use Rattle.schnellru.proofs.Inside.{beside}
-use Rattle.schnellru.proofs.Kept.{sized_by}
+use Rattle.schnellru.specs.Inside.Linked.{entries_in}
+use Rattle.schnellru.proofs.PairLists.DistinctKeys.{AreDistinct}
+use Rattle.schnellru.proofs.Maps.Fields.{beside}
+use Rattle.schnellru.proofs.Maps.HeldMaps.{sized_by}
 use Rattle.schnellru.proofs.map.LruMap.with_hasher.Goals as goal
 
 pub invariant_of-result : goal.invariant_of-result

@@ -1,7 +1,7 @@
 use Rattle.std.proofs.Common.{◌≡◌, true, ap, sym, ◌∙◌, subst}
 use Rattle.std.proofs.lemmas.Option.{same_Some}
-use Rattle.schnellru.specs.Steps.{IsGivenUp}
-use Rattle.schnellru.proofs.Replaced.{gives_up}
+use Rattle.schnellru.specs.Inside.Steps.{IsGivenUp}
+use Rattle.schnellru.proofs.LinkedTables.Replacements.{gives_up}
 use Rattle.schnellru.proofs.map.replace.replace.Goals as goal
 
 pub returns-else-taken-clause-given_up : goal.returns-else-taken-clause-given_up

@@ -1,5 +1,5 @@
 use Rattle.std.proofs.Common.{arith}
-use Rattle.schnellru.proofs.RestLemmas.{rest-length}
+use Rattle.schnellru.proofs.LinkedTables.WalkRests.{rest-length}
 use Rattle.schnellru.proofs.walk.WalkIterator.size_hint.Goals as goal
 
 pub returns-clause-lower : goal.returns-clause-lower

@@ -1,0 +1,15 @@
+pub mod OrderCuts
+pub mod BucketPairs
+pub mod TakenPairs
+pub mod AskedPairs
+pub mod Clears
+pub mod Landings
+pub mod Searches
+pub mod Writes
+pub mod NewestPair
+pub mod PairSlots
+pub mod KeyHashes
+pub mod Relocations
+pub mod WalkRests
+pub mod Replacements
+pub mod ByHash

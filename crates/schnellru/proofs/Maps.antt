@@ -1,0 +1,11 @@
+pub mod LeavingPairs
+pub mod Outcomes
+pub mod Evictions
+pub mod Promotions
+pub mod Fields
+pub mod HeldMaps
+pub mod Reservations
+pub mod ClearedMaps
+pub mod MovedPairs
+pub mod Placements
+pub mod SomeInsert

@@ -1,0 +1,104 @@
+-- What holds of every map, from what holds of its linked table.
+use Rattle.std.proofs.Common.{◌≡◌, ℕ, suc, ◌+◌, ◌-◌, ◌*◌, ◌^◌, ◌<◌, ◌≤◌, ◌⊎◌, Bool, true, false, cond, List, length, Some, sym, ap, ◌∙◌, subst, arith}
+use Rattle.group_table.specs.Sizes.{full_capacity}
+use Rattle.group_table.specs.Bucket.{Mark, marks_of, room, room_at, is_used, bucket_at}
+use Rattle.group_table.proofs.BucketLemmas.{length-marks_of, entry_count-marks_of}
+use Rattle.schnellru.specs.Sizes.{usage}
+use Rattle.schnellru.specs.State.{Contents, IsSized, FreesRoom, Leaves}
+use Rattle.schnellru.specs.Inside.Linked.{Linked, IsLinked, KeysFit, pairs_of}
+use Rattle.schnellru.specs.Inside.Holds.{Beside, state_of, Holds}
+use Rattle.schnellru.proofs.PairLists.DistinctKeys.{AreDistinct}
+use Rattle.schnellru.proofs.Theorems.PaidMoves.{leaves_paid}
+use Rattle.schnellru.proofs.LinkedTables.BucketPairs.{pairs-length}
+
+module _ {K V S H : Type 0} (beside : Beside S H) where
+  pub sized_by : (t : Linked K V) → IsLinked t → (length t.slots ≡ 0) ⊎ (length t.slots < beside.max)
+      → ((bytes : ℕ) × (usage beside.entry_bytes (length t.slots) ≡ Some bytes)) → beside.moved < 2 ^ 64
+      → beside.placed < 2 ^ 64 → IsSized (state_of t beside)
+  sized_by t linked reached usable m p = record {
+    table = linked.table;
+    taken = entry_count-marks_of t.slots ∙ linked.count ∙ sym (pairs-length t linked);
+    reachable = subst (λ n. (n ≡ 0) ⊎ (n < beside.max)) (sym (length-marks_of t.slots)) reached;
+    usable = subst (λ n. (bytes : ℕ) × (usage beside.entry_bytes n ≡ Some bytes)) (sym (length-marks_of t.slots)) usable;
+    moved = m;
+    placed = p;
+  }
+
+-- a bucket counts one in the room, or none
+pub room_at-most : (marks : List Mark) (b : ℕ) → room_at marks b ≤ 1
+room_at-most marks b = go (is_used (bucket_at marks b))
+  where
+    go : (y : Bool) → cond y 0 1 ≤ 1
+    go true = omega arith
+    go false = omega arith
+
+-- one bucket was emptied
+module _ {K V : Type 0} (old new : Linked K V) (b : ℕ) (first : IsLinked old) (last : IsLinked new)
+    (table : length new.slots ≡ length old.slots) (one : suc (length new.order) ≡ length old.order)
+    (freed : room (marks_of new.slots) ≡ room (marks_of old.slots) + room_at (marks_of new.slots) b) where
+  pub frees_room : {S H : Type 0} (before after : Beside S H) → FreesRoom (state_of old before) (state_of new after)
+  frees_room before after = record {
+    table = same;
+    keeps = omega (arith, freed);
+    at_most = omega (arith, freed, news, olds, one, room_at-most (marks_of new.slots) b);
+    exact = λ small. omega (
+      arith,
+      news,
+      olds,
+      one,
+      first.table.exact small,
+      last.table.exact (omega (arith, same, small)),
+      entry_count-marks_of old.slots,
+      entry_count-marks_of new.slots,
+      ap full_capacity same,
+      first.count,
+      last.count,
+    );
+    untouched = λ e. absurd (omega (arith, e, news, olds, one));
+  }
+    where
+      same : length (marks_of new.slots) ≡ length (marks_of old.slots)
+      same = length-marks_of new.slots ∙ table ∙ sym (length-marks_of old.slots)
+
+      news : length (pairs_of new) ≡ length new.order
+      news = pairs-length new last
+
+      olds : length (pairs_of old) ≡ length old.order
+      olds = pairs-length old first
+
+module _ {K V S H : Type 0} (beside : Beside S H) where
+  -- a table of as many buckets is as usable
+  pub sized_same : (t u : Linked K V) (l : S) → IsSized (state_of t beside) → IsLinked u → length u.slots ≡ length t.slots
+      → IsSized (state_of u (record beside { limiter = l }))
+  sized_same t u l sized linked same =
+      let e : length (marks_of t.slots) ≡ length u.slots = length-marks_of t.slots ∙ sym same in
+      sized_by (record beside { limiter = l }) u linked (subst (λ n. (n ≡ 0) ⊎ (n < beside.max)) e sized.reachable)
+      (subst (λ n. (bytes : ℕ) × (usage beside.entry_bytes n ≡ Some bytes)) e sized.usable) sized.moved sized.placed
+
+  -- what holds of a map holds after some pairs left
+  pub leaves_holds : (eq : K → K → Bool) (hash_of : H → K → ℕ) (t u : Linked K V) (left : Contents K V S) (l : S)
+      → Holds eq hash_of t beside → IsLinked u → KeysFit (hash_of beside.hasher) u.slots → length u.slots ≡ length t.slots
+      → Leaves (state_of t beside) left (state_of u (record beside { limiter = l })) → AreDistinct eq (pairs_of u)
+      → Holds eq hash_of u (record beside { limiter = l })
+  leaves_holds eq hash_of t u left l holds linked fits same leaves distinct = record {
+    linked = linked;
+    fits = fits;
+    map = record {
+      distinct = distinct;
+      sized = sized_same t u l holds.map.sized linked same;
+      paid = leaves_paid (state_of t beside) left (state_of u (record beside { limiter = l })) leaves holds.map.paid;
+    };
+  }
+
+  -- what holds of a map holds after its pairs were written or reordered in their buckets, with distinct keys that fit
+  pub alike_holds : (eq : K → K → Bool) (hash_of : H → K → ℕ) (t u : Linked K V) → Holds eq hash_of t beside → IsLinked u → KeysFit (hash_of beside.hasher) u.slots
+      → marks_of u.slots ≡ marks_of t.slots → AreDistinct eq (pairs_of u) → Holds eq hash_of u beside
+  alike_holds eq hash_of t u holds linked fits marks distinct = record {
+    linked = linked;
+    fits = fits;
+    map = record {
+      distinct = distinct;
+      sized = sized_same t u beside.limiter holds.map.sized linked (sym (length-marks_of u.slots) ∙ ap length marks ∙ length-marks_of t.slots);
+      paid = subst (λ m. beside.moved + (full_capacity (length m) - 2 * room m) ≤ 2 * beside.placed) (sym marks) holds.map.paid;
+    };
+  }

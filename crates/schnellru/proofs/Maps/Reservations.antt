@@ -1,0 +1,24 @@
+-- What the steps of a reservation come to.
+use Rattle.std.proofs.Common.{◌≡◌, ℕ, ◌<◌, Ok, Err, true, false, List, [], ◌∷◌, length, refl, ap, ◌∙◌, subst, arith}
+use Rattle.lru_limits.specs.Rules.{Rules}
+use Rattle.schnellru.specs.Sizes.{new_table}
+use Rattle.schnellru.specs.State.{State, MovesTo}
+use Rattle.schnellru.specs.Place.{table_for}
+use Rattle.schnellru.specs.Reservations.{LacksRoomFor, Reserve, reserved, no_memory_to_grow, denied_room}
+use Rattle.schnellru.specs.declared.map.reserve.ReserveError.TheVariants.{Refused, Memory}
+
+pub some_there : {X : Type 0} (xs : List X) → (xs ≡ [] → ⊥) → 0 < length xs
+some_there [] some = absurd (some refl)
+some_there (x ∷ xs) some = omega arith
+
+-- the limiter was asked for a larger table
+module _ {K V S H : Type 0} (rules : Rules K V S) (n : ℕ) (old new : State K V S H) (lacks : LacksRoomFor n old) (count bytes : ℕ) (is : table_for n old ≡ new_table count bytes)
+    (s : S) (told : s ≡ (rules.on_grow old.limiter bytes).limiter) where
+  pub is_reserved : (rules.on_grow old.limiter bytes).allowed ≡ true → MovesTo count (record old { limiter = s }) new → Reserve rules n old (Ok tt) new
+  is_reserved granted step = reserved lacks count bytes is granted refl (subst (λ l. MovesTo count (record old { limiter = l }) new) told step)
+
+  pub lacks_memory : (rules.on_grow old.limiter bytes).allowed ≡ true → new ≡ record old { limiter = s } → Reserve rules n old (Err Memory) new
+  lacks_memory granted step = no_memory_to_grow lacks count bytes is granted refl (step ∙ ap {A = S} {B = State K V S H} (λ l. record old { limiter = l }) told)
+
+  pub is_denied : (rules.on_grow old.limiter bytes).allowed ≡ false → new ≡ record old { limiter = s } → Reserve rules n old (Err Refused) new
+  is_denied refusal step = denied_room lacks count bytes is refusal refl (step ∙ ap {A = S} {B = State K V S H} (λ l. record old { limiter = l }) told)

@@ -1,0 +1,3 @@
+pub mod DistinctKeys
+pub mod NamedPairs
+pub mod Emptiness

@@ -1,0 +1,130 @@
+-- The keys of the pairs stay distinct, and a pair is found if its key is named.
+use Rattle.std.proofs.Common.{◌≡◌, ℕ, Bool, true, false, cond, List, [], ◌∷◌, ◌++◌, length, Option, Some, None, refl, sym, ◌∙◌, subst}
+use Rattle.std.specs.List.{IsDistinct, AllByRecursion}
+use Rattle.lru_limits.specs.Rules.{Rules, Offers}
+use Rattle.lru_limits.specs.Laws.{IsLookup, IsInsertion, kept_value}
+use Rattle.schnellru.specs.Lists.{IsFront, after, front, lookup_entry, without, keys_of}
+use Rattle.schnellru.specs.State.{Contents}
+use Rattle.schnellru.proofs.Theorems.Fronts.{front_without_last, without_none, found_named}
+use Rattle.schnellru.proofs.Theorems.Moves.{Keeps, KeepsOffers, exchange}
+
+module _ {K V : Type 0} (names : K → Bool) where
+  -- none of the keys is named
+  abbrev pub NoneNamed : List (K × V) → Type 0
+  NoneNamed pairs = AllByRecursion (λ k. names k ≡ false) (keys_of pairs)
+
+  -- and none is exactly if no pair is found
+  pub none_found : (xs : List (K × V)) → NoneNamed xs → lookup_entry names xs ≡ None
+  none_found [] h = refl
+  none_found (x ∷ xs) h = rw h.0 (none_found xs h.1)
+
+  pub absent_keys : (xs : List (K × V)) → lookup_entry names xs ≡ None → NoneNamed xs
+  absent_keys [] h = tt
+  absent_keys (x ∷ xs) h = go (names x.0) refl h (absent_keys xs)
+    where
+      go : (y : Bool) → names x.0 ≡ y → cond y (Some x) (lookup_entry names xs) ≡ None → (lookup_entry names xs ≡ None → NoneNamed xs) → NoneNamed (x ∷ xs)
+      go true e h r = absurd cc
+      go false e h r = (e, r h)
+
+module _ {K V : Type 0} (P : K → Type 0) where
+  -- what holds of all keys holds of those of fewer pairs
+  all_front : (xs rest : List (K × V)) → AllByRecursion P (keys_of (xs ++ rest)) → AllByRecursion P (keys_of xs)
+  all_front [] rest h = tt
+  all_front (x ∷ xs) rest h = (h.0, all_front xs rest h.1)
+
+  all_without : (names : K → Bool) (xs : List (K × V)) → AllByRecursion P (keys_of xs) → AllByRecursion P (keys_of (without names xs))
+  all_without names [] h = tt
+  all_without names (x ∷ xs) h = go (names x.0) (all_without names xs h.1)
+    where
+      go : (b : Bool) → AllByRecursion P (keys_of (without names xs)) → AllByRecursion P (keys_of (cond b xs (x ∷ without names xs)))
+      go true r = h.1
+      go false r = (h.0, r)
+
+all_map : {K : Type 0} (P Q : K → Type 0) (xs : List K) → ((x : K) → P x → Q x) → AllByRecursion P xs → AllByRecursion Q xs
+all_map P Q [] f h = tt
+all_map P Q (x ∷ xs) f h = (f x h.0, all_map P Q xs f h.1)
+
+pub none_distinct : {K : Type 0} (eq : K → K → Bool) → IsDistinct eq []
+unfolding IsDistinct
+none_distinct eq = tt
+
+module _ {K V : Type 0} (eq : K → K → Bool) where
+  abbrev pub AreDistinct : List (K × V) → Type 0
+  AreDistinct pairs = IsDistinct eq (keys_of pairs)
+
+  distinct_append : (xs rest : List (K × V)) → AreDistinct (xs ++ rest) → AreDistinct xs
+  unfolding IsDistinct
+  distinct_append [] rest h = tt
+  distinct_append (x ∷ xs) rest h = (all_front (λ y. eq x.0 y ≡ false) xs rest h.0, distinct_append xs rest h.1)
+
+  pub distinct_front : (ys xs : List (K × V)) → IsFront ys xs → AreDistinct xs → AreDistinct ys
+  distinct_front ys xs f d = distinct_append ys f.0 (subst AreDistinct f.1 d)
+
+  pub distinct_without : (names : K → Bool) (xs : List (K × V)) → AreDistinct xs → AreDistinct (without names xs)
+  unfolding IsDistinct
+  distinct_without names [] d = tt
+  distinct_without names (x ∷ xs) d = go (names x.0) (distinct_without names xs d.1)
+    where
+      go : (b : Bool) → AreDistinct (without names xs) → AreDistinct (cond b xs (x ∷ without names xs))
+      go true r = d.1
+      go false r = (all_without (λ y. eq x.0 y ≡ false) names xs d.0, r)
+
+  module _ (names : K → Bool) (one : (x y : K) → names x ≡ true → names y ≡ eq x y) where
+    -- the others are not named
+    pub others_unnamed : (xs : List (K × V)) → AreDistinct xs → NoneNamed names (without names xs)
+    unfolding IsDistinct
+    others_unnamed [] d = tt
+    others_unnamed (x ∷ xs) d = go (names x.0) refl (others_unnamed xs d.1)
+      where
+        go : (b : Bool) → names x.0 ≡ b → NoneNamed names (without names xs) → NoneNamed names (cond b xs (x ∷ without names xs))
+        go true e r = all_map (λ y. eq x.0 y ≡ false) (λ y. names y ≡ false) (keys_of xs) (λ y h. one x.0 y e ∙ h) d.0
+        go false e r = (e, r)
+
+    -- so a named pair may come before them
+    pub distinct_newest : (newest : K × V) (xs : List (K × V)) → names newest.0 ≡ true → AreDistinct xs → AreDistinct (newest ∷ without names xs)
+    unfolding IsDistinct
+    distinct_newest newest xs n d =
+        (all_map (λ y. names y ≡ false) (λ y. eq newest.0 y ≡ false) (keys_of (without names xs)) (λ y h. sym (one newest.0 y n) ∙ h) (others_unnamed xs d), distinct_without names xs d)
+
+    pub distinct_first : (xs : List (K × V)) → AreDistinct xs → AreDistinct (front names xs)
+    distinct_first xs d = go (lookup_entry names xs) refl
+      where
+        go : (o : Option (K × V)) → lookup_entry names xs ≡ o → AreDistinct (after o (without names xs))
+        go None e = subst AreDistinct (sym (without_none names xs e)) d
+        go (Some pair) e = distinct_newest pair xs (found_named names xs pair e) d
+
+    -- without the named pair none is named
+    pub absent_without : (xs : List (K × V)) → AreDistinct xs → lookup_entry names (without names xs) ≡ None
+    absent_without xs d = none_found names (without names xs) (others_unnamed xs d)
+
+module _ {K V S Q : Type 0} (rules : Rules K V S) (names : Q → K → Bool) {eq : K → K → Bool} {query_input : Q → List (List ℕ)} {key_input : K → List (List ℕ)}
+    (looks_up : IsLookup names eq query_input key_input) where
+  pub keeps_distinct : Keeps rules names (λ c d. AreDistinct eq c.pairs → AreDistinct eq d.pairs)
+  keeps_distinct = record {
+    way = record {
+      self = λ c d. d;
+      trans = λ p q d. q (p d);
+      asked = λ bytes c d. d;
+      popped = λ c. distinct_front eq _ c.pairs (front_without_last c.pairs);
+    };
+    left = λ test c. distinct_without eq test c.pairs;
+    first = λ q c. distinct_first eq (names q) (looks_up.one q) c.pairs;
+    cleared = λ c d. none_distinct eq;
+  }
+
+module _ {K V S I : Type 0} (rules : Rules K V S) (offers : Offers K V S I) (names : I → K → Bool) {eq : K → K → Bool}
+    {query_input : I → List (List ℕ)} {key_input : K → List (List ℕ)} (looks_up : IsLookup names eq query_input key_input) (laws : IsInsertion names eq offers) where
+  came_distinct : (i : I) (pair : K × V) (xs : List (K × V)) → lookup_entry (names i) xs ≡ None → names i pair.0 ≡ true → AreDistinct eq xs → AreDistinct eq (pair ∷ xs)
+  came_distinct i pair xs a n d = subst (λ ys. AreDistinct eq (pair ∷ ys)) (without_none (names i) xs a) (distinct_newest eq (names i) (looks_up.one i) pair xs n d)
+
+  exchanged_distinct : (i : I) (v : V) (c : Contents K V S) (pair : K × V) → lookup_entry (names i) c.pairs ≡ Some pair → AreDistinct eq c.pairs → AreDistinct eq (exchange rules offers names pair i v c).pairs
+  exchanged_distinct i v c pair found = let r = offers.on_replace c.limiter (length c.pairs) pair.0 i pair.1 v in let n = found_named (names i) c.pairs pair found in
+      distinct_newest eq (names i) (looks_up.one i) (r.key, kept_value r) c.pairs (looks_up.one i pair.0 r.key n ∙ laws.keeps_key c.limiter (length c.pairs) pair.0 i pair.1 v n)
+
+  pub offers_distinct : KeepsOffers rules offers names (λ c d. AreDistinct eq c.pairs → AreDistinct eq d.pairs)
+  offers_distinct = record {
+    keeps = keeps_distinct rules names looks_up;
+    came = λ i v c s pair a n. came_distinct i pair c.pairs a (laws.names_given c.limiter (length c.pairs) i v s pair.0 pair.1 n);
+    turned_down = λ i v c s n d. d;
+    exchanged = exchanged_distinct;
+  }

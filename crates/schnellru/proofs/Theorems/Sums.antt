@@ -1,0 +1,90 @@
+-- The account stays the sum of the costs.
+use Rattle.std.proofs.Common.{◌≡◌, ℕ, ◌+◌, Bool, true, false, cond, List, [], ◌∷◌, length, Option, Some, None, refl, sym, ap, ◌∙◌, subst, arith, sum_by}
+use Rattle.std.proofs.lemmas.List.Recursion.{is_sum_by}
+use Rattle.lru_limits.specs.Rules.{Rules, Offers}
+use Rattle.lru_limits.specs.Laws.{IsAccount}
+use Rattle.schnellru.specs.Theorems.{IsSummed}
+use Rattle.schnellru.specs.Lists.{last, without_last, after, front, lookup_entry, without}
+use Rattle.schnellru.specs.State.{State, Contents, contents, told_of}
+use Rattle.schnellru.proofs.Theorems.Moves.{KeepsOffers, exchange}
+
+module _ {X : Type 0} (f : X → ℕ) where
+  -- the sum of f over the list
+  abbrev pub total : List X → ℕ
+  total [] = 0
+  total (x ∷ xs) = f x + total xs
+
+  pub total-is : (xs : List X) → total xs ≡ sum_by f xs
+  total-is = is_sum_by total f refl (λ _ _. refl)
+
+  -- the list's total is that of what is left and of what goes
+  abbrev pub IsSplit : List X → Option X → List X → Type 0
+  IsSplit xs None ys = ys ≡ xs
+  IsSplit xs (Some x) ys = total ys + f x ≡ total xs
+
+  split_last : (xs : List X) → IsSplit xs (last xs) (without_last xs)
+  split_last [] = refl
+  split_last (x ∷ []) = omega arith
+  split_last (x ∷ y ∷ ys) = more (last (y ∷ ys)) refl (split_last (y ∷ ys))
+    where
+      last_some : (z : X) (zs : List X) → last (z ∷ zs) ≡ None → ⊥
+      last_some z [] e = grind arith
+      last_some z (w ∷ ws) e = last_some w ws e
+
+      more : (o : Option X) → last (y ∷ ys) ≡ o → IsSplit (y ∷ ys) o (without_last (y ∷ ys)) → IsSplit (x ∷ y ∷ ys) o (x ∷ without_last (y ∷ ys))
+      more None e h = absurd (last_some y ys e)
+      more (Some z) e h = omega (arith, h)
+
+module _ {K V : Type 0} (cost : K × V → ℕ) (names : K → Bool) where
+  pub split_named : (xs : List (K × V)) → IsSplit cost xs (lookup_entry names xs) (without names xs)
+  split_named [] = refl
+  split_named (x ∷ xs) = go (names x.0) (lookup_entry names xs) (split_named xs)
+    where
+      go : (b : Bool) (o : Option (K × V)) → IsSplit cost xs o (without names xs) → IsSplit cost (x ∷ xs) (cond b (Some x) o) (cond b xs (x ∷ without names xs))
+      go true o h = omega arith
+      go false None h = ap (λ l. x ∷ l) h
+      go false (Some y) h = omega (arith, h)
+
+  pub total-front : (xs : List (K × V)) → total cost (front names xs) ≡ total cost xs
+  total-front xs = go (lookup_entry names xs) (without names xs) (split_named xs)
+    where
+      go : (o : Option (K × V)) (ys : List (K × V)) → IsSplit cost xs o ys → total cost (after o ys) ≡ total cost xs
+      go None ys h = ap (total cost) h
+      go (Some x) ys h = omega (arith, h)
+
+module _ {K V S I : Type 0} (rules : Rules K V S) (offers : Offers K V S I) (names : I → K → Bool) (cost : K → V → ℕ) (account : S → ℕ) (laws : IsAccount rules offers cost account) where
+  -- the account is the sum over the pairs
+  abbrev Holds : Contents K V S → Type 0
+  Holds c = account c.limiter ≡ total (λ p. cost p.0 p.1) c.pairs
+
+  -- what is told of what goes is taken off
+  told_holds : (xs ys : List (K × V)) (o : Option (K × V)) (s : S) → IsSplit (λ p. cost p.0 p.1) xs o ys → account s ≡ total (λ p. cost p.0 p.1) xs → account (told_of rules o s) ≡ total (λ p. cost p.0 p.1) ys
+  told_holds xs ys None s h e = e ∙ ap (total (λ p. cost p.0 p.1)) (sym h)
+  told_holds xs ys (Some p) s h e = let r = laws.takes_off s p.0 p.1 (omega arith) in omega arith
+
+  exchanged_holds : (i : I) (v : V) (c : Contents K V S) (pair : K × V) → lookup_entry (names i) c.pairs ≡ Some pair → Holds c → Holds (exchange rules offers names pair i v c)
+  exchanged_holds i v c pair found h =
+      let n = subst (λ o. IsSplit (λ p. cost p.0 p.1) c.pairs o (without (names i) c.pairs)) found (split_named (λ p. cost p.0 p.1) (names i) c.pairs) in
+      let r = laws.exchanges c.limiter (length c.pairs) pair.0 i pair.1 v (omega arith) in omega arith
+
+  pub keeps_sums : KeepsOffers rules offers names (λ c d. Holds c → Holds d)
+  keeps_sums = record {
+    keeps = record {
+      way = record {
+        self = λ c h. h;
+        trans = λ p q h. q (p h);
+        asked = λ bytes c h. laws.keeps c.limiter bytes ∙ h;
+        popped = λ c. told_holds c.pairs _ _ c.limiter (split_last _ c.pairs);
+      };
+      left = λ test c. told_holds c.pairs _ _ c.limiter (split_named _ test c.pairs);
+      first = λ q c h. h ∙ sym (total-front _ (names q) c.pairs);
+      cleared = λ c h. laws.empties c.limiter;
+    };
+    came = λ i v c s pair a n h. let r = laws.adds c.limiter (length c.pairs) i v s pair.0 pair.1 n in omega arith;
+    turned_down = λ i v c s n h. laws.refuses c.limiter (length c.pairs) i v s n ∙ h;
+    exchanged = exchanged_holds;
+  }
+
+  -- what makes these moves keeps the account the sum of the costs
+  pub stays_summed : {H : Type 0} (old new : State K V S H) → (Holds (contents old) → Holds (contents new)) → IsSummed cost account old → IsSummed cost account new
+  stays_summed old new r h = r (h ∙ omega (arith, total-is (λ p. cost p.0 p.1) old.pairs)) ∙ omega (arith, total-is (λ p. cost p.0 p.1) new.pairs)

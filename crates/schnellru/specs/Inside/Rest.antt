@@ -1,0 +1,26 @@
+-- How the fields of a walk hold what is left of it. No public clause cites this module.
+use Rattle.std.specs.Prelude.{◌≡◌, ℕ, List, [], ◌∷◌, ◌++◌, length, take, nat_eq, if◌then◌else◌, Option, None, Some}
+use Rattle.schnellru.specs.Inside.Linked.{Linked, IsLinked, entries_in}
+use Rattle.schnellru.specs.Inside.Chain.{first_bucket, last_bucket}
+
+-- the buckets from this one on
+abbrev pub from_bucket : Option ℕ → List ℕ → List ℕ
+from_bucket None order = []
+from_bucket (Some b) [] = []
+from_bucket (Some b) (c ∷ cs) = if nat_eq c b then c ∷ cs else from_bucket (Some b) cs
+
+module _ {K V : Type 0} (t : Linked K V) where
+  -- so many pairs, from that in the bucket in front on
+  abbrev pub rest_of : Option ℕ → ℕ → List (K × V)
+  rest_of front left = entries_in t.slots (take left (from_bucket front t.order))
+
+  -- some buckets were given from the front, some from the back, and so many are left between
+  pub record IsRest (front back : Option ℕ) (left : ℕ) : Type 0 where
+    pub linked : IsLinked t
+    pub before : List ℕ
+    pub middle : List ℕ
+    pub after : List ℕ
+    pub order : t.order ≡ before ++ (middle ++ after)
+    pub count : length middle ≡ left
+    pub first : front ≡ first_bucket (middle ++ after)
+    pub last : back ≡ last_bucket (before ++ middle)

@@ -1,0 +1,34 @@
+-- What becomes of a pair in a bucket: it is replaced, given up, or taken out. No public clause cites this module.
+use Rattle.std.specs.Prelude.{◌≡◌, ℕ, ◌+◌, ◌∷◌, Some}
+use Rattle.group_table.specs.Bucket.{marks_of, entry_at, room as room_of, room_at}
+use Rattle.group_table.specs.Change.{Removes}
+use Rattle.lru_limits.specs.Rules.{Rules, Replaced}
+use Rattle.schnellru.specs.State.{told_of}
+use Rattle.schnellru.specs.Calls.{left_of}
+use Rattle.schnellru.specs.Inside.Linked.{Linked, with_pair, without_bucket}
+
+-- The limiter took the new value for the pair in a bucket, and the pair is the newest.
+pub record IsReplaced {K V S : Type 0} (by : Replaced K V S) (b : ℕ) (old new : Linked K V) (limiter : S) : Type 0 where
+  pub slots : new.slots ≡ (with_pair old b (by.key, by.new_value)).slots
+  pub order : new.order ≡ b ∷ without_bucket b old.order
+  pub placings : new.placings ≡ old.placings
+  pub told : limiter ≡ by.limiter
+
+-- The limiter refused it, and the pair left.
+pub record IsGivenUp {K V S : Type 0} (rules : Rules K V S) (by : Replaced K V S) (b : ℕ) (old new : Linked K V) (limiter : S) : Type 0 where
+  pub slots : Removes (with_pair old b (by.key, by.old_value)).slots new.slots b
+  pub order : new.order ≡ without_bucket b old.order
+  pub placings : new.placings ≡ old.placings
+  pub room : room_of (marks_of new.slots) ≡ room_of (marks_of old.slots) + room_at (marks_of new.slots) b
+  pub told : limiter ≡ (rules.on_removed by.limiter by.key by.old_value).limiter
+
+-- The pair in a bucket left, the limiter was told, and what it left of the pair is answered.
+pub record IsTakenOut {K V S : Type 0} (rules : Rules K V S) (b : ℕ) (old new : Linked K V) (limiter : S) (result : K × V) (after : S) : Type 0 where
+  pub pair : K × V
+  pub there : entry_at old.slots b ≡ Some pair
+  pub left : Some result ≡ left_of rules limiter (Some pair)
+  pub told : after ≡ told_of rules (Some pair) limiter
+  pub slots : Removes old.slots new.slots b
+  pub order : new.order ≡ without_bucket b old.order
+  pub placings : new.placings ≡ old.placings
+  pub room : room_of (marks_of new.slots) ≡ room_of (marks_of old.slots) + room_at (marks_of new.slots) b

@@ -1,0 +1,3 @@
+pub mod Values
+pub mod Answers
+pub mod Made

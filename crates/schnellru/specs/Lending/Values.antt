@@ -1,0 +1,47 @@
+-- What a map ends as, once a reference into it has ended.
+use Rattle.std.specs.Prelude.{◌≡◌, Bool, Option, Some, OnSome, IfNone}
+use Rattle.std.specs.Option.{option_copied_mut}
+use Rattle.std.specs.Borrow.{Fml, RattleType, MutBor, Lends, LendsIf, LendsSo}
+use Rattle.std.specs.declared.cmp.PartialEq as equality
+use Rattle.std.specs.declared.fmt.Debug as debug
+use Rattle.std.specs.HashMap.Lent.{HashMembers}
+use Rattle.std.specs.declared.hash.Hasher as hasher
+use Rattle.std.specs.declared.hash.BuildHasher as builder
+use Rattle.group_table.specs.declared.link.LinkType as link_type
+use Rattle.lru_limits.specs.declared.limiter.Limiter as limiter
+use Rattle.schnellru.specs.Lists.{set_newest}
+use Rattle.schnellru.specs.State.{State}
+use Rattle.schnellru.specs.Calls.{written}
+use Rattle.schnellru.specs.contracts.map.LruMap.{the_row}
+
+module _ (K V L S N H : RattleType) (key : HashMembers K.Denot) (limits : limiter.Ghosts L.Denot K.Denot V.Denot N.Denot)
+    (links : link_type.Ghosts N.Denot) (link_eq : equality.Ghosts N.Denot) (link_shown : debug.Ghosts N.Denot)
+    (build : builder.Ghosts S.Denot H.Denot) (hash : hasher.Ghosts H.Denot) where
+  -- the map's type, as the logic holds it
+  abbrev pub map_row : RattleType
+  map_row = the_row K V L S N H (record { eq = key.eq }) (record { hash_input = key.hash_input }) limits links link_eq link_shown build hash
+
+  module _ (m : MutBor (State K.Denot V.Denot L.Denot S.Denot)) where
+    -- it ends as this map, but with the last value written through r at the key that is named, and at `None` it stays as it is
+    abbrev pub lends_value : (K.Denot → Bool) → State K.Denot V.Denot L.Denot S.Denot → Option (MutBor V.Denot) → Fml
+    lends_value names base r = LendsIf map_row V m r (λ last. written names last base) m.now
+
+    -- It ends as turned makes it of a pair that is given, with the last value written through r at that pair's key. At
+    -- `None` it stays as it is.
+    abbrev pub lends_given : (K.Denot × V.Denot → Type 0) → ((K.Denot → Bool) → State K.Denot V.Denot L.Denot S.Denot → State K.Denot V.Denot L.Denot S.Denot)
+        → Option (MutBor V.Denot) → Fml
+    lends_given gives turned r = LendsSo map_row V m r
+        (λ n last. OnSome r ((pair : K.Denot × V.Denot) × gives pair × (option_copied_mut r ≡ Some pair.1)
+            × (n ≡ written (key.eq pair.0) last (turned (key.eq pair.0) m.now))))
+        (λ n. IfNone r (n ≡ m.now))
+
+    -- its newest pair has the last value written through r, and at `None` it stays as it is
+    abbrev pub lends_newest : Option (MutBor V.Denot) → Fml
+    lends_newest r = LendsIf map_row V m r (λ last. record m.now { pairs = set_newest m.now.pairs last }) m.now
+
+    abbrev pub lends_newest_value : MutBor V.Denot → Fml
+    lends_newest_value r = Lends map_row V m r (λ last. record m.now { pairs = set_newest m.now.pairs last })
+
+    -- it has the last limiter written through r
+    abbrev pub lends_limiter : MutBor L.Denot → Fml
+    lends_limiter r = Lends map_row L m r (λ last. record m.now { limiter = last })
