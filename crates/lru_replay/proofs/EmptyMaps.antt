@@ -1,5 +1,5 @@
 -- The maps that replays begin with, and that their limiters answer each offer.
-use Rattle.std.proofs.Common.{[], refl, arith, inl, Some}
+use Rattle.std.proofs.Common.{ℕ, [], refl, arith, inl, Some}
 use Rattle.group_table.specs.Sizes.{full_capacity}
 use Rattle.group_table.specs.Table.{IsTable}
 use Rattle.group_table.proofs.CountedMarks.{IsTable-counted}
@@ -13,9 +13,9 @@ unfolding full_capacity
 no_table = IsTable-counted [] (inl refl) (omega arith) (omega arith) (λ _. refl)
 
 -- an empty map has a sound table, which is none
-pub empty_is_sized : {S : Type 0} (limiter : S) → IsSized (empty limiter)
+pub empty_is_sized : {S : Type 0} (limiter : S) (entry_bytes max : ℕ) → IsSized (empty limiter entry_bytes max)
 unfolding usage
-empty_is_sized limiter = record {
+empty_is_sized limiter entry_bytes max = record {
   table = no_table;
   taken = refl;
   reachable = inl refl;

@@ -22,6 +22,11 @@ module _ {S : Type 0} (rules : Rules ℕ ℕ S) (offers : Offers ℕ ℕ S ℕ) 
   pub run-one : (a : Map S) (line : List ℕ) (answer : Answer) (b : Map S) → LineStep rules offers a line answer b → IsSized b → IsRun rules offers a (line ∷ []) (answer_line answer) b
   run-one a line answer b step sized = (answer, b, [], step, sized, sym (append-nil (answer_line answer)), (refl, refl))
 
+  -- a run ends in a map with a sound table
+  pub run_sized : (a : Map S) (lines : List (List ℕ)) (t : List ℕ) (b : Map S) → IsSized a → IsRun rules offers a lines t b → IsSized b
+  run_sized a [] t b sized (none, same) = subst IsSized (sym same) sized
+  run_sized a (line ∷ lines) t b sized (answer, middle, rest, step, after, is, run) = run_sized middle lines rest b after run
+
   module _ (offered : AlwaysOffers offers) where
     some_line_step : (old : Map S) → IsSized old → (line : List ℕ) → (answer : Answer) × (new : Map S) × LineStep rules offers old line answer new × IsSized new
     some_line_step old ok line = by (spelled_or line)

@@ -1,19 +1,16 @@
 -- What is written: the text of an answer, or a beginning of it where a write fails.
 use Rattle.std.specs.Prelude.{◌≡◌, ℕ, Bool, true, false, List, [], ◌∷◌, ◌++◌, Option, Some, None, Result, Ok, Err, decimal, codes}
 use Rattle.std.specs.Io.KnownBytes.{Appends}
+use Rattle.schnellru.specs.Lists.{IsFront}
 use Rattle.schnellru.specs.declared.map.reserve.ReserveError.{ReserveError}
 use Rattle.schnellru.specs.declared.map.reserve.ReserveError.TheVariants.{TooLarge, Refused, Memory}
 use Rattle.lru_replay.specs.declared.outcome.ReplayError.{ReplayError}
 use Rattle.lru_replay.specs.declared.outcome.ReplayError.TheVariants as errors
 use Rattle.lru_replay.specs.Steps.{Answer, flag, value, pair, listed, reservation, done, no_memory, bad}
 
--- the text begins so
-abbrev pub IsBeginning : List ℕ → List ℕ → Type 0
-IsBeginning part text = (rest : List ℕ) × (text ≡ part ++ rest)
-
 -- a write failed, and a beginning of the text was written
 abbrev pub Fails : ReplayError → Option (List ℕ) → Option (List ℕ) → List ℕ → Type 0
-Fails e old new text = (e ≡ errors.Write) × (part : List ℕ) × IsBeginning part text × Appends old new part
+Fails e old new text = (e ≡ errors.Write) × (part : List ℕ) × IsFront part text × Appends old new part
 
 -- the text was written, or a beginning of it where a write failed
 abbrev pub Writes : {A : Type 0} → Option (List ℕ) → Option (List ℕ) → Result A ReplayError → List ℕ → Type 0
