@@ -5,7 +5,7 @@ use Rattle.group_table.specs.Table.{IsTable}
 use Rattle.group_table.proofs.CountedMarks.{IsTable-counted}
 use Rattle.schnellru.specs.Sizes.{usage}
 use Rattle.schnellru.specs.State.{IsSized}
-use Rattle.lru_replay.specs.Limits.{length_offers, all_offers, AlwaysOffers}
+use Rattle.lru_replay.specs.Limits.{length_offers, cost_offers, all_offers, AlwaysOffers}
 use Rattle.lru_replay.specs.Maps.{empty}
 
 no_table : IsTable []
@@ -26,6 +26,9 @@ empty_is_sized limiter entry_bytes max = record {
 
 pub length_always : AlwaysOffers length_offers
 length_always most count key value = (most, _, record { limiter = refl; pair = refl })
+
+pub cost_always : AlwaysOffers cost_offers
+cost_always budget count key value = (_, _, record { limiter = refl; pair = refl })
 
 pub all_always : {S : Type 0} → AlwaysOffers {S = S} all_offers
 all_always s count key value = (s, Some (key, value), record { limiter = refl; pair = refl })

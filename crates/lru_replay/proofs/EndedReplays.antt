@@ -3,6 +3,7 @@ use Rattle.std.proofs.Common.{◌≡◌, ℕ, ◌<◌, List, [], ◌∷◌, ◌+
 use Rattle.std.proofs.lemmas.List.{append-nil}
 use Rattle.std.specs.Io.KnownBytes.{Appends, Keeps}
 use Rattle.std.proofs.KnownBytes.{Appends-nil, Appends-kept, Consumes-nil}
+use Rattle.lru_limits.specs.Budget.{Budget}
 use Rattle.lru_limits.specs.Rules.{Rules, Offers}
 use Rattle.schnellru.specs.Lists.{IsFront}
 use Rattle.schnellru.specs.State.{IsSized}
@@ -19,13 +20,13 @@ use Rattle.lru_replay.specs.Grammar.{SpellsLimit}
 use Rattle.lru_replay.specs.Lines.{lines_of, TakesFed, TakesRest, TakesLine, TakesPart, TakesLines, TakesFirst}
 use Rattle.lru_replay.specs.Output.{Fails, no_limiter_text}
 use Rattle.lru_replay.specs.Replay.{IsTextUnder, IsReplay, NamesNoLimit, IsOutput, IsOutputSoFar, IsTextSoFar, WritesCut, WritesCutSoFar, Replays}
-use Rattle.lru_replay.specs.Limits.{length_rules, length_offers, no_rules, all_offers, AlwaysOffers}
-use Rattle.lru_replay.specs.Maps.{Map, empty, links_of_32_bits}
+use Rattle.lru_replay.specs.Limits.{length_rules, length_offers, memory_rules, cost_rules, cost_offers, no_rules, all_offers, AlwaysOffers}
+use Rattle.lru_replay.specs.Maps.{Map, empty, links_of_32_bits, links_of_64_bits}
 use Rattle.lru_replay.specs.Runs.{IsTextOf, Answers}
 use Rattle.lru_replay.proofs.LineLists.{lines_of-fed, lines_of-last, lines_at_end, lines_left, takes_line_before}
 use Rattle.lru_replay.proofs.RunLists.{some_run, run_sized, run-append}
 use Rattle.lru_replay.proofs.ByteLists.{Consumes_end}
-use Rattle.lru_replay.proofs.EmptyMaps.{empty_is_sized, length_always, all_always}
+use Rattle.lru_replay.proofs.EmptyMaps.{empty_is_sized, length_always, cost_always, all_always}
 use Rattle.lru_replay.proofs.Spelled.{limit_or}
 
 -- what is said of the lines after the first is said of all
@@ -67,10 +68,16 @@ module _ {S : Type 0} (rules : Rules ℕ ℕ S) (offers : Offers ℕ ℕ S ℕ) 
 
 under_goes_on : (limit : Limit) (lines more : List (List ℕ)) (text : List ℕ) → IsTextUnder limit lines text → (u : List ℕ) × IsTextUnder limit (lines ++ more) (text ++ u)
 under_goes_on (limits.Length most) = text_goes_on length_rules length_offers length_always (empty most 32 links_of_32_bits) (empty_is_sized most 32 links_of_32_bits)
+under_goes_on (limits.Memory budget entry_bytes) = text_goes_on memory_rules all_offers all_always (empty budget entry_bytes links_of_32_bits) (empty_is_sized budget entry_bytes links_of_32_bits)
+under_goes_on (limits.Cost most) =
+    let budget : Budget = record { limit = most; cost = 0 } in
+    text_goes_on cost_rules cost_offers cost_always (empty budget 32 links_of_64_bits) (empty_is_sized budget 32 links_of_64_bits)
 under_goes_on limits.Compact = text_goes_on no_rules all_offers all_always (empty (record {}) 32 links_of_32_bits) (empty_is_sized (record {}) 32 links_of_32_bits)
 
 no_lines_under : (limit : Limit) → IsTextUnder limit [] []
 no_lines_under (limits.Length most) = (empty most 32 links_of_32_bits, (refl, refl))
+no_lines_under (limits.Memory budget entry_bytes) = (empty budget entry_bytes links_of_32_bits, (refl, refl))
+no_lines_under (limits.Cost most) = (empty (record { limit = most; cost = 0 }) 32 links_of_64_bits, (refl, refl))
 no_lines_under limits.Compact = (empty (record {}) 32 links_of_32_bits, (refl, refl))
 
 -- So each list of lines has something written of it,
@@ -178,6 +185,8 @@ module _ (a b w v : Option (List ℕ)) (ending : Ending) (first : List ℕ) (non
 
 spelled_some : (line : List ℕ) (limit : Limit) → SpellsLimit line limit → 0 < length line
 spelled_some line (limits.Length n) (fits, is) = omega (arith, ap length is)
+spelled_some line (limits.Memory budget entry_bytes) (fits, is) = omega (arith, ap length is)
+spelled_some line (limits.Cost most) (fits, is) = omega (arith, ap length is)
 spelled_some line limits.Compact (fits, is) = omega (arith, ap length is)
 
 -- a line that no line feed ended is all that was left

@@ -30,6 +30,8 @@ short_call calls.List h = omega arith
 
 short_limit : (limit : Limit) → FitsLimit limit → length (limit_spelling limit) < 49
 short_limit (limits.Length n) h = omega (arith, short_number n (omega (arith, h)))
+short_limit (limits.Memory budget entry_bytes) h = omega (arith, short_number budget h.0, short_number entry_bytes h.1, length-append (decimal budget) (32 ∷ decimal entry_bytes))
+short_limit (limits.Cost most) h = omega (arith, short_number most h)
 short_limit limits.Compact h = omega arith
 
 whole_text : (line text : List ℕ) → length text < 49 → take 49 line ≡ text → line ≡ text

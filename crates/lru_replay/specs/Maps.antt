@@ -12,9 +12,12 @@ Map S = State ℕ ℕ S Mixer
 abbrev pub empty : {S : Type 0} → S → ℕ → ℕ → Map S
 empty limiter entry_bytes max = empty_map limiter (seeded (1 ∷ 2 ∷ 3 ∷ 4 ∷ [])) entry_bytes max
 
--- what is below the greatest number of 32 bits can be a link of that width
+-- numbers below these are links of 32 bits and of 64 bits
 abbrev pub links_of_32_bits : ℕ
 links_of_32_bits = 4294967295
+
+abbrev pub links_of_64_bits : ℕ
+links_of_64_bits = 18446744073709551615
 
 -- the hash of a key
 abbrev pub hash_of : Mixer → ℕ → ℕ

@@ -32,6 +32,10 @@ pub enum Call {
 pub enum Limit {
     /// `length N`: at most so many pairs.
     Length(u32),
+    /// `memory N E`: a table of at most N bytes, where an entry has E.
+    Memory(usize, usize),
+    /// `cost N`: at most this sum of the values.
+    Cost(u64),
     /// `compact`: nothing does.
     Compact,
 }
@@ -140,6 +144,14 @@ pub fn limit_of(line: &[u8]) -> Option<Limit>
             return None;
         }
         return Some(Limit::Length(n as u32));
+    }
+    if let Some(rest) = after(line, b"memory ") {
+        let (budget, entry_bytes) = number_pair(rest)?;
+        return Some(Limit::Memory(budget as usize, entry_bytes as usize));
+    }
+    if let Some(rest) = after(line, b"cost ") {
+        let most = number(rest)?;
+        return Some(Limit::Cost(most));
     }
     if line == b"compact".as_slice() {
         return Some(Limit::Compact);

@@ -18,7 +18,9 @@ use crate::outcome::{ReplayEnd, ReplayError};
 use crate::output::{
     write_bytes, write_flag, write_left, write_pairs, write_reservation, write_value,
 };
-use schnellru::{ByLength, Insertion, LruMap, RandomState, UnlimitedCompact};
+use schnellru::{
+    ByCost, ByLength, ByMemoryUsage, Insertion, LruMap, RandomState, UnlimitedCompact,
+};
 use std::alloc::Global;
 use std::io::{BufRead, Write};
 
@@ -135,6 +137,11 @@ fn answer_under<R: BufRead, W: Write>(
 {
     match limit {
         Limit::Length(most) => answer_with(alloc, ByLength::new(most), ENTRY_BYTES, reader, writer),
+        Limit::Memory(budget, entry_bytes) => {
+            let limiter = ByMemoryUsage::new(budget);
+            answer_with(alloc, limiter, entry_bytes, reader, writer)
+        }
+        Limit::Cost(most) => answer_with(alloc, ByCost::new(most), ENTRY_BYTES, reader, writer),
         Limit::Compact => answer_with(alloc, UnlimitedCompact, ENTRY_BYTES, reader, writer),
     }
 }

@@ -81,6 +81,49 @@ fn reserves(rt: HostRuntime) {
     );
 }
 
+#[test]
+fn limits_memory(rt: HostRuntime) -> Result<(), Fail> {
+    // 8 buckets of 16 bytes an entry use 152 bytes, and take 7 pairs.
+    expect(
+        &rt,
+        b"memory 152 16\nreserve 7\nreserve 8\nreserve 18446744073709551615\n",
+        b"ok\nrefused\ntoo large\n",
+        0,
+    );
+    expect_newest(&rt, "memory 152 16", 1..9, 7)?;
+    expect(&rt, b"memory 83 16\ninsert 1 10\nlist\n", b"false\n-\n", 0);
+    // An entry of so many bytes has no table.
+    expect(
+        &rt,
+        b"memory 18446744073709551615 18446744073709551615\ninsert 1 10\nreserve 1\n",
+        b"false\ntoo large\n",
+        0,
+    );
+    Ok(())
+}
+
+#[test]
+fn limits_the_cost(rt: HostRuntime) {
+    expect(
+        &rt,
+        b"cost 3\ninsert 1 1\ninsert 2 2\ninsert 3 3\nlist\n",
+        b"true\ntrue\ntrue\n3:3\n",
+        0,
+    );
+    expect(
+        &rt,
+        b"cost 3\ninsert 1 1\ninsert 2 1\ninsert 3 1\ninsert 4 2\nlist\n",
+        b"true\ntrue\ntrue\ntrue\n4:2 3:1\n",
+        0,
+    );
+    expect(
+        &rt,
+        b"cost 1\ninsert 1 1\ninsert 1 2\nlist\ninsert 2 2\nlist\n",
+        b"true\nfalse\n-\nfalse\n-\n",
+        0,
+    );
+}
+
 /// Inserts the keys, each with its tenfold as the value, and expects that the newest so many are listed.
 fn expect_newest(
     rt: &(impl Abort + AllocGlobal),
@@ -126,9 +169,10 @@ fn refuses_first_lines(rt: HostRuntime) {
     expect(&rt, b"length\n", b"no limiter\n", 1);
     expect(&rt, b"length 03\n", b"no limiter\n", 1);
     expect(&rt, b"list\n", b"no limiter\n", 1);
-    // Limiters that the program does not have yet.
-    expect(&rt, b"memory 152 16\n", b"no limiter\n", 1);
-    expect(&rt, b"cost 3\n", b"no limiter\n", 1);
+    expect(&rt, b"memory 152\n", b"no limiter\n", 1);
+    expect(&rt, b"memory 152 016\n", b"no limiter\n", 1);
+    expect(&rt, b"cost 18446744073709551616\n", b"no limiter\n", 1);
+    expect(&rt, b"cost 3 3\n", b"no limiter\n", 1);
 }
 
 #[test]
