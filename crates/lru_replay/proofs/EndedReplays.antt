@@ -20,7 +20,7 @@ use Rattle.lru_replay.specs.Grammar.{SpellsLimit}
 use Rattle.lru_replay.specs.Lines.{lines_of, TakesFed, TakesRest, TakesLine, TakesPart, TakesLines, TakesFirst}
 use Rattle.lru_replay.specs.Output.{Fails, no_limiter_text}
 use Rattle.lru_replay.specs.Replay.{IsTextUnder, IsReplay, NamesNoLimit, IsOutput, IsOutputSoFar, IsTextSoFar, WritesCut, WritesCutSoFar, Replays}
-use Rattle.lru_replay.specs.Limits.{length_rules, length_offers, memory_rules, cost_rules, cost_offers, no_rules, all_offers, AlwaysOffers}
+use Rattle.lru_replay.specs.Limits.{length_rules, length_offers, memory_rules, cost_rules, cost_offers, no_rules, all_offers, no_cost, cost_told, AlwaysOffers}
 use Rattle.lru_replay.specs.Maps.{Map, empty, links_of_32_bits, links_of_64_bits}
 use Rattle.lru_replay.specs.Runs.{IsTextOf, Answers}
 use Rattle.lru_replay.proofs.LineLists.{lines_of-fed, lines_of-last, lines_at_end, lines_left, takes_line_before}
@@ -60,19 +60,19 @@ no_limit (Some x) b endings.Nothing first (taken, nothing) none = only_first (So
     (λ input same. none_first (lines_of input) (same ∙ ap lines_of nothing))
 
 -- A text of the first so many lines goes on for more.
-module _ {S : Type 0} (rules : Rules ℕ ℕ S) (offers : Offers ℕ ℕ S ℕ) (offered : AlwaysOffers offers) (old : Map S) (sized : IsSized old) where
-  text_goes_on : (lines more : List (List ℕ)) (text : List ℕ) → IsTextOf rules offers old lines text → (u : List ℕ) × IsTextOf rules offers old (lines ++ more) (text ++ u)
+module _ {S : Type 0} (rules : Rules ℕ ℕ S) (offers : Offers ℕ ℕ S ℕ) (told : S → Option ℕ) (offered : AlwaysOffers offers) (old : Map S) (sized : IsSized old) where
+  text_goes_on : (lines more : List (List ℕ)) (text : List ℕ) → IsTextOf rules offers told old lines text → (u : List ℕ) × IsTextOf rules offers told old (lines ++ more) (text ++ u)
   text_goes_on lines more text (now, run) =
-      let (u, new, others) = some_run rules offers offered now (run_sized rules offers old lines text now sized run) more in
-      (u, (new, run-append rules offers old lines text now more u new run others))
+      let (u, new, others) = some_run rules offers told offered now (run_sized rules offers told old lines text now sized run) more in
+      (u, (new, run-append rules offers told old lines text now more u new run others))
 
 under_goes_on : (limit : Limit) (lines more : List (List ℕ)) (text : List ℕ) → IsTextUnder limit lines text → (u : List ℕ) × IsTextUnder limit (lines ++ more) (text ++ u)
-under_goes_on (limits.Length most) = text_goes_on length_rules length_offers length_always (empty most 32 links_of_32_bits) (empty_is_sized most 32 links_of_32_bits)
-under_goes_on (limits.Memory budget entry_bytes) = text_goes_on memory_rules all_offers all_always (empty budget entry_bytes links_of_32_bits) (empty_is_sized budget entry_bytes links_of_32_bits)
+under_goes_on (limits.Length most) = text_goes_on length_rules length_offers no_cost length_always (empty most 32 links_of_32_bits) (empty_is_sized most 32 links_of_32_bits)
+under_goes_on (limits.Memory budget entry_bytes) = text_goes_on memory_rules all_offers no_cost all_always (empty budget entry_bytes links_of_32_bits) (empty_is_sized budget entry_bytes links_of_32_bits)
 under_goes_on (limits.Cost most) =
     let budget : Budget = record { limit = most; cost = 0 } in
-    text_goes_on cost_rules cost_offers cost_always (empty budget 32 links_of_64_bits) (empty_is_sized budget 32 links_of_64_bits)
-under_goes_on limits.Compact = text_goes_on no_rules all_offers all_always (empty (record {}) 32 links_of_32_bits) (empty_is_sized (record {}) 32 links_of_32_bits)
+    text_goes_on cost_rules cost_offers cost_told cost_always (empty budget 32 links_of_64_bits) (empty_is_sized budget 32 links_of_64_bits)
+under_goes_on limits.Compact = text_goes_on no_rules all_offers no_cost all_always (empty (record {}) 32 links_of_32_bits) (empty_is_sized (record {}) 32 links_of_32_bits)
 
 no_lines_under : (limit : Limit) → IsTextUnder limit [] []
 no_lines_under (limits.Length most) = (empty most 32 links_of_32_bits, (refl, refl))

@@ -26,6 +26,7 @@ short_call (calls.Reserve n) h = omega (arith, short_number n h)
 short_call calls.PopOldest h = omega arith
 short_call calls.PopNewest h = omega arith
 short_call calls.Clear h = omega arith
+short_call calls.Stats h = omega arith
 short_call calls.List h = omega arith
 
 short_limit : (limit : Limit) → FitsLimit limit → length (limit_spelling limit) < 49
@@ -40,15 +41,15 @@ whole_text line text short e = sym (short_front 49 line text (sym e) short)
 held_text : (line text : List ℕ) → length text < 49 → line ≡ text → take 49 line ≡ text
 held_text line text short e = take_all 49 line (omega (arith, ap length e, short)) ∙ e
 
-module _ {S : Type 0} (rules : Rules ℕ ℕ S) (offers : Offers ℕ ℕ S ℕ) where
+module _ {S : Type 0} (rules : Rules ℕ ℕ S) (offers : Offers ℕ ℕ S ℕ) (told : S → Option ℕ) where
   -- what is held of a line is answered as the line is
-  whole_step : (old : Map S) (line : List ℕ) (answer : Answer) (new : Map S) → LineStep rules offers old (take 49 line) answer new → LineStep rules offers old line answer new
+  whole_step : (old : Map S) (line : List ℕ) (answer : Answer) (new : Map S) → LineStep rules offers told old (take 49 line) answer new → LineStep rules offers told old line answer new
   whole_step old line answer new (inl (call, spells, is)) = inl (call, (spells.0, whole_text line _ (short_call call spells.0) spells.1), is)
   whole_step old line answer new (inr (none, is, same)) = inr ((λ call spells. none call (spells.0, held_text line _ (short_call call spells.0) spells.1)), is, same)
 
   pub whole_answer : (result : Result (Unit {0}) ReplayError) (old new : Map S) (held line : List ℕ) (from to : Option (List ℕ)) → held ≡ take 49 line
-      → AnswersLine rules offers old held new from to result → AnswersLine rules offers old line new from to result
-  whole_answer result old new held line from to is (answer, step, written) = (answer, whole_step old line answer new (subst (λ l. LineStep rules offers old l answer new) is step), written)
+      → AnswersLine rules offers told old held new from to result → AnswersLine rules offers told old line new from to result
+  whole_answer result old new held line from to is (answer, step, written) = (answer, whole_step old line answer new (subst (λ l. LineStep rules offers told old l answer new) is step), written)
 
 -- and names the limit that the line names
 pub whole_limit : (line : List ℕ) (limit : Limit) → SpellsLimit (take 49 line) limit → SpellsLimit line limit

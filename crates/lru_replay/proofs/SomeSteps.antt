@@ -1,5 +1,5 @@
 -- From every map with a sound table each call can end: there is an answer that it may give, and a map that it may leave.
-use Rattle.std.proofs.Common.{◌≡◌, ℕ, suc, ◌+◌, ◌-◌, ◌^◌, ◌<◌, ◌≤◌, Bool, true, false, cond, Result, Ok, Err, List, [], ◌∷◌, length, replicate, option_map, refl, subst, arith, count_by}
+use Rattle.std.proofs.Common.{◌≡◌, ℕ, suc, ◌+◌, ◌-◌, ◌^◌, ◌<◌, ◌≤◌, Bool, true, false, cond, Result, Ok, Err, Option, List, [], ◌∷◌, length, replicate, option_map, refl, subst, arith, count_by}
 use Rattle.std.specs.Prelude.{nat_eq}
 use native.Mathlib.Decide.{dec_lt}
 use Rattle.group_table.specs.Bucket.{empty, is_deleted}
@@ -20,9 +20,10 @@ use Rattle.schnellru.proofs.Maps.SomeInsert.{some_insert}
 use Rattle.schnellru.proofs.TableSizes.SomeMarks.{marked, length-marked, room-marked, sized-marked}
 use Rattle.lru_replay.specs.declared.call.Call.{Call}
 use Rattle.lru_replay.specs.declared.call.Call.TheVariants as calls
+use Rattle.lru_replay.specs.declared.figures.Figures.{Figures}
 use Rattle.lru_replay.specs.Limits.{AlwaysOffers}
 use Rattle.lru_replay.specs.Maps.{Map, hash_of}
-use Rattle.lru_replay.specs.Steps.{Answer, value, pair, listed, reservation, done, insert_answer, Step}
+use Rattle.lru_replay.specs.Steps.{Answer, value, pair, listed, reservation, stats, done, insert_answer, Step}
 
 length-without : {K V : Type 0} (names : K → Bool) (xs : List (K × V)) → length (without names xs) ≤ length xs
 length-without names [] = omega arith
@@ -99,8 +100,8 @@ module _ {K V S H : Type 0} (rules : Rules K V S) (n : ℕ) (old : State K V S H
   CanReserve = (result : Result (Unit {0}) ReserveError) × (new : State K V S H) × Reserve rules n old result new × IsSized new
 
   -- the limiter is another
-  told_sized : (s : S) → IsSized (record old { limiter = s })
-  told_sized s = record { table = ok.table; taken = ok.taken; reachable = ok.reachable; usable = ok.usable; moved = ok.moved; placed = ok.placed }
+  sized_with : (s : S) → IsSized (record old { limiter = s })
+  sized_with s = record { table = ok.table; taken = ok.taken; reachable = ok.reachable; usable = ok.usable; moved = ok.moved; placed = ok.placed }
 
   -- the table is made anew at its size
   some_remade : LacksRoomFor n old → table_for n old ≡ same_table → CanReserve
@@ -116,8 +117,8 @@ module _ {K V S H : Type 0} (rules : Rules K V S) (n : ℕ) (old : State K V S H
 
   -- the limiter is asked for a larger one
   some_asked : LacksRoomFor n old → (count bytes : ℕ) → table_for n old ≡ new_table count bytes → (allowed : Bool) → (rules.on_grow old.limiter bytes).allowed ≡ allowed → CanReserve
-  some_asked lacks count bytes is true grants = (Err Memory, asked rules bytes old, no_memory_to_grow lacks count bytes is grants refl refl, told_sized _)
-  some_asked lacks count bytes is false denies = (Err Refused, asked rules bytes old, denied_room lacks count bytes is denies refl refl, told_sized _)
+  some_asked lacks count bytes is true grants = (Err Memory, asked rules bytes old, no_memory_to_grow lacks count bytes is grants refl refl, sized_with _)
+  some_asked lacks count bytes is false denies = (Err Refused, asked rules bytes old, denied_room lacks count bytes is denies refl refl, sized_with _)
 
   some_table : LacksRoomFor n old → (t : Target) → table_for n old ≡ t → CanReserve
   some_table lacks no_table is = (Err TooLarge, old, no_such_table lacks is refl refl, ok)
@@ -133,10 +134,10 @@ module _ {K V S H : Type 0} (rules : Rules K V S) (n : ℕ) (old : State K V S H
     ]
   ]
 
-module _ {S : Type 0} (rules : Rules ℕ ℕ S) (offers : Offers ℕ ℕ S ℕ) (offered : AlwaysOffers offers) (old : Map S) (ok : IsSized old) where
+module _ {S : Type 0} (rules : Rules ℕ ℕ S) (offers : Offers ℕ ℕ S ℕ) (told : S → Option ℕ) (offered : AlwaysOffers offers) (old : Map S) (ok : IsSized old) where
   -- the call can end
   abbrev pub CanEnd : Call → Type 0
-  CanEnd call = (answer : Answer) × (new : Map S) × Step rules offers old call answer new × IsSized new
+  CanEnd call = (answer : Answer) × (new : Map S) × Step rules offers told old call answer new × IsSized new
 
   some_removal : (key : ℕ) → CanEnd (calls.Remove key)
   some_removal key =
@@ -168,3 +169,6 @@ module _ {S : Type 0} (rules : Rules ℕ ℕ S) (offers : Offers ℕ ℕ S ℕ) 
   some_step calls.PopNewest = some_pop_newest
   some_step calls.Clear = (done, cleared rules old, (refl, refl), cleared_sized rules old ok)
   some_step calls.List = (listed old.pairs, old, (refl, refl), ok)
+  some_step calls.Stats =
+      let figures : Figures = record { len = length old.pairs; capacity = length old.pairs + room old; memory = ok.usable.0; moved = old.moved; placed = old.placed; cost = told old.limiter } in
+      (stats figures, old, (figures, record { len = refl; capacity = refl; memory = ok.usable.1; moved = refl; placed = refl; cost = refl }, refl, refl), ok)

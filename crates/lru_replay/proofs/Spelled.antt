@@ -43,7 +43,7 @@ abbrev pub guesses : List ℕ → List Call
 guesses line = calls.Insert (digits_value 10 (front_word (drop 7 line))) (digits_value 10 (after_word (drop 7 line)))
     ∷ calls.Get (digits_value 10 (drop 4 line)) ∷ calls.Peek (digits_value 10 (drop 5 line))
     ∷ calls.Remove (digits_value 10 (drop 7 line)) ∷ calls.Reserve (digits_value 10 (drop 8 line))
-    ∷ calls.PopOldest ∷ calls.PopNewest ∷ calls.Clear ∷ calls.List ∷ []
+    ∷ calls.PopOldest ∷ calls.PopNewest ∷ calls.Clear ∷ calls.List ∷ calls.Stats ∷ []
 
 abbrev pub Spelled : List ℕ → Type 0
 Spelled line = (call : Call) × SpellsCall line call
@@ -71,6 +71,7 @@ fits_call (calls.Reserve n) = lt_or n (2 ^ 64)
 fits_call calls.PopOldest = inl tt
 fits_call calls.PopNewest = inl tt
 fits_call calls.Clear = inl tt
+fits_call calls.Stats = inl tt
 fits_call calls.List = inl tt
 
 fits_limit : (limit : Limit) → FitsLimit limit ⊎ (FitsLimit limit → ⊥)
@@ -108,6 +109,7 @@ guessed line P all calls.PopOldest s = all.1.1.1.1.1.0
 guessed line P all calls.PopNewest s = all.1.1.1.1.1.1.0
 guessed line P all calls.Clear s = all.1.1.1.1.1.1.1.0
 guessed line P all calls.List s = all.1.1.1.1.1.1.1.1.0
+guessed line P all calls.Stats s = all.1.1.1.1.1.1.1.1.1.0
 
 -- something of a list has a property that can be told, or nothing has
 any_of : {X : Type 0} (P : X → Type 0) → ((x : X) → P x ⊎ (P x → ⊥)) → (xs : List X) → ((x : X) × P x) ⊎ AllByRecursion (λ x. P x → ⊥) xs

@@ -1,6 +1,6 @@
 -- What the limiter of each limit says: `ByLength` for a length, `ByMemoryUsage` for memory, `ByCost` for a cost, and
 -- `UnlimitedCompact` for none.
-use Rattle.std.specs.Prelude.{ℕ, Option, true, false, nat_lt, nat_le}
+use Rattle.std.specs.Prelude.{ℕ, Option, Some, None, true, false, nat_lt, nat_le}
 use Rattle.lru_limits.specs.Rules.{Rules, Offers}
 use Rattle.lru_limits.specs.Budget.{Budget, by_cost, charges}
 use Rattle.lru_limits.specs.Stores.{plain, hands_over}
@@ -25,7 +25,15 @@ cost_rules = by_cost (λ value. value)
 abbrev pub cost_offers : Offers ℕ ℕ Budget ℕ
 cost_offers = charges (λ value. value)
 
+-- the cost that it keeps
+abbrev pub cost_told : Budget → Option ℕ
+cost_told b = Some b.cost
+
 module _ {S : Type 0} where
+  -- no cost is kept
+  abbrev pub no_cost : S → Option ℕ
+  no_cost s = None
+
   -- nothing is over the limit, and any growth is permitted
   abbrev pub no_rules : Rules ℕ ℕ S
   no_rules = plain (λ _ _. false) (λ _ _. true)

@@ -10,7 +10,7 @@ use Rattle.lru_replay.specs.declared.outcome.ReplayError.{ReplayError}
 use Rattle.lru_replay.specs.declared.outcome.ReplayError.TheVariants as errors
 use Rattle.schnellru.specs.Lists.{IsFront}
 use Rattle.lru_replay.specs.Grammar.{SpellsLimit}
-use Rattle.lru_replay.specs.Limits.{length_rules, length_offers, memory_rules, cost_rules, cost_offers, no_rules, all_offers}
+use Rattle.lru_replay.specs.Limits.{length_rules, length_offers, memory_rules, cost_rules, cost_offers, no_rules, all_offers, no_cost, cost_told}
 use Rattle.lru_replay.specs.Lines.{lines_of, TakesFirst, TakesLines, TakesAll}
 use Rattle.lru_replay.specs.Maps.{empty, links_of_32_bits, links_of_64_bits}
 use Rattle.lru_replay.specs.Output.{no_limiter_text}
@@ -18,10 +18,10 @@ use Rattle.lru_replay.specs.Runs.{IsTextOf, WritesText, WritesTextSoFar}
 
 -- The lines are answered by this text, from the empty map under the limit.
 abbrev pub IsTextUnder : Limit → List (List ℕ) → List ℕ → Type 0
-IsTextUnder (limits.Length most) = IsTextOf length_rules length_offers (empty most 32 links_of_32_bits)
-IsTextUnder (limits.Memory budget entry_bytes) = IsTextOf memory_rules all_offers (empty budget entry_bytes links_of_32_bits)
-IsTextUnder (limits.Cost most) = IsTextOf cost_rules cost_offers (empty (record { limit = most; cost = 0 }) 32 links_of_64_bits)
-IsTextUnder limits.Compact = IsTextOf {S = UnlimitedCompact} no_rules all_offers (empty (record {}) 32 links_of_32_bits)
+IsTextUnder (limits.Length most) = IsTextOf length_rules length_offers no_cost (empty most 32 links_of_32_bits)
+IsTextUnder (limits.Memory budget entry_bytes) = IsTextOf memory_rules all_offers no_cost (empty budget entry_bytes links_of_32_bits)
+IsTextUnder (limits.Cost most) = IsTextOf cost_rules cost_offers cost_told (empty (record { limit = most; cost = 0 }) 32 links_of_64_bits)
+IsTextUnder limits.Compact = IsTextOf {S = UnlimitedCompact} no_rules all_offers no_cost (empty (record {}) 32 links_of_32_bits)
 
 -- The first line names a limit, and the others are answered by this text, from the empty map under that limit.
 abbrev pub IsReplay : List (List ℕ) → List ℕ → Type 0

@@ -17,10 +17,10 @@ use Rattle.lru_replay.specs.Steps.{Answer, bad, Step}
 abbrev pub answer_line : Answer → List ℕ
 answer_line answer = fed (answer_text answer)
 
-module _ {S : Type 0} (rules : Rules ℕ ℕ S) (offers : Offers ℕ ℕ S ℕ) where
+module _ {S : Type 0} (rules : Rules ℕ ℕ S) (offers : Offers ℕ ℕ S ℕ) (told : S → Option ℕ) where
   -- The line spells a call and is answered as the call is, or it spells none, is bad, and changes nothing.
   abbrev pub LineStep : Map S → List ℕ → Answer → Map S → Type 0
-  LineStep old line answer new = ((call : Call) × SpellsCall line call × Step rules offers old call answer new)
+  LineStep old line answer new = ((call : Call) × SpellsCall line call × Step rules offers told old call answer new)
       ⊎ (((call : Call) → SpellsCall line call → ⊥) × (answer ≡ bad) × (new ≡ old))
 
   -- The line is answered, and its answer line written, or a beginning of it where a write failed.

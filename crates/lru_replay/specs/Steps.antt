@@ -9,6 +9,8 @@ use Rattle.schnellru.specs.Reservations.{Reserve}
 use Rattle.schnellru.specs.declared.map.reserve.ReserveError.{ReserveError}
 use Rattle.lru_replay.specs.declared.call.Call.{Call}
 use Rattle.lru_replay.specs.declared.call.Call.TheVariants as calls
+use Rattle.lru_replay.specs.declared.figures.Figures.{Figures}
+use Rattle.lru_replay.specs.Figures.{IsFigures}
 use Rattle.lru_replay.specs.Maps.{Map, hash_of}
 
 pub data Answer : Type 0 where
@@ -22,6 +24,8 @@ pub data Answer : Type 0 where
   listed : List (ℕ × ℕ) → Answer
   -- whether room is reserved
   reservation : Result (Unit {0}) ReserveError → Answer
+  -- the figures of the map
+  stats : Figures → Answer
   -- it is done, and there is nothing to say of it
   done : Answer
   no_memory : Answer
@@ -33,7 +37,7 @@ abbrev pub insert_answer : Result Bool AllocError → Answer
 insert_answer (Ok there) = flag there
 insert_answer (Err e) = no_memory
 
-module _ {S : Type 0} (rules : Rules ℕ ℕ S) (offers : Offers ℕ ℕ S ℕ) where
+module _ {S : Type 0} (rules : Rules ℕ ℕ S) (offers : Offers ℕ ℕ S ℕ) (told : S → Option ℕ) where
   -- what may come of a call under this limiter: its answer, and the map after it
   abbrev pub Step : Map S → Call → Answer → Map S → Type 0
   Step old (calls.Insert key new_value) answer new = (result : Result Bool AllocError)
@@ -46,3 +50,4 @@ module _ {S : Type 0} (rules : Rules ℕ ℕ S) (offers : Offers ℕ ℕ S ℕ) 
   Step old (calls.Reserve n) answer new = (result : Result (Unit {0}) ReserveError) × Reserve rules n old result new × (answer ≡ reservation result)
   Step old calls.Clear answer new = (answer ≡ done) × (new ≡ cleared rules old)
   Step old calls.List answer new = (answer ≡ listed old.pairs) × (new ≡ old)
+  Step old calls.Stats answer new = (figures : Figures) × IsFigures told old figures × (answer ≡ stats figures) × (new ≡ old)

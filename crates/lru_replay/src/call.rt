@@ -25,6 +25,8 @@ pub enum Call {
     Clear,
     /// `list`: gives all pairs.
     List,
+    /// `stats`: gives the figures of the map.
+    Stats,
 }
 
 /// What limits the map.
@@ -129,6 +131,9 @@ fn plain_call_of(line: &[u8]) -> Option<Call>
     }
     if line == b"clear".as_slice() {
         return Some(Call::Clear);
+    }
+    if line == b"stats".as_slice() {
+        return Some(Call::Stats);
     }
     None
 }

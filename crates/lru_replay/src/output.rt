@@ -1,7 +1,8 @@
 //! The texts of answers, written piece by piece.
 ghost use Rattle.std.specs.Prelude.{◌≡◌, ℕ, Bool, Option, [], ◌∷◌, decimal};
-ghost use Rattle.lru_replay.specs.Output.{Writes, flag_text, value_text, left_text, pair_text, rest_text, pairs_text, reservation_text};
+ghost use Rattle.lru_replay.specs.Output.{Writes, flag_text, value_text, left_text, pair_text, rest_text, pairs_text, reservation_text, figures_text, cost_text, named_text};
 
+use crate::figures::Figures;
 use crate::outcome::ReplayError;
 use schnellru::{LinkType, ReserveError, Walk};
 use std::io::{ErrorKind, Write};
@@ -100,6 +101,36 @@ fn write_rest<N: LinkType, W: Write>(
         write_pair(writer, *key, *value)?;
     }
     Ok(())
+}
+
+/// Writes the figures by their names.
+pub fn write_figures<W: Write>(writer: &mut W, figures: Figures) -> Result<(), ReplayError>
+    ensures { Writes (W.contents writer.old) (W.contents writer.new) result (figures_text figures) }
+{
+    write_named(writer, b"len ", figures.len as u64)?;
+    write_named(writer, b" capacity ", figures.capacity as u64)?;
+    write_named(writer, b" memory ", figures.memory as u64)?;
+    write_named(writer, b" moved ", figures.moved)?;
+    write_named(writer, b" placed ", figures.placed)?;
+    write_cost(writer, figures.cost)
+}
+
+/// Writes the cost, where one is kept.
+fn write_cost<W: Write>(writer: &mut W, cost: Option<u64>) -> Result<(), ReplayError>
+    ensures { Writes (W.contents writer.old) (W.contents writer.new) result (cost_text cost) }
+{
+    match cost {
+        Some(cost) => write_named(writer, b" cost ", cost),
+        None => write_bytes(writer, b""),
+    }
+}
+
+/// Writes a name and its number.
+fn write_named<W: Write>(writer: &mut W, name: &[u8], number: u64) -> Result<(), ReplayError>
+    ensures { Writes (W.contents writer.old) (W.contents writer.new) result (named_text name.now number) }
+{
+    write_bytes(writer, name)?;
+    write_number(writer, number)
 }
 
 fn write_pair<W: Write>(writer: &mut W, key: u64, value: u64) -> Result<(), ReplayError>

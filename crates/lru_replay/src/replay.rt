@@ -13,10 +13,11 @@ ghost use Rattle.lru_replay.specs.Runs.{LineStep, AnswersLine, IsTextOf, Answers
 ghost use Rattle.lru_replay.specs.Steps.{Answer};
 
 use crate::call::{Call, Limit, call_of, limit_of};
+use crate::figures::{TellsCost, figures_of};
 use crate::line::{Ending, Line, read_line};
 use crate::outcome::{ReplayEnd, ReplayError};
 use crate::output::{
-    write_bytes, write_flag, write_left, write_pairs, write_reservation, write_value,
+    write_bytes, write_figures, write_flag, write_left, write_pairs, write_reservation, write_value,
 };
 use schnellru::{
     ByCost, ByLength, ByMemoryUsage, Insertion, LruMap, RandomState, UnlimitedCompact,
@@ -39,12 +40,12 @@ fn get<L: Insertion<u64, u64, u64>>(map: &mut LruMap<u64, u64, L>, key: u64) -> 
 }
 
 /// Carries out what a line says, and writes the answer.
-fn carry_out<L: Insertion<u64, u64, u64>, W: Write>(
+fn carry_out<L: Insertion<u64, u64, u64> + TellsCost, W: Write>(
     map: &mut LruMap<u64, u64, L>,
     line: &[u8],
     writer: &mut W,
 ) -> Result<(), ReplayError>
-    ensures { (answer : Answer) × LineStep L.rules L.offers map.old line.now answer map.new
+    ensures { (answer : Answer) × LineStep L.rules L.offers L.told map.old line.now answer map.new
         × Writes (W.contents writer.old) (W.contents writer.new) result (answer_text answer) }
 {
     match call_of(line) {
@@ -63,17 +64,18 @@ fn carry_out<L: Insertion<u64, u64, u64>, W: Write>(
             write_bytes(writer, b"ok")
         }
         Some(Call::List) => write_pairs(writer, map.iter()),
+        Some(Call::Stats) => write_figures(writer, figures_of(map)),
         None => write_bytes(writer, b"bad"),
     }
 }
 
 /// Carries out what a line says, and writes the answer line.
-fn answer_line<L: Insertion<u64, u64, u64>, W: Write>(
+fn answer_line<L: Insertion<u64, u64, u64> + TellsCost, W: Write>(
     map: &mut LruMap<u64, u64, L>,
     line: &[u8],
     writer: &mut W,
 ) -> Result<(), ReplayError>
-    ensures step { AnswersLine L.rules L.offers map.old line.now map.new
+    ensures step { AnswersLine L.rules L.offers L.told map.old line.now map.new
         (W.contents writer.old) (W.contents writer.new) result }
     ensures sized { IsSized map.new }
 {
@@ -91,12 +93,12 @@ fn learn<L: Insertion<u64, u64, u64>>(map: &LruMap<u64, u64, L>)
 }
 
 /// Answers the lines up to the reader's end.
-fn answer_lines<L: Insertion<u64, u64, u64>, R: BufRead, W: Write>(
+fn answer_lines<L: Insertion<u64, u64, u64> + TellsCost, R: BufRead, W: Write>(
     map: &mut LruMap<u64, u64, L>,
     reader: &mut R,
     writer: &mut W,
 ) -> Result<(), ReplayError>
-    ensures { Answers (IsTextOf L.rules L.offers map.old) (R.remaining reader.old) (R.remaining reader.new)
+    ensures { Answers (IsTextOf L.rules L.offers L.told map.old) (R.remaining reader.old) (R.remaining reader.new)
         (W.contents writer.old) (W.contents writer.new) result }
 {
     let mut line = Line::new();
@@ -111,14 +113,14 @@ fn answer_lines<L: Insertion<u64, u64, u64>, R: BufRead, W: Write>(
 }
 
 /// Answers the lines on an empty map with this limiter, and so many bytes an entry.
-fn answer_with<L: Insertion<u64, u64, u64> + Drop, R: BufRead, W: Write>(
+fn answer_with<L: Insertion<u64, u64, u64> + TellsCost + Drop, R: BufRead, W: Write>(
     alloc: Global,
     limiter: L,
     entry_bytes: usize,
     reader: &mut R,
     writer: &mut W,
 ) -> Result<(), ReplayError>
-    ensures { Answers (IsTextOf L.rules L.offers (empty limiter entry_bytes (L.LinkType.number L.LinkType.MAX)))
+    ensures { Answers (IsTextOf L.rules L.offers L.told (empty limiter entry_bytes (L.LinkType.number L.LinkType.MAX)))
         (R.remaining reader.old) (R.remaining reader.new) (W.contents writer.old) (W.contents writer.new) result }
 {
     let mut map = LruMap::with_hasher(alloc, limiter, RandomState::default(), entry_bytes);

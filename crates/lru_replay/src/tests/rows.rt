@@ -86,8 +86,8 @@ fn limits_memory(rt: HostRuntime) -> Result<(), Fail> {
     // 8 buckets of 16 bytes an entry use 152 bytes, and take 7 pairs.
     expect(
         &rt,
-        b"memory 152 16\nreserve 7\nreserve 8\nreserve 18446744073709551615\n",
-        b"ok\nrefused\ntoo large\n",
+        b"memory 152 16\nreserve 7\nstats\nreserve 8\nreserve 18446744073709551615\n",
+        b"ok\nlen 0 capacity 7 memory 152 moved 0 placed 0\nrefused\ntoo large\n",
         0,
     );
     expect_newest(&rt, "memory 152 16", 1..9, 7)?;
@@ -103,11 +103,34 @@ fn limits_memory(rt: HostRuntime) -> Result<(), Fail> {
 }
 
 #[test]
+fn tells_figures(rt: HostRuntime) -> Result<(), Fail> {
+    expect(
+        &rt,
+        b"length 2\nstats\ninsert 1 10\nstats\nclear\nstats\n",
+        b"len 0 capacity 0 memory 0 moved 0 placed 0\ntrue\nlen 1 capacity 3 memory 148 moved 0 placed 1\nok\nlen 0 capacity 3 memory 148 moved 0 placed 1\n",
+        0,
+    );
+    // The table grows from 4 to 8 to 16 to 32 buckets, which moves 3, 7 and 14 pairs.
+    let mut input = String::new(rt.alloc());
+    let mut want = String::new(rt.alloc());
+    input.push_str("memory 100000 16\n")?;
+    for key in 0..15 {
+        let line = format!(in rt.alloc(); "insert {key} {key}\n")?;
+        input.push_str(line.as_str())?;
+        want.push_str("true\n")?;
+    }
+    input.push_str("stats\n")?;
+    want.push_str("len 15 capacity 28 memory 560 moved 24 placed 15\n")?;
+    expect(&rt, input.as_bytes(), want.as_bytes(), 0);
+    Ok(())
+}
+
+#[test]
 fn limits_the_cost(rt: HostRuntime) {
     expect(
         &rt,
-        b"cost 3\ninsert 1 1\ninsert 2 2\ninsert 3 3\nlist\n",
-        b"true\ntrue\ntrue\n3:3\n",
+        b"cost 3\ninsert 1 1\ninsert 2 2\ninsert 3 3\nlist\nstats\n",
+        b"true\ntrue\ntrue\n3:3\nlen 1 capacity 3 memory 148 moved 0 placed 3 cost 3\n",
         0,
     );
     expect(
@@ -218,7 +241,7 @@ fn answers_bad_lines(rt: HostRuntime) {
         b"lists\n",
         b"length 3\n",
         b"compact\n",
-        b"stats\n",
+        b"stats 1\n",
     ] {
         expect_bad(&rt, line);
     }

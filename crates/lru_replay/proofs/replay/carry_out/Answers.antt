@@ -4,7 +4,7 @@ use Rattle.schnellru.specs.Lists.{lookup}
 use Rattle.lru_replay.specs.declared.call.Call.TheVariants as calls
 use Rattle.lru_replay.specs.Grammar.{SpellsCall}
 use Rattle.lru_replay.specs.Output.{Writes, pairs_text}
-use Rattle.lru_replay.specs.Steps.{flag, value, pair, listed, reservation, done, no_memory, bad}
+use Rattle.lru_replay.specs.Steps.{flag, value, pair, listed, reservation, stats, done, no_memory, bad}
 use Rattle.lru_replay.proofs.replay.carry_out.Goals as goal
 
 pub returns-in-Ok : goal.returns-in-Ok
@@ -60,6 +60,11 @@ returns-in-Some-List g c =
       inl (calls.List, spells, (refl, refl)),
       subst (λ pairs. Writes (g.W.Write.contents c.args.writer.now) (g.W.Write.contents c.write_pairs.new.writer) c.write_pairs.result (pairs_text pairs)) c.iter.ensures.rest c.write_pairs.ensures,
     )
+
+pub returns-in-Some-Stats : goal.returns-in-Some-Stats
+returns-in-Some-Stats g c =
+    let spells = subst (SpellsCall c.args.line.now) c.in-Some-Stats.field-0-is c.in-Some-Stats.ensures.some in
+    (stats c.figures_of.result, inl (calls.Stats, spells, (_, c.figures_of.ensures, refl, refl)), c.write_figures.ensures)
 
 pub returns-in-None : goal.returns-in-None
 returns-in-None g c = (bad, inr (c.in-None.ensures.none, refl, refl), c.write_bytes-in-None.ensures)
