@@ -71,6 +71,32 @@ fn takes_pairs_out(rt: HostRuntime) {
 }
 
 #[test]
+fn writes_the_greatest_number(rt: HostRuntime) {
+    expect(
+        &rt,
+        b"cost 18446744073709551615\ninsert 18446744073709551615 18446744073709551615\nget 18446744073709551615\nlist\nremove 18446744073709551615\n",
+        b"true\n18446744073709551615\n18446744073709551615:18446744073709551615\n18446744073709551615\n",
+        0,
+    );
+    expect(
+        &rt,
+        b"compact\ninsert 0 18446744073709551615\npeek 0\npop-newest\n",
+        b"true\n18446744073709551615\n0:18446744073709551615\n",
+        0,
+    );
+}
+
+#[test]
+fn lines_of_other_systems(rt: HostRuntime) {
+    // A carriage return belongs to its line, a byte-order mark to the first.
+    expect(&rt, b"length 3\r\ninsert 1 10\r\n", b"no limiter\n", 1);
+    expect(&rt, b"length 3\ninsert 1 10\r\nlist\r\n", b"bad\nbad\n", 0);
+    expect(&rt, b"\xef\xbb\xbflength 3\nlist\n", b"no limiter\n", 1);
+    expect(&rt, b"\nlength 3\nlist\n", b"no limiter\n", 1);
+    expect(&rt, b"length 3\n\nlist\n\n", b"bad\n-\nbad\n", 0);
+}
+
+#[test]
 fn reserves(rt: HostRuntime) {
     // Links of 32 bits end at 1,879,048,192 pairs.
     expect(
