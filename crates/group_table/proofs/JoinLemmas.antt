@@ -1,5 +1,5 @@
 -- An entry comes into a table with room and no deleted bucket.
-use Rattle.std.proofs.Common.{◌≡◌, ◌≢◌, ℕ, ◌+◌, ◌-◌, ◌<◌, ◌≤◌, ◌⊎◌, cond, List, length, get_or, set, Option, Some, None, refl, ap, ◌∙◌, subst, arith, inl, inr, count_by, length-set}
+use Rattle.std.proofs.Common.{◌≡◌, ◌≢◌, ℕ, ◌+◌, ◌-◌, ◌<◌, ◌⊎◌, cond, List, length, get_or, set, Option, Some, None, refl, ap, ◌∙◌, subst, arith, inl, inr, count_by, length-set}
 use Rattle.group_table.specs.Sizes.{full_capacity}
 use Rattle.group_table.specs.Bucket.{Slot, empty, deleted, full, bucket_at, is_full, is_deleted, entry_of, entry_at, entry_count}
 use Rattle.group_table.specs.Probe.{hash_tag, Reaches}
@@ -29,9 +29,6 @@ module _ {T : Type 0} (control : List ℕ) (entries : List (Option T)) (r : ℕ)
     | inl w ↦ let none : full_capacity (length entries) ≡ full_capacity 0 = ap full_capacity w.0 in absurd (omega (arith, less, capacity, none, full_capacity-small 0 (omega arith)))
     | inr w ↦ omega (arith, power_pos (length entries) w.0)
   ]
-
-  pub with_repetition : length entries + 16 ≤ length control
-  with_repetition = elim valid.laid_out.counts [ inl w ↦ absurd (omega (arith, w.0, some_buckets)) | inr w ↦ omega (arith, w.1) ]
 
   module _ (hash b n : ℕ) (n_is : n ≡ length entries) (reached : IsReachedFreeByte control n hash b) where
     byte_reached : IsReachedFreeByte control (length entries) hash b

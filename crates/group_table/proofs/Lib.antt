@@ -9,6 +9,7 @@ pub mod FirstFree
 pub mod SearchLemmas
 pub mod LayoutLemmas
 pub mod FindLemmas
+pub mod ControlLemmas
 pub mod LaneLemmas
 pub mod RunLanes
 pub mod WriteLemmas

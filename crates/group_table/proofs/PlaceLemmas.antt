@@ -1,7 +1,6 @@
 -- An entry goes into the first free bucket.
 use Rattle.std.proofs.Common.{◌≡◌, ◌≢◌, ℕ, ◌+◌, ◌-◌, ◌<◌, ◌≤◌, cond, List, length, get_or, set, ◌⊎◌, Option, Some, None, false, refl, ap, sym, ◌∙◌, subst, arith, inl, inr, nat_eq, eq-eqb}
 use Rattle.std.proofs.lemmas.Bool.{lt-ltb, le-ltb, cases_eq, ne_eqb}
-use Rattle.std.proofs.lemmas.List.{get_or_read}
 use mir.Val.{bool_byte}
 use Rattle.group_table.specs.Bucket.{Slot, Tagged, empty, deleted, full, bucket_at, is_full, is_used, entry_count, mark_of, room, room_at}
 use Rattle.group_table.specs.Probe.{IsFirstFree}
@@ -10,7 +9,7 @@ use Rattle.group_table.specs.Layout.{slot_of, slots_of, marks_by, Agrees, IsVali
 use Rattle.group_table.specs.Group.{IsFirstFreeByte}
 use Rattle.group_table.proofs.BucketLemmas.{bucket_at-marks_of, full_not_deleted}
 use Rattle.group_table.proofs.ProbeLemmas.{probed-lt}
-use Rattle.group_table.proofs.LayoutLemmas.{length-marks_by, bucket_at-laid_out, is_full-byte, byte_from_mark, entries_within}
+use Rattle.group_table.proofs.LayoutLemmas.{length-marks_by, bucket_at-laid_out, is_full-byte, byte_from_mark}
 use Rattle.group_table.proofs.WriteLemmas.{IsValid-written, entry_count-written}
 use Rattle.group_table.proofs.TableLemmas.{empty_there, room_by}
 
@@ -75,18 +74,15 @@ module _ {T : Type 0} (control : List ℕ) (entries : List (Option T)) (r : ℕ)
   pub place_none : get_or entries b None ≡ None
   place_none = place_free.1
 
-  module _ (read : ℕ) (read_is : read ≡ get_or control b read) where
-    place_read : read ≡ get_or control b 0
-    place_read = get_or_read control b read (omega (arith, entries_within control entries valid.laid_out, place_within)) read_is 0
-
+  module _ (read : ℕ) (read_is : read ≡ get_or control b 0) where
     pub place_empty : read ≡ 255 → (bucket_at (slots_of control entries) b ≡ empty) × (get_or entries b None ≡ None)
     place_empty h =
-        let w = free_empty _ _ (valid.laid_out.agrees b place_within) byte_first.free_there (sym place_read ∙ h) in
+        let w = free_empty _ _ (valid.laid_out.agrees b place_within) byte_first.free_there (sym read_is ∙ h) in
         (bucket_at-laid_out control entries valid.laid_out b place_within ∙ w.0, w.1)
 
     place_deleted : read ≢ 255 → (bucket_at (slots_of control entries) b ≡ deleted) × (get_or entries b None ≡ None)
     place_deleted h =
-        let w = free_deleted _ _ (valid.laid_out.agrees b place_within) byte_first.free_there (λ e. h (place_read ∙ e)) in
+        let w = free_deleted _ _ (valid.laid_out.agrees b place_within) byte_first.free_there (λ e. h (read_is ∙ e)) in
         (bucket_at-laid_out control entries valid.laid_out b place_within ∙ w.0, w.1)
 
     pub place_spends : bool_byte (nat_eq read 255) ≤ r → Spends (bucket_at (slots_of control entries) b) r (bool_byte (nat_eq read 255))

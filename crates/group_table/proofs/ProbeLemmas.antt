@@ -5,6 +5,8 @@ use Rattle.std.proofs.lemmas.Nat.{pow-add, div-add-mod'}
 use native.Mathlib.Decide.{dec_lt}
 use Rattle.group_table.specs.Sizes.{IsPowerFromFour}
 use Rattle.group_table.specs.Probe.{probed}
+use Rattle.group_table.specs.declared.probe.Probe.{Probe}
+use Rattle.group_table.specs.Group.{IsProbe}
 use Rattle.group_table.proofs.Circle.{distance, mod_cancel}
 use Rattle.group_table.proofs.Triangle.{IsTriangle, triangle_meets, triangles_apart, product_even}
 
@@ -17,6 +19,10 @@ probed-at n hash s g lane e p =
 
 pub probed-lt : (n hash s : ℕ) → 0 < n → probed n hash s < n
 probed-lt n hash s pos = mod-lt _ pos
+
+-- a group begins at a bucket
+pub probe_within : (n hash : ℕ) (probe : Probe) → IsProbe n hash probe → 0 < n → probe.start < n
+probe_within n hash probe at pos = rw at.start (probed-lt n hash probe.passed pos)
 
 -- a search begins at the hash
 pub probed-first : (n hash : ℕ) → hash % n ≡ probed n hash 0

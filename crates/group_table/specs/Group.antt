@@ -6,8 +6,14 @@ use Rattle.std.specs.Fn.{Mut}
 use Rattle.group_table.specs.Bucket.{Slot, empty, bucket_at, has_tag, marks_of}
 use Rattle.group_table.specs.Probe.{probed}
 use Rattle.group_table.specs.Search.{Answers, RefusesEach}
+use Rattle.group_table.specs.declared.probe.Probe.{Probe}
 use Rattle.group_table.specs.declared.probe.Asked.{Asked}
 use Rattle.group_table.specs.declared.probe.Asked.TheVariants.{Accepted, Ended, GoesOn}
+
+-- a search for the hash comes to the group that begins here, after so many buckets of whole groups
+pub record IsProbe (buckets hash : ℕ) (probe : Probe) : Type 0 where
+  pub start : probe.start ≡ probed buckets hash probe.passed
+  pub whole : probe.passed % 16 ≡ 0
 
 module _ {T : Type 0} (slots : List (Slot T)) where
   -- how many lanes of a group are buckets of their own

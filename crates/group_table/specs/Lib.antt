@@ -16,3 +16,4 @@ pub mod LendsSome
 pub mod Layout
 pub mod Group
 pub mod Lanes
+pub mod Control

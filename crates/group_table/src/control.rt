@@ -1,13 +1,130 @@
 //! Control bytes: one a bucket, and 16 more, which repeat the first buckets so that a group can be read in one piece.
-ghost use Rattle.std.specs.Prelude.{◌≡◌, ◌+◌, ◌-◌, ◌%◌, ◌^◌, ◌<◌, ◌≤◌, length, max, slice_set, if◌then◌else◌};
+ghost use Rattle.std.specs.Prelude.{◌≡◌, ℕ, ◌+◌, ◌-◌, ◌%◌, ◌^◌, ◌<◌, ◌≤◌, [], length, max, replicate, slice_index, slice_set, if◌then◌else◌, IfOk};
 ghost use Rattle.group_table.specs.Sizes.{IsPowerFromFour};
 ghost use Rattle.group_table.specs.Probe.{hash_tag};
+ghost use Rattle.group_table.specs.Control.{buckets_of, IsCircle};
+
+use crate::group::load;
+use std::alloc::{AllocError, Global};
+use std::marker::Model;
 
 // The control byte of an empty bucket.
 pub(crate) const EMPTY: u8 = 0xff;
 
 // The control byte of a deleted bucket.
 pub(crate) const DELETED: u8 = 0x80;
+
+// The control bytes of a table, which stay as many as they are.
+#[derive(Drop)]
+pub(crate) struct Control {
+    bytes: Vec<u8>,
+}
+
+impl Model for Control {
+    ghost use Rattle.std.specs.Prelude.{ℕ, List};
+    ghost use Rattle.group_table.specs.Control.{IsControl};
+
+    ghost Value = { List ℕ };
+
+    ghost view = { λ c. c.bytes.items };
+
+    ghost invariant = { λ c. IsControl c.bytes.items };
+}
+
+impl Control {
+    // Those of no buckets, which take no memory.
+    pub(crate) fn new(alloc: Global) -> Control
+        ensures { result ≡ [] }
+    {
+        Control {
+            bytes: Vec::new(alloc),
+        }
+    }
+
+    // Those of so many empty buckets.
+    pub(crate) fn with_buckets(alloc: Global, buckets: usize) -> Result<Control, AllocError>
+        requires count { IsPowerFromFour buckets }
+        requires addressable { buckets + 16 < 2 ^ 63 }
+        ensures { IfOk result (λ c. c ≡ replicate (buckets + 16) 255) }
+    {
+        let bytes = vec![in alloc; EMPTY; buckets + 16]?;
+        Ok(Control { bytes })
+    }
+
+    // The same bytes again.
+    pub(crate) fn copied(&self, alloc: Global) -> Result<Control, AllocError>
+        ensures { IfOk result (λ c. c ≡ self.now) }
+    {
+        let bytes = Vec::from_slice(alloc, self.bytes.as_slice())?;
+        Ok(Control { bytes })
+    }
+
+    // How many buckets they are for.
+    #[inline]
+    pub(crate) fn buckets(&self) -> usize
+        requires { 0 < buckets_of self.now }
+        ensures value { result ≡ buckets_of self.now }
+        ensures circle { IsCircle self.now }
+    {
+        self.bytes.len() - 16
+    }
+
+    // The bucket at a place on the circle.
+    #[inline]
+    pub(crate) fn wrap(&self, place: usize) -> usize
+        requires { 0 < buckets_of self.now }
+        ensures value { result ≡ place % buckets_of self.now }
+        ensures bound { result < buckets_of self.now }
+    {
+        wrap(place, self.buckets())
+    }
+
+    // All of them.
+    #[cfg(test)]
+    pub(crate) fn as_slice(&self) -> &[u8]
+        ensures { result.now ≡ self.now }
+    {
+        self.bytes.as_slice()
+    }
+
+    // That of a bucket.
+    #[inline]
+    pub(crate) fn byte(&self, b: usize) -> u8
+        requires { b < buckets_of self.now }
+        ensures { result ≡ slice_index self.now b }
+    {
+        self.bytes[b]
+    }
+
+    // The sixteen from a bucket on.
+    #[inline]
+    pub(crate) fn group(&self, start: usize) -> [u8; 16]
+        requires { start < buckets_of self.now }
+        ensures bytes { (lane : ℕ) → lane < 16 → slice_index result lane ≡ slice_index self.now (start + lane) }
+        ensures circle { IsCircle self.now }
+    {
+        load(self.bytes.as_slice(), start)
+    }
+
+    // Writes that of a bucket, and its repetition.
+    #[inline]
+    pub(crate) fn set(&mut self, b: usize, byte: u8)
+        requires { b < buckets_of self.old }
+        ensures { self.new ≡ slice_set (slice_set self.old b byte) (b + max 16 (buckets_of self.old)) byte }
+    {
+        let buckets = self.bytes.len() - 16;
+        self.bytes[b] = byte;
+        // That of one of the first 16 buckets; else it is the same byte again, so that nothing has to be asked.
+        self.bytes[wrap(b + buckets.saturating_sub(16), buckets) + 16] = byte;
+    }
+
+    // Makes each that of an empty bucket.
+    pub(crate) fn clear(&mut self)
+        ensures { self.new ≡ replicate (length self.old) 255 }
+    {
+        self.bytes.fill(EMPTY);
+    }
+}
 
 // The control byte of a bucket with an entry of this hash, whose top bit is clear.
 #[inline]
@@ -34,18 +151,4 @@ pub(crate) fn wrap(place: usize, buckets: usize) -> usize
     ensures bound { result < buckets }
 {
     place & (buckets - 1)
-}
-
-// Writes the control byte of a bucket, and its repetition.
-#[inline]
-pub(crate) fn set_byte(control: &mut [u8], buckets: usize, b: usize, byte: u8)
-    requires count { IsPowerFromFour buckets }
-    requires fits { length control.old < 2 ^ 63 }
-    requires len { length control.old ≡ buckets + 16 }
-    requires bucket { b < buckets }
-    ensures { control.new ≡ slice_set (slice_set control.old b byte) (b + max 16 buckets) byte }
-{
-    control[b] = byte;
-    // That of one of the first 16 buckets; else it is the same byte again, so that nothing has to be asked.
-    control[wrap(b + buckets.saturating_sub(16), buckets) + 16] = byte;
 }

@@ -4,12 +4,48 @@ ghost use Rattle.group_table.specs.Sizes.{IsPowerFromFour};
 ghost use Rattle.group_table.specs.Bucket.{bucket_at, empty};
 ghost use Rattle.group_table.specs.Probe.{probed};
 ghost use Rattle.group_table.specs.Search.{Finds, FindsNone};
-ghost use Rattle.group_table.specs.Group.{AsksGroup, IsFreeLane, IsFirstFreeByte};
-ghost use Rattle.group_table.specs.Lanes.{IsRepeated};
+ghost use Rattle.group_table.specs.Group.{IsProbe, AsksGroup, IsFreeLane, IsFirstFreeByte};
+ghost use Rattle.group_table.specs.Control.{buckets_of, HasFreeByte};
 ghost use Rattle.group_table.specs.Layout.{IsLaidOut, slots_of, marks_by};
 
-use crate::control::{tag_of, wrap};
-use crate::group::{load, lowest_lane, match_empty, match_free, match_tag, without_lowest};
+use crate::control::{Control, tag_of, wrap};
+use crate::group::{lowest_lane, match_empty, match_free, match_tag, without_lowest};
+
+// The row of groups of a search: the bucket at which the next one begins, and how many buckets those before it have.
+#[derive(Drop)]
+pub(crate) struct Probe {
+    start: usize,
+    passed: usize,
+}
+
+impl Probe {
+    // The row of a search for the hash, which begins there.
+    #[inline]
+    fn of(hash: u64, buckets: usize) -> Probe
+        requires { IsPowerFromFour buckets }
+        ensures at { IsProbe buckets hash result }
+        ensures none_passed { result.passed ≡ 0 }
+    {
+        Probe {
+            start: wrap(hash as usize, buckets),
+            passed: 0,
+        }
+    }
+
+    // Goes past a group: the next one begins 16, 32, 48, .. buckets later.
+    #[inline]
+    fn go_on(&mut self, buckets: usize)
+        requires count { IsPowerFromFour buckets }
+        requires fits { buckets + 16 < 2 ^ 63 }
+        requires start { self.old.start < buckets }
+        requires within { self.old.passed < buckets }
+        ensures at { (hash : ℕ) → IsProbe buckets hash self.old → IsProbe buckets hash self.new }
+        ensures passed { self.new.passed ≡ self.old.passed + 16 }
+    {
+        self.passed += 16;
+        self.start = wrap(self.start + self.passed, buckets);
+    }
+}
 
 // What came of asking about one group: a bucket whose entry was accepted, the end of the search at an empty
 // bucket, or neither.
@@ -22,7 +58,7 @@ enum Asked {
 // Asks about the entries with the tag in the group that begins here, until one is accepted.
 #[inline]
 fn ask_group<T, F: FnMut(&T) -> bool>(
-    control: &[u8],
+    control: &Control,
     entries: &[Option<T>],
     start: usize,
     tag: u8,
@@ -36,11 +72,10 @@ fn ask_group<T, F: FnMut(&T) -> bool>(
     ensures callable { F.IsAlwaysCallable f.new }
     ensures asked { AsksGroup F.FnMut (slots_of control.now entries.now) tag start f.old result f.new }
 {
-    let buckets = entries.len();
-    let group = load(control, start);
+    let group = control.group(start);
     let mut mask = match_tag(&group, tag);
     'lanes: while mask != 0 {
-        let b = wrap(start + lowest_lane(mask), buckets);
+        let b = control.wrap(start + lowest_lane(mask));
         match &entries[b] {
             Some(entry) => {
                 if f(entry) {
@@ -60,7 +95,7 @@ fn ask_group<T, F: FnMut(&T) -> bool>(
 
 // Asks about the entries with the tag of the hash, group by group, until one is accepted.
 pub(crate) fn find_bucket<T, F: FnMut(&T) -> bool>(
-    control: &[u8],
+    control: &Control,
     entries: &[Option<T>],
     hash: u64,
     mut f: F,
@@ -73,59 +108,48 @@ pub(crate) fn find_bucket<T, F: FnMut(&T) -> bool>(
 {
     let buckets = entries.len();
     let tag = tag_of(hash);
-    let mut start = wrap(hash as usize, buckets);
-    let mut stride = 0;
+    let mut probe = Probe::of(hash, buckets);
     'groups: loop {
-        match ask_group(control, entries, start, tag, &mut f) {
+        match ask_group(control, entries, probe.start, tag, &mut f) {
             Asked::Accepted(b) => return Some(b),
             Asked::Ended => return None,
-            Asked::GoesOn => {}
+            Asked::GoesOn => probe.go_on(buckets),
         }
-        stride += 16;
-        start = wrap(start + stride, buckets);
     }
 }
 
 // The first bucket of the group that begins here that is empty or deleted.
 #[inline]
-fn free_in_group(control: &[u8], buckets: usize, start: usize) -> Option<usize>
-    requires count { IsPowerFromFour buckets }
-    requires within { buckets + 16 ≤ length control.now }
-    requires repeated { IsRepeated control.now buckets }
-    requires some_free { (b : ℕ) × (b < buckets) × (128 ≤ slice_index control.now b) }
-    requires start { start < buckets }
-    ensures found { IfSome result (IsFreeLane control.now buckets start) }
-    ensures none { IfNone result ((lane : ℕ) → lane < 16 → slice_index control.now ((start + lane) % buckets) < 128) }
+fn free_in_group(control: &Control, start: usize) -> Option<usize>
+    requires start { start < buckets_of control.now }
+    requires some_free { HasFreeByte control.now }
+    ensures found { IfSome result (IsFreeLane control.now (buckets_of control.now) start) }
+    ensures none { IfNone result ((lane : ℕ) → lane < 16 → slice_index control.now ((start + lane) % buckets_of control.now) < 128) }
 {
-    let mask = match_free(&load(control, start));
+    let mask = match_free(&control.group(start));
     if mask == 0 {
         return None;
     }
-    let b = wrap(start + lowest_lane(mask), buckets);
-    if control[b] >= 128 {
+    let b = control.wrap(start + lowest_lane(mask));
+    if control.byte(b) >= 128 {
         return Some(b);
     }
     // Of 4 or 8 buckets, the lane was one of the bytes between them and their repetition: those from here on are full.
-    Some(lowest_lane(match_free(&load(control, 0))))
+    Some(lowest_lane(match_free(&control.group(0))))
 }
 
 // The first bucket in the order of a search for the hash that is empty or deleted.
-pub(crate) fn first_free(control: &[u8], buckets: usize, hash: u64) -> usize
-    requires count { IsPowerFromFour buckets }
-    requires within { buckets + 16 ≤ length control.now }
-    requires repeated { IsRepeated control.now buckets }
-    requires fits { length control.now < 2 ^ 63 }
-    requires some_free { (b : ℕ) × (b < buckets) × (128 ≤ slice_index control.now b) }
-    ensures { IsFirstFreeByte control.now buckets hash result }
+pub(crate) fn first_free(control: &Control, hash: u64) -> usize
+    requires { HasFreeByte control.now }
+    ensures { IsFirstFreeByte control.now (buckets_of control.now) hash result }
 {
-    let mut start = wrap(hash as usize, buckets);
-    let mut stride = 0;
+    let buckets = control.buckets();
+    let mut probe = Probe::of(hash, buckets);
     'groups: loop {
-        if let Some(b) = free_in_group(control, buckets, start) {
+        if let Some(b) = free_in_group(control, probe.start) {
             return b;
         }
-        stride += 16;
-        start = wrap(start + stride, buckets);
+        probe.go_on(buckets);
     }
 }
 

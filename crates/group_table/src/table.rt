@@ -8,10 +8,8 @@ ghost use Rattle.group_table.specs.Fits.{Fits, with_hash};
 ghost use Rattle.group_table.specs.Search.{Finds, FindsNone};
 ghost use Rattle.group_table.specs.Change.{Places, MayFill, HasNoPlace, Removes};
 
-use crate::control::{EMPTY, emptied_byte, tag_of};
-use crate::fields::{
-    clear_bytes, drop_entries, empty_bucket, empty_bytes, entry_mut, fill_bucket, no_entries,
-};
+use crate::control::{Control, EMPTY, emptied_byte, tag_of};
+use crate::fields::{drop_entries, empty_bucket, entry_mut, fill_bucket, no_entries};
 use crate::neighbours::has_empty_neighbours;
 use crate::probe::{find_bucket, first_free};
 use crate::sizes::full_capacity;
@@ -37,7 +35,7 @@ mod relocation;
 /// ```
 #[derive(Drop)]
 pub struct Table<T> {
-    control: Vec<u8>,
+    control: Control,
     entries: Vec<Option<T>>,
     room: usize,
     len: usize,
@@ -53,10 +51,10 @@ impl<T> Model for Table<T> {
     ghost use Rattle.group_table.specs.Bucket.{entry_count};
     ghost use Rattle.group_table.specs.Layout.{slots_of, IsValid};
 
-    ghost view = { λ t. record { slots = slots_of t.control.items t.entries.items; placings = t.placings } };
+    ghost view = { λ t. record { slots = slots_of t.control t.entries.items; placings = t.placings } };
 
-    ghost invariant = { λ t. IsValid t.control.items t.entries.items t.room
-        × (t.len ≡ entry_count (slots_of t.control.items t.entries.items)) };
+    ghost invariant = { λ t. IsValid t.control t.entries.items t.room
+        × (t.len ≡ entry_count (slots_of t.control t.entries.items)) };
 }
 
 impl<T> Table<T> {
@@ -70,7 +68,7 @@ impl<T> Table<T> {
         ensures fits { (hash_of : ℕ → ℕ) → Fits result.slots hash_of }
     {
         Table {
-            control: Vec::new(alloc),
+            control: Control::new(alloc),
             entries: Vec::new(alloc),
             room: 0,
             len: 0,
@@ -92,7 +90,7 @@ impl<T> Table<T> {
         if buckets == 0 {
             return Ok(Table::new(alloc));
         }
-        let control = empty_bytes(alloc, buckets + 16)?;
+        let control = Control::with_buckets(alloc, buckets)?;
         let entries = no_entries(alloc, buckets)?;
         Ok(Table {
             control,
@@ -117,7 +115,7 @@ impl<T> Table<T> {
         if self.entries.is_empty() {
             return None;
         }
-        find_bucket(self.control.as_slice(), self.entries.as_slice(), hash, f)
+        find_bucket(&self.control, self.entries.as_slice(), hash, f)
     }
 
     /// The entry in a full bucket.
@@ -160,7 +158,7 @@ impl<T> Table<T> {
         ensures fits { (hash_of : ℕ → ℕ) → Fits self.old.slots hash_of → Fits self.new.slots hash_of }
         ensures table { IsTable (marks_of self.new.slots) }
     {
-        let gives_room = has_empty_neighbours(self.control.as_slice(), self.entries.len(), b);
+        let gives_room = has_empty_neighbours(&self.control, b);
         self.room += gives_room as usize;
         self.len -= 1;
         let byte = emptied_byte(gives_room);
@@ -188,12 +186,11 @@ impl<T: Drop> Table<T> {
         ensures unchanged { OnErr result (self.new ≡ self.old) }
         ensures no_place { OnErr result (HasNoPlace (marks_of self.old.slots) hash) }
     {
-        let buckets = self.entries.len();
-        if buckets == 0 {
+        if self.entries.is_empty() {
             return Err(entry);
         }
-        let b = first_free(self.control.as_slice(), buckets, hash);
-        let spent = (self.control[b] == EMPTY) as usize;
+        let b = first_free(&self.control, hash);
+        let spent = (self.control.byte(b) == EMPTY) as usize;
         if self.room < spent {
             return Err(entry);
         }
@@ -211,7 +208,7 @@ impl<T: Drop> Table<T> {
         ensures table { IsTable (marks_of self.new.slots) }
         ensures fits { (hash_of : ℕ → ℕ) → Fits self.new.slots hash_of }
     {
-        clear_bytes(&mut self.control);
+        self.control.clear();
         drop_entries(&mut self.entries, self.len);
         self.room = full_capacity(self.entries.len());
         self.len = 0;

@@ -13,3 +13,4 @@ pub mod Relocations
 pub mod WalkRests
 pub mod Replacements
 pub mod ByHash
+pub mod Copies

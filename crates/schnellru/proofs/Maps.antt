@@ -9,3 +9,4 @@ pub mod ClearedMaps
 pub mod MovedPairs
 pub mod Placements
 pub mod SomeInsert
+pub mod EmptyMaps

@@ -14,6 +14,6 @@ pub mod Sums
 pub mod Limits
 pub mod CountedMoves
 pub mod Runs
-pub mod RunLaws
+pub mod RunLimits
 pub mod Removals
 pub mod GetOrInserts

@@ -5,13 +5,13 @@ use Rattle.std.specs.Prelude.{◌≡◌, Bool, [], Option, Some, None, option_ma
 use Rattle.std.specs.Map.{set_value}
 use Rattle.group_table.specs.Bucket.{empty}
 use Rattle.lru_limits.specs.Rules.{Rules}
-use Rattle.schnellru.specs.Lists.{first, last, without_first, lookup, lookup_entry, without, front}
+use Rattle.schnellru.specs.Lists.{first, last, without_first, lookup, lookup_entry, without, front, front_places}
 use Rattle.schnellru.specs.State.{State, buckets, Contents, contents, Leaves, told_of, pop}
 
 module _ {K V S H : Type 0} where
   -- the pair of the named key comes first
   abbrev pub promoted : (K → Bool) → State K V S H → State K V S H
-  promoted names st = record st { pairs = front names st.pairs }
+  promoted names st = record st { pairs = front names st.pairs; places = front_places names st.pairs st.places }
 
   -- the named key has this value
   abbrev pub written : (K → Bool) → V → State K V S H → State K V S H
@@ -58,4 +58,4 @@ module _ {K V S H : Type 0} (rules : Rules K V S) where
 
   -- Without pairs, in a table of as many buckets, all empty. The limiter is told of the clear alone.
   abbrev pub cleared : State K V S H → State K V S H
-  cleared st = record st { pairs = []; limiter = rules.on_cleared st.limiter; marks = replicate (buckets st) empty }
+  cleared st = record st { pairs = []; limiter = rules.on_cleared st.limiter; marks = replicate (buckets st) empty; places = [] }

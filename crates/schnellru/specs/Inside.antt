@@ -5,3 +5,4 @@ pub mod Holds
 pub mod Steps
 pub mod Rest
 pub mod Searches
+pub mod Copies

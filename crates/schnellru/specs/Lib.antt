@@ -5,7 +5,6 @@ pub mod Place
 pub mod Calls
 pub mod Inserts
 pub mod Reservations
-pub mod Coming
 pub mod Theorems
 pub mod GetOrInserts
 pub mod IfMade
@@ -13,3 +12,6 @@ pub mod Exact
 pub mod ByHash
 pub mod Inside
 pub mod Lending
+pub mod Drains
+pub mod Clones
+pub mod Runs

@@ -1,5 +1,5 @@
 -- Words on lists of pairs, newest first.
-use Rattle.std.specs.Prelude.{◌≡◌, Bool, true, false, List, [], ◌∷◌, ◌++◌, Option, Some, None}
+use Rattle.std.specs.Prelude.{◌≡◌, ℕ, Bool, true, false, if◌then◌else◌, List, [], ◌∷◌, ◌++◌, Option, Some, None}
 pub use Rattle.std.specs.Map.{lookup, lookup_entry, remove_entry as without, keys_of}
 
 module _ {X : Type 0} where
@@ -43,6 +43,22 @@ module _ {K V : Type 0} where
   -- the pair of the named key first, and then the others in their order
   abbrev pub front : (K → Bool) → List (K × V) → List (K × V)
   front names pairs = after (lookup_entry names pairs) (without names pairs)
+
+  -- among the places of the pairs, that of the named one
+  abbrev pub place_of : (K → Bool) → List (K × V) → List ℕ → Option ℕ
+  place_of names [] places = None
+  place_of names (pair ∷ pairs) [] = None
+  place_of names (pair ∷ pairs) (b ∷ places) = if names pair.0 then Some b else place_of names pairs places
+
+  -- those of the others
+  abbrev pub other_places : (K → Bool) → List (K × V) → List ℕ → List ℕ
+  other_places names [] places = places
+  other_places names (pair ∷ pairs) [] = []
+  other_places names (pair ∷ pairs) (b ∷ places) = if names pair.0 then places else b ∷ other_places names pairs places
+
+  -- that of the named pair first, and then the others in their order
+  abbrev pub front_places : (K → Bool) → List (K × V) → List ℕ → List ℕ
+  front_places names pairs places = after (place_of names pairs places) (other_places names pairs places)
 
   -- the value of the first pair
   abbrev pub newest_value : List (K × V) → Option V

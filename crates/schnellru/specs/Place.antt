@@ -26,6 +26,7 @@ module _ {K V S H : Type 0} where
     pub state : new ≡ record old {
       pairs = pair ∷ old.pairs;
       marks = new.marks;
+      places = new.places;
       placings = count_up old.placings (moves + 1);
       moved = count_up old.moved moves;
       placed = count_up old.placed 1;

@@ -24,6 +24,8 @@ pub record State (K V S H : Type 0) : Type 0 where
   pub hasher : H
   -- whether each bucket of the table is empty, deleted or full
   pub marks : List Mark
+  -- the bucket of each pair, newest first
+  pub places : List ℕ
   -- how many placings the table has made
   pub placings : ℕ
   -- how many entries inserts placed anew, and how many new ones they placed
@@ -41,6 +43,7 @@ module _ {K V S H : Type 0} where
     limiter = limiter;
     hasher = hasher;
     marks = [];
+    places = [];
     placings = 0;
     moved = 0;
     placed = 0;
@@ -105,11 +108,11 @@ module _ {K V S H : Type 0} where
   pub record MovesTo (count : ℕ) (old new : State K V S H) : Type 0 where
     pub table : buckets new ≡ count
     pub exact : length old.pairs + room new ≡ full_capacity count
-    pub state : new ≡ record old { marks = new.marks; placings = count_up old.placings (length old.pairs) }
+    pub state : new ≡ record old { marks = new.marks; places = new.places; placings = count_up old.placings (length old.pairs) }
 
   -- new is old with these contents, after some pairs left
   pub record Leaves (old : State K V S H) (left : Contents K V S) (new : State K V S H) : Type 0 where
-    pub is : new ≡ record old { pairs = left.pairs; limiter = left.limiter; marks = new.marks }
+    pub is : new ≡ record old { pairs = left.pairs; limiter = left.limiter; marks = new.marks; places = new.places }
     pub room : FreesRoom old new
 
 module _ {K V S : Type 0} (rules : Rules K V S) where

@@ -1,4 +1,5 @@
-//! What is proved of every insert and of every get. Each theorem is the contract of a function that does nothing.
+//! What is proved of each call, and of all calls, one after another. Each theorem is the contract of a function that does
+//! nothing.
 
 ghost use Rattle.std.specs.Prelude.{◌≡◌, ◌≢◌, ℕ, ◌≤◌, ◌<◌, ◌+◌, ◌*◌, ◌/◌, ◌⊎◌, ◌∷◌, Bool, false, Option, Some, None, IfSome, Result, Ok, true, IsOk, IsErr, length};
 ghost use Rattle.std.specs.List.{IsDistinct};
@@ -19,6 +20,13 @@ ghost use Rattle.schnellru.specs.Theorems.{PaysForMoves, CountsPlacings, Stores,
 
 use lru_limits::{ByLength, ByMemoryUsage, Insertion, Limiter, LookupKey, Summing};
 use std::hash::{BuildHasher, Hash};
+
+mod runs;
+
+pub use runs::{
+    runs_begin_with_maps, runs_keep_maps, runs_keep_sums, runs_keep_the_length,
+    runs_keep_the_memory_usage, runs_pay_for_moves,
+};
 
 /// An insert gives up pairs from the old end alone, save one whose replacement is refused.
 pub fn inserts_give_up_the_oldest<

@@ -15,6 +15,7 @@ pub use map::get_or_insert::GetOrInsertError;
 pub use map::report::MoveReport;
 pub use map::reserve::ReserveError;
 pub use map::{DEFAULT_ENTRY_BYTES, LruMap};
+pub use walk::drain::Drain;
 pub use walk::{Iter, Walk};
 
 #[cfg(test)]

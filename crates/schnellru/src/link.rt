@@ -23,6 +23,7 @@ use std::hash::{BuildHasher, Hash};
 use std::marker::Model;
 
 mod chain;
+mod copy;
 
 #[derive(Drop)]
 pub(crate) struct Pair<K, V> {

@@ -11,6 +11,7 @@ use std::hash::{BuildHasher, Hash};
 use std::marker::Model;
 
 mod by_hash;
+mod clone;
 mod evict;
 mod figures;
 pub(crate) mod get_or_insert;

@@ -6,17 +6,21 @@ use std::ops::RangeInclusive;
 
 mod capacities;
 mod costs;
+mod drops;
 mod forms;
 mod hashers;
 mod hashes;
 mod hog;
+mod lending;
 mod limiters;
 mod limits;
 mod orders;
 mod readme;
 mod refusals;
 mod removals;
+mod sizes;
 mod texts;
+mod walks;
 
 // A map of numbers with entries of 16 bytes.
 fn map_of<L: Limiter<u64, u64>>(alloc: Global, limiter: L) -> LruMap<u64, u64, L, RandomState> {

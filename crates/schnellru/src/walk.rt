@@ -1,7 +1,9 @@
 //! Walking the pairs of a map in their order of use.
-ghost use Rattle.std.specs.Prelude.{◌≡◌, length};
-ghost use Rattle.std.specs.Iterator.{at_most};
+ghost use Rattle.std.specs.Prelude.{◌≡◌, ◌<◌, ◌^◌, length, Some, IfSome};
+ghost use Rattle.std.specs.Iterator.{at_most, UpTo};
+ghost use Rattle.std.specs.Iterator.SizeHint.{IsWithinCount};
 ghost use Rattle.std.specs.Map.Iter.{ShowsInOrder, ShowsInReverse, TakesFirst, TakesLast, deref_pair};
+ghost use Rattle.schnellru.specs.State.{IsMap};
 
 use crate::link::Linked;
 use crate::map::LruMap;
@@ -10,6 +12,8 @@ use lru_limits::Limiter;
 use std::hash::{BuildHasher, Hash};
 use std::iter::FusedIterator;
 use std::marker::Model;
+
+pub(crate) mod drain;
 
 /// The walk of a map under this limiter. A function over the walks of all limiters takes a `Walk`.
 ///
@@ -56,7 +60,12 @@ impl<'a, K, V, N: LinkType> Iterator for Walk<'a, K, V, N> {
         Some((&pair.key, &pair.value))
     }
 
-    fn size_hint(&self) -> (usize, Option<usize>) {
+    /// Exactly how many pairs are left, as `len` says.
+    fn size_hint(&self) -> (usize, Option<usize>)
+        ensures lower { IsWithinCount result.0 (at_most (length self.now)) }
+        ensures upper { IfSome result.1 (UpTo (at_most (length self.now))) }
+        ensures exact { result ≡ (length self.now, Some (length self.now)) }
+    {
         (self.left, Some(self.left))
     }
 }
@@ -99,6 +108,8 @@ impl<K: Eq + Hash, V, L: Limiter<K, V>, S: BuildHasher> LruMap<K, V, L, S> {
         ensures rest { result ≡ self.now.pairs }
         ensures runs { ShowsInOrder (deref_pair {K = K} {X = V}) }
         ensures runs_back { ShowsInReverse (deref_pair {K = K} {X = V}) }
+        ensures map { IsMap K.eq self.now }
+        ensures fits { length self.now.pairs < 2 ^ 64 }
     {
         Walk {
             entries: &self.entries,
@@ -106,5 +117,19 @@ impl<K: Eq + Hash, V, L: Limiter<K, V>, S: BuildHasher> LruMap<K, V, L, S> {
             back: self.entries.last(),
             left: self.entries.len(),
         }
+    }
+}
+
+/// So that `for (key, value) in &map` walks the pairs, newest first.
+impl<'a, K: Eq + Hash, V, N: LinkType + 'a, L: Limiter<K, V, LinkType = N>, S: BuildHasher> IntoIterator
+    for &'a LruMap<K, V, L, S> {
+    type Item = (&'a K, &'a V);
+
+    type IntoIter = Walk<'a, K, V, N>;
+
+    ghost into_iter_gives = { λ m r. (r ≡ m.now.pairs) × (length m.now.pairs < 2 ^ 64) × ShowsInOrder (deref_pair {K = K} {X = V}) × IsMap K.eq m.now };
+
+    fn into_iter(self) -> Walk<'a, K, V, N> {
+        self.iter()
     }
 }

@@ -1,5 +1,5 @@
 //! `clone_with`: a table of the same buckets with entries of their own.
-ghost use Rattle.std.specs.Prelude.{◌≡◌, ℕ, IfOk};
+ghost use Rattle.std.specs.Prelude.{◌≡◌, ℕ, length, IfOk, IsOk};
 ghost use Rattle.std.specs.List.{AllZip};
 ghost use Rattle.group_table.specs.Bucket.{marks_of};
 ghost use Rattle.group_table.specs.Table.{IsTable};
@@ -10,8 +10,16 @@ use crate::table::Table;
 use std::alloc::{AllocError, Global};
 
 impl<T: Drop> Table<T> {
-    /// A table of the same buckets, with what `f` answers of each entry. `f` is asked in rising order of the buckets, once
-    /// for each entry, until it answers an error, which is then the answer.
+    /// A table of the same buckets, with what `f` answers of each entry.
+    ///
+    /// `f` is asked in rising order of the buckets, once for each entry, until it answers an error. Deleted buckets stay
+    /// deleted, so the room is the same, and the placings are taken over. It takes time by the buckets, and two requests
+    /// for memory.
+    ///
+    /// # Errors
+    ///
+    /// Want of memory, or the error of `f`. What was copied is dropped then. A table without buckets asks for no memory,
+    /// and its copy is never refused.
     pub fn clone_with<F: Fn(&T) -> Result<T, AllocError>>(&self, f: F) -> Result<Self, AllocError>
         requires callable { F.IsAlwaysCallable f }
         ensures copies { IfOk result (λ t. Copies F.Fn f self.now.slots t.slots) }
@@ -19,9 +27,15 @@ impl<T: Drop> Table<T> {
         ensures placings { IfOk result (λ t. t.placings ≡ self.now.placings) }
         ensures fits { IfOk result (λ t. (hash_of : ℕ → ℕ) → Fits self.now.slots hash_of → Fits t.slots hash_of) }
         ensures table { IfOk result (λ t. IsTable (marks_of t.slots)) }
+        ensures succeeds { length self.now.slots ≡ 0 → IsOk result }
     {
-        let alloc = *self.control.allocator();
-        let control = Vec::from_slice(alloc, self.control.as_slice())?;
+        let alloc = *self.entries.allocator();
+        if self.entries.is_empty() {
+            let mut none = Table::new(alloc);
+            none.placings = self.placings;
+            return Ok(none);
+        }
+        let control = self.control.copied(alloc)?;
         let entries = copy_entries(alloc, self.entries.as_slice(), &f)?;
         Ok(Table {
             control,

@@ -49,6 +49,6 @@ impl<T> Table<T> {
         ensures full { IsTrue result ↔ IsFull self.now.slots b }
         ensures table { IsTable (marks_of self.now.slots) }
     {
-        b < self.buckets() && self.control[b] < DELETED
+        b < self.buckets() && self.control.byte(b) < DELETED
     }
 }

@@ -19,7 +19,7 @@ impl<T: Drop> Table<T> {
         ensures joins { Joins self.old.slots self.new.slots hash entry result }
         ensures placings { self.new.placings ≡ self.old.placings }
     {
-        let b = first_free(self.control.as_slice(), self.entries.len(), hash);
+        let b = first_free(&self.control, hash);
         fill_bucket(&mut self.control, &mut self.entries, b, tag_of(hash), entry);
         self.room -= 1;
         self.len += 1;

@@ -1,12 +1,12 @@
 //! The calls of `Table` that move every entry.
-ghost use Rattle.std.specs.Prelude.{◌≡◌, ℕ, ◌+◌, ◌^◌, ◌<◌, ◌≤◌, length, count_by, IfOk, OnErr, OnOk, IsOk};
+ghost use Rattle.std.specs.Prelude.{◌≡◌, ℕ, ◌+◌, ◌^◌, ◌<◌, ◌≤◌, [], length, count_by, IfOk, OnErr, OnOk, IsOk};
 ghost use Rattle.group_table.specs.Sizes.{IsPowerFromFour, full_capacity};
 ghost use Rattle.group_table.specs.Bucket.{marks_of, entry_count, is_deleted, room};
 ghost use Rattle.group_table.specs.Table.{IsTable};
 ghost use Rattle.group_table.specs.Change.{count_up};
 ghost use Rattle.group_table.specs.Relocation.{Renumbers, KeepsHashes, GivesHashes};
 
-use crate::fields::{clear_bytes, no_links};
+use crate::fields::no_links;
 use crate::link::LinkType;
 use crate::sizes::full_capacity;
 use crate::table::Table;
@@ -34,6 +34,7 @@ impl<T: Drop> Table<T> {
         requires callable { H.IsAlwaysCallable hash_of }
         ensures buckets { OnOk result (length self.new.slots ≡ buckets) }
         ensures renumbered { IfOk result (λ links. Renumbers N.number N.MAX self.old.slots self.new.slots links.items) }
+        ensures no_links { IfOk result (λ links. entry_count self.old.slots ≡ 0 → links.items ≡ []) }
         ensures entries { OnOk result (entry_count self.new.slots ≡ entry_count self.old.slots) }
         ensures room { OnOk result (
             room (marks_of self.new.slots) + entry_count self.old.slots ≡ full_capacity (length self.new.slots)) }
@@ -44,7 +45,7 @@ impl<T: Drop> Table<T> {
         ensures table { IsTable (marks_of self.new.slots) }
         ensures unchanged { OnErr result (self.new ≡ self.old) }
     {
-        let alloc = *self.control.allocator();
+        let alloc = *self.entries.allocator();
         let mut fresh = Table::with_buckets(alloc, buckets)?;
         if self.len == 0 {
             fresh.placings = self.placings;
@@ -71,6 +72,7 @@ impl<T: Drop> Table<T> {
         requires callable { H.IsAlwaysCallable hash_of }
         ensures buckets { length self.new.slots ≡ length self.old.slots }
         ensures renumbered { IfOk result (λ links. Renumbers N.number N.MAX self.old.slots self.new.slots links.items) }
+        ensures no_links { IfOk result (λ links. entry_count self.old.slots ≡ 0 → links.items ≡ []) }
         ensures entries { OnOk result (entry_count self.new.slots ≡ entry_count self.old.slots) }
         ensures room { OnOk result (
             room (marks_of self.new.slots) + entry_count self.old.slots ≡ full_capacity (length self.new.slots)) }
@@ -82,14 +84,14 @@ impl<T: Drop> Table<T> {
         ensures unchanged { OnErr result (self.new ≡ self.old) }
         ensures succeeds { entry_count self.old.slots ≡ 0 → IsOk result }
     {
-        let alloc = *self.control.allocator();
+        let alloc = *self.entries.allocator();
         if self.len == 0 {
             self.clear();
             return Ok(Vec::new(alloc));
         }
         let buckets = self.entries.len();
         let mut links = no_links(alloc, buckets)?;
-        clear_bytes(&mut self.control);
+        self.control.clear();
         place_again(&mut self.control, &mut self.entries, &mut links, &hash_of);
         self.room = full_capacity(buckets) - self.len;
         self.placings = self.placings.saturating_add(self.len as u64);

@@ -3,12 +3,14 @@ use std::process::Abort;
 use std::test::Fail;
 
 mod bytes;
+mod drawn;
+mod drops;
 mod hog;
 mod orders;
 mod relocations;
 
 // An empty table of 4, 8, 16, 32 or, for any other number, 64 buckets.
-fn table_of(alloc: Global, buckets: usize) -> Result<Table<u64>, AllocError> {
+fn table_of<T>(alloc: Global, buckets: usize) -> Result<Table<T>, AllocError> {
     match buckets {
         4 => Table::with_buckets(alloc, 4),
         8 => Table::with_buckets(alloc, 8),

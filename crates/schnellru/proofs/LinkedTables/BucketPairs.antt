@@ -6,13 +6,18 @@ use Rattle.std.specs.List.{AllByRecursion}
 use Rattle.group_table.specs.Bucket.{Slot, empty, deleted, IsFull, bucket_at, entry_at}
 use Rattle.group_table.specs.Change.{Removes}
 use Rattle.group_table.proofs.SearchLemmas.{entry_by_full, full_by_entry}
+use Rattle.std.proofs.lemmas.List.Elements.{Contains-append_left}
+use Rattle.schnellru.specs.Lists.{place_of, other_places, front_places, after}
 use Rattle.schnellru.specs.Lists.{lookup, lookup_entry, without, first, last, without_first, without_last}
 use Rattle.schnellru.specs.Inside.Linked.{Linked, IsLinked, entries_in, pairs_of, without_bucket}
 use Rattle.schnellru.specs.Inside.Chain.{first_bucket, last_bucket}
 use Rattle.schnellru.proofs.PairLists.DistinctKeys.{AreDistinct, NoneNamed, none_found}
 use Rattle.schnellru.proofs.Chains.Orders.{first_in, no_first, last_in, length-without}
 use Rattle.schnellru.proofs.PairLists.NamedPairs.{lookup-entry, cut_found, cut_without, others_unnamed, last_end, without_last_end}
-use Rattle.schnellru.proofs.LinkedTables.OrderCuts.{Cut, cut_at, cut_first, cut_last, without_lacks, entries-cut, entries-without, entries-apart}
+use Rattle.schnellru.proofs.LinkedTables.OrderCuts.{Cut, cut_at, cut_first, cut_last, cut_without as order_without, without_lacks, entries-cut, entries-without, entries-apart}
+
+before_in : {b : ℕ} {order : List ℕ} (cut : Cut b order) (c : ℕ) → Contains cut.before c → Contains order c
+before_in {b} cut c w = subst (λ l. Contains l c) (sym cut.whole) (Contains-append_left cut.before (b ∷ cut.after) c w)
 
 module _ {T : Type 0} where
   -- these buckets are full
@@ -27,6 +32,24 @@ module _ {T : Type 0} where
   pub all_full : (slots : List (Slot T)) (order : List ℕ) → ((b : ℕ) → Contains order b → IsFull slots b) → AreFull slots order
   all_full slots [] h = tt
   all_full slots (b ∷ bs) h = (h b (0, omega arith, refl), all_full slots bs (λ c k. h c (suc k.0, omega (arith, k.1), k.2)))
+
+-- the places of pairs, cut at the named one
+module _ {K V : Type 0} (slots : List (Slot (K × V))) (names : K → Bool) (p : K × V) (named : names p.0 ≡ true) (b : ℕ) (after : List ℕ) where
+  place_cut : (before : List ℕ) → AreFull slots before → NoneNamed names (entries_in slots before)
+      → place_of names (entries_in slots before ++ p ∷ entries_in slots after) (before ++ b ∷ after) ≡ Some b
+  place_cut [] full none = rw named refl
+  place_cut (c ∷ cs) full none =
+      let e = entry_by_full (bucket_at slots c) full.0 in
+      let first = subst (λ o. NoneNamed names (option_to_list o ++ entries_in slots cs)) e.1 none in
+      rw e.1 (rw first.0 (place_cut cs full.1 first.1))
+
+  places_cut : (before : List ℕ) → AreFull slots before → NoneNamed names (entries_in slots before)
+      → other_places names (entries_in slots before ++ p ∷ entries_in slots after) (before ++ b ∷ after) ≡ before ++ after
+  places_cut [] full none = rw named refl
+  places_cut (c ∷ cs) full none =
+      let e = entry_by_full (bucket_at slots c) full.0 in
+      let first = subst (λ o. NoneNamed names (option_to_list o ++ entries_in slots cs)) e.1 none in
+      rw e.1 (rw first.0 (ap (λ l. c ∷ l) (places_cut cs full.1 first.1)))
 
 module _ {K V : Type 0} (t : Linked K V) (linked : IsLinked t) where
   -- the pair of the bucket b, the order cut there
@@ -47,6 +70,19 @@ module _ {K V : Type 0} (t : Linked K V) (linked : IsLinked t) where
 
       pub value_found : lookup names (pairs_of t) ≡ Some p.1
       value_found = lookup-entry names (pairs_of t) ∙ ap (option_map (λ e. e.1)) pair_found
+
+      -- the place of the pair
+      pub place_found : place_of names (pairs_of t) t.order ≡ Some b
+      place_found = (λ i. place_of names (cut_pairs i) (cut_here.whole i)) ∙ place_cut t.slots names p named b cut_here.after cut_here.before
+          (all_full t.slots cut_here.before (λ c w. linked.only c (before_in cut_here c w))) unnamed
+
+      -- and those of the others
+      pub other_places_are : other_places names (pairs_of t) t.order ≡ without_bucket b t.order
+      other_places_are = (λ i. other_places names (cut_pairs i) (cut_here.whole i)) ∙ places_cut t.slots names p named b cut_here.after cut_here.before
+          (all_full t.slots cut_here.before (λ c w. linked.only c (before_in cut_here c w))) unnamed ∙ sym (order_without cut_here)
+
+      pub places_are : front_places names (pairs_of t) t.order ≡ b ∷ without_bucket b t.order
+      places_are = λ i. after (place_found i) (other_places_are i)
 
       -- the others, in their order
       pub others_are : without names (pairs_of t) ≡ entries_in t.slots (without_bucket b t.order)

@@ -13,7 +13,7 @@ use Rattle.schnellru.specs.Calls.{promoted}
 use Rattle.schnellru.proofs.Chains.Orders.{first_in, before_is, before_first}
 use Rattle.schnellru.proofs.Chains.Neighbours.{newest_again}
 use Rattle.schnellru.proofs.PairLists.DistinctKeys.{AreDistinct, distinct_first}
-use Rattle.schnellru.proofs.LinkedTables.BucketPairs.{pair_found, others_are}
+use Rattle.schnellru.proofs.LinkedTables.BucketPairs.{pair_found, others_are, places_are}
 use Rattle.schnellru.proofs.Maps.HeldMaps.{alike_holds}
 use Rattle.schnellru.proofs.LinkedTables.Writes.{written_first, first_holds}
 
@@ -31,7 +31,7 @@ module _ {K V : Type 0} (t v : Linked K V) (linked : IsLinked t) (b : ℕ) (p : 
 
   module _ {S H : Type 0} (beside : Beside S H) where
     pub promoted_state : state_of v beside ≡ promoted names (state_of t beside)
-    promoted_state = λ i. record (state_of v beside) { pairs = promoted_pairs i; marks = marks_of (slots i); placings = counted i }
+    promoted_state = λ i. record (state_of v beside) { pairs = promoted_pairs i; marks = marks_of (slots i); places = (order ∙ sym (places_are t linked b p there names laws one distinct named)) i; placings = counted i }
 
     pub promoted_holds : (hash_of : H → K → ℕ) → Holds eq hash_of t beside → IsLinked v → Holds eq hash_of v beside
     promoted_holds hash_of holds next = alike_holds beside eq hash_of t v holds next (subst (KeysFit (hash_of beside.hasher)) (sym slots) holds.fits)

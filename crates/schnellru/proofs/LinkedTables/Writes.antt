@@ -15,7 +15,7 @@ use Rattle.schnellru.specs.Inside.Holds.{Beside, state_of, Holds}
 use Rattle.schnellru.specs.Calls.{promoted, written}
 use Rattle.schnellru.proofs.LinkedTables.OrderCuts.{without_lacks, entries-apart, entries-cut}
 use Rattle.schnellru.proofs.PairLists.DistinctKeys.{AreDistinct, NoneNamed, distinct_newest}
-use Rattle.schnellru.proofs.LinkedTables.BucketPairs.{cut_here, cut_pairs, unnamed, pair_found, others_are}
+use Rattle.schnellru.proofs.LinkedTables.BucketPairs.{cut_here, cut_pairs, unnamed, pair_found, others_are, places_are}
 use Rattle.schnellru.proofs.Maps.HeldMaps.{alike_holds}
 
 module _ {K V : Type 0} (t : Linked K V) (b : ℕ) (q : K × V) where
@@ -55,7 +55,7 @@ module _ {K V : Type 0} (t v : Linked K V) (linked : IsLinked t) (b : ℕ) (p : 
     marks = marks_of-refilled v.slots b (p.0, w) ∙ ap marks_of slots
 
     pub first_state : state_of (with_pair v b (p.0, w)) beside ≡ written names w (promoted names (state_of t beside))
-    first_state = λ i. record (state_of (with_pair v b (p.0, w)) beside) { pairs = (first_pairs w ∙ sym (first_set w)) i; marks = marks i; placings = counted i }
+    first_state = λ i. record (state_of (with_pair v b (p.0, w)) beside) { pairs = (first_pairs w ∙ sym (first_set w)) i; marks = marks i; places = (order ∙ sym (places_are t linked b p there names laws one distinct named)) i; placings = counted i }
 
     pub first_holds : (hash_of : H → K → ℕ) → Holds eq hash_of t beside → IsLinked (with_pair v b (p.0, w))
         → KeysFit (hash_of beside.hasher) (with_pair v b (p.0, w)).slots → Holds eq hash_of (with_pair v b (p.0, w)) beside

@@ -23,7 +23,7 @@ module _ {K V S H : Type 0} (rules : Rules K V S) (t u : Linked K V) (slots : u.
   none_left = ap (entries_in u.slots) order
 
   pub cleared_is : state_of u (record beside { limiter = told }) ≡ cleared rules (state_of t beside)
-  cleared_is = λ i. record (state_of u (record beside { limiter = is_told i })) { pairs = none_left i; marks = marks i; placings = counted i }
+  cleared_is = λ i. record (state_of u (record beside { limiter = is_told i })) { pairs = none_left i; marks = marks i; places = order i; placings = counted i }
 
   pub cleared_holds : (eq : K → K → Bool) (hash_of : H → K → ℕ) → Holds eq hash_of t beside → IsLinked u → KeysFit (hash_of beside.hasher) u.slots
       → Holds eq hash_of u (record beside { limiter = told })

@@ -20,8 +20,8 @@ module _ {K V : Type 0} (names : K → Bool) where
 
 module _ {K V S H : Type 0} (st : State K V S H) where
   -- a table is as sound with as many pairs
-  sized_with : (pairs : List (K × V)) → length pairs ≡ length st.pairs → IsSized st → IsSized (record st { pairs = pairs })
-  sized_with pairs same ok = record {
+  sized_with : (pairs : List (K × V)) (places : List ℕ) → length pairs ≡ length st.pairs → IsSized st → IsSized (record st { pairs = pairs; places = places })
+  sized_with pairs places same ok = record {
     table = ok.table;
     taken = ok.taken ∙ sym same;
     reachable = ok.reachable;
@@ -31,12 +31,12 @@ module _ {K V S H : Type 0} (st : State K V S H) where
   }
 
   pub promoted_sized : (names : K → Bool) → IsSized st → IsSized (promoted names st)
-  promoted_sized names ok = sized_with _ (length-front_pairs names st.pairs) ok
+  promoted_sized names ok = sized_with _ _ (length-front_pairs names st.pairs) ok
 
   pub written_is_map : (names : K → Bool) (value : V) {eq : K → K → Bool} → IsMap eq st → IsMap eq (written names value st)
   written_is_map names value {eq} ok = record {
     distinct = subst (IsDistinct eq) (sym (keys-set_value names st.pairs value)) ok.distinct;
-    sized = sized_with _ (length-set_value names st.pairs value) ok.sized;
+    sized = sized_with _ _ (length-set_value names st.pairs value) ok.sized;
     paid = ok.paid;
   }
 

@@ -1,6 +1,7 @@
 -- The keys of the pairs stay distinct, and a pair is found if its key is named.
 use Rattle.std.proofs.Common.{◌≡◌, ℕ, Bool, true, false, cond, List, [], ◌∷◌, ◌++◌, length, Option, Some, None, refl, sym, ◌∙◌, subst}
-use Rattle.std.specs.List.{IsDistinct, AllByRecursion}
+use Rattle.std.specs.Cmp.{IsEquivalence}
+use Rattle.std.specs.List.{IsDistinct, AllByRecursion, AllZip}
 use Rattle.lru_limits.specs.Rules.{Rules, Offers}
 use Rattle.lru_limits.specs.Laws.{IsLookup, IsInsertion, kept_value}
 use Rattle.schnellru.specs.Lists.{IsFront, after, front, lookup_entry, without, keys_of}
@@ -128,3 +129,22 @@ module _ {K V S I : Type 0} (rules : Rules K V S) (offers : Offers K V S I) (nam
     turned_down = λ i v c s n d. d;
     exchanged = exchanged_distinct;
   }
+
+-- keys that equal distinct ones, one by one, are distinct
+module _ {K V : Type 0} {eq : K → K → Bool} (laws : IsEquivalence eq) (R : K × V → K × V → Type 0)
+    (equal : (p q : K × V) → R p q → eq p.0 q.0 ≡ true) where
+  apart_same : (x y : K) (xs ys : List (K × V)) → eq x y ≡ true → AllZip R xs ys → AllByRecursion (λ k. eq x k ≡ false) (keys_of xs)
+      → AllByRecursion (λ k. eq y k ≡ false) (keys_of ys)
+  apart_same x y [] [] e z h = tt
+  apart_same x y [] (q ∷ qs) e z h = absurd z
+  apart_same x y (p ∷ ps) [] e z h = absurd z
+  apart_same x y (p ∷ ps) (q ∷ qs) e z h =
+      (sym (laws.congr x y q.0 e) ∙ laws.symm x q.0 ∙ sym (laws.congr p.0 q.0 x (equal p q z.0)) ∙ laws.symm p.0 x ∙ h.0,
+      apart_same x y ps qs e z.1 h.1)
+
+  pub distinct_same : (xs ys : List (K × V)) → AllZip R xs ys → AreDistinct eq xs → AreDistinct eq ys
+  unfolding IsDistinct
+  distinct_same [] [] z d = tt
+  distinct_same [] (q ∷ qs) z d = absurd z
+  distinct_same (p ∷ ps) [] z d = absurd z
+  distinct_same (p ∷ ps) (q ∷ qs) z d = (apart_same p.0 q.0 ps qs (equal p q z.0) z.1 d.0, distinct_same ps qs z.1 d.1)

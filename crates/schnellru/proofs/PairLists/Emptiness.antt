@@ -1,6 +1,6 @@
 -- Whether a list is empty, by its length.
-use Rattle.std.proofs.Common.{◌≡◌, ◌<◌, true, false, List, [], ◌∷◌, length, refl, arith}
-use Rattle.schnellru.specs.Lists.{is_empty}
+use Rattle.std.proofs.Common.{◌≡◌, ◌<◌, ◌⊎◌, inl, inr, true, false, List, [], ◌∷◌, length, Some, None, refl, arith}
+use Rattle.schnellru.specs.Lists.{is_empty, last}
 
 module _ {X : Type 0} where
   pub empty-length : (xs : List X) → is_empty xs ≡ true → length xs ≡ 0
@@ -18,3 +18,12 @@ module _ {X : Type 0} where
   pub is_empty-some : (xs : List X) → 0 < length xs → is_empty xs ≡ false
   is_empty-some [] h = absurd (omega arith)
   is_empty-some (x ∷ xs) h = refl
+
+  -- there is a last one, or none
+  pub last_cases : (xs : List X) → (last xs ≡ None) ⊎ ((x : X) × (last xs ≡ Some x) × (0 < length xs))
+  last_cases [] = inl refl
+  last_cases (x ∷ xs) = inr (go x xs)
+    where
+      go : (y : X) (ys : List X) → (z : X) × (last (y ∷ ys) ≡ Some z) × (0 < length (y ∷ ys))
+      go y [] = (y, refl, omega arith)
+      go y (z ∷ zs) = let on = go z zs in (on.0, on.1, omega arith)

@@ -8,10 +8,10 @@ use Rattle.group_table.specs.Sizes.{full_capacity, IsBucketCount}
 use Rattle.group_table.specs.Bucket.{Mark, empty, is_used, room as room_of}
 use Rattle.lru_limits.specs.Rules.{Rules, Offers}
 use Rattle.schnellru.specs.State.{State, buckets, Contents, contents, MovesTo}
-use Rattle.schnellru.specs.Calls.{promoted, pop_first, Remove, PopOldest, PopNewest, cleared}
+use Rattle.schnellru.specs.Calls.{promoted, written, pop_first, Remove, PopOldest, PopNewest, cleared}
 use Rattle.schnellru.specs.Place.{asked}
 use Rattle.schnellru.specs.declared.map.reserve.ReserveError.{ReserveError}
-use Rattle.schnellru.specs.Coming.{Write, pops_first, Drain}
+use Rattle.schnellru.specs.Drains.{pops_first, Drained}
 use Rattle.schnellru.specs.GetOrInserts.{MakesNewest, got, inserted}
 use Rattle.schnellru.specs.Reservations.{Reserve, too_many, enough_room, no_such_table, remade, no_memory_to_remake, denied_room, reserved, no_memory_to_grow}
 use Rattle.schnellru.proofs.TableSizes.Growth.{full_capacity-at_most, full_capacity-double, target_doubles, target_usage}
@@ -48,8 +48,8 @@ room_within marks = omega arith
 
 module _ {K V S H : Type 0} (rules : Rules K V S) (old : State K V S H) where
   -- other pairs, no more than before
-  pairs_calm : (pairs : List (K × V)) → length pairs ≡ length old.pairs → Calm old (record old { pairs = pairs })
-  pairs_calm pairs same = record {
+  pairs_calm : (pairs : List (K × V)) (places : List ℕ) → length pairs ≡ length old.pairs → Calm old (record old { pairs = pairs; places = places })
+  pairs_calm pairs places same = record {
     entry_bytes = refl;
     placings = refl;
     moved = refl;
@@ -74,7 +74,7 @@ module _ {K V S H : Type 0} (rules : Rules K V S) (old : State K V S H) where
 
 module _ {K V S H Q : Type 0} (rules : Rules K V S) (names : Q → K → Bool) (R : Contents K V S → Contents K V S → Type 0) (k : Keeps rules names R) (old : State K V S H) where
   pub promoted_changes : (q : Q) → Changes rules R 0 old (promoted (names q) old)
-  promoted_changes q = calm_changes rules R 0 old _ (pairs_calm rules old _ (length-front_pairs (names q) old.pairs)) (k.first q (contents old))
+  promoted_changes q = calm_changes rules R 0 old _ (pairs_calm rules old _ _ (length-front_pairs (names q) old.pairs)) (k.first q (contents old))
 
   pub remove_changes : (test : K → Bool) (result : Option V) (new : State K V S H) → Remove rules test old result new → Changes rules R 0 old new
   remove_changes test result new h = leaves_changes rules R 0 old _ new h.state (k.left test (contents old))
@@ -88,15 +88,15 @@ module _ {K V S H Q : Type 0} (rules : Rules K V S) (names : Q → K → Bool) (
   pub cleared_changes : Changes rules R 0 old (cleared rules old)
   cleared_changes = calm_changes rules R 0 old _ (cleared_calm rules old) (k.cleared (contents old))
 
-  pub drain_changes : (newest oldest : ℕ) (result : List (K × V)) (new : State K V S H) → Drain rules newest oldest old result new → Changes rules R 0 old new
+  pub drain_changes : (newest oldest : ℕ) (result : List (K × V)) (new : State K V S H) → Drained rules newest oldest old result new → Changes rules R 0 old new
   drain_changes newest oldest result new h = let (mid, l, e) = h.state in
       let r = k.way.trans (pops_first_keep rules names R k newest (contents old)) (pops_keep rules R k.way oldest _) in
       rw e (calm_changes rules R 0 old _ (calm_trans old mid _ (leaves_calm old _ mid l) (cleared_calm rules mid)) (k.way.trans (leaves_keep R old _ mid l r) (k.cleared (contents mid))))
 
 module _ {K V S H : Type 0} (rules : Rules K V S) (R : Contents K V S → Contents K V S → Type 0) (old : State K V S H) where
   -- what a value that is written or a limiter that is set keeps is for the law to say
-  pub write_changes : (names : K → Bool) (value : V) (result : Bool) (new : State K V S H) → Write names value old result new → R (contents old) (contents new) → Changes rules R 0 old new
-  write_changes names value result new h r = calm_changes rules R 0 old new (rw h.state (pairs_calm rules old _ (length-set_value names old.pairs value))) r
+  pub written_changes : (test : K → Bool) (value : V) → R (contents old) (contents (written test value old)) → Changes rules R 0 old (written test value old)
+  written_changes test value r = calm_changes rules R 0 old _ (pairs_calm rules old _ _ (length-set_value test old.pairs value)) r
 
   pub set_changes : (s : S) → R (contents old) (record { pairs = old.pairs; limiter = s }) → Changes rules R 0 old (record old { limiter = s })
   set_changes s r = calm_changes rules R 0 old _ (limiter_calm old s) r
@@ -144,5 +144,5 @@ module _ {K V S H : Type 0} (rules : Rules K V S) (R : Contents K V S → Conten
 module _ {K V S H I : Type 0} (rules : Rules K V S) (offers : Offers K V S I) (names : I → K → Bool) (R : Contents K V S → Contents K V S → Type 0) (k : KeepsOffers rules offers names R)
     (hash_of : H → K → ℕ) (makes : V → Type 0) (i : I) (old : State K V S H) (result : Result Bool AllocError) (new : State K V S H) where
   pub makes_newest_changes : MakesNewest rules offers names hash_of makes i old result new → Changes rules R 1 old new
-  makes_newest_changes (got w e r step) = calm_changes rules R 1 old new (rw step (pairs_calm rules old _ (length-front_pairs (names i) old.pairs))) (rw step (k.keeps.first i (contents old)))
+  makes_newest_changes (got w e r step) = calm_changes rules R 1 old new (rw step (pairs_calm rules old _ _ (length-front_pairs (names i) old.pairs))) (rw step (k.keeps.first i (contents old)))
   makes_newest_changes (inserted e v m step) = insert_changes rules offers names R k hash_of i v old result new step

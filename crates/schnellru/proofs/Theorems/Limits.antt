@@ -19,7 +19,7 @@ use Rattle.schnellru.proofs.Theorems.Fronts.{front_make_way, length-front}
 use Rattle.schnellru.proofs.Theorems.InsertAnswers.{IsWithin, trim_ends, Comes, place_comes}
 
 module _ {K V : Type 0} (names : K → Bool) where
-  length-without : (xs : List (K × V)) → length (without names xs) ≤ length xs
+  pub length-without : (xs : List (K × V)) → length (without names xs) ≤ length xs
   length-without [] = omega arith
   length-without (x ∷ xs) = go (names x.0) (length-without xs)
     where

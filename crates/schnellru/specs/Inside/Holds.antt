@@ -21,6 +21,7 @@ module _ {K V S H : Type 0} where
     limiter = beside.limiter;
     hasher = beside.hasher;
     marks = marks_of entries.slots;
+    places = entries.order;
     placings = entries.placings;
     moved = beside.moved;
     placed = beside.placed;

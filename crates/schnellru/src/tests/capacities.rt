@@ -45,8 +45,8 @@ fn capacity_growth(rt: HostRuntime) -> Result<(), Fail> {
     Ok(())
 }
 
-// 28 pairs of hash 0 under the memory of 32 buckets, and one of hash 28, for which no bucket serves before fewer than half
-// are left.
+// 28 pairs of hash 0 under the memory of 32 buckets, and one of hash 28, for which no bucket serves before fewer than
+// half are left.
 #[test]
 fn half_of_the_pairs_leave(rt: HostRuntime) -> Result<(), Fail> {
     let mut map: LruMap<u64, u64, ByMemoryUsage, LastByte> = LruMap::with_memory_budget_and_hasher(

@@ -51,6 +51,10 @@ fn debug(rt: HostRuntime) -> Result<(), Fail> {
         format!(in rt.alloc(); "{map:?}")?.as_str(),
         "LruMap { len: 3, .. }"
     );
+    assert_eq!(rt;
+        format!(in rt.alloc(); "{:?}", RandomState::default())?.as_str(),
+        "RandomState { .. }"
+    );
     Ok(())
 }
 

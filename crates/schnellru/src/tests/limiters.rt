@@ -1,5 +1,5 @@
 //! Limiters of the tests.
-ghost use Rattle.std.specs.Prelude.{◌≡◌, ◌+◌, true, false, not, min, nat_eq, nat_le};
+ghost use Rattle.std.specs.Prelude.{◌≡◌, ◌+◌, true, false, not, if◌then◌else◌, min, nat_eq, nat_le};
 ghost use Rattle.std.specs.Cmp.{nat_eq_equiv};
 ghost use Rattle.lru_limits.specs.Stores.{plain, hands_over, hands_over-lawful, answers};
 
@@ -185,6 +185,70 @@ impl Limiter<u64, u64> for Within {
 }
 
 impl Insertion<u64, u64, u64> for Within {
+    ghost offers = { hands_over (λ _ _ _. true) };
+
+    fn on_insert(
+        &mut self,
+        _alloc: Global,
+        _length: usize,
+        key: u64,
+        value: u64,
+    ) -> Result<Option<(u64, u64)>, AllocError> {
+        Ok(Some((key, value)))
+    }
+
+    fn on_replace(
+        &mut self,
+        _length: usize,
+        _old_key: &mut u64,
+        _new_key: u64,
+        _old_value: &mut u64,
+        _new_value: &mut u64,
+    ) -> bool {
+        true
+    }
+
+    ghost laws = { hands_over-lawful nat_eq nat_eq_equiv (λ _ _ _. true) };
+}
+
+/// Limits nothing, writes a 0 into each value that leaves, and into its key where it is told to, and keeps the last pair
+/// as it was.
+#[derive(Clone, Copy, Default)]
+pub struct Blanking {
+    pub keys: bool,
+    pub last: (u64, u64),
+}
+
+impl Limiter<u64, u64> for Blanking {
+    type LinkType = u32;
+
+    ghost rules = { record {
+      is_over_the_limit = λ s length. false;
+      on_removed = λ s k v. record { limiter = record s { last = (k, v) }; key = (if s.keys then 0 else k); value = 0 };
+      on_cleared = λ s. s;
+      on_grow = λ s bytes. answers s true;
+    } };
+
+    fn is_over_the_limit(&self, _length: usize) -> bool {
+        false
+    }
+
+    fn on_removed(&mut self, key: &mut u64, value: &mut u64) {
+        self.last = (*key, *value);
+        if self.keys {
+            *key = 0;
+        }
+        *value = 0;
+    }
+
+    fn on_cleared(&mut self) {}
+
+    fn on_grow(&mut self, _new_memory_usage: usize) -> bool {
+        true
+    }
+}
+
+impl Insertion<u64, u64, u64> for Blanking {
     ghost offers = { hands_over (λ _ _ _. true) };
 
     fn on_insert(

@@ -1,18 +1,25 @@
 use Rattle.std.proofs.Common.{◌≡◌, ◌+◌, ◌-◌, ◌%◌, ◌∙◌, ap, arith}
+use Rattle.group_table.specs.Control.{buckets_of}
 use Rattle.group_table.proofs.Masks.{mask_at}
 use Rattle.group_table.proofs.RunLanes.{run_before_lanes, run_before_small}
 use Rattle.group_table.proofs.neighbours.run_before.Goals as goal
 
 pub returns-clause-wide : goal.returns-clause-wide
 returns-clause-wide c =
-    let empties = mask_at (λ byte. byte ≡ 255) _ c.args.control.now c.wrap-start.result _ c.load.ensures c.match_empty.ensures in
+    let circle = c.group.ensures.circle in
+    let n = buckets_of c.args.control.now in
+    let empties = mask_at (λ byte. byte ≡ 255) _ c.args.control.now c.wrap-start.result _ c.group.ensures.bytes c.match_empty.ensures in
     let r = c.lanes_above.ensures in
-    let is : c.wrap-start.result ≡ (c.args.b + (c.args.buckets - 16)) % c.args.buckets = c.wrap-start.ensures.value ∙ ap (λ k. (c.args.b + k) % c.args.buckets) (let e : c.saturating_sub.result ≡ c.args.buckets - 16 = omega (arith, c.saturating_sub.ensures) in e) in
-    run_before_lanes _ _ c.requires.count c.requires.repeated _ c.requires.bucket _ _ r.bound _ is empties r.none r.ends
+    let less : c.saturating_sub.result ≡ n - 16 = omega (arith, c.saturating_sub.ensures, c.buckets-buckets.ensures.value) in
+    let is : c.wrap-start.result ≡ (c.args.b + (n - 16)) % n = c.wrap-start.ensures.value ∙ ap (λ k. (c.args.b + k) % n) less in
+    run_before_lanes _ _ circle.power circle.repeated _ c.requires _ _ r.bound _ is empties r.none r.ends
 
 pub returns-clause-small : goal.returns-clause-small
 returns-clause-small c =
-    let empties = mask_at (λ byte. byte ≡ 255) _ c.args.control.now c.wrap-start.result _ c.load.ensures c.match_empty.ensures in
+    let circle = c.group.ensures.circle in
+    let n = buckets_of c.args.control.now in
+    let empties = mask_at (λ byte. byte ≡ 255) _ c.args.control.now c.wrap-start.result _ c.group.ensures.bytes c.match_empty.ensures in
     let r = c.lanes_above.ensures in
-    let is : c.wrap-start.result ≡ (c.args.b + (c.args.buckets - 16)) % c.args.buckets = c.wrap-start.ensures.value ∙ ap (λ k. (c.args.b + k) % c.args.buckets) (let e : c.saturating_sub.result ≡ c.args.buckets - 16 = omega (arith, c.saturating_sub.ensures) in e) in
-    run_before_small _ _ c.requires.count c.requires.repeated _ c.requires.bucket _ _ r.bound _ is empties r.none
+    let less : c.saturating_sub.result ≡ n - 16 = omega (arith, c.saturating_sub.ensures, c.buckets-buckets.ensures.value) in
+    let is : c.wrap-start.result ≡ (c.args.b + (n - 16)) % n = c.wrap-start.ensures.value ∙ ap (λ k. (c.args.b + k) % n) less in
+    run_before_small _ _ circle.power circle.repeated _ c.requires _ _ r.bound _ is empties r.none

@@ -1,5 +1,6 @@
 use Rattle.std.proofs.Common.{◌≡◌, of_calls, refl, arith}
 use Rattle.group_table.proofs.LayoutLemmas.{bucket_at-read}
+use Rattle.group_table.proofs.ControlLemmas.{buckets_are}
 use Rattle.group_table.proofs.SearchLemmas.{Answers-from_call}
 use Rattle.group_table.proofs.Masks.{mask_at, none_of_zero, some_lane}
 use Rattle.group_table.proofs.LaneLemmas.{AsksLanes-first, AsksLanes-next, AcceptsIn-lane, RefusesGroup-from, lane_tag, read_some, ended_lane, none_ended}
@@ -8,41 +9,50 @@ use Rattle.group_table.proofs.probe.ask_group.Goals as goal
 pub lanes-init : goal.lanes-init
 lanes-init g c = record {
   callable = c.requires.callable;
-  asked = AsksLanes-first _ _ c.requires.laid_out _ c.requires.start g.F.FnMut _ c.requires.tag _ _ (mask_at (λ byte. byte ≡ c.args.tag) _ _ _ _ c.load-group.ensures c.match_tag-mask.ensures);
+  asked = AsksLanes-first _ _ c.requires.laid_out _ c.requires.start g.F.FnMut _ c.requires.tag _ _ (mask_at (λ byte. byte ≡ c.args.tag) _ _ _ _ c.group-group.ensures.bytes c.match_tag-mask.ensures);
 }
 
 pub returns-then-f-clause-asked : goal.returns-then-f-clause-asked
 returns-then-f-clause-asked g c =
     let l = c.lanes.invariant.asked in
+    let are = buckets_are _ _ c.requires.laid_out in
+    let here = rw are at c.wrap-b.ensures.value in
+    let within = rw are at c.wrap-b.ensures.bound in
     let low = c.lowest_lane.ensures in
-    let tagged = lane_tag _ _ c.requires.laid_out _ c.requires.start g.F.FnMut _ c.requires.tag _ _ _ l _ _ low.set low.first c.wrap-b.ensures.value in
-    let slot = bucket_at-read c.args.control.now c.args.entries.now c.requires.laid_out c.wrap-b.result c.wrap-b.ensures.bound c.args.tag _ c.in-Some.entry tagged c.index-entries-b.is c.in-Some.is in
-    AcceptsIn-lane _ _ c.requires.laid_out _ c.requires.start g.F.FnMut _ c.requires.tag _ _ _ l _ _ low.set low.first c.wrap-b.ensures.value c.in-Some.entry slot _
+    let tagged = lane_tag _ _ c.requires.laid_out _ c.requires.start g.F.FnMut _ c.requires.tag _ _ _ l _ _ low.set low.first here in
+    let slot = bucket_at-read c.args.control.now c.args.entries.now c.requires.laid_out c.wrap-b.result within c.args.tag _ c.in-Some.entry tagged c.index-entries-b.is c.in-Some.is in
+    AcceptsIn-lane _ _ c.requires.laid_out _ c.requires.start g.F.FnMut _ c.requires.tag _ _ _ l _ _ low.set low.first here c.in-Some.entry slot _
     (Answers-from_call g.F.FnMut _ _ _ _ _ _ _ c.in-Some.entry _ slot refl c.f.ensures c.if-f.true)
 
 pub unreachable-requires : goal.unreachable-requires
 unreachable-requires g c =
     let l = c.lanes.invariant.asked in
+    let are = buckets_are _ _ c.requires.laid_out in
+    let here = rw are at c.wrap-b.ensures.value in
+    let within = rw are at c.wrap-b.ensures.bound in
     let low = c.lowest_lane.ensures in
-    let tagged = lane_tag _ _ c.requires.laid_out _ c.requires.start g.F.FnMut _ c.requires.tag _ _ _ l _ _ low.set low.first c.wrap-b.ensures.value in
-    read_some _ _ c.requires.laid_out _ c.requires.start _ c.wrap-b.ensures.bound (omega (arith, tagged, c.requires.tag)) _ c.index-entries-b.is c.in-None.is
+    let tagged = lane_tag _ _ c.requires.laid_out _ c.requires.start g.F.FnMut _ c.requires.tag _ _ _ l _ _ low.set low.first here in
+    read_some _ _ c.requires.laid_out _ c.requires.start _ within (omega (arith, tagged, c.requires.tag)) _ c.index-entries-b.is c.in-None.is
 
 pub lanes-preserved : goal.lanes-preserved
 lanes-preserved g c =
     let l = c.lanes.invariant.asked in
+    let are = buckets_are _ _ c.requires.laid_out in
+    let here = rw are at c.wrap-b.ensures.value in
+    let within = rw are at c.wrap-b.ensures.bound in
     let low = c.lowest_lane.ensures in
-    let tagged = lane_tag _ _ c.requires.laid_out _ c.requires.start g.F.FnMut _ c.requires.tag _ _ _ l _ _ low.set low.first c.wrap-b.ensures.value in
-    let slot = bucket_at-read c.args.control.now c.args.entries.now c.requires.laid_out c.wrap-b.result c.wrap-b.ensures.bound c.args.tag _ c.in-Some.entry tagged c.index-entries-b.is c.in-Some.is in
+    let tagged = lane_tag _ _ c.requires.laid_out _ c.requires.start g.F.FnMut _ c.requires.tag _ _ _ l _ _ low.set low.first here in
+    let slot = bucket_at-read c.args.control.now c.args.entries.now c.requires.laid_out c.wrap-b.result within c.args.tag _ c.in-Some.entry tagged c.index-entries-b.is c.in-Some.is in
     record {
       callable = search of_calls;
-      asked = AsksLanes-next _ _ c.requires.laid_out _ c.requires.start g.F.FnMut _ c.requires.tag _ _ _ l _ _ low.set low.first c.wrap-b.ensures.value c.in-Some.entry slot _ _
+      asked = AsksLanes-next _ _ c.requires.laid_out _ c.requires.start g.F.FnMut _ c.requires.tag _ _ _ l _ _ low.set low.first here c.in-Some.entry slot _ _
           (rw (← low.value) at c.without_lowest-mask.ensures.rest) (Answers-from_call g.F.FnMut _ _ _ _ _ _ _ c.in-Some.entry _ slot refl c.f.ensures c.if-f.false);
     }
 
 pub returns-then-match_empty-ne0-clause-asked : goal.returns-then-match_empty-ne0-clause-asked
 returns-then-match_empty-ne0-clause-asked g c =
     let some = c.requires.some_empty in
-    let empties = mask_at (λ byte. byte ≡ 255) _ c.args.control.now c.args.start _ c.load-group.ensures c.match_empty.ensures in
+    let empties = mask_at (λ byte. byte ≡ 255) _ c.args.control.now c.args.start _ c.group-group.ensures.bytes c.match_empty.ensures in
     let w = some_lane c.match_empty.result (omega (arith, c.match_empty.type_inv)) c.if-match_empty-ne0.true in (
       RefusesGroup-from _ _ c.requires.laid_out _ c.requires.start g.F.FnMut _ c.requires.tag _ _ _ c.lanes.invariant.asked (λ lane. none_of_zero _ lane c.lanes-test.false),
       ended_lane _ _ c.requires.laid_out _ c.requires.start some.0 some.1 some.2 w.0 w.1 ((empties w.0).0 w.2).1,
@@ -50,7 +60,7 @@ returns-then-match_empty-ne0-clause-asked g c =
 
 pub returns-else-match_empty-ne0-clause-asked : goal.returns-else-match_empty-ne0-clause-asked
 returns-else-match_empty-ne0-clause-asked g c =
-    let empties = mask_at (λ byte. byte ≡ 255) _ c.args.control.now c.args.start _ c.load-group.ensures c.match_empty.ensures in (
+    let empties = mask_at (λ byte. byte ≡ 255) _ c.args.control.now c.args.start _ c.group-group.ensures.bytes c.match_empty.ensures in (
       RefusesGroup-from _ _ c.requires.laid_out _ c.requires.start g.F.FnMut _ c.requires.tag _ _ _ c.lanes.invariant.asked (λ lane. none_of_zero _ lane c.lanes-test.false),
       none_ended _ _ c.requires.laid_out _ c.requires.start (λ lane p e. none_of_zero _ lane c.if-match_empty-ne0.false ((empties lane).1 (p, e))),
     )

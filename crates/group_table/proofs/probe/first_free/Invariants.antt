@@ -1,14 +1,15 @@
-use Rattle.std.proofs.Common.{◌≡◌, ℕ, ◌-◌, ◌%◌, ◌<◌, slice_index}
+use Rattle.std.proofs.Common.{ℕ, ◌-◌, ◌<◌, slice_index}
 use Rattle.group_table.specs.Probe.{probed}
+use Rattle.group_table.specs.Control.{buckets_of}
+use Rattle.group_table.specs.Group.{IsProbe}
 use Rattle.group_table.proofs.probe.first_free.Given as goal
 
 abbrev pub invariant-groups : goal.invariant-groups
 invariant-groups l = record {
-  start : l.start ≡ probed l.buckets l.hash l.stride;
-  whole : l.stride % 16 ≡ 0;
-  within : l.stride < l.buckets;
-  full_before : (before : ℕ) → before < l.stride → slice_index l.control (probed l.buckets l.hash before) < 128;
+  at : IsProbe (buckets_of l.control) l.hash l.probe;
+  within : l.probe.passed < buckets_of l.control;
+  full_before : (before : ℕ) → before < l.probe.passed → slice_index l.control (probed (buckets_of l.control) l.hash before) < 128;
 }
 
 abbrev pub decreases-groups : goal.decreases-groups
-decreases-groups l = l.buckets - l.stride
+decreases-groups l = buckets_of l.control - l.probe.passed

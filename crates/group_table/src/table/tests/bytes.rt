@@ -19,10 +19,13 @@ fn of_hash_zero(
 fn taken_leaves(rt: &impl Abort, table: &mut Table<u64>, b: usize, byte: u8, room: usize) {
     assert!(rt; table.is_full(b));
     assert_eq!(rt; table.take(b), b as u64);
-    assert_eq!(rt; table.control.get(b), Some(&byte), "at {b}");
+    assert_eq!(rt; table.control.as_slice().get(b), Some(&byte), "at {b}");
     if b < 16 {
         assert_eq!(rt;
-            table.control.get(b.wrapping_add(table.buckets().max(16))),
+            table
+                .control
+                .as_slice()
+                .get(b.wrapping_add(table.buckets().max(16))),
             Some(&byte),
             "at {b}"
         );
@@ -41,7 +44,7 @@ fn four_buckets(rt: HostRuntime) -> Result<(), Fail> {
     assert_eq!(rt; table.room(), 1);
     assert_eq!(rt; table.try_place((5 << 57) + 2, 2), Ok(2));
     assert_eq!(rt;
-        (table.control.get(2), table.control.get(18)),
+        (table.control.as_slice().get(2), table.control.get(18)),
         (Some(&5), Some(&5))
     );
     assert_eq!(rt; table.room(), 0);

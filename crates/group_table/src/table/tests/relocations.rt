@@ -78,8 +78,8 @@ fn follows(
 }
 
 // Moves all entries into so many buckets, or rehashes where that many are there already.
-fn moved<N: LinkType, H: Fn(&u64) -> u64>(
-    table: &mut Table<u64>,
+pub(super) fn moved<T: Drop, N: LinkType, H: Fn(&T) -> u64>(
+    table: &mut Table<T>,
     buckets: usize,
     hash: H,
 ) -> Result<Vec<N>, AllocError>
@@ -193,6 +193,47 @@ fn links_of_eight_bits(rt: HostRuntime) -> Result<(), Fail> {
 }
 
 #[test]
+fn links_of_usize(rt: HostRuntime) -> Result<(), Fail> {
+    for buckets in [16, 32, 64usize] {
+        let mut table = table_of(rt.alloc(), 32)?;
+        let mut next = 0;
+        fill(&mut table, &mut next, Hashes::Scattered);
+        thin(&mut table, 2, 14);
+        thin(&mut table, 1, 14);
+        let old = contents(rt.alloc(), &table)?;
+        let links: Vec<usize> = moved(&mut table, buckets, |key| hash_of(Hashes::Scattered, *key))?;
+        assert_eq!(rt; (links.len(), table.len()), (32, 14));
+        for b in 0..old.len() {
+            match old[b] {
+                Some(key) => assert_eq!(rt;
+                    table.find(hash_of(Hashes::Scattered, key), |entry| *entry == key),
+                    links.get(b).copied()
+                ),
+                None => assert_eq!(rt; links.get(b), Some(&usize::MAX)),
+            }
+        }
+    }
+    Ok(())
+}
+
+#[test]
+fn without_buckets(rt: HostRuntime) -> Result<(), Fail> {
+    let mut table: Table<u64> = Table::new(rt.alloc());
+    let links: Vec<u8> = moved(&mut table, 0, |key| *key)?;
+    assert_eq!(rt; (links.len(), table.buckets(), table.room()), (0, 0, 0));
+    // With all memory taken it is copied nevertheless.
+    let hog = Hog::new(rt.alloc(), &[])?;
+    let copy = table.clone_with(|key| Ok(*key));
+    drop(hog);
+    assert_eq!(rt; copy?.buckets(), 0);
+    let links: Vec<u32> = moved(&mut table, 16, |key| *key)?;
+    assert_eq!(rt; (links.len(), table.buckets(), table.room()), (0, 16, 14));
+    assert_eq!(rt; (table.len(), table.placings()), (0, 0));
+    assert_eq!(rt; table.try_place(3, 30), Ok(3));
+    Ok(())
+}
+
+#[test]
 fn without_entries(rt: HostRuntime) -> Result<(), Fail> {
     let mut table = table_of(rt.alloc(), 32)?;
     let mut next = 0;
@@ -255,16 +296,44 @@ fn each_request_is_refused(rt: HostRuntime) -> Result<(), Fail> {
 }
 
 #[test]
+fn no_links_are_requested_without_entries(rt: HostRuntime) -> Result<(), Fail> {
+    // The control bytes and the entries of 16 buckets.
+    let mut table = table_of(rt.alloc(), 8)?;
+    assert!(rt; table.try_place(5, 50).is_ok());
+    thin(&mut table, 1, 0);
+    let mut met = [false; 3];
+    let mut hog = Hog::new(rt.alloc(), &[32, 256])?;
+    for run in 0..3usize {
+        let links: Result<Vec<u32>, AllocError> = moved(&mut table, 16, |key| *key);
+        met[run] = links.is_ok();
+        hog.release();
+    }
+    let all = hog.took_all();
+    drop(hog);
+    assert!(rt; !all || met == [false, false, true]);
+    assert_eq!(rt;
+        (table.buckets(), table.room(), table.placings()),
+        (16, 14, 1)
+    );
+    Ok(())
+}
+
+#[test]
 fn copies(rt: HostRuntime) -> Result<(), Fail> {
     for hashes in ALL {
         let mut table = table_of(rt.alloc(), 32)?;
         let mut next = 0;
         fill(&mut table, &mut next, hashes);
         thin(&mut table, 3, 0);
-        let mut copy = table.clone_with(|key| Ok(key.wrapping_add(1000)))?;
+        let asked = Cell::new(0usize);
+        let mut copy = table.clone_with(|key| {
+            asked.set(asked.get().wrapping_add(1));
+            Ok(key.wrapping_add(1000))
+        })?;
+        assert_eq!(rt; asked.get(), table.len());
         let figures = (table.len(), table.room(), table.placings());
         assert_eq!(rt; (copy.len(), copy.room(), copy.placings()), figures);
-        assert_eq!(rt; copy.control, table.control);
+        assert_eq!(rt; copy.control.as_slice(), table.control.as_slice());
         for b in 0..table.buckets() {
             let key = if table.is_full(b) {
                 Some(table.get(b).wrapping_add(1000))

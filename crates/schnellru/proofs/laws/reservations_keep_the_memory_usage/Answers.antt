@@ -1,4 +1,4 @@
-use Rattle.schnellru.proofs.Theorems.RunLaws.{reserve_uses_at_most}
+use Rattle.schnellru.proofs.Theorems.RunLimits.{reserve_uses_at_most}
 use Rattle.schnellru.proofs.laws.reservations_keep_the_memory_usage.Goals as goal
 
 pub returns : goal.returns

@@ -1,4 +1,6 @@
-use Rattle.std.proofs.Common.{sym, ◌∙◌}
+use Rattle.std.proofs.Common.{sym, ◌∙◌, arith}
+use Rattle.std.proofs.lemmas.Bool.{eqb-false}
+use Rattle.group_table.proofs.LayoutLemmas.{length-laid_out}
 use Rattle.group_table.proofs.TableLemmas.{IsTable-by}
 use Rattle.group_table.proofs.CloneLemmas.{Copies-places, marks_of-copies, Fits-copies, IsValid-copied, entry_count-copied}
 use Rattle.group_table.proofs.table.Table.clone_with.Goals as goal
@@ -6,16 +8,16 @@ use Rattle.group_table.proofs.table.Table.clone_with.Goals as goal
 pub invariant_of-result : goal.invariant_of-result
 invariant_of-result g c =
     let valid = c.self.invariant.0 in
-    let copied = rw c.as_slice-2.ensures.value at c.in_ok-entries.ensures in
-    rw (c.in_ok-control.ensures.items, c.as_slice.ensures.value) (
+    let copied = rw c.as_slice.ensures.value at c.in_ok-entries.ensures in
+    rw (c.in_ok-control.ensures) (
       IsValid-copied g.F.Fn c.args.f _ _ _ _ valid copied,
       c.self.invariant.1 ∙ sym (entry_count-copied g.F.Fn c.args.f _ _ _ _ valid copied),
     )
 
 pub returns-clause-copies : goal.returns-clause-copies
 returns-clause-copies g c =
-    let copied = rw c.as_slice-2.ensures.value at c.in_ok-entries.ensures in
-    rw (← c.self.view_is, c.in_ok-control.ensures.items, c.as_slice.ensures.value) (Copies-places g.F.Fn c.args.f _ _ _ copied)
+    let copied = rw c.as_slice.ensures.value at c.in_ok-entries.ensures in
+    rw (← c.self.view_is, c.in_ok-control.ensures) (Copies-places g.F.Fn c.args.f _ _ _ copied)
 
 pub returns-clause-marks : goal.returns-clause-marks
 returns-clause-marks g c = marks_of-copies g.F.Fn c.args.f _ _ (returns-clause-copies g c)
@@ -25,5 +27,15 @@ returns-clause-fits g c hash_of fits = Fits-copies g.F.Fn c.args.f _ _ hash_of (
 
 pub returns-clause-table : goal.returns-clause-table
 returns-clause-table g c =
-    let copied = rw c.as_slice-2.ensures.value at c.in_ok-entries.ensures in
-    rw (c.in_ok-control.ensures.items, c.as_slice.ensures.value) (IsTable-by _ _ _ (IsValid-copied g.F.Fn c.args.f _ _ _ _ c.self.invariant.0 copied))
+    let copied = rw c.as_slice.ensures.value at c.in_ok-entries.ensures in
+    rw (c.in_ok-control.ensures) (IsTable-by _ _ _ (IsValid-copied g.F.Fn c.args.f _ _ _ _ c.self.invariant.0 copied))
+
+pub returns-in_err-control-clause-succeeds : goal.returns-in_err-control-clause-succeeds
+returns-in_err-control-clause-succeeds g c none =
+    let some = eqb-false _ _ (sym c.is_empty.ensures ∙ c.if-is_empty.false) in
+    absurd (omega (arith, some, length-laid_out _ _ c.self.invariant.0.laid_out, rw (← c.self.view_is) at none))
+
+pub returns-in_err-entries-clause-succeeds : goal.returns-in_err-entries-clause-succeeds
+returns-in_err-entries-clause-succeeds g c none =
+    let some = eqb-false _ _ (sym c.is_empty.ensures ∙ c.if-is_empty.false) in
+    absurd (omega (arith, some, length-laid_out _ _ c.self.invariant.0.laid_out, rw (← c.self.view_is) at none))

@@ -1,19 +1,18 @@
 use Rattle.std.proofs.Common.{◌≡◌, ◌<◌, ap, arith, length, ◌∙◌, sym}
-use Rattle.std.proofs.lemmas.List.{get_or_read}
 use Rattle.group_table.specs.Layout.{slots_of}
-use Rattle.group_table.proofs.LayoutLemmas.{is_full-laid_out, length-laid_out, entries_within}
+use Rattle.group_table.proofs.LayoutLemmas.{is_full-laid_out, length-laid_out}
+use Rattle.group_table.proofs.ControlLemmas.{buckets_are}
 use Rattle.group_table.proofs.table.Table.is_full.Goals as goal
 
-pub index-requires : goal.index-requires
-index-requires g c =
+pub byte-requires : goal.byte-requires
+byte-requires g c =
     let laid_out = c.self.invariant.0.laid_out in
-    let n : c.buckets.result ≡ length (slots_of c.self.inside.control.items c.self.inside.entries.items) = c.buckets.ensures.value ∙ ap (λ v. length v.slots) (sym c.self.view_is) in
-    omega (arith, n, length-laid_out _ _ laid_out, entries_within _ _ laid_out)
+    let n : c.buckets.result ≡ length (slots_of c.self.inside.control c.self.inside.entries.items) = c.buckets.ensures.value ∙ ap (λ v. length v.slots) (sym c.self.view_is) in
+    omega (arith, n, length-laid_out _ _ laid_out, buckets_are _ _ laid_out)
 
 pub returns-then-b-buckets-clause-full : goal.returns-then-b-buckets-clause-full
 returns-then-b-buckets-clause-full g c =
     let laid_out = c.self.invariant.0.laid_out in
-    let n : c.buckets.result ≡ length (slots_of c.self.inside.control.items c.self.inside.entries.items) = c.buckets.ensures.value ∙ ap (λ v. length v.slots) (sym c.self.view_is) in
+    let n : c.buckets.result ≡ length (slots_of c.self.inside.control c.self.inside.entries.items) = c.buckets.ensures.value ∙ ap (λ v. length v.slots) (sym c.self.view_is) in
     let within : c.args.b < length c.self.inside.entries.items = omega (arith, n, length-laid_out _ _ laid_out) in
-    let in_control : c.args.b < length c.self.inside.control.items = omega (arith, entries_within _ _ laid_out) in
-    rw (← c.self.view_is, is_full-laid_out _ _ laid_out c.args.b within, ← get_or_read _ c.args.b _ in_control c.index.ensures 0) (λ h. h, λ h. h)
+    rw (← c.self.view_is, is_full-laid_out _ _ laid_out c.args.b within, ← c.byte.ensures) (λ h. h, λ h. h)

@@ -1,50 +1,31 @@
-use Rattle.std.proofs.Common.{◌≡◌, ◌+◌, length, arith, ap}
+use Rattle.std.proofs.Common.{◌+◌, arith, ap}
 use Rattle.std.proofs.lemmas.List.Sums.{count_by-le-length}
 use Rattle.group_table.specs.Bucket.{is_full}
 use Rattle.group_table.specs.Layout.{slots_of}
-use Rattle.group_table.proofs.LayoutLemmas.{length-laid_out, entries_within, power_of}
+use Rattle.group_table.proofs.LayoutLemmas.{length-laid_out, entries_within}
 use Rattle.group_table.proofs.PlaceLemmas.{some_free_byte}
-use Rattle.group_table.proofs.LaneLemmas.{repeated_bytes}
-use Rattle.group_table.proofs.JoinLemmas.{some_room, some_buckets, with_repetition, join_within, join_none, IsValid-joined, entry_count-written_joined, joins_there, reached_first}
+use Rattle.group_table.proofs.ControlLemmas.{buckets_are}
+use Rattle.group_table.proofs.JoinLemmas.{some_room, some_buckets, join_within, join_none, IsValid-joined, entry_count-written_joined, joins_there, reached_first}
 use Rattle.group_table.proofs.table.Table.place_fresh.Goals as goal
 
-pub first_free-b-requires-clause-count : goal.first_free-b-requires-clause-count
-first_free-b-requires-clause-count g c =
-    let valid = c.self.invariant.0 in
-    let pos = some_buckets _ _ _ valid (rw (← c.self.view_is) at c.requires.none_deleted) (rw (← c.self.view_is) at c.requires.room) in
-    let n : c.len.result ≡ length c.self.inside.entries.items = omega arith in
-    rw n (power_of _ _ valid.laid_out pos)
-
-pub first_free-b-requires-clause-within : goal.first_free-b-requires-clause-within
-first_free-b-requires-clause-within g c =
-    let valid = c.self.invariant.0 in
-    omega (arith, c.as_slice.ensures.len, with_repetition _ _ _ valid (rw (← c.self.view_is) at c.requires.none_deleted) (rw (← c.self.view_is) at c.requires.room))
-
-pub first_free-b-requires-clause-repeated : goal.first_free-b-requires-clause-repeated
-first_free-b-requires-clause-repeated g c =
-    let valid = c.self.invariant.0 in
-    let pos = some_buckets _ _ _ valid (rw (← c.self.view_is) at c.requires.none_deleted) (rw (← c.self.view_is) at c.requires.room) in
-    let n : c.len.result ≡ length c.self.inside.entries.items = omega arith in
-    rw (c.as_slice.ensures.value, n) (repeated_bytes _ _ valid.laid_out pos)
-
-pub first_free-b-requires-clause-some_free : goal.first_free-b-requires-clause-some_free
-first_free-b-requires-clause-some_free g c =
+pub first_free-b-requires : goal.first_free-b-requires
+first_free-b-requires g c =
     let valid = c.self.invariant.0 in
     let pos = some_buckets _ _ _ valid (rw (← c.self.view_is) at c.requires.none_deleted) (rw (← c.self.view_is) at c.requires.room) in
     let w = some_free_byte _ _ _ valid pos in
-    (w.0, omega (arith, w.1), rw c.as_slice.ensures.value w.2)
+    (w.0, omega (arith, w.1, buckets_are _ _ valid.laid_out), w.2)
 
 pub fill_bucket-requires-clause-bucket : goal.fill_bucket-requires-clause-bucket
 fill_bucket-requires-clause-bucket g c =
-    let reached = reached_first _ _ _ _ (rw c.as_slice.ensures.value at c.first_free-b.ensures) in
+    let reached = reached_first _ _ _ _ c.first_free-b.ensures in
     join_within _ _ _ c.self.invariant.0 (rw (← c.self.view_is) at c.requires.none_deleted)
-    (rw (← c.self.view_is) at c.requires.room) c.args.hash c.first_free-b.result c.len.result (omega arith) reached
+    (rw (← c.self.view_is) at c.requires.room) c.args.hash c.first_free-b.result _ (buckets_are _ _ c.self.invariant.0.laid_out) reached
 
 pub fill_bucket-requires-clause-free_there : goal.fill_bucket-requires-clause-free_there
 fill_bucket-requires-clause-free_there g c =
     let valid = c.self.invariant.0 in
-    let reached = reached_first _ _ _ _ (rw c.as_slice.ensures.value at c.first_free-b.ensures) in
-    join_none _ _ _ valid (rw (← c.self.view_is) at c.requires.none_deleted) (rw (← c.self.view_is) at c.requires.room) c.args.hash c.first_free-b.result c.len.result (omega arith) reached
+    let reached = reached_first _ _ _ _ c.first_free-b.ensures in
+    join_none _ _ _ valid (rw (← c.self.view_is) at c.requires.none_deleted) (rw (← c.self.view_is) at c.requires.room) c.args.hash c.first_free-b.result _ (buckets_are _ _ c.self.invariant.0.laid_out) reached
 
 pub overflow_sub-self : goal.overflow_sub-self
 overflow_sub-self g c = some_room _ _ _ c.self.invariant.0 (rw (← c.self.view_is) at c.requires.none_deleted) (rw (← c.self.view_is) at c.requires.room)
@@ -54,7 +35,7 @@ overflow_add-self g c =
     let valid = c.self.invariant.0 in
     omega (
       arith,
-      count_by-le-length is_full (slots_of c.self.inside.control.items c.self.inside.entries.items),
+      count_by-le-length is_full (slots_of c.self.inside.control c.self.inside.entries.items),
       c.self.invariant.1,
       length-laid_out _ _ valid.laid_out,
       entries_within _ _ valid.laid_out,
@@ -66,10 +47,10 @@ invariant_of-self g c =
     let valid = c.self.invariant.0 in
     let none_deleted = rw (← c.self.view_is) at c.requires.none_deleted in
     let room = rw (← c.self.view_is) at c.requires.room in
-    let reached = reached_first _ _ _ _ (rw c.as_slice.ensures.value at c.first_free-b.ensures) in
-    let counted = entry_count-written_joined _ _ _ valid none_deleted room c.args.hash c.first_free-b.result c.len.result (omega arith) reached c.tag_of.result c.args.entry c.tag_of.ensures.bound in
+    let reached = reached_first _ _ _ _ c.first_free-b.ensures in
+    let counted = entry_count-written_joined _ _ _ valid none_deleted room c.args.hash c.first_free-b.result _ (buckets_are _ _ c.self.invariant.0.laid_out) reached c.tag_of.result c.args.entry c.tag_of.ensures.bound in
     rw (c.fill_bucket.ensures.control, c.fill_bucket.ensures.entries) (
-      IsValid-joined _ _ _ valid none_deleted room c.args.hash c.first_free-b.result c.len.result (omega arith) reached c.tag_of.result c.args.entry c.tag_of.ensures.bound,
+      IsValid-joined _ _ _ valid none_deleted room c.args.hash c.first_free-b.result _ (buckets_are _ _ c.self.invariant.0.laid_out) reached c.tag_of.result c.args.entry c.tag_of.ensures.bound,
       rw counted (ap (λ n. n + 1) c.self.invariant.1),
     )
 
@@ -78,6 +59,6 @@ returns-clause-joins g c =
     let valid = c.self.invariant.0 in
     let none_deleted = rw (← c.self.view_is) at c.requires.none_deleted in
     let room = rw (← c.self.view_is) at c.requires.room in
-    let reached = reached_first _ _ _ _ (rw c.as_slice.ensures.value at c.first_free-b.ensures) in
+    let reached = reached_first _ _ _ _ c.first_free-b.ensures in
     rw (← c.self.view_is, c.fill_bucket.ensures.control, c.fill_bucket.ensures.entries)
-    (joins_there _ _ _ valid none_deleted room c.args.hash c.first_free-b.result c.len.result (omega arith) reached c.tag_of.result c.args.entry c.tag_of.ensures.bound c.tag_of.ensures.value)
+    (joins_there _ _ _ valid none_deleted room c.args.hash c.first_free-b.result _ (buckets_are _ _ c.self.invariant.0.laid_out) reached c.tag_of.result c.args.entry c.tag_of.ensures.bound c.tag_of.ensures.value)

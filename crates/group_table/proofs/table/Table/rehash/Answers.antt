@@ -21,7 +21,7 @@ returns-in_err-links-clause-table g c = rw (← c.self.view_is) (IsTable-by _ _ 
 pub place_again-requires-clause-within : goal.place_again-requires-clause-within
 place_again-requires-clause-within g c =
     let valid = c.self.invariant.0 in
-    omega (arith, entry_count-laid_out _ _ valid.laid_out, valid.room_left, used_count-split (slots_of c.self.inside.control.items c.self.inside.entries.items))
+    omega (arith, entry_count-laid_out _ _ valid.laid_out, valid.room_left, used_count-split (slots_of c.self.inside.control c.self.inside.entries.items))
 
 pub place_again-requires-clause-below : goal.place_again-requires-clause-below
 place_again-requires-clause-below g c =
@@ -33,7 +33,7 @@ overflow_sub-self g c =
     let valid = c.self.invariant.0 in
     let n : c.len-buckets.result ≡ length c.self.inside.entries.items = omega arith in
     let capacity : c.full_capacity.result ≡ full_capacity (length c.self.inside.entries.items) = c.full_capacity.ensures ∙ ap full_capacity n in
-    omega (arith, capacity, c.self.invariant.1, valid.room_left, used_count-split (slots_of c.self.inside.control.items c.self.inside.entries.items))
+    omega (arith, capacity, c.self.invariant.1, valid.room_left, used_count-split (slots_of c.self.inside.control c.self.inside.entries.items))
 
 pub returns-clause-entries : goal.returns-clause-entries
 returns-clause-entries g c =
@@ -53,7 +53,7 @@ invariant_of-self g c =
     let capacity : c.full_capacity.result ≡ full_capacity (length c.self.inside.entries.items) = c.full_capacity.ensures ∙ ap full_capacity n in
     let left : full_capacity (length c.self.inside.entries.items) - count_by is_some c.self.inside.entries.items ≡ c.full_capacity.result - c.self.inside.len =
     omega (arith, capacity, counted, c.self.invariant.1) in (
-      subst (IsValid c.place_again.new.control.items c.place_again.new.entries.items) left again.valid,
+      subst (IsValid c.place_again.new.control c.place_again.new.entries.items) left again.valid,
       c.self.invariant.1 ∙ counted ∙ sym again.entries ∙ sym (entry_count-laid_out _ _ again.valid.laid_out),
     )
 
@@ -66,7 +66,7 @@ pub returns-clause-room : goal.returns-clause-room
 returns-clause-room g c =
     let again = c.place_again.ensures in
     let moved = returns-clause-entries g c in
-    let slots = slots_of c.place_again.new.control.items c.place_again.new.entries.items in
+    let slots = slots_of c.place_again.new.control c.place_again.new.entries.items in
     let same = length-laid_out _ _ again.valid.laid_out in
     let capacity : full_capacity (length slots) ≡ full_capacity (length c.place_again.new.entries.items) = ap full_capacity same in
     let within : entry_count slots ≤ full_capacity (length slots) = omega (arith, capacity, again.valid.room_left, used_count-split slots) in

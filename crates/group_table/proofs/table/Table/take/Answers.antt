@@ -1,41 +1,28 @@
-use Rattle.std.proofs.Common.{◌≡◌, ◌<◌, length, arith}
+use Rattle.std.proofs.Common.{◌<◌, length, arith}
 use Rattle.group_table.specs.Layout.{slots_of}
-use Rattle.group_table.proofs.LayoutLemmas.{length-laid_out, entries_within, power_of, full_within, full_byte, is_some_entry, entry_at-full}
+use Rattle.group_table.proofs.LayoutLemmas.{length-laid_out, entries_within, full_within, full_byte, is_some_entry, entry_at-full}
 use Rattle.group_table.proofs.RemoveLemmas.{bool_byte-le, removed, room-removed, entry_count-pos}
-use Rattle.group_table.proofs.LaneLemmas.{repeated_bytes}
+use Rattle.group_table.proofs.ControlLemmas.{buckets_are}
 use Rattle.group_table.proofs.PlaceLemmas.{some_empty_byte}
 use Rattle.group_table.proofs.FitsLemmas.{Fits-removed}
 use Rattle.group_table.proofs.TableLemmas.{IsTable-by, room_within}
 use Rattle.group_table.proofs.table.Table.take.Goals as goal
 
-pub has_empty_neighbours-gives_room-requires-clause-count : goal.has_empty_neighbours-gives_room-requires-clause-count
-has_empty_neighbours-gives_room-requires-clause-count g c =
-    let within = full_within _ _ c.self.invariant.0.laid_out c.args.b (rw (← c.self.view_is) at c.requires) in
-    let n : c.len.result ≡ length c.self.inside.entries.items = omega arith in
-    rw n (power_of _ _ c.self.invariant.0.laid_out (omega (arith, within)))
-
 pub has_empty_neighbours-gives_room-requires-clause-bucket : goal.has_empty_neighbours-gives_room-requires-clause-bucket
 has_empty_neighbours-gives_room-requires-clause-bucket g c =
-    omega (arith, full_within _ _ c.self.invariant.0.laid_out c.args.b (rw (← c.self.view_is) at c.requires))
-
-pub has_empty_neighbours-gives_room-requires-clause-repeated : goal.has_empty_neighbours-gives_room-requires-clause-repeated
-has_empty_neighbours-gives_room-requires-clause-repeated g c =
-    let valid = c.self.invariant.0 in
-    let within = full_within _ _ valid.laid_out c.args.b (rw (← c.self.view_is) at c.requires) in
-    let n : c.len.result ≡ length c.self.inside.entries.items = omega arith in
-    rw (c.as_slice.ensures.value, n) (repeated_bytes _ _ valid.laid_out (omega (arith, within)))
+    let laid_out = c.self.invariant.0.laid_out in
+    omega (arith, full_within _ _ laid_out c.args.b (rw (← c.self.view_is) at c.requires), buckets_are _ _ laid_out)
 
 pub has_empty_neighbours-gives_room-requires-clause-some_empty : goal.has_empty_neighbours-gives_room-requires-clause-some_empty
 has_empty_neighbours-gives_room-requires-clause-some_empty g c =
     let valid = c.self.invariant.0 in
     let within = full_within _ _ valid.laid_out c.args.b (rw (← c.self.view_is) at c.requires) in
-    let n : c.len.result ≡ length c.self.inside.entries.items = omega arith in
-    rw (c.as_slice.ensures.value, n) (some_empty_byte _ _ _ valid (omega (arith, within)))
+    rw (buckets_are _ _ valid.laid_out) (some_empty_byte _ _ _ valid (omega (arith, within)))
 
 pub has_empty_neighbours-gives_room-requires-clause-used : goal.has_empty_neighbours-gives_room-requires-clause-used
 has_empty_neighbours-gives_room-requires-clause-used g c =
     let byte = full_byte _ _ c.self.invariant.0.laid_out c.args.b (rw (← c.self.view_is) at c.requires) in
-    rw c.as_slice.ensures.value (λ e. omega (arith, byte, e))
+    λ e. omega (arith, byte, e)
 
 pub overflow_add-self : goal.overflow_add-self
 overflow_add-self g c =
@@ -54,8 +41,7 @@ empty_bucket-requires-clause-full g c = is_some_entry _ _ c.self.invariant.0.lai
 pub invariant_of-self : goal.invariant_of-self
 invariant_of-self g c =
     let there = rw (← c.self.view_is) at c.requires in
-    let n : c.len.result ≡ length c.self.inside.entries.items = omega arith in
-    let told = rw (c.as_slice.ensures.value, n) at c.has_empty_neighbours-gives_room.ensures in
+    let told = rw (buckets_are _ _ c.self.invariant.0.laid_out) at c.has_empty_neighbours-gives_room.ensures in
     let r = removed _ _ _ c.self.invariant.0 c.args.b there c.has_empty_neighbours-gives_room.result told in
     rw (c.empty_bucket.ensures.control, c.empty_bucket.ensures.entries, c.emptied_byte-byte.ensures) (r.is_valid, omega (arith, r.count, c.self.invariant.1))
 
@@ -66,29 +52,26 @@ returns-clause-entry g c =
 pub returns-clause-removed : goal.returns-clause-removed
 returns-clause-removed g c =
     let there = rw (← c.self.view_is) at c.requires in
-    let n : c.len.result ≡ length c.self.inside.entries.items = omega arith in
-    let told = rw (c.as_slice.ensures.value, n) at c.has_empty_neighbours-gives_room.ensures in
+    let told = rw (buckets_are _ _ c.self.invariant.0.laid_out) at c.has_empty_neighbours-gives_room.ensures in
     let r = removed _ _ _ c.self.invariant.0 c.args.b there c.has_empty_neighbours-gives_room.result told in
     rw (← c.self.view_is, c.empty_bucket.ensures.control, c.empty_bucket.ensures.entries, c.emptied_byte-byte.ensures) r.removes
 
 pub returns-clause-room : goal.returns-clause-room
 returns-clause-room g c =
     let there = rw (← c.self.view_is) at c.requires in
-    let n : c.len.result ≡ length c.self.inside.entries.items = omega arith in
-    let told = rw (c.as_slice.ensures.value, n) at c.has_empty_neighbours-gives_room.ensures in
+    let told = rw (buckets_are _ _ c.self.invariant.0.laid_out) at c.has_empty_neighbours-gives_room.ensures in
     let r = removed _ _ _ c.self.invariant.0 c.args.b there c.has_empty_neighbours-gives_room.result told in
     rw (← c.self.view_is, c.empty_bucket.ensures.control, c.empty_bucket.ensures.entries, c.emptied_byte-byte.ensures) (room-removed _ _ _ c.self.invariant.0 c.args.b there _ _ r)
 
 pub returns-clause-fits : goal.returns-clause-fits
 returns-clause-fits g c hash_of fits =
     let within = full_within _ _ c.self.invariant.0.laid_out c.args.b (rw (← c.self.view_is) at c.requires) in
-    let in_slots : c.args.b < length (slots_of c.self.inside.control.items c.self.inside.entries.items) = omega (arith, within, length-laid_out _ _ c.self.invariant.0.laid_out) in
+    let in_slots : c.args.b < length (slots_of c.self.inside.control c.self.inside.entries.items) = omega (arith, within, length-laid_out _ _ c.self.invariant.0.laid_out) in
     Fits-removed _ _ hash_of c.args.b (rw (← c.self.view_is) in_slots) (returns-clause-removed g c) fits
 
 pub returns-clause-table : goal.returns-clause-table
 returns-clause-table g c =
     let there = rw (← c.self.view_is) at c.requires in
-    let n : c.len.result ≡ length c.self.inside.entries.items = omega arith in
-    let told = rw (c.as_slice.ensures.value, n) at c.has_empty_neighbours-gives_room.ensures in
+    let told = rw (buckets_are _ _ c.self.invariant.0.laid_out) at c.has_empty_neighbours-gives_room.ensures in
     let r = removed _ _ _ c.self.invariant.0 c.args.b there c.has_empty_neighbours-gives_room.result told in
     rw (c.empty_bucket.ensures.control, c.empty_bucket.ensures.entries, c.emptied_byte-byte.ensures) (IsTable-by _ _ _ r.is_valid)

@@ -1,5 +1,6 @@
-use Rattle.std.proofs.Common.{◌≡◌, ◌+◌, ◌<◌, length, arith, sym, ap, ◌∙◌, inr, Some}
+use Rattle.std.proofs.Common.{◌+◌, ◌<◌, length, arith, sym, ap, ◌∙◌, inr, Some}
 use Rattle.std.proofs.lemmas.List.Sums.{count_by-le-length}
+use Rattle.std.proofs.lemmas.Bool.{eqb-false}
 use Rattle.group_table.specs.Bucket.{is_full, mark_of}
 use Rattle.group_table.specs.Probe.{hash_tag}
 use Rattle.group_table.specs.Layout.{slots_of}
@@ -8,22 +9,19 @@ use Rattle.group_table.proofs.LayoutLemmas.{length-laid_out, entries_within}
 use Rattle.group_table.proofs.TableLemmas.{IsTable-by, room_by}
 use Rattle.group_table.proofs.WriteLemmas.{slots_of-written}
 use Rattle.group_table.proofs.PlaceLemmas.{some_free_byte, place_first, place_within, no_place_left, place_none, place_spends, MayFill-from, IsValid-placed, entry_count-placed, room-placed}
-use Rattle.group_table.proofs.LaneLemmas.{repeated_bytes}
+use Rattle.group_table.proofs.ControlLemmas.{buckets_are}
 use Rattle.group_table.proofs.FitsLemmas.{Fits-placed}
 use Rattle.group_table.proofs.table.Table.try_place.Goals as goal
 
-pub returns-then-buckets-eq0-clause-table : goal.returns-then-buckets-eq0-clause-table
-returns-then-buckets-eq0-clause-table g c = rw (← c.self.view_is) (IsTable-by _ _ _ c.self.invariant.0)
+pub returns-then-is_empty-clause-table : goal.returns-then-is_empty-clause-table
+returns-then-is_empty-clause-table g c = rw (← c.self.view_is) (IsTable-by _ _ _ c.self.invariant.0)
 
-pub first_free-b-requires-clause-repeated : goal.first_free-b-requires-clause-repeated
-first_free-b-requires-clause-repeated g c =
-    let n : c.len-buckets.result ≡ length c.self.inside.entries.items = omega arith in
-    rw (c.as_slice.ensures.value, n) (repeated_bytes _ _ c.self.invariant.0.laid_out (omega arith))
-
-pub first_free-b-requires-clause-some_free : goal.first_free-b-requires-clause-some_free
-first_free-b-requires-clause-some_free g c =
-    let w = some_free_byte _ _ _ c.self.invariant.0 (omega arith) in
-    (w.0, omega (arith, w.1), rw c.as_slice.ensures.value w.2)
+pub first_free-b-requires : goal.first_free-b-requires
+first_free-b-requires g c =
+    let valid = c.self.invariant.0 in
+    let some : 0 < length c.self.inside.entries.items = omega (arith, eqb-false _ _ (sym c.is_empty.ensures ∙ c.if-is_empty.false)) in
+    let w = some_free_byte _ _ _ valid some in
+    (w.0, omega (arith, w.1, buckets_are _ _ valid.laid_out), w.2)
 
 pub returns-then-self-spent-clause-table : goal.returns-then-self-spent-clause-table
 returns-then-self-spent-clause-table g c = rw (← c.self.view_is) (IsTable-by _ _ _ c.self.invariant.0)
@@ -31,27 +29,31 @@ returns-then-self-spent-clause-table g c = rw (← c.self.view_is) (IsTable-by _
 pub returns-then-self-spent-clause-no_place : goal.returns-then-self-spent-clause-no_place
 returns-then-self-spent-clause-no_place g c =
     let valid = c.self.invariant.0 in
-    let first = rw c.as_slice.ensures.value at c.first_free-b.ensures in
-    let none = no_place_left _ _ _ valid c.args.hash c.first_free-b.result c.len-buckets.result (omega arith) (omega arith) first c.index.result.now c.index.ensures (omega arith) in
+    let first = c.first_free-b.ensures in
+    let are = buckets_are _ _ valid.laid_out in
+    let some : 0 < length c.self.inside.entries.items = omega (arith, eqb-false _ _ (sym c.is_empty.ensures ∙ c.if-is_empty.false)) in
+    let none = no_place_left _ _ _ valid c.args.hash c.first_free-b.result _ are (omega (arith, some, are)) first _ c.byte.ensures (omega arith) in
     rw (← c.self.view_is) (inr (
       sym (room_by _ _ _ valid) ∙ none.0,
       c.first_free-b.result,
-      place_first _ _ _ valid c.args.hash c.first_free-b.result c.len-buckets.result (omega arith) (omega arith) first,
+      place_first _ _ _ valid c.args.hash c.first_free-b.result _ are (omega (arith, some, are)) first,
       bucket_at-marks_of _ c.first_free-b.result ∙ ap mark_of none.1,
     ))
 
 pub fill_bucket-requires-clause-free_there : goal.fill_bucket-requires-clause-free_there
 fill_bucket-requires-clause-free_there g c =
     let valid = c.self.invariant.0 in
-    let first = rw c.as_slice.ensures.value at c.first_free-b.ensures in
-    place_none _ _ _ valid c.args.hash c.first_free-b.result c.len-buckets.result (omega arith) (omega arith) first
+    let first = c.first_free-b.ensures in
+    let are = buckets_are _ _ valid.laid_out in
+    let some : 0 < length c.self.inside.entries.items = omega (arith, eqb-false _ _ (sym c.is_empty.ensures ∙ c.if-is_empty.false)) in
+    place_none _ _ _ valid c.args.hash c.first_free-b.result _ are (omega (arith, some, are)) first
 
 pub overflow_add-self : goal.overflow_add-self
 overflow_add-self g c =
     let valid = c.self.invariant.0 in
     omega (
       arith,
-      count_by-le-length is_full (slots_of c.self.inside.control.items c.self.inside.entries.items),
+      count_by-le-length is_full (slots_of c.self.inside.control c.self.inside.entries.items),
       c.self.invariant.1,
       length-laid_out _ _ valid.laid_out,
       entries_within _ _ valid.laid_out,
@@ -61,9 +63,11 @@ overflow_add-self g c =
 pub invariant_of-self : goal.invariant_of-self
 invariant_of-self g c =
     let valid = c.self.invariant.0 in
-    let first = rw c.as_slice.ensures.value at c.first_free-b.ensures in
-    let within = place_within _ _ _ valid c.args.hash c.first_free-b.result c.len-buckets.result (omega arith) (omega arith) first in
-    let spends = place_spends _ _ _ valid c.args.hash c.first_free-b.result c.len-buckets.result (omega arith) (omega arith) first c.index.result.now c.index.ensures (omega arith) in
+    let first = c.first_free-b.ensures in
+    let are = buckets_are _ _ valid.laid_out in
+    let some : 0 < length c.self.inside.entries.items = omega (arith, eqb-false _ _ (sym c.is_empty.ensures ∙ c.if-is_empty.false)) in
+    let within = place_within _ _ _ valid c.args.hash c.first_free-b.result _ are (omega (arith, some, are)) first in
+    let spends = place_spends _ _ _ valid c.args.hash c.first_free-b.result _ are (omega (arith, some, are)) first _ c.byte.ensures (omega arith) in
     let counted = entry_count-placed _ _ _ _ valid c.first_free-b.result spends c.tag_of.result c.args.entry within c.tag_of.ensures.bound in
     rw (c.fill_bucket.ensures.control, c.fill_bucket.ensures.entries)
     (IsValid-placed _ _ _ _ valid c.first_free-b.result spends c.tag_of.result c.args.entry within c.tag_of.ensures.bound, rw counted (ap (λ n. n + 1) c.self.invariant.1))
@@ -71,9 +75,11 @@ invariant_of-self g c =
 pub returns-clause-placed : goal.returns-clause-placed
 returns-clause-placed g c =
     let valid = c.self.invariant.0 in
-    let first = rw c.as_slice.ensures.value at c.first_free-b.ensures in
+    let first = c.first_free-b.ensures in
+    let are = buckets_are _ _ valid.laid_out in
+    let some : 0 < length c.self.inside.entries.items = omega (arith, eqb-false _ _ (sym c.is_empty.ensures ∙ c.if-is_empty.false)) in
     rw (← c.self.view_is) record {
-      first = place_first _ _ _ valid c.args.hash c.first_free-b.result c.len-buckets.result (omega arith) (omega arith) first;
+      first = place_first _ _ _ valid c.args.hash c.first_free-b.result _ are (omega (arith, some, are)) first;
       slots = rw (c.fill_bucket.ensures.control, c.fill_bucket.ensures.entries, c.tag_of.ensures.value) (slots_of-written _ _ c.first_free-b.result _ _);
       placings = c.saturating_add-self-inside.ensures;
     }
@@ -81,39 +87,47 @@ returns-clause-placed g c =
 pub returns-clause-may_fill : goal.returns-clause-may_fill
 returns-clause-may_fill g c =
     let valid = c.self.invariant.0 in
-    let first = rw c.as_slice.ensures.value at c.first_free-b.ensures in
+    let first = c.first_free-b.ensures in
+    let are = buckets_are _ _ valid.laid_out in
+    let some : 0 < length c.self.inside.entries.items = omega (arith, eqb-false _ _ (sym c.is_empty.ensures ∙ c.if-is_empty.false)) in
     rw (← c.self.view_is) (MayFill-from _ _ _ _ valid c.first_free-b.result
-    (place_spends _ _ _ valid c.args.hash c.first_free-b.result c.len-buckets.result (omega arith) (omega arith) first c.index.result.now c.index.ensures (omega arith)))
+    (place_spends _ _ _ valid c.args.hash c.first_free-b.result _ are (omega (arith, some, are)) first _ c.byte.ensures (omega arith)))
 
 pub returns-clause-fits : goal.returns-clause-fits
 returns-clause-fits g c hash_of fits =
     let valid = c.self.invariant.0 in
-    let first = rw c.as_slice.ensures.value at c.first_free-b.ensures in
-    let within = place_within _ _ _ valid c.args.hash c.first_free-b.result c.len-buckets.result (omega arith) (omega arith) first in
-    let in_slots : c.first_free-b.result < length (slots_of c.self.inside.control.items c.self.inside.entries.items) = omega (arith, within, length-laid_out _ _ valid.laid_out) in
+    let first = c.first_free-b.ensures in
+    let are = buckets_are _ _ valid.laid_out in
+    let some : 0 < length c.self.inside.entries.items = omega (arith, eqb-false _ _ (sym c.is_empty.ensures ∙ c.if-is_empty.false)) in
+    let within = place_within _ _ _ valid c.args.hash c.first_free-b.result _ are (omega (arith, some, are)) first in
+    let in_slots : c.first_free-b.result < length (slots_of c.self.inside.control c.self.inside.entries.items) = omega (arith, within, length-laid_out _ _ valid.laid_out) in
     rw (
       c.fill_bucket.ensures.control,
       c.fill_bucket.ensures.entries,
       c.tag_of.ensures.value,
-      slots_of-written c.self.inside.control.items c.self.inside.entries.items c.first_free-b.result (hash_tag c.args.hash) (Some c.args.entry),
+      slots_of-written c.self.inside.control c.self.inside.entries.items c.first_free-b.result (hash_tag c.args.hash) (Some c.args.entry),
     )
     (Fits-placed _ hash_of c.args.hash c.first_free-b.result c.args.entry in_slots
-    (place_first _ _ _ valid c.args.hash c.first_free-b.result c.len-buckets.result (omega arith) (omega arith) first) (rw (← c.self.view_is) at fits))
+    (place_first _ _ _ valid c.args.hash c.first_free-b.result _ are (omega (arith, some, are)) first) (rw (← c.self.view_is) at fits))
 
 pub returns-clause-table : goal.returns-clause-table
 returns-clause-table g c =
     let valid = c.self.invariant.0 in
-    let first = rw c.as_slice.ensures.value at c.first_free-b.ensures in
-    let within = place_within _ _ _ valid c.args.hash c.first_free-b.result c.len-buckets.result (omega arith) (omega arith) first in
-    let spends = place_spends _ _ _ valid c.args.hash c.first_free-b.result c.len-buckets.result (omega arith) (omega arith) first c.index.result.now c.index.ensures (omega arith) in
+    let first = c.first_free-b.ensures in
+    let are = buckets_are _ _ valid.laid_out in
+    let some : 0 < length c.self.inside.entries.items = omega (arith, eqb-false _ _ (sym c.is_empty.ensures ∙ c.if-is_empty.false)) in
+    let within = place_within _ _ _ valid c.args.hash c.first_free-b.result _ are (omega (arith, some, are)) first in
+    let spends = place_spends _ _ _ valid c.args.hash c.first_free-b.result _ are (omega (arith, some, are)) first _ c.byte.ensures (omega arith) in
     rw (c.fill_bucket.ensures.control, c.fill_bucket.ensures.entries)
     (IsTable-by _ _ _ (IsValid-placed _ _ _ _ valid c.first_free-b.result spends c.tag_of.result c.args.entry within c.tag_of.ensures.bound))
 
 pub returns-clause-room : goal.returns-clause-room
 returns-clause-room g c =
     let valid = c.self.invariant.0 in
-    let first = rw c.as_slice.ensures.value at c.first_free-b.ensures in
-    let within = place_within _ _ _ valid c.args.hash c.first_free-b.result c.len-buckets.result (omega arith) (omega arith) first in
-    let spends = place_spends _ _ _ valid c.args.hash c.first_free-b.result c.len-buckets.result (omega arith) (omega arith) first c.index.result.now c.index.ensures (omega arith) in
+    let first = c.first_free-b.ensures in
+    let are = buckets_are _ _ valid.laid_out in
+    let some : 0 < length c.self.inside.entries.items = omega (arith, eqb-false _ _ (sym c.is_empty.ensures ∙ c.if-is_empty.false)) in
+    let within = place_within _ _ _ valid c.args.hash c.first_free-b.result _ are (omega (arith, some, are)) first in
+    let spends = place_spends _ _ _ valid c.args.hash c.first_free-b.result _ are (omega (arith, some, are)) first _ c.byte.ensures (omega arith) in
     rw (← c.self.view_is, c.fill_bucket.ensures.control, c.fill_bucket.ensures.entries)
     (room-placed _ _ _ _ valid c.first_free-b.result spends c.tag_of.result c.args.entry within c.tag_of.ensures.bound)

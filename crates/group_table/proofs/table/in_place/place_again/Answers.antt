@@ -1,7 +1,8 @@
-use Rattle.std.proofs.Common.{◌≡◌, ◌+◌, ◌<◌, ◌≤◌, length, get_or, None, refl, sym, ap, ◌∙◌, arith, length-set}
+use Rattle.std.proofs.Common.{◌≡◌, ◌+◌, ◌<◌, ◌≤◌, length, get_or, None, refl, sym, ap, ◌∙◌, arith}
 use Rattle.std.proofs.lemmas.List.{get_or_read, length-replicate}
 use Rattle.group_table.proofs.LayoutLemmas.{entries_within}
-use Rattle.group_table.proofs.LaneLemmas.{repeated_bytes}
+use Rattle.group_table.specs.Control.{buckets_of}
+use Rattle.group_table.proofs.ControlLemmas.{buckets_are}
 use Rattle.group_table.proofs.JoinLemmas.{reached_first}
 use Rattle.group_table.proofs.FreeBytes.{free_bytes-fewer}
 use Rattle.group_table.proofs.HalfwayLemmas.{IsHalfway-start, IsHalfway-placed, IsHalfway-none, stood_there, IsInTurn-taken, IsValid-last, none_deleted_last, Moves-last, hashes_last}
@@ -12,46 +13,43 @@ pub loop-b-init : goal.loop-b-init
 loop-b-init g c =
     let whole = c.args.entries.now.items in
     let r = c.requires in
-    let m : length c.args.control.now.items ≡ length whole + 16 = ap length r.cleared ∙ length-replicate (length whole + 16) _ in
+    let m : length c.args.control.now ≡ length whole + 16 = ap length r.cleared ∙ length-replicate (length whole + 16) _ in
     rw r.cleared (IsHalfway-start g.N.LinkType.number g.N.LinkType.MAX _ whole c.args.links.now.items (length whole + 16) r.count refl (omega (arith, m, r.fits)) r.one_each r.none_linked)
 
-pub loop-b-preserved-then-index-lt-DELETED : goal.loop-b-preserved-then-index-lt-DELETED
-loop-b-preserved-then-index-lt-DELETED g c =
+pub loop-b-preserved-then-byte-lt-DELETED : goal.loop-b-preserved-then-byte-lt-DELETED
+loop-b-preserved-then-byte-lt-DELETED g c =
     let half = c.loop-b.invariant in
     let whole = c.args.entries.now.items in
     let within : c.loop-b.b < length whole = omega arith in
-    let in_control : c.loop-b.b < length c.loop-b.control.items = omega (arith, within, half.placed_length, entries_within _ _ half.valid.laid_out) in
-    IsHalfway-placed g.N.LinkType.number g.N.LinkType.MAX _ whole _ _ _ c.loop-b.b half within (rw (← get_or_read _ _ _ in_control c.index.ensures 0) c.if-index-lt-DELETED.true)
+    IsHalfway-placed g.N.LinkType.number g.N.LinkType.MAX _ whole _ _ _ c.loop-b.b half within (rw (← c.byte.ensures) c.if-byte-lt-DELETED.true)
 
 pub loop-b-preserved-in-None : goal.loop-b-preserved-in-None
 loop-b-preserved-in-None g c =
     let half = c.loop-b.invariant in
     let within : c.loop-b.b < length c.loop-b.entries.items = omega (arith, half.now_length) in
-    IsHalfway-none g.N.LinkType.number g.N.LinkType.MAX _ c.args.entries.now.items _ _ _ c.loop-b.b half (sym (get_or_read _ _ _ within c.index-in-loop-b.ensures None) ∙ c.in-None.is)
+    IsHalfway-none g.N.LinkType.number g.N.LinkType.MAX _ c.args.entries.now.items _ _ _ c.loop-b.b half (sym (get_or_read _ _ _ within c.index.ensures None) ∙ c.in-None.is)
 
 pub loop-b-preserved-then-is_read_first : goal.loop-b-preserved-then-is_read_first
 loop-b-preserved-then-is_read_first g c =
     let half = c.loop-b.invariant in
     let whole = c.args.entries.now.items in
     let within : c.loop-b.b < length c.loop-b.entries.items = omega (arith, half.now_length) in
-    let in_control : c.loop-b.b < length c.loop-b.control.items = omega (arith, within, half.now_length, half.placed_length, entries_within _ _ half.valid.laid_out) in
-    let n : c.len-then-is_read_first.result ≡ length c.loop-b.entries.items = omega arith in
-    let there = sym (get_or_read _ _ _ within c.index-in-loop-b.ensures None) ∙ c.in-Some.is in
-    let byte : 128 ≤ get_or c.loop-b.control.items c.loop-b.b 0 = rw (← get_or_read _ _ _ in_control c.index.ensures 0) c.if-index-lt-DELETED.false in
+    let n : buckets_of c.loop-b.control ≡ length c.loop-b.entries.items = omega (arith, buckets_are _ _ half.valid.laid_out, half.placed_length, half.now_length) in
+    let there = sym (get_or_read _ _ _ within c.index.ensures None) ∙ c.in-Some.is in
+    let byte : 128 ≤ get_or c.loop-b.control c.loop-b.b 0 = rw (← c.byte.ensures) c.if-byte-lt-DELETED.false in
     let stood = stood_there g.N.LinkType.number g.N.LinkType.MAX _ whole _ _ _ c.loop-b.b half c.in-Some.entry byte there in
     let stays = IsHalfway-stays g.N.LinkType.number g.N.LinkType.MAX g.N.LinkType.link _ g.met.N.LinkType.laws _ whole _ _ _ c.loop-b.b c.in-Some.entry half c.requires.within c.requires.below byte there
     c.hash_of-hash.result c.len.result c.tag_of.result (omega arith) (c.is_read_first.ensures c.if-is_read_first.true) c.tag_of.ensures.value c.tag_of.ensures.bound
     (λ hash_at given. given c.loop-b.b _ _ stood (record { shown = _; shows = refl; says = record { met = c.hash_of-hash.ensures } })) in
-    rw (c.set_tag.ensures, c.from_usize.ensures, n) stays
+    rw (c.set.ensures, c.from_usize.ensures, n) stays
 
 pub turns-init : goal.turns-init
 turns-init g c =
     let half = c.loop-b.invariant in
     let whole = c.args.entries.now.items in
     let within : c.loop-b.b < length c.loop-b.entries.items = omega (arith, half.now_length) in
-    let in_control : c.loop-b.b < length c.loop-b.control.items = omega (arith, within, half.now_length, half.placed_length, entries_within _ _ half.valid.laid_out) in
-    let there = sym (get_or_read _ _ _ within c.index-in-loop-b.ensures None) ∙ c.in-Some.is in
-    let byte : 128 ≤ get_or c.loop-b.control.items c.loop-b.b 0 = rw (← get_or_read _ _ _ in_control c.index.ensures 0) c.if-index-lt-DELETED.false in
+    let there = sym (get_or_read _ _ _ within c.index.ensures None) ∙ c.in-Some.is in
+    let byte : 128 ≤ get_or c.loop-b.control c.loop-b.b 0 = rw (← c.byte.ensures) c.if-byte-lt-DELETED.false in
     let stood = stood_there g.N.LinkType.number g.N.LinkType.MAX _ whole _ _ _ c.loop-b.b half c.in-Some.entry byte there in
     let taken : c.replace-next.result ≡ get_or c.loop-b.entries.items c.loop-b.b None = c.replace-next.ensures.value ∙ get_or_read _ _ _ within c.index_mut-in-loop-b.ensures.value None in
     record {
@@ -59,18 +57,12 @@ turns-init g c =
       hashed = λ entry is hash_at given. given c.loop-b.b _ _ stood (record { shown = _; shows = refl; says = record { met = c.hash_of-hash.ensures } });
     }
 
-pub first_free-place-requires-clause-repeated : goal.first_free-place-requires-clause-repeated
-first_free-place-requires-clause-repeated g c =
-    let turn = rw c.in-Some-next.is at c.turns.invariant.turn in
-    let n : c.len-in-Some-next.result ≡ length turn.1.placed = omega (arith, turn.1.now_length, turn.1.placed_length) in
-    rw (c.as_slice.ensures.value, n) (repeated_bytes _ _ turn.1.valid.laid_out (omega (arith, turn.1.placed_length, length-set c.args.entries.now.items c.turns.old None)))
-
-pub first_free-place-requires-clause-some_free : goal.first_free-place-requires-clause-some_free
-first_free-place-requires-clause-some_free g c =
+pub first_free-place-requires : goal.first_free-place-requires
+first_free-place-requires g c =
     let l = c.turns in
     let turn = rw c.in-Some-next.is at l.invariant.turn in
     let w = some_free g.N.LinkType.number g.N.LinkType.MAX g.N.LinkType.link _ g.met.N.LinkType.laws _ c.args.entries.now.items _ _ _ _ _ _ turn.1 turn.0 c.requires.within c.requires.below in
-    (w.0, omega (arith, w.1), rw c.as_slice.ensures.value w.2)
+    (w.0, omega (arith, w.1, buckets_are _ _ turn.1.valid.laid_out, turn.1.placed_length, turn.1.now_length), w.2)
 
 pub returns-clause-valid : goal.returns-clause-valid
 returns-clause-valid g c =
@@ -96,22 +88,22 @@ pub turns-smaller : goal.turns-smaller
 turns-smaller g c =
     let l = c.turns in
     let turn = rw c.in-Some-next.is at l.invariant.turn in
-    let n : c.len-in-Some-next.result ≡ length l.entries.items = omega arith in
-    let first = rw c.as_slice.ensures.value at c.first_free-place.ensures in
+    let n : buckets_of l.control ≡ length l.entries.items = omega (arith, buckets_are _ _ turn.1.valid.laid_out, turn.1.placed_length, turn.1.now_length) in
+    let first = c.first_free-place.ensures in
     let in_now = put_within g.N.LinkType.number g.N.LinkType.MAX g.N.LinkType.link _ g.met.N.LinkType.laws _ c.args.entries.now.items _ _ _ _ _ _ turn.1 turn.0 c.requires.within c.requires.below
-    l.hash c.first_free-place.result c.len-in-Some-next.result c.tag_of-in-Some-next.result n (reached_first _ _ _ _ first) c.tag_of-in-Some-next.ensures.value c.tag_of-in-Some-next.ensures.bound
+    l.hash c.first_free-place.result _ c.tag_of-in-Some-next.result n (reached_first _ _ _ _ first) c.tag_of-in-Some-next.ensures.value c.tag_of-in-Some-next.ensures.bound
     (l.invariant.hashed _ c.in-Some-next.is) in
-    rw c.put-next.ensures.control (free_bytes-fewer c.tag_of-in-Some-next.result c.tag_of-in-Some-next.ensures.bound l.control.items l.entries.items c.first_free-place.result
+    rw c.put-next.ensures.control (free_bytes-fewer c.tag_of-in-Some-next.result c.tag_of-in-Some-next.ensures.bound l.control l.entries.items c.first_free-place.result
     (omega (arith, in_now, turn.1.now_length, turn.1.placed_length, entries_within _ _ turn.1.valid.laid_out)) first.free_there)
 
 pub turns-preserved : goal.turns-preserved
 turns-preserved g c =
     let l = c.turns in
     let turn = rw c.in-Some-next.is at l.invariant.turn in
-    let n : c.len-in-Some-next.result ≡ length l.entries.items = omega arith in
-    let first = rw c.as_slice.ensures.value at c.first_free-place.ensures in
+    let n : buckets_of l.control ≡ length l.entries.items = omega (arith, buckets_are _ _ turn.1.valid.laid_out, turn.1.placed_length, turn.1.now_length) in
+    let first = c.first_free-place.ensures in
     let next = IsInTurn-next g.N.LinkType.number g.N.LinkType.MAX g.N.LinkType.link _ g.met.N.LinkType.laws _ c.args.entries.now.items _ _ _ _ _ _ turn.1 turn.0 c.requires.within c.requires.below
-    l.hash c.first_free-place.result c.len-in-Some-next.result c.tag_of-in-Some-next.result n (reached_first _ _ _ _ first) c.tag_of-in-Some-next.ensures.value c.tag_of-in-Some-next.ensures.bound
+    l.hash c.first_free-place.result _ c.tag_of-in-Some-next.result n (reached_first _ _ _ _ first) c.tag_of-in-Some-next.ensures.value c.tag_of-in-Some-next.ensures.bound
     (l.invariant.hashed _ c.in-Some-next.is) in
     record {
       turn = rw (c.put-next.ensures.stood, c.put-next.ensures.entries, c.put-next.ensures.control, c.from_usize-in-Some-next.ensures) next;
@@ -122,22 +114,22 @@ pub turns-smaller-in-Some-next-2 : goal.turns-smaller-in-Some-next-2
 turns-smaller-in-Some-next-2 g c =
     let l = c.turns in
     let turn = rw c.in-Some-next.is at l.invariant.turn in
-    let n : c.len-in-Some-next.result ≡ length l.entries.items = omega arith in
-    let first = rw c.as_slice.ensures.value at c.first_free-place.ensures in
+    let n : buckets_of l.control ≡ length l.entries.items = omega (arith, buckets_are _ _ turn.1.valid.laid_out, turn.1.placed_length, turn.1.now_length) in
+    let first = c.first_free-place.ensures in
     let in_now = put_within g.N.LinkType.number g.N.LinkType.MAX g.N.LinkType.link _ g.met.N.LinkType.laws _ c.args.entries.now.items _ _ _ _ _ _ turn.1 turn.0 c.requires.within c.requires.below
-    l.hash c.first_free-place.result c.len-in-Some-next.result c.tag_of-in-Some-next.result n (reached_first _ _ _ _ first) c.tag_of-in-Some-next.ensures.value c.tag_of-in-Some-next.ensures.bound
+    l.hash c.first_free-place.result _ c.tag_of-in-Some-next.result n (reached_first _ _ _ _ first) c.tag_of-in-Some-next.ensures.value c.tag_of-in-Some-next.ensures.bound
     (l.invariant.hashed _ c.in-Some-next.is) in
-    rw c.put-next.ensures.control (free_bytes-fewer c.tag_of-in-Some-next.result c.tag_of-in-Some-next.ensures.bound l.control.items l.entries.items c.first_free-place.result
+    rw c.put-next.ensures.control (free_bytes-fewer c.tag_of-in-Some-next.result c.tag_of-in-Some-next.ensures.bound l.control l.entries.items c.first_free-place.result
     (omega (arith, in_now, turn.1.now_length, turn.1.placed_length, entries_within _ _ turn.1.valid.laid_out)) first.free_there)
 
 pub turns-preserved-in-Some-next-2 : goal.turns-preserved-in-Some-next-2
 turns-preserved-in-Some-next-2 g c =
     let l = c.turns in
     let turn = rw c.in-Some-next.is at l.invariant.turn in
-    let n : c.len-in-Some-next.result ≡ length l.entries.items = omega arith in
-    let first = rw c.as_slice.ensures.value at c.first_free-place.ensures in
+    let n : buckets_of l.control ≡ length l.entries.items = omega (arith, buckets_are _ _ turn.1.valid.laid_out, turn.1.placed_length, turn.1.now_length) in
+    let first = c.first_free-place.ensures in
     let next = IsInTurn-next g.N.LinkType.number g.N.LinkType.MAX g.N.LinkType.link _ g.met.N.LinkType.laws _ c.args.entries.now.items _ _ _ _ _ _ turn.1 turn.0 c.requires.within c.requires.below
-    l.hash c.first_free-place.result c.len-in-Some-next.result c.tag_of-in-Some-next.result n (reached_first _ _ _ _ first) c.tag_of-in-Some-next.ensures.value c.tag_of-in-Some-next.ensures.bound
+    l.hash c.first_free-place.result _ c.tag_of-in-Some-next.result n (reached_first _ _ _ _ first) c.tag_of-in-Some-next.ensures.value c.tag_of-in-Some-next.ensures.bound
     (l.invariant.hashed _ c.in-Some-next.is) in
     let then = rw (sym c.put-next.ensures.stood, c.in-Some-next-2.is) at next in
     record {

@@ -1,4 +1,4 @@
-use Rattle.std.proofs.Common.{arith}
+use Rattle.std.proofs.Common.{Some, ap, sym, arith}
 use Rattle.schnellru.proofs.LinkedTables.WalkRests.{rest-length}
 use Rattle.schnellru.proofs.walk.WalkIterator.size_hint.Goals as goal
 
@@ -9,3 +9,8 @@ returns-clause-lower g c =
 pub returns-clause-upper : goal.returns-clause-upper
 returns-clause-upper g c =
     rw (← c.self.view_is) (tt, omega (arith, rest-length c.self.inside.entries.now c.self.inside.front c.self.inside.back c.self.inside.left c.self.invariant))
+
+pub returns-clause-exact : goal.returns-clause-exact
+returns-clause-exact g c =
+    let a = c.self.inside in
+    rw (← c.self.view_is) (ap (λ n. (n, Some n)) (sym (rest-length a.entries.now a.front a.back a.left c.self.invariant)))

@@ -1,0 +1,27 @@
+-- The control bytes of a table, by themselves. No public clause cites this module.
+use Rattle.std.specs.Prelude.{◌≡◌, ℕ, ◌+◌, ◌-◌, ◌^◌, ◌<◌, ◌≤◌, ◌⊎◌, List, [], length, slice_index}
+use Rattle.group_table.specs.Sizes.{IsPowerFromFour}
+use Rattle.group_table.specs.Lanes.{IsRepeated}
+
+-- how many buckets so many bytes are for: 16 of them are more
+abbrev pub buckets_of : List ℕ → ℕ
+buckets_of control = length control - 16
+
+-- the bytes of a table with buckets: one a bucket and 16 more, by which the first are repeated
+pub record IsCircle (control : List ℕ) : Type 0 where
+  pub power : IsPowerFromFour (buckets_of control)
+  pub long : length control ≡ buckets_of control + 16
+  pub fits : length control < 2 ^ 63
+  pub repeated : IsRepeated control (buckets_of control)
+
+-- the bytes of any table
+abbrev pub IsControl : List ℕ → Type 0
+IsControl control = (control ≡ []) ⊎ IsCircle control
+
+-- some bucket is empty or deleted
+abbrev pub HasFreeByte : List ℕ → Type 0
+HasFreeByte control = (b : ℕ) × (b < buckets_of control) × (128 ≤ slice_index control b)
+
+-- some bucket is empty
+abbrev pub HasEmptyByte : List ℕ → Type 0
+HasEmptyByte control = (b : ℕ) × (b < buckets_of control) × (slice_index control b ≡ 255)

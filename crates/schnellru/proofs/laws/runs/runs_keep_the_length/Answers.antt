@@ -1,0 +1,5 @@
+use Rattle.schnellru.proofs.Theorems.RunLimits.{run_stays_short}
+use Rattle.schnellru.proofs.laws.runs.runs_keep_the_length.Goals as goal
+
+pub returns : goal.returns
+returns g c = record { length = λ old new run few. run_stays_short _ _ new old run few }

@@ -1,0 +1,40 @@
+-- Calls of a map, one after another.
+--     rules, offers       what the limiter says (`Rules`, `Offers` of `lru_limits`)
+--     names i k           the key i, as it is handed to a call, names the key k
+--     hash_of h k         the hash of the key k, by the hasher h
+use Rattle.std.specs.Prelude.{◌≡◌, ℕ, Bool, List, Option, Result}
+use Rattle.std.specs.declared.alloc.AllocError.{AllocError}
+use Rattle.lru_limits.specs.Rules.{Rules, Offers}
+use Rattle.schnellru.specs.State.{State, IsSized}
+use Rattle.schnellru.specs.Calls.{promoted, written, Remove, PopOldest, PopNewest, cleared}
+use Rattle.schnellru.specs.Drains.{Drained}
+use Rattle.schnellru.specs.GetOrInserts.{MakesNewest}
+use Rattle.schnellru.specs.Inserts.{Insert}
+use Rattle.schnellru.specs.Reservations.{Reserve}
+use Rattle.schnellru.specs.declared.map.reserve.ReserveError.{ReserveError}
+
+module _ {K V S H I : Type 0} (rules : Rules K V S) (offers : Offers K V S I) (names : I → K → Bool) (hash_of : H → K → ℕ) where
+  -- What one call makes of a map through which nothing is written. A call that only looks makes nothing of it, and a
+  -- search by a hash promotes the pair that it finds.
+  pub data Step (old new : State K V S H) : Type 0 where
+    inserts : (key : I) (value : V) (result : Result Bool AllocError) → Insert rules offers names hash_of key value old result new → Step old new
+    makes_newest : (value : V) (key : I) (result : Result Bool AllocError) →
+        MakesNewest rules offers names hash_of (λ made. made ≡ value) key old result new → Step old new
+    gets : (key : I) → new ≡ promoted (names key) old → Step old new
+    removes : (test : K → Bool) (result : Option V) → Remove rules test old result new → Step old new
+    pops_oldest : (result : Option (K × V)) → PopOldest rules old result new → Step old new
+    pops_newest : (result : Option (K × V)) → PopNewest rules old result new → Step old new
+    drains : (newest oldest : ℕ) (result : List (K × V)) → Drained rules newest oldest old result new → Step old new
+    clears : new ≡ cleared rules old → Step old new
+    reserves : (n : ℕ) (result : Result (Unit {0}) ReserveError) → Reserve rules n old result new → Step old new
+
+  -- the same, or a value is written through a reference, or another limiter is
+  pub data AnyStep (old new : State K V S H) : Type 0 where
+    calls : Step old new → AnyStep old new
+    writes : (test : K → Bool) (value : V) → new ≡ written test value old → AnyStep old new
+    sets_limiter : (limiter : S) → new ≡ record old { limiter = limiter } → AnyStep old new
+
+-- Steps, one after another, each of which leaves a sound table, as every call does.
+pub data Run {K V S H : Type 0} (IsStep : State K V S H → State K V S H → Type 0) (new : State K V S H) : State K V S H → Type 0 where
+  ends : Run IsStep new new
+  goes_on : {old : State K V S H} (mid : State K V S H) → IsStep old mid → IsSized mid → Run IsStep new mid → Run IsStep new old

@@ -1,0 +1,55 @@
+//! What is proved of all calls, one after another. A step is what one call makes of a map (`specs/Runs`).
+
+ghost use Rattle.std.specs.Prelude.{ℕ, ◌≤◌, length};
+ghost use Rattle.lru_limits.specs.Hashing.{hash_by};
+ghost use Rattle.schnellru.specs.State.{State, IsSized, IsMap, empty_map};
+ghost use Rattle.schnellru.specs.Runs.{Step, AnyStep, Run};
+ghost use Rattle.schnellru.specs.Theorems.{PaysForMoves, UsesAtMost, IsSummed};
+
+use lru_limits::{ByLength, ByMemoryUsage, Insertion, Limiter, LookupKey, Summing};
+use std::hash::{BuildHasher, Hash};
+
+/// What holds of every map holds after any calls, whatever is written through what they lend: no two keys are equal, each
+/// pair has a bucket, and what was moved is at most twice what was placed.
+pub fn runs_keep_maps<K: Eq + Hash, V, I: LookupKey<K>, L: Insertion<K, V, I>, S: BuildHasher>()
+    ensures map { (old new : State K V L S) →
+        Run (AnyStep L.rules L.offers I.names (hash_by K.hash_input S.BuildHasher S.Hasher.Hasher)) new old →
+        IsMap K.eq old → IsMap K.eq new }
+{}
+
+/// A summing limiter that held the sum of the costs holds it after any calls through which nothing is written.
+pub fn runs_keep_sums<K: Eq + Hash, V, I: LookupKey<K>, L: Summing<K, V, I>, S: BuildHasher>()
+    ensures sum { (old new : State K V L S) →
+        Run (Step L.rules L.offers I.names (hash_by K.hash_input S.BuildHasher S.Hasher.Hasher)) new old →
+        IsSummed L.cost_of L.account old → IsSummed L.cost_of L.account new }
+{}
+
+/// Over any calls moved and potential together rise by at most two for each element that is placed, while the count of
+/// these goes on.
+pub fn runs_pay_for_moves<K: Eq + Hash, V, I: LookupKey<K>, L: Insertion<K, V, I>, S: BuildHasher>()
+    ensures rise { (old new : State K V L S) →
+        Run (AnyStep L.rules L.offers I.names (hash_by K.hash_input S.BuildHasher S.Hasher.Hasher)) new old →
+        IsSized old → PaysForMoves old new }
+{}
+
+/// With `ByLength` there are at most `max_length` pairs after any calls, if there were no more before.
+pub fn runs_keep_the_length<K: Eq + Hash + Drop, V: Drop, S: BuildHasher>()
+    ensures length { (old new : State K V ByLength S) →
+        Run (Step ⟦<ByLength as Limiter<K, V>>⟧.rules ⟦<ByLength as Insertion<K, V, K>>⟧.offers K.eq
+        (hash_by K.hash_input S.BuildHasher S.Hasher.Hasher)) new old →
+        length old.pairs ≤ old.limiter → length new.pairs ≤ old.limiter }
+{}
+
+/// With `ByMemoryUsage` the table uses at most `max_memory_usage` bytes after any calls, if it used no more before.
+pub fn runs_keep_the_memory_usage<K: Eq + Hash + Drop, V: Drop, S: BuildHasher>()
+    ensures usage { (old new : State K V ByMemoryUsage S) →
+        Run (Step ⟦<ByMemoryUsage as Limiter<K, V>>⟧.rules ⟦<ByMemoryUsage as Insertion<K, V, K>>⟧.offers K.eq
+        (hash_by K.hash_input S.BuildHasher S.Hasher.Hasher)) new old →
+        UsesAtMost old.limiter old → UsesAtMost old.limiter new }
+{}
+
+/// A map without pairs and buckets, with which every run begins, is a map.
+pub fn runs_begin_with_maps<K: Eq + Hash, V, L: Limiter<K, V>, S: BuildHasher>()
+    ensures empty { (limiter : L) (hasher : S) (entry_bytes : ℕ) →
+        IsMap K.eq (empty_map {K = K} {V = V} limiter hasher entry_bytes (L.LinkType.number L.LinkType.MAX)) }
+{}

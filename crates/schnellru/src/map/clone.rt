@@ -1,0 +1,43 @@
+//! A copy of a map.
+ghost use Rattle.std.specs.Prelude.{◌≡◌, IfOk, IsTrue};
+ghost use Rattle.lru_limits.specs.Hashing.{hash_by};
+ghost use Rattle.schnellru.specs.Clones.{IsClone};
+
+use crate::map::LruMap;
+use lru_limits::Limiter;
+use std::alloc::AllocError;
+use std::hash::{BuildHasher, Hash};
+
+impl<K: Eq + Hash + Clone + Drop, V: Clone + Drop, L: Limiter<K, V> + Clone, S: BuildHasher + Clone + Drop>
+    LruMap<K, V, L, S> {
+    /// The map again: its pairs in their order, its limiter, its hasher, its buckets and room, and its counts, each by its
+    /// clone. The map itself stays.
+    ///
+    /// A clone of a key has to equal the key, and a clone of the hasher has to build hashers of the same hashes. Cost:
+    /// `O(buckets)`, with two requests for memory beside those of the clones; a map without buckets makes none.
+    ///
+    /// # Errors
+    ///
+    /// `Err` says that a request for memory was refused, or a clone was. What was copied is dropped.
+    ///
+    /// After schnellru's `LruMap::clone`.
+    pub fn clone(&self) -> Result<Self, AllocError>
+        requires keys { (key copy : K) → K.is_clone key copy → IsTrue (K.eq key copy) }
+        requires hashers { (hasher copy : S) → S.is_clone hasher copy → (key : K) →
+            hash_by K.hash_input S.BuildHasher S.Hasher.Hasher copy key ≡ hash_by K.hash_input S.BuildHasher S.Hasher.Hasher hasher key }
+        ensures clone { IfOk result (IsClone K.is_clone V.is_clone L.is_clone S.is_clone self.now) }
+    {
+        let entries = self.entries.copy()?;
+        let hasher = self.hasher.clone()?;
+        let limiter = self.limiter.clone()?;
+        Ok(LruMap {
+            entries,
+            limiter,
+            hasher,
+            entry_bytes: self.entry_bytes,
+            moved: self.moved,
+            placed: self.placed,
+            alloc: self.alloc,
+        })
+    }
+}

@@ -1,0 +1,99 @@
+//! Draining a map: a walk that takes the pairs out.
+ghost use Rattle.std.specs.Prelude.{◌≡◌, length, Some, IfSome};
+ghost use Rattle.std.specs.Iterator.{UpTo};
+ghost use Rattle.std.specs.Iterator.SizeHint.{IsWithinCount};
+ghost use Rattle.schnellru.specs.Drains.{drain_map, drain_lender};
+
+use crate::map::LruMap;
+use lru_limits::Limiter;
+use std::hash::{BuildHasher, Hash};
+use std::iter::FusedIterator;
+
+/// Takes the pairs out of a map from both ends. What is left is cleared when it is dropped, and stays where it is
+/// forgotten.
+///
+/// A pair that is taken is one that `pop_newest` or `pop_oldest` takes: the limiter is told of it, and what it leaves of the
+/// pair is given. The clear tells the limiter of the clear alone.
+///
+/// After schnellru's `Drain`.
+pub struct Drain<'a, K: Eq + Hash, V, L: Limiter<K, V>, S: BuildHasher> {
+    map: &'a mut LruMap<K, V, L, S>,
+}
+
+impl<'a, K: Eq + Hash + Drop, V: Drop, L: Limiter<K, V>, S: BuildHasher> Drop
+    for Drain<'a, K, V, L, S> {
+    ghost use Rattle.schnellru.specs.Calls.{cleared};
+
+    /// Clears the map, also where no pair is left.
+    fn drop(self)
+        ensures { self.exit.0.now ≡ cleared L.rules (drain_map self.entry) }
+    {
+        let Drain { map } = self;
+        map.clear();
+    }
+}
+
+impl<'a, K: Eq + Hash + Drop, V: Drop, L: Limiter<K, V>, S: BuildHasher> Iterator
+    for Drain<'a, K, V, L, S> {
+    ghost use Rattle.schnellru.specs.Drains.{TakesNewest, drain_left};
+
+    type Item = (K, V);
+
+    ghost next_gives = { TakesNewest L.rules };
+
+    ghost remaining = { drain_left };
+
+    fn next(&mut self) -> Option<(K, V)> {
+        self.map.pop_newest()
+    }
+
+    /// Exactly how many pairs are left, as `len` says.
+    fn size_hint(&self) -> (usize, Option<usize>)
+        ensures lower { IsWithinCount result.0 (drain_left self.now) }
+        ensures upper { IfSome result.1 (UpTo (drain_left self.now)) }
+        ensures exact { result ≡ (length (drain_map self.now).pairs, Some (length (drain_map self.now).pairs)) }
+    {
+        let len = self.map.len();
+        (len, Some(len))
+    }
+}
+
+impl<'a, K: Eq + Hash + Drop, V: Drop, L: Limiter<K, V>, S: BuildHasher> DoubleEndedIterator
+    for Drain<'a, K, V, L, S> {
+    ghost use Rattle.schnellru.specs.Drains.{TakesOldest};
+
+    ghost next_back_gives = { TakesOldest L.rules };
+
+    fn next_back(&mut self) -> Option<(K, V)> {
+        self.map.pop_oldest()
+    }
+}
+
+impl<'a, K: Eq + Hash + Drop, V: Drop, L: Limiter<K, V>, S: BuildHasher> ExactSizeIterator
+    for Drain<'a, K, V, L, S> {
+    fn len(&self) -> usize {
+        self.map.len()
+    }
+}
+
+impl<'a, K: Eq + Hash + Drop, V: Drop, L: Limiter<K, V>, S: BuildHasher> FusedIterator
+    for Drain<'a, K, V, L, S> {}
+
+impl<K: Eq + Hash, V, L: Limiter<K, V>, S: BuildHasher> LruMap<K, V, L, S> {
+    /// Takes out the pairs, the newest first. What is not taken is cleared when the walk is dropped.
+    ///
+    /// ```
+    /// for (key, value) in map.drain() {
+    ///     sum = sum.wrapping_add(key.wrapping_mul(value));
+    /// }
+    /// assert!(rt; map.is_empty());
+    /// ```
+    ///
+    /// After schnellru's `LruMap::drain`.
+    pub fn drain(&mut self) -> Drain<'_, K, V, L, S>
+        ensures map { drain_map result ≡ self.old }
+        ensures same_reference { drain_lender result ≡ self.entry.ghost_name }
+    {
+        Drain { map: self }
+    }
+}
