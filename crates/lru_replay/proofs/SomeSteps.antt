@@ -90,9 +90,10 @@ module _ {K V S H : Type 0} (old : State K V S H) (left : Contents K V S) (ok : 
 cleared_sized : {K V S H : Type 0} (rules : Rules K V S) (old : State K V S H) → IsSized old → IsSized (cleared rules old)
 cleared_sized {K = K} {V = V} rules old ok =
     let none : List (K × V) = [] in
-    let sized = sized-marked old ok none 0 (omega arith) (λ _. refl) (rules.on_cleared old.limiter) old.placings old.moved old.placed ok.moved ok.placed in
+    let marked_empty = sized-marked old ok none 0 (omega arith) (λ _. refl) old.limiter old.placings old.moved old.placed ok.moved ok.placed in
     let as_many : buckets old - 0 - 0 ≡ buckets old = omega arith in
-    subst (λ n. IsSized (record old { pairs = none; limiter = rules.on_cleared old.limiter; marks = replicate n empty })) as_many sized
+    let sized = subst (λ n. IsSized (record old { pairs = none; marks = replicate n empty })) as_many marked_empty in
+    record { table = sized.table; taken = sized.taken; reachable = sized.reachable; usable = sized.usable; moved = ok.moved; placed = ok.placed }
 
 module _ {K V S H : Type 0} (rules : Rules K V S) (n : ℕ) (old : State K V S H) (ok : IsSized old) where
   -- the reservation can end
