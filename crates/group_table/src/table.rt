@@ -29,9 +29,9 @@ mod relocation;
 /// caller about each entry that may be the one. An entry keeps its bucket until it is taken, or all entries are moved.
 /// `docs/TABLE.md` has its rules, which are those of hashbrown's raw table.
 ///
-/// A table of B buckets has B + 16 control bytes and B places for entries. Only `with_buckets`, `relocate`, `rehash` and
-/// `clone_with` ask for memory. `get`, `get_mut`, `take` and the figures take O(1). `find` and `try_place` take O(1) where
-/// the hashes are spread, and at worst O(B). All other calls take O(B).
+/// A table of B buckets has B + 16 control bytes and B places for entries. Only `with_buckets`, `relocate`, `rehash`
+/// and `clone_with` ask for memory. `get`, `get_mut`, `take` and the figures take O(1). `find` and `try_place` take
+/// O(1) where the hashes are spread, and at worst O(B). All other calls take O(B).
 ///
 /// ```
 /// let mut table = Table::with_buckets(alloc, 8)?;

@@ -25,8 +25,8 @@ impl<T> Table<T> {
         self.len
     }
 
-    /// How many more entries are sure to find an empty bucket: the full capacity of the buckets, less those that are full
-    /// or deleted.
+    /// How many more entries are sure to find an empty bucket: the full capacity of the buckets, less those that are
+    /// full or deleted.
     #[inline]
     pub fn room(&self) -> usize
         ensures value { result ≡ room (marks_of self.now.slots) }
