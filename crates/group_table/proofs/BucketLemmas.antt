@@ -59,27 +59,34 @@ module _ {A : Type 0} where
   pub length-marks_of : (buckets : List (Bucket A)) → length (marks_of buckets) ≡ length buckets
   length-marks_of buckets = length-map buckets mark_of
 
-  pub bucket_at-marks_of : (buckets : List (Bucket A)) (b : ℕ) → bucket_at (marks_of buckets) b ≡ mark_of (bucket_at buckets b)
+  pub bucket_at-marks_of : (buckets : List (Bucket A)) (b : ℕ)
+      → bucket_at (marks_of buckets) b ≡ mark_of (bucket_at buckets b)
   bucket_at-marks_of buckets b = get_or-map mark_of buckets b empty
 
-  pub marks_of-set : (buckets : List (Bucket A)) (b : ℕ) (s : Bucket A) → marks_of (set buckets b s) ≡ set (marks_of buckets) b (mark_of s)
+  pub marks_of-set : (buckets : List (Bucket A)) (b : ℕ) (s : Bucket A)
+      → marks_of (set buckets b s) ≡ set (marks_of buckets) b (mark_of s)
   marks_of-set buckets b s = map-set mark_of buckets b s
 
-  pub empty_mark : (buckets : List (Bucket A)) (b : ℕ) → bucket_at (marks_of buckets) b ≡ empty → bucket_at buckets b ≡ empty
+  pub empty_mark : (buckets : List (Bucket A)) (b : ℕ) → bucket_at (marks_of buckets) b ≡ empty
+      → bucket_at buckets b ≡ empty
   empty_mark buckets b e = mark_empty _ (sym (bucket_at-marks_of buckets b) ∙ e)
 
   -- a bucket is full exactly if its mark is
-  pub is_full-marks_of : (buckets : List (Bucket A)) (b : ℕ) → is_full (bucket_at (marks_of buckets) b) ≡ is_full (bucket_at buckets b)
+  pub is_full-marks_of : (buckets : List (Bucket A)) (b : ℕ)
+      → is_full (bucket_at (marks_of buckets) b) ≡ is_full (bucket_at buckets b)
   is_full-marks_of buckets b = ap is_full (bucket_at-marks_of buckets b) ∙ mark_of-full (bucket_at buckets b)
 
-  pub count_by-cons : (p : Bucket A → Bool) (s : Bucket A) (rest : List (Bucket A)) → count_by p (s ∷ rest) ≡ cond (p s) 1 0 + count_by p rest
+  pub count_by-cons : (p : Bucket A → Bool) (s : Bucket A) (rest : List (Bucket A))
+      → count_by p (s ∷ rest) ≡ cond (p s) 1 0 + count_by p rest
   count_by-cons p s rest = sum_by-cons (λ x. cond (p x) 1 0) s rest
 
   -- one bucket is written
-  pub bucket_at-set_same : (buckets : List (Bucket A)) (b k : ℕ) (s : Bucket A) → k ≡ b → b < length buckets → bucket_at (set buckets b s) k ≡ s
+  pub bucket_at-set_same : (buckets : List (Bucket A)) (b k : ℕ) (s : Bucket A) → k ≡ b → b < length buckets
+      → bucket_at (set buckets b s) k ≡ s
   bucket_at-set_same buckets b k s e within = rw e (get_or-set_same buckets b s empty within)
 
-  pub bucket_at-set_other : (buckets : List (Bucket A)) (b k : ℕ) (s : Bucket A) → k ≢ b → bucket_at (set buckets b s) k ≡ bucket_at buckets k
+  pub bucket_at-set_other : (buckets : List (Bucket A)) (b k : ℕ) (s : Bucket A) → k ≢ b
+      → bucket_at (set buckets b s) k ≡ bucket_at buckets k
   bucket_at-set_other buckets b k s p = get_or-set_other buckets b k s empty p
 
   -- what writing one bucket does to a count
@@ -87,7 +94,8 @@ module _ {A : Type 0} where
       → count_by p (set buckets b s) + cond (p (bucket_at buckets b)) 1 0 ≡ count_by p buckets + cond (p s) 1 0
   count_by-set p buckets b s within = sum_by-set (λ x. cond (p x) 1 0) buckets b s empty within
 
-  pub count_by-pos : (p : Bucket A → Bool) (buckets : List (Bucket A)) (b : ℕ) → b < length buckets → p (bucket_at buckets b) ≡ true → 0 < count_by p buckets
+  pub count_by-pos : (p : Bucket A → Bool) (buckets : List (Bucket A)) (b : ℕ) → b < length buckets
+      → p (bucket_at buckets b) ≡ true → 0 < count_by p buckets
   count_by-pos p buckets b within e =
       let least = get_or-le-sum_by (λ x. cond (p x) 1 0) buckets b empty within in
       let one : ◌≡◌ {A = ℕ} (cond (p (bucket_at buckets b)) 1 0) 1 = ap (λ t. cond {A = ℕ} t 1 0) e in
@@ -107,29 +115,59 @@ module _ {A : Type 0} where
   pub used_count-marks_of : (buckets : List (Bucket A)) → count_by is_used (marks_of buckets) ≡ count_by is_used buckets
   used_count-marks_of buckets = count_by-marks_of is_used is_used mark_of-used buckets
 
-  pub deleted_count-marks_of : (buckets : List (Bucket A)) → count_by is_deleted (marks_of buckets) ≡ count_by is_deleted buckets
+  pub deleted_count-marks_of : (buckets : List (Bucket A))
+      → count_by is_deleted (marks_of buckets) ≡ count_by is_deleted buckets
   deleted_count-marks_of buckets = count_by-marks_of is_deleted is_deleted mark_of-deleted buckets
 
   -- used buckets are full ones and deleted ones
-  pub used_count-split : (buckets : List (Bucket A)) → count_by is_used buckets ≡ entry_count buckets + count_by is_deleted buckets
+  pub used_count-split : (buckets : List (Bucket A))
+      → count_by is_used buckets ≡ entry_count buckets + count_by is_deleted buckets
   used_count-split [] = refl
-  used_count-split (empty ∷ rest) = omega (arith, used_count-split rest, count_by-cons is_used empty rest, count_by-cons is_full empty rest, count_by-cons is_deleted empty rest)
-  used_count-split (deleted ∷ rest) = omega (arith, used_count-split rest, count_by-cons is_used deleted rest, count_by-cons is_full deleted rest, count_by-cons is_deleted deleted rest)
-  used_count-split (full held ∷ rest) = omega (arith, used_count-split rest, count_by-cons is_used (full held) rest, count_by-cons is_full (full held) rest, count_by-cons is_deleted (full held) rest)
+  used_count-split (empty ∷ rest) =
+      omega (
+        arith,
+        used_count-split rest,
+        count_by-cons is_used empty rest,
+        count_by-cons is_full empty rest,
+        count_by-cons is_deleted empty rest,
+      )
+  used_count-split (deleted ∷ rest) =
+      omega (
+        arith,
+        used_count-split rest,
+        count_by-cons is_used deleted rest,
+        count_by-cons is_full deleted rest,
+        count_by-cons is_deleted deleted rest,
+      )
+  used_count-split (full held ∷ rest) =
+      omega (
+        arith,
+        used_count-split rest,
+        count_by-cons is_used (full held) rest,
+        count_by-cons is_full
+            (full held) rest,
+        count_by-cons is_deleted (full held) rest,
+      )
 
   -- where no bucket is deleted, none is counted
-  pub deleted_count-none : (buckets : List (Bucket A)) → ((b : ℕ) → bucket_at buckets b ≢ deleted) → count_by is_deleted buckets ≡ 0
+  pub deleted_count-none : (buckets : List (Bucket A)) → ((b : ℕ) → bucket_at buckets b ≢ deleted)
+      → count_by is_deleted buckets ≡ 0
   deleted_count-none [] none = refl
-  deleted_count-none (empty ∷ rest) none = omega (arith, deleted_count-none rest (λ b. none (suc b)), count_by-cons is_deleted empty rest)
+  deleted_count-none (empty ∷ rest) none =
+      omega (arith, deleted_count-none rest (λ b. none (suc b)), count_by-cons is_deleted empty rest)
   deleted_count-none (deleted ∷ rest) none = absurd (none 0 refl)
-  deleted_count-none (full held ∷ rest) none = omega (arith, deleted_count-none rest (λ b. none (suc b)), count_by-cons is_deleted (full held) rest)
+  deleted_count-none (full held ∷ rest) none =
+      omega (arith, deleted_count-none rest (λ b. none (suc b)), count_by-cons is_deleted (full held) rest)
 
   -- where fewer buckets are used than there are, one is empty
-  pub some_empty : (buckets : List (Bucket A)) → count_by is_used buckets < length buckets → (b : ℕ) × (b < length buckets) × (bucket_at buckets b ≡ empty)
+  pub some_empty : (buckets : List (Bucket A)) → count_by is_used buckets < length buckets → (b : ℕ)
+      × (b < length buckets) × (bucket_at buckets b ≡ empty)
   some_empty [] p = absurd (omega arith)
   some_empty (empty ∷ rest) p = (0, omega arith, refl)
-  some_empty (deleted ∷ rest) p = let w = some_empty rest (omega (arith, count_by-cons is_used deleted rest)) in (suc w.0, omega (arith, w.1), w.2)
-  some_empty (full held ∷ rest) p = let w = some_empty rest (omega (arith, count_by-cons is_used (full held) rest)) in (suc w.0, omega (arith, w.1), w.2)
+  some_empty (deleted ∷ rest) p = let w = some_empty rest (omega (arith, count_by-cons is_used deleted rest)) in
+      (suc w.0, omega (arith, w.1), w.2)
+  some_empty (full held ∷ rest) p = let w = some_empty rest (omega (arith, count_by-cons is_used (full held) rest)) in
+      (suc w.0, omega (arith, w.1), w.2)
 
 pub room_is : (marks : List Mark) → room marks ≡ full_capacity (length marks) - count_by is_used marks
 unfolding room

@@ -13,29 +13,36 @@ use Rattle.group_table.proofs.BucketLemmas.{full_lt, is_full-marks_of}
 module _ {T : Type 0} (old new : Table T) (hash : ℕ) (entry : T) (b : ℕ) (places : Places old new hash entry b) where
   -- its bucket is marked full
   pub marks_of-placed : marks_of new.slots ≡ set (marks_of old.slots) b (full tt)
-  marks_of-placed = ap marks_of places.slots ∙ marks_of-set old.slots b (full (record { tag = hash_tag hash; entry = entry }))
+  marks_of-placed =
+      ap marks_of places.slots ∙ marks_of-set old.slots b (full (record { tag = hash_tag hash; entry = entry }))
 
   placed_free : is_full (bucket_at old.slots b) ≡ is_full (bucket_at (marks_of old.slots) b)
   placed_free = sym (is_full-marks_of old.slots b)
 
   module _ (within : b < length old.slots) where
     pub entry_at-placed : entry_at new.slots b ≡ Some entry
-    entry_at-placed = ap entry_of (ap (λ xs. bucket_at xs b) places.slots ∙ bucket_at-set_same old.slots b b (full (record { tag = hash_tag hash; entry = entry })) refl within)
+    entry_at-placed =
+        ap entry_of (ap (λ xs. bucket_at xs b) places.slots
+        ∙ bucket_at-set_same old.slots b b (full (record { tag = hash_tag hash; entry = entry })) refl within)
 
     pub entry_count-places : entry_count new.slots ≡ entry_count old.slots + 1
     entry_count-places =
-        let none : ◌≡◌ {A = ℕ} (cond (is_full (bucket_at old.slots b)) 1 0) 0 = ap (λ t. cond {A = ℕ} t 1 0) (placed_free ∙ places.first.free_there) in
+        let none : ◌≡◌ {A = ℕ} (cond (is_full (bucket_at old.slots b)) 1 0) 0 =
+        ap (λ t. cond {A = ℕ} t 1 0) (placed_free ∙ places.first.free_there) in
         let counted = count_by-set is_full old.slots b (full (record { tag = hash_tag hash; entry = entry })) within in
         ap entry_count places.slots ∙ omega (arith, counted, none)
 
   -- the others stay
   pub bucket_at-placed_other : (k : ℕ) → k ≢ b → bucket_at new.slots k ≡ bucket_at old.slots k
-  bucket_at-placed_other k other = ap (λ xs. bucket_at xs k) places.slots ∙ bucket_at-set_other old.slots b k (full (record { tag = hash_tag hash; entry = entry })) other
+  bucket_at-placed_other k other =
+      ap (λ xs. bucket_at xs k) places.slots ∙ bucket_at-set_other old.slots b k
+      (full (record { tag = hash_tag hash; entry = entry })) other
 
 module _ {T : Type 0} (old new : List (Slot T)) (b : ℕ) where
   -- its bucket is marked empty or deleted
   pub marks_of-removed : Removes old new b
-      → (HasEmptyNeighbours (marks_of old) b × (marks_of new ≡ set (marks_of old) b empty)) ⊎ (IsHemmedIn (marks_of old) b × (marks_of new ≡ set (marks_of old) b deleted))
+      → (HasEmptyNeighbours (marks_of old) b × (marks_of new ≡ set (marks_of old) b empty))
+      ⊎ (IsHemmedIn (marks_of old) b × (marks_of new ≡ set (marks_of old) b deleted))
   marks_of-removed (inl w) = inl (w.0, ap marks_of w.1 ∙ marks_of-set old b empty)
   marks_of-removed (inr w) = inr (w.0, ap marks_of w.1 ∙ marks_of-set old b deleted)
 
@@ -45,15 +52,18 @@ module _ {T : Type 0} (old new : List (Slot T)) (b : ℕ) where
 
   -- there is no entry in it now
   pub entry_at-removed : IsFull old b → Removes old new b → entry_at new b ≡ None
-  entry_at-removed there (inl w) = ap entry_of (ap (λ xs. bucket_at xs b) w.1 ∙ bucket_at-set_same old b b empty refl (full_lt old b there))
-  entry_at-removed there (inr w) = ap entry_of (ap (λ xs. bucket_at xs b) w.1 ∙ bucket_at-set_same old b b deleted refl (full_lt old b there))
+  entry_at-removed there (inl w) =
+      ap entry_of (ap (λ xs. bucket_at xs b) w.1 ∙ bucket_at-set_same old b b empty refl (full_lt old b there))
+  entry_at-removed there (inr w) =
+      ap entry_of (ap (λ xs. bucket_at xs b) w.1 ∙ bucket_at-set_same old b b deleted refl (full_lt old b there))
 
   -- the others stay
   pub bucket_at-removed_other : (k : ℕ) → k ≢ b → Removes old new b → bucket_at new k ≡ bucket_at old k
   bucket_at-removed_other k other (inl w) = ap (λ xs. bucket_at xs k) w.1 ∙ bucket_at-set_other old b k empty other
   bucket_at-removed_other k other (inr w) = ap (λ xs. bucket_at xs k) w.1 ∙ bucket_at-set_other old b k deleted other
 
-  one_fewer : (s : Slot T) → is_full s ≡ is_full {A = Tagged T} empty → IsFull old b → new ≡ set old b s → entry_count new + 1 ≡ entry_count old
+  one_fewer : (s : Slot T) → is_full s ≡ is_full {A = Tagged T} empty → IsFull old b → new ≡ set old b s
+      → entry_count new + 1 ≡ entry_count old
   one_fewer s emptied there e =
       let one : ◌≡◌ {A = ℕ} (cond (is_full (bucket_at old b)) 1 0) 1 = ap (λ t. cond {A = ℕ} t 1 0) there in
       let none : ◌≡◌ {A = ℕ} (cond (is_full s) 1 0) 0 = ap (λ t. cond {A = ℕ} t 1 0) emptied in

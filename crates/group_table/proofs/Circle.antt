@@ -8,7 +8,8 @@ pub distance : (n s b : ℕ) → s < n → b < n → (d : ℕ) × (d < n) × ((s
 distance n s b p q =
     elim (dec_le s b) [
       | yes r ↦ let e : s + (b - s) ≡ b = omega arith in (b - s, omega arith, ap (λ m. m % n) e ∙ mod-eq_of_lt q)
-      | no r ↦ let e : s + (b + n - s) ≡ b + n = omega arith in (b + n - s, omega arith, ap (λ m. m % n) e ∙ add-mod_right b n ∙ mod-eq_of_lt q)
+      | no r ↦ let e : s + (b + n - s) ≡ b + n = omega arith in
+          (b + n - s, omega arith, ap (λ m. m % n) e ∙ add-mod_right b n ∙ mod-eq_of_lt q)
     ]
 
 -- so many steps on, and round to the place again
@@ -22,7 +23,8 @@ way_round n x k pos =
 -- places that are as far before the same place are one
 pub same_place : (n x y k b : ℕ) → x < n → y < n → (x + k) % n ≡ b → (y + k) % n ≡ b → x ≡ y
 same_place n x y k b p q e f =
-    sym (mod-eq_of_lt p) ∙ sym (way_round n x k (omega arith)) ∙ ap (λ j. (j + (n - k % n)) % n) (e ∙ sym f) ∙ way_round n y k (omega arith) ∙ mod-eq_of_lt q
+    sym (mod-eq_of_lt p) ∙ sym (way_round n x k (omega arith)) ∙ ap (λ j. (j + (n - k % n)) % n) (e ∙ sym f)
+    ∙ way_round n y k (omega arith) ∙ mod-eq_of_lt q
 
 -- what is the same after so many steps was so before
 pub mod_cancel : (n k x y : ℕ) → 0 < n → (k + x) % n ≡ (k + y) % n → x % n ≡ y % n

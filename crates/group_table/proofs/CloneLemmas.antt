@@ -21,19 +21,22 @@ module _ {T F : Type 0} (closure : Shared F (Bor T × Unit {0}) (Result T AllocE
   free_copy true = refl
   free_copy false = refl
 
-  slot_copy : (byte : ℕ) (x y : Option T) → IsPlaceCopy closure f x y → IsCopyOf closure f (slot_of byte x) (slot_of byte y)
+  slot_copy : (byte : ℕ) (x y : Option T) → IsPlaceCopy closure f x y
+      → IsCopyOf closure f (slot_of byte x) (slot_of byte y)
   slot_copy byte None y h = rw h (free_copy (nat_eq byte 128))
   slot_copy byte (Some entry) y h = (h.0, h.1, ap (slot_of byte) h.2)
 
   -- copies of the entries beside the same bytes are a copy of the table
-  pub Copies-places : (bytes : List ℕ) (xs ys : List (Option T)) → AllZip (IsPlaceCopy closure f) xs ys → Copies closure f (slots_of bytes xs) (slots_of bytes ys)
+  pub Copies-places : (bytes : List ℕ) (xs ys : List (Option T)) → AllZip (IsPlaceCopy closure f) xs ys
+      → Copies closure f (slots_of bytes xs) (slots_of bytes ys)
   Copies-places bytes [] [] h = tt
   Copies-places bytes [] (y ∷ ys) h = absurd h
   Copies-places bytes (x ∷ xs) [] h = absurd h
   Copies-places [] (x ∷ xs) (y ∷ ys) h = tt
   Copies-places (byte ∷ bytes) (x ∷ xs) (y ∷ ys) h = (slot_copy byte x y h.0, Copies-places bytes xs ys h.1)
 
-  copy_each : (old new : List (Slot T)) → Copies closure f old new → (b : ℕ) → IsCopyOf closure f (bucket_at old b) (bucket_at new b)
+  copy_each : (old new : List (Slot T)) → Copies closure f old new → (b : ℕ)
+      → IsCopyOf closure f (bucket_at old b) (bucket_at new b)
   copy_each [] [] h b = refl
   copy_each [] (n ∷ new) h b = absurd h
   copy_each (s ∷ old) [] h b = absurd h
@@ -55,10 +58,12 @@ module _ {T F : Type 0} (closure : Shared F (Bor T × Unit {0}) (Result T AllocE
   marks_of-copies [] [] h = refl
   marks_of-copies [] (n ∷ new) h = absurd h
   marks_of-copies (s ∷ old) [] h = absurd h
-  marks_of-copies (s ∷ old) (n ∷ new) h = ap (λ m. m ∷ marks_of new) (mark_of-copy s n h.0) ∙ ap (λ ms. mark_of s ∷ ms) (marks_of-copies old new h.1)
+  marks_of-copies (s ∷ old) (n ∷ new) h =
+      ap (λ m. m ∷ marks_of new) (mark_of-copy s n h.0) ∙ ap (λ ms. mark_of s ∷ ms) (marks_of-copies old new h.1)
 
   -- a full bucket of the copy was full, with the same tag
-  was_full : (s n : Slot T) (held : Tagged T) → IsCopyOf closure f s n → n ≡ full held → (was : Tagged T) × (s ≡ full was) × (held.tag ≡ was.tag)
+  was_full : (s n : Slot T) (held : Tagged T) → IsCopyOf closure f s n → n ≡ full held → (was : Tagged T)
+      × (s ≡ full was) × (held.tag ≡ was.tag)
   was_full empty n held h e = absurd (empty_not_full n h (ap is_full e))
   was_full deleted n held h e = absurd (full_not_deleted n (ap is_full e) h)
   was_full (full was) n held h e = (was, refl, ap (λ x. x.tag) (one_held n held (record was { entry = h.0 }) e h.2))
@@ -69,19 +74,25 @@ module _ {T F : Type 0} (closure : Shared F (Bor T × Unit {0}) (Result T AllocE
   was_deleted (full was) n h e = absurd (full_not_deleted n (ap is_full h.2) e)
 
   -- and so the hashes that fit
-  pub Fits-copies : (old new : List (Slot T)) (hash_of : ℕ → ℕ) → Copies closure f old new → Fits old hash_of → Fits new hash_of
+  pub Fits-copies : (old new : List (Slot T)) (hash_of : ℕ → ℕ) → Copies closure f old new → Fits old hash_of
+      → Fits new hash_of
   Fits-copies old new hash_of h fits =
       let marks = marks_of-copies old new h in
       record {
-        tags = λ b held e. let w = was_full (bucket_at old b) (bucket_at new b) held (copy_each old new h b) e in w.2 ∙ fits.tags b w.0 w.1;
-        reached = λ b there. rw marks (fits.reached b (sym (is_full-marks_of old b) ∙ ap (λ ms. is_full (bucket_at ms b)) (sym marks) ∙ is_full-marks_of new b ∙ there));
+        tags = λ b held e. let w = was_full (bucket_at old b) (bucket_at new b) held (copy_each old new h b) e in
+            w.2 ∙ fits.tags b w.0 w.1;
+        reached = λ b there. rw marks
+            (fits.reached b
+            (sym (is_full-marks_of old b) ∙ ap (λ ms. is_full (bucket_at ms b)) (sym marks) ∙ is_full-marks_of new b
+            ∙ there));
       }
 
   agrees_copy : (byte : ℕ) (x y : Option T) → IsPlaceCopy closure f x y → Agrees byte x → Agrees byte y
   agrees_copy byte None y h agrees = rw h agrees
   agrees_copy byte (Some entry) y h agrees = rw h.2 agrees
 
-  module _ {control : List ℕ} {entries : List (Option T)} (copies : List (Option T)) {r : ℕ} (valid : IsValid control entries r)
+  module _ {control : List ℕ} {entries : List (Option T)} (copies : List (Option T)) {r : ℕ}
+      (valid : IsValid control entries r)
       (h : AllZip (IsPlaceCopy closure f) entries copies) where
     same_length : length copies ≡ length entries
     same_length = sym (length_all_zip (IsPlaceCopy closure f) entries copies h)
@@ -96,12 +107,16 @@ module _ {T F : Type 0} (closure : Shared F (Bor T × Unit {0}) (Result T AllocE
     same_slots = sym (length_all_zip (IsCopyOf closure f) _ _ copied)
 
     pub entry_count-copied : entry_count (slots_of control copies) ≡ entry_count (slots_of control entries)
-    entry_count-copied = sym (entry_count-marks_of (slots_of control copies)) ∙ ap entry_count marks ∙ entry_count-marks_of (slots_of control entries)
+    entry_count-copied =
+        sym (entry_count-marks_of (slots_of control copies)) ∙ ap entry_count marks
+        ∙ entry_count-marks_of (slots_of control entries)
 
     used_same : count_by is_used (slots_of control copies) ≡ count_by is_used (slots_of control entries)
-    used_same = sym (used_count-marks_of (slots_of control copies)) ∙ ap (count_by is_used) marks ∙ used_count-marks_of (slots_of control entries)
+    used_same = sym (used_count-marks_of (slots_of control copies)) ∙ ap (count_by is_used) marks
+        ∙ used_count-marks_of (slots_of control entries)
 
-    same_byte : (k : ℕ) → byte_of (bucket_at (slots_of control copies) k) ≡ byte_of (bucket_at (slots_of control entries) k)
+    same_byte : (k : ℕ) → byte_of (bucket_at (slots_of control copies) k)
+        ≡ byte_of (bucket_at (slots_of control entries) k)
     same_byte k = byte_of-copy _ _ (copy_each _ _ copied k)
 
     pub IsValid-copied : IsValid control copies r
@@ -109,9 +124,14 @@ module _ {T F : Type 0} (closure : Shared F (Bor T × Unit {0}) (Result T AllocE
       laid_out = record {
         counts = rw same_length valid.laid_out.counts;
         fits = valid.laid_out.fits;
-        agrees = λ b within. agrees_copy _ _ _ (AllZip-get_or (IsPlaceCopy closure f) entries copies b None None h (omega (arith, same_length))) (valid.laid_out.agrees b (omega (arith, same_length)));
-        bytes = λ p within. valid.laid_out.bytes p within ∙ sym (byte_at-same (slots_of control entries) (slots_of control copies) same_slots p (same_byte p) (λ low past. same_byte _));
+        agrees = λ b within. agrees_copy _ _ _
+            (AllZip-get_or (IsPlaceCopy closure f) entries copies b None None h (omega (arith, same_length)))
+            (valid.laid_out.agrees b (omega (arith, same_length)));
+        bytes = λ p within. valid.laid_out.bytes p within
+            ∙ sym (byte_at-same (slots_of control entries) (slots_of control copies) same_slots p (same_byte p)
+            (λ low past. same_byte _));
       };
       room_left = rw (same_length, used_same) valid.room_left;
-      none_deleted = λ small b e. rw same_length (valid.none_deleted (omega (arith, same_length)) b (was_deleted _ _ (copy_each _ _ copied b) e));
+      none_deleted = λ small b e. rw same_length
+          (valid.none_deleted (omega (arith, same_length)) b (was_deleted _ _ (copy_each _ _ copied b) e));
     }

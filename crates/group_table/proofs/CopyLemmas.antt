@@ -9,6 +9,8 @@ module _ {X : Type 0} where
   copy_at (suc n) (suc k) x = copy_at n k x
 
   -- a list of the same elements
-  pub replicate-from : (xs : List X) (x d : X) → ((k : ℕ) → k < length xs → get_or xs k d ≡ x) → xs ≡ replicate (length xs) x
+  pub replicate-from : (xs : List X) (x d : X) → ((k : ℕ) → k < length xs → get_or xs k d ≡ x)
+      → xs ≡ replicate (length xs) x
   replicate-from [] x d h = refl
-  replicate-from (y ∷ xs) x d h = ap (λ z. z ∷ xs) (h 0 (omega arith)) ∙ ap (λ zs. x ∷ zs) (replicate-from xs x d (λ k p. h (suc k) (omega arith)))
+  replicate-from (y ∷ xs) x d h =
+      ap (λ z. z ∷ xs) (h 0 (omega arith)) ∙ ap (λ zs. x ∷ zs) (replicate-from xs x d (λ k p. h (suc k) (omega arith)))

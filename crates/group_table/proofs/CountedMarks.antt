@@ -10,7 +10,8 @@ use Rattle.group_table.proofs.ProbeLemmas.{probed-lt, probed-meets}
 use Rattle.group_table.proofs.FirstFree.{first_free_there}
 
 -- a table can have so many buckets, and they take what is used
-module _ (marks : List Mark) (count : IsBucketCount (length marks)) (within : count_by is_used marks ≤ full_capacity (length marks)) where
+module _ (marks : List Mark) (count : IsBucketCount (length marks))
+    (within : count_by is_used marks ≤ full_capacity (length marks)) where
   power : 0 < length marks → IsPowerFromFour (length marks)
   power pos = elim count [ inl none ↦ absurd (omega (arith, none, pos)) | inr p ↦ p ]
 

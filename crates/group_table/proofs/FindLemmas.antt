@@ -36,69 +36,93 @@ module _ {T : Type 0} (slots : List (Slot T)) (start lane : ℕ) where
   wider : HasEmptyLane slots start lane → HasEmptyLane slots start (lane + 1)
   wider w = (w.0, omega (arith, w.1), w.2)
 
-  none_more : HasNoEmptyLane slots start lane → bucket_at (marks_of slots) ((start + lane) % length slots) ≢ empty → HasNoEmptyLane slots start (lane + 1)
+  none_more : HasNoEmptyLane slots start lane → bucket_at (marks_of slots) ((start + lane) % length slots) ≢ empty
+      → HasNoEmptyLane slots start (lane + 1)
   none_more h here k p = elim (dec_lt k lane) [
     | yes q ↦ h k q
-    | no q ↦ let e : lane ≡ k = omega arith in subst (λ j. bucket_at (marks_of slots) ((start + j) % length slots) ≢ empty) e here
+    | no q ↦ let e : lane ≡ k = omega arith in
+        subst (λ j. bucket_at (marks_of slots) ((start + j) % length slots) ≢ empty) e here
   ]
 
   match_more : (t : Bool) → MatchBool t (HasEmptyLane slots start lane) (HasNoEmptyLane slots start lane)
-      → bucket_at (marks_of slots) ((start + lane) % length slots) ≢ empty → MatchBool t (HasEmptyLane slots start (lane + 1)) (HasNoEmptyLane slots start (lane + 1))
+      → bucket_at (marks_of slots) ((start + lane) % length slots) ≢ empty
+      → MatchBool t (HasEmptyLane slots start (lane + 1)) (HasNoEmptyLane slots start (lane + 1))
   match_more true h here = wider h
   match_more false h here = none_more h here
 
 -- one lane, by its byte
-module _ {T : Type 0} (control : List ℕ) (entries : List (Option T)) (laid_out : IsLaidOut control entries) (start lane b : ℕ) (is : b ≡ (start + lane) % length entries)
+module _ {T : Type 0} (control : List ℕ) (entries : List (Option T)) (laid_out : IsLaidOut control entries)
+    (start lane b : ℕ) (is : b ≡ (start + lane) % length entries)
     (within : b < length entries) where
   pub lane_is : b ≡ (start + lane) % length (slots_of control entries)
   lane_is = is ∙ ap (λ n. (start + lane) % n) (sym (length-laid_out control entries laid_out))
 
   -- a used bucket leaves it open whether one was empty
-  pub ended_as_before : (t : Bool) → MatchBool t (HasEmptyLane (slots_of control entries) start lane) (HasNoEmptyLane (slots_of control entries) start lane)
-      → get_or control b 0 ≢ 255 → MatchBool t (HasEmptyLane (slots_of control entries) start (lane + 1)) (HasNoEmptyLane (slots_of control entries) start (lane + 1))
-  ended_as_before t h used = match_more (slots_of control entries) start lane t h (λ e. used (byte_from_mark control entries laid_out b within (rw (← lane_is) at e)))
+  pub ended_as_before : (t : Bool) → MatchBool t (HasEmptyLane (slots_of control entries) start lane)
+      (HasNoEmptyLane (slots_of control entries) start lane)
+      → get_or control b 0 ≢ 255 → MatchBool t (HasEmptyLane (slots_of control entries) start (lane + 1))
+      (HasNoEmptyLane (slots_of control entries) start (lane + 1))
+  ended_as_before t h used =
+      match_more (slots_of control entries) start lane t h
+      (λ e. used (byte_from_mark control entries laid_out b within (rw (← lane_is) at e)))
 
   -- and an empty one ends the search
   pub ended_here : get_or control b 0 ≡ 255 → HasEmptyLane (slots_of control entries) start (lane + 1)
   ended_here e = (lane, omega arith, rw (← lane_is) (mark_from_byte control entries laid_out b within e))
 
   module _ {F : Type 0} (closure : Mut F (Bor T × Unit {0}) Bool) (tag : ℕ) (f between : F)
-      (before : RefusesEach closure (slots_of control entries) f (tagged_lanes (slots_of control entries) tag start lane) between) where
-    pub refused_passed : get_or control b 0 ≢ tag → RefusesEach closure (slots_of control entries) f (tagged_lanes (slots_of control entries) tag start (lane + 1)) between
+      (before : RefusesEach closure (slots_of control entries) f
+      (tagged_lanes (slots_of control entries) tag start lane) between) where
+    pub refused_passed : get_or control b 0 ≢ tag
+        → RefusesEach closure (slots_of control entries) f
+        (tagged_lanes (slots_of control entries) tag start (lane + 1)) between
     refused_passed other =
-        RefusesEach-skip closure (slots_of control entries) tag start lane f between before (rw (← lane_is, bucket_at-laid_out control entries laid_out b within) (has_tag-slot_of _ tag _ other))
+        RefusesEach-skip closure (slots_of control entries) tag start lane f between before
+        (rw (← lane_is, bucket_at-laid_out control entries laid_out b within) (has_tag-slot_of _ tag _ other))
 
-    module _ (entry : T) (there : bucket_at (slots_of control entries) b ≡ full (record { tag = tag; entry = entry })) (g : F) where
+    module _ (entry : T) (there : bucket_at (slots_of control entries) b ≡ full (record { tag = tag; entry = entry }))
+        (g : F) where
       pub refused_asked : Answers closure (slots_of control entries) between b false g
-          → RefusesEach closure (slots_of control entries) f (tagged_lanes (slots_of control entries) tag start (lane + 1)) g
-      refused_asked asked = RefusesEach-more closure (slots_of control entries) tag start lane f between g entry before (rw lane_is at there) (rw lane_is at asked)
+          → RefusesEach closure (slots_of control entries) f
+          (tagged_lanes (slots_of control entries) tag start (lane + 1)) g
+      refused_asked asked =
+          RefusesEach-more closure (slots_of control entries) tag start lane f between g entry before
+          (rw lane_is at there) (rw lane_is at asked)
 
-      pub AcceptsIn-from : lane < min 16 (length entries) → Answers closure (slots_of control entries) between b true g → AcceptsIn closure (slots_of control entries) tag start f b g
+      pub AcceptsIn-from : lane < min 16 (length entries) → Answers closure (slots_of control entries) between b true g
+          → AcceptsIn closure (slots_of control entries) tag start f b g
       AcceptsIn-from p asked = record {
         lanes = lane + 1;
         in_group = omega (arith, length-laid_out control entries laid_out);
         asked = tagged_lanes (slots_of control entries) tag start lane;
         in_order =
             ap (λ k. tagged_lanes (slots_of control entries) tag start lane ++ k ∷ []) lane_is
-            ∙ sym (tagged_lanes-more (slots_of control entries) tag start lane (has_tag-full _ _ tag (rw lane_is at there) refl));
+            ∙ sym (tagged_lanes-more (slots_of control entries) tag start lane
+            (has_tag-full _ _ tag (rw lane_is at there) refl));
         between = between;
         refused = before;
         accepted = asked;
       }
 
 -- a group, from its first step on
-module _ {T F : Type 0} (closure : Mut F (Bor T × Unit {0}) Bool) (slots : List (Slot T)) (hash s : ℕ) (power : IsPowerFromFour (length slots)) (whole : s % 16 ≡ 0)
-    (within : s < length slots) (none_before : (t : ℕ) → t < s → mark_probed (marks_of slots) hash t ≢ empty) (f between g : F)
+module _ {T F : Type 0} (closure : Mut F (Bor T × Unit {0}) Bool) (slots : List (Slot T)) (hash s : ℕ)
+    (power : IsPowerFromFour (length slots)) (whole : s % 16 ≡ 0)
+    (within : s < length slots) (none_before : (t : ℕ) → t < s → mark_probed (marks_of slots) hash t ≢ empty)
+    (f between g : F)
     (before : RefusesEach closure slots f (candidates slots hash s) between) where
   -- a search reaches each step of this group
-  reached_here : (lanes : ℕ) → lanes ≤ 16 → (step earlier : ℕ) → step < s + lanes → earlier / 16 < step / 16 → mark_probed (marks_of slots) hash earlier ≢ empty
+  reached_here : (lanes : ℕ) → lanes ≤ 16 → (step earlier : ℕ) → step < s + lanes → earlier / 16 < step / 16
+      → mark_probed (marks_of slots) hash earlier ≢ empty
   reached_here lanes small step earlier p q = none_before earlier (omega arith)
 
-  pub Finds-from : (b : ℕ) → AcceptsIn closure slots (hash_tag hash) (probed (length slots) hash s) between b g → Finds closure slots hash f b
+  pub Finds-from : (b : ℕ) → AcceptsIn closure slots (hash_tag hash) (probed (length slots) hash s) between b g
+      → Finds closure slots hash f b
   Finds-from b here =
-      let fits : s + here.lanes ≤ length slots = omega (arith, here.in_group, group_within (length slots) s power whole within) in
+      let fits : s + here.lanes ≤ length slots =
+      omega (arith, here.in_group, group_within (length slots) s power whole within) in
       let order : (candidates slots hash s ++ here.asked) ++ b ∷ [] ≡ candidates slots hash (s + here.lanes) =
-      append_assoc (candidates slots hash s) here.asked (b ∷ []) ∙ ap (λ xs. candidates slots hash s ++ xs) here.in_order
+      append_assoc (candidates slots hash s) here.asked (b ∷ [])
+      ∙ ap (λ xs. candidates slots hash s ++ xs) here.in_order
       ∙ sym (candidates-group slots hash s here.lanes whole (omega (arith, here.in_group))) in
       record {
         asked = candidates slots hash s ++ here.asked;
@@ -117,11 +141,15 @@ module _ {T F : Type 0} (closure : Mut F (Bor T × Unit {0}) Bool) (slots : List
       }
 
   -- the whole group was refused
-  pub refused_group : RefusesGroup closure slots (hash_tag hash) (probed (length slots) hash s) between g → RefusesEach closure slots f (candidates slots hash (s + min 16 (length slots))) g
-  refused_group here = rw (candidates-group slots hash s (min 16 (length slots)) whole (omega arith)) (FoldsTo-append _ f _ between _ g before here)
+  pub refused_group : RefusesGroup closure slots (hash_tag hash) (probed (length slots) hash s) between g
+      → RefusesEach closure slots f (candidates slots hash (s + min 16 (length slots))) g
+  refused_group here =
+      rw (candidates-group slots hash s (min 16 (length slots)) whole (omega arith))
+      (FoldsTo-append _ f _ between _ g before here)
 
   -- an empty bucket ends the search: what a search reaches was among the groups before, or in this one
-  reached_by : (lane : ℕ) → lane < min 16 (length slots) → IsEmptyLane slots (probed (length slots) hash s) lane → (b : ℕ) → b < length slots
+  reached_by : (lane : ℕ) → lane < min 16 (length slots) → IsEmptyLane slots (probed (length slots) hash s) lane
+      → (b : ℕ) → b < length slots
       → Reaches (marks_of slots) hash b → (t : ℕ) × (t < s + min 16 (length slots)) × (probed (length slots) hash t ≡ b)
   reached_by lane p ends b small r =
       let n = length slots in
@@ -132,19 +160,24 @@ module _ {T F : Type 0} (closure : Mut F (Bor T × Unit {0}) Bool) (slots : List
             elim (dec_lt (s / 16) (r.step / 16)) [
               | yes past ↦
                   let group : (s + lane) / 16 ≡ s / 16 = omega arith in
-                  let met : bucket_at (marks_of slots) (probed n hash (s + lane)) ≡ empty = rw (probed-lane n hash s lane whole (omega arith)) ends in
+                  let met : bucket_at (marks_of slots) (probed n hash (s + lane)) ≡ empty =
+                  rw (probed-lane n hash s lane whole (omega arith)) ends in
                   absurd (r.goes_on (s + lane) (omega arith) (rw same met))
               | no past ↦ (r.step, omega arith, at)
             ]
         | no q ↦ let met = probed-meets n hash b power small in (met.0, omega (arith, met.1), met.2)
       ]
 
-  all_asked : HasEmptyLane slots (probed (length slots) hash s) (min 16 (length slots)) → (b : ℕ) → has_tag (hash_tag hash) (bucket_at slots b) ≡ true
+  all_asked : HasEmptyLane slots (probed (length slots) hash s) (min 16 (length slots)) → (b : ℕ)
+      → has_tag (hash_tag hash) (bucket_at slots b) ≡ true
       → Reaches (marks_of slots) hash b → Contains (candidates slots hash (s + min 16 (length slots))) b
   all_asked ends b tagged reached =
       let last = s + min 16 (length slots) in
-      let r = reached_by ends.0 ends.1 ends.2 b (full_lt slots b (full_by_tag (bucket_at slots b) (hash_tag hash) tagged)) reached in
-      subst (Contains (candidates slots hash last)) r.2 (Contains-candidates slots hash r.0 last r.1 (subst (λ k. has_tag (hash_tag hash) (bucket_at slots k) ≡ true) (sym r.2) tagged))
+      let r = reached_by ends.0 ends.1 ends.2 b
+      (full_lt slots b (full_by_tag (bucket_at slots b) (hash_tag hash) tagged)) reached in
+      subst (Contains (candidates slots hash last)) r.2
+      (Contains-candidates slots hash r.0 last r.1
+      (subst (λ k. has_tag (hash_tag hash) (bucket_at slots k) ≡ true) (sym r.2) tagged))
 
   pub FindsNone-from : RefusesGroup closure slots (hash_tag hash) (probed (length slots) hash s) between g
       → HasEmptyLane slots (probed (length slots) hash s) (min 16 (length slots)) → FindsNone closure slots hash f
@@ -153,43 +186,68 @@ module _ {T F : Type 0} (closure : Mut F (Bor T × Unit {0}) Bool) (slots : List
       let fits = group_within (length slots) s power whole within in
       record {
         asked = candidates slots hash last;
-        search = record { steps = last; within = fits; reached = reached_here (min 16 (length slots)) (omega arith); in_order = refl; distinct = candidates-distinct slots hash last power fits };
+        search = record {
+          steps = last;
+          within = fits;
+          reached = reached_here (min 16 (length slots))
+              (omega arith);
+          in_order = refl;
+          distinct = candidates-distinct slots hash last power fits;
+        };
         last = g;
         refused = refused_group here;
         all_reached = all_asked ends;
         complete = λ hash_of fitting b there e.
             let held = held_by (bucket_at slots b) there in
-            all_asked ends b (has_tag-full _ held.0 _ held.1 (fitting.tags b held.0 held.1 ∙ ap hash_tag e)) (subst (λ h. Reaches (marks_of slots) h b) e (fitting.reached b there));
+            all_asked ends b (has_tag-full _ held.0 _ held.1 (fitting.tags b held.0 held.1 ∙ ap hash_tag e))
+            (subst (λ h. Reaches (marks_of slots) h b) e (fitting.reached b there));
       }
 
 -- with no buckets there is nothing to ask about
-pub FindsNone-empty : {T F : Type 0} (closure : Mut F (Bor T × Unit {0}) Bool) (slots : List (Slot T)) (hash : ℕ) (f : F) → length slots ≡ 0 → FindsNone closure slots hash f
+pub FindsNone-empty : {T F : Type 0} (closure : Mut F (Bor T × Unit {0}) Bool) (slots : List (Slot T)) (hash : ℕ)
+    (f : F) → length slots ≡ 0 → FindsNone closure slots hash f
 FindsNone-empty closure slots hash f e = record {
   asked = [];
-  search = record { steps = 0; within = omega arith; reached = λ step before p. absurd (omega arith); in_order = refl; distinct = λ i j d l m. absurd (omega arith) };
+  search = record {
+    steps = 0;
+    within = omega arith;
+    reached = λ step before p. absurd
+        (omega arith);
+    in_order = refl;
+    distinct = λ i j d l m. absurd (omega arith);
+  };
   last = f;
   refused = refl;
-  all_reached = λ b tagged r. absurd (empty_not_full _ (bucket_at-past slots b (omega (arith, e))) (full_by_tag _ (hash_tag hash) tagged));
+  all_reached = λ b tagged r. absurd
+      (empty_not_full _ (bucket_at-past slots b (omega (arith, e))) (full_by_tag _ (hash_tag hash) tagged));
   complete = λ hash_of fits b there same. absurd (empty_not_full _ (bucket_at-past slots b (omega (arith, e))) there);
 }
 
 -- none of the first steps comes to an empty bucket, so that the search goes on
-module _ {T : Type 0} (control : List ℕ) (entries : List (Option T)) (laid_out : IsLaidOut control entries) (hash s : ℕ) (pos : 0 < length entries) (whole : s % 16 ≡ 0)
+module _ {T : Type 0} (control : List ℕ) (entries : List (Option T)) (laid_out : IsLaidOut control entries) (hash s : ℕ)
+    (pos : 0 < length entries) (whole : s % 16 ≡ 0)
     (none_before : (t : ℕ) → t < s → mark_probed (marks_by control entries) hash t ≢ empty)
-    (none_here : HasNoEmptyLane (slots_of control entries) (probed (length (slots_of control entries)) hash s) (width (slots_of control entries))) where
-  none_up_to : (t : ℕ) → t < s + min 16 (length entries) → bucket_at (marks_by control entries) (probed (length entries) hash t) ≢ empty
+    (none_here : HasNoEmptyLane (slots_of control entries) (probed (length (slots_of control entries)) hash s)
+    (width (slots_of control entries))) where
+  none_up_to : (t : ℕ) → t < s + min 16 (length entries)
+      → bucket_at (marks_by control entries) (probed (length entries) hash t) ≢ empty
   none_up_to =
       let same = length-laid_out control entries laid_out in
       let marks = length-marks_of (slots_of control entries) in
-      up_to_lane (length entries) hash s whole (λ b. bucket_at (marks_by control entries) b ≢ empty) (min 16 (length entries)) (omega arith)
+      up_to_lane (length entries) hash s whole (λ b. bucket_at (marks_by control entries) b ≢ empty)
+      (min 16 (length entries)) (omega arith)
       (λ t p. rw (marks, same) at (none_before t p))
       (rw same at none_here)
 
-  pub not_ended : (b : ℕ) → b < length entries → bucket_at (marks_by control entries) b ≡ empty → s + 16 < length entries
+  pub not_ended : (b : ℕ) → b < length entries → bucket_at (marks_by control entries) b ≡ empty
+      → s + 16 < length entries
   not_ended b p e = elim (dec_lt (s + 16) (length entries)) [
     | yes q ↦ q
-    | no q ↦ absurd (up_to_end (length entries) hash s whole (λ k. bucket_at (marks_by control entries) k ≢ empty) (power_of control entries laid_out pos) (omega arith) none_up_to b p e)
+    | no q ↦ absurd
+        (up_to_end (length entries) hash s whole (λ k. bucket_at (marks_by control entries) k ≢ empty)
+        (power_of control entries laid_out pos) (omega arith) none_up_to b p e)
   ]
 
   pub none_on : s + 16 < length entries → (t : ℕ) → t < s + 16 → mark_probed (marks_by control entries) hash t ≢ empty
-  none_on q t p = rw (length-marks_of (slots_of control entries), length-laid_out control entries laid_out) (none_up_to t (omega arith))
+  none_on q t p = rw (length-marks_of (slots_of control entries), length-laid_out control entries laid_out)
+      (none_up_to t (omega arith))

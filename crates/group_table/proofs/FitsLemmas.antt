@@ -41,7 +41,8 @@ module _ (marks : List Mark) (b : ℕ) (m : Mark) (within : b < length marks) (s
 
 -- a bucket is emptied only where each search that went past it ended in the same group
 module _ (marks : List Mark) (b : ℕ) (near : HasEmptyNeighbours marks b) where
-  goes_on_past : (hash step : ℕ) → ((before : ℕ) → before / 16 < step / 16 → mark_probed marks hash before ≢ empty) → (before : ℕ) → before / 16 < step / 16
+  goes_on_past : (hash step : ℕ) → ((before : ℕ) → before / 16 < step / 16 → mark_probed marks hash before ≢ empty)
+      → (before : ℕ) → before / 16 < step / 16
       → mark_probed (set marks b empty) hash before ≢ empty
   goes_on_past hash step goes before p e =
       let n = length marks in
@@ -52,7 +53,8 @@ module _ (marks : List Mark) (b : ℕ) (near : HasEmptyNeighbours marks b) where
       elim (cases_eq at b) [
         | inr h ↦ goes before p (sym (bucket_at-set_other marks b at empty h) ∙ e')
         | inl h ↦
-            let there : (probed n hash s + before % 16) % n ≡ b = sym (probed-lane n hash s (before % 16) (omega arith) (omega arith)) ∙ ap (probed n hash) is ∙ h in
+            let there : (probed n hash s + before % 16) % n ≡ b =
+            sym (probed-lane n hash s (before % 16) (omega arith) (omega arith)) ∙ ap (probed n hash) is ∙ h in
             let w = near (probed n hash s) (before % 16) (omega arith) there in
             goes (s + w.0) (omega (arith, w.1)) (rw (probed-lane n hash s w.0 (omega arith) w.1) w.2)
       ]
@@ -73,7 +75,8 @@ Reaches-first marks hash b first = record {
 
 module _ {T : Type 0} where
   -- the hashes fit again, with that of the entry placed
-  pub Fits-reached : (slots : List (Slot T)) (hash_of : ℕ → ℕ) (hash b : ℕ) (entry : T) → b < length slots → Reaches (marks_of slots) hash b → Fits slots hash_of
+  pub Fits-reached : (slots : List (Slot T)) (hash_of : ℕ → ℕ) (hash b : ℕ) (entry : T) → b < length slots
+      → Reaches (marks_of slots) hash b → Fits slots hash_of
       → Fits (set slots b (full (record { tag = hash_tag hash; entry = entry }))) (with_hash hash_of b hash)
   Fits-reached slots hash_of hash b entry p reached fits =
       let now : Slot T = full (record { tag = hash_tag hash; entry = entry }) in
@@ -82,47 +85,61 @@ module _ {T : Type 0} where
       record {
         tags = λ k held e. elim (cases_eq k b) [
           | inl h ↦ rw (with_hash-there hash_of b hash k h)
-              (sym (ap (λ x. x.tag) (one_held now (record { tag = hash_tag hash; entry = entry }) held refl (sym (bucket_at-set_same slots b k now h p) ∙ e))))
-          | inr h ↦ rw (with_hash-elsewhere hash_of b hash k h) (fits.tags k held (sym (bucket_at-set_other slots b k now h) ∙ e))
+              (sym (ap (λ x. x.tag)
+              (one_held now (record { tag = hash_tag hash; entry = entry }) held refl
+              (sym (bucket_at-set_same slots b k now h p) ∙ e))))
+          | inr h ↦ rw (with_hash-elsewhere hash_of b hash k h)
+              (fits.tags k held (sym (bucket_at-set_other slots b k now h) ∙ e))
         ];
         reached = λ k there. elim (cases_eq k b) [
           | inl h ↦ rw (marks_of-set slots b now, with_hash-there hash_of b hash k h, h)
               (Reaches-set (marks_of slots) b (mark_of now) in_marks stays hash b reached)
           | inr h ↦ rw (marks_of-set slots b now, with_hash-elsewhere hash_of b hash k h)
-              (Reaches-set (marks_of slots) b (mark_of now) in_marks stays _ k (fits.reached k (sym (ap is_full (bucket_at-set_other slots b k now h)) ∙ there)))
+              (Reaches-set (marks_of slots) b (mark_of now) in_marks stays _ k
+              (fits.reached k (sym (ap is_full (bucket_at-set_other slots b k now h)) ∙ there)))
         ];
       }
 
-  pub Fits-placed : (slots : List (Slot T)) (hash_of : ℕ → ℕ) (hash b : ℕ) (entry : T) → b < length slots → IsFirstFree (marks_of slots) hash b → Fits slots hash_of
+  pub Fits-placed : (slots : List (Slot T)) (hash_of : ℕ → ℕ) (hash b : ℕ) (entry : T) → b < length slots
+      → IsFirstFree (marks_of slots) hash b → Fits slots hash_of
       → Fits (set slots b (full (record { tag = hash_tag hash; entry = entry }))) (with_hash hash_of b hash)
-  Fits-placed slots hash_of hash b entry p first fits = Fits-reached slots hash_of hash b entry p (Reaches-first (marks_of slots) hash b first) fits
+  Fits-placed slots hash_of hash b entry p first fits =
+      Fits-reached slots hash_of hash b entry p (Reaches-first (marks_of slots) hash b first) fits
 
   -- hashes fit that are the same where a bucket is full
-  pub Fits-agree : (slots : List (Slot T)) (f g : ℕ → ℕ) → ((b : ℕ) → IsFull slots b → f b ≡ g b) → Fits slots f → Fits slots g
+  pub Fits-agree : (slots : List (Slot T)) (f g : ℕ → ℕ) → ((b : ℕ) → IsFull slots b → f b ≡ g b) → Fits slots f
+      → Fits slots g
   Fits-agree slots f g agree fits = record {
     tags = λ b held e. rw (← agree b (ap is_full e)) (fits.tags b held e);
     reached = λ b there. rw (← agree b there) (fits.reached b there);
   }
 
   -- a bucket whose entry left
-  module _ (slots : List (Slot T)) (hash_of : ℕ → ℕ) (b : ℕ) (s : Slot T) (p : b < length slots) (not_full : is_full s ≡ true → ⊥)
-      (reaches : (hash k : ℕ) → Reaches (marks_of slots) hash k → Reaches (set (marks_of slots) b (mark_of s)) hash k) (fits : Fits slots hash_of) where
+  module _ (slots : List (Slot T)) (hash_of : ℕ → ℕ) (b : ℕ) (s : Slot T) (p : b < length slots)
+      (not_full : is_full s ≡ true → ⊥)
+      (reaches : (hash k : ℕ) → Reaches (marks_of slots) hash k → Reaches (set (marks_of slots) b (mark_of s)) hash k)
+      (fits : Fits slots hash_of) where
     was_full : (k : ℕ) → IsFull (set slots b s) k → k ≢ b
     was_full k there h = not_full (sym (ap is_full (bucket_at-set_same slots b k s h p)) ∙ there)
 
     Fits-emptied : Fits (set slots b s) hash_of
     Fits-emptied = record {
       tags = λ k held e. fits.tags k held (sym (bucket_at-set_other slots b k s (was_full k (ap is_full e))) ∙ e);
-      reached = λ k there. rw (marks_of-set slots b s) (reaches (hash_of k) k (fits.reached k (sym (ap is_full (bucket_at-set_other slots b k s (was_full k there))) ∙ there)));
+      reached = λ k there. rw (marks_of-set slots b s)
+          (reaches (hash_of k) k
+          (fits.reached k (sym (ap is_full (bucket_at-set_other slots b k s (was_full k there))) ∙ there)));
     }
 
   -- the hashes of the entries that stay fit again
-  pub Fits-removed : (old new : List (Slot T)) (hash_of : ℕ → ℕ) (b : ℕ) → b < length old → Removes old new b → Fits old hash_of → Fits new hash_of
+  pub Fits-removed : (old new : List (Slot T)) (hash_of : ℕ → ℕ) (b : ℕ) → b < length old → Removes old new b
+      → Fits old hash_of → Fits new hash_of
   Fits-removed old new hash_of b p (inl w) fits =
-      rw w.1 (Fits-emptied old hash_of b empty p (λ e. empty_not_full {A = Tagged T} empty refl e) (Reaches-emptied (marks_of old) b w.0) fits)
+      rw w.1 (Fits-emptied old hash_of b empty p (λ e. empty_not_full {A = Tagged T} empty refl e)
+      (Reaches-emptied (marks_of old) b w.0) fits)
   Fits-removed old new hash_of b p (inr w) fits =
       rw w.1 (Fits-emptied old hash_of b deleted p (λ e. full_not_deleted {A = Tagged T} deleted e refl)
-      (Reaches-set (marks_of old) b deleted (rw length-marks_of p) (λ e. empty_not_deleted {A = Unit {0}} deleted e refl)) fits)
+      (Reaches-set (marks_of old) b deleted (rw length-marks_of p)
+      (λ e. empty_not_deleted {A = Unit {0}} deleted e refl)) fits)
 
   -- where all buckets are empty, any hashes fit
   pub Fits-none : (slots : List (Slot T)) (hash_of : ℕ → ℕ) → ((b : ℕ) → bucket_at slots b ≡ empty) → Fits slots hash_of

@@ -22,12 +22,15 @@ module _ (tag : ℕ) (tag_fits : tag < 128) where
   free_bytes-no_more : (control : List ℕ) (b : ℕ) → free_bytes (set control b tag) ≤ free_bytes control
   free_bytes-no_more control b = elim (dec_lt b (length control)) [
     | yes p ↦ omega (arith, not_free, sum_by-set frees control b tag 0 p)
-    | no p ↦ let same : free_bytes (set control b tag) ≡ free_bytes control = ap free_bytes (set_past control b tag (omega arith)) in omega (arith, same)
+    | no p ↦ let same : free_bytes (set control b tag) ≡ free_bytes control =
+        ap free_bytes (set_past control b tag (omega arith)) in omega (arith, same)
   ]
 
-  pub free_bytes-fewer : {T : Type 0} (control : List ℕ) (entries : List (Option T)) (b : ℕ) → b < length control → 128 ≤ get_or control b 0
+  pub free_bytes-fewer : {T : Type 0} (control : List ℕ) (entries : List (Option T)) (b : ℕ) → b < length control
+      → 128 ≤ get_or control b 0
       → free_bytes (written control entries b tag) < free_bytes control
   free_bytes-fewer control entries b within free =
-      let there : frees (get_or control b 0) ≡ 1 = ap (λ t. cond {A = ℕ} t 1 0) (le-leb 128 (get_or control b 0) free) in
+      let there : frees (get_or control b 0) ≡ 1 =
+      ap (λ t. cond {A = ℕ} t 1 0) (le-leb 128 (get_or control b 0) free) in
       let again = free_bytes-no_more (set control b tag) (b + max 16 (length entries)) in
       omega (arith, there, not_free, again, sum_by-set frees control b tag 0 within)

@@ -43,17 +43,21 @@ module _ (T : Type 0) where
       ]
 
   -- so the invariant holds of a fresh table of any number of buckets
-  pub IsValid-fresh : (n m : ℕ) → ((n ≡ 0) × (m ≡ 0)) ⊎ (IsPowerFromFour n × (m ≡ n + 16)) → m < 2 ^ 63 → IsValid {T = T} (replicate m 255) (replicate n None) (full_capacity n)
+  pub IsValid-fresh : (n m : ℕ) → ((n ≡ 0) × (m ≡ 0)) ⊎ (IsPowerFromFour n × (m ≡ n + 16)) → m < 2 ^ 63
+      → IsValid {T = T} (replicate m 255) (replicate n None) (full_capacity n)
   IsValid-fresh n m s p =
       let within : n ≤ m = elim s [ inl w ↦ omega arith | inr w ↦ omega arith ] in
       record {
         laid_out = record {
           counts = rw (length-replicate n no_entry, length-replicate {A = ℕ} m 255) s;
           fits = rw (length-replicate {A = ℕ} m 255) p;
-          agrees = λ b q. rw (get_or-replicate {A = ℕ} m b 255 0 (let r = rw length-replicate at q in omega arith)) (rw copy_at (inr refl));
-          bytes = λ k q. get_or-replicate {A = ℕ} m k 255 0 (rw length-replicate at q) ∙ sym (rw (slots_of-fresh n m within) (bytes_empty n k));
+          agrees = λ b q. rw (get_or-replicate {A = ℕ} m b 255 0 (let r = rw length-replicate at q in omega arith))
+              (rw copy_at (inr refl));
+          bytes = λ k q. get_or-replicate {A = ℕ} m k 255 0 (rw length-replicate at q)
+              ∙ sym (rw (slots_of-fresh n m within) (bytes_empty n k));
         };
-        room_left = rw (slots_of-fresh n m within, none_counted {A = Tagged T} is_used refl, length-replicate) (omega arith);
+        room_left = rw (slots_of-fresh n m within, none_counted {A = Tagged T} is_used refl, length-replicate)
+            (omega arith);
         none_deleted = λ q b e. absurd (empty_not_deleted _ (copy_at n b empty) (rw (slots_of-fresh n m within) at e));
       }
 
@@ -61,26 +65,43 @@ module _ (T : Type 0) where
   entry_count-fresh n m p = rw (slots_of-fresh n m p) (none_counted {A = Tagged T} is_full refl n)
 
   -- the room is the full capacity
-  pub room-fresh : (n : ℕ) → room (marks_of (replicate {A = Slot T} n empty)) ≡ full_capacity (length (replicate {A = Slot T} n empty))
+  pub room-fresh : (n : ℕ) → room (marks_of (replicate {A = Slot T} n empty))
+      ≡ full_capacity (length (replicate {A = Slot T} n empty))
   room-fresh n =
       let slots : List (Slot T) = replicate n empty in
-      omega (arith, room_is (marks_of slots), ap full_capacity (length-marks_of slots), used_count-marks_of slots, none_counted {A = Tagged T} is_used refl n)
+      omega (
+        arith,
+        room_is (marks_of slots),
+        ap full_capacity
+            (length-marks_of slots),
+        used_count-marks_of slots,
+        none_counted {A = Tagged T} is_used refl n,
+      )
 
   pub Fits-fresh : (n : ℕ) (hash_of : ℕ → ℕ) → Fits {T = T} (replicate n empty) hash_of
   Fits-fresh n hash_of = Fits-none (replicate n empty) hash_of (λ b. copy_at n b empty)
 
 -- where all buckets are empty, there is no entry
-pub entry_count-none : {T : Type 0} (slots : List (Slot T)) → ((b : ℕ) → bucket_at slots b ≡ empty) → entry_count slots ≡ 0
+pub entry_count-none : {T : Type 0} (slots : List (Slot T)) → ((b : ℕ) → bucket_at slots b ≡ empty)
+    → entry_count slots ≡ 0
 entry_count-none slots none =
     ap entry_count (replicate-from slots empty empty (λ b within. none b)) ∙ none_counted is_full refl (length slots)
 
 -- where no bucket is full, there is no entry
-pub none_left : {T : Type 0} (control : List ℕ) (entries : List (Option T)) → IsLaidOut control entries → entry_count (slots_of control entries) ≡ 0 → entries ≡ replicate (length entries) None
-none_left {T} control entries laid_out none = replicate-from entries None None (λ b within. at b within (get_or entries b None) refl)
+pub none_left : {T : Type 0} (control : List ℕ) (entries : List (Option T)) → IsLaidOut control entries
+    → entry_count (slots_of control entries) ≡ 0 → entries ≡ replicate (length entries) None
+none_left {T} control entries laid_out none =
+    replicate-from entries None None (λ b within. at b within (get_or entries b None) refl)
   where
     at : (b : ℕ) → b < length entries → (e : Option T) → get_or entries b None ≡ e → e ≡ None
     at b within None is = refl
     at b within (Some entry) is =
         let there : is_full (bucket_at (slots_of control entries) b) ≡ true =
-        ap is_full (bucket_at-laid_out control entries laid_out b within) ∙ ap (λ o. is_full (slot_of (get_or control b 0) o)) is in
-        absurd (omega (arith, none, count_by-pos is_full (slots_of control entries) b (omega (arith, length-laid_out control entries laid_out)) there))
+        ap is_full (bucket_at-laid_out control entries laid_out b within)
+        ∙ ap (λ o. is_full (slot_of (get_or control b 0) o)) is in
+        absurd (omega (
+          arith,
+          none,
+          count_by-pos is_full (slots_of control entries) b
+              (omega (arith, length-laid_out control entries laid_out)) there,
+        ))

@@ -21,20 +21,24 @@ use Rattle.group_table.proofs.PlaceCounts.{place_within, count-taken}
 
 -- what a place is by what is placed there and what stands there
 module _ {T : Type 0} (old gone placed now : List (Option T)) (b : ℕ) where
-  settled_by_placed : (entry : T) → place_at placed b ≡ Some entry → IsSettled old gone placed now b ⊎ IsWaiting old gone placed now b → IsSettled old gone placed now b
+  settled_by_placed : (entry : T) → place_at placed b ≡ Some entry → IsSettled old gone placed now b
+      ⊎ IsWaiting old gone placed now b → IsSettled old gone placed now b
   settled_by_placed entry e (inl s) = s
   settled_by_placed entry e (inr w) = absurd (none-some entry (sym w.none_placed ∙ e))
 
-  pub settled_by_none : place_at now b ≡ None → IsSettled old gone placed now b ⊎ IsWaiting old gone placed now b → IsSettled old gone placed now b
+  pub settled_by_none : place_at now b ≡ None → IsSettled old gone placed now b ⊎ IsWaiting old gone placed now b
+      → IsSettled old gone placed now b
   settled_by_none e (inl s) = s
   settled_by_none e (inr w) = record { went = w.not_gone ∙ sym (sym w.stays ∙ e); stands = e ∙ sym w.none_placed }
 
-  pub waiting_by_none : (entry : T) → place_at placed b ≡ None → place_at now b ≡ Some entry → IsSettled old gone placed now b ⊎ IsWaiting old gone placed now b → IsWaiting old gone placed now b
+  pub waiting_by_none : (entry : T) → place_at placed b ≡ None → place_at now b ≡ Some entry
+      → IsSettled old gone placed now b ⊎ IsWaiting old gone placed now b → IsWaiting old gone placed now b
   waiting_by_none entry e f (inl s) = absurd (none-some entry (sym e ∙ sym s.stands ∙ f))
   waiting_by_none entry e f (inr w) = w
 
 -- nothing has gone, and the control bytes are cleared
-module _ {T N : Type 0} (number : N → ℕ) (none : N) (IsGiven : (ℕ → ℕ) → Type 0) (whole : List (Option T)) (links : List N) (m : ℕ)
+module _ {T N : Type 0} (number : N → ℕ) (none : N) (IsGiven : (ℕ → ℕ) → Type 0) (whole : List (Option T))
+    (links : List N) (m : ℕ)
     (power : IsPowerFromFour (length whole)) (m_is : m ≡ length whole + 16) (fits : m < 2 ^ 63)
     (one_each : length links ≡ length whole) (none_linked : (b : ℕ) → get_or links b none ≡ none) where
   abbrev nowhere : List (Option T)
@@ -56,21 +60,31 @@ module _ {T N : Type 0} (number : N → ℕ) (none : N) (IsGiven : (ℕ → ℕ)
     none_deleted = deleted_count-none _ (λ b e. empty_not_deleted _ (all_empty b) e);
     counted = refl;
     settled = λ b p. absurd (omega arith);
-    each = λ b. inr (record { stays = refl; not_gone = copy_at (length whole) b None; none_placed = copy_at (length whole) b None });
-    moves = Moves-none number none (place_at nowhere) _ links (λ b. copy_at (length whole) b None) all_empty none_linked;
+    each = λ b. inr
+        (record {
+          stays = refl;
+          not_gone = copy_at (length whole) b None;
+          none_placed = copy_at
+              (length whole) b None;
+        });
+    moves = Moves-none number none (place_at nowhere) _ links
+        (λ b. copy_at (length whole) b None) all_empty none_linked;
     hashes = λ hash_at given moved_hash_of same. Fits-none _ moved_hash_of all_empty;
   }
 
 -- the first place that has not been passed
-module _ {T N : Type 0} (number : N → ℕ) (none : N) (IsGiven : (ℕ → ℕ) → Type 0) (whole now : List (Option T)) (control : List ℕ) (links : List N) (b : ℕ)
+module _ {T N : Type 0} (number : N → ℕ) (none : N) (IsGiven : (ℕ → ℕ) → Type 0) (whole now : List (Option T))
+    (control : List ℕ) (links : List N) (b : ℕ)
     (half : IsHalfway number none IsGiven whole now control links b) where
-  passed_settled : IsSettled whole half.gone half.placed now b → (k : ℕ) → k < b + 1 → IsSettled whole half.gone half.placed now k
+  passed_settled : IsSettled whole half.gone half.placed now b → (k : ℕ) → k < b + 1
+      → IsSettled whole half.gone half.placed now k
   passed_settled here k p = elim (dec_lt k b) [
     | yes q ↦ half.settled k q
     | no q ↦ let e : b ≡ k = omega arith in subst (IsSettled whole half.gone half.placed now) e here
   ]
 
-  passed_by : IsSettled whole half.gone half.placed now b → IsHalfway number none IsGiven whole now control links (b + 1)
+  passed_by : IsSettled whole half.gone half.placed now b
+      → IsHalfway number none IsGiven whole now control links (b + 1)
   passed_by here = record {
     gone = half.gone;
     placed = half.placed;
@@ -89,7 +103,8 @@ module _ {T N : Type 0} (number : N → ℕ) (none : N) (IsGiven : (ℕ → ℕ)
   }
 
   -- an entry is placed there
-  pub IsHalfway-placed : b < length whole → get_or control b 0 < 128 → IsHalfway number none IsGiven whole now control links (b + 1)
+  pub IsHalfway-placed : b < length whole → get_or control b 0 < 128
+      → IsHalfway number none IsGiven whole now control links (b + 1)
   IsHalfway-placed within byte = passed_by (at (get_or half.placed b None) refl)
     where
       at : (place : Option T) → get_or half.placed b None ≡ place → IsSettled whole half.gone half.placed now b
@@ -112,7 +127,9 @@ module _ {T N : Type 0} (number : N → ℕ) (none : N) (IsGiven : (ℕ → ℕ)
       where
         at : (place : Option T) → get_or half.placed b None ≡ place → get_or half.placed b None ≡ None
         at None is = is
-        at (Some placed) is = let tag = rw is at (half.valid.laid_out.agrees b (omega (arith, in_now, half.now_length, half.placed_length))) in absurd (omega (arith, tag, byte))
+        at (Some placed) is = let tag =
+            rw is at (half.valid.laid_out.agrees b (omega (arith, in_now, half.now_length, half.placed_length))) in
+            absurd (omega (arith, tag, byte))
 
     waits : IsWaiting whole half.gone half.placed now b
     waits = waiting_by_none whole half.gone half.placed now b entry free_there there (half.each b)
@@ -127,11 +144,13 @@ module _ {T N : Type 0} (number : N → ℕ) (none : N) (IsGiven : (ℕ → ℕ)
           went = waits.not_gone ∙ sym (get_or-set_same whole b None None in_whole);
           stands = get_or-set_same now b None None in_now ∙ sym free_there;
         } in
-        let settles : (k : ℕ) → k ≢ b → IsSettled whole half.gone half.placed now k → IsSettled (set whole b None) half.gone half.placed (set now b None) k = λ k other s. record {
+        let settles : (k : ℕ) → k ≢ b → IsSettled whole half.gone half.placed now k
+        → IsSettled (set whole b None) half.gone half.placed (set now b None) k = λ k other s. record {
           went = s.went ∙ sym (get_or-set_other whole b k None None other);
           stands = get_or-set_other now b k None None other ∙ s.stands;
         } in
-        let goes_on : (k : ℕ) → k ≢ b → IsWaiting whole half.gone half.placed now k → IsWaiting (set whole b None) half.gone half.placed (set now b None) k = λ k other w. record {
+        let goes_on : (k : ℕ) → k ≢ b → IsWaiting whole half.gone half.placed now k
+        → IsWaiting (set whole b None) half.gone half.placed (set now b None) k = λ k other w. record {
           stays = get_or-set_other now b k None None other ∙ w.stays ∙ sym (get_or-set_other whole b k None None other);
           not_gone = w.not_gone;
           none_placed = w.none_placed;
@@ -160,23 +179,28 @@ module _ {T N : Type 0} (number : N → ℕ) (none : N) (IsGiven : (ℕ → ℕ)
         }
 
   -- so the entry of a bucket where nothing is placed, if there is one, is the next
-  pub IsInTurn-taken : 128 ≤ get_or control b 0 → IsInTurn number none IsGiven whole (set now b None) control links (b + 1) b (place_at now b)
+  pub IsInTurn-taken : 128 ≤ get_or control b 0
+      → IsInTurn number none IsGiven whole (set now b None) control links (b + 1) b (place_at now b)
   IsInTurn-taken byte = at (place_at now b) refl
     where
-      at : (place : Option T) → place_at now b ≡ place → IsInTurn number none IsGiven whole (set now b None) control links (b + 1) b place
+      at : (place : Option T) → place_at now b ≡ place
+          → IsInTurn number none IsGiven whole (set now b None) control links (b + 1) b place
       at None is =
           let same : set now b None ≡ now = ap (set now b) (sym is) ∙ set-get_or now b None in
           subst (λ then. IsHalfway number none IsGiven whole then control links (b + 1)) (sym same) (IsHalfway-none is)
       at (Some entry) is = (stood_there entry byte is, IsHalfway-taken entry byte is)
 
 -- no entry waits any more
-module _ {T N : Type 0} (number : N → ℕ) (none : N) (IsGiven : (ℕ → ℕ) → Type 0) (whole now : List (Option T)) (control : List ℕ) (links : List N)
+module _ {T N : Type 0} (number : N → ℕ) (none : N) (IsGiven : (ℕ → ℕ) → Type 0) (whole now : List (Option T))
+    (control : List ℕ) (links : List N)
     (half : IsHalfway number none IsGiven whole now control links (length whole)) where
   all_placed : half.placed ≡ now
-  all_placed = ext_get_or None half.placed now (half.placed_length ∙ sym half.now_length) (λ k p. sym (half.settled k (omega (arith, half.placed_length))).stands)
+  all_placed = ext_get_or None half.placed now (half.placed_length ∙ sym half.now_length)
+      (λ k p. sym (half.settled k (omega (arith, half.placed_length))).stands)
 
   all_gone : half.gone ≡ whole
-  all_gone = ext_get_or None half.gone whole half.gone_length (λ k p. (half.settled k (omega (arith, half.gone_length))).went)
+  all_gone = ext_get_or None half.gone whole half.gone_length
+      (λ k p. (half.settled k (omega (arith, half.gone_length))).went)
 
   pub none_deleted_last : count_by is_deleted (slots_of control now) ≡ 0
   none_deleted_last = rw (← all_placed) half.none_deleted
@@ -186,11 +210,21 @@ module _ {T N : Type 0} (number : N → ℕ) (none : N) (IsGiven : (ℕ → ℕ)
       let valid : IsValid control now half.room = rw (← all_placed) half.valid in
       let capacity : full_capacity (length now) ≡ full_capacity (length whole) = ap full_capacity half.now_length in
       let left : half.room ≡ full_capacity (length whole) - count_by is_some whole =
-      omega (arith, capacity, valid.room_left, used_count-split (slots_of control now), none_deleted_last, entry_count-laid_out control now valid.laid_out, half.counted) in
+      omega (
+        arith,
+        capacity,
+        valid.room_left,
+        used_count-split
+            (slots_of control now),
+        none_deleted_last,
+        entry_count-laid_out control now valid.laid_out,
+        half.counted,
+      ) in
       subst (IsValid control now) left valid
 
   pub Moves-last : Moves number none (place_at whole) (slots_of control now) links
   Moves-last = rw (← all_placed, ← all_gone) half.moves
 
-  pub hashes_last : (hash_at : ℕ → ℕ) → IsGiven hash_at → KeepsMovedHashes number none (place_at whole) (slots_of control now) links hash_at
+  pub hashes_last : (hash_at : ℕ → ℕ) → IsGiven hash_at
+      → KeepsMovedHashes number none (place_at whole) (slots_of control now) links hash_at
   hashes_last = rw (← all_placed, ← all_gone) half.hashes

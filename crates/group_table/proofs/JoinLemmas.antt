@@ -29,7 +29,8 @@ module _ {T : Type 0} (control : List ℕ) (entries : List (Option T)) (r : ℕ)
   -- and so there are buckets
   pub some_buckets : 0 < length entries
   some_buckets = elim valid.laid_out.counts [
-    | inl w ↦ let none : full_capacity (length entries) ≡ full_capacity 0 = ap full_capacity w.0 in absurd (omega (arith, less, capacity, none, full_capacity-small 0 (omega arith)))
+    | inl w ↦ let none : full_capacity (length entries) ≡ full_capacity 0 = ap full_capacity w.0 in
+        absurd (omega (arith, less, capacity, none, full_capacity-small 0 (omega arith)))
     | inr w ↦ omega (arith, power_pos (length entries) w.0)
   ]
 
@@ -40,8 +41,10 @@ module _ {T : Type 0} (control : List ℕ) (entries : List (Option T)) (r : ℕ)
     pub join_within : b < length entries
     join_within = rw (← byte_reached.there) (probed-lt (length entries) hash byte_reached.step some_buckets)
 
-    free_there : ((bucket_at (slots_of control entries) b ≡ empty) ⊎ (bucket_at (slots_of control entries) b ≡ deleted)) × (get_or entries b None ≡ None)
-    free_there = rw (bucket_at-laid_out control entries valid.laid_out b join_within) (free_slot _ _ (valid.laid_out.agrees b join_within) byte_reached.free_there)
+    free_there : ((bucket_at (slots_of control entries) b ≡ empty) ⊎ (bucket_at (slots_of control entries) b ≡ deleted))
+        × (get_or entries b None ≡ None)
+    free_there = rw (bucket_at-laid_out control entries valid.laid_out b join_within)
+        (free_slot _ _ (valid.laid_out.agrees b join_within) byte_reached.free_there)
 
     pub join_none : get_or entries b None ≡ None
     join_none = free_there.1
@@ -55,7 +58,8 @@ module _ {T : Type 0} (control : List ℕ) (entries : List (Option T)) (r : ℕ)
           there = rw same byte_reached.there;
           goes_on = λ before p. rw same (λ e.
               let full = byte_reached.full_before before p in
-              let byte = byte_from_mark control entries valid.laid_out _ (probed-lt (length entries) hash before some_buckets) e in
+              let byte = byte_from_mark control entries valid.laid_out _
+              (probed-lt (length entries) hash before some_buckets) e in
               omega (arith, full, byte));
         }
 
@@ -66,7 +70,8 @@ module _ {T : Type 0} (control : List ℕ) (entries : List (Option T)) (r : ℕ)
     join_empty : bucket_at (slots_of control entries) b ≡ empty
     join_empty = elim free_there.0 [
       | inl e ↦ e
-      | inr e ↦ absurd (omega (arith, none_deleted, count_by-pos is_deleted (slots_of control entries) b in_slots (ap is_deleted e)))
+      | inr e ↦ absurd
+          (omega (arith, none_deleted, count_by-pos is_deleted (slots_of control entries) b in_slots (ap is_deleted e)))
     ]
 
     spends : Spends (bucket_at (slots_of control entries) b) r 1
@@ -76,19 +81,24 @@ module _ {T : Type 0} (control : List ℕ) (entries : List (Option T)) (r : ℕ)
       pub IsValid-joined : IsValid (written control entries b tag) (set entries b (Some entry)) (r - 1)
       IsValid-joined = IsValid-placed valid b spends tag entry join_within tag_fits
 
-      pub entry_count-written_joined : entry_count (slots_of (written control entries b tag) (set entries b (Some entry))) ≡ entry_count (slots_of control entries) + 1
+      pub entry_count-written_joined : entry_count
+          (slots_of (written control entries b tag) (set entries b (Some entry)))
+          ≡ entry_count (slots_of control entries) + 1
       entry_count-written_joined = entry_count-placed valid b spends tag entry join_within tag_fits
 
-      pub joins_there : tag ≡ hash_tag hash → Joins (slots_of control entries) (slots_of (written control entries b tag) (set entries b (Some entry))) hash entry b
+      pub joins_there : tag ≡ hash_tag hash → Joins (slots_of control entries)
+          (slots_of (written control entries b tag) (set entries b (Some entry))) hash entry b
       joins_there is = record {
         reached = join_reached;
         within = in_slots;
         was_empty = join_empty;
-        slots = slots_of-written control entries b tag (Some entry) ∙ ap (λ t. set (slots_of control entries) b (full (record { tag = t; entry = entry }))) is;
+        slots = slots_of-written control entries b tag (Some entry)
+            ∙ ap (λ t. set (slots_of control entries) b (full (record { tag = t; entry = entry }))) is;
       }
 
 -- the first free bucket is one of these
-pub reached_first : {control : List ℕ} {buckets hash b : ℕ} → IsFirstFreeByte control buckets hash b → IsReachedFreeByte control buckets hash b
+pub reached_first : {control : List ℕ} {buckets hash b : ℕ} → IsFirstFreeByte control buckets hash b
+    → IsReachedFreeByte control buckets hash b
 reached_first first = record {
   step = first.step;
   there = first.there;
@@ -97,7 +107,8 @@ reached_first first = record {
 }
 
 -- what comes of it
-module _ {T : Type 0} {old new : List (Slot T)} {hash : ℕ} {entry : T} {b : ℕ} (joins : Joins old new hash entry b) where
+module _ {T : Type 0} {old new : List (Slot T)} {hash : ℕ} {entry : T} {b : ℕ}
+    (joins : Joins old new hash entry b) where
   abbrev filled : Slot T
   filled = full (record { tag = hash_tag hash; entry = entry })
 
@@ -105,11 +116,13 @@ module _ {T : Type 0} {old new : List (Slot T)} {hash : ℕ} {entry : T} {b : �
   length-joined = ap length joins.slots ∙ length-set old b _
 
   pub entry_at-joined : entry_at new b ≡ Some entry
-  entry_at-joined = ap entry_of (ap (λ xs. bucket_at xs b) joins.slots ∙ bucket_at-set_same old b b filled refl joins.within)
+  entry_at-joined =
+      ap entry_of (ap (λ xs. bucket_at xs b) joins.slots ∙ bucket_at-set_same old b b filled refl joins.within)
 
   pub entry_count-joined : entry_count new ≡ entry_count old + 1
   entry_count-joined =
-      let none : ◌≡◌ {A = ℕ} (cond (is_full (bucket_at old b)) 1 0) 0 = ap (λ s. cond {A = ℕ} (is_full s) 1 0) joins.was_empty in
+      let none : ◌≡◌ {A = ℕ} (cond (is_full (bucket_at old b)) 1 0) 0 =
+      ap (λ s. cond {A = ℕ} (is_full s) 1 0) joins.was_empty in
       ap entry_count joins.slots ∙ omega (arith, count_by-set is_full old b filled joins.within, none)
 
   pub bucket_at-joined_other : (k : ℕ) → k ≢ b → bucket_at new k ≡ bucket_at old k
@@ -117,5 +130,6 @@ module _ {T : Type 0} {old new : List (Slot T)} {hash : ℕ} {entry : T} {b : �
 
   pub deleted_count-joined : count_by is_deleted new ≡ count_by is_deleted old
   deleted_count-joined =
-      let none : ◌≡◌ {A = ℕ} (cond (is_deleted (bucket_at old b)) 1 0) 0 = ap (λ s. cond {A = ℕ} (is_deleted s) 1 0) joins.was_empty in
+      let none : ◌≡◌ {A = ℕ} (cond (is_deleted (bucket_at old b)) 1 0) 0 =
+      ap (λ s. cond {A = ℕ} (is_deleted s) 1 0) joins.was_empty in
       ap (count_by is_deleted) joins.slots ∙ omega (arith, count_by-set is_deleted old b filled joins.within, none)

@@ -29,7 +29,8 @@ whole_rounds n power = elim (dec_lt n 16) [
     small : (k : ℕ) → n ≡ 4 * 2 ^ k → n < 16 → (q : ℕ) × (max 16 n ≡ n * q)
     small zero e p = let f : n ≡ 4 = e in (4, omega arith)
     small (suc zero) e p = let f : n ≡ 8 = e in (2, omega arith)
-    small (suc (suc k)) e p = let z : 2 ^ 0 ≤ 2 ^ k = pow_mono {i = 0} {j = k} (omega arith) in absurd (omega (arith, z, pow-suc 2 (suc k), pow-suc 2 k))
+    small (suc (suc k)) e p = let z : 2 ^ 0 ≤ 2 ^ k = pow_mono {i = 0} {j = k} (omega arith) in
+        absurd (omega (arith, z, pow-suc 2 (suc k), pow-suc 2 k))
 
 module _ (n start : ℕ) where
   -- the lane stands for a bucket, and is none of the bytes between the buckets and their repetition
@@ -79,15 +80,18 @@ module _ (n start : ℕ) where
         place_past lane p q ∙ sym (mod-eq_of_lt small) ∙ sym (add-mul-mod_self_left x n 1) ∙ ap (λ k. k % n) one
 
     module _ (control : List ℕ) (repeated : IsRepeated control n) where
-      pub lane_byte : (lane : ℕ) → lane < 16 → IsReal lane → get_or control (start + lane) 0 ≡ get_or control ((start + lane) % n) 0
+      pub lane_byte : (lane : ℕ) → lane < 16 → IsReal lane
+          → get_or control (start + lane) 0 ≡ get_or control ((start + lane) % n) 0
       lane_byte lane p (inl q) = ap (λ k. get_or control k 0) (sym (mod-eq_of_lt q))
-      lane_byte lane p (inr q) = repeated.again (start + lane) q (omega arith) ∙ ap (λ k. get_or control k 0) (sym (place_past lane p q))
+      lane_byte lane p (inr q) =
+          repeated.again (start + lane) q (omega arith) ∙ ap (λ k. get_or control k 0) (sym (place_past lane p q))
 
       pub byte_between : (lane : ℕ) → n ≤ start + lane → start + lane < max 16 n → get_or control (start + lane) 0 ≡ 255
       byte_between lane p q = repeated.between (start + lane) p (omega arith)
 
       pub real_unless_empty : (lane : ℕ) → get_or control (start + lane) 0 ≢ 255 → IsReal lane
-      real_unless_empty lane used = elim (real_or_between lane) [ inl r ↦ r | inr w ↦ absurd (used (byte_between lane w.0 w.1)) ]
+      real_unless_empty lane used =
+          elim (real_or_between lane) [ inl r ↦ r | inr w ↦ absurd (used (byte_between lane w.0 w.1)) ]
 
       pub wide_unless_empty : ((lane : ℕ) → lane < 16 → get_or control (start + lane) 0 ≢ 255) → 16 ≤ n
       wide_unless_empty used = elim (dec_lt n 16) [
@@ -96,56 +100,77 @@ module _ (n start : ℕ) where
       ]
 
       -- a lane that is not in the mask of the free ones
-      pub full_lane : (mask : ℕ) → IsMaskAt (λ byte. 128 ≤ byte) control start mask → (lane : ℕ) → lane < 16 → (HasLane mask lane → ⊥) → get_or control ((start + lane) % n) 0 < 128
+      pub full_lane : (mask : ℕ) → IsMaskAt (λ byte. 128 ≤ byte) control start mask → (lane : ℕ) → lane < 16
+          → (HasLane mask lane → ⊥) → get_or control ((start + lane) % n) 0 < 128
       full_lane mask h lane p none = elim (dec_lt (get_or control (start + lane) 0) 128) [
         | yes q ↦ subst (λ byte. byte < 128) (lane_byte lane p (real_unless_empty lane (λ e. omega arith))) q
         | no q ↦ absurd (none ((h lane).1 (p, omega arith)))
       ]
 
       -- a free lane over a full bucket stands for none
-      pub lane_between : (mask lane : ℕ) → IsMaskAt (λ byte. 128 ≤ byte) control start mask → HasLane mask lane → get_or control ((start + lane) % n) 0 < 128 → (n ≤ start + lane) × (start + lane < max 16 n)
+      pub lane_between : (mask lane : ℕ) → IsMaskAt (λ byte. 128 ≤ byte) control start mask → HasLane mask lane
+          → get_or control ((start + lane) % n) 0 < 128 → (n ≤ start + lane) × (start + lane < max 16 n)
       lane_between mask lane h set there = elim (real_or_between lane) [
         | inl real ↦ let w = (h lane).0 set in absurd (omega (arith, w.1, lane_byte lane w.0 real, there))
         | inr w ↦ w
       ]
 
       -- and then, where it is the first one, the first free bucket is the lowest of all
-      pub free_before : (mask lane : ℕ) → IsMaskAt (λ byte. 128 ≤ byte) control start mask → lane < 16 → ((i : ℕ) → HasLane mask i → lane ≤ i) → HasLane mask lane → get_or control ((start + lane) % n) 0 < 128
-          → (all first : ℕ) → IsMaskOf (λ byte. 128 ≤ byte) control all → ((i : ℕ) → HasLane all i → first ≤ i) → HasLane all first → (e : ℕ) → e < n → 128 ≤ get_or control e 0 → IsFreeLane control n start first
+      pub free_before : (mask lane : ℕ) → IsMaskAt (λ byte. 128 ≤ byte) control start mask → lane < 16
+          → ((i : ℕ) → HasLane mask i → lane ≤ i) → HasLane mask lane → get_or control ((start + lane) % n) 0 < 128
+          → (all first : ℕ) → IsMaskOf (λ byte. 128 ≤ byte) control all → ((i : ℕ) → HasLane all i → first ≤ i)
+          → HasLane all first → (e : ℕ) → e < n → 128 ≤ get_or control e 0 → IsFreeLane control n start first
       free_before mask lane h in_group least set there all first h_all least_all set_all e within free =
           let past = lane_between mask lane h set there in
           let below : first ≤ e = least_all e ((h_all e).1 (omega (arith, past.0, past.1, within), free)) in
           let byte : 128 ≤ get_or control first 0 = ((h_all first).0 set_all).1 in
           let early : (before : ℕ) → before < n - start → get_or control ((start + before) % n) 0 < 128 =
-          λ before p. full_lane mask h before (omega (arith, p, past.0, in_group)) (λ held. omega (arith, p, past.0, least before held)) in
+          λ before p. full_lane mask h before (omega (arith, p, past.0, in_group))
+          (λ held. omega (arith, p, past.0, least before held)) in
           let left : first < start = elim (dec_lt first start) [
             | yes p ↦ p
             | no p ↦
                 let on : start + (first - start) ≡ first = omega arith in
-                let same : (start + (first - start)) % n ≡ first = ap (λ k. k % n) on ∙ mod-eq_of_lt (omega (arith, below, within)) in
-                absurd (omega (arith, byte, subst (λ k. get_or control k 0 < 128) same (early (first - start) (omega (arith, below, within)))))
+                let same : (start + (first - start)) % n ≡ first =
+                ap (λ k. k % n) on ∙ mod-eq_of_lt (omega (arith, below, within)) in
+                absurd (omega (
+                  arith,
+                  byte,
+                  subst (λ k. get_or control k 0 < 128) same
+                      (early (first - start) (omega (arith, below, within))),
+                ))
           ] in
           let round : start + (n - start + first) ≡ first + n * 1 = omega arith in
           record {
             lane = n - start + first;
             in_group = omega (arith, past.0, past.1);
-            there = ap (λ k. k % n) round ∙ add-mul-mod_self_left first n 1 ∙ mod-eq_of_lt (omega (arith, below, within));
+            there = ap (λ k. k % n) round ∙ add-mul-mod_self_left first n 1
+                ∙ mod-eq_of_lt (omega (arith, below, within));
             free_there = byte;
             full_before = λ before p. elim (dec_lt before (n - start)) [
               | yes q ↦ early before q
               | no q ↦
                   let k = start + before - n in
                   let on : start + before ≡ k + n * 1 = omega arith in
-                  let same : (start + before) % n ≡ k = ap (λ j. j % n) on ∙ add-mul-mod_self_left k n 1 ∙ mod-eq_of_lt (omega (arith, below, within, p)) in
+                  let same : (start + before) % n ≡ k =
+                  ap (λ j. j % n) on ∙ add-mul-mod_self_left k n 1
+                  ∙ mod-eq_of_lt (omega (arith, below, within, p)) in
                   subst (λ j. get_or control j 0 < 128) (sym same) (elim (dec_lt (get_or control k 0) 128) [
                     | yes r ↦ r
-                    | no r ↦ absurd (omega (arith, p, least_all k ((h_all k).1 (omega (arith, p, past.0, past.1, below, within), omega arith))))
+                    | no r ↦ absurd
+                        (omega (
+                          arith,
+                          p,
+                          least_all k
+                              ((h_all k).1 (omega (arith, p, past.0, past.1, below, within), omega arith)),
+                        ))
                   ])
             ];
           }
 
 -- what is known of a table's bytes
-pub repeated_bytes : {T : Type 0} (control : List ℕ) (entries : List (Option T)) → IsLaidOut control entries → 0 < length entries → IsRepeated control (length entries)
+pub repeated_bytes : {T : Type 0} (control : List ℕ) (entries : List (Option T)) → IsLaidOut control entries
+    → 0 < length entries → IsRepeated control (length entries)
 repeated_bytes control entries laid_out pos = record { again = again; between = between }
   where
     same : length (slots_of control entries) ≡ length entries
@@ -154,23 +179,30 @@ repeated_bytes control entries laid_out pos = record { again = again; between = 
     long : length control ≡ length entries + 16
     long = elim laid_out.counts [ inl w ↦ absurd (omega (arith, w.0)) | inr w ↦ w.1 ]
 
-    again : (p : ℕ) → max 16 (length entries) ≤ p → p < length entries + 16 → get_or control p 0 ≡ get_or control (p - max 16 (length entries)) 0
+    again : (p : ℕ) → max 16 (length entries) ≤ p → p < length entries + 16
+        → get_or control p 0 ≡ get_or control (p - max 16 (length entries)) 0
     again p q r =
-        laid_out.bytes p (omega (arith, long)) ∙ byte_at-again (slots_of control entries) p (omega (arith, same)) (omega arith)
+        laid_out.bytes p (omega (arith, long)) ∙ byte_at-again (slots_of control entries) p (omega (arith, same))
+        (omega arith)
         ∙ ap (λ k. byte_of (bucket_at (slots_of control entries) (p - max 16 k))) same
-        ∙ sym (byte_at-bucket (slots_of control entries) (p - max 16 (length entries)) (omega (arith, same))) ∙ sym (laid_out.bytes (p - max 16 (length entries)) (omega (arith, long)))
+        ∙ sym (byte_at-bucket (slots_of control entries) (p - max 16 (length entries)) (omega (arith, same)))
+        ∙ sym (laid_out.bytes (p - max 16 (length entries)) (omega (arith, long)))
 
     between : (p : ℕ) → length entries ≤ p → p < 16 → get_or control p 0 ≡ 255
-    between p q r = laid_out.bytes p (omega (arith, long)) ∙ byte_at-between (slots_of control entries) p (omega (arith, same)) r
+    between p q r = laid_out.bytes p (omega (arith, long))
+        ∙ byte_at-between (slots_of control entries) p (omega (arith, same)) r
 
 -- so many lanes were gone through, those of them with the tag were refused, and the mask holds the others
-pub record AsksLanes {T F : Type 0} (closure : Mut F (Bor T × Unit {0}) Bool) (control : List ℕ) (entries : List (Option T)) (tag start : ℕ) (f : F) (mask : ℕ) (g : F) : Type 0 where
+pub record AsksLanes {T F : Type 0} (closure : Mut F (Bor T × Unit {0}) Bool) (control : List ℕ)
+    (entries : List (Option T)) (tag start : ℕ) (f : F) (mask : ℕ) (g : F) : Type 0 where
   pub lanes : ℕ
   pub in_group : lanes ≤ 16
   pub left : (lane : ℕ) → HasLane mask lane ↔ ((lanes ≤ lane) × (lane < 16) × (get_or control (start + lane) 0 ≡ tag))
-  pub refused : RefusesEach closure (slots_of control entries) f (tagged_lanes (slots_of control entries) tag start (passed (length entries) start lanes)) g
+  pub refused : RefusesEach closure (slots_of control entries) f
+      (tagged_lanes (slots_of control entries) tag start (passed (length entries) start lanes)) g
 
-module _ {T : Type 0} (control : List ℕ) (entries : List (Option T)) (laid_out : IsLaidOut control entries) (start : ℕ) (bound : start < length entries) where
+module _ {T : Type 0} (control : List ℕ) (entries : List (Option T)) (laid_out : IsLaidOut control entries) (start : ℕ)
+    (bound : start < length entries) where
   abbrev n : ℕ
   n = length entries
 
@@ -181,21 +213,27 @@ module _ {T : Type 0} (control : List ℕ) (entries : List (Option T)) (laid_out
   pos = omega arith
 
   -- a byte of a tag tells of an entry
-  pub read_some : (b : ℕ) → b < length entries → get_or control b 0 < 128 → (r : Option T) → r ≡ get_or entries b r → r ≡ None → ⊥
+  pub read_some : (b : ℕ) → b < length entries → get_or control b 0 < 128 → (r : Option T) → r ≡ get_or entries b r
+      → r ≡ None → ⊥
   read_some b within tagged r e none =
       let found : get_or entries b None ≡ None = sym (get_or_read entries b r within e None) ∙ none in
-      elim (rw found at (laid_out.agrees b within)) [ inl h ↦ omega (arith, h, tagged) | inr h ↦ omega (arith, h, tagged) ]
+      elim (rw found at (laid_out.agrees b within))
+      [ inl h ↦ omega (arith, h, tagged) | inr h ↦ omega (arith, h, tagged) ]
 
   -- an empty lane ends the search: up to 16 buckets some bucket of the group is empty
-  pub ended_lane : (e : ℕ) → e < length entries → bucket_at (marks_by control entries) e ≡ empty → (lane : ℕ) → lane < 16 → get_or control (start + lane) 0 ≡ 255
+  pub ended_lane : (e : ℕ) → e < length entries → bucket_at (marks_by control entries) e ≡ empty → (lane : ℕ)
+      → lane < 16 → get_or control (start + lane) 0 ≡ 255
       → HasEmptyLane (slots_of control entries) start (width (slots_of control entries))
   ended_lane e within is lane p byte =
       let same = length-laid_out control entries laid_out in
       elim (real_or_between n start lane) [
         | inl real ↦
             let place = passed-place n start (power_of control entries laid_out pos) bound lane p real in
-            let there : get_or control ((start + lane) % n) 0 ≡ 255 = sym (lane_byte n start (power_of control entries laid_out pos) bound control (repeated_bytes control entries laid_out pos) lane p real) ∙ byte in
-            let mark : bucket_at (marks_by control entries) ((start + lane) % n) ≡ empty = mark_from_byte control entries laid_out ((start + lane) % n) (mod-lt _ pos) there in
+            let there : get_or control ((start + lane) % n) 0 ≡ 255 =
+            sym (lane_byte n start (power_of control entries laid_out pos) bound control
+            (repeated_bytes control entries laid_out pos) lane p real) ∙ byte in
+            let mark : bucket_at (marks_by control entries) ((start + lane) % n) ≡ empty =
+            mark_from_byte control entries laid_out ((start + lane) % n) (mod-lt _ pos) there in
             (passed n start lane, omega (arith, passed-lt n start bound lane p real, same), rw (same, ← place) mark)
         | inr w ↦
             let d = distance n start e bound within in
@@ -203,7 +241,8 @@ module _ {T : Type 0} (control : List ℕ) (entries : List (Option T)) (laid_out
       ]
 
   -- and none lets it go on
-  pub none_ended : ((lane : ℕ) → lane < 16 → get_or control (start + lane) 0 ≢ 255) → HasNoEmptyLane (slots_of control entries) start (width (slots_of control entries))
+  pub none_ended : ((lane : ℕ) → lane < 16 → get_or control (start + lane) 0 ≢ 255)
+      → HasNoEmptyLane (slots_of control entries) start (width (slots_of control entries))
   none_ended used lane p e =
       let same = length-laid_out control entries laid_out in
       let power = power_of control entries laid_out pos in
@@ -211,34 +250,48 @@ module _ {T : Type 0} (control : List ℕ) (entries : List (Option T)) (laid_out
       let wide = wide_unless_empty n start power bound control repeated used in
       let inside : lane < 16 = omega (arith, same) in
       let real = real_unless_empty n start power bound control repeated lane (used lane inside) in
-      used lane inside (lane_byte n start power bound control repeated lane inside real ∙ byte_from_mark control entries laid_out ((start + lane) % n) (mod-lt _ pos) (rw same at e))
+      used lane inside
+      (lane_byte n start power bound control repeated lane inside real
+      ∙ byte_from_mark control entries laid_out ((start + lane) % n) (mod-lt _ pos) (rw same at e))
 
   module _ {F : Type 0} (closure : Mut F (Bor T × Unit {0}) Bool) (tag : ℕ) (low : tag < 128) (f : F) where
-    pub AsksLanes-first : (mask : ℕ) → IsMaskAt (λ byte. byte ≡ tag) control start mask → AsksLanes closure control entries tag start f mask f
+    pub AsksLanes-first : (mask : ℕ) → IsMaskAt (λ byte. byte ≡ tag) control start mask
+        → AsksLanes closure control entries tag start f mask f
     AsksLanes-first mask h = record {
       lanes = 0;
       in_group = omega arith;
       left = λ lane. (λ set. let w = (h lane).0 set in (omega arith, w.0, w.1), λ w. (h lane).1 (w.1, w.2));
-      refused = let none : 0 ≡ passed n start 0 = omega arith in subst (λ k. RefusesEach closure slots f (tagged_lanes slots tag start k) f) none refl;
+      refused = let none : 0 ≡ passed n start 0 = omega arith in
+          subst (λ k. RefusesEach closure slots f (tagged_lanes slots tag start k) f) none refl;
     }
 
     -- lanes with other bytes add nothing
-    skipped : (g : F) (k j : ℕ) → k + j ≤ 16 → ((lane : ℕ) → k ≤ lane → lane < k + j → get_or control (start + lane) 0 ≢ tag)
-        → RefusesEach closure slots f (tagged_lanes slots tag start (passed n start k)) g → RefusesEach closure slots f (tagged_lanes slots tag start (passed n start (k + j))) g
-    skipped g k zero p others before = let e : k ≡ k + 0 = omega arith in subst (λ i. RefusesEach closure slots f (tagged_lanes slots tag start (passed n start i)) g) e before
+    skipped : (g : F) (k j : ℕ) → k + j ≤ 16 →
+        ((lane : ℕ) → k ≤ lane → lane < k + j → get_or control (start + lane) 0 ≢ tag)
+        → RefusesEach closure slots f (tagged_lanes slots tag start (passed n start k)) g
+        → RefusesEach closure slots f (tagged_lanes slots tag start (passed n start (k + j))) g
+    skipped g k zero p others before = let e : k ≡ k + 0 = omega arith in
+        subst (λ i. RefusesEach closure slots f (tagged_lanes slots tag start (passed n start i)) g) e before
     skipped g k (suc j) p others before =
         let lane = k + j in
         let on : k + j + 1 ≡ k + suc j = omega arith in
         let up_to = skipped g k j (omega arith) (λ i q r. others i q (omega arith)) before in
         let power = power_of control entries laid_out pos in
         let repeated = repeated_bytes control entries laid_out pos in
-        subst (λ i. RefusesEach closure slots f (tagged_lanes slots tag start (passed n start i)) g) on (elim (real_or_between n start lane) [
+        subst (λ i. RefusesEach closure slots f (tagged_lanes slots tag start (passed n start i)) g) on
+        (elim (real_or_between n start lane) [
           | inl real ↦
               let place = passed-place n start power bound lane (omega arith) real in
-              let other : get_or control ((start + passed n start lane) % n) 0 ≢ tag = λ e. others lane (omega arith) (omega arith) (lane_byte n start power bound control repeated lane (omega arith) real ∙ ap (λ b. get_or control b 0) place ∙ e) in
-              subst (λ i. RefusesEach closure slots f (tagged_lanes slots tag start i) g) (passed-next n start bound lane real)
-              (refused_passed control entries laid_out start (passed n start lane) ((start + passed n start lane) % n) refl (mod-lt _ pos) closure tag f g up_to other)
-          | inr w ↦ subst (λ i. RefusesEach closure slots f (tagged_lanes slots tag start i) g) (passed-between n start lane w.0 w.1) up_to
+              let other : get_or control ((start + passed n start lane) % n) 0 ≢ tag =
+              λ e. others lane (omega arith) (omega arith)
+              (lane_byte n start power bound control repeated lane (omega arith) real
+              ∙ ap (λ b. get_or control b 0) place ∙ e) in
+              subst (λ i. RefusesEach closure slots f (tagged_lanes slots tag start i) g)
+              (passed-next n start bound lane real)
+              (refused_passed control entries laid_out start (passed n start lane)
+              ((start + passed n start lane) % n) refl (mod-lt _ pos) closure tag f g up_to other)
+          | inr w ↦ subst (λ i. RefusesEach closure slots f (tagged_lanes slots tag start i) g)
+              (passed-between n start lane w.0 w.1) up_to
         ])
 
     module _ (mask : ℕ) (g : F) (so_far : AsksLanes closure control entries tag start f mask g) where
@@ -247,19 +300,25 @@ module _ {T : Type 0} (control : List ℕ) (entries : List (Option T)) (laid_out
       up_to_lane lane p q none =
           let e : so_far.lanes + (lane - so_far.lanes) ≡ lane = omega arith in
           subst (λ i. RefusesEach closure slots f (tagged_lanes slots tag start (passed n start i)) g) e
-          (skipped g so_far.lanes (lane - so_far.lanes) (omega arith) (λ i r s t. none i (omega arith) ((so_far.left i).1 (r, omega arith, t))) so_far.refused)
+          (skipped g so_far.lanes (lane - so_far.lanes) (omega arith)
+          (λ i r s t. none i (omega arith) ((so_far.left i).1 (r, omega arith, t))) so_far.refused)
 
       -- all lanes with the tag were refused
-      pub RefusesGroup-from : ((lane : ℕ) → HasLane mask lane → ⊥) → RefusesGroup closure (slots_of control entries) tag start f g
+      pub RefusesGroup-from : ((lane : ℕ) → HasLane mask lane → ⊥)
+          → RefusesGroup closure (slots_of control entries) tag start f g
       RefusesGroup-from none =
-          let all : passed n start 16 ≡ width slots = omega (arith, passed-all n start bound, length-laid_out control entries laid_out) in
-          subst (λ i. RefusesEach closure slots f (tagged_lanes slots tag start i) g) all (up_to_lane 16 so_far.in_group (omega arith) (λ i p. none i))
+          let all : passed n start 16 ≡ width slots =
+          omega (arith, passed-all n start bound, length-laid_out control entries laid_out) in
+          subst (λ i. RefusesEach closure slots f (tagged_lanes slots tag start i) g) all
+          (up_to_lane 16 so_far.in_group (omega arith) (λ i p. none i))
 
-      module _ (lane b : ℕ) (set : HasLane mask lane) (first : (i : ℕ) → HasLane mask i → lane ≤ i) (is : b ≡ (start + lane) % length entries) where
+      module _ (lane b : ℕ) (set : HasLane mask lane) (first : (i : ℕ) → HasLane mask i → lane ≤ i)
+          (is : b ≡ (start + lane) % length entries) where
         real : IsReal n start lane
         real =
             let w = (so_far.left lane).0 set in
-            real_unless_empty n start (power_of control entries laid_out pos) bound control (repeated_bytes control entries laid_out pos) lane (λ e. omega (arith, w.2, e, low))
+            real_unless_empty n start (power_of control entries laid_out pos) bound control
+            (repeated_bytes control entries laid_out pos) lane (λ e. omega (arith, w.2, e, low))
 
         pub lane_within : b < length entries
         lane_within = rw is (mod-lt _ pos)
@@ -268,30 +327,43 @@ module _ {T : Type 0} (control : List ℕ) (entries : List (Option T)) (laid_out
         pub lane_tag : get_or control b 0 ≡ tag
         lane_tag =
             let w = (so_far.left lane).0 set in
-            ap (λ k. get_or control k 0) is ∙ sym (lane_byte n start (power_of control entries laid_out pos) bound control (repeated_bytes control entries laid_out pos) lane w.1 real) ∙ w.2
+            ap (λ k. get_or control k 0) is ∙ sym
+            (lane_byte n start (power_of control entries laid_out pos) bound control
+            (repeated_bytes control entries laid_out pos) lane w.1 real) ∙ w.2
 
         lane_is : b ≡ (start + passed n start lane) % n
-        lane_is = is ∙ passed-place n start (power_of control entries laid_out pos) bound lane ((so_far.left lane).0 set).1 real
+        lane_is = is ∙ passed-place n start (power_of control entries laid_out pos) bound lane
+            ((so_far.left lane).0 set).1 real
 
         before : RefusesEach closure slots f (tagged_lanes slots tag start (passed n start lane)) g
-        before = let w = (so_far.left lane).0 set in up_to_lane lane w.0 (omega (arith, w.1)) (λ i p h. omega (arith, p, first i h))
+        before = let w = (so_far.left lane).0 set in
+            up_to_lane lane w.0 (omega (arith, w.1)) (λ i p h. omega (arith, p, first i h))
 
-        module _ (entry : T) (there : bucket_at (slots_of control entries) b ≡ full (record { tag = tag; entry = entry })) (h : F) where
-          pub AcceptsIn-lane : Answers closure (slots_of control entries) g b true h → AcceptsIn closure (slots_of control entries) tag start f b h
+        module _ (entry : T)
+            (there : bucket_at (slots_of control entries) b ≡ full (record { tag = tag; entry = entry })) (h : F) where
+          pub AcceptsIn-lane : Answers closure (slots_of control entries) g b true h
+              → AcceptsIn closure (slots_of control entries) tag start f b h
           AcceptsIn-lane asked =
               let w = (so_far.left lane).0 set in
-              AcceptsIn-from control entries laid_out start (passed n start lane) b lane_is lane_within closure tag f g before entry there h (passed-lt n start bound lane w.1 real) asked
+              AcceptsIn-from control entries laid_out start
+              (passed n start lane) b lane_is lane_within closure tag f g before entry there h
+              (passed-lt n start bound lane w.1 real) asked
 
-          pub AsksLanes-next : (rest : ℕ) → ((i : ℕ) → HasLane rest i ↔ (HasLane mask i × (i ≢ lane))) → Answers closure (slots_of control entries) g b false h → AsksLanes closure control entries tag start f rest h
+          pub AsksLanes-next : (rest : ℕ) → ((i : ℕ) → HasLane rest i ↔ (HasLane mask i × (i ≢ lane)))
+              → Answers closure (slots_of control entries) g b false h
+              → AsksLanes closure control entries tag start f rest h
           AsksLanes-next rest others asked =
               let w = (so_far.left lane).0 set in
               record {
                 lanes = lane + 1;
                 in_group = omega (arith, w.1);
                 left = λ i. (
-                  λ held. let o = (others i).0 held in let u = (so_far.left i).0 o.0 in (omega (arith, first i o.0, λ (e : lane ≡ i). o.1 (sym e)), u.1, u.2),
+                  λ held. let o = (others i).0 held in let u = (so_far.left i).0 o.0 in
+                      (omega (arith, first i o.0, λ (e : lane ≡ i). o.1 (sym e)), u.1, u.2),
                   λ u. (others i).1 ((so_far.left i).1 (omega (arith, u.0, w.0), u.1, u.2), λ e. omega (arith, u.0, e)),
                 );
-                refused = subst (λ k. RefusesEach closure slots f (tagged_lanes slots tag start k) h) (passed-next n start bound lane real)
-                    (refused_asked control entries laid_out start (passed n start lane) b lane_is lane_within closure tag f g before entry there h asked);
+                refused = subst (λ k. RefusesEach closure slots f (tagged_lanes slots tag start k) h)
+                    (passed-next n start bound lane real)
+                    (refused_asked control entries laid_out start
+                    (passed n start lane) b lane_is lane_within closure tag f g before entry there h asked);
               }

@@ -11,24 +11,29 @@ use Rattle.group_table.proofs.BucketLemmas.{empty_not_deleted, full_lt, bucket_a
 use Rattle.group_table.proofs.BucketLemmas.{is_full-marks_of}
 
 module _ {T : Type 0} where
-  length-slots_of : (bytes : List ℕ) (entries : List (Option T)) → length entries ≤ length bytes → length (slots_of bytes entries) ≡ length entries
+  length-slots_of : (bytes : List ℕ) (entries : List (Option T)) → length entries ≤ length bytes
+      → length (slots_of bytes entries) ≡ length entries
   length-slots_of bytes [] p = refl
   length-slots_of [] (e ∷ entries) p = absurd (omega arith)
   length-slots_of (b ∷ bytes) (e ∷ entries) p = ap suc (length-slots_of bytes entries (omega arith))
 
-  bucket_at-slots_of : (bytes : List ℕ) (entries : List (Option T)) (b : ℕ) → length entries ≤ length bytes → b < length entries
+  bucket_at-slots_of : (bytes : List ℕ) (entries : List (Option T)) (b : ℕ) → length entries ≤ length bytes
+      → b < length entries
       → bucket_at (slots_of bytes entries) b ≡ slot_of (get_or bytes b 0) (get_or entries b None)
   bucket_at-slots_of bytes [] b p q = absurd (omega arith)
   bucket_at-slots_of [] (e ∷ entries) b p q = absurd (omega arith)
   bucket_at-slots_of (x ∷ bytes) (e ∷ entries) zero p q = refl
-  bucket_at-slots_of (x ∷ bytes) (e ∷ entries) (suc b) p q = bucket_at-slots_of bytes entries b (omega arith) (omega arith)
+  bucket_at-slots_of (x ∷ bytes) (e ∷ entries) (suc b) p q =
+      bucket_at-slots_of bytes entries b (omega arith) (omega arith)
 
-  pub slots_of-set : (bytes : List ℕ) (entries : List (Option T)) (b byte : ℕ) (e : Option T) → slots_of (set bytes b byte) (set entries b e) ≡ set (slots_of bytes entries) b (slot_of byte e)
+  pub slots_of-set : (bytes : List ℕ) (entries : List (Option T)) (b byte : ℕ) (e : Option T)
+      → slots_of (set bytes b byte) (set entries b e) ≡ set (slots_of bytes entries) b (slot_of byte e)
   slots_of-set bytes [] b byte e = refl
   slots_of-set [] (x ∷ entries) zero byte e = refl
   slots_of-set [] (x ∷ entries) (suc b) byte e = refl
   slots_of-set (y ∷ bytes) (x ∷ entries) zero byte e = refl
-  slots_of-set (y ∷ bytes) (x ∷ entries) (suc b) byte e = ap (λ s. slot_of y x ∷ s) (slots_of-set bytes entries b byte e)
+  slots_of-set (y ∷ bytes) (x ∷ entries) (suc b) byte e =
+      ap (λ s. slot_of y x ∷ s) (slots_of-set bytes entries b byte e)
 
   -- a byte below 128 tells of an entry
   is_full-slot_of : (byte : ℕ) (e : Option T) → Agrees byte e → is_full (slot_of byte e) ≡ nat_lt byte 128
@@ -72,7 +77,8 @@ module _ {T : Type 0} (control : List ℕ) (entries : List (Option T)) (laid_out
   length-marks_by = length-marks_of (slots_of control entries) ∙ length-laid_out
 
   module _ (b : ℕ) (within : b < length entries) where
-    pub bucket_at-laid_out : bucket_at (slots_of control entries) b ≡ slot_of (get_or control b 0) (get_or entries b None)
+    pub bucket_at-laid_out : bucket_at (slots_of control entries) b
+        ≡ slot_of (get_or control b 0) (get_or entries b None)
     bucket_at-laid_out = bucket_at-slots_of control entries b entries_within within
 
     pub is_full-laid_out : is_full (bucket_at (slots_of control entries) b) ≡ nat_lt (get_or control b 0) 128
@@ -83,17 +89,22 @@ module _ {T : Type 0} (control : List ℕ) (entries : List (Option T)) (laid_out
 
     -- what the code reads as EMPTY
     pub mark_from_byte : get_or control b 0 ≡ 255 → bucket_at (marks_by control entries) b ≡ empty
-    mark_from_byte e = bucket_at-marks_of (slots_of control entries) b ∙ ap mark_of (bucket_at-laid_out ∙ slot_of-empty _ _ (laid_out.agrees b within) e)
+    mark_from_byte e =
+        bucket_at-marks_of (slots_of control entries) b
+        ∙ ap mark_of (bucket_at-laid_out ∙ slot_of-empty _ _ (laid_out.agrees b within) e)
 
     pub byte_from_mark : bucket_at (marks_by control entries) b ≡ empty → get_or control b 0 ≡ 255
-    byte_from_mark e = empty_byte _ _ (laid_out.agrees b within) (sym bucket_at-laid_out ∙ empty_mark (slots_of control entries) b e)
+    byte_from_mark e =
+        empty_byte _ _ (laid_out.agrees b within) (sym bucket_at-laid_out ∙ empty_mark (slots_of control entries) b e)
 
     -- what the code reads of a bucket with a tag
-    pub bucket_at-read : (tag : ℕ) (r : Option T) (entry : T) → get_or control b 0 ≡ tag → r ≡ get_or entries b r → r ≡ Some entry
+    pub bucket_at-read : (tag : ℕ) (r : Option T) (entry : T) → get_or control b 0 ≡ tag → r ≡ get_or entries b r
+        → r ≡ Some entry
         → bucket_at (slots_of control entries) b ≡ full (record { tag = tag; entry = entry })
     bucket_at-read tag r entry e f h =
         let found : get_or entries b None ≡ Some entry = sym (get_or_read entries b r within f None) ∙ h in
-        bucket_at-laid_out ∙ ap (λ o. slot_of (get_or control b 0) o) found ∙ ap (λ t. full (record { tag = t; entry = entry })) e
+        bucket_at-laid_out ∙ ap (λ o. slot_of (get_or control b 0) o) found
+        ∙ ap (λ t. full (record { tag = t; entry = entry })) e
 
   module _ (b : ℕ) (there : IsFull (slots_of control entries) b) where
     pub full_within : b < length entries
@@ -110,11 +121,14 @@ module _ {T : Type 0} (control : List ℕ) (entries : List (Option T)) (laid_out
     pub is_some_entry : IsSome (get_or entries b None)
     is_some_entry = let w = full_entry in rw w.1 refl
 
-    pub entry_at-full : (entry : T) → get_or entries b None ≡ Some entry → entry_at (slots_of control entries) b ≡ Some entry
-    entry_at-full entry e = ap entry_of (bucket_at-laid_out b full_within) ∙ ap (λ o. entry_of (slot_of (get_or control b 0) o)) e
+    pub entry_at-full : (entry : T) → get_or entries b None ≡ Some entry
+        → entry_at (slots_of control entries) b ≡ Some entry
+    entry_at-full entry e =
+        ap entry_of (bucket_at-laid_out b full_within) ∙ ap (λ o. entry_of (slot_of (get_or control b 0) o)) e
 
 -- what was read is not None where there is an entry
-pub not_read_none : {T : Type 0} (entries : List (Option T)) (b : ℕ) (r : Option T) (entry : T) → b < length entries → get_or entries b None ≡ Some entry → r ≡ get_or entries b r → r ≡ None → ⊥
+pub not_read_none : {T : Type 0} (entries : List (Option T)) (b : ℕ) (r : Option T) (entry : T) → b < length entries
+    → get_or entries b None ≡ Some entry → r ≡ get_or entries b r → r ≡ None → ⊥
 not_read_none entries b r entry within some e h =
     let found : r ≡ get_or entries b None = get_or_read entries b r within e None in
     let wrong : Some entry ≡ None = sym some ∙ sym found ∙ h in

@@ -24,27 +24,38 @@ pub mask_is : (t : ℕ → Bool) (P : ℕ → Type 0) (bytes : List ℕ) → len
     → ((byte : ℕ) → t byte ≡ true → P byte) → ((byte : ℕ) → P byte → t byte ≡ true)
     → IsMaskOf P bytes (mask_l (map t bytes))
 mask_is t P bytes long sound whole lane =
-    let e : bit_at (mask_l (map t bytes)) lane ≡ cond (get_or (map t bytes) lane false) 1 0 = bit_mask_l (map t bytes) lane in
+    let e : bit_at (mask_l (map t bytes)) lane ≡ cond (get_or (map t bytes) lane false) 1 0 =
+    bit_mask_l (map t bytes) lane in
     elim (cases_lt lane 16) [
       | inl inside ↦
-          let same : get_or (map t bytes) lane false ≡ t (get_or bytes lane 0) = get_or-map t bytes lane 0 false (omega arith) in
-          let both = tells (t (get_or bytes lane 0)) (P (get_or bytes lane 0)) (sound _) (whole _) in
-          (λ h. (inside, both.0 (sym (ap (λ b. cond b 1 0) same) ∙ sym e ∙ h)), λ h. e ∙ ap (λ b. cond b 1 0) same ∙ both.1 h.1)
+          let same : get_or (map t bytes) lane false ≡ t (get_or bytes lane 0) =
+          get_or-map t bytes lane 0 false (omega arith) in
+          let both = tells (t (get_or bytes lane 0)) (P (get_or bytes lane 0)) (sound _) (whole _) in (
+            λ h. (inside, both.0 (sym (ap (λ b. cond b 1 0) same) ∙ sym e ∙ h)),
+            λ h. e ∙ ap (λ b. cond b 1 0) same
+                ∙ both.1 h.1,
+          )
       | inr outside ↦
-          let none : get_or (map t bytes) lane false ≡ false = get_or-eq_default (map t bytes) false (omega (arith, length-map bytes t)) in
-          (λ h. absurd (let z : ◌≡◌ {A = ℕ} 0 1 = sym (ap (λ b. cond b 1 0) none) ∙ sym e ∙ h in omega arith), λ h. absurd (omega (arith, h.0)))
+          let none : get_or (map t bytes) lane false ≡ false =
+          get_or-eq_default (map t bytes) false (omega (arith, length-map bytes t)) in (
+            λ h. absurd (let z : ◌≡◌ {A = ℕ} 0 1 = sym (ap (λ b. cond b 1 0) none) ∙ sym e ∙ h in omega arith),
+            λ h.
+                absurd (omega (arith, h.0)),
+          )
     ]
 
 -- `to_bitmask` of the comparison t with a splat on the right
 pub right_mask : (t : ℕ → ℕ → Bool) (bytes : List ℕ) (y : ℕ) → length bytes ≡ 16
-    → mask_l (map (top 7) (zip2 (λ a b. cond (t a b) 255 0) bytes (replicate 16 y))) % 2 ^ 64 ≡ mask_l (map (λ x. t x y) bytes)
+    → mask_l (map (top 7) (zip2 (λ a b. cond (t a b) 255 0) bytes (replicate 16 y))) % 2 ^ 64
+    ≡ mask_l (map (λ x. t x y) bytes)
 right_mask t bytes y long =
     ap (λ ms. mask_l ms % 2 ^ 64) (tops_compared w8 t bytes (replicate 16 y) ∙ zip2_splat t bytes 16 y long)
     ∙ mask_l-mod (map (λ x. t x y) bytes) 64 (omega (arith, length-map bytes (λ x. t x y)))
 
 -- the same with a splat on the left
 pub left_mask : (t : ℕ → ℕ → Bool) (bytes : List ℕ) (y : ℕ) → length bytes ≡ 16
-    → mask_l (map (top 7) (zip2 (λ a b. cond (t a b) 255 0) (replicate 16 y) bytes)) % 2 ^ 64 ≡ mask_l (map (λ x. t y x) bytes)
+    → mask_l (map (top 7) (zip2 (λ a b. cond (t a b) 255 0) (replicate 16 y) bytes)) % 2 ^ 64
+    ≡ mask_l (map (λ x. t y x) bytes)
 left_mask t bytes y long =
     ap (λ ms. mask_l ms % 2 ^ 64) (tops_compared w8 t (replicate 16 y) bytes ∙ zip2_splat_left t y 16 bytes long)
     ∙ mask_l-mod (map (λ x. t y x) bytes) 64 (omega (arith, length-map bytes (λ x. t y x)))
@@ -69,10 +80,12 @@ clear_at n (suc t) some set zeros =
     let even : n % 2 ≡ 0 = sym (bit_at_lowest n) ∙ zeros 0 (omega arith) in
     let half : (n - 1) / 2 ≡ n / 2 - 1 = omega arith in
     bit_at-suc (n - 1) t ∙ ap (λ x. bit_at x t) half
-    ∙ clear_at (n / 2) t (omega arith) (sym (bit_at-suc n t) ∙ set) (λ i l. sym (bit_at-suc n i) ∙ zeros (suc i) (omega arith))
+    ∙ clear_at (n / 2) t (omega arith) (sym (bit_at-suc n t) ∙ set)
+    (λ i l. sym (bit_at-suc n i) ∙ zeros (suc i) (omega arith))
 
 -- n - 1 is n above its lowest 1
-same_above : (n t i : ℕ) → 0 < n → bit_at n t ≡ 1 → ((j : ℕ) → j < t → bit_at n j ≡ 0) → t < i → bit_at (n - 1) i ≡ bit_at n i
+same_above : (n t i : ℕ) → 0 < n → bit_at n t ≡ 1 → ((j : ℕ) → j < t → bit_at n j ≡ 0) → t < i
+    → bit_at (n - 1) i ≡ bit_at n i
 same_above n t zero some set zeros l = absurd (omega arith)
 same_above n zero (suc i) some set zeros l =
     let odd : n % 2 ≡ 1 = sym (bit_at_lowest n) ∙ set in
@@ -82,7 +95,8 @@ same_above n (suc t) (suc i) some set zeros l =
     let even : n % 2 ≡ 0 = sym (bit_at_lowest n) ∙ zeros 0 (omega arith) in
     let half : (n - 1) / 2 ≡ n / 2 - 1 = omega arith in
     bit_at-suc (n - 1) i ∙ ap (λ x. bit_at x i) half
-    ∙ same_above (n / 2) t i (omega arith) (sym (bit_at-suc n t) ∙ set) (λ j k. sym (bit_at-suc n j) ∙ zeros (suc j) (omega arith)) (omega arith)
+    ∙ same_above (n / 2) t i (omega arith) (sym (bit_at-suc n t) ∙ set)
+    (λ j k. sym (bit_at-suc n j) ∙ zeros (suc j) (omega arith)) (omega arith)
     ∙ sym (bit_at-suc n i)
 
 -- `n & (n - 1)` has the bits of n but its lowest
@@ -90,7 +104,11 @@ pub lowest_cleared : (n t lane : ℕ) → 0 < n → bit_at n t ≡ 1 → ((i : �
     → (bit_at (bit_and n (n - 1)) lane ≡ 1) ↔ ((bit_at n lane ≡ 1) × (lane ≢ t))
 lowest_cleared n t lane some set zeros =
     let both = bit_at_and n (n - 1) lane in (
-      λ h. (omega (arith, both, bit_at-lt n lane, bit_at-lt (n - 1) lane), λ e. absurd (omega (arith, both, ap (bit_at (n - 1)) e ∙ clear_at n t some set zeros))),
+      λ h. (
+        omega (arith, both, bit_at-lt n lane, bit_at-lt (n - 1) lane),
+        λ e. absurd
+            (omega (arith, both, ap (bit_at (n - 1)) e ∙ clear_at n t some set zeros)),
+      ),
       λ h.
           let above : t < lane = omega (arith, none_below n t lane zeros h.0, λ (e : t ≡ lane). h.1 (sym e)) in
           omega (arith, both, same_above n t lane some set zeros above),
@@ -99,7 +117,8 @@ lowest_cleared n t lane some set zeros =
 -- ---- counts of lanes
 -- a mask of none holds no lane
 pub none_of_zero : (mask lane : ℕ) → mask ≡ 0 → bit_at mask lane ≡ 1 → ⊥
-none_of_zero mask lane none set = let z : ◌≡◌ {A = ℕ} 0 1 = sym (ap (λ m. bit_at m lane) none ∙ bit_at-zero lane) ∙ set in omega arith
+none_of_zero mask lane none set = let z : ◌≡◌ {A = ℕ} 0 1 =
+    sym (ap (λ m. bit_at m lane) none ∙ bit_at-zero lane) ∙ set in omega arith
 
 -- one that holds some has a lowest
 pub some_lane : (mask : ℕ) → mask < 65536 → mask ≢ 0 → (lane : ℕ) × (lane < 16) × (bit_at mask lane ≡ 1)
@@ -115,7 +134,8 @@ module _ (mask : ℕ) (fits : mask < 65536) where
   pub lanes_below_end : count_trailing_zeros 16 mask < 16 → bit_at mask (count_trailing_zeros 16 mask) ≡ 1
   lanes_below_end p = elim (dec_lt 0 mask) [
     | yes q ↦ (bit_at-trailing_zeros w16 mask q fits).1
-    | no q ↦ let z : mask ≡ 0 = omega arith in absurd (omega (arith, p, ap (count_trailing_zeros 16) z ∙ trailing_of_zero 16))
+    | no q ↦ let z : mask ≡ 0 = omega arith in
+        absurd (omega (arith, p, ap (count_trailing_zeros 16) z ∙ trailing_of_zero 16))
   ]
 
   pub none_in_lanes_above : (lane : ℕ) → 16 ≤ lane + count_leading_zeros 16 mask → bit_at mask lane ≡ 1 → ⊥
@@ -134,22 +154,28 @@ module _ (mask : ℕ) (fits : mask < 65536) where
         let rest : 1 * 2 ^ t.0 + (mask - 2 ^ t.0) ≡ mask = omega (arith, t.2) in
         let less : mask - 2 ^ t.0 < 2 ^ t.0 = omega (arith, t.2, t.3, pow-suc 2 t.0) in
         let low : t.0 - t.0 ≡ 0 = omega arith in
-        ap (bit_at mask) at ∙ ap (λ m. bit_at m t.0) (sym rest) ∙ bit_at_cat_high 1 t.0 (mask - 2 ^ t.0) t.0 less (omega arith) ∙ ap (bit_at 1) low
-    | no q ↦ let z : mask ≡ 0 = omega arith in absurd (omega (arith, p, ap (count_leading_zeros 16) z ∙ leading_of_zero 16))
+        ap (bit_at mask) at ∙ ap (λ m. bit_at m t.0) (sym rest)
+        ∙ bit_at_cat_high 1 t.0 (mask - 2 ^ t.0) t.0 less (omega arith) ∙ ap (bit_at 1) low
+    | no q ↦ let z : mask ≡ 0 = omega arith in
+        absurd (omega (arith, p, ap (count_leading_zeros 16) z ∙ leading_of_zero 16))
   ]
 
 -- a mask of a group that was read is one of the bytes that it was read from
-pub mask_at : (P : ℕ → Type 0) (group bytes : List ℕ) (start mask : ℕ) → ((lane : ℕ) → lane < 16 → get_or group lane 0 ≡ get_or bytes (start + lane) 0)
+pub mask_at : (P : ℕ → Type 0) (group bytes : List ℕ) (start mask : ℕ)
+    → ((lane : ℕ) → lane < 16 → get_or group lane 0 ≡ get_or bytes (start + lane) 0)
     → IsMaskOf P group mask → IsMaskAt P bytes start mask
 mask_at P group bytes start mask same h lane = (
   λ set. let w = (h lane).0 set in (w.0, subst P (same lane w.0) w.1),
   λ w. (h lane).1 (w.0, subst P (sym (same lane w.0)) w.1),
 )
 
-pub mask_from_start : (P : ℕ → Type 0) (group bytes : List ℕ) (mask : ℕ) → ((lane : ℕ) → lane < 16 → get_or group lane 0 ≡ get_or bytes (0 + lane) 0) → IsMaskOf P group mask → IsMaskOf P bytes mask
+pub mask_from_start : (P : ℕ → Type 0) (group bytes : List ℕ) (mask : ℕ)
+    → ((lane : ℕ) → lane < 16 → get_or group lane 0 ≡ get_or bytes (0 + lane) 0) → IsMaskOf P group mask
+    → IsMaskOf P bytes mask
 mask_from_start P group bytes mask same h lane =
     let e : 0 + lane ≡ lane = omega arith in
-    let here : lane < 16 → get_or group lane 0 ≡ get_or bytes lane 0 = λ p. same lane p ∙ ap (λ k. get_or bytes k 0) e in (
+    let here : lane < 16 → get_or group lane 0 ≡ get_or bytes lane 0 =
+    λ p. same lane p ∙ ap (λ k. get_or bytes k 0) e in (
       λ set. let w = (h lane).0 set in (w.0, subst P (here w.0) w.1),
       λ w. (h lane).1 (w.0, subst P (sym (here w.0)) w.1),
     )

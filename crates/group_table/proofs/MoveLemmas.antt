@@ -21,7 +21,8 @@ use Rattle.group_table.proofs.JoinLemmas.{entry_at-joined, bucket_at-joined_othe
 
 module _ {T N : Type 0} (number : N → ℕ) (none : N) where
   -- no entry has moved
-  pub Moves-none : (old : ℕ → Option T) (new : List (Slot T)) (links : List N) → ((b : ℕ) → old b ≡ None) → ((b : ℕ) → bucket_at new b ≡ empty)
+  pub Moves-none : (old : ℕ → Option T) (new : List (Slot T)) (links : List N) → ((b : ℕ) → old b ≡ None)
+      → ((b : ℕ) → bucket_at new b ≡ empty)
       → ((b : ℕ) → get_or links b none ≡ none) → Moves number none old new links
   Moves-none old new links gone fresh unlinked = record {
     moved = λ b entry e. absurd (none-some _ (sym (gone b) ∙ e));
@@ -40,8 +41,10 @@ module _ {T N : Type 0} (number : N → ℕ) (none : N) where
       onto = λ c there. let w = m.onto c there in (w.0, w.1, same w.0 ∙ w.2, w.3);
     }
 
-    pub KeepsMovedHashes-same : (hash_of : ℕ → ℕ) → KeepsMovedHashes number none old new links hash_of → KeepsMovedHashes number none more new links hash_of
-    KeepsMovedHashes-same hash_of keeps moved_hash_of gives = keeps moved_hash_of (λ b entry e. gives b entry (same b ∙ e))
+    pub KeepsMovedHashes-same : (hash_of : ℕ → ℕ) → KeepsMovedHashes number none old new links hash_of
+        → KeepsMovedHashes number none more new links hash_of
+    KeepsMovedHashes-same hash_of keeps moved_hash_of gives =
+        keeps moved_hash_of (λ b entry e. gives b entry (same b ∙ e))
 
   -- one more entry moves
   module _ (link : ℕ → N) (eq : N → N → Bool) (laws : IsLinkType number link none eq)
@@ -61,7 +64,8 @@ module _ {T N : Type 0} (number : N → ℕ) (none : N) where
     -- an entry of before stands in another bucket
     apart_from : (k : ℕ) (x : T) → old k ≡ Some x → moved_to number none links k ≢ c
     apart_from k x e same =
-        empty_not_full (bucket_at new c) joins.was_empty (subst (λ j. is_full (bucket_at new j) ≡ true) same (full_by_entry _ x (m.moved k x e)))
+        empty_not_full (bucket_at new c) joins.was_empty
+        (subst (λ j. is_full (bucket_at new j) ≡ true) same (full_by_entry _ x (m.moved k x e)))
 
     was_there : (k : ℕ) (x : T) → k ≢ b → more k ≡ Some x → old k ≡ Some x
     was_there k x other e = sym (others k other) ∙ e
@@ -71,10 +75,12 @@ module _ {T N : Type 0} (number : N → ℕ) (none : N) where
       moved = λ k x e. elim (cases_eq k b) [
         | inl h ↦
             let same : x ≡ entry = same_Some x entry (sym e ∙ ap more h ∙ is) in
-            ap (λ j. entry_at joined (moved_to number none linked j)) h ∙ ap (entry_at joined) linked_there ∙ entry_at-joined joins ∙ ap Some (sym same)
+            ap (λ j. entry_at joined (moved_to number none linked j)) h ∙ ap (entry_at joined) linked_there
+            ∙ entry_at-joined joins ∙ ap Some (sym same)
         | inr h ↦
             let before = was_there k x h e in
-            ap (entry_at joined) (linked_elsewhere k h) ∙ ap entry_of (bucket_at-joined_other joins _ (apart_from k x before)) ∙ m.moved k x before
+            ap (entry_at joined) (linked_elsewhere k h) ∙ ap entry_of
+            (bucket_at-joined_other joins _ (apart_from k x before)) ∙ m.moved k x before
       ];
       others = λ k e. elim (cases_eq k b) [
         | inl h ↦ absurd (none-some entry (sym e ∙ ap more h ∙ is))
@@ -83,11 +89,16 @@ module _ {T N : Type 0} (number : N → ℕ) (none : N) where
       apart = λ j k x y e f same. elim (cases_eq j b) [
         | inl h ↦ elim (cases_eq k b) [
           | inl i ↦ h ∙ sym i
-          | inr i ↦ absurd (apart_from k y (was_there k y i f) (sym (linked_elsewhere k i) ∙ sym same ∙ ap (moved_to number none linked) h ∙ linked_there))
+          | inr i ↦ absurd
+              (apart_from k y (was_there k y i f)
+              (sym (linked_elsewhere k i) ∙ sym same ∙ ap (moved_to number none linked) h ∙ linked_there))
         ]
         | inr h ↦ elim (cases_eq k b) [
-          | inl i ↦ absurd (apart_from j x (was_there j x h e) (sym (linked_elsewhere j h) ∙ same ∙ ap (moved_to number none linked) i ∙ linked_there))
-          | inr i ↦ m.apart j k x y (was_there j x h e) (was_there k y i f) (sym (linked_elsewhere j h) ∙ same ∙ linked_elsewhere k i)
+          | inl i ↦ absurd
+              (apart_from j x (was_there j x h e)
+              (sym (linked_elsewhere j h) ∙ same ∙ ap (moved_to number none linked) i ∙ linked_there))
+          | inr i ↦ m.apart j k x y (was_there j x h e) (was_there k y i f)
+              (sym (linked_elsewhere j h) ∙ same ∙ linked_elsewhere k i)
         ]
       ];
       onto = λ k there. elim (cases_eq k c) [
@@ -99,7 +110,8 @@ module _ {T N : Type 0} (number : N → ℕ) (none : N) where
       ];
     }
 
-    pub KeepsMovedHashes-more : (hash_of : ℕ → ℕ) → hash ≡ hash_of b → KeepsMovedHashes number none old new links hash_of → KeepsMovedHashes number none more joined linked hash_of
+    pub KeepsMovedHashes-more : (hash_of : ℕ → ℕ) → hash ≡ hash_of b
+        → KeepsMovedHashes number none old new links hash_of → KeepsMovedHashes number none more joined linked hash_of
     KeepsMovedHashes-more hash_of hashed keeps moved_hash_of gives =
         let before : Fits new moved_hash_of = keeps moved_hash_of (λ k x e.
         let other : k ≢ b = λ i. none-some x (sym was ∙ ap old (sym i) ∙ e) in
@@ -121,10 +133,12 @@ module _ {T : Type 0} (places : List (Option T)) (b : ℕ) (b_is : b ≡ length 
   pub come_elsewhere : (place : Option T) (k : ℕ) → k ≢ b → get_or (places ++ place ∷ []) k None ≡ get_or places k None
   come_elsewhere place k other = elim (dec_lt k b) [
     | yes p ↦ get_or_append_left places (place ∷ []) None k (omega arith)
-    | no p ↦ get_or_past (places ++ place ∷ []) k None (omega (arith, length-append places (place ∷ []))) ∙ sym (get_or_past places k None (omega arith))
+    | no p ↦ get_or_past (places ++ place ∷ []) k None (omega (arith, length-append places (place ∷ [])))
+        ∙ sym (get_or_past places k None (omega arith))
   ]
 
-  pub come_none : (place : Option T) → place ≡ None → (k : ℕ) → get_or (places ++ place ∷ []) k None ≡ get_or places k None
+  pub come_none : (place : Option T) → place ≡ None → (k : ℕ)
+      → get_or (places ++ place ∷ []) k None ≡ get_or places k None
   come_none place gone k = elim (cases_eq k b) [
     | inl h ↦ rw h (come_there place ∙ gone ∙ sym come_before)
     | inr h ↦ come_elsewhere place k h
@@ -138,11 +152,13 @@ pub none_more : {T : Type 0} (place : Option T) → place ≡ None → ◌≡◌
 none_more place gone = ap (λ o. cond {A = ℕ} (is_some o) 1 0) gone
 
 module _ {T : Type 0} (places : List (Option T)) where
-  pub count_by-push : (place : Option T) → count_by is_some (places ++ place ∷ []) ≡ count_by is_some places + cond (is_some place) 1 0
+  pub count_by-push : (place : Option T) → count_by is_some (places ++ place ∷ [])
+      ≡ count_by is_some places + cond (is_some place) 1 0
   count_by-push place = sum_by-append (λ o. cond {A = ℕ} (is_some o) 1 0) places (place ∷ []) ∙ omega arith
 
 -- of all places, those that have come, the next one and the rest
-module _ {T : Type 0} (places : List (Option T)) (place : Option T) (rest all : List (Option T)) (order : places ++ place ∷ rest ≡ all) where
+module _ {T : Type 0} (places : List (Option T)) (place : Option T) (rest all : List (Option T))
+    (order : places ++ place ∷ rest ≡ all) where
   pub come_within : length places < length all
   come_within = omega (arith, ap length order, length-append places (place ∷ rest))
 

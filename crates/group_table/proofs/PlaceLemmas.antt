@@ -17,17 +17,20 @@ use Rattle.group_table.proofs.TableLemmas.{empty_there, room_by}
 
 module _ {T : Type 0} where
   -- a free bucket by its byte
-  free_empty : (byte : ℕ) (e : Option T) → Agrees byte e → 128 ≤ byte → byte ≡ 255 → (slot_of byte e ≡ empty) × (e ≡ None)
+  free_empty : (byte : ℕ) (e : Option T) → Agrees byte e → 128 ≤ byte → byte ≡ 255 → (slot_of byte e ≡ empty)
+      × (e ≡ None)
   free_empty byte (Some entry) p q h = absurd (omega arith)
   free_empty byte None p q h = (rw h, refl)
 
   -- and it has no entry
-  pub free_slot : (byte : ℕ) (e : Option T) → Agrees byte e → 128 ≤ byte → ((slot_of byte e ≡ empty) ⊎ (slot_of byte e ≡ deleted)) × (e ≡ None)
+  pub free_slot : (byte : ℕ) (e : Option T) → Agrees byte e → 128 ≤ byte
+      → ((slot_of byte e ≡ empty) ⊎ (slot_of byte e ≡ deleted)) × (e ≡ None)
   free_slot byte (Some entry) p q = absurd (omega arith)
   free_slot byte None (inl p) q = (inr (rw p), refl)
   free_slot byte None (inr p) q = (inl (rw p), refl)
 
-  free_deleted : (byte : ℕ) (e : Option T) → Agrees byte e → 128 ≤ byte → byte ≢ 255 → (slot_of byte e ≡ deleted) × (e ≡ None)
+  free_deleted : (byte : ℕ) (e : Option T) → Agrees byte e → 128 ≤ byte → byte ≢ 255 → (slot_of byte e ≡ deleted)
+      × (e ≡ None)
   free_deleted byte (Some entry) p q h = absurd (omega arith)
   free_deleted byte None (inl p) q h = (rw p, refl)
   free_deleted byte None (inr p) q h = absurd (h p)
@@ -36,22 +39,27 @@ module _ {T : Type 0} where
   abbrev pub Spends : Slot T → ℕ → ℕ → Type 0
   Spends s room spent = ((s ≡ empty) × (0 < room) × (spent ≡ 1)) ⊎ ((s ≡ deleted) × (spent ≡ 0))
 
-  free_of : (s : Slot T) (room spent : ℕ) → Spends s room spent → (is_full s ≡ false) × (cond (is_used s) 1 0 + spent ≡ 1) × (spent ≤ room)
+  free_of : (s : Slot T) (room spent : ℕ) → Spends s room spent → (is_full s ≡ false)
+      × (cond (is_used s) 1 0 + spent ≡ 1) × (spent ≤ room)
   free_of s room spent (inl w) = rw w.0 (refl, omega (arith, w.2), omega (arith, w.1, w.2))
   free_of s room spent (inr w) = rw w.0 (refl, omega (arith, w.1), omega (arith, w.1))
 
 -- some byte is that of an empty bucket
-pub some_empty_byte : {T : Type 0} (control : List ℕ) (entries : List (Option T)) (r : ℕ) → IsValid control entries r → 0 < length entries → (b : ℕ) × (b < length entries) × (get_or control b 0 ≡ 255)
+pub some_empty_byte : {T : Type 0} (control : List ℕ) (entries : List (Option T)) (r : ℕ) → IsValid control entries r
+    → 0 < length entries → (b : ℕ) × (b < length entries) × (get_or control b 0 ≡ 255)
 some_empty_byte control entries r valid pos =
     let w = empty_there control entries r valid pos in
     let within : w.0 < length entries = omega (arith, w.1, length-marks_by control entries valid.laid_out) in
     (w.0, within, byte_from_mark control entries valid.laid_out w.0 within w.2)
 
 -- and so is it that of a free one
-pub some_free_byte : {T : Type 0} (control : List ℕ) (entries : List (Option T)) (r : ℕ) → IsValid control entries r → 0 < length entries → (b : ℕ) × (b < length entries) × (128 ≤ get_or control b 0)
-some_free_byte control entries r valid pos = let w = some_empty_byte control entries r valid pos in (w.0, w.1, omega (arith, w.2))
+pub some_free_byte : {T : Type 0} (control : List ℕ) (entries : List (Option T)) (r : ℕ) → IsValid control entries r
+    → 0 < length entries → (b : ℕ) × (b < length entries) × (128 ≤ get_or control b 0)
+some_free_byte control entries r valid pos = let w = some_empty_byte control entries r valid pos in
+    (w.0, w.1, omega (arith, w.2))
 
-module _ {T : Type 0} (control : List ℕ) (entries : List (Option T)) (r : ℕ) (valid : IsValid control entries r) (hash b n : ℕ) (n_is : n ≡ length entries) (pos : 0 < n)
+module _ {T : Type 0} (control : List ℕ) (entries : List (Option T)) (r : ℕ) (valid : IsValid control entries r)
+    (hash b n : ℕ) (n_is : n ≡ length entries) (pos : 0 < n)
     (first : IsFirstFreeByte control n hash b) where
   byte_first : IsFirstFreeByte control (length entries) hash b
   byte_first = subst (λ k. IsFirstFreeByte control k hash b) n_is first
@@ -66,12 +74,17 @@ module _ {T : Type 0} (control : List ℕ) (entries : List (Option T)) (r : ℕ)
         step = byte_first.step;
         there = rw same byte_first.there;
         free_there = is_full-byte control entries valid.laid_out b place_within ∙ le-ltb _ 128 byte_first.free_there;
-        full_before = λ before p. rw same (is_full-byte control entries valid.laid_out _ (probed-lt (length entries) hash before (omega arith)) ∙ lt-ltb _ 128 (byte_first.full_before before p));
+        full_before = λ before p. rw same
+            (is_full-byte control entries valid.laid_out _ (probed-lt (length entries) hash before (omega arith))
+            ∙ lt-ltb _ 128 (byte_first.full_before before p));
       }
 
   -- its bucket is empty or deleted, and has no entry
-  pub place_free : ((bucket_at (slots_of control entries) b ≡ empty) ⊎ (bucket_at (slots_of control entries) b ≡ deleted)) × (get_or entries b None ≡ None)
-  place_free = rw (bucket_at-laid_out control entries valid.laid_out b place_within) (free_slot _ _ (valid.laid_out.agrees b place_within) byte_first.free_there)
+  pub place_free :
+      ((bucket_at (slots_of control entries) b ≡ empty) ⊎ (bucket_at (slots_of control entries) b ≡ deleted))
+      × (get_or entries b None ≡ None)
+  place_free = rw (bucket_at-laid_out control entries valid.laid_out b place_within)
+      (free_slot _ _ (valid.laid_out.agrees b place_within) byte_first.free_there)
 
   pub place_none : get_or entries b None ≡ None
   place_none = place_free.1
@@ -87,10 +100,12 @@ module _ {T : Type 0} (control : List ℕ) (entries : List (Option T)) (r : ℕ)
         let w = free_deleted _ _ (valid.laid_out.agrees b place_within) byte_first.free_there (λ e. h (read_is ∙ e)) in
         (bucket_at-laid_out control entries valid.laid_out b place_within ∙ w.0, w.1)
 
-    pub place_spends : bool_byte (nat_eq read 255) ≤ r → Spends (bucket_at (slots_of control entries) b) r (bool_byte (nat_eq read 255))
+    pub place_spends : bool_byte (nat_eq read 255) ≤ r
+        → Spends (bucket_at (slots_of control entries) b) r (bool_byte (nat_eq read 255))
     place_spends enough =
         elim (cases_eq read 255) [
-          | inl h ↦ let one : bool_byte (nat_eq read 255) ≡ 1 = ap bool_byte (eq-eqb read 255 h) in inl ((place_empty h).0, omega (arith, one, enough), one)
+          | inl h ↦ let one : bool_byte (nat_eq read 255) ≡ 1 = ap bool_byte (eq-eqb read 255 h) in
+              inl ((place_empty h).0, omega (arith, one, enough), one)
           | inr h ↦ inr ((place_deleted h).0, ap bool_byte (ne_eqb read 255 h))
         ]
 
@@ -98,11 +113,14 @@ module _ {T : Type 0} (control : List ℕ) (entries : List (Option T)) (r : ℕ)
     pub no_place_left : r < bool_byte (nat_eq read 255) → (r ≡ 0) × (bucket_at (slots_of control entries) b ≡ empty)
     no_place_left less =
         elim (cases_eq read 255) [
-          | inl h ↦ let one : bool_byte (nat_eq read 255) ≡ 1 = ap bool_byte (eq-eqb read 255 h) in (omega (arith, one, less), (place_empty h).0)
-          | inr h ↦ let none : bool_byte (nat_eq read 255) ≡ 0 = ap bool_byte (ne_eqb read 255 h) in absurd (omega (arith, none, less))
+          | inl h ↦ let one : bool_byte (nat_eq read 255) ≡ 1 = ap bool_byte (eq-eqb read 255 h) in
+              (omega (arith, one, less), (place_empty h).0)
+          | inr h ↦ let none : bool_byte (nat_eq read 255) ≡ 0 = ap bool_byte (ne_eqb read 255 h) in
+              absurd (omega (arith, none, less))
         ]
 
-module _ {T : Type 0} {control : List ℕ} {entries : List (Option T)} {r spent : ℕ} (valid : IsValid control entries r) (b : ℕ)
+module _ {T : Type 0} {control : List ℕ} {entries : List (Option T)} {r spent : ℕ} (valid : IsValid control entries r)
+    (b : ℕ)
     (spends : Spends (bucket_at (slots_of control entries) b) r spent) where
   pub MayFill-from : MayFill (marks_by control entries) b
   MayFill-from = elim spends [
@@ -113,24 +131,30 @@ module _ {T : Type 0} {control : List ℕ} {entries : List (Option T)} {r spent 
   -- the room that it takes is what the bucket counted
   room_spent : room_at (marks_by control entries) b ≡ spent
   room_spent = elim spends [
-    | inl w ↦ ap (λ m. cond {A = ℕ} (is_used m) 0 1) (bucket_at-marks_of (slots_of control entries) b ∙ ap mark_of w.0) ∙ sym w.2
-    | inr w ↦ ap (λ m. cond {A = ℕ} (is_used m) 0 1) (bucket_at-marks_of (slots_of control entries) b ∙ ap mark_of w.0) ∙ sym w.1
+    | inl w ↦ ap (λ m. cond {A = ℕ} (is_used m) 0 1) (bucket_at-marks_of (slots_of control entries) b ∙ ap mark_of w.0)
+        ∙ sym w.2
+    | inr w ↦ ap (λ m. cond {A = ℕ} (is_used m) 0 1) (bucket_at-marks_of (slots_of control entries) b ∙ ap mark_of w.0)
+        ∙ sym w.1
   ]
 
   module _ (tag : ℕ) (entry : T) (within : b < length entries) (tag_fits : tag < 128) where
     pub IsValid-placed : IsValid (written control entries b tag) (set entries b (Some entry)) (r - spent)
     IsValid-placed =
         let frees = free_of (bucket_at (slots_of control entries) b) r spent spends in
-        IsValid-written control entries r valid b tag (Some entry) within tag_fits (r - spent) (omega (arith, frees.1, frees.2))
+        IsValid-written control entries r valid b tag (Some entry) within tag_fits (r - spent)
+        (omega (arith, frees.1, frees.2))
         (λ small e. full_not_deleted {A = Tagged T} (full (record { tag = tag; entry = entry })) refl e)
 
-    pub entry_count-placed : entry_count (slots_of (written control entries b tag) (set entries b (Some entry))) ≡ entry_count (slots_of control entries) + 1
+    pub entry_count-placed : entry_count (slots_of (written control entries b tag) (set entries b (Some entry)))
+        ≡ entry_count (slots_of control entries) + 1
     entry_count-placed =
         let frees = free_of (bucket_at (slots_of control entries) b) r spent spends in
-        let none : ◌≡◌ {A = ℕ} (cond (is_full (bucket_at (slots_of control entries) b)) 1 0) 0 = ap (λ t. cond {A = ℕ} t 1 0) frees.0 in
+        let none : ◌≡◌ {A = ℕ} (cond (is_full (bucket_at (slots_of control entries) b)) 1 0) 0 =
+        ap (λ t. cond {A = ℕ} t 1 0) frees.0 in
         omega (arith, none, entry_count-written control entries r valid b tag (Some entry) within tag_fits)
 
-    pub room-placed : room (marks_by (written control entries b tag) (set entries b (Some entry))) + room_at (marks_by control entries) b ≡ room (marks_by control entries)
+    pub room-placed : room (marks_by (written control entries b tag) (set entries b (Some entry))) + room_at
+        (marks_by control entries) b ≡ room (marks_by control entries)
     room-placed =
         let frees = free_of (bucket_at (slots_of control entries) b) r spent spends in
         omega (arith, frees.2, room_spent, room_by _ _ _ IsValid-placed, room_by control entries r valid)

@@ -14,7 +14,8 @@ use Rattle.group_table.proofs.SearchLemmas.{held_by}
 use Rattle.group_table.proofs.FitsLemmas.{one_held}
 use Rattle.group_table.proofs.WriteLemmas.{written-same, slots_of-written, IsValid-written, entry_count-written}
 
-module _ {T : Type 0} (control : List ℕ) (entries : List (Option T)) (room : ℕ) (valid : IsValid control entries room) (b : ℕ) (there : IsFull (slots_of control entries) b) (w : T) where
+module _ {T : Type 0} (control : List ℕ) (entries : List (Option T)) (room : ℕ) (valid : IsValid control entries room)
+    (b : ℕ) (there : IsFull (slots_of control entries) b) (w : T) where
   within : b < length entries
   within = full_within control entries valid.laid_out b there
 
@@ -25,23 +26,30 @@ module _ {T : Type 0} (control : List ℕ) (entries : List (Option T)) (room : �
   same_bytes : written control entries b (get_or control b 0) ≡ control
   same_bytes = written-same control entries valid.laid_out b within
 
-  pub slots_of-refilled : slots_of control (set entries b (Some w)) ≡ set (slots_of control entries) b (refilled (bucket_at (slots_of control entries) b) w)
+  pub slots_of-refilled : slots_of control (set entries b (Some w))
+      ≡ set (slots_of control entries) b (refilled (bucket_at (slots_of control entries) b) w)
   slots_of-refilled =
       let e = full_entry control entries valid.laid_out b there in
-      let was = bucket_at-laid_out control entries valid.laid_out b within ∙ ap (λ o. slot_of (get_or control b 0) o) e.1 in
-      ap (λ all. slots_of all (set entries b (Some w))) (sym same_bytes) ∙ slots_of-written control entries b (get_or control b 0) (Some w)
+      let was = bucket_at-laid_out control entries valid.laid_out b within
+      ∙ ap (λ o. slot_of (get_or control b 0) o) e.1 in
+      ap (λ all. slots_of all (set entries b (Some w))) (sym same_bytes)
+      ∙ slots_of-written control entries b (get_or control b 0) (Some w)
       ∙ ap (λ s. set (slots_of control entries) b (refilled s w)) (sym was)
 
   pub IsValid-refilled : IsValid control (set entries b (Some w)) room
   IsValid-refilled =
-      let one : ◌≡◌ {A = ℕ} (cond (is_used (bucket_at (slots_of control entries) b)) 1 0) 1 = ap (λ t. cond {A = ℕ} t 1 0) (used_from_full _ there) in
+      let one : ◌≡◌ {A = ℕ} (cond (is_used (bucket_at (slots_of control entries) b)) 1 0) 1 =
+      ap (λ t. cond {A = ℕ} t 1 0) (used_from_full _ there) in
       subst (λ all. IsValid all (set entries b (Some w)) room) same_bytes
-      (IsValid-written control entries room valid b (get_or control b 0) (Some w) within byte_below room (omega (arith, one))
+      (IsValid-written control entries room valid b (get_or control b 0) (Some w) within byte_below room
+      (omega (arith, one))
       (λ small e. full_not_deleted (slot_of (get_or control b 0) (Some w)) refl e))
 
-  pub entry_count-refilled : entry_count (slots_of control (set entries b (Some w))) ≡ entry_count (slots_of control entries)
+  pub entry_count-refilled : entry_count (slots_of control (set entries b (Some w)))
+      ≡ entry_count (slots_of control entries)
   entry_count-refilled =
-      let one : ◌≡◌ {A = ℕ} (cond (is_full (bucket_at (slots_of control entries) b)) 1 0) 1 = ap (λ t. cond {A = ℕ} t 1 0) there in
+      let one : ◌≡◌ {A = ℕ} (cond (is_full (bucket_at (slots_of control entries) b)) 1 0) 1 =
+      ap (λ t. cond {A = ℕ} t 1 0) there in
       let count = entry_count-written control entries room valid b (get_or control b 0) (Some w) within byte_below in
       ap (λ all. entry_count (slots_of all (set entries b (Some w)))) (sym same_bytes) ∙ omega (arith, one, count)
 
@@ -51,14 +59,19 @@ entry_of-refilled s w there = let held = held_by s there in ap (λ t. entry_of (
 
 module _ {T : Type 0} (slots : List (Slot T)) (b : ℕ) (w : T) where
   pub entry_at-refilled : IsFull slots b → entry_at (set slots b (refilled (bucket_at slots b) w)) b ≡ Some w
-  entry_at-refilled there = ap entry_of (bucket_at-set_same slots b b _ refl (full_lt slots b there)) ∙ entry_of-refilled (bucket_at slots b) w there
+  entry_at-refilled there =
+      ap entry_of (bucket_at-set_same slots b b _ refl (full_lt slots b there))
+      ∙ entry_of-refilled (bucket_at slots b) w there
 
-  pub entry_at-refilled_other : (k : ℕ) → k ≢ b → entry_at (set slots b (refilled (bucket_at slots b) w)) k ≡ entry_at slots k
+  pub entry_at-refilled_other : (k : ℕ) → k ≢ b
+      → entry_at (set slots b (refilled (bucket_at slots b) w)) k ≡ entry_at slots k
   entry_at-refilled_other k other = ap entry_of (bucket_at-set_other slots b k _ other)
 
 -- a write of an entry leaves the marks
-pub marks_of-refilled : {T : Type 0} (slots : List (Slot T)) (b : ℕ) (w : T) → marks_of (set slots b (refilled (bucket_at slots b) w)) ≡ marks_of slots
-marks_of-refilled {T} slots b w = map-set_same mark_of slots b (refilled (bucket_at slots b) w) empty (same (bucket_at slots b))
+pub marks_of-refilled : {T : Type 0} (slots : List (Slot T)) (b : ℕ) (w : T)
+    → marks_of (set slots b (refilled (bucket_at slots b) w)) ≡ marks_of slots
+marks_of-refilled {T} slots b w =
+    map-set_same mark_of slots b (refilled (bucket_at slots b) w) empty (same (bucket_at slots b))
   where
     same : (s : Slot T) → mark_of (refilled s w) ≡ mark_of s
     same empty = refl
@@ -66,7 +79,8 @@ marks_of-refilled {T} slots b w = map-set_same mark_of slots b (refilled (bucket
     same (full held) = refl
 
 -- and so the hashes that fit
-pub Fits-refilled : {T : Type 0} (slots : List (Slot T)) (b : ℕ) (w : T) (hash_of : ℕ → ℕ) → IsFull slots b → Fits slots hash_of → Fits (set slots b (refilled (bucket_at slots b) w)) hash_of
+pub Fits-refilled : {T : Type 0} (slots : List (Slot T)) (b : ℕ) (w : T) (hash_of : ℕ → ℕ) → IsFull slots b
+    → Fits slots hash_of → Fits (set slots b (refilled (bucket_at slots b) w)) hash_of
 Fits-refilled {T} slots b w hash_of there fits =
     let was = held_by (bucket_at slots b) there in
     let now : Slot T = full (record was.0 { entry = w }) in
@@ -74,7 +88,10 @@ Fits-refilled {T} slots b w hash_of there fits =
     let p = full_lt slots b there in
     rw is record {
       tags = λ k held e. elim (cases_eq k b) [
-        | inl h ↦ rw h (sym (ap (λ x. x.tag) (one_held now (record was.0 { entry = w }) held refl (sym (bucket_at-set_same slots b k now h p) ∙ e))) ∙ fits.tags b was.0 was.1)
+        | inl h ↦ rw h (sym
+            (ap (λ x. x.tag)
+            (one_held now (record was.0 { entry = w }) held refl (sym (bucket_at-set_same slots b k now h p) ∙ e)))
+            ∙ fits.tags b was.0 was.1)
         | inr h ↦ fits.tags k held (sym (bucket_at-set_other slots b k now h) ∙ e)
       ];
       reached = λ k full_there.

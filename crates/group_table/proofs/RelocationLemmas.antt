@@ -18,10 +18,20 @@ use Rattle.group_table.proofs.SearchLemmas.{full_by_entry, held_by}
 use Rattle.group_table.proofs.LayoutLemmas.{bucket_at-laid_out, length-laid_out, entries_within, is_full-test}
 
 -- with no deleted bucket, room and entries are the full capacity
-pub room-none_deleted : {T : Type 0} (slots : List (Slot T)) → count_by is_deleted slots ≡ 0 → entry_count slots ≤ full_capacity (length slots)
+pub room-none_deleted : {T : Type 0} (slots : List (Slot T)) → count_by is_deleted slots ≡ 0
+    → entry_count slots ≤ full_capacity (length slots)
     → room (marks_of slots) + entry_count slots ≡ full_capacity (length slots)
 room-none_deleted slots none within =
-    omega (arith, none, within, room_is (marks_of slots), ap full_capacity (length-marks_of slots), used_count-marks_of slots, used_count-split slots)
+    omega (
+      arith,
+      none,
+      within,
+      room_is (marks_of slots),
+      ap full_capacity
+          (length-marks_of slots),
+      used_count-marks_of slots,
+      used_count-split slots,
+    )
 
 module _ {T : Type 0} where
   entry_of-slot_of : (byte : ℕ) (place : Option T) → entry_of (slot_of byte place) ≡ place
@@ -36,11 +46,13 @@ module _ {T : Type 0} where
   is_full-by_place byte (Some entry) = refl
   is_full-by_place byte None = is_full-test T (nat_eq byte 128)
 
-  entry_count-by_places : (bytes : List ℕ) (places : List (Option T)) → length places ≤ length bytes → entry_count (slots_of bytes places) ≡ count_by is_some places
+  entry_count-by_places : (bytes : List ℕ) (places : List (Option T)) → length places ≤ length bytes
+      → entry_count (slots_of bytes places) ≡ count_by is_some places
   entry_count-by_places bytes [] p = refl
   entry_count-by_places [] (place ∷ places) p = absurd (omega arith)
   entry_count-by_places (byte ∷ bytes) (place ∷ places) p =
-      let same : ◌≡◌ {A = ℕ} (cond (is_full (slot_of byte place)) 1 0) (cond (is_some place) 1 0) = ap (λ t. cond {A = ℕ} t 1 0) (is_full-by_place byte place) in
+      let same : ◌≡◌ {A = ℕ} (cond (is_full (slot_of byte place)) 1 0) (cond (is_some place) 1 0) =
+      ap (λ t. cond {A = ℕ} t 1 0) (is_full-by_place byte place) in
       omega (
         arith,
         same,
@@ -55,19 +67,24 @@ module _ {T : Type 0} (control : List ℕ) (entries : List (Option T)) (laid_out
 
   pub entry_at-laid_out : (b : ℕ) → entry_at (slots_of control entries) b ≡ place_at entries b
   entry_at-laid_out b = elim (dec_lt b (length entries)) [
-    | yes p ↦ ap entry_of (bucket_at-laid_out control entries laid_out b p) ∙ entry_of-slot_of (get_or control b 0) (get_or entries b None)
-    | no p ↦ ap entry_of (bucket_at-past (slots_of control entries) b (omega (arith, length-laid_out control entries laid_out))) ∙ sym (get_or_past entries b None (omega arith))
+    | yes p ↦ ap entry_of (bucket_at-laid_out control entries laid_out b p)
+        ∙ entry_of-slot_of (get_or control b 0) (get_or entries b None)
+    | no p ↦ ap entry_of
+        (bucket_at-past (slots_of control entries) b (omega (arith, length-laid_out control entries laid_out)))
+        ∙ sym (get_or_past entries b None (omega arith))
   ]
 
   -- a full bucket has an entry in its place
   place_full : (b : ℕ) → IsFull (slots_of control entries) b → (entry : T) × (place_at entries b ≡ Some entry)
-  place_full b there = let w = held_by (bucket_at (slots_of control entries) b) there in (w.0.entry, sym (entry_at-laid_out b) ∙ ap entry_of w.1)
+  place_full b there = let w = held_by (bucket_at (slots_of control entries) b) there in
+      (w.0.entry, sym (entry_at-laid_out b) ∙ ap entry_of w.1)
 
   full_place : (b : ℕ) (entry : T) → place_at entries b ≡ Some entry → IsFull (slots_of control entries) b
   full_place b entry e = full_by_entry (bucket_at (slots_of control entries) b) entry (entry_at-laid_out b ∙ e)
 
   module _ {N : Type 0} (number : N → ℕ) (none : N) (new : List (Slot T)) (links : List N) where
-    pub IsRenumbering-moves : length links ≡ length entries → Moves number none (place_at entries) new links → IsRenumbering number none (slots_of control entries) new links
+    pub IsRenumbering-moves : length links ≡ length entries → Moves number none (place_at entries) new links
+        → IsRenumbering number none (slots_of control entries) new links
     IsRenumbering-moves one_each moves = record {
       one_each = one_each ∙ sym (length-laid_out control entries laid_out);
       moved = λ b entry e. moves.moved b entry (sym (entry_at-laid_out b) ∙ e);
@@ -76,9 +93,12 @@ module _ {T : Type 0} (control : List ℕ) (entries : List (Option T)) (laid_out
       onto = λ c there. let w = moves.onto c there in (w.0, full_place w.0 w.1 w.2, w.3);
     }
 
-    pub KeepsHashes-moves : (hash_of : ℕ → ℕ) → KeepsMovedHashes number none (place_at entries) new links hash_of → KeepsHashes number none (slots_of control entries) new links hash_of
-    KeepsHashes-moves hash_of keeps moved_hash_of gives = keeps moved_hash_of (λ b entry e. gives b (full_place b entry e))
+    pub KeepsHashes-moves : (hash_of : ℕ → ℕ) → KeepsMovedHashes number none (place_at entries) new links hash_of
+        → KeepsHashes number none (slots_of control entries) new links hash_of
+    KeepsHashes-moves hash_of keeps moved_hash_of gives =
+        keeps moved_hash_of (λ b entry e. gives b (full_place b entry e))
 
-  pub GivesMovedHashes-from : {H : Type 0} (closure : Shared H (Bor T × Unit {0}) ℕ) (f : H) (hash_of : ℕ → ℕ) → GivesHashes closure f (slots_of control entries) hash_of
+  pub GivesMovedHashes-from : {H : Type 0} (closure : Shared H (Bor T × Unit {0}) ℕ) (f : H) (hash_of : ℕ → ℕ)
+      → GivesHashes closure f (slots_of control entries) hash_of
       → GivesMovedHashes closure f entries hash_of
   GivesMovedHashes-from closure f hash_of gives b hash entry e = gives b hash entry (entry_at-laid_out b ∙ e)

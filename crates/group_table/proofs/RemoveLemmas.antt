@@ -22,15 +22,18 @@ bool_byte-le true = omega arith
 bool_byte-le false = omega arith
 
 -- up to 16 buckets, 16 neighbours are all, and one of them is empty
-hemmed_in_small : (marks : List Mark) (b : ℕ) → IsHemmedIn marks b → length marks ≤ 16 → count_by is_used marks < length marks → ⊥
+hemmed_in_small : (marks : List Mark) (b : ℕ) → IsHemmedIn marks b → length marks ≤ 16
+    → count_by is_used marks < length marks → ⊥
 hemmed_in_small marks b hemmed p q =
     let w = some_empty marks q in
     let pos : 0 < length marks = omega arith in
     let d = distance (length marks) (hemmed.start % length marks) w.0 (mod-lt hemmed.start pos) w.1 in
     hemmed.none_empty d.0 (omega (arith, d.1)) (rw (sym (mod-add-mod hemmed.start (length marks) d.0) ∙ d.2) w.2)
 
-module _ {T : Type 0} (control : List ℕ) (entries : List (Option T)) (laid_out : IsLaidOut control entries) (b : ℕ) (pos : 0 < length entries) where
-  HasEmptyNeighbours-from_bytes : EmptyNeighbourBytes control (length entries) b → HasEmptyNeighbours (marks_by control entries) b
+module _ {T : Type 0} (control : List ℕ) (entries : List (Option T)) (laid_out : IsLaidOut control entries) (b : ℕ)
+    (pos : 0 < length entries) where
+  HasEmptyNeighbours-from_bytes : EmptyNeighbourBytes control (length entries) b
+      → HasEmptyNeighbours (marks_by control entries) b
   HasEmptyNeighbours-from_bytes h start at p e =
       let same = length-marks_by control entries laid_out in
       let w = h start at p (rw same at e) in
@@ -44,10 +47,12 @@ module _ {T : Type 0} (control : List ℕ) (entries : List (Option T)) (laid_out
         at = h.at;
         within = h.within;
         there = rw same h.there;
-        none_empty = λ lane p e. h.none_empty lane p (byte_from_mark control entries laid_out _ (mod-lt (h.start + lane) pos) (rw same at e));
+        none_empty = λ lane p e. h.none_empty lane p
+            (byte_from_mark control entries laid_out _ (mod-lt (h.start + lane) pos) (rw same at e));
       }
 
-module _ {T : Type 0} (control : List ℕ) (entries : List (Option T)) (r : ℕ) (valid : IsValid control entries r) (b : ℕ) (there : IsFull (slots_of control entries) b) where
+module _ {T : Type 0} (control : List ℕ) (entries : List (Option T)) (r : ℕ) (valid : IsValid control entries r) (b : ℕ)
+    (there : IsFull (slots_of control entries) b) where
   within : b < length entries
   within = full_within control entries valid.laid_out b there
 
@@ -60,25 +65,36 @@ module _ {T : Type 0} (control : List ℕ) (entries : List (Option T)) (r : ℕ)
   -- what the fields are after a removal
   pub record Removed (byte gained : ℕ) : Type 0 where
     pub is_valid : IsValid (written control entries b byte) (set entries b None) (r + gained)
-    pub count : entry_count (slots_of (written control entries b byte) (set entries b None)) + 1 ≡ entry_count (slots_of control entries)
+    pub count : entry_count (slots_of (written control entries b byte) (set entries b None)) + 1
+        ≡ entry_count (slots_of control entries)
     pub removes : Removes (slots_of control entries) (slots_of (written control entries b byte) (set entries b None)) b
     pub gained_there : room_at (marks_by (written control entries b byte) (set entries b None)) b ≡ gained
 
   -- what the bucket counts once it is written
-  counts_as : (byte : ℕ) (s : Slot T) → slot_of byte None ≡ s → room_at (marks_by (written control entries b byte) (set entries b None)) b ≡ cond (is_used s) 0 1
+  counts_as : (byte : ℕ) (s : Slot T) → slot_of byte None ≡ s
+      → room_at (marks_by (written control entries b byte) (set entries b None)) b ≡ cond (is_used s) 0 1
   counts_as byte s is =
-      let in_slots : b < length (slots_of control entries) = omega (arith, within, length-laid_out control entries valid.laid_out) in
+      let in_slots : b < length (slots_of control entries) =
+      omega (arith, within, length-laid_out control entries valid.laid_out) in
       let new = slots_of (written control entries b byte) (set entries b None) in
       let there_now : bucket_at new b ≡ s =
-      ap (λ xs. bucket_at xs b) (slots_of-written control entries b byte None) ∙ bucket_at-set_same (slots_of control entries) b b (slot_of byte None) refl in_slots ∙ is in
-      ap (λ m. cond {A = ℕ} (is_used m) 0 1) (bucket_at-marks_of new b) ∙ ap (λ t. cond {A = ℕ} t 0 1) (mark_of-used (bucket_at new b) ∙ ap is_used there_now)
+      ap (λ xs. bucket_at xs b) (slots_of-written control entries b byte None)
+      ∙ bucket_at-set_same (slots_of control entries) b b (slot_of byte None) refl in_slots ∙ is in
+      ap (λ m. cond {A = ℕ} (is_used m) 0 1) (bucket_at-marks_of new b)
+      ∙ ap (λ t. cond {A = ℕ} t 0 1) (mark_of-used (bucket_at new b) ∙ ap is_used there_now)
 
-  pub removed : (gives_room : Bool) → MatchBool gives_room (EmptyNeighbourBytes control (length entries) b) (HemmedInBytes control (length entries) b)
+  pub removed : (gives_room : Bool) → MatchBool gives_room (EmptyNeighbourBytes control (length entries) b)
+      (HemmedInBytes control (length entries) b)
       → Removed (cond gives_room 255 128) (bool_byte gives_room)
   removed true h = record {
-    is_valid = IsValid-written control entries r valid b 255 None within (inr refl) (r + 1) (omega (arith, one_used)) (λ small e. empty_not_deleted {A = Tagged T} empty refl e);
+    is_valid = IsValid-written control entries r valid b 255 None within (inr refl) (r + 1) (omega (arith, one_used))
+        (λ small e. empty_not_deleted {A = Tagged T} empty refl e);
     count = omega (arith, one_full, entry_count-written control entries r valid b 255 None within (inr refl));
-    removes = inl (HasEmptyNeighbours-from_bytes control entries valid.laid_out b (omega (arith, within)) h, slots_of-written control entries b 255 None);
+    removes = inl (
+      HasEmptyNeighbours-from_bytes control entries valid.laid_out b
+          (omega (arith, within)) h,
+      slots_of-written control entries b 255 None,
+    );
     gained_there = counts_as 255 empty refl;
   }
   removed false h =
@@ -89,15 +105,19 @@ module _ {T : Type 0} (control : List ℕ) (entries : List (Option T)) (r : ℕ)
         is_valid =
             IsValid-written control entries r valid b 128 None within
             (inl refl) (r + 0) (omega (arith, one_used))
-            (λ small e. hemmed_in_small (marks_by control entries) b hemmed (omega (arith, same, small)) (omega (arith, same, used_lt control entries r valid pos)));
+            (λ small e. hemmed_in_small (marks_by control entries) b hemmed (omega (arith, same, small))
+            (omega (arith, same, used_lt control entries r valid pos)));
         count = omega (arith, one_full, entry_count-written control entries r valid b 128 None within (inl refl));
         removes = inr (hemmed, slots_of-written control entries b 128 None);
         gained_there = counts_as 128 deleted refl;
       }
 
   pub entry_count-pos : 0 < entry_count (slots_of control entries)
-  entry_count-pos = count_by-pos is_full (slots_of control entries) b (omega (arith, within, length-laid_out control entries valid.laid_out)) there
+  entry_count-pos =
+      count_by-pos is_full (slots_of control entries) b
+      (omega (arith, within, length-laid_out control entries valid.laid_out)) there
 
   pub room-removed : (byte gained : ℕ) → Removed byte gained
-      → room (marks_by (written control entries b byte) (set entries b None)) ≡ room (marks_by control entries) + room_at (marks_by (written control entries b byte) (set entries b None)) b
+      → room (marks_by (written control entries b byte) (set entries b None))
+      ≡ room (marks_by control entries) + room_at (marks_by (written control entries b byte) (set entries b None)) b
   room-removed byte gained w = omega (arith, w.gained_there, room_by _ _ _ w.is_valid, room_by control entries r valid)

@@ -7,7 +7,8 @@ use native.Mathlib.Decide.{dec_lt}
 use Rattle.group_table.specs.Group.{IsRunBefore, IsRunFrom, EmptyNeighbourBytes, HemmedInBytes}
 use Rattle.group_table.proofs.Circle.{distance}
 
-module _ (control : List ℕ) (n b before after : ℕ) (pos : 0 < n) (bound : b < n) (runs_before : IsRunBefore control n b before) (runs_from : IsRunFrom control n b after) where
+module _ (control : List ℕ) (n b before after : ℕ) (pos : 0 < n) (bound : b < n)
+    (runs_before : IsRunBefore control n b before) (runs_from : IsRunFrom control n b after) where
   -- a place and the way to the bucket
   way_to : (start lane steps at : ℕ) → lane + steps ≡ at → (start + at) % n ≡ b → ((start + lane) % n + steps) % n ≡ b
   way_to start lane steps at e h =
@@ -23,23 +24,34 @@ module _ (control : List ℕ) (n b before after : ℕ) (pos : 0 < n) (bound : b 
   empty_neighbours p start at q h =
       elim (dec_lt before at) [
         | yes r ↦
-            let lane = at - before - 1 in
-            (lane, omega arith, runs_before.ends (omega arith) ((start + lane) % n) (mod-lt _ pos) (way_to start lane (before + 1) at (omega arith) h))
-        | no r ↦ (at + after, omega arith, rw (way_on start at after (at + after) refl h) (runs_from.ends (omega arith)))
+            let lane = at - before - 1 in (
+              lane,
+              omega arith,
+              runs_before.ends (omega arith) ((start + lane) % n) (mod-lt _ pos)
+                  (way_to start lane (before + 1) at (omega arith) h),
+            )
+        | no r ↦ (
+          at + after,
+          omega arith,
+          rw (way_on start at after (at + after) refl h)
+              (runs_from.ends (omega arith)),
+        )
       ]
 
   -- 16 neighbours that begin so many places before the bucket
   hemmed_at : (at : ℕ) → at < 16 → at ≤ before → 16 ≤ at + after → HemmedInBytes control n b
   hemmed_at at p q r =
       let d = distance n (at % n) b (mod-lt at pos) bound in
-      let there : (d.0 + at) % n ≡ b = (let e : d.0 + at ≡ at + d.0 = omega arith in ap (λ k. k % n) e ∙ sym (mod-add-mod at n d.0) ∙ d.2) in
+      let there : (d.0 + at) % n ≡ b =
+      (let e : d.0 + at ≡ at + d.0 = omega arith in ap (λ k. k % n) e ∙ sym (mod-add-mod at n d.0) ∙ d.2) in
       record {
         start = d.0;
         at = at;
         within = p;
         there = there;
         none_empty = λ lane below. elim (dec_lt lane at) [
-          | yes s ↦ runs_before.used ((d.0 + lane) % n) (at - lane) (mod-lt _ pos) (omega arith) (omega arith) (way_to d.0 lane (at - lane) at (omega arith) there)
+          | yes s ↦ runs_before.used ((d.0 + lane) % n) (at - lane) (mod-lt _ pos) (omega arith) (omega arith)
+              (way_to d.0 lane (at - lane) at (omega arith) there)
           | no s ↦ rw (way_on d.0 at (lane - at) lane (omega arith) there) (runs_from.used (lane - at) (omega arith))
         ];
       }
@@ -58,7 +70,8 @@ module _ (control : List ℕ) (n b before after : ℕ) (pos : 0 < n) (bound : b 
       ]
 
   -- the sum of the two runs tells
-  pub run_tells : get_or control b 0 ≢ 255 → MatchBool (nat_lt (before + after) 16) (EmptyNeighbourBytes control n b) (HemmedInBytes control n b)
+  pub run_tells : get_or control b 0 ≢ 255 → MatchBool (nat_lt (before + after) 16) (EmptyNeighbourBytes control n b)
+      (HemmedInBytes control n b)
   run_tells used =
       elim (dec_lt (before + after) 16) [
         | yes p ↦ rw (lt-ltb (before + after) 16 p) (empty_neighbours p)

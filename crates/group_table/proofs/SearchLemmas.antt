@@ -20,7 +20,8 @@ use Rattle.group_table.specs.Search.{candidates, Answers, RefusesEach}
 use Rattle.group_table.specs.Group.{tagged_lanes}
 use Rattle.group_table.proofs.ProbeLemmas.{probed-lane, probed-apart}
 
-pub FoldsTo-append : {P A : Type 0} (R : P → A → P → Type 0) (p : P) (xs : List A) (q : P) (ys : List A) (u : P) → FoldsTo R p xs q → FoldsTo R q ys u → FoldsTo R p (xs ++ ys) u
+pub FoldsTo-append : {P A : Type 0} (R : P → A → P → Type 0) (p : P) (xs : List A) (q : P) (ys : List A) (u : P)
+    → FoldsTo R p xs q → FoldsTo R q ys u → FoldsTo R p (xs ++ ys) u
 FoldsTo-append R p [] q ys u f h = subst (λ s. FoldsTo R s ys u) (sym f) h
 FoldsTo-append R p (x ∷ xs) q ys u f h = (f.0, f.1, FoldsTo-append R f.0 xs q ys u f.2 h)
 
@@ -52,25 +53,30 @@ module _ {T : Type 0} (slots : List (Slot T)) (tag start : ℕ) where
   abbrev pub if_tagged : ℕ → List ℕ
   if_tagged b = cond (has_tag tag (bucket_at slots b)) (b ∷ []) []
 
-  tagged_lanes-next : (lanes : ℕ) → tagged_lanes slots tag start (lanes + 1) ≡ tagged_lanes slots tag start lanes ++ if_tagged ((start + lanes) % length slots)
+  tagged_lanes-next : (lanes : ℕ) → tagged_lanes slots tag start (lanes + 1)
+      ≡ tagged_lanes slots tag start lanes ++ if_tagged ((start + lanes) % length slots)
   tagged_lanes-next lanes = filter_of_map_range_with_len_more _ _ 0 lanes lanes (omega arith)
 
   -- a lane with no such tag adds nothing
-  pub tagged_lanes-skip : (lane : ℕ) → has_tag tag (bucket_at slots ((start + lane) % length slots)) ≡ false → tagged_lanes slots tag start (lane + 1) ≡ tagged_lanes slots tag start lane
+  pub tagged_lanes-skip : (lane : ℕ) → has_tag tag (bucket_at slots ((start + lane) % length slots)) ≡ false
+      → tagged_lanes slots tag start (lane + 1) ≡ tagged_lanes slots tag start lane
   tagged_lanes-skip lane h = tagged_lanes-next lane ∙ rw h (append-nil _)
 
   -- a lane with the tag adds its bucket
   pub tagged_lanes-more : (lane : ℕ) → has_tag tag (bucket_at slots ((start + lane) % length slots)) ≡ true
-      → tagged_lanes slots tag start (lane + 1) ≡ tagged_lanes slots tag start lane ++ (start + lane) % length slots ∷ []
+      → tagged_lanes slots tag start (lane + 1) ≡ tagged_lanes slots tag start lane ++
+      (start + lane) % length slots ∷ []
   tagged_lanes-more lane h = tagged_lanes-next lane ∙ rw h
 
 module _ {T : Type 0} (slots : List (Slot T)) (hash : ℕ) where
-  candidates-next : (steps : ℕ) → candidates slots hash (steps + 1) ≡ candidates slots hash steps ++ if_tagged slots (hash_tag hash) 0 (probed (length slots) hash steps)
+  candidates-next : (steps : ℕ) → candidates slots hash (steps + 1)
+      ≡ candidates slots hash steps ++ if_tagged slots (hash_tag hash) 0 (probed (length slots) hash steps)
   candidates-next steps = filter_of_map_range_with_len_more _ _ 0 steps steps (omega arith)
 
   -- the candidates of a group follow those of the groups before
   pub candidates-group : (s lanes : ℕ) → s % 16 ≡ 0 → lanes ≤ 16
-      → candidates slots hash (s + lanes) ≡ candidates slots hash s ++ tagged_lanes slots (hash_tag hash) (probed (length slots) hash s) lanes
+      → candidates slots hash (s + lanes) ≡ candidates slots hash s ++ tagged_lanes slots (hash_tag hash)
+      (probed (length slots) hash s) lanes
   candidates-group s zero whole p = rw add-zero (sym (append-nil _))
   candidates-group s (suc lanes) whole p =
       let e : s + suc lanes ≡ s + lanes + 1 = omega arith in
@@ -78,13 +84,18 @@ module _ {T : Type 0} (slots : List (Slot T)) (hash : ℕ) where
       let start = probed (length slots) hash s in
       ap (candidates slots hash) e
       ∙ candidates-next (s + lanes)
-      ∙ ap (λ b. candidates slots hash (s + lanes) ++ if_tagged slots (hash_tag hash) 0 b) (probed-lane (length slots) hash s lanes whole (omega arith))
-      ∙ ap (λ xs. xs ++ if_tagged slots (hash_tag hash) start ((start + lanes) % length slots)) (candidates-group s lanes whole (omega arith))
-      ∙ append_assoc (candidates slots hash s) (tagged_lanes slots (hash_tag hash) start lanes) (if_tagged slots (hash_tag hash) start ((start + lanes) % length slots))
-      ∙ ap (λ xs. candidates slots hash s ++ xs) (sym (tagged_lanes-next slots (hash_tag hash) start lanes) ∙ ap (tagged_lanes slots (hash_tag hash) start) f)
+      ∙ ap (λ b. candidates slots hash (s + lanes) ++ if_tagged slots (hash_tag hash) 0 b)
+      (probed-lane (length slots) hash s lanes whole (omega arith))
+      ∙ ap (λ xs. xs ++ if_tagged slots (hash_tag hash) start ((start + lanes) % length slots))
+      (candidates-group s lanes whole (omega arith))
+      ∙ append_assoc (candidates slots hash s) (tagged_lanes slots (hash_tag hash) start lanes)
+      (if_tagged slots (hash_tag hash) start ((start + lanes) % length slots))
+      ∙ ap (λ xs. candidates slots hash s ++ xs)
+      (sym (tagged_lanes-next slots (hash_tag hash) start lanes) ∙ ap (tagged_lanes slots (hash_tag hash) start) f)
 
   -- each candidate stands once
-  pub candidates-distinct : (steps : ℕ) → IsPowerFromFour (length slots) → steps ≤ length slots → AllPairs ◌≢◌ (candidates slots hash steps)
+  pub candidates-distinct : (steps : ℕ) → IsPowerFromFour (length slots) → steps ≤ length slots
+      → AllPairs ◌≢◌ (candidates slots hash steps)
   candidates-distinct steps power p =
       AllPairs-filter ◌≢◌ _ (map (probed (length slots) hash) (range_with_len 0 steps)) (λ i j d l m e.
       let in_list : j < steps = rw (length-map-range_with_len (probed (length slots) hash) 0 steps) at m in
@@ -94,30 +105,43 @@ module _ {T : Type 0} (slots : List (Slot T)) (hash : ℕ) where
       omega (arith, same))
 
   -- a bucket with the tag that is visited is among them
-  pub Contains-candidates : (s steps : ℕ) → s < steps → has_tag (hash_tag hash) (bucket_at slots (probed (length slots) hash s)) ≡ true
+  pub Contains-candidates : (s steps : ℕ) → s < steps
+      → has_tag (hash_tag hash) (bucket_at slots (probed (length slots) hash s)) ≡ true
       → Contains (candidates slots hash steps) (probed (length slots) hash s)
   Contains-candidates s zero p e = absurd (omega arith)
   Contains-candidates s (suc steps) p e =
-      subst (λ k. Contains (candidates slots hash k) (probed (length slots) hash s)) (add-one steps) (elim (dec_lt s steps) [
+      subst (λ k. Contains (candidates slots hash k) (probed (length slots) hash s)) (add-one steps)
+      (elim (dec_lt s steps) [
         | yes q ↦ rw (candidates-next steps) (Contains-append_left _ _ _ (Contains-candidates s steps q e))
-        | no q ↦ let same : s ≡ steps = omega arith in rw same (rw (candidates-next steps, rw same at e) (Contains-push _ _))
+        | no q ↦ let same : s ≡ steps = omega arith in
+            rw same (rw (candidates-next steps, rw same at e) (Contains-push _ _))
       ])
 
 module _ {T F : Type 0} (closure : Mut F (Bor T × Unit {0}) Bool) (slots : List (Slot T)) where
-  pub Answers-from_call : {f g : F} {b tag : ℕ} {answer result : Bool} (entry : T) {shown : Bor T} → bucket_at slots b ≡ full (record { tag = tag; entry = entry })
+  pub Answers-from_call : {f g : F} {b tag : ℕ} {answer result : Bool} (entry : T) {shown : Bor T}
+      → bucket_at slots b ≡ full (record { tag = tag; entry = entry })
       → shown.now ≡ entry → Called closure f (shown, tt) result g → result ≡ answer → Answers closure slots f b answer g
   Answers-from_call {f} {g} {b} {tag} {answer} {result} entry {shown} e shows called is =
-      record { entry = entry; there = ap entry_of e; called = record { shown = shown; shows = shows; called = subst (λ r. Called closure f (shown, tt) r g) is called } }
+      record {
+        entry = entry;
+        there = ap entry_of e;
+        called = record
+            { shown = shown; shows = shows; called = subst (λ r. Called closure f (shown, tt) r g) is called };
+      }
 
   module _ (tag start lane : ℕ) where
     -- one more refusal
-    pub RefusesEach-more : (f between g : F) (entry : T) → RefusesEach closure slots f (tagged_lanes slots tag start lane) between
+    pub RefusesEach-more : (f between g : F) (entry : T)
+        → RefusesEach closure slots f (tagged_lanes slots tag start lane) between
         → bucket_at slots ((start + lane) % length slots) ≡ full (record { tag = tag; entry = entry })
-        → Answers closure slots between ((start + lane) % length slots) false g → RefusesEach closure slots f (tagged_lanes slots tag start (lane + 1)) g
+        → Answers closure slots between ((start + lane) % length slots) false g
+        → RefusesEach closure slots f (tagged_lanes slots tag start (lane + 1)) g
     RefusesEach-more f between g entry before e asked =
-        rw (tagged_lanes-more slots tag start lane (has_tag-full _ _ tag e refl)) (FoldsTo-push _ f _ between _ g before asked)
+        rw (tagged_lanes-more slots tag start lane (has_tag-full _ _ tag e refl))
+        (FoldsTo-push _ f _ between _ g before asked)
 
     -- a lane with no such tag
     pub RefusesEach-skip : (f between : F) → RefusesEach closure slots f (tagged_lanes slots tag start lane) between
-        → has_tag tag (bucket_at slots ((start + lane) % length slots)) ≡ false → RefusesEach closure slots f (tagged_lanes slots tag start (lane + 1)) between
+        → has_tag tag (bucket_at slots ((start + lane) % length slots)) ≡ false
+        → RefusesEach closure slots f (tagged_lanes slots tag start (lane + 1)) between
     RefusesEach-skip f between before e = rw (tagged_lanes-skip slots tag start lane e) before

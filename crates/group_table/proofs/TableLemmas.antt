@@ -20,13 +20,15 @@ module _ {T : Type 0} (control : List ℕ) (entries : List (Option T)) (r : ℕ)
   -- the field is the room
   pub room_by : r ≡ room (marks_by control entries)
   room_by = let e = room_is (marks_by control entries) in let same = length-marks_by control entries valid.laid_out in
-      (let f : r ≡ full_capacity (length entries) - count_by is_used (marks_by control entries) = omega (arith, used_is) in f)
+      (let f : r ≡ full_capacity (length entries) - count_by is_used (marks_by control entries) = omega
+      (arith, used_is) in f)
       ∙ ap (λ n. full_capacity n - count_by is_used (marks_by control entries)) (sym same) ∙ sym e
 
   -- there is less room than 2 ^ 63
   pub room_within : r ≤ length entries
   room_within = elim valid.laid_out.counts [
-    | inl w ↦ let none : full_capacity (length entries) ≡ full_capacity 0 = ap full_capacity w.0 in omega (arith, used_is, none, full_capacity-small 0 (omega arith))
+    | inl w ↦ let none : full_capacity (length entries) ≡ full_capacity 0 = ap full_capacity w.0 in
+        omega (arith, used_is, none, full_capacity-small 0 (omega arith))
     | inr w ↦ omega (arith, used_is, full_capacity-lt (length entries) w.0)
   ]
 
@@ -37,14 +39,19 @@ module _ {T : Type 0} (control : List ℕ) (entries : List (Option T)) (r : ℕ)
   none_deleted_small small =
       deleted_count-marks_of (slots_of control entries) ∙ deleted_count-none (slots_of control entries) (λ b e.
       let none : length entries ≡ 0 = valid.none_deleted small b e in
-      empty_not_deleted _ (bucket_at-past (slots_of control entries) b (omega (arith, none, length-laid_out control entries valid.laid_out))) e)
+      empty_not_deleted _
+      (bucket_at-past (slots_of control entries) b
+      (omega (arith, none, length-laid_out control entries valid.laid_out))) e)
 
-  pub empty_there : 0 < length entries → (b : ℕ) × (b < length (marks_by control entries)) × (bucket_at (marks_by control entries) b ≡ empty)
-  empty_there pos = some_empty (marks_by control entries) (omega (arith, used_lt pos, length-marks_by control entries valid.laid_out))
+  pub empty_there : 0 < length entries → (b : ℕ) × (b < length (marks_by control entries))
+      × (bucket_at (marks_by control entries) b ≡ empty)
+  empty_there pos =
+      some_empty (marks_by control entries) (omega (arith, used_lt pos, length-marks_by control entries valid.laid_out))
 
   pub IsTable-by : IsTable (marks_by control entries)
   IsTable-by =
       let same = length-marks_by control entries valid.laid_out in
       IsTable-counted (marks_by control entries) (rw same bucket_count) (omega (arith, used_is, ap full_capacity same))
-      (elim valid.laid_out.counts [ inl w ↦ omega (arith, w.0, same) | inr w ↦ omega (arith, w.1, same, valid.laid_out.fits) ])
+      (elim valid.laid_out.counts
+      [ inl w ↦ omega (arith, w.0, same) | inr w ↦ omega (arith, w.1, same, valid.laid_out.fits) ])
       (λ small. none_deleted_small (omega (arith, small, same)))

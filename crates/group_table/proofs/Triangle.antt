@@ -15,14 +15,20 @@ mirrored t v g q h = let e = h.is in record { is = omega arith }
 mirror : (n t g q : ℕ) → t < n → IsTriangle n t g q → (v : ℕ) × (n + v < n + n) × IsTriangle n (n + v) g (q + 2 * v + 1)
 mirror n t g q p h =
     let v = n - t - 1 in
-    let e : t + v + 1 ≡ n = omega arith in
-    (v, omega arith, subst (λ k. IsTriangle k (k + v) g (q + 2 * v + 1)) e (mirrored t v g q (subst (λ k. IsTriangle k t g q) (sym e) h)))
+    let e : t + v + 1 ≡ n = omega arith in (
+      v,
+      omega arith,
+      subst (λ k. IsTriangle k (k + v) g (q + 2 * v + 1)) e
+          (mirrored t v g q (subst (λ k. IsTriangle k t g q) (sym e) h)),
+    )
 
 even_half : (n t g q r : ℕ) → q ≡ 2 * r → IsTriangle n t g q → IsTriangle (n + n) t g r
-even_half n t g q r e h = let d : t * (t + 1) ≡ 2 * (g + n * (2 * r)) = h.is ∙ ap (λ k. 2 * (g + n * k)) e in record { is = omega arith }
+even_half n t g q r e h = let d : t * (t + 1) ≡ 2 * (g + n * (2 * r)) = h.is ∙ ap (λ k. 2 * (g + n * k)) e in
+    record { is = omega arith }
 
 odd_half : (n t g q r : ℕ) → q ≡ 2 * r + 1 → IsTriangle n t g q → IsTriangle (n + n) t (g + n) r
-odd_half n t g q r e h = let d : t * (t + 1) ≡ 2 * (g + n * (2 * r + 1)) = h.is ∙ ap (λ k. 2 * (g + n * k)) e in record { is = omega arith }
+odd_half n t g q r e h = let d : t * (t + 1) ≡ 2 * (g + n * (2 * r + 1)) = h.is ∙ ap (λ k. 2 * (g + n * k)) e in
+    record { is = omega arith }
 
 parity : (q : ℕ) → ((r : ℕ) × (q ≡ 2 * r)) ⊎ ((r : ℕ) × (q ≡ 2 * r + 1))
 parity zero = inl (0, omega arith)
@@ -57,7 +63,8 @@ triangle_meets (suc m) g p =
     let e : 2 ^ suc m ≡ n + n = two-pow-succ m in
     subst (λ k. Meets k g) (sym e) (elim (dec_lt g n) [
       | yes q ↦ low n g (triangle_meets m g q)
-      | no q ↦ let d : g - n + n ≡ g = omega arith in subst (λ k. Meets (n + n) k) d (high n (g - n) (triangle_meets m (g - n) (omega arith)))
+      | no q ↦ let d : g - n + n ≡ g = omega arith in
+          subst (λ k. Meets (n + n) k) d (high n (g - n) (triangle_meets m (g - n) (omega arith)))
     ])
 
 -- what an odd number and another multiply to is a multiple of a power of two only if the other is
@@ -77,7 +84,8 @@ odd_divides (suc k) a b q e =
     halved z a b c g h = let i : (2 * a + 1) * (2 * c) ≡ 2 * z = ap (λ x. (2 * a + 1) * x) (sym g) ∙ h in omega arith
 
     odd_product : (z a b c : ℕ) → b ≡ 2 * c + 1 → (2 * a + 1) * b ≡ 2 * z → ⊥
-    odd_product z a b c g h = let i : (2 * a + 1) * (2 * c + 1) ≡ 2 * z = ap (λ x. (2 * a + 1) * x) (sym g) ∙ h in omega arith
+    odd_product z a b c g h = let i : (2 * a + 1) * (2 * c + 1) ≡ 2 * z = ap (λ x. (2 * a + 1) * x) (sym g) ∙ h in
+        omega arith
 
 no_multiple : (n b r : ℕ) → 0 < b → b < n → b ≡ n * r → ⊥
 no_multiple n b zero p q e = omega arith
@@ -102,7 +110,8 @@ ordered_apart : (m t u p q : ℕ) → t < u → u < 2 ^ m → t * (t + 1) + 2 ^ 
 ordered_apart m t u p q l b e =
     let d = u - t in
     let is : u ≡ t + d = omega arith in
-    let f : t * (t + 1) + 2 ^ suc m * p ≡ (t + d) * (t + d + 1) + 2 ^ suc m * q = e ∙ ap (λ z. z * (z + 1) + 2 ^ suc m * q) is in
+    let f : t * (t + 1) + 2 ^ suc m * p ≡ (t + d) * (t + d + 1) + 2 ^ suc m * q =
+    e ∙ ap (λ z. z * (z + 1) + 2 ^ suc m * q) is in
     let g : 2 ^ suc m * p ≡ d * (2 * t + d + 1) + 2 ^ suc m * q = expand (2 ^ suc m * p) (2 ^ suc m * q) t d f in
     let more : q ≤ p = no_less (2 ^ suc m) p q (d * (2 * t + d + 1)) (pos_product d (2 * t + d) (omega arith)) g in
     apart_by m t d (p - q) (omega arith) (omega arith) (differ (2 ^ suc m) p q (d * (2 * t + d + 1)) more g)
@@ -118,15 +127,18 @@ ordered_apart m t u p q l b e =
 
     no_less : (n p q z : ℕ) → 0 < z → n * p ≡ z + n * q → q ≤ p
     no_less n p q z pos h = elim (dec_lt p q) [
-      | yes s ↦ absurd (more_than n p (q - p) z pos (h ∙ ap (λ k. z + n * k) (let i : q ≡ p + (q - p) = omega arith in i)))
+      | yes s ↦ absurd
+          (more_than n p (q - p) z pos (h ∙ ap (λ k. z + n * k) (let i : q ≡ p + (q - p) = omega arith in i)))
       | no s ↦ omega arith
     ]
 
     differ : (n p q z : ℕ) → q ≤ p → n * p ≡ z + n * q → z ≡ n * (p - q)
-    differ n p q z l h = let i : p ≡ q + (p - q) = omega arith in let j : n * (q + (p - q)) ≡ z + n * q = ap (λ k. n * k) (sym i) ∙ h in omega arith
+    differ n p q z l h = let i : p ≡ q + (p - q) = omega arith in let j : n * (q + (p - q)) ≡ z + n * q =
+        ap (λ k. n * k) (sym i) ∙ h in omega arith
 
 -- below 2 ^ m no two numbers have the same triangular number
-pub triangles_apart : (m t u p q : ℕ) → t < 2 ^ m → u < 2 ^ m → t * (t + 1) + 2 ^ suc m * p ≡ u * (u + 1) + 2 ^ suc m * q → t ≡ u
+pub triangles_apart : (m t u p q : ℕ) → t < 2 ^ m → u < 2 ^ m
+    → t * (t + 1) + 2 ^ suc m * p ≡ u * (u + 1) + 2 ^ suc m * q → t ≡ u
 triangles_apart m t u p q b c e =
     elim (dec_lt t u) [
       | yes l ↦ absurd (ordered_apart m t u p q l c e)

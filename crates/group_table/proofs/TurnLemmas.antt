@@ -23,9 +23,12 @@ use Rattle.group_table.proofs.PlaceCounts.{place_within, count-filled, count-cha
 use Rattle.group_table.proofs.HalfwayLemmas.{settled_by_none, waiting_by_none, stood_there, IsHalfway-taken}
 
 -- an entry that was taken out goes into the first free bucket
-module _ {T N : Type 0} (number : N → ℕ) (none : N) (link : ℕ → N) (eq : N → N → Bool) (laws : IsLinkType number link none eq) (IsGiven : (ℕ → ℕ) → Type 0)
-    (whole : List (Option T)) {now : List (Option T)} {control : List ℕ} {links : List N} {passed : ℕ} (old : ℕ) {entry : T}
-    (half : IsHalfway number none IsGiven (set whole old None) now control links passed) (stood : place_at whole old ≡ Some entry)
+module _ {T N : Type 0} (number : N → ℕ) (none : N) (link : ℕ → N) (eq : N → N → Bool)
+    (laws : IsLinkType number link none eq) (IsGiven : (ℕ → ℕ) → Type 0)
+    (whole : List (Option T)) {now : List (Option T)} {control : List ℕ} {links : List N} {passed : ℕ}
+    (old : ℕ) {entry : T}
+    (half : IsHalfway number none IsGiven (set whole old None) now control links passed)
+    (stood : place_at whole old ≡ Some entry)
     (within : count_by is_some whole ≤ full_capacity (length whole)) (below : length whole < number none) where
   in_whole : old < length whole
   in_whole = place_within whole old entry stood
@@ -40,13 +43,21 @@ module _ {T N : Type 0} (number : N → ℕ) (none : N) (link : ℕ → N) (eq :
   one_fewer = omega (arith, half.counted, count-taken whole old entry stood)
 
   placed_fewer : count_by is_some half.placed ≤ count_by is_some now
-  placed_fewer = count-fewer half.placed now (half.placed_length ∙ sym half.now_length) (λ k. elim (half.each k) [ inl s ↦ inr (sym s.stands) | inr w ↦ inl w.none_placed ])
+  placed_fewer = count-fewer half.placed now (half.placed_length ∙ sym half.now_length)
+      (λ k. elim (half.each k) [ inl s ↦ inr (sym s.stands) | inr w ↦ inl w.none_placed ])
 
   less : entry_count (slots_of control half.placed) < full_capacity (length (slots_of control half.placed))
   less =
       let capacity : full_capacity (length (slots_of control half.placed)) ≡ full_capacity (length whole) =
       ap full_capacity (length-laid_out control half.placed half.valid.laid_out ∙ half.placed_length ∙ same_length) in
-      omega (arith, capacity, entry_count-laid_out control half.placed half.valid.laid_out, placed_fewer, one_fewer, within)
+      omega (
+        arith,
+        capacity,
+        entry_count-laid_out control half.placed half.valid.laid_out,
+        placed_fewer,
+        one_fewer,
+        within,
+      )
 
   pub some_free : (b : ℕ) × (b < length now) × (128 ≤ get_or control b 0)
   some_free =
@@ -54,7 +65,8 @@ module _ {T N : Type 0} (number : N → ℕ) (none : N) (link : ℕ → N) (eq :
       let w = some_free_byte control half.placed half.room half.valid pos in
       (w.0, omega (arith, w.1, half.placed_length, half.now_length), w.2)
 
-  module _ (hash b n tag : ℕ) (n_is : n ≡ length now) (reached : IsReachedFreeByte control n hash b) (tag_is : tag ≡ hash_tag hash) (tag_fits : tag < 128)
+  module _ (hash b n tag : ℕ) (n_is : n ≡ length now) (reached : IsReachedFreeByte control n hash b)
+      (tag_is : tag ≡ hash_tag hash) (tag_fits : tag < 128)
       (gives : (hash_at : ℕ → ℕ) → IsGiven hash_at → hash ≡ hash_at old) where
     n_placed : n ≡ length half.placed
     n_placed = n_is ∙ half.now_length ∙ sym half.placed_length
@@ -81,47 +93,63 @@ module _ {T N : Type 0} (number : N → ℕ) (none : N) (link : ℕ → N) (eq :
     now_then = set now b (Some entry)
 
     joins : Joins (slots_of control half.placed) (slots_of (written control half.placed b tag) placed_then) hash entry b
-    joins = joins_there control half.placed half.room half.valid half.none_deleted less hash b n n_placed reached tag entry tag_fits tag_is
+    joins = joins_there control half.placed half.room half.valid half.none_deleted less hash b n n_placed reached tag
+        entry tag_fits tag_is
 
     was_out : place_at half.gone old ≡ None
     was_out = elim (half.each old) [ inl s ↦ s.went ∙ out | inr w ↦ w.not_gone ]
 
     gone_there : place_at gone_then old ≡ Some entry
-    gone_there = get_or-set_same half.gone old (Some entry) None (omega (arith, half.gone_length, same_length, in_whole))
+    gone_there = get_or-set_same half.gone old (Some entry) None
+        (omega (arith, half.gone_length, same_length, in_whole))
 
     gone_elsewhere : (k : ℕ) → k ≢ old → place_at gone_then k ≡ place_at half.gone k
     gone_elsewhere k other = get_or-set_other half.gone old k (Some entry) None other
 
-    moves_then : Moves number none (place_at gone_then) (slots_of (written control half.placed b tag) placed_then) (set links old (link b))
+    moves_then : Moves number none (place_at gone_then) (slots_of (written control half.placed b tag) placed_then)
+        (set links old (link b))
     moves_then =
-        Moves-more number none link eq laws (place_at half.gone) (place_at gone_then) old was_out gone_there gone_elsewhere
-        (omega (arith, half.links_length, same_length, in_whole)) (omega (arith, in_placed, half.placed_length, same_length, below)) joins half.moves
+        Moves-more number none link eq laws (place_at half.gone)
+        (place_at gone_then) old was_out gone_there gone_elsewhere
+        (omega (arith, half.links_length, same_length, in_whole))
+        (omega (arith, in_placed, half.placed_length, same_length, below)) joins half.moves
 
     -- by what stands in each place then
-    module _ (next : List (Option T)) (next_length : length next ≡ length whole) (counted : count_by is_some now_then ≡ count_by is_some next)
-        (elsewhere : (k : ℕ) → k ≢ b → place_at next k ≡ place_at whole k) (there : place_at gone_then b ≡ place_at next b) where
+    module _ (next : List (Option T)) (next_length : length next ≡ length whole)
+        (counted : count_by is_some now_then ≡ count_by is_some next)
+        (elsewhere : (k : ℕ) → k ≢ b → place_at next k ≡ place_at whole k)
+        (there : place_at gone_then b ≡ place_at next b) where
       here : IsSettled next gone_then placed_then now_then b
-      here = record { went = there; stands = get_or-set_same now b (Some entry) None put_within ∙ sym (get_or-set_same half.placed b (Some entry) None in_placed) }
+      here = record {
+        went = there;
+        stands = get_or-set_same now b (Some entry) None put_within
+            ∙ sym (get_or-set_same half.placed b (Some entry) None in_placed);
+      }
 
       at_old : old ≢ b → IsSettled next gone_then placed_then now_then old
       at_old other =
-          let before : place_at now old ≡ place_at half.placed old = elim (half.each old) [ inl s ↦ s.stands | inr w ↦ w.stays ∙ out ∙ sym w.none_placed ] in
+          let before : place_at now old ≡ place_at half.placed old =
+          elim (half.each old) [ inl s ↦ s.stands | inr w ↦ w.stays ∙ out ∙ sym w.none_placed ] in
           record {
             went = gone_there ∙ sym stood ∙ sym (elsewhere old other);
-            stands = get_or-set_other now b old (Some entry) None other ∙ before ∙ sym (get_or-set_other half.placed b old (Some entry) None other);
+            stands = get_or-set_other now b old (Some entry) None other ∙ before
+                ∙ sym (get_or-set_other half.placed b old (Some entry) None other);
           }
 
       module _ (k : ℕ) (other : k ≢ b) (apart : k ≢ old) where
         same_whole : place_at (set whole old None) k ≡ place_at next k
         same_whole = get_or-set_other whole old k None None apart ∙ sym (elsewhere k other)
 
-        still_settled : IsSettled (set whole old None) half.gone half.placed now k → IsSettled next gone_then placed_then now_then k
+        still_settled : IsSettled (set whole old None) half.gone half.placed now k
+            → IsSettled next gone_then placed_then now_then k
         still_settled s = record {
           went = gone_elsewhere k apart ∙ s.went ∙ same_whole;
-          stands = get_or-set_other now b k (Some entry) None other ∙ s.stands ∙ sym (get_or-set_other half.placed b k (Some entry) None other);
+          stands = get_or-set_other now b k (Some entry) None other ∙ s.stands
+              ∙ sym (get_or-set_other half.placed b k (Some entry) None other);
         }
 
-        still_waiting : IsWaiting (set whole old None) half.gone half.placed now k → IsWaiting next gone_then placed_then now_then k
+        still_waiting : IsWaiting (set whole old None) half.gone half.placed now k
+            → IsWaiting next gone_then placed_then now_then k
         still_waiting w = record {
           stays = get_or-set_other now b k (Some entry) None other ∙ w.stays ∙ same_whole;
           not_gone = gone_elsewhere k apart ∙ w.not_gone;
@@ -137,7 +165,8 @@ module _ {T N : Type 0} (number : N → ℕ) (none : N) (link : ℕ → N) (eq :
         ]
       ]
 
-      IsHalfway-then : IsHalfway number none IsGiven next now_then (written control half.placed b tag) (set links old (link b)) passed
+      IsHalfway-then : IsHalfway number none IsGiven next now_then (written control half.placed b tag)
+          (set links old (link b)) passed
       IsHalfway-then = record {
         gone = gone_then;
         placed = placed_then;
@@ -146,21 +175,27 @@ module _ {T N : Type 0} (number : N → ℕ) (none : N) (link : ℕ → N) (eq :
         placed_length = length-set half.placed b (Some entry) ∙ half.placed_length ∙ same_length ∙ sym next_length;
         now_length = length-set now b (Some entry) ∙ half.now_length ∙ same_length ∙ sym next_length;
         links_length = length-set links old (link b) ∙ half.links_length ∙ same_length ∙ sym next_length;
-        valid = IsValid-joined control half.placed half.room half.valid half.none_deleted less hash b n n_placed reached tag entry tag_fits;
+        valid = IsValid-joined control half.placed half.room half.valid half.none_deleted less hash b n n_placed reached
+            tag entry tag_fits;
         none_deleted = deleted_count-joined joins ∙ half.none_deleted;
         counted = counted;
         settled = λ k p. elim (each_then k) [ inl s ↦ s | inr w ↦ still_settled k w.0 w.1 (half.settled k p) ];
         each = λ k. elim (each_then k) [
           | inl s ↦ inl s
-          | inr w ↦ elim (half.each k) [ inl s ↦ inl (still_settled k w.0 w.1 s) | inr v ↦ inr (still_waiting k w.0 w.1 v) ]
+          | inr w ↦ elim (half.each k)
+              [ inl s ↦ inl (still_settled k w.0 w.1 s) | inr v ↦ inr (still_waiting k w.0 w.1 v) ]
         ];
         moves = moves_then;
-        hashes = λ hash_at given. KeepsMovedHashes-more number none link eq laws (place_at half.gone) (place_at gone_then) old was_out gone_there gone_elsewhere
-            (omega (arith, half.links_length, same_length, in_whole)) (omega (arith, in_placed, half.placed_length, same_length, below)) joins half.moves hash_at (gives hash_at given) (half.hashes hash_at given);
+        hashes = λ hash_at given. KeepsMovedHashes-more number none link eq laws (place_at half.gone)
+            (place_at gone_then) old was_out gone_there gone_elsewhere
+            (omega (arith, half.links_length, same_length, in_whole))
+            (omega (arith, in_placed, half.placed_length, same_length, below)) joins half.moves hash_at
+            (gives hash_at given) (half.hashes hash_at given);
       }
 
     -- nothing stood there
-    pub IsHalfway-last : place_at now b ≡ None → IsHalfway number none IsGiven whole (set now b (Some entry)) (written control now b tag) (set links old (link b)) passed
+    pub IsHalfway-last : place_at now b ≡ None → IsHalfway number none IsGiven whole (set now b (Some entry))
+        (written control now b tag) (set links old (link b)) passed
     IsHalfway-last free =
         let there : place_at gone_then b ≡ place_at whole b = elim (cases_eq b old) [
           | inl e ↦ subst (λ k. place_at gone_then k ≡ place_at whole k) (sym e) (gone_there ∙ sym stood)
@@ -168,12 +203,14 @@ module _ {T N : Type 0} (number : N → ℕ) (none : N) (link : ℕ → N) (eq :
               let s = settled_by_none (set whole old None) half.gone half.placed now b free (half.each b) in
               gone_elsewhere b other ∙ s.went ∙ get_or-set_other whole old b None None other
         ] in
-        rw same_bytes (IsHalfway-then whole refl (count-filled now b entry put_within free ∙ one_fewer) (λ k other. refl) there)
+        rw same_bytes (IsHalfway-then whole refl (count-filled now b entry put_within free ∙ one_fewer)
+        (λ k other. refl) there)
 
     -- the entry that stood there is taken out
     module _ (waiting : T) (found : place_at now b ≡ Some waiting) where
       waits_there : IsWaiting (set whole old None) half.gone half.placed now b
-      waits_there = waiting_by_none (set whole old None) half.gone half.placed now b waiting free_placed found (half.each b)
+      waits_there = waiting_by_none (set whole old None) half.gone half.placed now b waiting free_placed found
+          (half.each b)
 
       in_old : place_at (set whole old None) b ≡ Some waiting
       in_old = sym waits_there.stays ∙ found
@@ -184,34 +221,53 @@ module _ {T N : Type 0} (number : N → ℕ) (none : N) (link : ℕ → N) (eq :
       pub stood_next : place_at whole b ≡ Some waiting
       stood_next = sym (get_or-set_other whole old b None None not_old) ∙ in_old
 
-      pub IsHalfway-next : IsHalfway number none IsGiven (set whole b None) (set now b (Some entry)) (written control now b tag) (set links old (link b)) passed
+      pub IsHalfway-next : IsHalfway number none IsGiven (set whole b None) (set now b (Some entry))
+          (written control now b tag) (set links old (link b)) passed
       IsHalfway-next =
-          let counted : count_by is_some now_then ≡ count_by is_some (set whole b None) = omega (arith, count-changed now b waiting entry found, count-taken whole b waiting stood_next, one_fewer) in
+          let counted : count_by is_some now_then ≡ count_by is_some (set whole b None) =
+          omega (
+            arith,
+            count-changed now b waiting entry found,
+            count-taken whole b waiting stood_next,
+            one_fewer,
+          ) in
           let there : place_at gone_then b ≡ place_at (set whole b None) b =
-          gone_elsewhere b not_old ∙ waits_there.not_gone ∙ sym (get_or-set_same whole b None None (place_within whole b waiting stood_next)) in
-          rw same_bytes (IsHalfway-then (set whole b None) (length-set whole b None) counted (λ k other. get_or-set_other whole b k None None other) there)
+          gone_elsewhere b not_old ∙ waits_there.not_gone
+          ∙ sym (get_or-set_same whole b None None (place_within whole b waiting stood_next)) in
+          rw same_bytes (IsHalfway-then (set whole b None) (length-set whole b None) counted
+          (λ k other. get_or-set_other whole b k None None other) there)
 
     -- so what stood there, if anything did, is the next
-    pub IsInTurn-next : IsInTurn number none IsGiven whole (set now b (Some entry)) (written control now b tag) (set links old (link b)) passed b (place_at now b)
+    pub IsInTurn-next : IsInTurn number none IsGiven whole (set now b (Some entry)) (written control now b tag)
+        (set links old (link b)) passed b (place_at now b)
     IsInTurn-next = at (place_at now b) refl
       where
-        at : (place : Option T) → place_at now b ≡ place → IsInTurn number none IsGiven whole (set now b (Some entry)) (written control now b tag) (set links old (link b)) passed b place
+        at : (place : Option T) → place_at now b ≡ place
+            → IsInTurn number none IsGiven whole (set now b (Some entry)) (written control now b tag)
+            (set links old (link b)) passed b place
         at None is = IsHalfway-last is
         at (Some waiting) is = (stood_next waiting is, IsHalfway-next waiting is)
 
 -- the first place that has not been passed, with an entry that a search for it reads among the first
-module _ {T N : Type 0} (number : N → ℕ) (none : N) (link : ℕ → N) (eq : N → N → Bool) (laws : IsLinkType number link none eq) (IsGiven : (ℕ → ℕ) → Type 0)
-    (whole now : List (Option T)) (control : List ℕ) (links : List N) (b : ℕ) (entry : T) (half : IsHalfway number none IsGiven whole now control links b)
+module _ {T N : Type 0} (number : N → ℕ) (none : N) (link : ℕ → N) (eq : N → N → Bool)
+    (laws : IsLinkType number link none eq) (IsGiven : (ℕ → ℕ) → Type 0)
+    (whole now : List (Option T)) (control : List ℕ) (links : List N) (b : ℕ) (entry : T)
+    (half : IsHalfway number none IsGiven whole now control links b)
     (within : count_by is_some whole ≤ full_capacity (length whole)) (below : length whole < number none)
     (byte : 128 ≤ get_or control b 0) (there : place_at now b ≡ Some entry) where
   put_back : set (set now b None) b (Some entry) ≡ now
-  put_back = ext_get_or None (set (set now b None) b (Some entry)) now (length-set (set now b None) b (Some entry) ∙ length-set now b None) (λ k p. elim (cases_eq k b) [
-    | inl e ↦ rw e (get_or-set_same (set now b None) b (Some entry) None (omega (arith, length-set now b None, place_within now b entry there)) ∙ sym there)
-    | inr other ↦ get_or-set_other (set now b None) b k (Some entry) None other ∙ get_or-set_other now b k None None other
-  ])
+  put_back = ext_get_or None (set (set now b None) b (Some entry)) now
+      (length-set (set now b None) b (Some entry) ∙ length-set now b None) (λ k p. elim (cases_eq k b) [
+        | inl e ↦ rw e (get_or-set_same (set now b None) b (Some entry) None
+            (omega (arith, length-set now b None, place_within now b entry there)) ∙ sym there)
+        | inr other ↦ get_or-set_other (set now b None) b k (Some entry) None other
+            ∙ get_or-set_other now b k None None other
+      ])
 
-  pub IsHalfway-stays : (hash n tag : ℕ) → n ≡ length now → (step : ℕ) × (step < 16) × (probed n hash step ≡ b) → tag ≡ hash_tag hash → tag < 128
-      → ((hash_at : ℕ → ℕ) → IsGiven hash_at → hash ≡ hash_at b) → IsHalfway number none IsGiven whole now (written control now b tag) (set links b (link b)) (b + 1)
+  pub IsHalfway-stays : (hash n tag : ℕ) → n ≡ length now → (step : ℕ) × (step < 16) × (probed n hash step ≡ b)
+      → tag ≡ hash_tag hash → tag < 128
+      → ((hash_at : ℕ → ℕ) → IsGiven hash_at → hash ≡ hash_at b)
+      → IsHalfway number none IsGiven whole now (written control now b tag) (set links b (link b)) (b + 1)
   IsHalfway-stays hash n tag n_is first tag_is tag_fits gives =
       let taken_length = length-set now b None in
       let reached : IsReachedFreeByte control n hash b = record {

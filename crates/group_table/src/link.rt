@@ -22,7 +22,7 @@ pub trait LinkType: Copy + Eq + Debug {
     /// The link of a number below that of `MAX`.
     ghost link: { ℕ → Self };
 
-    /// The link of this number, which no bits are cut from.
+    /// The link of this number, which is below that of `MAX`; no bits are cut off.
     fn from_usize(value: usize) -> Self
         requires { value < number MAX }
         ensures { result ≡ link value };

@@ -159,11 +159,10 @@ pub(crate) fn first_free(control: &Control, hash: u64) -> usize
 
 // Whether the bucket is among the 16 that a search for the hash reads first.
 #[inline]
-pub(crate) fn is_read_first(buckets: usize, hash: u64, b: usize) -> bool
-    requires count { IsPowerFromFour buckets }
-    requires fits { buckets < 2 ^ 63 }
-    requires bucket { b < buckets }
-    ensures { IsTrue result → (step : ℕ) × (step < 16) × (probed buckets hash step ≡ b) }
+pub(crate) fn is_read_first(control: &Control, hash: u64, b: usize) -> bool
+    requires { b < buckets_of control.now }
+    ensures { IsTrue result → (step : ℕ) × (step < 16) × (probed (buckets_of control.now) hash step ≡ b) }
 {
-    wrap(b + (buckets - wrap(hash as usize, buckets)), buckets) < 16
+    let back = control.buckets() - control.wrap(hash as usize);
+    control.wrap(b + back) < 16
 }

@@ -2,7 +2,7 @@
 ghost use Rattle.std.specs.Prelude.{◌≡◌, ◌<◌, ◌≤◌, IfSome};
 ghost use Rattle.group_table.specs.Sizes.{IsBucketCount, full_capacity, buckets_for};
 
-/// The most entries that so many buckets take: none of none, all but one of 4 or 8, and seven eighths of more.
+/// The most entries that so many buckets take: none of none, all but one of up to 8, and of more seven for each eight.
 #[inline]
 #[tactic(auto, unfolding(crate::specs::Sizes::full_capacity))]
 pub fn full_capacity(buckets: usize) -> usize

@@ -26,8 +26,12 @@ mod relocation;
 /// A hash table of numbered buckets, each of which is empty, deleted or full.
 ///
 /// It sees no key and stores no hash: the hash of an entry is what its placing was given, and a search asks its
-/// caller about each entry that may be the one. A bucket keeps its number and its entry until the entry is taken.
+/// caller about each entry that may be the one. An entry keeps its bucket until it is taken, or all entries are moved.
 /// `docs/TABLE.md` has its rules, which are those of hashbrown's raw table.
+///
+/// A table of B buckets has B + 16 control bytes and B places for entries. Only `with_buckets`, `relocate`, `rehash`
+/// and `clone_with` ask for memory. `get`, `get_mut`, `take` and the figures take O(1). `find` and `try_place` take
+/// O(1) where the hashes are spread, and at worst O(B). All other calls take O(B).
 ///
 /// ```
 /// let mut table = Table::with_buckets(alloc, 8)?;

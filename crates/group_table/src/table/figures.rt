@@ -7,7 +7,7 @@ use super::Table;
 use crate::control::DELETED;
 
 impl<T> Table<T> {
-    /// The number of buckets.
+    /// The number of buckets: none, or a power of two from 4 on. They are numbered from 0 on.
     #[inline]
     pub fn buckets(&self) -> usize
         ensures value { result ≡ length self.now.slots }
@@ -16,7 +16,7 @@ impl<T> Table<T> {
         self.entries.len()
     }
 
-    /// The number of entries.
+    /// The number of entries, which is counted as they come and go.
     #[inline]
     pub fn len(&self) -> usize
         ensures value { result ≡ entry_count self.now.slots }
@@ -25,7 +25,8 @@ impl<T> Table<T> {
         self.len
     }
 
-    /// How many more entries are sure to find an empty bucket.
+    /// How many more entries are sure to find an empty bucket: the full capacity of the buckets, less those that are
+    /// full or deleted.
     #[inline]
     pub fn room(&self) -> usize
         ensures value { result ≡ room (marks_of self.now.slots) }
@@ -34,7 +35,7 @@ impl<T> Table<T> {
         self.room
     }
 
-    /// How many placings the table has made; a count that reaches `u64::MAX` stays there.
+    /// How many placings the table has made, those of moves included; a count that reaches `u64::MAX` stays there.
     #[inline]
     pub fn placings(&self) -> u64
         ensures value { result ≡ self.now.placings }
@@ -43,7 +44,7 @@ impl<T> Table<T> {
         self.placings
     }
 
-    /// Whether the bucket is there and holds an entry.
+    /// Whether the bucket is there and holds an entry. Any number may be asked about.
     #[inline]
     pub fn is_full(&self, b: usize) -> bool
         ensures full { IsTrue result ↔ IsFull self.now.slots b }

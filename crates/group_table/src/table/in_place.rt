@@ -51,7 +51,7 @@ pub(crate) fn place_again<T: Drop, N: LinkType, H: Fn(&T) -> u64>(
             Some(entry) => hash_of(entry),
             None => continue,
         };
-        if is_read_first(entries.len(), hash, b) {
+        if is_read_first(control, hash, b) {
             control.set(b, tag_of(hash));
             links[b] = N::from_usize(b);
             continue;

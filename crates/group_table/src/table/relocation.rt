@@ -20,8 +20,8 @@ impl<T: Drop> Table<T> {
     ///
     /// The answer has a link for each old bucket: the number of the bucket where its entry stands now, or `MAX` where
     /// it was free. It is empty for a table without entries. `hash_of` is asked once for each entry, and for nothing
-    /// else. The placings rise by the entries, and no bucket is deleted afterwards. It takes time by the old buckets and
-    /// the new ones.
+    /// else. The placings rise by the entries, and no bucket is deleted afterwards. It takes time by the old buckets
+    /// and the new ones.
     ///
     /// # Errors
     ///

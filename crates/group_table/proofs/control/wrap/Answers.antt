@@ -6,4 +6,5 @@ use Rattle.group_table.proofs.control.wrap.Goals as goal
 pub returns-clause-value : goal.returns-clause-value
 returns-clause-value c =
     let e = power_is c.args.buckets c.requires in
-    ap (λ m. bit_and c.args.place (m - 1)) e ∙ and_mask c.args.place (2 + c.requires.0) ∙ ap (λ m. c.args.place % m) (sym e)
+    ap (λ m. bit_and c.args.place (m - 1)) e ∙ and_mask c.args.place (2 + c.requires.0)
+    ∙ ap (λ m. c.args.place % m) (sym e)

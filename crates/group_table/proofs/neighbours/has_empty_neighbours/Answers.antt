@@ -6,4 +6,5 @@ returns c =
     let e = c.requires.some_empty in
     let before = c.run_before.ensures in
     let after = c.run_from.ensures in
-    lanes_tell _ _ before.circle.power before.circle.repeated _ c.requires.bucket _ _ before.wide before.small after.wide after.small c.requires.used e.0 e.1 e.2
+    lanes_tell _ _ before.circle.power before.circle.repeated _ c.requires.bucket _ _ before.wide before.small
+    after.wide after.small c.requires.used e.0 e.1 e.2

@@ -10,7 +10,9 @@ use Rattle.group_table.proofs.probe.ask_group.Goals as goal
 pub lanes-init : goal.lanes-init
 lanes-init g c = record {
   callable = c.requires.callable;
-  asked = AsksLanes-first _ _ c.requires.laid_out _ c.requires.start g.F.FnMut _ c.requires.tag _ _ (mask_at (λ byte. byte ≡ c.args.tag) _ c.args.control.now c.args.start _ c.group-group.ensures.bytes c.match_tag-mask.ensures);
+  asked = AsksLanes-first _ _ c.requires.laid_out _ c.requires.start g.F.FnMut _ c.requires.tag _ _
+      (mask_at (λ byte. byte ≡ c.args.tag) _ c.args.control.now c.args.start _ c.group-group.ensures.bytes
+      c.match_tag-mask.ensures);
 }
 
 pub returns-then-f-clause-asked : goal.returns-then-f-clause-asked
@@ -20,9 +22,12 @@ returns-then-f-clause-asked g c =
     let here = rw are at c.wrap-b.ensures.value in
     let within = rw are at c.wrap-b.ensures.bound in
     let low = c.lowest_lane.ensures in
-    let tagged = lane_tag _ _ c.requires.laid_out _ c.requires.start g.F.FnMut _ c.requires.tag _ _ _ l _ _ low.set low.first here in
-    let slot = bucket_at-read c.args.control.now c.args.entries.now c.requires.laid_out c.wrap-b.result within c.args.tag _ c.in-Some.entry tagged c.index-entries-b.is c.in-Some.is in
-    AcceptsIn-lane _ _ c.requires.laid_out _ c.requires.start g.F.FnMut _ c.requires.tag _ _ _ l _ _ low.set low.first here c.in-Some.entry slot _
+    let tagged = lane_tag _ _ c.requires.laid_out _ c.requires.start g.F.FnMut _ c.requires.tag _ _ _ l _ _ low.set
+    low.first here in
+    let slot = bucket_at-read c.args.control.now c.args.entries.now c.requires.laid_out c.wrap-b.result within
+    c.args.tag _ c.in-Some.entry tagged c.index-entries-b.is c.in-Some.is in
+    AcceptsIn-lane _ _ c.requires.laid_out _ c.requires.start g.F.FnMut _ c.requires.tag _ _ _ l _ _ low.set low.first
+    here c.in-Some.entry slot _
     (Answers-from_call g.F.FnMut _ c.in-Some.entry slot refl c.f.ensures c.if-f.true)
 
 pub unreachable-requires : goal.unreachable-requires
@@ -32,8 +37,10 @@ unreachable-requires g c =
     let here = rw are at c.wrap-b.ensures.value in
     let within = rw are at c.wrap-b.ensures.bound in
     let low = c.lowest_lane.ensures in
-    let tagged = lane_tag _ _ c.requires.laid_out _ c.requires.start g.F.FnMut _ c.requires.tag _ _ _ l _ _ low.set low.first here in
-    read_some _ _ c.requires.laid_out _ c.requires.start _ within (omega (arith, tagged, c.requires.tag)) _ c.index-entries-b.is c.in-None.is
+    let tagged = lane_tag _ _ c.requires.laid_out _ c.requires.start g.F.FnMut _ c.requires.tag _ _ _ l _ _ low.set
+    low.first here in
+    read_some _ _ c.requires.laid_out _ c.requires.start _ within
+    (omega (arith, tagged, c.requires.tag)) _ c.index-entries-b.is c.in-None.is
 
 pub lanes-preserved : goal.lanes-preserved
 lanes-preserved g c =
@@ -42,26 +49,35 @@ lanes-preserved g c =
     let here = rw are at c.wrap-b.ensures.value in
     let within = rw are at c.wrap-b.ensures.bound in
     let low = c.lowest_lane.ensures in
-    let tagged = lane_tag _ _ c.requires.laid_out _ c.requires.start g.F.FnMut _ c.requires.tag _ _ _ l _ _ low.set low.first here in
-    let slot = bucket_at-read c.args.control.now c.args.entries.now c.requires.laid_out c.wrap-b.result within c.args.tag _ c.in-Some.entry tagged c.index-entries-b.is c.in-Some.is in
+    let tagged = lane_tag _ _ c.requires.laid_out _ c.requires.start g.F.FnMut _ c.requires.tag _ _ _ l _ _ low.set
+    low.first here in
+    let slot = bucket_at-read c.args.control.now c.args.entries.now c.requires.laid_out c.wrap-b.result within
+    c.args.tag _ c.in-Some.entry tagged c.index-entries-b.is c.in-Some.is in
     record {
       callable = search of_calls;
-      asked = AsksLanes-next _ _ c.requires.laid_out _ c.requires.start g.F.FnMut _ c.requires.tag _ _ _ l _ _ low.set low.first here c.in-Some.entry slot _ _
-          (rw (← low.value) at c.without_lowest-mask.ensures.rest) (Answers-from_call g.F.FnMut _ c.in-Some.entry slot refl c.f.ensures c.if-f.false);
+      asked = AsksLanes-next _ _ c.requires.laid_out _ c.requires.start g.F.FnMut _ c.requires.tag _ _ _ l _ _ low.set
+          low.first here c.in-Some.entry slot _ _
+          (rw (← low.value) at c.without_lowest-mask.ensures.rest)
+          (Answers-from_call g.F.FnMut _ c.in-Some.entry slot refl c.f.ensures c.if-f.false);
     }
 
 pub returns-then-match_empty-ne0-clause-asked : goal.returns-then-match_empty-ne0-clause-asked
 returns-then-match_empty-ne0-clause-asked g c =
     let some = c.requires.some_empty in
-    let empties = mask_at (λ byte. byte ≡ 255) _ c.args.control.now c.args.start _ c.group-group.ensures.bytes c.match_empty.ensures in
+    let empties = mask_at (λ byte. byte ≡ 255) _ c.args.control.now c.args.start _ c.group-group.ensures.bytes
+    c.match_empty.ensures in
     let w = some_lane c.match_empty.result (omega (arith, c.match_empty.type_inv)) c.if-match_empty-ne0.true in (
-      RefusesGroup-from _ _ c.requires.laid_out _ c.requires.start g.F.FnMut _ c.requires.tag _ _ _ c.lanes.invariant.asked (λ lane. none_of_zero _ lane c.lanes-test.false),
+      RefusesGroup-from _ _ c.requires.laid_out _ c.requires.start g.F.FnMut _ c.requires.tag _ _ _
+          c.lanes.invariant.asked (λ lane. none_of_zero _ lane c.lanes-test.false),
       ended_lane _ _ c.requires.laid_out _ c.requires.start some.0 some.1 some.2 w.0 w.1 ((empties w.0).0 w.2).1,
     )
 
 pub returns-else-match_empty-ne0-clause-asked : goal.returns-else-match_empty-ne0-clause-asked
 returns-else-match_empty-ne0-clause-asked g c =
-    let empties = mask_at (λ byte. byte ≡ 255) _ c.args.control.now c.args.start _ c.group-group.ensures.bytes c.match_empty.ensures in (
-      RefusesGroup-from _ _ c.requires.laid_out _ c.requires.start g.F.FnMut _ c.requires.tag _ _ _ c.lanes.invariant.asked (λ lane. none_of_zero _ lane c.lanes-test.false),
-      none_ended _ _ c.requires.laid_out _ c.requires.start (λ lane p e. none_of_zero _ lane c.if-match_empty-ne0.false ((empties lane).1 (p, e))),
+    let empties = mask_at (λ byte. byte ≡ 255) _ c.args.control.now c.args.start _ c.group-group.ensures.bytes
+    c.match_empty.ensures in (
+      RefusesGroup-from _ _ c.requires.laid_out _ c.requires.start g.F.FnMut _ c.requires.tag _ _ _
+          c.lanes.invariant.asked (λ lane. none_of_zero _ lane c.lanes-test.false),
+      none_ended _ _ c.requires.laid_out _ c.requires.start
+          (λ lane p e. none_of_zero _ lane c.if-match_empty-ne0.false ((empties lane).1 (p, e))),
     )

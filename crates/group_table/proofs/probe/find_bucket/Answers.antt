@@ -19,19 +19,22 @@ groups-init g c =
 pub ask_group-requires-clause-start : goal.ask_group-requires-clause-start
 ask_group-requires-clause-start g c =
     let same = length-laid_out _ _ c.requires.laid_out in
-    rw same at (probe_within _ c.args.hash c.groups.probe c.groups.invariant.at (omega (arith, same, c.requires.some_empty.1)))
+    rw same at (probe_within _ c.args.hash c.groups.probe c.groups.invariant.at
+    (omega (arith, same, c.requires.some_empty.1)))
 
 pub go_on-requires-clause-start : goal.go_on-requires-clause-start
 go_on-requires-clause-start g c =
     let same = length-laid_out _ _ c.requires.laid_out in
-    rw same at (probe_within _ c.args.hash c.groups.probe c.groups.invariant.at (omega (arith, same, c.requires.some_empty.1)))
+    rw same at (probe_within _ c.args.hash c.groups.probe c.groups.invariant.at
+    (omega (arith, same, c.requires.some_empty.1)))
 
 pub returns-in-Accepted-clause-found : goal.returns-in-Accepted-clause-found
 returns-in-Accepted-clause-found g c =
     let l = c.groups in
     let slots = slots_of c.args.control.now c.args.entries.now in
     let same = length-laid_out _ _ c.requires.laid_out in
-    Finds-from g.F.FnMut slots c.args.hash l.probe.passed (rw same (power_of _ _ c.requires.laid_out (omega arith))) l.invariant.at.whole
+    Finds-from g.F.FnMut slots c.args.hash l.probe.passed
+    (rw same (power_of _ _ c.requires.laid_out (omega arith))) l.invariant.at.whole
     (rw same l.invariant.within) l.invariant.not_empty c.args.f l.f _ l.invariant.refused c.in-Accepted.b
     (rw (l.invariant.at.start, c.tag_of-tag.ensures.value) at c.in-Accepted.ensures.asked)
 
@@ -41,7 +44,8 @@ returns-in-Ended-clause-none g c =
     let slots = slots_of c.args.control.now c.args.entries.now in
     let same = length-laid_out _ _ c.requires.laid_out in
     let told = rw (l.invariant.at.start, c.tag_of-tag.ensures.value) at c.in-Ended.ensures.asked in
-    FindsNone-from g.F.FnMut slots c.args.hash l.probe.passed (rw same (power_of _ _ c.requires.laid_out (omega arith))) l.invariant.at.whole
+    FindsNone-from g.F.FnMut slots c.args.hash l.probe.passed
+    (rw same (power_of _ _ c.requires.laid_out (omega arith))) l.invariant.at.whole
     (rw same l.invariant.within) l.invariant.not_empty c.args.f l.f _ l.invariant.refused told.0 told.1
 
 pub groups-preserved : goal.groups-preserved
@@ -53,15 +57,20 @@ groups-preserved g c =
     let told = rw (l.invariant.at.start, c.tag_of-tag.ensures.value) at c.in-GoesOn.ensures.asked in
     let some = c.requires.some_empty in
     let pos : 0 < n = omega (arith, some.1) in
-    let goes_on : l.probe.passed + 16 < n = not_ended _ _ c.requires.laid_out c.args.hash l.probe.passed pos l.invariant.at.whole l.invariant.not_empty told.1 some.0 some.1 some.2 in
+    let goes_on : l.probe.passed + 16 < n =
+    not_ended _ _ c.requires.laid_out c.args.hash l.probe.passed pos l.invariant.at.whole l.invariant.not_empty
+    told.1 some.0 some.1 some.2 in
     let wide : min 16 (length slots) ≡ 16 = omega (arith, same, goes_on) in
     let refused =
-    refused_group g.F.FnMut slots c.args.hash l.probe.passed (rw same (power_of _ _ c.requires.laid_out pos)) l.invariant.at.whole
+    refused_group g.F.FnMut slots c.args.hash l.probe.passed
+    (rw same (power_of _ _ c.requires.laid_out pos)) l.invariant.at.whole
     (rw same l.invariant.within) l.invariant.not_empty c.args.f l.f _ l.invariant.refused told.0 in
     record {
       callable = c.in-GoesOn.ensures.callable;
       at = rw same (c.go_on.ensures.at c.args.hash (rw same at l.invariant.at));
       within = rw c.go_on.ensures.passed goes_on;
       refused = rw c.go_on.ensures.passed (rw wide at refused);
-      not_empty = rw c.go_on.ensures.passed (none_on _ _ c.requires.laid_out c.args.hash l.probe.passed pos l.invariant.at.whole l.invariant.not_empty told.1 goes_on);
+      not_empty = rw c.go_on.ensures.passed
+          (none_on _ _ c.requires.laid_out c.args.hash l.probe.passed pos l.invariant.at.whole l.invariant.not_empty
+          told.1 goes_on);
     }

@@ -13,7 +13,8 @@ invariant-groups g l =
       at : IsProbe (length slots) l.hash l.probe;
       within : l.probe.passed < length l.entries;
       refused : RefusesEach g.F.FnMut slots l.initial.f (candidates slots l.hash l.probe.passed) l.f;
-      not_empty : (before : ℕ) → before < l.probe.passed → mark_probed (marks_by l.control l.entries) l.hash before ≢ empty;
+      not_empty : (before : ℕ) → before < l.probe.passed
+          → mark_probed (marks_by l.control l.entries) l.hash before ≢ empty;
     }
 
 abbrev pub decreases-groups : goal.decreases-groups

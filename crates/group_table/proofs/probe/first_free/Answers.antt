@@ -11,10 +11,13 @@ returns-in-Some c =
     let here = c.in-Some.ensures.found in
     record {
       step = l.probe.passed + here.lane;
-      there = probed-lane n c.args.hash l.probe.passed here.lane l.invariant.at.whole here.in_group ∙ ap (λ s. (s + here.lane) % n) (sym l.invariant.at.start) ∙ here.there;
+      there = probed-lane n c.args.hash l.probe.passed here.lane l.invariant.at.whole here.in_group
+          ∙ ap (λ s. (s + here.lane) % n) (sym l.invariant.at.start) ∙ here.there;
       free_there = here.free_there;
-      full_before = up_to_lane n c.args.hash l.probe.passed l.invariant.at.whole (λ b. slice_index c.args.control.now b < 128) here.lane (omega (arith, here.in_group)) l.invariant.full_before
-          (subst (λ s. (lane : _) → lane < here.lane → slice_index c.args.control.now ((s + lane) % n) < 128) l.invariant.at.start here.full_before);
+      full_before = up_to_lane n c.args.hash l.probe.passed l.invariant.at.whole
+          (λ b. slice_index c.args.control.now b < 128) here.lane (omega (arith, here.in_group)) l.invariant.full_before
+          (subst (λ s. (lane : _) → lane < here.lane → slice_index c.args.control.now ((s + lane) % n) < 128)
+          l.invariant.at.start here.full_before);
     }
 
 pub groups-preserved : goal.groups-preserved
@@ -22,8 +25,10 @@ groups-preserved c =
     let l = c.groups in
     let n = buckets_of c.args.control.now in
     let is = sym c.buckets-buckets.ensures.value in
-    let none = subst (λ s. (lane : _) → lane < 16 → slice_index c.args.control.now ((s + lane) % n) < 128) l.invariant.at.start c.in_default.ensures.none in
-    let all = up_to_lane n c.args.hash l.probe.passed l.invariant.at.whole (λ b. slice_index c.args.control.now b < 128) 16 (omega arith) l.invariant.full_before none in
+    let none = subst (λ s. (lane : _) → lane < 16 → slice_index c.args.control.now ((s + lane) % n) < 128)
+    l.invariant.at.start c.in_default.ensures.none in
+    let all = up_to_lane n c.args.hash l.probe.passed l.invariant.at.whole
+    (λ b. slice_index c.args.control.now b < 128) 16 (omega arith) l.invariant.full_before none in
     record {
       at = rw is (c.go_on.ensures.at c.args.hash (rw is at l.invariant.at));
       within = rw c.go_on.ensures.passed (elim (dec_lt (l.probe.passed + 16) n) [
@@ -31,7 +36,9 @@ groups-preserved c =
         | no p ↦
             let free_there = c.requires in
             let small =
-            up_to_end n c.args.hash l.probe.passed l.invariant.at.whole (λ b. slice_index c.args.control.now b < 128) c.buckets-buckets.ensures.circle.power (omega arith) (λ t q. all t (omega arith)) free_there.0 free_there.1 in
+            up_to_end n c.args.hash l.probe.passed l.invariant.at.whole
+            (λ b. slice_index c.args.control.now b < 128) c.buckets-buckets.ensures.circle.power (omega arith)
+            (λ t q. all t (omega arith)) free_there.0 free_there.1 in
             absurd (omega (arith, small, free_there.2))
       ]);
       full_before = rw c.go_on.ensures.passed all;

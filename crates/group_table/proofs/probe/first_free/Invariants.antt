@@ -8,7 +8,8 @@ abbrev pub invariant-groups : goal.invariant-groups
 invariant-groups l = record {
   at : IsProbe (buckets_of l.control) l.hash l.probe;
   within : l.probe.passed < buckets_of l.control;
-  full_before : (before : ℕ) → before < l.probe.passed → slice_index l.control (probed (buckets_of l.control) l.hash before) < 128;
+  full_before : (before : ℕ) → before < l.probe.passed
+      → slice_index l.control (probed (buckets_of l.control) l.hash before) < 128;
 }
 
 abbrev pub decreases-groups : goal.decreases-groups

@@ -44,7 +44,10 @@ fn four_buckets(rt: HostRuntime) -> Result<(), Fail> {
     assert_eq!(rt; table.room(), 1);
     assert_eq!(rt; table.try_place((5 << 57) + 2, 2), Ok(2));
     assert_eq!(rt;
-        (table.control.as_slice().get(2), table.control.get(18)),
+        (
+            table.control.as_slice().get(2),
+            table.control.as_slice().get(18)
+        ),
         (Some(&5), Some(&5))
     );
     assert_eq!(rt; table.room(), 0);

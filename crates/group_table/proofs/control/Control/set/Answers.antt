@@ -11,19 +11,26 @@ use Rattle.group_table.proofs.control.Control.set.Goals as goal
 written_again : (control : List ℕ) (n b byte : ℕ) → length control ≡ n + 16 → b < n
     → set (set control b byte) ((b + (n - 16)) % n + 16) byte ≡ set (set control b byte) (b + max 16 n) byte
 written_again control n b byte long bound = elim (dec_lt (b + (n - 16)) n) [
-  | yes p ↦ let e : b + (n - 16) + 16 ≡ b + max 16 n = omega arith in ap (λ k. set (set control b byte) (k + 16) byte) (mod-eq_of_lt p) ∙ ap (λ k. set (set control b byte) k byte) e
+  | yes p ↦ let e : b + (n - 16) + 16 ≡ b + max 16 n = omega arith in
+      ap (λ k. set (set control b byte) (k + 16) byte) (mod-eq_of_lt p) ∙ ap (λ k. set (set control b byte) k byte) e
   | no p ↦
       let round : b + (n - 16) ≡ b - 16 + n * 1 = omega arith in
-      let same : (b + (n - 16)) % n + 16 ≡ b = ap (λ k. k % n + 16) round ∙ ap (λ k. k + 16) (add-mul-mod_self_left (b - 16) n 1 ∙ mod-eq_of_lt (omega arith)) ∙ omega arith in
+      let same : (b + (n - 16)) % n + 16 ≡ b =
+      ap (λ k. k % n + 16) round ∙ ap (λ k. k + 16)
+      (add-mul-mod_self_left (b - 16) n 1 ∙ mod-eq_of_lt (omega arith)) ∙ omega arith in
       let past : length (set control b byte) ≡ n + 16 = length-set control b byte ∙ long in
-      ap (λ k. set (set control b byte) k byte) same ∙ set-set control b byte byte ∙ sym (set_past (set control b byte) (b + max 16 n) byte (omega (arith, past)))
+      ap (λ k. set (set control b byte) k byte) same ∙ set-set control b byte byte
+      ∙ sym (set_past (set control b byte) (b + max 16 n) byte (omega (arith, past)))
 ]
 
 -- the same at the places that the code has
-written_at : (control : List ℕ) (m b place less byte : ℕ) → m ≡ buckets_of control → length control ≡ buckets_of control + 16 → b < buckets_of control → less ≡ m - 16
-    → place ≡ (b + less) % m → set (set control b byte) (place + 16) byte ≡ set (set control b byte) (b + max 16 (buckets_of control)) byte
+written_at : (control : List ℕ) (m b place less byte : ℕ) → m ≡ buckets_of control
+    → length control ≡ buckets_of control + 16 → b < buckets_of control → less ≡ m - 16
+    → place ≡ (b + less) % m → set (set control b byte) (place + 16) byte
+    ≡ set (set control b byte) (b + max 16 (buckets_of control)) byte
 written_at control m b place less byte is long within fewer there =
-    let at : place ≡ (b + (buckets_of control - 16)) % buckets_of control = there ∙ ap (λ k. (b + k) % m) fewer ∙ ap (λ k. (b + (k - 16)) % k) is in
+    let at : place ≡ (b + (buckets_of control - 16)) % buckets_of control =
+    there ∙ ap (λ k. (b + k) % m) fewer ∙ ap (λ k. (b + (k - 16)) % k) is in
     ap (λ k. set (set control b byte) (k + 16) byte) at ∙ written_again control (buckets_of control) b byte long within
 
 pub invariant_of-self : goal.invariant_of-self
@@ -32,7 +39,8 @@ invariant_of-self c =
     let within : c.args.b < buckets_of bytes = rw (sym c.self.view_is) at c.requires in
     let circle = circle_of bytes c.self.invariant (omega (arith, within)) in
     let n : c.len-buckets.result - 16 ≡ buckets_of bytes = omega arith in
-    rw (written_at bytes _ _ c.wrap.result _ c.args.byte n circle.long within c.saturating_sub.ensures c.wrap.ensures.value) (inr (IsCircle-set bytes c.args.b c.args.byte circle within))
+    rw (written_at bytes _ _ c.wrap.result _ c.args.byte n circle.long within c.saturating_sub.ensures
+    c.wrap.ensures.value) (inr (IsCircle-set bytes c.args.b c.args.byte circle within))
 
 pub returns : goal.returns
 returns c =
@@ -40,4 +48,6 @@ returns c =
     let within : c.args.b < buckets_of bytes = rw (sym c.self.view_is) at c.requires in
     let circle = circle_of bytes c.self.invariant (omega (arith, within)) in
     let n : c.len-buckets.result - 16 ≡ buckets_of bytes = omega arith in
-    rw (← c.self.view_is) (written_at bytes _ _ c.wrap.result _ c.args.byte n circle.long within c.saturating_sub.ensures c.wrap.ensures.value)
+    rw (← c.self.view_is)
+    (written_at bytes _ _ c.wrap.result _ c.args.byte n circle.long within c.saturating_sub.ensures
+    c.wrap.ensures.value)

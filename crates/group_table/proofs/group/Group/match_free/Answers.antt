@@ -12,4 +12,5 @@ overflow_cast-result c =
 pub returns : goal.returns
 returns c =
     let bytes = c.args.self.now.lanes in
-    subst (IsMaskOf (λ byte. 128 ≤ byte) bytes) (sym (left_mask leb bytes 128 c.told-self)) (mask_is _ _ bytes c.told-self (λ x. leb-true 128 x) (λ x. le-leb 128 x))
+    subst (IsMaskOf (λ byte. 128 ≤ byte) bytes) (sym (left_mask leb bytes 128 c.told-self))
+    (mask_is _ _ bytes c.told-self (λ x. leb-true 128 x) (λ x. le-leb 128 x))

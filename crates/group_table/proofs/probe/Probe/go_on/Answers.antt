@@ -7,6 +7,7 @@ returns-clause-at c hash at =
     let n = c.args.buckets in
     let passed = c.args.self.now.passed in
     record {
-      start = c.wrap-self.ensures.value ∙ ap (λ s. (s + (passed + 16)) % n) at.start ∙ probed-next_group n hash passed at.whole;
+      start = c.wrap-self.ensures.value ∙ ap (λ s. (s + (passed + 16)) % n) at.start
+          ∙ probed-next_group n hash passed at.whole;
       whole = omega (arith, at.whole);
     }

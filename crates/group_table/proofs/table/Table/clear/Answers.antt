@@ -12,19 +12,25 @@ pub invariant_of-self : goal.invariant_of-self
 invariant_of-self g c =
     let laid_out = c.self.invariant.0.laid_out in
     let after : c.len.result ≡ length c.drop_entries.new.entries.items = omega arith in
-    let n : c.len.result ≡ length c.self.inside.entries.items = after ∙ ap length c.drop_entries.ensures ∙ length-replicate _ _ in
-    rw (c.clear.ensures, c.drop_entries.ensures, c.full_capacity-self-inside.ensures, n)
-    (IsValid-fresh g.row.T.Denot _ _ laid_out.counts laid_out.fits, sym (entry_count-fresh g.row.T.Denot _ _ (entries_within _ _ laid_out)))
+    let n : c.len.result ≡ length c.self.inside.entries.items =
+    after ∙ ap length c.drop_entries.ensures ∙ length-replicate _ _ in
+    rw (c.clear.ensures, c.drop_entries.ensures, c.full_capacity-self-inside.ensures, n) (
+      IsValid-fresh g.row.T.Denot _ _ laid_out.counts laid_out.fits,
+      sym
+          (entry_count-fresh g.row.T.Denot _ _ (entries_within _ _ laid_out)),
+    )
 
 pub returns-clause-slots : goal.returns-clause-slots
 returns-clause-slots g c =
     let laid_out = c.self.invariant.0.laid_out in
-    rw (c.clear.ensures, c.drop_entries.ensures, ← c.self.view_is, length-laid_out _ _ laid_out) (slots_of-fresh g.row.T.Denot _ _ (entries_within _ _ laid_out))
+    rw (c.clear.ensures, c.drop_entries.ensures, ← c.self.view_is, length-laid_out _ _ laid_out)
+    (slots_of-fresh g.row.T.Denot _ _ (entries_within _ _ laid_out))
 
 pub returns-clause-table : goal.returns-clause-table
 returns-clause-table g c =
     let laid_out = c.self.invariant.0.laid_out in
-    rw (c.clear.ensures, c.drop_entries.ensures) (IsTable-by _ _ _ (IsValid-fresh g.row.T.Denot _ _ laid_out.counts laid_out.fits))
+    rw (c.clear.ensures, c.drop_entries.ensures)
+    (IsTable-by _ _ _ (IsValid-fresh g.row.T.Denot _ _ laid_out.counts laid_out.fits))
 
 pub returns-clause-fits : goal.returns-clause-fits
 returns-clause-fits g c hash_of = rw (returns-clause-slots g c) (Fits-fresh g.row.T.Denot _ hash_of)

@@ -10,7 +10,9 @@ use Rattle.group_table.proofs.table.Table.find.Goals as goal
 pub returns-then-is_empty-clause-none : goal.returns-then-is_empty-clause-none
 returns-then-is_empty-clause-none g c =
     let none = eqb-true _ _ (sym c.is_empty.ensures ∙ c.if-is_empty.true) in
-    rw (← c.self.view_is) (FindsNone-empty g.F.FnMut _ c.args.hash c.args.f (omega (arith, none, length-laid_out _ _ c.self.invariant.0.laid_out)))
+    rw (← c.self.view_is)
+    (FindsNone-empty g.F.FnMut _ c.args.hash c.args.f
+    (omega (arith, none, length-laid_out _ _ c.self.invariant.0.laid_out)))
 
 pub returns-then-is_empty-clause-table : goal.returns-then-is_empty-clause-table
 returns-then-is_empty-clause-table g c = rw (← c.self.view_is) (IsTable-by _ _ _ c.self.invariant.0)

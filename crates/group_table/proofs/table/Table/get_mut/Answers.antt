@@ -6,18 +6,23 @@ use Rattle.group_table.proofs.TableLemmas.{IsTable-by}
 use Rattle.group_table.proofs.table.Table.get_mut.Goals as goal
 
 pub index_mut-requires : goal.index_mut-requires
-index_mut-requires g c = omega (arith, full_within _ _ c.self.invariant.0.laid_out c.args.b (rw (← c.self.view_is) at c.requires))
+index_mut-requires g c =
+    omega (arith, full_within _ _ c.self.invariant.0.laid_out c.args.b (rw (← c.self.view_is) at c.requires))
 
 pub entry_mut-requires : goal.entry_mut-requires
 entry_mut-requires g c =
     let there = rw (← c.self.view_is) at c.requires in
     let within = full_within _ _ c.self.invariant.0.laid_out c.args.b there in
-    rw (get_or_read c.self.inside.entries.items c.args.b _ within c.index_mut.ensures.value None) (is_some_entry _ _ c.self.invariant.0.laid_out c.args.b there)
+    rw (get_or_read c.self.inside.entries.items c.args.b _ within c.index_mut.ensures.value None)
+    (is_some_entry _ _ c.self.invariant.0.laid_out c.args.b there)
 
 pub invariant_of-self-lent : goal.invariant_of-self-lent
 invariant_of-self-lent g c w =
-    let there = rw (← c.self.view_is) at c.requires in
-    (IsValid-refilled _ _ _ c.self.invariant.0 c.args.b there w, c.self.invariant.1 ∙ sym (entry_count-refilled _ _ _ c.self.invariant.0 c.args.b there w))
+    let there = rw (← c.self.view_is) at c.requires in (
+      IsValid-refilled _ _ _ c.self.invariant.0 c.args.b there w,
+      c.self.invariant.1
+          ∙ sym (entry_count-refilled _ _ _ c.self.invariant.0 c.args.b there w),
+    )
 
 pub returns : goal.returns
 returns g c =
@@ -28,7 +33,8 @@ returns g c =
         writes_back = tt;
         entry =
             rw (← c.self.view_is) (entry_at-full _ _ c.self.invariant.0.laid_out c.args.b there _
-            (sym (get_or_read c.self.inside.entries.items c.args.b _ within c.index_mut.ensures.value None) ∙ c.entry_mut.ensures.value));
+            (sym (get_or_read c.self.inside.entries.items c.args.b _ within c.index_mut.ensures.value None)
+            ∙ c.entry_mut.ensures.value));
         table = rw (← c.self.view_is) (IsTable-by _ _ _ c.self.invariant.0);
         fits = λ hash_of fits last. Fits-refilled _ c.args.b last hash_of c.requires fits;
       },

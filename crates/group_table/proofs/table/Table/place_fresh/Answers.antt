@@ -12,7 +12,8 @@ use Rattle.group_table.proofs.table.Table.place_fresh.Goals as goal
 pub first_free-b-requires : goal.first_free-b-requires
 first_free-b-requires g c =
     let valid = c.self.invariant.0 in
-    let pos = some_buckets _ _ _ valid (rw (← c.self.view_is) at c.requires.none_deleted) (rw (← c.self.view_is) at c.requires.room) in
+    let pos = some_buckets _ _ _ valid (rw (← c.self.view_is) at c.requires.none_deleted)
+    (rw (← c.self.view_is) at c.requires.room) in
     let w = some_free_byte _ _ _ valid pos in
     (w.0, omega (arith, w.1, buckets_are _ _ valid.laid_out), w.2)
 
@@ -20,16 +21,21 @@ pub fill_bucket-requires-clause-bucket : goal.fill_bucket-requires-clause-bucket
 fill_bucket-requires-clause-bucket g c =
     let reached = reached_first c.first_free-b.ensures in
     join_within _ _ _ c.self.invariant.0 (rw (← c.self.view_is) at c.requires.none_deleted)
-    (rw (← c.self.view_is) at c.requires.room) c.args.hash c.first_free-b.result _ (buckets_are _ _ c.self.invariant.0.laid_out) reached
+    (rw (← c.self.view_is) at c.requires.room) c.args.hash c.first_free-b.result _
+    (buckets_are _ _ c.self.invariant.0.laid_out) reached
 
 pub fill_bucket-requires-clause-free_there : goal.fill_bucket-requires-clause-free_there
 fill_bucket-requires-clause-free_there g c =
     let valid = c.self.invariant.0 in
     let reached = reached_first c.first_free-b.ensures in
-    join_none _ _ _ valid (rw (← c.self.view_is) at c.requires.none_deleted) (rw (← c.self.view_is) at c.requires.room) c.args.hash c.first_free-b.result _ (buckets_are _ _ c.self.invariant.0.laid_out) reached
+    join_none _ _ _ valid (rw (← c.self.view_is) at c.requires.none_deleted)
+    (rw (← c.self.view_is) at c.requires.room) c.args.hash c.first_free-b.result _
+    (buckets_are _ _ c.self.invariant.0.laid_out) reached
 
 pub overflow_sub-self : goal.overflow_sub-self
-overflow_sub-self g c = some_room _ _ _ c.self.invariant.0 (rw (← c.self.view_is) at c.requires.none_deleted) (rw (← c.self.view_is) at c.requires.room)
+overflow_sub-self g c =
+    some_room _ _ _ c.self.invariant.0 (rw (← c.self.view_is) at c.requires.none_deleted)
+    (rw (← c.self.view_is) at c.requires.room)
 
 pub overflow_add-self : goal.overflow_add-self
 overflow_add-self g c =
@@ -49,9 +55,11 @@ invariant_of-self g c =
     let none_deleted = rw (← c.self.view_is) at c.requires.none_deleted in
     let room = rw (← c.self.view_is) at c.requires.room in
     let reached = reached_first c.first_free-b.ensures in
-    let counted = entry_count-written_joined _ _ _ valid none_deleted room c.args.hash c.first_free-b.result _ (buckets_are _ _ c.self.invariant.0.laid_out) reached c.tag_of.result c.args.entry c.tag_of.ensures.tag in
+    let counted = entry_count-written_joined _ _ _ valid none_deleted room c.args.hash c.first_free-b.result _
+    (buckets_are _ _ c.self.invariant.0.laid_out) reached c.tag_of.result c.args.entry c.tag_of.ensures.tag in
     rw (c.fill_bucket.ensures.control, c.fill_bucket.ensures.entries) (
-      IsValid-joined _ _ _ valid none_deleted room c.args.hash c.first_free-b.result _ (buckets_are _ _ c.self.invariant.0.laid_out) reached c.tag_of.result c.args.entry c.tag_of.ensures.tag,
+      IsValid-joined _ _ _ valid none_deleted room c.args.hash c.first_free-b.result _
+          (buckets_are _ _ c.self.invariant.0.laid_out) reached c.tag_of.result c.args.entry c.tag_of.ensures.tag,
       rw counted (ap (λ n. n + 1) c.self.invariant.1),
     )
 
@@ -62,4 +70,6 @@ returns-clause-joins g c =
     let room = rw (← c.self.view_is) at c.requires.room in
     let reached = reached_first c.first_free-b.ensures in
     rw (← c.self.view_is, c.fill_bucket.ensures.control, c.fill_bucket.ensures.entries)
-    (joins_there _ _ _ valid none_deleted room c.args.hash c.first_free-b.result _ (buckets_are _ _ c.self.invariant.0.laid_out) reached c.tag_of.result c.args.entry c.tag_of.ensures.tag c.tag_of.ensures.value)
+    (joins_there _ _ _ valid none_deleted room c.args.hash c.first_free-b.result _
+    (buckets_are _ _ c.self.invariant.0.laid_out) reached c.tag_of.result c.args.entry c.tag_of.ensures.tag
+    c.tag_of.ensures.value)

@@ -22,37 +22,58 @@ returns-in_err-links-clause-table g c = rw (← c.self.view_is) (IsTable-by _ _ 
 pub place_again-requires-clause-within : goal.place_again-requires-clause-within
 place_again-requires-clause-within g c =
     let valid = c.self.invariant.0 in
-    omega (arith, entry_count-laid_out _ _ valid.laid_out, valid.room_left, used_count-split (slots_of c.self.inside.control c.self.inside.entries.items))
+    omega (
+      arith,
+      entry_count-laid_out _ _ valid.laid_out,
+      valid.room_left,
+      used_count-split
+          (slots_of c.self.inside.control c.self.inside.entries.items),
+    )
 
 pub place_again-requires-clause-below : goal.place_again-requires-clause-below
 place_again-requires-clause-below g c =
-    let same : length c.self.inside.entries.items ≡ length c.args.self.now.slots = rw (← c.self.view_is) (sym (length-laid_out _ _ c.self.invariant.0.laid_out)) in
+    let same : length c.self.inside.entries.items ≡ length c.args.self.now.slots =
+    rw (← c.self.view_is) (sym (length-laid_out _ _ c.self.invariant.0.laid_out)) in
     omega (arith, same, c.requires.below)
 
 pub overflow_sub-self : goal.overflow_sub-self
 overflow_sub-self g c =
     let valid = c.self.invariant.0 in
     let n : c.len-buckets.result ≡ length c.self.inside.entries.items = omega arith in
-    let capacity : c.full_capacity.result ≡ full_capacity (length c.self.inside.entries.items) = c.full_capacity.ensures ∙ ap full_capacity n in
-    omega (arith, capacity, c.self.invariant.1, valid.room_left, used_count-split (slots_of c.self.inside.control c.self.inside.entries.items))
+    let capacity : c.full_capacity.result ≡ full_capacity (length c.self.inside.entries.items) =
+    c.full_capacity.ensures ∙ ap full_capacity n in
+    omega (
+      arith,
+      capacity,
+      c.self.invariant.1,
+      valid.room_left,
+      used_count-split
+          (slots_of c.self.inside.control c.self.inside.entries.items),
+    )
 
 pub returns-clause-entries : goal.returns-clause-entries
 returns-clause-entries g c =
     let again = c.place_again.ensures in
-    rw (← c.self.view_is) (entry_count-laid_out _ _ again.valid.laid_out ∙ again.entries ∙ sym (entry_count-laid_out _ _ c.self.invariant.0.laid_out))
+    rw (← c.self.view_is)
+    (entry_count-laid_out _ _ again.valid.laid_out ∙ again.entries
+    ∙ sym (entry_count-laid_out _ _ c.self.invariant.0.laid_out))
 
 pub returns-clause-buckets : goal.returns-clause-buckets
 returns-clause-buckets g c =
     let again = c.place_again.ensures in
-    rw (← c.self.view_is) (length-laid_out _ _ again.valid.laid_out ∙ again.buckets ∙ sym (length-laid_out _ _ c.self.invariant.0.laid_out))
+    rw (← c.self.view_is)
+    (length-laid_out _ _ again.valid.laid_out ∙ again.buckets
+    ∙ sym (length-laid_out _ _ c.self.invariant.0.laid_out))
 
 pub invariant_of-self : goal.invariant_of-self
 invariant_of-self g c =
     let again = c.place_again.ensures in
     let counted = entry_count-laid_out _ _ c.self.invariant.0.laid_out in
     let n : c.len-buckets.result ≡ length c.self.inside.entries.items = omega arith in
-    let capacity : c.full_capacity.result ≡ full_capacity (length c.self.inside.entries.items) = c.full_capacity.ensures ∙ ap full_capacity n in
-    let left : full_capacity (length c.self.inside.entries.items) - count_by is_some c.self.inside.entries.items ≡ c.full_capacity.result - c.self.inside.len =
+    let capacity : c.full_capacity.result ≡ full_capacity (length c.self.inside.entries.items) =
+    c.full_capacity.ensures ∙ ap full_capacity n in
+    let left : full_capacity (length c.self.inside.entries.items) - count_by is_some c.self.inside.entries.items
+    ≡ c.full_capacity.result - c.self.inside.len =
     omega (arith, capacity, counted, c.self.invariant.1) in (
       subst (IsValid c.place_again.new.control c.place_again.new.entries.items) left again.valid,
       c.self.invariant.1 ∙ counted ∙ sym again.entries ∙ sym (entry_count-laid_out _ _ again.valid.laid_out),
@@ -61,7 +82,9 @@ invariant_of-self g c =
 pub returns-clause-renumbered : goal.returns-clause-renumbered
 returns-clause-renumbered g c =
     let again = c.place_again.ensures in
-    rw (← c.self.view_is) (inr (IsRenumbering-moves _ _ c.self.invariant.0.laid_out g.N.LinkType.number g.N.LinkType.MAX _ _ again.one_each again.moves))
+    rw (← c.self.view_is)
+    (inr (IsRenumbering-moves _ _ c.self.invariant.0.laid_out g.N.LinkType.number g.N.LinkType.MAX _ _
+    again.one_each again.moves))
 
 pub returns-clause-room : goal.returns-clause-room
 returns-clause-room g c =
@@ -69,15 +92,18 @@ returns-clause-room g c =
     let moved = returns-clause-entries g c in
     let slots = slots_of c.place_again.new.control c.place_again.new.entries.items in
     let same = length-laid_out _ _ again.valid.laid_out in
-    let capacity : full_capacity (length slots) ≡ full_capacity (length c.place_again.new.entries.items) = ap full_capacity same in
-    let within : entry_count slots ≤ full_capacity (length slots) = omega (arith, capacity, again.valid.room_left, used_count-split slots) in
+    let capacity : full_capacity (length slots) ≡ full_capacity (length c.place_again.new.entries.items) =
+    ap full_capacity same in
+    let within : entry_count slots ≤ full_capacity (length slots) =
+    omega (arith, capacity, again.valid.room_left, used_count-split slots) in
     rw (← moved) (room-none_deleted slots again.none_deleted within)
 
 pub returns-clause-hashes : goal.returns-clause-hashes
 returns-clause-hashes g c hash_at gives =
     let laid_out = c.self.invariant.0.laid_out in
     rw (← c.self.view_is) (KeepsHashes-moves _ _ laid_out g.N.LinkType.number g.N.LinkType.MAX _ _ hash_at
-    (c.place_again.ensures.hashes hash_at (GivesMovedHashes-from _ _ laid_out g.H.Fn c.args.hash_of hash_at (rw (← c.self.view_is) at gives))))
+    (c.place_again.ensures.hashes hash_at
+    (GivesMovedHashes-from _ _ laid_out g.H.Fn c.args.hash_of hash_at (rw (← c.self.view_is) at gives))))
 
 pub returns-clause-table : goal.returns-clause-table
 returns-clause-table g c = IsTable-by _ _ _ c.place_again.ensures.valid

@@ -13,14 +13,16 @@ returns-in_err-fresh-clause-table g c = rw (← c.self.view_is) (IsTable-by _ _ 
 
 pub returns-then-self-eq0-clause-room : goal.returns-then-self-eq0-clause-room
 returns-then-self-eq0-clause-room g c =
-    let is : slots_of c.fresh.inside.control c.fresh.inside.entries.items ≡ replicate c.args.buckets empty = ap (λ v. v.slots) c.fresh.view_is ∙ c.in_ok-fresh.ensures.slots in
+    let is : slots_of c.fresh.inside.control c.fresh.inside.entries.items ≡ replicate c.args.buckets empty =
+    ap (λ v. v.slots) c.fresh.view_is ∙ c.in_ok-fresh.ensures.slots in
     let none : entry_count c.args.self.now.slots ≡ 0 = rw (← c.self.view_is) (omega (arith, c.self.invariant.1)) in
     let room = room-fresh g.row.T.Denot c.args.buckets in
     rw is (omega (arith, room, none))
 
 pub returns-then-self-eq0-clause-hashes : goal.returns-then-self-eq0-clause-hashes
 returns-then-self-eq0-clause-hashes g c hash_at gives moved_hash_of moved =
-    let is : slots_of c.fresh.inside.control c.fresh.inside.entries.items ≡ replicate c.args.buckets empty = ap (λ v. v.slots) c.fresh.view_is ∙ c.in_ok-fresh.ensures.slots in
+    let is : slots_of c.fresh.inside.control c.fresh.inside.entries.items ≡ replicate c.args.buckets empty =
+    ap (λ v. v.slots) c.fresh.view_is ∙ c.in_ok-fresh.ensures.slots in
     rw is (Fits-fresh g.row.T.Denot c.args.buckets moved_hash_of)
 
 pub returns-in_err-links-clause-table : goal.returns-in_err-links-clause-table
@@ -28,32 +30,43 @@ returns-in_err-links-clause-table g c = rw (← c.self.view_is) (IsTable-by _ _ 
 
 pub move_entries-requires-clause-within : goal.move_entries-requires-clause-within
 move_entries-requires-clause-within g c =
-    let length_is : length c.in_ok-fresh.fresh.slots ≡ c.args.buckets = ap length c.in_ok-fresh.ensures.slots ∙ length-replicate _ _ in
+    let length_is : length c.in_ok-fresh.fresh.slots ≡ c.args.buckets =
+    ap length c.in_ok-fresh.ensures.slots ∙ length-replicate _ _ in
     let counted = entry_count-laid_out _ _ c.self.invariant.0.laid_out in
     rw (c.replace-entries.ensures.value, length_is, ← counted) (rw (← c.self.view_is) at c.requires.within)
 
 pub returns-clause-renumbered : goal.returns-clause-renumbered
 returns-clause-renumbered g c =
-    let is : slots_of c.fresh-2.inside.control c.fresh-2.inside.entries.items ≡ c.move_entries.new.fresh.slots = ap (λ v. v.slots) c.fresh-2.view_is in
-    rw (← c.self.view_is, is) (inr (IsRenumbering-moves _ _ c.self.invariant.0.laid_out g.N.LinkType.number g.N.LinkType.MAX _ _
+    let is : slots_of c.fresh-2.inside.control c.fresh-2.inside.entries.items ≡ c.move_entries.new.fresh.slots =
+    ap (λ v. v.slots) c.fresh-2.view_is in
+    rw (← c.self.view_is, is)
+    (inr (IsRenumbering-moves _ _ c.self.invariant.0.laid_out g.N.LinkType.number g.N.LinkType.MAX _ _
     (c.move_entries.ensures.one_each ∙ ap (λ v. length v.items) c.replace-entries.ensures.value)
     (rw c.replace-entries.ensures.value at c.move_entries.ensures.moves)))
 
 pub returns-clause-entries : goal.returns-clause-entries
 returns-clause-entries g c =
-    let is : slots_of c.fresh-2.inside.control c.fresh-2.inside.entries.items ≡ c.move_entries.new.fresh.slots = ap (λ v. v.slots) c.fresh-2.view_is in
-    rw (← c.self.view_is, is, entry_count-laid_out _ _ c.self.invariant.0.laid_out) (rw c.replace-entries.ensures.value at c.move_entries.ensures.entries)
+    let is : slots_of c.fresh-2.inside.control c.fresh-2.inside.entries.items ≡ c.move_entries.new.fresh.slots =
+    ap (λ v. v.slots) c.fresh-2.view_is in
+    rw (← c.self.view_is, is, entry_count-laid_out _ _ c.self.invariant.0.laid_out)
+    (rw c.replace-entries.ensures.value at c.move_entries.ensures.entries)
 
 pub returns-clause-room : goal.returns-clause-room
 returns-clause-room g c =
-    let is : slots_of c.fresh-2.inside.control c.fresh-2.inside.entries.items ≡ c.move_entries.new.fresh.slots = ap (λ v. v.slots) c.fresh-2.view_is in
-    let moved : entry_count c.move_entries.new.fresh.slots ≡ entry_count c.args.self.now.slots = sym (ap entry_count is) ∙ returns-clause-entries g c in
-    let length_is : length c.move_entries.new.fresh.slots ≡ c.args.buckets = c.move_entries.ensures.buckets ∙ ap length c.in_ok-fresh.ensures.slots ∙ length-replicate _ _ in
-    rw (is, ← moved) (room-none_deleted c.move_entries.new.fresh.slots c.move_entries.ensures.none_deleted (rw (moved, length_is) c.requires.within))
+    let is : slots_of c.fresh-2.inside.control c.fresh-2.inside.entries.items ≡ c.move_entries.new.fresh.slots =
+    ap (λ v. v.slots) c.fresh-2.view_is in
+    let moved : entry_count c.move_entries.new.fresh.slots ≡ entry_count c.args.self.now.slots =
+    sym (ap entry_count is) ∙ returns-clause-entries g c in
+    let length_is : length c.move_entries.new.fresh.slots ≡ c.args.buckets =
+    c.move_entries.ensures.buckets ∙ ap length c.in_ok-fresh.ensures.slots ∙ length-replicate _ _ in
+    rw (is, ← moved)
+    (room-none_deleted c.move_entries.new.fresh.slots c.move_entries.ensures.none_deleted
+    (rw (moved, length_is) c.requires.within))
 
 pub returns-clause-hashes : goal.returns-clause-hashes
 returns-clause-hashes g c hash_at gives =
-    let is : slots_of c.fresh-2.inside.control c.fresh-2.inside.entries.items ≡ c.move_entries.new.fresh.slots = ap (λ v. v.slots) c.fresh-2.view_is in
+    let is : slots_of c.fresh-2.inside.control c.fresh-2.inside.entries.items ≡ c.move_entries.new.fresh.slots =
+    ap (λ v. v.slots) c.fresh-2.view_is in
     let laid_out = c.self.invariant.0.laid_out in
     let keeps = rw c.replace-entries.ensures.value at c.move_entries.ensures.hashes in
     rw (← c.self.view_is, is) (KeepsHashes-moves _ _ laid_out g.N.LinkType.number g.N.LinkType.MAX _ _ hash_at

@@ -14,7 +14,8 @@ has_empty_neighbours-gives_room-requires-clause-bucket g c =
     let laid_out = c.self.invariant.0.laid_out in
     omega (arith, full_within _ _ laid_out c.args.b (rw (← c.self.view_is) at c.requires), buckets_are _ _ laid_out)
 
-pub has_empty_neighbours-gives_room-requires-clause-some_empty : goal.has_empty_neighbours-gives_room-requires-clause-some_empty
+pub has_empty_neighbours-gives_room-requires-clause-some_empty :
+    goal.has_empty_neighbours-gives_room-requires-clause-some_empty
 has_empty_neighbours-gives_room-requires-clause-some_empty g c =
     let valid = c.self.invariant.0 in
     let within = full_within _ _ valid.laid_out c.args.b (rw (← c.self.view_is) at c.requires) in
@@ -28,46 +29,67 @@ has_empty_neighbours-gives_room-requires-clause-used g c =
 pub overflow_add-self : goal.overflow_add-self
 overflow_add-self g c =
     let valid = c.self.invariant.0 in
-    omega (arith, bool_byte-le c.has_empty_neighbours-gives_room.result, room_within _ _ _ valid, entries_within _ _ valid.laid_out, valid.laid_out.fits)
+    omega (
+      arith,
+      bool_byte-le c.has_empty_neighbours-gives_room.result,
+      room_within _ _ _ valid,
+      entries_within _ _
+          valid.laid_out,
+      valid.laid_out.fits,
+    )
 
 pub overflow_sub-self : goal.overflow_sub-self
-overflow_sub-self g c = omega (arith, entry_count-pos _ _ _ c.self.invariant.0 c.args.b (rw (← c.self.view_is) at c.requires), c.self.invariant.1)
+overflow_sub-self g c =
+    omega (
+      arith,
+      entry_count-pos _ _ _ c.self.invariant.0 c.args.b
+          (rw (← c.self.view_is) at c.requires),
+      c.self.invariant.1,
+    )
 
 pub empty_bucket-requires-clause-bucket : goal.empty_bucket-requires-clause-bucket
-empty_bucket-requires-clause-bucket g c = full_within _ _ c.self.invariant.0.laid_out c.args.b (rw (← c.self.view_is) at c.requires)
+empty_bucket-requires-clause-bucket g c =
+    full_within _ _ c.self.invariant.0.laid_out c.args.b (rw (← c.self.view_is) at c.requires)
 
 pub empty_bucket-requires-clause-full : goal.empty_bucket-requires-clause-full
-empty_bucket-requires-clause-full g c = is_some_entry _ _ c.self.invariant.0.laid_out c.args.b (rw (← c.self.view_is) at c.requires)
+empty_bucket-requires-clause-full g c =
+    is_some_entry _ _ c.self.invariant.0.laid_out c.args.b (rw (← c.self.view_is) at c.requires)
 
 pub invariant_of-self : goal.invariant_of-self
 invariant_of-self g c =
     let there = rw (← c.self.view_is) at c.requires in
     let told = rw (buckets_are _ _ c.self.invariant.0.laid_out) at c.has_empty_neighbours-gives_room.ensures in
     let r = removed _ _ _ c.self.invariant.0 c.args.b there c.has_empty_neighbours-gives_room.result told in
-    rw (c.empty_bucket.ensures.control, c.empty_bucket.ensures.entries, c.emptied_byte-byte.ensures) (r.is_valid, omega (arith, r.count, c.self.invariant.1))
+    rw (c.empty_bucket.ensures.control, c.empty_bucket.ensures.entries, c.emptied_byte-byte.ensures)
+    (r.is_valid, omega (arith, r.count, c.self.invariant.1))
 
 pub returns-clause-entry : goal.returns-clause-entry
 returns-clause-entry g c =
-    rw (← c.self.view_is) (entry_at-full _ _ c.self.invariant.0.laid_out c.args.b (rw (← c.self.view_is) at c.requires) _ c.empty_bucket.ensures.entry)
+    rw (← c.self.view_is)
+    (entry_at-full _ _ c.self.invariant.0.laid_out c.args.b
+    (rw (← c.self.view_is) at c.requires) _ c.empty_bucket.ensures.entry)
 
 pub returns-clause-removed : goal.returns-clause-removed
 returns-clause-removed g c =
     let there = rw (← c.self.view_is) at c.requires in
     let told = rw (buckets_are _ _ c.self.invariant.0.laid_out) at c.has_empty_neighbours-gives_room.ensures in
     let r = removed _ _ _ c.self.invariant.0 c.args.b there c.has_empty_neighbours-gives_room.result told in
-    rw (← c.self.view_is, c.empty_bucket.ensures.control, c.empty_bucket.ensures.entries, c.emptied_byte-byte.ensures) r.removes
+    rw (← c.self.view_is, c.empty_bucket.ensures.control, c.empty_bucket.ensures.entries, c.emptied_byte-byte.ensures)
+    r.removes
 
 pub returns-clause-room : goal.returns-clause-room
 returns-clause-room g c =
     let there = rw (← c.self.view_is) at c.requires in
     let told = rw (buckets_are _ _ c.self.invariant.0.laid_out) at c.has_empty_neighbours-gives_room.ensures in
     let r = removed _ _ _ c.self.invariant.0 c.args.b there c.has_empty_neighbours-gives_room.result told in
-    rw (← c.self.view_is, c.empty_bucket.ensures.control, c.empty_bucket.ensures.entries, c.emptied_byte-byte.ensures) (room-removed _ _ _ c.self.invariant.0 c.args.b there _ _ r)
+    rw (← c.self.view_is, c.empty_bucket.ensures.control, c.empty_bucket.ensures.entries, c.emptied_byte-byte.ensures)
+    (room-removed _ _ _ c.self.invariant.0 c.args.b there _ _ r)
 
 pub returns-clause-fits : goal.returns-clause-fits
 returns-clause-fits g c hash_of fits =
     let within = full_within _ _ c.self.invariant.0.laid_out c.args.b (rw (← c.self.view_is) at c.requires) in
-    let in_slots : c.args.b < length (slots_of c.self.inside.control c.self.inside.entries.items) = omega (arith, within, length-laid_out _ _ c.self.invariant.0.laid_out) in
+    let in_slots : c.args.b < length (slots_of c.self.inside.control c.self.inside.entries.items) =
+    omega (arith, within, length-laid_out _ _ c.self.invariant.0.laid_out) in
     Fits-removed _ _ hash_of c.args.b (rw (← c.self.view_is) in_slots) (returns-clause-removed g c) fits
 
 pub returns-clause-table : goal.returns-clause-table
@@ -75,4 +97,5 @@ returns-clause-table g c =
     let there = rw (← c.self.view_is) at c.requires in
     let told = rw (buckets_are _ _ c.self.invariant.0.laid_out) at c.has_empty_neighbours-gives_room.ensures in
     let r = removed _ _ _ c.self.invariant.0 c.args.b there c.has_empty_neighbours-gives_room.result told in
-    rw (c.empty_bucket.ensures.control, c.empty_bucket.ensures.entries, c.emptied_byte-byte.ensures) (IsTable-by _ _ _ r.is_valid)
+    rw (c.empty_bucket.ensures.control, c.empty_bucket.ensures.entries, c.emptied_byte-byte.ensures)
+    (IsTable-by _ _ _ r.is_valid)

@@ -20,7 +20,8 @@ returns-then-is_empty-clause-table g c = rw (← c.self.view_is) (IsTable-by _ _
 pub first_free-b-requires : goal.first_free-b-requires
 first_free-b-requires g c =
     let valid = c.self.invariant.0 in
-    let some : 0 < length c.self.inside.entries.items = omega (arith, eqb-false _ _ (sym c.is_empty.ensures ∙ c.if-is_empty.false)) in
+    let some : 0 < length c.self.inside.entries.items =
+    omega (arith, eqb-false _ _ (sym c.is_empty.ensures ∙ c.if-is_empty.false)) in
     let w = some_free_byte _ _ _ valid some in
     (w.0, omega (arith, w.1, buckets_are _ _ valid.laid_out), w.2)
 
@@ -32,8 +33,10 @@ returns-then-self-spent-clause-no_place g c =
     let valid = c.self.invariant.0 in
     let first = c.first_free-b.ensures in
     let are = buckets_are _ _ valid.laid_out in
-    let some : 0 < length c.self.inside.entries.items = omega (arith, eqb-false _ _ (sym c.is_empty.ensures ∙ c.if-is_empty.false)) in
-    let none = no_place_left _ _ _ valid c.args.hash c.first_free-b.result _ are (omega (arith, some, are)) first _ c.byte.ensures (omega arith) in
+    let some : 0 < length c.self.inside.entries.items =
+    omega (arith, eqb-false _ _ (sym c.is_empty.ensures ∙ c.if-is_empty.false)) in
+    let none = no_place_left _ _ _ valid c.args.hash c.first_free-b.result _ are
+    (omega (arith, some, are)) first _ c.byte.ensures (omega arith) in
     rw (← c.self.view_is) (inr (
       sym (room_by _ _ _ valid) ∙ none.0,
       c.first_free-b.result,
@@ -46,7 +49,8 @@ fill_bucket-requires-clause-free_there g c =
     let valid = c.self.invariant.0 in
     let first = c.first_free-b.ensures in
     let are = buckets_are _ _ valid.laid_out in
-    let some : 0 < length c.self.inside.entries.items = omega (arith, eqb-false _ _ (sym c.is_empty.ensures ∙ c.if-is_empty.false)) in
+    let some : 0 < length c.self.inside.entries.items =
+    omega (arith, eqb-false _ _ (sym c.is_empty.ensures ∙ c.if-is_empty.false)) in
     place_none _ _ _ valid c.args.hash c.first_free-b.result _ are (omega (arith, some, are)) first
 
 pub overflow_add-self : goal.overflow_add-self
@@ -66,22 +70,30 @@ invariant_of-self g c =
     let valid = c.self.invariant.0 in
     let first = c.first_free-b.ensures in
     let are = buckets_are _ _ valid.laid_out in
-    let some : 0 < length c.self.inside.entries.items = omega (arith, eqb-false _ _ (sym c.is_empty.ensures ∙ c.if-is_empty.false)) in
+    let some : 0 < length c.self.inside.entries.items =
+    omega (arith, eqb-false _ _ (sym c.is_empty.ensures ∙ c.if-is_empty.false)) in
     let within = place_within _ _ _ valid c.args.hash c.first_free-b.result _ are (omega (arith, some, are)) first in
-    let spends = place_spends _ _ _ valid c.args.hash c.first_free-b.result _ are (omega (arith, some, are)) first _ c.byte.ensures (omega arith) in
-    let counted = entry_count-placed valid c.first_free-b.result spends c.tag_of.result c.args.entry within c.tag_of.ensures.tag in
-    rw (c.fill_bucket.ensures.control, c.fill_bucket.ensures.entries)
-    (IsValid-placed valid c.first_free-b.result spends c.tag_of.result c.args.entry within c.tag_of.ensures.tag, rw counted (ap (λ n. n + 1) c.self.invariant.1))
+    let spends = place_spends _ _ _ valid c.args.hash c.first_free-b.result _ are
+    (omega (arith, some, are)) first _ c.byte.ensures (omega arith) in
+    let counted = entry_count-placed valid c.first_free-b.result spends c.tag_of.result c.args.entry within
+    c.tag_of.ensures.tag in
+    rw (c.fill_bucket.ensures.control, c.fill_bucket.ensures.entries) (
+      IsValid-placed valid c.first_free-b.result spends c.tag_of.result c.args.entry within c.tag_of.ensures.tag,
+      rw
+          counted (ap (λ n. n + 1) c.self.invariant.1),
+    )
 
 pub returns-clause-placed : goal.returns-clause-placed
 returns-clause-placed g c =
     let valid = c.self.invariant.0 in
     let first = c.first_free-b.ensures in
     let are = buckets_are _ _ valid.laid_out in
-    let some : 0 < length c.self.inside.entries.items = omega (arith, eqb-false _ _ (sym c.is_empty.ensures ∙ c.if-is_empty.false)) in
+    let some : 0 < length c.self.inside.entries.items =
+    omega (arith, eqb-false _ _ (sym c.is_empty.ensures ∙ c.if-is_empty.false)) in
     rw (← c.self.view_is) record {
       first = place_first _ _ _ valid c.args.hash c.first_free-b.result _ are (omega (arith, some, are)) first;
-      slots = rw (c.fill_bucket.ensures.control, c.fill_bucket.ensures.entries, c.tag_of.ensures.value) (slots_of-written _ _ c.first_free-b.result _ _);
+      slots = rw (c.fill_bucket.ensures.control, c.fill_bucket.ensures.entries, c.tag_of.ensures.value)
+          (slots_of-written _ _ c.first_free-b.result _ _);
       placings = c.saturating_add-self-inside.ensures;
     }
 
@@ -90,45 +102,56 @@ returns-clause-may_fill g c =
     let valid = c.self.invariant.0 in
     let first = c.first_free-b.ensures in
     let are = buckets_are _ _ valid.laid_out in
-    let some : 0 < length c.self.inside.entries.items = omega (arith, eqb-false _ _ (sym c.is_empty.ensures ∙ c.if-is_empty.false)) in
+    let some : 0 < length c.self.inside.entries.items =
+    omega (arith, eqb-false _ _ (sym c.is_empty.ensures ∙ c.if-is_empty.false)) in
     rw (← c.self.view_is) (MayFill-from valid c.first_free-b.result
-    (place_spends _ _ _ valid c.args.hash c.first_free-b.result _ are (omega (arith, some, are)) first _ c.byte.ensures (omega arith)))
+    (place_spends _ _ _ valid c.args.hash c.first_free-b.result _ are (omega (arith, some, are)) first _ c.byte.ensures
+    (omega arith)))
 
 pub returns-clause-fits : goal.returns-clause-fits
 returns-clause-fits g c hash_of fits =
     let valid = c.self.invariant.0 in
     let first = c.first_free-b.ensures in
     let are = buckets_are _ _ valid.laid_out in
-    let some : 0 < length c.self.inside.entries.items = omega (arith, eqb-false _ _ (sym c.is_empty.ensures ∙ c.if-is_empty.false)) in
+    let some : 0 < length c.self.inside.entries.items =
+    omega (arith, eqb-false _ _ (sym c.is_empty.ensures ∙ c.if-is_empty.false)) in
     let within = place_within _ _ _ valid c.args.hash c.first_free-b.result _ are (omega (arith, some, are)) first in
-    let in_slots : c.first_free-b.result < length (slots_of c.self.inside.control c.self.inside.entries.items) = omega (arith, within, length-laid_out _ _ valid.laid_out) in
+    let in_slots : c.first_free-b.result < length (slots_of c.self.inside.control c.self.inside.entries.items) =
+    omega (arith, within, length-laid_out _ _ valid.laid_out) in
     rw (
       c.fill_bucket.ensures.control,
       c.fill_bucket.ensures.entries,
       c.tag_of.ensures.value,
-      slots_of-written c.self.inside.control c.self.inside.entries.items c.first_free-b.result (hash_tag c.args.hash) (Some c.args.entry),
+      slots_of-written c.self.inside.control c.self.inside.entries.items c.first_free-b.result (hash_tag c.args.hash)
+          (Some c.args.entry),
     )
     (Fits-placed _ hash_of c.args.hash c.first_free-b.result c.args.entry in_slots
-    (place_first _ _ _ valid c.args.hash c.first_free-b.result _ are (omega (arith, some, are)) first) (rw (← c.self.view_is) at fits))
+    (place_first _ _ _ valid c.args.hash c.first_free-b.result _ are (omega (arith, some, are)) first)
+    (rw (← c.self.view_is) at fits))
 
 pub returns-clause-table : goal.returns-clause-table
 returns-clause-table g c =
     let valid = c.self.invariant.0 in
     let first = c.first_free-b.ensures in
     let are = buckets_are _ _ valid.laid_out in
-    let some : 0 < length c.self.inside.entries.items = omega (arith, eqb-false _ _ (sym c.is_empty.ensures ∙ c.if-is_empty.false)) in
+    let some : 0 < length c.self.inside.entries.items =
+    omega (arith, eqb-false _ _ (sym c.is_empty.ensures ∙ c.if-is_empty.false)) in
     let within = place_within _ _ _ valid c.args.hash c.first_free-b.result _ are (omega (arith, some, are)) first in
-    let spends = place_spends _ _ _ valid c.args.hash c.first_free-b.result _ are (omega (arith, some, are)) first _ c.byte.ensures (omega arith) in
+    let spends = place_spends _ _ _ valid c.args.hash c.first_free-b.result _ are
+    (omega (arith, some, are)) first _ c.byte.ensures (omega arith) in
     rw (c.fill_bucket.ensures.control, c.fill_bucket.ensures.entries)
-    (IsTable-by _ _ _ (IsValid-placed valid c.first_free-b.result spends c.tag_of.result c.args.entry within c.tag_of.ensures.tag))
+    (IsTable-by _ _ _
+    (IsValid-placed valid c.first_free-b.result spends c.tag_of.result c.args.entry within c.tag_of.ensures.tag))
 
 pub returns-clause-room : goal.returns-clause-room
 returns-clause-room g c =
     let valid = c.self.invariant.0 in
     let first = c.first_free-b.ensures in
     let are = buckets_are _ _ valid.laid_out in
-    let some : 0 < length c.self.inside.entries.items = omega (arith, eqb-false _ _ (sym c.is_empty.ensures ∙ c.if-is_empty.false)) in
+    let some : 0 < length c.self.inside.entries.items =
+    omega (arith, eqb-false _ _ (sym c.is_empty.ensures ∙ c.if-is_empty.false)) in
     let within = place_within _ _ _ valid c.args.hash c.first_free-b.result _ are (omega (arith, some, are)) first in
-    let spends = place_spends _ _ _ valid c.args.hash c.first_free-b.result _ are (omega (arith, some, are)) first _ c.byte.ensures (omega arith) in
+    let spends = place_spends _ _ _ valid c.args.hash c.first_free-b.result _ are
+    (omega (arith, some, are)) first _ c.byte.ensures (omega arith) in
     rw (← c.self.view_is, c.fill_bucket.ensures.control, c.fill_bucket.ensures.entries)
     (room-placed valid c.first_free-b.result spends c.tag_of.result c.args.entry within c.tag_of.ensures.tag)

@@ -6,12 +6,17 @@ use Rattle.group_table.proofs.table.in_place.place_again.Given as goal
 
 abbrev pub invariant-loop-b : goal.invariant-loop-b
 invariant-loop-b g l =
-    IsHalfway g.N.LinkType.number g.N.LinkType.MAX (GivesMovedHashes g.H.Fn l.hash_of l.fn.entries.items) l.fn.entries.items l.entries.items l.control l.links.items l.b
+    IsHalfway g.N.LinkType.number g.N.LinkType.MAX
+    (GivesMovedHashes g.H.Fn l.hash_of l.fn.entries.items) l.fn.entries.items l.entries.items l.control
+    l.links.items l.b
 
 abbrev pub invariant-turns : goal.invariant-turns
 invariant-turns g l = record {
-  turn : IsInTurn g.N.LinkType.number g.N.LinkType.MAX (GivesMovedHashes g.H.Fn l.hash_of l.fn.entries.items) l.fn.entries.items l.entries.items l.control l.links.items (l.b + 1) l.old l.next;
-  hashed : (entry : _) → l.next ≡ Some entry → (hash_at : ℕ → ℕ) → GivesMovedHashes g.H.Fn l.hash_of l.fn.entries.items hash_at → l.hash ≡ hash_at l.old;
+  turn : IsInTurn g.N.LinkType.number g.N.LinkType.MAX
+      (GivesMovedHashes g.H.Fn l.hash_of l.fn.entries.items) l.fn.entries.items l.entries.items l.control l.links.items
+      (l.b + 1) l.old l.next;
+  hashed : (entry : _) → l.next ≡ Some entry → (hash_at : ℕ → ℕ)
+      → GivesMovedHashes g.H.Fn l.hash_of l.fn.entries.items hash_at → l.hash ≡ hash_at l.old;
 }
 
 abbrev pub decreases-turns : goal.decreases-turns
