@@ -6,12 +6,11 @@
 --     exchanged b k v w c d  what is left after the value v of cost c was to be replaced by w of cost d
 --     by_cost, charges       the rules and the offers of the limiter, where a value has this cost
 --     charges-lawful, charges-sums      the laws of `Insertion` and of `Summing`
-use Rattle.std.specs.Prelude.{◌≡◌, ◌≤◌, ◌+◌, ◌-◌, ◌^◌, ◌&&◌, ℕ, Bool, true, false, Some, None, nat_lt, nat_le, if◌then◌else◌, refl}
+use Rattle.std.specs.Prelude.{◌+◌, ◌-◌, ◌^◌, ◌&&◌, ℕ, Bool, true, nat_lt, nat_le, if◌then◌else◌, refl}
 use Rattle.std.specs.Cmp.{IsEquivalence}
-use Rattle.std.proofs.Common.{ap, sym, ◌∙◌, arith}
 use Rattle.lru_limits.specs.Rules.{Replaced, Rules, Offers}
 use Rattle.lru_limits.specs.Laws.{IsInsertion, IsAccount}
-use Rattle.lru_limits.specs.Stores.{HandsOver, answers, given-is, given-names}
+use Rattle.lru_limits.specs.Stores.{HandsOver, answers, given-names, given-adds, refused-keeps, replaced-exchanges}
 
 pub record Budget : Type 0 where
   pub limit : ℕ
@@ -57,27 +56,11 @@ charges-lawful eq e cost = record {
   keeps_key = λ b n k i v w named. e.refl k;
 }
 
--- a pair that is given to be stored adds its cost
-given-adds : {K V : Type 0} (cost : V → ℕ) (a : Bool) (b : Budget) (i : K) (v : V) (t : Budget) (k : K) (w : V) → HandsOver a (if a then record b { cost = b.cost + cost v } else b) i v t (Some (k, w)) → t.cost ≡ b.cost + cost w
-given-adds cost true b i v t k w h =
-    ap (λ x. x.cost) h.limiter ∙ ap (λ p. b.cost + cost p.1) (sym (given-is true (record b { cost = b.cost + cost v }) i v t (k, w) h))
-given-adds cost false b i v t k w h = let e = h.pair in cc
-
--- a refused element adds none
-refused-adds : {K V : Type 0} (a : Bool) (b c : Budget) (i : K) (v : V) (t : Budget) → HandsOver a (if a then c else b) i v t None → t.cost ≡ b.cost
-refused-adds true b c i v t h = let e = h.pair in cc
-refused-adds false b c i v t h = ap (λ x. x.cost) h.limiter
-
--- a replacement takes off the old cost, and adds that of the value that stays
-replaced-adds : {V : Type 0} (cost : V → ℕ) (a : Bool) (b r : Budget) (v w : V) → cost v ≤ b.cost → r.cost ≡ b.cost - cost v + cost w → (if a then r else b).cost ≡ b.cost - cost v + cost (if a then w else v)
-replaced-adds cost true b r v w enough e = e
-replaced-adds cost false b r v w enough e = omega arith
-
 pub charges-sums : {K V : Type 0} (cost : V → ℕ) → IsAccount (by_cost {K = K} cost) (charges cost) (λ k v. cost v) (λ b. b.cost)
 charges-sums cost = record {
-  adds = λ b n i v. given-adds cost (can_add b.limit b.cost (cost v)) b i v;
-  refuses = λ b n i v. refused-adds (can_add b.limit b.cost (cost v)) b (record b { cost = b.cost + cost v }) i v;
-  exchanges = λ b n k i v w enough. replaced-adds cost (can_add b.limit (b.cost - cost v) (cost w)) b (record b { cost = b.cost - cost v + cost w }) v w enough refl;
+  adds = λ b n i v t k w. given-adds (λ k v. cost v) (λ b. b.cost) (can_add b.limit b.cost (cost v)) b (record b { cost = b.cost + cost v }) i v t k w refl;
+  refuses = λ b n i v t. refused-keeps (λ b. b.cost) (can_add b.limit b.cost (cost v)) b (record b { cost = b.cost + cost v }) i v t;
+  exchanges = λ b n k i v w. replaced-exchanges (λ k v. cost v) (λ b. b.cost) (can_add b.limit (b.cost - cost v) (cost w)) b (record b { cost = b.cost - cost v + cost w }) k v w refl;
   takes_off = λ b k v enough. refl;
   empties = λ b. refl;
   keeps = λ b n. refl;

@@ -7,9 +7,10 @@
 --     replaces s k v w                     the new value is taken, and the limiter is now s
 --     given-is, given-names                what a pair that was handed over is
 --     hands_over-lawful                    the laws of `hands_over`
-use Rattle.std.specs.Prelude.{◌≡◌, ℕ, Bool, true, false, Option, Some, None, IsTrue, if◌then◌else◌, unwrap_or}
+--     given-adds, refused-keeps, replaced-exchanges      what an account becomes, for a `Summing` of one's own
+use Rattle.std.specs.Prelude.{◌≡◌, ◌≤◌, ◌+◌, ◌-◌, ℕ, Bool, true, false, Option, Some, None, IsTrue, if◌then◌else◌, unwrap_or}
 use Rattle.std.specs.Cmp.{IsEquivalence}
-use Rattle.std.proofs.Common.{ap, sym, subst}
+use Rattle.std.proofs.Common.{ap, sym, ◌∙◌, subst, arith}
 use Rattle.lru_limits.specs.Rules.{Told, Replaced, Allowed, Rules, Offers}
 use Rattle.lru_limits.specs.Laws.{IsInsertion}
 
@@ -56,3 +57,22 @@ hands_over-lawful eq e admits = record {
   names_given = λ s n i v t k w given. given-names eq e.refl given;
   keeps_key = λ s n k i v w named. e.refl k;
 }
+
+-- Below, a limiter accepts or not; where it accepts, s becomes s', and elsewhere it stays s.
+
+-- A pair that is given to be stored adds its cost, where s' has that much more than s.
+pub given-adds : {K V S : Type 0} (cost : K → V → ℕ) (account : S → ℕ) (accepts : Bool) (s s' : S) (i : K) (v : V) (t : S) (k : K) (w : V) → account s' ≡ account s + cost i v
+    → HandsOver accepts (if accepts then s' else s) i v t (Some (k, w)) → account t ≡ account s + cost k w
+given-adds cost account true s s' i v t k w more h = ap account h.limiter ∙ more ∙ ap (λ p. account s + cost p.0 p.1) (sym (given-is true s' i v t (k, w) h))
+given-adds cost account false s s' i v t k w more h = let e = h.pair in cc
+
+-- A refused element changes nothing.
+pub refused-keeps : {K V S : Type 0} (account : S → ℕ) (accepts : Bool) (s s' : S) (i : K) (v : V) (t : S) → HandsOver accepts (if accepts then s' else s) i v t None → account t ≡ account s
+refused-keeps account true s s' i v t h = let e = h.pair in cc
+refused-keeps account false s s' i v t h = ap account h.limiter
+
+-- A replacement takes off the cost of the old value, and adds that of the value that stays, where s' has that changed.
+pub replaced-exchanges : {K V S : Type 0} (cost : K → V → ℕ) (account : S → ℕ) (accepts : Bool) (s s' : S) (k : K) (v w : V) → account s' ≡ account s - cost k v + cost k w
+    → cost k v ≤ account s → account (if accepts then s' else s) ≡ account s - cost k v + cost k (if accepts then w else v)
+replaced-exchanges cost account true s s' k v w changed enough = changed
+replaced-exchanges cost account false s s' k v w changed enough = omega arith

@@ -1,5 +1,5 @@
 //! Costs, limiters that keep the sum of them, and the limiter by a cost.
-ghost use Rattle.std.specs.Prelude.{◌≡◌, ℕ};
+ghost use Rattle.std.specs.Prelude.{◌≡◌, ℕ, string_len, vec_len};
 ghost use Rattle.lru_limits.specs.Laws.{IsAccount};
 
 mod by_cost;
@@ -9,7 +9,7 @@ use crate::limiter::Insertion;
 pub use by_cost::ByCost;
 use std::hash::Hash;
 
-/// A value that has a cost. A whole number costs itself.
+/// A value that has a cost. A whole number costs itself, a text its bytes, and a vector the number of its items.
 ///
 /// The cost of a value is read again when the value leaves the map, so a cost that changes in the map makes a sum that
 /// is not that of the pairs.
@@ -64,6 +64,26 @@ impl Costed for usize {
     #[inline]
     fn cost(&self) -> u64 {
         *self as u64
+    }
+}
+
+/// A text costs its bytes.
+impl Costed for String {
+    ghost cost = { λ text. string_len text };
+
+    #[inline]
+    fn cost(&self) -> u64 {
+        self.as_bytes().len() as u64
+    }
+}
+
+/// A vector costs the number of its items, whatever they are.
+impl<T> Costed for Vec<T> {
+    ghost cost = { λ items. vec_len items };
+
+    #[inline]
+    fn cost(&self) -> u64 {
+        self.len() as u64
     }
 }
 

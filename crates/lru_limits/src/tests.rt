@@ -1,10 +1,12 @@
 //! Each trait through its bound at concrete types, limiters and keys of one's own, and what no clause says.
 mod bounds;
 mod by_text_length;
+mod by_text_sum;
 mod costs;
 mod hashing;
 mod insert_key;
 mod limiters;
 mod removed_keys;
 mod spread;
+mod two_fields;
 mod without_a_map;

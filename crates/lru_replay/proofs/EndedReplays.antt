@@ -1,8 +1,12 @@
 -- The first line and the others together, and how a replay ends.
-use Rattle.std.proofs.Common.{◌≡◌, ℕ, ◌<◌, List, [], ◌∷◌, length, refl, sym, ap, ◌∙◌, subst, inl, inr, ◌⊎◌, arith, Option, Some, None, Result, Ok, Err, IfSome, OnOk, OnErr, ◌↔◌}
+use Rattle.std.proofs.Common.{◌≡◌, ℕ, ◌<◌, List, [], ◌∷◌, ◌++◌, append_assoc, length, refl, sym, ap, ◌∙◌, subst, inl, inr, ◌⊎◌, arith, Option, Some, None, Result, Ok, Err, IfSome, OnOk, ◌↔◌}
 use Rattle.std.proofs.lemmas.List.{append-nil}
 use Rattle.std.specs.Io.KnownBytes.{Appends, Keeps}
 use Rattle.std.proofs.KnownBytes.{Appends-nil, Appends-kept, Consumes-nil}
+use Rattle.lru_limits.specs.Budget.{Budget}
+use Rattle.lru_limits.specs.Rules.{Rules, Offers}
+use Rattle.schnellru.specs.Lists.{IsFront}
+use Rattle.schnellru.specs.State.{IsSized}
 use Rattle.std.proofs.lemmas.Option.{IfSome_then}
 use Rattle.lru_replay.specs.declared.call.Limit.{Limit}
 use Rattle.lru_replay.specs.declared.call.Limit.TheVariants as limits
@@ -11,16 +15,18 @@ use Rattle.lru_replay.specs.declared.line.Ending.TheVariants as endings
 use Rattle.lru_replay.specs.declared.outcome.ReplayEnd.{ReplayEnd}
 use Rattle.lru_replay.specs.declared.outcome.ReplayEnd.TheVariants as ends
 use Rattle.lru_replay.specs.declared.outcome.ReplayError.{ReplayError}
+use Rattle.lru_replay.specs.declared.outcome.ReplayError.TheVariants as errors
 use Rattle.lru_replay.specs.Grammar.{SpellsLimit}
-use Rattle.lru_replay.specs.Lines.{lines_of, TakesFed, TakesRest, TakesLine}
+use Rattle.lru_replay.specs.Lines.{lines_of, TakesFed, TakesRest, TakesLine, TakesPart, TakesLines, TakesFirst}
 use Rattle.lru_replay.specs.Output.{Fails, no_limiter_text}
-use Rattle.lru_replay.specs.Replay.{IsTextUnder, IsReplay, NamesNoLimit, IsOutput, WritesReplay, WritesCut, WritesSoFar}
-use Rattle.lru_replay.specs.Limits.{length_rules, length_offers, no_rules, all_offers}
-use Rattle.lru_replay.specs.Maps.{empty}
-use Rattle.lru_replay.specs.Runs.{WritesText, WritesTextSoFar, BeginsText}
-use Rattle.lru_replay.proofs.LineLists.{lines_of-fed, lines_of-last, lines_at_end, takes_line_before}
-use Rattle.lru_replay.proofs.RunLists.{some_run}
-use Rattle.lru_replay.proofs.EmptyMaps.{empty_is_sized, length_always, all_always}
+use Rattle.lru_replay.specs.Replay.{IsTextUnder, IsReplay, NamesNoLimit, IsOutput, IsOutputSoFar, IsTextSoFar, WritesCut, WritesCutSoFar, Replays}
+use Rattle.lru_replay.specs.Limits.{length_rules, length_offers, memory_rules, cost_rules, cost_offers, no_rules, all_offers, no_cost, cost_told, AlwaysOffers}
+use Rattle.lru_replay.specs.Maps.{Map, empty, links_of_32_bits, links_of_64_bits}
+use Rattle.lru_replay.specs.Runs.{IsTextOf, Answers}
+use Rattle.lru_replay.proofs.LineLists.{lines_of-fed, lines_of-last, lines_at_end, lines_left, takes_line_before}
+use Rattle.lru_replay.proofs.RunLists.{some_run, run_sized, run-append}
+use Rattle.lru_replay.proofs.ByteLists.{Consumes_end}
+use Rattle.lru_replay.proofs.EmptyMaps.{empty_is_sized, length_always, cost_always, all_always}
 use Rattle.lru_replay.proofs.Spelled.{limit_or}
 
 -- what is said of the lines after the first is said of all
@@ -53,96 +59,169 @@ no_limit (Some x) b endings.InputEnd first (taken, some) none = only_first (Some
 no_limit (Some x) b endings.Nothing first (taken, nothing) none = only_first (Some x) b first (λ input. NamesNoLimit (lines_of input)) taken
     (λ input same. none_first (lines_of input) (same ∙ ap lines_of nothing))
 
--- Each list of lines has a text under each limit.
-some_text_under : (limit : Limit) (lines : List (List ℕ)) → (text : List ℕ) × IsTextUnder limit lines text
-some_text_under (limits.Length most) lines = let (text, new, run) = some_run length_rules length_offers length_always (empty most) (empty_is_sized most) lines in (text, (new, run))
-some_text_under limits.Compact lines = let (text, new, run) = some_run no_rules all_offers all_always (empty (record {})) (empty_is_sized (record {})) lines in (text, (new, run))
+-- A text of the first so many lines goes on for more.
+module _ {S : Type 0} (rules : Rules ℕ ℕ S) (offers : Offers ℕ ℕ S ℕ) (told : S → Option ℕ) (offered : AlwaysOffers offers) (old : Map S) (sized : IsSized old) where
+  text_goes_on : (lines more : List (List ℕ)) (text : List ℕ) → IsTextOf rules offers told old lines text → (u : List ℕ) × IsTextOf rules offers told old (lines ++ more) (text ++ u)
+  text_goes_on lines more text (now, run) =
+      let (u, new, others) = some_run rules offers told offered now (run_sized rules offers told old lines text now sized run) more in
+      (u, (new, run-append rules offers told old lines text now more u new run others))
+
+under_goes_on : (limit : Limit) (lines more : List (List ℕ)) (text : List ℕ) → IsTextUnder limit lines text → (u : List ℕ) × IsTextUnder limit (lines ++ more) (text ++ u)
+under_goes_on (limits.Length most) = text_goes_on length_rules length_offers no_cost length_always (empty most 32 links_of_32_bits) (empty_is_sized most 32 links_of_32_bits)
+under_goes_on (limits.Memory budget entry_bytes) = text_goes_on memory_rules all_offers no_cost all_always (empty budget entry_bytes links_of_32_bits) (empty_is_sized budget entry_bytes links_of_32_bits)
+under_goes_on (limits.Cost most) =
+    let budget : Budget = record { limit = most; cost = 0 } in
+    text_goes_on cost_rules cost_offers cost_told cost_always (empty budget 32 links_of_64_bits) (empty_is_sized budget 32 links_of_64_bits)
+under_goes_on limits.Compact = text_goes_on no_rules all_offers no_cost all_always (empty (record {}) 32 links_of_32_bits) (empty_is_sized (record {}) 32 links_of_32_bits)
 
 no_lines_under : (limit : Limit) → IsTextUnder limit [] []
-no_lines_under (limits.Length most) = (empty most, (refl, refl))
-no_lines_under limits.Compact = (empty (record {}), (refl, refl))
+no_lines_under (limits.Length most) = (empty most 32 links_of_32_bits, (refl, refl))
+no_lines_under (limits.Memory budget entry_bytes) = (empty budget entry_bytes links_of_32_bits, (refl, refl))
+no_lines_under (limits.Cost most) = (empty (record { limit = most; cost = 0 }) 32 links_of_64_bits, (refl, refl))
+no_lines_under limits.Compact = (empty (record {}) 32 links_of_32_bits, (refl, refl))
 
--- So each list of lines has something written of it.
-some_text : (lines : List (List ℕ)) → (text : List ℕ) × IsOutput lines text
-some_text [] = (no_limiter_text, inr (none_first [] refl, refl))
-some_text (first ∷ lines) = by (limit_or first)
+-- So each list of lines has something written of it,
+some_output : (lines : List (List ℕ)) → (text : List ℕ) × IsOutput lines text
+some_output [] = (no_limiter_text, inr (none_first [] refl, refl))
+some_output (first ∷ lines) = by (limit_or first)
   where
     by : ((limit : Limit) × SpellsLimit first limit) ⊎ ((limit : Limit) → SpellsLimit first limit → ⊥) → (text : List ℕ) × IsOutput (first ∷ lines) text
-    by (inl (limit, spells)) = let (text, is) = some_text_under limit lines in (text, inl (limit, first, lines, refl, spells, is))
+    by (inl (limit, spells)) = let (text, is) = under_goes_on limit [] lines [] (no_lines_under limit) in (text, inl (limit, first, lines, refl, spells, is))
     by (inr none) = (no_limiter_text, inr (none_named (first ∷ lines) lines first refl none, refl))
 
--- Where nothing was written, it is a beginning.
-pub nothing_cut : (a w : Option (List ℕ)) → WritesCut a w w
-nothing_cut None w = tt
-nothing_cut (Some x) w = let (text, is) = some_text (lines_of x) in (text, [], is, (text, refl), Appends-nil w)
+-- and what is written of the first so many goes on for more.
+output_goes_on : (lines more : List (List ℕ)) (text : List ℕ) → IsOutputSoFar lines text → (u : List ℕ) × IsOutput (lines ++ more) (text ++ u)
+output_goes_on [] more text none = let (u, is) = some_output more in (u, subst (λ l. IsOutput more (l ++ u)) (sym none) is)
+output_goes_on (line ∷ lines) more text (inl (limit, first, others, same, spells, is)) =
+    let (u, goes) = under_goes_on limit others more text is in
+    (u, inl (limit, first, others ++ more, ap (λ ls. ls ++ more) same, spells, goes))
+output_goes_on (line ∷ lines) more text (inr (none, is)) =
+    ([], inr (none_named (line ∷ lines ++ more) (lines ++ more) line refl (λ limit spells. none limit line lines refl spells), append-nil text ∙ is))
 
--- What was written after a failed flush, by what stood before it.
-cut_after_done : (a w v : Option (List ℕ)) → WritesReplay a w v → WritesCut a w v
-cut_after_done a w v h = IfSome_then a h (λ input (text, is, wrote). (text, text, inl is, ([], sym (append-nil text)), wrote))
-
-cut_after_no_limiter : (a w v : Option (List ℕ)) → IfSome a (λ input. NamesNoLimit (lines_of input)) → Appends w v no_limiter_text → WritesCut a w v
-cut_after_no_limiter a w v none wrote = IfSome_then a none (λ input is. (no_limiter_text, no_limiter_text, inr (is, refl), ([], sym (append-nil no_limiter_text)), wrote))
-
--- The flush failed: what is written stays a beginning of what may be written.
-pub flush_failed : (a w v u : Option (List ℕ)) (end : Result ReplayEnd ReplayError)
-    → (end ≡ Ok ends.Done → WritesReplay a w v)
-    → (end ≡ Ok ends.NoLimiter → IfSome a (λ input. NamesNoLimit (lines_of input)))
-    → (end ≡ Ok ends.NoLimiter → Appends w v no_limiter_text)
-    → OnErr end (WritesCut a w v)
-    → Keeps v u → WritesCut a w u
-flush_failed a w v u end done none text begins keeps = IfSome_then a (by end done none text begins) (λ input (text, part, is, begins, wrote). (text, part, is, begins, Appends-kept w v u part wrote keeps))
-  where
-    by : (end : Result ReplayEnd ReplayError)
-        → (end ≡ Ok ends.Done → WritesReplay a w v)
-        → (end ≡ Ok ends.NoLimiter → IfSome a (λ input. NamesNoLimit (lines_of input)))
-        → (end ≡ Ok ends.NoLimiter → Appends w v no_limiter_text)
-        → OnErr end (WritesCut a w v)
-        → WritesCut a w v
-    by (Ok ends.Done) p q r s = cut_after_done a w v (p refl)
-    by (Ok ends.NoLimiter) p q r s = cut_after_no_limiter a w v (q refl) (r refl)
-    by (Err e) p q r s = s
+-- What is cut within what the lines read write is cut within what all lines write.
+pub cut_of_all : (a b w v : Option (List ℕ)) → WritesCutSoFar a b w v → WritesCut a w v
+cut_of_all None b w v h = tt
+cut_of_all (Some x) b w v (lines, text, part, inl ((at_end, all), is), front, wrote) = (text, part, subst (λ ls. IsOutput ls text) (sym all) is, front, wrote)
+cut_of_all (Some x) None w v (lines, text, part, inr (rest, reads, is), front, wrote) = absurd reads.2
+cut_of_all (Some x) (Some y) w v (lines, text, part, inr (rest, reads, is), (more, front), wrote) =
+    let (u, goes) = output_goes_on lines (lines_of (rest ++ y)) text is in (
+      text ++ u,
+      part,
+      subst (λ ls. IsOutput ls (text ++ u)) (sym (lines_left x y lines rest reads)) goes,
+      (more ++ u, ap (λ l. l ++ u) front ∙ append_assoc part more u),
+      wrote,
+    )
 
 -- `NoLimiter` comes exactly where no limit is named.
-pub exactly_no_limiter : (a w v : Option (List ℕ)) (end : Result ReplayEnd ReplayError)
-    → (end ≡ Ok ends.Done → WritesReplay a w v)
-    → (end ≡ Ok ends.NoLimiter → IfSome a (λ input. NamesNoLimit (lines_of input)))
+pub exactly_no_limiter : (a b w v : Option (List ℕ)) (end : Result ReplayEnd ReplayError) → Replays a b w v end
     → OnOk end (IfSome a (λ input. (end ≡ Ok ends.NoLimiter) ↔ NamesNoLimit (lines_of input)))
-exactly_no_limiter a w v (Ok ends.Done) done none = IfSome_then a (done refl) (λ input (text, (limit, first, others, is, spells, run), wrote).
+exactly_no_limiter a b w v (Ok ends.Done) (done, at_end) = IfSome_then a done (λ input (text, (limit, first, others, is, spells, run), wrote).
     (λ other. absurd (done_is_done other), λ names. absurd (names limit first others is spells)))
   where
     done_is_done : (let done : Result ReplayEnd ReplayError = Ok ends.Done in done) ≡ Ok ends.NoLimiter → ⊥
     done_is_done e = cc
-exactly_no_limiter a w v (Ok ends.NoLimiter) done none = IfSome_then a (none refl) (λ input is. (λ same. is, λ names. refl))
-exactly_no_limiter a w v (Err e) done none = tt
+exactly_no_limiter a b w v (Ok ends.NoLimiter) (none, reads, wrote) = IfSome_then a none (λ input is. (λ same. is, λ names. refl))
+exactly_no_limiter a b w v (Err e) h = tt
 
--- Writing that no limiter is named failed.
-pub no_limiter_cut : (a b w v : Option (List ℕ)) (ending : Ending) (first : List ℕ) (e : ReplayError) → TakesLine a b ending first → ((limit : Limit) → SpellsLimit first limit → ⊥) → Fails e w v no_limiter_text → WritesCut a w v
-no_limiter_cut a b w v ending first e taken none (same, part, begins, wrote) = IfSome_then a (no_limit a b ending first taken none) (λ input is. (no_limiter_text, part, inr (is, refl), begins, wrote))
+-- What was read and written stays so while the writer's bytes stay.
+pub replays-kept : (a b w v u : Option (List ℕ)) (end : Result ReplayEnd ReplayError) → Keeps v u → Replays a b w v end → Replays a b w u end
+replays-kept a b w v u (Ok ends.Done) keeps (done, at_end) = (IfSome_then a done (λ input (text, is, wrote). (text, is, Appends-kept w v u text wrote keeps)), at_end)
+replays-kept a b w v u (Ok ends.NoLimiter) keeps (none, reads, wrote) = (none, reads, Appends-kept w v u no_limiter_text wrote keeps)
+replays-kept a b w v u (Err errors.Read) keeps (lines, text, part, is, reads, wrote) = (lines, text, part, is, reads, Appends-kept w v u text wrote keeps)
+replays-kept a b w v u (Err errors.Write) keeps h = IfSome_then a h (λ input (lines, text, part, is, front, wrote). (lines, text, part, is, front, Appends-kept w v u part wrote keeps))
+
+all_of : (text : List ℕ) → IsFront text text
+all_of text = ([], sym (append-nil text))
+
+so_far_output : (lines : List (List ℕ)) (text : List ℕ) → IsTextSoFar lines text → IsOutputSoFar lines text
+so_far_output [] text is = is
+so_far_output (first ∷ others) text (limit, spells, is) = inl (limit, first, others, refl, spells, is)
+
+-- The flush failed: what is written is all of what may be written of the lines that were read.
+pub flush_failed : (a b w v : Option (List ℕ)) (end : Result ReplayEnd ReplayError) → Replays a b w v end → Replays a b w v (Err errors.Write)
+flush_failed None b w v end h = tt
+flush_failed (Some x) b w v (Ok ends.Done) ((text, is, wrote), at_end) = (lines_of x, text, text, inl ((at_end, refl), inl is), all_of text, wrote)
+flush_failed (Some x) b w v (Ok ends.NoLimiter) (none, (line, inr rest), wrote) = (lines_of x, no_limiter_text, no_limiter_text, inl ((rest.2, refl), inr (none, refl)), all_of no_limiter_text, wrote)
+flush_failed (Some x) None w v (Ok ends.NoLimiter) (none, (line, inl fed), wrote) = absurd fed.1
+flush_failed (Some x) (Some y) w v (Ok ends.NoLimiter) (none, (line, inl fed), wrote) =
+    let first : lines_of x ≡ line ∷ lines_of y = ap lines_of fed.1 ∙ lines_of-fed line y fed.0 in
+    let unnamed : (limit : Limit) → SpellsLimit line limit → ⊥ = λ limit spells. none limit line (lines_of y) first spells in
+    (line ∷ [], no_limiter_text, no_limiter_text, inr ([], one_taken x y line fed, inr (none_named (line ∷ []) [] line refl unnamed, refl)), all_of no_limiter_text, wrote)
+  where
+    one_taken : (x y line : List ℕ) → TakesFed (Some x) (Some y) line → TakesLines (Some x) (Some y) (line ∷ []) []
+    one_taken x y line fed = takes_line_before (Some x) (Some y) (Some y) line [] [] fed (tt, tt, refl)
+flush_failed (Some x) b w v (Err errors.Read) (lines, text, part, is, reads, wrote) = (lines, text, text, inr (part, reads, so_far_output lines text is), all_of text, wrote)
+flush_failed (Some x) b w v (Err errors.Write) h = h
+
+-- A read failed in the first line.
+pub first_failed : (a b w : Option (List ℕ)) (part : List ℕ) → TakesPart a b part → Replays a b w w (Err errors.Read)
+first_failed a b w part taken = ([], [], part, refl, (tt, taken.0, taken.1), Appends-nil w)
+
+-- The first line names no limit.
+module _ (a b w v : Option (List ℕ)) (ending : Ending) (first : List ℕ) (none : (limit : Limit) → SpellsLimit first limit → ⊥) (taken : TakesLine a b ending first) where
+  takes_first : TakesFirst a b
+  takes_first = by ending taken
+    where
+      by : (ending : Ending) → TakesLine a b ending first → TakesFirst a b
+      by endings.Feed fed = (first, inl fed)
+      by endings.InputEnd rest = (first, inr rest.0)
+      by endings.Nothing rest = (first, inr rest.0)
+
+  pub no_limiter : Appends w v no_limiter_text → Replays a b w v (Ok ends.NoLimiter)
+  no_limiter wrote = (no_limit a b ending first taken none, takes_first, wrote)
+
+  -- a write of that failed
+  pub no_limiter_cut : (e : ReplayError) → Fails e w v no_limiter_text → Replays a b w v (Err e)
+  no_limiter_cut errors.Read (same, part, front, wrote) = absurd (cc same)
+  no_limiter_cut errors.Write (same, part, front, wrote) = by a b ending taken (no_limit a b ending first taken none)
+    where
+      by : (a b : Option (List ℕ)) (ending : Ending) → TakesLine a b ending first → IfSome a (λ input. NamesNoLimit (lines_of input)) → WritesCutSoFar a b w v
+      by None b ending taken names = tt
+      by (Some x) None endings.Feed fed names = absurd fed.1
+      by (Some x) (Some y) endings.Feed fed names =
+          (first ∷ [], no_limiter_text, part, inr ([], takes_line_before (Some x) (Some y) (Some y) first [] [] fed (tt, tt, refl), inr (none_named (first ∷ []) [] first refl none, refl)), front, wrote)
+      by (Some x) b endings.InputEnd rest names = (lines_of x, no_limiter_text, part, inl ((rest.0.2, refl), inr (names, refl)), front, wrote)
+      by (Some x) b endings.Nothing rest names = (lines_of x, no_limiter_text, part, inl ((rest.0.2, refl), inr (names, refl)), front, wrote)
 
 spelled_some : (line : List ℕ) (limit : Limit) → SpellsLimit line limit → 0 < length line
 spelled_some line (limits.Length n) (fits, is) = omega (arith, ap length is)
+spelled_some line (limits.Memory budget entry_bytes) (fits, is) = omega (arith, ap length is)
+spelled_some line (limits.Cost most) (fits, is) = omega (arith, ap length is)
 spelled_some line limits.Compact (fits, is) = omega (arith, ap length is)
 
 -- a line that no line feed ended is all that was left
-pub rest_taken : (a b : Option (List ℕ)) (ending : Ending) (line : List ℕ) → (ending ≡ endings.Feed → ⊥) → TakesLine a b ending line → TakesRest a b line
+rest_taken : (a b : Option (List ℕ)) (ending : Ending) (line : List ℕ) → (ending ≡ endings.Feed → ⊥) → TakesLine a b ending line → TakesRest a b line
 rest_taken a b endings.Feed line not_fed taken = absurd (not_fed refl)
 rest_taken a b endings.InputEnd line not_fed taken = taken.0
 rest_taken a b endings.Nothing line not_fed taken = taken.0
 
 -- The first line is all there is.
-pub done_first : (a b w : Option (List ℕ)) (first : List ℕ) (limit : Limit) → SpellsLimit first limit → TakesRest a b first → WritesReplay a w w
-done_first a b w first limit spells taken = only_first a b first (λ input. (text : List ℕ) × IsReplay (lines_of input) text × Appends w w text) taken
-    (λ input same. ([], (limit, first, [], same ∙ lines_of-last first taken.0 (spelled_some first limit spells), spells, no_lines_under limit), Appends-nil w))
+pub done_first : (a b w : Option (List ℕ)) (ending : Ending) (first : List ℕ) (limit : Limit) → SpellsLimit first limit → (ending ≡ endings.Feed → ⊥) → TakesLine a b ending first
+    → Replays a b w w (Ok ends.Done)
+done_first a b w ending first limit spells not_fed line =
+    let taken = rest_taken a b ending first not_fed line in (
+      only_first a b first (λ input. (text : List ℕ) × IsReplay (lines_of input) text × Appends w w text) taken
+          (λ input same. ([], (limit, first, [], same ∙ lines_of-last first taken.0 (spelled_some first limit spells), spells, no_lines_under limit), Appends-nil w)),
+      taken.2,
+    )
 
-module _ (a b w v : Option (List ℕ)) (first : List ℕ) (limit : Limit) (spells : SpellsLimit first limit) (taken : TakesFed a b first) where
-  -- the others were answered
-  pub done_others : WritesText (IsTextUnder limit) b w v → WritesReplay a w v
-  done_others = after_first a b first _ _ taken (λ rest input all (text, is, wrote). (text, (limit, first, lines_of rest, all, spells, is), wrote))
+-- what holds at each input holds at one that is known
+if_known : (a : Option (List ℕ)) {P : List ℕ → Type 0} → ((input : List ℕ) → P input) → IfSome a P
+if_known None f = tt
+if_known (Some x) f = f x
 
-  -- a read or a write failed among them
-  pub cut_others : BeginsText (IsTextUnder limit) b w v → WritesCut a w v
-  cut_others = after_first a b first _ _ taken (λ rest input all (text, part, is, begins, wrote). (text, part, inl (limit, first, lines_of rest, all, spells, is), begins, wrote))
+-- The others were answered after the first.
+module _ (a b c w v : Option (List ℕ)) (first : List ℕ) (limit : Limit) (spells : SpellsLimit first limit) (taken : TakesFed a b first) where
+  pub done_others : Answers (IsTextUnder limit) b c w v (Ok tt) → Replays a c w v (Ok ends.Done)
+  done_others (done, at_end) = (
+    after_first a b first _ _ taken (λ rest input all (text, is, wrote). (text, (limit, first, lines_of rest, all, spells, is), wrote)) done,
+    Consumes_end a b c _ taken.1 at_end,
+  )
 
-  -- a read failed among them
-  pub read_others : (c : Option (List ℕ)) → WritesTextSoFar (IsTextUnder limit) b c w v → WritesSoFar a c w v
-  read_others c (lines, text, part, is, reads, wrote) = (first ∷ lines, text, part, (limit, spells, is), takes_line_before a b c first lines part taken reads, wrote)
+  pub others_failed : (e : ReplayError) → Answers (IsTextUnder limit) b c w v (Err e) → Replays a c w v (Err e)
+  others_failed errors.Read (lines, text, part, is, reads, wrote) = (first ∷ lines, text, part, (limit, spells, is), takes_line_before a b c first lines part taken reads, wrote)
+  others_failed errors.Write (lines, text, part, is, inl reads, front, wrote) =
+      if_known a (λ input. (first ∷ lines, text, part, inr ([], takes_line_before a b c first lines [] taken reads, inl (limit, first, lines, refl, spells, is)), front, wrote))
+  others_failed errors.Write (lines, text, part, is, inr (at_end, all), front, wrote) =
+      let whole = after_first a b first _ (λ input. lines_of input ≡ first ∷ lines) taken (λ rest input is all. is ∙ ap (λ ls. first ∷ ls) all) all in
+      if_known a (λ input. (first ∷ lines, text, part, inl ((Consumes_end a b c _ taken.1 at_end, whole), inl (limit, first, lines, refl, spells, is)), front, wrote))

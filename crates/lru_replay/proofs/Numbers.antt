@@ -6,7 +6,7 @@ use Rattle.std.proofs.lemmas.Result.{OkIff-at_ok}
 use Rattle.std.proofs.lemmas.Str.{IsUtf8-from_ascii}
 use Rattle.std.specs.Result.{result_ok}
 use Rattle.std.specs.Str.Parse.{ParsesUnsigned, IsNumeral, digits_value, AllDigits}
-use Rattle.lru_replay.specs.Grammar.{SpellsNumber, StartsAsNumber, SpellsPair, SpellsLimit}
+use Rattle.lru_replay.specs.Grammar.{SpellsNumber, StartsAsNumber, SpellsPair, SpellsLimit, pair_spelling}
 use Rattle.lru_replay.specs.declared.call.Limit.{Limit}
 use Rattle.lru_replay.specs.declared.call.Limit.TheVariants as limits
 use Rattle.lru_replay.specs.Lines.{Lacks}
@@ -64,6 +64,12 @@ length_too_large line rest n e s large (limits.Length m) h =
     let same : codes "length " ++ rest ≡ codes "length " ++ decimal m = sym e ∙ h.1 in
     let digits : rest ≡ decimal m = cc in
     omega (arith, decimal_injective n m s.0 (omega (arith, h.0)) (sym s.1 ∙ digits), h.0, large)
+length_too_large line rest n e s large (limits.Memory budget entry_bytes) h = let k : codes "length " ++ rest ≡ codes "memory " ++ pair_spelling budget entry_bytes = sym e ∙ h.1 in
+    let first : 108 ≡ 109 = ap (λ l. get_or l 0 0) k in
+    omega (arith, first)
+length_too_large line rest n e s large (limits.Cost most) h = let k : codes "length " ++ rest ≡ codes "cost " ++ decimal most = sym e ∙ h.1 in
+    let first : 108 ≡ 99 = ap (λ l. get_or l 0 0) k in
+    omega (arith, first)
 length_too_large line rest n e s large limits.Compact h = let k : codes "length " ++ rest ≡ codes "compact" = sym e ∙ h.1 in
     let first : 108 ≡ 99 = ap (λ l. get_or l 0 0) k in
     omega (arith, first)

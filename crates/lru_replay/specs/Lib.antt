@@ -1,5 +1,6 @@
 pub mod Maps
 pub mod Limits
+pub mod Figures
 pub mod Steps
 pub mod Grammar
 pub mod Lines

@@ -1,5 +1,5 @@
 -- The lines of an input: each is ended by a line feed, which the last may lack.
-use Rattle.std.specs.Prelude.{◌≡◌, ◌≢◌, ℕ, ◌<◌, List, [], ◌∷◌, ◌++◌, ◌==◌, if◌then◌else◌, length, flat_map, Option, OnSome}
+use Rattle.std.specs.Prelude.{◌≡◌, ◌≢◌, ℕ, ◌<◌, List, [], ◌∷◌, ◌++◌, ◌==◌, if◌then◌else◌, length, flat_map, Option, OnSome, IfSome, ◌⊎◌}
 use Rattle.std.specs.List.{AllByRecursion}
 use Rattle.std.specs.Io.KnownBytes.{Consumes, IsAtEnd}
 use Rattle.lru_replay.specs.declared.line.Piece.{Piece}
@@ -51,6 +51,18 @@ module _ (old new : Option (List ℕ)) where
   TakesLine endings.InputEnd line = TakesRest line × (0 < length line)
   TakesLine endings.Nothing line = TakesRest line × (line ≡ [])
 
+  -- the first line was read, and no more
+  abbrev pub TakesFirst : Type 0
+  TakesFirst = (line : List ℕ) × (TakesFed line ⊎ TakesRest line)
+
   -- these lines were read with their line feeds, and a part of the next
   abbrev pub TakesLines : List (List ℕ) → List ℕ → Type 0
   TakesLines lines part = AllByRecursion (Lacks 10) lines × Lacks 10 part × Consumes old new (flat_map fed lines ++ part)
+
+  -- all that was left was read, and these are its lines
+  abbrev pub TakesAll : List (List ℕ) → Type 0
+  TakesAll lines = OnSome old (IsAtEnd new) × IfSome old (λ input. lines_of input ≡ lines)
+
+  -- these lines were read whole: with their line feeds, or as all that was left
+  abbrev pub TakesWhole : List (List ℕ) → Type 0
+  TakesWhole lines = TakesLines lines [] ⊎ TakesAll lines

@@ -8,9 +8,16 @@ use Rattle.schnellru.specs.State.{State, empty_map}
 abbrev pub Map : Type 0 → Type 0
 Map S = State ℕ ℕ S Mixer
 
--- an empty one, with 32 bytes an entry and links of 32 bits
-abbrev pub empty : {S : Type 0} → S → Map S
-empty limiter = empty_map limiter (seeded (1 ∷ 2 ∷ 3 ∷ 4 ∷ [])) 32 4294967295
+-- an empty one, with so many bytes an entry, and links below max
+abbrev pub empty : {S : Type 0} → S → ℕ → ℕ → Map S
+empty limiter entry_bytes max = empty_map limiter (seeded (1 ∷ 2 ∷ 3 ∷ 4 ∷ [])) entry_bytes max
+
+-- numbers below these are links of 32 bits and of 64 bits
+abbrev pub links_of_32_bits : ℕ
+links_of_32_bits = 4294967295
+
+abbrev pub links_of_64_bits : ℕ
+links_of_64_bits = 18446744073709551615
 
 -- the hash of a key
 abbrev pub hash_of : Mixer → ℕ → ℕ

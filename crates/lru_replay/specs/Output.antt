@@ -1,17 +1,17 @@
 -- What is written: the text of an answer, or a beginning of it where a write fails.
 use Rattle.std.specs.Prelude.{◌≡◌, ℕ, Bool, true, false, List, [], ◌∷◌, ◌++◌, Option, Some, None, Result, Ok, Err, decimal, codes}
 use Rattle.std.specs.Io.KnownBytes.{Appends}
+use Rattle.schnellru.specs.Lists.{IsFront}
+use Rattle.schnellru.specs.declared.map.reserve.ReserveError.{ReserveError}
+use Rattle.schnellru.specs.declared.map.reserve.ReserveError.TheVariants.{TooLarge, Refused, Memory}
+use Rattle.lru_replay.specs.declared.figures.Figures.{Figures}
 use Rattle.lru_replay.specs.declared.outcome.ReplayError.{ReplayError}
 use Rattle.lru_replay.specs.declared.outcome.ReplayError.TheVariants as errors
-use Rattle.lru_replay.specs.Steps.{Answer, flag, value, listed, no_memory, bad}
-
--- the text begins so
-abbrev pub IsBeginning : List ℕ → List ℕ → Type 0
-IsBeginning part text = (rest : List ℕ) × (text ≡ part ++ rest)
+use Rattle.lru_replay.specs.Steps.{Answer, flag, value, pair, listed, reservation, stats, done, no_memory, bad}
 
 -- a write failed, and a beginning of the text was written
 abbrev pub Fails : ReplayError → Option (List ℕ) → Option (List ℕ) → List ℕ → Type 0
-Fails e old new text = (e ≡ errors.Write) × (part : List ℕ) × IsBeginning part text × Appends old new part
+Fails e old new text = (e ≡ errors.Write) × (part : List ℕ) × IsFront part text × Appends old new part
 
 -- the text was written, or a beginning of it where a write failed
 abbrev pub Writes : {A : Type 0} → Option (List ℕ) → Option (List ℕ) → Result A ReplayError → List ℕ → Type 0
@@ -36,14 +36,43 @@ abbrev pub value_text : Option ℕ → List ℕ
 value_text None = codes "none"
 value_text (Some v) = decimal v
 
+-- as `3:30`, and `none` for none
+abbrev pub left_text : Option (ℕ × ℕ) → List ℕ
+left_text None = codes "none"
+left_text (Some p) = pair_text p
+
 abbrev pub flag_text : Bool → List ℕ
 flag_text true = codes "true"
 flag_text false = codes "false"
 
+abbrev pub reservation_text : Result (Unit {0}) ReserveError → List ℕ
+reservation_text (Ok _) = codes "ok"
+reservation_text (Err TooLarge) = codes "too large"
+reservation_text (Err Refused) = codes "refused"
+reservation_text (Err Memory) = codes "no memory"
+
+-- a name and its number
+abbrev pub named_text : List ℕ → ℕ → List ℕ
+named_text name n = name ++ decimal n
+
+abbrev pub cost_text : Option ℕ → List ℕ
+cost_text None = []
+cost_text (Some cost) = named_text (codes " cost ") cost
+
+-- as `len 1 capacity 3 memory 148 moved 0 placed 3`, and ` cost 3` after it where a cost is kept
+abbrev pub figures_text : Figures → List ℕ
+figures_text figures = named_text (codes "len ") figures.len ++ (named_text (codes " capacity ") figures.capacity
+    ++ (named_text (codes " memory ") figures.memory ++ (named_text (codes " moved ") figures.moved
+    ++ (named_text (codes " placed ") figures.placed ++ cost_text figures.cost))))
+
 abbrev pub answer_text : Answer → List ℕ
 answer_text (flag there) = flag_text there
 answer_text (value v) = value_text v
+answer_text (pair left) = left_text left
 answer_text (listed pairs) = pairs_text pairs
+answer_text (reservation result) = reservation_text result
+answer_text (stats figures) = figures_text figures
+answer_text done = codes "ok"
 answer_text no_memory = codes "no memory"
 answer_text bad = codes "bad"
 

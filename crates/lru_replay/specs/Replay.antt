@@ -1,21 +1,27 @@
 -- A whole replay: what is written of an input, at its end and where a read or a write fails.
-use Rattle.std.specs.Prelude.{◌≡◌, ℕ, List, [], ◌∷◌, ◌⊎◌, Option, Result, Ok, Err}
+use Rattle.std.specs.Prelude.{◌≡◌, ℕ, List, [], ◌∷◌, ◌⊎◌, Option, OnSome, IfSome, Result, Ok, Err}
+use Rattle.std.specs.Io.KnownBytes.{Appends, IsAtEnd}
 use Rattle.lru_limits.specs.declared.limiters.unlimited_compact.UnlimitedCompact.{UnlimitedCompact}
 use Rattle.lru_replay.specs.declared.call.Limit.{Limit}
 use Rattle.lru_replay.specs.declared.call.Limit.TheVariants as limits
 use Rattle.lru_replay.specs.declared.outcome.ReplayEnd.{ReplayEnd}
 use Rattle.lru_replay.specs.declared.outcome.ReplayEnd.TheVariants as ends
 use Rattle.lru_replay.specs.declared.outcome.ReplayError.{ReplayError}
+use Rattle.lru_replay.specs.declared.outcome.ReplayError.TheVariants as errors
+use Rattle.schnellru.specs.Lists.{IsFront}
 use Rattle.lru_replay.specs.Grammar.{SpellsLimit}
-use Rattle.lru_replay.specs.Limits.{length_rules, length_offers, no_rules, all_offers}
-use Rattle.lru_replay.specs.Maps.{empty}
+use Rattle.lru_replay.specs.Limits.{length_rules, length_offers, memory_rules, cost_rules, cost_offers, no_rules, all_offers, no_cost, cost_told}
+use Rattle.lru_replay.specs.Lines.{lines_of, TakesFirst, TakesLines, TakesAll}
+use Rattle.lru_replay.specs.Maps.{empty, links_of_32_bits, links_of_64_bits}
 use Rattle.lru_replay.specs.Output.{no_limiter_text}
-use Rattle.lru_replay.specs.Runs.{IsTextOf, WritesText, WritesTextSoFar, BeginsText}
+use Rattle.lru_replay.specs.Runs.{IsTextOf, WritesText, WritesTextSoFar}
 
 -- The lines are answered by this text, from the empty map under the limit.
 abbrev pub IsTextUnder : Limit → List (List ℕ) → List ℕ → Type 0
-IsTextUnder (limits.Length most) = IsTextOf length_rules length_offers (empty most)
-IsTextUnder limits.Compact = IsTextOf {S = UnlimitedCompact} no_rules all_offers (empty (record {}))
+IsTextUnder (limits.Length most) = IsTextOf length_rules length_offers no_cost (empty most 32 links_of_32_bits)
+IsTextUnder (limits.Memory budget entry_bytes) = IsTextOf memory_rules all_offers no_cost (empty budget entry_bytes links_of_32_bits)
+IsTextUnder (limits.Cost most) = IsTextOf cost_rules cost_offers cost_told (empty (record { limit = most; cost = 0 }) 32 links_of_64_bits)
+IsTextUnder limits.Compact = IsTextOf {S = UnlimitedCompact} no_rules all_offers no_cost (empty (record {}) 32 links_of_32_bits)
 
 -- The first line names a limit, and the others are answered by this text, from the empty map under that limit.
 abbrev pub IsReplay : List (List ℕ) → List ℕ → Type 0
@@ -35,8 +41,13 @@ abbrev pub IsTextSoFar : List (List ℕ) → List ℕ → Type 0
 IsTextSoFar [] text = text ≡ []
 IsTextSoFar (first ∷ others) text = (limit : Limit) × SpellsLimit first limit × IsTextUnder limit others text
 
--- The arguments below are, as in `Runs`, what the reader had left, where it is known, then in the last one alone what it
--- has left now, and the writer's bytes before and after.
+-- what is written of the first so many lines: nothing yet of none
+abbrev pub IsOutputSoFar : List (List ℕ) → List ℕ → Type 0
+IsOutputSoFar [] text = text ≡ []
+IsOutputSoFar (first ∷ others) text = IsOutput (first ∷ others) text
+
+-- The arguments below are, as in `Runs`, what the reader had left, where it is known, what it has left now, unless the word
+-- does not speak of it, and the writer's bytes before and after.
 
 -- A replay of all the lines was written.
 abbrev pub WritesReplay : Option (List ℕ) → Option (List ℕ) → Option (List ℕ) → Type 0
@@ -44,11 +55,27 @@ WritesReplay = WritesText IsReplay
 
 -- A beginning of what is written of the lines was written.
 abbrev pub WritesCut : Option (List ℕ) → Option (List ℕ) → Option (List ℕ) → Type 0
-WritesCut = BeginsText IsOutput
+WritesCut from old new = IfSome from (λ input. (text part : List ℕ)
+    × IsOutput (lines_of input) text × IsFront part text × Appends old new part)
 
 -- Some whole lines were read, and a part of the next, and the text of the whole lines was written.
 abbrev pub WritesSoFar : Option (List ℕ) → Option (List ℕ) → Option (List ℕ) → Option (List ℕ) → Type 0
 WritesSoFar = WritesTextSoFar IsTextSoFar
+
+-- Lines were read whole, and a beginning of what is written of them was written. They are all lines of the input, or the
+-- first so many, and then a part of the next may have been read.
+abbrev pub WritesCutSoFar : Option (List ℕ) → Option (List ℕ) → Option (List ℕ) → Option (List ℕ) → Type 0
+WritesCutSoFar from to old new = IfSome from (λ _. (lines : List (List ℕ)) × (text part : List ℕ)
+    × ((TakesAll from to lines × IsOutput lines text) ⊎ ((rest : List ℕ) × TakesLines from to lines rest × IsOutputSoFar lines text))
+    × IsFront part text × Appends old new part)
+
+-- what was read and written, by how the replay ended
+abbrev pub Replays : Option (List ℕ) → Option (List ℕ) → Option (List ℕ) → Option (List ℕ) → Result ReplayEnd ReplayError → Type 0
+Replays from to old new (Ok ends.Done) = WritesReplay from old new × OnSome from (IsAtEnd to)
+Replays from to old new (Ok ends.NoLimiter) =
+    IfSome from (λ input. NamesNoLimit (lines_of input)) × TakesFirst from to × Appends old new no_limiter_text
+Replays from to old new (Err errors.Read) = WritesSoFar from to old new
+Replays from to old new (Err errors.Write) = WritesCutSoFar from to old new
 
 -- 0 where the lines were carried out, 1 where none names a limit, and 2 where a read or a write failed
 abbrev pub status_of : Result ReplayEnd ReplayError → ℕ

@@ -1,6 +1,6 @@
 //! What a line says: a call on the map, or, the first line, what limits the map.
 ghost use Rattle.std.specs.Prelude.{◌≡◌, ◌≢◌, ℕ, List, ◌++◌, IfSome, IfNone, true, false};
-ghost use Rattle.lru_replay.specs.Grammar.{SpellsCall, SpellsLimit, SpellsPair, SpellsNumber, StartsAsNumber};
+ghost use Rattle.lru_replay.specs.Grammar.{SpellsCall, IsPlain, SpellsLimit, SpellsPair, SpellsNumber, StartsAsNumber};
 
 use crate::bytes::index_of;
 
@@ -13,8 +13,20 @@ pub enum Call {
     Get(u64),
     /// `peek K`: gives the value of the key.
     Peek(u64),
+    /// `remove K`: takes the pair of the key out, and gives its value.
+    Remove(u64),
+    /// `pop-oldest`: takes the oldest pair out, and gives it.
+    PopOldest,
+    /// `pop-newest`: takes the newest pair out, and gives it.
+    PopNewest,
+    /// `reserve N`: makes room for so many pairs more.
+    Reserve(u64),
+    /// `clear`: drops all pairs.
+    Clear,
     /// `list`: gives all pairs.
     List,
+    /// `stats`: gives the figures of the map.
+    Stats,
 }
 
 /// What limits the map.
@@ -22,6 +34,10 @@ pub enum Call {
 pub enum Limit {
     /// `length N`: at most so many pairs.
     Length(u32),
+    /// `memory N E`: a table of at most N bytes, where an entry has E.
+    Memory(usize, usize),
+    /// `cost N`: at most this sum of the values.
+    Cost(u64),
     /// `compact`: nothing does.
     Compact,
 }
@@ -88,8 +104,36 @@ pub fn call_of(line: &[u8]) -> Option<Call>
         let key = number(rest)?;
         return Some(Call::Peek(key));
     }
+    if let Some(rest) = after(line, b"remove ") {
+        let key = number(rest)?;
+        return Some(Call::Remove(key));
+    }
+    if let Some(rest) = after(line, b"reserve ") {
+        let n = number(rest)?;
+        return Some(Call::Reserve(n));
+    }
+    plain_call_of(line)
+}
+
+/// The call that the line spells by one word alone.
+fn plain_call_of(line: &[u8]) -> Option<Call>
+    ensures some { IfSome result (λ call. SpellsCall line.now call) }
+    ensures none { IfNone result ((call : Call) → IsPlain call → SpellsCall line.now call → ⊥) }
+{
     if line == b"list".as_slice() {
         return Some(Call::List);
+    }
+    if line == b"pop-oldest".as_slice() {
+        return Some(Call::PopOldest);
+    }
+    if line == b"pop-newest".as_slice() {
+        return Some(Call::PopNewest);
+    }
+    if line == b"clear".as_slice() {
+        return Some(Call::Clear);
+    }
+    if line == b"stats".as_slice() {
+        return Some(Call::Stats);
     }
     None
 }
@@ -105,6 +149,14 @@ pub fn limit_of(line: &[u8]) -> Option<Limit>
             return None;
         }
         return Some(Limit::Length(n as u32));
+    }
+    if let Some(rest) = after(line, b"memory ") {
+        let (budget, entry_bytes) = number_pair(rest)?;
+        return Some(Limit::Memory(budget as usize, entry_bytes as usize));
+    }
+    if let Some(rest) = after(line, b"cost ") {
+        let most = number(rest)?;
+        return Some(Limit::Cost(most));
     }
     if line == b"compact".as_slice() {
         return Some(Limit::Compact);

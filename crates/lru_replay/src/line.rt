@@ -7,9 +7,12 @@ use crate::outcome::ReplayError;
 use std::io::{BufRead, ErrorKind};
 use std::marker::Model;
 
-/// How many bytes of a line are held: one more than the longest line that says something has, so that a
-/// longer line is told apart from it.
-const HELD: usize = 49;
+/// How many bytes the longest line has that says something: `insert` with two numbers of 20 digits.
+const LONGEST: usize = 48;
+
+/// How many bytes of a line are held: one more than the longest that says something has, so that a longer
+/// line is told apart from it.
+const HELD: usize = LONGEST + 1;
 
 /// The first `HELD` bytes of a line.
 #[derive(Drop)]

@@ -1,9 +1,10 @@
 //! The texts of answers, written piece by piece.
 ghost use Rattle.std.specs.Prelude.{◌≡◌, ℕ, Bool, Option, [], ◌∷◌, decimal};
-ghost use Rattle.lru_replay.specs.Output.{Writes, flag_text, value_text, pair_text, rest_text, pairs_text};
+ghost use Rattle.lru_replay.specs.Output.{Writes, flag_text, value_text, left_text, pair_text, rest_text, pairs_text, reservation_text, figures_text, cost_text, named_text};
 
+use crate::figures::Figures;
 use crate::outcome::ReplayError;
-use schnellru::{LinkType, Walk};
+use schnellru::{LinkType, ReserveError, Walk};
 use std::io::{ErrorKind, Write};
 
 /// Writes all the bytes. A write that was interrupted is tried again.
@@ -49,6 +50,31 @@ pub fn write_value<W: Write>(writer: &mut W, value: Option<u64>) -> Result<(), R
     }
 }
 
+/// Writes the pair, or `none`.
+pub fn write_left<W: Write>(writer: &mut W, left: Option<(u64, u64)>) -> Result<(), ReplayError>
+    ensures { Writes (W.contents writer.old) (W.contents writer.new) result (left_text left) }
+{
+    match left {
+        Some((key, value)) => write_pair(writer, key, value),
+        None => write_bytes(writer, b"none"),
+    }
+}
+
+/// Writes whether room is reserved, or why not.
+pub fn write_reservation<W: Write>(
+    writer: &mut W,
+    reserved: Result<(), ReserveError>,
+) -> Result<(), ReplayError>
+    ensures { Writes (W.contents writer.old) (W.contents writer.new) result (reservation_text reserved) }
+{
+    match reserved {
+        Ok(()) => write_bytes(writer, b"ok"),
+        Err(ReserveError::TooLarge) => write_bytes(writer, b"too large"),
+        Err(ReserveError::Refused) => write_bytes(writer, b"refused"),
+        Err(ReserveError::Memory) => write_bytes(writer, b"no memory"),
+    }
+}
+
 /// Writes the pairs with one space between them, or `-` for none.
 pub fn write_pairs<N: LinkType, W: Write>(
     writer: &mut W,
@@ -75,6 +101,36 @@ fn write_rest<N: LinkType, W: Write>(
         write_pair(writer, *key, *value)?;
     }
     Ok(())
+}
+
+/// Writes the figures by their names.
+pub fn write_figures<W: Write>(writer: &mut W, figures: Figures) -> Result<(), ReplayError>
+    ensures { Writes (W.contents writer.old) (W.contents writer.new) result (figures_text figures) }
+{
+    write_named(writer, b"len ", figures.len as u64)?;
+    write_named(writer, b" capacity ", figures.capacity as u64)?;
+    write_named(writer, b" memory ", figures.memory as u64)?;
+    write_named(writer, b" moved ", figures.moved)?;
+    write_named(writer, b" placed ", figures.placed)?;
+    write_cost(writer, figures.cost)
+}
+
+/// Writes the cost, where one is kept.
+fn write_cost<W: Write>(writer: &mut W, cost: Option<u64>) -> Result<(), ReplayError>
+    ensures { Writes (W.contents writer.old) (W.contents writer.new) result (cost_text cost) }
+{
+    match cost {
+        Some(cost) => write_named(writer, b" cost ", cost),
+        None => write_bytes(writer, b""),
+    }
+}
+
+/// Writes a name and its number.
+fn write_named<W: Write>(writer: &mut W, name: &[u8], number: u64) -> Result<(), ReplayError>
+    ensures { Writes (W.contents writer.old) (W.contents writer.new) result (named_text name.now number) }
+{
+    write_bytes(writer, name)?;
+    write_number(writer, number)
 }
 
 fn write_pair<W: Write>(writer: &mut W, key: u64, value: u64) -> Result<(), ReplayError>

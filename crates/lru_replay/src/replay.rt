@@ -1,23 +1,27 @@
 //! A replay, from the lines of a reader to the answer lines of a writer.
-ghost use Rattle.std.specs.Prelude.{◌≡◌, ◌↔◌, nat_eq, IfSome, OnOk, OnErr, IsErrOf};
+ghost use Rattle.std.specs.Prelude.{◌≡◌, ◌↔◌, nat_eq, IfSome, OnOk, IsErrOf};
 ghost use Rattle.std.specs.Io.KnownBytes.{Appends, IsAtEnd};
 ghost use Rattle.std.specs.Option.{OnSome};
 ghost use Rattle.schnellru.specs.Calls.{promoted};
 ghost use Rattle.schnellru.specs.Lists.{lookup};
-ghost use Rattle.schnellru.specs.State.{IsMap};
-ghost use Rattle.lru_replay.specs.Limits.{AlwaysOffers};
-ghost use Rattle.lru_replay.specs.Lines.{lines_of};
+ghost use Rattle.schnellru.specs.State.{IsSized};
+ghost use Rattle.lru_replay.specs.Lines.{lines_of, TakesFirst};
 ghost use Rattle.lru_replay.specs.Maps.{empty};
 ghost use Rattle.lru_replay.specs.Output.{Writes, answer_text, no_limiter_text};
-ghost use Rattle.lru_replay.specs.Replay.{IsTextUnder, NamesNoLimit, WritesReplay, WritesSoFar, WritesCut};
-ghost use Rattle.lru_replay.specs.Runs.{LineStep, AnswersLine, IsTextOf, WritesText, WritesTextSoFar, BeginsText};
+ghost use Rattle.lru_replay.specs.Replay.{IsTextUnder, NamesNoLimit, WritesReplay, WritesSoFar, WritesCut, WritesCutSoFar, Replays};
+ghost use Rattle.lru_replay.specs.Runs.{LineStep, AnswersLine, IsTextOf, Answers};
 ghost use Rattle.lru_replay.specs.Steps.{Answer};
 
 use crate::call::{Call, Limit, call_of, limit_of};
+use crate::figures::{TellsCost, figures_of};
 use crate::line::{Ending, Line, read_line};
 use crate::outcome::{ReplayEnd, ReplayError};
-use crate::output::{write_bytes, write_flag, write_pairs, write_value};
-use schnellru::{ByLength, Insertion, LruMap, RandomState, UnlimitedCompact};
+use crate::output::{
+    write_bytes, write_figures, write_flag, write_left, write_pairs, write_reservation, write_value,
+};
+use schnellru::{
+    ByCost, ByLength, ByMemoryUsage, Insertion, LruMap, RandomState, UnlimitedCompact,
+};
 use std::alloc::Global;
 use std::io::{BufRead, Write};
 
@@ -36,64 +40,66 @@ fn get<L: Insertion<u64, u64, u64>>(map: &mut LruMap<u64, u64, L>, key: u64) -> 
 }
 
 /// Carries out what a line says, and writes the answer.
-fn carry_out<L: Insertion<u64, u64, u64>, W: Write>(
+fn carry_out<L: Insertion<u64, u64, u64> + TellsCost, W: Write>(
     map: &mut LruMap<u64, u64, L>,
     line: &[u8],
     writer: &mut W,
 ) -> Result<(), ReplayError>
-    requires map { IsMap nat_eq map.old }
-    ensures step { (answer : Answer) × LineStep L.rules L.offers map.old line.now answer map.new
+    ensures { (answer : Answer) × LineStep L.rules L.offers L.told map.old line.now answer map.new
         × Writes (W.contents writer.old) (W.contents writer.new) result (answer_text answer) }
-    ensures map { IsMap nat_eq map.new }
 {
     match call_of(line) {
         Some(Call::Insert(key, value)) => match map.insert(key, value) {
             Ok(there) => write_flag(writer, there),
             Err(_) => write_bytes(writer, b"no memory"),
         },
-        Some(Call::Get(key)) => {
-            let value = get(map, key);
-            write_value(writer, value)
-        }
-        Some(Call::Peek(key)) => {
-            let value = map.peek(&key).copied();
-            write_value(writer, value)
+        Some(Call::Get(key)) => write_value(writer, get(map, key)),
+        Some(Call::Peek(key)) => write_value(writer, map.peek(&key).copied()),
+        Some(Call::Remove(key)) => write_value(writer, map.remove(&key)),
+        Some(Call::PopOldest) => write_left(writer, map.pop_oldest()),
+        Some(Call::PopNewest) => write_left(writer, map.pop_newest()),
+        Some(Call::Reserve(n)) => write_reservation(writer, map.try_reserve(n as usize)),
+        Some(Call::Clear) => {
+            map.clear();
+            write_bytes(writer, b"ok")
         }
         Some(Call::List) => write_pairs(writer, map.iter()),
+        Some(Call::Stats) => write_figures(writer, figures_of(map)),
         None => write_bytes(writer, b"bad"),
     }
 }
 
 /// Carries out what a line says, and writes the answer line.
-fn answer_line<L: Insertion<u64, u64, u64>, W: Write>(
+fn answer_line<L: Insertion<u64, u64, u64> + TellsCost, W: Write>(
     map: &mut LruMap<u64, u64, L>,
     line: &[u8],
     writer: &mut W,
 ) -> Result<(), ReplayError>
-    requires map { IsMap nat_eq map.old }
-    ensures step { AnswersLine L.rules L.offers map.old line.now map.new
+    ensures step { AnswersLine L.rules L.offers L.told map.old line.now map.new
         (W.contents writer.old) (W.contents writer.new) result }
-    ensures map { IsMap nat_eq map.new }
+    ensures sized { IsSized map.new }
 {
-    carry_out(map, line, writer)?;
+    let carried_out = carry_out(map, line, writer);
+    learn(map);
+    carried_out?;
     write_bytes(writer, b"\n")
 }
 
+/// Does nothing: the table of every map is sound, as `len` says.
+fn learn<L: Insertion<u64, u64, u64>>(map: &LruMap<u64, u64, L>)
+    ensures { IsSized map.now }
+{
+    let _len = map.len();
+}
+
 /// Answers the lines up to the reader's end.
-fn answer_lines<L: Insertion<u64, u64, u64>, R: BufRead, W: Write>(
+fn answer_lines<L: Insertion<u64, u64, u64> + TellsCost, R: BufRead, W: Write>(
     map: &mut LruMap<u64, u64, L>,
     reader: &mut R,
     writer: &mut W,
 ) -> Result<(), ReplayError>
-    requires map { IsMap nat_eq map.old }
-    requires offers { AlwaysOffers L.offers }
-    ensures done { OnOk result (WritesText (IsTextOf L.rules L.offers map.old)
-        (R.remaining reader.old) (W.contents writer.old) (W.contents writer.new)) }
-    ensures at_end { OnOk result (OnSome (R.remaining reader.old) (IsAtEnd (R.remaining reader.new))) }
-    ensures read { IsErrOf result ReplayError.Read → WritesTextSoFar (IsTextOf L.rules L.offers map.old)
-        (R.remaining reader.old) (R.remaining reader.new) (W.contents writer.old) (W.contents writer.new) }
-    ensures begins { OnErr result (BeginsText (IsTextOf L.rules L.offers map.old)
-        (R.remaining reader.old) (W.contents writer.old) (W.contents writer.new)) }
+    ensures { Answers (IsTextOf L.rules L.offers L.told map.old) (R.remaining reader.old) (R.remaining reader.new)
+        (W.contents writer.old) (W.contents writer.new) result }
 {
     let mut line = Line::new();
     for _ in 0..u64::MAX {
@@ -106,24 +112,18 @@ fn answer_lines<L: Insertion<u64, u64, u64>, R: BufRead, W: Write>(
     Err(ReplayError::Read)
 }
 
-/// Answers the lines on an empty map with this limiter.
-fn answer_with<L: Insertion<u64, u64, u64> + Drop, R: BufRead, W: Write>(
+/// Answers the lines on an empty map with this limiter, and so many bytes an entry.
+fn answer_with<L: Insertion<u64, u64, u64> + TellsCost + Drop, R: BufRead, W: Write>(
     alloc: Global,
     limiter: L,
+    entry_bytes: usize,
     reader: &mut R,
     writer: &mut W,
 ) -> Result<(), ReplayError>
-    requires links { L.LinkType.number L.LinkType.MAX ≡ 4294967295 }
-    requires offers { AlwaysOffers L.offers }
-    ensures done { OnOk result (WritesText (IsTextOf L.rules L.offers (empty limiter))
-        (R.remaining reader.old) (W.contents writer.old) (W.contents writer.new)) }
-    ensures at_end { OnOk result (OnSome (R.remaining reader.old) (IsAtEnd (R.remaining reader.new))) }
-    ensures read { IsErrOf result ReplayError.Read → WritesTextSoFar (IsTextOf L.rules L.offers (empty limiter))
-        (R.remaining reader.old) (R.remaining reader.new) (W.contents writer.old) (W.contents writer.new) }
-    ensures begins { OnErr result (BeginsText (IsTextOf L.rules L.offers (empty limiter))
-        (R.remaining reader.old) (W.contents writer.old) (W.contents writer.new)) }
+    ensures { Answers (IsTextOf L.rules L.offers L.told (empty limiter entry_bytes (L.LinkType.number L.LinkType.MAX)))
+        (R.remaining reader.old) (R.remaining reader.new) (W.contents writer.old) (W.contents writer.new) result }
 {
-    let mut map = LruMap::with_hasher(alloc, limiter, RandomState::default(), ENTRY_BYTES);
+    let mut map = LruMap::with_hasher(alloc, limiter, RandomState::default(), entry_bytes);
     answer_lines(&mut map, reader, writer)
 }
 
@@ -134,17 +134,17 @@ fn answer_under<R: BufRead, W: Write>(
     reader: &mut R,
     writer: &mut W,
 ) -> Result<(), ReplayError>
-    ensures done { OnOk result (WritesText (IsTextUnder limit)
-        (R.remaining reader.old) (W.contents writer.old) (W.contents writer.new)) }
-    ensures at_end { OnOk result (OnSome (R.remaining reader.old) (IsAtEnd (R.remaining reader.new))) }
-    ensures read { IsErrOf result ReplayError.Read → WritesTextSoFar (IsTextUnder limit)
-        (R.remaining reader.old) (R.remaining reader.new) (W.contents writer.old) (W.contents writer.new) }
-    ensures begins { OnErr result (BeginsText (IsTextUnder limit)
-        (R.remaining reader.old) (W.contents writer.old) (W.contents writer.new)) }
+    ensures { Answers (IsTextUnder limit) (R.remaining reader.old) (R.remaining reader.new)
+        (W.contents writer.old) (W.contents writer.new) result }
 {
     match limit {
-        Limit::Length(most) => answer_with(alloc, ByLength::new(most), reader, writer),
-        Limit::Compact => answer_with(alloc, UnlimitedCompact, reader, writer),
+        Limit::Length(most) => answer_with(alloc, ByLength::new(most), ENTRY_BYTES, reader, writer),
+        Limit::Memory(budget, entry_bytes) => {
+            let limiter = ByMemoryUsage::new(budget);
+            answer_with(alloc, limiter, entry_bytes, reader, writer)
+        }
+        Limit::Cost(most) => answer_with(alloc, ByCost::new(most), ENTRY_BYTES, reader, writer),
+        Limit::Compact => answer_with(alloc, UnlimitedCompact, ENTRY_BYTES, reader, writer),
     }
 }
 
@@ -154,20 +154,7 @@ fn answer_all<R: BufRead, W: Write>(
     reader: &mut R,
     writer: &mut W,
 ) -> Result<ReplayEnd, ReplayError>
-    ensures done { result ≡ Ok ReplayEnd.Done →
-        WritesReplay (R.remaining reader.old) (W.contents writer.old) (W.contents writer.new) }
-    ensures at_end { result ≡ Ok ReplayEnd.Done →
-        OnSome (R.remaining reader.old) (IsAtEnd (R.remaining reader.new)) }
-    ensures no_limiter { result ≡ Ok ReplayEnd.NoLimiter →
-        IfSome (R.remaining reader.old) (λ input. NamesNoLimit (lines_of input)) }
-    ensures no_limiter_text { result ≡ Ok ReplayEnd.NoLimiter →
-        Appends (W.contents writer.old) (W.contents writer.new) no_limiter_text }
-    ensures read { IsErrOf result ReplayError.Read →
-        WritesSoFar (R.remaining reader.old) (R.remaining reader.new)
-        (W.contents writer.old) (W.contents writer.new) }
-    // What was written before a failure is a beginning of what may be written.
-    ensures begins { OnErr result
-        (WritesCut (R.remaining reader.old) (W.contents writer.old) (W.contents writer.new)) }
+    ensures { Replays (R.remaining reader.old) (R.remaining reader.new) (W.contents writer.old) (W.contents writer.new) result }
 {
     let mut line = Line::new();
     let ending = read_line(reader, &mut line)?;
@@ -180,6 +167,24 @@ fn answer_all<R: BufRead, W: Write>(
     };
     answer_under(alloc, limit, reader, writer)?;
     Ok(ReplayEnd::Done)
+}
+
+/// Answers all lines, and flushes what is written, unless a write failed.
+fn answer_and_flush<R: BufRead, W: Write>(
+    alloc: Global,
+    reader: &mut R,
+    writer: &mut W,
+) -> Result<ReplayEnd, ReplayError>
+    ensures { Replays (R.remaining reader.old) (R.remaining reader.new) (W.contents writer.old) (W.contents writer.new) result }
+{
+    let end = answer_all(alloc, reader, writer);
+    if let Err(ReplayError::Write) = end {
+        return end;
+    }
+    match writer.flush() {
+        Ok(()) => end,
+        Err(_) => Err(ReplayError::Write),
+    }
 }
 
 /// Carries out the lines of the reader on an LRU map, and writes the answer lines. The first line names the
@@ -199,25 +204,24 @@ pub fn replay<R: BufRead, W: Write>(
         WritesReplay (R.remaining reader.old) (W.contents writer.old) (W.contents writer.new) }
     ensures done_at_the_end { result ≡ Ok ReplayEnd.Done →
         OnSome (R.remaining reader.old) (IsAtEnd (R.remaining reader.new)) }
-    // Otherwise the first line names no limit, or there is none, and that was written.
+    // Otherwise the first line names no limit, or there is none. It alone was read, and that was written.
     ensures no_limiter { OnOk result (IfSome (R.remaining reader.old)
         (λ input. (result ≡ Ok ReplayEnd.NoLimiter) ↔ NamesNoLimit (lines_of input))) }
     ensures no_limiter_text { result ≡ Ok ReplayEnd.NoLimiter →
         Appends (W.contents writer.old) (W.contents writer.new) no_limiter_text }
+    ensures no_limiter_reads { result ≡ Ok ReplayEnd.NoLimiter →
+        TakesFirst (R.remaining reader.old) (R.remaining reader.new) }
     // The lines that were read whole are answered, and nothing else is written.
     ensures read_failed { IsErrOf result ReplayError.Read →
         WritesSoFar (R.remaining reader.old) (R.remaining reader.new)
         (W.contents writer.old) (W.contents writer.new) }
-    // What was written is a beginning of what a replay of these lines writes.
+    // What was written is a beginning of what a replay of these lines writes, and of what one of the lines that were read
+    // writes.
     ensures write_failed { IsErrOf result ReplayError.Write →
         WritesCut (R.remaining reader.old) (W.contents writer.old) (W.contents writer.new) }
+    ensures write_failed_reads { IsErrOf result ReplayError.Write →
+        WritesCutSoFar (R.remaining reader.old) (R.remaining reader.new)
+        (W.contents writer.old) (W.contents writer.new) }
 {
-    let end = answer_all(alloc, reader, writer);
-    if let Err(ReplayError::Write) = end {
-        return end;
-    }
-    match writer.flush() {
-        Ok(()) => end,
-        Err(_) => Err(ReplayError::Write),
-    }
+    answer_and_flush(alloc, reader, writer)
 }

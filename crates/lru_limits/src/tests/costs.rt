@@ -146,3 +146,15 @@ fn numbers_cost_themselves(rt: HostRuntime) {
     ];
     assert_eq!(rt; costs, [255, 65_535, 4_294_967_296, 15, u64::MAX]);
 }
+
+#[test]
+fn texts_and_vectors_cost_their_length(rt: HostRuntime) -> Result<(), Fail> {
+    let text = String::from_str(rt.alloc(), "four")?;
+    assert_eq!(rt; cost_of_both(&text, &String::new(rt.alloc())), 4);
+    let items = Vec::from_array(rt.alloc(), [7u64, 8, 9])?;
+    assert_eq!(rt; cost_of_both(&items, &items), 6);
+    let mut limiter = ByCost::new(5);
+    offer_and_remove(&mut limiter, rt.alloc(), 2u64, text)?;
+    assert_eq!(rt; limiter.cost(), 0);
+    Ok(())
+}

@@ -35,6 +35,39 @@ fn cuts_do_not_matter(rt: HostRuntime) -> Result<(), Fail> {
 }
 
 #[test]
+fn lines_of_many_pieces_and_many_lines(rt: HostRuntime) -> Result<(), Fail> {
+    // A line of 1,500 bytes, which come one by one.
+    let mut input = Vec::new(rt.alloc());
+    input.extend_from_slice(b"compact\n")?;
+    for _ in 0..1500 {
+        input.push(b'1')?;
+    }
+    input.extend_from_slice(b"\ninsert 1 10\nlist")?;
+    let mut reader = BufReader::new(rt.alloc(), Slow::new(input.as_slice(), 1))?;
+    let mut writer = Vec::new(rt.alloc());
+    let end = replay(rt.alloc(), &mut reader, &mut writer);
+    assert_eq!(rt; end, Ok(ReplayEnd::Done));
+    assert!(rt; writer.as_slice() == b"bad\ntrue\n1:10\n".as_slice());
+    // 1,500 lines.
+    let mut input = Vec::new(rt.alloc());
+    input.extend_from_slice(b"length 3\n")?;
+    let mut want = Vec::new(rt.alloc());
+    for key in 0..1500 {
+        let line = format!(in rt.alloc(); "insert {key} {key}\n")?;
+        input.extend_from_slice(line.as_bytes())?;
+        want.extend_from_slice(b"true\n")?;
+    }
+    input.extend_from_slice(b"list\n")?;
+    want.extend_from_slice(b"1499:1499 1498:1498 1497:1497\n")?;
+    let mut reader = input.as_slice();
+    let mut writer = Vec::new(rt.alloc());
+    let end = replay(rt.alloc(), &mut reader, &mut writer);
+    assert_eq!(rt; end, Ok(ReplayEnd::Done));
+    assert!(rt; writer.as_slice() == want.as_slice());
+    Ok(())
+}
+
+#[test]
 fn interrupted_calls_are_tried_again(rt: HostRuntime) -> Result<(), Fail> {
     for at in 0..20 {
         let mut slow = Slow::new(EXAMPLE, 5);

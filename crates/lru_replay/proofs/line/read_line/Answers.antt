@@ -2,11 +2,12 @@ use Rattle.std.proofs.Common.{◌<◌, length, [], ◌∷◌, ◌++◌, take, sy
 use Rattle.std.proofs.lemmas.List.{length-take}
 use Rattle.std.specs.Io.KnownBytes.{Consumes}
 use Rattle.std.proofs.KnownBytes.{Consumes-trans}
+use Rattle.lru_replay.specs.declared.line.TheConstants.{HELD}
 use Rattle.lru_replay.proofs.ByteLists.{Lacks-append, kept_again, nothing_held, some_held, Consumes_end}
 use Rattle.lru_replay.proofs.line.read_line.Goals as goal
 
 pub take_piece-requires : goal.take_piece-requires
-take_piece-requires g c = let (bytes, part, kept) = c.loop.invariant in rw kept (omega (arith, length-take 49 bytes))
+take_piece-requires g c = let (bytes, part, kept) = c.loop.invariant in rw kept (omega (arith, length-take HELD bytes))
 
 pub returns-in-Ok-Last-clause-ok : goal.returns-in-Ok-Last-clause-ok
 returns-in-Ok-Last-clause-ok g c =
@@ -14,14 +15,14 @@ returns-in-Ok-Last-clause-ok g c =
     let (more, taken, now) = rw c.in-Ok-Last.field-0-is at c.in-Ok-Last.ensures.ok in (
       bytes ++ more,
       (Lacks-append 10 bytes more part.0 taken.0, subst (Consumes _ _) (sym (append_assoc bytes more (10 ∷ []))) (Consumes-trans _ _ _ _ _ part.1 taken.1)),
-      now ∙ ap (λ l. take 49 (l ++ more)) kept ∙ kept_again 49 bytes more,
+      now ∙ ap (λ l. take HELD (l ++ more)) kept ∙ kept_again HELD bytes more,
     )
 
 pub returns-then-is_empty-clause-ok : goal.returns-then-is_empty-clause-ok
 returns-then-is_empty-clause-ok g c =
     let (bytes, part, kept) = c.loop.invariant in
     let (more, taken, now) = rw c.in-Ok-End.field-0-is at c.in-Ok-End.ensures.ok in
-    let held = now ∙ ap (λ l. take 49 (l ++ more)) kept ∙ kept_again 49 bytes more in (
+    let held = now ∙ ap (λ l. take HELD (l ++ more)) kept ∙ kept_again HELD bytes more in (
       bytes ++ more,
       ((Lacks-append 10 bytes more part.0 taken.0, Consumes-trans _ _ _ _ _ part.1 taken.1, Consumes_end _ _ _ _ part.1 taken.2), nothing_held 48 _ (sym held ∙ c.if-is_empty.ensures)),
       held,
@@ -31,11 +32,11 @@ pub returns-else-is_empty-clause-ok : goal.returns-else-is_empty-clause-ok
 returns-else-is_empty-clause-ok g c =
     let (bytes, part, kept) = c.loop.invariant in
     let (more, taken, now) = rw c.in-Ok-End.field-0-is at c.in-Ok-End.ensures.ok in
-    let held = now ∙ ap (λ l. take 49 (l ++ more)) kept ∙ kept_again 49 bytes more in (
+    let held = now ∙ ap (λ l. take HELD (l ++ more)) kept ∙ kept_again HELD bytes more in (
       bytes ++ more,
       (
         (Lacks-append 10 bytes more part.0 taken.0, Consumes-trans _ _ _ _ _ part.1 taken.1, Consumes_end _ _ _ _ part.1 taken.2),
-        some_held 49 _ (subst (λ l. 0 < length l) held (c.if-is_empty.ensures)),
+        some_held HELD _ (subst (λ l. 0 < length l) held (c.if-is_empty.ensures)),
       ),
       held,
     )
@@ -46,5 +47,5 @@ loop-preserved g c =
     let (more, taken, now) = rw c.in-Ok-Part.field-0-is at c.in-Ok-Part.ensures.ok in (
       bytes ++ more,
       (Lacks-append 10 bytes more part.0 taken.0, Consumes-trans _ _ _ _ _ part.1 taken.1),
-      now ∙ ap (λ l. take 49 (l ++ more)) kept ∙ kept_again 49 bytes more,
+      now ∙ ap (λ l. take HELD (l ++ more)) kept ∙ kept_again HELD bytes more,
     )

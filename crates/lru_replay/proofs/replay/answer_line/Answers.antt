@@ -4,13 +4,13 @@ use Rattle.lru_replay.specs.Output.{answer_text}
 use Rattle.lru_replay.proofs.Written.{writes_after, failed_front}
 use Rattle.lru_replay.proofs.replay.answer_line.Goals as goal
 
-pub returns-in_err-carry_out-clause-step : goal.returns-in_err-carry_out-clause-step
-returns-in_err-carry_out-clause-step g c =
+pub returns-in_err-carried_out-clause-step : goal.returns-in_err-carried_out-clause-step
+returns-in_err-carried_out-clause-step g c =
     let p = err_from_is_err_and c.from_residual.result c.from_residual.ensures.1 in
-    let (answer, step, failed) = c.in_err-carry_out.ensures.step in
+    let (answer, step, failed) = c.in_err-carried_out.ensures in
     (answer, step, rw (p.1, p.2) (failed_front _ _ (answer_text answer) (10 ∷ []) _ failed))
 
 pub returns-clause-step : goal.returns-clause-step
 returns-clause-step g c =
-    let (answer, step, written) = c.in_ok-carry_out.ensures.step in
+    let (answer, step, written) = c.in_ok-carried_out.ensures in
     (answer, step, writes_after _ _ _ (answer_text answer) (10 ∷ []) c.write_bytes.result written c.write_bytes.ensures)
