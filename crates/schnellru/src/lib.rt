@@ -1,4 +1,8 @@
 //! A map that holds its pairs by recency of use, within the limit of a limiter.
+//!
+//! [`LruMap`] is the map, [`ByLength`] and its like are limiters. `docs/LIMITERS.md` shows how a limiter and a look-up
+//! key of one's own are written, `docs/CALLING.md` how code that calls the map is proved, and `docs/DIFFERENCES.md` has
+//! what differs from the Rust crate. The theorems on all calls are the contracts of the functions of [`laws`].
 #![tactic(auto)]
 
 pub mod laws;

@@ -30,10 +30,8 @@ pub const DEFAULT_ENTRY_BYTES: usize = 32;
 
 /// A hash map whose pairs stand in an order of use, under a limiter.
 ///
-/// `get` and `insert` make a pair the newest. The limiter says which elements are taken, when the map is over its limit,
-/// so that the oldest pairs leave, and how large the table may grow. `entry_bytes` are the bytes of a bucket, by which the
-/// memory that the table uses is counted: about 8 for its tag, beside those of a key, a value and two links. The map takes
-/// memory by what its entries have; the number is for `memory_usage` and for limiters.
+/// `get` and `insert` make a pair the newest. The limiter says which elements are taken, when the map is over its
+/// limit, so that the oldest pairs leave, and how large the table may grow.
 ///
 /// ```
 /// let mut map = LruMap::new(alloc, ByLength::new(2), [1, 2, 3, 4], 32);
@@ -43,6 +41,24 @@ pub const DEFAULT_ENTRY_BYTES: usize = 32;
 /// map.insert(3, 30)?;
 /// assert!(rt; map.peek(&2).is_none());
 /// ```
+///
+/// # The bytes of an entry
+///
+/// Each constructor is told how many bytes a bucket takes, as `entry_bytes`. `memory_usage` counts by this number, and
+/// so do the sizes of which a limiter is asked. To compute it, add the bytes of a key, a value and two links, round up
+/// to the greatest alignment among them, and add that alignment once more. For `u64` keys, `u32` values and links of 32
+/// bits these are 8 + 4 + 4 + 4 = 20, rounded up to 24, and 8 more: 32.
+///
+/// The memory that the map takes is that of its buckets, whatever it was told. A number that is too small has
+/// `ByMemoryUsage` permit tables that take more than its bytes; one that is too great has it refuse tables that would
+/// fit. With a number so great that a table's bytes would pass `usize::MAX` that table is not made.
+///
+/// # The width of links
+///
+/// Each pair has links to its neighbours in the order of use, of the limiter's `LinkType`. The width bounds the number
+/// of pairs: 112 with `u8`, 28,672 with `u16`, 1,879,048,192 with `u32`. With `usize` only memory bounds it. Take
+/// `u32`, as `ByLength`, `ByMemoryUsage` and `UnlimitedCompact` do, unless there may be more pairs, for which
+/// `Unlimited` and `ByCost` have `usize`. The smaller widths save memory where the keys and values are as small.
 ///
 /// After schnellru's `LruMap`.
 #[derive(Drop)]
@@ -86,6 +102,15 @@ impl<K: Eq + Hash, V, L: Limiter<K, V>, S: BuildHasher> Model for LruMap<K, V, L
 
 impl<K: Eq + Hash, V, L: Limiter<K, V>, S: BuildHasher> LruMap<K, V, L, S> {
     /// An empty map, with this hasher and so many bytes an entry. It has no buckets and takes no memory.
+    ///
+    /// The documentation of the type says how the bytes of an entry are computed. Cost: `O(1)`.
+    ///
+    /// ```
+    /// let map: LruMap<u64, u32> = LruMap::with_hasher(alloc, ByLength::new(3), RandomState::default(), 32);
+    /// assert!(rt; map.is_empty() && map.memory_usage() == 0);
+    /// ```
+    ///
+    /// After schnellru's `LruMap::with_hasher`.
     pub fn with_hasher(alloc: Global, limiter: L, hasher: S, entry_bytes: usize) -> Self
         ensures { result ≡ empty_map limiter hasher entry_bytes (L.LinkType.number L.LinkType.MAX) }
     {
@@ -101,6 +126,10 @@ impl<K: Eq + Hash, V, L: Limiter<K, V>, S: BuildHasher> LruMap<K, V, L, S> {
     }
 
     /// An empty map with the default limiter and hasher, and `DEFAULT_ENTRY_BYTES` an entry.
+    ///
+    /// The default hasher is seeded by the words 1, 2, 3 and 4, so its hashes are known to everyone. Cost: `O(1)`.
+    ///
+    /// After schnellru's `Default` for `LruMap`.
     pub fn default(alloc: Global) -> Self
     where
         L: Default,
@@ -114,6 +143,11 @@ impl<K: Eq + Hash, V, L: Limiter<K, V>, S: BuildHasher> LruMap<K, V, L, S> {
 
 impl<K: Eq + Hash, V, L: Limiter<K, V>> LruMap<K, V, L, RandomState> {
     /// An empty map with the hasher that these words seed.
+    ///
+    /// Equal words give equal hashes. Where keys come from outside, take words that nobody can guess. The documentation
+    /// of the type says how the bytes of an entry are computed. Cost: `O(1)`, and no memory.
+    ///
+    /// After schnellru's `LruMap::new`.
     pub fn new(alloc: Global, limiter: L, words: [u64; 4], entry_bytes: usize) -> Self
         ensures { result ≡ empty_map limiter (seeded words) entry_bytes (L.LinkType.number L.LinkType.MAX) }
     {
@@ -130,6 +164,11 @@ impl<K: Eq + Hash, V, L: Limiter<K, V>> LruMap<K, V, L, RandomState> {
 
 impl<K: Eq + Hash, V, S: BuildHasher> LruMap<K, V, ByMemoryUsage, S> {
     /// An empty map whose table may use so many bytes, with this hasher.
+    ///
+    /// The budget is kept as `memory_usage` counts, by the bytes of an entry that are given here. Cost: `O(1)`, and no
+    /// memory.
+    ///
+    /// After schnellru's `LruMap::with_memory_budget_and_hasher`.
     pub fn with_memory_budget_and_hasher(
         alloc: Global,
         budget: usize,
@@ -144,6 +183,19 @@ impl<K: Eq + Hash, V, S: BuildHasher> LruMap<K, V, ByMemoryUsage, S> {
 
 impl<K: Eq + Hash, V> LruMap<K, V, ByMemoryUsage, RandomState> {
     /// An empty map whose table may use so many bytes, with the hasher that these words seed.
+    ///
+    /// The budget is kept as `memory_usage` counts, by the bytes of an entry that are given here. Cost: `O(1)`, and no
+    /// memory.
+    ///
+    /// ```
+    /// let mut map: LruMap<u64, u64, ByMemoryUsage> = LruMap::with_memory_budget(alloc, 84, [1, 2, 3, 4], 16);
+    /// for n in 1..=4 {
+    ///     map.insert(n, n)?;
+    /// }
+    /// assert!(rt; map.len() == 3 && map.memory_usage() == 84 && map.peek(&1).is_none());
+    /// ```
+    ///
+    /// After schnellru's `LruMap::with_memory_budget`.
     pub fn with_memory_budget(
         alloc: Global,
         budget: usize,

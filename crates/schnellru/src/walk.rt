@@ -104,6 +104,8 @@ impl<K: Eq + Hash, V, L: Limiter<K, V>, S: BuildHasher> LruMap<K, V, L, S> {
     /// }
     /// ```
     ///
+    /// Cost: `O(1)`, and so is each step of the walk from either end.
+    ///
     /// After schnellru's `LruMap::iter`.
     pub fn iter(&self) -> Iter<'_, K, V, L>
         ensures rest { result ≡ self.now.pairs }

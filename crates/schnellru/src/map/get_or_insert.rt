@@ -60,8 +60,22 @@ impl<K: Eq + Hash + Drop, V: Drop, L: Limiter<K, V>, S: BuildHasher> LruMap<K, V
     /// Makes the pair of a key the newest, and inserts it with the value that the closure makes where the key is not
     /// there. It answers whether the key is in the map then.
     ///
-    /// The key is looked up once. For a key that is there the closure is not called, and nothing is told to the limiter.
-    /// Otherwise the pair is inserted as `insert` inserts it. `newest_mut` lends the value then.
+    /// The key is looked up once. For a key that is there the closure is not called, and nothing is told to the
+    /// limiter. Otherwise the pair is inserted as `insert` inserts it. `newest_mut` lends the value then.
+    ///
+    /// ```
+    /// if map.ensure_newest(1, || 0)? {
+    ///     if let Some(count) = map.newest_mut() {
+    ///         *count = count.saturating_add(1);
+    ///     }
+    /// }
+    /// ```
+    ///
+    /// Cost: that of `get` for a key that is there, else that of `insert`.
+    ///
+    /// # Errors
+    ///
+    /// `Err` comes as it comes from `insert`, after the closure was called.
     pub fn ensure_newest<I: LookupKey<K> + Drop, F: FnOnce() -> V>(
         &mut self,
         key: I,
@@ -121,7 +135,23 @@ impl<K: Eq + Hash + Drop, V: Drop, L: Limiter<K, V>, S: BuildHasher> LruMap<K, V
         }
     }
 
-    /// The value of a key, to be changed. Where the key is not there, it is inserted with the value that the closure makes.
+    /// The value of a key, to be changed. Where the key is not there, it is inserted with the value that the closure
+    /// makes.
+    ///
+    /// For a key that is there the closure is not called, its pair becomes the newest, and nothing is told to the
+    /// limiter. `None` says that the new pair is not in the map, as `insert` says it by false. A proof about a caller
+    /// learns more from `ensure_newest` and `newest_mut`.
+    ///
+    /// ```
+    /// assert_eq!(rt; map.get_or_insert(1, || 10)?.copied(), Some(10));
+    /// assert_eq!(rt; map.get_or_insert(1, || 20)?.copied(), Some(10));
+    /// ```
+    ///
+    /// Cost: that of `get` for a key that is there, else that of `insert`.
+    ///
+    /// # Errors
+    ///
+    /// `Err` comes as it comes from `insert`, after the closure was called.
     ///
     /// After schnellru's `LruMap::get_or_insert`.
     pub fn get_or_insert<I: LookupKey<K> + Drop, F: FnOnce() -> V>(
@@ -141,6 +171,10 @@ impl<K: Eq + Hash + Drop, V: Drop, L: Limiter<K, V>, S: BuildHasher> LruMap<K, V
     }
 
     /// The same as `ensure_newest` with a closure that may fail. Where it fails nothing has changed.
+    ///
+    /// # Errors
+    ///
+    /// `Caller` has the error of the closure. `Memory` comes as the `Err` of `insert` comes.
     pub fn ensure_newest_fallible<I: LookupKey<K> + Drop, E, F: FnOnce() -> Result<V, E>>(
         &mut self,
         key: I,
@@ -194,6 +228,10 @@ impl<K: Eq + Hash + Drop, V: Drop, L: Limiter<K, V>, S: BuildHasher> LruMap<K, V
     }
 
     /// The same as `get_or_insert` with a closure that may fail. Where it fails nothing has changed.
+    ///
+    /// # Errors
+    ///
+    /// `Caller` has the error of the closure. `Memory` comes as the `Err` of `insert` comes.
     ///
     /// After schnellru's `LruMap::get_or_insert_fallible`.
     pub fn get_or_insert_fallible<I: LookupKey<K> + Drop, E, F: FnOnce() -> Result<V, E>>(

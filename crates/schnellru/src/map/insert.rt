@@ -16,15 +16,28 @@ impl<K: Eq + Hash + Drop, V: Drop, L: Limiter<K, V>, S: BuildHasher> LruMap<K, V
     /// Puts a value under a key, as the newest pair, and answers whether the key is in the map then.
     ///
     /// A key that is there stays as it is stored, and the limiter is asked whether the new value takes the place of the
-    /// old one; where it says no, the pair leaves and the answer is false. A new key is handed to the limiter, which gives
-    /// the pair to store, or none. The oldest pair leaves first where the limiter would be over with one more. The table
-    /// grows where it has to and the limiter permits it; where it may not, the oldest pairs leave until there is a place.
-    /// At the end the oldest leave as long as the limiter is over.
+    /// old one; where it says no, the pair leaves and the answer is false. A new key is handed to the limiter, which
+    /// gives the pair to store, or none. The oldest pair leaves first where the limiter would be over with one more.
+    /// The table grows where it has to and the limiter permits it; where it may not, the oldest pairs leave until there
+    /// is a place. At the end the oldest leave as long as the limiter is over.
     ///
-    /// An error says that memory was refused, and comes only for a new key. Either `on_insert` found none, and nothing has
-    /// changed; or the table, which had no room, found none: then the newest of the old pairs are left, and the limiter was
-    /// told of each pair that left, and of the new one. Want of memory evicts nothing, and no memory is taken while there is
-    /// room, but what `on_insert` takes.
+    /// ```
+    /// assert!(rt; map.insert(1, 10)?);
+    /// assert!(rt; map.insert(1, 20)?);
+    /// assert_eq!(rt; map.peek(&1), Some(&20));
+    /// ```
+    ///
+    /// Cost: `O(1)` expected, amortised over the inserts. An insert that grows the table moves all pairs; over all
+    /// inserts these are at most two for each new pair.
+    ///
+    /// # Errors
+    ///
+    /// An `Err` may come after the oldest pairs left to make way for the new one. They do not come back: the newest of
+    /// the old pairs are left, and the limiter was told of each pair that left, and of the new one.
+    ///
+    /// It says that memory was refused, and comes only for a new key. Either `on_insert` found none: then nothing has
+    /// changed. Or the table found none: then it had no room. That memory is short has no pair leave, and no memory is
+    /// taken while there is room, but what `on_insert` takes.
     ///
     /// After schnellru's `LruMap::insert`.
     #[inline(always)]

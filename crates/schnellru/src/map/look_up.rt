@@ -16,7 +16,17 @@ impl<K: Eq + Hash, V, L: Limiter<K, V>, S: BuildHasher> LruMap<K, V, L, S> {
 
     /// The value of a key, to be changed. Its pair becomes the newest; what is written is not told to the limiter.
     ///
-    /// `None` says that the key is not there, and nothing has changed.
+    /// `None` says that the key is not there, and nothing has changed. `String` keys are looked up by a text, as
+    /// `map.get(&"a")`; `docs/LIMITERS.md` shows look-up keys of one's own.
+    ///
+    /// ```
+    /// if let Some(value) = map.get(&1) {
+    ///     *value = 100;
+    /// }
+    /// assert!(rt; map.peek_newest() == Some((&1, &100)));
+    /// ```
+    ///
+    /// Cost: `O(1)` expected.
     ///
     /// After schnellru's `LruMap::get`.
     #[inline]
@@ -34,7 +44,8 @@ impl<K: Eq + Hash, V, L: Limiter<K, V>, S: BuildHasher> LruMap<K, V, L, S> {
 
     /// The value of the newest pair, to be changed. What is written is not told to the limiter.
     ///
-    /// `None` says that there are no pairs. After `ensure_newest` answered true it is the value of that key.
+    /// `None` says that there are no pairs. After `ensure_newest` answered true it is the value of that key. Cost:
+    /// `O(1)`.
     #[inline]
     pub fn newest_mut(&mut self) -> Option<&mut V>
         ensures* writes_back { sem 𝓛 (lends_newest K.row V.row L.row S.row L.LinkType.row S.Hasher.row K.Hash L.Limiter
@@ -63,6 +74,8 @@ impl<K: Eq + Hash, V, L: Limiter<K, V>, S: BuildHasher> LruMap<K, V, L, S> {
 
     /// The value of a key. The order stays.
     ///
+    /// `String` keys are looked up by a text, as `map.peek(&"a")`. Cost: `O(1)` expected.
+    ///
     /// After schnellru's `LruMap::peek`.
     #[inline]
     pub fn peek<Q: LookupKey<K>>(&self, key: &Q) -> Option<&V>
@@ -73,6 +86,8 @@ impl<K: Eq + Hash, V, L: Limiter<K, V>, S: BuildHasher> LruMap<K, V, L, S> {
     }
 
     /// The value of a key, to be changed. The order stays; what is written is not told to the limiter.
+    ///
+    /// Cost: `O(1)` expected.
     ///
     /// After schnellru's `LruMap::peek_mut`.
     #[inline]
@@ -89,6 +104,8 @@ impl<K: Eq + Hash, V, L: Limiter<K, V>, S: BuildHasher> LruMap<K, V, L, S> {
 
     /// The oldest pair. The order stays.
     ///
+    /// Cost: `O(1)`.
+    ///
     /// After schnellru's `LruMap::peek_oldest`.
     pub fn peek_oldest(&self) -> Option<(&K, &V)>
         ensures { option_map deref_pair result ≡ last self.now.pairs }
@@ -101,6 +118,8 @@ impl<K: Eq + Hash, V, L: Limiter<K, V>, S: BuildHasher> LruMap<K, V, L, S> {
     }
 
     /// The newest pair. The order stays.
+    ///
+    /// Cost: `O(1)`.
     ///
     /// After schnellru's `LruMap::peek_newest`.
     pub fn peek_newest(&self) -> Option<(&K, &V)>

@@ -14,6 +14,8 @@ use std::hash::{BuildHasher, Hash};
 impl<K: Eq + Hash, V, L: Limiter<K, V>, S: BuildHasher> LruMap<K, V, L, S> {
     /// Takes out the oldest pair, as the limiter leaves it, if there is a pair.
     ///
+    /// Cost: `O(1)`.
+    ///
     /// After schnellru's `LruMap::pop_oldest`.
     pub fn pop_oldest(&mut self) -> Option<(K, V)>
         ensures step { PopOldest L.rules self.old result self.new }
@@ -25,6 +27,8 @@ impl<K: Eq + Hash, V, L: Limiter<K, V>, S: BuildHasher> LruMap<K, V, L, S> {
     }
 
     /// Takes out the newest pair, as the limiter leaves it, if there is a pair.
+    ///
+    /// Cost: `O(1)`.
     ///
     /// After schnellru's `LruMap::pop_newest`.
     pub fn pop_newest(&mut self) -> Option<(K, V)>
@@ -38,6 +42,13 @@ impl<K: Eq + Hash, V, L: Limiter<K, V>, S: BuildHasher> LruMap<K, V, L, S> {
 impl<K: Eq + Hash + Drop, V, L: Limiter<K, V>, S: BuildHasher> LruMap<K, V, L, S> {
     /// Takes out the pair of a key, and answers its value as the limiter leaves it. The others keep their order.
     ///
+    /// ```
+    /// assert_eq!(rt; map.remove(&1), Some(10));
+    /// assert_eq!(rt; map.remove(&1), None);
+    /// ```
+    ///
+    /// Cost: `O(1)` expected.
+    ///
     /// After schnellru's `LruMap::remove`.
     pub fn remove<Q: LookupKey<K>>(&mut self, key: &Q) -> Option<V>
         ensures step { Remove L.rules (Q.names key.now) self.old result self.new }
@@ -49,7 +60,10 @@ impl<K: Eq + Hash + Drop, V, L: Limiter<K, V>, S: BuildHasher> LruMap<K, V, L, S
 }
 
 impl<K: Eq + Hash + Drop, V: Drop, L: Limiter<K, V>, S: BuildHasher> LruMap<K, V, L, S> {
-    /// Drops all pairs. The limiter is told of the clear alone, also where there is no pair. The table keeps its buckets.
+    /// Drops all pairs. The limiter is told of the clear alone, also where there is no pair. The table keeps its
+    /// buckets.
+    ///
+    /// Cost: `O(buckets)`, also where there are few pairs.
     ///
     /// After schnellru's `LruMap::clear`.
     pub fn clear(&mut self)

@@ -27,9 +27,23 @@ pub enum ReserveError {
 impl<K: Eq + Hash + Drop, V: Drop, L: Limiter<K, V>, S: BuildHasher> LruMap<K, V, L, S> {
     /// Makes room for so many pairs more: afterwards `guaranteed_capacity` is at least `len` and these.
     ///
-    /// The pairs stay, and so do the counts of moves. Where there is room, nothing is asked. Where at most half of what the
-    /// table takes is needed, it is made anew at its size, for which nothing is asked either. Else the limiter is asked for
-    /// a larger one. An error leaves the pairs and the table.
+    /// The pairs stay, and so do the counts of moves. Where there is room, nothing is asked. Where at most half of what
+    /// the table takes is needed, it is made anew at its size, for which nothing is asked either. Else the limiter is
+    /// asked for a larger one.
+    ///
+    /// ```
+    /// assert_eq!(rt; map.try_reserve(7), Ok(()));
+    /// assert_eq!(rt; (map.guaranteed_capacity(), map.len()), (7, 0));
+    /// ```
+    ///
+    /// Cost: `O(1)` where there is room, else `O(buckets)` of both tables. A table that is made anew at its size
+    /// without pairs takes no memory.
+    ///
+    /// # Errors
+    ///
+    /// Each leaves the pairs and the table. `TooLarge`: their number is none of 64 bits, or no table that the links
+    /// reach takes them, or its bytes are no such number. `Refused`: the limiter did not permit the table. `Memory`: a
+    /// request was refused. After `Refused` and `Memory` the limiter is as it left itself when it was asked.
     ///
     /// After schnellru's `LruMap::try_reserve`.
     pub fn try_reserve(&mut self, n: usize) -> Result<(), ReserveError>

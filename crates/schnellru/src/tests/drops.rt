@@ -3,6 +3,7 @@ use super::hashers::LastByte;
 use super::*;
 use crate::{ByLength, ByMemoryUsage, UnlimitedCompact};
 use std::cell::Cell;
+use std::mem;
 use std::test::Fail;
 
 /// A value that counts its drops.
@@ -129,5 +130,31 @@ fn a_relocation_drops_nothing(rt: HostRuntime) -> Result<(), Fail> {
     assert_eq!(rt; drops.get(), 20);
     drop(map);
     assert_eq!(rt; drops.get(), 28);
+    Ok(())
+}
+
+// Taken, cleared with the walk, and left by a walk that is forgotten.
+#[test]
+fn a_drain_drops_each_pair_once(rt: HostRuntime) -> Result<(), Fail> {
+    let drops = Cell::new(0u64);
+    let mut map = values(rt.alloc(), UnlimitedCompact);
+    assert!(rt; fill(&mut map, 1..=3, &drops)?);
+    for (_, value) in map.drain() {
+        drop(value);
+    }
+    assert_eq!(rt; drops.get(), 3);
+    assert!(rt; fill(&mut map, 1..=3, &drops)?);
+    let mut drain = map.drain();
+    drop(drain.next());
+    assert_eq!(rt; drops.get(), 4);
+    drop(drain);
+    assert_eq!(rt; drops.get(), 6);
+    assert!(rt; fill(&mut map, 1..=3, &drops)?);
+    let mut drain = map.drain();
+    drop(drain.next_back());
+    mem::forget(drain);
+    assert_eq!(rt; (drops.get(), map.len()), (7, 2));
+    drop(map);
+    assert_eq!(rt; drops.get(), 9);
     Ok(())
 }

@@ -1,6 +1,6 @@
 //! Each constructor, the printed text, and the length of a walk.
 use super::*;
-use crate::{ByLength, ByMemoryUsage, UnlimitedCompact};
+use crate::{ByLength, ByMemoryUsage, GetOrInsertError, ReserveError, UnlimitedCompact};
 use std::test::Fail;
 
 // Whether a map is new, takes a pair and then uses so many bytes.
@@ -55,6 +55,27 @@ fn debug(rt: HostRuntime) -> Result<(), Fail> {
         format!(in rt.alloc(); "{:?}", RandomState::default())?.as_str(),
         "RandomState { .. }"
     );
+    Ok(())
+}
+
+#[test]
+fn texts_of_refusals(rt: HostRuntime) -> Result<(), Fail> {
+    let alloc = rt.alloc();
+    for (error, number, text) in [
+        (ReserveError::TooLarge, 1u8, "too large"),
+        (ReserveError::Refused, 2, "refused"),
+        (ReserveError::Memory, 3, "no memory"),
+    ] {
+        assert_eq!(rt; error as u8, number);
+        assert_eq!(rt; format!(in alloc; "{error}")?.as_str(), text);
+    }
+    let failed: GetOrInsertError<u8> = GetOrInsertError::Caller(1);
+    assert_eq!(rt;
+        format!(in alloc; "{failed}")?.as_str(),
+        "the closure failed"
+    );
+    let memory: GetOrInsertError<u8> = GetOrInsertError::Memory;
+    assert_eq!(rt; format!(in alloc; "{memory}")?.as_str(), "no memory");
     Ok(())
 }
 

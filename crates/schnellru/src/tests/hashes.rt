@@ -1,5 +1,5 @@
 //! How often keys are hashed, and hashes that are all the same.
-use super::hashers::{Counted, LastByte};
+use super::hashers::{Counted, LastByte, Sum};
 use super::*;
 use crate::UnlimitedCompact;
 use std::cell::Cell;
@@ -59,5 +59,27 @@ fn a_thousand_keys_of_one_hash(rt: HostRuntime) -> Result<(), Fail> {
     }
     assert!(rt; counts_down(&map, 1000, 1));
     assert_eq!(rt; (get(&mut map, 0), get(&mut map, 1001)), (None, None));
+    Ok(())
+}
+
+// The hash of a key is the key. The pair to which a search for the hash 7 comes first has its top bits, and is asked
+// about; none has those of 2 to the 57th.
+#[test]
+fn the_top_bits_are_compared(rt: HostRuntime) -> Result<(), Fail> {
+    let mut map: LruMap<u64, u64, UnlimitedCompact, Sum> = LruMap::with_hasher(
+        rt.alloc(),
+        UnlimitedCompact,
+        Sum(0),
+        16,
+    );
+    assert_eq!(rt; insert_all(&mut map, 1..=3)?, 3);
+    assert_eq!(rt; map.peek_by_hash(7, |_, _| true).copied(), Some(30));
+    let asked = Cell::new(false);
+    let found = map.peek_by_hash(1 << 57, |_, _| {
+        asked.set(true);
+        true
+    });
+    assert!(rt; found.is_none());
+    assert!(rt; !asked.get());
     Ok(())
 }

@@ -211,8 +211,8 @@ impl Insertion<u64, u64, u64> for Within {
     ghost laws = { hands_over-lawful nat_eq nat_eq_equiv (λ _ _ _. true) };
 }
 
-/// Limits nothing, writes a 0 into each value that leaves, and into its key where it is told to, and keeps the last pair
-/// as it was.
+/// Limits nothing, writes a 0 into each value that leaves, and into its key where it is told to, and keeps the last
+/// pair as it was.
 #[derive(Clone, Copy, Default)]
 pub struct Blanking {
     pub keys: bool,
