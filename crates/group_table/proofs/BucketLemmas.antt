@@ -1,12 +1,14 @@
 -- Buckets, their marks, and how many there are of each kind.
-use Rattle.std.proofs.Common.{◌≡◌, ◌≢◌, ℕ, suc, ◌+◌, ◌-◌, ◌<◌, ◌≤◌, Bool, true, cond, List, [], ◌∷◌, length, set, refl, ap, sym, ◌∙◌, arith, count_by, get_or-set_same, get_or-set_other}
+use Rattle.std.proofs.Common.{◌≡◌, ◌≢◌, ℕ, suc, ◌+◌, ◌-◌, ◌<◌, ◌≤◌, Bool, true, cond, List, [], ◌∷◌, length, set, refl}
+use Rattle.std.proofs.Common.{ap, sym, ◌∙◌, arith, count_by, get_or-set_same, get_or-set_other}
 use Rattle.std.proofs.lemmas.Bool.{false≢true}
 use Rattle.std.proofs.lemmas.List.{get_or_past, map-set, length-map}
 use Rattle.std.proofs.lemmas.List.Sums.{sum_by-cons, sum_by-set, get_or-le-sum_by}
 use Rattle.std.proofs.Math.ListN.{get_or-map}
 use native.Mathlib.Decide.{dec_lt}
 use Rattle.group_table.specs.Sizes.{full_capacity}
-use Rattle.group_table.specs.Bucket.{Bucket, Mark, empty, deleted, full, is_full, is_deleted, is_used, bucket_at, IsFull, entry_count, mark_of, marks_of, room}
+use Rattle.group_table.specs.Bucket.{Bucket, Mark, empty, deleted, full, is_full, is_deleted, is_used, bucket_at}
+use Rattle.group_table.specs.Bucket.{IsFull, entry_count, mark_of, marks_of, room}
 
 module _ {A : Type 0} where
   pub empty_not_full : (s : Bucket A) → s ≡ empty → is_full s ≡ true → ⊥

@@ -1,11 +1,14 @@
 -- What a placing and a removal make of the buckets, seen by their numbers and as marks.
-use Rattle.std.proofs.Common.{◌≡◌, ◌≢◌, ℕ, ◌+◌, ◌<◌, cond, List, length, set, None, Some, ◌⊎◌, inl, inr, refl, ap, sym, ◌∙◌, arith, length-set}
-use Rattle.group_table.specs.Bucket.{Slot, Tagged, empty, deleted, full, bucket_at, is_full, IsFull, entry_at, entry_of, entry_count, marks_of}
+use Rattle.std.proofs.Common.{◌≡◌, ◌≢◌, ℕ, ◌+◌, ◌<◌, cond, List, length, set, None, Some, ◌⊎◌, inl, inr, refl, ap, sym}
+use Rattle.std.proofs.Common.{◌∙◌, arith, length-set}
+use Rattle.group_table.specs.Bucket.{Slot, Tagged, empty, deleted, full, bucket_at, is_full, IsFull, entry_at, entry_of}
+use Rattle.group_table.specs.Bucket.{entry_count, marks_of}
 use Rattle.group_table.specs.Probe.{hash_tag}
 use Rattle.group_table.specs.Neighbours.{HasEmptyNeighbours, IsHemmedIn}
 use Rattle.group_table.specs.Table.{Table}
 use Rattle.group_table.specs.Change.{Places, Removes}
-use Rattle.group_table.proofs.BucketLemmas.{bucket_at-set_same, bucket_at-set_other, marks_of-set, count_by-set, full_lt, is_full-marks_of}
+use Rattle.group_table.proofs.BucketLemmas.{bucket_at-set_same, bucket_at-set_other, marks_of-set, count_by-set}
+use Rattle.group_table.proofs.BucketLemmas.{full_lt, is_full-marks_of}
 
 module _ {T : Type 0} (old new : Table T) (hash : ℕ) (entry : T) (b : ℕ) (places : Places old new hash entry b) where
   -- its bucket is marked full

@@ -1,15 +1,18 @@
 -- A copy of a table has the marks, the counts and the fitting hashes of the table.
-use Rattle.std.proofs.Common.{◌≡◌, ℕ, zero, suc, List, [], ◌∷◌, length, Option, Some, None, Result, refl, ap, sym, ◌∙◌, arith, count_by, cond, nat_eq, true, false, Bool}
+use Rattle.std.proofs.Common.{◌≡◌, ℕ, zero, suc, List, [], ◌∷◌, length, Option, Some, None, Result, refl, ap, sym, ◌∙◌}
+use Rattle.std.proofs.Common.{arith, count_by, cond, nat_eq, true, false, Bool}
 use Rattle.std.specs.List.{AllZip}
 use Rattle.std.proofs.lemmas.List.Elements.{length_all_zip, AllZip-get_or}
 use Rattle.std.specs.declared.alloc.AllocError.{AllocError}
 use Rattle.std.specs.Borrow.{Bor}
 use Rattle.std.specs.Fn.{Shared}
-use Rattle.group_table.specs.Bucket.{Slot, Tagged, empty, deleted, full, bucket_at, is_used, is_full, entry_count, mark_of, marks_of}
+use Rattle.group_table.specs.Bucket.{Slot, Tagged, empty, deleted, full, bucket_at, is_used, is_full, entry_count}
+use Rattle.group_table.specs.Bucket.{mark_of, marks_of}
 use Rattle.group_table.specs.Fits.{Fits}
 use Rattle.group_table.specs.Layout.{slot_of, slots_of, byte_of, Agrees, IsValid}
 use Rattle.group_table.specs.Copies.{IsCopyOf, Copies, IsPlaceCopy}
-use Rattle.group_table.proofs.BucketLemmas.{empty_not_full, empty_not_deleted, full_not_deleted, used_count-marks_of, entry_count-marks_of, is_full-marks_of}
+use Rattle.group_table.proofs.BucketLemmas.{empty_not_full, empty_not_deleted, full_not_deleted, used_count-marks_of}
+use Rattle.group_table.proofs.BucketLemmas.{entry_count-marks_of, is_full-marks_of}
 use Rattle.group_table.proofs.FitsLemmas.{one_held}
 use Rattle.group_table.proofs.WriteLemmas.{byte_at-same}
 
@@ -78,7 +81,8 @@ module _ {T F : Type 0} (closure : Shared F (Bor T × Unit {0}) (Result T AllocE
   agrees_copy byte None y h agrees = rw h agrees
   agrees_copy byte (Some entry) y h agrees = rw h.2 agrees
 
-  module _ (control : List ℕ) (entries copies : List (Option T)) (r : ℕ) (valid : IsValid control entries r) (h : AllZip (IsPlaceCopy closure f) entries copies) where
+  module _ {control : List ℕ} {entries : List (Option T)} (copies : List (Option T)) {r : ℕ} (valid : IsValid control entries r)
+      (h : AllZip (IsPlaceCopy closure f) entries copies) where
     same_length : length copies ≡ length entries
     same_length = sym (length_all_zip (IsPlaceCopy closure f) entries copies h)
 

@@ -1,6 +1,8 @@
 -- What the code learns lane by lane and group by group of a search that asks a closure.
-use Rattle.std.proofs.Common.{◌≡◌, ◌≢◌, ℕ, ◌+◌, ◌%◌, ◌/◌, ◌<◌, ◌≤◌, min, Bool, true, false, cond, List, [], ◌∷◌, ◌++◌, length}
-use Rattle.std.proofs.Common.{get_or, Option, None, Some, MatchBool, refl, ap, sym, ◌∙◌, subst, arith, append_assoc, nat_eq}
+use Rattle.std.proofs.Common.{◌≡◌, ◌≢◌, ℕ, ◌+◌, ◌%◌, ◌/◌, ◌<◌, ◌≤◌, min, Bool, true, false, cond, List, [], ◌∷◌, ◌++◌}
+use Rattle.std.proofs.Common.{length}
+use Rattle.std.proofs.Common.{get_or, Option, None, Some, MatchBool, refl, ap, sym, ◌∙◌, subst, arith, append_assoc}
+use Rattle.std.proofs.Common.{nat_eq}
 use Rattle.std.specs.List.{Contains}
 use Rattle.std.specs.Borrow.{Bor}
 use Rattle.std.specs.Fn.{Mut}
@@ -11,12 +13,16 @@ use Rattle.group_table.specs.Bucket.{Slot, empty, deleted, full, bucket_at, has_
 use Rattle.group_table.specs.Probe.{hash_tag, probed, mark_probed, Reaches}
 use Rattle.group_table.specs.Search.{candidates, Answers, RefusesEach, Finds, FindsNone}
 use Rattle.group_table.specs.Layout.{slot_of, slots_of, marks_by, IsLaidOut}
-use Rattle.group_table.specs.Group.{width, tagged_lanes, IsEmptyLane, HasEmptyLane, HasNoEmptyLane, AcceptsIn, RefusesGroup}
+use Rattle.group_table.specs.Group.{width, tagged_lanes, IsEmptyLane, HasEmptyLane, HasNoEmptyLane, AcceptsIn}
+use Rattle.group_table.specs.Group.{RefusesGroup}
 use Rattle.group_table.proofs.BucketLemmas.{full_lt, empty_not_full, bucket_at-past, length-marks_of}
 use Rattle.group_table.proofs.ProbeLemmas.{probed-meets, probed-lane, up_to_lane, up_to_end, group_within}
-use Rattle.group_table.proofs.LayoutLemmas.{length-laid_out, bucket_at-laid_out, mark_from_byte, byte_from_mark, power_of}
-use Rattle.group_table.proofs.SearchLemmas.{FoldsTo-append, full_by_tag, held_by, has_tag-full, tagged_lanes-more, RefusesEach-more}
-use Rattle.group_table.proofs.SearchLemmas.{RefusesEach-skip, candidates-group, candidates-distinct, Contains-candidates}
+use Rattle.group_table.proofs.LayoutLemmas.{length-laid_out, bucket_at-laid_out, mark_from_byte, byte_from_mark}
+use Rattle.group_table.proofs.LayoutLemmas.{power_of}
+use Rattle.group_table.proofs.SearchLemmas.{FoldsTo-append, full_by_tag, held_by, has_tag-full, tagged_lanes-more}
+use Rattle.group_table.proofs.SearchLemmas.{RefusesEach-more}
+use Rattle.group_table.proofs.SearchLemmas.{RefusesEach-skip, candidates-group, candidates-distinct}
+use Rattle.group_table.proofs.SearchLemmas.{Contains-candidates}
 
 has_tag-test : (T : Type 0) (tag : ℕ) (b : Bool) → has_tag {T = T} tag (cond b deleted empty) ≡ false
 has_tag-test T tag true = refl
@@ -105,14 +111,14 @@ module _ {T F : Type 0} (closure : Mut F (Bor T × Unit {0}) Bool) (slots : List
               distinct = rw order (candidates-distinct slots hash (s + here.lanes) power fits);
             };
         between = here.between;
-        refused = FoldsTo-append _ _ _ _ _ _ before here.refused;
+        refused = FoldsTo-append _ f _ between _ here.between before here.refused;
         last = g;
         accepted = here.accepted;
       }
 
   -- the whole group was refused
   pub refused_group : RefusesGroup closure slots (hash_tag hash) (probed (length slots) hash s) between g → RefusesEach closure slots f (candidates slots hash (s + min 16 (length slots))) g
-  refused_group here = rw (candidates-group slots hash s (min 16 (length slots)) whole (omega arith)) (FoldsTo-append _ _ _ _ _ _ before here)
+  refused_group here = rw (candidates-group slots hash s (min 16 (length slots)) whole (omega arith)) (FoldsTo-append _ f _ between _ g before here)
 
   -- an empty bucket ends the search: what a search reaches was among the groups before, or in this one
   reached_by : (lane : ℕ) → lane < min 16 (length slots) → IsEmptyLane slots (probed (length slots) hash s) lane → (b : ℕ) → b < length slots

@@ -1,12 +1,15 @@
 -- What a table's changes leave of the hashes that fit.
-use Rattle.std.proofs.Common.{◌≡◌, ◌≢◌, ℕ, ◌+◌, ◌*◌, ◌/◌, ◌%◌, ◌<◌, true, List, length, set, refl, ap, sym, ◌∙◌, inl, inr, arith, eq-eqb, length-set}
+use Rattle.std.proofs.Common.{◌≡◌, ◌≢◌, ℕ, ◌+◌, ◌*◌, ◌/◌, ◌%◌, ◌<◌, true, List, length, set, refl, ap, sym, ◌∙◌, inl}
+use Rattle.std.proofs.Common.{inr, arith, eq-eqb, length-set}
 use Rattle.std.proofs.lemmas.Bool.{cases_eq, ne_eqb}
-use Rattle.group_table.specs.Bucket.{Bucket, Slot, Mark, Tagged, empty, deleted, full, bucket_at, is_full, IsFull, mark_of, marks_of}
+use Rattle.group_table.specs.Bucket.{Bucket, Slot, Mark, Tagged, empty, deleted, full, bucket_at, is_full, IsFull}
+use Rattle.group_table.specs.Bucket.{mark_of, marks_of}
 use Rattle.group_table.specs.Probe.{hash_tag, probed, mark_probed, Reaches, IsFirstFree}
 use Rattle.group_table.specs.Neighbours.{HasEmptyNeighbours}
 use Rattle.group_table.specs.Fits.{Fits, with_hash}
 use Rattle.group_table.specs.Change.{Removes}
-use Rattle.group_table.proofs.BucketLemmas.{bucket_at-set_same, bucket_at-set_other, empty_not_full, empty_not_deleted, full_not_deleted, length-marks_of, marks_of-set}
+use Rattle.group_table.proofs.BucketLemmas.{bucket_at-set_same, bucket_at-set_other, empty_not_full, empty_not_deleted}
+use Rattle.group_table.proofs.BucketLemmas.{full_not_deleted, length-marks_of, marks_of-set}
 use Rattle.group_table.proofs.ProbeLemmas.{probed-lane}
 
 pub with_hash-there : (hash_of : ℕ → ℕ) (b hash k : ℕ) → k ≡ b → with_hash hash_of b hash k ≡ hash

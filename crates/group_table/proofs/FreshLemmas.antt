@@ -5,10 +5,12 @@ use Rattle.std.proofs.lemmas.List.{length-replicate, get_or-replicate}
 use Rattle.std.proofs.lemmas.List.Sums.{sum_by-cons}
 use native.Mathlib.Decide.{dec_lt}
 use Rattle.group_table.specs.Sizes.{IsPowerFromFour, full_capacity}
-use Rattle.group_table.specs.Bucket.{Bucket, Slot, Tagged, empty, is_used, is_full, bucket_at, entry_count, marks_of, room}
+use Rattle.group_table.specs.Bucket.{Bucket, Slot, Tagged, empty, is_used, is_full, bucket_at, entry_count, marks_of}
+use Rattle.group_table.specs.Bucket.{room}
 use Rattle.group_table.specs.Fits.{Fits}
 use Rattle.group_table.specs.Layout.{slot_of, slots_of, byte_of, byte_at, IsLaidOut, IsValid}
-use Rattle.group_table.proofs.BucketLemmas.{empty_not_deleted, count_by-pos, room_is, length-marks_of, used_count-marks_of}
+use Rattle.group_table.proofs.BucketLemmas.{empty_not_deleted, count_by-pos, room_is, length-marks_of}
+use Rattle.group_table.proofs.BucketLemmas.{used_count-marks_of}
 use Rattle.group_table.proofs.LayoutLemmas.{bucket_at-laid_out, length-laid_out}
 use Rattle.group_table.proofs.CopyLemmas.{copy_at, replicate-from}
 use Rattle.group_table.proofs.FitsLemmas.{Fits-none}

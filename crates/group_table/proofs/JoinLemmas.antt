@@ -1,13 +1,16 @@
 -- An entry comes into a table with room and no deleted bucket.
-use Rattle.std.proofs.Common.{◌≡◌, ◌≢◌, ℕ, ◌+◌, ◌-◌, ◌<◌, ◌⊎◌, cond, List, length, get_or, set, Option, Some, None, refl, ap, ◌∙◌, subst, arith, inl, inr, count_by, length-set}
+use Rattle.std.proofs.Common.{◌≡◌, ◌≢◌, ℕ, ◌+◌, ◌-◌, ◌<◌, ◌⊎◌, cond, List, length, get_or, set, Option, Some, None}
+use Rattle.std.proofs.Common.{refl, ap, ◌∙◌, subst, arith, inl, inr, count_by, length-set}
 use Rattle.group_table.specs.Sizes.{full_capacity}
-use Rattle.group_table.specs.Bucket.{Slot, empty, deleted, full, bucket_at, is_full, is_deleted, entry_of, entry_at, entry_count}
+use Rattle.group_table.specs.Bucket.{Slot, empty, deleted, full, bucket_at, is_full, is_deleted, entry_of, entry_at}
+use Rattle.group_table.specs.Bucket.{entry_count}
 use Rattle.group_table.specs.Probe.{hash_tag, Reaches}
 use Rattle.group_table.specs.Layout.{slots_of, marks_by, IsValid, written}
 use Rattle.group_table.specs.Group.{IsFirstFreeByte, IsReachedFreeByte}
 use Rattle.group_table.specs.Moves.{Joins}
 use Rattle.group_table.proofs.SizeLemmas.{full_capacity-small, power_pos}
-use Rattle.group_table.proofs.BucketLemmas.{used_count-split, count_by-pos, count_by-set, bucket_at-set_same, bucket_at-set_other}
+use Rattle.group_table.proofs.BucketLemmas.{used_count-split, count_by-pos, count_by-set, bucket_at-set_same}
+use Rattle.group_table.proofs.BucketLemmas.{bucket_at-set_other}
 use Rattle.group_table.proofs.ProbeLemmas.{probed-lt}
 use Rattle.group_table.proofs.LayoutLemmas.{length-laid_out, length-marks_by, bucket_at-laid_out, byte_from_mark}
 use Rattle.group_table.proofs.WriteLemmas.{slots_of-written}
@@ -71,10 +74,10 @@ module _ {T : Type 0} (control : List ℕ) (entries : List (Option T)) (r : ℕ)
 
     module _ (tag : ℕ) (entry : T) (tag_fits : tag < 128) where
       pub IsValid-joined : IsValid (written control entries b tag) (set entries b (Some entry)) (r - 1)
-      IsValid-joined = IsValid-placed control entries r 1 valid b spends tag entry join_within tag_fits
+      IsValid-joined = IsValid-placed valid b spends tag entry join_within tag_fits
 
       pub entry_count-written_joined : entry_count (slots_of (written control entries b tag) (set entries b (Some entry))) ≡ entry_count (slots_of control entries) + 1
-      entry_count-written_joined = entry_count-placed control entries r 1 valid b spends tag entry join_within tag_fits
+      entry_count-written_joined = entry_count-placed valid b spends tag entry join_within tag_fits
 
       pub joins_there : tag ≡ hash_tag hash → Joins (slots_of control entries) (slots_of (written control entries b tag) (set entries b (Some entry))) hash entry b
       joins_there is = record {
@@ -85,8 +88,8 @@ module _ {T : Type 0} (control : List ℕ) (entries : List (Option T)) (r : ℕ)
       }
 
 -- the first free bucket is one of these
-pub reached_first : (control : List ℕ) (buckets hash b : ℕ) → IsFirstFreeByte control buckets hash b → IsReachedFreeByte control buckets hash b
-reached_first control buckets hash b first = record {
+pub reached_first : {control : List ℕ} {buckets hash b : ℕ} → IsFirstFreeByte control buckets hash b → IsReachedFreeByte control buckets hash b
+reached_first first = record {
   step = first.step;
   there = first.there;
   free_there = first.free_there;
@@ -94,7 +97,7 @@ reached_first control buckets hash b first = record {
 }
 
 -- what comes of it
-module _ {T : Type 0} (old new : List (Slot T)) (hash : ℕ) (entry : T) (b : ℕ) (joins : Joins old new hash entry b) where
+module _ {T : Type 0} {old new : List (Slot T)} {hash : ℕ} {entry : T} {b : ℕ} (joins : Joins old new hash entry b) where
   abbrev filled : Slot T
   filled = full (record { tag = hash_tag hash; entry = entry })
 

@@ -1,5 +1,6 @@
 -- What the lanes of a group say of the buckets from its first one on.
-use Rattle.std.proofs.Common.{◌≡◌, ◌≢◌, ℕ, zero, suc, ◌+◌, ◌-◌, ◌*◌, ◌%◌, ◌^◌, ◌<◌, ◌≤◌, ◌⊎◌, ◌↔◌, min, max, Bool, true, false, List, length, get_or, Option, None}
+use Rattle.std.proofs.Common.{◌≡◌, ◌≢◌, ℕ, zero, suc, ◌+◌, ◌-◌, ◌*◌, ◌%◌, ◌^◌, ◌<◌, ◌≤◌, ◌⊎◌, ◌↔◌, min, max, Bool, true}
+use Rattle.std.proofs.Common.{false, List, length, get_or, Option, None}
 use Rattle.std.proofs.Common.{refl, ap, sym, ◌∙◌, subst, arith, pow-suc, pow_mono, inl, inr}
 use Rattle.std.proofs.Math.Nat.{add-mul-mod_self_left, mod-eq_of_lt, mod-lt}
 use Rattle.std.proofs.lemmas.List.{get_or_read}
@@ -11,7 +12,8 @@ use Rattle.group_table.specs.Bucket.{Slot, empty, full, bucket_at}
 use Rattle.group_table.specs.Search.{Answers, RefusesEach}
 use Rattle.group_table.specs.Lanes.{IsRepeated, IsMaskAt, IsMaskOf, HasLane}
 use Rattle.group_table.specs.Layout.{slots_of, marks_by, byte_of, IsLaidOut}
-use Rattle.group_table.specs.Group.{width, tagged_lanes, HasEmptyLane, HasNoEmptyLane, AcceptsIn, RefusesGroup, IsFreeLane}
+use Rattle.group_table.specs.Group.{width, tagged_lanes, HasEmptyLane, HasNoEmptyLane, AcceptsIn, RefusesGroup}
+use Rattle.group_table.specs.Group.{IsFreeLane}
 use Rattle.group_table.proofs.LayoutLemmas.{length-laid_out, power_of, mark_from_byte, byte_from_mark}
 use Rattle.group_table.proofs.WriteLemmas.{byte_at-bucket, byte_at-between, byte_at-again}
 use Rattle.group_table.proofs.Circle.{distance}

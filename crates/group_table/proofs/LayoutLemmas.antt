@@ -1,11 +1,14 @@
 -- The buckets by their control bytes and entries.
-use Rattle.std.proofs.Common.{◌≡◌, ℕ, zero, suc, ◌<◌, ◌≤◌, List, [], ◌∷◌, length, get_or, set, Option, Some, None, refl, ap, arith, inl, inr, nat_lt, nat_eq, cond, sym, ◌∙◌, Bool, true, false, IsSome}
+use Rattle.std.proofs.Common.{◌≡◌, ℕ, zero, suc, ◌<◌, ◌≤◌, List, [], ◌∷◌, length, get_or, set, Option, Some, None, refl}
+use Rattle.std.proofs.Common.{ap, arith, inl, inr, nat_lt, nat_eq, cond, sym, ◌∙◌, Bool, true, false, IsSome}
 use Rattle.std.proofs.lemmas.Bool.{lt-ltb, false≢true}
 use Rattle.std.proofs.lemmas.List.{get_or_read}
-use Rattle.group_table.specs.Bucket.{Tagged, empty, deleted, full, bucket_at, is_full, IsFull, entry_of, entry_at, mark_of}
+use Rattle.group_table.specs.Bucket.{Tagged, empty, deleted, full, bucket_at, is_full, IsFull, entry_of, entry_at}
+use Rattle.group_table.specs.Bucket.{mark_of}
 use Rattle.group_table.specs.Sizes.{IsPowerFromFour}
 use Rattle.group_table.specs.Layout.{slot_of, slots_of, marks_by, IsLaidOut, Agrees}
-use Rattle.group_table.proofs.BucketLemmas.{empty_not_deleted, full_lt, bucket_at-marks_of, length-marks_of, empty_mark, is_full-marks_of}
+use Rattle.group_table.proofs.BucketLemmas.{empty_not_deleted, full_lt, bucket_at-marks_of, length-marks_of, empty_mark}
+use Rattle.group_table.proofs.BucketLemmas.{is_full-marks_of}
 
 module _ {T : Type 0} where
   length-slots_of : (bytes : List ℕ) (entries : List (Option T)) → length entries ≤ length bytes → length (slots_of bytes entries) ≡ length entries

@@ -1,12 +1,15 @@
 -- A comparison with one byte, read as a mask of sixteen lanes.
-use Rattle.std.proofs.Common.{◌≡◌, ◌≢◌, ◌↔◌, ℕ, zero, suc, ◌-◌, ◌/◌, ◌%◌, ◌^◌, ◌<◌, ◌≤◌, List, Bool, true, false, cond, length, get_or, map, replicate, refl, sym, ap, subst, ◌∙◌, arith, w8, w16, pow-suc, bit_and, inl, inr, ◌+◌, ◌*◌}
+use Rattle.std.proofs.Common.{◌≡◌, ◌≢◌, ◌↔◌, ℕ, zero, suc, ◌-◌, ◌/◌, ◌%◌, ◌^◌, ◌<◌, ◌≤◌, List, Bool, true, false, cond}
+use Rattle.std.proofs.Common.{length, get_or, map, replicate, refl, sym, ap, subst, ◌∙◌, arith, w8, w16, pow-suc}
+use Rattle.std.proofs.Common.{bit_and, inl, inr, ◌+◌, ◌*◌}
 use native.Mathlib.Decide.{dec_lt}
 use Rattle.std.specs.Int.{bit_at}
 use Rattle.std.specs.Simd.Lanes.{zip2, mask_l, top}
 use Rattle.std.proofs.lemmas.Simd.{bit_mask_l, tops_compared, mask_l-mod, mask_l-lt, zip2_splat, zip2_splat_left}
 use Rattle.std.proofs.lemmas.List.{length-map, get_or-map}
 use Rattle.std.proofs.lemmas.Bool.{cases_lt}
-use Rattle.std.proofs.lemmas.Nat.Bits.{bit_at-lt, bit_at-zero, bit_at_lowest, bit_at-suc, bit_at_and, bit_at_above, bit_at_cat_high, bit_at-trailing_zeros}
+use Rattle.std.proofs.lemmas.Nat.Bits.{bit_at-lt, bit_at-zero, bit_at_lowest, bit_at-suc, bit_at_and, bit_at_above}
+use Rattle.std.proofs.lemmas.Nat.Bits.{bit_at_cat_high, bit_at-trailing_zeros}
 use Rattle.std.proofs.lemmas.Nat.{leading_top}
 use Rattle.std.specs.Int.Count.{count_trailing_zeros, count_leading_zeros, trailing_of_zero, leading_of_zero}
 use Rattle.std.proofs.Math.ListN.{get_or-eq_default}

@@ -1,6 +1,8 @@
 -- Entries that move one by one into a fresh table.
-use Rattle.std.proofs.Common.{◌≡◌, ◌≢◌, ℕ, ◌+◌, ◌<◌, Bool, List, [], ◌∷◌, ◌++◌, length, get_or, set, Option, Some, None, ap, sym}
-use Rattle.std.proofs.Common.{◌∙◌, subst, arith, count_by, cond, is_some, true, get_or-set_same, get_or-set_other, inl, inr}
+use Rattle.std.proofs.Common.{◌≡◌, ◌≢◌, ℕ, ◌+◌, ◌<◌, Bool, List, [], ◌∷◌, ◌++◌, length, get_or, set, Option, Some, None}
+use Rattle.std.proofs.Common.{ap, sym}
+use Rattle.std.proofs.Common.{◌∙◌, subst, arith, count_by, cond, is_some, true, get_or-set_same, get_or-set_other, inl}
+use Rattle.std.proofs.Common.{inr}
 use Rattle.std.proofs.lemmas.Bool.{cases_eq}
 use Rattle.std.proofs.lemmas.Option.{none-some, same_Some}
 use Rattle.std.proofs.lemmas.List.{get_or_past, get_or_push, get_or_append_left, length-append}
@@ -29,7 +31,7 @@ module _ {T N : Type 0} (number : N → ℕ) (none : N) where
   }
 
   -- a bucket without an entry adds nothing
-  module _ (old more : ℕ → Option T) (new : List (Slot T)) (links : List N) (same : (b : ℕ) → more b ≡ old b) where
+  module _ (old more : ℕ → Option T) {new : List (Slot T)} (links : List N) (same : (b : ℕ) → more b ≡ old b) where
     pub Moves-same : Moves number none old new links → Moves number none more new links
     Moves-same m = record {
       moved = λ b entry e. m.moved b entry (sym (same b) ∙ e);
@@ -43,7 +45,7 @@ module _ {T N : Type 0} (number : N → ℕ) (none : N) where
 
   -- one more entry moves
   module _ (link : ℕ → N) (eq : N → N → Bool) (laws : IsLinkType number link none eq)
-      (old more : ℕ → Option T) (new joined : List (Slot T)) (links : List N) (b c hash : ℕ) (entry : T)
+      (old more : ℕ → Option T) {new joined : List (Slot T)} {links : List N} (b : ℕ) {c hash : ℕ} {entry : T}
       (was : old b ≡ None) (is : more b ≡ Some entry) (others : (k : ℕ) → k ≢ b → more k ≡ old k)
       (within : b < length links) (below : c < number none) (joins : Joins new joined hash entry c)
       (m : Moves number none old new links) where
@@ -69,10 +71,10 @@ module _ {T N : Type 0} (number : N → ℕ) (none : N) where
       moved = λ k x e. elim (cases_eq k b) [
         | inl h ↦
             let same : x ≡ entry = same_Some x entry (sym e ∙ ap more h ∙ is) in
-            ap (λ j. entry_at joined (moved_to number none linked j)) h ∙ ap (entry_at joined) linked_there ∙ entry_at-joined new joined hash entry c joins ∙ ap Some (sym same)
+            ap (λ j. entry_at joined (moved_to number none linked j)) h ∙ ap (entry_at joined) linked_there ∙ entry_at-joined joins ∙ ap Some (sym same)
         | inr h ↦
             let before = was_there k x h e in
-            ap (entry_at joined) (linked_elsewhere k h) ∙ ap entry_of (bucket_at-joined_other new joined hash entry c joins _ (apart_from k x before)) ∙ m.moved k x before
+            ap (entry_at joined) (linked_elsewhere k h) ∙ ap entry_of (bucket_at-joined_other joins _ (apart_from k x before)) ∙ m.moved k x before
       ];
       others = λ k e. elim (cases_eq k b) [
         | inl h ↦ absurd (none-some entry (sym e ∙ ap more h ∙ is))
@@ -91,7 +93,7 @@ module _ {T N : Type 0} (number : N → ℕ) (none : N) where
       onto = λ k there. elim (cases_eq k c) [
         | inl h ↦ (b, entry, is, linked_there ∙ sym h)
         | inr h ↦
-            let w = m.onto k (sym (ap is_full (bucket_at-joined_other new joined hash entry c joins k h)) ∙ there) in
+            let w = m.onto k (sym (ap is_full (bucket_at-joined_other joins k h)) ∙ there) in
             let other : w.0 ≢ b = λ i. none-some w.1 (sym was ∙ ap old (sym i) ∙ w.2) in
             (w.0, w.1, others w.0 other ∙ w.2, linked_elsewhere w.0 other ∙ w.3)
       ];

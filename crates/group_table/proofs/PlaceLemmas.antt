@@ -1,8 +1,10 @@
 -- An entry goes into the first free bucket.
-use Rattle.std.proofs.Common.{◌≡◌, ◌≢◌, ℕ, ◌+◌, ◌-◌, ◌<◌, ◌≤◌, cond, List, length, get_or, set, ◌⊎◌, Option, Some, None, false, refl, ap, sym, ◌∙◌, subst, arith, inl, inr, nat_eq, eq-eqb}
+use Rattle.std.proofs.Common.{◌≡◌, ◌≢◌, ℕ, ◌+◌, ◌-◌, ◌<◌, ◌≤◌, cond, List, length, get_or, set, ◌⊎◌, Option, Some, None}
+use Rattle.std.proofs.Common.{false, refl, ap, sym, ◌∙◌, subst, arith, inl, inr, nat_eq, eq-eqb}
 use Rattle.std.proofs.lemmas.Bool.{lt-ltb, le-ltb, cases_eq, ne_eqb}
 use mir.Val.{bool_byte}
-use Rattle.group_table.specs.Bucket.{Slot, Tagged, empty, deleted, full, bucket_at, is_full, is_used, entry_count, mark_of, room, room_at}
+use Rattle.group_table.specs.Bucket.{Slot, Tagged, empty, deleted, full, bucket_at, is_full, is_used, entry_count}
+use Rattle.group_table.specs.Bucket.{mark_of, room, room_at}
 use Rattle.group_table.specs.Probe.{IsFirstFree}
 use Rattle.group_table.specs.Change.{MayFill}
 use Rattle.group_table.specs.Layout.{slot_of, slots_of, marks_by, Agrees, IsValid, written}
@@ -100,7 +102,8 @@ module _ {T : Type 0} (control : List ℕ) (entries : List (Option T)) (r : ℕ)
           | inr h ↦ let none : bool_byte (nat_eq read 255) ≡ 0 = ap bool_byte (ne_eqb read 255 h) in absurd (omega (arith, none, less))
         ]
 
-module _ {T : Type 0} (control : List ℕ) (entries : List (Option T)) (r spent : ℕ) (valid : IsValid control entries r) (b : ℕ) (spends : Spends (bucket_at (slots_of control entries) b) r spent) where
+module _ {T : Type 0} {control : List ℕ} {entries : List (Option T)} {r spent : ℕ} (valid : IsValid control entries r) (b : ℕ)
+    (spends : Spends (bucket_at (slots_of control entries) b) r spent) where
   pub MayFill-from : MayFill (marks_by control entries) b
   MayFill-from = elim spends [
     | inl w ↦ inl (rw (← room_by control entries r valid) w.1)

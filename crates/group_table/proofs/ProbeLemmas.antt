@@ -1,5 +1,6 @@
 -- The order in which a search visits the buckets: group by group, each bucket, and each only once.
-use Rattle.std.proofs.Common.{◌≡◌, ℕ, suc, ◌+◌, ◌-◌, ◌*◌, ◌/◌, ◌%◌, ◌^◌, ◌<◌, ◌≤◌, min, refl, ap, sym, ◌∙◌, subst, arith, pow-suc}
+use Rattle.std.proofs.Common.{◌≡◌, ℕ, suc, ◌+◌, ◌-◌, ◌*◌, ◌/◌, ◌%◌, ◌^◌, ◌<◌, ◌≤◌, min, refl, ap, sym, ◌∙◌, subst}
+use Rattle.std.proofs.Common.{arith, pow-suc}
 use Rattle.std.proofs.Math.Nat.{mod-add-mod, add-mul-mod_self_left, mod-eq_of_lt, mod-lt, div-add-mod}
 use Rattle.std.proofs.lemmas.Nat.{pow-add, div-add-mod'}
 use native.Mathlib.Decide.{dec_lt}
@@ -131,10 +132,10 @@ apart_in_large m hash s t p q e =
     let first = div-add-mod (8 * g * (g + 1) + s % 16) n in
     let second = div-add-mod (8 * h * (h + 1) + t % 16) n in
     join m (2 ^ m) g (s % 16) h (t % 16) s t x.0 y.0 ((8 * g * (g + 1) + s % 16) / n) ((8 * h * (h + 1) + t % 16) / n) refl (omega arith) (omega arith) (omega arith) (omega arith) p q x.1 y.1
-    (joined _ _ _ _ _ _ (sym first) (sym second) same)
+    (joined _ _ (sym first) (sym second) same)
   where
-    joined : (x y p q r s : ℕ) → x ≡ p + r → y ≡ q + s → r ≡ s → x + q ≡ y + p
-    joined x y p q r s e f g = omega arith
+    joined : {x y r s : ℕ} (p q : ℕ) → x ≡ p + r → y ≡ q + s → r ≡ s → x + q ≡ y + p
+    joined p q e f g = omega arith
 
     join : (m size g a h b s t x y u v : ℕ) → size ≡ 2 ^ m → a < 16 → b < 16 → s ≡ 16 * g + a → t ≡ 16 * h + b → s < 16 * size → t < 16 * size → g * (g + 1) ≡ 2 * x
         → h * (h + 1) ≡ 2 * y → (8 * g * (g + 1) + a) + 16 * size * v ≡ (8 * h * (h + 1) + b) + 16 * size * u → s ≡ t

@@ -3,10 +3,12 @@ use Rattle.std.proofs.Common.{◌≡◌, ◌≢◌, ℕ, ◌<◌, true, cond, Li
 use Rattle.std.proofs.Common.{refl, ap, sym, ◌∙◌, arith, inl, inr}
 use Rattle.std.proofs.lemmas.Bool.{cases_eq}
 use Rattle.std.proofs.Math.Seq.{map-set_same}
-use Rattle.group_table.specs.Bucket.{Slot, empty, deleted, full, bucket_at, is_used, is_full, refilled, IsFull, entry_of, entry_at, entry_count, mark_of, marks_of}
+use Rattle.group_table.specs.Bucket.{Slot, empty, deleted, full, bucket_at, is_used, is_full, refilled, IsFull}
+use Rattle.group_table.specs.Bucket.{entry_of, entry_at, entry_count, mark_of, marks_of}
 use Rattle.group_table.specs.Fits.{Fits}
 use Rattle.group_table.specs.Layout.{slot_of, slots_of, IsValid, written}
-use Rattle.group_table.proofs.BucketLemmas.{used_from_full, bucket_at-set_same, bucket_at-set_other, full_not_deleted, full_lt}
+use Rattle.group_table.proofs.BucketLemmas.{used_from_full, bucket_at-set_same, bucket_at-set_other, full_not_deleted}
+use Rattle.group_table.proofs.BucketLemmas.{full_lt}
 use Rattle.group_table.proofs.LayoutLemmas.{bucket_at-laid_out, full_within, full_entry, full_byte}
 use Rattle.group_table.proofs.SearchLemmas.{held_by}
 use Rattle.group_table.proofs.FitsLemmas.{one_held}

@@ -1,16 +1,19 @@
 -- What has come of a relocation, over the buckets.
-use Rattle.std.proofs.Common.{◌≡◌, ℕ, ◌+◌, ◌≤◌, List, [], ◌∷◌, length, get_or, Option, Some, None, refl, ap, sym, ◌∙◌, arith, count_by, cond, is_some, nat_eq, true, false}
+use Rattle.std.proofs.Common.{◌≡◌, ℕ, ◌+◌, ◌≤◌, List, [], ◌∷◌, length, get_or, Option, Some, None, refl, ap, sym, ◌∙◌}
+use Rattle.std.proofs.Common.{arith, count_by, cond, is_some, nat_eq, true, false}
 use Rattle.std.proofs.lemmas.List.{get_or_past}
 use Rattle.std.proofs.lemmas.List.Sums.{sum_by-cons}
 use native.Mathlib.Decide.{dec_lt}
 use Rattle.std.specs.Borrow.{Bor}
 use Rattle.std.specs.Fn.{Shared}
 use Rattle.group_table.specs.Sizes.{full_capacity}
-use Rattle.group_table.specs.Bucket.{Slot, deleted, empty, bucket_at, is_full, is_deleted, IsFull, entry_of, entry_at, entry_count, marks_of, room}
+use Rattle.group_table.specs.Bucket.{Slot, deleted, empty, bucket_at, is_full, is_deleted, IsFull, entry_of, entry_at}
+use Rattle.group_table.specs.Bucket.{entry_count, marks_of, room}
 use Rattle.group_table.specs.Layout.{slot_of, slots_of, IsLaidOut}
 use Rattle.group_table.specs.Relocation.{IsRenumbering, KeepsHashes, GivesHashes}
 use Rattle.group_table.specs.Moves.{place_at, Moves, KeepsMovedHashes, GivesMovedHashes}
-use Rattle.group_table.proofs.BucketLemmas.{bucket_at-past, room_is, used_count-marks_of, used_count-split, length-marks_of}
+use Rattle.group_table.proofs.BucketLemmas.{bucket_at-past, room_is, used_count-marks_of, used_count-split}
+use Rattle.group_table.proofs.BucketLemmas.{length-marks_of}
 use Rattle.group_table.proofs.SearchLemmas.{full_by_entry, held_by}
 use Rattle.group_table.proofs.LayoutLemmas.{bucket_at-laid_out, length-laid_out, entries_within, is_full-test}
 

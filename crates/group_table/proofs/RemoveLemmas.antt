@@ -1,15 +1,19 @@
 -- The entry of a full bucket leaves.
-use Rattle.std.proofs.Common.{◌≡◌, ℕ, ◌+◌, ◌%◌, ◌<◌, ◌≤◌, Bool, true, false, cond, List, length, set, Option, None, refl, ap, sym, ◌∙◌, arith, inl, inr, count_by, MatchBool}
+use Rattle.std.proofs.Common.{◌≡◌, ℕ, ◌+◌, ◌%◌, ◌<◌, ◌≤◌, Bool, true, false, cond, List, length, set, Option, None}
+use Rattle.std.proofs.Common.{refl, ap, sym, ◌∙◌, arith, inl, inr, count_by, MatchBool}
 use Rattle.std.proofs.Math.Nat.{mod-add-mod, mod-lt}
 use mir.Val.{bool_byte}
-use Rattle.group_table.specs.Bucket.{Slot, Tagged, Mark, empty, deleted, bucket_at, is_used, is_full, IsFull, entry_count, room, room_at}
+use Rattle.group_table.specs.Bucket.{Slot, Tagged, Mark, empty, deleted, bucket_at, is_used, is_full, IsFull}
+use Rattle.group_table.specs.Bucket.{entry_count, room, room_at}
 use Rattle.group_table.specs.Neighbours.{HasEmptyNeighbours, IsHemmedIn}
 use Rattle.group_table.specs.Change.{Removes}
 use Rattle.group_table.specs.Layout.{slot_of, slots_of, marks_by, IsLaidOut, IsValid, written}
 use Rattle.group_table.specs.Group.{EmptyNeighbourBytes, HemmedInBytes}
-use Rattle.group_table.proofs.BucketLemmas.{some_empty, used_from_full, count_by-pos, empty_not_deleted, bucket_at-set_same, bucket_at-marks_of, mark_of-used}
+use Rattle.group_table.proofs.BucketLemmas.{some_empty, used_from_full, count_by-pos, empty_not_deleted}
+use Rattle.group_table.proofs.BucketLemmas.{bucket_at-set_same, bucket_at-marks_of, mark_of-used}
 use Rattle.group_table.proofs.Circle.{distance}
-use Rattle.group_table.proofs.LayoutLemmas.{length-laid_out, length-marks_by, full_within, mark_from_byte, byte_from_mark}
+use Rattle.group_table.proofs.LayoutLemmas.{length-laid_out, length-marks_by, full_within, mark_from_byte}
+use Rattle.group_table.proofs.LayoutLemmas.{byte_from_mark}
 use Rattle.group_table.proofs.TableLemmas.{used_lt, room_by}
 use Rattle.group_table.proofs.WriteLemmas.{slots_of-written, IsValid-written, entry_count-written}
 

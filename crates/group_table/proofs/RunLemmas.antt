@@ -1,5 +1,6 @@
 -- Two runs of used buckets round a bucket tell whether every 16 neighbours hold an empty one.
-use Rattle.std.proofs.Common.{◌≡◌, ◌≢◌, ℕ, ◌+◌, ◌-◌, ◌%◌, ◌<◌, ◌≤◌, List, get_or, refl, ap, sym, ◌∙◌, arith, nat_lt, MatchBool}
+use Rattle.std.proofs.Common.{◌≡◌, ◌≢◌, ℕ, ◌+◌, ◌-◌, ◌%◌, ◌<◌, ◌≤◌, List, get_or, refl, ap, sym, ◌∙◌, arith, nat_lt}
+use Rattle.std.proofs.Common.{MatchBool}
 use Rattle.std.proofs.Math.Nat.{mod-add-mod, add-mod_right, mod-lt, mod-eq_of_lt}
 use Rattle.std.proofs.lemmas.Bool.{lt-ltb, le-ltb}
 use native.Mathlib.Decide.{dec_lt}

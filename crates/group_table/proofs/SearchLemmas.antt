@@ -1,12 +1,15 @@
 -- What a bucket holds, and which buckets a search asks about.
-use Rattle.std.proofs.Common.{◌≡◌, ◌≢◌, ℕ, zero, suc, ◌+◌, ◌%◌, ◌<◌, ◌≤◌, Bool, true, false, cond, List, [], ◌∷◌, ◌++◌, length}
-use Rattle.std.proofs.Common.{map, refl, ap, sym, ◌∙◌, subst, arith, append_assoc, add-one, add-zero, eq-eqb, AllPairs, Some}
+use Rattle.std.proofs.Common.{◌≡◌, ◌≢◌, ℕ, zero, suc, ◌+◌, ◌%◌, ◌<◌, ◌≤◌, Bool, true, false, cond, List, [], ◌∷◌, ◌++◌}
+use Rattle.std.proofs.Common.{length}
+use Rattle.std.proofs.Common.{map, refl, ap, sym, ◌∙◌, subst, arith, append_assoc, add-one, add-zero, eq-eqb, AllPairs}
+use Rattle.std.proofs.Common.{Some}
 use Rattle.std.specs.List.{range_with_len, FoldsTo, Contains}
 use Rattle.std.specs.Borrow.{Bor}
 use Rattle.std.specs.Fn.{Mut, Called}
 use Rattle.std.proofs.lemmas.List.{append-nil}
 use Rattle.std.proofs.lemmas.List.Elements.{Contains-push, Contains-append_left}
-use Rattle.std.proofs.lemmas.List.FromFn.{filter_of_map_range_with_len_more, get_or-map-range_with_len, length-map-range_with_len}
+use Rattle.std.proofs.lemmas.List.FromFn.{filter_of_map_range_with_len_more, get_or-map-range_with_len}
+use Rattle.std.proofs.lemmas.List.FromFn.{length-map-range_with_len}
 use Rattle.std.proofs.lemmas.List.Kept.{AllPairs-filter}
 use Rattle.std.proofs.lemmas.Fn.{FoldsTo-push}
 use native.Mathlib.Decide.{dec_lt}
@@ -101,9 +104,9 @@ module _ {T : Type 0} (slots : List (Slot T)) (hash : ℕ) where
       ])
 
 module _ {T F : Type 0} (closure : Mut F (Bor T × Unit {0}) Bool) (slots : List (Slot T)) where
-  pub Answers-from_call : (f g : F) (b tag : ℕ) (answer result : Bool) (entry : T) (shown : Bor T) → bucket_at slots b ≡ full (record { tag = tag; entry = entry })
+  pub Answers-from_call : {f g : F} {b tag : ℕ} {answer result : Bool} (entry : T) {shown : Bor T} → bucket_at slots b ≡ full (record { tag = tag; entry = entry })
       → shown.now ≡ entry → Called closure f (shown, tt) result g → result ≡ answer → Answers closure slots f b answer g
-  Answers-from_call f g b tag answer result entry shown e shows called is =
+  Answers-from_call {f} {g} {b} {tag} {answer} {result} entry {shown} e shows called is =
       record { entry = entry; there = ap entry_of e; called = record { shown = shown; shows = shows; called = subst (λ r. Called closure f (shown, tt) r g) is called } }
 
   module _ (tag start lane : ℕ) where
@@ -112,7 +115,7 @@ module _ {T F : Type 0} (closure : Mut F (Bor T × Unit {0}) Bool) (slots : List
         → bucket_at slots ((start + lane) % length slots) ≡ full (record { tag = tag; entry = entry })
         → Answers closure slots between ((start + lane) % length slots) false g → RefusesEach closure slots f (tagged_lanes slots tag start (lane + 1)) g
     RefusesEach-more f between g entry before e asked =
-        rw (tagged_lanes-more slots tag start lane (has_tag-full _ _ tag e refl)) (FoldsTo-push _ _ _ _ _ _ before asked)
+        rw (tagged_lanes-more slots tag start lane (has_tag-full _ _ tag e refl)) (FoldsTo-push _ f _ between _ g before asked)
 
     -- a lane with no such tag
     pub RefusesEach-skip : (f between : F) → RefusesEach closure slots f (tagged_lanes slots tag start lane) between

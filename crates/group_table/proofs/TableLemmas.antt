@@ -5,7 +5,8 @@ use Rattle.group_table.specs.Bucket.{empty, bucket_at, is_used, is_deleted, room
 use Rattle.group_table.specs.Table.{IsTable}
 use Rattle.group_table.specs.Layout.{slots_of, marks_by, IsValid}
 use Rattle.group_table.proofs.SizeLemmas.{full_capacity-lt, full_capacity-small}
-use Rattle.group_table.proofs.BucketLemmas.{some_empty, room_is, used_count-marks_of, deleted_count-marks_of, deleted_count-none, empty_not_deleted, bucket_at-past}
+use Rattle.group_table.proofs.BucketLemmas.{some_empty, room_is, used_count-marks_of, deleted_count-marks_of}
+use Rattle.group_table.proofs.BucketLemmas.{deleted_count-none, empty_not_deleted, bucket_at-past}
 use Rattle.group_table.proofs.CountedMarks.{IsTable-counted}
 use Rattle.group_table.proofs.LayoutLemmas.{length-laid_out, length-marks_by, power_of}
 

@@ -1,6 +1,7 @@
 -- Entries take new places in the table where they stand: the turn of one.
 use Rattle.std.proofs.Common.{◌≡◌, ◌≢◌, ℕ, ◌+◌, ◌-◌, ◌<◌, ◌≤◌, ◌⊎◌, Bool, max, List, length, get_or, set}
-use Rattle.std.proofs.Common.{Option, Some, None, refl, ap, sym, ◌∙◌, subst, arith, inl, inr, count_by, is_some, get_or-set_same, get_or-set_other, length-set}
+use Rattle.std.proofs.Common.{Option, Some, None, refl, ap, sym, ◌∙◌, subst, arith, inl, inr, count_by, is_some}
+use Rattle.std.proofs.Common.{get_or-set_same, get_or-set_other, length-set}
 use Rattle.std.proofs.lemmas.Bool.{cases_eq}
 use Rattle.std.proofs.lemmas.Option.{none-some}
 use Rattle.std.proofs.lemmas.List.{ext_get_or}
@@ -14,7 +15,8 @@ use Rattle.group_table.specs.Moves.{place_at, Joins, Moves}
 use Rattle.group_table.specs.InPlace.{IsSettled, IsWaiting, IsHalfway, IsInTurn}
 use Rattle.group_table.proofs.LayoutLemmas.{length-laid_out}
 use Rattle.group_table.proofs.PlaceLemmas.{some_free_byte}
-use Rattle.group_table.proofs.JoinLemmas.{some_buckets, join_within, join_none, IsValid-joined, joins_there, deleted_count-joined}
+use Rattle.group_table.proofs.JoinLemmas.{some_buckets, join_within, join_none, IsValid-joined, joins_there}
+use Rattle.group_table.proofs.JoinLemmas.{deleted_count-joined}
 use Rattle.group_table.proofs.MoveLemmas.{Moves-more, KeepsMovedHashes-more}
 use Rattle.group_table.proofs.RelocationLemmas.{entry_count-laid_out}
 use Rattle.group_table.proofs.PlaceCounts.{place_within, count-filled, count-changed, count-taken, count-fewer}
@@ -22,7 +24,7 @@ use Rattle.group_table.proofs.HalfwayLemmas.{settled_by_none, waiting_by_none, s
 
 -- an entry that was taken out goes into the first free bucket
 module _ {T N : Type 0} (number : N → ℕ) (none : N) (link : ℕ → N) (eq : N → N → Bool) (laws : IsLinkType number link none eq) (IsGiven : (ℕ → ℕ) → Type 0)
-    (whole now : List (Option T)) (control : List ℕ) (links : List N) (passed old : ℕ) (entry : T)
+    (whole : List (Option T)) {now : List (Option T)} {control : List ℕ} {links : List N} {passed : ℕ} (old : ℕ) {entry : T}
     (half : IsHalfway number none IsGiven (set whole old None) now control links passed) (stood : place_at whole old ≡ Some entry)
     (within : count_by is_some whole ≤ full_capacity (length whole)) (below : length whole < number none) where
   in_whole : old < length whole
@@ -92,7 +94,7 @@ module _ {T N : Type 0} (number : N → ℕ) (none : N) (link : ℕ → N) (eq :
 
     moves_then : Moves number none (place_at gone_then) (slots_of (written control half.placed b tag) placed_then) (set links old (link b))
     moves_then =
-        Moves-more number none link eq laws (place_at half.gone) (place_at gone_then) _ _ links old b hash entry was_out gone_there gone_elsewhere
+        Moves-more number none link eq laws (place_at half.gone) (place_at gone_then) old was_out gone_there gone_elsewhere
         (omega (arith, half.links_length, same_length, in_whole)) (omega (arith, in_placed, half.placed_length, same_length, below)) joins half.moves
 
     -- by what stands in each place then
@@ -145,7 +147,7 @@ module _ {T N : Type 0} (number : N → ℕ) (none : N) (link : ℕ → N) (eq :
         now_length = length-set now b (Some entry) ∙ half.now_length ∙ same_length ∙ sym next_length;
         links_length = length-set links old (link b) ∙ half.links_length ∙ same_length ∙ sym next_length;
         valid = IsValid-joined control half.placed half.room half.valid half.none_deleted less hash b n n_placed reached tag entry tag_fits;
-        none_deleted = deleted_count-joined _ _ hash entry b joins ∙ half.none_deleted;
+        none_deleted = deleted_count-joined joins ∙ half.none_deleted;
         counted = counted;
         settled = λ k p. elim (each_then k) [ inl s ↦ s | inr w ↦ still_settled k w.0 w.1 (half.settled k p) ];
         each = λ k. elim (each_then k) [
@@ -153,7 +155,7 @@ module _ {T N : Type 0} (number : N → ℕ) (none : N) (link : ℕ → N) (eq :
           | inr w ↦ elim (half.each k) [ inl s ↦ inl (still_settled k w.0 w.1 s) | inr v ↦ inr (still_waiting k w.0 w.1 v) ]
         ];
         moves = moves_then;
-        hashes = λ hash_at given. KeepsMovedHashes-more number none link eq laws (place_at half.gone) (place_at gone_then) _ _ links old b hash entry was_out gone_there gone_elsewhere
+        hashes = λ hash_at given. KeepsMovedHashes-more number none link eq laws (place_at half.gone) (place_at gone_then) old was_out gone_there gone_elsewhere
             (omega (arith, half.links_length, same_length, in_whole)) (omega (arith, in_placed, half.placed_length, same_length, below)) joins half.moves hash_at (gives hash_at given) (half.hashes hash_at given);
       }
 
@@ -221,6 +223,6 @@ module _ {T N : Type 0} (number : N → ℕ) (none : N) (link : ℕ → N) (eq :
       let half_taken = IsHalfway-taken number none IsGiven whole now control links b half entry byte there in
       let stood = stood_there number none IsGiven whole now control links b half entry byte there in
       let free = get_or-set_same now b None None (place_within now b entry there) in
-      let last = IsHalfway-last number none link eq laws IsGiven whole (set now b None) control links (b + 1) b entry half_taken stood within below
+      let last = IsHalfway-last number none link eq laws IsGiven whole b half_taken stood within below
       hash b n tag (n_is ∙ sym taken_length) reached tag_is tag_fits gives free in
       rw (put_back, taken_length) at last

@@ -15,7 +15,8 @@ MayFill marks b = (0 < room marks) ⊎ (bucket_at marks b ≡ deleted)
 
 -- there is no bucket, or no room and the first free bucket is empty
 abbrev pub HasNoPlace : List Mark → ℕ → Type 0
-HasNoPlace marks hash = (length marks ≡ 0) ⊎ ((room marks ≡ 0) × (b : ℕ) × IsFirstFree marks hash b × (bucket_at marks b ≡ empty))
+HasNoPlace marks hash = (length marks ≡ 0)
+    ⊎ ((room marks ≡ 0) × (b : ℕ) × IsFirstFree marks hash b × (bucket_at marks b ≡ empty))
 
 module _ {T : Type 0} where
   -- the entry went into the first free bucket with the tag of its hash, and each other bucket stays

@@ -1,6 +1,7 @@
 -- The control bytes of a table, by themselves. No public clause cites this module.
-use Rattle.std.specs.Prelude.{◌≡◌, ℕ, ◌+◌, ◌-◌, ◌^◌, ◌<◌, ◌≤◌, ◌⊎◌, List, [], length, slice_index}
+use Rattle.std.specs.Prelude.{◌≡◌, ℕ, ◌+◌, ◌-◌, ◌^◌, ◌<◌, ◌⊎◌, List, [], length, slice_index}
 use Rattle.group_table.specs.Sizes.{IsPowerFromFour}
+use Rattle.group_table.specs.Bytes.{empty_byte, IsFreeByte}
 use Rattle.group_table.specs.Lanes.{IsRepeated}
 
 -- how many buckets so many bytes are for: 16 of them are more
@@ -20,8 +21,8 @@ IsControl control = (control ≡ []) ⊎ IsCircle control
 
 -- some bucket is empty or deleted
 abbrev pub HasFreeByte : List ℕ → Type 0
-HasFreeByte control = (b : ℕ) × (b < buckets_of control) × (128 ≤ slice_index control b)
+HasFreeByte control = (b : ℕ) × (b < buckets_of control) × IsFreeByte (slice_index control b)
 
 -- some bucket is empty
 abbrev pub HasEmptyByte : List ℕ → Type 0
-HasEmptyByte control = (b : ℕ) × (b < buckets_of control) × (slice_index control b ≡ 255)
+HasEmptyByte control = (b : ℕ) × (b < buckets_of control) × (slice_index control b ≡ empty_byte)

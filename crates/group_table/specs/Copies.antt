@@ -11,7 +11,8 @@ module _ {T F : Type 0} (closure : Shared F (Bor T × Unit {0}) (Result T AllocE
   abbrev pub IsCopyOf : Slot T → Slot T → Type 0
   IsCopyOf empty copy = copy ≡ empty
   IsCopyOf deleted copy = copy ≡ deleted
-  IsCopyOf (full held) copy = (made : T) × FnReturnsAt closure f held.entry (Ok made) × (copy ≡ full (record held { entry = made }))
+  IsCopyOf (full held) copy = (made : T) × FnReturnsAt closure f held.entry (Ok made)
+      × (copy ≡ full (record held { entry = made }))
 
   -- bucket by bucket
   abbrev pub Copies : List (Slot T) → List (Slot T) → Type 0

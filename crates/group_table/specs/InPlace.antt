@@ -34,9 +34,11 @@ module _ {T N : Type 0} (number : N → ℕ) (none : N) (IsGiven : (ℕ → ℕ)
     pub settled : (b : ℕ) → b < passed → IsSettled old gone placed now b
     pub each : (b : ℕ) → IsSettled old gone placed now b ⊎ IsWaiting old gone placed now b
     pub moves : Moves number none (place_at gone) (slots_of control placed) links
-    pub hashes : (hash_at : ℕ → ℕ) → IsGiven hash_at → KeepsMovedHashes number none (place_at gone) (slots_of control placed) links hash_at
+    pub hashes : (hash_at : ℕ → ℕ) → IsGiven hash_at
+        → KeepsMovedHashes number none (place_at gone) (slots_of control placed) links hash_at
 
   -- with the next one in hand, taken out of its old place, which is then as if it had been free; or with none
   abbrev pub IsInTurn : List (Option T) → List (Option T) → List ℕ → List N → ℕ → ℕ → Option T → Type 0
   IsInTurn old now control links passed b None = IsHalfway old now control links passed
-  IsInTurn old now control links passed b (Some entry) = (place_at old b ≡ Some entry) × IsHalfway (slice_set old b None) now control links passed
+  IsInTurn old now control links passed b (Some entry) =
+      (place_at old b ≡ Some entry) × IsHalfway (slice_set old b None) now control links passed

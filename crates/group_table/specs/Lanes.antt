@@ -1,5 +1,6 @@
 -- Masks of the sixteen lanes of a group. No public clause cites this module.
 use Rattle.std.specs.Prelude.{ℕ, ◌≡◌, ◌+◌, ◌-◌, ◌<◌, ◌≤◌, ◌↔◌, max, List, slice_index}
+use Rattle.group_table.specs.Bytes.{empty_byte}
 use Rattle.std.specs.Int.{w16, bit_at, trailing_zeros}
 
 -- bit i of the mask is set exactly if i names a lane whose byte has the property
@@ -18,7 +19,8 @@ HasLane mask lane = bit_at mask lane ≡ 1
 abbrev pub lowest : ℕ → ℕ
 lowest mask = trailing_zeros w16 mask
 
--- after the bytes of the buckets come those of the first buckets again; up to 16 bytes those between are 255
+-- after the bytes of the buckets come those of the first buckets again; up to 16 bytes those between are of no bucket, and as those of empty ones
 pub record IsRepeated (control : List ℕ) (buckets : ℕ) : Type 0 where
-  pub again : (p : ℕ) → max 16 buckets ≤ p → p < buckets + 16 → slice_index control p ≡ slice_index control (p - max 16 buckets)
-  pub between : (p : ℕ) → buckets ≤ p → p < 16 → slice_index control p ≡ 255
+  pub again : (p : ℕ) → max 16 buckets ≤ p → p < buckets + 16
+      → slice_index control p ≡ slice_index control (p - max 16 buckets)
+  pub between : (p : ℕ) → buckets ≤ p → p < 16 → slice_index control p ≡ empty_byte

@@ -1,19 +1,21 @@
 -- How the fields of a `Table` lay out its buckets. No public clause cites this module.
-use Rattle.std.specs.Prelude.{◌≡◌, ℕ, ◌+◌, ◌-◌, ◌^◌, ◌<◌, ◌≤◌, ◌⊎◌, max, List, [], ◌∷◌, length, Option, Some, None, if◌then◌else◌, nat_lt, nat_eq, slice_index, slice_index_or, slice_set, count_by}
+use Rattle.std.specs.Prelude.{◌≡◌, ℕ, ◌+◌, ◌-◌, ◌^◌, ◌<◌, ◌≤◌, ◌⊎◌, max, List, [], ◌∷◌, length, Option, Some, None}
+use Rattle.std.specs.Prelude.{if◌then◌else◌, nat_lt, nat_eq, slice_index, slice_index_or, slice_set, count_by}
 use Rattle.group_table.specs.Sizes.{IsPowerFromFour, full_capacity}
+use Rattle.group_table.specs.Bytes.{empty_byte, deleted_byte, IsTag}
 use Rattle.group_table.specs.Bucket.{Slot, Mark, empty, deleted, full, bucket_at, is_used, marks_of}
 
 module _ {T : Type 0} where
   -- the control byte of a bucket
   abbrev pub byte_of : Slot T → ℕ
-  byte_of empty = 255
-  byte_of deleted = 128
+  byte_of empty = empty_byte
+  byte_of deleted = deleted_byte
   byte_of (full held) = held.tag
 
   -- a bucket by its control byte and its entry
   abbrev pub slot_of : ℕ → Option T → Slot T
   slot_of byte (Some entry) = full (record { tag = byte; entry = entry })
-  slot_of byte None = if nat_eq byte 128 then deleted else empty
+  slot_of byte None = if nat_eq byte deleted_byte then deleted else empty
 
   -- the buckets by their control bytes and entries
   abbrev pub slots_of : List ℕ → List (Option T) → List (Slot T)
@@ -30,20 +32,21 @@ module _ {T : Type 0} where
   abbrev pub byte_at : List (Slot T) → ℕ → ℕ
   byte_at slots position =
       if nat_lt position (length slots) then byte_of (bucket_at slots position)
-      else if nat_lt position 16 then 255
+      else if nat_lt position 16 then empty_byte
       else byte_of (bucket_at slots (position - max 16 (length slots)))
 
   -- the byte is the tag of an entry, or that of an empty or a deleted bucket
   abbrev pub Agrees : ℕ → Option T → Type 0
-  Agrees byte (Some entry) = byte < 128
-  Agrees byte None = (byte ≡ 128) ⊎ (byte ≡ 255)
+  Agrees byte (Some entry) = IsTag byte
+  Agrees byte None = (byte ≡ deleted_byte) ⊎ (byte ≡ empty_byte)
 
   -- the bytes after a write of one bucket and of its repetition
   abbrev pub written : List ℕ → List (Option T) → ℕ → ℕ → List ℕ
   written control entries b byte = slice_set (slice_set control b byte) (b + max 16 (length entries)) byte
 
   pub record IsLaidOut (control : List ℕ) (entries : List (Option T)) : Type 0 where
-    pub counts : ((length entries ≡ 0) × (length control ≡ 0)) ⊎ (IsPowerFromFour (length entries) × (length control ≡ length entries + 16))
+    pub counts : ((length entries ≡ 0) × (length control ≡ 0))
+        ⊎ (IsPowerFromFour (length entries) × (length control ≡ length entries + 16))
     pub fits : length control < 2 ^ 63
     pub agrees : (b : ℕ) → b < length entries → Agrees (slice_index control b) (slice_index_or entries b None)
     pub bytes : (p : ℕ) → p < length control → slice_index control p ≡ byte_at (slots_of control entries) p
@@ -51,4 +54,5 @@ module _ {T : Type 0} where
   pub record IsValid (control : List ℕ) (entries : List (Option T)) (room : ℕ) : Type 0 where
     pub laid_out : IsLaidOut control entries
     pub room_left : count_by is_used (slots_of control entries) + room ≡ full_capacity (length entries)
-    pub none_deleted : length entries ≤ 16 → (b : ℕ) → bucket_at (slots_of control entries) b ≡ deleted → length entries ≡ 0
+    pub none_deleted : length entries ≤ 16
+        → (b : ℕ) → bucket_at (slots_of control entries) b ≡ deleted → length entries ≡ 0

@@ -15,5 +15,6 @@ pub mod Lends
 pub mod LendsSome
 pub mod Layout
 pub mod Group
+pub mod Bytes
 pub mod Lanes
 pub mod Control

@@ -26,7 +26,8 @@ module _ {T N : Type 0} (number : N → ℕ) (none : N) (old : ℕ → Option T)
     pub others : (b : ℕ) → old b ≡ None → slice_index_or links b none ≡ none
     pub apart : (b c : ℕ) (x y : T) → old b ≡ Some x → old c ≡ Some y
         → moved_to number none links b ≡ moved_to number none links c → b ≡ c
-    pub onto : (c : ℕ) → IsFull new c → (b : ℕ) × (entry : T) × (old b ≡ Some entry) × (moved_to number none links b ≡ c)
+    pub onto : (c : ℕ) → IsFull new c
+        → (b : ℕ) × (entry : T) × (old b ≡ Some entry) × (moved_to number none links b ≡ c)
 
   -- hashes by which each of them has the hash that it had fit the new table
   abbrev pub KeepsMovedHashes : (ℕ → ℕ) → Type 0

@@ -14,10 +14,12 @@ module _ {T N : Type 0} (number : N → ℕ) (none : N) where
   -- the links have a place for each old bucket: where its entry stands now, or none
   pub record IsRenumbering (old new : List (Slot T)) (links : List N) : Type 0 where
     pub one_each : length links ≡ length old
-    pub moved : (b : ℕ) (entry : T) → entry_at old b ≡ Some entry → entry_at new (moved_to number none links b) ≡ Some entry
+    pub moved : (b : ℕ) (entry : T)
+        → entry_at old b ≡ Some entry → entry_at new (moved_to number none links b) ≡ Some entry
     pub others : (b : ℕ) → b < length old → entry_at old b ≡ None → slice_index_or links b none ≡ none
     -- no two entries move to one bucket, and no bucket has an entry that did not move there
-    pub apart : (b c : ℕ) → IsFull old b → IsFull old c → moved_to number none links b ≡ moved_to number none links c → b ≡ c
+    pub apart : (b c : ℕ) → IsFull old b → IsFull old c
+        → moved_to number none links b ≡ moved_to number none links c → b ≡ c
     pub onto : (c : ℕ) → IsFull new c → (b : ℕ) × IsFull old b × (moved_to number none links b ≡ c)
 
   -- without entries there is nothing to renumber
@@ -32,4 +34,5 @@ module _ {T N : Type 0} (number : N → ℕ) (none : N) where
 module _ {T H : Type 0} (closure : Shared H (Bor T × Unit {0}) ℕ) (f : H) where
   -- what the closure answers of the entry in a bucket is its hash
   abbrev pub GivesHashes : List (Slot T) → (ℕ → ℕ) → Type 0
-  GivesHashes slots hash_of = (b hash : ℕ) (entry : T) → entry_at slots b ≡ Some entry → FnReturnsAt closure f entry hash → hash ≡ hash_of b
+  GivesHashes slots hash_of = (b hash : ℕ) (entry : T)
+      → entry_at slots b ≡ Some entry → FnReturnsAt closure f entry hash → hash ≡ hash_of b

@@ -1,5 +1,6 @@
 -- Which entries a search asks its closure about, and what the closure answers.
-use Rattle.std.specs.Prelude.{◌≡◌, ◌≢◌, ℕ, ◌/◌, ◌<◌, ◌≤◌, Bool, true, false, List, [], ◌∷◌, ◌++◌, length, map, filter, Some, Contains, AllPairs, IsTrue}
+use Rattle.std.specs.Prelude.{◌≡◌, ◌≢◌, ℕ, ◌/◌, ◌<◌, ◌≤◌, Bool, true, false, List, [], ◌∷◌, ◌++◌, length, map, filter}
+use Rattle.std.specs.Prelude.{Some, Contains, AllPairs, IsTrue}
 use Rattle.std.specs.List.{range_with_len, FoldsTo}
 use Rattle.std.specs.Borrow.{Bor}
 use Rattle.std.specs.Fn.{Mut, CalledAt}
@@ -10,13 +11,16 @@ use Rattle.group_table.specs.Fits.{Fits}
 module _ {T : Type 0} (slots : List (Slot T)) (hash : ℕ) where
   -- the buckets with the tag of the hash, among those of the first steps of a search, in its order
   abbrev pub candidates : ℕ → List ℕ
-  candidates steps = filter (λ b. has_tag (hash_tag hash) (bucket_at slots b)) (map (probed (length slots) hash) (range_with_len 0 steps))
+  candidates steps =
+      filter (λ b. has_tag (hash_tag hash) (bucket_at slots b))
+      (map (probed (length slots) hash) (range_with_len 0 steps))
 
   -- these are the candidates of so many steps, each of which a search reaches, and each stands once
   pub record IsSearch (asked : List ℕ) : Type 0 where
     pub steps : ℕ
     pub within : steps ≤ length slots
-    pub reached : (step before : ℕ) → step < steps → before / 16 < step / 16 → mark_probed (marks_of slots) hash before ≢ empty
+    pub reached : (step before : ℕ) → step < steps → before / 16 < step / 16
+        → mark_probed (marks_of slots) hash before ≢ empty
     pub in_order : asked ≡ candidates steps
     pub distinct : AllPairs ◌≢◌ asked
 
@@ -47,5 +51,7 @@ module _ {T F : Type 0} (closure : Mut F (Bor T × Unit {0}) Bool) (slots : List
     pub search : IsSearch slots hash asked
     pub last : F
     pub refused : RefusesEach f asked last
-    pub all_reached : (b : ℕ) → IsTrue (has_tag (hash_tag hash) (bucket_at slots b)) → Reaches (marks_of slots) hash b → Contains asked b
-    pub complete : (hash_of : ℕ → ℕ) → Fits slots hash_of → (b : ℕ) → IsFull slots b → hash_of b ≡ hash → Contains asked b
+    pub all_reached : (b : ℕ) → IsTrue (has_tag (hash_tag hash) (bucket_at slots b))
+        → Reaches (marks_of slots) hash b → Contains asked b
+    pub complete : (hash_of : ℕ → ℕ) → Fits slots hash_of
+        → (b : ℕ) → IsFull slots b → hash_of b ≡ hash → Contains asked b

@@ -26,4 +26,5 @@ pub record IsTable (marks : List Mark) : Type 0 where
   pub some_empty : 0 < length marks → (b : ℕ) × (b < length marks) × (bucket_at marks b ≡ empty)
   pub some_free : 0 < length marks → (hash : ℕ) → (b : ℕ) × (b < length marks) × IsFirstFree marks hash b
   -- in as many steps as there are buckets, a search visits each
-  pub visits_each : (hash b : ℕ) → b < length marks → (step : ℕ) × (step < length marks) × (probed (length marks) hash step ≡ b)
+  pub visits_each : (hash b : ℕ) → b < length marks
+      → (step : ℕ) × (step < length marks) × (probed (length marks) hash step ≡ b)

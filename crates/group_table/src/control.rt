@@ -1,10 +1,12 @@
 //! Control bytes: one a bucket, and 16 more, which repeat the first buckets so that a group can be read in one piece.
-ghost use Rattle.std.specs.Prelude.{◌≡◌, ℕ, ◌+◌, ◌-◌, ◌%◌, ◌^◌, ◌<◌, ◌≤◌, [], length, max, replicate, slice_index, slice_set, if◌then◌else◌, IfOk};
+ghost use Rattle.std.specs.Prelude.{◌≡◌, ℕ, ◌+◌, ◌-◌, ◌%◌, ◌^◌, ◌<◌, ◌≤◌, [], length, max, replicate, slice_index};
+ghost use Rattle.std.specs.Prelude.{slice_set, if◌then◌else◌, IfOk};
 ghost use Rattle.group_table.specs.Sizes.{IsPowerFromFour};
 ghost use Rattle.group_table.specs.Probe.{hash_tag};
+ghost use Rattle.group_table.specs.Bytes.{empty_byte, deleted_byte, IsTag};
 ghost use Rattle.group_table.specs.Control.{buckets_of, IsCircle};
 
-use crate::group::load;
+use crate::group::Group;
 use std::alloc::{AllocError, Global};
 use std::marker::Model;
 
@@ -45,7 +47,7 @@ impl Control {
     pub(crate) fn with_buckets(alloc: Global, buckets: usize) -> Result<Control, AllocError>
         requires count { IsPowerFromFour buckets }
         requires addressable { buckets + 16 < 2 ^ 63 }
-        ensures { IfOk result (λ c. c ≡ replicate (buckets + 16) 255) }
+        ensures { IfOk result (λ c. c ≡ replicate (buckets + 16) empty_byte) }
     {
         let bytes = vec![in alloc; EMPTY; buckets + 16]?;
         Ok(Control { bytes })
@@ -98,12 +100,12 @@ impl Control {
 
     // The sixteen from a bucket on.
     #[inline]
-    pub(crate) fn group(&self, start: usize) -> [u8; 16]
+    pub(crate) fn group(&self, start: usize) -> Group
         requires { start < buckets_of self.now }
-        ensures bytes { (lane : ℕ) → lane < 16 → slice_index result lane ≡ slice_index self.now (start + lane) }
+        ensures bytes { (lane : ℕ) → lane < 16 → slice_index result.lanes lane ≡ slice_index self.now (start + lane) }
         ensures circle { IsCircle self.now }
     {
-        load(self.bytes.as_slice(), start)
+        Group::load(self.bytes.as_slice(), start)
     }
 
     // Writes that of a bucket, and its repetition.
@@ -120,7 +122,7 @@ impl Control {
 
     // Makes each that of an empty bucket.
     pub(crate) fn clear(&mut self)
-        ensures { self.new ≡ replicate (length self.old) 255 }
+        ensures { self.new ≡ replicate (length self.old) empty_byte }
     {
         self.bytes.fill(EMPTY);
     }
@@ -130,7 +132,7 @@ impl Control {
 #[inline]
 pub(crate) fn tag_of(hash: u64) -> u8
     ensures value { result ≡ hash_tag hash }
-    ensures bound { result < 128 }
+    ensures tag { IsTag result }
 {
     (hash >> 57) as u8
 }
@@ -138,7 +140,7 @@ pub(crate) fn tag_of(hash: u64) -> u8
 // The control byte of a bucket whose entry has left, by whether that gives its room back.
 #[inline]
 pub(crate) fn emptied_byte(gives_room: bool) -> u8
-    ensures { result ≡ (if gives_room then 255 else 128) }
+    ensures { result ≡ (if gives_room then empty_byte else deleted_byte) }
 {
     if gives_room { EMPTY } else { DELETED }
 }

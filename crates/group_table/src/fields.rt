@@ -1,5 +1,6 @@
 //! The fields of a table: the control bytes and the entries, written together.
-ghost use Rattle.std.specs.Prelude.{◌≡◌, ◌+◌, ◌^◌, ◌<◌, length, max, replicate, slice_set, slice_index_or, None, Some, IsSome, IfOk};
+ghost use Rattle.std.specs.Prelude.{◌≡◌, ◌+◌, ◌^◌, ◌<◌, length, max, replicate, slice_set, slice_index_or, None, Some};
+ghost use Rattle.std.specs.Prelude.{IsSome, IfOk};
 ghost use Rattle.std.specs.Borrow.{sem};
 ghost use Rattle.group_table.specs.Control.{buckets_of};
 ghost use Rattle.group_table.specs.Layout.{IsLaidOut, written};

@@ -1,45 +1,56 @@
 //! Groups of sixteen control bytes, and masks of their lanes: bit i stands for lane i.
 ghost use Rattle.std.specs.Prelude.{◌≡◌, ◌≢◌, ◌≤◌, ◌<◌, ◌+◌, ◌-◌, ◌↔◌, ℕ, length, slice_index};
+ghost use Rattle.group_table.specs.Bytes.{empty_byte, IsFreeByte};
 ghost use Rattle.group_table.specs.Lanes.{IsMaskOf, IsMaskAt, HasLane, lowest};
 
-use crate::control::EMPTY;
+use crate::control::{DELETED, EMPTY};
 use std::simd::prelude::*;
 
-// The sixteen bytes from a place on.
-#[inline]
-pub(crate) fn load(bytes: &[u8], at: usize) -> [u8; 16]
-    requires { at + 16 ≤ length bytes.now }
-    ensures { (lane : ℕ) → lane < 16 → slice_index result lane ≡ slice_index bytes.now (at + lane) }
-{
-    u8x16::from_slice(&bytes[at..]).to_array()
+// The sixteen control bytes from a bucket on, a lane each.
+#[derive(Drop)]
+pub(crate) struct Group {
+    lanes: [u8; 16],
 }
 
-// The lanes that hold the tag.
-#[inline]
-pub(crate) fn match_tag(bytes: &[u8; 16], tag: u8) -> u16
-    ensures { IsMaskOf (λ byte. byte ≡ tag) bytes.now result }
-{
-    u8x16::from_array(*bytes)
-        .simd_eq(u8x16::splat(tag))
-        .to_bitmask() as u16
-}
+impl Group {
+    // The sixteen bytes from a place on.
+    #[inline]
+    pub(crate) fn load(bytes: &[u8], at: usize) -> Group
+        requires { at + 16 ≤ length bytes.now }
+        ensures { (lane : ℕ) → lane < 16 → slice_index result.lanes lane ≡ slice_index bytes.now (at + lane) }
+    {
+        Group {
+            lanes: u8x16::from_slice(&bytes[at..]).to_array(),
+        }
+    }
 
-// The lanes of empty buckets.
-#[inline]
-pub(crate) fn match_empty(bytes: &[u8; 16]) -> u16
-    ensures { IsMaskOf (λ byte. byte ≡ 255) bytes.now result }
-{
-    match_tag(bytes, EMPTY)
-}
+    // The lanes that hold the tag.
+    #[inline]
+    pub(crate) fn match_tag(&self, tag: u8) -> u16
+        ensures { IsMaskOf (λ byte. byte ≡ tag) self.now.lanes result }
+    {
+        u8x16::from_array(self.lanes)
+            .simd_eq(u8x16::splat(tag))
+            .to_bitmask() as u16
+    }
 
-// The lanes of empty and deleted buckets.
-#[inline]
-pub(crate) fn match_free(bytes: &[u8; 16]) -> u16
-    ensures { IsMaskOf (λ byte. 128 ≤ byte) bytes.now result }
-{
-    u8x16::from_array(*bytes)
-        .simd_ge(u8x16::splat(0x80))
-        .to_bitmask() as u16
+    // The lanes of empty buckets.
+    #[inline]
+    pub(crate) fn match_empty(&self) -> u16
+        ensures { IsMaskOf (λ byte. byte ≡ empty_byte) self.now.lanes result }
+    {
+        self.match_tag(EMPTY)
+    }
+
+    // The lanes of empty and deleted buckets.
+    #[inline]
+    pub(crate) fn match_free(&self) -> u16
+        ensures { IsMaskOf IsFreeByte self.now.lanes result }
+    {
+        u8x16::from_array(self.lanes)
+            .simd_ge(u8x16::splat(DELETED))
+            .to_bitmask() as u16
+    }
 }
 
 // The lowest lane of a mask that holds one.

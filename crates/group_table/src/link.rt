@@ -7,8 +7,8 @@ use std::fmt::Debug;
 /// The type of a link: the number of a bucket, below `MAX`, or `MAX` itself, which stands for no bucket.
 ///
 /// A table whose buckets are numbered by an `N` has fewer than `N::MAX` of them, so the width of the links limits its
-/// size. It is there for `u8`, `u16`, `u32` and `usize`. A type of one's own is a width too: it says which number a link
-/// has and which link a number, and proves the laws.
+/// size. It is there for `u8`, `u16`, `u32` and `usize`. A type of one's own is a width too: it says which number a
+/// link has and which link a number, and proves the laws.
 pub trait LinkType: Copy + Eq + Debug {
     /// No bucket. As a number, it is one more than the greatest number that a link may have, and at least 255.
     const MAX: Self;

@@ -5,11 +5,12 @@ ghost use Rattle.group_table.specs.Bucket.{bucket_at, empty};
 ghost use Rattle.group_table.specs.Probe.{probed};
 ghost use Rattle.group_table.specs.Search.{Finds, FindsNone};
 ghost use Rattle.group_table.specs.Group.{IsProbe, AsksGroup, IsFreeLane, IsFirstFreeByte};
+ghost use Rattle.group_table.specs.Bytes.{IsTag};
 ghost use Rattle.group_table.specs.Control.{buckets_of, HasFreeByte};
 ghost use Rattle.group_table.specs.Layout.{IsLaidOut, slots_of, marks_by};
 
-use crate::control::{Control, tag_of, wrap};
-use crate::group::{lowest_lane, match_empty, match_free, match_tag, without_lowest};
+use crate::control::{Control, DELETED, tag_of, wrap};
+use crate::group::{lowest_lane, without_lowest};
 
 // The row of groups of a search: the bucket at which the next one begins, and how many buckets those before it have.
 #[derive(Drop)]
@@ -65,15 +66,16 @@ fn ask_group<T, F: FnMut(&T) -> bool>(
     f: &mut F,
 ) -> Asked
     requires laid_out { IsLaidOut control.now entries.now }
-    requires some_empty { (b : ℕ) × (b < length entries.now) × (bucket_at (marks_by control.now entries.now) b ≡ empty) }
+    requires some_empty { (b : ℕ) × (b < length entries.now)
+        × (bucket_at (marks_by control.now entries.now) b ≡ empty) }
     requires start { start < length entries.now }
-    requires tag { tag < 128 }
+    requires tag { IsTag tag }
     requires callable { F.IsAlwaysCallable f.old }
     ensures callable { F.IsAlwaysCallable f.new }
     ensures asked { AsksGroup F.FnMut (slots_of control.now entries.now) tag start f.old result f.new }
 {
     let group = control.group(start);
-    let mut mask = match_tag(&group, tag);
+    let mut mask = group.match_tag(tag);
     'lanes: while mask != 0 {
         let b = control.wrap(start + lowest_lane(mask));
         match &entries[b] {
@@ -86,7 +88,7 @@ fn ask_group<T, F: FnMut(&T) -> bool>(
         }
         mask = without_lowest(mask);
     }
-    if match_empty(&group) != 0 {
+    if group.match_empty() != 0 {
         Asked::Ended
     } else {
         Asked::GoesOn
@@ -101,7 +103,8 @@ pub(crate) fn find_bucket<T, F: FnMut(&T) -> bool>(
     mut f: F,
 ) -> Option<usize>
     requires laid_out { IsLaidOut control.now entries.now }
-    requires some_empty { (b : ℕ) × (b < length entries.now) × (bucket_at (marks_by control.now entries.now) b ≡ empty) }
+    requires some_empty { (b : ℕ) × (b < length entries.now)
+        × (bucket_at (marks_by control.now entries.now) b ≡ empty) }
     requires callable { F.IsAlwaysCallable f }
     ensures found { IfSome result (Finds F.FnMut (slots_of control.now entries.now) hash f) }
     ensures none { IfNone result (FindsNone F.FnMut (slots_of control.now entries.now) hash f) }
@@ -124,18 +127,19 @@ fn free_in_group(control: &Control, start: usize) -> Option<usize>
     requires start { start < buckets_of control.now }
     requires some_free { HasFreeByte control.now }
     ensures found { IfSome result (IsFreeLane control.now (buckets_of control.now) start) }
-    ensures none { IfNone result ((lane : ℕ) → lane < 16 → slice_index control.now ((start + lane) % buckets_of control.now) < 128) }
+    ensures none { IfNone result (
+        (lane : ℕ) → lane < 16 → IsTag (slice_index control.now ((start + lane) % buckets_of control.now))) }
 {
-    let mask = match_free(&control.group(start));
+    let mask = control.group(start).match_free();
     if mask == 0 {
         return None;
     }
     let b = control.wrap(start + lowest_lane(mask));
-    if control.byte(b) >= 128 {
+    if control.byte(b) >= DELETED {
         return Some(b);
     }
     // Of 4 or 8 buckets, the lane was one of the bytes between them and their repetition: those from here on are full.
-    Some(lowest_lane(match_free(&control.group(0))))
+    Some(lowest_lane(control.group(0).match_free()))
 }
 
 // The first bucket in the order of a search for the hash that is empty or deleted.

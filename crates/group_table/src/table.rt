@@ -1,5 +1,6 @@
 //! `Table`. A clause sees a table as its `slots`, one a bucket, and its `placings`.
-ghost use Rattle.std.specs.Prelude.{◌≡◌, ◌↔◌, ℕ, ◌+◌, ◌^◌, ◌<◌, [], length, replicate, Some, IfSome, IfNone, IfOk, IfErr, OnErr, IsOk, IsTrue};
+ghost use Rattle.std.specs.Prelude.{◌≡◌, ◌↔◌, ℕ, ◌+◌, ◌^◌, ◌<◌, [], length, replicate, Some, IfSome, IfNone, IfOk};
+ghost use Rattle.std.specs.Prelude.{IfErr, OnErr, IsOk, IsTrue};
 ghost use Rattle.std.specs.Borrow.{sem};
 ghost use Rattle.group_table.specs.Sizes.{IsBucketCount};
 ghost use Rattle.group_table.specs.Bucket.{empty, marks_of, IsFull, entry_at, entry_count, room, room_at};
@@ -60,7 +61,7 @@ impl<T> Model for Table<T> {
 impl<T> Table<T> {
     ghost use Rattle.group_table.specs.Lends.{lends_entry};
 
-    /// A table of no buckets, which takes no memory.
+    /// A table of no buckets, which takes no memory. It refuses each entry until it is given buckets by `relocate`.
     pub fn new(alloc: Global) -> Self
         ensures slots { result.slots ≡ [] }
         ensures placings { result.placings ≡ 0 }
@@ -77,7 +78,13 @@ impl<T> Table<T> {
     }
 
     /// A table of so many buckets, all empty: none, or a power of two from 4 on, and with 16 more at most `isize::MAX`.
-    /// The one error is want of memory; no buckets take none.
+    ///
+    /// It takes a byte a bucket and 16 more for the control bytes, and an `Option<T>` a bucket for the entries, each in
+    /// one request, and time by the buckets. No buckets take no memory.
+    ///
+    /// # Errors
+    ///
+    /// Want of memory, and nothing else; never for no buckets.
     pub fn with_buckets(alloc: Global, buckets: usize) -> Result<Self, AllocError>
         requires count { IsBucketCount buckets }
         requires addressable { buckets + 16 < 2 ^ 63 }
@@ -105,6 +112,9 @@ impl<T> Table<T> {
     ///
     /// `f` is asked about one entry after another in the order of the search, about each at most once, and no more
     /// after it accepted one. `None` says that it refused each entry of that hash.
+    ///
+    /// It reads 16 control bytes at once, as a rule of one group or two, and an entry for each question. At worst it
+    /// reads all control bytes, and asks about each entry with the tag.
     pub fn find<F: FnMut(&T) -> bool>(&self, hash: u64, f: F) -> Option<usize>
         requires { F.IsAlwaysCallable f }
         ensures found { IfSome result (Finds F.FnMut self.now.slots hash f) }
@@ -118,7 +128,7 @@ impl<T> Table<T> {
         find_bucket(&self.control, self.entries.as_slice(), hash, f)
     }
 
-    /// The entry in a full bucket.
+    /// The entry in a full bucket. It looks at the entry's place once, and at nothing else.
     #[inline]
     pub fn get(&self, b: usize) -> &T
         requires { IsFull self.now.slots b }
@@ -131,7 +141,8 @@ impl<T> Table<T> {
         }
     }
 
-    /// The entry in a full bucket for writing. What is written there keeps the hash of the entry before.
+    /// The entry in a full bucket for writing, at the cost of `get`. What is written there keeps the hash of the entry
+    /// before, so a caller whose hashes depend on the entry writes nothing that changes it.
     #[inline]
     pub fn get_mut(&mut self, b: usize) -> &mut T
         requires { IsFull self.old.slots b }
@@ -148,12 +159,15 @@ impl<T> Table<T> {
     ///
     /// The bucket is then empty, which gives the room back, if every 16 neighbouring buckets that hold it hold an empty
     /// one; else it is deleted, so that no search that went on past it ends there. Up to 16 buckets it is always empty.
+    ///
+    /// It reads 32 control bytes and writes one and its repetition, whatever the table's size.
     #[inline(always)]
     pub fn take(&mut self, b: usize) -> T
         requires { IsFull self.old.slots b }
         ensures entry { entry_at self.old.slots b ≡ Some result }
         ensures removed { Removes self.old.slots self.new.slots b }
-        ensures room { room (marks_of self.new.slots) ≡ room (marks_of self.old.slots) + room_at (marks_of self.new.slots) b }
+        ensures room { room (marks_of self.new.slots)
+            ≡ room (marks_of self.old.slots) + room_at (marks_of self.new.slots) b }
         ensures placings { self.new.placings ≡ self.old.placings }
         ensures fits { (hash_of : ℕ → ℕ) → Fits self.old.slots hash_of → Fits self.new.slots hash_of }
         ensures table { IsTable (marks_of self.new.slots) }
@@ -169,8 +183,13 @@ impl<T> Table<T> {
 impl<T: Drop> Table<T> {
     /// Puts an entry with this hash into the first free bucket in the order of a search, and gives its number.
     ///
-    /// An empty bucket takes one of the room, a deleted one none. The entry comes back, and nothing has changed, where
-    /// there are no buckets, or there is no room and the first free bucket is empty.
+    /// An empty bucket takes one of the room, a deleted one none. It asks for no memory, moves no other entry, and
+    /// reads 16 control bytes at once, as a rule of one group or two.
+    ///
+    /// # Errors
+    ///
+    /// The entry comes back, and nothing has changed, where there are no buckets, or there is no room and the first
+    /// free bucket is empty.
     #[inline(always)]
     pub fn try_place(&mut self, hash: u64, entry: T) -> Result<usize, T>
         ensures placed { IfOk result (Places self.old self.new hash entry) }
@@ -202,6 +221,8 @@ impl<T: Drop> Table<T> {
     }
 
     /// Drops all entries. Every bucket is then empty; there are as many as before, and the placings stay.
+    ///
+    /// It writes all control bytes, and goes through the entries' places only where there is an entry.
     pub fn clear(&mut self)
         ensures slots { self.new.slots ≡ replicate (length self.old.slots) empty }
         ensures placings { self.new.placings ≡ self.old.placings }

@@ -1,21 +1,38 @@
 -- For who proves a caller of a map. The only lemmas of this crate that another crate cites.
 --     read_back            a get through which nothing is written brings the pair to the front, and no more
 --     promoted-absent      where nothing is found, nothing comes to the front
-use Rattle.std.proofs.Common.{◌≡◌, ℕ, Bool, true, false, cond, List, [], ◌∷◌, Option, Some, None, refl, sym, ap, ◌∙◌}
-use Rattle.std.specs.Prelude.{option_map}
+--     written-found        after a value was written through a get, a look-up finds it
+--     read-all             what holds of each pair holds of each after a get through which nothing is written
+--     hands_over-keeps     a limiter that stores pairs as they come keeps their values
+--     inserted-found       under such a limiter, after an insert that answered true, a look-up finds the value
+--     inserted-only        whatever it answered, a look-up finds no other one
+--     inserted-all         what holds of each pair holds of each after an insert, if it holds of the inserted one
+use Rattle.std.proofs.Common.{◌≡◌, ℕ, Bool, true, false, cond, List, [], ◌∷◌, ◌++◌, refl, sym, ap, ◌∙◌, subst}
+use Rattle.std.proofs.Common.{Option, Some, None, Result, Ok, Err}
+use Rattle.std.specs.Prelude.{IfSome, option_map, unwrap_or}
+use Rattle.std.specs.List.{All}
+use Rattle.std.specs.Map.{set_value}
+use Rattle.std.proofs.lemmas.List.Elements.{All-nil, All-cons, All-head, All-tail}
 use Rattle.std.proofs.lemmas.Map.Steps.{set_value_same}
 use Rattle.std.proofs.lemmas.Option.{none-some}
-use Rattle.schnellru.specs.Lists.{lookup, lookup_entry, without, after, front, place_of, other_places, front_places}
+use Rattle.std.specs.declared.alloc.AllocError.{AllocError}
+use Rattle.lru_limits.specs.Rules.{Rules, Offers}
+use Rattle.lru_limits.specs.Stores.{hands_over, given-is}
+use Rattle.schnellru.specs.Lists.{first, without_first, lookup, lookup_entry, without, after, front}
+use Rattle.schnellru.specs.Lists.{place_of, other_places, front_places}
 use Rattle.schnellru.specs.State.{State}
 use Rattle.schnellru.specs.Calls.{promoted, written}
+use Rattle.schnellru.specs.Theorems.{SaysWhether, Stores, KeepsValues, GivesUp, behind, with_none, without_one}
 use Rattle.schnellru.proofs.Theorems.Fronts.{found_named, without_none}
 use Rattle.schnellru.proofs.PairLists.NamedPairs.{lookup-entry}
+use Rattle.schnellru.proofs.Theorems.InsertAnswers.{insert_found}
 
 module _ {K V : Type 0} (names : K → Bool) where
   lookup-front : (xs : List (K × V)) → lookup names (front names xs) ≡ lookup names xs
   lookup-front xs = go (lookup_entry names xs) refl
     where
-      go : (o : Option (K × V)) → lookup_entry names xs ≡ o → lookup names (after o (without names xs)) ≡ lookup names xs
+      go : (o : Option (K × V)) → lookup_entry names xs ≡ o
+          → lookup names (after o (without names xs)) ≡ lookup names xs
       go None e = ap (lookup names) (without_none names xs e)
       go (Some p) e =
           ap (λ b. cond b (Some p.1) (lookup names (without names xs))) (found_named names xs p e)
@@ -29,14 +46,16 @@ module _ {K V : Type 0} (names : K → Bool) where
       go (Some p) e = absurd (none-some p.1 (sym none ∙ lookup-entry names xs ∙ ap (option_map (λ p. p.1)) e))
 
   places-none : (xs : List (K × V)) (places : List ℕ) → lookup names xs ≡ None → front_places names xs places ≡ places
-  places-none xs places none = (λ i. after (of_none xs places none i) (other_places names xs places)) ∙ others xs places none
+  places-none xs places none =
+      (λ i. after (of_none xs places none i) (other_places names xs places)) ∙ others xs places none
     where
       of_none : (xs : List (K × V)) (places : List ℕ) → lookup names xs ≡ None → place_of names xs places ≡ None
       of_none [] places none = refl
       of_none (x ∷ xs) [] none = refl
       of_none (x ∷ xs) (b ∷ places) none = go (names x.0) none (λ h. of_none xs places h)
         where
-          go : (y : Bool) → cond y (Some x.1) (lookup names xs) ≡ None → (lookup names xs ≡ None → place_of names xs places ≡ None)
+          go : (y : Bool) → cond y (Some x.1) (lookup names xs) ≡ None
+              → (lookup names xs ≡ None → place_of names xs places ≡ None)
               → cond y (Some b) (place_of names xs places) ≡ None
           go true e r = absurd cc
           go false e r = r e
@@ -46,15 +65,109 @@ module _ {K V : Type 0} (names : K → Bool) where
       others (x ∷ xs) [] none = refl
       others (x ∷ xs) (b ∷ places) none = go (names x.0) none (λ h. others xs places h)
         where
-          go : (y : Bool) → cond y (Some x.1) (lookup names xs) ≡ None → (lookup names xs ≡ None → other_places names xs places ≡ places)
+          go : (y : Bool) → cond y (Some x.1) (lookup names xs) ≡ None
+              → (lookup names xs ≡ None → other_places names xs places ≡ places)
               → cond y places (b ∷ other_places names xs places) ≡ b ∷ places
           go true e r = absurd cc
           go false e r = ap (λ bs. b ∷ bs) (r e)
 
+  not-found : (xs : List (K × V)) → lookup_entry names xs ≡ None → (w : V) → lookup names xs ≡ Some w → ⊥
+  not-found xs none w found = none-some w (sym (ap (option_map (λ p. p.1)) none) ∙ sym (lookup-entry names xs) ∙ found)
+
+  lookup-set : (xs : List (K × V)) (v w : V) → lookup names xs ≡ Some v → lookup names (set_value names xs w) ≡ Some w
+  lookup-set [] v w e = absurd (none-some v e)
+  lookup-set (x ∷ xs) v w e = go (names x.0) refl e (lookup-set xs v w)
+    where
+      go : (b : Bool) → names x.0 ≡ b → cond b (Some x.1) (lookup names xs) ≡ Some v
+          → (lookup names xs ≡ Some v → lookup names (set_value names xs w) ≡ Some w)
+          → lookup names (cond b ((x.0, w) ∷ xs) (x ∷ set_value names xs w)) ≡ Some w
+      go true n e later = rw n refl
+      go false n e later = rw n (later e)
+
+module _ {X : Type 0} (P : X → Type 0) where
+  all-front : (xs rest : List X) → All P (xs ++ rest) → All P xs
+  all-front [] rest h = All-nil P
+  all-front (x ∷ xs) rest h =
+      All-cons P x xs (All-head P x (xs ++ rest) h) (all-front xs rest (All-tail P x (xs ++ rest) h))
+
+module _ {K V : Type 0} (P : K × V → Type 0) (names : K → Bool) where
+  all-without : (xs : List (K × V)) → All P xs → All P (without names xs)
+  all-without [] h = h
+  all-without (x ∷ xs) h = go (names x.0) (all-without xs (All-tail P x xs h))
+    where
+      go : (b : Bool) → All P (without names xs) → All P (cond b xs (x ∷ without names xs))
+      go true others = All-tail P x xs h
+      go false others = All-cons P x (without names xs) (All-head P x xs h) others
+
+  found-all : (xs : List (K × V)) (p : K × V) → lookup_entry names xs ≡ Some p → All P xs → P p
+  found-all [] p e h = absurd (none-some p e)
+  found-all (x ∷ xs) p e h = go (names x.0) e (λ later. found-all xs p later (All-tail P x xs h))
+    where
+      go : (b : Bool) → cond b (Some x) (lookup_entry names xs) ≡ Some p → (lookup_entry names xs ≡ Some p → P p) → P p
+      go true e later = subst P (ap (λ o. unwrap_or o x) e) (All-head P x xs h)
+      go false e later = later e
+
+  front-all : (xs : List (K × V)) → All P xs → All P (front names xs)
+  front-all xs h = go (lookup_entry names xs) refl
+    where
+      go : (o : Option (K × V)) → lookup_entry names xs ≡ o → All P (after o (without names xs))
+      go None e = all-without xs h
+      go (Some p) e = All-cons P p (without names xs) (found-all xs p e h) (all-without xs h)
+
+  -- the pair that comes by an insert is the one that is found under the inserted key then
+  pub inserted-all : {refuses : K × V → Type 0} (old new : List (K × V)) → GivesUp names refuses old new → All P old
+      → ((p : K × V) → names p.0 ≡ true → lookup names new ≡ Some p.1 → P p) → All P new
+  inserted-all old new (behind newest named (rest, e)) h one = go new e one
+    where
+      go : (xs : List (K × V)) → newest ∷ without names old ≡ xs ++ rest
+          → ((p : K × V) → names p.0 ≡ true → lookup names xs ≡ Some p.1 → P p) → All P xs
+      go [] e one = All-nil P
+      go (x ∷ xs) e one =
+          let same : newest ≡ x = ap (λ o. unwrap_or o newest) (ap first e) in
+          let passes : names x.0 ≡ true = subst (λ y. names y.0 ≡ true) same named in
+          let others : All P (xs ++ rest) = subst (All P) (ap without_first e) (all-without old h) in
+          All-cons P x xs (one x passes (rw passes refl)) (all-front P xs rest others)
+  inserted-all old new (with_none absent (rest, e)) h one = all-front P new rest (subst (All P) e h)
+  inserted-all old new (without_one pair found refused is) h one = subst (All P) (sym is) (all-without old h)
+
+-- a limiter that stores pairs as they come keeps their values
+pub hands_over-keeps : {K V S : Type 0} (admits : S → K → V → Bool) → KeepsValues (hands_over admits)
+hands_over-keeps admits = record {
+  given = λ s n i v t k w h. ap (λ p. p.1) (given-is (admits s i v) s i v t (k, w) h);
+  replaced = λ s n k i v w. refl;
+}
+
+module _ {K V S H I : Type 0} {offers : Offers K V S I} {v : V} (keeps : KeepsValues offers)
+    (rules : Rules K V S) (names : I → K → Bool) (i : I) (old new : State K V S H) where
+  pub inserted-found : (result : Result Bool AllocError) → result ≡ Ok true → SaysWhether rules (names i) result new
+      → (result ≡ Ok true → IfSome (first new.pairs) (Stores rules offers names i v old))
+      → lookup (names i) new.pairs ≡ Some v
+  inserted-found result told says stores =
+      let newest = subst (λ r. SaysWhether rules (names i) r new) told says in
+      insert_found rules offers names i v old keeps new newest.0 (stores told)
+
+  pub inserted-only : (result : Result Bool AllocError) → SaysWhether rules (names i) result new
+      → (result ≡ Ok true → IfSome (first new.pairs) (Stores rules offers names i v old))
+      → (w : V) → lookup (names i) new.pairs ≡ Some w → w ≡ v
+  inserted-only (Ok true) says stores w found =
+      ap (λ o. unwrap_or o w) (sym found ∙ inserted-found (Ok true) refl says stores)
+  inserted-only (Ok false) says stores w found = absurd (not-found (names i) new.pairs says w found)
+  inserted-only (Err e) says stores w found = absurd (not-found (names i) new.pairs says w found)
+
 module _ {K V S H : Type 0} (names : K → Bool) (st : State K V S H) where
-  pub read_back : (value : V) → lookup names st.pairs ≡ Some value → written names value (promoted names st) ≡ promoted names st
+  pub read_back : (value : V) → lookup names st.pairs ≡ Some value
+      → written names value (promoted names st) ≡ promoted names st
   read_back value found = ap (λ pairs. record (promoted names st) { pairs = pairs })
       (set_value_same names (front names st.pairs) value (lookup-front names st.pairs ∙ found))
 
   pub promoted-absent : lookup names st.pairs ≡ None → promoted names st ≡ st
-  promoted-absent none = λ i. record st { pairs = front-none names st.pairs none i; places = places-none names st.pairs st.places none i }
+  promoted-absent none = λ i.
+      record st { pairs = front-none names st.pairs none i; places = places-none names st.pairs st.places none i }
+
+  pub written-found : (v w : V) → lookup names st.pairs ≡ Some v
+      → lookup names (written names w (promoted names st)).pairs ≡ Some w
+  written-found v w found = lookup-set names (front names st.pairs) v w (lookup-front names st.pairs ∙ found)
+
+  pub read-all : (P : K × V → Type 0) (v : V) → lookup names st.pairs ≡ Some v → All P st.pairs
+      → All P (written names v (promoted names st)).pairs
+  read-all P v found h = subst (λ s. All P s.pairs) (sym (read_back v found)) (front-all P names st.pairs h)

@@ -4,4 +4,6 @@ pub mod Chains
 pub mod LinkedTables
 pub mod Maps
 pub mod Theorems
+mod SameWalks
+mod LentPairs
 pub mod CallerLemmas

@@ -14,3 +14,4 @@ pub mod WalkRests
 pub mod Replacements
 pub mod ByHash
 pub mod Copies
+pub mod Places

@@ -15,3 +15,4 @@ pub mod Lending
 pub mod Drains
 pub mod Clones
 pub mod Runs
+pub mod Walks

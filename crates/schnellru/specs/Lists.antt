@@ -1,5 +1,5 @@
 -- Words on lists of pairs, newest first.
-use Rattle.std.specs.Prelude.{◌≡◌, ℕ, Bool, true, false, if◌then◌else◌, List, [], ◌∷◌, ◌++◌, Option, Some, None}
+use Rattle.std.specs.Prelude.{◌≡◌, ℕ, zero, suc, Bool, true, false, if◌then◌else◌, List, [], ◌∷◌, ◌++◌, Option, Some, None, slice_get}
 pub use Rattle.std.specs.Map.{lookup, lookup_entry, remove_entry as without, keys_of}
 
 module _ {X : Type 0} where
@@ -29,6 +29,11 @@ module _ {X : Type 0} where
   without_last [] = []
   without_last (x ∷ []) = []
   without_last (x ∷ y ∷ ys) = x ∷ without_last (y ∷ ys)
+
+  -- the last of so many from the first on
+  abbrev pub last_of : ℕ → List X → Option X
+  last_of zero xs = None
+  last_of (suc n) xs = slice_get xs n
 
   -- with x in front, if it is there
   abbrev pub after : Option X → List X → List X
@@ -64,6 +69,12 @@ module _ {K V : Type 0} where
   abbrev pub newest_value : List (K × V) → Option V
   newest_value [] = None
   newest_value (pair ∷ pairs) = Some pair.1
+
+  -- with this value in the pair at a place, counted from 0
+  abbrev pub set_value_at : List (K × V) → ℕ → V → List (K × V)
+  set_value_at [] i w = []
+  set_value_at (pair ∷ pairs) zero w = (pair.0, w) ∷ pairs
+  set_value_at (pair ∷ pairs) (suc i) w = pair ∷ set_value_at pairs i w
 
   -- with this value in the first pair
   abbrev pub set_newest : List (K × V) → V → List (K × V)

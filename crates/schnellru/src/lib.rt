@@ -16,6 +16,7 @@ pub use map::report::MoveReport;
 pub use map::reserve::ReserveError;
 pub use map::{DEFAULT_ENTRY_BYTES, LruMap};
 pub use walk::drain::Drain;
+pub use walk::iter_mut::IterMut;
 pub use walk::{Iter, Walk};
 
 #[cfg(test)]

@@ -19,6 +19,7 @@ mod insert;
 mod look_up;
 mod moves;
 mod place;
+mod places;
 mod remove;
 mod replace;
 pub(crate) mod report;

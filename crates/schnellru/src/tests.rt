@@ -4,8 +4,12 @@ use std::alloc::{AllocError, Global};
 use std::hash::{BuildHasher, Hash};
 use std::ops::RangeInclusive;
 
+mod by_hash;
+mod callers;
 mod capacities;
+mod clones;
 mod costs;
+mod drains;
 mod drops;
 mod forms;
 mod hashers;
@@ -21,6 +25,7 @@ mod removals;
 mod sizes;
 mod texts;
 mod walks;
+mod writes;
 
 // A map of numbers with entries of 16 bytes.
 fn map_of<L: Limiter<u64, u64>>(alloc: Global, limiter: L) -> LruMap<u64, u64, L, RandomState> {

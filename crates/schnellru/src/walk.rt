@@ -14,6 +14,7 @@ use std::iter::FusedIterator;
 use std::marker::Model;
 
 pub(crate) mod drain;
+pub(crate) mod iter_mut;
 
 /// The walk of a map under this limiter. A function over the walks of all limiters takes a `Walk`.
 ///

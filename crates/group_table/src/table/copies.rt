@@ -12,14 +12,14 @@ use std::alloc::{AllocError, Global};
 impl<T: Drop> Table<T> {
     /// A table of the same buckets, with what `f` answers of each entry.
     ///
-    /// `f` is asked in rising order of the buckets, once for each entry, until it answers an error. Deleted buckets stay
-    /// deleted, so the room is the same, and the placings are taken over. It takes time by the buckets, and two requests
-    /// for memory.
+    /// `f` is asked in rising order of the buckets, once for each entry, until it answers an error. Deleted buckets
+    /// stay deleted, so the room is the same, and the placings are taken over. It takes time by the buckets, and two
+    /// requests for memory.
     ///
     /// # Errors
     ///
-    /// Want of memory, or the error of `f`. What was copied is dropped then. A table without buckets asks for no memory,
-    /// and its copy is never refused.
+    /// Want of memory, or the error of `f`. What was copied is dropped then. A table without buckets asks for no
+    /// memory, and its copy is never refused.
     pub fn clone_with<F: Fn(&T) -> Result<T, AllocError>>(&self, f: F) -> Result<Self, AllocError>
         requires callable { F.IsAlwaysCallable f }
         ensures copies { IfOk result (λ t. Copies F.Fn f self.now.slots t.slots) }

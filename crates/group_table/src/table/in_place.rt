@@ -1,6 +1,8 @@
 //! How the entries of a table take new places where they stand.
-ghost use Rattle.std.specs.Prelude.{◌≡◌, ℕ, ◌+◌, ◌-◌, ◌^◌, ◌<◌, ◌≤◌, length, replicate, count_by, is_some, slice_index_or};
+ghost use Rattle.std.specs.Prelude.{◌≡◌, ℕ, ◌+◌, ◌-◌, ◌^◌, ◌<◌, ◌≤◌, length, replicate, count_by, is_some};
+ghost use Rattle.std.specs.Prelude.{slice_index_or};
 ghost use Rattle.group_table.specs.Sizes.{IsPowerFromFour, full_capacity};
+ghost use Rattle.group_table.specs.Bytes.{empty_byte};
 ghost use Rattle.group_table.specs.Bucket.{is_deleted};
 ghost use Rattle.group_table.specs.Layout.{slots_of, IsValid};
 ghost use Rattle.group_table.specs.Moves.{place_at, Moves, KeepsMovedHashes, GivesMovedHashes};
@@ -24,7 +26,7 @@ pub(crate) fn place_again<T: Drop, N: LinkType, H: Fn(&T) -> u64>(
     requires callable { H.IsAlwaysCallable hash_of.now }
     requires count { IsPowerFromFour (length entries.old.items) }
     requires fits { length control.old < 2 ^ 63 }
-    requires cleared { control.old ≡ replicate (length entries.old.items + 16) 255 }
+    requires cleared { control.old ≡ replicate (length entries.old.items + 16) empty_byte }
     requires within { count_by is_some entries.old.items ≤ full_capacity (length entries.old.items) }
     requires below { length entries.old.items < N.number N.MAX }
     requires one_each { length links.old.items ≡ length entries.old.items }
@@ -35,9 +37,11 @@ pub(crate) fn place_again<T: Drop, N: LinkType, H: Fn(&T) -> u64>(
     ensures one_each { length links.new.items ≡ length entries.old.items }
     ensures none_deleted { count_by is_deleted (slots_of control.new entries.new.items) ≡ 0 }
     ensures entries { count_by is_some entries.new.items ≡ count_by is_some entries.old.items }
-    ensures moves { Moves N.number N.MAX (place_at entries.old.items) (slots_of control.new entries.new.items) links.new.items }
+    ensures moves { Moves N.number N.MAX (place_at entries.old.items)
+        (slots_of control.new entries.new.items) links.new.items }
     ensures hashes { (hash_at : ℕ → ℕ) → GivesMovedHashes H.Fn hash_of.now entries.old.items hash_at →
-        KeepsMovedHashes N.number N.MAX (place_at entries.old.items) (slots_of control.new entries.new.items) links.new.items hash_at }
+        KeepsMovedHashes N.number N.MAX (place_at entries.old.items)
+        (slots_of control.new entries.new.items) links.new.items hash_at }
 {
     for b in 0..entries.len() {
         if control.byte(b) < DELETED {

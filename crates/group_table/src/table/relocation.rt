@@ -18,10 +18,15 @@ use std::mem;
 impl<T: Drop> Table<T> {
     /// Moves all entries, in rising order of their buckets, into a fresh table of so many buckets.
     ///
-    /// The answer has a link for each old bucket: the number of the bucket where its entry stands now, or `MAX` where it
-    /// was free. It is empty for a table without entries. `hash_of` is asked once for each entry, and for nothing else.
-    /// All memory is taken before the first entry moves, in two requests for the table and one for the links; the one
-    /// error is want of memory, and it changes nothing.
+    /// The answer has a link for each old bucket: the number of the bucket where its entry stands now, or `MAX` where
+    /// it was free. It is empty for a table without entries. `hash_of` is asked once for each entry, and for nothing
+    /// else. The placings rise by the entries, and no bucket is deleted afterwards. It takes time by the old buckets and
+    /// the new ones.
+    ///
+    /// # Errors
+    ///
+    /// Want of memory, which changes nothing: all memory is taken before the first entry moves, in two requests for the
+    /// table and, where there is an entry, one for the links.
     pub fn relocate<N: LinkType, H: Fn(&T) -> u64>(
         &mut self,
         buckets: usize,
@@ -62,8 +67,13 @@ impl<T: Drop> Table<T> {
 
     /// Gives all entries new buckets so that none is deleted, among as many as now, and answers as `relocate` does.
     ///
-    /// The entries are not moved into another table, and `hash_of` is asked once for each. The one request for memory is
-    /// that for the links; a table without entries makes none: its buckets are emptied where they lie.
+    /// The entries are not moved into another table, and `hash_of` is asked once for each. It takes time by the
+    /// buckets.
+    ///
+    /// # Errors
+    ///
+    /// Want of memory for the links, the one request, which changes nothing. A table without entries makes none and is
+    /// never refused: its buckets are emptied where they lie.
     pub fn rehash<N: LinkType, H: Fn(&T) -> u64>(
         &mut self,
         hash_of: H,

@@ -1,7 +1,7 @@
 -- What a map ends as, once a reference into it has ended.
-use Rattle.std.specs.Prelude.{◌≡◌, Bool, Option, Some, OnSome, IfNone}
+use Rattle.std.specs.Prelude.{◌≡◌, ℕ, Bool, Option, Some, OnSome, IfNone}
 use Rattle.std.specs.Option.{option_copied_mut}
-use Rattle.std.specs.Borrow.{Fml, RattleType, MutBor, Lends, LendsIf, LendsSo}
+use Rattle.std.specs.Borrow.{Fml, RattleType, Bor, MutBor, follows, Lends, LendsIf, LendsSo}
 use Rattle.std.specs.declared.cmp.PartialEq as equality
 use Rattle.std.specs.declared.fmt.Debug as debug
 use Rattle.std.specs.HashMap.Lent.{HashMembers}
@@ -9,7 +9,7 @@ use Rattle.std.specs.declared.hash.Hasher as hasher
 use Rattle.std.specs.declared.hash.BuildHasher as builder
 use Rattle.group_table.specs.declared.link.LinkType as link_type
 use Rattle.lru_limits.specs.declared.limiter.Limiter as limiter
-use Rattle.schnellru.specs.Lists.{set_newest}
+use Rattle.schnellru.specs.Lists.{set_newest, set_value_at}
 use Rattle.schnellru.specs.State.{State}
 use Rattle.schnellru.specs.Calls.{written}
 use Rattle.schnellru.specs.contracts.map.LruMap.{the_row}
@@ -41,6 +41,10 @@ module _ (K V L S N H : RattleType) (key : HashMembers K.Denot) (limits : limite
 
     abbrev pub lends_newest_value : MutBor V.Denot → Fml
     lends_newest_value r = Lends map_row V m r (λ last. record m.now { pairs = set_newest m.now.pairs last })
+
+    -- its pair at a place has the last value written through r
+    abbrev pub lends_value_at : ℕ → Bor K.Denot × MutBor V.Denot → Fml
+    lends_value_at i r = follows map_row V m.ghost_name r.1.ghost_name (λ last. record m.now { pairs = set_value_at m.now.pairs i last })
 
     -- it has the last limiter written through r
     abbrev pub lends_limiter : MutBor L.Denot → Fml

@@ -3,13 +3,14 @@ use Rattle.group_table.proofs.LayoutLemmas.{bucket_at-read}
 use Rattle.group_table.proofs.ControlLemmas.{buckets_are}
 use Rattle.group_table.proofs.SearchLemmas.{Answers-from_call}
 use Rattle.group_table.proofs.Masks.{mask_at, none_of_zero, some_lane}
-use Rattle.group_table.proofs.LaneLemmas.{AsksLanes-first, AsksLanes-next, AcceptsIn-lane, RefusesGroup-from, lane_tag, read_some, ended_lane, none_ended}
+use Rattle.group_table.proofs.LaneLemmas.{AsksLanes-first, AsksLanes-next, AcceptsIn-lane, RefusesGroup-from, lane_tag}
+use Rattle.group_table.proofs.LaneLemmas.{read_some, ended_lane, none_ended}
 use Rattle.group_table.proofs.probe.ask_group.Goals as goal
 
 pub lanes-init : goal.lanes-init
 lanes-init g c = record {
   callable = c.requires.callable;
-  asked = AsksLanes-first _ _ c.requires.laid_out _ c.requires.start g.F.FnMut _ c.requires.tag _ _ (mask_at (λ byte. byte ≡ c.args.tag) _ _ _ _ c.group-group.ensures.bytes c.match_tag-mask.ensures);
+  asked = AsksLanes-first _ _ c.requires.laid_out _ c.requires.start g.F.FnMut _ c.requires.tag _ _ (mask_at (λ byte. byte ≡ c.args.tag) _ c.args.control.now c.args.start _ c.group-group.ensures.bytes c.match_tag-mask.ensures);
 }
 
 pub returns-then-f-clause-asked : goal.returns-then-f-clause-asked
@@ -22,7 +23,7 @@ returns-then-f-clause-asked g c =
     let tagged = lane_tag _ _ c.requires.laid_out _ c.requires.start g.F.FnMut _ c.requires.tag _ _ _ l _ _ low.set low.first here in
     let slot = bucket_at-read c.args.control.now c.args.entries.now c.requires.laid_out c.wrap-b.result within c.args.tag _ c.in-Some.entry tagged c.index-entries-b.is c.in-Some.is in
     AcceptsIn-lane _ _ c.requires.laid_out _ c.requires.start g.F.FnMut _ c.requires.tag _ _ _ l _ _ low.set low.first here c.in-Some.entry slot _
-    (Answers-from_call g.F.FnMut _ _ _ _ _ _ _ c.in-Some.entry _ slot refl c.f.ensures c.if-f.true)
+    (Answers-from_call g.F.FnMut _ c.in-Some.entry slot refl c.f.ensures c.if-f.true)
 
 pub unreachable-requires : goal.unreachable-requires
 unreachable-requires g c =
@@ -46,7 +47,7 @@ lanes-preserved g c =
     record {
       callable = search of_calls;
       asked = AsksLanes-next _ _ c.requires.laid_out _ c.requires.start g.F.FnMut _ c.requires.tag _ _ _ l _ _ low.set low.first here c.in-Some.entry slot _ _
-          (rw (← low.value) at c.without_lowest-mask.ensures.rest) (Answers-from_call g.F.FnMut _ _ _ _ _ _ _ c.in-Some.entry _ slot refl c.f.ensures c.if-f.false);
+          (rw (← low.value) at c.without_lowest-mask.ensures.rest) (Answers-from_call g.F.FnMut _ c.in-Some.entry slot refl c.f.ensures c.if-f.false);
     }
 
 pub returns-then-match_empty-ne0-clause-asked : goal.returns-then-match_empty-ne0-clause-asked

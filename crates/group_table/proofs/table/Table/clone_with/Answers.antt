@@ -2,7 +2,8 @@ use Rattle.std.proofs.Common.{sym, ◌∙◌, arith}
 use Rattle.std.proofs.lemmas.Bool.{eqb-false}
 use Rattle.group_table.proofs.LayoutLemmas.{length-laid_out}
 use Rattle.group_table.proofs.TableLemmas.{IsTable-by}
-use Rattle.group_table.proofs.CloneLemmas.{Copies-places, marks_of-copies, Fits-copies, IsValid-copied, entry_count-copied}
+use Rattle.group_table.proofs.CloneLemmas.{Copies-places, marks_of-copies, Fits-copies, IsValid-copied}
+use Rattle.group_table.proofs.CloneLemmas.{entry_count-copied}
 use Rattle.group_table.proofs.table.Table.clone_with.Goals as goal
 
 pub invariant_of-result : goal.invariant_of-result
@@ -10,8 +11,8 @@ invariant_of-result g c =
     let valid = c.self.invariant.0 in
     let copied = rw c.as_slice.ensures.value at c.in_ok-entries.ensures in
     rw (c.in_ok-control.ensures) (
-      IsValid-copied g.F.Fn c.args.f _ _ _ _ valid copied,
-      c.self.invariant.1 ∙ sym (entry_count-copied g.F.Fn c.args.f _ _ _ _ valid copied),
+      IsValid-copied g.F.Fn c.args.f _ valid copied,
+      c.self.invariant.1 ∙ sym (entry_count-copied g.F.Fn c.args.f _ valid copied),
     )
 
 pub returns-clause-copies : goal.returns-clause-copies
@@ -28,7 +29,7 @@ returns-clause-fits g c hash_of fits = Fits-copies g.F.Fn c.args.f _ _ hash_of (
 pub returns-clause-table : goal.returns-clause-table
 returns-clause-table g c =
     let copied = rw c.as_slice.ensures.value at c.in_ok-entries.ensures in
-    rw (c.in_ok-control.ensures) (IsTable-by _ _ _ (IsValid-copied g.F.Fn c.args.f _ _ _ _ c.self.invariant.0 copied))
+    rw (c.in_ok-control.ensures) (IsTable-by _ _ _ (IsValid-copied g.F.Fn c.args.f _ c.self.invariant.0 copied))
 
 pub returns-in_err-control-clause-succeeds : goal.returns-in_err-control-clause-succeeds
 returns-in_err-control-clause-succeeds g c none =

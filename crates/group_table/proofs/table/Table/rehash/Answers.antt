@@ -6,7 +6,8 @@ use Rattle.group_table.proofs.BucketLemmas.{used_count-split}
 use Rattle.group_table.proofs.LayoutLemmas.{length-laid_out}
 use Rattle.group_table.proofs.FreshLemmas.{room-fresh}
 use Rattle.group_table.proofs.TableLemmas.{IsTable-by}
-use Rattle.group_table.proofs.RelocationLemmas.{room-none_deleted, entry_count-laid_out, IsRenumbering-moves, KeepsHashes-moves, GivesMovedHashes-from}
+use Rattle.group_table.proofs.RelocationLemmas.{room-none_deleted, entry_count-laid_out, IsRenumbering-moves}
+use Rattle.group_table.proofs.RelocationLemmas.{KeepsHashes-moves, GivesMovedHashes-from}
 use Rattle.group_table.proofs.table.Table.rehash.Goals as goal
 
 pub returns-then-self-eq0-clause-room : goal.returns-then-self-eq0-clause-room

@@ -4,7 +4,8 @@ use Rattle.group_table.specs.Bucket.{empty, entry_count}
 use Rattle.group_table.specs.Layout.{slots_of}
 use Rattle.group_table.proofs.TableLemmas.{IsTable-by}
 use Rattle.group_table.proofs.FreshLemmas.{Fits-fresh, room-fresh}
-use Rattle.group_table.proofs.RelocationLemmas.{room-none_deleted, entry_count-laid_out, IsRenumbering-moves, KeepsHashes-moves, GivesMovedHashes-from}
+use Rattle.group_table.proofs.RelocationLemmas.{room-none_deleted, entry_count-laid_out, IsRenumbering-moves}
+use Rattle.group_table.proofs.RelocationLemmas.{KeepsHashes-moves, GivesMovedHashes-from}
 use Rattle.group_table.proofs.table.Table.relocate.Goals as goal
 
 pub returns-in_err-fresh-clause-table : goal.returns-in_err-fresh-clause-table

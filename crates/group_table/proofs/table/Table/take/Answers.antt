@@ -1,6 +1,7 @@
 use Rattle.std.proofs.Common.{◌<◌, length, arith}
 use Rattle.group_table.specs.Layout.{slots_of}
-use Rattle.group_table.proofs.LayoutLemmas.{length-laid_out, entries_within, full_within, full_byte, is_some_entry, entry_at-full}
+use Rattle.group_table.proofs.LayoutLemmas.{length-laid_out, entries_within, full_within, full_byte, is_some_entry}
+use Rattle.group_table.proofs.LayoutLemmas.{entry_at-full}
 use Rattle.group_table.proofs.RemoveLemmas.{bool_byte-le, removed, room-removed, entry_count-pos}
 use Rattle.group_table.proofs.ControlLemmas.{buckets_are}
 use Rattle.group_table.proofs.PlaceLemmas.{some_empty_byte}

@@ -8,7 +8,8 @@ use Rattle.group_table.proofs.BucketLemmas.{bucket_at-marks_of}
 use Rattle.group_table.proofs.LayoutLemmas.{length-laid_out, entries_within}
 use Rattle.group_table.proofs.TableLemmas.{IsTable-by, room_by}
 use Rattle.group_table.proofs.WriteLemmas.{slots_of-written}
-use Rattle.group_table.proofs.PlaceLemmas.{some_free_byte, place_first, place_within, no_place_left, place_none, place_spends, MayFill-from, IsValid-placed, entry_count-placed, room-placed}
+use Rattle.group_table.proofs.PlaceLemmas.{some_free_byte, place_first, place_within, no_place_left, place_none}
+use Rattle.group_table.proofs.PlaceLemmas.{place_spends, MayFill-from, IsValid-placed, entry_count-placed, room-placed}
 use Rattle.group_table.proofs.ControlLemmas.{buckets_are}
 use Rattle.group_table.proofs.FitsLemmas.{Fits-placed}
 use Rattle.group_table.proofs.table.Table.try_place.Goals as goal
@@ -68,9 +69,9 @@ invariant_of-self g c =
     let some : 0 < length c.self.inside.entries.items = omega (arith, eqb-false _ _ (sym c.is_empty.ensures ∙ c.if-is_empty.false)) in
     let within = place_within _ _ _ valid c.args.hash c.first_free-b.result _ are (omega (arith, some, are)) first in
     let spends = place_spends _ _ _ valid c.args.hash c.first_free-b.result _ are (omega (arith, some, are)) first _ c.byte.ensures (omega arith) in
-    let counted = entry_count-placed _ _ _ _ valid c.first_free-b.result spends c.tag_of.result c.args.entry within c.tag_of.ensures.bound in
+    let counted = entry_count-placed valid c.first_free-b.result spends c.tag_of.result c.args.entry within c.tag_of.ensures.tag in
     rw (c.fill_bucket.ensures.control, c.fill_bucket.ensures.entries)
-    (IsValid-placed _ _ _ _ valid c.first_free-b.result spends c.tag_of.result c.args.entry within c.tag_of.ensures.bound, rw counted (ap (λ n. n + 1) c.self.invariant.1))
+    (IsValid-placed valid c.first_free-b.result spends c.tag_of.result c.args.entry within c.tag_of.ensures.tag, rw counted (ap (λ n. n + 1) c.self.invariant.1))
 
 pub returns-clause-placed : goal.returns-clause-placed
 returns-clause-placed g c =
@@ -90,7 +91,7 @@ returns-clause-may_fill g c =
     let first = c.first_free-b.ensures in
     let are = buckets_are _ _ valid.laid_out in
     let some : 0 < length c.self.inside.entries.items = omega (arith, eqb-false _ _ (sym c.is_empty.ensures ∙ c.if-is_empty.false)) in
-    rw (← c.self.view_is) (MayFill-from _ _ _ _ valid c.first_free-b.result
+    rw (← c.self.view_is) (MayFill-from valid c.first_free-b.result
     (place_spends _ _ _ valid c.args.hash c.first_free-b.result _ are (omega (arith, some, are)) first _ c.byte.ensures (omega arith)))
 
 pub returns-clause-fits : goal.returns-clause-fits
@@ -119,7 +120,7 @@ returns-clause-table g c =
     let within = place_within _ _ _ valid c.args.hash c.first_free-b.result _ are (omega (arith, some, are)) first in
     let spends = place_spends _ _ _ valid c.args.hash c.first_free-b.result _ are (omega (arith, some, are)) first _ c.byte.ensures (omega arith) in
     rw (c.fill_bucket.ensures.control, c.fill_bucket.ensures.entries)
-    (IsTable-by _ _ _ (IsValid-placed _ _ _ _ valid c.first_free-b.result spends c.tag_of.result c.args.entry within c.tag_of.ensures.bound))
+    (IsTable-by _ _ _ (IsValid-placed valid c.first_free-b.result spends c.tag_of.result c.args.entry within c.tag_of.ensures.tag))
 
 pub returns-clause-room : goal.returns-clause-room
 returns-clause-room g c =
@@ -130,4 +131,4 @@ returns-clause-room g c =
     let within = place_within _ _ _ valid c.args.hash c.first_free-b.result _ are (omega (arith, some, are)) first in
     let spends = place_spends _ _ _ valid c.args.hash c.first_free-b.result _ are (omega (arith, some, are)) first _ c.byte.ensures (omega arith) in
     rw (← c.self.view_is, c.fill_bucket.ensures.control, c.fill_bucket.ensures.entries)
-    (room-placed _ _ _ _ valid c.first_free-b.result spends c.tag_of.result c.args.entry within c.tag_of.ensures.bound)
+    (room-placed valid c.first_free-b.result spends c.tag_of.result c.args.entry within c.tag_of.ensures.tag)

@@ -5,7 +5,8 @@ use Rattle.group_table.specs.Control.{buckets_of}
 use Rattle.group_table.proofs.ControlLemmas.{buckets_are}
 use Rattle.group_table.proofs.JoinLemmas.{reached_first}
 use Rattle.group_table.proofs.FreeBytes.{free_bytes-fewer}
-use Rattle.group_table.proofs.HalfwayLemmas.{IsHalfway-start, IsHalfway-placed, IsHalfway-none, stood_there, IsInTurn-taken, IsValid-last, none_deleted_last, Moves-last, hashes_last}
+use Rattle.group_table.proofs.HalfwayLemmas.{IsHalfway-start, IsHalfway-placed, IsHalfway-none, stood_there}
+use Rattle.group_table.proofs.HalfwayLemmas.{IsInTurn-taken, IsValid-last, none_deleted_last, Moves-last, hashes_last}
 use Rattle.group_table.proofs.TurnLemmas.{some_free, put_within, IsInTurn-next, IsHalfway-stays}
 use Rattle.group_table.proofs.table.in_place.place_again.Goals as goal
 
@@ -39,7 +40,7 @@ loop-b-preserved-then-is_read_first g c =
     let byte : 128 ≤ get_or c.loop-b.control c.loop-b.b 0 = rw (← c.byte.ensures) c.if-byte-lt-DELETED.false in
     let stood = stood_there g.N.LinkType.number g.N.LinkType.MAX _ whole _ _ _ c.loop-b.b half c.in-Some.entry byte there in
     let stays = IsHalfway-stays g.N.LinkType.number g.N.LinkType.MAX g.N.LinkType.link _ g.met.N.LinkType.laws _ whole _ _ _ c.loop-b.b c.in-Some.entry half c.requires.within c.requires.below byte there
-    c.hash_of-hash.result c.len.result c.tag_of.result (omega arith) (c.is_read_first.ensures c.if-is_read_first.true) c.tag_of.ensures.value c.tag_of.ensures.bound
+    c.hash_of-hash.result c.len.result c.tag_of.result (omega arith) (c.is_read_first.ensures c.if-is_read_first.true) c.tag_of.ensures.value c.tag_of.ensures.tag
     (λ hash_at given. given c.loop-b.b _ _ stood (record { shown = _; shows = refl; says = record { met = c.hash_of-hash.ensures } })) in
     rw (c.set.ensures, c.from_usize.ensures, n) stays
 
@@ -61,7 +62,7 @@ pub first_free-place-requires : goal.first_free-place-requires
 first_free-place-requires g c =
     let l = c.turns in
     let turn = rw c.in-Some-next.is at l.invariant.turn in
-    let w = some_free g.N.LinkType.number g.N.LinkType.MAX g.N.LinkType.link _ g.met.N.LinkType.laws _ c.args.entries.now.items _ _ _ _ _ _ turn.1 turn.0 c.requires.within c.requires.below in
+    let w = some_free g.N.LinkType.number g.N.LinkType.MAX g.N.LinkType.link _ g.met.N.LinkType.laws _ c.args.entries.now.items _ turn.1 turn.0 c.requires.within c.requires.below in
     (w.0, omega (arith, w.1, buckets_are _ _ turn.1.valid.laid_out, turn.1.placed_length, turn.1.now_length), w.2)
 
 pub returns-clause-valid : goal.returns-clause-valid
@@ -90,10 +91,10 @@ turns-smaller g c =
     let turn = rw c.in-Some-next.is at l.invariant.turn in
     let n : buckets_of l.control ≡ length l.entries.items = omega (arith, buckets_are _ _ turn.1.valid.laid_out, turn.1.placed_length, turn.1.now_length) in
     let first = c.first_free-place.ensures in
-    let in_now = put_within g.N.LinkType.number g.N.LinkType.MAX g.N.LinkType.link _ g.met.N.LinkType.laws _ c.args.entries.now.items _ _ _ _ _ _ turn.1 turn.0 c.requires.within c.requires.below
-    l.hash c.first_free-place.result _ c.tag_of-in-Some-next.result n (reached_first _ _ _ _ first) c.tag_of-in-Some-next.ensures.value c.tag_of-in-Some-next.ensures.bound
+    let in_now = put_within g.N.LinkType.number g.N.LinkType.MAX g.N.LinkType.link _ g.met.N.LinkType.laws _ c.args.entries.now.items _ turn.1 turn.0 c.requires.within c.requires.below
+    l.hash c.first_free-place.result _ c.tag_of-in-Some-next.result n (reached_first first) c.tag_of-in-Some-next.ensures.value c.tag_of-in-Some-next.ensures.tag
     (l.invariant.hashed _ c.in-Some-next.is) in
-    rw c.put-next.ensures.control (free_bytes-fewer c.tag_of-in-Some-next.result c.tag_of-in-Some-next.ensures.bound l.control l.entries.items c.first_free-place.result
+    rw c.put-next.ensures.control (free_bytes-fewer c.tag_of-in-Some-next.result c.tag_of-in-Some-next.ensures.tag l.control l.entries.items c.first_free-place.result
     (omega (arith, in_now, turn.1.now_length, turn.1.placed_length, entries_within _ _ turn.1.valid.laid_out)) first.free_there)
 
 pub turns-preserved : goal.turns-preserved
@@ -102,8 +103,8 @@ turns-preserved g c =
     let turn = rw c.in-Some-next.is at l.invariant.turn in
     let n : buckets_of l.control ≡ length l.entries.items = omega (arith, buckets_are _ _ turn.1.valid.laid_out, turn.1.placed_length, turn.1.now_length) in
     let first = c.first_free-place.ensures in
-    let next = IsInTurn-next g.N.LinkType.number g.N.LinkType.MAX g.N.LinkType.link _ g.met.N.LinkType.laws _ c.args.entries.now.items _ _ _ _ _ _ turn.1 turn.0 c.requires.within c.requires.below
-    l.hash c.first_free-place.result _ c.tag_of-in-Some-next.result n (reached_first _ _ _ _ first) c.tag_of-in-Some-next.ensures.value c.tag_of-in-Some-next.ensures.bound
+    let next = IsInTurn-next g.N.LinkType.number g.N.LinkType.MAX g.N.LinkType.link _ g.met.N.LinkType.laws _ c.args.entries.now.items _ turn.1 turn.0 c.requires.within c.requires.below
+    l.hash c.first_free-place.result _ c.tag_of-in-Some-next.result n (reached_first first) c.tag_of-in-Some-next.ensures.value c.tag_of-in-Some-next.ensures.tag
     (l.invariant.hashed _ c.in-Some-next.is) in
     record {
       turn = rw (c.put-next.ensures.stood, c.put-next.ensures.entries, c.put-next.ensures.control, c.from_usize-in-Some-next.ensures) next;
@@ -116,10 +117,10 @@ turns-smaller-in-Some-next-2 g c =
     let turn = rw c.in-Some-next.is at l.invariant.turn in
     let n : buckets_of l.control ≡ length l.entries.items = omega (arith, buckets_are _ _ turn.1.valid.laid_out, turn.1.placed_length, turn.1.now_length) in
     let first = c.first_free-place.ensures in
-    let in_now = put_within g.N.LinkType.number g.N.LinkType.MAX g.N.LinkType.link _ g.met.N.LinkType.laws _ c.args.entries.now.items _ _ _ _ _ _ turn.1 turn.0 c.requires.within c.requires.below
-    l.hash c.first_free-place.result _ c.tag_of-in-Some-next.result n (reached_first _ _ _ _ first) c.tag_of-in-Some-next.ensures.value c.tag_of-in-Some-next.ensures.bound
+    let in_now = put_within g.N.LinkType.number g.N.LinkType.MAX g.N.LinkType.link _ g.met.N.LinkType.laws _ c.args.entries.now.items _ turn.1 turn.0 c.requires.within c.requires.below
+    l.hash c.first_free-place.result _ c.tag_of-in-Some-next.result n (reached_first first) c.tag_of-in-Some-next.ensures.value c.tag_of-in-Some-next.ensures.tag
     (l.invariant.hashed _ c.in-Some-next.is) in
-    rw c.put-next.ensures.control (free_bytes-fewer c.tag_of-in-Some-next.result c.tag_of-in-Some-next.ensures.bound l.control l.entries.items c.first_free-place.result
+    rw c.put-next.ensures.control (free_bytes-fewer c.tag_of-in-Some-next.result c.tag_of-in-Some-next.ensures.tag l.control l.entries.items c.first_free-place.result
     (omega (arith, in_now, turn.1.now_length, turn.1.placed_length, entries_within _ _ turn.1.valid.laid_out)) first.free_there)
 
 pub turns-preserved-in-Some-next-2 : goal.turns-preserved-in-Some-next-2
@@ -128,8 +129,8 @@ turns-preserved-in-Some-next-2 g c =
     let turn = rw c.in-Some-next.is at l.invariant.turn in
     let n : buckets_of l.control ≡ length l.entries.items = omega (arith, buckets_are _ _ turn.1.valid.laid_out, turn.1.placed_length, turn.1.now_length) in
     let first = c.first_free-place.ensures in
-    let next = IsInTurn-next g.N.LinkType.number g.N.LinkType.MAX g.N.LinkType.link _ g.met.N.LinkType.laws _ c.args.entries.now.items _ _ _ _ _ _ turn.1 turn.0 c.requires.within c.requires.below
-    l.hash c.first_free-place.result _ c.tag_of-in-Some-next.result n (reached_first _ _ _ _ first) c.tag_of-in-Some-next.ensures.value c.tag_of-in-Some-next.ensures.bound
+    let next = IsInTurn-next g.N.LinkType.number g.N.LinkType.MAX g.N.LinkType.link _ g.met.N.LinkType.laws _ c.args.entries.now.items _ turn.1 turn.0 c.requires.within c.requires.below
+    l.hash c.first_free-place.result _ c.tag_of-in-Some-next.result n (reached_first first) c.tag_of-in-Some-next.ensures.value c.tag_of-in-Some-next.ensures.tag
     (l.invariant.hashed _ c.in-Some-next.is) in
     let then = rw (sym c.put-next.ensures.stood, c.in-Some-next-2.is) at next in
     record {

@@ -1,4 +1,5 @@
-use Rattle.std.proofs.Common.{◌+◌, ◌≡◌, ◌∷◌, ◌++◌, [], ◌<◌, length, is_some, refl, ap, sym, ◌∙◌, arith, append_assoc, append-nil, length-set}
+use Rattle.std.proofs.Common.{◌+◌, ◌≡◌, ◌∷◌, ◌++◌, [], ◌<◌, length, is_some, refl, ap, sym, ◌∙◌, arith, append_assoc}
+use Rattle.std.proofs.Common.{append-nil, length-set}
 use Rattle.std.specs.Vec.Iter.{into_iter_items, into_iter_len}
 use Rattle.group_table.specs.Moves.{place_at}
 use Rattle.group_table.proofs.BucketLemmas.{empty_not_deleted, deleted_count-none}
@@ -6,8 +7,10 @@ use Rattle.std.proofs.lemmas.List.{length-append, nil_from_length}
 use Rattle.group_table.proofs.FreshLemmas.{entry_count-none}
 use Rattle.group_table.proofs.FitsLemmas.{Fits-none}
 use Rattle.group_table.proofs.JoinLemmas.{length-joined, entry_count-joined, deleted_count-joined}
-use Rattle.group_table.proofs.MoveLemmas.{Moves-none, Moves-same, Moves-more, KeepsMovedHashes-same, KeepsMovedHashes-more, come_before, come_there}
-use Rattle.group_table.proofs.MoveLemmas.{come_elsewhere, come_none, come_within, come_next, come_fewer, count_by-push, one_more, none_more}
+use Rattle.group_table.proofs.MoveLemmas.{Moves-none, Moves-same, Moves-more, KeepsMovedHashes-same}
+use Rattle.group_table.proofs.MoveLemmas.{KeepsMovedHashes-more, come_before, come_there}
+use Rattle.group_table.proofs.MoveLemmas.{come_elsewhere, come_none, come_within, come_next, come_fewer, count_by-push}
+use Rattle.group_table.proofs.MoveLemmas.{one_more, none_more}
 use Rattle.group_table.proofs.table.moves.move_entries.Goals.{in-Some-place, in_default}
 use Rattle.group_table.proofs.table.moves.move_entries.Goals as goal
 
@@ -81,13 +84,13 @@ loop-place-preserved g c =
             rest = rest_is;
             bucket = next;
             same = length-set _ _ _ ∙ l.same;
-            buckets = length-joined _ _ _ _ _ joins ∙ l.buckets;
+            buckets = length-joined joins ∙ l.buckets;
             placings = w.place_fresh.ensures.placings ∙ l.placings;
-            none_deleted = deleted_count-joined _ _ _ _ _ joins ∙ l.none_deleted;
-            entries = entry_count-joined _ _ _ _ _ joins ∙ omega (arith, l.entries, count_by-push at.yielded c.in-Some.place, one_more c.in-Some.place (ap is_some place_is));
-            moves = Moves-more g.N.LinkType.number g.N.LinkType.MAX g.N.LinkType.link _ g.met.N.LinkType.laws _ _ _ _ _ at.b _ _ _ before there elsewhere bound below joins l.moves;
+            none_deleted = deleted_count-joined joins ∙ l.none_deleted;
+            entries = entry_count-joined joins ∙ omega (arith, l.entries, count_by-push at.yielded c.in-Some.place, one_more c.in-Some.place (ap is_some place_is));
+            moves = Moves-more g.N.LinkType.number g.N.LinkType.MAX g.N.LinkType.link _ g.met.N.LinkType.laws _ _ at.b before there elsewhere bound below joins l.moves;
             hashes =
-                λ hash_at gives. KeepsMovedHashes-more g.N.LinkType.number g.N.LinkType.MAX g.N.LinkType.link _ g.met.N.LinkType.laws _ _ _ _ _ at.b _ _ _
+                λ hash_at gives. KeepsMovedHashes-more g.N.LinkType.number g.N.LinkType.MAX g.N.LinkType.link _ g.met.N.LinkType.laws _ _ at.b
                 before there elsewhere bound below joins l.moves hash_at
                 (gives at.b _ _ (ap (λ xs. place_at xs at.b) total ∙ ap (place_at _) l.bucket ∙ come_next at.yielded c.in-Some.place _ _ order ∙ place_is)
                 (record { shown = _; shows = refl; says = record { met = w.hash_of-hash.ensures } })) (l.hashes hash_at gives);
@@ -102,9 +105,9 @@ loop-place-preserved g c =
             placings = l.placings;
             none_deleted = l.none_deleted;
             entries = l.entries ∙ sym (count_by-push at.yielded c.in-Some.place ∙ omega (arith, none_more c.in-Some.place w.in_default.is));
-            moves = Moves-same g.N.LinkType.number g.N.LinkType.MAX _ _ _ _ (come_none at.yielded at.b l.bucket c.in-Some.place w.in_default.is) l.moves;
+            moves = Moves-same g.N.LinkType.number g.N.LinkType.MAX _ _ _ (come_none at.yielded at.b l.bucket c.in-Some.place w.in_default.is) l.moves;
             hashes =
-                λ hash_at gives. KeepsMovedHashes-same g.N.LinkType.number g.N.LinkType.MAX _ _ _ _ (come_none at.yielded at.b l.bucket c.in-Some.place w.in_default.is) hash_at
+                λ hash_at gives. KeepsMovedHashes-same g.N.LinkType.number g.N.LinkType.MAX _ _ _ (come_none at.yielded at.b l.bucket c.in-Some.place w.in_default.is) hash_at
                 (l.hashes hash_at gives);
           }
     ]

@@ -1,0 +1,100 @@
+-- What a contract sees of an `IterMut`, and what it ends as once a value that it lent has ended.
+use Rattle.std.proofs.Common.{refl, arith}
+use Rattle.std.specs.Prelude.{ℕ, ◌+◌, ◌-◌, ◌≤◌, [], length, slice_get, Option, None, Some, if◌then◌else◌, nat_lt}
+use Rattle.std.specs.Borrow.{Fml, GName, RattleType, Bor, MutBor, follows, follows_if}
+use Rattle.std.specs.HashMap.Lent.{HashMembers}
+use Rattle.std.specs.declared.cmp.PartialEq as equality
+use Rattle.std.specs.declared.fmt.Debug as debug
+use Rattle.std.specs.declared.hash.Hash as hashing
+use Rattle.std.specs.declared.hash.Hasher as hasher
+use Rattle.std.specs.declared.hash.BuildHasher as builder
+use Rattle.group_table.specs.declared.link.LinkType as link_type
+use Rattle.lru_limits.specs.declared.limiter.Limiter as limiter
+use Rattle.schnellru.specs.Lists.{set_value_at, last_of}
+use Rattle.schnellru.specs.State.{State}
+use Rattle.schnellru.specs.declared.walk.iter_mut.IterMut.{IterMut}
+use Rattle.schnellru.specs.contracts.walk.iter_mut.IterMut.{the_row}
+use mir.Syntax.{named}
+use mathlib.Core.Option as maybe
+
+pub one_less : (n m : ℕ) → n ≤ m → n - 1 ≤ m
+one_less n m h = omega (arith, h)
+
+-- the ghost name of the value that is lent, if one is
+abbrev pub lent_name : {K V : Type 0} → Option (Bor K × MutBor V) → maybe.Option GName
+lent_name (Some pair) = maybe.some pair.1.ghost_name
+lent_name None = maybe.none
+
+-- the members of the traits on which an `IterMut` stands
+module _ {K V L S N H : Type 0} {equal : equality.Ghosts K} {input : hashing.Ghosts K} {limits : limiter.Ghosts L K V N}
+    {links : link_type.Ghosts N} {link_eq : equality.Ghosts N} {link_shown : debug.Ghosts N} {build : builder.Ghosts S H} {hash : hasher.Ghosts H} where
+  -- the map as it is now
+  abbrev pub walk_map : IterMut K V L S N H equal input limits links link_eq link_shown build hash → State K V L S
+  walk_map walk = walk.map.now
+
+  -- the ghost name of the reference to it
+  abbrev pub walk_lender : IterMut K V L S N H equal input limits links link_eq link_shown build hash → GName
+  walk_lender walk = walk.map.ghost_name
+
+  -- the places of the pairs that are left: from this one
+  abbrev pub walk_start : IterMut K V L S N H equal input limits links link_eq link_shown build hash → ℕ
+  walk_start walk = walk.start
+
+  -- up to this one
+  abbrev pub walk_end : IterMut K V L S N H equal input limits links link_eq link_shown build hash → ℕ
+  walk_end walk = walk.end
+
+  -- the walk after it lent the first pair that was left, where w was left
+  abbrev pub walk_after_first : IterMut K V L S N H equal input limits links link_eq link_shown build hash → V → IterMut K V L S N H equal input limits links link_eq link_shown build hash
+  walk_after_first walk w = let m = walk.map in record {
+    map = record { ref_ptr = m.ref_ptr; ghost_name = m.ghost_name; now = record m.now { pairs = set_value_at m.now.pairs walk.start w } };
+    start = walk.start + 1;
+    end = walk.end;
+    front = slice_get m.now.places (walk.start + 1);
+    back = walk.back;
+    within = walk.within;
+    first = refl;
+    last = walk.last;
+  }
+
+  -- and after it lent the last
+  abbrev pub walk_after_last : IterMut K V L S N H equal input limits links link_eq link_shown build hash → V → IterMut K V L S N H equal input limits links link_eq link_shown build hash
+  walk_after_last walk w = let m = walk.map in record {
+    map = record { ref_ptr = m.ref_ptr; ghost_name = m.ghost_name; now = record m.now { pairs = set_value_at m.now.pairs (walk.end - 1) w } };
+    start = walk.start;
+    end = walk.end - 1;
+    front = walk.front;
+    back = last_of (walk.end - 1) m.now.places;
+    within = one_less walk.end (length m.now.places) walk.within;
+    first = walk.first;
+    last = refl;
+  }
+
+  -- the pair that `next` lends, and that of `next_back`
+  abbrev pub next_pair : IterMut K V L S N H equal input limits links link_eq link_shown build hash → Option (K × V)
+  next_pair walk = if nat_lt walk.start walk.end then slice_get (walk_map walk).pairs walk.start else None
+
+  abbrev pub next_back_pair : IterMut K V L S N H equal input limits links link_eq link_shown build hash → Option (K × V)
+  next_back_pair walk = if nat_lt walk.start walk.end then slice_get (walk_map walk).pairs (walk.end - 1) else None
+
+module _ (K V L S N H : RattleType) (key : HashMembers K.Denot) (limits : limiter.Ghosts L.Denot K.Denot V.Denot N.Denot)
+    (links : link_type.Ghosts N.Denot) (link_eq : equality.Ghosts N.Denot) (link_shown : debug.Ghosts N.Denot)
+    (build : builder.Ghosts S.Denot H.Denot) (hash : hasher.Ghosts H.Denot) where
+  abbrev pub walk_row : RattleType
+  walk_row = the_row (record { mir = named 1; lft = [] }) K V L S N H (record { eq = key.eq }) (record { hash_input = key.hash_input }) limits links link_eq link_shown build hash
+
+  module _ (walk : MutBor (IterMut K.Denot V.Denot L.Denot S.Denot N.Denot H.Denot (record { eq = key.eq }) (record { hash_input = key.hash_input }) limits
+      links link_eq link_shown build hash)) where
+    -- the first pair that was left is lent until r ends, if there is one
+    abbrev pub lends_next : Option (Bor K.Denot × MutBor V.Denot) → Fml
+    lends_next r = follows_if walk_row V walk.ghost_name (lent_name r) (λ w. walk_after_first walk.now w) walk.now
+
+    abbrev pub lends_first : Bor K.Denot × MutBor V.Denot → Fml
+    lends_first r = follows walk_row V walk.ghost_name r.1.ghost_name (λ w. walk_after_first walk.now w)
+
+    -- the last that was left is
+    abbrev pub lends_next_back : Option (Bor K.Denot × MutBor V.Denot) → Fml
+    lends_next_back r = follows_if walk_row V walk.ghost_name (lent_name r) (λ w. walk_after_last walk.now w) walk.now
+
+    abbrev pub lends_last : Bor K.Denot × MutBor V.Denot → Fml
+    lends_last r = follows walk_row V walk.ghost_name r.1.ghost_name (λ w. walk_after_last walk.now w)

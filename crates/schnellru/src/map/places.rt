@@ -1,0 +1,54 @@
+// A map by the places of its pairs, counted from the newest on, for walks.
+ghost use Rattle.std.specs.Prelude.{◌≡◌, ℕ, ◌+◌, length, slice_get, Some, Contains};
+ghost use Rattle.std.specs.Borrow.{sem};
+ghost use Rattle.std.specs.Map.Iter.{deref_pair_mut};
+ghost use Rattle.schnellru.specs.Lists.{last_of};
+
+use crate::map::LruMap;
+use lru_limits::Limiter;
+use std::hash::{BuildHasher, Hash};
+
+impl<K: Eq + Hash, V, L: Limiter<K, V>, S: BuildHasher> LruMap<K, V, L, S> {
+    ghost use Rattle.schnellru.specs.Lending.Values.{lends_value_at};
+
+    // The bucket of the newest pair, and that of the oldest.
+    #[inline]
+    pub(crate) fn ends(&self) -> (Option<usize>, Option<usize>)
+        ensures newest { result.0 ≡ slice_get self.now.places 0 }
+        ensures oldest { result.1 ≡ last_of (length self.now.pairs) self.now.places }
+        ensures places { length self.now.places ≡ length self.now.pairs }
+    {
+        (self.entries.newest(), self.entries.last())
+    }
+
+    // The bucket after this one, towards the oldest.
+    #[inline]
+    pub(crate) fn older(&self, b: usize) -> Option<usize>
+        requires { Contains self.now.places b }
+        ensures { (i : ℕ) → slice_get self.now.places i ≡ Some b → result ≡ slice_get self.now.places (i + 1) }
+    {
+        self.entries.older(b)
+    }
+
+    // The bucket before this one, towards the newest.
+    #[inline]
+    pub(crate) fn newer(&self, b: usize) -> Option<usize>
+        requires { Contains self.now.places b }
+        ensures { (i : ℕ) → slice_get self.now.places i ≡ Some b → result ≡ last_of i self.now.places }
+    {
+        self.entries.newer(b)
+    }
+
+    // The pair at a place, whose bucket this is, with its value to be changed.
+    #[inline]
+    pub(crate) fn pair_at_mut(&mut self, at: usize, b: usize) -> (&K, &mut V)
+        requires { slice_get self.old.places at ≡ Some b }
+        ensures* writes_back { sem 𝓛 (lends_value_at K.row V.row L.row S.row L.LinkType.row S.Hasher.row K.Hash L.Limiter
+            L.LinkType.LinkType.own L.LinkType.PartialEq L.LinkType.Debug S.BuildHasher S.Hasher.Hasher
+            self.entry at result) }
+        ensures value { slice_get self.old.pairs at ≡ Some (deref_pair_mut result) }
+    {
+        let pair = self.entries.pair_mut(b);
+        (&pair.key, &mut pair.value)
+    }
+}

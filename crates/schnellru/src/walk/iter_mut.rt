@@ -1,0 +1,126 @@
+//! A walk that lends each value to be changed.
+ghost use Rattle.std.specs.Prelude.{◌≡◌, ◌≤◌, length, slice_get};
+ghost use Rattle.schnellru.specs.Lists.{last_of};
+
+use crate::map::LruMap;
+use lru_limits::Limiter;
+use std::hash::{BuildHasher, Hash};
+
+/// The pairs of a map that were not lent yet from either end, newest first. Each value is lent until the next call.
+///
+/// The pairs that are left stand from the place `start` up to `end`, counted from the newest, and `front` and `back` are the
+/// buckets of the first and the last of them. So a step reads one entry.
+///
+/// After schnellru's `IterMut`.
+#[derive(Drop)]
+pub struct IterMut<'a, K: Eq + Hash, V, L: Limiter<K, V>, S: BuildHasher> {
+    map: &'a mut LruMap<K, V, L, S>,
+    start: usize,
+    end: usize,
+    front: Option<usize>,
+    back: Option<usize>,
+    ghost within: { end ≤ length map.now.places },
+    ghost first: { front ≡ slice_get map.now.places start },
+    ghost last: { back ≡ last_of end map.now.places },
+}
+
+impl<'a, K: Eq + Hash, V, L: Limiter<K, V>, S: BuildHasher> IterMut<'a, K, V, L, S> {
+    ghost use Rattle.std.specs.Prelude.{◌-◌, ◌<◌, Some, option_map};
+    ghost use Rattle.std.specs.Borrow.{sem};
+    ghost use Rattle.std.specs.Map.Iter.{deref_pair_mut};
+    ghost use Rattle.schnellru.specs.Walks.{walk_map, walk_start, walk_end, lends_first, lends_last};
+    ghost use Rattle.schnellru.specs.Walks.{lends_next, lends_next_back, next_pair, next_back_pair};
+
+    /// How many pairs are left.
+    pub fn len(&self) -> usize
+        ensures { result ≡ walk_end self.now - walk_start self.now }
+    {
+        self.end.saturating_sub(self.start)
+    }
+
+    /// The newest pair that is left, with its value to be changed until the next call; `None` where none is left.
+    ///
+    /// A caller's proof learns nothing of this shape of a result; `len` and `lend_next` serve it.
+    pub fn next(&mut self) -> Option<(&K, &mut V)>
+        ensures* writes_back { sem 𝓛 (lends_next K.row V.row L.row S.row L.LinkType.row S.Hasher.row K.Hash L.Limiter
+            L.LinkType.LinkType.own L.LinkType.PartialEq L.LinkType.Debug S.BuildHasher S.Hasher.Hasher self.entry result) }
+        ensures value { option_map deref_pair_mut result ≡ next_pair self.old }
+    {
+        if self.start < self.end {
+            return Some(self.lend_next());
+        }
+        None
+    }
+
+    /// The oldest pair that is left, as `next` gives the newest.
+    pub fn next_back(&mut self) -> Option<(&K, &mut V)>
+        ensures* writes_back { sem 𝓛 (lends_next_back K.row V.row L.row S.row L.LinkType.row S.Hasher.row K.Hash L.Limiter
+            L.LinkType.LinkType.own L.LinkType.PartialEq L.LinkType.Debug S.BuildHasher S.Hasher.Hasher self.entry result) }
+        ensures value { option_map deref_pair_mut result ≡ next_back_pair self.old }
+    {
+        if self.start < self.end {
+            return Some(self.lend_next_back());
+        }
+        None
+    }
+
+    /// The same as `next`, where a pair is left.
+    pub fn lend_next(&mut self) -> (&K, &mut V)
+        requires some { walk_start self.old < walk_end self.old }
+        ensures* writes_back { sem 𝓛 (lends_first K.row V.row L.row S.row L.LinkType.row S.Hasher.row K.Hash L.Limiter
+            L.LinkType.LinkType.own L.LinkType.PartialEq L.LinkType.Debug S.BuildHasher S.Hasher.Hasher self.entry result) }
+        ensures value { slice_get (walk_map self.old).pairs (walk_start self.old) ≡ Some (deref_pair_mut result) }
+    {
+        let at = self.start;
+        match self.front {
+            Some(b) => {
+                self.front = self.map.older(b);
+                self.start += 1;
+                self.map.pair_at_mut(at, b)
+            }
+            None => unreachable!(),
+        }
+    }
+
+    /// The same as `next_back`, where a pair is left.
+    pub fn lend_next_back(&mut self) -> (&K, &mut V)
+        requires some { walk_start self.old < walk_end self.old }
+        ensures* writes_back { sem 𝓛 (lends_last K.row V.row L.row S.row L.LinkType.row S.Hasher.row K.Hash L.Limiter
+            L.LinkType.LinkType.own L.LinkType.PartialEq L.LinkType.Debug S.BuildHasher S.Hasher.Hasher self.entry result) }
+        ensures value { slice_get (walk_map self.old).pairs (walk_end self.old - 1) ≡ Some (deref_pair_mut result) }
+    {
+        let at = self.end - 1;
+        match self.back {
+            Some(b) => {
+                self.back = self.map.newer(b);
+                self.end = at;
+                self.map.pair_at_mut(at, b)
+            }
+            None => unreachable!(),
+        }
+    }
+}
+
+impl<K: Eq + Hash, V, L: Limiter<K, V>, S: BuildHasher> LruMap<K, V, L, S> {
+    ghost use Rattle.schnellru.specs.Walks.{walk_map, walk_lender, walk_start, walk_end};
+
+    /// The pairs, newest first, each value to be changed. The order stays; what is written is not told to the limiter.
+    ///
+    /// After schnellru's `LruMap::iter_mut`.
+    pub fn iter_mut(&mut self) -> IterMut<'_, K, V, L, S>
+        ensures map { walk_map result ≡ self.old }
+        ensures same_reference { walk_lender result ≡ self.entry.ghost_name }
+        ensures start { walk_start result ≡ 0 }
+        ensures end { walk_end result ≡ length self.old.pairs }
+    {
+        let end = self.len();
+        let (front, back) = self.ends();
+        IterMut {
+            map: self,
+            start: 0,
+            end,
+            front,
+            back,
+        }
+    }
+}
