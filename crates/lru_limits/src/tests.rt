@@ -2,6 +2,7 @@
 mod bounds;
 mod by_text_length;
 mod costs;
+mod examples;
 mod hashing;
 mod insert_key;
 mod limiters;
