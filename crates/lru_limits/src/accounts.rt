@@ -13,6 +13,20 @@ use std::hash::Hash;
 ///
 /// The cost of a value is read again when the value leaves the map, so a cost that changes in the map makes a sum that
 /// is not that of the pairs.
+///
+/// ```
+/// struct Page {
+///     bytes: u64,
+/// }
+///
+/// impl Costed for Page {
+///     ghost cost = { λ page. page.bytes };
+///
+///     fn cost(&self) -> u64 {
+///         self.bytes
+///     }
+/// }
+/// ```
 pub trait Costed {
     /// The cost of the value.
     ghost cost: { Self → ℕ };
@@ -91,7 +105,11 @@ impl<T> Costed for Vec<T> {
 ///
 /// Its account starts with a map as the sum over the pairs of the map, and stays that sum through each call, while
 /// nobody writes to the values or to the limiter behind its back: each callback changes the account as the laws say.
-/// The two that take a cost off are bound by them only where the account has that much.
+/// The two that take a cost off are bound by them only where the account has that much. `docs/LIMITERS.md` shows an impl.
+///
+/// ```
+/// assert_eq!(rt; Summing::<u64, u64, u64>::account(&limiter), 2);
+/// ```
 pub trait Summing<K: Eq + Hash, V, I: LookupKey<K>>: Insertion<K, V, I> {
     /// The cost of a pair.
     ghost cost_of: { K → V → ℕ };

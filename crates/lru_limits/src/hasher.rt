@@ -21,6 +21,11 @@ const END_KEY: u64 = 0xa54f_f53a_5f1d_36f1;
 /// Hashers of equal words give equal hashes after equal writes, so `state.hash_one(&key)` is the hash that a map with an
 /// equal state has of the key, and of all that names it. The default has the words 1, 2, 3, 4: nothing is drawn at random
 /// here, and strength against chosen keys is not claimed.
+///
+/// ```
+/// let state = RandomState::with_seeds([5, 6, 7, 8]);
+/// assert_eq!(rt; state.hash_one(&"a"), state.hash_one(&key));
+/// ```
 #[derive(Clone, Drop)]
 pub struct RandomState {
     state: u64,

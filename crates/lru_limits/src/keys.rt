@@ -11,6 +11,13 @@ use std::hash::Hash;
 /// key is the text `a`, and no `String` has to be made for a look-up. A type of one's own says by `names` which key it
 /// names, gives that test as `is_key`, and proves the two laws: what it names is one key up to equality, and it writes
 /// to a hasher what that key writes. A derived `Hash` on a struct of one field writes what the field writes.
+/// `docs/LIMITERS.md` shows two such types.
+///
+/// ```
+/// let key = String::from_str(rt.alloc(), "a")?;
+/// assert!(rt; "a".is_key(&key));
+/// assert!(rt; !"b".is_key(&key));
+/// ```
 pub trait LookupKey<K: Eq + Hash>: Hash {
     /// Whether the value names this key.
     ghost names: { Self → K → Bool };

@@ -61,6 +61,8 @@ pub trait Insertion<K: Eq + Hash, V, I: LookupKey<K>>: Limiter<K, V> {
     /// Takes in the element of a new key, before it is stored in a map of `length` pairs: gives the pair to store, or
     /// `None` to refuse the element.
     ///
+    /// # Errors
+    ///
     /// An `Err` says that making the key found no memory. It leaves the limiter as it was, and comes only where
     /// `offers.may_lack` says that it may.
     fn on_insert(

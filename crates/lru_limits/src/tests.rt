@@ -1,8 +1,8 @@
 //! Each trait through its bound at concrete types, limiters and keys of one's own, and what no clause says.
 mod bounds;
 mod by_text_length;
-mod by_text_sum;
 mod costs;
+mod examples;
 mod hashing;
 mod insert_key;
 mod limiters;

@@ -13,6 +13,15 @@ use std::marker::Model;
 ///
 /// It refuses an element, or a replacement, whose own cost is above the limit, or where the sum would pass `u64::MAX`.
 /// Otherwise it takes it in, and the map then gives up its oldest pairs until the sum is within the limit again.
+///
+/// ```
+/// let mut limiter = ByCost::new(3);
+/// assert!(rt; limiter.on_insert(alloc, 0, 1u64, 2u64)?.is_some());
+/// assert!(rt; limiter.on_insert(alloc, 1, 2u64, 4u64)?.is_none());
+/// assert_eq!(rt; limiter.cost(), 2);
+/// ```
+///
+/// Cost: each callback asks each value that it is given for its cost once, and takes no memory.
 #[derive(Clone, Copy, Debug)]
 pub struct ByCost {
     limit: u64,

@@ -12,6 +12,14 @@ use std::marker::Model;
 ///
 /// A map under it has at most `max_length` pairs after each call, as long as nobody lowers it, and after each insert that
 /// places or replaces. It refuses an element only where `max_length` is 0.
+///
+/// ```
+/// let limiter = ByLength::new(3);
+/// assert!(rt; !Limiter::<u64, u64>::is_over_the_limit(&limiter, 3));
+/// assert!(rt; Limiter::<u64, u64>::is_over_the_limit(&limiter, 4));
+/// ```
+///
+/// Cost: `O(1)` for each callback, and no memory.
 #[derive(Clone, Copy, Debug)]
 pub struct ByLength {
     max_length: u32,

@@ -12,6 +12,14 @@ use std::marker::Model;
 ///
 /// It permits a growth exactly where the grown table has at most so many bytes; after a refusal the map gives up its
 /// oldest pairs. What a growth needs while the old table is still there is not counted, nor what keys and values own.
+///
+/// ```
+/// let mut limiter = ByMemoryUsage::new(152);
+/// assert!(rt; Limiter::<u64, u64>::on_grow(&mut limiter, 152));
+/// assert!(rt; !Limiter::<u64, u64>::on_grow(&mut limiter, 153));
+/// ```
+///
+/// Cost: `O(1)` for each callback, and no memory.
 #[derive(Clone, Copy, Debug)]
 pub struct ByMemoryUsage {
     max_bytes: usize,

@@ -8,6 +8,10 @@ use std::alloc::{AllocError, Global};
 use std::hash::Hash;
 
 /// Limits nothing: a map under it is an ordered hash map of as many pairs as memory and `usize` allow.
+///
+/// ```
+/// assert!(rt; !Limiter::<u64, u64>::is_over_the_limit(&Unlimited, usize::MAX));
+/// ```
 #[derive(Clone, Copy, Debug, Default)]
 pub struct Unlimited;
 

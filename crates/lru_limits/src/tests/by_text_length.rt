@@ -1,8 +1,10 @@
-//! A limiter of one's own: by the length of the texts that are the values of a map. `docs/LIMITERS.md` explains it.
-ghost use Rattle.std.specs.Prelude.{◌≡◌, ◌+◌, ◌-◌, ◌^◌, min, true, nat_lt, nat_le, string_len, if◌then◌else◌};
-ghost use Rattle.lru_limits.specs.Stores.{HandsOver, answers, given-names};
+//! A limiter of one's own, with its account: by the length of the texts that are the values of a map. `docs/LIMITERS.md`
+//! explains it.
+ghost use Rattle.std.specs.Prelude.{◌≡◌, ◌+◌, ◌-◌, true, Some, None, nat_lt, string_len, if◌then◌else◌, refl};
+ghost use Rattle.lru_limits.specs.Budget.{can_add};
+ghost use Rattle.lru_limits.specs.Stores.{HandsOver, answers, given-names, given-adds, refused-keeps, replaced-exchanges};
 
-use crate::{Insertion, Limiter, LookupKey};
+use crate::{Insertion, Limiter, LookupKey, Summing};
 use std::alloc::{AllocError, Global};
 use std::hash::Hash;
 use std::test::Fail;
@@ -10,8 +12,21 @@ use std::test::Fail;
 /// Limits the bytes of all the texts. It takes in no text that is longer than the limit by itself.
 #[derive(Clone, Copy, Debug)]
 pub struct ByTextLength {
-    pub limit: usize,
-    pub total: usize,
+    pub limit: u64,
+    pub total: u64,
+}
+
+impl ByTextLength {
+    /// The total with a text of so many bytes, where the text is within the limit and the total fits.
+    fn total_with(&self, total: u64, bytes: u64) -> Option<u64>
+        ensures { result ≡ (if can_add self.now.limit total bytes then Some (total + bytes) else None) }
+    {
+        if bytes <= self.limit {
+            total.checked_add(bytes)
+        } else {
+            None
+        }
+    }
 }
 
 impl<K> Limiter<K, String> for ByTextLength {
@@ -29,7 +44,7 @@ impl<K> Limiter<K, String> for ByTextLength {
     }
 
     fn on_removed(&mut self, _key: &mut K, value: &mut String) {
-        self.total = self.total.saturating_sub(value.len());
+        self.total = self.total.saturating_sub(value.len() as u64);
     }
 
     fn on_cleared(&mut self) {
@@ -44,13 +59,13 @@ impl<K> Limiter<K, String> for ByTextLength {
 impl<K: Eq + Hash + Drop> Insertion<K, String, K> for ByTextLength {
     ghost offers = { record {
       on_insert = λ s length i v t given.
-          let fits = nat_le (string_len v) s.limit in
-          HandsOver fits (if fits then record s { total = min (s.total + string_len v) (2 ^ 64 - 1) } else s) i v t given;
+          let fits = can_add s.limit s.total (string_len v) in
+          HandsOver fits (if fits then record s { total = s.total + string_len v } else s) i v t given;
       may_lack = λ s length i v. ⊥;
       on_replace = λ s length k i v w.
-          let fits = nat_le (string_len w) s.limit in
+          let fits = can_add s.limit (s.total - string_len v) (string_len w) in
           record {
-            limiter = if fits then record s { total = min (s.total - string_len v + string_len w) (2 ^ 64 - 1) } else s;
+            limiter = if fits then record s { total = s.total - string_len v + string_len w } else s;
             taken = fits;
             key = k;
             old_value = v;
@@ -65,11 +80,13 @@ impl<K: Eq + Hash + Drop> Insertion<K, String, K> for ByTextLength {
         key: K,
         value: String,
     ) -> Result<Option<(K, String)>, AllocError> {
-        if value.len() > self.limit {
-            return Ok(None);
+        match self.total_with(self.total, value.len() as u64) {
+            Some(total) => {
+                self.total = total;
+                Ok(Some((key, value)))
+            }
+            None => Ok(None),
         }
-        self.total = self.total.saturating_add(value.len());
-        Ok(Some((key, value)))
     }
 
     fn on_replace(
@@ -80,19 +97,46 @@ impl<K: Eq + Hash + Drop> Insertion<K, String, K> for ByTextLength {
         old_value: &mut String,
         new_value: &mut String,
     ) -> bool {
-        if new_value.len() > self.limit {
-            return false;
+        let without_old = self.total.saturating_sub(old_value.len() as u64);
+        match self.total_with(without_old, new_value.len() as u64) {
+            Some(total) => {
+                self.total = total;
+                true
+            }
+            None => false,
         }
-        self.total = self
-            .total
-            .saturating_sub(old_value.len())
-            .saturating_add(new_value.len());
-        true
     }
 
     ghost laws = { record {
       names_given = λ s length i v t k w given. given-names K.eq K.Eq.laws.refl given;
       keeps_key = λ s length k i v w named. K.Eq.laws.refl k;
+    } };
+}
+
+impl<K: Eq + Hash + Drop> Summing<K, String, K> for ByTextLength {
+    ghost cost_of = { λ k v. string_len v };
+
+    ghost account = { λ s. s.total };
+
+    fn cost_of(_key: &K, value: &String) -> u64 {
+        value.len() as u64
+    }
+
+    fn account(&self) -> u64 {
+        self.total
+    }
+
+    ghost laws = { record {
+      adds = λ s length i v t k w. given-adds (λ k v. string_len v) (λ s. s.total)
+          (can_add s.limit s.total (string_len v)) s (record s { total = s.total + string_len v }) i v t k w refl;
+      refuses = λ s length i v t. refused-keeps (λ s. s.total)
+          (can_add s.limit s.total (string_len v)) s (record s { total = s.total + string_len v }) i v t;
+      exchanges = λ s length k i v w. replaced-exchanges (λ k v. string_len v) (λ s. s.total)
+          (can_add s.limit (s.total - string_len v) (string_len w)) s
+          (record s { total = s.total - string_len v + string_len w }) k v w refl;
+      takes_off = λ s k v enough. refl;
+      empties = λ s. refl;
+      keeps = λ s bytes. refl;
     } };
 }
 
@@ -109,7 +153,12 @@ fn limits_texts(rt: HostRuntime) -> Result<(), Fail> {
             .is_some()
     );
     assert!(rt; Limiter::<u64, String>::is_over_the_limit(&limiter, 2));
+    assert_eq!(rt; Summing::<u64, String, u64>::account(&limiter), 6);
     if let Some((key, value)) = &mut given {
+        assert_eq!(rt;
+            <ByTextLength as Summing<u64, String, u64>>::cost_of(key, value),
+            4
+        );
         limiter.on_removed(key, value);
     }
     assert_eq!(rt; limiter.total, 2);
