@@ -22,9 +22,9 @@ module _ {K V S H I : Type 0} (rules : Rules K V S) (offers : Offers K V S I) (n
         (v : V) → makes v → Insert rules offers names hash_of i v old result new →
         MakesNewest makes i old result new
 
-module _ {K V S H : Type 0} where
+module _ {K V S H E : Type 0} where
   -- true says that the key is there, as the newest; false, or an error, that it is not there
-  abbrev pub SaysNewest : (K → Bool) → Result Bool AllocError → State K V S H → Type 0
+  abbrev pub SaysNewest : (K → Bool) → Result Bool E → State K V S H → Type 0
   SaysNewest names (Ok true) new = IsNewest names new.pairs
   SaysNewest names (Ok false) new = lookup_entry names new.pairs ≡ None
   SaysNewest names (Err e) new = lookup_entry names new.pairs ≡ None

@@ -1,5 +1,5 @@
 -- What the answer of a get that inserts says.
-use Rattle.std.proofs.Common.{◌≡◌, ℕ, ◌<◌, length, arith, Bool, true, false, List, Option, Some, None, Result, Ok, Err, refl, sym, ap, subst, ◌∙◌, option_map}
+use Rattle.std.proofs.Common.{◌≡◌, ℕ, Bool, true, false, List, Option, Some, None, Result, Ok, Err, refl, sym, ◌∙◌, option_map}
 use Rattle.std.specs.declared.alloc.AllocError.{AllocError}
 use Rattle.std.proofs.lemmas.Option.{none-some}
 use Rattle.lru_limits.specs.Rules.{Rules, Offers}
@@ -8,6 +8,9 @@ use Rattle.schnellru.specs.Lists.{lookup, lookup_entry, without, front, after}
 use Rattle.schnellru.specs.State.{State}
 use Rattle.schnellru.specs.Theorems.{IsNewest, SaysWhether}
 use Rattle.schnellru.specs.GetOrInserts.{MakesNewest, got, inserted, SaysNewest}
+use Rattle.schnellru.specs.IfMade as if_made
+use Rattle.schnellru.specs.IfMade.{MakesNewestIfMade, or_memory}
+use Rattle.schnellru.specs.declared.map.get_or_insert.GetOrInsertError.{GetOrInsertError}
 use Rattle.schnellru.proofs.PairLists.DistinctKeys.{AreDistinct}
 use Rattle.schnellru.proofs.Theorems.Fronts.{found_named}
 use Rattle.schnellru.proofs.PairLists.NamedPairs.{lookup-entry}
@@ -27,14 +30,31 @@ module _ {K V S H : Type 0} (rules : Rules K V S) (names : K → Bool) (new : St
   says_newest (Ok false) s = s
   says_newest (Err e) s = s
 
--- an insert that answers true leaves a pair
-pub newest_some : {K V S H : Type 0} (rules : Rules K V S) (names : K → Bool) (new : State K V S H) (kept : Bool) (result : Result Bool AllocError) → result ≡ Ok kept → kept ≡ true
-    → SaysWhether rules names result new → 0 < length new.pairs
-newest_some rules names new kept result is e says =
-    let s : SaysWhether rules names (Ok true) new = subst (λ r. SaysWhether rules names r new) (is ∙ ap Ok e) says in rw s.0.first (omega arith)
+  -- the same where the error is one of two
+  says_or_memory : (E : Type 0) (flag : Result Bool AllocError) → SaysWhether rules names flag new → SaysNewest {E = GetOrInsertError E} names (or_memory flag) new
+  says_or_memory E (Ok true) s = s.0
+  says_or_memory E (Ok false) s = s
+  says_or_memory E (Err e) s = s
+
+-- where there is no value, there is no pair
+no_pair : {K V : Type 0} (names : K → Bool) (xs : List (K × V)) → lookup names xs ≡ None → lookup_entry names xs ≡ None
+no_pair {K} {V} names xs none = go (lookup_entry names xs) (sym (lookup-entry names xs) ∙ none)
+  where
+    go : (o : Option (K × V)) → option_map (λ p. p.1) o ≡ None → o ≡ None
+    go None e = refl
+    go (Some pair) e = absurd (none-some pair.1 (sym e))
 
 module _ {K V S H I : Type 0} (rules : Rules K V S) (offers : Offers K V S I) (names : I → K → Bool) (hash_of : H → K → ℕ) {eq : K → K → Bool} {query_input : I → List (List ℕ)} {key_input : K → List (List ℕ)}
     (looks_up : IsLookup names eq query_input key_input) (laws : IsInsertion names eq offers) (i : I) (makes : V → Type 0) (old : State K V S H) where
   pub makes_says : (result : Result Bool AllocError) (new : State K V S H) → AreDistinct eq old.pairs → MakesNewest rules offers names hash_of makes i old result new → SaysNewest (names i) result new
   makes_says result new d (got w there r step) = rw r (rw step (first_named (names i) old.pairs w there))
   makes_says result new d (inserted absent v made step) = says_newest rules (names i) new result (insert_says rules offers names hash_of looks_up laws i v old result new d step)
+
+module _ {K V S H I E : Type 0} (rules : Rules K V S) (offers : Offers K V S I) (names : I → K → Bool) (hash_of : H → K → ℕ) {eq : K → K → Bool} {query_input : I → List (List ℕ)} {key_input : K → List (List ℕ)}
+    (looks_up : IsLookup names eq query_input key_input) (laws : IsInsertion names eq offers) (i : I) (makes : Result V E → Type 0) (old : State K V S H) where
+  pub says_if_made : (result : Result Bool (GetOrInsertError E)) (new : State K V S H) → AreDistinct eq old.pairs
+      → MakesNewestIfMade rules offers names hash_of makes i old result new → SaysNewest (names i) result new
+  says_if_made result new d (if_made.got w there r step) = rw r (rw step (first_named (names i) old.pairs w there))
+  says_if_made result new d (if_made.failed none e made r step) = rw r (rw step (no_pair (names i) old.pairs none))
+  says_if_made result new d (if_made.inserted none v made flag step r) =
+      rw r (says_or_memory rules (names i) new E flag (insert_says rules offers names hash_of looks_up laws i v old flag new d step))

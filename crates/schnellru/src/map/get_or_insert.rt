@@ -1,5 +1,5 @@
 //! Getting a value that is inserted where its key is not there.
-ghost use Rattle.std.specs.Prelude.{◌≡◌, ◌<◌, None, Ok, true, length};
+ghost use Rattle.std.specs.Prelude.{◌≡◌, None};
 ghost use Rattle.lru_limits.specs.Hashing.{hash_by};
 ghost use Rattle.schnellru.specs.Lists.{lookup};
 ghost use Rattle.schnellru.specs.State.{IsMap};
@@ -184,10 +184,26 @@ impl<K: Eq + Hash + Drop, V: Drop, L: Limiter<K, V>, S: BuildHasher> LruMap<K, V
         L: Insertion<K, V, I>,
         requires { lookup (I.names key) self.old.pairs ≡ None → F.pre make }
         ensures step { MakesNewestIfMade L.rules L.offers I.names (hash_by K.hash_input S.BuildHasher S.Hasher.Hasher) (F.post make) key self.old result self.new }
-        ensures some { result ≡ Ok true → 0 < length self.new.pairs }
+        ensures says { SaysNewest (I.names key) result self.new }
+        ensures map { IsMap K.eq self.new }
     {
-        // Nothing at run time: it opens the map.
+        // Nothing at run time: it opens the map, whose invariant is the clause `map`.
         let _ = &self.entries;
+        let answer = self.make_newest_if_made(key, make);
+        let _ = &self.entries;
+        answer
+    }
+
+    fn make_newest_if_made<I: LookupKey<K> + Drop, E, F: FnOnce() -> Result<V, E>>(
+        &mut self,
+        key: I,
+        make: F,
+    ) -> Result<bool, GetOrInsertError<E>>
+    where
+        L: Insertion<K, V, I>,
+        requires { lookup (I.names key) self.old.pairs ≡ None → F.pre make }
+        ensures { MakesNewestIfMade L.rules L.offers I.names (hash_by K.hash_input S.BuildHasher S.Hasher.Hasher) (F.post make) key self.old result self.new }
+    {
         let hash = self.hasher.hash_one(&key);
         match self.entries.find(hash, &key) {
             Some(b) => {
