@@ -41,7 +41,8 @@ module _ {K V S : Type 0} (rules : Rules K V S) where
   -- what n calls of `pop_newest` answer, and what n of `pop_oldest` do
   abbrev pub newest_given : ℕ → Contents K V S → List (K × V)
   newest_given zero c = []
-  newest_given (suc n) c = option_to_list (left_of rules c.limiter (first c.pairs)) ++ newest_given n (pop_first rules c)
+  newest_given (suc n) c = option_to_list (left_of rules c.limiter (first c.pairs))
+      ++ newest_given n (pop_first rules c)
 
   abbrev pub oldest_given : ℕ → Contents K V S → List (K × V)
   oldest_given zero c = []
@@ -49,6 +50,9 @@ module _ {K V S : Type 0} (rules : Rules K V S) where
 
 module _ {K V S H : Type 0} (rules : Rules K V S) where
   -- a whole drain: so many from the newest end, then so many from the oldest, then the drop
-  pub record Drained (newest oldest : ℕ) (old : State K V S H) (result : List (K × V)) (new : State K V S H) : Type 0 where
-    pub pairs : result ≡ newest_given rules newest (contents old) ++ oldest_given rules oldest (pops_first rules newest (contents old))
-    pub state : (mid : State K V S H) × Leaves old (pops rules oldest (pops_first rules newest (contents old))) mid × (new ≡ cleared rules mid)
+  pub record Drained (newest oldest : ℕ) (old : State K V S H) (result : List (K × V))
+      (new : State K V S H) : Type 0 where
+    pub pairs : result ≡ newest_given rules newest (contents old)
+        ++ oldest_given rules oldest (pops_first rules newest (contents old))
+    pub state : (mid : State K V S H) × Leaves old (pops rules oldest (pops_first rules newest (contents old))) mid
+        × (new ≡ cleared rules mid)

@@ -14,8 +14,10 @@ abbrev pub or_memory : {E : Type 0} → Result Bool AllocError → Result Bool (
 or_memory (Ok kept) = Ok kept
 or_memory (Err e) = Err Memory
 
-module _ {K V S H I E : Type 0} (rules : Rules K V S) (offers : Offers K V S I) (names : I → K → Bool) (hash_of : H → K → ℕ) where
-  pub data MakesNewestIfMade (makes : Result V E → Type 0) (i : I) (old : State K V S H) (result : Result Bool (GetOrInsertError E)) (new : State K V S H) : Type 0 where
+module _ {K V S H I E : Type 0} (rules : Rules K V S) (offers : Offers K V S I) (names : I → K → Bool)
+    (hash_of : H → K → ℕ) where
+  pub data MakesNewestIfMade (makes : Result V E → Type 0) (i : I) (old : State K V S H)
+      (result : Result Bool (GetOrInsertError E)) (new : State K V S H) : Type 0 where
     got : (w : V) → lookup (names i) old.pairs ≡ Some w →
         result ≡ Ok true → new ≡ promoted (names i) old →
         MakesNewestIfMade makes i old result new

@@ -1,5 +1,6 @@
 -- Placing a new pair: what the table's room allows, what the limiter is asked, and what it costs.
-use Rattle.std.specs.Prelude.{◌≡◌, ℕ, zero, suc, ◌+◌, ◌-◌, ◌/◌, ◌≤◌, ◌<◌, ◌⊎◌, Bool, true, false, [], ◌∷◌, length, Some, None, Result, Ok, Err}
+use Rattle.std.specs.Prelude.{◌≡◌, ℕ, zero, suc, ◌+◌, ◌-◌, ◌/◌, ◌≤◌, ◌<◌, ◌⊎◌, Bool, true, false, [], ◌∷◌, length, Some}
+use Rattle.std.specs.Prelude.{None, Result, Ok, Err}
 use Rattle.group_table.specs.Sizes.{full_capacity}
 use Rattle.group_table.specs.Bucket.{empty, deleted}
 use Rattle.group_table.specs.Change.{count_up, HasNoPlace}
@@ -32,7 +33,8 @@ module _ {K V S H : Type 0} where
       placed = count_up old.placed 1;
     }
 
-  -- The first free bucket that a search for the hash finds was filled: an empty one, which uses one of the room, or, in a
+  -- The first free bucket that a search for the hash finds was filled: an empty one, which uses one of the room, or, in
+  -- a
   -- table of more than 16 buckets, a deleted one, which uses none.
   abbrev pub FillsBucket : ℕ → State K V S H → State K V S H → Type 0
   FillsBucket hash old new = (FirstFreeIs empty hash old × (room new + 1 ≡ room old))
@@ -82,9 +84,11 @@ module _ {K V S H : Type 0} (rules : Rules K V S) where
     denied : (count bytes : ℕ) → table_for 1 old ≡ new_table count bytes → Denies bytes old →
         mid ≡ asked bytes old → CannotGrow old mid
 
-  -- The oldest leave mid until the pair of this hash finds a bucket, or until they are fewer than half of what the table
+  -- The oldest leave mid until the pair of this hash finds a bucket, or until they are fewer than half of what the
+  -- table
   -- takes, and it is made anew for the pair. The map was old before mid was known.
-  pub data Evicts (hash : ℕ) (pair : K × V) (old mid : State K V S H) (outcome : Outcome) (new : State K V S H) : Type 0 where
+  pub data Evicts (hash : ℕ) (pair : K × V) (old mid : State K V S H) (outcome : Outcome)
+      (new : State K V S H) : Type 0 where
     finds_bucket : (n : ℕ) → 0 < n → (buckets old ≤ 16 → n ≡ 1) →
         full_capacity (buckets old) / 2 + n ≤ length old.pairs →
         (left : State K V S H) → OldestLeave hash n mid left → FillsBucket hash left new →

@@ -14,7 +14,8 @@ module _ {K V S H : Type 0} where
 
 module _ {K V S H : Type 0} (rules : Rules K V S) where
   -- room for n more; the pairs stay, and so do the counts
-  pub data Reserve (n : ℕ) (old : State K V S H) (result : Result (Unit {0}) ReserveError) (new : State K V S H) : Type 0 where
+  pub data Reserve (n : ℕ) (old : State K V S H) (result : Result (Unit {0}) ReserveError)
+      (new : State K V S H) : Type 0 where
     -- There may be room, or no such number,
     enough_room : n ≤ room old → length old.pairs + n < 2 ^ 64 →
         result ≡ Ok tt → new ≡ old →
@@ -34,12 +35,15 @@ module _ {K V S H : Type 0} (rules : Rules K V S) where
         result ≡ Err Memory → new ≡ old →
         Reserve n old result new
     -- Or it is made larger, where the limiter permits it.
-    reserved : LacksRoomFor n old → (count bytes : ℕ) → table_for n old ≡ new_table count bytes → Grants rules bytes old →
+    reserved : LacksRoomFor n old → (count bytes : ℕ) → table_for n old ≡ new_table count bytes
+        → Grants rules bytes old →
         result ≡ Ok tt → MovesTo count (asked rules bytes old) new →
         Reserve n old result new
-    no_memory_to_grow : LacksRoomFor n old → (count bytes : ℕ) → table_for n old ≡ new_table count bytes → Grants rules bytes old →
+    no_memory_to_grow : LacksRoomFor n old → (count bytes : ℕ) → table_for n old ≡ new_table count bytes
+        → Grants rules bytes old →
         result ≡ Err Memory → new ≡ asked rules bytes old →
         Reserve n old result new
-    denied_room : LacksRoomFor n old → (count bytes : ℕ) → table_for n old ≡ new_table count bytes → Denies rules bytes old →
+    denied_room : LacksRoomFor n old → (count bytes : ℕ) → table_for n old ≡ new_table count bytes
+        → Denies rules bytes old →
         result ≡ Err Refused → new ≡ asked rules bytes old →
         Reserve n old result new

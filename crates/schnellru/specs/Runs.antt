@@ -13,11 +13,13 @@ use Rattle.schnellru.specs.Inserts.{Insert}
 use Rattle.schnellru.specs.Reservations.{Reserve}
 use Rattle.schnellru.specs.declared.map.reserve.ReserveError.{ReserveError}
 
-module _ {K V S H I : Type 0} (rules : Rules K V S) (offers : Offers K V S I) (names : I → K → Bool) (hash_of : H → K → ℕ) where
+module _ {K V S H I : Type 0} (rules : Rules K V S) (offers : Offers K V S I) (names : I → K → Bool)
+    (hash_of : H → K → ℕ) where
   -- What one call makes of a map through which nothing is written. A call that only looks makes nothing of it, and a
   -- search by a hash promotes the pair that it finds.
   pub data Step (old new : State K V S H) : Type 0 where
-    inserts : (key : I) (value : V) (result : Result Bool AllocError) → Insert rules offers names hash_of key value old result new → Step old new
+    inserts : (key : I) (value : V) (result : Result Bool AllocError)
+        → Insert rules offers names hash_of key value old result new → Step old new
     makes_newest : (value : V) (key : I) (result : Result Bool AllocError) →
         MakesNewest rules offers names hash_of (λ made. made ≡ value) key old result new → Step old new
     gets : (key : I) → new ≡ promoted (names key) old → Step old new
@@ -35,6 +37,8 @@ module _ {K V S H I : Type 0} (rules : Rules K V S) (offers : Offers K V S I) (n
     sets_limiter : (limiter : S) → new ≡ record old { limiter = limiter } → AnyStep old new
 
 -- Steps, one after another, each of which leaves a sound table, as every call does.
-pub data Run {K V S H : Type 0} (IsStep : State K V S H → State K V S H → Type 0) (new : State K V S H) : State K V S H → Type 0 where
+pub data Run {K V S H : Type 0} (IsStep : State K V S H → State K V S H → Type 0) (new : State K V S H) : State K V S H
+    → Type 0 where
   ends : Run IsStep new new
-  goes_on : {old : State K V S H} (mid : State K V S H) → IsStep old mid → IsSized mid → Run IsStep new mid → Run IsStep new old
+  goes_on : {old : State K V S H} (mid : State K V S H) → IsStep old mid → IsSized mid → Run IsStep new mid
+      → Run IsStep new old

@@ -1,5 +1,6 @@
 -- What a table takes in bytes, and where a table goes that is to take more pairs. Quotients are rounded down.
-use Rattle.std.specs.Prelude.{◌≡◌, ◌⊎◌, ℕ, ◌+◌, ◌-◌, ◌*◌, ◌/◌, ◌^◌, ◌<◌, ◌≤◌, ◌==◌, nat_lt, nat_le, if◌then◌else◌, Option, Some, None}
+use Rattle.std.specs.Prelude.{◌≡◌, ◌⊎◌, ℕ, ◌+◌, ◌-◌, ◌*◌, ◌/◌, ◌^◌, ◌<◌, ◌≤◌, ◌==◌, nat_lt, nat_le, if◌then◌else◌}
+use Rattle.std.specs.Prelude.{Option, Some, None}
 use Rattle.group_table.specs.Sizes.{IsPowerFromFour, full_capacity, buckets_for}
 
 -- the bytes of a table: its entries, rounded up to a multiple of 16, a byte for each bucket, and 16 more
@@ -37,7 +38,8 @@ abbrev pub table_with : ℕ → Option ℕ → Target
 table_with entry_bytes None = no_table
 table_with entry_bytes (Some buckets) = table_of buckets (usage entry_bytes buckets)
 
--- Where a table of so many buckets goes for so many pairs, where these need need buckets: to one with as many, if it has
+-- Where a table of so many buckets goes for so many pairs, where these need need buckets: to one with as many, if it
+-- has
 -- fewer, to the same, if the pairs are at most half of what it takes, and else to one of twice the buckets.
 abbrev pub target_from : ℕ → ℕ → ℕ → ℕ → Option ℕ → Target
 target_from max entry_bytes buckets pairs None = no_table

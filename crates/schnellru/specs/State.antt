@@ -1,5 +1,6 @@
 -- A map as a list of pairs under a limiter, in a table of which the marks of its buckets are known.
-use Rattle.std.specs.Prelude.{◌≡◌, ℕ, zero, suc, ◌+◌, ◌-◌, ◌*◌, ◌^◌, ◌≤◌, ◌<◌, ◌⊎◌, Bool, if◌then◌else◌, List, [], length, Option, Some, None}
+use Rattle.std.specs.Prelude.{◌≡◌, ℕ, zero, suc, ◌+◌, ◌-◌, ◌*◌, ◌^◌, ◌≤◌, ◌<◌, ◌⊎◌, Bool, if◌then◌else◌, List, []}
+use Rattle.std.specs.Prelude.{length, Option, Some, None}
 use Rattle.std.specs.List.{IsDistinct}
 use Rattle.group_table.specs.Sizes.{full_capacity}
 use Rattle.group_table.specs.Bucket.{Mark, bucket_at, entry_count, room as room_of}
@@ -108,7 +109,8 @@ module _ {K V S H : Type 0} where
   pub record MovesTo (count : ℕ) (old new : State K V S H) : Type 0 where
     pub table : buckets new ≡ count
     pub exact : length old.pairs + room new ≡ full_capacity count
-    pub state : new ≡ record old { marks = new.marks; places = new.places; placings = count_up old.placings (length old.pairs) }
+    pub state : new ≡ record old { marks = new.marks; places = new.places; placings = count_up old.placings
+        (length old.pairs) }
 
   -- new is old with these contents, after some pairs left
   pub record Leaves (old : State K V S H) (left : Contents K V S) (new : State K V S H) : Type 0 where

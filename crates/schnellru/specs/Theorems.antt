@@ -1,5 +1,6 @@
 -- What the theorems say.
-use Rattle.std.specs.Prelude.{◌≡◌, ℕ, ◌+◌, ◌-◌, ◌*◌, ◌/◌, ◌^◌, ◌≤◌, ◌<◌, Bool, true, false, List, ◌∷◌, length, sum_by, Some, None, Result, Ok, Err}
+use Rattle.std.specs.Prelude.{◌≡◌, ℕ, ◌+◌, ◌-◌, ◌*◌, ◌/◌, ◌^◌, ◌≤◌, ◌<◌, Bool, true, false, List, ◌∷◌, length, sum_by}
+use Rattle.std.specs.Prelude.{Some, None, Result, Ok, Err}
 use Rattle.std.specs.declared.alloc.AllocError.{AllocError}
 use Rattle.group_table.specs.Sizes.{full_capacity}
 use Rattle.lru_limits.specs.Rules.{Rules, Offers}
@@ -67,8 +68,10 @@ module _ {K V S H : Type 0} (rules : Rules K V S) where
 module _ {K V S H I : Type 0} (rules : Rules K V S) (offers : Offers K V S I) (names : I → K → Bool) where
   -- the pair that an insert stores: what a replacement left of the one that was there, or what the limiter gave
   pub data Stores (i : I) (v : V) (old : State K V S H) (pair : K × V) : Type 0 where
-    left : (was : K × V) → lookup_entry (names i) old.pairs ≡ Some was → (replacement rules offers names was i v old).taken ≡ true →
-        pair ≡ ((replacement rules offers names was i v old).key, (replacement rules offers names was i v old).new_value) →
+    left : (was : K × V) → lookup_entry (names i) old.pairs ≡ Some was
+        → (replacement rules offers names was i v old).taken ≡ true →
+        pair ≡ ((replacement rules offers names was i v old).key,
+            (replacement rules offers names was i v old).new_value) →
         Stores i v old pair
     given : lookup_entry (names i) old.pairs ≡ None → (s : S) → MayGive rules offers names i v old s (Some pair) →
         Stores i v old pair

@@ -27,7 +27,8 @@ lent_name None = maybe.none
 
 -- the members of the traits on which an `IterMut` stands
 module _ {K V L S N H : Type 0} {equal : equality.Ghosts K} {input : hashing.Ghosts K} {limits : limiter.Ghosts L K V N}
-    {links : link_type.Ghosts N} {link_eq : equality.Ghosts N} {link_shown : debug.Ghosts N} {build : builder.Ghosts S H} {hash : hasher.Ghosts H} where
+    {links : link_type.Ghosts N} {link_eq : equality.Ghosts N} {link_shown : debug.Ghosts N}
+        {build : builder.Ghosts S H} {hash : hasher.Ghosts H} where
   -- the map as it is now
   abbrev pub walk_map : IterMut K V L S N H equal input limits links link_eq link_shown build hash → State K V L S
   walk_map walk = walk.map.now
@@ -45,9 +46,11 @@ module _ {K V L S N H : Type 0} {equal : equality.Ghosts K} {input : hashing.Gho
   walk_end walk = walk.end
 
   -- the walk after it lent the first pair that was left, where w was left
-  abbrev pub walk_after_first : IterMut K V L S N H equal input limits links link_eq link_shown build hash → V → IterMut K V L S N H equal input limits links link_eq link_shown build hash
+  abbrev pub walk_after_first : IterMut K V L S N H equal input limits links link_eq link_shown build hash → V
+      → IterMut K V L S N H equal input limits links link_eq link_shown build hash
   walk_after_first walk w = let m = walk.map in record {
-    map = record { ref_ptr = m.ref_ptr; ghost_name = m.ghost_name; now = record m.now { pairs = set_value_at m.now.pairs walk.start w } };
+    map = record { ref_ptr = m.ref_ptr; ghost_name = m.ghost_name; now =
+        record m.now { pairs = set_value_at m.now.pairs walk.start w } };
     start = walk.start + 1;
     end = walk.end;
     front = slice_get m.now.places (walk.start + 1);
@@ -58,9 +61,11 @@ module _ {K V L S N H : Type 0} {equal : equality.Ghosts K} {input : hashing.Gho
   }
 
   -- and after it lent the last
-  abbrev pub walk_after_last : IterMut K V L S N H equal input limits links link_eq link_shown build hash → V → IterMut K V L S N H equal input limits links link_eq link_shown build hash
+  abbrev pub walk_after_last : IterMut K V L S N H equal input limits links link_eq link_shown build hash → V
+      → IterMut K V L S N H equal input limits links link_eq link_shown build hash
   walk_after_last walk w = let m = walk.map in record {
-    map = record { ref_ptr = m.ref_ptr; ghost_name = m.ghost_name; now = record m.now { pairs = set_value_at m.now.pairs (walk.end - 1) w } };
+    map = record { ref_ptr = m.ref_ptr; ghost_name = m.ghost_name; now =
+        record m.now { pairs = set_value_at m.now.pairs (walk.end - 1) w } };
     start = walk.start;
     end = walk.end - 1;
     front = walk.front;
@@ -74,16 +79,20 @@ module _ {K V L S N H : Type 0} {equal : equality.Ghosts K} {input : hashing.Gho
   abbrev pub next_pair : IterMut K V L S N H equal input limits links link_eq link_shown build hash → Option (K × V)
   next_pair walk = if nat_lt walk.start walk.end then slice_get (walk_map walk).pairs walk.start else None
 
-  abbrev pub next_back_pair : IterMut K V L S N H equal input limits links link_eq link_shown build hash → Option (K × V)
+  abbrev pub next_back_pair : IterMut K V L S N H equal input limits links link_eq link_shown build hash
+      → Option (K × V)
   next_back_pair walk = if nat_lt walk.start walk.end then slice_get (walk_map walk).pairs (walk.end - 1) else None
 
-module _ (K V L S N H : RattleType) (key : HashMembers K.Denot) (limits : limiter.Ghosts L.Denot K.Denot V.Denot N.Denot)
+module _ (K V L S N H : RattleType) (key : HashMembers K.Denot)
+    (limits : limiter.Ghosts L.Denot K.Denot V.Denot N.Denot)
     (links : link_type.Ghosts N.Denot) (link_eq : equality.Ghosts N.Denot) (link_shown : debug.Ghosts N.Denot)
     (build : builder.Ghosts S.Denot H.Denot) (hash : hasher.Ghosts H.Denot) where
   abbrev pub walk_row : RattleType
-  walk_row = the_row (record { mir = named 1; lft = [] }) K V L S N H (record { eq = key.eq }) (record { hash_input = key.hash_input }) limits links link_eq link_shown build hash
+  walk_row = the_row (record { mir = named 1; lft = [] }) K V L S N H (record { eq = key.eq })
+      (record { hash_input = key.hash_input }) limits links link_eq link_shown build hash
 
-  module _ (walk : MutBor (IterMut K.Denot V.Denot L.Denot S.Denot N.Denot H.Denot (record { eq = key.eq }) (record { hash_input = key.hash_input }) limits
+  module _ (walk : MutBor (IterMut K.Denot V.Denot L.Denot S.Denot N.Denot H.Denot (record { eq = key.eq })
+      (record { hash_input = key.hash_input }) limits
       links link_eq link_shown build hash)) where
     -- the first pair that was left is lent until r ends, if there is one
     abbrev pub lends_next : Option (Bor K.Denot × MutBor V.Denot) → Fml

@@ -1,5 +1,6 @@
 -- What is read of a table whose links keep the order of its full buckets.
-use Rattle.std.proofs.Common.{◌≡◌, ◌≢◌, ℕ, ◌<◌, Bool, true, false, List, [], ◌∷◌, length, Option, Some, None, refl, ap, sym, ◌∙◌, arith}
+use Rattle.std.proofs.Common.{◌≡◌, ◌≢◌, ℕ, ◌<◌, Bool, true, false, List, [], ◌∷◌, length, Option, Some, None, refl, ap}
+use Rattle.std.proofs.Common.{sym, ◌∙◌, arith}
 use Rattle.std.specs.Prelude.{Contains, IfSome, IfNone, not}
 use Rattle.std.proofs.lemmas.Bool.{eqb-true, eqb-false, not-true, not-false}
 use Rattle.std.proofs.lemmas.Option.{none-some}
@@ -7,7 +8,8 @@ use Rattle.group_table.specs.Link.{IsLinkType}
 use Rattle.group_table.specs.Bucket.{Slot, IsFull, entry_at}
 use Rattle.schnellru.specs.declared.link.Entry.{Entry}
 use Rattle.schnellru.specs.Inside.Linked.{without_bucket}
-use Rattle.schnellru.specs.Inside.Chain.{first_bucket, last_bucket, bucket_after, bucket_before, link_to, pair_slots, IsWhole}
+use Rattle.schnellru.specs.Inside.Chain.{first_bucket, last_bucket, bucket_after, bucket_before, link_to, pair_slots}
+use Rattle.schnellru.specs.Inside.Chain.{IsWhole}
 use Rattle.schnellru.proofs.Chains.Orders.{after_in, before_in, first_in, last_in}
 use Rattle.schnellru.proofs.Chains.Neighbours.{newest_again}
 use Rattle.schnellru.proofs.LinkedTables.PairSlots.{is_full-pair_slots}
@@ -18,7 +20,8 @@ last_some [] p e = absurd (omega arith)
 last_some (c ∷ []) p e = none-some c (sym e)
 last_some (c ∷ d ∷ ds) p e = last_some (d ∷ ds) (omega arith) e
 
-module _ {N : Type 0} (number : N → ℕ) (link : ℕ → N) (none : N) (eq : N → N → Bool) (laws : IsLinkType number link none eq) where
+module _ {N : Type 0} (number : N → ℕ) (link : ℕ → N) (none : N) (eq : N → N → Bool)
+    (laws : IsLinkType number link none eq) where
   pub equal_links : (a b : N) → eq a b ≡ true → a ≡ b
   equal_links a b e = laws.equal_by_number a b (eqb-true _ _ (sym (laws.eq_by_number a b) ∙ e))
 
@@ -26,10 +29,12 @@ module _ {N : Type 0} (number : N → ℕ) (link : ℕ → N) (none : N) (eq : N
   equal_by_test a b e = equal_links a b (not-false (eq a b) e)
 
   pub other_by_test : (a b : N) → not (eq a b) ≡ true → a ≢ b
-  other_by_test a b e same = eqb-false (number a) (number b) (sym (laws.eq_by_number a b) ∙ not-true (eq a b) e) (ap number same)
+  other_by_test a b e same = eqb-false (number a) (number b) (sym (laws.eq_by_number a b) ∙ not-true (eq a b) e)
+      (ap number same)
 
   -- the bucket that a link leads to
-  leads_to : (o : Option ℕ) (l : N) → l ≡ link_to link none o → ((y : ℕ) → o ≡ Some y → y < number none) → (o ≡ None → ⊥) → o ≡ Some (number l)
+  leads_to : (o : Option ℕ) (l : N) → l ≡ link_to link none o → ((y : ℕ) → o ≡ Some y → y < number none)
+      → (o ≡ None → ⊥) → o ≡ Some (number l)
   leads_to None l e bounds some = absurd (some refl)
   leads_to (Some y) l e bounds some = ap Some (sym (ap number e ∙ laws.number_of_link y (bounds y refl)))
 
@@ -39,15 +44,21 @@ module _ {N : Type 0} (number : N → ℕ) (link : ℕ → N) (none : N) (eq : N
   read_link (Some b) o l e bounds at_none at_some =
       ap Some at_some.1 ∙ sym (leads_to o l e bounds (λ is. at_some.0 (e ∙ ap (link_to link none) is)))
 
-  module _ {K V : Type 0} (slots : List (Slot (Entry K V N))) (newest oldest : N) (order : List ℕ) (whole : IsWhole number link none slots newest oldest order) where
-    pub newest_shown : (r : Option ℕ) → IfNone r (newest ≡ none) → IfSome r (λ b. (newest ≢ none) × (b ≡ number newest)) → r ≡ first_bucket order
-    newest_shown r = read_link r (first_bucket order) newest whole.chain.newest_first (λ y e. chained_below whole.chain y (first_in order y e))
+  module _ {K V : Type 0} (slots : List (Slot (Entry K V N))) (newest oldest : N) (order : List ℕ)
+      (whole : IsWhole number link none slots newest oldest order) where
+    pub newest_shown : (r : Option ℕ) → IfNone r (newest ≡ none)
+        → IfSome r (λ b. (newest ≢ none) × (b ≡ number newest)) → r ≡ first_bucket order
+    newest_shown r = read_link r (first_bucket order) newest whole.chain.newest_first
+        (λ y e. chained_below whole.chain y (first_in order y e))
 
-    pub last_shown : (r : Option ℕ) → IfNone r (oldest ≡ none) → IfSome r (λ b. (oldest ≢ none) × (b ≡ number oldest)) → r ≡ last_bucket order
-    last_shown r = read_link r (last_bucket order) oldest whole.chain.oldest_last (λ y e. chained_below whole.chain y (last_in order y e))
+    pub last_shown : (r : Option ℕ) → IfNone r (oldest ≡ none) → IfSome r (λ b. (oldest ≢ none) × (b ≡ number oldest))
+        → r ≡ last_bucket order
+    last_shown r = read_link r (last_bucket order) oldest whole.chain.oldest_last
+        (λ y e. chained_below whole.chain y (last_in order y e))
 
     pub oldest_shown : 0 < length order → last_bucket order ≡ Some (number oldest)
-    oldest_shown p = leads_to (last_bucket order) oldest whole.chain.oldest_last (λ y e. chained_below whole.chain y (last_in order y e)) (last_some order p)
+    oldest_shown p = leads_to (last_bucket order) oldest whole.chain.oldest_last
+        (λ y e. chained_below whole.chain y (last_in order y e)) (last_some order p)
 
     module _ (b : ℕ) (full : IsFull (pair_slots slots) b) where
       pub full_entry : IsFull slots b
@@ -57,18 +68,23 @@ module _ {N : Type 0} (number : N → ℕ) (link : ℕ → N) (none : N) (eq : N
       inside = whole.all b full_entry
 
       module _ (entry : Entry K V N) (is : entry_at slots b ≡ Some entry) where
-        pub older_shown : (r : Option ℕ) → IfNone r (entry.older ≡ none) → IfSome r (λ c. (entry.older ≢ none) × (c ≡ number entry.older)) → r ≡ bucket_after b order
+        pub older_shown : (r : Option ℕ) → IfNone r (entry.older ≡ none)
+            → IfSome r (λ c. (entry.older ≢ none) × (c ≡ number entry.older)) → r ≡ bucket_after b order
         older_shown r at_none at_some =
-            read_link r (bucket_after b order) entry.older (older_link number link none eq laws slots newest oldest order whole.chain b inside entry is)
+            read_link r (bucket_after b order) entry.older
+                (older_link number link none eq laws slots newest oldest order whole.chain b inside entry is)
             (λ y e. chained_below whole.chain y (after_in b y order e)) at_none at_some
 
-        pub newer_shown : (r : Option ℕ) → IfNone r (entry.newer ≡ none) → IfSome r (λ c. (entry.newer ≢ none) × (c ≡ number entry.newer)) → r ≡ bucket_before b order
+        pub newer_shown : (r : Option ℕ) → IfNone r (entry.newer ≡ none)
+            → IfSome r (λ c. (entry.newer ≢ none) × (c ≡ number entry.newer)) → r ≡ bucket_before b order
         newer_shown r at_none at_some =
-            read_link r (bucket_before b order) entry.newer (newer_link number link none eq laws slots newest oldest order whole.chain b inside entry is)
+            read_link r (bucket_before b order) entry.newer
+                (newer_link number link none eq laws slots newest oldest order whole.chain b inside entry is)
             (λ y e. chained_below whole.chain y (before_in b y order whole.chain.distinct e)) at_none at_some
 
         -- the bucket with no newer one is the newest already
         pub newest_already : entry.newer ≡ none → order ≡ b ∷ without_bucket b order
         newest_already e = newest_again b order whole.chain.distinct inside
-            (end_by_link number link none eq laws (bucket_before b order) (λ y k. chained_below whole.chain y (before_in b y order whole.chain.distinct k))
+            (end_by_link number link none eq laws (bucket_before b order)
+                (λ y k. chained_below whole.chain y (before_in b y order whole.chain.distinct k))
             (sym (newer_link number link none eq laws slots newest oldest order whole.chain b inside entry is) ∙ e))

@@ -1,5 +1,6 @@
 -- What writing a link changes, and the chain after a bucket left it, or came as the newest.
-use Rattle.std.proofs.Common.{◌≡◌, ◌≢◌, ℕ, ◌<◌, Bool, List, [], ◌∷◌, length, set, Option, Some, None, ◌⊎◌, inl, inr, refl, ap, sym, ◌∙◌, subst, arith}
+use Rattle.std.proofs.Common.{◌≡◌, ◌≢◌, ℕ, ◌<◌, Bool, List, [], ◌∷◌, length, set, Option, Some, None, ◌⊎◌, inl, inr}
+use Rattle.std.proofs.Common.{refl, ap, sym, ◌∙◌, subst, arith}
 use Rattle.std.specs.Prelude.{option_map, Contains}
 use Rattle.std.proofs.lemmas.Bool.{cases_eq}
 use Rattle.std.proofs.lemmas.Option.{same_Some}
@@ -10,60 +11,79 @@ use Rattle.group_table.proofs.RefillLemmas.{entry_at-refilled, entry_at-refilled
 use Rattle.group_table.proofs.SearchLemmas.{full_by_entry}
 use Rattle.schnellru.specs.declared.link.Entry.{Entry}
 use Rattle.schnellru.specs.Inside.Linked.{without_bucket}
-use Rattle.schnellru.specs.Inside.Chain.{first_bucket, last_bucket, bucket_after, bucket_before, link_to, newer_at, older_at, SetsLinks, SetsNewer, SetsOlder, SetsEnd, IsChain}
-use Rattle.schnellru.proofs.Chains.Orders.{other_than, Contains-cases, after_in, before_in, first_in, without_in, distinct_without, distinct_cons}
-use Rattle.schnellru.proofs.Chains.Neighbours.{before-next, before-stays, after-previous, after-stays, first-left, first-left_stays, last-left}
-use Rattle.schnellru.proofs.Chains.Neighbours.{last-left_stays, before-itself, after-itself, before-first, before-later, after-later}
+use Rattle.schnellru.specs.Inside.Chain.{first_bucket, last_bucket, bucket_after, bucket_before, link_to, newer_at}
+use Rattle.schnellru.specs.Inside.Chain.{older_at, SetsLinks, SetsNewer, SetsOlder, SetsEnd, IsChain}
+use Rattle.schnellru.proofs.Chains.Orders.{other_than, Contains-cases, after_in, before_in, first_in, without_in}
+use Rattle.schnellru.proofs.Chains.Orders.{distinct_without, distinct_cons}
+use Rattle.schnellru.proofs.Chains.Neighbours.{before-next, before-stays, after-previous, after-stays, first-left}
+use Rattle.schnellru.proofs.Chains.Neighbours.{first-left_stays, last-left}
+use Rattle.schnellru.proofs.Chains.Neighbours.{last-left_stays, before-itself, after-itself, before-first, before-later}
+use Rattle.schnellru.proofs.Chains.Neighbours.{after-later}
 use Rattle.schnellru.proofs.LinkedTables.PairSlots.{same_length, same_full, pair_slots-refilled}
 
 -- the buckets of a chain are below the number of none
-pub chained_below : {K V N : Type 0} {number : N → ℕ} {link : ℕ → N} {none : N} {slots : List (Slot (Entry K V N))} {newest oldest : N} {order : List ℕ}
+pub chained_below : {K V N : Type 0} {number : N → ℕ} {link : ℕ → N} {none : N} {slots : List (Slot (Entry K V N))}
+    {newest oldest : N} {order : List ℕ}
     → IsChain number link none slots newest oldest order → (x : ℕ) → Contains order x → x < number none
 chained_below {slots = slots} chain x there = omega (arith, full_lt slots x (chain.only x there), chain.reached)
 
-module _ {K V N : Type 0} (slots : List (Slot (Entry K V N))) (b : ℕ) (entry : Entry K V N) (there : entry_at slots b ≡ Some entry) where
+module _ {K V N : Type 0} (slots : List (Slot (Entry K V N))) (b : ℕ) (entry : Entry K V N) (there : entry_at slots b
+    ≡ Some entry) where
   -- a write of both links
-  pub SetsLinks-written : (newer older : N) → SetsLinks slots (set slots b (refilled (bucket_at slots b) (record { pair = entry.pair; newer = newer; older = older }))) b newer older
+  pub SetsLinks-written : (newer older : N)
+      → SetsLinks slots (set slots b
+      (refilled (bucket_at slots b) (record { pair = entry.pair; newer = newer; older = older }))) b newer older
   SetsLinks-written newer older =
       let next : Entry K V N = record { pair = entry.pair; newer = newer; older = older } in
       record {
         pairs = pair_slots-refilled slots b entry next there refl;
-        newer_there = ap (option_map (λ x. x.newer)) (entry_at-refilled slots b next (full_by_entry (bucket_at slots b) entry there));
-        older_there = ap (option_map (λ x. x.older)) (entry_at-refilled slots b next (full_by_entry (bucket_at slots b) entry there));
+        newer_there = ap (option_map (λ x. x.newer))
+            (entry_at-refilled slots b next (full_by_entry (bucket_at slots b) entry there));
+        older_there = ap (option_map (λ x. x.older))
+            (entry_at-refilled slots b next (full_by_entry (bucket_at slots b) entry there));
         others = entry_at-refilled_other slots b next;
       }
 
   module _ (number : N → ℕ) (at to : N) (is : b ≡ number at) where
     -- a write of one link
-    pub SetsNewer-written : SetsNewer number slots (set slots b (refilled (bucket_at slots b) (record { pair = entry.pair; newer = to; older = entry.older }))) at to
+    pub SetsNewer-written : SetsNewer number slots
+        (set slots b (refilled (bucket_at slots b) (record { pair = entry.pair; newer = to; older = entry.older }))) at
+        to
     SetsNewer-written =
         let w = SetsLinks-written to entry.older in
-        let new = set slots b (refilled (bucket_at slots b) (record { pair = entry.pair; newer = to; older = entry.older })) in
+        let new = set slots b
+            (refilled (bucket_at slots b) (record { pair = entry.pair; newer = to; older = entry.older })) in
         record {
           pairs = w.pairs;
           there = λ full. subst (λ c. newer_at new c ≡ Some to) is w.newer_there;
           others = λ c other. ap (option_map (λ x. x.newer)) (w.others c (λ e. other (e ∙ is)));
           older = λ c. elim (cases_eq c b) [
-            | inl h ↦ subst (λ k. older_at new k ≡ older_at slots k) (sym h) (w.older_there ∙ sym (ap (option_map (λ x. x.older)) there))
+            | inl h ↦ subst (λ k. older_at new k ≡ older_at slots k) (sym h)
+                (w.older_there ∙ sym (ap (option_map (λ x. x.older)) there))
             | inr h ↦ ap (option_map (λ x. x.older)) (w.others c h)
           ];
         }
 
-    pub SetsOlder-written : SetsOlder number slots (set slots b (refilled (bucket_at slots b) (record { pair = entry.pair; newer = entry.newer; older = to }))) at to
+    pub SetsOlder-written : SetsOlder number slots
+        (set slots b (refilled (bucket_at slots b) (record { pair = entry.pair; newer = entry.newer; older = to }))) at
+        to
     SetsOlder-written =
         let w = SetsLinks-written entry.newer to in
-        let new = set slots b (refilled (bucket_at slots b) (record { pair = entry.pair; newer = entry.newer; older = to })) in
+        let new = set slots b
+            (refilled (bucket_at slots b) (record { pair = entry.pair; newer = entry.newer; older = to })) in
         record {
           pairs = w.pairs;
           there = λ full. subst (λ c. older_at new c ≡ Some to) is w.older_there;
           others = λ c other. ap (option_map (λ x. x.older)) (w.others c (λ e. other (e ∙ is)));
           newer = λ c. elim (cases_eq c b) [
-            | inl h ↦ subst (λ k. newer_at new k ≡ newer_at slots k) (sym h) (w.newer_there ∙ sym (ap (option_map (λ x. x.newer)) there))
+            | inl h ↦ subst (λ k. newer_at new k ≡ newer_at slots k) (sym h)
+                (w.newer_there ∙ sym (ap (option_map (λ x. x.newer)) there))
             | inr h ↦ ap (option_map (λ x. x.newer)) (w.others c h)
           ];
         }
 
-module _ {N : Type 0} (number : N → ℕ) (link : ℕ → N) (none : N) (eq : N → N → Bool) (laws : IsLinkType number link none eq) where
+module _ {N : Type 0} (number : N → ℕ) (link : ℕ → N) (none : N) (eq : N → N → Bool)
+    (laws : IsLinkType number link none eq) where
   -- a link to a bucket below the number of none
   pub number-link_to : (o : Option ℕ) (x : ℕ) → o ≡ Some x → x < number none → number (link_to link none o) ≡ x
   number-link_to o x e p = rw e (laws.number_of_link x p)
@@ -71,7 +91,8 @@ module _ {N : Type 0} (number : N → ℕ) (link : ℕ → N) (none : N) (eq : N
   pub inner_link : (o : Option ℕ) (x : ℕ) → o ≡ Some x → x < number none → link_to link none o ≢ none
   inner_link o x e p = rw e (laws.link_below x p)
 
-  pub bucket_by_link : (o : Option ℕ) (x : ℕ) → ((y : ℕ) → o ≡ Some y → y < number none) → x < number none → x ≡ number (link_to link none o) → o ≡ Some x
+  pub bucket_by_link : (o : Option ℕ) (x : ℕ) → ((y : ℕ) → o ≡ Some y → y < number none) → x < number none → x
+      ≡ number (link_to link none o) → o ≡ Some x
   bucket_by_link None x bounds p e = absurd (omega arith)
   bucket_by_link (Some y) x bounds p e = ap Some (sym (e ∙ laws.number_of_link y (bounds y refl)))
 
@@ -81,12 +102,15 @@ module _ {N : Type 0} (number : N → ℕ) (link : ℕ → N) (none : N) (eq : N
 
   module _ {K V : Type 0} where
     -- a link of a chain is that of no bucket, or leads to a full one
-    pub leads_to_full : (slots : List (Slot (Entry K V N))) → length slots < number none → (o : Option ℕ) → ((y : ℕ) → o ≡ Some y → IsFull slots y)
+    pub leads_to_full : (slots : List (Slot (Entry K V N))) → length slots < number none → (o : Option ℕ)
+        → ((y : ℕ) → o ≡ Some y → IsFull slots y)
         → (link_to link none o ≡ none) ⊎ IsFull slots (number (link_to link none o))
     leads_to_full slots reached None is_full = inl refl
-    leads_to_full slots reached (Some y) is_full = inr (rw (laws.number_of_link y (omega (arith, full_lt slots y (is_full y refl), reached))) (is_full y refl))
+    leads_to_full slots reached (Some y) is_full = inr
+        (rw (laws.number_of_link y (omega (arith, full_lt slots y (is_full y refl), reached))) (is_full y refl))
 
-    module _ (slots : List (Slot (Entry K V N))) (newest oldest : N) (order : List ℕ) (chain : IsChain number link none slots newest oldest order) where
+    module _ (slots : List (Slot (Entry K V N))) (newest oldest : N) (order : List ℕ)
+        (chain : IsChain number link none slots newest oldest order) where
       module _ (b : ℕ) (there : Contains order b) (entry : Entry K V N) (is : entry_at slots b ≡ Some entry) where
         -- the links of an entry are to its neighbours
         pub newer_link : entry.newer ≡ link_to link none (bucket_before b order)
@@ -96,18 +120,24 @@ module _ {N : Type 0} (number : N → ℕ) (link : ℕ → N) (none : N) (eq : N
         older_link = same_Some _ _ (sym (ap (option_map (λ x. x.older)) is) ∙ chain.older b there)
 
         pub newer_leads : (entry.newer ≡ none) ⊎ IsFull slots (number entry.newer)
-        newer_leads = rw newer_link (leads_to_full slots chain.reached (bucket_before b order) (λ y e. chain.only y (before_in b y order chain.distinct e)))
+        newer_leads = rw newer_link
+            (leads_to_full slots chain.reached (bucket_before b order)
+            (λ y e. chain.only y (before_in b y order chain.distinct e)))
 
         pub older_leads : (entry.older ≡ none) ⊎ IsFull slots (number entry.older)
-        older_leads = rw older_link (leads_to_full slots chain.reached (bucket_after b order) (λ y e. chain.only y (after_in b y order e)))
+        older_leads = rw older_link
+            (leads_to_full slots chain.reached (bucket_after b order) (λ y e. chain.only y (after_in b y order e)))
 
       pub newest_leads : (newest ≡ none) ⊎ IsFull slots (number newest)
-      newest_leads = rw chain.newest_first (leads_to_full slots chain.reached (first_bucket order) (λ y e. chain.only y (first_in order y e)))
+      newest_leads = rw chain.newest_first
+          (leads_to_full slots chain.reached (first_bucket order) (λ y e. chain.only y (first_in order y e)))
 
     -- a bucket leaves the chain: its neighbours get each other's links
-    module _ (s0 s1 s2 : List (Slot (Entry K V N))) (newest oldest newest' oldest' newer older : N) (b : ℕ) (order : List ℕ)
+    module _ (s0 s1 s2 : List (Slot (Entry K V N))) (newest oldest newest' oldest' newer older : N) (b : ℕ)
+        (order : List ℕ)
         (chain : IsChain number link none s0 newest oldest order) (there : Contains order b)
-        (newer_is : newer ≡ link_to link none (bucket_before b order)) (older_is : older ≡ link_to link none (bucket_after b order))
+        (newer_is : newer ≡ link_to link none (bucket_before b order))
+            (older_is : older ≡ link_to link none (bucket_after b order))
         (first : SetsOlder number s0 s1 newer older) (newest_is : SetsEnd none newest newest' newer older)
         (second : SetsNewer number s1 s2 older newer) (oldest_is : SetsEnd none oldest oldest' older newer) where
       abbrev left : List ℕ
@@ -120,13 +150,15 @@ module _ {N : Type 0} (number : N → ℕ) (link : ℕ → N) (none : N) (eq : N
       after_below y e = chained_below chain y (after_in b y order e)
 
       left_first : (o : Option ℕ) → bucket_before b order ≡ o → newest' ≡ link_to link none (first_bucket left)
-      left_first None e = newest_is.ends (newer_is ∙ ap (link_to link none) e) ∙ older_is ∙ ap (link_to link none) (sym (first-left b order chain.distinct there e))
+      left_first None e = newest_is.ends (newer_is ∙ ap (link_to link none) e) ∙ older_is
+          ∙ ap (link_to link none) (sym (first-left b order chain.distinct there e))
       left_first (Some y) e =
           newest_is.stays (λ k. inner_link (bucket_before b order) y e (before_below y e) (sym newer_is ∙ k))
           ∙ chain.newest_first ∙ ap (link_to link none) (sym (first-left_stays b order chain.distinct there y e))
 
       left_last : (o : Option ℕ) → bucket_after b order ≡ o → oldest' ≡ link_to link none (last_bucket left)
-      left_last None e = oldest_is.ends (older_is ∙ ap (link_to link none) e) ∙ newer_is ∙ ap (link_to link none) (sym (last-left b order chain.distinct there e))
+      left_last None e = oldest_is.ends (older_is ∙ ap (link_to link none) e) ∙ newer_is
+          ∙ ap (link_to link none) (sym (last-left b order chain.distinct there e))
       left_last (Some y) e =
           oldest_is.stays (λ k. inner_link (bucket_after b order) y e (after_below y e) (sym older_is ∙ k))
           ∙ chain.oldest_last ∙ ap (link_to link none) (sym (last-left_stays b order chain.distinct there y e))
@@ -134,24 +166,31 @@ module _ {N : Type 0} (number : N → ℕ) (link : ℕ → N) (none : N) (eq : N
       left_newer : (x : ℕ) → Contains order x → x ≢ b → newer_at s2 x ≡ Some (link_to link none (bucket_before x left))
       left_newer x inside other = elim (cases_eq x (number older)) [
         | inl h ↦
-            let next : bucket_after b order ≡ Some x = bucket_by_link (bucket_after b order) x after_below (chained_below chain x inside) (h ∙ ap number older_is) in
-            let full : IsFull s1 (number older) = subst (IsFull s1) h (same_full s0 s1 first.pairs x ∙ chain.only x inside) in
+            let next : bucket_after b order ≡ Some x = bucket_by_link (bucket_after b order) x after_below
+                (chained_below chain x inside) (h ∙ ap number older_is) in
+            let full : IsFull s1 (number older) = subst (IsFull s1) h (same_full s0 s1 first.pairs x
+                ∙ chain.only x inside) in
             subst (λ k. newer_at s2 k ≡ Some newer) (sym h) (second.there full)
             ∙ ap Some (newer_is ∙ ap (link_to link none) (sym (before-next b x other order chain.distinct next)))
         | inr h ↦
-            let stays = before-stays b x other order chain.distinct (λ e. h (sym (ap number older_is ∙ number-link_to (bucket_after b order) x e (chained_below chain x inside)))) in
+            let stays = before-stays b x other order chain.distinct
+                (λ e. h (sym (ap number older_is ∙ number-link_to (bucket_after b order) x e
+                (chained_below chain x inside)))) in
             second.others x h ∙ first.newer x ∙ chain.newer x inside ∙ ap (λ o. Some (link_to link none o)) (sym stays)
       ]
 
       left_older : (x : ℕ) → Contains order x → x ≢ b → older_at s2 x ≡ Some (link_to link none (bucket_after x left))
       left_older x inside other = elim (cases_eq x (number newer)) [
         | inl h ↦
-            let previous : bucket_before b order ≡ Some x = bucket_by_link (bucket_before b order) x before_below (chained_below chain x inside) (h ∙ ap number newer_is) in
+            let previous : bucket_before b order ≡ Some x = bucket_by_link (bucket_before b order) x before_below
+                (chained_below chain x inside) (h ∙ ap number newer_is) in
             let full : IsFull s0 (number newer) = subst (IsFull s0) h (chain.only x inside) in
             second.older x ∙ subst (λ k. older_at s1 k ≡ Some older) (sym h) (first.there full)
             ∙ ap Some (older_is ∙ ap (link_to link none) (sym (after-previous b x other order chain.distinct previous)))
         | inr h ↦
-            let stays = after-stays b x other order chain.distinct (λ e. h (sym (ap number newer_is ∙ number-link_to (bucket_before b order) x e (chained_below chain x inside)))) in
+            let stays = after-stays b x other order chain.distinct
+                (λ e. h (sym (ap number newer_is ∙ number-link_to (bucket_before b order) x e
+                (chained_below chain x inside)))) in
             second.older x ∙ first.others x h ∙ chain.older x inside ∙ ap (λ o. Some (link_to link none o)) (sym stays)
       ]
 
@@ -159,7 +198,8 @@ module _ {N : Type 0} (number : N → ℕ) (link : ℕ → N) (none : N) (eq : N
       IsChain-unlinked = record {
         reached = omega (arith, same_length s1 s2 second.pairs, same_length s0 s1 first.pairs, chain.reached);
         distinct = distinct_without b order chain.distinct;
-        only = λ x w. same_full s1 s2 second.pairs x ∙ same_full s0 s1 first.pairs x ∙ chain.only x (without_in b x order w).0;
+        only = λ x w. same_full s1 s2 second.pairs x ∙ same_full s0 s1 first.pairs x
+            ∙ chain.only x (without_in b x order w).0;
         newest_first = left_first (bucket_before b order) refl;
         oldest_last = left_last (bucket_after b order) refl;
         newer = λ x w. let v = without_in b x order w in left_newer x v.0 v.1;
@@ -182,13 +222,17 @@ module _ {N : Type 0} (number : N → ℕ) (link : ℕ → N) (none : N) (eq : N
           ∙ chain.oldest_last ∙ ap (λ xs. link_to link none (last_bucket xs)) (sym e)
 
       come_newer : (x : ℕ) → Contains order x → newer_at s2 x ≡ Some (link_to link none (bucket_before x (b ∷ order)))
-      come_newer x there = ap (option_map (λ y. y.newer)) (second.others x (other_than b order absent x there)) ∙ elim (cases_eq x (number newest)) [
+      come_newer x there = ap (option_map (λ y. y.newer)) (second.others x (other_than b order absent x there))
+          ∙ elim (cases_eq x (number newest)) [
         | inl h ↦
-            let is : first_bucket order ≡ Some x = bucket_by_link (first_bucket order) x first_below (chained_below chain x there) (h ∙ ap number chain.newest_first) in
+            let is : first_bucket order ≡ Some x = bucket_by_link (first_bucket order) x first_below
+                (chained_below chain x there) (h ∙ ap number chain.newest_first) in
             subst (λ k. newer_at s1 k ≡ Some (link b)) (sym h) (first.there (subst (IsFull s0) h (chain.only x there)))
             ∙ ap (λ o. Some (link_to link none o)) (sym (before-first b order absent chain.distinct x there is))
         | inr h ↦
-            let later = before-later b order absent chain.distinct x there (λ e. h (sym (ap number chain.newest_first ∙ number-link_to (first_bucket order) x e (chained_below chain x there)))) in
+            let later = before-later b order absent chain.distinct x there
+                (λ e. h (sym (ap number chain.newest_first ∙ number-link_to (first_bucket order) x e
+                (chained_below chain x there)))) in
             first.others x h ∙ chain.newer x there ∙ ap (λ o. Some (link_to link none o)) (sym later)
       ]
 
@@ -196,7 +240,8 @@ module _ {N : Type 0} (number : N → ℕ) (link : ℕ → N) (none : N) (eq : N
       IsChain-linked = record {
         reached = omega (arith, same_length s1 s2 second.pairs, same_length s0 s1 first.pairs, chain.reached);
         distinct = distinct_cons b order absent chain.distinct;
-        only = λ x w. same_full s1 s2 second.pairs x ∙ same_full s0 s1 first.pairs x ∙ elim (Contains-cases b x order w) [
+        only = λ x w. same_full s1 s2 second.pairs x ∙ same_full s0 s1 first.pairs x
+            ∙ elim (Contains-cases b x order w) [
           | inl h ↦ subst (IsFull s0) h full
           | inr there ↦ chain.only x there
         ];
@@ -204,14 +249,17 @@ module _ {N : Type 0} (number : N → ℕ) (link : ℕ → N) (none : N) (eq : N
         oldest_last = come_last order refl;
         newer = λ x w. elim (Contains-cases b x order w) [
           | inl h ↦ subst (λ k. newer_at s2 k ≡ Some (link_to link none (bucket_before k (b ∷ order)))) h
-              (second.newer_there ∙ ap (λ o. Some (link_to link none o)) (sym (before-itself b order absent chain.distinct)))
+              (second.newer_there ∙ ap (λ o. Some (link_to link none o))
+                  (sym (before-itself b order absent chain.distinct)))
           | inr there ↦ come_newer x there
         ];
         older = λ x w. elim (Contains-cases b x order w) [
           | inl h ↦ subst (λ k. older_at s2 k ≡ Some (link_to link none (bucket_after k (b ∷ order)))) h
-              (second.older_there ∙ ap Some chain.newest_first ∙ ap (λ o. Some (link_to link none o)) (sym (after-itself b order absent chain.distinct)))
+              (second.older_there ∙ ap Some chain.newest_first ∙ ap (λ o. Some (link_to link none o))
+                  (sym (after-itself b order absent chain.distinct)))
           | inr there ↦
-              ap (option_map (λ y. y.older)) (second.others x (other_than b order absent x there)) ∙ first.older x ∙ chain.older x there
+              ap (option_map (λ y. y.older)) (second.others x (other_than b order absent x there)) ∙ first.older x
+                  ∙ chain.older x there
               ∙ ap (λ o. Some (link_to link none o)) (sym (after-later b order absent chain.distinct x there))
         ];
       }

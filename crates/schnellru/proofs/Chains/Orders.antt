@@ -1,5 +1,6 @@
 -- Orders of distinct buckets: what stands in them, and the neighbours of a bucket by recursion from the first on.
-use Rattle.std.proofs.Common.{◌≡◌, ◌≢◌, ℕ, zero, suc, ◌+◌, ◌<◌, cond, List, [], ◌∷◌, length, get_or, Option, Some, None, ◌⊎◌, inl, inr, refl, ap, sym, ◌∙◌, subst, arith, eq-eqb, ne_eqb, false}
+use Rattle.std.proofs.Common.{◌≡◌, ◌≢◌, ℕ, zero, suc, ◌+◌, ◌<◌, cond, List, [], ◌∷◌, length, get_or, Option, Some, None}
+use Rattle.std.proofs.Common.{◌⊎◌, inl, inr, refl, ap, sym, ◌∙◌, subst, arith, eq-eqb, ne_eqb, false}
 use Rattle.std.proofs.lemmas.Bool.{cases_eq}
 use Rattle.std.proofs.lemmas.Option.{none-some, same_Some}
 use Rattle.std.specs.Prelude.{Contains, AllPairs, nat_eq, not}
@@ -38,7 +39,8 @@ pub distinct_tail : (c : ℕ) (cs : List ℕ) → AllPairs ◌≢◌ (c ∷ cs) 
 distinct_tail c cs d i j e p q = d (suc i) (suc j) e (omega (arith, p)) (omega (arith, q))
 
 pub distinct_cons : (c : ℕ) (cs : List ℕ) → (Contains cs c → ⊥) → AllPairs ◌≢◌ cs → AllPairs ◌≢◌ (c ∷ cs)
-distinct_cons c cs absent d = AllPairs-cons ◌≢◌ c cs (λ k e p same. absent (subst (Contains cs) (sym same) (Contains-get_or cs k e p))) d
+distinct_cons c cs absent d = AllPairs-cons ◌≢◌ c cs
+    (λ k e p same. absent (subst (Contains cs) (sym same) (Contains-get_or cs k e p))) d
 
 -- the bucket before one, and the last one, where prev stands before the first
 abbrev pub before_from : Option ℕ → ℕ → List ℕ → Option ℕ
@@ -52,7 +54,8 @@ last_from prev (c ∷ cs) = last_from (Some c) cs
 pub before_from-absent : (prev : Option ℕ) (b : ℕ) (cs : List ℕ) → (Contains cs b → ⊥) → before_from prev b cs ≡ None
 before_from-absent prev b [] absent = refl
 before_from-absent prev b (c ∷ cs) absent =
-    rw (ne_eqb c b (λ e. absent (subst (Contains (c ∷ cs)) e (Contains-here c cs)))) (before_from-absent (Some c) b cs (λ w. absent (Contains-later c b cs w)))
+    rw (ne_eqb c b (λ e. absent (subst (Contains (c ∷ cs)) e (Contains-here c cs))))
+        (before_from-absent (Some c) b cs (λ w. absent (Contains-later c b cs w)))
 
 before_by_tail : (b c : ℕ) (cs : List ℕ) → bucket_before b (c ∷ cs) ≡ before_from (Some c) b cs
 before_by_tail b c [] = refl
@@ -61,7 +64,9 @@ before_by_tail b c (d ∷ ds) = ap (λ t. cond (nat_eq d b) (Some c) t) (before_
 pub before_is : (b : ℕ) (order : List ℕ) → AllPairs ◌≢◌ order → bucket_before b order ≡ before_from None b order
 before_is b [] d = refl
 before_is b (c ∷ cs) d = elim (cases_eq c b) [
-  | inl h ↦ rw (eq-eqb c b h) (before_by_tail b c cs ∙ before_from-absent (Some c) b cs (λ w. distinct_head c cs d (subst (Contains cs) (sym h) w)))
+  | inl h ↦ rw (eq-eqb c b h)
+      (before_by_tail b c cs
+      ∙ before_from-absent (Some c) b cs (λ w. distinct_head c cs d (subst (Contains cs) (sym h) w)))
   | inr h ↦ rw (ne_eqb c b h) (before_by_tail b c cs)
 ]
 
@@ -78,7 +83,8 @@ pub before_first : (prev : Option ℕ) (x : ℕ) (cs : List ℕ) → first_bucke
 before_first prev x [] e = absurd (none-some x e)
 before_first prev x (d ∷ ds) e = rw (eq-eqb d x (same_Some d x e)) refl
 
-pub before_not_first : (prev other : Option ℕ) (x : ℕ) (cs : List ℕ) → (first_bucket cs ≡ Some x → ⊥) → before_from prev x cs ≡ before_from other x cs
+pub before_not_first : (prev other : Option ℕ) (x : ℕ) (cs : List ℕ) → (first_bucket cs ≡ Some x → ⊥)
+    → before_from prev x cs ≡ before_from other x cs
 before_not_first prev other x [] p = refl
 before_not_first prev other x (d ∷ ds) p = rw (ne_eqb d x (λ e. p (ap Some e))) refl
 
@@ -104,7 +110,8 @@ after_in b x (c ∷ cs) e = elim (cases_eq c b) [
   | inr h ↦ let e' : bucket_after b cs ≡ Some x = rw (ne_eqb c b h) at e in Contains-later c x cs (after_in b x cs e')
 ]
 
-pub before_from-in : (prev : Option ℕ) (b x : ℕ) (cs : List ℕ) → before_from prev b cs ≡ Some x → (prev ≡ Some x) ⊎ Contains cs x
+pub before_from-in : (prev : Option ℕ) (b x : ℕ) (cs : List ℕ) → before_from prev b cs ≡ Some x → (prev ≡ Some x)
+    ⊎ Contains cs x
 before_from-in prev b x [] e = absurd (none-some x e)
 before_from-in prev b x (c ∷ cs) e = elim (cases_eq c b) [
   | inl h ↦ let e' : prev ≡ Some x = rw (eq-eqb c b h) at e in inl e'
@@ -140,7 +147,8 @@ Lacks b = AllByRecursion (λ c. nat_eq c b ≡ false)
 
 pub lacks_unless : (b : ℕ) (order : List ℕ) → (Contains order b → ⊥) → Lacks b order
 lacks_unless b [] absent = tt
-lacks_unless b (c ∷ cs) absent = (ne_eqb c b (λ e. absent (subst (Contains (c ∷ cs)) e (Contains-here c cs))), lacks_unless b cs (λ w. absent (Contains-later c b cs w)))
+lacks_unless b (c ∷ cs) absent = (ne_eqb c b (λ e. absent (subst (Contains (c ∷ cs)) e (Contains-here c cs))),
+    lacks_unless b cs (λ w. absent (Contains-later c b cs w)))
 
 -- an order without a bucket
 pub without-lacking : (b : ℕ) (order : List ℕ) → Lacks b order → without_bucket b order ≡ order
@@ -168,7 +176,8 @@ without_in b x (c ∷ cs) there = elim (cases_eq c b) [
 pub in_without : (b x : ℕ) (order : List ℕ) → Contains order x → x ≢ b → Contains (without_bucket b order) x
 in_without b x [] there other = absurd (Contains-nil x there)
 in_without b x (c ∷ cs) there other = elim (Contains-cases c x cs there) [
-  | inl k ↦ rw (ne_eqb c b (λ e. other (sym k ∙ e))) (subst (Contains (c ∷ without_bucket b cs)) k (Contains-here c (without_bucket b cs)))
+  | inl k ↦ rw (ne_eqb c b (λ e. other (sym k ∙ e)))
+      (subst (Contains (c ∷ without_bucket b cs)) k (Contains-here c (without_bucket b cs)))
   | inr k ↦ elim (cases_eq c b) [
     | inl h ↦ rw (eq-eqb c b h) (in_without b x cs k other)
     | inr h ↦ rw (ne_eqb c b h) (Contains-later c x (without_bucket b cs) (in_without b x cs k other))
@@ -178,7 +187,8 @@ in_without b x (c ∷ cs) there other = elim (Contains-cases c x cs there) [
 pub distinct_without : (b : ℕ) (order : List ℕ) → AllPairs ◌≢◌ order → AllPairs ◌≢◌ (without_bucket b order)
 distinct_without b order d = AllPairs-filter ◌≢◌ (λ c. not (nat_eq c b)) order d
 
-pub length-without : (b : ℕ) (order : List ℕ) → AllPairs ◌≢◌ order → Contains order b → length (without_bucket b order) + 1 ≡ length order
+pub length-without : (b : ℕ) (order : List ℕ) → AllPairs ◌≢◌ order → Contains order b → length (without_bucket b order)
+    + 1 ≡ length order
 length-without b [] d there = absurd (Contains-nil b there)
 length-without b (c ∷ cs) d there = elim (cases_eq c b) [
   | inl h ↦

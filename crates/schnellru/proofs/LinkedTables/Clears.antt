@@ -15,7 +15,8 @@ none_in b h = absurd (omega (arith, h.1))
 none_full : (T : Type 0) (n b : ℕ) → IsFull {A = T} (replicate n empty) b → ⊥
 none_full T n b h = false≢true (sym (ap is_full (copy_at n b empty)) ∙ h)
 
-pub pair_slots-cleared : (K V N : Type 0) (n : ℕ) → pair_slots {K = K} {V = V} {N = N} (replicate n empty) ≡ replicate n empty
+pub pair_slots-cleared : (K V N : Type 0) (n : ℕ) → pair_slots {K = K} {V = V} {N = N} (replicate n empty)
+    ≡ replicate n empty
 pair_slots-cleared K V N zero = refl
 pair_slots-cleared K V N (suc n) = ap (λ slots. empty ∷ slots) (pair_slots-cleared K V N n)
 
@@ -24,7 +25,8 @@ marks_of-cleared T zero = refl
 marks_of-cleared T (suc n) = ap (λ marks. empty ∷ marks) (marks_of-cleared T n)
 
 -- no bucket is chained, and that is all of the full ones
-pub IsWhole-cleared : {K V N : Type 0} (number : N → ℕ) (link : ℕ → N) (none : N) (slots : List (Slot (Entry K V N))) (n : ℕ) → slots ≡ replicate n empty → n < number none
+pub IsWhole-cleared : {K V N : Type 0} (number : N → ℕ) (link : ℕ → N) (none : N) (slots : List (Slot (Entry K V N)))
+    (n : ℕ) → slots ≡ replicate n empty → n < number none
     → IsWhole number link none slots none none []
 IsWhole-cleared {K} {V} {N} number link none slots n is below = rw is (record {
   chain = record {

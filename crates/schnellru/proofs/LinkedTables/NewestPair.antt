@@ -18,52 +18,67 @@ use Rattle.schnellru.proofs.Maps.HeldMaps.{alike_holds}
 use Rattle.schnellru.proofs.LinkedTables.Writes.{written_first, first_holds}
 
 -- the pair in the bucket b of t comes first, in v
-module _ {K V : Type 0} (t v : Linked K V) (linked : IsLinked t) (b : ℕ) (p : K × V) (there : entry_at t.slots b ≡ Some p)
+module _ {K V : Type 0} (t v : Linked K V) (linked : IsLinked t) (b : ℕ) (p : K × V) (there : entry_at t.slots b
+    ≡ Some p)
     (slots : v.slots ≡ t.slots) (order : v.order ≡ b ∷ without_bucket b t.order) (counted : v.placings ≡ t.placings)
-    (names : K → Bool) {eq : K → K → Bool} (laws : IsEquivalence eq) (one : (x y : K) → names x ≡ true → names y ≡ eq x y) (named : names p.0 ≡ true)
+    (names : K → Bool) {eq : K → K → Bool} (laws : IsEquivalence eq) (one : (x y : K) → names x ≡ true → names y
+        ≡ eq x y) (named : names p.0 ≡ true)
     (distinct : AreDistinct eq (pairs_of t)) where
   pub promoted_pairs : pairs_of v ≡ front names (pairs_of t)
   promoted_pairs = ap (entries_in v.slots) order
       ∙ ap (λ s. entries_in s (b ∷ without_bucket b t.order)) slots
       ∙ ap (λ o. option_to_list o ++ entries_in t.slots (without_bucket b t.order)) there
       ∙ ap (λ l. p ∷ l) (sym (others_are t linked b p there names laws one distinct named))
-      ∙ ap (λ o. after o (without names (pairs_of t))) (sym (pair_found t linked b p there names laws one distinct named))
+      ∙ ap (λ o. after o (without names (pairs_of t)))
+          (sym (pair_found t linked b p there names laws one distinct named))
 
   module _ {S H : Type 0} (beside : Beside S H) where
     pub promoted_state : state_of v beside ≡ promoted names (state_of t beside)
-    promoted_state = λ i. record (state_of v beside) { pairs = promoted_pairs i; marks = marks_of (slots i); places = (order ∙ sym (places_are t linked b p there names laws one distinct named)) i; placings = counted i }
+    promoted_state = λ i. record (state_of v beside) { pairs = promoted_pairs i; marks = marks_of (slots i); places =
+        (order ∙ sym (places_are t linked b p there names laws one distinct named)) i; placings = counted i }
 
     pub promoted_holds : (hash_of : H → K → ℕ) → Holds eq hash_of t beside → IsLinked v → Holds eq hash_of v beside
-    promoted_holds hash_of holds next = alike_holds beside eq hash_of t v holds next (subst (KeysFit (hash_of beside.hasher)) (sym slots) holds.fits)
-        (ap marks_of slots) (subst (AreDistinct eq) (sym promoted_pairs) (distinct_first eq names one (pairs_of t) distinct))
+    promoted_holds hash_of holds next = alike_holds beside eq hash_of t v holds next
+        (subst (KeysFit (hash_of beside.hasher)) (sym slots) holds.fits)
+        (ap marks_of slots) (subst (AreDistinct eq) (sym promoted_pairs)
+            (distinct_first eq names one (pairs_of t) distinct))
 
 -- the newest pair of t is that in the bucket b
-module _ {K V : Type 0} (t : Linked K V) (linked : IsLinked t) (b : ℕ) (p : K × V) (there : entry_at t.slots b ≡ Some p) (first : first_bucket t.order ≡ Some b) where
+module _ {K V : Type 0} (t : Linked K V) (linked : IsLinked t) (b : ℕ) (p : K × V) (there : entry_at t.slots b
+    ≡ Some p) (first : first_bucket t.order ≡ Some b) where
   pub newest_order : t.order ≡ b ∷ without_bucket b t.order
-  newest_order = newest_again b t.order linked.distinct (first_in t.order b first) (before_is b t.order linked.distinct ∙ before_first None b t.order first)
+  newest_order = newest_again b t.order linked.distinct (first_in t.order b first) (before_is b t.order linked.distinct
+      ∙ before_first None b t.order first)
 
   newest_pairs : pairs_of t ≡ p ∷ entries_in t.slots (without_bucket b t.order)
-  newest_pairs = ap (entries_in t.slots) newest_order ∙ ap (λ o. option_to_list o ++ entries_in t.slots (without_bucket b t.order)) there
+  newest_pairs = ap (entries_in t.slots) newest_order
+      ∙ ap (λ o. option_to_list o ++ entries_in t.slots (without_bucket b t.order)) there
 
   pub newest_is : newest_value (pairs_of t) ≡ Some p.1
   newest_is = ap newest_value newest_pairs
 
   module _ (w : V) where
     newest_set : pairs_of (with_pair t b (p.0, w)) ≡ set_newest (pairs_of t) w
-    newest_set = ap (entries_in (with_pair t b (p.0, w)).slots) newest_order ∙ written_first t b (p.0, w) (full_by_entry (bucket_at t.slots b) p there) t.order
+    newest_set = ap (entries_in (with_pair t b (p.0, w)).slots) newest_order
+        ∙ written_first t b (p.0, w) (full_by_entry (bucket_at t.slots b) p there) t.order
         ∙ ap (λ l. set_newest l w) (sym newest_pairs)
 
     module _ {S H : Type 0} (beside : Beside S H) where
-      pub newest_state : state_of (with_pair t b (p.0, w)) beside ≡ record (state_of t beside) { pairs = set_newest (pairs_of t) w }
-      newest_state = λ i. record (state_of t beside) { pairs = newest_set i; marks = marks_of-refilled t.slots b (p.0, w) i }
+      pub newest_state : state_of (with_pair t b (p.0, w)) beside
+          ≡ record (state_of t beside) { pairs = set_newest (pairs_of t) w }
+      newest_state = λ i. record (state_of t beside) { pairs = newest_set i; marks = marks_of-refilled t.slots b
+          (p.0, w) i }
 
       pub newest_holds : {eq : K → K → Bool} → IsEquivalence eq → (hash_of : H → K → ℕ) → Holds eq hash_of t beside
-          → IsLinked (with_pair t b (p.0, w)) → KeysFit (hash_of beside.hasher) (with_pair t b (p.0, w)).slots → Holds eq hash_of (with_pair t b (p.0, w)) beside
+          → IsLinked (with_pair t b (p.0, w)) → KeysFit (hash_of beside.hasher) (with_pair t b (p.0, w)).slots
+              → Holds eq hash_of (with_pair t b (p.0, w)) beside
       newest_holds {eq} laws hash_of holds next fits =
-          first_holds t t linked b p there refl newest_order refl (eq p.0) laws (λ x y h. laws.congr p.0 x y h) (laws.refl p.0) holds.map.distinct
+          first_holds t t linked b p there refl newest_order refl (eq p.0) laws (λ x y h. laws.congr p.0 x y h)
+              (laws.refl p.0) holds.map.distinct
           beside w hash_of holds next fits
 
 -- the newest value is the one that was set
-pub newest_after_set : {K V : Type 0} (xs : List (K × V)) (v w : V) → newest_value xs ≡ Some v → newest_value (set_newest xs w) ≡ Some w
+pub newest_after_set : {K V : Type 0} (xs : List (K × V)) (v w : V) → newest_value xs ≡ Some v
+    → newest_value (set_newest xs w) ≡ Some w
 newest_after_set [] v w e = absurd cc
 newest_after_set (x ∷ xs) v w e = refl

@@ -1,5 +1,6 @@
 -- The pairs of a linked table by their places in the order, counted from the newest on.
-use Rattle.std.proofs.Common.{◌≡◌, ◌≢◌, ℕ, zero, suc, Bool, false, cond, List, [], ◌∷◌, ◌++◌, length, Some, None, refl, sym, ap, ◌∙◌, subst, arith, ne_eqb, eq-eqb}
+use Rattle.std.proofs.Common.{◌≡◌, ◌≢◌, ℕ, zero, suc, Bool, false, cond, List, [], ◌∷◌, ◌++◌, length, Some, None, refl}
+use Rattle.std.proofs.Common.{sym, ap, ◌∙◌, subst, arith, ne_eqb, eq-eqb}
 use Rattle.std.specs.Prelude.{Contains, AllPairs, option_to_list, slice_get}
 use Rattle.std.specs.Cmp.{IsEquivalence}
 use Rattle.std.specs.List.{IsDistinct, AllByRecursion}
@@ -30,11 +31,13 @@ last_at (x ∷ []) = refl
 last_at (x ∷ y ∷ ys) = last_at (y ∷ ys)
 
 -- the bucket after the one at a place is that at the next
-pub after_at : (order : List ℕ) (i b : ℕ) → AllPairs ◌≢◌ order → slice_get order i ≡ Some b → bucket_after b order ≡ slice_get order (suc i)
+pub after_at : (order : List ℕ) (i b : ℕ) → AllPairs ◌≢◌ order → slice_get order i ≡ Some b → bucket_after b order
+    ≡ slice_get order (suc i)
 after_at [] i b d e = absurd (none-some b e)
 after_at (c ∷ cs) zero b d e = rw (eq-eqb c b (same_Some c b e)) (first_at cs)
 after_at (c ∷ cs) (suc i) b d e =
-    rw (ne_eqb c b (λ same. distinct_head c cs d (subst (Contains cs) (sym same) (got_in cs i b e)))) (after_at cs i b (distinct_tail c cs d) e)
+    rw (ne_eqb c b (λ same. distinct_head c cs d (subst (Contains cs) (sym same) (got_in cs i b e))))
+        (after_at cs i b (distinct_tail c cs d) e)
 
 before_none : (b : ℕ) (order : List ℕ) → (Contains order b → ⊥) → bucket_before b order ≡ None
 before_none b [] absent = refl
@@ -44,27 +47,33 @@ before_none b (c ∷ x ∷ xs) absent =
     (before_none b (x ∷ xs) (λ w. absent (Contains-later c b (x ∷ xs) w)))
 
 -- and the one before it that at the place before
-pub before_at : (order : List ℕ) (i b : ℕ) → AllPairs ◌≢◌ order → slice_get order i ≡ Some b → bucket_before b order ≡ last_of i order
+pub before_at : (order : List ℕ) (i b : ℕ) → AllPairs ◌≢◌ order → slice_get order i ≡ Some b → bucket_before b order
+    ≡ last_of i order
 before_at [] i b d e = absurd (none-some b e)
 before_at (c ∷ []) zero b d e = refl
 before_at (c ∷ []) (suc i) b d e = absurd (none-some b e)
 before_at (c ∷ x ∷ xs) zero b d e =
-    let absent : Contains (x ∷ xs) b → ⊥ = λ w. distinct_head c (x ∷ xs) d (subst (Contains (x ∷ xs)) (sym (same_Some c b e)) w) in
-    rw (ne_eqb x b (λ same. absent (subst (Contains (x ∷ xs)) same (Contains-here x xs)))) (before_none b (x ∷ xs) absent)
+    let absent : Contains (x ∷ xs) b → ⊥ = λ w. distinct_head c (x ∷ xs) d
+        (subst (Contains (x ∷ xs)) (sym (same_Some c b e)) w) in
+    rw (ne_eqb x b (λ same. absent (subst (Contains (x ∷ xs)) same (Contains-here x xs))))
+        (before_none b (x ∷ xs) absent)
 before_at (c ∷ x ∷ xs) (suc zero) b d e = rw (eq-eqb x b (same_Some x b e)) refl
 before_at (c ∷ x ∷ xs) (suc (suc i)) b d e =
-    rw (ne_eqb x b (λ same. distinct_head x xs (distinct_tail c (x ∷ xs) d) (subst (Contains xs) (sym same) (got_in xs i b e))))
+    rw (ne_eqb x b (λ same. distinct_head x xs (distinct_tail c (x ∷ xs) d)
+        (subst (Contains xs) (sym same) (got_in xs i b e))))
     (before_at (x ∷ xs) (suc i) b (distinct_tail c (x ∷ xs) d) e)
 
 -- the pair of the bucket at a place is at that place of the pairs
-pub pair_at : {T : Type 0} (slots : List (Slot T)) (order : List ℕ) (i b : ℕ) (x : T) → AreFull slots order → slice_get order i ≡ Some b → entry_at slots b ≡ Some x
+pub pair_at : {T : Type 0} (slots : List (Slot T)) (order : List ℕ) (i b : ℕ) (x : T) → AreFull slots order
+    → slice_get order i ≡ Some b → entry_at slots b ≡ Some x
     → slice_get (entries_in slots order) i ≡ Some x
 pair_at slots [] i b x full e there = absurd (none-some b e)
 pair_at slots (c ∷ cs) zero b x full e there =
     ap (λ o. slice_get (option_to_list o ++ entries_in slots cs) 0) (ap (entry_at slots) (same_Some c b e) ∙ there)
 pair_at slots (c ∷ cs) (suc i) b x full e there =
     let first = entry_by_full (bucket_at slots c) full.0 in
-    ap (λ o. slice_get (option_to_list o ++ entries_in slots cs) (suc i)) first.1 ∙ pair_at slots cs i b x full.1 e there
+    ap (λ o. slice_get (option_to_list o ++ entries_in slots cs) (suc i)) first.1
+        ∙ pair_at slots cs i b x full.1 e there
 
 -- a value is written at the place of the key
 module _ {K V : Type 0} {eq : K → K → Bool} (laws : IsEquivalence eq) (p : K × V) (w : V) where
@@ -73,11 +82,14 @@ module _ {K V : Type 0} {eq : K → K → Bool} (laws : IsEquivalence eq) (p : K
   met P (x ∷ xs) zero e h = subst (λ q. P q.0) (same_Some x p e) h.0
   met P (x ∷ xs) (suc i) e h = met P xs i e h.1
 
-  pub at_set : (xs : List (K × V)) (i : ℕ) → AreDistinct eq xs → slice_get xs i ≡ Some p → set_value (eq p.0) xs w ≡ set_value_at xs i w
+  pub at_set : (xs : List (K × V)) (i : ℕ) → AreDistinct eq xs → slice_get xs i ≡ Some p → set_value (eq p.0) xs w
+      ≡ set_value_at xs i w
   unfolding IsDistinct
   at_set [] i d e = absurd (none-some p e)
   at_set (x ∷ xs) zero d e =
-      ap (λ t. cond t ((x.0, w) ∷ xs) (x ∷ set_value (eq p.0) xs w)) (ap (λ q. eq p.0 q.0) (same_Some x p e) ∙ laws.refl p.0)
+      ap (λ t. cond t ((x.0, w) ∷ xs) (x ∷ set_value (eq p.0) xs w)) (ap (λ q. eq p.0 q.0) (same_Some x p e)
+          ∙ laws.refl p.0)
   at_set (x ∷ xs) (suc i) d e =
-      ap (λ t. cond t ((x.0, w) ∷ xs) (x ∷ set_value (eq p.0) xs w)) (laws.symm p.0 x.0 ∙ met (λ k. eq x.0 k ≡ false) xs i e d.0)
+      ap (λ t. cond t ((x.0, w) ∷ xs) (x ∷ set_value (eq p.0) xs w))
+          (laws.symm p.0 x.0 ∙ met (λ k. eq x.0 k ≡ false) xs i e d.0)
       ∙ ap (λ l. x ∷ l) (at_set xs i d.1 e)

@@ -1,5 +1,6 @@
 -- What a search of the linked table says of the pairs.
-use Rattle.std.proofs.Common.{◌≡◌, ℕ, Bool, true, false, cond, List, [], ◌∷◌, Some, None, option_map, refl, sym, ap, ◌∙◌}
+use Rattle.std.proofs.Common.{◌≡◌, ℕ, Bool, true, false, cond, List, [], ◌∷◌, Some, None, option_map, refl, sym, ap}
+use Rattle.std.proofs.Common.{◌∙◌}
 use Rattle.group_table.specs.Bucket.{entry_at}
 use Rattle.schnellru.specs.Lists.{lookup, lookup_entry}
 use Rattle.schnellru.specs.Inside.Linked.{Linked, IsLinked, pairs_of}
@@ -7,7 +8,8 @@ use Rattle.schnellru.proofs.PairLists.NamedPairs.{lookup-entry}
 use Rattle.schnellru.proofs.LinkedTables.BucketPairs.{none_named}
 
 -- tests that agree find the same pair
-pub lookup_alike : {K V : Type 0} (names others : K → Bool) → ((k : K) → names k ≡ others k) → (xs : List (K × V)) → lookup_entry names xs ≡ lookup_entry others xs
+pub lookup_alike : {K V : Type 0} (names others : K → Bool) → ((k : K) → names k ≡ others k) → (xs : List (K × V))
+    → lookup_entry names xs ≡ lookup_entry others xs
 lookup_alike names others same [] = refl
 lookup_alike names others same (x ∷ xs) = (λ i. cond (same x.0 i) (Some x) (lookup_alike names others same xs i))
 

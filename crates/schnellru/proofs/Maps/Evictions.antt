@@ -1,12 +1,16 @@
 -- Which pairs a placing gives up.
-use Rattle.std.proofs.Common.{◌≡◌, ◌≢◌, ℕ, suc, ◌+◌, ◌-◌, ◌/◌, ◌<◌, ◌≤◌, ◌⊎◌, inl, inr, true, false, [], ◌∷◌, length, refl, sym, ap, ◌∙◌, arith}
+use Rattle.std.proofs.Common.{◌≡◌, ◌≢◌, ℕ, suc, ◌+◌, ◌-◌, ◌/◌, ◌<◌, ◌≤◌, ◌⊎◌, inl, inr, true, false, [], ◌∷◌, length}
+use Rattle.std.proofs.Common.{refl, sym, ap, ◌∙◌, arith}
 use Rattle.group_table.specs.Sizes.{full_capacity}
 use Rattle.lru_limits.specs.Rules.{Rules}
 use Rattle.schnellru.specs.Lists.{without_last}
 use Rattle.schnellru.specs.State.{State, buckets, room, contents, Leaves, pops}
 use Rattle.schnellru.specs.Sizes.{no_table, new_table}
-use Rattle.schnellru.specs.Place.{Place, first_table, first_denied, first_too_large, empty_with_room, empty_without_room, with_room, deleted_bucket, rehashed, grown, evicting, finds_bucket, made_anew}
-use Rattle.schnellru.specs.Place.{CannotGrow, no_target, denied, Outcome, placed, refused, no_memory, IsPlaced, IsPlacedIfMemory, Grants, asked, table_for, LacksRoom, OldestLeave}
+use Rattle.schnellru.specs.Place.{Place, first_table, first_denied, first_too_large, empty_with_room}
+use Rattle.schnellru.specs.Place.{empty_without_room, with_room, deleted_bucket, rehashed, grown, evicting}
+use Rattle.schnellru.specs.Place.{finds_bucket, made_anew}
+use Rattle.schnellru.specs.Place.{CannotGrow, no_target, denied, Outcome, placed, refused, no_memory, IsPlaced}
+use Rattle.schnellru.specs.Place.{IsPlacedIfMemory, Grants, asked, table_for, LacksRoom, OldestLeave}
 use Rattle.schnellru.specs.Theorems.{IsRefusedGrowth}
 use Rattle.schnellru.proofs.Maps.Outcomes.{placed-not_no_memory, refused-not_no_memory, refused-not_placed}
 use Rattle.schnellru.proofs.Maps.LeavingPairs.{length-pops, known_is, oldest_leaves}
@@ -24,12 +28,14 @@ module _ {K V S H : Type 0} (rules : Rules K V S) (hash_of : H → K → ℕ) (p
     pub pairs : new.pairs ≡ pair ∷ old.pairs
     pub large : IsRefusedGrowth rules old → 16 < buckets old
 
-  pub placed_if : (st new : State K V S H) (count spare moves : ℕ) (outcome : Outcome) → outcome ≡ placed → IsPlacedIfMemory rules pair count spare moves st outcome new → IsPlaced pair count spare moves st new
+  pub placed_if : (st new : State K V S H) (count spare moves : ℕ) (outcome : Outcome) → outcome ≡ placed
+      → IsPlacedIfMemory rules pair count spare moves st outcome new → IsPlaced pair count spare moves st new
   placed_if st new count spare moves placed o h = h
   placed_if st new count spare moves no_memory o h = placed-not_no_memory (sym o)
   placed_if st new count spare moves refused o h = absurd h
 
-  left_if : (st new : State K V S H) (count spare moves : ℕ) (outcome : Outcome) → outcome ≡ no_memory → IsPlacedIfMemory rules pair count spare moves st outcome new → new.pairs ≡ st.pairs
+  left_if : (st new : State K V S H) (count spare moves : ℕ) (outcome : Outcome) → outcome ≡ no_memory
+      → IsPlacedIfMemory rules pair count spare moves st outcome new → new.pairs ≡ st.pairs
   left_if st new count spare moves placed o h = placed-not_no_memory o
   left_if st new count spare moves no_memory o h = ap (λ x. x.pairs) h
   left_if st new count spare moves refused o h = absurd h
@@ -39,12 +45,14 @@ module _ {K V S H : Type 0} (rules : Rules K V S) (hash_of : H → K → ℕ) (p
   with_pairs e r = absurd (omega (arith, ap length e, r.lacks_room.0))
 
   -- what the limiter grants is not refused
-  not_granted : {A : Type 0} (count bytes : ℕ) → table_for 1 old ≡ new_table count bytes → Grants rules bytes old → (mid : State K V S H) → CannotGrow rules old mid → A
+  not_granted : {A : Type 0} (count bytes : ℕ) → table_for 1 old ≡ new_table count bytes → Grants rules bytes old
+      → (mid : State K V S H) → CannotGrow rules old mid → A
   not_granted count bytes t g mid (no_target u e) = absurd (no (sym t ∙ u))
     where
       no : new_table count bytes ≡ no_table → ⊥
       no h = grind arith
-  not_granted count bytes t g mid (denied count' bytes' u d e) = absurd (no (sym g ∙ ap (λ n. (rules.on_grow old.limiter n).allowed) (same (sym t ∙ u)) ∙ d))
+  not_granted count bytes t g mid (denied count' bytes' u d e) = absurd
+      (no (sym g ∙ ap (λ n. (rules.on_grow old.limiter n).allowed) (same (sym t ∙ u)) ∙ d))
     where
       same : new_table count bytes ≡ new_table count' bytes' → bytes ≡ bytes'
       same h = grind arith
@@ -53,15 +61,19 @@ module _ {K V S H : Type 0} (rules : Rules K V S) (hash_of : H → K → ℕ) (p
       no h = grind arith
 
   -- after so many of the oldest left, so many are left
-  pub left_length : (n : ℕ) (mid left : State K V S H) → CannotGrow rules old mid → OldestLeave rules (hash_of old.hasher pair.0) n mid left
+  pub left_length : (n : ℕ) (mid left : State K V S H) → CannotGrow rules old mid
+      → OldestLeave rules (hash_of old.hasher pair.0) n mid left
       → length left.pairs ≡ length old.pairs - n
   left_length n mid left c gone = let gone = oldest_leaves rules _ n mid left gone in
-      ap (λ st. length st.pairs) gone.is ∙ length-pops rules n (contents mid) ∙ ap (λ st. length st.pairs - n) (known_is rules old mid c)
+      ap (λ st. length st.pairs) gone.is ∙ length-pops rules n (contents mid)
+          ∙ ap (λ st. length st.pairs - n) (known_is rules old mid c)
 
   -- growth is refused, so many of the oldest leave, and the pair is placed beside the others
-  gives_way : LacksRoom old → full_capacity (buckets old) / 2 < length old.pairs + 1 → (mid : State K V S H) → CannotGrow rules old mid → (n : ℕ) → (buckets old ≤ 16 → n ≡ 1)
+  gives_way : LacksRoom old → full_capacity (buckets old) / 2 < length old.pairs + 1 → (mid : State K V S H)
+      → CannotGrow rules old mid → (n : ℕ) → (buckets old ≤ 16 → n ≡ 1)
       → (left : State K V S H) → OldestLeave rules (hash_of old.hasher pair.0) n mid left → (new : State K V S H)
-      → (length left.pairs ≡ length old.pairs - n → full_capacity (buckets old) / 2 ≤ suc (length left.pairs)) → new.pairs ≡ pair ∷ left.pairs → buckets new ≡ buckets old
+      → (length left.pairs ≡ length old.pairs - n → full_capacity (buckets old) / 2 ≤ suc (length left.pairs))
+          → new.pairs ≡ pair ∷ left.pairs → buckets new ≡ buckets old
       → KeepsAll new ⊎ (IsRefusedGrowth rules old × GivesWay new)
   gives_way f l mid c n one left gone new half there same = inr (
     record { lacks_room = f; above_half = l; known = mid; refused = c },
@@ -76,26 +88,39 @@ module _ {K V S H : Type 0} (rules : Rules K V S) (hash_of : H → K → ℕ) (p
   )
 
   -- a pair is placed beside all others, or growth is refused and the oldest give way
-  pub place_keeps : (outcome : Outcome) (new : State K V S H) → outcome ≡ placed → Place rules hash_of pair old outcome new → KeepsAll new ⊎ (IsRefusedGrowth rules old × GivesWay new)
-  place_keeps outcome new q (first_table e b bytes u g m) = inl (record { pairs = ap (λ st. st.pairs) (placed_if (asked rules bytes old) new _ _ _ outcome q m).state; large = with_pairs e })
+  pub place_keeps : (outcome : Outcome) (new : State K V S H) → outcome ≡ placed
+      → Place rules hash_of pair old outcome new → KeepsAll new ⊎ (IsRefusedGrowth rules old × GivesWay new)
+  place_keeps outcome new q (first_table e b bytes u g m) = inl
+      (record { pairs = ap (λ st. st.pairs) (placed_if (asked rules bytes old) new _ _ _ outcome q m).state; large =
+      with_pairs e })
   place_keeps outcome new q (first_denied e b bytes u d o n) = refused-not_placed (sym o ∙ q)
   place_keeps outcome new q (first_too_large e b u o n) = refused-not_placed (sym o ∙ q)
-  place_keeps outcome new q (empty_with_room e b r s o n) = inl (record { pairs = ap (λ st. st.pairs) n.state; large = with_pairs e })
-  place_keeps outcome new q (empty_without_room e b r o n) = inl (record { pairs = ap (λ st. st.pairs) n.state; large = with_pairs e })
-  place_keeps outcome new q (with_room e r s o n) = inl (record { pairs = ap (λ st. st.pairs) n.state; large = λ refusal. absurd (omega (arith, r, refusal.lacks_room.1)) })
-  place_keeps outcome new q (deleted_bucket f i b l o n) = inl (record { pairs = ap (λ st. st.pairs) n.state; large = λ refusal. b })
+  place_keeps outcome new q (empty_with_room e b r s o n) = inl
+      (record { pairs = ap (λ st. st.pairs) n.state; large = with_pairs e })
+  place_keeps outcome new q (empty_without_room e b r o n) = inl
+      (record { pairs = ap (λ st. st.pairs) n.state; large = with_pairs e })
+  place_keeps outcome new q (with_room e r s o n) = inl
+      (record { pairs = ap (λ st. st.pairs) n.state; large = λ refusal. absurd
+      (omega (arith, r, refusal.lacks_room.1)) })
+  place_keeps outcome new q (deleted_bucket f i b l o n) = inl
+      (record { pairs = ap (λ st. st.pairs) n.state; large = λ refusal. b })
   place_keeps outcome new q (rehashed f i l m) =
-      inl (record { pairs = ap (λ st. st.pairs) (placed_if old new _ _ _ outcome q m).state; large = λ refusal. absurd (omega (arith, l, refusal.above_half)) })
+      inl (record { pairs = ap (λ st. st.pairs) (placed_if old new _ _ _ outcome q m).state; large = λ refusal. absurd
+          (omega (arith, l, refusal.above_half)) })
   place_keeps outcome new q (grown f i l count bytes t g m) =
-      inl (record { pairs = ap (λ st. st.pairs) (placed_if (asked rules bytes old) new _ _ _ outcome q m).state; large = λ refusal. not_granted count bytes t g refusal.known refusal.refused })
+      inl (record { pairs = ap (λ st. st.pairs) (placed_if (asked rules bytes old) new _ _ _ outcome q m).state;
+          large = λ refusal. not_granted count bytes t g refusal.known refusal.refused })
   place_keeps outcome new q (evicting f i l mid c (finds_bucket n pos one half left gone fills o p)) =
-      gives_way f l mid c n one left gone new (λ taken. omega (arith, half, taken)) (ap (λ st. st.pairs) p.state) p.table
+      gives_way f l mid c n one left gone new (λ taken. omega (arith, half, taken))
+          (ap (λ st. st.pairs) p.state) p.table
   place_keeps outcome new q (evicting f i l mid c (made_anew n pos one half left gone m)) =
       let p = placed_if left new _ _ _ outcome q m in
-      gives_way f l mid c n one left gone new (λ taken. omega (arith, half, taken)) (ap (λ st. st.pairs) p.state) p.table
+      gives_way f l mid c n one left gone new (λ taken. omega (arith, half, taken))
+          (ap (λ st. st.pairs) p.state) p.table
 
   -- where memory lacks after that, one fewer than half are left at the least
-  pub place_lacks_half : IsRefusedGrowth rules old → (outcome : Outcome) (new : State K V S H) → outcome ≡ no_memory → Place rules hash_of pair old outcome new
+  pub place_lacks_half : IsRefusedGrowth rules old → (outcome : Outcome) (new : State K V S H) → outcome ≡ no_memory
+      → Place rules hash_of pair old outcome new
       → full_capacity (buckets old) / 2 ≤ length new.pairs + 1
   place_lacks_half refusal outcome new q (first_table e b bytes u g m) = with_pairs e refusal
   place_lacks_half refusal outcome new q (first_denied e b bytes u d o n) = refused-not_no_memory (sym o ∙ q)
@@ -105,14 +130,18 @@ module _ {K V S H : Type 0} (rules : Rules K V S) (hash_of : H → K → ℕ) (p
   place_lacks_half refusal outcome new q (with_room e r s o n) = placed-not_no_memory (sym o ∙ q)
   place_lacks_half refusal outcome new q (deleted_bucket f i b l o n) = placed-not_no_memory (sym o ∙ q)
   place_lacks_half refusal outcome new q (rehashed f i l m) = absurd (omega (arith, l, refusal.above_half))
-  place_lacks_half refusal outcome new q (grown f i l count bytes t g m) = not_granted count bytes t g refusal.known refusal.refused
-  place_lacks_half refusal outcome new q (evicting f i l mid c (finds_bucket n pos one half left gone fills o p)) = placed-not_no_memory (sym o ∙ q)
+  place_lacks_half refusal outcome new q (grown f i l count bytes t g m) =
+      not_granted count bytes t g refusal.known refusal.refused
+  place_lacks_half refusal outcome new q (evicting f i l mid c (finds_bucket n pos one half left gone fills o p)) =
+      placed-not_no_memory (sym o ∙ q)
   place_lacks_half refusal outcome new q (evicting f i l mid c (made_anew n pos one half left gone m)) =
       omega (arith, ap length (left_if left new _ _ _ outcome q m), left_length n mid left c gone, half)
 
   -- where memory lacks, all pairs are left, or growth was refused
-  pub place_lacks_keeps : (outcome : Outcome) (new : State K V S H) → outcome ≡ no_memory → Place rules hash_of pair old outcome new → (new.pairs ≡ old.pairs) ⊎ IsRefusedGrowth rules old
-  place_lacks_keeps outcome new q (first_table e b bytes u g m) = inl (left_if (asked rules bytes old) new _ _ _ outcome q m)
+  pub place_lacks_keeps : (outcome : Outcome) (new : State K V S H) → outcome ≡ no_memory
+      → Place rules hash_of pair old outcome new → (new.pairs ≡ old.pairs) ⊎ IsRefusedGrowth rules old
+  place_lacks_keeps outcome new q (first_table e b bytes u g m) = inl
+      (left_if (asked rules bytes old) new _ _ _ outcome q m)
   place_lacks_keeps outcome new q (first_denied e b bytes u d o n) = refused-not_no_memory (sym o ∙ q)
   place_lacks_keeps outcome new q (first_too_large e b u o n) = refused-not_no_memory (sym o ∙ q)
   place_lacks_keeps outcome new q (empty_with_room e b r s o n) = placed-not_no_memory (sym o ∙ q)
@@ -120,9 +149,12 @@ module _ {K V S H : Type 0} (rules : Rules K V S) (hash_of : H → K → ℕ) (p
   place_lacks_keeps outcome new q (with_room e r s o n) = placed-not_no_memory (sym o ∙ q)
   place_lacks_keeps outcome new q (deleted_bucket f i b l o n) = placed-not_no_memory (sym o ∙ q)
   place_lacks_keeps outcome new q (rehashed f i l m) = inl (left_if old new _ _ _ outcome q m)
-  place_lacks_keeps outcome new q (grown f i l count bytes t g m) = inl (left_if (asked rules bytes old) new _ _ _ outcome q m)
-  place_lacks_keeps outcome new q (evicting f i l mid c (finds_bucket n pos one half left gone fills o p)) = placed-not_no_memory (sym o ∙ q)
-  place_lacks_keeps outcome new q (evicting f i l mid c (made_anew n pos one half left gone m)) = inr (record { lacks_room = f; above_half = l; known = mid; refused = c })
+  place_lacks_keeps outcome new q (grown f i l count bytes t g m) = inl
+      (left_if (asked rules bytes old) new _ _ _ outcome q m)
+  place_lacks_keeps outcome new q (evicting f i l mid c (finds_bucket n pos one half left gone fills o p)) =
+      placed-not_no_memory (sym o ∙ q)
+  place_lacks_keeps outcome new q (evicting f i l mid c (made_anew n pos one half left gone m)) = inr
+      (record { lacks_room = f; above_half = l; known = mid; refused = c })
 
   module _ (new : State K V S H) (step : Place rules hash_of pair old placed new) where
     pub refused_half : IsRefusedGrowth rules old → full_capacity (buckets old) / 2 ≤ length new.pairs
@@ -138,7 +170,8 @@ module _ {K V S H : Type 0} (rules : Rules K V S) (hash_of : H → K → ℕ) (p
     ]
 
     pub grown_keeps : buckets new ≢ buckets old → new.pairs ≡ pair ∷ old.pairs
-    grown_keeps other = elim (place_keeps placed new refl step) [ inl k ↦ k.pairs | inr w ↦ absurd (other w.1.same_table) ]
+    grown_keeps other = elim (place_keeps placed new refl step) [ inl k ↦ k.pairs | inr w ↦ absurd
+        (other w.1.same_table) ]
 
     pub made_anew_keeps : length old.pairs + 1 ≤ full_capacity (buckets old) / 2 → new.pairs ≡ pair ∷ old.pairs
     made_anew_keeps few = elim (place_keeps placed new refl step) [
@@ -150,7 +183,9 @@ module _ {K V S H : Type 0} (rules : Rules K V S) (hash_of : H → K → ℕ) (p
     keeps_or_refused = elim (place_keeps placed new refl step) [ inl k ↦ inl k.pairs | inr w ↦ inr w.0 ]
 
 -- in a table of up to 16 buckets, one that leaves makes room
-pub room_after : {K V S H : Type 0} (rules : Rules K V S) (n : ℕ) (mid left : State K V S H) → Leaves mid (pops rules n (contents mid)) left
+pub room_after : {K V S H : Type 0} (rules : Rules K V S) (n : ℕ) (mid left : State K V S H)
+    → Leaves mid (pops rules n (contents mid)) left
     → buckets mid ≤ 16 → n ≤ length mid.pairs → room mid ≡ 0 → room left ≡ 0 → n ≡ 0
 room_after rules n mid left step small enough none still =
-    omega (arith, step.room.exact small, none, still, ap (λ st. length st.pairs) step.is, length-pops rules n (contents mid), enough)
+    omega (arith, step.room.exact small, none, still, ap (λ st. length st.pairs) step.is, length-pops rules n
+        (contents mid), enough)

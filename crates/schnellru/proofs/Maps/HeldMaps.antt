@@ -1,5 +1,6 @@
 -- What holds of every map, from what holds of its linked table.
-use Rattle.std.proofs.Common.{◌≡◌, ℕ, suc, ◌+◌, ◌-◌, ◌*◌, ◌^◌, ◌<◌, ◌≤◌, ◌⊎◌, Bool, true, false, cond, List, length, Some, sym, ap, ◌∙◌, subst, arith}
+use Rattle.std.proofs.Common.{◌≡◌, ℕ, suc, ◌+◌, ◌-◌, ◌*◌, ◌^◌, ◌<◌, ◌≤◌, ◌⊎◌, Bool, true, false, cond, List, length}
+use Rattle.std.proofs.Common.{Some, sym, ap, ◌∙◌, subst, arith}
 use Rattle.group_table.specs.Sizes.{full_capacity}
 use Rattle.group_table.specs.Bucket.{Mark, marks_of, room, room_at, is_used, bucket_at}
 use Rattle.group_table.proofs.BucketLemmas.{length-marks_of, entry_count-marks_of}
@@ -19,7 +20,8 @@ module _ {K V S H : Type 0} (beside : Beside S H) where
     table = linked.table;
     taken = entry_count-marks_of t.slots ∙ linked.count ∙ sym (pairs-length t linked);
     reachable = subst (λ n. (n ≡ 0) ⊎ (n < beside.max)) (sym (length-marks_of t.slots)) reached;
-    usable = subst (λ n. (bytes : ℕ) × (usage beside.entry_bytes n ≡ Some bytes)) (sym (length-marks_of t.slots)) usable;
+    usable = subst (λ n. (bytes : ℕ) × (usage beside.entry_bytes n ≡ Some bytes))
+        (sym (length-marks_of t.slots)) usable;
     moved = m;
     placed = p;
   }
@@ -68,7 +70,8 @@ module _ {K V : Type 0} (old new : Linked K V) (b : ℕ) (first : IsLinked old) 
 
 module _ {K V S H : Type 0} (beside : Beside S H) where
   -- a table of as many buckets is as usable
-  pub sized_same : (t u : Linked K V) (l : S) → IsSized (state_of t beside) → IsLinked u → length u.slots ≡ length t.slots
+  pub sized_same : (t u : Linked K V) (l : S) → IsSized (state_of t beside) → IsLinked u → length u.slots
+      ≡ length t.slots
       → IsSized (state_of u (record beside { limiter = l }))
   sized_same t u l sized linked same =
       let e : length (marks_of t.slots) ≡ length u.slots = length-marks_of t.slots ∙ sym same in
@@ -77,7 +80,8 @@ module _ {K V S H : Type 0} (beside : Beside S H) where
 
   -- what holds of a map holds after some pairs left
   pub leaves_holds : (eq : K → K → Bool) (hash_of : H → K → ℕ) (t u : Linked K V) (left : Contents K V S) (l : S)
-      → Holds eq hash_of t beside → IsLinked u → KeysFit (hash_of beside.hasher) u.slots → length u.slots ≡ length t.slots
+      → Holds eq hash_of t beside → IsLinked u → KeysFit (hash_of beside.hasher) u.slots → length u.slots
+          ≡ length t.slots
       → Leaves (state_of t beside) left (state_of u (record beside { limiter = l })) → AreDistinct eq (pairs_of u)
       → Holds eq hash_of u (record beside { limiter = l })
   leaves_holds eq hash_of t u left l holds linked fits same leaves distinct = record {
@@ -92,8 +96,10 @@ module _ {K V S H : Type 0} (beside : Beside S H) where
 
 -- what holds of a map holds with pairs of distinct keys that fit in the same buckets, under another limiter and hasher
 module _ {K V S H : Type 0} (eq : K → K → Bool) (hash_of : H → K → ℕ) (beside : Beside S H) (t u : Linked K V) where
-  pub copied_holds : (limiter : S) (hasher : H) → Holds eq hash_of t beside → IsLinked u → KeysFit (hash_of hasher) u.slots
-      → marks_of u.slots ≡ marks_of t.slots → AreDistinct eq (pairs_of u) → Holds eq hash_of u (record beside { limiter = limiter; hasher = hasher })
+  pub copied_holds : (limiter : S) (hasher : H) → Holds eq hash_of t beside → IsLinked u
+      → KeysFit (hash_of hasher) u.slots
+      → marks_of u.slots ≡ marks_of t.slots → AreDistinct eq (pairs_of u)
+          → Holds eq hash_of u (record beside { limiter = limiter; hasher = hasher })
   copied_holds limiter hasher holds linked fits marks distinct =
       let same : length (marks_of t.slots) ≡ length u.slots = sym (ap length marks) ∙ length-marks_of u.slots in
       let sized = holds.map.sized in
@@ -102,9 +108,12 @@ module _ {K V S H : Type 0} (eq : K → K → Bool) (hash_of : H → K → ℕ) 
         fits = fits;
         map = record {
           distinct = distinct;
-          sized = sized_by (record beside { limiter = limiter; hasher = hasher }) u linked (subst (λ n. (n ≡ 0) ⊎ (n < beside.max)) same sized.reachable)
-              (subst (λ n. (bytes : ℕ) × (usage beside.entry_bytes n ≡ Some bytes)) same sized.usable) sized.moved sized.placed;
-          paid = subst (λ m. beside.moved + (full_capacity (length m) - 2 * room m) ≤ 2 * beside.placed) (sym marks) holds.map.paid;
+          sized = sized_by (record beside { limiter = limiter; hasher = hasher }) u linked
+              (subst (λ n. (n ≡ 0) ⊎ (n < beside.max)) same sized.reachable)
+              (subst (λ n. (bytes : ℕ) × (usage beside.entry_bytes n ≡ Some bytes)) same sized.usable) sized.moved
+                  sized.placed;
+          paid = subst (λ m. beside.moved + (full_capacity (length m) - 2 * room m) ≤ 2 * beside.placed)
+              (sym marks) holds.map.paid;
         };
       }
 

@@ -18,7 +18,8 @@ ok-not_err (Ok b) h k = absurd (grind (arith, k))
 ok-not_err (Err e) h k = absurd (grind (arith, h))
 
 -- what holds of a value that is there, and leads to more
-pub if_ok : {T E : Type 0} (result : Result T E) (P Q : T → Type 0) → ((v : T) → P v → Q v) → IfOk result P → IfOk result Q
+pub if_ok : {T E : Type 0} (result : Result T E) (P Q : T → Type 0) → ((v : T) → P v → Q v) → IfOk result P
+    → IfOk result Q
 if_ok (Ok v) P Q more h = more v h
 if_ok (Err e) P Q more h = h
 

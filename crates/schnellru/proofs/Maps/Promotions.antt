@@ -20,7 +20,8 @@ module _ {K V : Type 0} (names : K → Bool) where
 
 module _ {K V S H : Type 0} (st : State K V S H) where
   -- a table is as sound with as many pairs
-  sized_with : (pairs : List (K × V)) (places : List ℕ) → length pairs ≡ length st.pairs → IsSized st → IsSized (record st { pairs = pairs; places = places })
+  sized_with : (pairs : List (K × V)) (places : List ℕ) → length pairs ≡ length st.pairs → IsSized st
+      → IsSized (record st { pairs = pairs; places = places })
   sized_with pairs places same ok = record {
     table = ok.table;
     taken = ok.taken ∙ sym same;
@@ -33,7 +34,8 @@ module _ {K V S H : Type 0} (st : State K V S H) where
   pub promoted_sized : (names : K → Bool) → IsSized st → IsSized (promoted names st)
   promoted_sized names ok = sized_with _ _ (length-front_pairs names st.pairs) ok
 
-  pub written_is_map : (names : K → Bool) (value : V) {eq : K → K → Bool} → IsMap eq st → IsMap eq (written names value st)
+  pub written_is_map : (names : K → Bool) (value : V) {eq : K → K → Bool} → IsMap eq st
+      → IsMap eq (written names value st)
   written_is_map names value {eq} ok = record {
     distinct = subst (IsDistinct eq) (sym (keys-set_value names st.pairs value)) ok.distinct;
     sized = sized_with _ _ (length-set_value names st.pairs value) ok.sized;
@@ -41,7 +43,8 @@ module _ {K V S H : Type 0} (st : State K V S H) where
   }
 
 module _ {K V S H Q : Type 0} {names : Q → K → Bool} {eq : K → K → Bool} {query_input : Q → List (List ℕ)}
-    {key_input : K → List (List ℕ)} (looks_up : IsLookup names eq query_input key_input) (q : Q) (old : State K V S H) where
+    {key_input : K → List (List ℕ)} (looks_up : IsLookup names eq query_input key_input) (q : Q)
+        (old : State K V S H) where
   pub promoted_is_map : IsMap eq old → IsMap eq (promoted (names q) old)
   promoted_is_map ok = record {
     distinct = distinct_first eq (names q) (looks_up.one q) old.pairs ok.distinct;
@@ -49,12 +52,15 @@ module _ {K V S H Q : Type 0} {names : Q → K → Bool} {eq : K → K → Bool}
     paid = ok.paid;
   }
 
-  pub get_is_map : (result : Option V) (new : State K V S H) → Get (names q) old result new → IsMap eq old → IsMap eq new
-  get_is_map result new (found value left there r e) ok = rw e (written_is_map (promoted (names q) old) (names q) left (promoted_is_map ok))
+  pub get_is_map : (result : Option V) (new : State K V S H) → Get (names q) old result new → IsMap eq old
+      → IsMap eq new
+  get_is_map result new (found value left there r e) ok = rw e
+      (written_is_map (promoted (names q) old) (names q) left (promoted_is_map ok))
   get_is_map result new (absent none r e) ok = rw e ok
 
 -- so it is for the keys that equal one
-pub equal_is_map : {K V S H : Type 0} {eq : K → K → Bool} → IsEquivalence eq → (key : K) (old : State K V S H) → IsMap eq old
+pub equal_is_map : {K V S H : Type 0} {eq : K → K → Bool} → IsEquivalence eq → (key : K) (old : State K V S H)
+    → IsMap eq old
     → IsMap eq (promoted (eq key) old)
 equal_is_map {K} {eq} laws key old ok = promoted_is_map {names = eq} {query_input = λ k. []} {key_input = λ k. []}
     (record { writes = λ q k h. refl; one = laws.congr }) key old ok

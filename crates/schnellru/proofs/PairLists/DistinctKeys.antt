@@ -1,5 +1,6 @@
 -- The keys of the pairs stay distinct, and a pair is found if its key is named.
-use Rattle.std.proofs.Common.{◌≡◌, ℕ, Bool, true, false, cond, List, [], ◌∷◌, ◌++◌, length, Option, Some, None, refl, sym, ◌∙◌, subst}
+use Rattle.std.proofs.Common.{◌≡◌, ℕ, Bool, true, false, cond, List, [], ◌∷◌, ◌++◌, length, Option, Some, None, refl}
+use Rattle.std.proofs.Common.{sym, ◌∙◌, subst}
 use Rattle.std.specs.Cmp.{IsEquivalence}
 use Rattle.std.specs.List.{IsDistinct, AllByRecursion, AllZip}
 use Rattle.lru_limits.specs.Rules.{Rules, Offers}
@@ -23,7 +24,8 @@ module _ {K V : Type 0} (names : K → Bool) where
   absent_keys [] h = tt
   absent_keys (x ∷ xs) h = go (names x.0) refl h (absent_keys xs)
     where
-      go : (y : Bool) → names x.0 ≡ y → cond y (Some x) (lookup_entry names xs) ≡ None → (lookup_entry names xs ≡ None → NoneNamed xs) → NoneNamed (x ∷ xs)
+      go : (y : Bool) → names x.0 ≡ y → cond y (Some x) (lookup_entry names xs) ≡ None
+          → (lookup_entry names xs ≡ None → NoneNamed xs) → NoneNamed (x ∷ xs)
       go true e h r = absurd cc
       go false e h r = (e, r h)
 
@@ -33,15 +35,18 @@ module _ {K V : Type 0} (P : K → Type 0) where
   all_front [] rest h = tt
   all_front (x ∷ xs) rest h = (h.0, all_front xs rest h.1)
 
-  all_without : (names : K → Bool) (xs : List (K × V)) → AllByRecursion P (keys_of xs) → AllByRecursion P (keys_of (without names xs))
+  all_without : (names : K → Bool) (xs : List (K × V)) → AllByRecursion P (keys_of xs)
+      → AllByRecursion P (keys_of (without names xs))
   all_without names [] h = tt
   all_without names (x ∷ xs) h = go (names x.0) (all_without names xs h.1)
     where
-      go : (b : Bool) → AllByRecursion P (keys_of (without names xs)) → AllByRecursion P (keys_of (cond b xs (x ∷ without names xs)))
+      go : (b : Bool) → AllByRecursion P (keys_of (without names xs))
+          → AllByRecursion P (keys_of (cond b xs (x ∷ without names xs)))
       go true r = h.1
       go false r = (h.0, r)
 
-all_map : {K : Type 0} (P Q : K → Type 0) (xs : List K) → ((x : K) → P x → Q x) → AllByRecursion P xs → AllByRecursion Q xs
+all_map : {K : Type 0} (P Q : K → Type 0) (xs : List K) → ((x : K) → P x → Q x) → AllByRecursion P xs
+    → AllByRecursion Q xs
 all_map P Q [] f h = tt
 all_map P Q (x ∷ xs) f h = (f x h.0, all_map P Q xs f h.1)
 
@@ -77,15 +82,18 @@ module _ {K V : Type 0} (eq : K → K → Bool) where
     others_unnamed [] d = tt
     others_unnamed (x ∷ xs) d = go (names x.0) refl (others_unnamed xs d.1)
       where
-        go : (b : Bool) → names x.0 ≡ b → NoneNamed names (without names xs) → NoneNamed names (cond b xs (x ∷ without names xs))
+        go : (b : Bool) → names x.0 ≡ b → NoneNamed names (without names xs)
+            → NoneNamed names (cond b xs (x ∷ without names xs))
         go true e r = all_map (λ y. eq x.0 y ≡ false) (λ y. names y ≡ false) (keys_of xs) (λ y h. one x.0 y e ∙ h) d.0
         go false e r = (e, r)
 
     -- so a named pair may come before them
-    pub distinct_newest : (newest : K × V) (xs : List (K × V)) → names newest.0 ≡ true → AreDistinct xs → AreDistinct (newest ∷ without names xs)
+    pub distinct_newest : (newest : K × V) (xs : List (K × V)) → names newest.0 ≡ true → AreDistinct xs
+        → AreDistinct (newest ∷ without names xs)
     unfolding IsDistinct
     distinct_newest newest xs n d =
-        (all_map (λ y. names y ≡ false) (λ y. eq newest.0 y ≡ false) (keys_of (without names xs)) (λ y h. sym (one newest.0 y n) ∙ h) (others_unnamed xs d), distinct_without names xs d)
+        (all_map (λ y. names y ≡ false) (λ y. eq newest.0 y ≡ false) (keys_of (without names xs))
+            (λ y h. sym (one newest.0 y n) ∙ h) (others_unnamed xs d), distinct_without names xs d)
 
     pub distinct_first : (xs : List (K × V)) → AreDistinct xs → AreDistinct (front names xs)
     distinct_first xs d = go (lookup_entry names xs) refl
@@ -98,7 +106,8 @@ module _ {K V : Type 0} (eq : K → K → Bool) where
     pub absent_without : (xs : List (K × V)) → AreDistinct xs → lookup_entry names (without names xs) ≡ None
     absent_without xs d = none_found names (without names xs) (others_unnamed xs d)
 
-module _ {K V S Q : Type 0} (rules : Rules K V S) (names : Q → K → Bool) {eq : K → K → Bool} {query_input : Q → List (List ℕ)} {key_input : K → List (List ℕ)}
+module _ {K V S Q : Type 0} (rules : Rules K V S) (names : Q → K → Bool) {eq : K → K → Bool} {query_input : Q
+    → List (List ℕ)} {key_input : K → List (List ℕ)}
     (looks_up : IsLookup names eq query_input key_input) where
   pub keeps_distinct : Keeps rules names (λ c d. AreDistinct eq c.pairs → AreDistinct eq d.pairs)
   keeps_distinct = record {
@@ -114,18 +123,25 @@ module _ {K V S Q : Type 0} (rules : Rules K V S) (names : Q → K → Bool) {eq
   }
 
 module _ {K V S I : Type 0} (rules : Rules K V S) (offers : Offers K V S I) (names : I → K → Bool) {eq : K → K → Bool}
-    {query_input : I → List (List ℕ)} {key_input : K → List (List ℕ)} (looks_up : IsLookup names eq query_input key_input) (laws : IsInsertion names eq offers) where
-  came_distinct : (i : I) (pair : K × V) (xs : List (K × V)) → lookup_entry (names i) xs ≡ None → names i pair.0 ≡ true → AreDistinct eq xs → AreDistinct eq (pair ∷ xs)
-  came_distinct i pair xs a n d = subst (λ ys. AreDistinct eq (pair ∷ ys)) (without_none (names i) xs a) (distinct_newest eq (names i) (looks_up.one i) pair xs n d)
+    {query_input : I → List (List ℕ)} {key_input : K → List (List ℕ)}
+        (looks_up : IsLookup names eq query_input key_input) (laws : IsInsertion names eq offers) where
+  came_distinct : (i : I) (pair : K × V) (xs : List (K × V)) → lookup_entry (names i) xs ≡ None → names i pair.0 ≡ true
+      → AreDistinct eq xs → AreDistinct eq (pair ∷ xs)
+  came_distinct i pair xs a n d = subst (λ ys. AreDistinct eq (pair ∷ ys)) (without_none (names i) xs a)
+      (distinct_newest eq (names i) (looks_up.one i) pair xs n d)
 
-  exchanged_distinct : (i : I) (v : V) (c : Contents K V S) (pair : K × V) → lookup_entry (names i) c.pairs ≡ Some pair → AreDistinct eq c.pairs → AreDistinct eq (exchange rules offers names pair i v c).pairs
-  exchanged_distinct i v c pair found = let r = offers.on_replace c.limiter (length c.pairs) pair.0 i pair.1 v in let n = found_named (names i) c.pairs pair found in
-      distinct_newest eq (names i) (looks_up.one i) (r.key, kept_value r) c.pairs (looks_up.one i pair.0 r.key n ∙ laws.keeps_key c.limiter (length c.pairs) pair.0 i pair.1 v n)
+  exchanged_distinct : (i : I) (v : V) (c : Contents K V S) (pair : K × V) → lookup_entry (names i) c.pairs ≡ Some pair
+      → AreDistinct eq c.pairs → AreDistinct eq (exchange rules offers names pair i v c).pairs
+  exchanged_distinct i v c pair found = let r = offers.on_replace c.limiter (length c.pairs) pair.0 i pair.1 v in
+      let n = found_named (names i) c.pairs pair found in
+      distinct_newest eq (names i) (looks_up.one i) (r.key, kept_value r) c.pairs (looks_up.one i pair.0 r.key n
+          ∙ laws.keeps_key c.limiter (length c.pairs) pair.0 i pair.1 v n)
 
   pub offers_distinct : KeepsOffers rules offers names (λ c d. AreDistinct eq c.pairs → AreDistinct eq d.pairs)
   offers_distinct = record {
     keeps = keeps_distinct rules names looks_up;
-    came = λ i v c s pair a n. came_distinct i pair c.pairs a (laws.names_given c.limiter (length c.pairs) i v s pair.0 pair.1 n);
+    came = λ i v c s pair a n. came_distinct i pair c.pairs a
+        (laws.names_given c.limiter (length c.pairs) i v s pair.0 pair.1 n);
     turned_down = λ i v c s n d. d;
     exchanged = exchanged_distinct;
   }
@@ -133,13 +149,15 @@ module _ {K V S I : Type 0} (rules : Rules K V S) (offers : Offers K V S I) (nam
 -- keys that equal distinct ones, one by one, are distinct
 module _ {K V : Type 0} {eq : K → K → Bool} (laws : IsEquivalence eq) (R : K × V → K × V → Type 0)
     (equal : (p q : K × V) → R p q → eq p.0 q.0 ≡ true) where
-  apart_same : (x y : K) (xs ys : List (K × V)) → eq x y ≡ true → AllZip R xs ys → AllByRecursion (λ k. eq x k ≡ false) (keys_of xs)
+  apart_same : (x y : K) (xs ys : List (K × V)) → eq x y ≡ true → AllZip R xs ys → AllByRecursion (λ k. eq x k ≡ false)
+      (keys_of xs)
       → AllByRecursion (λ k. eq y k ≡ false) (keys_of ys)
   apart_same x y [] [] e z h = tt
   apart_same x y [] (q ∷ qs) e z h = absurd z
   apart_same x y (p ∷ ps) [] e z h = absurd z
   apart_same x y (p ∷ ps) (q ∷ qs) e z h =
-      (sym (laws.congr x y q.0 e) ∙ laws.symm x q.0 ∙ sym (laws.congr p.0 q.0 x (equal p q z.0)) ∙ laws.symm p.0 x ∙ h.0,
+      (sym (laws.congr x y q.0 e) ∙ laws.symm x q.0 ∙ sym (laws.congr p.0 q.0 x (equal p q z.0)) ∙ laws.symm p.0 x
+          ∙ h.0,
       apart_same x y ps qs e z.1 h.1)
 
   pub distinct_same : (xs ys : List (K × V)) → AllZip R xs ys → AreDistinct eq xs → AreDistinct eq ys

@@ -6,11 +6,13 @@ use Rattle.schnellru.specs.Lists.{lookup, lookup_entry, without, keys_of, last, 
 use Rattle.schnellru.proofs.PairLists.DistinctKeys.{AreDistinct, NoneNamed}
 
 -- the value of a key is that of its pair
-pub lookup-entry : {K V : Type 0} (names : K → Bool) (xs : List (K × V)) → lookup names xs ≡ option_map (λ p. p.1) (lookup_entry names xs)
+pub lookup-entry : {K V : Type 0} (names : K → Bool) (xs : List (K × V)) → lookup names xs
+    ≡ option_map (λ p. p.1) (lookup_entry names xs)
 lookup-entry names [] = refl
 lookup-entry names (x ∷ xs) = go (names x.0) (lookup-entry names xs)
   where
-    go : (y : Bool) → lookup names xs ≡ option_map (λ p. p.1) (lookup_entry names xs) → cond y (Some x.1) (lookup names xs) ≡ option_map (λ p. p.1) (cond y (Some x) (lookup_entry names xs))
+    go : (y : Bool) → lookup names xs ≡ option_map (λ p. p.1) (lookup_entry names xs)
+        → cond y (Some x.1) (lookup names xs) ≡ option_map (λ p. p.1) (cond y (Some x) (lookup_entry names xs))
     go true h = refl
     go false h = h
 
@@ -30,11 +32,13 @@ module _ {K V : Type 0} (names : K → Bool) where
     met P (x ∷ xs) ys p h = met P xs ys p h.1
 
     -- where one is, those before it are not
-    pub others_unnamed : (xs ys : List (K × V)) (p : K × V) → names p.0 ≡ true → AreDistinct eq (xs ++ p ∷ ys) → NoneNamed names xs
+    pub others_unnamed : (xs ys : List (K × V)) (p : K × V) → names p.0 ≡ true → AreDistinct eq (xs ++ p ∷ ys)
+        → NoneNamed names xs
     unfolding IsDistinct
     others_unnamed [] ys p named d = tt
     others_unnamed (x ∷ xs) ys p named d =
-        (one p.0 x.0 named ∙ laws.symm p.0 x.0 ∙ met (λ k. eq x.0 k ≡ false) xs ys p d.0, others_unnamed xs ys p named d.1)
+        (one p.0 x.0 named ∙ laws.symm p.0 x.0 ∙ met (λ k. eq x.0 k ≡ false) xs ys p d.0,
+            others_unnamed xs ys p named d.1)
 
 module _ {X : Type 0} where
   pub last_end : (xs : List X) (x : X) → last (xs ++ x ∷ []) ≡ Some x

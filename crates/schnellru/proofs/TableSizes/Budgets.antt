@@ -14,28 +14,33 @@ bytes_mono : (e m n : ℕ) → m ≤ n → bytes_of e m ≤ bytes_of e n
 bytes_mono e m n h = let less : e * m ≤ e * n = mul-le-mul_left e h in omega (arith, less, h)
 
 usage_mono : (e m n a b : ℕ) → 0 < m → m ≤ n → usage e m ≡ Some a → usage e n ≡ Some b → a ≤ b
-usage_mono e m n a b some h p q = omega (arith, (usage_bytes e m a some p).0, (usage_bytes e n b (omega (arith, some, h)) q).0, bytes_mono e m n h)
+usage_mono e m n a b some h p q = omega
+    (arith, (usage_bytes e m a some p).0, (usage_bytes e n b (omega (arith, some, h)) q).0, bytes_mono e m n h)
 
 module _ (max e budget : ℕ) where
   -- the greatest usage of the tables below 4 * 2 ^ k
   pub record IsBest (k best : ℕ) : Type 0 where
     pub within : best ≤ budget
     pub of_table : (best ≡ 0) ⊎ ((j : ℕ) × (j < k) × (4 * 2 ^ j < max) × (usage e (4 * 2 ^ j) ≡ Some best))
-    pub greatest : (j other : ℕ) → j < k → 4 * 2 ^ j < max → usage e (4 * 2 ^ j) ≡ Some other → other ≤ budget → other ≤ best
+    pub greatest : (j other : ℕ) → j < k → 4 * 2 ^ j < max → usage e (4 * 2 ^ j) ≡ Some other → other ≤ budget → other
+        ≤ best
 
   pub best_none : IsBest 0 0
   best_none = record { within = omega arith; of_table = inl refl; greatest = λ j other p. absurd (omega (arith, p)) }
 
   -- the next table fits
-  pub best_takes : (k best bytes : ℕ) → IsBest k best → 4 * 2 ^ k < max → usage e (4 * 2 ^ k) ≡ Some bytes → bytes ≤ budget → IsBest (k + 1) bytes
+  pub best_takes : (k best bytes : ℕ) → IsBest k best → 4 * 2 ^ k < max → usage e (4 * 2 ^ k) ≡ Some bytes → bytes
+      ≤ budget → IsBest (k + 1) bytes
   best_takes k best bytes ok reached is fits = record {
     within = fits;
     of_table = inr (k, omega arith, reached, is);
-    greatest = λ j other p r u w. usage_mono e (4 * 2 ^ j) (4 * 2 ^ k) other bytes (omega (arith, pow_pos j)) (let less : 2 ^ j ≤ 2 ^ k = pow_mono {i = j} {j = k} (omega (arith, p)) in omega (arith, less)) u is;
+    greatest = λ j other p r u w. usage_mono e (4 * 2 ^ j) (4 * 2 ^ k) other bytes (omega (arith, pow_pos j))
+        (let less : 2 ^ j ≤ 2 ^ k = pow_mono {i = j} {j = k} (omega (arith, p)) in omega (arith, less)) u is;
   }
 
   -- it does not
-  pub best_stays : (k best : ℕ) → IsBest k best → ((other : ℕ) → 4 * 2 ^ k < max → usage e (4 * 2 ^ k) ≡ Some other → other ≤ budget → ⊥) → IsBest (k + 1) best
+  pub best_stays : (k best : ℕ) → IsBest k best → ((other : ℕ) → 4 * 2 ^ k < max → usage e (4 * 2 ^ k) ≡ Some other
+      → other ≤ budget → ⊥) → IsBest (k + 1) best
   best_stays k best ok none = record {
     within = ok.within;
     of_table = elim ok.of_table [ inl z ↦ inl z | inr t ↦ inr (t.0, omega (arith, t.1), t.2, t.3) ];
@@ -52,7 +57,8 @@ module _ (max e budget : ℕ) where
     of_table = elim ok.of_table [ inl z ↦ inl z | inr t ↦ inr (4 * 2 ^ t.0, (t.0, refl), t.2, t.3) ];
     greatest = λ buckets other power r u w. elim (dec_lt power.0 62) [
       | yes q ↦ ok.greatest power.0 other q (rw power.1 at r) (rw power.1 at u) w
-      | no q ↦ let large : 2 ^ 62 ≤ 2 ^ power.0 = pow_mono {i = 62} {j = power.0} (omega (arith, q)) in absurd (omega (arith, power.1, large, usage_addressable e buckets other u))
+      | no q ↦ let large : 2 ^ 62 ≤ 2 ^ power.0 = pow_mono {i = 62} {j = power.0} (omega (arith, q)) in
+          absurd (omega (arith, power.1, large, usage_addressable e buckets other u))
     ];
   }
 
@@ -62,7 +68,8 @@ unfolding usage
 usage_none e n bytes z h = same_Some bytes 0 (sym h ∙ rw z refl)
 
 -- the usage of a map's table is the greatest within itself
-pub usage_is_budget : {K V S H : Type 0} (st : State K V S H) (bytes best : ℕ) → IsSized st → usage st.entry_bytes (buckets st) ≡ Some bytes → IsGreatestUsage st.max st.entry_bytes bytes best → best ≡ bytes
+pub usage_is_budget : {K V S H : Type 0} (st : State K V S H) (bytes best : ℕ) → IsSized st
+    → usage st.entry_bytes (buckets st) ≡ Some bytes → IsGreatestUsage st.max st.entry_bytes bytes best → best ≡ bytes
 usage_is_budget st bytes best ok is g = elim ok.table.count [
   | inl z ↦ let none = usage_none st.entry_bytes (buckets st) bytes z is in omega (arith, none, g.within)
   | inr power ↦ elim ok.reachable [

@@ -13,8 +13,11 @@ empty-not_deleted e = cc
 
 module _ {K V S H : Type 0} (old : State K V S H) (ok : IsSized old) (b : ℕ) (within : b < buckets old) where
   -- a table with a deleted bucket has more than 16, and its pairs and its room are less than it takes
-  pub deleted_large : bucket_at old.marks b ≡ deleted → (16 < buckets old) × (length old.pairs + room old.marks < full_capacity (buckets old))
-  deleted_large there = (large (dec_lt 16 (buckets old)), omega (arith, some, used_count-split old.marks, ok.table.used_within, ok.taken, room_is old.marks))
+  pub deleted_large : bucket_at old.marks b ≡ deleted → (16 < buckets old)
+      × (length old.pairs + room old.marks < full_capacity (buckets old))
+  deleted_large there =
+      (large (dec_lt 16 (buckets old)), omega (arith, some, used_count-split old.marks, ok.table.used_within, ok.taken,
+      room_is old.marks))
     where
       some : 0 < count_by is_deleted old.marks
       some = count_by-pos is_deleted old.marks b within (ap is_deleted there)
@@ -25,14 +28,17 @@ module _ {K V S H : Type 0} (old : State K V S H) (ok : IsSized old) (b : ℕ) (
 
 module _ {K V S H : Type 0} (old : State K V S H) (ok : IsSized old) (hash : ℕ) where
   -- so does one in which a search finds a deleted bucket first
-  pub deleted_first_large : FirstFreeIs deleted hash old → (16 < buckets old) × (length old.pairs + room old.marks < full_capacity (buckets old))
+  pub deleted_first_large : FirstFreeIs deleted hash old → (16 < buckets old)
+      × (length old.pairs + room old.marks < full_capacity (buckets old))
   deleted_first_large (b, first, there) = go (dec_lt b (buckets old))
     where
-      go : Dec (b < buckets old) → (16 < buckets old) × (length old.pairs + room old.marks < full_capacity (buckets old))
+      go : Dec (b < buckets old) → (16 < buckets old)
+          × (length old.pairs + room old.marks < full_capacity (buckets old))
       go (yes within) = deleted_large old ok b within there
       go (no past) = absurd (empty-not_deleted (sym (get_or_past old.marks b empty (omega (arith, past))) ∙ there))
 
   -- a filled bucket of a table with no deleted one was empty
-  pub fills_exact : (new : State K V S H) → FillsBucket hash old new → length old.pairs + room_of old ≡ full_capacity (buckets old) → room_of new + 1 ≡ room_of old
+  pub fills_exact : (new : State K V S H) → FillsBucket hash old new → length old.pairs + room_of old
+      ≡ full_capacity (buckets old) → room_of new + 1 ≡ room_of old
   fills_exact new (inl (first, one)) exact = one
   fills_exact new (inr (first, large, same)) exact = absurd (omega (arith, (deleted_first_large first).1, exact))

@@ -1,5 +1,6 @@
 -- Where a table goes that is to take more pairs.
-use Rattle.std.proofs.Common.{◌≡◌, ℕ, ◌+◌, ◌*◌, ◌/◌, ◌<◌, ◌≤◌, inl, inr, Option, Some, None, length, sym, ◌∙◌, arith, ◌⊎◌}
+use Rattle.std.proofs.Common.{◌≡◌, ℕ, ◌+◌, ◌*◌, ◌/◌, ◌<◌, ◌≤◌, inl, inr, Option, Some, None, length, sym, ◌∙◌, arith}
+use Rattle.std.proofs.Common.{◌⊎◌}
 use Rattle.std.specs.Prelude.{IfSome}
 use Rattle.group_table.specs.Sizes.{IsPowerFromFour, IsBucketCount, full_capacity}
 use Rattle.group_table.specs.Bucket.{marks_of}
@@ -11,12 +12,14 @@ use Rattle.schnellru.specs.Inside.Linked.{Linked, IsLinked, pairs_of}
 use Rattle.schnellru.specs.Inside.Holds.{Beside, state_of}
 use Rattle.schnellru.proofs.LinkedTables.BucketPairs.{pairs-length}
 use Rattle.schnellru.proofs.TableSizes.SizedMarks.{fits}
-use Rattle.schnellru.proofs.TableSizes.Growth.{target_new, target_usage, target_doubles, full_capacity-at_most, full_capacity-double}
+use Rattle.schnellru.proofs.TableSizes.Growth.{target_new, target_usage, target_doubles, full_capacity-at_most}
+use Rattle.schnellru.proofs.TableSizes.Growth.{full_capacity-double}
 use Rattle.schnellru.proofs.TableSizes.Doubling.{target_keeps}
 
 module _ {K V S H : Type 0} (beside : Beside S H) (t : Linked K V) (linked : IsLinked t) where
   -- where the table of a map goes for n more, from the figures of its linked table
-  pub goes_to : (n : ℕ) (next : Target) (most count pairs : ℕ) → most ≡ beside.max → count ≡ length t.slots → pairs ≡ length t.order →
+  pub goes_to : (n : ℕ) (next : Target) (most count pairs : ℕ) → most ≡ beside.max → count ≡ length t.slots → pairs
+      ≡ length t.order →
       target most beside.entry_bytes count (pairs + n) ≡ next → table_for n (state_of t beside) ≡ next
   goes_to n next most count pairs is_max is_count is_pairs is =
       let buckets_are : count ≡ length (marks_of t.slots) = is_count ∙ sym (length-marks_of t.slots) in
@@ -64,6 +67,7 @@ module _ {K V S H : Type 0} (n : ℕ) (st : State K V S H) (ok : IsSized st) (so
   stays half = go ok.table.count ok.reachable
     where
       go : IsBucketCount (buckets st) → (buckets st ≡ 0) ⊎ (buckets st < st.max) → table_for n st ≡ same_table
-      go (inr power) (inr below) = target_keeps power.0 st.max st.entry_bytes (buckets st) (length st.pairs + n) power.1 below (omega (arith, ok.table.addressable)) half
+      go (inr power) (inr below) = target_keeps power.0 st.max st.entry_bytes (buckets st)
+          (length st.pairs + n) power.1 below (omega (arith, ok.table.addressable)) half
       go (inl none) r = absurd (omega (arith, none, half, some, full_capacity-at_most (buckets st)))
       go c (inl none) = absurd (omega (arith, none, half, some, full_capacity-at_most (buckets st)))

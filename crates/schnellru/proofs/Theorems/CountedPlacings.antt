@@ -16,24 +16,29 @@ module _ {K V S H : Type 0} where
   calm_counts old new c = λ p m n. omega (arith, c.placings, c.moved, c.placed)
 
   -- before and after the placings nothing is
-  around_counts : (old mid end new : State K V S H) → Calm old mid → Calm end new → CountsPlacings mid end → CountsPlacings old new
+  around_counts : (old mid end new : State K V S H) → Calm old mid → Calm end new → CountsPlacings mid end
+      → CountsPlacings old new
   around_counts old mid end new first last counts = λ p m n.
-      let rise = counts (omega (arith, p, last.placings)) (omega (arith, m, last.moved)) (omega (arith, n, last.placed)) in
+      let rise = counts (omega (arith, p, last.placings)) (omega (arith, m, last.moved))
+          (omega (arith, n, last.placed)) in
       omega (arith, rise, first.placings, first.moved, first.placed, last.placings, last.moved, last.placed)
 
 module _ {K V S H : Type 0} (rules : Rules K V S) (hash_of : H → K → ℕ) (pair : K × V) (old : State K V S H) where
   any_way : KeepsWay rules (λ c d. Unit {0})
   any_way = record { self = λ c. tt; trans = λ p q. tt; asked = λ bytes c. tt; popped = λ c. tt }
 
-  place_counts : (outcome : Outcome) (new : State K V S H) → Place rules hash_of pair old outcome new → CountsPlacings old new
+  place_counts : (outcome : Outcome) (new : State K V S H) → Place rules hash_of pair old outcome new
+      → CountsPlacings old new
   place_counts outcome new step =
       let way = place_lands rules (λ c d. Unit {0}) any_way (λ _. Unit {0}) hash_of pair old tt outcome new step in
       around_counts old way.mid new new way.calm (self_calm new) (land outcome way.mid way.lands)
     where
       away : (mid : State K V S H) → new ≡ turned_away rules pair mid → CountsPlacings mid new
-      away mid e = rw e (calm_counts mid (turned_away rules pair mid) (limiter_calm mid (turned_away rules pair mid).limiter))
+      away mid e = rw e (calm_counts mid (turned_away rules pair mid)
+          (limiter_calm mid (turned_away rules pair mid).limiter))
 
-      land : (outcome : Outcome) (mid : State K V S H) → Lands rules (λ _. Unit {0}) pair old outcome mid new → CountsPlacings mid new
+      land : (outcome : Outcome) (mid : State K V S H) → Lands rules (λ _. Unit {0}) pair old outcome mid new
+          → CountsPlacings mid new
       land placed mid l = λ p m n.
           let placings = ap (λ st. st.placings) l.is.state in
           let moved = ap (λ st. st.moved) l.is.state in
@@ -42,7 +47,8 @@ module _ {K V S H : Type 0} (rules : Rules K V S) (hash_of : H → K → ℕ) (p
       land refused mid l = away mid l.1
       land no_memory mid l = away mid l
 
-module _ {K V S H I : Type 0} (rules : Rules K V S) (offers : Offers K V S I) (names : I → K → Bool) (hash_of : H → K → ℕ) (i : I) (v : V)
+module _ {K V S H I : Type 0} (rules : Rules K V S) (offers : Offers K V S I) (names : I → K → Bool)
+    (hash_of : H → K → ℕ) (i : I) (v : V)
     (old : State K V S H) (result : Result Bool AllocError) (new : State K V S H) where
   pub insert_counts : Insert rules offers names hash_of i v old result new → CountsPlacings old new
   insert_counts (replaced pair found y r l) = calm_counts old new (leaves_calm old _ new l)
@@ -50,6 +56,7 @@ module _ {K V S H I : Type 0} (rules : Rules K V S) (offers : Offers K V S I) (n
   insert_counts (no_memory_to_admit a l r e) = rw e (calm_counts old old (self_calm old))
   insert_counts (not_admitted a s n r e) = rw e (calm_counts old _ (limiter_calm old s))
   insert_counts (admitted a s pair n (ready, l, outcome, landed, step, rest)) =
-      around_counts old ready landed new (calm_trans old (record old { limiter = s }) ready (limiter_calm old s) (leaves_calm _ _ ready l))
+      around_counts old ready landed new (calm_trans old (record old { limiter = s }) ready (limiter_calm old s)
+          (leaves_calm _ _ ready l))
       (settles_calm rules outcome landed result new rest)
       (place_counts rules hash_of pair ready outcome landed step)

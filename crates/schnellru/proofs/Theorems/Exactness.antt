@@ -1,19 +1,25 @@
 -- Where each placing leaves nothing open, an insert does not either, as in tables of up to 16 buckets, memory aside.
-use Rattle.std.proofs.Common.{◌≡◌, ℕ, ◌+◌, ◌-◌, ◌/◌, ◌<◌, ◌≤◌, Bool, true, false, length, Option, Some, None, Result, Ok, sym, ap, ◌∙◌, subst, arith, le_of_eq}
+use Rattle.std.proofs.Common.{◌≡◌, ℕ, ◌+◌, ◌-◌, ◌/◌, ◌<◌, ◌≤◌, Bool, true, false, length, Option, Some, None, Result}
+use Rattle.std.proofs.Common.{Ok, sym, ap, ◌∙◌, subst, arith, le_of_eq}
 use Rattle.std.specs.Prelude.{not, IsOk}
 use Rattle.lru_limits.specs.Rules.{Rules, Offers}
 use Rattle.group_table.specs.Sizes.{full_capacity}
 use Rattle.schnellru.specs.Lists.{is_empty, lookup_entry}
 use Rattle.schnellru.specs.State.{State, buckets, room, Contents, contents, Leaves, pops, trim}
-use Rattle.schnellru.specs.Place.{Place, first_table, first_denied, first_too_large, empty_with_room, empty_without_room, with_room, deleted_bucket, rehashed, grown, evicting, finds_bucket, made_anew}
-use Rattle.schnellru.specs.Place.{CannotGrow, no_target, denied, table_for, Outcome, placed, refused, no_memory, IsPlaced, IsPlacedIfMemory, asked, OldestLeave}
+use Rattle.schnellru.specs.Place.{Place, first_table, first_denied, first_too_large, empty_with_room}
+use Rattle.schnellru.specs.Place.{empty_without_room, with_room, deleted_bucket, rehashed, grown, evicting}
+use Rattle.schnellru.specs.Place.{finds_bucket, made_anew}
+use Rattle.schnellru.specs.Place.{CannotGrow, no_target, denied, table_for, Outcome, placed, refused, no_memory}
+use Rattle.schnellru.specs.Place.{IsPlaced, IsPlacedIfMemory, asked, OldestLeave}
 use Rattle.std.specs.declared.alloc.AllocError.{AllocError}
 use Rattle.std.proofs.lemmas.Bool.{eq-eqb, ne_eqb, lt-ltb, le-ltb, le-leb, lt-leb}
 use Rattle.schnellru.proofs.PairLists.Emptiness.{is_empty-some}
-use Rattle.schnellru.specs.Inserts.{Insert, replaced, given_up, no_memory_to_admit, not_admitted, admitted, make_way, with_replaced, Settles}
+use Rattle.schnellru.specs.Inserts.{Insert, replaced, given_up, no_memory_to_admit, not_admitted, admitted, make_way}
+use Rattle.schnellru.specs.Inserts.{with_replaced, Settles}
 use Rattle.schnellru.proofs.Maps.LeavingPairs.{oldest_leaves}
 use Rattle.schnellru.proofs.Maps.Outcomes.{ok-not_err}
-use Rattle.schnellru.specs.Exact.{Landing, Ending, lands, evicts, grows, landing, trimmed, settled, ending_there, ending_new, IsEnding, EndsBy, EndsExactly, EndsAlike, IsDetermined}
+use Rattle.schnellru.specs.Exact.{Landing, Ending, lands, evicts, grows, landing, trimmed, settled, ending_there}
+use Rattle.schnellru.specs.Exact.{ending_new, IsEnding, EndsBy, EndsExactly, EndsAlike, IsDetermined}
 
 module _ {K V S H : Type 0} (rules : Rules K V S) (pair : K × V) where
   -- The pair, the pairs and the limiter are as they are to be, where memory is not short.
@@ -22,49 +28,75 @@ module _ {K V S H : Type 0} (rules : Rules K V S) (pair : K × V) where
   LandsAs l refused new = l ≡ record { there = false; left = contents new }
   LandsAs l no_memory new = Unit {0}
 
-  pub if_memory : (st : State K V S H) (count spare moves : ℕ) (outcome : Outcome) (new : State K V S H) → IsPlacedIfMemory rules pair count spare moves st outcome new → LandsAs (lands rules pair (contents st)) outcome new
+  pub if_memory : (st : State K V S H) (count spare moves : ℕ) (outcome : Outcome) (new : State K V S H)
+      → IsPlacedIfMemory rules pair count spare moves st outcome new
+      → LandsAs (lands rules pair (contents st)) outcome new
   if_memory st count spare moves placed new h = sym (ap (λ x. record { there = true; left = contents x }) h.state)
   if_memory st count spare moves no_memory new h = tt
   if_memory st count spare moves refused new h = absurd h
 
-  pub is_placed : (st : State K V S H) (count spare moves : ℕ) (outcome : Outcome) (new : State K V S H) → outcome ≡ placed → IsPlaced pair count spare moves st new → LandsAs (lands rules pair (contents st)) outcome new
-  is_placed st count spare moves outcome new o p = rw o (sym (ap (λ x. record { there = true; left = contents x }) p.state))
+  pub is_placed : (st : State K V S H) (count spare moves : ℕ) (outcome : Outcome) (new : State K V S H) → outcome
+      ≡ placed → IsPlaced pair count spare moves st new → LandsAs (lands rules pair (contents st)) outcome new
+  is_placed st count spare moves outcome new o p = rw o
+      (sym (ap (λ x. record { there = true; left = contents x }) p.state))
 
-module _ {K V S H : Type 0} (rules : Rules K V S) (hash_of : H → K → ℕ) (pair : K × V) (old : State K V S H) (small : buckets old ≤ 16) where
+module _ {K V S H : Type 0} (rules : Rules K V S) (hash_of : H → K → ℕ) (pair : K × V) (old : State K V S H)
+    (small : buckets old ≤ 16) where
   abbrev pub here : Landing K V S
   here = landing rules pair (buckets old) (room old) old.entry_bytes old.max (contents old)
 
-  full_lands : 0 < length old.pairs → room old ≡ 0 → full_capacity (buckets old) / 2 < length old.pairs + 1 → here ≡ grows rules pair (table_for 1 old) (contents old)
-  full_lands l r f = rw (is_empty-some old.pairs l, le-ltb 0 (room old) (le_of_eq r), lt-leb (length old.pairs + 1) (full_capacity (buckets old) / 2) f)
+  full_lands : 0 < length old.pairs → room old ≡ 0 → full_capacity (buckets old) / 2 < length old.pairs + 1 → here
+      ≡ grows rules pair (table_for 1 old) (contents old)
+  full_lands l r f = rw (is_empty-some old.pairs l, le-ltb 0 (room old) (le_of_eq r), lt-leb (length old.pairs + 1)
+      (full_capacity (buckets old) / 2) f)
 
-  evicts_from : (mid : State K V S H) → CannotGrow rules old mid → grows rules pair (table_for 1 old) (contents old) ≡ evicts rules pair (contents mid)
+  evicts_from : (mid : State K V S H) → CannotGrow rules old mid → grows rules pair (table_for 1 old) (contents old)
+      ≡ evicts rules pair (contents mid)
   evicts_from mid (no_target t e) = rw (t, e)
   evicts_from mid (denied count bytes t d e) = rw (t, d, e)
 
-  one_left : (n : ℕ) (mid left : State K V S H) → n ≡ 1 → OldestLeave rules (hash_of old.hasher pair.0) n mid left → contents left ≡ pops rules 1 (contents mid)
-  one_left n mid left one gone = ap contents (oldest_leaves rules _ n mid left gone).is ∙ ap (λ k. pops rules k (contents mid)) one
+  one_left : (n : ℕ) (mid left : State K V S H) → n ≡ 1 → OldestLeave rules (hash_of old.hasher pair.0) n mid left
+      → contents left ≡ pops rules 1 (contents mid)
+  one_left n mid left one gone = ap contents (oldest_leaves rules _ n mid left gone).is
+      ∙ ap (λ k. pops rules k (contents mid)) one
 
-  pub place_lands : (outcome : Outcome) (new : State K V S H) → Place rules hash_of pair old outcome new → LandsAs rules pair here outcome new
-  place_lands outcome new (first_table e b bytes u g m) = rw (ap is_empty e, eq-eqb (buckets old) 0 b, u, g) (if_memory rules pair (asked rules bytes old) _ _ _ outcome new m)
-  place_lands outcome new (first_denied e b bytes u d o n) = rw (ap is_empty e, eq-eqb (buckets old) 0 b, u, d, o) (sym (ap (λ x. record { there = false; left = contents x }) n))
-  place_lands outcome new (first_too_large e b u o n) = rw (ap is_empty e, eq-eqb (buckets old) 0 b, u, o) (sym (ap (λ x. record { there = false; left = contents x }) n))
-  place_lands outcome new (empty_with_room e b r s o n) = rw (ap is_empty e, ne_eqb (buckets old) 0 (λ none. omega (arith, b, none))) (is_placed rules pair old _ _ _ outcome new o n)
-  place_lands outcome new (empty_without_room e b r o n) = rw (ap is_empty e, ne_eqb (buckets old) 0 (λ none. omega (arith, b, none))) (is_placed rules pair old _ _ _ outcome new o n)
-  place_lands outcome new (with_room e r s o n) = rw (is_empty-some old.pairs e, lt-ltb 0 (room old) r) (is_placed rules pair old _ _ _ outcome new o n)
+  pub place_lands : (outcome : Outcome) (new : State K V S H) → Place rules hash_of pair old outcome new
+      → LandsAs rules pair here outcome new
+  place_lands outcome new (first_table e b bytes u g m) = rw (ap is_empty e, eq-eqb (buckets old) 0 b, u, g)
+      (if_memory rules pair (asked rules bytes old) _ _ _ outcome new m)
+  place_lands outcome new (first_denied e b bytes u d o n) = rw (ap is_empty e, eq-eqb (buckets old) 0 b, u, d, o)
+      (sym (ap (λ x. record { there = false; left = contents x }) n))
+  place_lands outcome new (first_too_large e b u o n) = rw (ap is_empty e, eq-eqb (buckets old) 0 b, u, o)
+      (sym (ap (λ x. record { there = false; left = contents x }) n))
+  place_lands outcome new (empty_with_room e b r s o n) = rw
+      (ap is_empty e, ne_eqb (buckets old) 0 (λ none. omega (arith, b, none)))
+      (is_placed rules pair old _ _ _ outcome new o n)
+  place_lands outcome new (empty_without_room e b r o n) = rw
+      (ap is_empty e, ne_eqb (buckets old) 0 (λ none. omega (arith, b, none)))
+      (is_placed rules pair old _ _ _ outcome new o n)
+  place_lands outcome new (with_room e r s o n) = rw (is_empty-some old.pairs e, lt-ltb 0 (room old) r)
+      (is_placed rules pair old _ _ _ outcome new o n)
   place_lands outcome new (deleted_bucket f i b l o n) = absurd (omega (arith, small))
-  place_lands outcome new (rehashed f i l m) = rw (is_empty-some old.pairs f.0, le-ltb 0 (room old) (le_of_eq f.1), le-leb (length old.pairs + 1) (full_capacity (buckets old) / 2) l) (if_memory rules pair old _ _ _ outcome new m)
-  place_lands outcome new (grown f i l count bytes t g m) = rw (full_lands f.0 f.1 l, t, g) (if_memory rules pair (asked rules bytes old) _ _ _ outcome new m)
-  place_lands outcome new (evicting f i l mid c (finds_bucket n pos one half left gone fills o p)) = rw (full_lands f.0 f.1 l, evicts_from mid c) (subst (λ x. LandsAs rules pair (lands rules pair x) outcome new) (one_left n mid left (one small) gone) (is_placed rules pair left _ _ _ outcome new o p))
+  place_lands outcome new (rehashed f i l m) = rw (is_empty-some old.pairs f.0, le-ltb 0 (room old) (le_of_eq f.1),
+      le-leb (length old.pairs + 1) (full_capacity (buckets old) / 2) l) (if_memory rules pair old _ _ _ outcome new m)
+  place_lands outcome new (grown f i l count bytes t g m) = rw (full_lands f.0 f.1 l, t, g)
+      (if_memory rules pair (asked rules bytes old) _ _ _ outcome new m)
+  place_lands outcome new (evicting f i l mid c (finds_bucket n pos one half left gone fills o p)) = rw
+      (full_lands f.0 f.1 l, evicts_from mid c) (subst (λ x. LandsAs rules pair (lands rules pair x) outcome new)
+      (one_left n mid left (one small) gone) (is_placed rules pair left _ _ _ outcome new o p))
   place_lands outcome new (evicting f i l mid c (made_anew n pos one half left gone m)) =
-      rw (full_lands f.0 f.1 l, evicts_from mid c) (subst (λ x. LandsAs rules pair (lands rules pair x) outcome new) (one_left n mid left (one small) gone) (if_memory rules pair left _ _ _ outcome new m))
+      rw (full_lands f.0 f.1 l, evicts_from mid c) (subst (λ x. LandsAs rules pair (lands rules pair x) outcome new)
+          (one_left n mid left (one small) gone) (if_memory rules pair left _ _ _ outcome new m))
 
 module _ {K V S H : Type 0} (rules : Rules K V S) (hash_of : H → K → ℕ) (old : State K V S H) where
   -- a pair that the limiter gave lands as it is to, after way was made for it
   abbrev pub PlacesExactly : Type 0
   PlacesExactly = (s : S) (pair : K × V) (ready : State K V S H) →
       let c = make_way rules (record { pairs = old.pairs; limiter = s }) in
-      Leaves (record old { limiter = s }) c ready → (outcome : Outcome) (landed : State K V S H) → Place rules hash_of pair ready outcome landed →
-      LandsAs rules pair (landing rules pair (buckets old) (room old + length old.pairs - length c.pairs) old.entry_bytes old.max c) outcome landed
+      Leaves (record old { limiter = s }) c ready → (outcome : Outcome) (landed : State K V S H)
+          → Place rules hash_of pair ready outcome landed →
+      LandsAs rules pair (landing rules pair (buckets old)
+          (room old + length old.pairs - length c.pairs) old.entry_bytes old.max c) outcome landed
 
   -- up to 16 buckets each placing lands so
   pub small_places : buckets old ≤ 16 → PlacesExactly
@@ -72,43 +104,59 @@ module _ {K V S H : Type 0} (rules : Rules K V S) (hash_of : H → K → ℕ) (o
       let c = make_way rules (record { pairs = old.pairs; limiter = s }) in
       let tiny : buckets ready ≤ 16 = omega (arith, l.room.table, small) in
       let same : contents ready ≡ c = ap contents l.is in
-      let spare : room ready ≡ room old + length old.pairs - length c.pairs = omega (arith, l.room.exact small, ap (λ x. length x.pairs) same) in
-      let is : here rules hash_of pair ready tiny ≡ landing rules pair (buckets old) (room old + length old.pairs - length c.pairs) old.entry_bytes old.max c =
+      let spare : room ready ≡ room old + length old.pairs - length c.pairs = omega
+          (arith, l.room.exact small, ap (λ x. length x.pairs) same) in
+      let is : here rules hash_of pair ready tiny
+          ≡ landing rules pair (buckets old) (room old + length old.pairs - length c.pairs) old.entry_bytes old.max c =
       (λ j. landing rules pair (l.room.table j) (spare j) (l.is j).entry_bytes (l.is j).max (same j)) in
       subst (λ x. LandsAs rules pair x outcome landed) is (place_lands rules hash_of pair ready tiny outcome landed p)
 
 -- an insert ends as the pairs and the limiter have it, where each placing does
-module _ {K V S H I : Type 0} (rules : Rules K V S) (offers : Offers K V S I) (names : I → K → Bool) (hash_of : H → K → ℕ) (i : I) (v : V) (old : State K V S H) where
+module _ {K V S H I : Type 0} (rules : Rules K V S) (offers : Offers K V S I) (names : I → K → Bool)
+    (hash_of : H → K → ℕ) (i : I) (v : V) (old : State K V S H) where
   left_is : (mid : State K V S H) (c : Contents K V S) (new : State K V S H) → Leaves mid c new → contents new ≡ c
   left_is mid c new l = ap contents l.is
 
-  trimmed_ends : (mid : State K V S H) (c : Contents K V S) (result : Result Bool AllocError) (new : State K V S H) → result ≡ Ok (not (is_empty new.pairs)) → Leaves mid (trim rules c) new → IsEnding rules offers names i v old (trimmed rules c) result new
-  trimmed_ends mid c result new r l = (r ∙ ap (λ x. Ok (not (is_empty x.pairs))) (left_is mid (trim rules c) new l), left_is mid (trim rules c) new l)
+  trimmed_ends : (mid : State K V S H) (c : Contents K V S) (result : Result Bool AllocError) (new : State K V S H)
+      → result ≡ Ok (not (is_empty new.pairs)) → Leaves mid (trim rules c) new → IsEnding rules offers names i v old
+      (trimmed rules c) result new
+  trimmed_ends mid c result new r l = (r ∙ ap (λ x. Ok (not (is_empty x.pairs))) (left_is mid (trim rules c) new l),
+      left_is mid (trim rules c) new l)
 
-  settled_ends : (l : Landing K V S) (pair : K × V) (outcome : Outcome) (landed : State K V S H) (result : Result Bool AllocError) (new : State K V S H) → IsOk result → LandsAs rules pair l outcome landed → Settles rules outcome landed result new → IsEnding rules offers names i v old (settled rules l) result new
+  settled_ends : (l : Landing K V S) (pair : K × V) (outcome : Outcome) (landed : State K V S H)
+      (result : Result Bool AllocError) (new : State K V S H) → IsOk result → LandsAs rules pair l outcome landed
+      → Settles rules outcome landed result new → IsEnding rules offers names i v old (settled rules l) result new
   settled_ends l pair placed landed result new ok h s = rw h (trimmed_ends landed (contents landed) result new s.0 s.1)
   settled_ends l pair refused landed result new ok h s = rw h (s.0, ap contents s.1)
   settled_ends l pair no_memory landed result new ok h s = ok-not_err result ok s.0
 
-  pub insert_ends : PlacesExactly rules hash_of old → (result : Result Bool AllocError) (new : State K V S H) → IsOk result → Insert rules offers names hash_of i v old result new → EndsExactly rules offers names i v old result new
-  insert_ends places result new ok (replaced pair found y r l) = rw (found, y) (trimmed_ends old (with_replaced rules offers names pair i v old) result new r l)
+  pub insert_ends : PlacesExactly rules hash_of old → (result : Result Bool AllocError) (new : State K V S H)
+      → IsOk result → Insert rules offers names hash_of i v old result new
+      → EndsExactly rules offers names i v old result new
+  insert_ends places result new ok (replaced pair found y r l) = rw (found, y)
+      (trimmed_ends old (with_replaced rules offers names pair i v old) result new r l)
   insert_ends places result new ok (given_up pair found y r l) = rw (found, y) (r, left_is old _ new l)
   insert_ends places result new ok (no_memory_to_admit a k r e) = ok-not_err result ok r
   insert_ends places result new ok (not_admitted a s n r e) = rw a (s, None, n, (r, ap contents e))
   insert_ends places result new ok (admitted a s pair n (ready, l, outcome, landed, p, t)) =
-      rw a (s, Some pair, n, settled_ends _ pair outcome landed result new ok (places s pair ready l outcome landed p) t)
+      rw a (s, Some pair, n, settled_ends _ pair outcome landed result new ok
+          (places s pair ready l outcome landed p) t)
 
-module _ {K V S H I : Type 0} (rules : Rules K V S) (offers : Offers K V S I) (names : I → K → Bool) (i : I) (v : V) (old : State K V S H)
+module _ {K V S H I : Type 0} (rules : Rules K V S) (offers : Offers K V S I) (names : I → K → Bool) (i : I) (v : V)
+    (old : State K V S H)
     (determined : IsDetermined offers) (result other : Result Bool AllocError) (new others : State K V S H) where
-  alike : (e : Ending K V S) → IsEnding rules offers names i v old e result new → IsEnding rules offers names i v old e other others → EndsAlike result other new others
+  alike : (e : Ending K V S) → IsEnding rules offers names i v old e result new
+      → IsEnding rules offers names i v old e other others → EndsAlike result other new others
   alike e h k = record { answers = h.0 ∙ sym k.0; contents = h.1 ∙ sym k.1 }
 
-  ends_alike : (o : Option (K × V)) → EndsBy rules offers names i v old o result new → EndsBy rules offers names i v old o other others → EndsAlike result other new others
+  ends_alike : (o : Option (K × V)) → EndsBy rules offers names i v old o result new
+      → EndsBy rules offers names i v old o other others → EndsAlike result other new others
   ends_alike (Some pair) h k = alike (ending_there rules offers names i v old pair) h k
   ends_alike None h k =
       let d = determined old.limiter (length old.pairs) i v h.0 k.0 h.1 k.1 h.2 k.2 in
       alike (ending_new rules offers names i v old k.0 k.1) (rw (← d.0, ← d.1) h.3) k.3
 
   -- Two inserts of the same that end exactly end alike.
-  pub inserts_alike : EndsExactly rules offers names i v old result new → EndsExactly rules offers names i v old other others → EndsAlike result other new others
+  pub inserts_alike : EndsExactly rules offers names i v old result new
+      → EndsExactly rules offers names i v old other others → EndsAlike result other new others
   inserts_alike h k = ends_alike (lookup_entry (names i) old.pairs) h k

@@ -1,5 +1,6 @@
 -- What the answer of a get that inserts says.
-use Rattle.std.proofs.Common.{◌≡◌, ℕ, Bool, true, false, List, Option, Some, None, Result, Ok, Err, refl, sym, ◌∙◌, option_map}
+use Rattle.std.proofs.Common.{◌≡◌, ℕ, Bool, true, false, List, Option, Some, None, Result, Ok, Err, refl, sym, ◌∙◌}
+use Rattle.std.proofs.Common.{option_map}
 use Rattle.std.specs.declared.alloc.AllocError.{AllocError}
 use Rattle.std.proofs.lemmas.Option.{none-some}
 use Rattle.lru_limits.specs.Rules.{Rules, Offers}
@@ -17,12 +18,15 @@ use Rattle.schnellru.proofs.PairLists.NamedPairs.{lookup-entry}
 use Rattle.schnellru.proofs.Theorems.InsertAnswers.{insert_says}
 
 -- a named pair that is there comes first
-first_named : {K V : Type 0} (names : K → Bool) (xs : List (K × V)) (w : V) → lookup names xs ≡ Some w → IsNewest names (front names xs)
+first_named : {K V : Type 0} (names : K → Bool) (xs : List (K × V)) (w : V) → lookup names xs ≡ Some w
+    → IsNewest names (front names xs)
 first_named {K} {V} names xs w e = go (lookup_entry names xs) refl (sym (lookup-entry names xs) ∙ e)
   where
-    go : (o : Option (K × V)) → lookup_entry names xs ≡ o → option_map (λ p. p.1) o ≡ Some w → IsNewest names (after o (without names xs))
+    go : (o : Option (K × V)) → lookup_entry names xs ≡ o → option_map (λ p. p.1) o ≡ Some w
+        → IsNewest names (after o (without names xs))
     go None is h = absurd (none-some w h)
-    go (Some pair) is h = record { pair = pair; rest = without names xs; first = refl; named = found_named names xs pair is }
+    go (Some pair) is h = record { pair = pair; rest = without names xs; first = refl; named =
+        found_named names xs pair is }
 
 module _ {K V S H : Type 0} (rules : Rules K V S) (names : K → Bool) (new : State K V S H) where
   says_newest : (result : Result Bool AllocError) → SaysWhether rules names result new → SaysNewest names result new
@@ -31,7 +35,8 @@ module _ {K V S H : Type 0} (rules : Rules K V S) (names : K → Bool) (new : St
   says_newest (Err e) s = s
 
   -- the same where the error is one of two
-  says_or_memory : (E : Type 0) (flag : Result Bool AllocError) → SaysWhether rules names flag new → SaysNewest {E = GetOrInsertError E} names (or_memory flag) new
+  says_or_memory : (E : Type 0) (flag : Result Bool AllocError) → SaysWhether rules names flag new
+      → SaysNewest {E = GetOrInsertError E} names (or_memory flag) new
   says_or_memory E (Ok true) s = s.0
   says_or_memory E (Ok false) s = s
   says_or_memory E (Err e) s = s
@@ -44,17 +49,24 @@ no_pair {K} {V} names xs none = go (lookup_entry names xs) (sym (lookup-entry na
     go None e = refl
     go (Some pair) e = absurd (none-some pair.1 (sym e))
 
-module _ {K V S H I : Type 0} (rules : Rules K V S) (offers : Offers K V S I) (names : I → K → Bool) (hash_of : H → K → ℕ) {eq : K → K → Bool} {query_input : I → List (List ℕ)} {key_input : K → List (List ℕ)}
-    (looks_up : IsLookup names eq query_input key_input) (laws : IsInsertion names eq offers) (i : I) (makes : V → Type 0) (old : State K V S H) where
-  pub makes_says : (result : Result Bool AllocError) (new : State K V S H) → AreDistinct eq old.pairs → MakesNewest rules offers names hash_of makes i old result new → SaysNewest (names i) result new
+module _ {K V S H I : Type 0} (rules : Rules K V S) (offers : Offers K V S I) (names : I → K → Bool)
+    (hash_of : H → K → ℕ) {eq : K → K → Bool} {query_input : I → List (List ℕ)} {key_input : K → List (List ℕ)}
+    (looks_up : IsLookup names eq query_input key_input) (laws : IsInsertion names eq offers) (i : I)
+        (makes : V → Type 0) (old : State K V S H) where
+  pub makes_says : (result : Result Bool AllocError) (new : State K V S H) → AreDistinct eq old.pairs
+      → MakesNewest rules offers names hash_of makes i old result new → SaysNewest (names i) result new
   makes_says result new d (got w there r step) = rw r (rw step (first_named (names i) old.pairs w there))
-  makes_says result new d (inserted absent v made step) = says_newest rules (names i) new result (insert_says rules offers names hash_of looks_up laws i v old result new d step)
+  makes_says result new d (inserted absent v made step) = says_newest rules (names i) new result
+      (insert_says rules offers names hash_of looks_up laws i v old result new d step)
 
-module _ {K V S H I E : Type 0} (rules : Rules K V S) (offers : Offers K V S I) (names : I → K → Bool) (hash_of : H → K → ℕ) {eq : K → K → Bool} {query_input : I → List (List ℕ)} {key_input : K → List (List ℕ)}
-    (looks_up : IsLookup names eq query_input key_input) (laws : IsInsertion names eq offers) (i : I) (makes : Result V E → Type 0) (old : State K V S H) where
+module _ {K V S H I E : Type 0} (rules : Rules K V S) (offers : Offers K V S I) (names : I → K → Bool)
+    (hash_of : H → K → ℕ) {eq : K → K → Bool} {query_input : I → List (List ℕ)} {key_input : K → List (List ℕ)}
+    (looks_up : IsLookup names eq query_input key_input) (laws : IsInsertion names eq offers) (i : I)
+        (makes : Result V E → Type 0) (old : State K V S H) where
   pub says_if_made : (result : Result Bool (GetOrInsertError E)) (new : State K V S H) → AreDistinct eq old.pairs
       → MakesNewestIfMade rules offers names hash_of makes i old result new → SaysNewest (names i) result new
   says_if_made result new d (if_made.got w there r step) = rw r (rw step (first_named (names i) old.pairs w there))
   says_if_made result new d (if_made.failed none e made r step) = rw r (rw step (no_pair (names i) old.pairs none))
   says_if_made result new d (if_made.inserted none v made flag step r) =
-      rw r (says_or_memory rules (names i) new E flag (insert_says rules offers names hash_of looks_up laws i v old flag new d step))
+      rw r (says_or_memory rules (names i) new E flag
+          (insert_says rules offers names hash_of looks_up laws i v old flag new d step))

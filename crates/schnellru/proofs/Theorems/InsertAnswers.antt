@@ -1,5 +1,6 @@
 -- What the answer of an insert says.
-use Rattle.std.proofs.Common.{None, ◌≡◌, ℕ, zero, suc, ◌⊎◌, inl, inr, Bool, true, false, cond, not, List, [], ◌∷◌, length, Result, Ok, Err, refl, sym, ap, ◌∙◌, subst, arith}
+use Rattle.std.proofs.Common.{None, ◌≡◌, ℕ, zero, suc, ◌⊎◌, inl, inr, Bool, true, false, cond, not, List, [], ◌∷◌}
+use Rattle.std.proofs.Common.{length, Result, Ok, Err, refl, sym, ap, ◌∙◌, subst, arith}
 use Rattle.std.proofs.lemmas.Bool.{false≢true}
 use Rattle.std.specs.Prelude.{IsErr, Some, IfSome}
 use Rattle.std.specs.declared.alloc.AllocError.{AllocError}
@@ -10,11 +11,13 @@ use Rattle.lru_limits.specs.Laws.{IsLookup, IsInsertion}
 use Rattle.schnellru.specs.Lists.{is_empty, first, IsFront, lookup, lookup_entry, without}
 use Rattle.schnellru.specs.State.{State, Contents, contents, Leaves, pop, trim, trim_from}
 use Rattle.schnellru.specs.Place.{Place, Outcome, placed, refused, no_memory}
-use Rattle.schnellru.specs.Inserts.{Insert, replaced, given_up, no_memory_to_admit, not_admitted, admitted, replacement, with_replaced, Settles}
+use Rattle.schnellru.specs.Inserts.{Insert, replaced, given_up, no_memory_to_admit, not_admitted, admitted, replacement}
+use Rattle.schnellru.specs.Inserts.{with_replaced, Settles}
 use Rattle.schnellru.specs.Theorems.{IsNewest, SaysWhether, Stores, left, given, KeepsValues}
 use Rattle.schnellru.proofs.Maps.LeavingPairs.{length-without_last}
 use Rattle.schnellru.proofs.Maps.Outcomes.{ok-not_err, same_kept}
-use Rattle.schnellru.proofs.Theorems.Fronts.{front_first, front_way, front_same, front_trans, front_trim, front_make_way, front_absent, front_cons, given_named, replaced_named}
+use Rattle.schnellru.proofs.Theorems.Fronts.{front_first, front_way, front_same, front_trans, front_trim}
+use Rattle.schnellru.proofs.Theorems.Fronts.{front_make_way, front_absent, front_cons, given_named, replaced_named}
 use Rattle.schnellru.proofs.Theorems.Ways.{Lands, place_lands}
 use Rattle.schnellru.proofs.PairLists.DistinctKeys.{AreDistinct, absent_without}
 
@@ -25,9 +28,11 @@ module _ {K V S : Type 0} (rules : Rules K V S) where
 
   within_from : (n : ℕ) (c : Contents K V S) → length c.pairs ≡ n → IsWithin (trim_from rules n c)
   within_from zero c e = inl (is_empty-none c.pairs e)
-  within_from (suc n) c e = go (rules.is_over_the_limit c.limiter (suc n)) refl (within_from n (pop rules c) (omega (arith, length-without_last c.pairs)))
+  within_from (suc n) c e = go (rules.is_over_the_limit c.limiter (suc n)) refl
+      (within_from n (pop rules c) (omega (arith, length-without_last c.pairs)))
     where
-      go : (b : Bool) → rules.is_over_the_limit c.limiter (suc n) ≡ b → IsWithin (trim_from rules n (pop rules c)) → IsWithin (cond b (trim_from rules n (pop rules c)) c)
+      go : (b : Bool) → rules.is_over_the_limit c.limiter (suc n) ≡ b → IsWithin (trim_from rules n (pop rules c))
+          → IsWithin (cond b (trim_from rules n (pop rules c)) c)
       go true h p = p
       go false h p = inr (rw e h)
 
@@ -36,19 +41,27 @@ module _ {K V S : Type 0} (rules : Rules K V S) where
   trim_ends c = within_from (length c.pairs) c refl
 
   -- what is left and is not empty is within the limit
-  trim_within : (c : Contents K V S) → is_empty (trim rules c).pairs ≡ false → rules.is_over_the_limit (trim rules c).limiter (length (trim rules c).pairs) ≡ false
+  trim_within : (c : Contents K V S) → is_empty (trim rules c).pairs ≡ false
+      → rules.is_over_the_limit (trim rules c).limiter (length (trim rules c).pairs) ≡ false
   unfolding trim
   trim_within c h = go (within_from (length c.pairs) c refl)
     where
-      go : IsWithin (trim_from rules (length c.pairs) c) → rules.is_over_the_limit (trim_from rules (length c.pairs) c).limiter (length (trim_from rules (length c.pairs) c).pairs) ≡ false
+      go : IsWithin (trim_from rules (length c.pairs) c)
+          → rules.is_over_the_limit (trim_from rules (length c.pairs) c).limiter
+          (length (trim_from rules (length c.pairs) c).pairs) ≡ false
       go (inl e) = absurd (grind (arith, e, h))
       go (inr f) = f
 
   -- what is left and is not empty begins as it did
-  trim_newest : (names : K → Bool) (c : Contents K V S) → is_empty (trim rules c).pairs ≡ false → IsNewest names c.pairs → IsNewest names (trim rules c).pairs
-  trim_newest names c h n = go (front_cons n.pair n.rest (trim rules c).pairs (subst (IsFront (trim rules c).pairs) n.first (front_trim rules c)))
+  trim_newest : (names : K → Bool) (c : Contents K V S) → is_empty (trim rules c).pairs ≡ false
+      → IsNewest names c.pairs → IsNewest names (trim rules c).pairs
+  trim_newest names c h n = go
+      (front_cons n.pair n.rest (trim rules c).pairs
+      (subst (IsFront (trim rules c).pairs) n.first (front_trim rules c)))
     where
-      go : ((trim rules c).pairs ≡ []) ⊎ ((ys : List (K × V)) × IsFront ys n.rest × ((trim rules c).pairs ≡ n.pair ∷ ys)) → IsNewest names (trim rules c).pairs
+      go : ((trim rules c).pairs ≡ [])
+          ⊎ ((ys : List (K × V)) × IsFront ys n.rest × ((trim rules c).pairs ≡ n.pair ∷ ys))
+          → IsNewest names (trim rules c).pairs
       go (inl e) = absurd (no (rw e at h))
         where
           no : true ≡ false → ⊥
@@ -63,10 +76,13 @@ module _ {K V S H : Type 0} (rules : Rules K V S) (hash_of : H → K → ℕ) (p
   Comes refused new = new.pairs ≡ []
   Comes no_memory new = IsFront new.pairs old.pairs
 
-  pub place_comes : (outcome : Outcome) (new : State K V S H) → Place rules hash_of pair old outcome new → Comes outcome new
-  place_comes outcome new p = let m = place_lands rules _ (front_way rules) (λ _. Unit {0}) hash_of pair old tt outcome new p in end outcome m.mid m.way m.lands
+  pub place_comes : (outcome : Outcome) (new : State K V S H) → Place rules hash_of pair old outcome new
+      → Comes outcome new
+  place_comes outcome new p = let m = place_lands rules _ (front_way rules)
+      (λ _. Unit {0}) hash_of pair old tt outcome new p in end outcome m.mid m.way m.lands
     where
-      end : (outcome : Outcome) (mid : State K V S H) → IsFront mid.pairs old.pairs → Lands rules (λ _. Unit {0}) pair old outcome mid new → Comes outcome new
+      end : (outcome : Outcome) (mid : State K V S H) → IsFront mid.pairs old.pairs
+          → Lands rules (λ _. Unit {0}) pair old outcome mid new → Comes outcome new
       end placed mid f l = (mid.pairs, ap (λ st. st.pairs) l.is.state)
       end refused mid f l = ap (λ st. st.pairs) l.1 ∙ l.0
       end no_memory mid f l = front_trans _ _ _ (front_same _ _ (ap (λ st. st.pairs) l)) f
@@ -77,7 +93,8 @@ not_true false e = refl
 
 module _ {K V S H : Type 0} (rules : Rules K V S) (names : K → Bool) where
   -- after a trimming that answers whether a pair is left
-  trimmed_says : (mid : State K V S H) (c : Contents K V S) (result : Result Bool AllocError) (new : State K V S H) → Leaves mid (trim rules c) new
+  trimmed_says : (mid : State K V S H) (c : Contents K V S) (result : Result Bool AllocError) (new : State K V S H)
+      → Leaves mid (trim rules c) new
       → result ≡ Ok (not (is_empty new.pairs)) → IsNewest names c.pairs → SaysWhether rules names result new
   trimmed_says mid c result new l r n = rw r (go (is_empty new.pairs) refl)
     where
@@ -92,58 +109,87 @@ module _ {K V S H : Type 0} (rules : Rules K V S) (names : K → Bool) where
       go false e = let k : is_empty (trim rules c).pairs ≡ false = rw same at e in
           (rw same (trim_newest rules names c k n), rw (same, same_limiter) (trim_within rules c k))
 
-module _ {K V S H I : Type 0} (rules : Rules K V S) (offers : Offers K V S I) (names : I → K → Bool) (hash_of : H → K → ℕ) {eq : K → K → Bool} {query_input : I → List (List ℕ)} {key_input : K → List (List ℕ)} (looks_up : IsLookup names eq query_input key_input) (laws : IsInsertion names eq offers) (i : I) (v : V) (old : State K V S H) where
+module _ {K V S H I : Type 0} (rules : Rules K V S) (offers : Offers K V S I) (names : I → K → Bool)
+    (hash_of : H → K → ℕ) {eq : K → K → Bool} {query_input : I → List (List ℕ)} {key_input : K → List (List ℕ)}
+    (looks_up : IsLookup names eq query_input key_input) (laws : IsInsertion names eq offers) (i : I) (v : V)
+    (old : State K V S H) where
   -- an error says that the key is not there
-  err_says : (result : Result Bool AllocError) (new : State K V S H) → IsErr result → lookup_entry (names i) new.pairs ≡ None → SaysWhether rules (names i) result new
+  err_says : (result : Result Bool AllocError) (new : State K V S H) → IsErr result → lookup_entry (names i) new.pairs
+      ≡ None → SaysWhether rules (names i) result new
   err_says (Ok b) new h absent = absurd (grind (arith, h))
   err_says (Err e) new h absent = absent
 
-  settled_says : (pair : K × V) (ready : State K V S H) (outcome : Outcome) (landed : State K V S H) (result : Result Bool AllocError) (new : State K V S H) → names i pair.0 ≡ true → lookup_entry (names i) ready.pairs ≡ None → Comes rules hash_of pair ready outcome landed → Settles rules outcome landed result new → SaysWhether rules (names i) result new
-  settled_says pair ready placed landed result new n absent b s = trimmed_says rules (names i) landed (contents landed) result new s.1 s.0 (record { pair = pair; rest = b.0; first = b.1; named = n })
-  settled_says pair ready refused landed result new n absent b s = rw s.0 (ap (λ st. lookup_entry (names i) st.pairs) s.1 ∙ ap (lookup_entry (names i)) b)
-  settled_says pair ready no_memory landed result new n absent b s = err_says result new s.0 (ap (λ st. lookup_entry (names i) st.pairs) s.1 ∙ front_absent (names i) landed.pairs ready.pairs b absent)
+  settled_says : (pair : K × V) (ready : State K V S H) (outcome : Outcome) (landed : State K V S H)
+      (result : Result Bool AllocError) (new : State K V S H) → names i pair.0 ≡ true
+      → lookup_entry (names i) ready.pairs ≡ None → Comes rules hash_of pair ready outcome landed
+      → Settles rules outcome landed result new → SaysWhether rules (names i) result new
+  settled_says pair ready placed landed result new n absent b s = trimmed_says rules (names i) landed
+      (contents landed) result new s.1 s.0 (record { pair = pair; rest = b.0; first = b.1; named = n })
+  settled_says pair ready refused landed result new n absent b s = rw s.0
+      (ap (λ st. lookup_entry (names i) st.pairs) s.1 ∙ ap (lookup_entry (names i)) b)
+  settled_says pair ready no_memory landed result new n absent b s = err_says result new s.0
+      (ap (λ st. lookup_entry (names i) st.pairs) s.1 ∙ front_absent (names i) landed.pairs ready.pairs b absent)
 
   -- The answer of an insert says whether the key is there.
-  pub insert_says : (result : Result Bool AllocError) (new : State K V S H) → AreDistinct eq old.pairs → Insert rules offers names hash_of i v old result new → SaysWhether rules (names i) result new
-  insert_says result new d (replaced pair found y r l) = trimmed_says rules (names i) old (with_replaced rules offers names pair i v old) result new l r (record {
+  pub insert_says : (result : Result Bool AllocError) (new : State K V S H) → AreDistinct eq old.pairs
+      → Insert rules offers names hash_of i v old result new → SaysWhether rules (names i) result new
+  insert_says result new d (replaced pair found y r l) = trimmed_says rules (names i) old
+      (with_replaced rules offers names pair i v old) result new l r (record {
     pair = ((replacement rules offers names pair i v old).key, (replacement rules offers names pair i v old).new_value);
     rest = without (names i) old.pairs;
     first = refl;
     named = replaced_named rules offers names hash_of looks_up laws i v old pair found;
   })
-  insert_says result new d (given_up pair found y r l) = rw r (ap (λ st. lookup_entry (names i) st.pairs) l.is ∙ absent_without eq (names i) (λ x y n. looks_up.one i x y n) old.pairs d)
-  insert_says result new d (no_memory_to_admit a k r e) = err_says result new r (ap (λ st. lookup_entry (names i) st.pairs) e ∙ a)
+  insert_says result new d (given_up pair found y r l) = rw r (ap (λ st. lookup_entry (names i) st.pairs) l.is
+      ∙ absent_without eq (names i) (λ x y n. looks_up.one i x y n) old.pairs d)
+  insert_says result new d (no_memory_to_admit a k r e) = err_says result new r
+      (ap (λ st. lookup_entry (names i) st.pairs) e ∙ a)
   insert_says result new d (not_admitted a s n r e) = rw r (ap (λ st. lookup_entry (names i) st.pairs) e ∙ a)
   insert_says result new d (admitted a s pair n (ready, l, outcome, landed, p, t)) =
-      settled_says pair ready outcome landed result new (given_named rules offers names hash_of looks_up laws i v old s pair n)
-      (front_absent (names i) ready.pairs old.pairs (front_trans _ _ _ (front_same _ _ (ap (λ st. st.pairs) l.is)) (front_make_way rules (record { pairs = old.pairs; limiter = s }))) a) (place_comes rules hash_of pair ready outcome landed p) t
+      settled_says pair ready outcome landed result new
+          (given_named rules offers names hash_of looks_up laws i v old s pair n)
+      (front_absent (names i) ready.pairs old.pairs (front_trans _ _ _ (front_same _ _ (ap (λ st. st.pairs) l.is))
+          (front_make_way rules (record { pairs = old.pairs; limiter = s }))) a)
+          (place_comes rules hash_of pair ready outcome landed p) t
 
   -- The newest pair is the one that the insert stores.
-  stored : (c : Contents K V S) (mid : State K V S H) (new : State K V S H) → Leaves mid (trim rules c) new → ◌≡◌ {A = Result Bool AllocError} (Ok true) (Ok (not (is_empty new.pairs))) → (pair : K × V) (rest : List (K × V))
-      → c.pairs ≡ pair ∷ rest → Stores rules offers names i v old pair → IfSome (first new.pairs) (Stores rules offers names i v old)
+  stored : (c : Contents K V S) (mid : State K V S H) (new : State K V S H) → Leaves mid (trim rules c) new
+      → ◌≡◌ {A = Result Bool AllocError} (Ok true) (Ok (not (is_empty new.pairs)))
+      → (pair : K × V) (rest : List (K × V))
+      → c.pairs ≡ pair ∷ rest → Stores rules offers names i v old pair
+          → IfSome (first new.pairs) (Stores rules offers names i v old)
   stored c mid new l r pair rest is h =
       let there : is_empty new.pairs ≡ false = not_true (is_empty new.pairs) (same_kept true _ r) in
       let same : new.pairs ≡ (trim rules c).pairs = ap (λ st. st.pairs) l.is in
-      subst (λ o. IfSome o (Stores rules offers names i v old)) (sym (front_first new.pairs c.pairs (subst (λ xs. IsFront xs c.pairs) (sym same) (front_trim rules c)) there ∙ ap first is)) h
+      subst (λ o. IfSome o (Stores rules offers names i v old))
+          (sym (front_first new.pairs c.pairs (subst (λ xs. IsFront xs c.pairs) (sym same) (front_trim rules c)) there
+          ∙ ap first is)) h
 
-  pub insert_stores : (result : Result Bool AllocError) (new : State K V S H) → result ≡ Ok true → Insert rules offers names hash_of i v old result new
+  pub insert_stores : (result : Result Bool AllocError) (new : State K V S H) → result ≡ Ok true
+      → Insert rules offers names hash_of i v old result new
       → IfSome (first new.pairs) (Stores rules offers names i v old)
-  insert_stores result new q (replaced pair found y r l) = stored (with_replaced rules offers names pair i v old) old new l (sym q ∙ r) _ _ refl (left pair found y refl)
+  insert_stores result new q (replaced pair found y r l) = stored
+      (with_replaced rules offers names pair i v old) old new l (sym q ∙ r) _ _ refl (left pair found y refl)
   insert_stores result new q (given_up pair found y r l) = absurd (false≢true (same_kept false true (sym r ∙ q)))
   insert_stores result new q (no_memory_to_admit a k r e) = ok-not_err result (rw q refl) r
   insert_stores result new q (not_admitted a s n r e) = absurd (false≢true (same_kept false true (sym r ∙ q)))
-  insert_stores result new q (admitted a s pair n (ready, l, outcome, landed, p, t)) = go outcome (place_comes rules hash_of pair ready outcome landed p) t
+  insert_stores result new q (admitted a s pair n (ready, l, outcome, landed, p, t)) = go outcome
+      (place_comes rules hash_of pair ready outcome landed p) t
     where
-      go : (outcome : Outcome) → Comes rules hash_of pair ready outcome landed → Settles rules outcome landed result new → IfSome (first new.pairs) (Stores rules offers names i v old)
+      go : (outcome : Outcome) → Comes rules hash_of pair ready outcome landed
+          → Settles rules outcome landed result new → IfSome (first new.pairs) (Stores rules offers names i v old)
       go placed b t = stored (contents landed) landed new t.1 (sym q ∙ t.0) pair b.0 b.1 (given a s n)
       go refused b t = absurd (false≢true (same_kept false true (sym t.0 ∙ q)))
       go no_memory b t = ok-not_err result (rw q refl) t.0
 
-module _ {K V S H I : Type 0} (rules : Rules K V S) (offers : Offers K V S I) (names : I → K → Bool) (i : I) (v : V) (old : State K V S H) where
+module _ {K V S H I : Type 0} (rules : Rules K V S) (offers : Offers K V S I) (names : I → K → Bool) (i : I) (v : V)
+    (old : State K V S H) where
   -- where the limiter keeps values, the key is found with its own
-  pub insert_found : KeepsValues offers → (new : State K V S H) → IsNewest (names i) new.pairs → IfSome (first new.pairs) (Stores rules offers names i v old) → lookup (names i) new.pairs ≡ Some v
+  pub insert_found : KeepsValues offers → (new : State K V S H) → IsNewest (names i) new.pairs
+      → IfSome (first new.pairs) (Stores rules offers names i v old) → lookup (names i) new.pairs ≡ Some v
   insert_found keeps new n h = rw n.first (rw n.named (ap Some (value n.pair (rw n.first at h))))
     where
       value : (pair : K × V) → Stores rules offers names i v old pair → pair.1 ≡ v
-      value pair (left was found y is) = ap (λ p. p.1) is ∙ keeps.replaced old.limiter (length old.pairs) was.0 i was.1 v
+      value pair (left was found y is) = ap (λ p. p.1) is
+          ∙ keeps.replaced old.limiter (length old.pairs) was.0 i was.1 v
       value pair (given a s n) = keeps.given old.limiter (length old.pairs) i v s pair.0 pair.1 n

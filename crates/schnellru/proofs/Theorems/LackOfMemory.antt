@@ -1,12 +1,16 @@
 -- Where an insert finds no memory.
-use Rattle.std.proofs.Common.{◌≡◌, ℕ, ◌<◌, ◌⊎◌, inl, inr, Bool, List, length, Result, Ok, Err, refl, sym, ap, ◌∙◌, subst, arith}
+use Rattle.std.proofs.Common.{◌≡◌, ℕ, ◌<◌, ◌⊎◌, inl, inr, Bool, List, length, Result, Ok, Err, refl, sym, ap, ◌∙◌}
+use Rattle.std.proofs.Common.{subst, arith}
 use Rattle.std.specs.Prelude.{IsErr, OnErr}
 use Rattle.std.specs.declared.alloc.AllocError.{AllocError}
 use Rattle.group_table.specs.Bucket.{Mark, room as room_of}
 use Rattle.lru_limits.specs.Rules.{Rules, Offers}
 use Rattle.schnellru.specs.State.{State, buckets, room}
-use Rattle.schnellru.specs.Place.{Place, first_table, first_denied, first_too_large, empty_with_room, empty_without_room, with_room, deleted_bucket, rehashed, grown, evicting, finds_bucket, made_anew, Outcome, placed, refused, no_memory}
-use Rattle.schnellru.specs.Inserts.{Insert, replaced, given_up, no_memory_to_admit, not_admitted, admitted, make_way, Settles, IsShort, LacksMemory}
+use Rattle.schnellru.specs.Place.{Place, first_table, first_denied, first_too_large, empty_with_room}
+use Rattle.schnellru.specs.Place.{empty_without_room, with_room, deleted_bucket, rehashed, grown, evicting}
+use Rattle.schnellru.specs.Place.{finds_bucket, made_anew, Outcome, placed, refused, no_memory}
+use Rattle.schnellru.specs.Inserts.{Insert, replaced, given_up, no_memory_to_admit, not_admitted, admitted, make_way}
+use Rattle.schnellru.specs.Inserts.{Settles, IsShort, LacksMemory}
 use Rattle.schnellru.specs.Lists.{IsFront}
 use Rattle.schnellru.proofs.Theorems.Fronts.{front_same, front_trans, front_make_way}
 use Rattle.schnellru.proofs.Theorems.InsertAnswers.{place_comes}
@@ -23,7 +27,8 @@ module _ {K V S H : Type 0} (rules : Rules K V S) (hash_of : H → K → ℕ) (p
   abbrev pub LacksTable : Type 0
   LacksTable = (room old ≡ 0) × ((buckets old ≡ 0) ⊎ (0 < length old.pairs))
 
-  pub place_lacks : (new : State K V S H) (outcome : Outcome) → outcome ≡ no_memory → Place rules hash_of pair old outcome new → LacksTable
+  pub place_lacks : (new : State K V S H) (outcome : Outcome) → outcome ≡ no_memory
+      → Place rules hash_of pair old outcome new → LacksTable
   place_lacks new outcome q (first_table e b bytes u g m) = (no_room old.marks b, inl b)
   place_lacks new outcome q (first_denied e b bytes u d o n) = refused-not_no_memory (sym o ∙ q)
   place_lacks new outcome q (first_too_large e b u o n) = refused-not_no_memory (sym o ∙ q)
@@ -33,13 +38,16 @@ module _ {K V S H : Type 0} (rules : Rules K V S) (hash_of : H → K → ℕ) (p
   place_lacks new outcome q (deleted_bucket f i b l o n) = placed-not_no_memory (sym o ∙ q)
   place_lacks new outcome q (rehashed f i l m) = (f.1, inr f.0)
   place_lacks new outcome q (grown f i l count bytes t g m) = (f.1, inr f.0)
-  place_lacks new outcome q (evicting f i l mid c (finds_bucket n pos one half left gone fills o p)) = placed-not_no_memory (sym o ∙ q)
+  place_lacks new outcome q (evicting f i l mid c (finds_bucket n pos one half left gone fills o p)) =
+      placed-not_no_memory (sym o ∙ q)
   place_lacks new outcome q (evicting f i l mid c (made_anew n pos one half left gone m)) = (f.1, inr f.0)
 
-module _ {K V S H I : Type 0} (rules : Rules K V S) (offers : Offers K V S I) (names : I → K → Bool) (hash_of : H → K → ℕ) (i : I) (v : V) (old : State K V S H)
+module _ {K V S H I : Type 0} (rules : Rules K V S) (offers : Offers K V S I) (names : I → K → Bool)
+    (hash_of : H → K → ℕ) (i : I) (v : V) (old : State K V S H)
     (result : Result Bool AllocError) (new : State K V S H) where
   -- Want of memory is the limiter's own, or the table's.
-  pub err_is : IsErr result → Insert rules offers names hash_of i v old result new → LacksMemory rules offers names hash_of i v old new
+  pub err_is : IsErr result → Insert rules offers names hash_of i v old result new
+      → LacksMemory rules offers names hash_of i v old new
   err_is h (replaced pair found y r l) = ok-not_err result (rw r refl) h
   err_is h (given_up pair found y r l) = ok-not_err result (rw r refl) h
   err_is h (no_memory_to_admit a k r e) = (a, inl (k, e))
@@ -55,11 +63,13 @@ module _ {K V S H I : Type 0} (rules : Rules K V S) (offers : Offers K V S I) (n
         beside = side k.1;
       }
         where
-          side : (buckets ready ≡ 0) ⊎ (0 < length ready.pairs) → (buckets old ≡ 0) ⊎ (0 < length (make_way rules (record { pairs = old.pairs; limiter = s })).pairs)
+          side : (buckets ready ≡ 0) ⊎ (0 < length ready.pairs) → (buckets old ≡ 0)
+              ⊎ (0 < length (make_way rules (record { pairs = old.pairs; limiter = s })).pairs)
           side (inl b) = inl (sym l.room.table ∙ b)
           side (inr f) = inr (subst (λ ps. 0 < length ps) (ap (λ st. st.pairs) l.is) f)
 
-      go : (outcome : Outcome) → Place rules hash_of pair ready outcome landed → Settles rules outcome landed result new → IsShort rules offers names hash_of i v old
+      go : (outcome : Outcome) → Place rules hash_of pair ready outcome landed
+          → Settles rules outcome landed result new → IsShort rules offers names hash_of i v old
       go placed p t = ok-not_err result (rw t.0 refl) h
       go refused p t = ok-not_err result (rw t.0 refl) h
       go no_memory p t = short (place_lacks rules hash_of pair ready landed no_memory refl p)
@@ -72,11 +82,14 @@ module _ {K V S H I : Type 0} (rules : Rules K V S) (offers : Offers K V S I) (n
   err_keeps h (not_admitted a s n r e) = ok-not_err result (rw r refl) h
   err_keeps h (admitted a s pair n (ready, l, outcome, landed, p, t)) = go outcome p t
     where
-      go : (outcome : Outcome) → Place rules hash_of pair ready outcome landed → Settles rules outcome landed result new → IsFront new.pairs old.pairs
+      go : (outcome : Outcome) → Place rules hash_of pair ready outcome landed
+          → Settles rules outcome landed result new → IsFront new.pairs old.pairs
       go placed p t = ok-not_err result (rw t.0 refl) h
       go refused p t = ok-not_err result (rw t.0 refl) h
-      go no_memory p t = front_trans _ _ _ (front_same _ _ (ap (λ st. st.pairs) t.1)) (front_trans _ _ _ (place_comes rules hash_of pair ready no_memory landed p)
-          (front_trans _ _ _ (front_same _ _ (ap (λ st. st.pairs) l.is)) (front_make_way rules (record { pairs = old.pairs; limiter = s }))))
+      go no_memory p t = front_trans _ _ _ (front_same _ _ (ap (λ st. st.pairs) t.1))
+          (front_trans _ _ _ (place_comes rules hash_of pair ready no_memory landed p)
+          (front_trans _ _ _ (front_same _ _ (ap (λ st. st.pairs) l.is))
+              (front_make_way rules (record { pairs = old.pairs; limiter = s }))))
 
 -- what an error implies, of a result that may be one
 pub on_err : {A : Type 0} (result : Result Bool AllocError) → (IsErr result → A) → OnErr result A

@@ -2,7 +2,8 @@
 --     KeepsWay rules R                      the moves that make way
 --     Keeps rules names R                   and all that need no offers
 --     KeepsOffers rules offers names R      and those of an insert
-use Rattle.std.proofs.Common.{◌≡◌, ℕ, zero, suc, ◌+◌, Bool, true, false, cond, List, [], ◌∷◌, length, Some, None, Result, sym, ap, subst}
+use Rattle.std.proofs.Common.{◌≡◌, ℕ, zero, suc, ◌+◌, Bool, true, false, cond, List, [], ◌∷◌, length, Some, None}
+use Rattle.std.proofs.Common.{Result, sym, ap, subst}
 use Rattle.std.specs.declared.alloc.AllocError.{AllocError}
 use Rattle.lru_limits.specs.Rules.{Rules, Offers}
 use Rattle.lru_limits.specs.Laws.{kept_value}
@@ -48,37 +49,45 @@ module _ {K V S I : Type 0} (rules : Rules K V S) (offers : Offers K V S I) (nam
   pub record KeepsOffers (R : Contents K V S → Contents K V S → Type 0) : Type 0 where
     pub keeps : Keeps rules names R
     -- the limiter gives a pair of a new key, which is in hand before all others
-    pub came : (i : I) (v : V) (c : Contents K V S) (s : S) (pair : K × V) → lookup_entry (names i) c.pairs ≡ None → offers.on_insert c.limiter (length c.pairs) i v s (Some pair)
+    pub came : (i : I) (v : V) (c : Contents K V S) (s : S) (pair : K × V) → lookup_entry (names i) c.pairs ≡ None
+        → offers.on_insert c.limiter (length c.pairs) i v s (Some pair)
         → R c (record { pairs = pair ∷ c.pairs; limiter = s })
     -- or none
-    pub turned_down : (i : I) (v : V) (c : Contents K V S) (s : S) → offers.on_insert c.limiter (length c.pairs) i v s None → R c (record { pairs = c.pairs; limiter = s })
-    pub exchanged : (i : I) (v : V) (c : Contents K V S) (pair : K × V) → lookup_entry (names i) c.pairs ≡ Some pair → R c (exchange pair i v c)
+    pub turned_down : (i : I) (v : V) (c : Contents K V S) (s : S)
+        → offers.on_insert c.limiter (length c.pairs) i v s None → R c (record { pairs = c.pairs; limiter = s })
+    pub exchanged : (i : I) (v : V) (c : Contents K V S) (pair : K × V) → lookup_entry (names i) c.pairs ≡ Some pair
+        → R c (exchange pair i v c)
 
   -- nothing is to be kept
   pub keeps_nothing : KeepsOffers (λ c d. Unit {0})
   keeps_nothing = record {
-    keeps = record { way = record { self = λ c. tt; trans = λ p q. tt; asked = λ bytes c. tt; popped = λ c. tt }; left = λ test c. tt; first = λ q c. tt; cleared = λ c. tt };
+    keeps = record { way = record { self = λ c. tt; trans = λ p q. tt; asked = λ bytes c. tt; popped = λ c. tt };
+        left = λ test c. tt; first = λ q c. tt; cleared = λ c. tt };
     came = λ i v c s pair a n. tt;
     turned_down = λ i v c s n. tt;
     exchanged = λ i v c pair found. tt;
   }
 
 -- what left left these
-pub left_are : {K V S H : Type 0} (old : State K V S H) (left : Contents K V S) (new : State K V S H) → Leaves old left new → contents new ≡ left
+pub left_are : {K V S H : Type 0} (old : State K V S H) (left : Contents K V S) (new : State K V S H)
+    → Leaves old left new → contents new ≡ left
 left_are old left new l = ap contents l.is
 
-pub leaves_keep : {K V S H : Type 0} (R : Contents K V S → Contents K V S → Type 0) (old : State K V S H) (left : Contents K V S) (new : State K V S H) → Leaves old left new
+pub leaves_keep : {K V S H : Type 0} (R : Contents K V S → Contents K V S → Type 0) (old : State K V S H)
+    (left : Contents K V S) (new : State K V S H) → Leaves old left new
     → R (contents old) left → R (contents old) (contents new)
 leaves_keep R old left new l h = subst (R (contents old)) (sym (left_are old left new l)) h
 
-module _ {K V S : Type 0} (rules : Rules K V S) (R : Contents K V S → Contents K V S → Type 0) (k : KeepsWay rules R) where
+module _ {K V S : Type 0} (rules : Rules K V S) (R : Contents K V S → Contents K V S → Type 0)
+    (k : KeepsWay rules R) where
   pub pops_keep : (n : ℕ) (c : Contents K V S) → R c (pops rules n c)
   pops_keep zero c = k.self c
   pops_keep (suc n) c = k.trans (k.popped c) (pops_keep n (pop rules c))
 
   trim_from_keeps : (n : ℕ) (c : Contents K V S) → R c (trim_from rules n c)
   trim_from_keeps zero c = k.self c
-  trim_from_keeps (suc n) c = go (rules.is_over_the_limit c.limiter (suc n)) (k.trans (k.popped c) (trim_from_keeps n (pop rules c)))
+  trim_from_keeps (suc n) c = go (rules.is_over_the_limit c.limiter (suc n))
+      (k.trans (k.popped c) (trim_from_keeps n (pop rules c)))
     where
       go : (b : Bool) → R c (trim_from rules n (pop rules c)) → R c (cond b (trim_from rules n (pop rules c)) c)
       go true p = p
@@ -97,12 +106,14 @@ module _ {K V S : Type 0} (rules : Rules K V S) (R : Contents K V S → Contents
 
   module _ {H : Type 0} where
     -- what follows a placing
-    pub settles_keep : (outcome : Outcome) (landed : State K V S H) (result : Result Bool AllocError) (new : State K V S H) → Settles rules outcome landed result new → R (contents landed) (contents new)
+    pub settles_keep : (outcome : Outcome) (landed : State K V S H) (result : Result Bool AllocError)
+        (new : State K V S H) → Settles rules outcome landed result new → R (contents landed) (contents new)
     settles_keep placed landed result new h = leaves_keep R landed _ new h.1 (trim_keeps (contents landed))
     settles_keep refused landed result new h = rw h.1 (k.self (contents landed))
     settles_keep no_memory landed result new h = rw h.1 (k.self (contents landed))
 
-module _ {K V S Q : Type 0} (rules : Rules K V S) (names : Q → K → Bool) (R : Contents K V S → Contents K V S → Type 0) (k : Keeps rules names R) where
+module _ {K V S Q : Type 0} (rules : Rules K V S) (names : Q → K → Bool) (R : Contents K V S → Contents K V S → Type 0)
+    (k : Keeps rules names R) where
   -- way is made behind a pair in hand
   pub way_behind : (pair : K × V) → KeepsWay rules (λ c d. R (behind pair c) (behind pair d))
   way_behind pair = record {
@@ -112,6 +123,7 @@ module _ {K V S Q : Type 0} (rules : Rules K V S) (names : Q → K → Bool) (R 
     popped = λ c. go c.pairs c.limiter;
   }
     where
-      go : (xs : List (K × V)) (s : S) → R (behind pair (record { pairs = xs; limiter = s })) (behind pair (pop rules (record { pairs = xs; limiter = s })))
+      go : (xs : List (K × V)) (s : S) → R (behind pair (record { pairs = xs; limiter = s }))
+          (behind pair (pop rules (record { pairs = xs; limiter = s })))
       go [] s = k.way.self _
       go (x ∷ xs) s = k.way.popped (record { pairs = pair ∷ x ∷ xs; limiter = s })

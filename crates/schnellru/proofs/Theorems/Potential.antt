@@ -9,17 +9,20 @@ use Rattle.schnellru.proofs.TableSizes.Growth.{full_capacity-at_most}
 
 module _ {K V S H : Type 0} where
   pub pays_trans : {old mid new : State K V S H} → PaysForMoves old mid → PaysForMoves mid new → PaysForMoves old new
-  pays_trans p q = record { placed = omega (arith, p.placed, q.placed); moved = λ h. omega (arith, p.placed, q.placed, p.moved (omega (arith, q.placed)), q.moved h) }
+  pays_trans p q = record { placed = omega (arith, p.placed, q.placed); moved = λ h. omega
+      (arith, p.placed, q.placed, p.moved (omega (arith, q.placed)), q.moved h) }
 
   pub pays_self : (st : State K V S H) → PaysForMoves st st
   pays_self st = record { placed = omega arith; moved = λ _. omega arith }
 
   -- no count changes, and the potential does not rise
-  pub pays_calm : (old new : State K V S H) → new.placed ≡ old.placed → new.moved ≡ old.moved → potential new ≤ potential old → PaysForMoves old new
+  pub pays_calm : (old new : State K V S H) → new.placed ≡ old.placed → new.moved ≡ old.moved → potential new
+      ≤ potential old → PaysForMoves old new
   pays_calm old new p m f = record { placed = omega arith; moved = λ _. omega arith }
 
   -- a pair is placed
-  pub pays_placing : (old new : State K V S H) (moves : ℕ) → old.placed < 2 ^ 64 → new.moved ≡ count_up old.moved moves → new.placed ≡ count_up old.placed 1
+  pub pays_placing : (old new : State K V S H) (moves : ℕ) → old.placed < 2 ^ 64 → new.moved ≡ count_up old.moved moves
+      → new.placed ≡ count_up old.placed 1
       → moves + potential new ≤ potential old + 2 → PaysForMoves old new
   pays_placing old new moves bound m p f = record { placed = omega arith; moved = λ h. omega arith }
 

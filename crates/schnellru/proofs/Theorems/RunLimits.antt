@@ -7,7 +7,8 @@ use Rattle.schnellru.specs.Lists.{without_first}
 use Rattle.schnellru.specs.State.{State}
 use Rattle.schnellru.specs.GetOrInserts.{got, inserted}
 use Rattle.schnellru.specs.Reservations.{Reserve}
-use Rattle.schnellru.specs.Runs.{Step, inserts, makes_newest, gets, removes, pops_oldest, pops_newest, drains, clears, reserves, Run, ends, goes_on}
+use Rattle.schnellru.specs.Runs.{Step, inserts, makes_newest, gets, removes, pops_oldest, pops_newest, drains, clears}
+use Rattle.schnellru.specs.Runs.{reserves, Run, ends, goes_on}
 use Rattle.schnellru.specs.Theorems.{UsesAtMost}
 use Rattle.schnellru.specs.declared.map.reserve.ReserveError.{ReserveError}
 use Rattle.schnellru.proofs.Maps.LeavingPairs.{length-without_last}
@@ -17,9 +18,13 @@ use Rattle.schnellru.proofs.Theorems.Limits.{keeps_limiter, uses_at_most, length
 use Rattle.schnellru.proofs.Theorems.Removals.{reserved_list}
 use Rattle.schnellru.proofs.Theorems.Runs.{step_changes}
 
-pub reserve_uses_at_most : {K V H : Type 0} (names : K → K → Bool) (n : ℕ) (old : State K V ℕ H) (result : Result (Unit {0}) ReserveError) (new : State K V ℕ H)
-    → Reserve (plain (λ _ _. false) (λ most bytes. nat_le bytes most)) n old result new → UsesAtMost old.limiter old → UsesAtMost old.limiter new
-reserve_uses_at_most names n old result new h = uses_at_most (plain (λ _ _. false) (λ most bytes. nat_le bytes most)) _ _ old new (λ bytes e. grind (arith, nat_tests)) (λ s p. p.1)
+pub reserve_uses_at_most : {K V H : Type 0} (names : K → K → Bool) (n : ℕ) (old : State K V ℕ H)
+    (result : Result (Unit {0}) ReserveError) (new : State K V ℕ H)
+    → Reserve (plain (λ _ _. false) (λ most bytes. nat_le bytes most)) n old result new → UsesAtMost old.limiter old
+        → UsesAtMost old.limiter new
+reserve_uses_at_most names n old result new h = uses_at_most
+    (plain (λ _ _. false) (λ most bytes. nat_le bytes most)) _ _ old new (λ bytes e. grind (arith, nat_tests))
+    (λ s p. p.1)
     (reserve_changes _ _ (keeps_limiter _ _ (λ _ _ _. true) names).keeps.way n old result new h).tables
 
 length-without_first : {X : Type 0} (xs : List X) → length (without_first xs) ≤ length xs
@@ -32,35 +37,52 @@ module _ {K V H : Type 0} (names : K → K → Bool) (hash_of : H → K → ℕ)
     fewer : length new.pairs ≤ length old.pairs → length old.pairs ≤ old.limiter → length new.pairs ≤ old.limiter
     fewer h few = omega (arith, h, few)
 
-    step_stays_short : Step (plain (λ most n. nat_lt most n) (λ _ _. true)) (hands_over (λ most _ _. nat_lt 0 most)) names hash_of old new
+    step_stays_short : Step (plain (λ most n. nat_lt most n) (λ _ _. true))
+        (hands_over (λ most _ _. nat_lt 0 most)) names hash_of old new
         → length old.pairs ≤ old.limiter → length new.pairs ≤ old.limiter
     step_stays_short (inserts k v result h) = by_length_stays names hash_of k v old result new h
-    step_stays_short (makes_newest v k result (got w e r step)) = fewer (omega (arith, ap (λ st. length st.pairs) step, length-front_pairs (names k) old.pairs))
-    step_stays_short (makes_newest v k result (inserted e w m step)) = by_length_stays names hash_of k w old result new step
-    step_stays_short (gets k e) = fewer (omega (arith, ap (λ st. length st.pairs) e, length-front_pairs (names k) old.pairs))
-    step_stays_short (removes test result h) = fewer (omega (arith, ap (λ st. length st.pairs) h.state.is, length-without test old.pairs))
-    step_stays_short (pops_oldest result h) = fewer (omega (arith, ap (λ st. length st.pairs) h.state.is, length-without_last old.pairs))
-    step_stays_short (pops_newest result h) = fewer (omega (arith, ap (λ st. length st.pairs) h.state.is, length-without_first old.pairs))
+    step_stays_short (makes_newest v k result (got w e r step)) = fewer
+        (omega (arith, ap (λ st. length st.pairs) step, length-front_pairs (names k) old.pairs))
+    step_stays_short (makes_newest v k result (inserted e w m step)) =
+        by_length_stays names hash_of k w old result new step
+    step_stays_short (gets k e) = fewer
+        (omega (arith, ap (λ st. length st.pairs) e, length-front_pairs (names k) old.pairs))
+    step_stays_short (removes test result h) = fewer
+        (omega (arith, ap (λ st. length st.pairs) h.state.is, length-without test old.pairs))
+    step_stays_short (pops_oldest result h) = fewer
+        (omega (arith, ap (λ st. length st.pairs) h.state.is, length-without_last old.pairs))
+    step_stays_short (pops_newest result h) = fewer
+        (omega (arith, ap (λ st. length st.pairs) h.state.is, length-without_first old.pairs))
     step_stays_short (drains newest oldest result h) = fewer (omega (arith, ap (λ st. length st.pairs) h.state.2))
     step_stays_short (clears e) = fewer (omega (arith, ap (λ st. length st.pairs) e))
     step_stays_short (reserves n result h) = fewer (omega (arith, ap length (reserved_list _ n old result new h).0))
 
-  pub run_stays_short : (new old : State K V ℕ H) → Run (Step (plain (λ most n. nat_lt most n) (λ _ _. true)) (hands_over (λ most _ _. nat_lt 0 most)) names hash_of) new old
+  pub run_stays_short : (new old : State K V ℕ H)
+      → Run (Step (plain (λ most n. nat_lt most n) (λ _ _. true))
+      (hands_over (λ most _ _. nat_lt 0 most)) names hash_of) new old
       → length old.pairs ≤ old.limiter → length new.pairs ≤ old.limiter
   run_stays_short new old ends few = few
   run_stays_short new old (goes_on mid s sized r) few =
       let same = (step_changes _ _ names hash_of _ (keeps_limiter _ _ _ names) old mid s).1.moves in
-      subst (λ most. length new.pairs ≤ most) same (run_stays_short new mid r (subst (λ most. length mid.pairs ≤ most) (sym same) (step_stays_short old mid s few)))
+      subst (λ most. length new.pairs ≤ most) same
+          (run_stays_short new mid r
+          (subst (λ most. length mid.pairs ≤ most) (sym same) (step_stays_short old mid s few)))
 
   -- a limit by memory usage
-  step_uses_at_most : (old new : State K V ℕ H) → Step (plain (λ _ _. false) (λ most bytes. nat_le bytes most)) (hands_over (λ _ _ _. true)) names hash_of old new
+  step_uses_at_most : (old new : State K V ℕ H) → Step (plain (λ _ _. false) (λ most bytes. nat_le bytes most))
+      (hands_over (λ _ _ _. true)) names hash_of old new
       → UsesAtMost old.limiter old → UsesAtMost old.limiter new
-  step_uses_at_most old new s = uses_at_most (plain (λ _ _. false) (λ most bytes. nat_le bytes most)) _ _ old new (λ bytes e. grind (arith, nat_tests)) (λ s p. p.1)
+  step_uses_at_most old new s = uses_at_most (plain (λ _ _. false) (λ most bytes. nat_le bytes most)) _ _ old new
+      (λ bytes e. grind (arith, nat_tests)) (λ s p. p.1)
       (step_changes _ _ names hash_of _ (keeps_limiter _ _ _ names) old new s).1.tables
 
-  pub run_uses_at_most : (new old : State K V ℕ H) → Run (Step (plain (λ _ _. false) (λ most bytes. nat_le bytes most)) (hands_over (λ _ _ _. true)) names hash_of) new old
+  pub run_uses_at_most : (new old : State K V ℕ H)
+      → Run (Step (plain (λ _ _. false) (λ most bytes. nat_le bytes most)) (hands_over (λ _ _ _. true)) names hash_of)
+      new old
       → UsesAtMost old.limiter old → UsesAtMost old.limiter new
   run_uses_at_most new old ends uses = uses
   run_uses_at_most new old (goes_on mid s sized r) uses =
       let same = (step_changes _ _ names hash_of _ (keeps_limiter _ _ _ names) old mid s).1.moves in
-      subst (λ most. UsesAtMost most new) same (run_uses_at_most new mid r (subst (λ most. UsesAtMost most mid) (sym same) (step_uses_at_most old mid s uses)))
+      subst (λ most. UsesAtMost most new) same
+          (run_uses_at_most new mid r
+          (subst (λ most. UsesAtMost most mid) (sym same) (step_uses_at_most old mid s uses)))

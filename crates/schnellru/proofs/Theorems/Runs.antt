@@ -7,7 +7,8 @@ use Rattle.std.proofs.Common.{sym}
 use Rattle.lru_limits.specs.Rules.{Rules, Offers}
 use Rattle.lru_limits.specs.Laws.{IsLookup, IsInsertion, IsAccount}
 use Rattle.schnellru.specs.State.{State, Contents, contents, IsSized, IsMap}
-use Rattle.schnellru.specs.Runs.{Step, inserts, makes_newest, gets, removes, pops_oldest, pops_newest, drains, clears, reserves}
+use Rattle.schnellru.specs.Runs.{Step, inserts, makes_newest, gets, removes, pops_oldest, pops_newest, drains, clears}
+use Rattle.schnellru.specs.Runs.{reserves}
 use Rattle.schnellru.specs.Runs.{AnyStep, calls, writes, sets_limiter, Run, ends, goes_on}
 use Rattle.schnellru.specs.Theorems.{PaysForMoves, IsSummed}
 use Rattle.schnellru.proofs.PairLists.DistinctKeys.{offers_distinct}
@@ -17,51 +18,69 @@ use Rattle.schnellru.proofs.Theorems.Potential.{pays_self, pays_trans, bounded_o
 use Rattle.schnellru.proofs.Theorems.Ways.{insert_changes}
 use Rattle.schnellru.proofs.Theorems.PaidMoves.{stays_map}
 use Rattle.schnellru.proofs.Theorems.Sums.{keeps_sums, stays_summed}
-use Rattle.schnellru.proofs.Theorems.CountedMoves.{promoted_changes, remove_changes, pop_oldest_changes, pop_newest_changes, cleared_changes, drain_changes}
+use Rattle.schnellru.proofs.Theorems.CountedMoves.{promoted_changes, remove_changes, pop_oldest_changes}
+use Rattle.schnellru.proofs.Theorems.CountedMoves.{pop_newest_changes, cleared_changes, drain_changes}
 use Rattle.schnellru.proofs.Theorems.CountedMoves.{reserve_changes, makes_newest_changes, written_changes, set_changes}
 
-module _ {K V S H I : Type 0} (rules : Rules K V S) (offers : Offers K V S I) (names : I → K → Bool) (hash_of : H → K → ℕ) where
+module _ {K V S H I : Type 0} (rules : Rules K V S) (offers : Offers K V S I) (names : I → K → Bool)
+    (hash_of : H → K → ℕ) where
   module _ (R : Contents K V S → Contents K V S → Type 0) (k : KeepsOffers rules offers names R) where
-    pub step_changes : (old new : State K V S H) → Step rules offers names hash_of old new → (more : ℕ) × Changes rules R more old new
-    step_changes old new (inserts key value result h) = (_, insert_changes rules offers names R k hash_of key value old result new h)
-    step_changes old new (makes_newest value key result h) = (_, makes_newest_changes rules offers names R k hash_of (λ v. v ≡ value) key old result new h)
+    pub step_changes : (old new : State K V S H) → Step rules offers names hash_of old new → (more : ℕ)
+        × Changes rules R more old new
+    step_changes old new (inserts key value result h) =
+        (_, insert_changes rules offers names R k hash_of key value old result new h)
+    step_changes old new (makes_newest value key result h) =
+        (_, makes_newest_changes rules offers names R k hash_of (λ v. v ≡ value) key old result new h)
     step_changes old new (gets key e) = rw e (_, promoted_changes rules names R k.keeps old key)
     step_changes old new (removes test result h) = (_, remove_changes rules names R k.keeps old test result new h)
     step_changes old new (pops_oldest result h) = (_, pop_oldest_changes rules names R k.keeps old result new h)
     step_changes old new (pops_newest result h) = (_, pop_newest_changes rules names R k.keeps old result new h)
-    step_changes old new (drains newest oldest result h) = (_, drain_changes rules names R k.keeps old newest oldest result new h)
+    step_changes old new (drains newest oldest result h) =
+        (_, drain_changes rules names R k.keeps old newest oldest result new h)
     step_changes old new (clears e) = rw e (_, cleared_changes rules names R k.keeps old)
     step_changes old new (reserves n result h) = (_, reserve_changes rules R k.keeps.way n old result new h)
 
     -- and what is written, where that keeps what is to be kept
-    pub any_changes : ((c : Contents K V S) (test : K → Bool) (value : V) → R c (record { pairs = set_value test c.pairs value; limiter = c.limiter }))
+    pub any_changes : ((c : Contents K V S) (test : K → Bool) (value : V)
+        → R c (record { pairs = set_value test c.pairs value; limiter = c.limiter }))
         → ((c : Contents K V S) (s : S) → R c (record { pairs = c.pairs; limiter = s }))
-        → (old new : State K V S H) → AnyStep rules offers names hash_of old new → (more : ℕ) × Changes rules R more old new
+        → (old new : State K V S H) → AnyStep rules offers names hash_of old new → (more : ℕ)
+            × Changes rules R more old new
     any_changes write set old new (calls h) = step_changes old new h
-    any_changes write set old new (writes test value e) = rw e (_, written_changes rules R old test value (write (contents old) test value))
+    any_changes write set old new (writes test value e) = rw e
+        (_, written_changes rules R old test value (write (contents old) test value))
     any_changes write set old new (sets_limiter s e) = rw e (_, set_changes rules R old s (set (contents old) s))
 
-    pub run_keeps : (new old : State K V S H) → Run (Step rules offers names hash_of) new old → R (contents old) (contents new)
+    pub run_keeps : (new old : State K V S H) → Run (Step rules offers names hash_of) new old
+        → R (contents old) (contents new)
     run_keeps new old ends = k.keeps.way.self (contents new)
     run_keeps new old (goes_on mid s sized r) = k.keeps.way.trans (step_changes old mid s).1.moves (run_keeps new mid r)
 
-  pub run_pays : (new old : State K V S H) → IsSized old → Run (AnyStep rules offers names hash_of) new old → PaysForMoves old new
+  pub run_pays : (new old : State K V S H) → IsSized old → Run (AnyStep rules offers names hash_of) new old
+      → PaysForMoves old new
   run_pays new old ok ends = pays_self new
   run_pays new old ok (goes_on mid s sized r) =
-      pays_trans ((any_changes _ (keeps_nothing rules offers names) (λ c test value. tt) (λ c s. tt) old mid s).1.tables.pays (bounded_of old ok)) (run_pays new mid sized r)
+      pays_trans ((any_changes _ (keeps_nothing rules offers names) (λ c test value. tt)
+          (λ c s. tt) old mid s).1.tables.pays (bounded_of old ok)) (run_pays new mid sized r)
 
-  pub run_summed : (cost : K → V → ℕ) (account : S → ℕ) → IsAccount rules offers cost account → (new old : State K V S H)
+  pub run_summed : (cost : K → V → ℕ) (account : S → ℕ) → IsAccount rules offers cost account
+      → (new old : State K V S H)
       → Run (Step rules offers names hash_of) new old → IsSummed cost account old → IsSummed cost account new
-  run_summed cost account laws new old r = stays_summed rules offers names cost account laws old new (run_keeps _ (keeps_sums rules offers names cost account laws) new old r)
+  run_summed cost account laws new old r = stays_summed rules offers names cost account laws old new
+      (run_keeps _ (keeps_sums rules offers names cost account laws) new old r)
 
-  module _ {eq : K → K → Bool} {query_input : I → List (List ℕ)} {key_input : K → List (List ℕ)} (looks_up : IsLookup names eq query_input key_input)
+  module _ {eq : K → K → Bool} {query_input : I → List (List ℕ)} {key_input : K → List (List ℕ)}
+      (looks_up : IsLookup names eq query_input key_input)
       (laws : IsInsertion names eq offers) where
-    any_is_map : (old new : State K V S H) → AnyStep rules offers names hash_of old new → IsMap eq old → IsSized new → IsMap eq new
+    any_is_map : (old new : State K V S H) → AnyStep rules offers names hash_of old new → IsMap eq old → IsSized new
+        → IsMap eq new
     any_is_map old new s =
         let changed = any_changes _ (offers_distinct rules offers names looks_up laws)
-            (λ c test value d. subst (IsDistinct eq) (sym (keys-set_value test c.pairs value)) d) (λ c s d. d) old new s in
+            (λ c test value d. subst (IsDistinct eq) (sym (keys-set_value test c.pairs value)) d)
+                (λ c s d. d) old new s in
         stays_map rules changed.0 old new changed.1
 
-    pub run_is_map : (new old : State K V S H) → Run (AnyStep rules offers names hash_of) new old → IsMap eq old → IsMap eq new
+    pub run_is_map : (new old : State K V S H) → Run (AnyStep rules offers names hash_of) new old → IsMap eq old
+        → IsMap eq new
     run_is_map new old ends ok = ok
     run_is_map new old (goes_on mid s sized r) ok = run_is_map new mid r (any_is_map old mid s ok sized)

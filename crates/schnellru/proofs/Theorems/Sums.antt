@@ -1,5 +1,6 @@
 -- The account stays the sum of the costs.
-use Rattle.std.proofs.Common.{◌≡◌, ℕ, ◌+◌, Bool, true, false, cond, List, [], ◌∷◌, length, Option, Some, None, refl, sym, ap, ◌∙◌, subst, arith, sum_by}
+use Rattle.std.proofs.Common.{◌≡◌, ℕ, ◌+◌, Bool, true, false, cond, List, [], ◌∷◌, length, Option, Some, None, refl}
+use Rattle.std.proofs.Common.{sym, ap, ◌∙◌, subst, arith, sum_by}
 use Rattle.std.proofs.lemmas.List.Recursion.{is_sum_by}
 use Rattle.lru_limits.specs.Rules.{Rules, Offers}
 use Rattle.lru_limits.specs.Laws.{IsAccount}
@@ -31,7 +32,8 @@ module _ {X : Type 0} (f : X → ℕ) where
       last_some z [] e = grind arith
       last_some z (w ∷ ws) e = last_some w ws e
 
-      more : (o : Option X) → last (y ∷ ys) ≡ o → IsSplit (y ∷ ys) o (without_last (y ∷ ys)) → IsSplit (x ∷ y ∷ ys) o (x ∷ without_last (y ∷ ys))
+      more : (o : Option X) → last (y ∷ ys) ≡ o → IsSplit (y ∷ ys) o (without_last (y ∷ ys))
+          → IsSplit (x ∷ y ∷ ys) o (x ∷ without_last (y ∷ ys))
       more None e h = absurd (last_some y ys e)
       more (Some z) e h = omega (arith, h)
 
@@ -40,7 +42,8 @@ module _ {K V : Type 0} (cost : K × V → ℕ) (names : K → Bool) where
   split_named [] = refl
   split_named (x ∷ xs) = go (names x.0) (lookup_entry names xs) (split_named xs)
     where
-      go : (b : Bool) (o : Option (K × V)) → IsSplit cost xs o (without names xs) → IsSplit cost (x ∷ xs) (cond b (Some x) o) (cond b xs (x ∷ without names xs))
+      go : (b : Bool) (o : Option (K × V)) → IsSplit cost xs o (without names xs)
+          → IsSplit cost (x ∷ xs) (cond b (Some x) o) (cond b xs (x ∷ without names xs))
       go true o h = omega arith
       go false None h = ap (λ l. x ∷ l) h
       go false (Some y) h = omega (arith, h)
@@ -52,19 +55,23 @@ module _ {K V : Type 0} (cost : K × V → ℕ) (names : K → Bool) where
       go None ys h = ap (total cost) h
       go (Some x) ys h = omega (arith, h)
 
-module _ {K V S I : Type 0} (rules : Rules K V S) (offers : Offers K V S I) (names : I → K → Bool) (cost : K → V → ℕ) (account : S → ℕ) (laws : IsAccount rules offers cost account) where
+module _ {K V S I : Type 0} (rules : Rules K V S) (offers : Offers K V S I) (names : I → K → Bool) (cost : K → V → ℕ)
+    (account : S → ℕ) (laws : IsAccount rules offers cost account) where
   -- the account is the sum over the pairs
   abbrev Holds : Contents K V S → Type 0
   Holds c = account c.limiter ≡ total (λ p. cost p.0 p.1) c.pairs
 
   -- what is told of what goes is taken off
-  told_holds : (xs ys : List (K × V)) (o : Option (K × V)) (s : S) → IsSplit (λ p. cost p.0 p.1) xs o ys → account s ≡ total (λ p. cost p.0 p.1) xs → account (told_of rules o s) ≡ total (λ p. cost p.0 p.1) ys
+  told_holds : (xs ys : List (K × V)) (o : Option (K × V)) (s : S) → IsSplit (λ p. cost p.0 p.1) xs o ys → account s
+      ≡ total (λ p. cost p.0 p.1) xs → account (told_of rules o s) ≡ total (λ p. cost p.0 p.1) ys
   told_holds xs ys None s h e = e ∙ ap (total (λ p. cost p.0 p.1)) (sym h)
   told_holds xs ys (Some p) s h e = let r = laws.takes_off s p.0 p.1 (omega arith) in omega arith
 
-  exchanged_holds : (i : I) (v : V) (c : Contents K V S) (pair : K × V) → lookup_entry (names i) c.pairs ≡ Some pair → Holds c → Holds (exchange rules offers names pair i v c)
+  exchanged_holds : (i : I) (v : V) (c : Contents K V S) (pair : K × V) → lookup_entry (names i) c.pairs ≡ Some pair
+      → Holds c → Holds (exchange rules offers names pair i v c)
   exchanged_holds i v c pair found h =
-      let n = subst (λ o. IsSplit (λ p. cost p.0 p.1) c.pairs o (without (names i) c.pairs)) found (split_named (λ p. cost p.0 p.1) (names i) c.pairs) in
+      let n = subst (λ o. IsSplit (λ p. cost p.0 p.1) c.pairs o (without (names i) c.pairs)) found
+          (split_named (λ p. cost p.0 p.1) (names i) c.pairs) in
       let r = laws.exchanges c.limiter (length c.pairs) pair.0 i pair.1 v (omega arith) in omega arith
 
   pub keeps_sums : KeepsOffers rules offers names (λ c d. Holds c → Holds d)
@@ -86,5 +93,7 @@ module _ {K V S I : Type 0} (rules : Rules K V S) (offers : Offers K V S I) (nam
   }
 
   -- what makes these moves keeps the account the sum of the costs
-  pub stays_summed : {H : Type 0} (old new : State K V S H) → (Holds (contents old) → Holds (contents new)) → IsSummed cost account old → IsSummed cost account new
-  stays_summed old new r h = r (h ∙ omega (arith, total-is (λ p. cost p.0 p.1) old.pairs)) ∙ omega (arith, total-is (λ p. cost p.0 p.1) new.pairs)
+  pub stays_summed : {H : Type 0} (old new : State K V S H) → (Holds (contents old) → Holds (contents new))
+      → IsSummed cost account old → IsSummed cost account new
+  stays_summed old new r h = r (h ∙ omega (arith, total-is (λ p. cost p.0 p.1) old.pairs))
+      ∙ omega (arith, total-is (λ p. cost p.0 p.1) new.pairs)

@@ -1,6 +1,7 @@
 -- What calls make of the table: what it costs, how far it grows, and who permitted it.
 use Rattle.std.specs.declared.alloc.AllocError.{AllocError}
-use Rattle.std.proofs.Common.{◌≡◌, Bool, Result, ℕ, ◌+◌, ◌*◌, ◌^◌, ◌<◌, ◌≤◌, ◌⊎◌, inl, inr, true, List, length, Some, refl, ap, ◌∙◌, subst, arith}
+use Rattle.std.proofs.Common.{◌≡◌, Bool, Result, ℕ, ◌+◌, ◌*◌, ◌^◌, ◌<◌, ◌≤◌, ◌⊎◌, inl, inr, true, List, length, Some}
+use Rattle.std.proofs.Common.{refl, ap, ◌∙◌, subst, arith}
 use Rattle.group_table.specs.Sizes.{full_capacity}
 use Rattle.lru_limits.specs.Rules.{Rules}
 use Rattle.schnellru.specs.Sizes.{usage}
@@ -21,11 +22,13 @@ module _ {K V S H : Type 0} where
     pub table : buckets new ≡ buckets old
     pub keeps : room old ≤ room new
     pub few : length new.pairs ≤ length old.pairs
-    pub fits : length old.pairs + room old ≤ full_capacity (buckets old) → length new.pairs + room new ≤ full_capacity (buckets old)
+    pub fits : length old.pairs + room old ≤ full_capacity (buckets old) → length new.pairs + room new
+        ≤ full_capacity (buckets old)
 
   -- another limiter
   pub limiter_calm : (st : State K V S H) (s : S) → Calm st (record st { limiter = s })
-  limiter_calm st s = record { entry_bytes = refl; placings = refl; moved = refl; placed = refl; table = refl; keeps = omega arith; few = omega arith; fits = λ h. h }
+  limiter_calm st s = record { entry_bytes = refl; placings = refl; moved = refl; placed = refl; table = refl; keeps =
+      omega arith; few = omega arith; fits = λ h. h }
 
   pub self_calm : (st : State K V S H) → Calm st st
   self_calm st = limiter_calm st st.limiter
@@ -42,7 +45,8 @@ module _ {K V S H : Type 0} where
     fits = λ h. omega (arith, g.fits (omega (arith, f.fits h, ap full_capacity f.table)), ap full_capacity f.table);
   }
 
-  pub leaves_calm : (old : State K V S H) (left : Contents K V S) (new : State K V S H) → Leaves old left new → Calm old new
+  pub leaves_calm : (old : State K V S H) (left : Contents K V S) (new : State K V S H) → Leaves old left new
+      → Calm old new
   leaves_calm old left new l = record {
     entry_bytes = ap (λ st. st.entry_bytes) l.is;
     placings = ap (λ st. st.placings) l.is;
@@ -55,7 +59,8 @@ module _ {K V S H : Type 0} where
   }
 
   -- what follows a placing
-  pub settles_calm : (rules : Rules K V S) (outcome : Outcome) (landed : State K V S H) (result : Result Bool AllocError) (new : State K V S H)
+  pub settles_calm : (rules : Rules K V S) (outcome : Outcome) (landed : State K V S H)
+      (result : Result Bool AllocError) (new : State K V S H)
       → Settles rules outcome landed result new → Calm landed new
   settles_calm rules placed landed result new h = leaves_calm landed _ new h.1
   settles_calm rules refused landed result new h = rw h.1 (self_calm landed)
@@ -107,7 +112,8 @@ module _ {K V S H : Type 0} (rules : Rules K V S) (P : S → Type 0) where
   pub calm_then : (more : ℕ) (old mid new : State K V S H) → Calm old mid → Tables more mid new → Tables more old new
   calm_then more old mid new f t = record {
     entry_bytes = t.entry_bytes ∙ f.entry_bytes;
-    count = elim t.count [ inl e ↦ inl (e ∙ f.table) | inr p ↦ inr (subst (λ bytes. IsPermitted rules P bytes (buckets new)) f.entry_bytes p) ];
+    count = elim t.count [ inl e ↦ inl (e ∙ f.table) | inr p ↦ inr
+        (subst (λ bytes. IsPermitted rules P bytes (buckets new)) f.entry_bytes p) ];
     moved = λ bound. t.moved (omega (arith, f.moved, bound));
     pays = λ ok. pays_trans (calm_pays old mid f) (t.pays (calm_bounded old mid f ok));
     little = λ ok h. omega (arith, f.few, t.little (calm_bounded old mid f ok) (omega (arith, f.table, h)));
@@ -132,8 +138,11 @@ module _ {K V S H : Type 0} (rules : Rules K V S) (R : Contents K V S → Conten
     pub moves : R (contents old) (contents new)
     pub tables : Tables rules (Reaches old) more old new
 
-  pub calm_changes : (more : ℕ) (old new : State K V S H) → Calm old new → R (contents old) (contents new) → Changes more old new
+  pub calm_changes : (more : ℕ) (old new : State K V S H) → Calm old new → R (contents old) (contents new)
+      → Changes more old new
   calm_changes more old new f r = record { moves = r; tables = calm_tables rules _ more old new f }
 
-  pub leaves_changes : (more : ℕ) (old : State K V S H) (left : Contents K V S) (new : State K V S H) → Leaves old left new → R (contents old) left → Changes more old new
-  leaves_changes more old left new l r = calm_changes more old new (leaves_calm old left new l) (leaves_keep R old left new l r)
+  pub leaves_changes : (more : ℕ) (old : State K V S H) (left : Contents K V S) (new : State K V S H)
+      → Leaves old left new → R (contents old) left → Changes more old new
+  leaves_changes more old left new l r = calm_changes more old new (leaves_calm old left new l)
+      (leaves_keep R old left new l r)

@@ -1,5 +1,6 @@
 -- What placing a pair and an insert make of a map, once for all laws.
-use Rattle.std.proofs.Common.{◌≡◌, ℕ, ◌+◌, ◌-◌, ◌*◌, ◌<◌, ◌≤◌, inl, inr, Bool, true, [], ◌∷◌, length, Result, refl, sym, ap, ◌∙◌, subst, arith}
+use Rattle.std.proofs.Common.{◌≡◌, ℕ, ◌+◌, ◌-◌, ◌*◌, ◌<◌, ◌≤◌, inl, inr, Bool, true, [], ◌∷◌, length, Result, refl, sym}
+use Rattle.std.proofs.Common.{ap, ◌∙◌, subst, arith}
 use Rattle.std.specs.declared.alloc.AllocError.{AllocError}
 use Rattle.group_table.specs.Sizes.{full_capacity, IsBucketCount}
 use Rattle.group_table.specs.Change.{count_up}
@@ -7,18 +8,24 @@ use Rattle.lru_limits.specs.Rules.{Rules, Offers}
 use Rattle.lru_limits.specs.Laws.{kept_value}
 use Rattle.schnellru.specs.Lists.{without}
 use Rattle.schnellru.specs.State.{State, buckets, potential, Contents, contents}
-use Rattle.schnellru.specs.Place.{Place, first_table, first_denied, first_too_large, empty_with_room, empty_without_room, with_room, deleted_bucket, rehashed, grown}
-use Rattle.schnellru.specs.Place.{evicting, finds_bucket, made_anew, Outcome, placed, refused, no_memory, IsPlaced, asked, turned_away, IsPlacedIfMemory, CannotGrow, no_target, denied}
+use Rattle.schnellru.specs.Place.{Place, first_table, first_denied, first_too_large, empty_with_room}
+use Rattle.schnellru.specs.Place.{empty_without_room, with_room, deleted_bucket, rehashed, grown}
+use Rattle.schnellru.specs.Place.{evicting, finds_bucket, made_anew, Outcome, placed, refused, no_memory, IsPlaced}
+use Rattle.schnellru.specs.Place.{asked, turned_away, IsPlacedIfMemory, CannotGrow, no_target, denied}
 use Rattle.schnellru.specs.Inserts.{Insert, replaced, given_up, no_memory_to_admit, not_admitted, admitted, replacement}
 use Rattle.schnellru.proofs.Maps.LeavingPairs.{length-pops, oldest_leaves}
 use Rattle.schnellru.proofs.TableSizes.Growth.{full_capacity-4, full_capacity-double, target_doubles, target_usage}
 use Rattle.schnellru.proofs.TableSizes.Doubling.{target_small}
 use Rattle.schnellru.proofs.Theorems.Potential.{IsBounded, pays_placing, no_buckets}
-use Rattle.schnellru.proofs.Theorems.Moves.{KeepsWay, Keeps, KeepsOffers, behind, exchange, leaves_keep, pops_keep, trim_keeps, make_way_keeps, settles_keep, way_behind}
-use Rattle.schnellru.proofs.Theorems.TableGrowth.{settles_calm, Calm, Tables, IsNextCount, Changes, self_calm, limiter_calm, leaves_calm, calm_trans, calm_tables, calm_then, then_calm, calm_changes, leaves_changes}
+use Rattle.schnellru.proofs.Theorems.Moves.{KeepsWay, Keeps, KeepsOffers, behind, exchange, leaves_keep, pops_keep}
+use Rattle.schnellru.proofs.Theorems.Moves.{trim_keeps, make_way_keeps, settles_keep, way_behind}
+use Rattle.schnellru.proofs.Theorems.TableGrowth.{settles_calm, Calm, Tables, IsNextCount, Changes, self_calm}
+use Rattle.schnellru.proofs.Theorems.TableGrowth.{limiter_calm, leaves_calm, calm_trans, calm_tables, calm_then}
+use Rattle.schnellru.proofs.Theorems.TableGrowth.{then_calm, calm_changes, leaves_changes}
 
 module _ {K V S H : Type 0} (rules : Rules K V S) (P : S → Type 0) (pair : K × V) (old : State K V S H) where
-  -- the pair is placed after way was made for it, in a table that is the old one or is permitted, and its moves are paid
+  -- the pair is placed after way was made for it, in a table that is the old one or is permitted, and its moves are
+  -- paid
   -- for
   pub record Fills (mid new : State K V S H) : Type 0 where
     pub count : ℕ
@@ -36,35 +43,45 @@ module _ {K V S H : Type 0} (rules : Rules K V S) (P : S → Type 0) (pair : K �
   Lands no_memory mid new = new ≡ turned_away rules pair mid
 
   -- a placing makes way for the pair, and then it lands
-  pub record MakesWay (R : Contents K V S → Contents K V S → Type 0) (outcome : Outcome) (new : State K V S H) : Type 0 where
+  pub record MakesWay (R : Contents K V S → Contents K V S → Type 0) (outcome : Outcome)
+      (new : State K V S H) : Type 0 where
     pub mid : State K V S H
     pub way : R (contents old) (contents mid)
     pub calm : Calm old mid
     pub lands : Lands outcome mid new
 
-  lands_tables : (outcome : Outcome) (mid new : State K V S H) → Calm old mid → Lands outcome mid new → Tables rules P 1 old new
+  lands_tables : (outcome : Outcome) (mid new : State K V S H) → Calm old mid → Lands outcome mid new
+      → Tables rules P 1 old new
   lands_tables placed mid new f l = record {
     entry_bytes = ap (λ x. x.entry_bytes) l.is.state ∙ f.entry_bytes;
     count = rw l.is.table l.next;
     moved = λ bound. omega (arith, ap (λ x. x.moved) l.is.state);
-    pays = λ ok. pays_placing old new l.moves ok.placed (ap (λ x. x.moved) l.is.state ∙ ap (λ x. count_up x l.moves) f.moved)
+    pays = λ ok. pays_placing old new l.moves ok.placed (ap (λ x. x.moved) l.is.state
+        ∙ ap (λ x. count_up x l.moves) f.moved)
         (ap (λ x. x.placed) l.is.state ∙ ap (λ x. count_up x 1) f.placed) (rw (l.is.table, l.is.room_left) (l.paid ok));
     little = λ ok h. rw l.is.table (l.little ok (omega (arith, l.is.table, h)));
   }
-  lands_tables refused mid new f l = calm_tables rules P 1 old new (rw l.1 (calm_trans old mid (turned_away rules pair mid) f (limiter_calm mid _)))
-  lands_tables no_memory mid new f l = calm_tables rules P 1 old new (rw l (calm_trans old mid (turned_away rules pair mid) f (limiter_calm mid _)))
+  lands_tables refused mid new f l = calm_tables rules P 1 old new
+      (rw l.1 (calm_trans old mid (turned_away rules pair mid) f (limiter_calm mid _)))
+  lands_tables no_memory mid new f l = calm_tables rules P 1 old new
+      (rw l (calm_trans old mid (turned_away rules pair mid) f (limiter_calm mid _)))
 
-module _ {K V S H : Type 0} (rules : Rules K V S) (R : Contents K V S → Contents K V S → Type 0) (k : KeepsWay rules R) (P : S → Type 0) (hash_of : H → K → ℕ) (pair : K × V)
+module _ {K V S H : Type 0} (rules : Rules K V S) (R : Contents K V S → Contents K V S → Type 0) (k : KeepsWay rules R)
+    (P : S → Type 0) (hash_of : H → K → ℕ) (pair : K × V)
     (old : State K V S H) (holds : P old.limiter) where
   abbrev Ends : Outcome → State K V S H → Type 0
   Ends outcome new = MakesWay rules P pair old R outcome new
 
-  if_memory : (mid : State K V S H) (count spare moves : ℕ) (outcome : Outcome) (new : State K V S H) → IsPlacedIfMemory rules pair count spare moves mid outcome new
-      → R (contents old) (contents mid) → Calm old mid → IsNextCount rules P old count → (IsBounded old → moves + (full_capacity count - 2 * spare) ≤ potential old + 2)
+  if_memory : (mid : State K V S H) (count spare moves : ℕ) (outcome : Outcome) (new : State K V S H)
+      → IsPlacedIfMemory rules pair count spare moves mid outcome new
+      → R (contents old) (contents mid) → Calm old mid → IsNextCount rules P old count
+          → (IsBounded old → moves + (full_capacity count - 2 * spare) ≤ potential old + 2)
       → (IsBounded old → buckets old < count → full_capacity count < 4 * (length old.pairs + 1)) → Ends outcome new
   if_memory mid count spare moves placed new h r f next paid little =
-      record { mid = mid; way = r; calm = f; lands = record { count = count; spare = spare; moves = moves; is = h; next = next; paid = paid; little = little } }
-  if_memory mid count spare moves no_memory new h r f next paid little = record { mid = mid; way = r; calm = f; lands = h }
+      record { mid = mid; way = r; calm = f; lands = record { count = count; spare = spare; moves = moves; is = h;
+          next = next; paid = paid; little = little } }
+  if_memory mid count spare moves no_memory new h r f next paid little =
+      record { mid = mid; way = r; calm = f; lands = h }
   if_memory mid count spare moves refused new h r f next paid little = absurd h
 
   self : R (contents old) (contents old)
@@ -73,85 +90,130 @@ module _ {K V S H : Type 0} (rules : Rules K V S) (R : Contents K V S → Conten
   same_little : IsBounded old → buckets old < buckets old → full_capacity (buckets old) < 4 * (length old.pairs + 1)
   same_little ok h = absurd (omega (arith, h))
 
-  fills : (outcome : Outcome) (new : State K V S H) (spare : ℕ) → outcome ≡ placed → IsPlaced pair (buckets old) spare 0 old new
+  fills : (outcome : Outcome) (new : State K V S H) (spare : ℕ) → outcome ≡ placed
+      → IsPlaced pair (buckets old) spare 0 old new
       → (IsBounded old → full_capacity (buckets old) - 2 * spare ≤ potential old + 2) → Ends outcome new
-  fills outcome new spare o p paid = rw o (if_memory old _ spare 0 placed new p self (self_calm old) (inl refl) (λ ok. omega (arith, paid ok)) same_little)
+  fills outcome new spare o p paid = rw o (if_memory old _ spare 0 placed new p self (self_calm old) (inl refl)
+      (λ ok. omega (arith, paid ok)) same_little)
 
   known : (mid : State K V S H) → CannotGrow rules old mid → R (contents old) (contents mid) × Calm old mid
   known mid (no_target t e) = rw e (self, self_calm old)
   known mid (denied count bytes t d e) = rw e (k.asked bytes (contents old), limiter_calm old _)
 
   -- Placing a pair makes way for it first.
-  pub place_lands : (outcome : Outcome) (new : State K V S H) → Place rules hash_of pair old outcome new → Ends outcome new
+  pub place_lands : (outcome : Outcome) (new : State K V S H) → Place rules hash_of pair old outcome new
+      → Ends outcome new
   place_lands outcome new (first_table e b bytes u g m) =
-      if_memory (asked rules bytes old) 4 2 0 outcome new m (k.asked bytes (contents old)) (limiter_calm old _) (inr (record { bytes = bytes; usable = u; limiter = old.limiter; holds = holds; granted = g }))
+      if_memory (asked rules bytes old) 4 2 0 outcome new m (k.asked bytes (contents old)) (limiter_calm old _)
+          (inr (record { bytes = bytes; usable = u; limiter = old.limiter; holds = holds; granted = g }))
       (λ ok. omega (arith, full_capacity-4)) (λ ok h. omega (arith, full_capacity-4))
-  place_lands outcome new (first_denied e b bytes u d o n) = rw o (record { mid = asked rules bytes old; way = k.asked bytes (contents old); calm = limiter_calm old _; lands = (e, n) })
-  place_lands outcome new (first_too_large e b u o n) = rw o (record { mid = old; way = self; calm = self_calm old; lands = (e, n) })
+  place_lands outcome new (first_denied e b bytes u d o n) = rw o
+      (record { mid = asked rules bytes old; way = k.asked bytes (contents old); calm = limiter_calm old _; lands =
+      (e, n) })
+  place_lands outcome new (first_too_large e b u o n) = rw o
+      (record { mid = old; way = self; calm = self_calm old; lands = (e, n) })
   place_lands outcome new (empty_with_room e b r s o n) = fills outcome new _ o n (λ ok. omega (arith, s))
   place_lands outcome new (empty_without_room e b r o n) = fills outcome new _ o n (λ ok. omega arith)
   place_lands outcome new (with_room e r s o n) = fills outcome new _ o n (λ ok. omega (arith, s))
   place_lands outcome new (deleted_bucket f i b l o n) = fills outcome new _ o n (λ ok. omega (arith, f.1))
-  place_lands outcome new (rehashed f i l m) = if_memory old _ _ _ outcome new m self (self_calm old) (inl refl) (λ ok. omega (arith, f.1, ok.fits)) same_little
-  place_lands outcome new (grown f i l count bytes t g m) = if_memory (asked rules bytes old) count _ _ outcome new m (k.asked bytes (contents old)) (limiter_calm old _)
-      (inr (record { bytes = bytes; usable = target_usage old.max old.entry_bytes (buckets old) (length old.pairs + 1) count bytes t; limiter = old.limiter; holds = holds; granted = g }))
+  place_lands outcome new (rehashed f i l m) = if_memory old _ _ _ outcome new m self (self_calm old) (inl refl)
+      (λ ok. omega (arith, f.1, ok.fits)) same_little
+  place_lands outcome new (grown f i l count bytes t g m) = if_memory (asked rules bytes old) count _ _ outcome new m
+      (k.asked bytes (contents old)) (limiter_calm old _)
+      (inr (record { bytes = bytes; usable = target_usage old.max old.entry_bytes (buckets old)
+          (length old.pairs + 1) count bytes t; limiter = old.limiter; holds = holds; granted = g }))
       (λ ok. omega (arith, large ok ok.count, f.1, ok.fits)) (λ ok h. small ok ok.count)
     where
       large : IsBounded old → IsBucketCount (buckets old) → 2 * full_capacity (buckets old) ≤ full_capacity count
       large ok (inl z) = absurd (no_buckets old ok f.0 z)
-      large ok (inr j) = full_capacity-double j.0 (buckets old) count j.1 (target_doubles j.0 old.max old.entry_bytes (buckets old) (length old.pairs + 1) count bytes j.1 t)
+      large ok (inr j) = full_capacity-double j.0 (buckets old) count j.1
+          (target_doubles j.0 old.max old.entry_bytes (buckets old) (length old.pairs + 1) count bytes j.1 t)
 
       small : IsBounded old → IsBucketCount (buckets old) → full_capacity count < 4 * (length old.pairs + 1)
       small ok (inl z) = absurd (no_buckets old ok f.0 z)
-      small ok (inr j) = target_small j.0 old.max old.entry_bytes (buckets old) (length old.pairs + 1) count bytes j.1 l t
-  place_lands outcome new (evicting f i l mid c (finds_bucket n pos one half left gone fills o p)) = let (r, s) = known mid c in
+      small ok (inr j) = target_small j.0 old.max old.entry_bytes (buckets old)
+          (length old.pairs + 1) count bytes j.1 l t
+  place_lands outcome new (evicting f i l mid c (finds_bucket n pos one half left gone fills o p)) = let (r, s) =
+      known mid c in
       let lv = oldest_leaves rules _ n mid left gone in
-      rw o (if_memory left _ _ 0 placed new p (k.trans r (leaves_keep R mid _ left lv (pops_keep rules R k n (contents mid)))) (calm_trans old mid left s (leaves_calm mid _ left lv)) (inl refl)
+      rw o (if_memory left _ _ 0 placed new p
+          (k.trans r (leaves_keep R mid _ left lv (pops_keep rules R k n (contents mid))))
+          (calm_trans old mid left s (leaves_calm mid _ left lv)) (inl refl)
       (λ ok. omega (arith, f.1)) same_little)
   place_lands outcome new (evicting f i l mid c (made_anew n pos one half left gone m)) = let (r, s) = known mid c in
       let lv = oldest_leaves rules _ n mid left gone in
-      if_memory left _ _ _ outcome new m (k.trans r (leaves_keep R mid _ left lv (pops_keep rules R k n (contents mid)))) (calm_trans old mid left s (leaves_calm mid _ left lv)) (inl refl)
-      (λ ok. omega (arith, f.1, half, s.few, ap (λ st. length st.pairs) lv.is, length-pops rules n (contents mid))) same_little
+      if_memory left _ _ _ outcome new m
+          (k.trans r (leaves_keep R mid _ left lv (pops_keep rules R k n (contents mid))))
+          (calm_trans old mid left s (leaves_calm mid _ left lv)) (inl refl)
+      (λ ok. omega (arith, f.1, half, s.few, ap (λ st. length st.pairs) lv.is, length-pops rules n (contents mid)))
+          same_little
 
-  pub place_tables : (outcome : Outcome) (new : State K V S H) → Place rules hash_of pair old outcome new → Tables rules P 1 old new
-  place_tables outcome new p = let m = place_lands outcome new p in lands_tables rules P pair old outcome m.mid new m.calm m.lands
+  pub place_tables : (outcome : Outcome) (new : State K V S H) → Place rules hash_of pair old outcome new
+      → Tables rules P 1 old new
+  place_tables outcome new p = let m = place_lands outcome new p in
+      lands_tables rules P pair old outcome m.mid new m.calm m.lands
 
-module _ {K V S Q : Type 0} (rules : Rules K V S) (names : Q → K → Bool) (R : Contents K V S → Contents K V S → Type 0) (k : Keeps rules names R) where
-  place_keeps : {H : Type 0} (hash_of : H → K → ℕ) (pair : K × V) (old : State K V S H) (outcome : Outcome) (new : State K V S H) → Place rules hash_of pair old outcome new
+module _ {K V S Q : Type 0} (rules : Rules K V S) (names : Q → K → Bool) (R : Contents K V S → Contents K V S → Type 0)
+    (k : Keeps rules names R) where
+  place_keeps : {H : Type 0} (hash_of : H → K → ℕ) (pair : K × V) (old : State K V S H) (outcome : Outcome)
+      (new : State K V S H) → Place rules hash_of pair old outcome new
       → R (behind pair (contents old)) (contents new)
   place_keeps hash_of pair old outcome new p =
-      let m = place_lands rules _ (way_behind rules names R k pair) (λ _. Unit {0}) hash_of pair old tt outcome new p in end outcome m.mid m.way m.lands
+      let m = place_lands rules _ (way_behind rules names R k pair) (λ _. Unit {0}) hash_of pair old tt outcome new p in
+          end outcome m.mid m.way m.lands
     where
-      away : (mid : State _ _ _ _) → R (behind pair (contents old)) (behind pair (contents mid)) → new ≡ turned_away rules pair mid → R (behind pair (contents old)) (contents new)
+      away : (mid : State _ _ _ _) → R (behind pair (contents old)) (behind pair (contents mid)) → new
+          ≡ turned_away rules pair mid → R (behind pair (contents old)) (contents new)
       away mid r e = subst (R _) (sym (ap contents e)) (k.way.trans r (k.left (λ _. true) (behind pair (contents mid))))
 
-      end : (outcome : Outcome) (mid : State _ _ _ _) → R (behind pair (contents old)) (behind pair (contents mid)) → Lands rules (λ _. Unit {0}) pair old outcome mid new
+      end : (outcome : Outcome) (mid : State _ _ _ _) → R (behind pair (contents old)) (behind pair (contents mid))
+          → Lands rules (λ _. Unit {0}) pair old outcome mid new
           → R (behind pair (contents old)) (contents new)
       end placed mid r l = subst (R _) (sym (ap contents l.is.state)) r
       end refused mid r l = away mid r l.1
       end no_memory mid r l = away mid r l
 
-module _ {K V S H I : Type 0} (rules : Rules K V S) (offers : Offers K V S I) (names : I → K → Bool) (R : Contents K V S → Contents K V S → Type 0) (k : KeepsOffers rules offers names R)
+module _ {K V S H I : Type 0} (rules : Rules K V S) (offers : Offers K V S I) (names : I → K → Bool)
+    (R : Contents K V S → Contents K V S → Type 0) (k : KeepsOffers rules offers names R)
     (hash_of : H → K → ℕ) (i : I) (v : V) (old : State K V S H) where
   -- what a replacement leaves, where this value of the two stays
-  exchanges : (pair : K × V) (w : V) → kept_value (replacement rules offers names pair i v old) ≡ w → R (contents old) (exchange rules offers names pair i v (contents old))
-      → R (contents old) (record { pairs = ((replacement rules offers names pair i v old).key, w) ∷ without (names i) old.pairs; limiter = (replacement rules offers names pair i v old).limiter })
-  exchanges pair w e r = subst (λ x. R (contents old) (record { pairs = ((replacement rules offers names pair i v old).key, x) ∷ without (names i) old.pairs; limiter = (replacement rules offers names pair i v old).limiter })) e r
+  exchanges : (pair : K × V) (w : V) → kept_value (replacement rules offers names pair i v old) ≡ w
+      → R (contents old) (exchange rules offers names pair i v (contents old))
+      → R (contents old) (record { pairs = ((replacement rules offers names pair i v old).key, w)
+          ∷ without (names i) old.pairs; limiter = (replacement rules offers names pair i v old).limiter })
+  exchanges pair w e r = subst
+      (λ x. R (contents old)
+      (record { pairs = ((replacement rules offers names pair i v old).key, x) ∷ without (names i) old.pairs; limiter =
+      (replacement rules offers names pair i v old).limiter })) e r
 
   -- what each move keeps, an insert keeps
-  pub insert_changes : (result : Result Bool AllocError) (new : State K V S H) → Insert rules offers names hash_of i v old result new → Changes rules R 1 old new
+  pub insert_changes : (result : Result Bool AllocError) (new : State K V S H)
+      → Insert rules offers names hash_of i v old result new → Changes rules R 1 old new
   insert_changes result new (replaced pair found y r l) =
-      leaves_changes rules R 1 old _ new l (k.keeps.way.trans (exchanges pair _ (rw y refl) (k.exchanged i v (contents old) pair found)) (trim_keeps rules R k.keeps.way _))
+      leaves_changes rules R 1 old _ new l
+          (k.keeps.way.trans (exchanges pair _ (rw y refl) (k.exchanged i v (contents old) pair found))
+          (trim_keeps rules R k.keeps.way _))
   insert_changes result new (given_up pair found y r l) =
-      leaves_changes rules R 1 old _ new l (k.keeps.way.trans (exchanges pair _ (rw y refl) (k.exchanged i v (contents old) pair found)) (k.keeps.left (λ _. true) _))
-  insert_changes result new (no_memory_to_admit a l r e) = rw e (calm_changes rules R 1 old old (self_calm old) (k.keeps.way.self (contents old)))
-  insert_changes result new (not_admitted a s n r e) = rw e (calm_changes rules R 1 old _ (limiter_calm old s) (k.turned_down i v (contents old) s n))
+      leaves_changes rules R 1 old _ new l
+          (k.keeps.way.trans (exchanges pair _ (rw y refl) (k.exchanged i v (contents old) pair found))
+          (k.keeps.left (λ _. true) _))
+  insert_changes result new (no_memory_to_admit a l r e) = rw e
+      (calm_changes rules R 1 old old (self_calm old) (k.keeps.way.self (contents old)))
+  insert_changes result new (not_admitted a s n r e) = rw e
+      (calm_changes rules R 1 old _ (limiter_calm old s) (k.turned_down i v (contents old) s n))
   insert_changes result new (admitted a s pair n (ready, l, outcome, landed, p, t)) =
       let start : State K V S H = record old { limiter = s } in
       let hand = way_behind rules names R k.keeps pair in
-      let reached = k.keeps.way.trans (k.came i v (contents old) s pair a n) (leaves_keep (λ c d. R (behind pair c) (behind pair d)) start _ ready l (make_way_keeps rules _ hand (contents start))) in
+      let reached = k.keeps.way.trans (k.came i v (contents old) s pair a n)
+          (leaves_keep (λ c d. R (behind pair c) (behind pair d)) start _ ready l
+          (make_way_keeps rules _ hand (contents start))) in
       record {
-        moves = k.keeps.way.trans reached (k.keeps.way.trans (place_keeps rules names R k.keeps hash_of pair ready outcome landed p) (settles_keep rules R k.keeps.way outcome landed result new t));
-        tables = calm_then rules _ 1 old start new (limiter_calm old s) (calm_then rules _ 1 start ready new (leaves_calm start _ ready l)
-            (then_calm rules _ 1 ready landed new (place_tables rules _ hand _ hash_of pair ready (_, reached) outcome landed p) (settles_calm rules outcome landed result new t)));
+        moves = k.keeps.way.trans reached
+            (k.keeps.way.trans (place_keeps rules names R k.keeps hash_of pair ready outcome landed p)
+            (settles_keep rules R k.keeps.way outcome landed result new t));
+        tables = calm_then rules _ 1 old start new (limiter_calm old s)
+            (calm_then rules _ 1 start ready new (leaves_calm start _ ready l)
+            (then_calm rules _ 1 ready landed new
+                (place_tables rules _ hand _ hash_of pair ready (_, reached) outcome landed p)
+                (settles_calm rules outcome landed result new t)));
       }

@@ -1,5 +1,7 @@
--- How links keep an order of buckets: each entry has the numbers of its two neighbours. No public clause cites this module.
-use Rattle.std.specs.Prelude.{◌≡◌, ◌≢◌, ◌⊎◌, ℕ, zero, suc, ◌<◌, slice_index_or, List, [], ◌∷◌, length, map, nat_eq, if◌then◌else◌, Option, Some, None, option_map, unwrap_or, Contains, AllPairs}
+-- How links keep an order of buckets: each entry has the numbers of its two neighbours. No public clause cites this
+-- module.
+use Rattle.std.specs.Prelude.{◌≡◌, ◌≢◌, ◌⊎◌, ℕ, zero, suc, ◌<◌, slice_index_or, List, [], ◌∷◌, length, map, nat_eq}
+use Rattle.std.specs.Prelude.{if◌then◌else◌, Option, Some, None, option_map, unwrap_or, Contains, AllPairs}
 use Rattle.group_table.specs.Bucket.{empty, deleted, full, Slot, IsFull, entry_at, entry_count}
 use Rattle.group_table.specs.Relocation.{Renumbers}
 use Rattle.schnellru.specs.declared.link.Entry.{Entry}
@@ -42,7 +44,8 @@ module _ {N : Type 0} (link : ℕ → N) (none : N) where
 -- the buckets that are met from a link on, going to the older one so many times
 abbrev pub along : {K V N : Type 0} → (N → ℕ) → ℕ → List (Slot (Entry K V N)) → N → List ℕ
 along number zero slots from = []
-along number (suc n) slots from = unwrap_or (option_map (λ entry. number from ∷ along number n slots entry.older) (entry_at slots (number from))) []
+along number (suc n) slots from = unwrap_or (option_map (λ entry. number from ∷ along number n slots entry.older)
+    (entry_at slots (number from))) []
 
 module _ {K V N : Type 0} where
   -- the links of the entry in a bucket
@@ -96,7 +99,8 @@ pub record SetsEnd {N : Type 0} (none old new at to : N) : Type 0 where
   pub stays : at ≢ none → new ≡ old
 
 module _ {K V N : Type 0} (number : N → ℕ) (link : ℕ → N) (none : N) where
-  -- the links, which reach every bucket, keep the order of some full buckets: its ends, and the neighbours of each bucket
+  -- the links, which reach every bucket, keep the order of some full buckets: its ends, and the neighbours of each
+  -- bucket
   pub record IsChain (slots : List (Slot (Entry K V N))) (newest oldest : N) (order : List ℕ) : Type 0 where
     pub reached : length slots < number none
     pub distinct : AllPairs ◌≢◌ order
@@ -122,4 +126,5 @@ module _ {K V N : Type 0} (number : N → ℕ) (link : ℕ → N) (none : N) whe
 
   -- the entries have moved into these slots, and still have the links of the table before
   abbrev pub Moved : List (Slot (Entry K V N)) → N → N → List N → Type 0
-  Moved slots newest oldest links = (before : List (Slot (Entry K V N))) × (order : List ℕ) × IsWhole before newest oldest order × Renumbers number none before slots links
+  Moved slots newest oldest links = (before : List (Slot (Entry K V N))) × (order : List ℕ)
+      × IsWhole before newest oldest order × Renumbers number none before slots links

@@ -1,6 +1,8 @@
 -- A table whose full buckets stand in an order, newest first. No public clause cites this module.
-use Rattle.std.specs.Prelude.{◌≡◌, ◌≢◌, ℕ, ◌+◌, List, [], ◌∷◌, ◌++◌, length, filter, not, nat_eq, slice_set, option_map, option_to_list, unwrap_or, Contains, AllPairs}
-use Rattle.group_table.specs.Bucket.{Slot, full, IsFull, entry_at, entry_count, bucket_at, refilled, marks_of, room, room_at}
+use Rattle.std.specs.Prelude.{◌≡◌, ◌≢◌, ℕ, ◌+◌, List, [], ◌∷◌, ◌++◌, length, filter, not, nat_eq, slice_set, option_map}
+use Rattle.std.specs.Prelude.{option_to_list, unwrap_or, Contains, AllPairs}
+use Rattle.group_table.specs.Bucket.{Slot, full, IsFull, entry_at, entry_count, bucket_at, refilled, marks_of, room}
+use Rattle.group_table.specs.Bucket.{room_at}
 use Rattle.group_table.specs.Probe.{hash_tag, IsFirstFree}
 use Rattle.group_table.specs.Change.{MayFill, count_up}
 use Rattle.group_table.specs.Table.{IsTable}

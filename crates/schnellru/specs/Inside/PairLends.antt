@@ -12,4 +12,5 @@ use Rattle.schnellru.specs.contracts.link.Pair.{the_row as pair_row}
 -- once the borrow r ends, the bucket has the last pair written through r
 abbrev pub lends_pair : (K V N : RattleType) → link_type.Ghosts N.Denot → equality.Ghosts N.Denot → debug.Ghosts N.Denot
     → MutBor (Linked K.Denot V.Denot) → ℕ → MutBor (Pair K.Denot V.Denot) → Fml
-lends_pair K V N links eq shown t b r = Lends (linked_row K V N links eq shown) (pair_row K V) t r (λ last. with_pair t.now b (last.key, last.value))
+lends_pair K V N links eq shown t b r = Lends (linked_row K V N links eq shown) (pair_row K V) t r
+    (λ last. with_pair t.now b (last.key, last.value))

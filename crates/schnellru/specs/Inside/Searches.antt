@@ -30,4 +30,5 @@ module _ {K V F : Type 0} (closure : Mut F (Bor K × (Bor V × Unit {0})) Bool) 
     pub search : IsSearch slots hash asked
     pub last : F
     pub refused : FoldsTo (λ p c q. Answers p c false q) f asked last
-    pub complete : (hash_of : ℕ → ℕ) → Fits slots hash_of → (b : ℕ) → IsFull slots b → hash_of b ≡ hash → Contains asked b
+    pub complete : (hash_of : ℕ → ℕ) → Fits slots hash_of → (b : ℕ) → IsFull slots b → hash_of b ≡ hash
+        → Contains asked b

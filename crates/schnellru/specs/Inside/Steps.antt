@@ -15,7 +15,8 @@ pub record IsReplaced {K V S : Type 0} (by : Replaced K V S) (b : ℕ) (old new 
   pub told : limiter ≡ by.limiter
 
 -- The limiter refused it, and the pair left.
-pub record IsGivenUp {K V S : Type 0} (rules : Rules K V S) (by : Replaced K V S) (b : ℕ) (old new : Linked K V) (limiter : S) : Type 0 where
+pub record IsGivenUp {K V S : Type 0} (rules : Rules K V S) (by : Replaced K V S) (b : ℕ) (old new : Linked K V)
+    (limiter : S) : Type 0 where
   pub slots : Removes (with_pair old b (by.key, by.old_value)).slots new.slots b
   pub order : new.order ≡ without_bucket b old.order
   pub placings : new.placings ≡ old.placings
@@ -23,7 +24,8 @@ pub record IsGivenUp {K V S : Type 0} (rules : Rules K V S) (by : Replaced K V S
   pub told : limiter ≡ (rules.on_removed by.limiter by.key by.old_value).limiter
 
 -- The pair in a bucket left, the limiter was told, and what it left of the pair is answered.
-pub record IsTakenOut {K V S : Type 0} (rules : Rules K V S) (b : ℕ) (old new : Linked K V) (limiter : S) (result : K × V) (after : S) : Type 0 where
+pub record IsTakenOut {K V S : Type 0} (rules : Rules K V S) (b : ℕ) (old new : Linked K V) (limiter : S)
+    (result : K × V) (after : S) : Type 0 where
   pub pair : K × V
   pub there : entry_at old.slots b ≡ Some pair
   pub left : Some result ≡ left_of rules limiter (Some pair)

@@ -15,13 +15,16 @@ use Rattle.schnellru.specs.Lending.Answers.{kept_of, is_kept, IsLent, NoneLent, 
 use Rattle.schnellru.specs.Lending.Values.{map_row}
 use Rattle.schnellru.specs.declared.map.get_or_insert.NotLent.{NotLent}
 
-module _ (K V L S N H : RattleType) (key : HashMembers K.Denot) (limits : limiter.Ghosts L.Denot K.Denot V.Denot N.Denot)
+module _ (K V L S N H : RattleType) (key : HashMembers K.Denot)
+    (limits : limiter.Ghosts L.Denot K.Denot V.Denot N.Denot)
     (links : link_type.Ghosts N.Denot) (link_eq : equality.Ghosts N.Denot) (link_shown : debug.Ghosts N.Denot)
     (build : builder.Ghosts S.Denot H.Denot) (hash : hasher.Ghosts H.Denot)
-    (m : MutBor (State K.Denot V.Denot L.Denot S.Denot)) {E : Type 0} (Step : Result Bool E → State K.Denot V.Denot L.Denot S.Denot → Type 0) where
+    (m : MutBor (State K.Denot V.Denot L.Denot S.Denot)) {E : Type 0}
+        (Step : Result Bool E → State K.Denot V.Denot L.Denot S.Denot → Type 0) where
   -- it was made n, whose newest value is lent, where w is left
   abbrev pub Made : Result (Option (MutBor V.Denot)) E → State K.Denot V.Denot L.Denot S.Denot → V.Denot → Type 0
-  Made r n w = (made : State K.Denot V.Denot L.Denot S.Denot) × Step (is_kept r) made × (newest_value made.pairs ≡ value_lent r)
+  Made r n w = (made : State K.Denot V.Denot L.Denot S.Denot) × Step (is_kept r) made
+      × (newest_value made.pairs ≡ value_lent r)
       × (n ≡ record made { pairs = set_newest made.pairs w })
 
   abbrev pub lends_or : Result (MutBor V.Denot) (NotLent E) → Fml
@@ -30,5 +33,6 @@ module _ (K V L S N H : RattleType) (key : HashMembers K.Denot) (limits : limite
 
   -- the same for an answer that has no error where the key is not there
   abbrev pub lends_made : Result (Option (MutBor V.Denot)) E → Fml
-  lends_made r = follows_so (map_row K V L S N H key limits links link_eq link_shown build hash) V m.ghost_name (name_lent r)
+  lends_made r = follows_so (map_row K V L S N H key limits links link_eq link_shown build hash) V m.ghost_name
+      (name_lent r)
       (λ w n. IsLent r → Made r n w) (λ n. NoneLent r → Step (is_kept r) n)

@@ -14,21 +14,25 @@ use Rattle.schnellru.specs.State.{State}
 use Rattle.schnellru.specs.Calls.{written}
 use Rattle.schnellru.specs.contracts.map.LruMap.{the_row}
 
-module _ (K V L S N H : RattleType) (key : HashMembers K.Denot) (limits : limiter.Ghosts L.Denot K.Denot V.Denot N.Denot)
+module _ (K V L S N H : RattleType) (key : HashMembers K.Denot)
+    (limits : limiter.Ghosts L.Denot K.Denot V.Denot N.Denot)
     (links : link_type.Ghosts N.Denot) (link_eq : equality.Ghosts N.Denot) (link_shown : debug.Ghosts N.Denot)
     (build : builder.Ghosts S.Denot H.Denot) (hash : hasher.Ghosts H.Denot) where
   -- the map's type, as the logic holds it
   abbrev pub map_row : RattleType
-  map_row = the_row K V L S N H (record { eq = key.eq }) (record { hash_input = key.hash_input }) limits links link_eq link_shown build hash
+  map_row = the_row K V L S N H (record { eq = key.eq })
+      (record { hash_input = key.hash_input }) limits links link_eq link_shown build hash
 
   module _ (m : MutBor (State K.Denot V.Denot L.Denot S.Denot)) where
-    -- it ends as this map, but with the last value written through r at the key that is named, and at `None` it stays as it is
+    -- it ends as this map, but with the last value written through r at the key that is named, and at `None` it stays
+    -- as it is
     abbrev pub lends_value : (K.Denot → Bool) → State K.Denot V.Denot L.Denot S.Denot → Option (MutBor V.Denot) → Fml
     lends_value names base r = LendsIf map_row V m r (λ last. written names last base) m.now
 
     -- It ends as turned makes it of a pair that is given, with the last value written through r at that pair's key. At
     -- `None` it stays as it is.
-    abbrev pub lends_given : (K.Denot × V.Denot → Type 0) → ((K.Denot → Bool) → State K.Denot V.Denot L.Denot S.Denot → State K.Denot V.Denot L.Denot S.Denot)
+    abbrev pub lends_given : (K.Denot × V.Denot → Type 0)
+        → ((K.Denot → Bool) → State K.Denot V.Denot L.Denot S.Denot → State K.Denot V.Denot L.Denot S.Denot)
         → Option (MutBor V.Denot) → Fml
     lends_given gives turned r = LendsSo map_row V m r
         (λ n last. OnSome r ((pair : K.Denot × V.Denot) × gives pair × (option_copied_mut r ≡ Some pair.1)
@@ -44,7 +48,8 @@ module _ (K V L S N H : RattleType) (key : HashMembers K.Denot) (limits : limite
 
     -- its pair at a place has the last value written through r
     abbrev pub lends_value_at : ℕ → Bor K.Denot × MutBor V.Denot → Fml
-    lends_value_at i r = follows map_row V m.ghost_name r.1.ghost_name (λ last. record m.now { pairs = set_value_at m.now.pairs i last })
+    lends_value_at i r = follows map_row V m.ghost_name r.1.ghost_name
+        (λ last. record m.now { pairs = set_value_at m.now.pairs i last })
 
     -- it has the last limiter written through r
     abbrev pub lends_limiter : MutBor L.Denot → Fml

@@ -4,7 +4,8 @@ use Rattle.schnellru.proofs.Theorems.Potential.{bounded_of}
 use Rattle.schnellru.proofs.laws.deleted_buckets_serve.Goals as goal
 
 pub returns-clause-served : goal.returns-clause-served
-returns-clause-served g c = λ pair old outcome new full first step. deleted_serves _ _ pair old full.0 full.1 first outcome new step
+returns-clause-served g c = λ pair old outcome new full first step. deleted_serves _ _ pair old full.0 full.1 first
+    outcome new step
 
 pub returns-clause-only : goal.returns-clause-only
 returns-clause-only g c = λ pair old new full sized step is.

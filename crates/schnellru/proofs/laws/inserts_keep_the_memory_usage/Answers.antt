@@ -5,4 +5,5 @@ pub returns-clause-limiter : goal.returns-clause-limiter
 returns-clause-limiter g c = λ key value old result new step. plain_stays _ _ _ _ _ key value old result new step
 
 pub returns-clause-usage : goal.returns-clause-usage
-returns-clause-usage g c = λ key value old result new step uses. by_memory_usage_stays _ _ key value old result new step uses
+returns-clause-usage g c = λ key value old result new step uses. by_memory_usage_stays _ _ key value old result new
+    step uses

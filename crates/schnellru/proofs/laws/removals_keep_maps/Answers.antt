@@ -1,6 +1,7 @@
 use Rattle.schnellru.proofs.Theorems.PaidMoves.{stays_map}
 use Rattle.schnellru.specs.Calls.{cleared}
-use Rattle.schnellru.proofs.Theorems.CountedMoves.{remove_changes, pop_oldest_changes, pop_newest_changes, cleared_changes}
+use Rattle.schnellru.proofs.Theorems.CountedMoves.{remove_changes, pop_oldest_changes, pop_newest_changes}
+use Rattle.schnellru.proofs.Theorems.CountedMoves.{cleared_changes}
 use Rattle.schnellru.proofs.Theorems.Removals.{stay_distinct}
 use Rattle.schnellru.proofs.laws.removals_keep_maps.Goals as goal
 
@@ -18,4 +19,5 @@ returns-clause-newest g c = λ old result new ok sized step.
 
 pub returns-clause-cleared : goal.returns-clause-cleared
 returns-clause-cleared g c = λ old ok sized.
-    stays_map g.L.Limiter.rules 0 old (cleared g.L.Limiter.rules old) (cleared_changes g.L.Limiter.rules _ _ (stay_distinct _ _) old) ok sized
+    stays_map g.L.Limiter.rules 0 old (cleared g.L.Limiter.rules old)
+        (cleared_changes g.L.Limiter.rules _ _ (stay_distinct _ _) old) ok sized

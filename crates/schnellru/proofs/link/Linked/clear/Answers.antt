@@ -13,7 +13,8 @@ invariant_of-self g c =
 
 pub returns-clause-slots : goal.returns-clause-slots
 returns-clause-slots g c =
-    rw (← c.self.view_is) (ap pair_slots c.clear.ensures.slots ∙ pair_slots-cleared _ _ _ _ ∙ ap (λ n. replicate n empty) (sym (length-pair_slots c.self.inside.table.slots)))
+    rw (← c.self.view_is) (ap pair_slots c.clear.ensures.slots ∙ pair_slots-cleared _ _ _ _
+        ∙ ap (λ n. replicate n empty) (sym (length-pair_slots c.self.inside.table.slots)))
 
 pub returns-clause-order : goal.returns-clause-order
 returns-clause-order g c =
@@ -24,4 +25,5 @@ pub returns-clause-fits : goal.returns-clause-fits
 returns-clause-fits g c hash_of = Fits-pair_slots _ _ (c.clear.ensures.fits _)
 
 pub returns-clause-linked : goal.returns-clause-linked
-returns-clause-linked g c = IsLinked-view _ _ _ _ g.met.N.LinkType.laws _ _ _ _ (invariant_of-self g c) c.clear.ensures.table
+returns-clause-linked g c = IsLinked-view _ _ _ _ g.met.N.LinkType.laws _ _ _ _
+    (invariant_of-self g c) c.clear.ensures.table

@@ -1,9 +1,11 @@
 use Rattle.std.proofs.Common.{ap, ◌∙◌}
 use Rattle.group_table.proofs.FirstFree.{fills_within}
 use Rattle.schnellru.specs.Inside.Chain.{pair_slots}
-use Rattle.schnellru.proofs.LinkedTables.PairSlots.{marks_of-pair_slots, length-pair_slots, same_marks, pair_slots-set, Fits-pair_slots, Fits-entries}
+use Rattle.schnellru.proofs.LinkedTables.PairSlots.{marks_of-pair_slots, length-pair_slots, same_marks, pair_slots-set}
+use Rattle.schnellru.proofs.LinkedTables.PairSlots.{Fits-pair_slots, Fits-entries}
 use Rattle.schnellru.proofs.LinkedTables.KeyHashes.{KeysFit-placed}
-use Rattle.schnellru.proofs.Chains.WholeChains.{whole_order, IsWhole-shown, IsLinked-view, placed_absent, IsChain-placed, IsWhole-placed}
+use Rattle.schnellru.proofs.Chains.WholeChains.{whole_order, IsWhole-shown, IsLinked-view, placed_absent}
+use Rattle.schnellru.proofs.Chains.WholeChains.{IsChain-placed, IsWhole-placed}
 use Rattle.schnellru.proofs.link.Linked.place.Goals as goal
 
 pub link_newest-requires-clause-chained : goal.link_newest-requires-clause-chained
@@ -23,7 +25,8 @@ invariant_of-self g c =
     (IsChain-placed _ _ _ _ g.met.N.LinkType.laws _ _ _ _ _ c.self.invariant c.args.hash c.in-Ok.b _ placed within)
     (placed_absent _ _ _ _ g.met.N.LinkType.laws _ _ _ _ _ c.self.invariant c.args.hash c.in-Ok.b _ placed within) in
     IsWhole-shown _ _ _ _ g.met.N.LinkType.laws _ _ _ _
-    (IsWhole-placed _ _ _ _ g.met.N.LinkType.laws _ _ _ _ _ c.self.invariant c.args.hash c.in-Ok.b _ placed within _ _ _ c.link_newest.ensures.pairs chain)
+    (IsWhole-placed _ _ _ _ g.met.N.LinkType.laws _ _ _ _ _ c.self.invariant c.args.hash c.in-Ok.b _ placed within _ _
+        _ c.link_newest.ensures.pairs chain)
 
 pub returns-in-Ok-clause-placed : goal.returns-in-Ok-clause-placed
 returns-in-Ok-clause-placed g c =
@@ -33,16 +36,19 @@ returns-in-Ok-clause-placed g c =
     (IsChain-placed _ _ _ _ g.met.N.LinkType.laws _ _ _ _ _ c.self.invariant c.args.hash c.in-Ok.b _ placed within)
     (placed_absent _ _ _ _ g.met.N.LinkType.laws _ _ _ _ _ c.self.invariant c.args.hash c.in-Ok.b _ placed within) in
     let order = whole_order _ _ _ _ g.met.N.LinkType.laws _ _ _ _
-    (IsWhole-placed _ _ _ _ g.met.N.LinkType.laws _ _ _ _ _ c.self.invariant c.args.hash c.in-Ok.b _ placed within _ _ _ c.link_newest.ensures.pairs chain) in
+    (IsWhole-placed _ _ _ _ g.met.N.LinkType.laws _ _ _ _ _ c.self.invariant c.args.hash c.in-Ok.b _ placed within _ _
+        _ c.link_newest.ensures.pairs chain) in
     rw (← c.self.view_is) (
       c.in-Ok.b,
       record {
         first = rw (marks_of-pair_slots c.self.inside.table.slots) placed.first;
         may = rw (marks_of-pair_slots c.self.inside.table.slots) c.in-Ok.ensures.may_fill;
-        slots = c.link_newest.ensures.pairs ∙ ap pair_slots placed.slots ∙ pair_slots-set c.self.inside.table.slots c.in-Ok.b _;
+        slots = c.link_newest.ensures.pairs ∙ ap pair_slots placed.slots
+            ∙ pair_slots-set c.self.inside.table.slots c.in-Ok.b _;
         order = order;
         placings = c.link_newest.ensures.placings ∙ placed.placings;
-        room = rw (c.link_newest.ensures.pairs, marks_of-pair_slots c.try_place.new.self.slots, marks_of-pair_slots c.self.inside.table.slots) c.in-Ok.ensures.room;
+        room = rw (c.link_newest.ensures.pairs, marks_of-pair_slots c.try_place.new.self.slots,
+            marks_of-pair_slots c.self.inside.table.slots) c.in-Ok.ensures.room;
       },
     )
 
@@ -52,9 +58,12 @@ returns-in-Ok-clause-fits g c hash_of fits same =
     let within = fills_within c.self.inside.table.slots c.args.hash c.in-Ok.b placed.first c.in-Ok.ensures.may_fill in
     let before = rw (← c.self.view_is) at fits in
     let slots = ap pair_slots placed.slots ∙ pair_slots-set c.self.inside.table.slots c.in-Ok.b _ in
-    let after = rw slots at (Fits-pair_slots c.try_place.new.self.slots _ (c.in-Ok.ensures.fits _ (Fits-entries c.self.inside.table.slots _ before))) in
+    let after = rw slots at
+        (Fits-pair_slots c.try_place.new.self.slots _
+        (c.in-Ok.ensures.fits _ (Fits-entries c.self.inside.table.slots _ before))) in
     rw (c.link_newest.ensures.pairs, slots)
-    (KeysFit-placed hash_of (pair_slots c.self.inside.table.slots) c.in-Ok.b c.args.hash c.args.pair (rw (length-pair_slots c.self.inside.table.slots) within) same after)
+    (KeysFit-placed hash_of (pair_slots c.self.inside.table.slots) c.in-Ok.b c.args.hash c.args.pair
+        (rw (length-pair_slots c.self.inside.table.slots) within) same after)
 
 pub returns-in-Ok-clause-linked : goal.returns-in-Ok-clause-linked
 returns-in-Ok-clause-linked g c =
@@ -63,7 +72,9 @@ returns-in-Ok-clause-linked g c =
 
 pub returns-in-Err-clause-linked : goal.returns-in-Err-clause-linked
 returns-in-Err-clause-linked g c =
-    rw c.in-Err.ensures.unchanged (IsLinked-view _ _ _ _ g.met.N.LinkType.laws _ _ _ _ c.self.invariant (rw c.in-Err.ensures.unchanged at c.try_place.ensures.table))
+    rw c.in-Err.ensures.unchanged (IsLinked-view _ _ _ _ g.met.N.LinkType.laws _ _ _ _ c.self.invariant
+        (rw c.in-Err.ensures.unchanged at c.try_place.ensures.table))
 
 pub returns-in-Err-clause-no_place : goal.returns-in-Err-clause-no_place
-returns-in-Err-clause-no_place g c = rw (← c.self.view_is, marks_of-pair_slots c.self.inside.table.slots) c.in-Err.ensures.no_place
+returns-in-Err-clause-no_place g c = rw
+    (← c.self.view_is, marks_of-pair_slots c.self.inside.table.slots) c.in-Err.ensures.no_place

@@ -5,7 +5,9 @@ use Rattle.schnellru.proofs.Chains.WholeChains.{IsLinked-view}
 use Rattle.schnellru.proofs.link.Linked.room.Goals as goal
 
 pub returns-clause-room : goal.returns-clause-room
-returns-clause-room g c = rw (← c.self.view_is) (c.room.ensures.value ∙ ap room (sym (marks_of-pair_slots c.self.inside.table.slots)))
+returns-clause-room g c = rw (← c.self.view_is)
+    (c.room.ensures.value ∙ ap room (sym (marks_of-pair_slots c.self.inside.table.slots)))
 
 pub returns-clause-linked : goal.returns-clause-linked
-returns-clause-linked g c = rw (← c.self.view_is) (IsLinked-view _ _ _ _ g.met.N.LinkType.laws _ _ _ _ c.self.invariant c.room.ensures.table)
+returns-clause-linked g c = rw (← c.self.view_is)
+    (IsLinked-view _ _ _ _ g.met.N.LinkType.laws _ _ _ _ c.self.invariant c.room.ensures.table)

@@ -1,4 +1,5 @@
-use Rattle.schnellru.proofs.LinkedTables.PairSlots.{marks_of-pair_slots, Removes-pair_slots, Fits-pair_slots, Fits-entries}
+use Rattle.schnellru.proofs.LinkedTables.PairSlots.{marks_of-pair_slots, Removes-pair_slots, Fits-pair_slots}
+use Rattle.schnellru.proofs.LinkedTables.PairSlots.{Fits-entries}
 use Rattle.schnellru.proofs.Chains.WholeChains.{whole_order, IsWhole-shown, IsLinked-view, IsWhole-taken}
 use Rattle.schnellru.proofs.LinkedTables.KeyHashes.{KeysFit-removed}
 use Rattle.schnellru.proofs.Chains.LinkReads.{full_entry, inside}
@@ -11,10 +12,12 @@ invariant_of-self g c =
     let left = c.unlink.ensures.chain _ c.self.invariant.chain there in
     IsWhole-shown _ _ _ _ g.met.N.LinkType.laws _ _ _ _
     (IsWhole-taken _ _ _ _ g.met.N.LinkType.laws _ _ _ _ _ _ _ _ c.self.invariant c.args.b
-    (full_entry _ _ _ _ g.met.N.LinkType.laws _ _ _ _ c.self.invariant c.args.b full) c.unlink.ensures.pairs left c.take-key.ensures.removed)
+    (full_entry _ _ _ _ g.met.N.LinkType.laws _ _ _ _ c.self.invariant c.args.b full) c.unlink.ensures.pairs left
+        c.take-key.ensures.removed)
 
 pub returns-clause-removed : goal.returns-clause-removed
-returns-clause-removed g c = rw (← c.self.view_is, ← c.unlink.ensures.pairs) (Removes-pair_slots _ _ c.args.b c.take-key.ensures.removed)
+returns-clause-removed g c = rw (← c.self.view_is, ← c.unlink.ensures.pairs)
+    (Removes-pair_slots _ _ c.args.b c.take-key.ensures.removed)
 
 pub returns-clause-order : goal.returns-clause-order
 returns-clause-order g c =
@@ -23,11 +26,13 @@ returns-clause-order g c =
     let left = c.unlink.ensures.chain _ c.self.invariant.chain there in
     rw (← c.self.view_is) (whole_order _ _ _ _ g.met.N.LinkType.laws _ _ _ _
     (IsWhole-taken _ _ _ _ g.met.N.LinkType.laws _ _ _ _ _ _ _ _ c.self.invariant c.args.b
-    (full_entry _ _ _ _ g.met.N.LinkType.laws _ _ _ _ c.self.invariant c.args.b full) c.unlink.ensures.pairs left c.take-key.ensures.removed))
+    (full_entry _ _ _ _ g.met.N.LinkType.laws _ _ _ _ c.self.invariant c.args.b full) c.unlink.ensures.pairs left
+        c.take-key.ensures.removed))
 
 pub returns-clause-room : goal.returns-clause-room
 returns-clause-room g c =
-    rw (← c.self.view_is, ← c.unlink.ensures.pairs, marks_of-pair_slots c.take-key.new.self.slots, marks_of-pair_slots c.unlink.new.table.slots) c.take-key.ensures.room
+    rw (← c.self.view_is, ← c.unlink.ensures.pairs, marks_of-pair_slots c.take-key.new.self.slots,
+        marks_of-pair_slots c.unlink.new.table.slots) c.take-key.ensures.room
 
 pub returns-clause-fits : goal.returns-clause-fits
 returns-clause-fits g c hash_of fits =
@@ -37,4 +42,5 @@ returns-clause-fits g c hash_of fits =
     (Fits-pair_slots _ _ (c.take-key.ensures.fits _ (Fits-entries c.unlink.new.table.slots _ before)))
 
 pub returns-clause-linked : goal.returns-clause-linked
-returns-clause-linked g c = IsLinked-view _ _ _ _ g.met.N.LinkType.laws _ _ _ _ (invariant_of-self g c) c.take-key.ensures.table
+returns-clause-linked g c = IsLinked-view _ _ _ _ g.met.N.LinkType.laws _ _ _ _
+    (invariant_of-self g c) c.take-key.ensures.table

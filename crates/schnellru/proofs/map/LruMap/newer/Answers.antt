@@ -4,4 +4,6 @@ use Rattle.schnellru.proofs.map.LruMap.newer.Goals as goal
 
 pub returns : goal.returns
 returns g c = λ i there.
-    rw (← c.self.view_is) (c.newer.ensures.newer ∙ before_at c.self.inside.entries.order i c.args.b c.self.invariant.linked.distinct (rw (← c.self.view_is) at there))
+    rw (← c.self.view_is)
+        (c.newer.ensures.newer ∙ before_at c.self.inside.entries.order i c.args.b c.self.invariant.linked.distinct
+        (rw (← c.self.view_is) at there))

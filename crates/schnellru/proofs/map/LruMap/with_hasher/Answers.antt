@@ -16,9 +16,12 @@ invariant_of-result g c =
       linked = c.new.ensures.linked;
       fits = c.new.ensures.fits _;
       map = record {
-        distinct = subst (λ o. AreDistinct g.K.PartialEq.eq (entries_in c.new.result.slots o)) (sym c.new.ensures.order) tt;
-        sized = sized_by (beside c.args.limiter c.args.hasher 0 0 c.args.entry_bytes (g.L.LinkType.LinkType.number g.L.LinkType.LinkType.MAX)) c.new.result c.new.ensures.linked (inl none)
+        distinct = subst (λ o. AreDistinct g.K.PartialEq.eq (entries_in c.new.result.slots o))
+            (sym c.new.ensures.order) tt;
+        sized = sized_by (beside c.args.limiter c.args.hasher 0 0 c.args.entry_bytes
+            (g.L.LinkType.LinkType.number g.L.LinkType.LinkType.MAX)) c.new.result c.new.ensures.linked (inl none)
             (0, ap (usage c.args.entry_bytes) none) (omega arith) (omega arith);
-        paid = subst (λ s. 0 + (full_capacity (length (marks_of s)) - 2 * room (marks_of s)) ≤ 0) (sym c.new.ensures.slots) (omega arith);
+        paid = subst (λ s. 0 + (full_capacity (length (marks_of s)) - 2 * room (marks_of s)) ≤ 0)
+            (sym c.new.ensures.slots) (omega arith);
       };
     }

@@ -9,5 +9,6 @@ returns-clause-goes g c =
     let fewer = ap (λ st. length st.pairs) step.state.is ∙ length-without_last old.pairs in
     elim (last_cases old.pairs) [
       | inl none ↦ rw (step.pair, none) (record { on = λ f. tt; keeps = tt; rests = λ f. f })
-      | inr e ↦ rw (step.pair, e.1) (record { on = λ f. (tt, f, omega (arith, e.2, fewer)); keeps = tt; rests = λ f. tt })
+      | inr e ↦ rw (step.pair, e.1)
+          (record { on = λ f. (tt, f, omega (arith, e.2, fewer)); keeps = tt; rests = λ f. tt })
     ]
