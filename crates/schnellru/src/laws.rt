@@ -1,7 +1,8 @@
-//! What is proved of each call, and of all calls, one after another. Each theorem is the contract of a function that does
-//! nothing.
+//! What is proved of each call, and of all calls, one after another. Each theorem is the contract of a function that
+//! does nothing.
 
-ghost use Rattle.std.specs.Prelude.{◌≡◌, ◌≢◌, ℕ, ◌≤◌, ◌<◌, ◌+◌, ◌*◌, ◌/◌, ◌⊎◌, ◌∷◌, Bool, false, Option, Some, None, IfSome, Result, Ok, true, IsOk, IsErr, length};
+ghost use Rattle.std.specs.Prelude.{◌≡◌, ◌≢◌, ℕ, ◌≤◌, ◌<◌, ◌+◌, ◌*◌, ◌/◌, ◌⊎◌, ◌∷◌, Bool, false, Option, Some, None};
+ghost use Rattle.std.specs.Prelude.{IfSome, Result, Ok, true, IsOk, IsErr, length};
 ghost use Rattle.std.specs.List.{IsDistinct};
 ghost use Rattle.std.specs.declared.alloc.AllocError.{AllocError};
 ghost use Rattle.group_table.specs.Bucket.{deleted};
@@ -16,7 +17,8 @@ ghost use Rattle.schnellru.specs.Reservations.{Reserve};
 ghost use Rattle.schnellru.specs.declared.map.reserve.ReserveError.{ReserveError};
 ghost use Rattle.schnellru.specs.Inserts.{Insert, replacement, LacksMemory};
 ghost use Rattle.schnellru.specs.Exact.{IsDetermined, EndsExactly, EndsAlike, AlwaysGrants, HasTables};
-ghost use Rattle.schnellru.specs.Theorems.{PaysForMoves, CountsPlacings, Stores, KeepsValues, IsRefusedGrowth, UsesAtMost, GivesUp, IsSummed, SaysWhether};
+ghost use Rattle.schnellru.specs.Theorems.{PaysForMoves, CountsPlacings, Stores, KeepsValues, IsRefusedGrowth};
+ghost use Rattle.schnellru.specs.Theorems.{UsesAtMost, GivesUp, IsSummed, SaysWhether};
 
 use lru_limits::{ByLength, ByMemoryUsage, Insertion, Limiter, LookupKey, Summing};
 use std::hash::{BuildHasher, Hash};
@@ -57,8 +59,8 @@ pub fn inserts_say_whether<
         SaysWhether L.rules (I.names key) result new }
 {}
 
-/// Where an insert answers true, the newest pair is the one that the limiter gave of a new key, or left of the pair that was
-/// there. So under a limiter that stores values as they come, a look-up of the key then gives the value.
+/// Where an insert answers true, the newest pair is the one that the limiter gave of a new key, or left of the pair
+/// that was there. So under a limiter that stores values as they come, a look-up of the key then gives the value.
 pub fn inserts_store_the_value<
     K: Eq + Hash,
     V,
@@ -67,11 +69,13 @@ pub fn inserts_store_the_value<
     S: BuildHasher,
 >()
     ensures stores { (key : I) (value : V) (old new : State K V L S) →
-        Insert L.rules L.offers I.names (hash_by K.hash_input S.BuildHasher S.Hasher.Hasher) key value old (Ok true) new →
+        Insert L.rules L.offers I.names (hash_by K.hash_input S.BuildHasher S.Hasher.Hasher) key value old
+            (Ok true) new →
         IfSome (first new.pairs) (Stores L.rules L.offers I.names key value old) }
     ensures found { (key : I) (value : V) (old new : State K V L S) →
         KeepsValues L.offers → IsDistinct K.eq (keys_of old.pairs) →
-        Insert L.rules L.offers I.names (hash_by K.hash_input S.BuildHasher S.Hasher.Hasher) key value old (Ok true) new →
+        Insert L.rules L.offers I.names (hash_by K.hash_input S.BuildHasher S.Hasher.Hasher) key value old
+            (Ok true) new →
         lookup (I.names key) new.pairs ≡ Some value }
 {}
 
@@ -84,18 +88,20 @@ pub fn inserts_lack_memory_at_no_room<
     L: Insertion<K, V, I>,
     S: BuildHasher,
 >()
-    ensures lacks { (key : I) (value : V) (old : State K V L S) (result : Result Bool AllocError) (new : State K V L S) →
+    ensures lacks { (key : I) (value : V) (old : State K V L S) (result : Result Bool AllocError)
+        (new : State K V L S) →
         IsErr result →
         Insert L.rules L.offers I.names (hash_by K.hash_input S.BuildHasher S.Hasher.Hasher) key value old result new →
         LacksMemory L.rules L.offers I.names (hash_by K.hash_input S.BuildHasher S.Hasher.Hasher) key value old new }
-    ensures keeps { (key : I) (value : V) (old : State K V L S) (result : Result Bool AllocError) (new : State K V L S) →
+    ensures keeps { (key : I) (value : V) (old : State K V L S) (result : Result Bool AllocError)
+        (new : State K V L S) →
         IsErr result →
         Insert L.rules L.offers I.names (hash_by K.hash_input S.BuildHasher S.Hasher.Hasher) key value old result new →
         IsFront new.pairs old.pairs }
 {}
 
-/// An insert into a table of up to 16 buckets leaves nothing open but where memory is short: not what it answers, nor the
-/// pairs, nor the limiter. Where the limiter's offers leave nothing open, two inserts of the same end alike.
+/// An insert into a table of up to 16 buckets leaves nothing open but where memory is short: not what it answers, nor
+/// the pairs, nor the limiter. Where the limiter's offers leave nothing open, two inserts of the same end alike.
 pub fn small_inserts_are_exact<
     K: Eq + Hash,
     V,
@@ -103,7 +109,8 @@ pub fn small_inserts_are_exact<
     L: Insertion<K, V, I>,
     S: BuildHasher,
 >()
-    ensures exact { (key : I) (value : V) (old : State K V L S) (result : Result Bool AllocError) (new : State K V L S) →
+    ensures exact { (key : I) (value : V) (old : State K V L S) (result : Result Bool AllocError)
+        (new : State K V L S) →
         buckets old ≤ 16 → IsOk result →
         Insert L.rules L.offers I.names (hash_by K.hash_input S.BuildHasher S.Hasher.Hasher) key value old result new →
         EndsExactly L.rules L.offers I.names key value old result new }
@@ -114,8 +121,8 @@ pub fn small_inserts_are_exact<
         EndsAlike result other new others }
 {}
 
-/// So it does in a table of any size, where the limiter permits every growth, as `ByLength` does and the unlimited ones,
-/// and links and bytes reach the tables that it may need.
+/// So it does in a table of any size, where the limiter permits every growth, as `ByLength` does and the unlimited
+/// ones, and links and bytes reach the tables that it may need.
 pub fn granted_inserts_are_exact<
     K: Eq + Hash,
     V,
@@ -196,7 +203,8 @@ pub fn inserts_pay_for_moves<
         IsSized old → IsPaid old →
         Insert L.rules L.offers I.names (hash_by K.hash_input S.BuildHasher S.Hasher.Hasher) key value old result new →
         IsPaid new × (new.moved ≤ 2 * new.placed) }
-    ensures counted { (key : I) (value : V) (old : State K V L S) (result : Result Bool AllocError) (new : State K V L S) →
+    ensures counted { (key : I) (value : V) (old : State K V L S) (result : Result Bool AllocError)
+        (new : State K V L S) →
         Insert L.rules L.offers I.names (hash_by K.hash_input S.BuildHasher S.Hasher.Hasher) key value old result new →
         CountsPlacings old new }
 {}
@@ -355,8 +363,8 @@ pub fn reservations_make_room<K: Eq + Hash, V, L: Limiter<K, V>, S: BuildHasher>
         IsSized old → Reserve L.rules n old (Ok tt) new → n ≤ room new }
 {}
 
-/// With `ByMemoryUsage` a reservation leaves the limiter as it was, and a table of at most `max_memory_usage` bytes, if it
-/// had no more before.
+/// With `ByMemoryUsage` a reservation leaves the limiter as it was, and a table of at most `max_memory_usage` bytes, if
+/// it had no more before.
 pub fn reservations_keep_the_memory_usage<K: Eq + Hash + Drop, V: Drop, S: BuildHasher>()
     ensures { (n : ℕ) (old : State K V ByMemoryUsage S) (result : Result (Unit {0}) ReserveError)
         (new : State K V ByMemoryUsage S) →

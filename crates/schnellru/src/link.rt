@@ -2,7 +2,8 @@
 //!
 //! Each entry keeps the numbers of its newer and its older neighbour as links, so that it is promoted or taken without
 //! a walk. A clause sees a `Linked` as its `slots` and the `order` of the full ones.
-ghost use Rattle.std.specs.Prelude.{◌≡◌, ◌≢◌, ℕ, ◌+◌, ◌^◌, ◌<◌, ◌≤◌, false, [], ◌∷◌, length, Some, None, IfSome, IfNone, IfOk, IfErr, OnOk, OnErr, IsOk, IsTrue, replicate, slice_set};
+ghost use Rattle.std.specs.Prelude.{◌≡◌, ◌≢◌, ℕ, ◌+◌, ◌^◌, ◌<◌, ◌≤◌, false, [], ◌∷◌, length, Some, None, IfSome};
+ghost use Rattle.std.specs.Prelude.{IfNone, IfOk, IfErr, OnOk, OnErr, IsOk, IsTrue, replicate, slice_set};
 ghost use Rattle.std.specs.Borrow.{sem};
 ghost use Rattle.group_table.specs.Sizes.{IsPowerFromFour, full_capacity};
 ghost use Rattle.group_table.specs.Bucket.{empty, marks_of, IsFull, entry_at, entry_count, room, room_at};
@@ -60,7 +61,8 @@ impl<K, V, N: LinkType> Model for Linked<K, V, N> {
       placings = t.table.placings;
     } };
 
-    ghost invariant = { λ t. IsWhole N.number N.link N.MAX t.table.slots t.newest t.oldest (along N.number (length t.table.slots) t.table.slots t.newest) };
+    ghost invariant = { λ t. IsWhole N.number N.link N.MAX t.table.slots t.newest t.oldest
+        (along N.number (length t.table.slots) t.table.slots t.newest) };
 }
 
 impl<K, V, N: LinkType> Linked<K, V, N> {
@@ -162,10 +164,12 @@ impl<K, V, N: LinkType> Linked<K, V, N> {
     #[inline]
     pub(crate) fn pair_mut(&mut self, b: usize) -> &mut Pair<K, V>
         requires { IsFull self.old.slots b }
-        ensures* writes_back { sem 𝓛 (lends_pair K.row V.row N.row N.LinkType.own N.PartialEq N.Debug self.entry b result) }
+        ensures* writes_back { sem 𝓛
+            (lends_pair K.row V.row N.row N.LinkType.own N.PartialEq N.Debug self.entry b result) }
         ensures pair { entry_at self.old.slots b ≡ Some (result.now.key, result.now.value) }
         ensures fits { (hash_of : K → ℕ) → KeysFit hash_of self.old.slots →
-            (last : K × V) → hash_of last.0 ≡ hash_of result.now.key → KeysFit hash_of (with_pair self.old b last).slots }
+            (last : K × V) → hash_of last.0 ≡ hash_of result.now.key
+                → KeysFit hash_of (with_pair self.old b last).slots }
         ensures linked { (last : K × V) → IsLinked (with_pair self.old b last) }
     {
         &mut self.table.get_mut(b).pair
@@ -210,7 +214,8 @@ impl<K, V, N: LinkType> Linked<K, V, N> {
         ensures removed { Removes self.old.slots self.new.slots b }
         ensures order { self.new.order ≡ without_bucket b self.old.order }
         ensures placings { self.new.placings ≡ self.old.placings }
-        ensures room { room (marks_of self.new.slots) ≡ room (marks_of self.old.slots) + room_at (marks_of self.new.slots) b }
+        ensures room { room (marks_of self.new.slots) ≡ room (marks_of self.old.slots)
+            + room_at (marks_of self.new.slots) b }
         ensures fits { (hash_of : K → ℕ) → KeysFit hash_of self.old.slots → KeysFit hash_of self.new.slots }
         ensures linked { IsLinked self.new }
     {
@@ -225,7 +230,8 @@ impl<K: Drop, V: Drop, N: LinkType> Linked<K, V, N> {
     #[inline(always)]
     pub(crate) fn place(&mut self, hash: u64, pair: (K, V)) -> Result<(), (K, V)>
         ensures placed { OnOk result ((b : ℕ) × Lands self.old self.new hash pair b) }
-        ensures fits { OnOk result ((hash_of : K → ℕ) → KeysFit hash_of self.old.slots → hash_of pair.0 ≡ hash → KeysFit hash_of self.new.slots) }
+        ensures fits { OnOk result ((hash_of : K → ℕ) → KeysFit hash_of self.old.slots → hash_of pair.0 ≡ hash
+            → KeysFit hash_of self.new.slots) }
         ensures linked { IsLinked self.new }
         ensures returned { IfErr result (λ back. back ≡ pair) }
         ensures unchanged { OnErr result (self.new ≡ self.old) }
@@ -264,18 +270,20 @@ impl<K: Eq + Hash, V, N: LinkType> Linked<K, V, N> {
     // The bucket of the key that is named, which has this hash.
     #[inline]
     pub(crate) fn find<Q: LookupKey<K>>(&self, hash: u64, key: &Q) -> Option<usize>
-        ensures found { IfSome result (λ b. (pair : K × V) × (entry_at self.now.slots b ≡ Some pair) × IsTrue (Q.names key.now pair.0)) }
+        ensures found { IfSome result (λ b. (pair : K × V) × (entry_at self.now.slots b ≡ Some pair)
+            × IsTrue (Q.names key.now pair.0)) }
         ensures full { IfSome result (IsFull self.now.slots) }
         ensures none { IfNone result ((hash_of : K → ℕ) → KeysFit hash_of self.now.slots →
-            (b : ℕ) (pair : K × V) → entry_at self.now.slots b ≡ Some pair → hash_of pair.0 ≡ hash → Q.names key.now pair.0 ≡ false) }
+            (b : ℕ) (pair : K × V) → entry_at self.now.slots b ≡ Some pair → hash_of pair.0 ≡ hash
+                → Q.names key.now pair.0 ≡ false) }
     {
         self.table.find(hash, |entry| key.is_key(&entry.pair.key))
     }
 }
 
 impl<K: Eq + Hash + Drop, V: Drop, N: LinkType> Linked<K, V, N> {
-    // Moves all pairs into a table of so many buckets, in the same order. Among as many buckets as now they stay in this
-    // table, and without pairs that needs no memory.
+    // Moves all pairs into a table of so many buckets, in the same order. Among as many buckets as now they stay in
+    // this table, and without pairs that needs no memory.
     pub(crate) fn move_to<S: BuildHasher>(
         &mut self,
         buckets: usize,
@@ -289,7 +297,8 @@ impl<K: Eq + Hash + Drop, V: Drop, N: LinkType> Linked<K, V, N> {
         ensures pairs { pairs_of self.new ≡ pairs_of self.old }
         ensures room { OnOk result (room (marks_of self.new.slots) + length self.old.order ≡ full_capacity buckets) }
         ensures placings { OnOk result (self.new.placings ≡ count_up self.old.placings (length self.old.order)) }
-        ensures fits { OnOk result (KeysFit (hash_by K.hash_input S.BuildHasher S.Hasher.Hasher hasher.now) self.new.slots) }
+        ensures fits { OnOk result
+            (KeysFit (hash_by K.hash_input S.BuildHasher S.Hasher.Hasher hasher.now) self.new.slots) }
         ensures linked { IsLinked self.new }
         ensures unchanged { OnErr result (self.new ≡ self.old) }
         ensures succeeds { length self.old.order ≡ 0 → length self.old.slots ≡ buckets → IsOk result }
@@ -305,7 +314,8 @@ impl<K: Eq + Hash + Drop, V: Drop, N: LinkType> Linked<K, V, N> {
     }
 }
 
-// Moves the entries into a table of so many buckets, or, among as many as now, within this one, and answers where each is.
+// Moves the entries into a table of so many buckets, or, among as many as now, within this one, and answers where each
+// is.
 fn move_entries<K: Eq + Hash + Drop, V: Drop, N: LinkType, S: BuildHasher>(
     table: &mut Table<Entry<K, V, N>>,
     buckets: usize,

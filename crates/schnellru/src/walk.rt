@@ -21,8 +21,8 @@ pub(crate) mod iter_mut;
 /// After schnellru's `Iter`.
 pub type Iter<'a, K, V, L> = Walk<'a, K, V, <L as Limiter<K, V>>::LinkType>;
 
-/// The pairs of a map that a walk has not given yet from either end, newest first. Of the map's limiter it knows the type
-/// of the links.
+/// The pairs of a map that a walk has not given yet from either end, newest first. Of the map's limiter it knows the
+/// type of the links.
 #[derive(Drop)]
 pub struct Walk<'a, K, V, N: LinkType> {
     entries: &'a Linked<K, V, N>,
@@ -130,7 +130,8 @@ impl<'a, K: Eq + Hash, V, N: LinkType + 'a, L: Limiter<K, V, LinkType = N>, S: B
 
     type IntoIter = Walk<'a, K, V, N>;
 
-    ghost into_iter_gives = { λ m r. (r ≡ m.now.pairs) × (length m.now.pairs < 2 ^ 64) × ShowsInOrder (deref_pair {K = K} {X = V}) × IsMap K.eq m.now };
+    ghost into_iter_gives = { λ m r. (r ≡ m.now.pairs) × (length m.now.pairs < 2 ^ 64)
+        × ShowsInOrder (deref_pair {K = K} {X = V}) × IsMap K.eq m.now };
 
     fn into_iter(self) -> Walk<'a, K, V, N> {
         self.iter()

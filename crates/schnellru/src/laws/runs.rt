@@ -9,8 +9,8 @@ ghost use Rattle.schnellru.specs.Theorems.{PaysForMoves, UsesAtMost, IsSummed};
 use lru_limits::{ByLength, ByMemoryUsage, Insertion, Limiter, LookupKey, Summing};
 use std::hash::{BuildHasher, Hash};
 
-/// What holds of every map holds after any calls, whatever is written through what they lend: no two keys are equal, each
-/// pair has a bucket, and what was moved is at most twice what was placed.
+/// What holds of every map holds after any calls, whatever is written through what they lend: no two keys are equal,
+/// each pair has a bucket, and what was moved is at most twice what was placed.
 pub fn runs_keep_maps<K: Eq + Hash, V, I: LookupKey<K>, L: Insertion<K, V, I>, S: BuildHasher>()
     ensures map { (old new : State K V L S) →
         Run (AnyStep L.rules L.offers I.names (hash_by K.hash_input S.BuildHasher S.Hasher.Hasher)) new old →

@@ -6,7 +6,9 @@ ghost use Rattle.group_table.specs.Bucket.{Slot, IsFull};
 ghost use Rattle.group_table.specs.Relocation.{Renumbers, moved_to};
 ghost use Rattle.schnellru.specs.Inside.Linked.{without_bucket};
 ghost use Rattle.schnellru.specs.declared.link.Entry.{Entry};
-ghost use Rattle.schnellru.specs.Inside.Chain.{IsChain, IsWhole, InChain, OutOfChain, Moved, MovesLinks, HasPlace, moved_link, SetsNewer, SetsOlder, SetsLinks, SetsEnd, newer_at, older_at, pair_slots};
+ghost use Rattle.schnellru.specs.Inside.Chain.{IsChain, IsWhole, InChain, OutOfChain, Moved, MovesLinks, HasPlace};
+ghost use Rattle.schnellru.specs.Inside.Chain.{moved_link, SetsNewer, SetsOlder, SetsLinks, SetsEnd, newer_at};
+ghost use Rattle.schnellru.specs.Inside.Chain.{older_at, pair_slots};
 
 use crate::link::Entry;
 use group_table::{LinkType, Table};
@@ -21,7 +23,8 @@ pub(crate) fn unlink<K, V, N: LinkType>(
     requires { InChain N.number N.link N.MAX table.old.slots newest.old oldest.old b }
     ensures pairs { pair_slots table.new.slots ≡ pair_slots table.old.slots }
     ensures placings { table.new.placings ≡ table.old.placings }
-    ensures chain { (order : List ℕ) → IsChain N.number N.link N.MAX table.old.slots newest.old oldest.old order → Contains order b →
+    ensures chain { (order : List ℕ) → IsChain N.number N.link N.MAX table.old.slots newest.old oldest.old order
+        → Contains order b →
         IsChain N.number N.link N.MAX table.new.slots newest.new oldest.new (without_bucket b order) }
 {
     let entry = table.get(b);
@@ -41,7 +44,8 @@ pub(crate) fn link_newest<K, V, N: LinkType>(
     requires chained { OutOfChain N.number N.link N.MAX table.old.slots newest.old oldest.old b }
     ensures pairs { pair_slots table.new.slots ≡ pair_slots table.old.slots }
     ensures placings { table.new.placings ≡ table.old.placings }
-    ensures chain { (order : List ℕ) → IsChain N.number N.link N.MAX table.old.slots newest.old oldest.old order → (Contains order b → ⊥) →
+    ensures chain { (order : List ℕ) → IsChain N.number N.link N.MAX table.old.slots newest.old oldest.old order
+        → (Contains order b → ⊥) →
         IsChain N.number N.link N.MAX table.new.slots newest.new oldest.new (b ∷ order) }
 {
     let link = N::from_usize(b);
@@ -107,8 +111,10 @@ pub(crate) fn rewrite<K, V, N: LinkType>(
     ensures pairs { pair_slots table.new.slots ≡ pair_slots table.old.slots }
     ensures placings { table.new.placings ≡ table.old.placings }
     ensures chain { (before : List (Slot (Entry K V N))) (order : List ℕ) →
-        IsWhole N.number N.link N.MAX before newest.old oldest.old order → Renumbers N.number N.MAX before table.old.slots links.now →
-        IsChain N.number N.link N.MAX table.new.slots newest.new oldest.new (map (moved_to N.number N.MAX links.now) order) }
+        IsWhole N.number N.link N.MAX before newest.old oldest.old order
+            → Renumbers N.number N.MAX before table.old.slots links.now →
+        IsChain N.number N.link N.MAX table.new.slots newest.new oldest.new
+            (map (moved_to N.number N.MAX links.now) order) }
 {
     for old in 0..links.len() {
         let moved = links[old];

@@ -20,7 +20,8 @@ impl<K: Drop, V: Drop, N: LinkType> Linked<K, V, N> {
         ensures order { IfOk result (λ t. t.order ≡ self.now.order) }
         ensures marks { IfOk result (λ t. marks_of t.slots ≡ marks_of self.now.slots) }
         ensures placings { IfOk result (λ t. t.placings ≡ self.now.placings) }
-        ensures fits { IfOk result (λ t. (hash_of other : K → ℕ) → ((key copy : K) → K.is_clone key copy → other copy ≡ hash_of key) →
+        ensures fits { IfOk result (λ t. (hash_of other : K → ℕ)
+            → ((key copy : K) → K.is_clone key copy → other copy ≡ hash_of key) →
             KeysFit hash_of self.now.slots → KeysFit other t.slots) }
         ensures linked { IfOk result IsLinked }
         ensures succeeds { length self.now.slots ≡ 0 → IsOk result }

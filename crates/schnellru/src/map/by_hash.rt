@@ -14,12 +14,12 @@ use std::hash::{BuildHasher, Hash};
 impl<K: Eq + Hash, V, L: Limiter<K, V>, S: BuildHasher> LruMap<K, V, L, S> {
     ghost use Rattle.schnellru.specs.Lending.Values.{lends_given};
 
-    /// The value of a pair of this hash that `is_eq` accepts, to be changed. Its pair becomes the newest; what is written is
-    /// not told to the limiter.
+    /// The value of a pair of this hash that `is_eq` accepts, to be changed. Its pair becomes the newest; what is
+    /// written is not told to the limiter.
     ///
     /// `is_eq` is asked about different pairs, each once, whose hashes agree with `hash` in their top 7 bits, until it
-    /// accepts one. `None` says that it refused each pair of the hash, and nothing has changed. A hash is that of the map's
-    /// own hasher, over what the key writes to it.
+    /// accepts one. `None` says that it refused each pair of the hash, and nothing has changed. A hash is that of the
+    /// map's own hasher, over what the key writes to it.
     ///
     /// Cost: `O(1)` expected, with one call of `is_eq` for each pair that is asked about.
     ///
@@ -28,9 +28,12 @@ impl<K: Eq + Hash, V, L: Limiter<K, V>, S: BuildHasher> LruMap<K, V, L, S> {
         requires callable { F.IsAlwaysCallable is_eq }
         ensures* writes_back { sem 𝓛 (lends_given K.row V.row L.row S.row L.LinkType.row S.Hasher.row K.Hash L.Limiter
             L.LinkType.LinkType.own L.LinkType.PartialEq L.LinkType.Debug S.BuildHasher S.Hasher.Hasher self.entry
-            (GivesByHash K.eq (hash_by K.hash_input S.BuildHasher S.Hasher.Hasher self.old.hasher) self.old.pairs hash F.FnMut is_eq)
+            (GivesByHash K.eq (hash_by K.hash_input S.BuildHasher S.Hasher.Hasher self.old.hasher) self.old.pairs hash
+                F.FnMut is_eq)
             promoted result) }
-        ensures none { IfNone result (GivesNoneByHash K.eq (hash_by K.hash_input S.BuildHasher S.Hasher.Hasher self.old.hasher) self.old.pairs hash F.FnMut is_eq) }
+        ensures none { IfNone result
+            (GivesNoneByHash K.eq (hash_by K.hash_input S.BuildHasher S.Hasher.Hasher self.old.hasher) self.old.pairs
+            hash F.FnMut is_eq) }
         ensures map { (key : K) (last : V) → IsMap K.eq (written (K.eq key) last (promoted (K.eq key) self.old)) }
     {
         let b = self.entries.find_by(hash, is_eq)?;
@@ -38,30 +41,37 @@ impl<K: Eq + Hash, V, L: Limiter<K, V>, S: BuildHasher> LruMap<K, V, L, S> {
         Some(&mut self.entries.pair_mut(b).value)
     }
 
-    /// The value of a pair of this hash that `is_eq` accepts. The order stays. `is_eq` is asked as `get_by_hash` asks it.
+    /// The value of a pair of this hash that `is_eq` accepts. The order stays. `is_eq` is asked as `get_by_hash` asks
+    /// it.
     ///
     /// After schnellru's `LruMap::peek_by_hash`.
     pub fn peek_by_hash<F: FnMut(&K, &V) -> bool>(&self, hash: u64, is_eq: F) -> Option<&V>
         requires callable { F.IsAlwaysCallable is_eq }
         ensures found { IfSome result (λ value. (key : K)
-            × GivesByHash K.eq (hash_by K.hash_input S.BuildHasher S.Hasher.Hasher self.now.hasher) self.now.pairs hash F.FnMut is_eq (key, value.now)) }
-        ensures none { IfNone result (GivesNoneByHash K.eq (hash_by K.hash_input S.BuildHasher S.Hasher.Hasher self.now.hasher) self.now.pairs hash F.FnMut is_eq) }
+            × GivesByHash K.eq (hash_by K.hash_input S.BuildHasher S.Hasher.Hasher self.now.hasher) self.now.pairs hash
+                F.FnMut is_eq (key, value.now)) }
+        ensures none { IfNone result
+            (GivesNoneByHash K.eq (hash_by K.hash_input S.BuildHasher S.Hasher.Hasher self.now.hasher) self.now.pairs
+            hash F.FnMut is_eq) }
     {
         let b = self.entries.find_by(hash, is_eq)?;
         Some(&self.entries.pair(b).value)
     }
 
-    /// The value of a pair of this hash that `is_eq` accepts, to be changed. The order stays; what is written is not told to
-    /// the limiter. `is_eq` is asked as `get_by_hash` asks it.
+    /// The value of a pair of this hash that `is_eq` accepts, to be changed. The order stays; what is written is not
+    /// told to the limiter. `is_eq` is asked as `get_by_hash` asks it.
     ///
     /// After schnellru's `LruMap::peek_by_hash_mut`.
     pub fn peek_by_hash_mut<F: FnMut(&K, &V) -> bool>(&mut self, hash: u64, is_eq: F) -> Option<&mut V>
         requires callable { F.IsAlwaysCallable is_eq }
         ensures* writes_back { sem 𝓛 (lends_given K.row V.row L.row S.row L.LinkType.row S.Hasher.row K.Hash L.Limiter
             L.LinkType.LinkType.own L.LinkType.PartialEq L.LinkType.Debug S.BuildHasher S.Hasher.Hasher self.entry
-            (GivesByHash K.eq (hash_by K.hash_input S.BuildHasher S.Hasher.Hasher self.old.hasher) self.old.pairs hash F.FnMut is_eq)
+            (GivesByHash K.eq (hash_by K.hash_input S.BuildHasher S.Hasher.Hasher self.old.hasher) self.old.pairs hash
+                F.FnMut is_eq)
             (λ names st. st) result) }
-        ensures none { IfNone result (GivesNoneByHash K.eq (hash_by K.hash_input S.BuildHasher S.Hasher.Hasher self.old.hasher) self.old.pairs hash F.FnMut is_eq) }
+        ensures none { IfNone result
+            (GivesNoneByHash K.eq (hash_by K.hash_input S.BuildHasher S.Hasher.Hasher self.old.hasher) self.old.pairs
+            hash F.FnMut is_eq) }
         ensures map { (key : K) (last : V) → IsMap K.eq (written (K.eq key) last self.old) }
     {
         let b = self.entries.find_by(hash, is_eq)?;

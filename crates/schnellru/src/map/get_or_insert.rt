@@ -84,7 +84,8 @@ impl<K: Eq + Hash + Drop, V: Drop, L: Limiter<K, V>, S: BuildHasher> LruMap<K, V
     where
         L: Insertion<K, V, I>,
         requires { lookup (I.names key) self.old.pairs ≡ None → F.pre make }
-        ensures step { MakesNewest L.rules L.offers I.names (hash_by K.hash_input S.BuildHasher S.Hasher.Hasher) (F.post make) key self.old result self.new }
+        ensures step { MakesNewest L.rules L.offers I.names (hash_by K.hash_input S.BuildHasher S.Hasher.Hasher)
+            (F.post make) key self.old result self.new }
         ensures says { SaysNewest (I.names key) result self.new }
         ensures map { IsMap K.eq self.new }
     {
@@ -103,7 +104,8 @@ impl<K: Eq + Hash + Drop, V: Drop, L: Limiter<K, V>, S: BuildHasher> LruMap<K, V
     where
         L: Insertion<K, V, I>,
         requires { lookup (I.names key) self.old.pairs ≡ None → F.pre make }
-        ensures { MakesNewest L.rules L.offers I.names (hash_by K.hash_input S.BuildHasher S.Hasher.Hasher) (F.post make) key self.old result self.new }
+        ensures { MakesNewest L.rules L.offers I.names (hash_by K.hash_input S.BuildHasher S.Hasher.Hasher)
+            (F.post make) key self.old result self.new }
     {
         let hash = self.hasher.hash_one(&key);
         match self.entries.find(hash, &key) {
@@ -126,7 +128,8 @@ impl<K: Eq + Hash + Drop, V: Drop, L: Limiter<K, V>, S: BuildHasher> LruMap<K, V
         requires { lookup (I.names key) self.old.pairs ≡ None → F.pre make }
         ensures* writes_back { sem 𝓛 (lends_or K.row V.row L.row S.row L.LinkType.row S.Hasher.row K.Hash L.Limiter
             L.LinkType.LinkType.own L.LinkType.PartialEq L.LinkType.Debug S.BuildHasher S.Hasher.Hasher self.entry
-            (MakesNewest L.rules L.offers I.names (hash_by K.hash_input S.BuildHasher S.Hasher.Hasher) (F.post make) key self.old) result) }
+            (MakesNewest L.rules L.offers I.names (hash_by K.hash_input S.BuildHasher S.Hasher.Hasher)
+                (F.post make) key self.old) result) }
     {
         match self.ensure_newest(key, make) {
             Ok(true) => Ok(self.newest_value_mut()),
@@ -164,7 +167,8 @@ impl<K: Eq + Hash + Drop, V: Drop, L: Limiter<K, V>, S: BuildHasher> LruMap<K, V
         requires { lookup (I.names key) self.old.pairs ≡ None → F.pre make }
         ensures* writes_back { sem 𝓛 (lends_made K.row V.row L.row S.row L.LinkType.row S.Hasher.row K.Hash L.Limiter
             L.LinkType.LinkType.own L.LinkType.PartialEq L.LinkType.Debug S.BuildHasher S.Hasher.Hasher self.entry
-            (MakesNewest L.rules L.offers I.names (hash_by K.hash_input S.BuildHasher S.Hasher.Hasher) (F.post make) key self.old) result) }
+            (MakesNewest L.rules L.offers I.names (hash_by K.hash_input S.BuildHasher S.Hasher.Hasher)
+                (F.post make) key self.old) result) }
     {
         let lent = self.lend_or_insert(key, make);
         kept_or(lent)
@@ -183,7 +187,8 @@ impl<K: Eq + Hash + Drop, V: Drop, L: Limiter<K, V>, S: BuildHasher> LruMap<K, V
     where
         L: Insertion<K, V, I>,
         requires { lookup (I.names key) self.old.pairs ≡ None → F.pre make }
-        ensures step { MakesNewestIfMade L.rules L.offers I.names (hash_by K.hash_input S.BuildHasher S.Hasher.Hasher) (F.post make) key self.old result self.new }
+        ensures step { MakesNewestIfMade L.rules L.offers I.names (hash_by K.hash_input S.BuildHasher S.Hasher.Hasher)
+            (F.post make) key self.old result self.new }
         ensures says { SaysNewest (I.names key) result self.new }
         ensures map { IsMap K.eq self.new }
     {
@@ -202,7 +207,8 @@ impl<K: Eq + Hash + Drop, V: Drop, L: Limiter<K, V>, S: BuildHasher> LruMap<K, V
     where
         L: Insertion<K, V, I>,
         requires { lookup (I.names key) self.old.pairs ≡ None → F.pre make }
-        ensures { MakesNewestIfMade L.rules L.offers I.names (hash_by K.hash_input S.BuildHasher S.Hasher.Hasher) (F.post make) key self.old result self.new }
+        ensures { MakesNewestIfMade L.rules L.offers I.names (hash_by K.hash_input S.BuildHasher S.Hasher.Hasher)
+            (F.post make) key self.old result self.new }
     {
         let hash = self.hasher.hash_one(&key);
         match self.entries.find(hash, &key) {
@@ -234,7 +240,8 @@ impl<K: Eq + Hash + Drop, V: Drop, L: Limiter<K, V>, S: BuildHasher> LruMap<K, V
         requires { lookup (I.names key) self.old.pairs ≡ None → F.pre make }
         ensures* writes_back { sem 𝓛 (lends_or K.row V.row L.row S.row L.LinkType.row S.Hasher.row K.Hash L.Limiter
             L.LinkType.LinkType.own L.LinkType.PartialEq L.LinkType.Debug S.BuildHasher S.Hasher.Hasher self.entry
-            (MakesNewestIfMade L.rules L.offers I.names (hash_by K.hash_input S.BuildHasher S.Hasher.Hasher) (F.post make) key self.old) result) }
+            (MakesNewestIfMade L.rules L.offers I.names (hash_by K.hash_input S.BuildHasher S.Hasher.Hasher)
+                (F.post make) key self.old) result) }
     {
         match self.ensure_newest_fallible(key, make) {
             Ok(true) => Ok(self.newest_value_mut()),
@@ -260,7 +267,8 @@ impl<K: Eq + Hash + Drop, V: Drop, L: Limiter<K, V>, S: BuildHasher> LruMap<K, V
         requires { lookup (I.names key) self.old.pairs ≡ None → F.pre make }
         ensures* writes_back { sem 𝓛 (lends_made K.row V.row L.row S.row L.LinkType.row S.Hasher.row K.Hash L.Limiter
             L.LinkType.LinkType.own L.LinkType.PartialEq L.LinkType.Debug S.BuildHasher S.Hasher.Hasher self.entry
-            (MakesNewestIfMade L.rules L.offers I.names (hash_by K.hash_input S.BuildHasher S.Hasher.Hasher) (F.post make) key self.old) result) }
+            (MakesNewestIfMade L.rules L.offers I.names (hash_by K.hash_input S.BuildHasher S.Hasher.Hasher)
+                (F.post make) key self.old) result) }
     {
         let lent = self.lend_or_insert_fallible(key, make);
         kept_or_error(lent)

@@ -1,5 +1,6 @@
 //! `insert`.
-ghost use Rattle.std.specs.Prelude.{◌≡◌, ◌⊎◌, ℕ, ◌+◌, true, false, not, length, None, Some, IfSome, Ok, OnErr, if◌then◌else◌};
+ghost use Rattle.std.specs.Prelude.{◌≡◌, ◌⊎◌, ℕ, ◌+◌, true, false, not, length, None, Some, IfSome, Ok, OnErr};
+ghost use Rattle.std.specs.Prelude.{if◌then◌else◌};
 ghost use Rattle.lru_limits.specs.Hashing.{hash_by};
 ghost use Rattle.schnellru.specs.Lists.{first, lookup_entry, is_empty, IsFront};
 ghost use Rattle.schnellru.specs.State.{contents, trim, Leaves, IsMap};
@@ -44,10 +45,14 @@ impl<K: Eq + Hash + Drop, V: Drop, L: Limiter<K, V>, S: BuildHasher> LruMap<K, V
     pub fn insert<I: LookupKey<K>>(&mut self, key: I, value: V) -> Result<bool, AllocError>
     where
         L: Insertion<K, V, I>,
-        ensures step { Insert L.rules L.offers I.names (hash_by K.hash_input S.BuildHasher S.Hasher.Hasher) key value self.old result self.new }
+        ensures step { Insert L.rules L.offers I.names
+            (hash_by K.hash_input S.BuildHasher S.Hasher.Hasher) key value self.old result self.new }
         ensures says { SaysWhether L.rules (I.names key) result self.new }
-        ensures stores { result ≡ Ok true → IfSome (first self.new.pairs) (Stores L.rules L.offers I.names key value self.old) }
-        ensures lacks { OnErr result (LacksMemory L.rules L.offers I.names (hash_by K.hash_input S.BuildHasher S.Hasher.Hasher) key value self.old self.new) }
+        ensures stores { result ≡ Ok true
+            → IfSome (first self.new.pairs) (Stores L.rules L.offers I.names key value self.old) }
+        ensures lacks { OnErr result
+            (LacksMemory L.rules L.offers I.names
+            (hash_by K.hash_input S.BuildHasher S.Hasher.Hasher) key value self.old self.new) }
         ensures keeps { OnErr result (IsFront self.new.pairs self.old.pairs) }
         ensures map { IsMap K.eq self.new }
     {
@@ -69,7 +74,8 @@ impl<K: Eq + Hash + Drop, V: Drop, L: Limiter<K, V>, S: BuildHasher> LruMap<K, V
     where
         L: Insertion<K, V, I>,
         requires hash { hash ≡ hash_by I.hash_input S.BuildHasher S.Hasher.Hasher self.old.hasher key }
-        ensures { Insert L.rules L.offers I.names (hash_by K.hash_input S.BuildHasher S.Hasher.Hasher) key value self.old result self.new }
+        ensures { Insert L.rules L.offers I.names
+            (hash_by K.hash_input S.BuildHasher S.Hasher.Hasher) key value self.old result self.new }
     {
         match self.entries.find(hash, &key) {
             Some(b) => {
@@ -95,7 +101,8 @@ impl<K: Eq + Hash + Drop, V: Drop, L: Limiter<K, V>, S: BuildHasher> LruMap<K, V
         L: Insertion<K, V, I>,
         requires hash { hash ≡ hash_by I.hash_input S.BuildHasher S.Hasher.Hasher self.old.hasher key }
         requires absent { lookup_entry (I.names key) self.old.pairs ≡ None }
-        ensures { Insert L.rules L.offers I.names (hash_by K.hash_input S.BuildHasher S.Hasher.Hasher) key value self.old result self.new }
+        ensures { Insert L.rules L.offers I.names
+            (hash_by K.hash_input S.BuildHasher S.Hasher.Hasher) key value self.old result self.new }
     {
         match self
             .limiter

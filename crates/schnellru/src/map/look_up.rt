@@ -35,7 +35,8 @@ impl<K: Eq + Hash, V, L: Limiter<K, V>, S: BuildHasher> LruMap<K, V, L, S> {
             L.LinkType.LinkType.own L.LinkType.PartialEq L.LinkType.Debug S.BuildHasher S.Hasher.Hasher
             self.entry (Q.names key.now) (promoted (Q.names key.now) self.old) result) }
         ensures value { option_copied_mut result ≡ lookup (Q.names key.now) self.old.pairs }
-        ensures map { (new : State K V L S) → Get (Q.names key.now) self.old (option_copied_mut result) new → IsMap K.eq new }
+        ensures map { (new : State K V L S) → Get (Q.names key.now) self.old (option_copied_mut result) new
+            → IsMap K.eq new }
     {
         let b = self.entries.find(self.hasher.hash_one(key), key)?;
         self.entries.promote(b);
@@ -61,7 +62,8 @@ impl<K: Eq + Hash, V, L: Limiter<K, V>, S: BuildHasher> LruMap<K, V, L, S> {
     #[inline]
     pub(crate) fn newest_value_mut(&mut self) -> &mut V
         requires { 0 < length self.old.pairs }
-        ensures* writes_back { sem 𝓛 (lends_newest_value K.row V.row L.row S.row L.LinkType.row S.Hasher.row K.Hash L.Limiter
+        ensures* writes_back { sem 𝓛
+            (lends_newest_value K.row V.row L.row S.row L.LinkType.row S.Hasher.row K.Hash L.Limiter
             L.LinkType.LinkType.own L.LinkType.PartialEq L.LinkType.Debug S.BuildHasher S.Hasher.Hasher
             self.entry result) }
         ensures value { newest_value self.old.pairs ≡ Some result.now }

@@ -14,8 +14,8 @@ use std::alloc::AllocError;
 use std::hash::{BuildHasher, Hash};
 
 impl<K: Eq + Hash, V, L: Limiter<K, V>, S: BuildHasher> LruMap<K, V, L, S> {
-    // The buckets and the bytes of the table to which this one goes for so many pairs more, if there is such a table. They are
-    // more than half of what this one takes, and the others are at most half of what that one does.
+    // The buckets and the bytes of the table to which this one goes for so many pairs more, if there is such a table.
+    // They are more than half of what this one takes, and the others are at most half of what that one does.
     pub(super) fn larger_table(&self, more: usize) -> Option<(usize, usize)>
         requires number { length self.now.pairs + more < 2 ^ 64 }
         requires half { full_capacity (buckets self.now) / 2 < length self.now.pairs + more }
@@ -32,8 +32,8 @@ impl<K: Eq + Hash, V, L: Limiter<K, V>, S: BuildHasher> LruMap<K, V, L, S> {
 }
 
 impl<K: Eq + Hash + Drop, V: Drop, L: Limiter<K, V>, S: BuildHasher> LruMap<K, V, L, S> {
-    // Moves all pairs into a table of so many buckets, at most half full then, which is not counted. Among as many buckets as
-    // now that needs no memory without pairs.
+    // Moves all pairs into a table of so many buckets, at most half full then, which is not counted. Among as many
+    // buckets as now that needs no memory without pairs.
     pub(super) fn move_to(&mut self, count: usize) -> Result<(), AllocError>
         requires count { IsPowerFromFour count }
         requires reached { count < L.LinkType.number L.LinkType.MAX }

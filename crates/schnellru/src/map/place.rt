@@ -1,5 +1,6 @@
 //! Placing a new pair: into a bucket that the table has, or after it was made anew, made larger, or the oldest left.
-ghost use Rattle.std.specs.Prelude.{◌≡◌, ◌⊎◌, ℕ, ◌+◌, ◌-◌, ◌*◌, ◌/◌, ◌^◌, ◌<◌, ◌≤◌, [], length, None, Some, OnOk, OnErr, IfErr, IsOk};
+ghost use Rattle.std.specs.Prelude.{◌≡◌, ◌⊎◌, ℕ, ◌+◌, ◌-◌, ◌*◌, ◌/◌, ◌^◌, ◌<◌, ◌≤◌, [], length, None, Some, OnOk};
+ghost use Rattle.std.specs.Prelude.{OnErr, IfErr, IsOk};
 ghost use Rattle.group_table.specs.Sizes.{IsPowerFromFour, full_capacity};
 ghost use Rattle.group_table.specs.Bucket.{empty};
 ghost use Rattle.group_table.specs.Change.{HasNoPlace};
@@ -7,7 +8,8 @@ ghost use Rattle.lru_limits.specs.Hashing.{hash_by};
 ghost use Rattle.schnellru.specs.Lists.{lookup_entry};
 ghost use Rattle.schnellru.specs.Sizes.{usage};
 ghost use Rattle.schnellru.specs.State.{buckets, room, FirstFreeIs};
-ghost use Rattle.schnellru.specs.Place.{Place, IsPlaced, IsPlacedIfMemory, FillsBucket, LacksRoom, outcome_of, turned_away};
+ghost use Rattle.schnellru.specs.Place.{Place, IsPlaced, IsPlacedIfMemory, FillsBucket, LacksRoom, outcome_of};
+ghost use Rattle.schnellru.specs.Place.{turned_away};
 
 use crate::map::LruMap;
 use crate::map::remove::tell;
@@ -23,7 +25,8 @@ impl<K: Eq + Hash + Drop, V: Drop, L: Limiter<K, V>, S: BuildHasher> LruMap<K, V
     pub(crate) fn place(&mut self, hash: u64, pair: (K, V)) -> Result<bool, AllocError>
         requires hash { hash ≡ hash_by K.hash_input S.BuildHasher S.Hasher.Hasher self.old.hasher pair.0 }
         requires absent { lookup_entry (K.eq pair.0) self.old.pairs ≡ None }
-        ensures { Place L.rules (hash_by K.hash_input S.BuildHasher S.Hasher.Hasher) pair self.old (outcome_of result) self.new }
+        ensures { Place L.rules (hash_by K.hash_input S.BuildHasher S.Hasher.Hasher) pair self.old
+            (outcome_of result) self.new }
     {
         if self.entries.room() == 0 && self.entries.len() == 0 {
             return self.place_without_room(hash, pair);
@@ -52,15 +55,16 @@ impl<K: Eq + Hash + Drop, V: Drop, L: Limiter<K, V>, S: BuildHasher> LruMap<K, V
         Ok(())
     }
 
-    // Places a pair that no bucket took, or the first pair of a table without room. Under a limit on memory each new pair may
-    // come here.
+    // Places a pair that no bucket took, or the first pair of a table without room. Under a limit on memory each new
+    // pair may come here.
     #[inline(never)]
     fn place_without_room(&mut self, hash: u64, pair: (K, V)) -> Result<bool, AllocError>
         requires hash { hash ≡ hash_by K.hash_input S.BuildHasher S.Hasher.Hasher self.old.hasher pair.0 }
         requires absent { lookup_entry (K.eq pair.0) self.old.pairs ≡ None }
         requires no_room { room self.old ≡ 0 }
         requires empty { 0 < length self.old.pairs → FirstFreeIs empty hash self.old }
-        ensures { Place L.rules (hash_by K.hash_input S.BuildHasher S.Hasher.Hasher) pair self.old (outcome_of result) self.new }
+        ensures { Place L.rules (hash_by K.hash_input S.BuildHasher S.Hasher.Hasher) pair self.old
+            (outcome_of result) self.new }
     {
         let buckets = self.entries.buckets();
         let len = self.entries.len();
@@ -78,7 +82,8 @@ impl<K: Eq + Hash + Drop, V: Drop, L: Limiter<K, V>, S: BuildHasher> LruMap<K, V
     fn place_first(&mut self, hash: u64, pair: (K, V)) -> Result<bool, AllocError>
         requires hash { hash ≡ hash_by K.hash_input S.BuildHasher S.Hasher.Hasher self.old.hasher pair.0 }
         requires none { buckets self.old ≡ 0 }
-        ensures { Place L.rules (hash_by K.hash_input S.BuildHasher S.Hasher.Hasher) pair self.old (outcome_of result) self.new }
+        ensures { Place L.rules (hash_by K.hash_input S.BuildHasher S.Hasher.Hasher) pair self.old
+            (outcome_of result) self.new }
     {
         match usage(self.entry_bytes, 4) {
             Some(bytes) => {
@@ -103,7 +108,8 @@ impl<K: Eq + Hash + Drop, V: Drop, L: Limiter<K, V>, S: BuildHasher> LruMap<K, V
         requires lacks_room { LacksRoom self.old }
         requires empty { FirstFreeIs empty hash self.old }
         requires half { full_capacity (buckets self.old) / 2 < length self.old.pairs + 1 }
-        ensures { Place L.rules (hash_by K.hash_input S.BuildHasher S.Hasher.Hasher) pair self.old (outcome_of result) self.new }
+        ensures { Place L.rules (hash_by K.hash_input S.BuildHasher S.Hasher.Hasher) pair self.old
+            (outcome_of result) self.new }
     {
         match self.larger_table(1) {
             Some((count, bytes)) => {
@@ -117,8 +123,8 @@ impl<K: Eq + Hash + Drop, V: Drop, L: Limiter<K, V>, S: BuildHasher> LruMap<K, V
         }
     }
 
-    // Places the pair in a table of so many buckets, to which all pairs move, which is counted. Among as many buckets as now
-    // that needs no memory without pairs.
+    // Places the pair in a table of so many buckets, to which all pairs move, which is counted. Among as many buckets
+    // as now that needs no memory without pairs.
     #[cold]
     pub(super) fn place_after_move(
         &mut self,

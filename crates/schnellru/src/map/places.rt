@@ -43,7 +43,8 @@ impl<K: Eq + Hash, V, L: Limiter<K, V>, S: BuildHasher> LruMap<K, V, L, S> {
     #[inline]
     pub(crate) fn pair_at_mut(&mut self, at: usize, b: usize) -> (&K, &mut V)
         requires { slice_get self.old.places at ≡ Some b }
-        ensures* writes_back { sem 𝓛 (lends_value_at K.row V.row L.row S.row L.LinkType.row S.Hasher.row K.Hash L.Limiter
+        ensures* writes_back { sem 𝓛
+            (lends_value_at K.row V.row L.row S.row L.LinkType.row S.Hasher.row K.Hash L.Limiter
             L.LinkType.LinkType.own L.LinkType.PartialEq L.LinkType.Debug S.BuildHasher S.Hasher.Hasher
             self.entry at result) }
         ensures value { slice_get self.old.pairs at ≡ Some (deref_pair_mut result) }

@@ -17,8 +17,8 @@ pub struct MoveReport {
 impl<K: Eq + Hash, V, L: Limiter<K, V>, S: BuildHasher> LruMap<K, V, L, S> {
     /// What the inserts have moved and placed since the map was made. A count that reaches `u64::MAX` stays there.
     ///
-    /// `moved` is at most twice `placed`, so an insert moves at most two entries in the mean. Entries that a reservation
-    /// moves are not counted.
+    /// `moved` is at most twice `placed`, so an insert moves at most two entries in the mean. Entries that a
+    /// reservation moves are not counted.
     pub fn move_report(&self) -> MoveReport
         ensures moved { result.moved ≡ self.now.moved }
         ensures placed { result.placed ≡ self.now.placed }

@@ -12,8 +12,8 @@ use std::iter::FusedIterator;
 /// Takes the pairs out of a map from both ends. What is left is cleared when it is dropped, and stays where it is
 /// forgotten.
 ///
-/// A pair that is taken is one that `pop_newest` or `pop_oldest` takes: the limiter is told of it, and what it leaves of the
-/// pair is given. The clear tells the limiter of the clear alone.
+/// A pair that is taken is one that `pop_newest` or `pop_oldest` takes: the limiter is told of it, and what it leaves
+/// of the pair is given. The clear tells the limiter of the clear alone.
 ///
 /// After schnellru's `Drain`.
 pub struct Drain<'a, K: Eq + Hash, V, L: Limiter<K, V>, S: BuildHasher> {

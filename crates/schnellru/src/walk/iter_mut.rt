@@ -8,8 +8,8 @@ use std::hash::{BuildHasher, Hash};
 
 /// The pairs of a map that were not lent yet from either end, newest first. Each value is lent until the next call.
 ///
-/// The pairs that are left stand from the place `start` up to `end`, counted from the newest, and `front` and `back` are the
-/// buckets of the first and the last of them. So a step reads one entry.
+/// The pairs that are left stand from the place `start` up to `end`, counted from the newest, and `front` and `back`
+/// are the buckets of the first and the last of them. So a step reads one entry.
 ///
 /// After schnellru's `IterMut`.
 #[derive(Drop)]
@@ -43,7 +43,8 @@ impl<'a, K: Eq + Hash, V, L: Limiter<K, V>, S: BuildHasher> IterMut<'a, K, V, L,
     /// A caller's proof learns nothing of this shape of a result; `len` and `lend_next` serve it.
     pub fn next(&mut self) -> Option<(&K, &mut V)>
         ensures* writes_back { sem 𝓛 (lends_next K.row V.row L.row S.row L.LinkType.row S.Hasher.row K.Hash L.Limiter
-            L.LinkType.LinkType.own L.LinkType.PartialEq L.LinkType.Debug S.BuildHasher S.Hasher.Hasher self.entry result) }
+            L.LinkType.LinkType.own L.LinkType.PartialEq L.LinkType.Debug S.BuildHasher S.Hasher.Hasher self.entry
+                result) }
         ensures value { option_map deref_pair_mut result ≡ next_pair self.old }
     {
         if self.start < self.end {
@@ -54,8 +55,10 @@ impl<'a, K: Eq + Hash, V, L: Limiter<K, V>, S: BuildHasher> IterMut<'a, K, V, L,
 
     /// The oldest pair that is left, as `next` gives the newest.
     pub fn next_back(&mut self) -> Option<(&K, &mut V)>
-        ensures* writes_back { sem 𝓛 (lends_next_back K.row V.row L.row S.row L.LinkType.row S.Hasher.row K.Hash L.Limiter
-            L.LinkType.LinkType.own L.LinkType.PartialEq L.LinkType.Debug S.BuildHasher S.Hasher.Hasher self.entry result) }
+        ensures* writes_back { sem 𝓛
+            (lends_next_back K.row V.row L.row S.row L.LinkType.row S.Hasher.row K.Hash L.Limiter
+            L.LinkType.LinkType.own L.LinkType.PartialEq L.LinkType.Debug S.BuildHasher S.Hasher.Hasher self.entry
+                result) }
         ensures value { option_map deref_pair_mut result ≡ next_back_pair self.old }
     {
         if self.start < self.end {
@@ -68,7 +71,8 @@ impl<'a, K: Eq + Hash, V, L: Limiter<K, V>, S: BuildHasher> IterMut<'a, K, V, L,
     pub fn lend_next(&mut self) -> (&K, &mut V)
         requires some { walk_start self.old < walk_end self.old }
         ensures* writes_back { sem 𝓛 (lends_first K.row V.row L.row S.row L.LinkType.row S.Hasher.row K.Hash L.Limiter
-            L.LinkType.LinkType.own L.LinkType.PartialEq L.LinkType.Debug S.BuildHasher S.Hasher.Hasher self.entry result) }
+            L.LinkType.LinkType.own L.LinkType.PartialEq L.LinkType.Debug S.BuildHasher S.Hasher.Hasher self.entry
+                result) }
         ensures value { slice_get (walk_map self.old).pairs (walk_start self.old) ≡ Some (deref_pair_mut result) }
     {
         let at = self.start;
@@ -86,7 +90,8 @@ impl<'a, K: Eq + Hash, V, L: Limiter<K, V>, S: BuildHasher> IterMut<'a, K, V, L,
     pub fn lend_next_back(&mut self) -> (&K, &mut V)
         requires some { walk_start self.old < walk_end self.old }
         ensures* writes_back { sem 𝓛 (lends_last K.row V.row L.row S.row L.LinkType.row S.Hasher.row K.Hash L.Limiter
-            L.LinkType.LinkType.own L.LinkType.PartialEq L.LinkType.Debug S.BuildHasher S.Hasher.Hasher self.entry result) }
+            L.LinkType.LinkType.own L.LinkType.PartialEq L.LinkType.Debug S.BuildHasher S.Hasher.Hasher self.entry
+                result) }
         ensures value { slice_get (walk_map self.old).pairs (walk_end self.old - 1) ≡ Some (deref_pair_mut result) }
     {
         let at = self.end - 1;
