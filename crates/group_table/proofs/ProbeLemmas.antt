@@ -45,6 +45,20 @@ probed-first_group n hash b steps p q e =
     at ∙ ap (λ k. k % n) turned ∙ ap (λ k. (k + hash) % n) e ∙ mod-add-mod (b + (n - hash % n)) n hash
     ∙ ap (λ k. k % n) round ∙ add-mul-mod_self_left b n (hash / n + 1) ∙ mod-eq_of_lt p
 
+-- and such a bucket is fewer than 16 steps away
+pub probed-near : (n hash b step : ℕ) → 0 < n → step < 16 → probed n hash step ≡ b → (b + (n - hash % n)) % n < 16
+probed-near n hash b step pos p e =
+    let below = mod-lt hash pos in
+    let whole = div-add-mod hash n in
+    let at : probed n hash step ≡ (hash + 8 * 0 * (0 + 1) + step) % n = probed-at n hash step 0 step (omega arith) p in
+    let round : hash + 8 * 0 * (0 + 1) + step + (n - hash % n) ≡ step + n * (hash / n + 1) =
+    omega (arith, below, whole) in
+    let is : (b + (n - hash % n)) % n ≡ step % n =
+    ap (λ k. (k + (n - hash % n)) % n) (sym e ∙ at)
+    ∙ mod-add-mod (hash + 8 * 0 * (0 + 1) + step) n (n - hash % n) ∙ ap (λ k. k % n) round
+    ∙ add-mul-mod_self_left step n (hash / n + 1) in
+    omega (arith, is, p, div-add-mod step n)
+
 -- the lanes of a group stand side by side on the circle
 pub probed-lane : (n hash s lane : ℕ) → s % 16 ≡ 0 → lane < 16 → probed n hash (s + lane) ≡ (probed n hash s + lane) % n
 probed-lane n hash s lane e p =

@@ -1,5 +1,5 @@
 //! Searches for a hash, group by group, over the control bytes and the entries as two slices.
-ghost use Rattle.std.specs.Prelude.{◌≡◌, ℕ, ◌+◌, ◌%◌, ◌^◌, ◌<◌, ◌≤◌, length, slice_index, IfSome, IfNone, IsTrue};
+ghost use Rattle.std.specs.Prelude.{◌≡◌, ◌↔◌, ℕ, ◌+◌, ◌%◌, ◌^◌, ◌<◌, ◌≤◌, length, slice_index, IfSome, IfNone, IsTrue};
 ghost use Rattle.group_table.specs.Sizes.{IsPowerFromFour};
 ghost use Rattle.group_table.specs.Bucket.{bucket_at, empty};
 ghost use Rattle.group_table.specs.Probe.{probed};
@@ -161,7 +161,7 @@ pub(crate) fn first_free(control: &Control, hash: u64) -> usize
 #[inline]
 pub(crate) fn is_read_first(control: &Control, hash: u64, b: usize) -> bool
     requires { b < buckets_of control.now }
-    ensures { IsTrue result → (step : ℕ) × (step < 16) × (probed (buckets_of control.now) hash step ≡ b) }
+    ensures { IsTrue result ↔ ((step : ℕ) × (step < 16) × (probed (buckets_of control.now) hash step ≡ b)) }
 {
     let back = control.buckets() - control.wrap(hash as usize);
     control.wrap(b + back) < 16

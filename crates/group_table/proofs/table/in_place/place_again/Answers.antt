@@ -48,7 +48,7 @@ loop-b-preserved-then-is_read_first g c =
     let stays = IsHalfway-stays g.N.LinkType.number g.N.LinkType.MAX g.N.LinkType.link _ g.met.N.LinkType.laws _ whole _
     _ _ c.loop-b.b c.in-Some.entry half c.requires.within c.requires.below byte there
     c.hash_of-hash.result _ c.tag_of.result n
-    (c.is_read_first.ensures c.if-is_read_first.true) c.tag_of.ensures.value c.tag_of.ensures.tag
+    (c.is_read_first.ensures.0 c.if-is_read_first.true) c.tag_of.ensures.value c.tag_of.ensures.tag
     (λ hash_at given. given c.loop-b.b _ _ stood
     (record { shown = _; shows = refl; says = record { met = c.hash_of-hash.ensures } })) in
     rw (c.set.ensures, c.from_usize.ensures, n) stays
