@@ -13,6 +13,7 @@ ghost use Rattle.lru_replay.specs.Runs.{LineStep, AnswersLine, IsTextOf, Answers
 ghost use Rattle.lru_replay.specs.Steps.{Answer};
 
 use crate::call::{Call, Limit, call_of, limit_of};
+use crate::drain::drain;
 use crate::figures::{TellsCost, figures_of};
 use crate::line::{Ending, Line, read_line};
 use crate::outcome::{ReplayEnd, ReplayError};
@@ -59,6 +60,7 @@ fn carry_out<L: Insertion<u64, u64, u64> + TellsCost, W: Write>(
         Some(Call::PopOldest) => write_left(writer, map.pop_oldest()),
         Some(Call::PopNewest) => write_left(writer, map.pop_newest()),
         Some(Call::Reserve(n)) => write_reservation(writer, map.try_reserve(n as usize)),
+        Some(Call::Drain(n)) => drain(map, n, writer),
         Some(Call::Clear) => {
             map.clear();
             write_bytes(writer, b"ok")
