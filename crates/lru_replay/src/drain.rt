@@ -8,8 +8,8 @@ use crate::output::{write_bytes, write_next};
 use schnellru::{Insertion, LruMap};
 use std::io::Write;
 
-/// Takes out the newest pairs, at most so many, and writes them as they go. Then it drops the others. Where a write fails,
-/// nothing more is written, and the map ends as it would have.
+/// Takes out the newest pairs, at most so many, and writes them as they go. Then it drops the others. Where a
+/// write fails, nothing more is written, and the map ends as it would have.
 pub fn drain<L: Insertion<u64, u64, u64>, W: Write>(
     map: &mut LruMap<u64, u64, L>,
     most: u64,

@@ -156,7 +156,8 @@ fn answer_all<R: BufRead, W: Write>(
     reader: &mut R,
     writer: &mut W,
 ) -> Result<ReplayEnd, ReplayError>
-    ensures { Replays (R.remaining reader.old) (R.remaining reader.new) (W.contents writer.old) (W.contents writer.new) result }
+    ensures { Replays (R.remaining reader.old) (R.remaining reader.new)
+        (W.contents writer.old) (W.contents writer.new) result }
 {
     let mut line = Line::new();
     let ending = read_line(reader, &mut line)?;
@@ -177,7 +178,8 @@ fn answer_and_flush<R: BufRead, W: Write>(
     reader: &mut R,
     writer: &mut W,
 ) -> Result<ReplayEnd, ReplayError>
-    ensures { Replays (R.remaining reader.old) (R.remaining reader.new) (W.contents writer.old) (W.contents writer.new) result }
+    ensures { Replays (R.remaining reader.old) (R.remaining reader.new)
+        (W.contents writer.old) (W.contents writer.new) result }
 {
     let end = answer_all(alloc, reader, writer);
     if let Err(ReplayError::Write) = end {
@@ -217,8 +219,8 @@ pub fn replay<R: BufRead, W: Write>(
     ensures read_failed { IsErrOf result ReplayError.Read →
         WritesSoFar (R.remaining reader.old) (R.remaining reader.new)
         (W.contents writer.old) (W.contents writer.new) }
-    // What was written is a beginning of what a replay of these lines writes, and of what one of the lines that were read
-    // writes.
+    // What was written is a beginning of what a replay of these lines writes, and of what one of the lines that
+    // were read writes.
     ensures write_failed { IsErrOf result ReplayError.Write →
         WritesCut (R.remaining reader.old) (W.contents writer.old) (W.contents writer.new) }
     ensures write_failed_reads { IsErrOf result ReplayError.Write →
