@@ -26,6 +26,7 @@ short_call (calls.Get k) h = omega (arith, short_number k h)
 short_call (calls.Peek k) h = omega (arith, short_number k h)
 short_call (calls.Remove k) h = omega (arith, short_number k h)
 short_call (calls.Reserve n) h = omega (arith, short_number n h)
+short_call (calls.Drain n) h = omega (arith, short_number n h)
 short_call calls.PopOldest h = omega arith
 short_call calls.PopNewest h = omega arith
 short_call calls.Clear h = omega arith

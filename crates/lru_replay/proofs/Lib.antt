@@ -6,6 +6,7 @@ pub mod LineLists
 pub mod Spelled
 pub mod Held
 pub mod EmptyMaps
+pub mod DrainedPairs
 pub mod SomeSteps
 pub mod RunLists
 pub mod AnsweredLines

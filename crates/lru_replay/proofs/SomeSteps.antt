@@ -1,5 +1,5 @@
 -- From every map with a sound table each call can end: there is an answer that it may give, and a map that it may leave.
-use Rattle.std.proofs.Common.{◌≡◌, ℕ, suc, ◌+◌, ◌-◌, ◌^◌, ◌<◌, ◌≤◌, Bool, true, false, cond, Result, Ok, Err, Option, List, [], ◌∷◌, length, replicate, option_map, refl, subst, arith, count_by}
+use Rattle.std.proofs.Common.{◌≡◌, ℕ, zero, suc, ◌+◌, ◌-◌, ◌^◌, ◌<◌, ◌≤◌, Bool, true, false, cond, Result, Ok, Err, Option, List, [], ◌∷◌, ◌++◌, length, replicate, option_map, refl, subst, arith, count_by}
 use Rattle.std.specs.Prelude.{nat_eq}
 use native.Mathlib.Decide.{dec_lt}
 use Rattle.group_table.specs.Bucket.{empty, is_deleted}
@@ -10,6 +10,7 @@ use Rattle.lru_limits.specs.Rules.{Rules, Offers}
 use Rattle.schnellru.specs.Lists.{lookup, lookup_entry, without, first, last, without_first, without_last}
 use Rattle.schnellru.specs.Calls.{promoted, removal, pop_first, cleared, left_of}
 use Rattle.schnellru.specs.State.{State, Contents, buckets, room, contents, IsSized, Leaves, pop}
+use Rattle.schnellru.specs.Drains.{pops_first, newest_given}
 use Rattle.schnellru.specs.Place.{table_for, asked}
 use Rattle.schnellru.specs.Reservations.{LacksRoomFor, Reserve, enough_room, too_many, no_such_table, remade, no_memory_to_grow, denied_room}
 use Rattle.schnellru.specs.Sizes.{Target, no_table, same_table, new_table}
@@ -158,6 +159,16 @@ module _ {S : Type 0} (rules : Rules ℕ ℕ S) (offers : Offers ℕ ℕ S ℕ) 
       let (new, leaves, sized) = some_leave old (pop_first rules (contents old)) ok (length-without_first old.pairs) in
       (pair result, new, (result, record { pair = refl; state = leaves }, refl), sized)
 
+  fewer_left : (n : ℕ) (c : Contents ℕ ℕ S) → length (pops_first rules n c).pairs ≤ length c.pairs
+  fewer_left zero c = omega arith
+  fewer_left (suc n) c = omega (arith, fewer_left n (pop_first rules c), length-without_first c.pairs)
+
+  some_drain : (n : ℕ) → CanEnd (calls.Drain n)
+  some_drain n =
+      let pairs = newest_given rules n (contents old) ++ [] in
+      let (mid, leaves, sized) = some_leave old (pops_first rules n (contents old)) ok (fewer_left n (contents old)) in
+      (listed pairs, cleared rules mid, (pairs, record { pairs = refl; state = (mid, leaves, refl) }, refl), cleared_sized rules mid sized)
+
   pub some_step : (call : Call) → CanEnd call
   some_step (calls.Insert k v) =
       let (result, new, is, after) = some_insert rules offers nat_eq hash_of k v old ok offered in
@@ -166,6 +177,7 @@ module _ {S : Type 0} (rules : Rules ℕ ℕ S) (offers : Offers ℕ ℕ S ℕ) 
   some_step (calls.Peek k) = (value (lookup (nat_eq k) old.pairs), old, (refl, refl), ok)
   some_step (calls.Remove k) = some_removal k
   some_step (calls.Reserve n) = let (result, new, is, after) = some_reservation rules n old ok in (reservation result, new, (result, is, refl), after)
+  some_step (calls.Drain n) = some_drain n
   some_step calls.PopOldest = some_pop_oldest
   some_step calls.PopNewest = some_pop_newest
   some_step calls.Clear = (done, cleared rules old, (refl, refl), cleared_sized rules old ok)

@@ -43,7 +43,7 @@ abbrev pub guesses : List ℕ → List Call
 guesses line = calls.Insert (digits_value 10 (front_word (drop 7 line))) (digits_value 10 (after_word (drop 7 line)))
     ∷ calls.Get (digits_value 10 (drop 4 line)) ∷ calls.Peek (digits_value 10 (drop 5 line))
     ∷ calls.Remove (digits_value 10 (drop 7 line)) ∷ calls.Reserve (digits_value 10 (drop 8 line))
-    ∷ calls.PopOldest ∷ calls.PopNewest ∷ calls.Clear ∷ calls.List ∷ calls.Stats ∷ []
+    ∷ calls.Drain (digits_value 10 (drop 6 line)) ∷ calls.PopOldest ∷ calls.PopNewest ∷ calls.Clear ∷ calls.List ∷ calls.Stats ∷ []
 
 abbrev pub Spelled : List ℕ → Type 0
 Spelled line = (call : Call) × SpellsCall line call
@@ -68,6 +68,7 @@ fits_call (calls.Get k) = lt_or k (2 ^ 64)
 fits_call (calls.Peek k) = lt_or k (2 ^ 64)
 fits_call (calls.Remove k) = lt_or k (2 ^ 64)
 fits_call (calls.Reserve n) = lt_or n (2 ^ 64)
+fits_call (calls.Drain n) = lt_or n (2 ^ 64)
 fits_call calls.PopOldest = inl tt
 fits_call calls.PopNewest = inl tt
 fits_call calls.Clear = inl tt
@@ -105,11 +106,12 @@ guessed line P all (calls.Get k) (fits, is) = subst (λ n. P (calls.Get n)) (ap 
 guessed line P all (calls.Peek k) (fits, is) = subst (λ n. P (calls.Peek n)) (ap (λ l. digits_value 10 (drop 5 l)) is ∙ value_of_decimal k fits) all.1.1.0
 guessed line P all (calls.Remove k) (fits, is) = subst (λ n. P (calls.Remove n)) (ap (λ l. digits_value 10 (drop 7 l)) is ∙ value_of_decimal k fits) all.1.1.1.0
 guessed line P all (calls.Reserve n) (fits, is) = subst (λ n. P (calls.Reserve n)) (ap (λ l. digits_value 10 (drop 8 l)) is ∙ value_of_decimal n fits) all.1.1.1.1.0
-guessed line P all calls.PopOldest s = all.1.1.1.1.1.0
-guessed line P all calls.PopNewest s = all.1.1.1.1.1.1.0
-guessed line P all calls.Clear s = all.1.1.1.1.1.1.1.0
-guessed line P all calls.List s = all.1.1.1.1.1.1.1.1.0
-guessed line P all calls.Stats s = all.1.1.1.1.1.1.1.1.1.0
+guessed line P all (calls.Drain n) (fits, is) = subst (λ n. P (calls.Drain n)) (ap (λ l. digits_value 10 (drop 6 l)) is ∙ value_of_decimal n fits) all.1.1.1.1.1.0
+guessed line P all calls.PopOldest s = all.1.1.1.1.1.1.0
+guessed line P all calls.PopNewest s = all.1.1.1.1.1.1.1.0
+guessed line P all calls.Clear s = all.1.1.1.1.1.1.1.1.0
+guessed line P all calls.List s = all.1.1.1.1.1.1.1.1.1.0
+guessed line P all calls.Stats s = all.1.1.1.1.1.1.1.1.1.1.0
 
 -- something of a list has a property that can be told, or nothing has
 any_of : {X : Type 0} (P : X → Type 0) → ((x : X) → P x ⊎ (P x → ⊥)) → (xs : List X) → ((x : X) × P x) ⊎ AllByRecursion (λ x. P x → ⊥) xs

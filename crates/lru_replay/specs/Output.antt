@@ -27,6 +27,12 @@ abbrev pub rest_text : List (ℕ × ℕ) → List ℕ
 rest_text [] = []
 rest_text (p ∷ pairs) = 32 ∷ pair_text p ++ rest_text pairs
 
+-- the pair after others, if there is one
+abbrev pub taken_text : Bool → Option (ℕ × ℕ) → List ℕ
+taken_text any None = []
+taken_text false (Some p) = pair_text p
+taken_text true (Some p) = 32 ∷ pair_text p
+
 -- as `3:30 2:20 1:10`, and `-` for none
 abbrev pub pairs_text : List (ℕ × ℕ) → List ℕ
 pairs_text [] = codes "-"

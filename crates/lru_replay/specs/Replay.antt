@@ -19,9 +19,12 @@ use Rattle.lru_replay.specs.Runs.{IsTextOf, WritesText, WritesTextSoFar}
 -- The lines are answered by this text, from the empty map under the limit.
 abbrev pub IsTextUnder : Limit → List (List ℕ) → List ℕ → Type 0
 IsTextUnder (limits.Length most) = IsTextOf length_rules length_offers no_cost (empty most 32 links_of_32_bits)
-IsTextUnder (limits.Memory budget entry_bytes) = IsTextOf memory_rules all_offers no_cost (empty budget entry_bytes links_of_32_bits)
-IsTextUnder (limits.Cost most) = IsTextOf cost_rules cost_offers cost_told (empty (record { limit = most; cost = 0 }) 32 links_of_64_bits)
-IsTextUnder limits.Compact = IsTextOf {S = UnlimitedCompact} no_rules all_offers no_cost (empty (record {}) 32 links_of_32_bits)
+IsTextUnder (limits.Memory budget entry_bytes) =
+    IsTextOf memory_rules all_offers no_cost (empty budget entry_bytes links_of_32_bits)
+IsTextUnder (limits.Cost most) =
+    IsTextOf cost_rules cost_offers cost_told (empty (record { limit = most; cost = 0 }) 32 links_of_64_bits)
+IsTextUnder limits.Compact =
+    IsTextOf {S = UnlimitedCompact} no_rules all_offers no_cost (empty (record {}) 32 links_of_32_bits)
 
 -- The first line names a limit, and the others are answered by this text, from the empty map under that limit.
 abbrev pub IsReplay : List (List ℕ) → List ℕ → Type 0
@@ -46,8 +49,8 @@ abbrev pub IsOutputSoFar : List (List ℕ) → List ℕ → Type 0
 IsOutputSoFar [] text = text ≡ []
 IsOutputSoFar (first ∷ others) text = IsOutput (first ∷ others) text
 
--- The arguments below are, as in `Runs`, what the reader had left, where it is known, what it has left now, unless the word
--- does not speak of it, and the writer's bytes before and after.
+-- The arguments below are, as in `Runs`, what the reader had left, where it is known, what it has left now, unless the
+-- word does not speak of it, and the writer's bytes before and after.
 
 -- A replay of all the lines was written.
 abbrev pub WritesReplay : Option (List ℕ) → Option (List ℕ) → Option (List ℕ) → Type 0
@@ -62,15 +65,17 @@ WritesCut from old new = IfSome from (λ input. (text part : List ℕ)
 abbrev pub WritesSoFar : Option (List ℕ) → Option (List ℕ) → Option (List ℕ) → Option (List ℕ) → Type 0
 WritesSoFar = WritesTextSoFar IsTextSoFar
 
--- Lines were read whole, and a beginning of what is written of them was written. They are all lines of the input, or the
--- first so many, and then a part of the next may have been read.
+-- Lines were read whole, and a beginning of what is written of them was written. They are all lines of the input, or
+-- the first so many, and then a part of the next may have been read.
 abbrev pub WritesCutSoFar : Option (List ℕ) → Option (List ℕ) → Option (List ℕ) → Option (List ℕ) → Type 0
 WritesCutSoFar from to old new = IfSome from (λ _. (lines : List (List ℕ)) × (text part : List ℕ)
-    × ((TakesAll from to lines × IsOutput lines text) ⊎ ((rest : List ℕ) × TakesLines from to lines rest × IsOutputSoFar lines text))
+    × ((TakesAll from to lines × IsOutput lines text)
+    ⊎ ((rest : List ℕ) × TakesLines from to lines rest × IsOutputSoFar lines text))
     × IsFront part text × Appends old new part)
 
 -- what was read and written, by how the replay ended
-abbrev pub Replays : Option (List ℕ) → Option (List ℕ) → Option (List ℕ) → Option (List ℕ) → Result ReplayEnd ReplayError → Type 0
+abbrev pub Replays : Option (List ℕ) → Option (List ℕ) → Option (List ℕ) → Option (List ℕ)
+    → Result ReplayEnd ReplayError → Type 0
 Replays from to old new (Ok ends.Done) = WritesReplay from old new × OnSome from (IsAtEnd to)
 Replays from to old new (Ok ends.NoLimiter) =
     IfSome from (λ input. NamesNoLimit (lines_of input)) × TakesFirst from to × Appends old new no_limiter_text

@@ -58,7 +58,8 @@ module _ (IsText : List (List ℕ) → List ℕ → Type 0) where
       × IsText lines text × TakesWhole from to lines × IsFront part text × Appends old new part
 
   -- what was read and written, by how the answers to the lines ended
-  abbrev pub Answers : Option (List ℕ) → Option (List ℕ) → Option (List ℕ) → Option (List ℕ) → Result (Unit {0}) ReplayError → Type 0
+  abbrev pub Answers : Option (List ℕ) → Option (List ℕ) → Option (List ℕ) → Option (List ℕ)
+      → Result (Unit {0}) ReplayError → Type 0
   Answers from to old new (Ok _) = WritesText from old new × OnSome from (IsAtEnd to)
   Answers from to old new (Err errors.Read) = WritesTextSoFar from to old new
   Answers from to old new (Err errors.Write) = BeginsText from to old new

@@ -3,6 +3,7 @@ use Rattle.std.specs.Prelude.{◌≡◌, ℕ, nat_eq, Bool, List, Option, Result
 use Rattle.std.specs.declared.alloc.AllocError.{AllocError}
 use Rattle.lru_limits.specs.Rules.{Rules, Offers}
 use Rattle.schnellru.specs.Calls.{promoted, Remove, PopOldest, PopNewest, cleared}
+use Rattle.schnellru.specs.Drains.{Drained}
 use Rattle.schnellru.specs.Inserts.{Insert}
 use Rattle.schnellru.specs.Lists.{lookup}
 use Rattle.schnellru.specs.Reservations.{Reserve}
@@ -42,12 +43,20 @@ module _ {S : Type 0} (rules : Rules ℕ ℕ S) (offers : Offers ℕ ℕ S ℕ) 
   abbrev pub Step : Map S → Call → Answer → Map S → Type 0
   Step old (calls.Insert key new_value) answer new = (result : Result Bool AllocError)
       × Insert rules offers nat_eq hash_of key new_value old result new × (answer ≡ insert_answer result)
-  Step old (calls.Get key) answer new = (answer ≡ value (lookup (nat_eq key) old.pairs)) × (new ≡ promoted (nat_eq key) old)
+  Step old (calls.Get key) answer new =
+      (answer ≡ value (lookup (nat_eq key) old.pairs)) × (new ≡ promoted (nat_eq key) old)
   Step old (calls.Peek key) answer new = (answer ≡ value (lookup (nat_eq key) old.pairs)) × (new ≡ old)
-  Step old (calls.Remove key) answer new = (result : Option ℕ) × Remove rules (nat_eq key) old result new × (answer ≡ value result)
-  Step old calls.PopOldest answer new = (result : Option (ℕ × ℕ)) × PopOldest rules old result new × (answer ≡ pair result)
-  Step old calls.PopNewest answer new = (result : Option (ℕ × ℕ)) × PopNewest rules old result new × (answer ≡ pair result)
-  Step old (calls.Reserve n) answer new = (result : Result (Unit {0}) ReserveError) × Reserve rules n old result new × (answer ≡ reservation result)
+  Step old (calls.Remove key) answer new =
+      (result : Option ℕ) × Remove rules (nat_eq key) old result new × (answer ≡ value result)
+  Step old calls.PopOldest answer new =
+      (result : Option (ℕ × ℕ)) × PopOldest rules old result new × (answer ≡ pair result)
+  Step old calls.PopNewest answer new =
+      (result : Option (ℕ × ℕ)) × PopNewest rules old result new × (answer ≡ pair result)
+  Step old (calls.Reserve n) answer new =
+      (result : Result (Unit {0}) ReserveError) × Reserve rules n old result new × (answer ≡ reservation result)
+  Step old (calls.Drain n) answer new =
+      (pairs : List (ℕ × ℕ)) × Drained rules n 0 old pairs new × (answer ≡ listed pairs)
   Step old calls.Clear answer new = (answer ≡ done) × (new ≡ cleared rules old)
   Step old calls.List answer new = (answer ≡ listed old.pairs) × (new ≡ old)
-  Step old calls.Stats answer new = (figures : Figures) × IsFigures told old figures × (answer ≡ stats figures) × (new ≡ old)
+  Step old calls.Stats answer new =
+      (figures : Figures) × IsFigures told old figures × (answer ≡ stats figures) × (new ≡ old)

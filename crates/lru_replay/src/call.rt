@@ -21,6 +21,8 @@ pub enum Call {
     PopNewest,
     /// `reserve N`: makes room for so many pairs more.
     Reserve(u64),
+    /// `drain N`: gives the newest pairs, at most so many, and drops all.
+    Drain(u64),
     /// `clear`: drops all pairs.
     Clear,
     /// `list`: gives all pairs.
@@ -111,6 +113,10 @@ pub fn call_of(line: &[u8]) -> Option<Call>
     if let Some(rest) = after(line, b"reserve ") {
         let n = number(rest)?;
         return Some(Call::Reserve(n));
+    }
+    if let Some(rest) = after(line, b"drain ") {
+        let n = number(rest)?;
+        return Some(Call::Drain(n));
     }
     plain_call_of(line)
 }

@@ -3,6 +3,7 @@
 
 mod bytes;
 mod call;
+mod drain;
 mod figures;
 mod line;
 mod outcome;

@@ -1,6 +1,6 @@
 //! The texts of answers, written piece by piece.
 ghost use Rattle.std.specs.Prelude.{◌≡◌, ℕ, Bool, Option, [], ◌∷◌, decimal};
-ghost use Rattle.lru_replay.specs.Output.{Writes, flag_text, value_text, left_text, pair_text, rest_text, pairs_text, reservation_text, figures_text, cost_text, named_text};
+ghost use Rattle.lru_replay.specs.Output.{Writes, flag_text, value_text, left_text, pair_text, rest_text, pairs_text, reservation_text, figures_text, cost_text, named_text, taken_text};
 
 use crate::figures::Figures;
 use crate::outcome::ReplayError;
@@ -131,6 +131,24 @@ fn write_named<W: Write>(writer: &mut W, name: &[u8], number: u64) -> Result<(),
 {
     write_bytes(writer, name)?;
     write_number(writer, number)
+}
+
+/// Writes the pair, with a space before it where others were written, or nothing for none.
+pub fn write_next<W: Write>(
+    writer: &mut W,
+    any: bool,
+    next: Option<(u64, u64)>,
+) -> Result<(), ReplayError>
+    ensures { Writes (W.contents writer.old) (W.contents writer.new) result (taken_text any next) }
+{
+    let Some((key, value)) = next else {
+        return write_bytes(writer, b"");
+    };
+    if !any {
+        return write_pair(writer, key, value);
+    }
+    write_bytes(writer, b" ")?;
+    write_pair(writer, key, value)
 }
 
 fn write_pair<W: Write>(writer: &mut W, key: u64, value: u64) -> Result<(), ReplayError>

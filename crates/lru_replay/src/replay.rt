@@ -13,6 +13,7 @@ ghost use Rattle.lru_replay.specs.Runs.{LineStep, AnswersLine, IsTextOf, Answers
 ghost use Rattle.lru_replay.specs.Steps.{Answer};
 
 use crate::call::{Call, Limit, call_of, limit_of};
+use crate::drain::drain;
 use crate::figures::{TellsCost, figures_of};
 use crate::line::{Ending, Line, read_line};
 use crate::outcome::{ReplayEnd, ReplayError};
@@ -59,6 +60,7 @@ fn carry_out<L: Insertion<u64, u64, u64> + TellsCost, W: Write>(
         Some(Call::PopOldest) => write_left(writer, map.pop_oldest()),
         Some(Call::PopNewest) => write_left(writer, map.pop_newest()),
         Some(Call::Reserve(n)) => write_reservation(writer, map.try_reserve(n as usize)),
+        Some(Call::Drain(n)) => drain(map, n, writer),
         Some(Call::Clear) => {
             map.clear();
             write_bytes(writer, b"ok")
@@ -154,7 +156,8 @@ fn answer_all<R: BufRead, W: Write>(
     reader: &mut R,
     writer: &mut W,
 ) -> Result<ReplayEnd, ReplayError>
-    ensures { Replays (R.remaining reader.old) (R.remaining reader.new) (W.contents writer.old) (W.contents writer.new) result }
+    ensures { Replays (R.remaining reader.old) (R.remaining reader.new)
+        (W.contents writer.old) (W.contents writer.new) result }
 {
     let mut line = Line::new();
     let ending = read_line(reader, &mut line)?;
@@ -175,7 +178,8 @@ fn answer_and_flush<R: BufRead, W: Write>(
     reader: &mut R,
     writer: &mut W,
 ) -> Result<ReplayEnd, ReplayError>
-    ensures { Replays (R.remaining reader.old) (R.remaining reader.new) (W.contents writer.old) (W.contents writer.new) result }
+    ensures { Replays (R.remaining reader.old) (R.remaining reader.new)
+        (W.contents writer.old) (W.contents writer.new) result }
 {
     let end = answer_all(alloc, reader, writer);
     if let Err(ReplayError::Write) = end {
@@ -215,8 +219,8 @@ pub fn replay<R: BufRead, W: Write>(
     ensures read_failed { IsErrOf result ReplayError.Read →
         WritesSoFar (R.remaining reader.old) (R.remaining reader.new)
         (W.contents writer.old) (W.contents writer.new) }
-    // What was written is a beginning of what a replay of these lines writes, and of what one of the lines that were read
-    // writes.
+    // What was written is a beginning of what a replay of these lines writes, and of what one of the lines that
+    // were read writes.
     ensures write_failed { IsErrOf result ReplayError.Write →
         WritesCut (R.remaining reader.old) (W.contents writer.old) (W.contents writer.new) }
     ensures write_failed_reads { IsErrOf result ReplayError.Write →

@@ -130,6 +130,12 @@ fn each_write_fails(rt: HostRuntime) {
         fail_write(&rt, EXAMPLE, EXAMPLE_TEXT, at, Failure::Broken);
         fail_write(&rt, EXAMPLE, EXAMPLE_TEXT, at, Failure::Full);
     }
+    // A drain that is cut short.
+    let input = b"compact\ninsert 1 10\ninsert 2 20\ninsert 3 30\ndrain 2\nlist\n".as_slice();
+    let text = b"true\ntrue\ntrue\n3:30 2:20\n-\n".as_slice();
+    for at in 0..text.len() {
+        fail_write(&rt, input, text, at, Failure::Broken);
+    }
     let text = b"no limiter\n".as_slice();
     for at in 0..text.len() {
         fail_write(&rt, b"list\n", text, at, Failure::Broken);

@@ -173,6 +173,22 @@ fn limits_the_cost(rt: HostRuntime) {
     );
 }
 
+#[test]
+fn drains(rt: HostRuntime) {
+    expect(
+        &rt,
+        b"cost 10\ninsert 1 1\ninsert 2 2\ninsert 3 3\ndrain 2\nlist\nstats\ninsert 4 4\ndrain 18446744073709551615\n",
+        b"true\ntrue\ntrue\n3:3 2:2\n-\nlen 0 capacity 3 memory 148 moved 0 placed 3 cost 0\ntrue\n4:4\n",
+        0,
+    );
+    expect(
+        &rt,
+        b"length 3\ninsert 1 10\ninsert 2 20\ninsert 3 30\nget 1\ndrain 3\ndrain 3\n",
+        b"true\ntrue\ntrue\n10\n1:10 3:30 2:20\n-\n",
+        0,
+    );
+}
+
 /// Inserts the keys, each with its tenfold as the value, and expects that the newest so many are listed.
 fn expect_newest(
     rt: &(impl Abort + AllocGlobal),
@@ -229,7 +245,7 @@ fn answers_bad_lines(rt: HostRuntime) {
     expect(
         &rt,
         b"length 2\ninsert 01 1\ninsert 1 18446744073709551616\n\nlist \ndrain 5\ninsert 1 10\ndrain 0\nlist\n",
-        b"bad\nbad\nbad\nbad\nbad\ntrue\nbad\n1:10\n",
+        b"bad\nbad\nbad\nbad\n-\ntrue\n-\n-\n",
         0,
     );
     expect(
@@ -263,6 +279,8 @@ fn answers_bad_lines(rt: HostRuntime) {
         b"clear 1\n",
         b"reserve\n",
         b"reserve 18446744073709551616\n",
+        b"drain\n",
+        b"drain 01\n",
         b"list list\n",
         b"lists\n",
         b"length 3\n",

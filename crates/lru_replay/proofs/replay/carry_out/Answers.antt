@@ -48,6 +48,12 @@ returns-in-Some-Reserve g c =
     let spells = subst (SpellsCall c.args.line.now) c.in-Some-Reserve.field-0-is c.in-Some-Reserve.ensures.some in
     (reservation c.try_reserve.result, inl (calls.Reserve c.in-Some-Reserve.n, spells, (_, c.try_reserve.ensures.step, refl)), c.write_reservation.ensures)
 
+pub returns-in-Some-Drain : goal.returns-in-Some-Drain
+returns-in-Some-Drain g c =
+    let spells = subst (SpellsCall c.args.line.now) c.in-Some-Drain.field-0-is c.in-Some-Drain.ensures.some in
+    let (pairs, drained, wrote) = c.drain.ensures in
+    (listed pairs, inl (calls.Drain c.in-Some-Drain.n, spells, (pairs, drained, refl)), wrote)
+
 pub returns-in-Some-Clear : goal.returns-in-Some-Clear
 returns-in-Some-Clear g c =
     let spells = subst (SpellsCall c.args.line.now) c.in-Some-Clear.field-0-is c.in-Some-Clear.ensures.some in
