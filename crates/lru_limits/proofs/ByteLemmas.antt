@@ -1,7 +1,8 @@
 -- Numbers and the bytes that they are made of.
 --     word-low_bytes_N, word-high_bytes      the number that the bytes of a number make
 --     word-of_4_to_7, word-of_1_to_3         fewer than eight bytes as a number, by reads that may overlap
-use Rattle.std.proofs.Common.{◌≡◌, ◌≤◌, ◌<◌, ◌+◌, ◌-◌, ◌*◌, ◌/◌, ◌%◌, ◌^◌, ℕ, List, [], ◌∷◌, length, get_or, bit_or, sym, arith}
+use Rattle.std.proofs.Common.{◌≡◌, ◌≤◌, ◌<◌, ◌+◌, ◌-◌, ◌*◌, ◌/◌, ◌%◌, ◌^◌, ℕ, List, [], ◌∷◌, length, get_or, bit_or}
+use Rattle.std.proofs.Common.{sym, arith}
 use Rattle.std.proofs.Math.Nat.{div-div-eq-div-mul}
 use Rattle.std.specs.Int.{w64, from_le_bytes, bytes_low_first}
 use Rattle.std.specs.Int.Bits.{or_self, or_shifted_r}
@@ -44,7 +45,8 @@ word-high_bytes n fits =
 -- four to seven bytes: the first four, and of the last four those that are not among them
 pub word-of_4_to_7 : (bs : List ℕ) (first last : ℕ) → ((k : ℕ) → get_or bs k 0 < 256) → 4 ≤ length bs → length bs < 8
     → first ≡ get_or bs 0 0 + get_or bs 1 0 * 256 + get_or bs 2 0 * 65536 + get_or bs 3 0 * 16777216
-    → last ≡ get_or bs (length bs - 4) 0 + get_or bs (length bs - 3) 0 * 256 + get_or bs (length bs - 2) 0 * 65536 + get_or bs (length bs - 1) 0 * 16777216
+    → last ≡ get_or bs (length bs - 4) 0 + get_or bs (length bs - 3) 0 * 256 + get_or bs (length bs - 2) 0 * 65536
+        + get_or bs (length bs - 1) 0 * 16777216
     → first + last / 2 ^ (8 * (8 - length bs)) * 4294967296 % 18446744073709551616 ≡ from_le_bytes w64 bs
 word-of_4_to_7 (a ∷ b ∷ c ∷ d ∷ []) first last small four few f l =
     let at_0 : a < 256 = small 0 in

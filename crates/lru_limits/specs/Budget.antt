@@ -50,17 +50,22 @@ module _ {K V : Type 0} (cost : V → ℕ) where
     on_replace = λ b n k i v w. exchanged b k v w (cost v) (cost w);
   }
 
-pub charges-lawful : {K V : Type 0} (eq : K → K → Bool) → IsEquivalence eq → (cost : V → ℕ) → IsInsertion eq eq (charges cost)
+pub charges-lawful : {K V : Type 0} (eq : K → K → Bool) → IsEquivalence eq → (cost : V → ℕ)
+    → IsInsertion eq eq (charges cost)
 charges-lawful eq e cost = record {
   names_given = λ b n i v t k w given. given-names eq e.refl given;
   keeps_key = λ b n k i v w named. e.refl k;
 }
 
-pub charges-sums : {K V : Type 0} (cost : V → ℕ) → IsAccount (by_cost {K = K} cost) (charges cost) (λ k v. cost v) (λ b. b.cost)
+pub charges-sums : {K V : Type 0} (cost : V → ℕ) → IsAccount (by_cost {K = K} cost) (charges cost) (λ k v. cost v)
+    (λ b. b.cost)
 charges-sums cost = record {
-  adds = λ b n i v t k w. given-adds (λ k v. cost v) (λ b. b.cost) (can_add b.limit b.cost (cost v)) b (record b { cost = b.cost + cost v }) i v t k w refl;
-  refuses = λ b n i v t. refused-keeps (λ b. b.cost) (can_add b.limit b.cost (cost v)) b (record b { cost = b.cost + cost v }) i v t;
-  exchanges = λ b n k i v w. replaced-exchanges (λ k v. cost v) (λ b. b.cost) (can_add b.limit (b.cost - cost v) (cost w)) b (record b { cost = b.cost - cost v + cost w }) k v w refl;
+  adds = λ b n i v t k w. given-adds (λ k v. cost v) (λ b. b.cost) (can_add b.limit b.cost (cost v)) b
+      (record b { cost = b.cost + cost v }) i v t k w refl;
+  refuses = λ b n i v t. refused-keeps (λ b. b.cost) (can_add b.limit b.cost (cost v)) b
+      (record b { cost = b.cost + cost v }) i v t;
+  exchanges = λ b n k i v w. replaced-exchanges (λ k v. cost v) (λ b. b.cost)
+      (can_add b.limit (b.cost - cost v) (cost w)) b (record b { cost = b.cost - cost v + cost w }) k v w refl;
   takes_off = λ b k v enough. refl;
   empties = λ b. refl;
   keeps = λ b n. refl;

@@ -6,31 +6,38 @@
 use Rattle.std.specs.Prelude.{◌≡◌, ◌≤◌, ◌+◌, ◌-◌, ℕ, Bool, List, Some, None, IsTrue, if◌then◌else◌}
 use Rattle.lru_limits.specs.Rules.{Rules, Offers, Replaced}
 
-pub record IsLookup {Q K : Type 0} (names : Q → K → Bool) (eq : K → K → Bool) (query_input : Q → List (List ℕ)) (key_input : K → List (List ℕ)) : Type 0 where
+pub record IsLookup {Q K : Type 0} (names : Q → K → Bool) (eq : K → K → Bool) (query_input : Q → List (List ℕ))
+    (key_input : K → List (List ℕ)) : Type 0 where
   -- a value that names a key writes to a hasher what the key writes
   pub writes : (q : Q) (k : K) → IsTrue (names q k) → query_input q ≡ key_input k
   -- a value that names a key names the keys that are equal to it, and no other
   pub one : (q : Q) (x y : K) → IsTrue (names q x) → names q y ≡ eq x y
 
-pub record IsInsertion {K V S I : Type 0} (names : I → K → Bool) (eq : K → K → Bool) (offers : Offers K V S I) : Type 0 where
+pub record IsInsertion {K V S I : Type 0} (names : I → K → Bool) (eq : K → K → Bool)
+    (offers : Offers K V S I) : Type 0 where
   -- the key of the pair to store is one that the offered key names
-  pub names_given : (s : S) (n : ℕ) (i : I) (v : V) (t : S) (k : K) (w : V) → offers.on_insert s n i v t (Some (k, w)) → IsTrue (names i k)
+  pub names_given : (s : S) (n : ℕ) (i : I) (v : V) (t : S) (k : K) (w : V) → offers.on_insert s n i v t (Some (k, w))
+      → IsTrue (names i k)
   -- a replacement leaves the stored key equal to what it was
-  pub keeps_key : (s : S) (n : ℕ) (k : K) (i : I) (v w : V) → IsTrue (names i k) → IsTrue (eq k (offers.on_replace s n k i v w).key)
+  pub keeps_key : (s : S) (n : ℕ) (k : K) (i : I) (v w : V) → IsTrue (names i k)
+      → IsTrue (eq k (offers.on_replace s n k i v w).key)
 
 abbrev pub kept_value : {K V S : Type 0} → Replaced K V S → V
 kept_value r = if r.taken then r.new_value else r.old_value
 
-pub record IsAccount {K V S I : Type 0} (rules : Rules K V S) (offers : Offers K V S I) (cost : K → V → ℕ) (account : S → ℕ) : Type 0 where
+pub record IsAccount {K V S I : Type 0} (rules : Rules K V S) (offers : Offers K V S I) (cost : K → V → ℕ)
+    (account : S → ℕ) : Type 0 where
   -- a pair that is given to be stored adds its cost
-  pub adds : (s : S) (n : ℕ) (i : I) (v : V) (t : S) (k : K) (w : V) → offers.on_insert s n i v t (Some (k, w)) → account t ≡ account s + cost k w
+  pub adds : (s : S) (n : ℕ) (i : I) (v : V) (t : S) (k : K) (w : V) → offers.on_insert s n i v t (Some (k, w))
+      → account t ≡ account s + cost k w
   -- a refused element changes nothing
   pub refuses : (s : S) (n : ℕ) (i : I) (v : V) (t : S) → offers.on_insert s n i v t None → account t ≡ account s
   -- a replacement takes off the cost of the old pair, and adds that of the stored key with the value that stays
   pub exchanges : (s : S) (n : ℕ) (k : K) (i : I) (v w : V) → cost k v ≤ account s →
       let r = offers.on_replace s n k i v w in account r.limiter ≡ account s - cost k v + cost r.key (kept_value r)
   -- a pair that leaves takes its cost off
-  pub takes_off : (s : S) (k : K) (v : V) → cost k v ≤ account s → account (rules.on_removed s k v).limiter ≡ account s - cost k v
+  pub takes_off : (s : S) (k : K) (v : V) → cost k v ≤ account s → account (rules.on_removed s k v).limiter
+      ≡ account s - cost k v
   -- after a clear the account is 0
   pub empties : (s : S) → account (rules.on_cleared s) ≡ 0
   -- growth changes nothing

@@ -6,7 +6,8 @@
 --     written h bytes         the hasher after a write: a word for each eight bytes, and one for those that are left
 --     closed h                the hash
 --     seeded words            the hasher before the first write
-use Rattle.std.specs.Prelude.{ℕ, ◌+◌, ◌*◌, ◌/◌, ◌%◌, ◌^◌, ◌==◌, List, length, drop, fold, bit_xor, slice_index, if◌then◌else◌}
+use Rattle.std.specs.Prelude.{ℕ, ◌+◌, ◌*◌, ◌/◌, ◌%◌, ◌^◌, ◌==◌, List, length, drop, fold, bit_xor, slice_index}
+use Rattle.std.specs.Prelude.{if◌then◌else◌}
 use Rattle.std.specs.Int.{w64, from_le_bytes}
 use Rattle.std.specs.Simd.{first_chunks}
 

@@ -1,20 +1,23 @@
 -- Words for limiters that store a pair as it was handed over.
 --     plain over grants                    the rules of a limiter that never changes
 --     hands_over admits                    its offers: an element is stored where admits says so, a new value always
---     HandsOver accepts s k v t given      the limiter is left as s, which is t, and the pair is given exactly if it is accepted
+--     HandsOver accepts s k v t given      the limiter is left as s, which is t, and the pair is given exactly if it is
+-- accepted
 --     unmoved s k v                        a pair that left, and the limiter is now s
 --     answers s b                          the answer b on growth, and the limiter is now s
 --     replaces s k v w                     the new value is taken, and the limiter is now s
 --     given-is, given-names                what a pair that was handed over is
 --     hands_over-lawful                    the laws of `hands_over`
 --     given-adds, refused-keeps, replaced-exchanges      what an account becomes, for a `Summing` of one's own
-use Rattle.std.specs.Prelude.{◌≡◌, ◌≤◌, ◌+◌, ◌-◌, ℕ, Bool, true, false, Option, Some, None, IsTrue, if◌then◌else◌, unwrap_or}
+use Rattle.std.specs.Prelude.{◌≡◌, ◌≤◌, ◌+◌, ◌-◌, ℕ, Bool, true, false, Option, Some, None, IsTrue, if◌then◌else◌}
+use Rattle.std.specs.Prelude.{unwrap_or}
 use Rattle.std.specs.Cmp.{IsEquivalence}
 use Rattle.std.proofs.Common.{ap, sym, ◌∙◌, subst, arith}
 use Rattle.lru_limits.specs.Rules.{Told, Replaced, Allowed, Rules, Offers}
 use Rattle.lru_limits.specs.Laws.{IsInsertion}
 
-pub record HandsOver {S K V : Type 0} (accepts : Bool) (s : S) (k : K) (v : V) (t : S) (given : Option (K × V)) : Type 0 where
+pub record HandsOver {S K V : Type 0} (accepts : Bool) (s : S) (k : K) (v : V) (t : S)
+    (given : Option (K × V)) : Type 0 where
   pub limiter : t ≡ s
   pub pair : given ≡ (if accepts then Some (k, v) else None)
 
@@ -43,16 +46,19 @@ hands_over admits = record {
 }
 
 -- the pair that is given is the one that was handed over
-pub given-is : {S K V : Type 0} (accepts : Bool) (s : S) (k : K) (v : V) (t : S) (p : K × V) → HandsOver accepts s k v t (Some p) → p ≡ (k, v)
+pub given-is : {S K V : Type 0} (accepts : Bool) (s : S) (k : K) (v : V) (t : S) (p : K × V)
+    → HandsOver accepts s k v t (Some p) → p ≡ (k, v)
 given-is true s k v t p h = ap (λ o. unwrap_or o (k, v)) h.pair
 given-is false s k v t p h = let e = h.pair in cc
 
 -- so a test that holds of each key and itself holds of the key that is given
-pub given-names : {S K V : Type 0} {accepts : Bool} {s t : S} {i k : K} {v w : V} (E : K → K → Bool) → ((x : K) → IsTrue (E x x)) → HandsOver accepts s i v t (Some (k, w)) → IsTrue (E i k)
+pub given-names : {S K V : Type 0} {accepts : Bool} {s t : S} {i k : K} {v w : V} (E : K → K → Bool)
+    → ((x : K) → IsTrue (E x x)) → HandsOver accepts s i v t (Some (k, w)) → IsTrue (E i k)
 given-names {accepts} {s} {t} {i} {k} {v} {w} E reflexive h =
     subst (λ x. IsTrue (E i x)) (sym (ap (λ p. p.0) (given-is accepts s i v t (k, w) h))) (reflexive i)
 
-pub hands_over-lawful : {K V S : Type 0} (eq : K → K → Bool) → IsEquivalence eq → (admits : S → K → V → Bool) → IsInsertion eq eq (hands_over admits)
+pub hands_over-lawful : {K V S : Type 0} (eq : K → K → Bool) → IsEquivalence eq → (admits : S → K → V → Bool)
+    → IsInsertion eq eq (hands_over admits)
 hands_over-lawful eq e admits = record {
   names_given = λ s n i v t k w given. given-names eq e.refl given;
   keeps_key = λ s n k i v w named. e.refl k;
@@ -61,18 +67,23 @@ hands_over-lawful eq e admits = record {
 -- Below, a limiter accepts or not; where it accepts, s becomes s', and elsewhere it stays s.
 
 -- A pair that is given to be stored adds its cost, where s' has that much more than s.
-pub given-adds : {K V S : Type 0} (cost : K → V → ℕ) (account : S → ℕ) (accepts : Bool) (s s' : S) (i : K) (v : V) (t : S) (k : K) (w : V) → account s' ≡ account s + cost i v
+pub given-adds : {K V S : Type 0} (cost : K → V → ℕ) (account : S → ℕ) (accepts : Bool) (s s' : S) (i : K) (v : V)
+    (t : S) (k : K) (w : V) → account s' ≡ account s + cost i v
     → HandsOver accepts (if accepts then s' else s) i v t (Some (k, w)) → account t ≡ account s + cost k w
-given-adds cost account true s s' i v t k w more h = ap account h.limiter ∙ more ∙ ap (λ p. account s + cost p.0 p.1) (sym (given-is true s' i v t (k, w) h))
+given-adds cost account true s s' i v t k w more h = ap account h.limiter ∙ more ∙ ap (λ p. account s + cost p.0 p.1)
+    (sym (given-is true s' i v t (k, w) h))
 given-adds cost account false s s' i v t k w more h = let e = h.pair in cc
 
 -- A refused element changes nothing.
-pub refused-keeps : {K V S : Type 0} (account : S → ℕ) (accepts : Bool) (s s' : S) (i : K) (v : V) (t : S) → HandsOver accepts (if accepts then s' else s) i v t None → account t ≡ account s
+pub refused-keeps : {K V S : Type 0} (account : S → ℕ) (accepts : Bool) (s s' : S) (i : K) (v : V) (t : S)
+    → HandsOver accepts (if accepts then s' else s) i v t None → account t ≡ account s
 refused-keeps account true s s' i v t h = let e = h.pair in cc
 refused-keeps account false s s' i v t h = ap account h.limiter
 
 -- A replacement takes off the cost of the old value, and adds that of the value that stays, where s' has that changed.
-pub replaced-exchanges : {K V S : Type 0} (cost : K → V → ℕ) (account : S → ℕ) (accepts : Bool) (s s' : S) (k : K) (v w : V) → account s' ≡ account s - cost k v + cost k w
-    → cost k v ≤ account s → account (if accepts then s' else s) ≡ account s - cost k v + cost k (if accepts then w else v)
+pub replaced-exchanges : {K V S : Type 0} (cost : K → V → ℕ) (account : S → ℕ) (accepts : Bool) (s s' : S) (k : K)
+    (v w : V) → account s' ≡ account s - cost k v + cost k w
+    → cost k v ≤ account s → account (if accepts then s' else s) ≡ account s - cost k v
+        + cost k (if accepts then w else v)
 replaced-exchanges cost account true s s' k v w changed enough = changed
 replaced-exchanges cost account false s s' k v w changed enough = omega arith

@@ -16,7 +16,8 @@ use Rattle.lru_limits.specs.Laws.{IsLookup}
 abbrev pub names_text : List ℕ → String Global → Bool
 names_text bytes k = bytes_eq bytes (string_bytes k)
 
-pub names_text-lawful : {Q : Type 0} (text : Q → List ℕ) → IsLookup (λ q k. names_text (text q) k) (λ x y. bytes_eq (string_bytes x) (string_bytes y)) (λ q. fed.str (text q)) (λ k. fed.str (string_bytes k))
+pub names_text-lawful : {Q : Type 0} (text : Q → List ℕ) → IsLookup (λ q k. names_text (text q) k)
+    (λ x y. bytes_eq (string_bytes x) (string_bytes y)) (λ q. fed.str (text q)) (λ k. fed.str (string_bytes k))
 names_text-lawful text = record {
   writes = λ q k named. ap fed.str ((bytes_decides (text q) (string_bytes k)).0 named);
   one = λ q x y. nat_list_eq_equiv.congr (text q) (string_bytes x) (string_bytes y);
@@ -25,7 +26,8 @@ names_text-lawful text = record {
 abbrev pub GivesText : {V : Type 0} → List ℕ → V → Option (String Global × V) → Type 0
 GivesText bytes v given = IsSomeAnd given (λ p. (string_bytes p.0 ≡ bytes) × (p.1 ≡ v))
 
-pub given-names_text : {V : Type 0} (bytes : List ℕ) (v : V) (k : String Global) (w : V) → GivesText bytes v (Some (k, w)) → IsTrue (names_text bytes k)
+pub given-names_text : {V : Type 0} (bytes : List ℕ) (v : V) (k : String Global) (w : V)
+    → GivesText bytes v (Some (k, w)) → IsTrue (names_text bytes k)
 given-names_text bytes v k w given = (bytes_decides bytes (string_bytes k)).1 (sym given.0)
 
 pub same_text : (k : String Global) → IsTrue (names_text (string_bytes k) k)

@@ -18,9 +18,9 @@ const END_KEY: u64 = 0xa54f_f53a_5f1d_36f1;
 
 /// Makes hashers that are seeded by four words. A clause sees it as the hasher before the first write.
 ///
-/// Hashers of equal words give equal hashes after equal writes, so `state.hash_one(&key)` is the hash that a map with an
-/// equal state has of the key, and of all that names it. The default has the words 1, 2, 3, 4: nothing is drawn at random
-/// here, and strength against chosen keys is not claimed.
+/// Hashers of equal words give equal hashes after equal writes, so `state.hash_one(&key)` is the hash that a map with
+/// an equal state has of the key, and of all that names it. The default has the words 1, 2, 3, 4: nothing is drawn at
+/// random here, and strength against chosen keys is not claimed.
 ///
 /// ```
 /// let state = RandomState::with_seeds([5, 6, 7, 8]);
@@ -41,7 +41,8 @@ impl Model for RandomState {
 
     ghost view = { λ s. record { state = s.state; word_key = s.word_key; rest_key = s.rest_key; end_key = s.end_key } };
 
-    ghost inverse = { λ s. record { state = s.state; word_key = s.word_key; rest_key = s.rest_key; end_key = s.end_key } };
+    ghost inverse = { λ s. record { state = s.state; word_key = s.word_key; rest_key = s.rest_key; end_key =
+        s.end_key } };
 }
 
 impl RandomState {
@@ -162,7 +163,8 @@ impl DefaultHasher {
     fn join_rest(&mut self, bytes: u64, count: u64)
         requires few { count < 8 }
         requires short { bytes < 2 ^ 56 }
-        ensures { self.new ≡ record self.old { state = joined self.old.rest_key self.old.state (bytes + count * 2 ^ 56) } }
+        ensures { self.new ≡ record self.old { state = joined self.old.rest_key self.old.state
+            (bytes + count * 2 ^ 56) } }
     {
         self.state = folded(self.state ^ (bytes + (count << 56)), self.rest_key);
     }

@@ -1,5 +1,6 @@
 -- The first line and the others together, and how a replay ends.
-use Rattle.std.proofs.Common.{◌≡◌, ℕ, ◌<◌, List, [], ◌∷◌, ◌++◌, append_assoc, length, refl, sym, ap, ◌∙◌, subst, inl, inr, ◌⊎◌, arith, Option, Some, None, Result, Ok, Err, IfSome, OnOk, ◌↔◌}
+use Rattle.std.proofs.Common.{◌≡◌, ℕ, ◌<◌, List, [], ◌∷◌, ◌++◌, append_assoc, length, refl, sym, ap, ◌∙◌, subst, inl}
+use Rattle.std.proofs.Common.{inr, ◌⊎◌, arith, Option, Some, None, Result, Ok, Err, IfSome, OnOk, ◌↔◌}
 use Rattle.std.proofs.lemmas.List.{append-nil}
 use Rattle.std.specs.Io.KnownBytes.{Appends, Keeps}
 use Rattle.std.proofs.KnownBytes.{Appends-nil, Appends-kept, Consumes-nil}
@@ -19,8 +20,10 @@ use Rattle.lru_replay.specs.declared.outcome.ReplayError.TheVariants as errors
 use Rattle.lru_replay.specs.Grammar.{SpellsLimit}
 use Rattle.lru_replay.specs.Lines.{lines_of, TakesFed, TakesRest, TakesLine, TakesPart, TakesLines, TakesFirst}
 use Rattle.lru_replay.specs.Output.{Fails, no_limiter_text}
-use Rattle.lru_replay.specs.Replay.{IsTextUnder, IsReplay, NamesNoLimit, IsOutput, IsOutputSoFar, IsTextSoFar, WritesCut, WritesCutSoFar, Replays}
-use Rattle.lru_replay.specs.Limits.{length_rules, length_offers, memory_rules, cost_rules, cost_offers, no_rules, all_offers, no_cost, cost_told, AlwaysOffers}
+use Rattle.lru_replay.specs.Replay.{IsTextUnder, IsReplay, NamesNoLimit, IsOutput, IsOutputSoFar, IsTextSoFar}
+use Rattle.lru_replay.specs.Replay.{WritesCut, WritesCutSoFar, Replays}
+use Rattle.lru_replay.specs.Limits.{length_rules, length_offers, memory_rules, cost_rules, cost_offers, no_rules}
+use Rattle.lru_replay.specs.Limits.{all_offers, no_cost, cost_told, AlwaysOffers}
 use Rattle.lru_replay.specs.Maps.{Map, empty, links_of_32_bits, links_of_64_bits}
 use Rattle.lru_replay.specs.Runs.{IsTextOf, Answers}
 use Rattle.lru_replay.proofs.LineLists.{lines_of-fed, lines_of-last, lines_at_end, lines_left, takes_line_before}
@@ -37,42 +40,56 @@ after_first (Some x) None first P Q (lacks, p) f h = absurd p
 after_first (Some x) (Some y) first P Q (lacks, p) f h = f y x (ap lines_of p ∙ lines_of-fed first y lacks) h
 
 -- the input is what its end ends
-only_first : (a b : Option (List ℕ)) (first : List ℕ) (Q : List ℕ → Type 0) → TakesRest a b first → ((input : List ℕ) → lines_of input ≡ lines_of first → Q input) → IfSome a Q
+only_first : (a b : Option (List ℕ)) (first : List ℕ) (Q : List ℕ → Type 0) → TakesRest a b first
+    → ((input : List ℕ) → lines_of input ≡ lines_of first → Q input) → IfSome a Q
 only_first a b first Q taken f = IfSome_then a (lines_at_end a a b [] first (tt, tt, Consumes-nil a) taken) f
 
 -- The first line names no limit, or there is none.
 none_first : (lines : List (List ℕ)) → lines ≡ [] → NamesNoLimit lines
 none_first lines e limit first others is spells = let h : [] ≡ first ∷ others = sym e ∙ is in absurd (cc)
 
-none_named : (lines others : List (List ℕ)) (first : List ℕ) → lines ≡ first ∷ others → ((limit : Limit) → SpellsLimit first limit → ⊥) → NamesNoLimit lines
+none_named : (lines others : List (List ℕ)) (first : List ℕ) → lines ≡ first ∷ others
+    → ((limit : Limit) → SpellsLimit first limit → ⊥) → NamesNoLimit lines
 none_named lines others first e none limit other more is spells =
     let same : first ≡ other = (let h : first ∷ others ≡ other ∷ more = sym e ∙ is in cc) in
     none limit (subst (λ l. SpellsLimit l limit) (sym same) spells)
 
-pub no_limit : (a b : Option (List ℕ)) (ending : Ending) (first : List ℕ) → TakesLine a b ending first → ((limit : Limit) → SpellsLimit first limit → ⊥)
+pub no_limit : (a b : Option (List ℕ)) (ending : Ending) (first : List ℕ) → TakesLine a b ending first
+    → ((limit : Limit) → SpellsLimit first limit → ⊥)
     → IfSome a (λ input. NamesNoLimit (lines_of input))
 no_limit None b ending first taken none = tt
 no_limit (Some x) None endings.Feed first taken none = absurd taken.1
-no_limit (Some x) (Some y) endings.Feed first taken none = none_named (lines_of x) (lines_of y) first (ap lines_of taken.1 ∙ lines_of-fed first y taken.0) none
-no_limit (Some x) b endings.InputEnd first (taken, some) none = only_first (Some x) b first (λ input. NamesNoLimit (lines_of input)) taken
+no_limit (Some x) (Some y) endings.Feed first taken none = none_named (lines_of x) (lines_of y) first
+    (ap lines_of taken.1 ∙ lines_of-fed first y taken.0) none
+no_limit (Some x) b endings.InputEnd first (taken, some) none = only_first (Some x) b first
+    (λ input. NamesNoLimit (lines_of input)) taken
     (λ input same. none_named (lines_of input) [] first (same ∙ lines_of-last first taken.0 some) none)
-no_limit (Some x) b endings.Nothing first (taken, nothing) none = only_first (Some x) b first (λ input. NamesNoLimit (lines_of input)) taken
+no_limit (Some x) b endings.Nothing first (taken, nothing) none = only_first (Some x) b first
+    (λ input. NamesNoLimit (lines_of input)) taken
     (λ input same. none_first (lines_of input) (same ∙ ap lines_of nothing))
 
 -- A text of the first so many lines goes on for more.
-module _ {S : Type 0} (rules : Rules ℕ ℕ S) (offers : Offers ℕ ℕ S ℕ) (told : S → Option ℕ) (offered : AlwaysOffers offers) (old : Map S) (sized : IsSized old) where
-  text_goes_on : (lines more : List (List ℕ)) (text : List ℕ) → IsTextOf rules offers told old lines text → (u : List ℕ) × IsTextOf rules offers told old (lines ++ more) (text ++ u)
+module _ {S : Type 0} (rules : Rules ℕ ℕ S) (offers : Offers ℕ ℕ S ℕ) (told : S → Option ℕ)
+    (offered : AlwaysOffers offers) (old : Map S) (sized : IsSized old) where
+  text_goes_on : (lines more : List (List ℕ)) (text : List ℕ) → IsTextOf rules offers told old lines text
+      → (u : List ℕ) × IsTextOf rules offers told old (lines ++ more) (text ++ u)
   text_goes_on lines more text (now, run) =
-      let (u, new, others) = some_run rules offers told offered now (run_sized rules offers told old lines text now sized run) more in
+      let (u, new, others) = some_run rules offers told offered now
+          (run_sized rules offers told old lines text now sized run) more in
       (u, (new, run-append rules offers told old lines text now more u new run others))
 
-under_goes_on : (limit : Limit) (lines more : List (List ℕ)) (text : List ℕ) → IsTextUnder limit lines text → (u : List ℕ) × IsTextUnder limit (lines ++ more) (text ++ u)
-under_goes_on (limits.Length most) = text_goes_on length_rules length_offers no_cost length_always (empty most 32 links_of_32_bits) (empty_is_sized most 32 links_of_32_bits)
-under_goes_on (limits.Memory budget entry_bytes) = text_goes_on memory_rules all_offers no_cost all_always (empty budget entry_bytes links_of_32_bits) (empty_is_sized budget entry_bytes links_of_32_bits)
+under_goes_on : (limit : Limit) (lines more : List (List ℕ)) (text : List ℕ) → IsTextUnder limit lines text
+    → (u : List ℕ) × IsTextUnder limit (lines ++ more) (text ++ u)
+under_goes_on (limits.Length most) = text_goes_on length_rules length_offers no_cost length_always
+    (empty most 32 links_of_32_bits) (empty_is_sized most 32 links_of_32_bits)
+under_goes_on (limits.Memory budget entry_bytes) = text_goes_on memory_rules all_offers no_cost all_always
+    (empty budget entry_bytes links_of_32_bits) (empty_is_sized budget entry_bytes links_of_32_bits)
 under_goes_on (limits.Cost most) =
     let budget : Budget = record { limit = most; cost = 0 } in
-    text_goes_on cost_rules cost_offers cost_told cost_always (empty budget 32 links_of_64_bits) (empty_is_sized budget 32 links_of_64_bits)
-under_goes_on limits.Compact = text_goes_on no_rules all_offers no_cost all_always (empty (record {}) 32 links_of_32_bits) (empty_is_sized (record {}) 32 links_of_32_bits)
+    text_goes_on cost_rules cost_offers cost_told cost_always (empty budget 32 links_of_64_bits)
+        (empty_is_sized budget 32 links_of_64_bits)
+under_goes_on limits.Compact = text_goes_on no_rules all_offers no_cost all_always
+    (empty (record {}) 32 links_of_32_bits) (empty_is_sized (record {}) 32 links_of_32_bits)
 
 no_lines_under : (limit : Limit) → IsTextUnder limit [] []
 no_lines_under (limits.Length most) = (empty most 32 links_of_32_bits, (refl, refl))
@@ -85,23 +102,29 @@ some_output : (lines : List (List ℕ)) → (text : List ℕ) × IsOutput lines 
 some_output [] = (no_limiter_text, inr (none_first [] refl, refl))
 some_output (first ∷ lines) = by (limit_or first)
   where
-    by : ((limit : Limit) × SpellsLimit first limit) ⊎ ((limit : Limit) → SpellsLimit first limit → ⊥) → (text : List ℕ) × IsOutput (first ∷ lines) text
-    by (inl (limit, spells)) = let (text, is) = under_goes_on limit [] lines [] (no_lines_under limit) in (text, inl (limit, first, lines, refl, spells, is))
+    by : ((limit : Limit) × SpellsLimit first limit) ⊎ ((limit : Limit) → SpellsLimit first limit → ⊥)
+        → (text : List ℕ) × IsOutput (first ∷ lines) text
+    by (inl (limit, spells)) = let (text, is) = under_goes_on limit [] lines [] (no_lines_under limit) in
+        (text, inl (limit, first, lines, refl, spells, is))
     by (inr none) = (no_limiter_text, inr (none_named (first ∷ lines) lines first refl none, refl))
 
 -- and what is written of the first so many goes on for more.
-output_goes_on : (lines more : List (List ℕ)) (text : List ℕ) → IsOutputSoFar lines text → (u : List ℕ) × IsOutput (lines ++ more) (text ++ u)
-output_goes_on [] more text none = let (u, is) = some_output more in (u, subst (λ l. IsOutput more (l ++ u)) (sym none) is)
+output_goes_on : (lines more : List (List ℕ)) (text : List ℕ) → IsOutputSoFar lines text → (u : List ℕ)
+    × IsOutput (lines ++ more) (text ++ u)
+output_goes_on [] more text none = let (u, is) = some_output more in
+    (u, subst (λ l. IsOutput more (l ++ u)) (sym none) is)
 output_goes_on (line ∷ lines) more text (inl (limit, first, others, same, spells, is)) =
     let (u, goes) = under_goes_on limit others more text is in
     (u, inl (limit, first, others ++ more, ap (λ ls. ls ++ more) same, spells, goes))
 output_goes_on (line ∷ lines) more text (inr (none, is)) =
-    ([], inr (none_named (line ∷ lines ++ more) (lines ++ more) line refl (λ limit spells. none limit line lines refl spells), append-nil text ∙ is))
+    ([], inr (none_named (line ∷ lines ++ more) (lines ++ more) line refl
+        (λ limit spells. none limit line lines refl spells), append-nil text ∙ is))
 
 -- What is cut within what the lines read write is cut within what all lines write.
 pub cut_of_all : (a b w v : Option (List ℕ)) → WritesCutSoFar a b w v → WritesCut a w v
 cut_of_all None b w v h = tt
-cut_of_all (Some x) b w v (lines, text, part, inl ((at_end, all), is), front, wrote) = (text, part, subst (λ ls. IsOutput ls text) (sym all) is, front, wrote)
+cut_of_all (Some x) b w v (lines, text, part, inl ((at_end, all), is), front, wrote) =
+    (text, part, subst (λ ls. IsOutput ls text) (sym all) is, front, wrote)
 cut_of_all (Some x) None w v (lines, text, part, inr (rest, reads, is), front, wrote) = absurd reads.2
 cut_of_all (Some x) (Some y) w v (lines, text, part, inr (rest, reads, is), (more, front), wrote) =
     let (u, goes) = output_goes_on lines (lines_of (rest ++ y)) text is in (
@@ -115,20 +138,27 @@ cut_of_all (Some x) (Some y) w v (lines, text, part, inr (rest, reads, is), (mor
 -- `NoLimiter` comes exactly where no limit is named.
 pub exactly_no_limiter : (a b w v : Option (List ℕ)) (end : Result ReplayEnd ReplayError) → Replays a b w v end
     → OnOk end (IfSome a (λ input. (end ≡ Ok ends.NoLimiter) ↔ NamesNoLimit (lines_of input)))
-exactly_no_limiter a b w v (Ok ends.Done) (done, at_end) = IfSome_then a done (λ input (text, (limit, first, others, is, spells, run), wrote).
+exactly_no_limiter a b w v (Ok ends.Done) (done, at_end) = IfSome_then a done
+    (λ input (text, (limit, first, others, is, spells, run), wrote).
     (λ other. absurd (done_is_done other), λ names. absurd (names limit first others is spells)))
   where
     done_is_done : (let done : Result ReplayEnd ReplayError = Ok ends.Done in done) ≡ Ok ends.NoLimiter → ⊥
     done_is_done e = cc
-exactly_no_limiter a b w v (Ok ends.NoLimiter) (none, reads, wrote) = IfSome_then a none (λ input is. (λ same. is, λ names. refl))
+exactly_no_limiter a b w v (Ok ends.NoLimiter) (none, reads, wrote) = IfSome_then a none
+    (λ input is. (λ same. is, λ names. refl))
 exactly_no_limiter a b w v (Err e) h = tt
 
 -- What was read and written stays so while the writer's bytes stay.
-pub replays-kept : (a b w v u : Option (List ℕ)) (end : Result ReplayEnd ReplayError) → Keeps v u → Replays a b w v end → Replays a b w u end
-replays-kept a b w v u (Ok ends.Done) keeps (done, at_end) = (IfSome_then a done (λ input (text, is, wrote). (text, is, Appends-kept w v u text wrote keeps)), at_end)
-replays-kept a b w v u (Ok ends.NoLimiter) keeps (none, reads, wrote) = (none, reads, Appends-kept w v u no_limiter_text wrote keeps)
-replays-kept a b w v u (Err errors.Read) keeps (lines, text, part, is, reads, wrote) = (lines, text, part, is, reads, Appends-kept w v u text wrote keeps)
-replays-kept a b w v u (Err errors.Write) keeps h = IfSome_then a h (λ input (lines, text, part, is, front, wrote). (lines, text, part, is, front, Appends-kept w v u part wrote keeps))
+pub replays-kept : (a b w v u : Option (List ℕ)) (end : Result ReplayEnd ReplayError) → Keeps v u → Replays a b w v end
+    → Replays a b w u end
+replays-kept a b w v u (Ok ends.Done) keeps (done, at_end) =
+    (IfSome_then a done (λ input (text, is, wrote). (text, is, Appends-kept w v u text wrote keeps)), at_end)
+replays-kept a b w v u (Ok ends.NoLimiter) keeps (none, reads, wrote) =
+    (none, reads, Appends-kept w v u no_limiter_text wrote keeps)
+replays-kept a b w v u (Err errors.Read) keeps (lines, text, part, is, reads, wrote) =
+    (lines, text, part, is, reads, Appends-kept w v u text wrote keeps)
+replays-kept a b w v u (Err errors.Write) keeps h = IfSome_then a h
+    (λ input (lines, text, part, is, front, wrote). (lines, text, part, is, front, Appends-kept w v u part wrote keeps))
 
 all_of : (text : List ℕ) → IsFront text text
 all_of text = ([], sym (append-nil text))
@@ -138,19 +168,27 @@ so_far_output [] text is = is
 so_far_output (first ∷ others) text (limit, spells, is) = inl (limit, first, others, refl, spells, is)
 
 -- The flush failed: what is written is all of what may be written of the lines that were read.
-pub flush_failed : (a b w v : Option (List ℕ)) (end : Result ReplayEnd ReplayError) → Replays a b w v end → Replays a b w v (Err errors.Write)
+pub flush_failed : (a b w v : Option (List ℕ)) (end : Result ReplayEnd ReplayError) → Replays a b w v end
+    → Replays a b w v (Err errors.Write)
 flush_failed None b w v end h = tt
-flush_failed (Some x) b w v (Ok ends.Done) ((text, is, wrote), at_end) = (lines_of x, text, text, inl ((at_end, refl), inl is), all_of text, wrote)
-flush_failed (Some x) b w v (Ok ends.NoLimiter) (none, (line, inr rest), wrote) = (lines_of x, no_limiter_text, no_limiter_text, inl ((rest.2, refl), inr (none, refl)), all_of no_limiter_text, wrote)
+flush_failed (Some x) b w v (Ok ends.Done) ((text, is, wrote), at_end) =
+    (lines_of x, text, text, inl ((at_end, refl), inl is), all_of text, wrote)
+flush_failed (Some x) b w v (Ok ends.NoLimiter) (none, (line, inr rest), wrote) =
+    (lines_of x, no_limiter_text, no_limiter_text, inl ((rest.2, refl), inr (none, refl)), all_of no_limiter_text,
+    wrote)
 flush_failed (Some x) None w v (Ok ends.NoLimiter) (none, (line, inl fed), wrote) = absurd fed.1
 flush_failed (Some x) (Some y) w v (Ok ends.NoLimiter) (none, (line, inl fed), wrote) =
     let first : lines_of x ≡ line ∷ lines_of y = ap lines_of fed.1 ∙ lines_of-fed line y fed.0 in
-    let unnamed : (limit : Limit) → SpellsLimit line limit → ⊥ = λ limit spells. none limit line (lines_of y) first spells in
-    (line ∷ [], no_limiter_text, no_limiter_text, inr ([], one_taken x y line fed, inr (none_named (line ∷ []) [] line refl unnamed, refl)), all_of no_limiter_text, wrote)
+    let unnamed : (limit : Limit) → SpellsLimit line limit → ⊥ = λ limit spells. none limit line
+        (lines_of y) first spells in
+    (line ∷ [], no_limiter_text, no_limiter_text, inr
+        ([], one_taken x y line fed, inr (none_named (line ∷ []) [] line refl unnamed, refl)), all_of no_limiter_text,
+        wrote)
   where
     one_taken : (x y line : List ℕ) → TakesFed (Some x) (Some y) line → TakesLines (Some x) (Some y) (line ∷ []) []
     one_taken x y line fed = takes_line_before (Some x) (Some y) (Some y) line [] [] fed (tt, tt, refl)
-flush_failed (Some x) b w v (Err errors.Read) (lines, text, part, is, reads, wrote) = (lines, text, text, inr (part, reads, so_far_output lines text is), all_of text, wrote)
+flush_failed (Some x) b w v (Err errors.Read) (lines, text, part, is, reads, wrote) =
+    (lines, text, text, inr (part, reads, so_far_output lines text is), all_of text, wrote)
 flush_failed (Some x) b w v (Err errors.Write) h = h
 
 -- A read failed in the first line.
@@ -158,7 +196,8 @@ pub first_failed : (a b w : Option (List ℕ)) (part : List ℕ) → TakesPart a
 first_failed a b w part taken = ([], [], part, refl, (tt, taken.0, taken.1), Appends-nil w)
 
 -- The first line names no limit.
-module _ (a b w v : Option (List ℕ)) (ending : Ending) (first : List ℕ) (none : (limit : Limit) → SpellsLimit first limit → ⊥) (taken : TakesLine a b ending first) where
+module _ (a b w v : Option (List ℕ)) (ending : Ending) (first : List ℕ)
+    (none : (limit : Limit) → SpellsLimit first limit → ⊥) (taken : TakesLine a b ending first) where
   takes_first : TakesFirst a b
   takes_first = by ending taken
     where
@@ -175,13 +214,17 @@ module _ (a b w v : Option (List ℕ)) (ending : Ending) (first : List ℕ) (non
   no_limiter_cut errors.Read (same, part, front, wrote) = absurd (cc same)
   no_limiter_cut errors.Write (same, part, front, wrote) = by a b ending taken (no_limit a b ending first taken none)
     where
-      by : (a b : Option (List ℕ)) (ending : Ending) → TakesLine a b ending first → IfSome a (λ input. NamesNoLimit (lines_of input)) → WritesCutSoFar a b w v
+      by : (a b : Option (List ℕ)) (ending : Ending) → TakesLine a b ending first
+          → IfSome a (λ input. NamesNoLimit (lines_of input)) → WritesCutSoFar a b w v
       by None b ending taken names = tt
       by (Some x) None endings.Feed fed names = absurd fed.1
       by (Some x) (Some y) endings.Feed fed names =
-          (first ∷ [], no_limiter_text, part, inr ([], takes_line_before (Some x) (Some y) (Some y) first [] [] fed (tt, tt, refl), inr (none_named (first ∷ []) [] first refl none, refl)), front, wrote)
-      by (Some x) b endings.InputEnd rest names = (lines_of x, no_limiter_text, part, inl ((rest.0.2, refl), inr (names, refl)), front, wrote)
-      by (Some x) b endings.Nothing rest names = (lines_of x, no_limiter_text, part, inl ((rest.0.2, refl), inr (names, refl)), front, wrote)
+          (first ∷ [], no_limiter_text, part, inr ([], takes_line_before (Some x) (Some y) (Some y) first [] [] fed
+              (tt, tt, refl), inr (none_named (first ∷ []) [] first refl none, refl)), front, wrote)
+      by (Some x) b endings.InputEnd rest names =
+          (lines_of x, no_limiter_text, part, inl ((rest.0.2, refl), inr (names, refl)), front, wrote)
+      by (Some x) b endings.Nothing rest names =
+          (lines_of x, no_limiter_text, part, inl ((rest.0.2, refl), inr (names, refl)), front, wrote)
 
 spelled_some : (line : List ℕ) (limit : Limit) → SpellsLimit line limit → 0 < length line
 spelled_some line (limits.Length n) (fits, is) = omega (arith, ap length is)
@@ -190,18 +233,21 @@ spelled_some line (limits.Cost most) (fits, is) = omega (arith, ap length is)
 spelled_some line limits.Compact (fits, is) = omega (arith, ap length is)
 
 -- a line that no line feed ended is all that was left
-rest_taken : (a b : Option (List ℕ)) (ending : Ending) (line : List ℕ) → (ending ≡ endings.Feed → ⊥) → TakesLine a b ending line → TakesRest a b line
+rest_taken : (a b : Option (List ℕ)) (ending : Ending) (line : List ℕ) → (ending ≡ endings.Feed → ⊥)
+    → TakesLine a b ending line → TakesRest a b line
 rest_taken a b endings.Feed line not_fed taken = absurd (not_fed refl)
 rest_taken a b endings.InputEnd line not_fed taken = taken.0
 rest_taken a b endings.Nothing line not_fed taken = taken.0
 
 -- The first line is all there is.
-pub done_first : (a b w : Option (List ℕ)) (ending : Ending) (first : List ℕ) (limit : Limit) → SpellsLimit first limit → (ending ≡ endings.Feed → ⊥) → TakesLine a b ending first
+pub done_first : (a b w : Option (List ℕ)) (ending : Ending) (first : List ℕ) (limit : Limit) → SpellsLimit first limit
+    → (ending ≡ endings.Feed → ⊥) → TakesLine a b ending first
     → Replays a b w w (Ok ends.Done)
 done_first a b w ending first limit spells not_fed line =
     let taken = rest_taken a b ending first not_fed line in (
       only_first a b first (λ input. (text : List ℕ) × IsReplay (lines_of input) text × Appends w w text) taken
-          (λ input same. ([], (limit, first, [], same ∙ lines_of-last first taken.0 (spelled_some first limit spells), spells, no_lines_under limit), Appends-nil w)),
+          (λ input same. ([], (limit, first, [], same ∙ lines_of-last first taken.0 (spelled_some first limit spells),
+              spells, no_lines_under limit), Appends-nil w)),
       taken.2,
     )
 
@@ -211,17 +257,25 @@ if_known None f = tt
 if_known (Some x) f = f x
 
 -- The others were answered after the first.
-module _ (a b c w v : Option (List ℕ)) (first : List ℕ) (limit : Limit) (spells : SpellsLimit first limit) (taken : TakesFed a b first) where
+module _ (a b c w v : Option (List ℕ)) (first : List ℕ) (limit : Limit) (spells : SpellsLimit first limit)
+    (taken : TakesFed a b first) where
   pub done_others : Answers (IsTextUnder limit) b c w v (Ok tt) → Replays a c w v (Ok ends.Done)
   done_others (done, at_end) = (
-    after_first a b first _ _ taken (λ rest input all (text, is, wrote). (text, (limit, first, lines_of rest, all, spells, is), wrote)) done,
+    after_first a b first _ _ taken
+        (λ rest input all (text, is, wrote). (text, (limit, first, lines_of rest, all, spells, is), wrote)) done,
     Consumes_end a b c _ taken.1 at_end,
   )
 
   pub others_failed : (e : ReplayError) → Answers (IsTextUnder limit) b c w v (Err e) → Replays a c w v (Err e)
-  others_failed errors.Read (lines, text, part, is, reads, wrote) = (first ∷ lines, text, part, (limit, spells, is), takes_line_before a b c first lines part taken reads, wrote)
+  others_failed errors.Read (lines, text, part, is, reads, wrote) =
+      (first ∷ lines, text, part, (limit, spells, is), takes_line_before a b c first lines part taken reads, wrote)
   others_failed errors.Write (lines, text, part, is, inl reads, front, wrote) =
-      if_known a (λ input. (first ∷ lines, text, part, inr ([], takes_line_before a b c first lines [] taken reads, inl (limit, first, lines, refl, spells, is)), front, wrote))
+      if_known a (λ input.
+          (first ∷ lines, text, part, inr ([], takes_line_before a b c first lines [] taken reads, inl
+          (limit, first, lines, refl, spells, is)), front, wrote))
   others_failed errors.Write (lines, text, part, is, inr (at_end, all), front, wrote) =
-      let whole = after_first a b first _ (λ input. lines_of input ≡ first ∷ lines) taken (λ rest input is all. is ∙ ap (λ ls. first ∷ ls) all) all in
-      if_known a (λ input. (first ∷ lines, text, part, inl ((Consumes_end a b c _ taken.1 at_end, whole), inl (limit, first, lines, refl, spells, is)), front, wrote))
+      let whole = after_first a b first _ (λ input. lines_of input ≡ first ∷ lines) taken (λ rest input is all. is
+          ∙ ap (λ ls. first ∷ ls) all) all in
+      if_known a (λ input.
+          (first ∷ lines, text, part, inl
+          ((Consumes_end a b c _ taken.1 at_end, whole), inl (limit, first, lines, refl, spells, is)), front, wrote))

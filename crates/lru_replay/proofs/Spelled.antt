@@ -1,5 +1,6 @@
 -- Whether a line says something can be told: what it may say is read off it, and spelled again.
-use Rattle.std.proofs.Common.{◌≡◌, ℕ, ◌<◌, ◌^◌, Bool, true, false, List, [], ◌∷◌, ◌++◌, drop, refl, ap, ◌∙◌, subst, inl, inr, arith, ◌⊎◌, decimal, ◌==◌, if◌then◌else◌}
+use Rattle.std.proofs.Common.{◌≡◌, ℕ, ◌<◌, ◌^◌, Bool, true, false, List, [], ◌∷◌, ◌++◌, drop, refl, ap, ◌∙◌, subst, inl}
+use Rattle.std.proofs.Common.{inr, arith, ◌⊎◌, decimal, ◌==◌, if◌then◌else◌}
 use Rattle.std.proofs.lemmas.Bool.{ne_eqb}
 use Rattle.std.proofs.lemmas.Bool.Decides.{Decides-ltb, not_from_Decides}
 use Rattle.std.proofs.lemmas.Fmt.{decimal_is_IsNumeral}
@@ -13,7 +14,8 @@ use Rattle.lru_replay.specs.declared.call.Call.{Call}
 use Rattle.lru_replay.specs.declared.call.Call.TheVariants as calls
 use Rattle.lru_replay.specs.declared.call.Limit.{Limit}
 use Rattle.lru_replay.specs.declared.call.Limit.TheVariants as limits
-use Rattle.lru_replay.specs.Grammar.{SpellsCall, SpellsLimit, pair_spelling, call_spelling, limit_spelling, FitsCall, FitsLimit}
+use Rattle.lru_replay.specs.Grammar.{SpellsCall, SpellsLimit, pair_spelling, call_spelling, limit_spelling, FitsCall}
+use Rattle.lru_replay.specs.Grammar.{FitsLimit}
 use Rattle.lru_replay.specs.Lines.{Lacks}
 use Rattle.lru_replay.proofs.Numbers.{decimal_lacks_space}
 
@@ -43,7 +45,8 @@ abbrev pub guesses : List ℕ → List Call
 guesses line = calls.Insert (digits_value 10 (front_word (drop 7 line))) (digits_value 10 (after_word (drop 7 line)))
     ∷ calls.Get (digits_value 10 (drop 4 line)) ∷ calls.Peek (digits_value 10 (drop 5 line))
     ∷ calls.Remove (digits_value 10 (drop 7 line)) ∷ calls.Reserve (digits_value 10 (drop 8 line))
-    ∷ calls.Drain (digits_value 10 (drop 6 line)) ∷ calls.PopOldest ∷ calls.PopNewest ∷ calls.Clear ∷ calls.List ∷ calls.Stats ∷ []
+    ∷ calls.Drain (digits_value 10 (drop 6 line)) ∷ calls.PopOldest ∷ calls.PopNewest ∷ calls.Clear ∷ calls.List
+        ∷ calls.Stats ∷ []
 
 abbrev pub Spelled : List ℕ → Type 0
 Spelled line = (call : Call) × SpellsCall line call
@@ -90,23 +93,34 @@ spells_or line call = both_or (fits_call call) (same_or line (call_spelling call
 -- what is read off two numbers with a space between them
 module _ (words : List ℕ) (k v : ℕ) (k_fits : k < 2 ^ 64) (v_fits : v < 2 ^ 64) (is : words ≡ pair_spelling k v) where
   first_number : digits_value 10 (front_word words) ≡ k
-  first_number = ap (λ l. digits_value 10 (front_word l)) is ∙ ap (digits_value 10) (front_word_is (decimal k) (decimal v) (decimal_lacks_space k k_fits)) ∙ value_of_decimal k k_fits
+  first_number = ap (λ l. digits_value 10 (front_word l)) is
+      ∙ ap (digits_value 10) (front_word_is (decimal k) (decimal v) (decimal_lacks_space k k_fits))
+      ∙ value_of_decimal k k_fits
 
   second_number : digits_value 10 (after_word words) ≡ v
-  second_number = ap (λ l. digits_value 10 (after_word l)) is ∙ ap (digits_value 10) (after_word_is (decimal k) (decimal v) (decimal_lacks_space k k_fits)) ∙ value_of_decimal v v_fits
+  second_number = ap (λ l. digits_value 10 (after_word l)) is
+      ∙ ap (digits_value 10) (after_word_is (decimal k) (decimal v) (decimal_lacks_space k k_fits))
+      ∙ value_of_decimal v v_fits
 
 -- a call that the line spells is among the guesses
-guessed : (line : List ℕ) (P : Call → Type 0) → AllByRecursion P (guesses line) → (call : Call) → SpellsCall line call → P call
+guessed : (line : List ℕ) (P : Call → Type 0) → AllByRecursion P (guesses line) → (call : Call) → SpellsCall line call
+    → P call
 guessed line P all (calls.Insert k v) (fits, is) =
     let rest : drop 7 line ≡ pair_spelling k v = ap (drop 7) is in
     let key = first_number (drop 7 line) k v fits.0 fits.1 rest in
     let value = second_number (drop 7 line) k v fits.0 fits.1 rest in
-    subst (λ n. P (calls.Insert k n)) value (subst (λ n. P (calls.Insert n (digits_value 10 (after_word (drop 7 line))))) key all.0)
-guessed line P all (calls.Get k) (fits, is) = subst (λ n. P (calls.Get n)) (ap (λ l. digits_value 10 (drop 4 l)) is ∙ value_of_decimal k fits) all.1.0
-guessed line P all (calls.Peek k) (fits, is) = subst (λ n. P (calls.Peek n)) (ap (λ l. digits_value 10 (drop 5 l)) is ∙ value_of_decimal k fits) all.1.1.0
-guessed line P all (calls.Remove k) (fits, is) = subst (λ n. P (calls.Remove n)) (ap (λ l. digits_value 10 (drop 7 l)) is ∙ value_of_decimal k fits) all.1.1.1.0
-guessed line P all (calls.Reserve n) (fits, is) = subst (λ n. P (calls.Reserve n)) (ap (λ l. digits_value 10 (drop 8 l)) is ∙ value_of_decimal n fits) all.1.1.1.1.0
-guessed line P all (calls.Drain n) (fits, is) = subst (λ n. P (calls.Drain n)) (ap (λ l. digits_value 10 (drop 6 l)) is ∙ value_of_decimal n fits) all.1.1.1.1.1.0
+    subst (λ n. P (calls.Insert k n)) value
+        (subst (λ n. P (calls.Insert n (digits_value 10 (after_word (drop 7 line))))) key all.0)
+guessed line P all (calls.Get k) (fits, is) = subst (λ n. P (calls.Get n)) (ap (λ l. digits_value 10 (drop 4 l)) is
+    ∙ value_of_decimal k fits) all.1.0
+guessed line P all (calls.Peek k) (fits, is) = subst (λ n. P (calls.Peek n)) (ap (λ l. digits_value 10 (drop 5 l)) is
+    ∙ value_of_decimal k fits) all.1.1.0
+guessed line P all (calls.Remove k) (fits, is) = subst (λ n. P (calls.Remove n))
+    (ap (λ l. digits_value 10 (drop 7 l)) is ∙ value_of_decimal k fits) all.1.1.1.0
+guessed line P all (calls.Reserve n) (fits, is) = subst (λ n. P (calls.Reserve n))
+    (ap (λ l. digits_value 10 (drop 8 l)) is ∙ value_of_decimal n fits) all.1.1.1.1.0
+guessed line P all (calls.Drain n) (fits, is) = subst (λ n. P (calls.Drain n)) (ap (λ l. digits_value 10 (drop 6 l)) is
+    ∙ value_of_decimal n fits) all.1.1.1.1.1.0
 guessed line P all calls.PopOldest s = all.1.1.1.1.1.1.0
 guessed line P all calls.PopNewest s = all.1.1.1.1.1.1.1.0
 guessed line P all calls.Clear s = all.1.1.1.1.1.1.1.1.0
@@ -114,11 +128,13 @@ guessed line P all calls.List s = all.1.1.1.1.1.1.1.1.1.0
 guessed line P all calls.Stats s = all.1.1.1.1.1.1.1.1.1.1.0
 
 -- something of a list has a property that can be told, or nothing has
-any_of : {X : Type 0} (P : X → Type 0) → ((x : X) → P x ⊎ (P x → ⊥)) → (xs : List X) → ((x : X) × P x) ⊎ AllByRecursion (λ x. P x → ⊥) xs
+any_of : {X : Type 0} (P : X → Type 0) → ((x : X) → P x ⊎ (P x → ⊥)) → (xs : List X) → ((x : X) × P x)
+    ⊎ AllByRecursion (λ x. P x → ⊥) xs
 any_of {X} P tell [] = inr tt
 any_of {X} P tell (x ∷ xs) = both (tell x) (any_of P tell xs)
   where
-    both : P x ⊎ (P x → ⊥) → ((x : X) × P x) ⊎ AllByRecursion (λ x. P x → ⊥) xs → ((x : X) × P x) ⊎ AllByRecursion (λ x. P x → ⊥) (x ∷ xs)
+    both : P x ⊎ (P x → ⊥) → ((x : X) × P x) ⊎ AllByRecursion (λ x. P x → ⊥) xs → ((x : X) × P x)
+        ⊎ AllByRecursion (λ x. P x → ⊥) (x ∷ xs)
     both (inl found) more = inl (x, found)
     both (inr refused) (inl found) = inl found
     both (inr refused) (inr none) = inr (refused, none)
@@ -127,7 +143,8 @@ any_of {X} P tell (x ∷ xs) = both (tell x) (any_of P tell xs)
 pub spelled_or : (line : List ℕ) → Spelled line ⊎ ((call : Call) → SpellsCall line call → ⊥)
 spelled_or line = both (any_of (SpellsCall line) (spells_or line) (guesses line))
   where
-    both : Spelled line ⊎ AllByRecursion (λ call. SpellsCall line call → ⊥) (guesses line) → Spelled line ⊎ ((call : Call) → SpellsCall line call → ⊥)
+    both : Spelled line ⊎ AllByRecursion (λ call. SpellsCall line call → ⊥) (guesses line) → Spelled line
+        ⊎ ((call : Call) → SpellsCall line call → ⊥)
     both (inl found) = inl found
     both (inr none) = inr (λ call spells. guessed line (λ call. SpellsCall line call → ⊥) none call spells spells)
 
@@ -141,20 +158,28 @@ limit_guesses line = limits.Length (digits_value 10 (drop 7 line))
     ∷ limits.Cost (digits_value 10 (drop 5 line)) ∷ limits.Compact ∷ []
 
 -- a limit that the line names is among the guesses
-limit_guessed : (line : List ℕ) (P : Limit → Type 0) → AllByRecursion P (limit_guesses line) → (limit : Limit) → SpellsLimit line limit → P limit
-limit_guessed line P all (limits.Length n) (fits, is) = subst (λ n. P (limits.Length n)) (ap (λ l. digits_value 10 (drop 7 l)) is ∙ value_of_decimal n (omega (arith, fits))) all.0
+limit_guessed : (line : List ℕ) (P : Limit → Type 0) → AllByRecursion P (limit_guesses line) → (limit : Limit)
+    → SpellsLimit line limit → P limit
+limit_guessed line P all (limits.Length n) (fits, is) = subst (λ n. P (limits.Length n))
+    (ap (λ l. digits_value 10 (drop 7 l)) is ∙ value_of_decimal n (omega (arith, fits))) all.0
 limit_guessed line P all (limits.Memory budget entry_bytes) (fits, is) =
     let rest : drop 7 line ≡ pair_spelling budget entry_bytes = ap (drop 7) is in
     let first = first_number (drop 7 line) budget entry_bytes fits.0 fits.1 rest in
     let second = second_number (drop 7 line) budget entry_bytes fits.0 fits.1 rest in
-    subst (λ n. P (limits.Memory budget n)) second (subst (λ n. P (limits.Memory n (digits_value 10 (after_word (drop 7 line))))) first all.1.0)
-limit_guessed line P all (limits.Cost most) (fits, is) = subst (λ n. P (limits.Cost n)) (ap (λ l. digits_value 10 (drop 5 l)) is ∙ value_of_decimal most fits) all.1.1.0
+    subst (λ n. P (limits.Memory budget n)) second
+        (subst (λ n. P (limits.Memory n (digits_value 10 (after_word (drop 7 line))))) first all.1.0)
+limit_guessed line P all (limits.Cost most) (fits, is) = subst (λ n. P (limits.Cost n))
+    (ap (λ l. digits_value 10 (drop 5 l)) is ∙ value_of_decimal most fits) all.1.1.0
 limit_guessed line P all limits.Compact spells = all.1.1.1.0
 
 -- each line names a limit, or names none
-pub limit_or : (line : List ℕ) → ((limit : Limit) × SpellsLimit line limit) ⊎ ((limit : Limit) → SpellsLimit line limit → ⊥)
+pub limit_or : (line : List ℕ) → ((limit : Limit) × SpellsLimit line limit)
+    ⊎ ((limit : Limit) → SpellsLimit line limit → ⊥)
 limit_or line = by (any_of (SpellsLimit line) (limit_spells_or line) (limit_guesses line))
   where
-    by : ((limit : Limit) × SpellsLimit line limit) ⊎ AllByRecursion (λ limit. SpellsLimit line limit → ⊥) (limit_guesses line) → ((limit : Limit) × SpellsLimit line limit) ⊎ ((limit : Limit) → SpellsLimit line limit → ⊥)
+    by : ((limit : Limit) × SpellsLimit line limit) ⊎ AllByRecursion (λ limit. SpellsLimit line limit → ⊥)
+        (limit_guesses line) → ((limit : Limit) × SpellsLimit line limit)
+        ⊎ ((limit : Limit) → SpellsLimit line limit → ⊥)
     by (inl found) = inl found
-    by (inr none) = inr (λ limit spells. limit_guessed line (λ limit. SpellsLimit line limit → ⊥) none limit spells spells)
+    by (inr none) = inr (λ limit spells. limit_guessed line (λ limit. SpellsLimit line limit
+        → ⊥) none limit spells spells)

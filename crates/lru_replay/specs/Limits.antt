@@ -44,4 +44,5 @@ module _ {S : Type 0} where
 
   -- the limiter has an answer to each pair that is offered
   abbrev pub AlwaysOffers : Offers ℕ ℕ S ℕ → Type 0
-  AlwaysOffers offers = (s : S) (count key value : ℕ) → (t : S) × (given : Option (ℕ × ℕ)) × offers.on_insert s count key value t given
+  AlwaysOffers offers = (s : S) (count key value : ℕ) → (t : S) × (given : Option (ℕ × ℕ))
+      × offers.on_insert s count key value t given

@@ -1,5 +1,6 @@
 -- The lines of an input: each is ended by a line feed, which the last may lack.
-use Rattle.std.specs.Prelude.{◌≡◌, ◌≢◌, ℕ, ◌<◌, List, [], ◌∷◌, ◌++◌, ◌==◌, if◌then◌else◌, length, flat_map, Option, OnSome, IfSome, ◌⊎◌}
+use Rattle.std.specs.Prelude.{◌≡◌, ◌≢◌, ℕ, ◌<◌, List, [], ◌∷◌, ◌++◌, ◌==◌, if◌then◌else◌, length, flat_map, Option}
+use Rattle.std.specs.Prelude.{OnSome, IfSome, ◌⊎◌}
 use Rattle.std.specs.List.{AllByRecursion}
 use Rattle.std.specs.Io.KnownBytes.{Consumes, IsAtEnd}
 use Rattle.lru_replay.specs.declared.line.Piece.{Piece}
@@ -57,7 +58,8 @@ module _ (old new : Option (List ℕ)) where
 
   -- these lines were read with their line feeds, and a part of the next
   abbrev pub TakesLines : List (List ℕ) → List ℕ → Type 0
-  TakesLines lines part = AllByRecursion (Lacks 10) lines × Lacks 10 part × Consumes old new (flat_map fed lines ++ part)
+  TakesLines lines part = AllByRecursion (Lacks 10) lines × Lacks 10 part
+      × Consumes old new (flat_map fed lines ++ part)
 
   -- all that was left was read, and these are its lines
   abbrev pub TakesAll : List (List ℕ) → Type 0

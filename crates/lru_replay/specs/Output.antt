@@ -1,5 +1,6 @@
 -- What is written: the text of an answer, or a beginning of it where a write fails.
-use Rattle.std.specs.Prelude.{◌≡◌, ℕ, Bool, true, false, List, [], ◌∷◌, ◌++◌, Option, Some, None, Result, Ok, Err, decimal, codes}
+use Rattle.std.specs.Prelude.{◌≡◌, ℕ, Bool, true, false, List, [], ◌∷◌, ◌++◌, Option, Some, None, Result, Ok, Err}
+use Rattle.std.specs.Prelude.{decimal, codes}
 use Rattle.std.specs.Io.KnownBytes.{Appends}
 use Rattle.schnellru.specs.Lists.{IsFront}
 use Rattle.schnellru.specs.declared.map.reserve.ReserveError.{ReserveError}

@@ -10,7 +10,8 @@ use Rattle.lru_replay.specs.declared.outcome.ReplayError.{ReplayError}
 use Rattle.lru_replay.specs.declared.outcome.ReplayError.TheVariants as errors
 use Rattle.schnellru.specs.Lists.{IsFront}
 use Rattle.lru_replay.specs.Grammar.{SpellsLimit}
-use Rattle.lru_replay.specs.Limits.{length_rules, length_offers, memory_rules, cost_rules, cost_offers, no_rules, all_offers, no_cost, cost_told}
+use Rattle.lru_replay.specs.Limits.{length_rules, length_offers, memory_rules, cost_rules, cost_offers, no_rules}
+use Rattle.lru_replay.specs.Limits.{all_offers, no_cost, cost_told}
 use Rattle.lru_replay.specs.Lines.{lines_of, TakesFirst, TakesLines, TakesAll}
 use Rattle.lru_replay.specs.Maps.{empty, links_of_32_bits, links_of_64_bits}
 use Rattle.lru_replay.specs.Output.{no_limiter_text}
@@ -33,7 +34,8 @@ IsReplay lines text = (limit : Limit) × (first : List ℕ) × (others : List (L
 
 -- The first line names no limit, or there is none.
 abbrev pub NamesNoLimit : List (List ℕ) → Type 0
-NamesNoLimit lines = (limit : Limit) (first : List ℕ) (others : List (List ℕ)) → lines ≡ first ∷ others → SpellsLimit first limit → ⊥
+NamesNoLimit lines = (limit : Limit) (first : List ℕ) (others : List (List ℕ)) → lines ≡ first ∷ others
+    → SpellsLimit first limit → ⊥
 
 -- what is written of these lines, where nothing fails
 abbrev pub IsOutput : List (List ℕ) → List ℕ → Type 0

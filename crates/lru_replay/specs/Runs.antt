@@ -24,7 +24,8 @@ module _ {S : Type 0} (rules : Rules ℕ ℕ S) (offers : Offers ℕ ℕ S ℕ) 
       ⊎ (((call : Call) → SpellsCall line call → ⊥) × (answer ≡ bad) × (new ≡ old))
 
   -- The line is answered, and its answer line written, or a beginning of it where a write failed.
-  abbrev pub AnswersLine : Map S → List ℕ → Map S → Option (List ℕ) → Option (List ℕ) → Result (Unit {0}) ReplayError → Type 0
+  abbrev pub AnswersLine : Map S → List ℕ → Map S → Option (List ℕ) → Option (List ℕ) → Result (Unit {0}) ReplayError
+      → Type 0
   AnswersLine before line after old new result =
       (answer : Answer) × LineStep before line answer after × Writes old new result (answer_line answer)
 
@@ -33,7 +34,8 @@ module _ {S : Type 0} (rules : Rules ℕ ℕ S) (offers : Offers ℕ ℕ S ℕ) 
   abbrev pub IsRun : Map S → List (List ℕ) → List ℕ → Map S → Type 0
   IsRun old [] text new = (text ≡ []) × (new ≡ old)
   IsRun old (line ∷ lines) text new = (answer : Answer) × (middle : Map S) × (rest : List ℕ)
-      × LineStep old line answer middle × IsSized middle × (text ≡ answer_line answer ++ rest) × IsRun middle lines rest new
+      × LineStep old line answer middle × IsSized middle × (text ≡ answer_line answer ++ rest)
+          × IsRun middle lines rest new
 
   -- some run over the lines, from this map, has the text
   abbrev pub IsTextOf : Map S → List (List ℕ) → List ℕ → Type 0

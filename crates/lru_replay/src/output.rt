@@ -1,6 +1,7 @@
 //! The texts of answers, written piece by piece.
 ghost use Rattle.std.specs.Prelude.{◌≡◌, ℕ, Bool, Option, [], ◌∷◌, decimal};
-ghost use Rattle.lru_replay.specs.Output.{Writes, flag_text, value_text, left_text, pair_text, rest_text, pairs_text, reservation_text, figures_text, cost_text, named_text, taken_text};
+ghost use Rattle.lru_replay.specs.Output.{Writes, flag_text, value_text, left_text, pair_text, rest_text, pairs_text};
+ghost use Rattle.lru_replay.specs.Output.{reservation_text, figures_text, cost_text, named_text, taken_text};
 
 use crate::figures::Figures;
 use crate::outcome::ReplayError;

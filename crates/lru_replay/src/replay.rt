@@ -8,7 +8,8 @@ ghost use Rattle.schnellru.specs.State.{IsSized};
 ghost use Rattle.lru_replay.specs.Lines.{lines_of, TakesFirst};
 ghost use Rattle.lru_replay.specs.Maps.{empty};
 ghost use Rattle.lru_replay.specs.Output.{Writes, answer_text, no_limiter_text};
-ghost use Rattle.lru_replay.specs.Replay.{IsTextUnder, NamesNoLimit, WritesReplay, WritesSoFar, WritesCut, WritesCutSoFar, Replays};
+ghost use Rattle.lru_replay.specs.Replay.{IsTextUnder, NamesNoLimit, WritesReplay, WritesSoFar, WritesCut};
+ghost use Rattle.lru_replay.specs.Replay.{WritesCutSoFar, Replays};
 ghost use Rattle.lru_replay.specs.Runs.{LineStep, AnswersLine, IsTextOf, Answers};
 ghost use Rattle.lru_replay.specs.Steps.{Answer};
 

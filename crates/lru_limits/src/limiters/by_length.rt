@@ -10,8 +10,8 @@ use std::marker::Model;
 
 /// Limits the number of pairs. A clause sees it as that number.
 ///
-/// A map under it has at most `max_length` pairs after each call, as long as nobody lowers it, and after each insert that
-/// places or replaces. It refuses an element only where `max_length` is 0.
+/// A map under it has at most `max_length` pairs after each call, as long as nobody lowers it, and after each insert
+/// that places or replaces. It refuses an element only where `max_length` is 0.
 ///
 /// ```
 /// let limiter = ByLength::new(3);

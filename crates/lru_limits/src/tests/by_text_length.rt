@@ -1,8 +1,9 @@
-//! A limiter of one's own, with its account: by the length of the texts that are the values of a map. `docs/LIMITERS.md`
-//! explains it.
+//! A limiter of one's own, with its account: by the length of the texts that are the values of a map.
+//! `docs/LIMITERS.md` explains it.
 ghost use Rattle.std.specs.Prelude.{◌≡◌, ◌+◌, ◌-◌, true, Some, None, nat_lt, string_len, if◌then◌else◌, refl};
 ghost use Rattle.lru_limits.specs.Budget.{can_add};
-ghost use Rattle.lru_limits.specs.Stores.{HandsOver, answers, given-names, given-adds, refused-keeps, replaced-exchanges};
+ghost use Rattle.lru_limits.specs.Stores.{HandsOver, answers, given-names, given-adds, refused-keeps};
+ghost use Rattle.lru_limits.specs.Stores.{replaced-exchanges};
 
 use crate::{Insertion, Limiter, LookupKey, Summing};
 use std::alloc::{AllocError, Global};

@@ -49,7 +49,8 @@ impl Limiter<String, u32> for Counting {
 
 impl<'a> Insertion<String, u32, InsertKey<'a>> for Counting {
     ghost offers = { record {
-      on_insert = λ s length i v t given. (t ≡ record s { inserts = min (s.inserts + 1) 4294967295 }) × GivesText i.0.now v given;
+      on_insert = λ s length i v t given. (t ≡ record s { inserts = min (s.inserts + 1) 4294967295 })
+          × GivesText i.0.now v given;
       may_lack = λ s length i v. ⊤;
       on_replace = λ s length k i v w. replaces (record s { replacements = min (s.replacements + 1) 4294967295 }) k v w;
     } };

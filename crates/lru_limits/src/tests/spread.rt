@@ -1,8 +1,8 @@
 //! How evenly the hashes of regular keys fall on the groups and the tags of a table.
 //!
 //! Under a hash that were drawn at random, each key would fall on each of `places` with the same chance, so the keys of
-//! one place would be binomial: of mean `keys / places` and variance `keys * (places - 1) / places / places`. Each count
-//! has to be at most the mean and six standard deviations.
+//! one place would be binomial: of mean `keys / places` and variance `keys * (places - 1) / places / places`. Each
+//! count has to be at most the mean and six standard deviations.
 use crate::RandomState;
 use std::alloc::{AllocError, Global};
 use std::hash::BuildHasher;
@@ -31,7 +31,8 @@ fn is_even(counts: &[u64], keys: usize) -> bool {
     sum == keys
 }
 
-// A table of so many groups of 16 buckets, where a hash begins at the bucket of its low bits and has its top 7 bits as tag.
+// A table of so many groups of 16 buckets, where a hash begins at the bucket of its low bits and has its top 7 bits as
+// tag.
 fn is_spread(alloc: Global, keys: &[u64], groups: usize) -> Result<bool, AllocError> {
     for words in [[1, 2, 3, 4], [11, 22, 33, 44]] {
         let state = RandomState::with_seeds(words);

@@ -36,7 +36,7 @@ counted n more = omega arith
 
 module _ {K V S H : Type 0} where
   -- some pairs can leave, so that each gives its room back
-  some_leave : (old : State K V S H) (c : Contents K V S) → IsSized old → length c.pairs ≤ length old.pairs
+  pub some_leave : (old : State K V S H) (c : Contents K V S) → IsSized old → length c.pairs ≤ length old.pairs
       → (new : State K V S H) × Leaves old c new × IsSized new
           × (length c.pairs + room new ≡ length old.pairs + room old)
   some_leave old c ok fewer = elim (dec_lt (length c.pairs) (length old.pairs)) [

@@ -9,4 +9,5 @@ returns-in_err-write_bytes g c =
     rw (p.1, p.2) (failed_front _ _ c.args.name.now (decimal c.args.number) _ c.in_err-write_bytes.ensures)
 
 pub returns : goal.returns
-returns g c = writes_after _ _ _ c.args.name.now (decimal c.args.number) c.write_number.result c.in_ok-write_bytes.ensures c.write_number.ensures
+returns g c = writes_after _ _ _ c.args.name.now
+    (decimal c.args.number) c.write_number.result c.in_ok-write_bytes.ensures c.write_number.ensures
