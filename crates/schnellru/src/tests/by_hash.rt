@@ -33,7 +33,7 @@ fn a_peek_by_hash(rt: HostRuntime) -> Result<(), Fail> {
 fn a_get_by_hash_promotes(rt: HostRuntime) -> Result<(), Fail> {
     let mut map = three(rt.alloc())?;
     assert_eq!(rt; map.get_by_hash(HASH, |key, _| *key == 1).copied(), Some(10));
-    assert_eq!(rt; pairs(rt.alloc(), &map)?.as_slice(), &[(1, 10), (3, 30), (2, 20)]);
+    assert_eq!(rt; pairs(rt.alloc(), &map)?.as_slice(), [(1, 10), (3, 30), (2, 20)].as_slice());
     assert!(rt; map.get_by_hash(HASH, |_, value| *value == 40).is_none());
     assert_eq!(rt; ends(&map), (Some(1), Some(2)));
     Ok(())
@@ -45,7 +45,7 @@ fn a_value_is_written_by_hash(rt: HostRuntime) -> Result<(), Fail> {
     if let Some(value) = map.peek_by_hash_mut(HASH, |_, value| *value == 20) {
         *value = 200;
     }
-    assert_eq!(rt; pairs(rt.alloc(), &map)?.as_slice(), &[(3, 30), (2, 200), (1, 10)]);
+    assert_eq!(rt; pairs(rt.alloc(), &map)?.as_slice(), [(3, 30), (2, 200), (1, 10)].as_slice());
     Ok(())
 }
 

@@ -46,7 +46,7 @@ fn a_drain_that_is_forgotten_leaves_the_rest(rt: HostRuntime) -> Result<(), Fail
     assert_eq!(rt; drain.next(), Some((3, 3)));
     assert_eq!(rt; drain.next_back(), Some((1, 1)));
     forget(drain);
-    assert_eq!(rt; pairs(rt.alloc(), &map)?.as_slice(), &[(2, 2)]);
+    assert_eq!(rt; pairs(rt.alloc(), &map)?.as_slice(), [(2, 2)].as_slice());
     assert_eq!(rt; map.limiter().cost(), 2);
     Ok(())
 }

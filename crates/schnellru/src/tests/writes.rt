@@ -25,7 +25,7 @@ fn a_walk_that_writes(rt: HostRuntime) -> Result<(), Fail> {
     drop(walk);
     assert_eq!(rt;
         pairs(rt.alloc(), &map)?.as_slice(),
-        &[(4, 400), (3, 30), (2, 20), (1, 100)]
+        [(4, 400), (3, 30), (2, 20), (1, 100)].as_slice()
     );
     Ok(())
 }
