@@ -120,7 +120,8 @@ module _ {S : Type 0} (rules : Rules ℕ ℕ S) (offers : Offers ℕ ℕ S ℕ) 
   some_pop_newest : CanEnd calls.PopNewest
   some_pop_newest =
       let result = left_of rules old.limiter (first old.pairs) in
-      let (new, leaves, sized, freed) = some_leave old (pop_first rules (contents old)) ok (length-without_first old.pairs) in
+      let (new, leaves, sized, freed) = some_leave old (pop_first rules (contents old)) ok
+          (length-without_first old.pairs) in
       (pair result, new, (result, record { pair = refl; state = leaves }, refl), sized)
 
   fewer_left : (n : ℕ) (c : Contents ℕ ℕ S) → length (pops_first rules n c).pairs ≤ length c.pairs
@@ -130,7 +131,8 @@ module _ {S : Type 0} (rules : Rules ℕ ℕ S) (offers : Offers ℕ ℕ S ℕ) 
   some_drain : (n : ℕ) → CanEnd (calls.Drain n)
   some_drain n =
       let pairs = newest_given rules n (contents old) ++ [] in
-      let (mid, leaves, sized, freed) = some_leave old (pops_first rules n (contents old)) ok (fewer_left n (contents old)) in
+      let (mid, leaves, sized, freed) = some_leave old (pops_first rules n (contents old)) ok
+          (fewer_left n (contents old)) in
       (listed pairs, cleared rules mid, (pairs, record { pairs = refl; state = (mid, leaves, refl) }, refl),
           cleared_sized rules mid sized)
 
