@@ -50,3 +50,21 @@ pub fn operations(count: usize, keys: u64) -> Vec<u64> {
         })
         .collect()
 }
+
+/// Keys below a bound, of which small ones come often: each is a drawn number below a drawn bound.
+pub fn skewed(count: usize, keys: u64) -> Vec<u64> {
+    let mut state = 88172645463325252u64;
+    let mut draw = || {
+        state ^= state << 13;
+        state ^= state >> 7;
+        state ^= state << 17;
+        state >> 8
+    };
+    (0..count)
+        .map(|_| {
+            let bound = draw() % keys + 1;
+            let bound = draw() % bound + 1;
+            draw() % bound
+        })
+        .collect()
+}

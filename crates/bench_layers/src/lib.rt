@@ -139,3 +139,110 @@ fn grow(alloc: Global, count: u64) -> Result<u64, AllocError> {
 pub extern "C" fn rattle_map_growth(alloc: Global, count: u64) -> u64 {
     grow(alloc, count).unwrap_or(0)
 }
+
+type Free = LruMap<u64, u64, UnlimitedCompact>;
+
+/// A map without a limit, of the keys below a count.
+fn filled(alloc: Global, count: u64) -> Result<Free, AllocError> {
+    let mut map: Free = LruMap::new(alloc, UnlimitedCompact, [1, 2, 3, 4], 16);
+    for key in 0..count {
+        map.insert(key, key)?;
+    }
+    Ok(map)
+}
+
+/// Takes each pair out by its key and puts it back, so many times.
+fn remove_all(alloc: Global, count: u64, rounds: u64) -> Result<u64, AllocError> {
+    let mut map = filled(alloc, count)?;
+    let mut sum = 0u64;
+    for _ in 0..rounds {
+        for key in 0..count {
+            let value = map.remove(&key).unwrap_or(0);
+            sum = sum.wrapping_mul(31).wrapping_add(value);
+            map.insert(key, sum)?;
+        }
+    }
+    Ok(sum)
+}
+
+/// A sum over the values that so many rounds of removals took out, or 0 for want of memory.
+#[unsafe(no_mangle)]
+pub extern "C" fn rattle_map_removals(alloc: Global, count: u64, rounds: u64) -> u64 {
+    remove_all(alloc, count, rounds).unwrap_or(0)
+}
+
+/// Takes the oldest pair out and puts it back, once for each pair, so many times.
+fn pop_all(alloc: Global, count: u64, rounds: u64) -> Result<u64, AllocError> {
+    let mut map = filled(alloc, count)?;
+    let mut sum = 0u64;
+    for _ in 0..rounds {
+        for _ in 0..count {
+            let (key, value) = map.pop_oldest().unwrap_or((0, 0));
+            sum = sum.wrapping_mul(31).wrapping_add(value);
+            map.insert(key, sum)?;
+        }
+    }
+    Ok(sum)
+}
+
+/// A sum over the values that so many rounds of pops took out, or 0 for want of memory.
+#[unsafe(no_mangle)]
+pub extern "C" fn rattle_map_pops(alloc: Global, count: u64, rounds: u64) -> u64 {
+    pop_all(alloc, count, rounds).unwrap_or(0)
+}
+
+/// Walks over the pairs, newest first, so many times.
+fn walk_all(alloc: Global, count: u64, rounds: u64) -> Result<u64, AllocError> {
+    let map = filled(alloc, count)?;
+    let mut sum = 0u64;
+    for _ in 0..rounds {
+        for (_, value) in map.iter() {
+            sum = sum.wrapping_mul(31).wrapping_add(*value);
+        }
+    }
+    Ok(sum)
+}
+
+/// A sum over the values that so many walks gave, or 0 for want of memory.
+#[unsafe(no_mangle)]
+pub extern "C" fn rattle_map_walks(alloc: Global, count: u64, rounds: u64) -> u64 {
+    walk_all(alloc, count, rounds).unwrap_or(0)
+}
+
+/// Copies a map and drains the copy, so many times.
+fn drain_all(alloc: Global, count: u64, rounds: u64) -> Result<u64, AllocError> {
+    let map = filled(alloc, count)?;
+    let mut sum = 0u64;
+    for _ in 0..rounds {
+        let mut copy = map.clone()?;
+        for (_, value) in copy.drain() {
+            sum = sum.wrapping_mul(31).wrapping_add(value);
+        }
+    }
+    Ok(sum)
+}
+
+/// A sum over the values that so many drains of copies gave, or 0 for want of memory.
+#[unsafe(no_mangle)]
+pub extern "C" fn rattle_map_copies(alloc: Global, count: u64, rounds: u64) -> u64 {
+    drain_all(alloc, count, rounds).unwrap_or(0)
+}
+
+/// Gets each key in a map of at most so many pairs, or inserts it with itself as its value.
+fn get_or_insert_all(alloc: Global, length: u32, keys: &[u64]) -> Result<u64, AllocError> {
+    let mut map: LruMap<u64, u64> = LruMap::new(alloc, ByLength::new(length), [1, 2, 3, 4], 16);
+    let mut sum = 0u64;
+    for key in keys {
+        let key = *key;
+        if let Some(value) = map.get_or_insert(key, || key)? {
+            sum = sum.wrapping_mul(31).wrapping_add(*value);
+        }
+    }
+    Ok(sum)
+}
+
+/// A sum over the values that were got, or 0 for want of memory.
+#[unsafe(no_mangle)]
+pub extern "C" fn rattle_map_gets(alloc: Global, length: u32, keys: &[u64]) -> u64 {
+    get_or_insert_all(alloc, length, keys).unwrap_or(0)
+}

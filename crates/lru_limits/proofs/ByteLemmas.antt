@@ -46,7 +46,7 @@ word-high_bytes n fits =
 pub word-of_4_to_7 : (bs : List ℕ) (first last : ℕ) → ((k : ℕ) → get_or bs k 0 < 256) → 4 ≤ length bs → length bs < 8
     → first ≡ get_or bs 0 0 + get_or bs 1 0 * 256 + get_or bs 2 0 * 65536 + get_or bs 3 0 * 16777216
     → last ≡ get_or bs (length bs - 4) 0 + get_or bs (length bs - 3) 0 * 256 + get_or bs (length bs - 2) 0 * 65536
-        + get_or bs (length bs - 1) 0 * 16777216
+    + get_or bs (length bs - 1) 0 * 16777216
     → first + last / 2 ^ (8 * (8 - length bs)) * 4294967296 % 18446744073709551616 ≡ from_le_bytes w64 bs
 word-of_4_to_7 (a ∷ b ∷ c ∷ d ∷ []) first last small four few f l =
     let at_0 : a < 256 = small 0 in

@@ -19,7 +19,7 @@ number-lawful input = record {
 pub field-lawful : {Q K A B : Type 0} {names : A → B → Bool} {eq : B → B → Bool} {query_input : A
     → List (List ℕ)} {key_input : B → List (List ℕ)} (of_q : Q → A) (of_k : K → B)
     → IsLookup names eq query_input key_input → IsLookup (λ q k. names (of_q q) (of_k k)) (λ x y. eq (of_k x) (of_k y))
-        (λ q. query_input (of_q q)) (λ k. key_input (of_k k))
+    (λ q. query_input (of_q q)) (λ k. key_input (of_k k))
 field-lawful of_q of_k laws = record {
   writes = λ q k. laws.writes (of_q q) (of_k k);
   one = λ q x y. laws.one (of_q q) (of_k x) (of_k y);
@@ -33,7 +33,7 @@ pub both-lawful : {Q K : Type 0} {names also : Q → K → Bool} {eq also_eq : K
     → List (List ℕ)} {key_input then_key : K → List (List ℕ)}
     → IsLookup names eq query_input key_input → IsLookup also also_eq then_query then_key
     → IsLookup (λ q k. names q k && also q k) (λ x y. eq x y && also_eq x y) (λ q. query_input q ++ then_query q)
-        (λ k. key_input k ++ then_key k)
+    (λ k. key_input k ++ then_key k)
 both-lawful {names} {also} first second = record {
   writes = λ q k named.
       let both = both_true (names q k) (also q k) named in

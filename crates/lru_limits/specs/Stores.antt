@@ -84,6 +84,6 @@ refused-keeps account false s s' i v t h = ap account h.limiter
 pub replaced-exchanges : {K V S : Type 0} (cost : K → V → ℕ) (account : S → ℕ) (accepts : Bool) (s s' : S) (k : K)
     (v w : V) → account s' ≡ account s - cost k v + cost k w
     → cost k v ≤ account s → account (if accepts then s' else s) ≡ account s - cost k v
-        + cost k (if accepts then w else v)
+    + cost k (if accepts then w else v)
 replaced-exchanges cost account true s s' k v w changed enough = changed
 replaced-exchanges cost account false s s' k v w changed enough = omega arith

@@ -41,8 +41,13 @@ impl Model for RandomState {
 
     ghost view = { λ s. record { state = s.state; word_key = s.word_key; rest_key = s.rest_key; end_key = s.end_key } };
 
-    ghost inverse = { λ s. record { state = s.state; word_key = s.word_key; rest_key = s.rest_key; end_key =
-        s.end_key } };
+    ghost inverse = { λ s. record {
+      state = s.state;
+      word_key = s.word_key;
+      rest_key = s.rest_key;
+      end_key =
+          s.end_key;
+    } };
 }
 
 impl RandomState {
@@ -163,8 +168,10 @@ impl DefaultHasher {
     fn join_rest(&mut self, bytes: u64, count: u64)
         requires few { count < 8 }
         requires short { bytes < 2 ^ 56 }
-        ensures { self.new ≡ record self.old { state = joined self.old.rest_key self.old.state
-            (bytes + count * 2 ^ 56) } }
+        ensures { self.new ≡ record self.old {
+          state = joined self.old.rest_key self.old.state
+              (bytes + count * 2 ^ 56);
+        } }
     {
         self.state = folded(self.state ^ (bytes + (count << 56)), self.rest_key);
     }

@@ -35,8 +35,11 @@ module _ {S : Type 0} (rules : Rules ℕ ℕ S) (offers : Offers ℕ ℕ S ℕ) 
     all_answered (lines, text, run, reads, wrote) taken none = (
       IfSome_then r₀ (lines_at_end r₀ r₁ r₂ lines line reads taken) (λ input all. (
         text,
-        (now, subst (λ ls. IsRun rules offers told old ls text now)
-            (sym (all ∙ ap (λ l. lines ++ lines_of l) none ∙ append-nil lines)) run),
+        (
+          now,
+          subst (λ ls. IsRun rules offers told old ls text now)
+              (sym (all ∙ ap (λ l. lines ++ lines_of l) none ∙ append-nil lines)) run,
+        ),
         wrote,
       )),
       Consumes_end r₀ r₁ r₂ _ reads.2 taken.2,
@@ -64,8 +67,11 @@ module _ {S : Type 0} (rules : Rules ℕ ℕ S) (offers : Offers ℕ ℕ S ℕ) 
       lines ++ line ∷ [],
       text ++ answer_line answer,
       text ++ part,
-      (new, run-append rules offers told old lines text now (line ∷ []) (answer_line answer) new run
-          (run-one rules offers told now line answer new step sized)),
+      (
+        new,
+        run-append rules offers told old lines text now (line ∷ []) (answer_line answer) new run
+            (run-one rules offers told now line answer new step sized),
+      ),
       inl (takes_line_more r₀ r₁ r₂ lines line reads taken),
       (rest, ap (λ l. text ++ l) is ∙ sym (append_assoc text part rest)),
       Appends-trans w₀ w₁ w₂ text part wrote written,
@@ -76,16 +82,16 @@ module _ {S : Type 0} (rules : Rules ℕ ℕ S) (offers : Offers ℕ ℕ S ℕ) 
         → IfSome r₀ (λ input. lines_of input ≡ lines ++ line ∷ [])
     all_lines lines reads taken some =
         IfSome_then r₀ (lines_at_end r₀ r₁ r₂ lines line reads taken)
-            (λ input all. all ∙ ap (λ l. lines ++ l) (lines_of-last line taken.0 some))
+        (λ input all. all ∙ ap (λ l. lines ++ l) (lines_of-last line taken.0 some))
 
     -- the last line, which the input's end ended, was answered, or a write failed within its answer line
     pub last_answered : (result : Result (Unit {0}) ReplayError) → RunsSoFar old r₀ r₁ w₀ w₁ now → TakesRest r₁ r₂ line
         → 0 < length line
         → AnswersLine rules offers told now line new w₁ w₂ result
-            → Answers (IsTextOf rules offers told old) r₀ r₂ w₀ w₂ result
+        → Answers (IsTextOf rules offers told old) r₀ r₂ w₀ w₂ result
     last_answered (Ok u) (lines, text, run, reads, wrote) taken some (answer, step, answered) =
         let whole = run-append rules offers told old lines text now (line ∷ []) (answer_line answer) new run
-            (run-one rules offers told now line answer new step sized) in (
+        (run-one rules offers told now line answer new step sized) in (
           IfSome_then r₀ (all_lines lines reads taken some) (λ input all. (
             text ++ answer_line answer,
             (new, subst (λ ls. IsRun rules offers told old ls (text ++ answer_line answer) new) (sym all) whole),
@@ -96,12 +102,15 @@ module _ {S : Type 0} (rules : Rules ℕ ℕ S) (offers : Offers ℕ ℕ S ℕ) 
     last_answered (Err errors.Read) so_far taken some (answer, step, (same, part, front, written)) = absurd (cc same)
     last_answered (Err errors.Write) (lines, text, run, reads, wrote) taken some
         (answer, step, (same, part, (rest, is), written)) = (
-      lines ++ line ∷ [],
-      text ++ answer_line answer,
-      text ++ part,
-      (new, run-append rules offers told old lines text now (line ∷ []) (answer_line answer) new run
-          (run-one rules offers told now line answer new step sized)),
-      inr (Consumes_end r₀ r₁ r₂ _ reads.2 taken.2, all_lines lines reads taken some),
-      (rest, ap (λ l. text ++ l) is ∙ sym (append_assoc text part rest)),
-      Appends-trans w₀ w₁ w₂ text part wrote written,
-    )
+          lines ++ line ∷ [],
+          text ++ answer_line answer,
+          text ++ part,
+          (
+            new,
+            run-append rules offers told old lines text now (line ∷ []) (answer_line answer) new run
+                (run-one rules offers told now line answer new step sized),
+          ),
+          inr (Consumes_end r₀ r₁ r₂ _ reads.2 taken.2, all_lines lines reads taken some),
+          (rest, ap (λ l. text ++ l) is ∙ sym (append_assoc text part rest)),
+          Appends-trans w₀ w₁ w₂ text part wrote written,
+        )

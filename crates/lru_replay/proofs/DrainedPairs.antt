@@ -19,12 +19,12 @@ module _ {K V S : Type 0} (rules : Rules K V S) where
 
   pub newest_given-more : (n : ℕ) (c : Contents K V S) → newest_given rules (suc n) c
       ≡ newest_given rules n c
-          ++ option_to_list (left_of rules (pops_first rules n c).limiter (first (pops_first rules n c).pairs))
+      ++ option_to_list (left_of rules (pops_first rules n c).limiter (first (pops_first rules n c).pairs))
   newest_given-more zero c = append-nil (option_to_list (left_of rules c.limiter (first c.pairs)))
   newest_given-more (suc n) c =
       ap (λ l. option_to_list (left_of rules c.limiter (first c.pairs)) ++ l) (newest_given-more n (pop_first rules c))
       ∙ sym (append_assoc (option_to_list (left_of rules c.limiter (first c.pairs)))
-          (newest_given rules n (pop_first rules c)) _)
+      (newest_given rules n (pop_first rules c)) _)
 
   -- where no pair is left, nothing more is taken
   none_popped : (n : ℕ) (s : S) → pops_first rules n (record { pairs = []; limiter = s })
@@ -39,7 +39,7 @@ module _ {K V S : Type 0} (rules : Rules K V S) where
   -- so as many pops as there are pairs do what more of them do
   pub pops_enough : (n k : ℕ) (pairs : List (K × V)) (s : S) → k ≤ n → (k < n → length pairs ≤ k)
       → pops_first rules k (record { pairs = pairs; limiter = s })
-          ≡ pops_first rules n (record { pairs = pairs; limiter = s })
+      ≡ pops_first rules n (record { pairs = pairs; limiter = s })
   pops_enough zero zero pairs s most all = refl
   pops_enough zero (suc k) pairs s most all = absurd (omega arith)
   pops_enough (suc n) k [] s most all = none_popped k s ∙ sym (none_popped (suc n) s)
@@ -49,14 +49,14 @@ module _ {K V S : Type 0} (rules : Rules K V S) where
 
   pub given_enough : (n k : ℕ) (pairs : List (K × V)) (s : S) → k ≤ n → (k < n → length pairs ≤ k)
       → newest_given rules k (record { pairs = pairs; limiter = s })
-          ≡ newest_given rules n (record { pairs = pairs; limiter = s })
+      ≡ newest_given rules n (record { pairs = pairs; limiter = s })
   given_enough zero zero pairs s most all = refl
   given_enough zero (suc k) pairs s most all = absurd (omega arith)
   given_enough (suc n) k [] s most all = none_given k s ∙ sym (none_given (suc n) s)
   given_enough (suc n) zero (p ∷ pairs) s most all = let none = all (omega arith) in absurd (omega arith)
   given_enough (suc n) (suc k) (p ∷ pairs) s most all =
       ap (λ l. option_to_list (left_of rules s (Some p)) ++ l)
-          (given_enough n k pairs _ (omega arith) (λ less. let few = all (omega arith) in omega arith))
+      (given_enough n k pairs _ (omega arith) (λ less. let few = all (omega arith) in omega arith))
 
 -- the pairs with one space between them, and nothing for none
 abbrev pub spaced : List (ℕ × ℕ) → List ℕ
@@ -71,7 +71,7 @@ spaced-more (q ∷ pairs) None = ap (λ l. pair_text q ++ rest_text l) (append-n
     ∙ sym (append-nil (pair_text q ++ rest_text pairs))
 spaced-more (q ∷ pairs) (Some p) =
     ap (λ l. pair_text q ++ l) (rest_text-append pairs (p ∷ [])
-        ∙ ap (λ l. rest_text pairs ++ l) (append-nil (32 ∷ pair_text p)))
+    ∙ ap (λ l. rest_text pairs ++ l) (append-nil (32 ∷ pair_text p)))
     ∙ sym (append_assoc (pair_text q) (rest_text pairs) (32 ∷ pair_text p))
 
 -- whether there are pairs, with the next

@@ -75,7 +75,7 @@ module _ {S : Type 0} (rules : Rules ℕ ℕ S) (offers : Offers ℕ ℕ S ℕ) 
       → (u : List ℕ) × IsTextOf rules offers told old (lines ++ more) (text ++ u)
   text_goes_on lines more text (now, run) =
       let (u, new, others) = some_run rules offers told offered now
-          (run_sized rules offers told old lines text now sized run) more in
+      (run_sized rules offers told old lines text now sized run) more in
       (u, (new, run-append rules offers told old lines text now more u new run others))
 
 under_goes_on : (limit : Limit) (lines more : List (List ℕ)) (text : List ℕ) → IsTextUnder limit lines text
@@ -87,7 +87,7 @@ under_goes_on (limits.Memory budget entry_bytes) = text_goes_on memory_rules all
 under_goes_on (limits.Cost most) =
     let budget : Budget = record { limit = most; cost = 0 } in
     text_goes_on cost_rules cost_offers cost_told cost_always (empty budget 32 links_of_64_bits)
-        (empty_is_sized budget 32 links_of_64_bits)
+    (empty_is_sized budget 32 links_of_64_bits)
 under_goes_on limits.Compact = text_goes_on no_rules all_offers no_cost all_always
     (empty (record {}) 32 links_of_32_bits) (empty_is_sized (record {}) 32 links_of_32_bits)
 
@@ -116,9 +116,14 @@ output_goes_on [] more text none = let (u, is) = some_output more in
 output_goes_on (line ∷ lines) more text (inl (limit, first, others, same, spells, is)) =
     let (u, goes) = under_goes_on limit others more text is in
     (u, inl (limit, first, others ++ more, ap (λ ls. ls ++ more) same, spells, goes))
-output_goes_on (line ∷ lines) more text (inr (none, is)) =
-    ([], inr (none_named (line ∷ lines ++ more) (lines ++ more) line refl
-        (λ limit spells. none limit line lines refl spells), append-nil text ∙ is))
+output_goes_on (line ∷ lines) more text (inr (none, is)) = (
+  [],
+  inr (
+    none_named (line ∷ lines ++ more) (lines ++ more) line refl
+        (λ limit spells. none limit line lines refl spells),
+    append-nil text ∙ is,
+  ),
+)
 
 -- What is cut within what the lines read write is cut within what all lines write.
 pub cut_of_all : (a b w v : Option (List ℕ)) → WritesCutSoFar a b w v → WritesCut a w v
@@ -173,17 +178,27 @@ pub flush_failed : (a b w v : Option (List ℕ)) (end : Result ReplayEnd ReplayE
 flush_failed None b w v end h = tt
 flush_failed (Some x) b w v (Ok ends.Done) ((text, is, wrote), at_end) =
     (lines_of x, text, text, inl ((at_end, refl), inl is), all_of text, wrote)
-flush_failed (Some x) b w v (Ok ends.NoLimiter) (none, (line, inr rest), wrote) =
-    (lines_of x, no_limiter_text, no_limiter_text, inl ((rest.2, refl), inr (none, refl)), all_of no_limiter_text,
-    wrote)
+flush_failed (Some x) b w v (Ok ends.NoLimiter) (none, (line, inr rest), wrote) = (
+  lines_of x,
+  no_limiter_text,
+  no_limiter_text,
+  inl ((rest.2, refl), inr (none, refl)),
+  all_of no_limiter_text,
+  wrote,
+)
 flush_failed (Some x) None w v (Ok ends.NoLimiter) (none, (line, inl fed), wrote) = absurd fed.1
 flush_failed (Some x) (Some y) w v (Ok ends.NoLimiter) (none, (line, inl fed), wrote) =
     let first : lines_of x ≡ line ∷ lines_of y = ap lines_of fed.1 ∙ lines_of-fed line y fed.0 in
     let unnamed : (limit : Limit) → SpellsLimit line limit → ⊥ = λ limit spells. none limit line
-        (lines_of y) first spells in
-    (line ∷ [], no_limiter_text, no_limiter_text, inr
-        ([], one_taken x y line fed, inr (none_named (line ∷ []) [] line refl unnamed, refl)), all_of no_limiter_text,
-        wrote)
+    (lines_of y) first spells in (
+      line ∷ [],
+      no_limiter_text,
+      no_limiter_text,
+      inr
+          ([], one_taken x y line fed, inr (none_named (line ∷ []) [] line refl unnamed, refl)),
+      all_of no_limiter_text,
+      wrote,
+    )
   where
     one_taken : (x y line : List ℕ) → TakesFed (Some x) (Some y) line → TakesLines (Some x) (Some y) (line ∷ []) []
     one_taken x y line fed = takes_line_before (Some x) (Some y) (Some y) line [] [] fed (tt, tt, refl)
@@ -218,9 +233,19 @@ module _ (a b w v : Option (List ℕ)) (ending : Ending) (first : List ℕ)
           → IfSome a (λ input. NamesNoLimit (lines_of input)) → WritesCutSoFar a b w v
       by None b ending taken names = tt
       by (Some x) None endings.Feed fed names = absurd fed.1
-      by (Some x) (Some y) endings.Feed fed names =
-          (first ∷ [], no_limiter_text, part, inr ([], takes_line_before (Some x) (Some y) (Some y) first [] [] fed
-              (tt, tt, refl), inr (none_named (first ∷ []) [] first refl none, refl)), front, wrote)
+      by (Some x) (Some y) endings.Feed fed names = (
+        first ∷ [],
+        no_limiter_text,
+        part,
+        inr (
+          [],
+          takes_line_before (Some x) (Some y) (Some y) first [] [] fed
+              (tt, tt, refl),
+          inr (none_named (first ∷ []) [] first refl none, refl),
+        ),
+        front,
+        wrote,
+      )
       by (Some x) b endings.InputEnd rest names =
           (lines_of x, no_limiter_text, part, inl ((rest.0.2, refl), inr (names, refl)), front, wrote)
       by (Some x) b endings.Nothing rest names =
@@ -246,8 +271,18 @@ pub done_first : (a b w : Option (List ℕ)) (ending : Ending) (first : List ℕ
 done_first a b w ending first limit spells not_fed line =
     let taken = rest_taken a b ending first not_fed line in (
       only_first a b first (λ input. (text : List ℕ) × IsReplay (lines_of input) text × Appends w w text) taken
-          (λ input same. ([], (limit, first, [], same ∙ lines_of-last first taken.0 (spelled_some first limit spells),
-              spells, no_lines_under limit), Appends-nil w)),
+          (λ input same. (
+            [],
+            (
+              limit,
+              first,
+              [],
+              same ∙ lines_of-last first taken.0 (spelled_some first limit spells),
+              spells,
+              no_lines_under limit,
+            ),
+            Appends-nil w,
+          )),
       taken.2,
     )
 
@@ -270,12 +305,28 @@ module _ (a b c w v : Option (List ℕ)) (first : List ℕ) (limit : Limit) (spe
   others_failed errors.Read (lines, text, part, is, reads, wrote) =
       (first ∷ lines, text, part, (limit, spells, is), takes_line_before a b c first lines part taken reads, wrote)
   others_failed errors.Write (lines, text, part, is, inl reads, front, wrote) =
-      if_known a (λ input.
-          (first ∷ lines, text, part, inr ([], takes_line_before a b c first lines [] taken reads, inl
-          (limit, first, lines, refl, spells, is)), front, wrote))
+      if_known a (λ input. (
+        first ∷ lines,
+        text,
+        part,
+        inr (
+          [],
+          takes_line_before a b c first lines [] taken reads,
+          inl
+              (limit, first, lines, refl, spells, is),
+        ),
+        front,
+        wrote,
+      ))
   others_failed errors.Write (lines, text, part, is, inr (at_end, all), front, wrote) =
       let whole = after_first a b first _ (λ input. lines_of input ≡ first ∷ lines) taken (λ rest input is all. is
-          ∙ ap (λ ls. first ∷ ls) all) all in
-      if_known a (λ input.
-          (first ∷ lines, text, part, inl
-          ((Consumes_end a b c _ taken.1 at_end, whole), inl (limit, first, lines, refl, spells, is)), front, wrote))
+      ∙ ap (λ ls. first ∷ ls) all) all in
+      if_known a (λ input. (
+        first ∷ lines,
+        text,
+        part,
+        inl
+            ((Consumes_end a b c _ taken.1 at_end, whole), inl (limit, first, lines, refl, spells, is)),
+        front,
+        wrote,
+      ))

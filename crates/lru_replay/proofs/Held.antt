@@ -22,8 +22,13 @@ short_number n h = omega (arith, length-decimal-le 20 n (omega arith) (omega (ar
 
 -- no line that says something is longer than the longest
 short_call : (call : Call) → FitsCall call → length (call_spelling call) ≤ LONGEST
-short_call (calls.Insert k v) h = omega (arith, short_number k h.0, short_number v h.1, length-append (decimal k)
-    (32 ∷ decimal v))
+short_call (calls.Insert k v) h = omega (
+  arith,
+  short_number k h.0,
+  short_number v h.1,
+  length-append (decimal k)
+      (32 ∷ decimal v),
+)
 short_call (calls.Get k) h = omega (arith, short_number k h)
 short_call (calls.Peek k) h = omega (arith, short_number k h)
 short_call (calls.Remove k) h = omega (arith, short_number k h)
@@ -37,8 +42,12 @@ short_call calls.List h = omega arith
 
 short_limit : (limit : Limit) → FitsLimit limit → length (limit_spelling limit) ≤ LONGEST
 short_limit (limits.Length n) h = omega (arith, short_number n (omega (arith, h)))
-short_limit (limits.Memory budget entry_bytes) h = omega (arith, short_number budget h.0, short_number entry_bytes h.1,
-    length-append (decimal budget) (32 ∷ decimal entry_bytes))
+short_limit (limits.Memory budget entry_bytes) h = omega (
+  arith,
+  short_number budget h.0,
+  short_number entry_bytes h.1,
+  length-append (decimal budget) (32 ∷ decimal entry_bytes),
+)
 short_limit (limits.Cost most) h = omega (arith, short_number most h)
 short_limit limits.Compact h = omega arith
 
@@ -60,10 +69,12 @@ module _ {S : Type 0} (rules : Rules ℕ ℕ S) (offers : Offers ℕ ℕ S ℕ) 
   pub whole_answer : (result : Result (Unit {0}) ReplayError) (old new : Map S) (held line : List ℕ)
       (from to : Option (List ℕ)) → held ≡ take HELD line
       → AnswersLine rules offers told old held new from to result
-          → AnswersLine rules offers told old line new from to result
-  whole_answer result old new held line from to is (answer, step, written) =
-      (answer, whole_step old line answer new (subst (λ l. LineStep rules offers told old l answer new) is step),
-      written)
+      → AnswersLine rules offers told old line new from to result
+  whole_answer result old new held line from to is (answer, step, written) = (
+    answer,
+    whole_step old line answer new (subst (λ l. LineStep rules offers told old l answer new) is step),
+    written,
+  )
 
 -- and names the limit that the line names
 pub whole_limit : (line : List ℕ) (limit : Limit) → SpellsLimit (take HELD line) limit → SpellsLimit line limit

@@ -47,16 +47,22 @@ takes_line_more a b c lines line (lack, none, p) (lacks, q) =
 -- and a part of the next
 pub takes_part_more : (a b c : Option (List ℕ)) (lines : List (List ℕ)) (part : List ℕ) → TakesLines a b lines []
     → TakesPart b c part → TakesLines a c lines part
-takes_part_more a b c lines part (lack, none, p) (lacks, q) =
-    (lack, lacks, subst (Consumes a c) (ap (λ l. l ++ part) (append-nil (flat_map fed lines)))
-    (Consumes-trans a b c _ _ p q))
+takes_part_more a b c lines part (lack, none, p) (lacks, q) = (
+  lack,
+  lacks,
+  subst (Consumes a c) (ap (λ l. l ++ part) (append-nil (flat_map fed lines)))
+      (Consumes-trans a b c _ _ p q),
+)
 
 -- after the first line, the others
 pub takes_line_before : (a b c : Option (List ℕ)) (first : List ℕ) (lines : List (List ℕ)) (part : List ℕ)
     → TakesFed a b first → TakesLines b c lines part → TakesLines a c (first ∷ lines) part
-takes_line_before a b c first lines part (lacks, p) (lack, none, q) =
-    ((lacks, lack), none, subst (Consumes a c) (sym (append_assoc (fed first) (flat_map fed lines) part))
-        (Consumes-trans a b c (fed first) (flat_map fed lines ++ part) p q))
+takes_line_before a b c first lines part (lacks, p) (lack, none, q) = (
+  (lacks, lack),
+  none,
+  subst (Consumes a c) (sym (append_assoc (fed first) (flat_map fed lines) part))
+      (Consumes-trans a b c (fed first) (flat_map fed lines ++ part) p q),
+)
 
 -- the lines of the input are those that were read, and those of what is left
 pub lines_left : (x y : List ℕ) (lines : List (List ℕ)) (part : List ℕ) → TakesLines (Some x) (Some y) lines part

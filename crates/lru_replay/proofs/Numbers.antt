@@ -37,10 +37,12 @@ IfSome-parsed {E} word (Ok n) start h =
     let read = OkIff-at_ok {E = E} (Ok n) _ _ n h refl in
     let numeral : IsNumeral 10 word = subst (IsNumeral 10) bare read.0.0 in
     let value : n ≡ digits_value 10 word = read.1 ∙ ap (digits_value 10) bare in
-    let small : digits_value 10 word < 2 ^ 64 = subst (λ l. digits_value 10 l < 2 ^ 64) bare read.0.1 in
-    (subst (λ k. k < 2 ^ 64) (sym value) small, sym
-        (ap decimal value ∙ decimal-digits_value
-        (numerals_by_value _ tells_digits) word numeral.1 numeral.0 start.2 small))
+    let small : digits_value 10 word < 2 ^ 64 = subst (λ l. digits_value 10 l < 2 ^ 64) bare read.0.1 in (
+      subst (λ k. k < 2 ^ 64) (sym value) small,
+      sym
+          (ap decimal value ∙ decimal-digits_value
+          (numerals_by_value _ tells_digits) word numeral.1 numeral.0 start.2 small),
+    )
 
 -- and what does not spells no number
 pub IfNone-parsed : {E : Type 0} (word : List ℕ) (r : Result ℕ E) → ParsesUnsigned 64 10 word r

@@ -18,9 +18,15 @@ module _ {S : Type 0} (rules : Rules ℕ ℕ S) (offers : Offers ℕ ℕ S ℕ) 
       → IsRun rules offers told b more u c → IsRun rules offers told a (lines ++ more) (t ++ u) c
   run-append a [] t b more u c (none, same) q = subst (λ l. IsRun rules offers told a more (l ++ u) c) (sym none)
       (subst (λ s. IsRun rules offers told s more u c) same q)
-  run-append a (line ∷ lines) t b more u c (answer, middle, rest, step, sized, is, run) q =
-      (answer, middle, rest ++ u, step, sized, ap (λ l. l ++ u) is ∙ append_assoc (answer_line answer) rest u,
-          run-append middle lines rest b more u c run q)
+  run-append a (line ∷ lines) t b more u c (answer, middle, rest, step, sized, is, run) q = (
+    answer,
+    middle,
+    rest ++ u,
+    step,
+    sized,
+    ap (λ l. l ++ u) is ∙ append_assoc (answer_line answer) rest u,
+    run-append middle lines rest b more u c run q,
+  )
 
   pub run-one : (a : Map S) (line : List ℕ) (answer : Answer) (b : Map S) → LineStep rules offers told a line answer b
       → IsSized b → IsRun rules offers told a (line ∷ []) (answer_line answer) b

@@ -43,11 +43,18 @@ cleared_sized : {K V S H : Type 0} (rules : Rules K V S) (old : State K V S H) �
 cleared_sized {K = K} {V = V} rules old ok =
     let none : List (K × V) = [] in
     let marked_empty = sized-marked old ok none 0 (omega arith)
-        (λ _. refl) old.limiter old.placings old.moved old.placed ok.moved ok.placed in
+    (λ _. refl) old.limiter old.placings old.moved old.placed ok.moved ok.placed in
     let as_many : buckets old - 0 - 0 ≡ buckets old = omega arith in
     let sized = subst (λ n. IsSized (record old { pairs = none; marks = replicate n empty })) as_many marked_empty in
-    record { table = sized.table; taken = sized.taken; reachable = sized.reachable; usable = sized.usable; moved =
-        ok.moved; placed = ok.placed }
+    record {
+      table = sized.table;
+      taken = sized.taken;
+      reachable = sized.reachable;
+      usable = sized.usable;
+      moved =
+          ok.moved;
+      placed = ok.placed;
+    }
 
 module _ {K V S H : Type 0} (rules : Rules K V S) (n : ℕ) (old : State K V S H) (ok : IsSized old) where
   -- the reservation can end
@@ -57,21 +64,32 @@ module _ {K V S H : Type 0} (rules : Rules K V S) (n : ℕ) (old : State K V S H
 
   -- the limiter is another
   sized_with : (s : S) → IsSized (record old { limiter = s })
-  sized_with s = record { table = ok.table; taken = ok.taken; reachable = ok.reachable; usable = ok.usable; moved =
-      ok.moved; placed = ok.placed }
+  sized_with s = record {
+    table = ok.table;
+    taken = ok.taken;
+    reachable = ok.reachable;
+    usable = ok.usable;
+    moved =
+        ok.moved;
+    placed = ok.placed;
+  }
 
   -- the table is made anew at its size
   some_remade : LacksRoomFor n old → table_for n old ≡ same_table → CanReserve
   some_remade lacks is =
       let placings = count_up old.placings (length old.pairs) in
       let within : length old.pairs + 0 ≤ full_capacity (buckets old) = omega
-          (arith, used_count-split old.marks, ok.taken, ok.table.used_within) in
+      (arith, used_count-split old.marks, ok.taken, ok.table.used_within) in
       let new : State K V S H = record old { marks = marked old ok old.pairs 0 within; placings = placings } in (
         Ok tt,
         new,
         remade lacks is refl
-            (record { table = length-marked old ok old.pairs 0 within; exact = omega
-            (arith, room-marked old ok old.pairs 0 within, within); state = refl }),
+            (record {
+              table = length-marked old ok old.pairs 0 within;
+              exact = omega
+                  (arith, room-marked old ok old.pairs 0 within, within);
+              state = refl;
+            }),
         sized-marked old ok old.pairs 0 within (λ _. refl) old.limiter placings old.moved old.placed ok.moved ok.placed,
       )
 
@@ -108,7 +126,7 @@ module _ {S : Type 0} (rules : Rules ℕ ℕ S) (offers : Offers ℕ ℕ S ℕ) 
   some_removal key =
       let result = option_map (λ p. p.1) (left_of rules old.limiter (lookup_entry (nat_eq key) old.pairs)) in
       let (new, leaves, sized, freed) = some_leave old (removal rules (nat_eq key) (contents old)) ok
-          (length-without (nat_eq key) old.pairs) in
+      (length-without (nat_eq key) old.pairs) in
       (value result, new, (result, record { value = refl; state = leaves }, refl), sized)
 
   some_pop_oldest : CanEnd calls.PopOldest
@@ -121,7 +139,7 @@ module _ {S : Type 0} (rules : Rules ℕ ℕ S) (offers : Offers ℕ ℕ S ℕ) 
   some_pop_newest =
       let result = left_of rules old.limiter (first old.pairs) in
       let (new, leaves, sized, freed) = some_leave old (pop_first rules (contents old)) ok
-          (length-without_first old.pairs) in
+      (length-without_first old.pairs) in
       (pair result, new, (result, record { pair = refl; state = leaves }, refl), sized)
 
   fewer_left : (n : ℕ) (c : Contents ℕ ℕ S) → length (pops_first rules n c).pairs ≤ length c.pairs
@@ -132,16 +150,23 @@ module _ {S : Type 0} (rules : Rules ℕ ℕ S) (offers : Offers ℕ ℕ S ℕ) 
   some_drain n =
       let pairs = newest_given rules n (contents old) ++ [] in
       let (mid, leaves, sized, freed) = some_leave old (pops_first rules n (contents old)) ok
-          (fewer_left n (contents old)) in
-      (listed pairs, cleared rules mid, (pairs, record { pairs = refl; state = (mid, leaves, refl) }, refl),
-          cleared_sized rules mid sized)
+      (fewer_left n (contents old)) in (
+        listed pairs,
+        cleared rules mid,
+        (pairs, record { pairs = refl; state = (mid, leaves, refl) }, refl),
+        cleared_sized rules mid sized,
+      )
 
   pub some_step : (call : Call) → CanEnd call
   some_step (calls.Insert k v) =
       let (result, new, is, after) = some_insert rules offers nat_eq hash_of k v old ok offered in
       (insert_answer result, new, (result, is, refl), after)
-  some_step (calls.Get k) = (value (lookup (nat_eq k) old.pairs), promoted (nat_eq k) old, (refl, refl),
-      promoted_sized old (nat_eq k) ok)
+  some_step (calls.Get k) = (
+    value (lookup (nat_eq k) old.pairs),
+    promoted (nat_eq k) old,
+    (refl, refl),
+    promoted_sized old (nat_eq k) ok,
+  )
   some_step (calls.Peek k) = (value (lookup (nat_eq k) old.pairs), old, (refl, refl), ok)
   some_step (calls.Remove k) = some_removal k
   some_step (calls.Reserve n) = let (result, new, is, after) = some_reservation rules n old ok in
@@ -152,8 +177,30 @@ module _ {S : Type 0} (rules : Rules ℕ ℕ S) (offers : Offers ℕ ℕ S ℕ) 
   some_step calls.Clear = (done, cleared rules old, (refl, refl), cleared_sized rules old ok)
   some_step calls.List = (listed old.pairs, old, (refl, refl), ok)
   some_step calls.Stats =
-      let figures : Figures = record { len = length old.pairs; capacity = length old.pairs
-          + room old; memory = ok.usable.0; moved = old.moved; placed = old.placed; cost = told old.limiter } in
-      (stats figures, old,
-          (figures, record { len = refl; capacity = refl; memory = ok.usable.1; moved = refl; placed = refl; cost =
-          refl }, refl, refl), ok)
+      let figures : Figures = record {
+        len = length old.pairs;
+        capacity = length old.pairs
+            + room old;
+        memory = ok.usable.0;
+        moved = old.moved;
+        placed = old.placed;
+        cost = told old.limiter;
+      } in (
+        stats figures,
+        old,
+        (
+          figures,
+          record {
+            len = refl;
+            capacity = refl;
+            memory = ok.usable.1;
+            moved = refl;
+            placed = refl;
+            cost =
+                refl;
+          },
+          refl,
+          refl,
+        ),
+        ok,
+      )

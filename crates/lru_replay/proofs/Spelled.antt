@@ -46,7 +46,7 @@ guesses line = calls.Insert (digits_value 10 (front_word (drop 7 line))) (digits
     ∷ calls.Get (digits_value 10 (drop 4 line)) ∷ calls.Peek (digits_value 10 (drop 5 line))
     ∷ calls.Remove (digits_value 10 (drop 7 line)) ∷ calls.Reserve (digits_value 10 (drop 8 line))
     ∷ calls.Drain (digits_value 10 (drop 6 line)) ∷ calls.PopOldest ∷ calls.PopNewest ∷ calls.Clear ∷ calls.List
-        ∷ calls.Stats ∷ []
+    ∷ calls.Stats ∷ []
 
 abbrev pub Spelled : List ℕ → Type 0
 Spelled line = (call : Call) × SpellsCall line call
@@ -110,7 +110,7 @@ guessed line P all (calls.Insert k v) (fits, is) =
     let key = first_number (drop 7 line) k v fits.0 fits.1 rest in
     let value = second_number (drop 7 line) k v fits.0 fits.1 rest in
     subst (λ n. P (calls.Insert k n)) value
-        (subst (λ n. P (calls.Insert n (digits_value 10 (after_word (drop 7 line))))) key all.0)
+    (subst (λ n. P (calls.Insert n (digits_value 10 (after_word (drop 7 line))))) key all.0)
 guessed line P all (calls.Get k) (fits, is) = subst (λ n. P (calls.Get n)) (ap (λ l. digits_value 10 (drop 4 l)) is
     ∙ value_of_decimal k fits) all.1.0
 guessed line P all (calls.Peek k) (fits, is) = subst (λ n. P (calls.Peek n)) (ap (λ l. digits_value 10 (drop 5 l)) is
@@ -167,7 +167,7 @@ limit_guessed line P all (limits.Memory budget entry_bytes) (fits, is) =
     let first = first_number (drop 7 line) budget entry_bytes fits.0 fits.1 rest in
     let second = second_number (drop 7 line) budget entry_bytes fits.0 fits.1 rest in
     subst (λ n. P (limits.Memory budget n)) second
-        (subst (λ n. P (limits.Memory n (digits_value 10 (after_word (drop 7 line))))) first all.1.0)
+    (subst (λ n. P (limits.Memory n (digits_value 10 (after_word (drop 7 line))))) first all.1.0)
 limit_guessed line P all (limits.Cost most) (fits, is) = subst (λ n. P (limits.Cost n))
     (ap (λ l. digits_value 10 (drop 5 l)) is ∙ value_of_decimal most fits) all.1.1.0
 limit_guessed line P all limits.Compact spells = all.1.1.1.0

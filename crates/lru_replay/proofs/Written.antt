@@ -18,9 +18,16 @@ writes_after a b c t u (Err e) p (same, part, (rest, is), q) =
 -- a failure in the text between
 pub failed : (a b c : Option (List ℕ)) (t u v all : List ℕ) (e : ReplayError) → Appends a b t → Fails e b c u → all ≡ t
     ++ (u ++ v) → Fails e a c all
-failed a b c t u v all e p (same, part, (rest, is), q) whole =
-    (same, t ++ part, (rest ++ v, whole ∙ ap (λ l. t ++ (l ++ v)) is ∙ ap (λ l. t ++ l) (append_assoc part rest v)
-        ∙ sym (append_assoc t part (rest ++ v))), Appends-trans a b c t part p q)
+failed a b c t u v all e p (same, part, (rest, is), q) whole = (
+  same,
+  t ++ part,
+  (
+    rest ++ v,
+    whole ∙ ap (λ l. t ++ (l ++ v)) is ∙ ap (λ l. t ++ l) (append_assoc part rest v)
+        ∙ sym (append_assoc t part (rest ++ v)),
+  ),
+  Appends-trans a b c t part p q,
+)
 
 -- a failure in the first of two texts
 pub failed_front : (a b : Option (List ℕ)) (t u : List ℕ) (e : ReplayError) → Fails e a b t → Fails e a b (t ++ u)
@@ -47,4 +54,4 @@ pub moved_on : (all done rest left : List ℕ) (n : ℕ) → all ≡ done ++ res
     → all ≡ (done ++ take n rest) ++ left
 moved_on all done rest left n e is =
     e ∙ ap (λ l. done ++ l) (sym (take-append-drop n rest)
-        ∙ ap (λ l. take n rest ++ l) (sym (take_rest rest n) ∙ sym is)) ∙ sym (append_assoc done (take n rest) left)
+    ∙ ap (λ l. take n rest ++ l) (sym (take_rest rest n) ∙ sym is)) ∙ sym (append_assoc done (take n rest) left)

@@ -35,7 +35,7 @@ module _ {S : Type 0} (rules : Rules ℕ ℕ S) (offers : Offers ℕ ℕ S ℕ) 
   IsRun old [] text new = (text ≡ []) × (new ≡ old)
   IsRun old (line ∷ lines) text new = (answer : Answer) × (middle : Map S) × (rest : List ℕ)
       × LineStep old line answer middle × IsSized middle × (text ≡ answer_line answer ++ rest)
-          × IsRun middle lines rest new
+      × IsRun middle lines rest new
 
   -- some run over the lines, from this map, has the text
   abbrev pub IsTextOf : Map S → List (List ℕ) → List ℕ → Type 0

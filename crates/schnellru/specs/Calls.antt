@@ -34,8 +34,11 @@ module _ {K V S : Type 0} (rules : Rules K V S) where
 
   -- without the pair of the named key, of which the limiter is told
   abbrev pub removal : (K → Bool) → Contents K V S → Contents K V S
-  removal names c = record { pairs = without names c.pairs; limiter = told_of rules
-      (lookup_entry names c.pairs) c.limiter }
+  removal names c = record {
+    pairs = without names c.pairs;
+    limiter = told_of rules
+        (lookup_entry names c.pairs) c.limiter;
+  }
 
   -- without the newest pair, of which the limiter is told
   abbrev pub pop_first : Contents K V S → Contents K V S
@@ -59,5 +62,9 @@ module _ {K V S H : Type 0} (rules : Rules K V S) where
 
   -- Without pairs, in a table of as many buckets, all empty. The limiter is told of the clear alone.
   abbrev pub cleared : State K V S H → State K V S H
-  cleared st = record st { pairs = []; limiter = rules.on_cleared st.limiter; marks = replicate (buckets st) empty;
-      places = [] }
+  cleared st = record st {
+    pairs = [];
+    limiter = rules.on_cleared st.limiter;
+    marks = replicate (buckets st) empty;
+    places = [];
+  }

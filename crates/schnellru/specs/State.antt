@@ -109,8 +109,12 @@ module _ {K V S H : Type 0} where
   pub record MovesTo (count : ℕ) (old new : State K V S H) : Type 0 where
     pub table : buckets new ≡ count
     pub exact : length old.pairs + room new ≡ full_capacity count
-    pub state : new ≡ record old { marks = new.marks; places = new.places; placings = count_up old.placings
-        (length old.pairs) }
+    pub state : new ≡ record old {
+      marks = new.marks;
+      places = new.places;
+      placings = count_up old.placings
+          (length old.pairs);
+    }
 
   -- new is old with these contents, after some pairs left
   pub record Leaves (old : State K V S H) (left : Contents K V S) (new : State K V S H) : Type 0 where

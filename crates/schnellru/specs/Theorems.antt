@@ -70,8 +70,10 @@ module _ {K V S H I : Type 0} (rules : Rules K V S) (offers : Offers K V S I) (n
   pub data Stores (i : I) (v : V) (old : State K V S H) (pair : K × V) : Type 0 where
     left : (was : K × V) → lookup_entry (names i) old.pairs ≡ Some was
         → (replacement rules offers names was i v old).taken ≡ true →
-        pair ≡ ((replacement rules offers names was i v old).key,
-            (replacement rules offers names was i v old).new_value) →
+        pair ≡ (
+          (replacement rules offers names was i v old).key,
+          (replacement rules offers names was i v old).new_value,
+        ) →
         Stores i v old pair
     given : lookup_entry (names i) old.pairs ≡ None → (s : S) → MayGive rules offers names i v old s (Some pair) →
         Stores i v old pair

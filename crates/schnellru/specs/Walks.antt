@@ -28,7 +28,7 @@ lent_name None = maybe.none
 -- the members of the traits on which an `IterMut` stands
 module _ {K V L S N H : Type 0} {equal : equality.Ghosts K} {input : hashing.Ghosts K} {limits : limiter.Ghosts L K V N}
     {links : link_type.Ghosts N} {link_eq : equality.Ghosts N} {link_shown : debug.Ghosts N}
-        {build : builder.Ghosts S H} {hash : hasher.Ghosts H} where
+    {build : builder.Ghosts S H} {hash : hasher.Ghosts H} where
   -- the map as it is now
   abbrev pub walk_map : IterMut K V L S N H equal input limits links link_eq link_shown build hash → State K V L S
   walk_map walk = walk.map.now
@@ -49,8 +49,12 @@ module _ {K V L S N H : Type 0} {equal : equality.Ghosts K} {input : hashing.Gho
   abbrev pub walk_after_first : IterMut K V L S N H equal input limits links link_eq link_shown build hash → V
       → IterMut K V L S N H equal input limits links link_eq link_shown build hash
   walk_after_first walk w = let m = walk.map in record {
-    map = record { ref_ptr = m.ref_ptr; ghost_name = m.ghost_name; now =
-        record m.now { pairs = set_value_at m.now.pairs walk.start w } };
+    map = record {
+      ref_ptr = m.ref_ptr;
+      ghost_name = m.ghost_name;
+      now =
+          record m.now { pairs = set_value_at m.now.pairs walk.start w };
+    };
     start = walk.start + 1;
     end = walk.end;
     front = slice_get m.now.places (walk.start + 1);
@@ -64,8 +68,12 @@ module _ {K V L S N H : Type 0} {equal : equality.Ghosts K} {input : hashing.Gho
   abbrev pub walk_after_last : IterMut K V L S N H equal input limits links link_eq link_shown build hash → V
       → IterMut K V L S N H equal input limits links link_eq link_shown build hash
   walk_after_last walk w = let m = walk.map in record {
-    map = record { ref_ptr = m.ref_ptr; ghost_name = m.ghost_name; now =
-        record m.now { pairs = set_value_at m.now.pairs (walk.end - 1) w } };
+    map = record {
+      ref_ptr = m.ref_ptr;
+      ghost_name = m.ghost_name;
+      now =
+          record m.now { pairs = set_value_at m.now.pairs (walk.end - 1) w };
+    };
     start = walk.start;
     end = walk.end - 1;
     front = walk.front;

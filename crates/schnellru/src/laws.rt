@@ -70,12 +70,12 @@ pub fn inserts_store_the_value<
 >()
     ensures stores { (key : I) (value : V) (old new : State K V L S) →
         Insert L.rules L.offers I.names (hash_by K.hash_input S.BuildHasher S.Hasher.Hasher) key value old
-            (Ok true) new →
+        (Ok true) new →
         IfSome (first new.pairs) (Stores L.rules L.offers I.names key value old) }
     ensures found { (key : I) (value : V) (old new : State K V L S) →
         KeepsValues L.offers → IsDistinct K.eq (keys_of old.pairs) →
         Insert L.rules L.offers I.names (hash_by K.hash_input S.BuildHasher S.Hasher.Hasher) key value old
-            (Ok true) new →
+        (Ok true) new →
         lookup (I.names key) new.pairs ≡ Some value }
 {}
 

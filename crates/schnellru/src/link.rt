@@ -169,7 +169,7 @@ impl<K, V, N: LinkType> Linked<K, V, N> {
         ensures pair { entry_at self.old.slots b ≡ Some (result.now.key, result.now.value) }
         ensures fits { (hash_of : K → ℕ) → KeysFit hash_of self.old.slots →
             (last : K × V) → hash_of last.0 ≡ hash_of result.now.key
-                → KeysFit hash_of (with_pair self.old b last).slots }
+            → KeysFit hash_of (with_pair self.old b last).slots }
         ensures linked { (last : K × V) → IsLinked (with_pair self.old b last) }
     {
         &mut self.table.get_mut(b).pair
@@ -275,7 +275,7 @@ impl<K: Eq + Hash, V, N: LinkType> Linked<K, V, N> {
         ensures full { IfSome result (IsFull self.now.slots) }
         ensures none { IfNone result ((hash_of : K → ℕ) → KeysFit hash_of self.now.slots →
             (b : ℕ) (pair : K × V) → entry_at self.now.slots b ≡ Some pair → hash_of pair.0 ≡ hash
-                → Q.names key.now pair.0 ≡ false) }
+            → Q.names key.now pair.0 ≡ false) }
     {
         self.table.find(hash, |entry| key.is_key(&entry.pair.key))
     }

@@ -124,8 +124,14 @@ impl<K: Eq + Hash, V, L: Limiter<K, V>, S: BuildHasher> LruMap<K, V, L, S> {
 }
 
 /// So that `for (key, value) in &map` walks the pairs, newest first.
-impl<'a, K: Eq + Hash, V, N: LinkType + 'a, L: Limiter<K, V, LinkType = N>, S: BuildHasher> IntoIterator
-    for &'a LruMap<K, V, L, S> {
+impl<
+    'a,
+    K: Eq + Hash,
+    V,
+    N: LinkType + 'a,
+    L: Limiter<K, V, LinkType = N>,
+    S: BuildHasher,
+> IntoIterator for &'a LruMap<K, V, L, S> {
     type Item = (&'a K, &'a V);
 
     type IntoIter = Walk<'a, K, V, N>;

@@ -72,19 +72,19 @@ module _ {N : Type 0} (number : N → ℕ) (link : ℕ → N) (none : N) (eq : N
             → IfSome r (λ c. (entry.older ≢ none) × (c ≡ number entry.older)) → r ≡ bucket_after b order
         older_shown r at_none at_some =
             read_link r (bucket_after b order) entry.older
-                (older_link number link none eq laws slots newest oldest order whole.chain b inside entry is)
+            (older_link number link none eq laws slots newest oldest order whole.chain b inside entry is)
             (λ y e. chained_below whole.chain y (after_in b y order e)) at_none at_some
 
         pub newer_shown : (r : Option ℕ) → IfNone r (entry.newer ≡ none)
             → IfSome r (λ c. (entry.newer ≢ none) × (c ≡ number entry.newer)) → r ≡ bucket_before b order
         newer_shown r at_none at_some =
             read_link r (bucket_before b order) entry.newer
-                (newer_link number link none eq laws slots newest oldest order whole.chain b inside entry is)
+            (newer_link number link none eq laws slots newest oldest order whole.chain b inside entry is)
             (λ y e. chained_below whole.chain y (before_in b y order whole.chain.distinct e)) at_none at_some
 
         -- the bucket with no newer one is the newest already
         pub newest_already : entry.newer ≡ none → order ≡ b ∷ without_bucket b order
         newest_already e = newest_again b order whole.chain.distinct inside
             (end_by_link number link none eq laws (bucket_before b order)
-                (λ y k. chained_below whole.chain y (before_in b y order whole.chain.distinct k))
+            (λ y k. chained_below whole.chain y (before_in b y order whole.chain.distinct k))
             (sym (newer_link number link none eq laws slots newest oldest order whole.chain b inside entry is) ∙ e))

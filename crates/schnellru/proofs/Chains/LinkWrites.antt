@@ -52,7 +52,7 @@ module _ {K V N : Type 0} (slots : List (Slot (Entry K V N))) (b : ℕ) (entry :
     SetsNewer-written =
         let w = SetsLinks-written to entry.older in
         let new = set slots b
-            (refilled (bucket_at slots b) (record { pair = entry.pair; newer = to; older = entry.older })) in
+        (refilled (bucket_at slots b) (record { pair = entry.pair; newer = to; older = entry.older })) in
         record {
           pairs = w.pairs;
           there = λ full. subst (λ c. newer_at new c ≡ Some to) is w.newer_there;
@@ -70,7 +70,7 @@ module _ {K V N : Type 0} (slots : List (Slot (Entry K V N))) (b : ℕ) (entry :
     SetsOlder-written =
         let w = SetsLinks-written entry.newer to in
         let new = set slots b
-            (refilled (bucket_at slots b) (record { pair = entry.pair; newer = entry.newer; older = to })) in
+        (refilled (bucket_at slots b) (record { pair = entry.pair; newer = entry.newer; older = to })) in
         record {
           pairs = w.pairs;
           there = λ full. subst (λ c. older_at new c ≡ Some to) is w.older_there;
@@ -137,7 +137,7 @@ module _ {N : Type 0} (number : N → ℕ) (link : ℕ → N) (none : N) (eq : N
         (order : List ℕ)
         (chain : IsChain number link none s0 newest oldest order) (there : Contains order b)
         (newer_is : newer ≡ link_to link none (bucket_before b order))
-            (older_is : older ≡ link_to link none (bucket_after b order))
+        (older_is : older ≡ link_to link none (bucket_after b order))
         (first : SetsOlder number s0 s1 newer older) (newest_is : SetsEnd none newest newest' newer older)
         (second : SetsNewer number s1 s2 older newer) (oldest_is : SetsEnd none oldest oldest' older newer) where
       abbrev left : List ℕ
@@ -167,15 +167,15 @@ module _ {N : Type 0} (number : N → ℕ) (link : ℕ → N) (none : N) (eq : N
       left_newer x inside other = elim (cases_eq x (number older)) [
         | inl h ↦
             let next : bucket_after b order ≡ Some x = bucket_by_link (bucket_after b order) x after_below
-                (chained_below chain x inside) (h ∙ ap number older_is) in
+            (chained_below chain x inside) (h ∙ ap number older_is) in
             let full : IsFull s1 (number older) = subst (IsFull s1) h (same_full s0 s1 first.pairs x
-                ∙ chain.only x inside) in
+            ∙ chain.only x inside) in
             subst (λ k. newer_at s2 k ≡ Some newer) (sym h) (second.there full)
             ∙ ap Some (newer_is ∙ ap (link_to link none) (sym (before-next b x other order chain.distinct next)))
         | inr h ↦
             let stays = before-stays b x other order chain.distinct
-                (λ e. h (sym (ap number older_is ∙ number-link_to (bucket_after b order) x e
-                (chained_below chain x inside)))) in
+            (λ e. h (sym (ap number older_is ∙ number-link_to (bucket_after b order) x e
+            (chained_below chain x inside)))) in
             second.others x h ∙ first.newer x ∙ chain.newer x inside ∙ ap (λ o. Some (link_to link none o)) (sym stays)
       ]
 
@@ -183,14 +183,14 @@ module _ {N : Type 0} (number : N → ℕ) (link : ℕ → N) (none : N) (eq : N
       left_older x inside other = elim (cases_eq x (number newer)) [
         | inl h ↦
             let previous : bucket_before b order ≡ Some x = bucket_by_link (bucket_before b order) x before_below
-                (chained_below chain x inside) (h ∙ ap number newer_is) in
+            (chained_below chain x inside) (h ∙ ap number newer_is) in
             let full : IsFull s0 (number newer) = subst (IsFull s0) h (chain.only x inside) in
             second.older x ∙ subst (λ k. older_at s1 k ≡ Some older) (sym h) (first.there full)
             ∙ ap Some (older_is ∙ ap (link_to link none) (sym (after-previous b x other order chain.distinct previous)))
         | inr h ↦
             let stays = after-stays b x other order chain.distinct
-                (λ e. h (sym (ap number newer_is ∙ number-link_to (bucket_before b order) x e
-                (chained_below chain x inside)))) in
+            (λ e. h (sym (ap number newer_is ∙ number-link_to (bucket_before b order) x e
+            (chained_below chain x inside)))) in
             second.older x ∙ first.others x h ∙ chain.older x inside ∙ ap (λ o. Some (link_to link none o)) (sym stays)
       ]
 
@@ -224,17 +224,18 @@ module _ {N : Type 0} (number : N → ℕ) (link : ℕ → N) (none : N) (eq : N
       come_newer : (x : ℕ) → Contains order x → newer_at s2 x ≡ Some (link_to link none (bucket_before x (b ∷ order)))
       come_newer x there = ap (option_map (λ y. y.newer)) (second.others x (other_than b order absent x there))
           ∙ elim (cases_eq x (number newest)) [
-        | inl h ↦
-            let is : first_bucket order ≡ Some x = bucket_by_link (first_bucket order) x first_below
+            | inl h ↦
+                let is : first_bucket order ≡ Some x = bucket_by_link (first_bucket order) x first_below
                 (chained_below chain x there) (h ∙ ap number chain.newest_first) in
-            subst (λ k. newer_at s1 k ≡ Some (link b)) (sym h) (first.there (subst (IsFull s0) h (chain.only x there)))
-            ∙ ap (λ o. Some (link_to link none o)) (sym (before-first b order absent chain.distinct x there is))
-        | inr h ↦
-            let later = before-later b order absent chain.distinct x there
+                subst (λ k. newer_at s1 k ≡ Some (link b)) (sym h)
+                (first.there (subst (IsFull s0) h (chain.only x there)))
+                ∙ ap (λ o. Some (link_to link none o)) (sym (before-first b order absent chain.distinct x there is))
+            | inr h ↦
+                let later = before-later b order absent chain.distinct x there
                 (λ e. h (sym (ap number chain.newest_first ∙ number-link_to (first_bucket order) x e
                 (chained_below chain x there)))) in
-            first.others x h ∙ chain.newer x there ∙ ap (λ o. Some (link_to link none o)) (sym later)
-      ]
+                first.others x h ∙ chain.newer x there ∙ ap (λ o. Some (link_to link none o)) (sym later)
+          ]
 
       pub IsChain-linked : IsChain number link none s2 (link b) oldest' (b ∷ order)
       IsChain-linked = record {
@@ -242,24 +243,24 @@ module _ {N : Type 0} (number : N → ℕ) (link : ℕ → N) (none : N) (eq : N
         distinct = distinct_cons b order absent chain.distinct;
         only = λ x w. same_full s1 s2 second.pairs x ∙ same_full s0 s1 first.pairs x
             ∙ elim (Contains-cases b x order w) [
-          | inl h ↦ subst (IsFull s0) h full
-          | inr there ↦ chain.only x there
-        ];
+              | inl h ↦ subst (IsFull s0) h full
+              | inr there ↦ chain.only x there
+            ];
         newest_first = refl;
         oldest_last = come_last order refl;
         newer = λ x w. elim (Contains-cases b x order w) [
           | inl h ↦ subst (λ k. newer_at s2 k ≡ Some (link_to link none (bucket_before k (b ∷ order)))) h
               (second.newer_there ∙ ap (λ o. Some (link_to link none o))
-                  (sym (before-itself b order absent chain.distinct)))
+              (sym (before-itself b order absent chain.distinct)))
           | inr there ↦ come_newer x there
         ];
         older = λ x w. elim (Contains-cases b x order w) [
           | inl h ↦ subst (λ k. older_at s2 k ≡ Some (link_to link none (bucket_after k (b ∷ order)))) h
               (second.older_there ∙ ap Some chain.newest_first ∙ ap (λ o. Some (link_to link none o))
-                  (sym (after-itself b order absent chain.distinct)))
+              (sym (after-itself b order absent chain.distinct)))
           | inr there ↦
               ap (option_map (λ y. y.older)) (second.others x (other_than b order absent x there)) ∙ first.older x
-                  ∙ chain.older x there
+              ∙ chain.older x there
               ∙ ap (λ o. Some (link_to link none o)) (sym (after-later b order absent chain.distinct x there))
         ];
       }

@@ -29,7 +29,7 @@ module _ {N : Type 0} (number : N → ℕ) (none : N) {K V : Type 0} where
       → entry_at slots b ≡ Some entry → (newer older : N)
       → newer ≡ moved_link number none links entry.newer → older ≡ moved_link number none links entry.older
       → MovesLinks number none links slots
-          (set slots b (refilled (bucket_at slots b) (record { pair = entry.pair; newer = newer; older = older }))) b
+      (set slots b (refilled (bucket_at slots b) (record { pair = entry.pair; newer = newer; older = older }))) b
   MovesLinks-written links slots b entry is newer older p q =
       let w = SetsLinks-written slots b entry is newer older in
       record {
@@ -80,10 +80,10 @@ module _ {N : Type 0} (number : N → ℕ) (none : N) {K V : Type 0} where
     pub pairs : pair_slots now ≡ pair_slots start
     pub newer : (b : ℕ) → b < old → get_or links b none ≢ none
         → newer_at now (moved_to number none links b) ≡ option_map (moved_link number none links)
-            (newer_at start (moved_to number none links b))
+        (newer_at start (moved_to number none links b))
     pub older : (b : ℕ) → b < old → get_or links b none ≢ none
         → older_at now (moved_to number none links b) ≡ option_map (moved_link number none links)
-            (older_at start (moved_to number none links b))
+        (older_at start (moved_to number none links b))
     pub rest : (b : ℕ) → old ≤ b → get_or links b none ≢ none → entry_at now (moved_to number none links b)
         ≡ entry_at start (moved_to number none links b)
 
@@ -99,7 +99,7 @@ module _ {N : Type 0} (number : N → ℕ) (none : N) {K V : Type 0} where
       → MovedUpTo start now links old → get_or links old none ≡ none → MovedUpTo start now links (old + 1)
   MovedUpTo-passed start now links old w e =
       let other : (b : ℕ) → get_or links b none ≢ none → b ≢ old = λ b leads h. leads (ap (λ k. get_or links k none) h
-          ∙ e) in
+      ∙ e) in
       record {
         pairs = w.pairs;
         newer = λ b p leads. w.newer b (below_next b old p (other b leads)) leads;
@@ -110,12 +110,12 @@ module _ {N : Type 0} (number : N → ℕ) (none : N) {K V : Type 0} where
   module _ (before start now next : List (Slot (Entry K V N))) (links : List N) (old : ℕ)
       (renumbers : Renumbers number none before start links) (w : MovedUpTo start now links old)
       (leads : get_or links old none ≢ none)
-          (moves : MovesLinks number none links now next (moved_to number none links old)) where
+      (moves : MovesLinks number none links now next (moved_to number none links old)) where
     other_place : (b : ℕ) → b ≢ old → get_or links b none ≢ none
         → moved_to number none links b ≢ moved_to number none links old
     other_place b other there e =
         other (moved_apart before start links renumbers b old (full_by_link before start links renumbers b there)
-            (full_by_link before start links renumbers old leads) e)
+        (full_by_link before start links renumbers old leads) e)
 
     pub MovedUpTo-more : MovedUpTo start next links (old + 1)
     MovedUpTo-more = record {
@@ -141,7 +141,7 @@ module _ {N : Type 0} (number : N → ℕ) (none : N) {K V : Type 0} where
 module _ {N : Type 0} (number : N → ℕ) (link : ℕ → N) (none : N) (eq : N → N → Bool)
     (laws : IsLinkType number link none eq) {K V : Type 0}
     (before start : List (Slot (Entry K V N))) (newest oldest : N) (order : List ℕ)
-        (whole : IsWhole number link none before newest oldest order)
+    (whole : IsWhole number link none before newest oldest order)
     (links : List N) (renumbers : Renumbers number none before start links) where
   abbrev m : ℕ → ℕ
   m b = moved_to number none links b
@@ -211,7 +211,7 @@ module _ {N : Type 0} (number : N → ℕ) (link : ℕ → N) (none : N) (eq : N
         let p = place_of number none before start links renumbers y (full y refl) in
         ap (λ k. get_or links k none) (laws.number_of_link y (omega (arith, p, few_links)))
         ∙ laws.equal_by_number (get_or links y none) (link (m y))
-            (sym (laws.number_of_link (m y) (below_none y (full y refl))))
+        (sym (laws.number_of_link (m y) (below_none y (full y refl))))
 
     moves_apart : MovesApart m order
     moves_apart b c p q e = moved_apart number none before start links renumbers b c (whole.chain.only b p)
@@ -224,7 +224,7 @@ module _ {N : Type 0} (number : N → ℕ) (link : ℕ → N) (none : N) (eq : N
         w.newer b (place_of number none before start links renumbers b there) (leads_on b there)
         ∙ ap (option_map (moved_link number none links)) (moved_newer b there)
         ∙ ap Some (moved_link_to (bucket_before b order) (full_before b)
-            ∙ ap (link_to link none) (sym (before-moved m order moves_apart whole.chain.distinct b inside)))
+        ∙ ap (link_to link none) (sym (before-moved m order moves_apart whole.chain.distinct b inside)))
 
     now_older : (b : ℕ) → Contains order b → older_at now (m b)
         ≡ Some (link_to link none (bucket_after (m b) (map m order)))
@@ -233,7 +233,7 @@ module _ {N : Type 0} (number : N → ℕ) (link : ℕ → N) (none : N) (eq : N
         w.older b (place_of number none before start links renumbers b there) (leads_on b there)
         ∙ ap (option_map (moved_link number none links)) (moved_older b there)
         ∙ ap Some (moved_link_to (bucket_after b order) (full_after b)
-            ∙ ap (link_to link none) (sym (after-moved m order moves_apart whole.chain.distinct b inside)))
+        ∙ ap (link_to link none) (sym (after-moved m order moves_apart whole.chain.distinct b inside)))
 
     pub IsChain-moved : IsChain number link none now (moved_link number none links newest)
         (moved_link number none links oldest) (map (moved_to number none links) order)

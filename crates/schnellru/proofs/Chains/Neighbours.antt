@@ -37,7 +37,7 @@ module _ (b x : ℕ) (other : x ≢ b) where
     | inl h ↦
         let p' : first_bucket cs ≡ Some x → ⊥ = rw (eq-eqb c b h) at p in
         rw (eq-eqb c b h) (rw (without-absent b cs (absent_after b c cs d h), ne_eqb c x (λ k. other (sym k ∙ h)))
-            (before_not_first prev (Some c) x cs p'))
+        (before_not_first prev (Some c) x cs p'))
     | inr h ↦
         let p' : bucket_after b cs ≡ Some x → ⊥ = rw (ne_eqb c b h) at p in
         rw (ne_eqb c b h) (ap (λ t. cond (nat_eq c x) prev t) (before_from-stays (Some c) cs (distinct_tail c cs d) p'))
@@ -77,7 +77,7 @@ module _ (b x : ℕ) (other : x ≢ b) where
           | inl k ↦
               let absent : Contains cs x → ⊥ = λ w. distinct_head c cs d (subst (Contains cs) (sym k) w) in
               rw (ne_eqb c b h) (rw (eq-eqb c x k)
-                  (first_after cs (distinct_tail c cs d) absent (subst (λ y. before_from (Some y) b cs ≡ Some x) k e')))
+              (first_after cs (distinct_tail c cs d) absent (subst (λ y. before_from (Some y) b cs ≡ Some x) k e')))
           | inr k ↦ rw (ne_eqb c b h)
               (rw (ne_eqb c x k) (after-previous_from (Some c) cs (distinct_tail c cs d) (λ q. k (same_Some c x q)) e'))
         ]
@@ -243,7 +243,7 @@ module _ (m : ℕ → ℕ) where
       (λ w.
       let r = Contains-moved (m c) cs w in
       distinct_head c cs d
-          (subst (Contains cs) (moves r.0 c (Contains-later c r.0 cs r.1) (Contains-here c cs) r.2) r.1))
+      (subst (Contains cs) (moves r.0 c (Contains-later c r.0 cs r.1) (Contains-here c cs) r.2) r.1))
       (distinct-moved cs (apart_tail c cs moves) (distinct_tail c cs d))
 
   after-moved_apart : (b : ℕ) (order : List ℕ) → ((c : ℕ) → Contains order c → m c ≡ m b → c ≡ b)

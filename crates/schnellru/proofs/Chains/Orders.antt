@@ -55,7 +55,7 @@ pub before_from-absent : (prev : Option ℕ) (b : ℕ) (cs : List ℕ) → (Cont
 before_from-absent prev b [] absent = refl
 before_from-absent prev b (c ∷ cs) absent =
     rw (ne_eqb c b (λ e. absent (subst (Contains (c ∷ cs)) e (Contains-here c cs))))
-        (before_from-absent (Some c) b cs (λ w. absent (Contains-later c b cs w)))
+    (before_from-absent (Some c) b cs (λ w. absent (Contains-later c b cs w)))
 
 before_by_tail : (b c : ℕ) (cs : List ℕ) → bucket_before b (c ∷ cs) ≡ before_from (Some c) b cs
 before_by_tail b c [] = refl
@@ -147,8 +147,10 @@ Lacks b = AllByRecursion (λ c. nat_eq c b ≡ false)
 
 pub lacks_unless : (b : ℕ) (order : List ℕ) → (Contains order b → ⊥) → Lacks b order
 lacks_unless b [] absent = tt
-lacks_unless b (c ∷ cs) absent = (ne_eqb c b (λ e. absent (subst (Contains (c ∷ cs)) e (Contains-here c cs))),
-    lacks_unless b cs (λ w. absent (Contains-later c b cs w)))
+lacks_unless b (c ∷ cs) absent = (
+  ne_eqb c b (λ e. absent (subst (Contains (c ∷ cs)) e (Contains-here c cs))),
+  lacks_unless b cs (λ w. absent (Contains-later c b cs w)),
+)
 
 -- an order without a bucket
 pub without-lacking : (b : ℕ) (order : List ℕ) → Lacks b order → without_bucket b order ≡ order

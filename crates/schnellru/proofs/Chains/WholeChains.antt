@@ -33,7 +33,7 @@ module _ {N : Type 0} (number : N → ℕ) (link : ℕ → N) (none : N) (eq : N
   one_along : (n : ℕ) (slots : List (Slot (Entry K V N))) (from older : N) (at : Option (Entry K V N))
       → option_map (λ x. x.older) at ≡ Some older
       → unwrap_or (option_map (λ entry. number from ∷ along number n slots entry.older) at) [] ≡ number from
-          ∷ along number n slots older
+      ∷ along number n slots older
   one_along n slots from older None e = absurd (cc)
   one_along n slots from older (Some entry) e = ap (λ l. number from ∷ along number n slots l)
       (same_Some entry.older older e)
@@ -42,7 +42,7 @@ module _ {N : Type 0} (number : N → ℕ) (link : ℕ → N) (none : N) (eq : N
   along-chain : (slots : List (Slot (Entry K V N))) → length slots < number none → (n : ℕ) (order : List ℕ)
       → AllPairs ◌≢◌ order
       → ((x : ℕ) → Contains order x → x < number none)
-          → ((x : ℕ) → Contains order x → older_at slots x ≡ Some (link_to link none (bucket_after x order)))
+      → ((x : ℕ) → Contains order x → older_at slots x ≡ Some (link_to link none (bucket_after x order)))
       → length order ≤ n → along number n slots (link_to link none (first_bucket order)) ≡ order
   along-chain slots reached zero [] d below older p = refl
   along-chain slots reached (suc n) [] d below older p =
@@ -57,7 +57,7 @@ module _ {N : Type 0} (number : N → ℕ) (link : ℕ → N) (none : N) (eq : N
       let absent : Contains cs c → ⊥ = distinct_head c cs d in
       let rest = along-chain slots reached n cs (distinct_tail c cs d) (λ x w. below x (Contains-later c x cs w))
       (λ x w. older x (Contains-later c x cs w) ∙ ap (λ o. Some (link_to link none o))
-          (after-later c cs absent (distinct_tail c cs d) x w)) (omega arith) in
+      (after-later c cs absent (distinct_tail c cs d) x w)) (omega arith) in
       one_along n slots (link c) (link_to link none (first_bucket cs)) (entry_at slots (number (link c))) leads
       ∙ ap (λ x. x ∷ along number n slots (link_to link none (first_bucket cs))) is ∙ ap (λ xs. c ∷ xs) rest
 
@@ -79,7 +79,7 @@ module _ {N : Type 0} (number : N → ℕ) (link : ℕ → N) (none : N) (eq : N
   pub IsLinked-view : {placings : ℕ} (slots : List (Slot (Entry K V N))) (newest oldest : N) (order : List ℕ)
       → IsWhole number link none slots newest oldest order
       → IsTable (marks_of slots)
-          → IsLinked {K = K} {V = V} (record { slots = pair_slots slots; order = order; placings = placings })
+      → IsLinked {K = K} {V = V} (record { slots = pair_slots slots; order = order; placings = placings })
   IsLinked-view slots newest oldest order whole table = record {
     table = rw (marks_of-pair_slots slots) table;
     distinct = whole.chain.distinct;
@@ -92,7 +92,7 @@ module _ {N : Type 0} (number : N → ℕ) (link : ℕ → N) (none : N) (eq : N
   pub IsChain-kept : (old new : List (Slot (Entry K V N))) (newest oldest : N) (order : List ℕ) → length new
       ≡ length old
       → ((b : ℕ) → Contains order b → bucket_at new b ≡ bucket_at old b)
-          → IsChain number link none old newest oldest order → IsChain number link none new newest oldest order
+      → IsChain number link none old newest oldest order → IsChain number link none new newest oldest order
   IsChain-kept old new newest oldest order same kept chain = record {
     reached = rw same chain.reached;
     distinct = chain.distinct;
@@ -116,8 +116,13 @@ module _ {N : Type 0} (number : N → ℕ) (link : ℕ → N) (none : N) (eq : N
         | inr h ↦ Contains-later b x (without_bucket b order)
             (in_without b x order (whole.all x (sym (same_full s0 s2 same x) ∙ full)) h)
       ];
-      count = omega (arith, same_count s0 s2 same, whole.count, length-without b order whole.chain.distinct
-          (whole.all b there));
+      count = omega (
+        arith,
+        same_count s0 s2 same,
+        whole.count,
+        length-without b order whole.chain.distinct
+            (whole.all b there),
+      );
     }
 
     -- a bucket left the chain, and then its entry the table
@@ -133,11 +138,16 @@ module _ {N : Type 0} (number : N → ℕ) (link : ℕ → N) (none : N) (eq : N
         all = λ x h.
             let other : x ≢ b = λ e. emptied (subst (IsFull s2) e h) in
             in_without b x order
-                (whole.all x (sym (same_full s0 s1 same x)
-                ∙ sym (ap is_full (bucket_at-removed_other s1 s2 b x other removes)) ∙ h)) other;
+            (whole.all x (sym (same_full s0 s1 same x)
+            ∙ sym (ap is_full (bucket_at-removed_other s1 s2 b x other removes)) ∙ h)) other;
         count =
-            omega (arith, entry_count-removes s1 s2 b (same_full s0 s1 same b ∙ there) removes, same_count s0 s1 same,
-                whole.count, length-without b order whole.chain.distinct (whole.all b there));
+            omega (
+              arith,
+              entry_count-removes s1 s2 b (same_full s0 s1 same b ∙ there) removes,
+              same_count s0 s1 same,
+              whole.count,
+              length-without b order whole.chain.distinct (whole.all b there),
+            );
       }
 
   -- an entry went into the table, and then its bucket into the chain
@@ -155,7 +165,7 @@ module _ {N : Type 0} (number : N → ℕ) (link : ℕ → N) (none : N) (eq : N
 
     pub IsWhole-placed : (s2 : List (Slot (Entry K V N))) (newest' oldest' : N) → pair_slots s2 ≡ pair_slots new.slots
         → IsChain number link none s2 newest' oldest' (b ∷ order) → IsWhole number link none s2 newest' oldest'
-            (b ∷ order)
+        (b ∷ order)
     IsWhole-placed s2 newest' oldest' same chain = record {
       chain = chain;
       all = λ x h. elim (cases_eq x b) [
@@ -164,8 +174,12 @@ module _ {N : Type 0} (number : N → ℕ) (link : ℕ → N) (none : N) (eq : N
             (whole.all x (sym (ap is_full (bucket_at-placed_other old new hash entry b places x k))
             ∙ sym (same_full new.slots s2 same x) ∙ h))
       ];
-      count = omega (arith, same_count new.slots s2 same, entry_count-places old new hash entry b places within,
-          whole.count);
+      count = omega (
+        arith,
+        same_count new.slots s2 same,
+        entry_count-places old new hash entry b places within,
+        whole.count,
+      );
     }
 
   -- a pair was written
@@ -219,7 +233,7 @@ module _ {N : Type 0} (number : N → ℕ) (link : ℕ → N) (none : N) (eq : N
 
     pub IsLinked-refilled : {placings : ℕ} → IsTable (marks_of slots)
         → IsLinked (with_pair (record { slots = pair_slots slots; order = order; placings = placings }) b
-            (pair.key, pair.value))
+        (pair.key, pair.value))
     IsLinked-refilled {placings} table =
         rw (← pair_slots-rewritten slots b next)
-            (IsLinked-view after newest oldest order IsWhole-refilled (rw (marks_of-refilled slots b next) table))
+        (IsLinked-view after newest oldest order IsWhole-refilled (rw (marks_of-refilled slots b next) table))

@@ -43,7 +43,7 @@ module _ {K V N : Type 0} (slots : List (Slot (Entry K V N))) (hash : ℕ) where
 module _ {K V N W F : Type 0} (closure : Mut F (Bor K × (Bor V × Unit {0})) Bool)
     (asker : Mut W (Bor (Entry K V N) × Unit {0}) Bool) (state : W → F)
     (asks : (w : W) (x : Entry K V N) (r : Bool) (u : W) → CalledAt asker w x r u
-        → Asks closure (state w) (pair_of x) r (state u)) (slots : List (Slot (Entry K V N))) where
+    → Asks closure (state w) (pair_of x) r (state u)) (slots : List (Slot (Entry K V N))) where
   -- a call about an entry asks about its pair
   pub answers_pair : (w : W) (b : ℕ) (r : Bool) (u : W) → AnswersEntry asker slots w b r u
       → Answers closure (pair_slots slots) (state w) b r (state u)

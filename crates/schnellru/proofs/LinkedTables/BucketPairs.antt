@@ -32,7 +32,7 @@ module _ {T : Type 0} where
   entries-length slots [] h = refl
   entries-length slots (b ∷ bs) h =
       let e = entry_by_full (bucket_at slots b) h.0 in ap (λ o. length (option_to_list o ++ entries_in slots bs)) e.1
-          ∙ ap (λ n. suc n) (entries-length slots bs h.1)
+      ∙ ap (λ n. suc n) (entries-length slots bs h.1)
 
   pub all_full : (slots : List (Slot T)) (order : List ℕ) → ((b : ℕ) → Contains order b → IsFull slots b)
       → AreFull slots order
@@ -53,7 +53,7 @@ module _ {K V : Type 0} (slots : List (Slot (K × V))) (names : K → Bool) (p :
 
   places_cut : (before : List ℕ) → AreFull slots before → NoneNamed names (entries_in slots before)
       → other_places names (entries_in slots before ++ p ∷ entries_in slots after) (before ++ b ∷ after) ≡ before
-          ++ after
+      ++ after
   places_cut [] full none = rw named refl
   places_cut (c ∷ cs) full none =
       let e = entry_by_full (bucket_at slots c) full.0 in
@@ -94,7 +94,7 @@ module _ {K V : Type 0} (t : Linked K V) (linked : IsLinked t) where
       other_places_are = (λ i. other_places names (cut_pairs i) (cut_here.whole i))
           ∙ places_cut t.slots names p named b cut_here.after cut_here.before
           (all_full t.slots cut_here.before (λ c w. linked.only c (before_in cut_here c w))) unnamed
-              ∙ sym (order_without cut_here)
+          ∙ sym (order_without cut_here)
 
       pub places_are : front_places names (pairs_of t) t.order ≡ b ∷ without_bucket b t.order
       places_are = λ i. after (place_found i) (other_places_are i)
@@ -141,7 +141,7 @@ module _ {K V : Type 0} (t : Linked K V) (linked : IsLinked t) where
       pub others_newest : without_first (pairs_of t) ≡ entries_in t.slots (without_bucket b t.order)
       others_newest = ap without_first first_pairs
           ∙ sym (entries-without t.slots first_cut.0 p there
-              ∙ ap (λ l. entries_in t.slots l ++ entries_in t.slots first_cut.0.after) first_cut.1)
+          ∙ ap (λ l. entries_in t.slots l ++ entries_in t.slots first_cut.0.after) first_cut.1)
 
   -- without pairs there is no first bucket
   pub none_first : first_bucket t.order ≡ None → pairs_of t ≡ []
@@ -166,8 +166,8 @@ module _ {K V : Type 0} (t : Linked K V) (linked : IsLinked t) where
       pub others_oldest : without_last (pairs_of t) ≡ entries_in t.slots (without_bucket b t.order)
       others_oldest = ap without_last last_pairs ∙ without_last_end (entries_in t.slots last_cut.0.before) p
           ∙ sym (entries-without t.slots last_cut.0 p there
-              ∙ ap (λ l. entries_in t.slots last_cut.0.before ++ entries_in t.slots l) last_cut.1
-              ∙ append-nil (entries_in t.slots last_cut.0.before))
+          ∙ ap (λ l. entries_in t.slots last_cut.0.before ++ entries_in t.slots l) last_cut.1
+          ∙ append-nil (entries_in t.slots last_cut.0.before))
 
 -- a bucket was emptied
 module _ {T : Type 0} (old new : List (Slot T)) (b : ℕ) where

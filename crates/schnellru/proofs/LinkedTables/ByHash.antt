@@ -31,7 +31,7 @@ module _ {T : Type 0} (slots : List (Slot T)) where
   entry_in (c ∷ cs) b x w e = elim (Contains-cases c b cs w) [
     | inl k ↦
         subst (λ o. Contains (option_to_list o ++ entries_in slots cs) x) (sym (ap (entry_at slots) k ∙ e))
-            (zero, omega arith, refl)
+        (zero, omega arith, refl)
     | inr k ↦ Contains-append_right (option_to_list (entry_at slots c)) (entries_in slots cs) x (entry_in cs b x k e)
   ]
 
@@ -78,7 +78,7 @@ module _ {K V : Type 0} (t : Linked K V) (linked : IsLinked t) {eq : K → K →
       let rest = others_are t linked b p there (eq p.0) laws one distinct (laws.refl p.0) in
       let in_rest = in_without b c t.order (linked.all c (full_by_entry (bucket_at t.slots c) q also)) other in
       all_of (λ k. eq p.0 k ≡ false) (entries_in t.slots (without_bucket b t.order)) q
-          (subst (NoneNamed (eq p.0)) rest unnamed)
+      (subst (NoneNamed (eq p.0)) rest unnamed)
       (entry_in t.slots (without_bucket b t.order) c q in_rest also)
 
   module _ (asked : List ℕ) (search : IsSearch t.slots hash asked) where
@@ -92,10 +92,11 @@ module _ {K V : Type 0} (t : Linked K V) (linked : IsLinked t) {eq : K → K →
     distinct_in [] d w = tt
     distinct_in (b ∷ bs) d w =
         let there = entry_by_full (bucket_at t.slots b)
-            (full_by_tag (bucket_at t.slots b) (hash_tag hash) (tagged b (w b (Contains-here b bs)))) in
-        subst (λ o. AreDistinct eq (option_to_list o ++ entries_in t.slots bs)) (sym there.1)
-        (others bs there.0 b there.1 (λ c k same. distinct_head b bs d (subst (Contains bs) same k)),
-        distinct_in bs (distinct_tail b bs d) (λ c k. w c (Contains-later b c bs k)))
+        (full_by_tag (bucket_at t.slots b) (hash_tag hash) (tagged b (w b (Contains-here b bs)))) in
+        subst (λ o. AreDistinct eq (option_to_list o ++ entries_in t.slots bs)) (sym there.1) (
+          others bs there.0 b there.1 (λ c k same. distinct_head b bs d (subst (Contains bs) same k)),
+          distinct_in bs (distinct_tail b bs d) (λ c k. w c (Contains-later b c bs k)),
+        )
       where
         others : (cs : List ℕ) (p : K × V) (b : ℕ) → entry_at t.slots b ≡ Some p → ((c : ℕ) → Contains cs c → c ≢ b)
             → AllByRecursion (λ k. eq p.0 k ≡ false) (keys_of (entries_in t.slots cs))
@@ -130,15 +131,15 @@ module _ {K V : Type 0} (t : Linked K V) (linked : IsLinked t) {eq : K → K →
     refused_pairs [] f g h = h
     refused_pairs (b ∷ asked) f g h =
         subst (λ o. Refuses closure f (option_to_list o ++ entries_in t.slots asked) g) (sym h.1.there)
-            (h.0, h.1.asked, refused_pairs asked h.0 g h.2)
+        (h.0, h.1.asked, refused_pairs asked h.0 g h.2)
 
     pub gives_by_hash : (f : F) (b : ℕ) → (found : Finds closure t.slots hash f b)
         → GivesByHash eq hash_of (pairs_of t) hash closure f found.accepted.pair
     gives_by_hash f b found =
         let whole : entries_in t.slots (found.before ++ b ∷ []) ≡ entries_in t.slots found.before
-            ++ found.accepted.pair ∷ [] =
-            entries-append t.slots found.before (b ∷ [])
-                ∙ ap (λ o. entries_in t.slots found.before ++ (option_to_list o ++ [])) found.accepted.there in
+        ++ found.accepted.pair ∷ [] =
+        entries-append t.slots found.before (b ∷ [])
+        ∙ ap (λ o. entries_in t.slots found.before ++ (option_to_list o ++ [])) found.accepted.there in
         record {
           before = entries_in t.slots found.before;
           candidates = subst (AreCandidates eq hash_of (pairs_of t) hash) whole
@@ -158,7 +159,7 @@ module _ {K V : Type 0} (t : Linked K V) (linked : IsLinked t) {eq : K → K →
       refused = refused_pairs none.asked f none.last none.refused;
       complete = λ pair w same. let at = bucket_in t.slots t.order pair w in
           entry_in t.slots none.asked at.0 pair
-              (none.complete (λ c. hash_in hash_of t.slots c) fits at.0
-              (full_by_entry (bucket_at t.slots at.0) pair at.2)
+          (none.complete (λ c. hash_in hash_of t.slots c) fits at.0
+          (full_by_entry (bucket_at t.slots at.0) pair at.2)
           (hash_in-entry hash_of t.slots at.0 pair at.2 ∙ same)) at.2;
     }

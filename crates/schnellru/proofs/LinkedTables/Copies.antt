@@ -74,7 +74,7 @@ module _ {K V N F : Type 0} (same_key : K → K → Type 0) (same_value : V → 
       where
         go : (o p : Option (Entry K V N)) → IsCopied o p → ((l : N) → along number n new l ≡ along number n old l)
             → unwrap_or (option_map (λ e. number from ∷ along number n new e.older) p) []
-                ≡ unwrap_or (option_map (λ e. number from ∷ along number n old e.older) o) []
+            ≡ unwrap_or (option_map (λ e. number from ∷ along number n old e.older) o) []
         go None p h on = rw h refl
         go (Some x) p h on = rw h.1 (ap (λ l. number from ∷ along number n new l) h.2.older
             ∙ ap (λ bs. number from ∷ bs) (on x.older))
@@ -114,7 +114,7 @@ module _ {K V N F : Type 0} (same_key : K → K → Type 0) (same_value : V → 
           ≡ option_map pair_of p
           → AllZip (IsPairClone same_key same_value) (entries_in (pair_slots old) bs) (entries_in (pair_slots new) bs)
           → AllZip (IsPairClone same_key same_value) (option_to_list q ++ entries_in (pair_slots old) bs)
-              (option_to_list r ++ entries_in (pair_slots new) bs)
+          (option_to_list r ++ entries_in (pair_slots new) bs)
       go None p h q r e d on = rw (e, d, h) on
       go (Some x) p h q r e d on = rw (e, d, h.1) (record { key = h.2.key; value = h.2.value }, on)
 
@@ -135,4 +135,4 @@ module _ {K V N F : Type 0} (same_key : K → K → Type 0) (same_value : V → 
     keys_fit on fits = Fits-agree (pair_slots new) (hash_in hash_of (pair_slots old)) (hash_in other (pair_slots new))
         (λ b there. hash_same b)
         (Fits-pair_slots new (hash_in hash_of (pair_slots old))
-            (on _ (Fits-entries old (hash_in hash_of (pair_slots old)) fits)))
+        (on _ (Fits-entries old (hash_in hash_of (pair_slots old)) fits)))

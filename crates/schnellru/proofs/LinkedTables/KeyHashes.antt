@@ -36,9 +36,9 @@ module _ {K V : Type 0} (hash_of : K → ℕ) where
       → Fits new (hash_in hash_of old) → KeysFit hash_of new
   KeysFit-removed old new b there removes fits =
       Fits-agree new (hash_in hash_of old) (hash_in hash_of new)
-          (λ x full. hash_in-same old new x (bucket_at-removed_other old new b x
+      (λ x full. hash_in-same old new x (bucket_at-removed_other old new b x
       (λ e. not_full (bucket_at new b) (entry_at-removed old new b there removes) (subst (IsFull new) e full))
-          removes)) fits
+      removes)) fits
 
   module _ (slots : List (Slot (K × V))) (b : ℕ) (within : b < length slots) (s : Slot (K × V)) (pair : K × V)
       (is : entry_of s ≡ Some pair) where
@@ -60,11 +60,11 @@ module _ {K V : Type 0} (hash_of : K → ℕ) where
   pub KeysFit-placed : (slots : List (Slot (K × V))) (b hash : ℕ) (pair : K × V) → b < length slots → hash_of pair.0
       ≡ hash
       → Fits (set slots b (full (record { tag = hash_tag hash; entry = pair })))
-          (with_hash (hash_in hash_of slots) b hash)
+      (with_hash (hash_in hash_of slots) b hash)
       → KeysFit hash_of (set slots b (full (record { tag = hash_tag hash; entry = pair })))
   KeysFit-placed slots b hash pair within same fits =
       KeysFit-written slots b within (full (record { tag = hash_tag hash; entry = pair })) pair refl
-          (with_hash (hash_in hash_of slots) b hash)
+      (with_hash (hash_in hash_of slots) b hash)
       (rw (eq-eqb b b refl) (sym same)) (λ x other. rw (ne_eqb x b other) refl) fits
 
   pub KeysFit-refilled : (slots : List (Slot (K × V))) (b : ℕ) (was last : K × V) → IsFull slots b → entry_at slots b
@@ -72,6 +72,6 @@ module _ {K V : Type 0} (hash_of : K → ℕ) where
       → KeysFit hash_of slots → KeysFit hash_of (set slots b (refilled (bucket_at slots b) last))
   KeysFit-refilled slots b was last there is same fits =
       KeysFit-written slots b (full_lt slots b there) (refilled (bucket_at slots b) last) last
-          (entry_of-refilled (bucket_at slots b) last there) (hash_in hash_of slots)
+      (entry_of-refilled (bucket_at slots b) last there) (hash_in hash_of slots)
       (hash_in-entry slots b was is ∙ sym same) (λ x other. refl)
-          (Fits-refilled slots b last (hash_in hash_of slots) there fits)
+      (Fits-refilled slots b last (hash_in hash_of slots) there fits)

@@ -60,7 +60,7 @@ module _ {K V : Type 0} (t u : Linked K V) (hash : ℕ) (pair : K × V) (b : ℕ
   lands_pairs = ap (entries_in u.slots) lands.order
       ∙ ap (λ s. entries_in s (b ∷ t.order)) lands.slots
       ∙ ap (λ s. option_to_list (entry_of s)
-          ++ entries_in (slice_set t.slots b (full (record { tag = hash_tag hash; entry = pair }))) t.order)
+      ++ entries_in (slice_set t.slots b (full (record { tag = hash_tag hash; entry = pair }))) t.order)
       (get_or-set_same t.slots b (full (record { tag = hash_tag hash; entry = pair })) empty lands_within)
       ∙ ap (λ l. pair ∷ l) (entries-apart t.slots b _ t.order apart)
 
@@ -97,7 +97,7 @@ module _ {K V : Type 0} (t u : Linked K V) (hash : ℕ) (pair : K × V) (b : ℕ
     lands_paid paid = paid_after (state_of t beside) (state_of u counted)
         (pays_placing (state_of t beside) (state_of u counted) 0 sized.placed kept refl
         (omega (arith, lands.room, room_at-most (marks_of t.slots) b, ap full_capacity lands_placed.table)))
-            sized.moved (omega (arith, sized.table.addressable, lands_placed.table)) paid
+        sized.moved (omega (arith, sized.table.addressable, lands_placed.table)) paid
 
     -- so what holds of every map holds, if its key was not there
     pub lands_holds : {eq : K → K → Bool} (hash_of : H → K → ℕ) → Holds eq hash_of t beside → IsLinked u

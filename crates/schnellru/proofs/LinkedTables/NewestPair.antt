@@ -22,7 +22,7 @@ module _ {K V : Type 0} (t v : Linked K V) (linked : IsLinked t) (b : ℕ) (p : 
     ≡ Some p)
     (slots : v.slots ≡ t.slots) (order : v.order ≡ b ∷ without_bucket b t.order) (counted : v.placings ≡ t.placings)
     (names : K → Bool) {eq : K → K → Bool} (laws : IsEquivalence eq) (one : (x y : K) → names x ≡ true → names y
-        ≡ eq x y) (named : names p.0 ≡ true)
+    ≡ eq x y) (named : names p.0 ≡ true)
     (distinct : AreDistinct eq (pairs_of t)) where
   pub promoted_pairs : pairs_of v ≡ front names (pairs_of t)
   promoted_pairs = ap (entries_in v.slots) order
@@ -30,18 +30,23 @@ module _ {K V : Type 0} (t v : Linked K V) (linked : IsLinked t) (b : ℕ) (p : 
       ∙ ap (λ o. option_to_list o ++ entries_in t.slots (without_bucket b t.order)) there
       ∙ ap (λ l. p ∷ l) (sym (others_are t linked b p there names laws one distinct named))
       ∙ ap (λ o. after o (without names (pairs_of t)))
-          (sym (pair_found t linked b p there names laws one distinct named))
+      (sym (pair_found t linked b p there names laws one distinct named))
 
   module _ {S H : Type 0} (beside : Beside S H) where
     pub promoted_state : state_of v beside ≡ promoted names (state_of t beside)
-    promoted_state = λ i. record (state_of v beside) { pairs = promoted_pairs i; marks = marks_of (slots i); places =
-        (order ∙ sym (places_are t linked b p there names laws one distinct named)) i; placings = counted i }
+    promoted_state = λ i. record (state_of v beside) {
+      pairs = promoted_pairs i;
+      marks = marks_of (slots i);
+      places =
+          (order ∙ sym (places_are t linked b p there names laws one distinct named)) i;
+      placings = counted i;
+    }
 
     pub promoted_holds : (hash_of : H → K → ℕ) → Holds eq hash_of t beside → IsLinked v → Holds eq hash_of v beside
     promoted_holds hash_of holds next = alike_holds beside eq hash_of t v holds next
         (subst (KeysFit (hash_of beside.hasher)) (sym slots) holds.fits)
         (ap marks_of slots) (subst (AreDistinct eq) (sym promoted_pairs)
-            (distinct_first eq names one (pairs_of t) distinct))
+        (distinct_first eq names one (pairs_of t) distinct))
 
 -- the newest pair of t is that in the bucket b
 module _ {K V : Type 0} (t : Linked K V) (linked : IsLinked t) (b : ℕ) (p : K × V) (there : entry_at t.slots b
@@ -66,15 +71,18 @@ module _ {K V : Type 0} (t : Linked K V) (linked : IsLinked t) (b : ℕ) (p : K 
     module _ {S H : Type 0} (beside : Beside S H) where
       pub newest_state : state_of (with_pair t b (p.0, w)) beside
           ≡ record (state_of t beside) { pairs = set_newest (pairs_of t) w }
-      newest_state = λ i. record (state_of t beside) { pairs = newest_set i; marks = marks_of-refilled t.slots b
-          (p.0, w) i }
+      newest_state = λ i. record (state_of t beside) {
+        pairs = newest_set i;
+        marks = marks_of-refilled t.slots b
+            (p.0, w) i;
+      }
 
       pub newest_holds : {eq : K → K → Bool} → IsEquivalence eq → (hash_of : H → K → ℕ) → Holds eq hash_of t beside
           → IsLinked (with_pair t b (p.0, w)) → KeysFit (hash_of beside.hasher) (with_pair t b (p.0, w)).slots
-              → Holds eq hash_of (with_pair t b (p.0, w)) beside
+          → Holds eq hash_of (with_pair t b (p.0, w)) beside
       newest_holds {eq} laws hash_of holds next fits =
           first_holds t t linked b p there refl newest_order refl (eq p.0) laws (λ x y h. laws.congr p.0 x y h)
-              (laws.refl p.0) holds.map.distinct
+          (laws.refl p.0) holds.map.distinct
           beside w hash_of holds next fits
 
 -- the newest value is the one that was set

@@ -47,9 +47,17 @@ cut_at b (x ∷ xs) d (k, within, is) = go (nat_eq x b) refl k within is (λ h. 
 pub cut_first : (b : ℕ) (order : List ℕ) → AllPairs ◌≢◌ order → first_bucket order ≡ Some b → (cut : Cut b order)
     × (cut.before ≡ [])
 cut_first b [] d e = absurd cc
-cut_first b (x ∷ xs) d e = let same = same_Some x b e in
-    (record { before = []; after = xs; whole = ap (λ y. y ∷ xs) same; none_before = tt; none_after = subst
-        (λ y. Lacks y xs) same (head_lacks x xs d) }, refl)
+cut_first b (x ∷ xs) d e = let same = same_Some x b e in (
+  record {
+    before = [];
+    after = xs;
+    whole = ap (λ y. y ∷ xs) same;
+    none_before = tt;
+    none_after = subst
+        (λ y. Lacks y xs) same (head_lacks x xs d);
+  },
+  refl,
+)
 
 -- cut at the last, none come after it
 pub cut_last : (b : ℕ) (order : List ℕ) → AllPairs ◌≢◌ order → last_bucket order ≡ Some b → (cut : Cut b order)
@@ -105,7 +113,7 @@ module _ {T : Type 0} where
   entries-apart slots b slot [] h = refl
   entries-apart slots b slot (x ∷ xs) h =
       ap (λ o. option_to_list (entry_of o) ++ entries_in (slice_set slots b slot) xs)
-          (get_or-set_other slots b x slot empty (λ same. let e : nat_eq x b ≡ false = h.0 in grind (arith, nat_tests)))
+      (get_or-set_other slots b x slot empty (λ same. let e : nat_eq x b ≡ false = h.0 in grind (arith, nat_tests)))
       ∙ ap (λ l. option_to_list (entry_at slots x) ++ l) (entries-apart slots b slot xs h.1)
 
   module _ (slots : List (Slot T)) {b : ℕ} {order : List ℕ} (cut : Cut b order) (entry : T) (there : entry_at slots b

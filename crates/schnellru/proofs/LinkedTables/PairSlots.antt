@@ -116,10 +116,16 @@ module _ {K V N : Type 0} where
   -- a removal of an entry is one of its pair
   pub Removes-pair_slots : (old new : List (Slot (Entry K V N))) (b : ℕ) → Removes old new b
       → Removes (pair_slots old) (pair_slots new) b
-  Removes-pair_slots old new b (inl w) = inl (rw (marks_of-pair_slots old) w.0, ap pair_slots w.1
-      ∙ pair_slots-set old b empty)
-  Removes-pair_slots old new b (inr w) = inr (rw (marks_of-pair_slots old) w.0, ap pair_slots w.1
-      ∙ pair_slots-set old b deleted)
+  Removes-pair_slots old new b (inl w) = inl (
+    rw (marks_of-pair_slots old) w.0,
+    ap pair_slots w.1
+        ∙ pair_slots-set old b empty,
+  )
+  Removes-pair_slots old new b (inr w) = inr (
+    rw (marks_of-pair_slots old) w.0,
+    ap pair_slots w.1
+        ∙ pair_slots-set old b deleted,
+  )
 
   refilled_pair : (s : Slot (Entry K V N)) (entry next : Entry K V N) → entry_of s ≡ Some entry → next.pair
       ≡ entry.pair → pair_slot (refilled s next) ≡ pair_slot s
@@ -139,11 +145,11 @@ module _ {K V N : Type 0} where
   -- an entry is written with another pair
   pub pair_slots-rewritten : (slots : List (Slot (Entry K V N))) (b : ℕ) (next : Entry K V N)
       → pair_slots (set slots b (refilled (bucket_at slots b) next))
-          ≡ set (pair_slots slots) b (refilled (bucket_at (pair_slots slots) b) (pair_of next))
+      ≡ set (pair_slots slots) b (refilled (bucket_at (pair_slots slots) b) (pair_of next))
   pair_slots-rewritten slots b next =
       pair_slots-set slots b (refilled (bucket_at slots b) next)
       ∙ ap (set (pair_slots slots) b) (refilled_slot (bucket_at slots b) next ∙ ap (λ s. refilled s (pair_of next))
-          (sym (bucket_at-pair_slots slots b)))
+      (sym (bucket_at-pair_slots slots b)))
 
   -- an entry is written with the same pair
   pub pair_slots-refilled : (slots : List (Slot (Entry K V N))) (b : ℕ) (entry next : Entry K V N) → entry_at slots b

@@ -37,7 +37,7 @@ after_at [] i b d e = absurd (none-some b e)
 after_at (c ∷ cs) zero b d e = rw (eq-eqb c b (same_Some c b e)) (first_at cs)
 after_at (c ∷ cs) (suc i) b d e =
     rw (ne_eqb c b (λ same. distinct_head c cs d (subst (Contains cs) (sym same) (got_in cs i b e))))
-        (after_at cs i b (distinct_tail c cs d) e)
+    (after_at cs i b (distinct_tail c cs d) e)
 
 before_none : (b : ℕ) (order : List ℕ) → (Contains order b → ⊥) → bucket_before b order ≡ None
 before_none b [] absent = refl
@@ -54,13 +54,13 @@ before_at (c ∷ []) zero b d e = refl
 before_at (c ∷ []) (suc i) b d e = absurd (none-some b e)
 before_at (c ∷ x ∷ xs) zero b d e =
     let absent : Contains (x ∷ xs) b → ⊥ = λ w. distinct_head c (x ∷ xs) d
-        (subst (Contains (x ∷ xs)) (sym (same_Some c b e)) w) in
+    (subst (Contains (x ∷ xs)) (sym (same_Some c b e)) w) in
     rw (ne_eqb x b (λ same. absent (subst (Contains (x ∷ xs)) same (Contains-here x xs))))
-        (before_none b (x ∷ xs) absent)
+    (before_none b (x ∷ xs) absent)
 before_at (c ∷ x ∷ xs) (suc zero) b d e = rw (eq-eqb x b (same_Some x b e)) refl
 before_at (c ∷ x ∷ xs) (suc (suc i)) b d e =
     rw (ne_eqb x b (λ same. distinct_head x xs (distinct_tail c (x ∷ xs) d)
-        (subst (Contains xs) (sym same) (got_in xs i b e))))
+    (subst (Contains xs) (sym same) (got_in xs i b e))))
     (before_at (x ∷ xs) (suc i) b (distinct_tail c (x ∷ xs) d) e)
 
 -- the pair of the bucket at a place is at that place of the pairs
@@ -73,7 +73,7 @@ pair_at slots (c ∷ cs) zero b x full e there =
 pair_at slots (c ∷ cs) (suc i) b x full e there =
     let first = entry_by_full (bucket_at slots c) full.0 in
     ap (λ o. slice_get (option_to_list o ++ entries_in slots cs) (suc i)) first.1
-        ∙ pair_at slots cs i b x full.1 e there
+    ∙ pair_at slots cs i b x full.1 e there
 
 -- a value is written at the place of the key
 module _ {K V : Type 0} {eq : K → K → Bool} (laws : IsEquivalence eq) (p : K × V) (w : V) where
@@ -88,8 +88,8 @@ module _ {K V : Type 0} {eq : K → K → Bool} (laws : IsEquivalence eq) (p : K
   at_set [] i d e = absurd (none-some p e)
   at_set (x ∷ xs) zero d e =
       ap (λ t. cond t ((x.0, w) ∷ xs) (x ∷ set_value (eq p.0) xs w)) (ap (λ q. eq p.0 q.0) (same_Some x p e)
-          ∙ laws.refl p.0)
+      ∙ laws.refl p.0)
   at_set (x ∷ xs) (suc i) d e =
       ap (λ t. cond t ((x.0, w) ∷ xs) (x ∷ set_value (eq p.0) xs w))
-          (laws.symm p.0 x.0 ∙ met (λ k. eq x.0 k ≡ false) xs i e d.0)
+      (laws.symm p.0 x.0 ∙ met (λ k. eq x.0 k ≡ false) xs i e d.0)
       ∙ ap (λ l. x ∷ l) (at_set xs i d.1 e)

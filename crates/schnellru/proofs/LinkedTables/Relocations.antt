@@ -22,7 +22,7 @@ entries_in-moved old new m [] same = refl
 entries_in-moved old new m (b ∷ bs) same =
     ap (λ o. option_to_list o ++ entries_in new (map m bs)) (same b (Contains-here b bs))
     ∙ ap (λ es. option_to_list (entry_at old b) ++ es)
-        (entries_in-moved old new m bs (λ c w. same c (Contains-later b c bs w)))
+    (entries_in-moved old new m bs (λ c w. same c (Contains-later b c bs w)))
 
 module _ {N : Type 0} (number : N → ℕ) (link : ℕ → N) (none : N) {K V : Type 0}
     (before start now : List (Slot (Entry K V N))) (links : List N)
@@ -36,15 +36,21 @@ module _ {N : Type 0} (number : N → ℕ) (link : ℕ → N) (none : N) {K V : 
   pub IsWhole-moved : (newest oldest newest' oldest' : N) (order : List ℕ)
       → IsWhole number link none before newest oldest order → entry_count start ≡ entry_count before
       → IsChain number link none now newest' oldest' (map (moved_to number none links) order)
-          → IsWhole number link none now newest' oldest' (map (moved_to number none links) order)
+      → IsWhole number link none now newest' oldest' (map (moved_to number none links) order)
   IsWhole-moved newest oldest newest' oldest' order whole counts chain = record {
     chain = chain;
     all = λ x full.
         let r = came_from renumbers counts x (sym (same_full start now same x) ∙ full) in
         subst (Contains (map (moved_to number none links) order)) r.2
-            (moved_in (moved_to number none links) r.0 order (whole.all r.0 r.1));
-    count = omega (arith, same_count start now same, counts, whole.count, length-map order
-        (moved_to number none links));
+        (moved_in (moved_to number none links) r.0 order (whole.all r.0 r.1));
+    count = omega (
+      arith,
+      same_count start now same,
+      counts,
+      whole.count,
+      length-map order
+          (moved_to number none links),
+    );
   }
 
   pair_moved : (b : ℕ) → IsFull before b → entry_at (pair_slots start) (moved_to number none links b)
@@ -60,7 +66,7 @@ module _ {N : Type 0} (number : N → ℕ) (link : ℕ → N) (none : N) {K V : 
   pairs-moved newest oldest order whole =
       entries_in-moved (pair_slots before) (pair_slots now) (moved_to number none links) order
       (λ b inside. ap (λ slots. entry_at slots (moved_to number none links b)) same
-          ∙ pair_moved b (whole.chain.only b inside))
+      ∙ pair_moved b (whole.chain.only b inside))
 
   -- the hashes of the keys fit, which the entries had before
   pub KeysFit-moved : (hash_of : K → ℕ) → KeepsHashes number none before start links

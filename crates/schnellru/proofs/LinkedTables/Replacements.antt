@@ -23,7 +23,7 @@ use Rattle.schnellru.proofs.Maps.HeldMaps.{frees_room, leaves_holds}
 module _ {K V S : Type 0} (rules : Rules K V S) (by : Replaced K V S) (old new : Linked K V) (b : ℕ) (was : K × V)
     (there : entry_at old.slots b ≡ Some was)
     (k : K) (v : V) (key_is : k ≡ by.key) (value_is : v ≡ by.old_value) (s : S) (told : s ≡ by.limiter)
-        (result : K × V) (l : S)
+    (result : K × V) (l : S)
     (out : IsTakenOut rules b (with_pair old b (k, v)) new s result l) where
   -- a replacement was refused, and the pair taken out
   pub gives_up : IsGivenUp rules by b old new l
@@ -45,9 +45,9 @@ module _ {K V S : Type 0} (rules : Rules K V S) (by : Replaced K V S) (old new :
 module _ {K V S H : Type 0} (by : Replaced K V S) (old new : Linked K V) (b : ℕ) (l : S) (first : IsLinked old)
     (next : IsLinked new)
     (was : K × V) (there : entry_at old.slots b ≡ Some was) (names : K → Bool) {eq : K → K → Bool}
-        (laws : IsEquivalence eq)
+    (laws : IsEquivalence eq)
     (one : (x y : K) → names x ≡ true → names y ≡ eq x y) (distinct : AreDistinct eq (pairs_of old))
-        (named : names was.0 ≡ true)
+    (named : names was.0 ≡ true)
     (beside : Beside S H) where
   abbrev before : State K V S H
   before = state_of old beside
@@ -70,7 +70,7 @@ module _ {K V S H : Type 0} (by : Replaced K V S) (old new : Linked K V) (b : �
     replaced_pairs = ap (entries_in new.slots) step.order
         ∙ ap (λ s. entries_in s (b ∷ without_bucket b old.order)) step.slots
         ∙ ap (λ o. option_to_list o ++ entries_in (with_pair old b (by.key, by.new_value)).slots
-            (without_bucket b old.order))
+        (without_bucket b old.order))
         (entry_at-refilled old.slots b (by.key, by.new_value) (full_by_entry (bucket_at old.slots b) was there))
         ∙ ap (λ xs. (by.key, by.new_value) ∷ xs) (others (by.key, by.new_value))
 
@@ -79,10 +79,12 @@ module _ {K V S H : Type 0} (by : Replaced K V S) (old new : Linked K V) (b : �
     replaced_leaves =
         let marks = ap marks_of step.slots ∙ marks_of-refilled old.slots b (by.key, by.new_value) in
         let lengths : length (pairs_of new)
-            ≡ length (pairs_of old) = omega
-            (arith, pairs-length old first, pairs-length new next, ap length step.order, fewer) in record {
-          is = λ i. record (state_of new (record beside { limiter = step.told i })) { pairs = replaced_pairs i;
-              placings = step.placings i };
+        ≡ length (pairs_of old) = omega
+        (arith, pairs-length old first, pairs-length new next, ap length step.order, fewer) in record {
+          is = λ i. record (state_of new (record beside { limiter = step.told i })) {
+            pairs = replaced_pairs i;
+            placings = step.placings i;
+          };
           room = record {
             table = ap length marks;
             keeps = omega (arith, ap room marks);
@@ -97,7 +99,7 @@ module _ {K V S H : Type 0} (by : Replaced K V S) (old new : Linked K V) (b : �
     replaced_holds hash_of kept holds fits = leaves_holds beside eq hash_of old new _ l holds next fits
         (ap length step.slots ∙ length-set old.slots b _) replaced_leaves
         (subst (AreDistinct eq) (sym replaced_pairs)
-            (distinct_newest eq names one (by.key, by.new_value) (pairs_of old) kept distinct))
+        (distinct_newest eq names one (by.key, by.new_value) (pairs_of old) kept distinct))
 
   -- the pair left, and the others are as they were
   module _ (rules : Rules K V S) (step : IsGivenUp rules by b old new l) where
@@ -111,11 +113,17 @@ module _ {K V S H : Type 0} (by : Replaced K V S) (old new : Linked K V) (b : �
         ∙ length-set old.slots b _
 
     pub given_up_leaves : Leaves before
-        (record { pairs = without names (pairs_of old); limiter =
-        (rules.on_removed by.limiter by.key by.old_value).limiter }) after
+        (record {
+          pairs = without names (pairs_of old);
+          limiter =
+              (rules.on_removed by.limiter by.key by.old_value).limiter;
+        }) after
     given_up_leaves = record {
-      is = λ i. record (state_of new (record beside { limiter = step.told i })) { pairs = given_up_pairs i; placings =
-          step.placings i };
+      is = λ i. record (state_of new (record beside { limiter = step.told i })) {
+        pairs = given_up_pairs i;
+        placings =
+            step.placings i;
+      };
       room = frees_room old new b first next given_up_length (ap (λ o. suc (length o)) step.order
           ∙ fewer) step.room beside (record beside { limiter = l });
     }

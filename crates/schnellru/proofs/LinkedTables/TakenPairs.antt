@@ -35,12 +35,15 @@ module _ {K V S : Type 0} (rules : Rules K V S) (t u : Linked K V) (b : ℕ) (li
     pub taken_leaves : (left : Contents K V S) → pairs_of u ≡ left.pairs → told ≡ left.limiter
         → Leaves (state_of t beside) left (state_of u (record beside { limiter = told }))
     taken_leaves left pairs_are told_is = record {
-      is = λ i. record (state_of u (record beside { limiter = told_is i })) { pairs = pairs_are i; placings =
-          out.placings i };
+      is = λ i. record (state_of u (record beside { limiter = told_is i })) {
+        pairs = pairs_are i;
+        placings =
+            out.placings i;
+      };
       room = frees_room t u b first next (length-removed t.slots u.slots b out.slots)
           (ap (λ o. suc (length o)) out.order
-              ∙ shorter t first b (full_by_entry (bucket_at t.slots b) out.pair out.there)) out.room beside
-              (record beside { limiter = told });
+          ∙ shorter t first b (full_by_entry (bucket_at t.slots b) out.pair out.there)) out.room beside
+          (record beside { limiter = told });
     }
 
     -- what holds of a map holds of what is left
@@ -50,9 +53,9 @@ module _ {K V S : Type 0} (rules : Rules K V S) (t u : Linked K V) (b : ℕ) (li
     taken_holds {eq} laws hash_of holds fits =
         leaves_holds beside eq hash_of t u (record { pairs = pairs_of u; limiter = told }) told holds next fits
         (length-removed t.slots u.slots b out.slots)
-            (taken_leaves (record { pairs = pairs_of u; limiter = told }) refl refl)
+        (taken_leaves (record { pairs = pairs_of u; limiter = told }) refl refl)
         (subst (AreDistinct eq) (others_are t first b out.pair out.there (eq out.pair.0) laws
-            (λ x y e. laws.congr out.pair.0 x y e) holds.map.distinct (laws.refl out.pair.0) ∙ sym taken_pairs)
+        (λ x y e. laws.congr out.pair.0 x y e) holds.map.distinct (laws.refl out.pair.0) ∙ sym taken_pairs)
         (distinct_without eq (eq out.pair.0) (pairs_of t) holds.map.distinct))
 
 module _ {K V S H : Type 0} (rules : Rules K V S) (names : K → Bool) (st : State K V S H) where
@@ -61,6 +64,9 @@ module _ {K V S H : Type 0} (rules : Rules K V S) (names : K → Bool) (st : Sta
   none_removed none = record {
     value = ap (λ o. option_map (λ p. p.1) (left_of rules st.limiter o)) (sym none);
     state = subst (λ left. Leaves st left st)
-        (λ i. record { pairs = sym (without_none names st.pairs none) i; limiter = told_of rules
-        (sym none i) st.limiter }) (leaves_self st);
+        (λ i. record {
+          pairs = sym (without_none names st.pairs none) i;
+          limiter = told_of rules
+              (sym none i) st.limiter;
+        }) (leaves_self st);
   }

@@ -100,8 +100,8 @@ module _ {K V : Type 0} (t : Linked K V) where
     middle_full =
         let full : ℕ → Type 0 = λ b. IsFull t.slots b in
         all_front full rest.middle rest.after
-            (all_behind full rest.before (rest.middle ++ rest.after)
-            (subst (AreFull t.slots) rest.order (all_full t.slots t.order rest.linked.only)))
+        (all_behind full rest.before (rest.middle ++ rest.after)
+        (subst (AreFull t.slots) rest.order (all_full t.slots t.order rest.linked.only)))
 
     pub rest-length : length (rest_of t front left) ≡ left
     rest-length = ap length rest-is ∙ entries-length t.slots rest.middle middle_full ∙ rest.count

@@ -28,9 +28,9 @@ module _ {K V : Type 0} (t : Linked K V) (b : ℕ) (q : K × V) where
       (b ∷ without_bucket b order) ≡ q ∷ entries_in t.slots (without_bucket b order)
   written_first h order =
       ap (λ o. option_to_list o ++ entries_in (with_pair t b q).slots (without_bucket b order))
-          (entry_at-refilled t.slots b q h)
+      (entry_at-refilled t.slots b q h)
       ∙ ap (λ l. q ∷ l) (entries-apart t.slots b (refilled (bucket_at t.slots b) q) (without_bucket b order)
-          (without_lacks b order))
+      (without_lacks b order))
 
 -- a value is written at the first pair that is named
 set_end : {K V : Type 0} (names : K → Bool) (p : K × V) → names p.0 ≡ true → (w : V) (xs ys : List (K × V))
@@ -46,7 +46,7 @@ module _ {K V : Type 0} (t v : Linked K V) (linked : IsLinked t) (b : ℕ) (p : 
     ≡ Some p)
     (slots : v.slots ≡ t.slots) (order : v.order ≡ b ∷ without_bucket b t.order) (counted : v.placings ≡ t.placings)
     (names : K → Bool) {eq : K → K → Bool} (laws : IsEquivalence eq) (one : (x y : K) → names x ≡ true → names y
-        ≡ eq x y) (named : names p.0 ≡ true)
+    ≡ eq x y) (named : names p.0 ≡ true)
     (distinct : AreDistinct eq (pairs_of t)) where
   pub first_pairs : (w : V) → pairs_of (with_pair v b (p.0, w)) ≡ (p.0, w) ∷ without names (pairs_of t)
   first_pairs w = ap (entries_in (with_pair v b (p.0, w)).slots) order
@@ -59,7 +59,7 @@ module _ {K V : Type 0} (t v : Linked K V) (linked : IsLinked t) (b : ℕ) (p : 
   first_set w = ap (λ o. set_value names (after o (without names (pairs_of t))) w)
       (pair_found t linked b p there names laws one distinct named)
       ∙ ap (λ y. cond y ((p.0, w) ∷ without names (pairs_of t)) (p ∷ set_value names (without names (pairs_of t)) w))
-          named
+      named
 
   module _ {S H : Type 0} (beside : Beside S H) (w : V) where
     marks : marks_of (with_pair v b (p.0, w)).slots ≡ marks_of t.slots
@@ -67,40 +67,47 @@ module _ {K V : Type 0} (t v : Linked K V) (linked : IsLinked t) (b : ℕ) (p : 
 
     pub first_state : state_of (with_pair v b (p.0, w)) beside ≡ written names w (promoted names (state_of t beside))
     first_state = λ i. record
-        (state_of (with_pair v b (p.0, w)) beside) { pairs = (first_pairs w ∙ sym (first_set w)) i; marks = marks i;
-        places = (order ∙ sym (places_are t linked b p there names laws one distinct named)) i; placings = counted i }
+        (state_of (with_pair v b (p.0, w)) beside) {
+          pairs = (first_pairs w ∙ sym (first_set w)) i;
+          marks = marks i;
+          places = (order ∙ sym (places_are t linked b p there names laws one distinct named)) i;
+          placings = counted i;
+        }
 
     pub first_holds : (hash_of : H → K → ℕ) → Holds eq hash_of t beside → IsLinked (with_pair v b (p.0, w))
         → KeysFit (hash_of beside.hasher) (with_pair v b (p.0, w)).slots
-            → Holds eq hash_of (with_pair v b (p.0, w)) beside
+        → Holds eq hash_of (with_pair v b (p.0, w)) beside
     first_holds hash_of holds next fits = alike_holds beside eq hash_of t (with_pair v b (p.0, w)) holds next fits marks
         (subst (AreDistinct eq) (sym (first_pairs w))
-            (distinct_newest eq names one (p.0, w) (pairs_of t) named distinct))
+        (distinct_newest eq names one (p.0, w) (pairs_of t) named distinct))
 
 -- the pair of the named key is in the bucket b of t, and stays at its place
 module _ {K V : Type 0} (t : Linked K V) (linked : IsLinked t) (b : ℕ) (p : K × V) (there : entry_at t.slots b ≡ Some p)
     (names : K → Bool) {eq : K → K → Bool} (laws : IsEquivalence eq) (one : (x y : K) → names x ≡ true → names y
-        ≡ eq x y) (named : names p.0 ≡ true)
+    ≡ eq x y) (named : names p.0 ≡ true)
     (distinct : AreDistinct eq (pairs_of t)) where
   pub kept_pairs : (w : V) → pairs_of (with_pair t b (p.0, w)) ≡ set_value names (pairs_of t) w
   kept_pairs w =
       let cut = cut_here t linked b p there in let s = refilled (bucket_at t.slots b) (p.0, w) in
       entries-cut (with_pair t b (p.0, w)).slots cut (p.0, w)
-          (entry_at-refilled t.slots b (p.0, w) (full_by_entry (bucket_at t.slots b) p there))
+      (entry_at-refilled t.slots b (p.0, w) (full_by_entry (bucket_at t.slots b) p there))
       ∙ (λ i. entries-apart t.slots b s cut.before cut.none_before i ++ (p.0, w)
-          ∷ entries-apart t.slots b s cut.after cut.none_after i)
+      ∷ entries-apart t.slots b s cut.after cut.none_after i)
       ∙ sym (ap (λ l. set_value names l w) (cut_pairs t linked b p there names laws one distinct named)
       ∙ set_end names p named w (entries_in t.slots cut.before) (entries_in t.slots cut.after)
-          (unnamed t linked b p there names laws one distinct named))
+      (unnamed t linked b p there names laws one distinct named))
 
   module _ {S H : Type 0} (beside : Beside S H) (w : V) where
     pub kept_state : state_of (with_pair t b (p.0, w)) beside ≡ written names w (state_of t beside)
-    kept_state = λ i. record (state_of (with_pair t b (p.0, w)) beside) { pairs = kept_pairs w i; marks =
-        marks_of-refilled t.slots b (p.0, w) i }
+    kept_state = λ i. record (state_of (with_pair t b (p.0, w)) beside) {
+      pairs = kept_pairs w i;
+      marks =
+          marks_of-refilled t.slots b (p.0, w) i;
+    }
 
     pub kept_holds : (hash_of : H → K → ℕ) → Holds eq hash_of t beside → IsLinked (with_pair t b (p.0, w))
         → KeysFit (hash_of beside.hasher) (with_pair t b (p.0, w)).slots
-            → Holds eq hash_of (with_pair t b (p.0, w)) beside
+        → Holds eq hash_of (with_pair t b (p.0, w)) beside
     kept_holds hash_of holds next fits = alike_holds beside eq hash_of t (with_pair t b (p.0, w)) holds next fits
         (marks_of-refilled t.slots b (p.0, w))
         (subst (IsDistinct eq) (sym (ap keys_of (kept_pairs w) ∙ keys-set_value names (pairs_of t) w)) distinct)

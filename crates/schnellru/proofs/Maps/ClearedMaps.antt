@@ -17,7 +17,7 @@ use Rattle.schnellru.proofs.Theorems.CountedMoves.{room_cleared}
 module _ {K V S H : Type 0} (rules : Rules K V S) (t u : Linked K V)
     (slots : u.slots ≡ replicate (length t.slots) empty) (order : u.order ≡ [])
     (counted : u.placings ≡ t.placings) (beside : Beside S H) (told : S)
-        (is_told : told ≡ rules.on_cleared beside.limiter) where
+    (is_told : told ≡ rules.on_cleared beside.limiter) where
   marks : marks_of u.slots ≡ replicate (buckets (state_of t beside)) empty
   marks = ap marks_of slots ∙ marks_of-cleared _ (length t.slots)
       ∙ ap (λ n. replicate n empty) (sym (length-marks_of t.slots))
@@ -26,8 +26,12 @@ module _ {K V S H : Type 0} (rules : Rules K V S) (t u : Linked K V)
   none_left = ap (entries_in u.slots) order
 
   pub cleared_is : state_of u (record beside { limiter = told }) ≡ cleared rules (state_of t beside)
-  cleared_is = λ i. record (state_of u (record beside { limiter = is_told i })) { pairs = none_left i; marks = marks i;
-      places = order i; placings = counted i }
+  cleared_is = λ i. record (state_of u (record beside { limiter = is_told i })) {
+    pairs = none_left i;
+    marks = marks i;
+    places = order i;
+    placings = counted i;
+  }
 
   pub cleared_holds : (eq : K → K → Bool) (hash_of : H → K → ℕ) → Holds eq hash_of t beside → IsLinked u
       → KeysFit (hash_of beside.hasher) u.slots
@@ -41,8 +45,14 @@ module _ {K V S H : Type 0} (rules : Rules K V S) (t u : Linked K V)
           (ap length slots ∙ length-replicate (length t.slots) empty);
       paid =
           let as_many : length (marks_of u.slots) ≡ buckets (state_of t beside) = ap length marks
-              ∙ length-replicate {A = Mark} (buckets (state_of t beside)) empty in
-          omega (arith, holds.map.paid, ap room marks, room_cleared (buckets (state_of t beside)), as_many,
-              ap full_capacity as_many);
+          ∙ length-replicate {A = Mark} (buckets (state_of t beside)) empty in
+          omega (
+            arith,
+            holds.map.paid,
+            ap room marks,
+            room_cleared (buckets (state_of t beside)),
+            as_many,
+            ap full_capacity as_many,
+          );
     };
   }

@@ -66,14 +66,14 @@ module _ {K V S H : Type 0} (rules : Rules K V S) (hash_of : H → K → ℕ) (p
       → length left.pairs ≡ length old.pairs - n
   left_length n mid left c gone = let gone = oldest_leaves rules _ n mid left gone in
       ap (λ st. length st.pairs) gone.is ∙ length-pops rules n (contents mid)
-          ∙ ap (λ st. length st.pairs - n) (known_is rules old mid c)
+      ∙ ap (λ st. length st.pairs - n) (known_is rules old mid c)
 
   -- growth is refused, so many of the oldest leave, and the pair is placed beside the others
   gives_way : LacksRoom old → full_capacity (buckets old) / 2 < length old.pairs + 1 → (mid : State K V S H)
       → CannotGrow rules old mid → (n : ℕ) → (buckets old ≤ 16 → n ≡ 1)
       → (left : State K V S H) → OldestLeave rules (hash_of old.hasher pair.0) n mid left → (new : State K V S H)
       → (length left.pairs ≡ length old.pairs - n → full_capacity (buckets old) / 2 ≤ suc (length left.pairs))
-          → new.pairs ≡ pair ∷ left.pairs → buckets new ≡ buckets old
+      → new.pairs ≡ pair ∷ left.pairs → buckets new ≡ buckets old
       → KeepsAll new ⊎ (IsRefusedGrowth rules old × GivesWay new)
   gives_way f l mid c n one left gone new half there same = inr (
     record { lacks_room = f; above_half = l; known = mid; refused = c },
@@ -91,8 +91,11 @@ module _ {K V S H : Type 0} (rules : Rules K V S) (hash_of : H → K → ℕ) (p
   pub place_keeps : (outcome : Outcome) (new : State K V S H) → outcome ≡ placed
       → Place rules hash_of pair old outcome new → KeepsAll new ⊎ (IsRefusedGrowth rules old × GivesWay new)
   place_keeps outcome new q (first_table e b bytes u g m) = inl
-      (record { pairs = ap (λ st. st.pairs) (placed_if (asked rules bytes old) new _ _ _ outcome q m).state; large =
-      with_pairs e })
+      (record {
+        pairs = ap (λ st. st.pairs) (placed_if (asked rules bytes old) new _ _ _ outcome q m).state;
+        large =
+            with_pairs e;
+      })
   place_keeps outcome new q (first_denied e b bytes u d o n) = refused-not_placed (sym o ∙ q)
   place_keeps outcome new q (first_too_large e b u o n) = refused-not_placed (sym o ∙ q)
   place_keeps outcome new q (empty_with_room e b r s o n) = inl
@@ -100,23 +103,31 @@ module _ {K V S H : Type 0} (rules : Rules K V S) (hash_of : H → K → ℕ) (p
   place_keeps outcome new q (empty_without_room e b r o n) = inl
       (record { pairs = ap (λ st. st.pairs) n.state; large = with_pairs e })
   place_keeps outcome new q (with_room e r s o n) = inl
-      (record { pairs = ap (λ st. st.pairs) n.state; large = λ refusal. absurd
-      (omega (arith, r, refusal.lacks_room.1)) })
+      (record {
+        pairs = ap (λ st. st.pairs) n.state;
+        large = λ refusal. absurd
+            (omega (arith, r, refusal.lacks_room.1));
+      })
   place_keeps outcome new q (deleted_bucket f i b l o n) = inl
       (record { pairs = ap (λ st. st.pairs) n.state; large = λ refusal. b })
   place_keeps outcome new q (rehashed f i l m) =
-      inl (record { pairs = ap (λ st. st.pairs) (placed_if old new _ _ _ outcome q m).state; large = λ refusal. absurd
-          (omega (arith, l, refusal.above_half)) })
+      inl (record {
+        pairs = ap (λ st. st.pairs) (placed_if old new _ _ _ outcome q m).state;
+        large = λ refusal. absurd
+            (omega (arith, l, refusal.above_half));
+      })
   place_keeps outcome new q (grown f i l count bytes t g m) =
-      inl (record { pairs = ap (λ st. st.pairs) (placed_if (asked rules bytes old) new _ _ _ outcome q m).state;
-          large = λ refusal. not_granted count bytes t g refusal.known refusal.refused })
+      inl (record {
+        pairs = ap (λ st. st.pairs) (placed_if (asked rules bytes old) new _ _ _ outcome q m).state;
+        large = λ refusal. not_granted count bytes t g refusal.known refusal.refused;
+      })
   place_keeps outcome new q (evicting f i l mid c (finds_bucket n pos one half left gone fills o p)) =
       gives_way f l mid c n one left gone new (λ taken. omega (arith, half, taken))
-          (ap (λ st. st.pairs) p.state) p.table
+      (ap (λ st. st.pairs) p.state) p.table
   place_keeps outcome new q (evicting f i l mid c (made_anew n pos one half left gone m)) =
       let p = placed_if left new _ _ _ outcome q m in
       gives_way f l mid c n one left gone new (λ taken. omega (arith, half, taken))
-          (ap (λ st. st.pairs) p.state) p.table
+      (ap (λ st. st.pairs) p.state) p.table
 
   -- where memory lacks after that, one fewer than half are left at the least
   pub place_lacks_half : IsRefusedGrowth rules old → (outcome : Outcome) (new : State K V S H) → outcome ≡ no_memory
@@ -170,8 +181,11 @@ module _ {K V S H : Type 0} (rules : Rules K V S) (hash_of : H → K → ℕ) (p
     ]
 
     pub grown_keeps : buckets new ≢ buckets old → new.pairs ≡ pair ∷ old.pairs
-    grown_keeps other = elim (place_keeps placed new refl step) [ inl k ↦ k.pairs | inr w ↦ absurd
-        (other w.1.same_table) ]
+    grown_keeps other = elim (place_keeps placed new refl step) [
+      | inl k ↦ k.pairs
+      | inr w ↦ absurd
+          (other w.1.same_table)
+    ]
 
     pub made_anew_keeps : length old.pairs + 1 ≤ full_capacity (buckets old) / 2 → new.pairs ≡ pair ∷ old.pairs
     made_anew_keeps few = elim (place_keeps placed new refl step) [
@@ -187,5 +201,13 @@ pub room_after : {K V S H : Type 0} (rules : Rules K V S) (n : ℕ) (mid left : 
     → Leaves mid (pops rules n (contents mid)) left
     → buckets mid ≤ 16 → n ≤ length mid.pairs → room mid ≡ 0 → room left ≡ 0 → n ≡ 0
 room_after rules n mid left step small enough none still =
-    omega (arith, step.room.exact small, none, still, ap (λ st. length st.pairs) step.is, length-pops rules n
-        (contents mid), enough)
+    omega (
+      arith,
+      step.room.exact small,
+      none,
+      still,
+      ap (λ st. length st.pairs) step.is,
+      length-pops rules n
+          (contents mid),
+      enough,
+    )

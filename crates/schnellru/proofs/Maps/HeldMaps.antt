@@ -81,7 +81,7 @@ module _ {K V S H : Type 0} (beside : Beside S H) where
   -- what holds of a map holds after some pairs left
   pub leaves_holds : (eq : K → K → Bool) (hash_of : H → K → ℕ) (t u : Linked K V) (left : Contents K V S) (l : S)
       → Holds eq hash_of t beside → IsLinked u → KeysFit (hash_of beside.hasher) u.slots → length u.slots
-          ≡ length t.slots
+      ≡ length t.slots
       → Leaves (state_of t beside) left (state_of u (record beside { limiter = l })) → AreDistinct eq (pairs_of u)
       → Holds eq hash_of u (record beside { limiter = l })
   leaves_holds eq hash_of t u left l holds linked fits same leaves distinct = record {
@@ -99,7 +99,7 @@ module _ {K V S H : Type 0} (eq : K → K → Bool) (hash_of : H → K → ℕ) 
   pub copied_holds : (limiter : S) (hasher : H) → Holds eq hash_of t beside → IsLinked u
       → KeysFit (hash_of hasher) u.slots
       → marks_of u.slots ≡ marks_of t.slots → AreDistinct eq (pairs_of u)
-          → Holds eq hash_of u (record beside { limiter = limiter; hasher = hasher })
+      → Holds eq hash_of u (record beside { limiter = limiter; hasher = hasher })
   copied_holds limiter hasher holds linked fits marks distinct =
       let same : length (marks_of t.slots) ≡ length u.slots = sym (ap length marks) ∙ length-marks_of u.slots in
       let sized = holds.map.sized in
@@ -111,7 +111,7 @@ module _ {K V S H : Type 0} (eq : K → K → Bool) (hash_of : H → K → ℕ) 
           sized = sized_by (record beside { limiter = limiter; hasher = hasher }) u linked
               (subst (λ n. (n ≡ 0) ⊎ (n < beside.max)) same sized.reachable)
               (subst (λ n. (bytes : ℕ) × (usage beside.entry_bytes n ≡ Some bytes)) same sized.usable) sized.moved
-                  sized.placed;
+              sized.placed;
           paid = subst (λ m. beside.moved + (full_capacity (length m) - 2 * room m) ≤ 2 * beside.placed)
               (sym marks) holds.map.paid;
         };

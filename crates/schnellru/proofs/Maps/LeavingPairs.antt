@@ -93,7 +93,7 @@ module _ {K V S H : Type 0} (rules : Rules K V S) where
       → Leaves before (pop rules (contents before)) new → Leaves old (pops rules (suc n) (contents old)) new
   leaves_more n old before new first last =
       subst (λ l. Leaves old l new) (ap (λ st. pop rules (contents st)) first.is
-          ∙ sym (pops-more rules n (contents old)))
+      ∙ sym (pops-more rules n (contents old)))
       (leaves_trans old before new (pops rules n (contents old)) (pop rules (contents before)) first last)
 
   -- those of the oldest that left one after another left

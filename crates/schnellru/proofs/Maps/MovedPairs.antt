@@ -20,15 +20,18 @@ module _ {K V S H : Type 0} (t u : Linked K V) (count : ℕ) (linked : IsLinked 
   moves_to = record {
     table = length-marks_of u.slots ∙ table;
     exact = omega (arith, left, pairs-length t linked);
-    state = λ i. record (state_of u beside) { pairs = pairs i; placings =
-        (counted ∙ ap (count_up t.placings) (sym (pairs-length t linked))) i };
+    state = λ i. record (state_of u beside) {
+      pairs = pairs i;
+      placings =
+          (counted ∙ ap (count_up t.placings) (sym (pairs-length t linked))) i;
+    };
   }
 
   -- where the table is at most half full then, what holds of every map holds
   pub moves_holds : (eq : K → K → Bool) (hash_of : H → K → ℕ) → Holds eq hash_of t beside
       → KeysFit (hash_of beside.hasher) u.slots → count < beside.max
       → ((bytes : ℕ) × (usage beside.entry_bytes count ≡ Some bytes)) → 2 * length (pairs_of t) ≤ full_capacity count
-          → Holds eq hash_of u beside
+      → Holds eq hash_of u beside
   moves_holds eq hash_of holds fits reached usable half = record {
     linked = next;
     fits = fits;
@@ -36,7 +39,7 @@ module _ {K V S H : Type 0} (t u : Linked K V) (count : ℕ) (linked : IsLinked 
       distinct = subst (AreDistinct eq) (sym pairs) holds.map.distinct;
       sized = sized_by beside u next (inr (subst (λ n. n < beside.max) (sym table) reached))
           (subst (λ n. (bytes : ℕ) × (usage beside.entry_bytes n ≡ Some bytes)) (sym table) usable)
-              holds.map.sized.moved holds.map.sized.placed;
+          holds.map.sized.moved holds.map.sized.placed;
       paid = omega (arith, moves_to.exact, ap full_capacity moves_to.table, half, holds.map.paid);
     };
   }

@@ -51,7 +51,7 @@ module _ {K V S H : Type 0} (rules : Rules K V S) (hash_of : H → K → ℕ) (p
       (told : s ≡ (rules.on_grow old.limiter bytes).limiter) where
     pub first_granted : (outcome : Outcome) → (rules.on_grow old.limiter bytes).allowed ≡ true →
         IsPlacedIfMemory rules pair 4 (full_capacity 4 - length old.pairs - 1) (length old.pairs)
-            (record old { limiter = s }) outcome new →
+        (record old { limiter = s }) outcome new →
         Place rules hash_of pair old outcome new
     first_granted outcome granted step =
         let no_pairs = none_without_buckets old ok none in
@@ -61,7 +61,7 @@ module _ {K V S H : Type 0} (rules : Rules K V S) (hash_of : H → K → ℕ) (p
         (subst (λ n. IsPlacedIfMemory rules pair 4 2 n (asked rules bytes old) outcome new) zero_pairs
         (subst (λ n. IsPlacedIfMemory rules pair 4 n (length old.pairs) (asked rules bytes old) outcome new) two
         (subst (λ l. IsPlacedIfMemory rules pair 4 (full_capacity 4 - length old.pairs - 1) (length old.pairs)
-            (record old { limiter = l }) outcome new) told step)))
+        (record old { limiter = l }) outcome new) told step)))
 
     pub first_refused : (rules.on_grow old.limiter bytes).allowed ≡ false → new
         ≡ turned_away rules pair (record old { limiter = s }) →
@@ -73,7 +73,7 @@ module _ {K V S H : Type 0} (rules : Rules K V S) (hash_of : H → K → ℕ) (p
   pub evicts_place : (outcome : Outcome) (mid : State K V S H) → CannotGrow rules old mid → LacksRoom old
       → FirstFreeIs empty (hash_of old.hasher pair.0) old →
       full_capacity (buckets old) / 2 < length old.pairs + 1 → (hash : ℕ) → hash ≡ hash_of old.hasher pair.0
-          → Evicts rules hash pair mid mid outcome new → Place rules hash_of pair old outcome new
+      → Evicts rules hash pair mid mid outcome new → Place rules hash_of pair old outcome new
   evicts_place outcome mid cannot lacks first above hash is_hash e = go
       (subst (λ h. Evicts rules h pair mid mid outcome new) is_hash e)
     where
@@ -95,7 +95,7 @@ module _ {K V S H : Type 0} (rules : Rules K V S) (hash_of : H → K → ℕ) (p
           (made_anew n pos (λ small. one (omega (arith, same, small)))
           (omega (arith, half, pairs, ap full_capacity same)) left gone
           (subst (λ b. IsPlacedIfMemory rules pair b (full_capacity b / 2) (length left.pairs) left outcome new) same
-              m))
+          m))
 
   -- the pair went into a bucket that the table has
   pub bucket_place : (0 < room old) ⊎ (0 < length old.pairs) → IsPlaced pair (buckets old) (room new) 0 old new →
@@ -107,9 +107,9 @@ module _ {K V S H : Type 0} (rules : Rules K V S) (hash_of : H → K → ℕ) (p
       deleted_first l none (inl less) = absurd (omega (arith, none, less.1))
       deleted_first l none (inr (first, large, same)) =
           let within : length old.pairs < full_capacity (buckets old) = omega
-              (arith, (deleted_first_large old ok (hash_of old.hasher pair.0) first).1) in
+          (arith, (deleted_first_large old ok (hash_of old.hasher pair.0) first).1) in
           deleted_bucket (l, none) first large within refl
-              (record { table = step.table; room_left = omega (arith, same, none); state = step.state })
+          (record { table = step.table; room_left = omega (arith, same, none); state = step.state })
 
       go : Dec (0 < room old) → Dec (0 < length old.pairs) → Place rules hash_of pair old placed new
       go (yes r) (yes l) = with_room l r fills refl step
@@ -124,14 +124,14 @@ module _ {K V S H : Type 0} (rules : Rules K V S) (hash_of : H → K → ℕ) (p
       → (0 < length old.pairs → FirstFreeIs empty (hash_of old.hasher pair.0) old) →
       length old.pairs < full_capacity (buckets old) / 2 →
       IsPlacedIfMemory rules pair (buckets old) (full_capacity (buckets old) - length old.pairs - 1)
-          (length old.pairs) old (outcome_of result) new →
+      (length old.pairs) old (outcome_of result) new →
       (old.pairs ≡ [] → IsOk result) → Place rules hash_of pair old (outcome_of result) new
   rehash_place result none first few step succeeds = go (dec_lt 0 (length old.pairs))
     where
       placed_by : (r : Result Bool AllocError) → IsOk r → IsPlacedIfMemory rules pair (buckets old)
           (full_capacity (buckets old) - length old.pairs - 1) (length old.pairs) old (outcome_of r) new →
           (outcome_of r ≡ placed) × IsPlaced pair (buckets old) (full_capacity (buckets old) - length old.pairs - 1)
-              (length old.pairs) old new
+          (length old.pairs) old new
       placed_by (Ok true) ok h = (refl, h)
       placed_by (Ok false) ok h = absurd h
       placed_by (Err e) ok h = absurd (grind (arith, ok))
@@ -140,14 +140,14 @@ module _ {K V S H : Type 0} (rules : Rules K V S) (hash_of : H → K → ℕ) (p
       go (yes some) = rehashed (some, none) (first some) (omega (arith, few)) step
       go (no l) =
           let no_pairs : length old.pairs ≡ 0 = omega (arith, l) in
-              let empty_list = nil_from_length old.pairs no_pairs in
+          let empty_list = nil_from_length old.pairs no_pairs in
           let there = placed_by result (succeeds empty_list) step in
           let spare : full_capacity (buckets old) - length old.pairs - 1 ≡ full_capacity (buckets old) - 1 = omega
-              (arith, no_pairs) in
+          (arith, no_pairs) in
           empty_without_room empty_list (omega (arith, few, full_capacity-at_most (buckets old))) none there.0
           (subst (λ n. IsPlaced pair (buckets old) n 0 old new) spare
           (subst (λ n. IsPlaced pair (buckets old) (full_capacity (buckets old) - length old.pairs - 1) n old new)
-              no_pairs there.1))
+          no_pairs there.1))
 
   module _ (lacks : LacksRoom old) (first : FirstFreeIs empty (hash_of old.hasher pair.0) old)
       (above : full_capacity (buckets old) / 2 < length old.pairs + 1)
@@ -156,19 +156,19 @@ module _ {K V S H : Type 0} (rules : Rules K V S) (hash_of : H → K → ℕ) (p
         (told : s ≡ (rules.on_grow old.limiter bytes).limiter) where
       pub grown_place : (rules.on_grow old.limiter bytes).allowed ≡ true →
           IsPlacedIfMemory rules pair count (full_capacity count - length old.pairs - 1) (length old.pairs)
-              (record old { limiter = s }) outcome new →
+          (record old { limiter = s }) outcome new →
           Place rules hash_of pair old outcome new
       grown_place granted step = grown lacks first above count bytes next granted
           (subst (λ l. IsPlacedIfMemory rules pair count (full_capacity count - length old.pairs - 1)
-              (length old.pairs) (record old { limiter = l }) outcome new) told step)
+          (length old.pairs) (record old { limiter = l }) outcome new) told step)
 
       pub denied_place : (rules.on_grow old.limiter bytes).allowed ≡ false → (hash : ℕ) → hash
           ≡ hash_of old.hasher pair.0 →
           Evicts rules hash pair (record old { limiter = s }) (record old { limiter = s }) outcome new
-              → Place rules hash_of pair old outcome new
+          → Place rules hash_of pair old outcome new
       denied_place refusal hash is_hash step = evicts_place outcome (record old { limiter = s })
           (denied count bytes next refusal (ap {A = S} {B = State K V S H} (λ l. record old { limiter = l }) told))
-              lacks first above hash is_hash step
+          lacks first above hash is_hash step
 
     pub untold_place : table_for 1 old ≡ no_table → (hash : ℕ) → hash ≡ hash_of old.hasher pair.0
         → Evicts rules hash pair old old outcome new → Place rules hash_of pair old outcome new
@@ -192,16 +192,22 @@ some_of_half t linked there half = go linked.table.count
   where
     go : IsBucketCount (length (marks_of t.slots)) → 0 < length (pairs_of t)
     go (inl none) = absurd (there (sym (length-marks_of t.slots) ∙ none))
-    go (inr power) = omega (arith, full_capacity-some (length (marks_of t.slots)) power, ap full_capacity
-        (length-marks_of t.slots), half, pairs-length t linked)
+    go (inr power) = omega (
+      arith,
+      full_capacity-some (length (marks_of t.slots)) power,
+      ap full_capacity
+          (length-marks_of t.slots),
+      half,
+      pairs-length t linked,
+    )
 
 -- so many of the oldest left, after none of which the pair had a place, and then one more
 module _ {K V S H : Type 0} (rules : Rules K V S) (hash : ℕ) (pair : K × V) (old before left : State K V S H)
     (ok : IsSized old) (lacks : LacksRoom old) (n : ℕ)
     (gone : OldestLeave rules hash n old before) (some : 0 < length before.pairs)
-        (half : full_capacity (buckets old) / 2 ≤ length before.pairs)
+    (half : full_capacity (buckets old) / 2 ≤ length before.pairs)
     (still : HasNoPlace before.marks hash) (none : room before ≡ 0)
-        (step : Leaves before (pop rules (contents before)) left) where
+    (step : Leaves before (pop rules (contents before)) left) where
   pub one_more : OldestLeave rules hash (suc n) old left
   one_more = (before, gone, still, step)
 
@@ -223,8 +229,8 @@ module _ {K V S H : Type 0} (rules : Rules K V S) (hash : ℕ) (pair : K × V) (
   pub left_absent : (names : K → Bool) → lookup_entry names old.pairs ≡ None → lookup_entry names left.pairs ≡ None
   left_absent names absent = front_absent names left.pairs old.pairs
       (subst (λ xs. IsFront xs old.pairs)
-          (sym (ap (λ st. st.pairs) (leaves_more rules n old before left leaves step).is))
-          (front_pops rules (suc n) (contents old))) absent
+      (sym (ap (λ st. st.pairs) (leaves_more rules n old before left leaves step).is))
+      (front_pops rules (suc n) (contents old))) absent
 
   module _ (new : State K V S H) where
     pub finds : full_capacity (buckets old) / 2 ≤ length left.pairs
@@ -236,17 +242,31 @@ module _ {K V S H : Type 0} (rules : Rules K V S) (hash : ℕ) (pair : K × V) (
 
     pub makes_anew : (outcome : Outcome) → length left.pairs < full_capacity (buckets old) / 2 →
         IsPlacedIfMemory rules pair (buckets old) (full_capacity (buckets old) - length left.pairs - 1)
-            (length left.pairs) left outcome new →
+        (length left.pairs) left outcome new →
         Evicts rules hash pair old old outcome new
     makes_anew outcome few m = made_anew (suc n) (omega arith) only_one
         (omega (arith, few, half, one_fewer, in_all)) left one_more
         (subst (λ s. IsPlacedIfMemory rules pair (buckets old) s (length left.pairs) left outcome new)
-            (spare (dec_lt 8 (buckets old))) m)
+        (spare (dec_lt 8 (buckets old))) m)
       where
         spare : Dec (8 < buckets old) → full_capacity (buckets old) - length left.pairs - 1
             ≡ full_capacity (buckets old) / 2
-        spare (yes large) = omega (arith, few, half, one_fewer, full_capacity-even (buckets old)
-            (power_with_pairs old ok lacks.0) large)
+        spare (yes large) = omega (
+          arith,
+          few,
+          half,
+          one_fewer,
+          full_capacity-even (buckets old)
+              (power_with_pairs old ok lacks.0) large,
+        )
         spare (no small) = absurd
-            (omega (arith, exact old ok (omega (arith, small)), lacks.1, only_one (omega (arith, small)), in_all, few,
-            half, one_fewer))
+            (omega (
+              arith,
+              exact old ok (omega (arith, small)),
+              lacks.1,
+              only_one (omega (arith, small)),
+              in_all,
+              few,
+              half,
+              one_fewer,
+            ))

@@ -44,7 +44,7 @@ module _ {K V S H : Type 0} (st : State K V S H) where
 
 module _ {K V S H Q : Type 0} {names : Q → K → Bool} {eq : K → K → Bool} {query_input : Q → List (List ℕ)}
     {key_input : K → List (List ℕ)} (looks_up : IsLookup names eq query_input key_input) (q : Q)
-        (old : State K V S H) where
+    (old : State K V S H) where
   pub promoted_is_map : IsMap eq old → IsMap eq (promoted (names q) old)
   promoted_is_map ok = record {
     distinct = distinct_first eq (names q) (looks_up.one q) old.pairs ok.distinct;

@@ -38,29 +38,42 @@ module _ {K V S H : Type 0} where
   -- some pairs can leave, so that each gives its room back
   pub some_leave : (old : State K V S H) (c : Contents K V S) → IsSized old → length c.pairs ≤ length old.pairs
       → (new : State K V S H) × Leaves old c new × IsSized new
-          × (length c.pairs + room new ≡ length old.pairs + room old)
+      × (length c.pairs + room new ≡ length old.pairs + room old)
   some_leave old c ok fewer = elim (dec_lt (length c.pairs) (length old.pairs)) [
     | no q ↦ let same : length c.pairs ≡ length old.pairs = omega (arith, fewer, q) in (
       record old { pairs = c.pairs; limiter = c.limiter },
       record {
         is = refl;
-        room = record { table = refl; keeps = omega arith; at_most = omega (arith, same); exact = λ _. omega
-            (arith, same); untouched = λ _. refl };
+        room = record {
+          table = refl;
+          keeps = omega arith;
+          at_most = omega (arith, same);
+          exact = λ _. omega
+              (arith, same);
+          untouched = λ _. refl;
+        };
       },
-      record { table = ok.table; taken = ok.taken ∙ sym same; reachable = ok.reachable; usable = ok.usable; moved =
-          ok.moved; placed = ok.placed },
+      record {
+        table = ok.table;
+        taken = ok.taken ∙ sym same;
+        reachable = ok.reachable;
+        usable = ok.usable;
+        moved =
+            ok.moved;
+        placed = ok.placed;
+      },
       omega (arith, same),
     )
     | yes q ↦
         let deletions = count_by is_deleted old.marks in
         let split = used_count-split old.marks in
         let within : length c.pairs + deletions ≤ full_capacity (buckets old) = omega
-            (arith, split, ok.taken, ok.table.used_within, q) in
+        (arith, split, ok.taken, ok.table.used_within, q) in
         let new : State K V S H =
-            record old { pairs = c.pairs; limiter = c.limiter; marks = marked old ok c.pairs deletions within } in
+        record old { pairs = c.pairs; limiter = c.limiter; marks = marked old ok c.pairs deletions within } in
         let left = room-marked old ok c.pairs deletions within in
         let freed : length c.pairs + room new ≡ length old.pairs
-            + room old = omega (arith, left, room_is old.marks, split, ok.taken, ok.table.used_within, q) in (
+        + room old = omega (arith, left, room_is old.marks, split, ok.taken, ok.table.used_within, q) in (
           new,
           record {
             is = refl;
@@ -83,19 +96,29 @@ module _ {K V S H : Type 0} where
     some_bucket : (deletions : ℕ) → length old.pairs + 1 + deletions ≤ full_capacity (buckets old)
         → (buckets old ≤ 16 → deletions ≡ 0)
         → (new : State K V S H)
-            × IsPlaced pair (buckets old) (full_capacity (buckets old) - (length old.pairs + 1 + deletions)) 0 old new
-            × IsSized new
+        × IsPlaced pair (buckets old) (full_capacity (buckets old) - (length old.pairs + 1 + deletions)) 0 old new
+        × IsSized new
     some_bucket deletions within none_deleted =
         let pairs = pair ∷ old.pairs in
         let fit : length pairs + deletions ≤ full_capacity (buckets old) = omega (arith, within) in
         let placings = count_up old.placings 1 in
         let moved = count_up old.moved 0 in
         let placed = count_up old.placed 1 in
-        let new : State K V S H = record old { pairs = pairs; marks = marked old ok pairs deletions fit; placings =
-            placings; moved = moved; placed = placed } in (
+        let new : State K V S H = record old {
+          pairs = pairs;
+          marks = marked old ok pairs deletions fit;
+          placings =
+              placings;
+          moved = moved;
+          placed = placed;
+        } in (
           new,
-          record { table = length-marked old ok pairs deletions fit; room_left = omega
-              (arith, room-marked old ok pairs deletions fit); state = refl },
+          record {
+            table = length-marked old ok pairs deletions fit;
+            room_left = omega
+                (arith, room-marked old ok pairs deletions fit);
+            state = refl;
+          },
           sized-marked old ok pairs deletions fit none_deleted old.limiter placings moved placed (counted old.moved 0)
               (counted old.placed 1),
         )
@@ -103,7 +126,7 @@ module _ {K V S H : Type 0} where
     -- with room it can fill the first free one
     some_filled : (hash : ℕ) → 0 < room old
         → (new : State K V S H) × IsPlaced pair (buckets old) (room new) 0 old new × FillsBucket hash old new
-            × IsSized new
+        × IsSized new
     some_filled hash r = go (bucket_at old.marks free.0) refl
       where
         deletions : ℕ
@@ -117,18 +140,26 @@ module _ {K V S H : Type 0} where
 
         go : (m : Mark) → bucket_at old.marks free.0 ≡ m
             → (new : State K V S H) × IsPlaced pair (buckets old) (room new) 0 old new × FillsBucket hash old new
-                × IsSized new
+            × IsSized new
         go empty e =
-            let (new, is, sized) = some_bucket deletions (omega (arith, r, spare)) ok.table.none_deleted in
-            (new, record { table = is.table; room_left = refl; state = is.state }, inl
-                ((free.0, free.2, e), omega (arith, is.room_left, spare, r)), sized)
+            let (new, is, sized) = some_bucket deletions (omega (arith, r, spare)) ok.table.none_deleted in (
+              new,
+              record { table = is.table; room_left = refl; state = is.state },
+              inl
+                  ((free.0, free.2, e), omega (arith, is.room_left, spare, r)),
+              sized,
+            )
         go deleted e =
             let some = count_by-pos is_deleted old.marks free.0 free.1 (ap is_deleted e) in
             let large = (deleted_large old ok free.0 free.1 e).0 in
             let (new, is, sized) = some_bucket (deletions - 1) (omega (arith, some, spare))
-                (λ small. absurd (omega (arith, small, large))) in
-            (new, record { table = is.table; room_left = refl; state = is.state }, inr
-                ((free.0, free.2, e), large, omega (arith, is.room_left, some, spare)), sized)
+            (λ small. absurd (omega (arith, small, large))) in (
+              new,
+              record { table = is.table; room_left = refl; state = is.state },
+              inr
+                  ((free.0, free.2, e), large, omega (arith, is.room_left, some, spare)),
+              sized,
+            )
         go (full held) e = absurd (false≢true (sym free.2.free_there ∙ ap is_full e))
 
 module _ {K V S H : Type 0} (rules : Rules K V S) (hash_of : H → K → ℕ) (pair : K × V) (old : State K V S H)
@@ -155,11 +186,18 @@ module _ {K V S H : Type 0} (rules : Rules K V S) (hash_of : H → K → ℕ) (p
     where
       asks : (bytes : ℕ) → usage old.entry_bytes 4 ≡ Some bytes → (allowed : Bool)
           → (rules.on_grow old.limiter bytes).allowed ≡ allowed → Ends
-      asks bytes u true g = (no_memory, turned_away rules pair (asked rules bytes old), first_table e b bytes u g refl,
-          sized_with_limiter old _ ok)
-      asks bytes u false g =
-          (refused, turned_away rules pair (asked rules bytes old), first_denied e b bytes u g refl refl,
-          sized_with_limiter old _ ok)
+      asks bytes u true g = (
+        no_memory,
+        turned_away rules pair (asked rules bytes old),
+        first_table e b bytes u g refl,
+        sized_with_limiter old _ ok,
+      )
+      asks bytes u false g = (
+        refused,
+        turned_away rules pair (asked rules bytes old),
+        first_denied e b bytes u g refl refl,
+        sized_with_limiter old _ ok,
+      )
 
       go : (u : Option ℕ) → usage old.entry_bytes 4 ≡ u → Ends
       go None u = (refused, turned_away rules pair old, first_too_large e b u refl refl, sized_with_limiter old _ ok)
@@ -170,9 +208,9 @@ module _ {K V S H : Type 0} (rules : Rules K V S) (hash_of : H → K → ℕ) (p
   emptied_ends e power r =
       let none : length old.pairs ≡ 0 = ap length e in
       let (new, is, sized) = some_bucket pair old ok 0 (omega (arith, none, full_capacity-some (buckets old) power))
-          (λ _. refl) in
+      (λ _. refl) in
       let one : IsPlaced pair (buckets old) (full_capacity (buckets old) - 1) 0 old new =
-          record { table = is.table; room_left = omega (arith, is.room_left, none); state = is.state } in
+      record { table = is.table; room_left = omega (arith, is.room_left, none); state = is.state } in
       (placed, new, empty_without_room e (omega (arith, power_pos (buckets old) power)) r refl one, sized)
 
   -- with room a bucket is filled
@@ -181,8 +219,13 @@ module _ {K V S H : Type 0} (rules : Rules K V S) (hash_of : H → K → ℕ) (p
       let (new, is, fills, sized) = some_filled pair old ok (hash_of old.hasher pair.0) r in
       elim (dec_lt 0 (length old.pairs)) [
         | yes some ↦ (placed, new, with_room some r fills refl is, sized)
-        | no none ↦ (placed, new, empty_with_room (nil_from_length old.pairs (omega (arith, none)))
-            (omega (arith, r, room_is old.marks, full_capacity-at_most (buckets old))) r fills refl is, sized)
+        | no none ↦ (
+          placed,
+          new,
+          empty_with_room (nil_from_length old.pairs (omega (arith, none)))
+              (omega (arith, r, room_is old.marks, full_capacity-at_most (buckets old))) r fills refl is,
+          sized,
+        )
       ]
 
   module _ (lacks : LacksRoom old) where
@@ -195,12 +238,16 @@ module _ {K V S H : Type 0} (rules : Rules K V S) (hash_of : H → K → ℕ) (p
         let some = count_by-pos is_deleted old.marks free.0 below (ap is_deleted free.2) in
         let (large, spare) = deleted_large old ok free.0 below free.2 in
         let (new, is, sized) = some_bucket pair old ok (deletions - 1) (omega (arith, some, full_table))
-            (λ small. absurd (omega (arith, small, large))) in (
+        (λ small. absurd (omega (arith, small, large))) in (
           placed,
           new,
           deleted_bucket lacks free large (omega (arith, spare)) refl
-              (record { table = is.table; room_left = omega (arith, is.room_left, some, full_table); state =
-              is.state }),
+              (record {
+                table = is.table;
+                room_left = omega (arith, is.room_left, some, full_table);
+                state =
+                    is.state;
+              }),
           sized,
         )
 
@@ -213,11 +260,11 @@ module _ {K V S H : Type 0} (rules : Rules K V S) (hash_of : H → K → ℕ) (p
           let fewer = length-pops rules 1 (contents mid) in
           let (end, leaves, sized, freed) = some_leave mid left (sized_with_limiter old s ok) (omega (arith, fewer)) in
           let gone : OldestLeave rules (hash_of old.hasher pair.0) 1 mid end =
-              (mid, refl, inr (lacks.1, free.0, free.1, free.2), leaves) in
+          (mid, refl, inr (lacks.1, free.0, free.1, free.2), leaves) in
           elim (dec_lt half (length old.pairs)) [
             | yes l ↦
                 let (new, is, fills, after) = some_filled pair end sized (hash_of old.hasher pair.0)
-                    (omega (arith, freed, fewer, lacks.0)) in (
+                (omega (arith, freed, fewer, lacks.0)) in (
                   placed,
                   new,
                   evicting lacks free more mid cannot
@@ -239,9 +286,12 @@ module _ {K V S H : Type 0} (rules : Rules K V S) (hash_of : H → K → ℕ) (p
         where
           asks : (count bytes : ℕ) → table_for 1 old ≡ new_table count bytes → (allowed : Bool)
               → (rules.on_grow old.limiter bytes).allowed ≡ allowed → Ends
-          asks count bytes t true g =
-              (no_memory, turned_away rules pair (asked rules bytes old), grown lacks free more count bytes t g refl,
-              sized_with_limiter old _ ok)
+          asks count bytes t true g = (
+            no_memory,
+            turned_away rules pair (asked rules bytes old),
+            grown lacks free more count bytes t g refl,
+            sized_with_limiter old _ ok,
+          )
           asks count bytes t false g = evicted_ends more (rules.on_grow old.limiter bytes).limiter
               (denied count bytes t g refl)
 
@@ -254,8 +304,12 @@ module _ {K V S H : Type 0} (rules : Rules K V S) (hash_of : H → K → ℕ) (p
       empty_ends : Ends
       empty_ends = elim (dec_lt half (length old.pairs + 1)) [
         | yes more ↦ growing_ends more
-        | no few ↦ (no_memory, turned_away rules pair old, rehashed lacks free (omega (arith, few)) refl,
-            sized_with_limiter old _ ok)
+        | no few ↦ (
+          no_memory,
+          turned_away rules pair old,
+          rehashed lacks free (omega (arith, few)) refl,
+          sized_with_limiter old _ ok,
+        )
       ]
 
     full_ends : Ends
@@ -297,7 +351,7 @@ module _ {K V : Type 0} (names : K → Bool) where
 module _ {K V S H I : Type 0} (rules : Rules K V S) (offers : Offers K V S I) (names : I → K → Bool)
     (hash_of : H → K → ℕ) (i : I) (v : V) (old : State K V S H) (ok : IsSized old)
     (offered : (s : S) (n : ℕ) (key : I) (value : V) → (t : S) × (given : Option (K × V))
-        × offers.on_insert s n key value t given) where
+    × offers.on_insert s n key value t given) where
   abbrev pub Inserts : Type 0
   Inserts = (result : Result Bool AllocError) × (new : State K V S H)
       × Insert rules offers names hash_of i v old result new × IsSized new
@@ -307,12 +361,16 @@ module _ {K V S H I : Type 0} (rules : Rules K V S) (offers : Offers K V S I) (n
   there pair found true y =
       let c = with_replaced rules offers names pair i v old in
       let (new, left, after, freed) = some_leave old (trim rules c) ok
-          (omega (arith, length-front _ c.pairs (front_trim rules c), length-without_found
-          (names i) old.pairs pair found)) in
+      (omega (
+        arith,
+        length-front _ c.pairs (front_trim rules c),
+        length-without_found
+            (names i) old.pairs pair found,
+      )) in
       (Ok (not (is_empty new.pairs)), new, replaced pair found y refl left, after)
   there pair found false y =
       let (new, left, after, freed) = some_leave old (with_given_up rules offers names pair i v old) ok
-          (omega (arith, length-without_found (names i) old.pairs pair found)) in
+      (omega (arith, length-without_found (names i) old.pairs pair found)) in
       (Ok false, new, given_up pair found y refl left, after)
 
   given_pair : lookup_entry (names i) old.pairs ≡ None → (s : S) (pair : K × V)
@@ -321,32 +379,43 @@ module _ {K V S H I : Type 0} (rules : Rules K V S) (offers : Offers K V S I) (n
       let told : State K V S H = record old { limiter = s } in
       let c : Contents K V S = record { pairs = old.pairs; limiter = s } in
       let (way, left, goes_on, freed) = some_leave told (make_way rules c) (sized_with_limiter old s ok)
-          (length-front _ old.pairs (front_make_way rules c)) in
+      (length-front _ old.pairs (front_make_way rules c)) in
       let (outcome, landed, place, after) = some_place rules hash_of pair way goes_on in
       settle way left outcome landed place after
     where
       settle : (way : State K V S H) → Leaves (record old { limiter = s })
           (make_way rules (record { pairs = old.pairs; limiter = s })) way →
           (outcome : Outcome) (landed : State K V S H) → Place rules hash_of pair way outcome landed → IsSized landed
-              → Inserts
+          → Inserts
       settle way left placed landed place after =
           let (new, leaves, end, freed) = some_leave landed (trim rules (contents landed)) after
-              (length-front _ landed.pairs (front_trim rules (contents landed))) in
-          (Ok (not (is_empty new.pairs)), new, admitted absent s pair admits
-              (way, left, placed, landed, place, (refl, leaves)), end)
+          (length-front _ landed.pairs (front_trim rules (contents landed))) in (
+            Ok (not (is_empty new.pairs)),
+            new,
+            admitted absent s pair admits
+                (way, left, placed, landed, place, (refl, leaves)),
+            end,
+          )
       settle way left refused landed place after =
           (Ok false, landed, admitted absent s pair admits (way, left, refused, landed, place, (refl, refl)), after)
-      settle way left no_memory landed place after =
-          (Err (record {}), landed, admitted absent s pair admits (way, left, no_memory, landed, place, (refl, refl)),
-          after)
+      settle way left no_memory landed place after = (
+        Err (record {}),
+        landed,
+        admitted absent s pair admits (way, left, no_memory, landed, place, (refl, refl)),
+        after,
+      )
 
   pub some_insert : Inserts
   some_insert = go (lookup_entry (names i) old.pairs) refl
     where
       absent : lookup_entry (names i) old.pairs ≡ None → (s : S) (given : Option (K × V))
           → offers.on_insert old.limiter (length old.pairs) i v s given → Inserts
-      absent e s None admits = (Ok false, record old { limiter = s }, not_admitted e s admits refl refl,
-          sized_with_limiter old s ok)
+      absent e s None admits = (
+        Ok false,
+        record old { limiter = s },
+        not_admitted e s admits refl refl,
+        sized_with_limiter old s ok,
+      )
       absent e s (Some pair) admits = given_pair e s pair admits
 
       go : (found : Option (K × V)) → lookup_entry (names i) old.pairs ≡ found → Inserts

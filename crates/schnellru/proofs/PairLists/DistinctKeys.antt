@@ -91,9 +91,11 @@ module _ {K V : Type 0} (eq : K → K → Bool) where
     pub distinct_newest : (newest : K × V) (xs : List (K × V)) → names newest.0 ≡ true → AreDistinct xs
         → AreDistinct (newest ∷ without names xs)
     unfolding IsDistinct
-    distinct_newest newest xs n d =
-        (all_map (λ y. names y ≡ false) (λ y. eq newest.0 y ≡ false) (keys_of (without names xs))
-            (λ y h. sym (one newest.0 y n) ∙ h) (others_unnamed xs d), distinct_without names xs d)
+    distinct_newest newest xs n d = (
+      all_map (λ y. names y ≡ false) (λ y. eq newest.0 y ≡ false) (keys_of (without names xs))
+          (λ y h. sym (one newest.0 y n) ∙ h) (others_unnamed xs d),
+      distinct_without names xs d,
+    )
 
     pub distinct_first : (xs : List (K × V)) → AreDistinct xs → AreDistinct (front names xs)
     distinct_first xs d = go (lookup_entry names xs) refl
@@ -124,7 +126,7 @@ module _ {K V S Q : Type 0} (rules : Rules K V S) (names : Q → K → Bool) {eq
 
 module _ {K V S I : Type 0} (rules : Rules K V S) (offers : Offers K V S I) (names : I → K → Bool) {eq : K → K → Bool}
     {query_input : I → List (List ℕ)} {key_input : K → List (List ℕ)}
-        (looks_up : IsLookup names eq query_input key_input) (laws : IsInsertion names eq offers) where
+    (looks_up : IsLookup names eq query_input key_input) (laws : IsInsertion names eq offers) where
   came_distinct : (i : I) (pair : K × V) (xs : List (K × V)) → lookup_entry (names i) xs ≡ None → names i pair.0 ≡ true
       → AreDistinct eq xs → AreDistinct eq (pair ∷ xs)
   came_distinct i pair xs a n d = subst (λ ys. AreDistinct eq (pair ∷ ys)) (without_none (names i) xs a)
@@ -135,7 +137,7 @@ module _ {K V S I : Type 0} (rules : Rules K V S) (offers : Offers K V S I) (nam
   exchanged_distinct i v c pair found = let r = offers.on_replace c.limiter (length c.pairs) pair.0 i pair.1 v in
       let n = found_named (names i) c.pairs pair found in
       distinct_newest eq (names i) (looks_up.one i) (r.key, kept_value r) c.pairs (looks_up.one i pair.0 r.key n
-          ∙ laws.keeps_key c.limiter (length c.pairs) pair.0 i pair.1 v n)
+      ∙ laws.keeps_key c.limiter (length c.pairs) pair.0 i pair.1 v n)
 
   pub offers_distinct : KeepsOffers rules offers names (λ c d. AreDistinct eq c.pairs → AreDistinct eq d.pairs)
   offers_distinct = record {
@@ -155,10 +157,11 @@ module _ {K V : Type 0} {eq : K → K → Bool} (laws : IsEquivalence eq) (R : K
   apart_same x y [] [] e z h = tt
   apart_same x y [] (q ∷ qs) e z h = absurd z
   apart_same x y (p ∷ ps) [] e z h = absurd z
-  apart_same x y (p ∷ ps) (q ∷ qs) e z h =
-      (sym (laws.congr x y q.0 e) ∙ laws.symm x q.0 ∙ sym (laws.congr p.0 q.0 x (equal p q z.0)) ∙ laws.symm p.0 x
-          ∙ h.0,
-      apart_same x y ps qs e z.1 h.1)
+  apart_same x y (p ∷ ps) (q ∷ qs) e z h = (
+    sym (laws.congr x y q.0 e) ∙ laws.symm x q.0 ∙ sym (laws.congr p.0 q.0 x (equal p q z.0)) ∙ laws.symm p.0 x
+        ∙ h.0,
+    apart_same x y ps qs e z.1 h.1,
+  )
 
   pub distinct_same : (xs ys : List (K × V)) → AllZip R xs ys → AreDistinct eq xs → AreDistinct eq ys
   unfolding IsDistinct

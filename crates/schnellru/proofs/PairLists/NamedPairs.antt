@@ -36,9 +36,10 @@ module _ {K V : Type 0} (names : K → Bool) where
         → NoneNamed names xs
     unfolding IsDistinct
     others_unnamed [] ys p named d = tt
-    others_unnamed (x ∷ xs) ys p named d =
-        (one p.0 x.0 named ∙ laws.symm p.0 x.0 ∙ met (λ k. eq x.0 k ≡ false) xs ys p d.0,
-            others_unnamed xs ys p named d.1)
+    others_unnamed (x ∷ xs) ys p named d = (
+      one p.0 x.0 named ∙ laws.symm p.0 x.0 ∙ met (λ k. eq x.0 k ≡ false) xs ys p d.0,
+      others_unnamed xs ys p named d.1,
+    )
 
 module _ {X : Type 0} where
   pub last_end : (xs : List X) (x : X) → last (xs ++ x ∷ []) ≡ Some x

@@ -25,22 +25,22 @@ need_is : (max c n : ℕ) → buckets_for max c ≡ Some n → IsNeed c n
 unfolding buckets_for IsNeed
 need_is max c n =
     pick (c == 0) (nat_lt c 4) (nat_lt c 8) (nat_lt (8 * c) (2 ^ 64)) (λ e. grind (arith, nat_tests))
-        (λ e. grind (arith, nat_tests)) (λ e. grind (arith, nat_tests))
+    (λ e. grind (arith, nat_tests)) (λ e. grind (arith, nat_tests))
     (λ e. grind (arith, nat_tests)) (λ e. grind (arith, nat_tests))
   where
     pick : (a b d e : Bool) → (a ≡ true → c ≡ 0) → (b ≡ true → c < 4) → (b ≡ false → 4 ≤ c) → (d ≡ true → c < 8)
         → (d ≡ false → 8 ≤ c) →
         cond a (Some 0) (cond b (below max 4)
-            (cond d (below max 8) (cond e (below max (least_power (8 * c / 7))) None))) ≡ Some n →
+        (cond d (below max 8) (cond e (below max (least_power (8 * c / 7))) None))) ≡ Some n →
         ((c < 4) × (n ≤ 4)) ⊎ ((4 ≤ c) × (c < 8) × (n ≡ 8))
-            ⊎ ((8 ≤ c) × (n < 2 * (8 * c / 7)) × ((j : ℕ) × (n ≡ 2 ^ j)))
+        ⊎ ((8 ≤ c) × (n < 2 * (8 * c / 7)) × ((j : ℕ) × (n ≡ 2 ^ j)))
     pick true b d e p q r s t h = let z = p refl in let w : n ≡ 0 = grind arith in inl (omega arith, omega (arith, w))
     pick false true d e p q r s t h = let w : 4 ≡ n = (cond_some (nat_lt 4 max) 4 n h).1 in
         inl (q refl, omega (arith, w))
     pick false false true e p q r s t h = inr (inl (r refl, s refl, sym ((cond_some (nat_lt 8 max) 8 n h).1)))
     pick false false false true p q r s t h =
         let w : least_power (8 * c / 7)
-            ≡ n = (cond_some (nat_lt (least_power (8 * c / 7)) max) (least_power (8 * c / 7)) n h).1 in
+        ≡ n = (cond_some (nat_lt (least_power (8 * c / 7)) max) (least_power (8 * c / 7)) n h).1 in
         let shape = least_power_shape (8 * c / 7) in
         let l : 8 ≤ c = t refl in
         let u = least_power_upper (8 * c / 7) (omega arith) in
@@ -138,7 +138,7 @@ half_needs : (k max b c : ℕ) → b ≡ 4 * 2 ^ k → b < max → b < 2 ^ 63 �
 unfolding buckets_for
 half_needs k max b c size reached addressable half =
     pick (c == 0) (nat_lt c 4) (nat_lt c 8) (nat_lt (8 * c) (2 ^ 64)) (λ e. grind (arith, nat_tests))
-        (λ e. grind (arith, nat_tests)) (λ e. grind (arith, nat_tests))
+    (λ e. grind (arith, nat_tests)) (λ e. grind (arith, nat_tests))
   where
     four : 4 ≤ b
     four = power_pos b (k, size)
@@ -157,15 +157,15 @@ half_needs k max b c size reached addressable half =
 
     pick : (a d e f : Bool) → (d ≡ false → 4 ≤ c) → (e ≡ false → 8 ≤ c) → (f ≡ false → 2 ^ 64 ≤ 8 * c)
         → (need : ℕ) × (cond a (Some 0)
-            (cond d (below max 4) (cond e (below max 8) (cond f (below max (least_power (8 * c / 7))) None)))
-            ≡ Some need) × (need ≤ b)
+        (cond d (below max 4) (cond e (below max 8) (cond f (below max (least_power (8 * c / 7))) None)))
+        ≡ Some need) × (need ≤ b)
     pick true d e f p q r = (0, refl, omega arith)
     pick false true e f p q r = (4, within 4 four, four)
     pick false false true f p q r = let l : 8 ≤ b = omega (arith, p refl, most, half) in (8, within 8 l, l)
     pick false false false true p q r =
         let l : 8 ≤ c = q refl in let u = least_power_upper (8 * c / 7) (omega arith) in
         let m : least_power (8 * c / 7) ≤ b = omega (arith, u, half, eighths (omega (arith, l, most, half))) in
-            (least_power (8 * c / 7), within _ m, m)
+        (least_power (8 * c / 7), within _ m, m)
     pick false false false false p q r = absurd
         (omega (arith, r refl, half, eighths (omega (arith, q refl, most, half)), gap, size, pow-add 2 k 2))
 

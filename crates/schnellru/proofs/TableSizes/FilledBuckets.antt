@@ -15,9 +15,17 @@ module _ {K V S H : Type 0} (old : State K V S H) (ok : IsSized old) (b : ℕ) (
   -- a table with a deleted bucket has more than 16, and its pairs and its room are less than it takes
   pub deleted_large : bucket_at old.marks b ≡ deleted → (16 < buckets old)
       × (length old.pairs + room old.marks < full_capacity (buckets old))
-  deleted_large there =
-      (large (dec_lt 16 (buckets old)), omega (arith, some, used_count-split old.marks, ok.table.used_within, ok.taken,
-      room_is old.marks))
+  deleted_large there = (
+    large (dec_lt 16 (buckets old)),
+    omega (
+      arith,
+      some,
+      used_count-split old.marks,
+      ok.table.used_within,
+      ok.taken,
+      room_is old.marks,
+    ),
+  )
     where
       some : 0 < count_by is_deleted old.marks
       some = count_by-pos is_deleted old.marks b within (ap is_deleted there)

@@ -67,7 +67,7 @@ buckets_double_large b max n l m = pick (full_capacity (2 * b)) (grind (arith, n
       where
         split : (a b' d e' : Bool) → a ≡ false → b' ≡ false → d ≡ false → (e' ≡ true → 8 * c < 2 ^ 64) →
             cond a (Some 0) (cond b' (below max 4)
-                (cond d (below max 8) (cond e' (below max (least_power (8 * c / 7))) None))) ≡ Some n → 2 * b ≤ n
+            (cond d (below max 8) (cond e' (below max (least_power (8 * c / 7))) None))) ≡ Some n → 2 * b ≤ n
         split true b' d e' x y z w h = grind arith
         split false true d e' x y z w h = grind arith
         split false false true e' x y z w h = grind arith
@@ -232,9 +232,10 @@ size_power n least (inr (j, e)) = go (dec_lt j 2)
 pub target_reached : (max e b c n bytes : ℕ) → IsPowerFromFour b → target max e b c ≡ new_table n bytes
     → IsPowerFromFour n × (n < max)
 unfolding IsSize
-target_reached max e b c n bytes power h =
-    (size_power n (omega (arith, doubles, least)) (buckets_shape max need.0 n need.1),
-    buckets_below max need.0 n need.1 (omega (arith, doubles, least)))
+target_reached max e b c n bytes power h = (
+  size_power n (omega (arith, doubles, least)) (buckets_shape max need.0 n need.1),
+  buckets_below max need.0 n need.1 (omega (arith, doubles, least)),
+)
   where
     need : (pairs : ℕ) × (buckets_for max pairs ≡ Some n)
     need = target_need max e b c n bytes h
@@ -253,7 +254,7 @@ buckets_some max c n some = pick (c == 0) (nat_lt c 4) (nat_lt c 8) (nat_lt (8 *
   where
     pick : (a b d e : Bool) → a ≡ false → (d ≡ false → 8 ≤ c) → (e ≡ true → 8 * c < 2 ^ 64)
         → cond a (Some 0) (cond b (below max 4)
-            (cond d (below max 8) (cond e (below max (least_power (8 * c / 7))) None))) ≡ Some n → 4 ≤ n
+        (cond d (below max 8) (cond e (below max (least_power (8 * c / 7))) None))) ≡ Some n → 4 ≤ n
     pick true b d e p q r h = absurd cc
     pick false true d e p q r h = omega (arith, (cond_some (nat_lt 4 max) 4 n h).1)
     pick false false true e p q r h = omega (arith, (cond_some (nat_lt 8 max) 8 n h).1)
@@ -285,15 +286,23 @@ first_least max e c n bytes some = from (buckets_for max c) refl
 pub target_new : (max e b c n bytes : ℕ) → IsBucketCount b → 0 < c → target max e b c ≡ new_table n bytes
     → IsPowerFromFour n × (n < max) × (full_capacity b ≤ full_capacity n)
 target_new max e b c n bytes (inr power) some h =
-    let r = target_reached max e b c n bytes power h in
-    (r.0, r.1, omega (arith, full_capacity-double power.0 b n power.1
-        (target_doubles power.0 max e b c n bytes power.1 h)))
+    let r = target_reached max e b c n bytes power h in (
+      r.0,
+      r.1,
+      omega (
+        arith,
+        full_capacity-double power.0 b n power.1
+            (target_doubles power.0 max e b c n bytes power.1 h),
+      ),
+    )
 target_new max e b c n bytes (inl none) some h =
     let first : target max e 0 c ≡ new_table n bytes = subst (λ m. target max e m c ≡ new_table n bytes) none h in
     let least = first_least max e c n bytes some first in
-    let need = target_need max e b c n bytes h in
-    (size_power n least (buckets_shape max need.0 n need.1), buckets_below max need.0 n need.1 (omega (arith, least)),
-        omega (arith, none, full_capacity-at_most b))
+    let need = target_need max e b c n bytes h in (
+      size_power n least (buckets_shape max need.0 n need.1),
+      buckets_below max need.0 n need.1 (omega (arith, least)),
+      omega (arith, none, full_capacity-at_most b),
+    )
 
 -- a table of the same size is kept where at most half of it is needed
 pub target-same : (max e b c : ℕ) → target max e b c ≡ same_table → c ≤ full_capacity b / 2

@@ -39,8 +39,14 @@ count-row p f d e =
     let fulls : List Mark = replicate f (full tt) in
     let deletions : List Mark = replicate d deleted in
     let empties : List Mark = replicate e empty in
-    rw (sum_by-append one fulls (deletions ++ empties), sum_by-append one deletions empties, sum_by-replicate one f
-        (full tt), sum_by-replicate one d deleted, sum_by-replicate one e empty) refl
+    rw (
+      sum_by-append one fulls (deletions ++ empties),
+      sum_by-append one deletions empties,
+      sum_by-replicate one f
+          (full tt),
+      sum_by-replicate one d deleted,
+      sum_by-replicate one e empty,
+    ) refl
 
 module _ {K V S H : Type 0} (old : State K V S H) (ok : IsSized old) (pairs : List (K × V)) (d : ℕ)
     (within : length pairs + d ≤ full_capacity (buckets old)) where
@@ -49,8 +55,12 @@ module _ {K V S H : Type 0} (old : State K V S H) (ok : IsSized old) (pairs : Li
   marked = row (length pairs) d (buckets old - length pairs - d)
 
   pub length-marked : length marked ≡ buckets old
-  length-marked = omega (arith, length-row (length pairs) d (buckets old - length pairs - d), within,
-      full_capacity-at_most (buckets old))
+  length-marked = omega (
+    arith,
+    length-row (length pairs) d (buckets old - length pairs - d),
+    within,
+    full_capacity-at_most (buckets old),
+  )
 
   used-marked : count_by is_used marked ≡ length pairs + d
   used-marked = omega (arith, count-row is_used (length pairs) d (buckets old - length pairs - d))
@@ -63,13 +73,23 @@ module _ {K V S H : Type 0} (old : State K V S H) (ok : IsSized old) (pairs : Li
     table-marked = IsTable-counted marked (subst IsBucketCount (sym length-marked) ok.table.count)
         (omega (arith, used-marked, within, ap full_capacity length-marked))
         (omega (arith, length-marked, ok.table.addressable))
-        (λ small. omega (arith, count-row is_deleted (length pairs) d (buckets old - length pairs - d), none_deleted
-            (omega (arith, small, length-marked))))
+        (λ small. omega (
+          arith,
+          count-row is_deleted (length pairs) d (buckets old - length pairs - d),
+          none_deleted
+              (omega (arith, small, length-marked)),
+        ))
 
     -- With these pairs they are a map's, as large as old.
     pub sized-marked : (limiter : S) (placings moved placed : ℕ) → moved < 2 ^ 64 → placed < 2 ^ 64
-        → IsSized (record old { pairs = pairs; limiter = limiter; marks = marked; placings = placings; moved = moved;
-            placed = placed })
+        → IsSized (record old {
+          pairs = pairs;
+          limiter = limiter;
+          marks = marked;
+          placings = placings;
+          moved = moved;
+          placed = placed;
+        })
     sized-marked limiter placings moved placed m p = record {
       table = table-marked;
       taken = omega (arith, count-row is_full (length pairs) d (buckets old - length pairs - d));

@@ -106,7 +106,7 @@ module _ {K V S H Q : Type 0} (rules : Rules K V S) (names : Q → K → Bool) (
   drain_changes newest oldest result new h = let (mid, l, e) = h.state in
       let r = k.way.trans (pops_first_keep rules names R k newest (contents old)) (pops_keep rules R k.way oldest _) in
       rw e (calm_changes rules R 0 old _ (calm_trans old mid _ (leaves_calm old _ mid l) (cleared_calm rules mid))
-          (k.way.trans (leaves_keep R old _ mid l r) (k.cleared (contents mid))))
+      (k.way.trans (leaves_keep R old _ mid l r) (k.cleared (contents mid))))
 
 module _ {K V S H : Type 0} (rules : Rules K V S) (R : Contents K V S → Contents K V S → Type 0)
     (old : State K V S H) where
@@ -135,7 +135,7 @@ module _ {K V S H : Type 0} (rules : Rules K V S) (R : Contents K V S → Conten
   reserves : (s : S) (new : State K V S H) (count : ℕ) → MovesTo count (record old { limiter = s }) new
       → R (contents old) (record { pairs = old.pairs; limiter = s })
       → IsNextCount rules (Reaches rules R old) old count
-          → (IsBounded old → full_capacity (buckets old) ≤ full_capacity count) → Grows new
+      → (IsBounded old → full_capacity (buckets old) ≤ full_capacity count) → Grows new
   reserves s new count m r next large = record {
     moves = subst (R (contents old)) (sym (ap contents m.state)) r;
     tables = record {
@@ -157,23 +157,31 @@ module _ {K V S H : Type 0} (rules : Rules K V S) (R : Contents K V S → Conten
       (λ ok. omega arith)
   reserve_changes result new (no_memory_to_remake l t p r e) = remains new e
   reserve_changes result new (reserved l count bytes t g r m) = reserves _ new count m (k.asked bytes (contents old))
-      (inr (record { bytes = bytes; usable = target_usage old.max old.entry_bytes (buckets old)
-          (length old.pairs + n) count bytes t; limiter = old.limiter; holds = (_, k.self (contents old)); granted =
-          g }))
+      (inr (record {
+        bytes = bytes;
+        usable = target_usage old.max old.entry_bytes (buckets old)
+            (length old.pairs + n) count bytes t;
+        limiter = old.limiter;
+        holds = (_, k.self (contents old));
+        granted =
+            g;
+      }))
       (λ ok. larger ok.count)
     where
       larger : IsBucketCount (buckets old) → full_capacity (buckets old) ≤ full_capacity count
       larger (inl z) = omega (arith, z, full_capacity-at_most (buckets old))
-      larger (inr j) = omega
-          (arith, full_capacity-double j.0 (buckets old) count j.1
-          (target_doubles j.0 old.max old.entry_bytes (buckets old) (length old.pairs + n) count bytes j.1 t))
+      larger (inr j) = omega (
+        arith,
+        full_capacity-double j.0 (buckets old) count j.1
+            (target_doubles j.0 old.max old.entry_bytes (buckets old) (length old.pairs + n) count bytes j.1 t),
+      )
   reserve_changes result new (no_memory_to_grow l count bytes t g r e) = asks_only bytes new e
   reserve_changes result new (denied_room l count bytes t d r e) = asks_only bytes new e
 
 module _ {K V S H I : Type 0} (rules : Rules K V S) (offers : Offers K V S I) (names : I → K → Bool)
     (R : Contents K V S → Contents K V S → Type 0) (k : KeepsOffers rules offers names R)
     (hash_of : H → K → ℕ) (makes : V → Type 0) (i : I) (old : State K V S H) (result : Result Bool AllocError)
-        (new : State K V S H) where
+    (new : State K V S H) where
   pub makes_newest_changes : MakesNewest rules offers names hash_of makes i old result new → Changes rules R 1 old new
   makes_newest_changes (got w e r step) = calm_changes rules R 1 old new
       (rw step (pairs_calm rules old _ _ (length-front_pairs (names i) old.pairs)))

@@ -20,7 +20,7 @@ module _ {K V S H : Type 0} where
       → CountsPlacings old new
   around_counts old mid end new first last counts = λ p m n.
       let rise = counts (omega (arith, p, last.placings)) (omega (arith, m, last.moved))
-          (omega (arith, n, last.placed)) in
+      (omega (arith, n, last.placed)) in
       omega (arith, rise, first.placings, first.moved, first.placed, last.placings, last.moved, last.placed)
 
 module _ {K V S H : Type 0} (rules : Rules K V S) (hash_of : H → K → ℕ) (pair : K × V) (old : State K V S H) where
@@ -57,6 +57,6 @@ module _ {K V S H I : Type 0} (rules : Rules K V S) (offers : Offers K V S I) (n
   insert_counts (not_admitted a s n r e) = rw e (calm_counts old _ (limiter_calm old s))
   insert_counts (admitted a s pair n (ready, l, outcome, landed, step, rest)) =
       around_counts old ready landed new (calm_trans old (record old { limiter = s }) ready (limiter_calm old s)
-          (leaves_calm _ _ ready l))
+      (leaves_calm _ _ ready l))
       (settles_calm rules outcome landed result new rest)
       (place_counts rules hash_of pair ready outcome landed step)

@@ -53,8 +53,13 @@ module _ {K V S H : Type 0} (rules : Rules K V S) (hash_of : H → K → ℕ) (p
   only_deleted ok outcome new q (with_room e r s o n) p = absurd (omega (arith, r, no_room))
   only_deleted ok outcome new q (deleted_bucket f i b l o n) p = i
   only_deleted ok outcome new q (rehashed f i l m) p =
-      absurd (omega (arith, l, some, p.room_left,
-          (placed_if rules hash_of pair old old new _ _ _ outcome q m).room_left))
+      absurd (omega (
+        arith,
+        l,
+        some,
+        p.room_left,
+        (placed_if rules hash_of pair old old new _ _ _ outcome q m).room_left,
+      ))
   only_deleted ok outcome new q (grown f i l count bytes t g m) p = absurd (larger ok.count)
     where
       same : count ≡ buckets old
@@ -63,12 +68,30 @@ module _ {K V S H : Type 0} (rules : Rules K V S) (hash_of : H → K → ℕ) (p
       larger : IsBucketCount (buckets old) → ⊥
       larger (inl z) = absurd (omega (arith, z, f.0, ok.fits, full_capacity-at_most (buckets old)))
       larger (inr k) = absurd
-          (omega (arith, same, power_pos (buckets old) k, target_doubles k.0 old.max old.entry_bytes (buckets old)
-          (length old.pairs + 1) count bytes k.1 t))
+          (omega (
+            arith,
+            same,
+            power_pos (buckets old) k,
+            target_doubles k.0 old.max old.entry_bytes (buckets old)
+                (length old.pairs + 1) count bytes k.1 t,
+          ))
   only_deleted ok outcome new q (evicting f i l mid c (finds_bucket n pos one half left gone fills o is)) p =
-      absurd (omega (arith, pos, half, ap (λ st. length st.pairs) is.state, ap (λ st. length st.pairs) p.state,
-          left_length rules hash_of pair old n mid left c gone))
+      absurd (omega (
+        arith,
+        pos,
+        half,
+        ap (λ st. length st.pairs) is.state,
+        ap (λ st. length st.pairs) p.state,
+        left_length rules hash_of pair old n mid left c gone,
+      ))
   only_deleted ok outcome new q (evicting f i l mid c (made_anew n pos one half left gone m)) p =
-      absurd (omega (arith, pos, half, some, ap (λ st. length st.pairs)
-          (placed_if rules hash_of pair old left new _ _ _ outcome q m).state, ap (λ st. length st.pairs) p.state,
-          left_length rules hash_of pair old n mid left c gone))
+      absurd (omega (
+        arith,
+        pos,
+        half,
+        some,
+        ap (λ st. length st.pairs)
+            (placed_if rules hash_of pair old left new _ _ _ outcome q m).state,
+        ap (λ st. length st.pairs) p.state,
+        left_length rules hash_of pair old n mid left c gone,
+      ))

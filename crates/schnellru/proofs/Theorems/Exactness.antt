@@ -47,8 +47,12 @@ module _ {K V S H : Type 0} (rules : Rules K V S) (hash_of : H → K → ℕ) (p
 
   full_lands : 0 < length old.pairs → room old ≡ 0 → full_capacity (buckets old) / 2 < length old.pairs + 1 → here
       ≡ grows rules pair (table_for 1 old) (contents old)
-  full_lands l r f = rw (is_empty-some old.pairs l, le-ltb 0 (room old) (le_of_eq r), lt-leb (length old.pairs + 1)
-      (full_capacity (buckets old) / 2) f)
+  full_lands l r f = rw (
+    is_empty-some old.pairs l,
+    le-ltb 0 (room old) (le_of_eq r),
+    lt-leb (length old.pairs + 1)
+        (full_capacity (buckets old) / 2) f,
+  )
 
   evicts_from : (mid : State K V S H) → CannotGrow rules old mid → grows rules pair (table_for 1 old) (contents old)
       ≡ evicts rules pair (contents mid)
@@ -77,8 +81,11 @@ module _ {K V S H : Type 0} (rules : Rules K V S) (hash_of : H → K → ℕ) (p
   place_lands outcome new (with_room e r s o n) = rw (is_empty-some old.pairs e, lt-ltb 0 (room old) r)
       (is_placed rules pair old _ _ _ outcome new o n)
   place_lands outcome new (deleted_bucket f i b l o n) = absurd (omega (arith, small))
-  place_lands outcome new (rehashed f i l m) = rw (is_empty-some old.pairs f.0, le-ltb 0 (room old) (le_of_eq f.1),
-      le-leb (length old.pairs + 1) (full_capacity (buckets old) / 2) l) (if_memory rules pair old _ _ _ outcome new m)
+  place_lands outcome new (rehashed f i l m) = rw (
+    is_empty-some old.pairs f.0,
+    le-ltb 0 (room old) (le_of_eq f.1),
+    le-leb (length old.pairs + 1) (full_capacity (buckets old) / 2) l,
+  ) (if_memory rules pair old _ _ _ outcome new m)
   place_lands outcome new (grown f i l count bytes t g m) = rw (full_lands f.0 f.1 l, t, g)
       (if_memory rules pair (asked rules bytes old) _ _ _ outcome new m)
   place_lands outcome new (evicting f i l mid c (finds_bucket n pos one half left gone fills o p)) = rw
@@ -86,7 +93,7 @@ module _ {K V S H : Type 0} (rules : Rules K V S) (hash_of : H → K → ℕ) (p
       (one_left n mid left (one small) gone) (is_placed rules pair left _ _ _ outcome new o p))
   place_lands outcome new (evicting f i l mid c (made_anew n pos one half left gone m)) =
       rw (full_lands f.0 f.1 l, evicts_from mid c) (subst (λ x. LandsAs rules pair (lands rules pair x) outcome new)
-          (one_left n mid left (one small) gone) (if_memory rules pair left _ _ _ outcome new m))
+      (one_left n mid left (one small) gone) (if_memory rules pair left _ _ _ outcome new m))
 
 module _ {K V S H : Type 0} (rules : Rules K V S) (hash_of : H → K → ℕ) (old : State K V S H) where
   -- a pair that the limiter gave lands as it is to, after way was made for it
@@ -94,9 +101,9 @@ module _ {K V S H : Type 0} (rules : Rules K V S) (hash_of : H → K → ℕ) (o
   PlacesExactly = (s : S) (pair : K × V) (ready : State K V S H) →
       let c = make_way rules (record { pairs = old.pairs; limiter = s }) in
       Leaves (record old { limiter = s }) c ready → (outcome : Outcome) (landed : State K V S H)
-          → Place rules hash_of pair ready outcome landed →
+      → Place rules hash_of pair ready outcome landed →
       LandsAs rules pair (landing rules pair (buckets old)
-          (room old + length old.pairs - length c.pairs) old.entry_bytes old.max c) outcome landed
+      (room old + length old.pairs - length c.pairs) old.entry_bytes old.max c) outcome landed
 
   -- up to 16 buckets each placing lands so
   pub small_places : buckets old ≤ 16 → PlacesExactly
@@ -105,9 +112,9 @@ module _ {K V S H : Type 0} (rules : Rules K V S) (hash_of : H → K → ℕ) (o
       let tiny : buckets ready ≤ 16 = omega (arith, l.room.table, small) in
       let same : contents ready ≡ c = ap contents l.is in
       let spare : room ready ≡ room old + length old.pairs - length c.pairs = omega
-          (arith, l.room.exact small, ap (λ x. length x.pairs) same) in
+      (arith, l.room.exact small, ap (λ x. length x.pairs) same) in
       let is : here rules hash_of pair ready tiny
-          ≡ landing rules pair (buckets old) (room old + length old.pairs - length c.pairs) old.entry_bytes old.max c =
+      ≡ landing rules pair (buckets old) (room old + length old.pairs - length c.pairs) old.entry_bytes old.max c =
       (λ j. landing rules pair (l.room.table j) (spare j) (l.is j).entry_bytes (l.is j).max (same j)) in
       subst (λ x. LandsAs rules pair x outcome landed) is (place_lands rules hash_of pair ready tiny outcome landed p)
 
@@ -120,8 +127,10 @@ module _ {K V S H I : Type 0} (rules : Rules K V S) (offers : Offers K V S I) (n
   trimmed_ends : (mid : State K V S H) (c : Contents K V S) (result : Result Bool AllocError) (new : State K V S H)
       → result ≡ Ok (not (is_empty new.pairs)) → Leaves mid (trim rules c) new → IsEnding rules offers names i v old
       (trimmed rules c) result new
-  trimmed_ends mid c result new r l = (r ∙ ap (λ x. Ok (not (is_empty x.pairs))) (left_is mid (trim rules c) new l),
-      left_is mid (trim rules c) new l)
+  trimmed_ends mid c result new r l = (
+    r ∙ ap (λ x. Ok (not (is_empty x.pairs))) (left_is mid (trim rules c) new l),
+    left_is mid (trim rules c) new l,
+  )
 
   settled_ends : (l : Landing K V S) (pair : K × V) (outcome : Outcome) (landed : State K V S H)
       (result : Result Bool AllocError) (new : State K V S H) → IsOk result → LandsAs rules pair l outcome landed
@@ -139,8 +148,13 @@ module _ {K V S H I : Type 0} (rules : Rules K V S) (offers : Offers K V S I) (n
   insert_ends places result new ok (no_memory_to_admit a k r e) = ok-not_err result ok r
   insert_ends places result new ok (not_admitted a s n r e) = rw a (s, None, n, (r, ap contents e))
   insert_ends places result new ok (admitted a s pair n (ready, l, outcome, landed, p, t)) =
-      rw a (s, Some pair, n, settled_ends _ pair outcome landed result new ok
-          (places s pair ready l outcome landed p) t)
+      rw a (
+        s,
+        Some pair,
+        n,
+        settled_ends _ pair outcome landed result new ok
+            (places s pair ready l outcome landed p) t,
+      )
 
 module _ {K V S H I : Type 0} (rules : Rules K V S) (offers : Offers K V S I) (names : I → K → Bool) (i : I) (v : V)
     (old : State K V S H)

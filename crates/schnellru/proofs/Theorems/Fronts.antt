@@ -53,7 +53,7 @@ module _ {K V : Type 0} where
   front_absent names [] ys front absent = refl
   front_absent names (x ∷ xs) ys front absent =
       go (names x.0) (front_absent names xs (xs ++ front.0) (front.0, refl)) (sym (ap (lookup_entry names) front.1)
-          ∙ absent)
+      ∙ absent)
     where
       go : (b : Bool) → (lookup_entry names (xs ++ front.0) ≡ None → lookup_entry names xs ≡ None) →
           cond b (Some x) (lookup_entry names (xs ++ front.0)) ≡ None → cond b (Some x) (lookup_entry names xs) ≡ None
@@ -134,7 +134,7 @@ module _ {K V S H I : Type 0} (rules : Rules K V S) (offers : Offers K V S I) (n
     replaced_named pair found =
         let n = found_named (names i) old.pairs pair found in
         looks_up.one i pair.0 (replacement rules offers names pair i v old).key n
-            ∙ laws.keeps_key old.limiter (length old.pairs) pair.0 i pair.1 v n
+        ∙ laws.keeps_key old.limiter (length old.pairs) pair.0 i pair.1 v n
 
     -- Inserts give up pairs from the old end alone, save one whose replacement is refused.
     pub insert_gives_up : (result : Result Bool AllocError) (new : State K V S H)
@@ -142,7 +142,7 @@ module _ {K V S H I : Type 0} (rules : Rules K V S) (offers : Offers K V S I) (n
         → GivesUp (names i) (λ pair. (replacement rules offers names pair i v old).taken ≡ false) old.pairs new.pairs
     insert_gives_up result new (replaced pair found y r l) =
         behind _ (replaced_named pair found) (front_trans _ _ _ (front_same _ _ (ap (λ st. st.pairs) l.is))
-            (front_trim rules (with_replaced rules offers names pair i v old)))
+        (front_trim rules (with_replaced rules offers names pair i v old)))
     insert_gives_up result new (given_up pair found y r l) = without_one pair found y (ap (λ st. st.pairs) l.is)
     insert_gives_up result new (no_memory_to_admit a k r e) = with_none a (front_same _ _ (ap (λ st. st.pairs) e))
     insert_gives_up result new (not_admitted a s n r e) = with_none a (front_same _ _ (ap (λ st. st.pairs) e))

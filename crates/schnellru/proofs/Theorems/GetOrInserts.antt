@@ -25,8 +25,13 @@ first_named {K} {V} names xs w e = go (lookup_entry names xs) refl (sym (lookup-
     go : (o : Option (K × V)) → lookup_entry names xs ≡ o → option_map (λ p. p.1) o ≡ Some w
         → IsNewest names (after o (without names xs))
     go None is h = absurd (none-some w h)
-    go (Some pair) is h = record { pair = pair; rest = without names xs; first = refl; named =
-        found_named names xs pair is }
+    go (Some pair) is h = record {
+      pair = pair;
+      rest = without names xs;
+      first = refl;
+      named =
+          found_named names xs pair is;
+    }
 
 module _ {K V S H : Type 0} (rules : Rules K V S) (names : K → Bool) (new : State K V S H) where
   says_newest : (result : Result Bool AllocError) → SaysWhether rules names result new → SaysNewest names result new
@@ -52,7 +57,7 @@ no_pair {K} {V} names xs none = go (lookup_entry names xs) (sym (lookup-entry na
 module _ {K V S H I : Type 0} (rules : Rules K V S) (offers : Offers K V S I) (names : I → K → Bool)
     (hash_of : H → K → ℕ) {eq : K → K → Bool} {query_input : I → List (List ℕ)} {key_input : K → List (List ℕ)}
     (looks_up : IsLookup names eq query_input key_input) (laws : IsInsertion names eq offers) (i : I)
-        (makes : V → Type 0) (old : State K V S H) where
+    (makes : V → Type 0) (old : State K V S H) where
   pub makes_says : (result : Result Bool AllocError) (new : State K V S H) → AreDistinct eq old.pairs
       → MakesNewest rules offers names hash_of makes i old result new → SaysNewest (names i) result new
   makes_says result new d (got w there r step) = rw r (rw step (first_named (names i) old.pairs w there))
@@ -62,11 +67,11 @@ module _ {K V S H I : Type 0} (rules : Rules K V S) (offers : Offers K V S I) (n
 module _ {K V S H I E : Type 0} (rules : Rules K V S) (offers : Offers K V S I) (names : I → K → Bool)
     (hash_of : H → K → ℕ) {eq : K → K → Bool} {query_input : I → List (List ℕ)} {key_input : K → List (List ℕ)}
     (looks_up : IsLookup names eq query_input key_input) (laws : IsInsertion names eq offers) (i : I)
-        (makes : Result V E → Type 0) (old : State K V S H) where
+    (makes : Result V E → Type 0) (old : State K V S H) where
   pub says_if_made : (result : Result Bool (GetOrInsertError E)) (new : State K V S H) → AreDistinct eq old.pairs
       → MakesNewestIfMade rules offers names hash_of makes i old result new → SaysNewest (names i) result new
   says_if_made result new d (if_made.got w there r step) = rw r (rw step (first_named (names i) old.pairs w there))
   says_if_made result new d (if_made.failed none e made r step) = rw r (rw step (no_pair (names i) old.pairs none))
   says_if_made result new d (if_made.inserted none v made flag step r) =
       rw r (says_or_memory rules (names i) new E flag
-          (insert_says rules offers names hash_of looks_up laws i v old flag new d step))
+      (insert_says rules offers names hash_of looks_up laws i v old flag new d step))

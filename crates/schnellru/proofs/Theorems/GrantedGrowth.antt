@@ -46,8 +46,8 @@ module _ {K V S H : Type 0} (rules : Rules K V S) (grants : AlwaysGrants rules) 
     where
       go : (a b : Bool) → (b ≡ false → full_capacity (buckets old) / 2 < length old.pairs + 1) →
           cond a (lands rules pair (contents old))
-              (cond b (lands rules pair (contents old)) (grows rules pair (table_for 1 old) (contents old)))
-              ≡ lands rules pair (contents old)
+          (cond b (lands rules pair (contents old)) (grows rules pair (table_for 1 old) (contents old)))
+          ≡ lands rules pair (contents old)
       go true b more = refl
       go false true more = refl
       go false false more = grows_lands (table_for 1 old) refl (more refl)
@@ -106,15 +106,15 @@ module _ {K V S H : Type 0} (rules : Rules K V S) (grants : AlwaysGrants rules) 
       let left : length ready.pairs ≡ length c.pairs = ap (λ x. length x.pairs) same in
       let spare = room old + length old.pairs - length c.pairs in
       let goes : (n : ℕ) → n ≡ length ready.pairs + 1 → target old.max old.entry_bytes (buckets old) n ≢ no_table
-          → table_for 1 ready ≢ no_table =
+      → table_for 1 ready ≢ no_table =
       (λ n e some h. some ((λ j. target (ap (λ st. st.max) (sym l.is) j) (ap (λ st. st.entry_bytes) (sym l.is) j)
-          (sym l.room.table j) (e j)) ∙ h)) in
+      (sym l.room.table j) (e j)) ∙ h)) in
       let some : table_for 1 ready ≢ no_table = elim (way_length (record { pairs = old.pairs; limiter = s })) [
         | inl all ↦ goes (length old.pairs + 1) (omega (arith, left, all)) tables.0
         | inr one ↦ goes (length old.pairs + 0) (omega (arith, left, one)) tables.1
       ] in
       let is : landing rules pair (buckets ready) spare ready.entry_bytes ready.max (contents ready)
-          ≡ landing rules pair (buckets old) spare old.entry_bytes old.max c =
+      ≡ landing rules pair (buckets old) spare old.entry_bytes old.max c =
       (λ j. landing rules pair (l.room.table j) spare (l.is j).entry_bytes (l.is j).max (same j)) in
       subst (λ x. LandsAs rules pair x outcome landed) is
-          (place_granted rules grants hash_of pair ready some spare outcome landed p)
+      (place_granted rules grants hash_of pair ready some spare outcome landed p)

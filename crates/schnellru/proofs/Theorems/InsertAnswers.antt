@@ -135,11 +135,14 @@ module _ {K V S H I : Type 0} (rules : Rules K V S) (offers : Offers K V S I) (n
       → Insert rules offers names hash_of i v old result new → SaysWhether rules (names i) result new
   insert_says result new d (replaced pair found y r l) = trimmed_says rules (names i) old
       (with_replaced rules offers names pair i v old) result new l r (record {
-    pair = ((replacement rules offers names pair i v old).key, (replacement rules offers names pair i v old).new_value);
-    rest = without (names i) old.pairs;
-    first = refl;
-    named = replaced_named rules offers names hash_of looks_up laws i v old pair found;
-  })
+        pair = (
+          (replacement rules offers names pair i v old).key,
+          (replacement rules offers names pair i v old).new_value,
+        );
+        rest = without (names i) old.pairs;
+        first = refl;
+        named = replaced_named rules offers names hash_of looks_up laws i v old pair found;
+      })
   insert_says result new d (given_up pair found y r l) = rw r (ap (λ st. lookup_entry (names i) st.pairs) l.is
       ∙ absent_without eq (names i) (λ x y n. looks_up.one i x y n) old.pairs d)
   insert_says result new d (no_memory_to_admit a k r e) = err_says result new r
@@ -147,23 +150,23 @@ module _ {K V S H I : Type 0} (rules : Rules K V S) (offers : Offers K V S I) (n
   insert_says result new d (not_admitted a s n r e) = rw r (ap (λ st. lookup_entry (names i) st.pairs) e ∙ a)
   insert_says result new d (admitted a s pair n (ready, l, outcome, landed, p, t)) =
       settled_says pair ready outcome landed result new
-          (given_named rules offers names hash_of looks_up laws i v old s pair n)
+      (given_named rules offers names hash_of looks_up laws i v old s pair n)
       (front_absent (names i) ready.pairs old.pairs (front_trans _ _ _ (front_same _ _ (ap (λ st. st.pairs) l.is))
-          (front_make_way rules (record { pairs = old.pairs; limiter = s }))) a)
-          (place_comes rules hash_of pair ready outcome landed p) t
+      (front_make_way rules (record { pairs = old.pairs; limiter = s }))) a)
+      (place_comes rules hash_of pair ready outcome landed p) t
 
   -- The newest pair is the one that the insert stores.
   stored : (c : Contents K V S) (mid : State K V S H) (new : State K V S H) → Leaves mid (trim rules c) new
       → ◌≡◌ {A = Result Bool AllocError} (Ok true) (Ok (not (is_empty new.pairs)))
       → (pair : K × V) (rest : List (K × V))
       → c.pairs ≡ pair ∷ rest → Stores rules offers names i v old pair
-          → IfSome (first new.pairs) (Stores rules offers names i v old)
+      → IfSome (first new.pairs) (Stores rules offers names i v old)
   stored c mid new l r pair rest is h =
       let there : is_empty new.pairs ≡ false = not_true (is_empty new.pairs) (same_kept true _ r) in
       let same : new.pairs ≡ (trim rules c).pairs = ap (λ st. st.pairs) l.is in
       subst (λ o. IfSome o (Stores rules offers names i v old))
-          (sym (front_first new.pairs c.pairs (subst (λ xs. IsFront xs c.pairs) (sym same) (front_trim rules c)) there
-          ∙ ap first is)) h
+      (sym (front_first new.pairs c.pairs (subst (λ xs. IsFront xs c.pairs) (sym same) (front_trim rules c)) there
+      ∙ ap first is)) h
 
   pub insert_stores : (result : Result Bool AllocError) (new : State K V S H) → result ≡ Ok true
       → Insert rules offers names hash_of i v old result new

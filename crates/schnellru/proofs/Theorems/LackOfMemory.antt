@@ -89,7 +89,7 @@ module _ {K V S H I : Type 0} (rules : Rules K V S) (offers : Offers K V S I) (n
       go no_memory p t = front_trans _ _ _ (front_same _ _ (ap (λ st. st.pairs) t.1))
           (front_trans _ _ _ (place_comes rules hash_of pair ready no_memory landed p)
           (front_trans _ _ _ (front_same _ _ (ap (λ st. st.pairs) l.is))
-              (front_make_way rules (record { pairs = old.pairs; limiter = s }))))
+          (front_make_way rules (record { pairs = old.pairs; limiter = s }))))
 
 -- what an error implies, of a result that may be one
 pub on_err : {A : Type 0} (result : Result Bool AllocError) → (IsErr result → A) → OnErr result A

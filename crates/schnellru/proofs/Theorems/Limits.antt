@@ -38,8 +38,13 @@ module _ {K V S : Type 0} (over grants : S → ℕ → Bool) (admits : S → K �
   pub keeps_limiter : KeepsOffers (plain over grants) (hands_over admits) names (λ c d. d.limiter ≡ c.limiter)
   keeps_limiter = record {
     keeps = record {
-      way = record { self = λ c. refl; trans = λ p q. q ∙ p; asked = λ bytes c. refl; popped = λ c. told_plain
-          (last c.pairs) c.limiter };
+      way = record {
+        self = λ c. refl;
+        trans = λ p q. q ∙ p;
+        asked = λ bytes c. refl;
+        popped = λ c. told_plain
+            (last c.pairs) c.limiter;
+      };
       left = λ test c. told_plain (lookup_entry test c.pairs) c.limiter;
       first = λ q c. refl;
       cleared = λ c. refl;
@@ -65,8 +70,12 @@ module _ {K V S H I : Type 0} (rules : Rules K V S) (offers : Offers K V S I) (n
       (place_comes rules hash_of pair ready outcome landed p) t
     where
       fewer : length ready.pairs ≤ length old.pairs
-      fewer = omega (arith, ap (λ st. length st.pairs) l.is, length-front _ old.pairs
-          (front_make_way rules (record { pairs = old.pairs; limiter = s })))
+      fewer = omega (
+        arith,
+        ap (λ st. length st.pairs) l.is,
+        length-front _ old.pairs
+            (front_make_way rules (record { pairs = old.pairs; limiter = s })),
+      )
 
       settled : (outcome : Outcome) → Comes rules hash_of pair ready outcome landed
           → Settles rules outcome landed result new → IsWithin rules (contents new)
@@ -79,7 +88,7 @@ module _ {K V S H I : Type 0} (rules : Rules K V S) (offers : Offers K V S I) (n
 length_at_most : {K V H : Type 0} (rules : Rules K V ℕ) (old new : State K V ℕ H)
     → ((n : ℕ) → rules.is_over_the_limit old.limiter n ≡ false → n ≤ old.limiter) → new.limiter ≡ old.limiter
     → IsWithin rules (contents new) ⊎ (length new.pairs ≤ length old.pairs) → length old.pairs ≤ old.limiter
-        → length new.pairs ≤ old.limiter
+    → length new.pairs ≤ old.limiter
 length_at_most rules old new within same (inl (inl e)) few = omega (arith, empty-length new.pairs e)
 length_at_most rules old new within same (inl (inr e)) few = within (length new.pairs)
     (ap (λ s. rules.is_over_the_limit s (length new.pairs)) (sym same) ∙ e)
@@ -89,37 +98,45 @@ length_at_most rules old new within same (inr e) few = omega (arith, e, few)
 pub uses_at_most : {K V H : Type 0} (rules : Rules K V ℕ) (P : ℕ → Type 0) (more : ℕ) (old new : State K V ℕ H)
     → ((bytes : ℕ) → (rules.on_grow old.limiter bytes).allowed ≡ true → bytes ≤ old.limiter)
     → ((s : ℕ) → P s → s ≡ old.limiter) → Tables rules P more old new → UsesAtMost old.limiter old
-        → UsesAtMost old.limiter new
+    → UsesAtMost old.limiter new
 uses_at_most rules P more old new within same t uses = go t.count
   where
     go : IsNextCount rules P old (buckets new) → UsesAtMost old.limiter new
-    go (inl e) = (uses.0, ap (λ bytes. usage bytes (buckets new)) t.entry_bytes ∙ ap (usage old.entry_bytes) e
-        ∙ uses.1, uses.2)
-    go (inr p) = (p.bytes, ap (λ bytes. usage bytes (buckets new)) t.entry_bytes
-        ∙ p.usable, within p.bytes (ap (λ s. (rules.on_grow s p.bytes).allowed) (sym (same p.limiter p.holds))
-        ∙ p.granted))
+    go (inl e) = (
+      uses.0,
+      ap (λ bytes. usage bytes (buckets new)) t.entry_bytes ∙ ap (usage old.entry_bytes) e
+          ∙ uses.1,
+      uses.2,
+    )
+    go (inr p) = (
+      p.bytes,
+      ap (λ bytes. usage bytes (buckets new)) t.entry_bytes
+          ∙ p.usable,
+      within p.bytes (ap (λ s. (rules.on_grow s p.bytes).allowed) (sym (same p.limiter p.holds))
+          ∙ p.granted),
+    )
 
 -- a limit by length
 pub by_length_stays : {K V H : Type 0} (names : K → K → Bool) (hash_of : H → K → ℕ) (k : K) (v : V)
     (old : State K V ℕ H) (result : Result Bool AllocError) (new : State K V ℕ H) →
     Insert (plain (λ most n. nat_lt most n) (λ _ _. true))
-        (hands_over (λ most _ _. nat_lt 0 most)) names hash_of k v old result new → length old.pairs ≤ old.limiter
-        → length new.pairs ≤ old.limiter
+    (hands_over (λ most _ _. nat_lt 0 most)) names hash_of k v old result new → length old.pairs ≤ old.limiter
+    → length new.pairs ≤ old.limiter
 by_length_stays names hash_of k v old result new step few =
     length_at_most (plain (λ most n. nat_lt most n) (λ _ _. true)) old new (λ n e. grind (arith, nat_tests))
-        (insert_changes _ _ _ _ (keeps_limiter _ _ _ names) hash_of k v old result new step).moves
-        (insert_within _ _ _ _ k v old result new step) few
+    (insert_changes _ _ _ _ (keeps_limiter _ _ _ names) hash_of k v old result new step).moves
+    (insert_within _ _ _ _ k v old result new step) few
 
 -- a limit by memory usage
 pub by_memory_usage_stays : {K V H : Type 0} (names : K → K → Bool) (hash_of : H → K → ℕ) (k : K) (v : V)
     (old : State K V ℕ H) (result : Result Bool AllocError) (new : State K V ℕ H) →
     Insert (plain (λ _ _. false) (λ most bytes. nat_le bytes most))
-        (hands_over (λ _ _ _. true)) names hash_of k v old result new → UsesAtMost old.limiter old
-        → UsesAtMost old.limiter new
+    (hands_over (λ _ _ _. true)) names hash_of k v old result new → UsesAtMost old.limiter old
+    → UsesAtMost old.limiter new
 by_memory_usage_stays names hash_of k v old result new step uses =
     uses_at_most (plain (λ _ _. false) (λ most bytes. nat_le bytes most)) _ 1 old new
-        (λ bytes e. grind (arith, nat_tests)) (λ s p. p.1)
-        (insert_changes _ _ _ _ (keeps_limiter _ _ _ names) hash_of k v old result new step).tables uses
+    (λ bytes e. grind (arith, nat_tests)) (λ s p. p.1)
+    (insert_changes _ _ _ _ (keeps_limiter _ _ _ names) hash_of k v old result new step).tables uses
 
 -- neither changes
 pub plain_stays : {K V H : Type 0} (over grants : ℕ → ℕ → Bool) (admits : ℕ → K → V → Bool) (names : K → K → Bool)

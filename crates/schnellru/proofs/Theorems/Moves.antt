@@ -61,8 +61,12 @@ module _ {K V S I : Type 0} (rules : Rules K V S) (offers : Offers K V S I) (nam
   -- nothing is to be kept
   pub keeps_nothing : KeepsOffers (λ c d. Unit {0})
   keeps_nothing = record {
-    keeps = record { way = record { self = λ c. tt; trans = λ p q. tt; asked = λ bytes c. tt; popped = λ c. tt };
-        left = λ test c. tt; first = λ q c. tt; cleared = λ c. tt };
+    keeps = record {
+      way = record { self = λ c. tt; trans = λ p q. tt; asked = λ bytes c. tt; popped = λ c. tt };
+      left = λ test c. tt;
+      first = λ q c. tt;
+      cleared = λ c. tt;
+    };
     came = λ i v c s pair a n. tt;
     turned_down = λ i v c s n. tt;
     exchanged = λ i v c pair found. tt;

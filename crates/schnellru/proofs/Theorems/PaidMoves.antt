@@ -23,8 +23,15 @@ module _ {K V S H : Type 0} where
   -- what leaves costs nothing
   pub leaves_paid : (old : State K V S H) (left : Contents K V S) (new : State K V S H) → Leaves old left new
       → IsPaid old → IsPaid new
-  leaves_paid old left new l paid = omega (arith, paid, l.room.keeps, ap full_capacity l.room.table, ap
-      (λ st. st.moved) l.is, ap (λ st. st.placed) l.is)
+  leaves_paid old left new l paid = omega (
+    arith,
+    paid,
+    l.room.keeps,
+    ap full_capacity l.room.table,
+    ap
+        (λ st. st.moved) l.is,
+    ap (λ st. st.placed) l.is,
+  )
 
   module _ (rules : Rules K V S) (P : S → Type 0) (more : ℕ) (old new : State K V S H)
       (t : Tables rules P more old new) where

@@ -31,8 +31,12 @@ module _ {K V S : Type 0} (rules : Rules K V S) where
 
   -- nothing is to be kept
   pub stay_any : Keeps rules no_names (λ c d. Unit {0})
-  stay_any = record { way = record { self = λ c. tt; trans = λ p q. tt; asked = λ bytes c. tt; popped = λ c. tt };
-      left = λ test c. tt; first = λ q c. tt; cleared = λ c. tt }
+  stay_any = record {
+    way = record { self = λ c. tt; trans = λ p q. tt; asked = λ bytes c. tt; popped = λ c. tt };
+    left = λ test c. tt;
+    first = λ q c. tt;
+    cleared = λ c. tt;
+  }
 
 least_power_from : (n : ℕ) → n ≤ 2 ^ 64 → n ≤ least_power n
 unfolding least_power
@@ -43,13 +47,13 @@ buckets_take : (max c n : ℕ) → buckets_for max c ≡ Some n → c ≤ full_c
 unfolding buckets_for
 buckets_take max c n =
     pick (c == 0) (nat_lt c 4) (nat_lt c 8) (nat_lt (8 * c) (2 ^ 64)) (λ e. grind (arith, nat_tests))
-        (λ e. grind (arith, nat_tests)) (λ e. grind (arith, nat_tests)) (λ e. grind (arith, nat_tests))
+    (λ e. grind (arith, nat_tests)) (λ e. grind (arith, nat_tests)) (λ e. grind (arith, nat_tests))
     (λ e. grind (arith, nat_tests))
   where
     pick : (a b d e : Bool) → (a ≡ true → c ≡ 0) → (b ≡ true → c < 4) → (d ≡ true → c < 8) → (d ≡ false → 8 ≤ c)
         → (e ≡ true → 8 * c < 2 ^ 64)
         → cond a (Some 0) (cond b (below max 4)
-            (cond d (below max 8) (cond e (below max (least_power (8 * c / 7))) None))) ≡ Some n → c ≤ full_capacity n
+        (cond d (below max 8) (cond e (below max (least_power (8 * c / 7))) None))) ≡ Some n → c ≤ full_capacity n
     pick true b d e p q r s t h = omega (arith, p refl)
     pick false true d e p q r s t h = let is : 4 ≡ n = (cond_some (nat_lt 4 max) 4 n h).1 in
         omega (arith, full_capacity-small n (omega (arith, is)), is, q refl)
@@ -57,9 +61,9 @@ buckets_take max c n =
         omega (arith, full_capacity-small n (omega (arith, is)), is, r refl)
     pick false false false true p q r s t h =
         let is : least_power (8 * c / 7)
-            ≡ n = (cond_some (nat_lt (least_power (8 * c / 7)) max) (least_power (8 * c / 7)) n h).1 in
+        ≡ n = (cond_some (nat_lt (least_power (8 * c / 7)) max) (least_power (8 * c / 7)) n h).1 in
         let shape = least_power_shape (8 * c / 7) in let most = t refl in let least = least_power_from (8 * c / 7)
-            (omega (arith, most)) in
+        (omega (arith, most)) in
         (takes_enough c n (shape.0, sym is ∙ shape.1) (s refl) (omega (arith, is, least))).1
     pick false false false false p q r s t h = absurd (grind arith)
 
@@ -93,8 +97,12 @@ module _ {K V S H : Type 0} (rules : Rules K V S) (n : ℕ) (old : State K V S H
   reserved_list result new (enough_room s l r e) = rw e (refl, refl, refl)
   reserved_list result new (too_many l r e) = rw e (refl, refl, refl)
   reserved_list result new (no_such_table l t r e) = rw e (refl, refl, refl)
-  reserved_list result new (remade l t r m) = (ap (λ st. st.pairs) m.state, ap (λ st. st.moved) m.state, ap
-      (λ st. st.placed) m.state)
+  reserved_list result new (remade l t r m) = (
+    ap (λ st. st.pairs) m.state,
+    ap (λ st. st.moved) m.state,
+    ap
+        (λ st. st.placed) m.state,
+  )
   reserved_list result new (no_memory_to_remake l t p r e) = rw e (refl, refl, refl)
   reserved_list result new (reserved l count bytes t g r m) =
       (ap (λ st. st.pairs) m.state, ap (λ st. st.moved) m.state, ap (λ st. st.placed) m.state)
@@ -106,11 +114,18 @@ module _ {K V S H : Type 0} (rules : Rules K V S) (n : ℕ) (old : State K V S H
   makes_room new ok (enough_room s l r e) = rw e s
   makes_room new ok (too_many l r e) = absurd cc
   makes_room new ok (no_such_table l t r e) = absurd cc
-  makes_room new ok (remade l t r m) = omega (arith, m.exact, target-same old.max old.entry_bytes (buckets old)
-      (length old.pairs + n) t)
+  makes_room new ok (remade l t r m) = omega (
+    arith,
+    m.exact,
+    target-same old.max old.entry_bytes (buckets old)
+        (length old.pairs + n) t,
+  )
   makes_room new ok (no_memory_to_remake l t p r e) = absurd cc
-  makes_room new ok (reserved l count bytes t g r m) = omega
-      (arith, m.exact, target_takes old.max old.entry_bytes (buckets old) (length old.pairs + n) count bytes
-      (larger_takes n old ok (omega (arith, l.0)) count bytes t) t)
+  makes_room new ok (reserved l count bytes t g r m) = omega (
+    arith,
+    m.exact,
+    target_takes old.max old.entry_bytes (buckets old) (length old.pairs + n) count bytes
+        (larger_takes n old ok (omega (arith, l.0)) count bytes t) t,
+  )
   makes_room new ok (no_memory_to_grow l count bytes t g r e) = absurd cc
   makes_room new ok (denied_room l count bytes t d r e) = absurd cc

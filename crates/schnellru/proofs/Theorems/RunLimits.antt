@@ -21,7 +21,7 @@ use Rattle.schnellru.proofs.Theorems.Runs.{step_changes}
 pub reserve_uses_at_most : {K V H : Type 0} (names : K → K → Bool) (n : ℕ) (old : State K V ℕ H)
     (result : Result (Unit {0}) ReserveError) (new : State K V ℕ H)
     → Reserve (plain (λ _ _. false) (λ most bytes. nat_le bytes most)) n old result new → UsesAtMost old.limiter old
-        → UsesAtMost old.limiter new
+    → UsesAtMost old.limiter new
 reserve_uses_at_most names n old result new h = uses_at_most
     (plain (λ _ _. false) (λ most bytes. nat_le bytes most)) _ _ old new (λ bytes e. grind (arith, nat_tests))
     (λ s p. p.1)
@@ -65,8 +65,8 @@ module _ {K V H : Type 0} (names : K → K → Bool) (hash_of : H → K → ℕ)
   run_stays_short new old (goes_on mid s sized r) few =
       let same = (step_changes _ _ names hash_of _ (keeps_limiter _ _ _ names) old mid s).1.moves in
       subst (λ most. length new.pairs ≤ most) same
-          (run_stays_short new mid r
-          (subst (λ most. length mid.pairs ≤ most) (sym same) (step_stays_short old mid s few)))
+      (run_stays_short new mid r
+      (subst (λ most. length mid.pairs ≤ most) (sym same) (step_stays_short old mid s few)))
 
   -- a limit by memory usage
   step_uses_at_most : (old new : State K V ℕ H) → Step (plain (λ _ _. false) (λ most bytes. nat_le bytes most))
@@ -84,5 +84,5 @@ module _ {K V H : Type 0} (names : K → K → Bool) (hash_of : H → K → ℕ)
   run_uses_at_most new old (goes_on mid s sized r) uses =
       let same = (step_changes _ _ names hash_of _ (keeps_limiter _ _ _ names) old mid s).1.moves in
       subst (λ most. UsesAtMost most new) same
-          (run_uses_at_most new mid r
-          (subst (λ most. UsesAtMost most mid) (sym same) (step_uses_at_most old mid s uses)))
+      (run_uses_at_most new mid r
+      (subst (λ most. UsesAtMost most mid) (sym same) (step_uses_at_most old mid s uses)))

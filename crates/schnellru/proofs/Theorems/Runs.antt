@@ -45,7 +45,7 @@ module _ {K V S H I : Type 0} (rules : Rules K V S) (offers : Offers K V S I) (n
         → R c (record { pairs = set_value test c.pairs value; limiter = c.limiter }))
         → ((c : Contents K V S) (s : S) → R c (record { pairs = c.pairs; limiter = s }))
         → (old new : State K V S H) → AnyStep rules offers names hash_of old new → (more : ℕ)
-            × Changes rules R more old new
+        × Changes rules R more old new
     any_changes write set old new (calls h) = step_changes old new h
     any_changes write set old new (writes test value e) = rw e
         (_, written_changes rules R old test value (write (contents old) test value))
@@ -61,7 +61,7 @@ module _ {K V S H I : Type 0} (rules : Rules K V S) (offers : Offers K V S I) (n
   run_pays new old ok ends = pays_self new
   run_pays new old ok (goes_on mid s sized r) =
       pays_trans ((any_changes _ (keeps_nothing rules offers names) (λ c test value. tt)
-          (λ c s. tt) old mid s).1.tables.pays (bounded_of old ok)) (run_pays new mid sized r)
+      (λ c s. tt) old mid s).1.tables.pays (bounded_of old ok)) (run_pays new mid sized r)
 
   pub run_summed : (cost : K → V → ℕ) (account : S → ℕ) → IsAccount rules offers cost account
       → (new old : State K V S H)
@@ -76,8 +76,8 @@ module _ {K V S H I : Type 0} (rules : Rules K V S) (offers : Offers K V S I) (n
         → IsMap eq new
     any_is_map old new s =
         let changed = any_changes _ (offers_distinct rules offers names looks_up laws)
-            (λ c test value d. subst (IsDistinct eq) (sym (keys-set_value test c.pairs value)) d)
-                (λ c s d. d) old new s in
+        (λ c test value d. subst (IsDistinct eq) (sym (keys-set_value test c.pairs value)) d)
+        (λ c s d. d) old new s in
         stays_map rules changed.0 old new changed.1
 
     pub run_is_map : (new old : State K V S H) → Run (AnyStep rules offers names hash_of) new old → IsMap eq old

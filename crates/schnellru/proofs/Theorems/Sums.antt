@@ -71,7 +71,7 @@ module _ {K V S I : Type 0} (rules : Rules K V S) (offers : Offers K V S I) (nam
       → Holds c → Holds (exchange rules offers names pair i v c)
   exchanged_holds i v c pair found h =
       let n = subst (λ o. IsSplit (λ p. cost p.0 p.1) c.pairs o (without (names i) c.pairs)) found
-          (split_named (λ p. cost p.0 p.1) (names i) c.pairs) in
+      (split_named (λ p. cost p.0 p.1) (names i) c.pairs) in
       let r = laws.exchanges c.limiter (length c.pairs) pair.0 i pair.1 v (omega arith) in omega arith
 
   pub keeps_sums : KeepsOffers rules offers names (λ c d. Holds c → Holds d)

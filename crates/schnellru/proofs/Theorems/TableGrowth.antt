@@ -27,8 +27,17 @@ module _ {K V S H : Type 0} where
 
   -- another limiter
   pub limiter_calm : (st : State K V S H) (s : S) → Calm st (record st { limiter = s })
-  limiter_calm st s = record { entry_bytes = refl; placings = refl; moved = refl; placed = refl; table = refl; keeps =
-      omega arith; few = omega arith; fits = λ h. h }
+  limiter_calm st s = record {
+    entry_bytes = refl;
+    placings = refl;
+    moved = refl;
+    placed = refl;
+    table = refl;
+    keeps =
+        omega arith;
+    few = omega arith;
+    fits = λ h. h;
+  }
 
   pub self_calm : (st : State K V S H) → Calm st st
   self_calm st = limiter_calm st st.limiter
@@ -112,8 +121,11 @@ module _ {K V S H : Type 0} (rules : Rules K V S) (P : S → Type 0) where
   pub calm_then : (more : ℕ) (old mid new : State K V S H) → Calm old mid → Tables more mid new → Tables more old new
   calm_then more old mid new f t = record {
     entry_bytes = t.entry_bytes ∙ f.entry_bytes;
-    count = elim t.count [ inl e ↦ inl (e ∙ f.table) | inr p ↦ inr
-        (subst (λ bytes. IsPermitted rules P bytes (buckets new)) f.entry_bytes p) ];
+    count = elim t.count [
+      | inl e ↦ inl (e ∙ f.table)
+      | inr p ↦ inr
+          (subst (λ bytes. IsPermitted rules P bytes (buckets new)) f.entry_bytes p)
+    ];
     moved = λ bound. t.moved (omega (arith, f.moved, bound));
     pays = λ ok. pays_trans (calm_pays old mid f) (t.pays (calm_bounded old mid f ok));
     little = λ ok h. omega (arith, f.few, t.little (calm_bounded old mid f ok) (omega (arith, f.table, h)));

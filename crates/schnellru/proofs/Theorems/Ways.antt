@@ -75,11 +75,23 @@ module _ {K V S H : Type 0} (rules : Rules K V S) (R : Contents K V S → Conten
   if_memory : (mid : State K V S H) (count spare moves : ℕ) (outcome : Outcome) (new : State K V S H)
       → IsPlacedIfMemory rules pair count spare moves mid outcome new
       → R (contents old) (contents mid) → Calm old mid → IsNextCount rules P old count
-          → (IsBounded old → moves + (full_capacity count - 2 * spare) ≤ potential old + 2)
+      → (IsBounded old → moves + (full_capacity count - 2 * spare) ≤ potential old + 2)
       → (IsBounded old → buckets old < count → full_capacity count < 4 * (length old.pairs + 1)) → Ends outcome new
   if_memory mid count spare moves placed new h r f next paid little =
-      record { mid = mid; way = r; calm = f; lands = record { count = count; spare = spare; moves = moves; is = h;
-          next = next; paid = paid; little = little } }
+      record {
+        mid = mid;
+        way = r;
+        calm = f;
+        lands = record {
+          count = count;
+          spare = spare;
+          moves = moves;
+          is = h;
+          next = next;
+          paid = paid;
+          little = little;
+        };
+      }
   if_memory mid count spare moves no_memory new h r f next paid little =
       record { mid = mid; way = r; calm = f; lands = h }
   if_memory mid count spare moves refused new h r f next paid little = absurd h
@@ -105,11 +117,16 @@ module _ {K V S H : Type 0} (rules : Rules K V S) (R : Contents K V S → Conten
       → Ends outcome new
   place_lands outcome new (first_table e b bytes u g m) =
       if_memory (asked rules bytes old) 4 2 0 outcome new m (k.asked bytes (contents old)) (limiter_calm old _)
-          (inr (record { bytes = bytes; usable = u; limiter = old.limiter; holds = holds; granted = g }))
+      (inr (record { bytes = bytes; usable = u; limiter = old.limiter; holds = holds; granted = g }))
       (λ ok. omega (arith, full_capacity-4)) (λ ok h. omega (arith, full_capacity-4))
   place_lands outcome new (first_denied e b bytes u d o n) = rw o
-      (record { mid = asked rules bytes old; way = k.asked bytes (contents old); calm = limiter_calm old _; lands =
-      (e, n) })
+      (record {
+        mid = asked rules bytes old;
+        way = k.asked bytes (contents old);
+        calm = limiter_calm old _;
+        lands =
+            (e, n);
+      })
   place_lands outcome new (first_too_large e b u o n) = rw o
       (record { mid = old; way = self; calm = self_calm old; lands = (e, n) })
   place_lands outcome new (empty_with_room e b r s o n) = fills outcome new _ o n (λ ok. omega (arith, s))
@@ -120,8 +137,14 @@ module _ {K V S H : Type 0} (rules : Rules K V S) (R : Contents K V S → Conten
       (λ ok. omega (arith, f.1, ok.fits)) same_little
   place_lands outcome new (grown f i l count bytes t g m) = if_memory (asked rules bytes old) count _ _ outcome new m
       (k.asked bytes (contents old)) (limiter_calm old _)
-      (inr (record { bytes = bytes; usable = target_usage old.max old.entry_bytes (buckets old)
-          (length old.pairs + 1) count bytes t; limiter = old.limiter; holds = holds; granted = g }))
+      (inr (record {
+        bytes = bytes;
+        usable = target_usage old.max old.entry_bytes (buckets old)
+            (length old.pairs + 1) count bytes t;
+        limiter = old.limiter;
+        holds = holds;
+        granted = g;
+      }))
       (λ ok. omega (arith, large ok ok.count, f.1, ok.fits)) (λ ok h. small ok ok.count)
     where
       large : IsBounded old → IsBucketCount (buckets old) → 2 * full_capacity (buckets old) ≤ full_capacity count
@@ -137,16 +160,16 @@ module _ {K V S H : Type 0} (rules : Rules K V S) (R : Contents K V S → Conten
       known mid c in
       let lv = oldest_leaves rules _ n mid left gone in
       rw o (if_memory left _ _ 0 placed new p
-          (k.trans r (leaves_keep R mid _ left lv (pops_keep rules R k n (contents mid))))
-          (calm_trans old mid left s (leaves_calm mid _ left lv)) (inl refl)
+      (k.trans r (leaves_keep R mid _ left lv (pops_keep rules R k n (contents mid))))
+      (calm_trans old mid left s (leaves_calm mid _ left lv)) (inl refl)
       (λ ok. omega (arith, f.1)) same_little)
   place_lands outcome new (evicting f i l mid c (made_anew n pos one half left gone m)) = let (r, s) = known mid c in
       let lv = oldest_leaves rules _ n mid left gone in
       if_memory left _ _ _ outcome new m
-          (k.trans r (leaves_keep R mid _ left lv (pops_keep rules R k n (contents mid))))
-          (calm_trans old mid left s (leaves_calm mid _ left lv)) (inl refl)
+      (k.trans r (leaves_keep R mid _ left lv (pops_keep rules R k n (contents mid))))
+      (calm_trans old mid left s (leaves_calm mid _ left lv)) (inl refl)
       (λ ok. omega (arith, f.1, half, s.few, ap (λ st. length st.pairs) lv.is, length-pops rules n (contents mid)))
-          same_little
+      same_little
 
   pub place_tables : (outcome : Outcome) (new : State K V S H) → Place rules hash_of pair old outcome new
       → Tables rules P 1 old new
@@ -160,7 +183,7 @@ module _ {K V S Q : Type 0} (rules : Rules K V S) (names : Q → K → Bool) (R 
       → R (behind pair (contents old)) (contents new)
   place_keeps hash_of pair old outcome new p =
       let m = place_lands rules _ (way_behind rules names R k pair) (λ _. Unit {0}) hash_of pair old tt outcome new p in
-          end outcome m.mid m.way m.lands
+      end outcome m.mid m.way m.lands
     where
       away : (mid : State _ _ _ _) → R (behind pair (contents old)) (behind pair (contents mid)) → new
           ≡ turned_away rules pair mid → R (behind pair (contents old)) (contents new)
@@ -179,24 +202,30 @@ module _ {K V S H I : Type 0} (rules : Rules K V S) (offers : Offers K V S I) (n
   -- what a replacement leaves, where this value of the two stays
   exchanges : (pair : K × V) (w : V) → kept_value (replacement rules offers names pair i v old) ≡ w
       → R (contents old) (exchange rules offers names pair i v (contents old))
-      → R (contents old) (record { pairs = ((replacement rules offers names pair i v old).key, w)
-          ∷ without (names i) old.pairs; limiter = (replacement rules offers names pair i v old).limiter })
+      → R (contents old) (record {
+        pairs = ((replacement rules offers names pair i v old).key, w)
+            ∷ without (names i) old.pairs;
+        limiter = (replacement rules offers names pair i v old).limiter;
+      })
   exchanges pair w e r = subst
       (λ x. R (contents old)
-      (record { pairs = ((replacement rules offers names pair i v old).key, x) ∷ without (names i) old.pairs; limiter =
-      (replacement rules offers names pair i v old).limiter })) e r
+      (record {
+        pairs = ((replacement rules offers names pair i v old).key, x) ∷ without (names i) old.pairs;
+        limiter =
+            (replacement rules offers names pair i v old).limiter;
+      })) e r
 
   -- what each move keeps, an insert keeps
   pub insert_changes : (result : Result Bool AllocError) (new : State K V S H)
       → Insert rules offers names hash_of i v old result new → Changes rules R 1 old new
   insert_changes result new (replaced pair found y r l) =
       leaves_changes rules R 1 old _ new l
-          (k.keeps.way.trans (exchanges pair _ (rw y refl) (k.exchanged i v (contents old) pair found))
-          (trim_keeps rules R k.keeps.way _))
+      (k.keeps.way.trans (exchanges pair _ (rw y refl) (k.exchanged i v (contents old) pair found))
+      (trim_keeps rules R k.keeps.way _))
   insert_changes result new (given_up pair found y r l) =
       leaves_changes rules R 1 old _ new l
-          (k.keeps.way.trans (exchanges pair _ (rw y refl) (k.exchanged i v (contents old) pair found))
-          (k.keeps.left (λ _. true) _))
+      (k.keeps.way.trans (exchanges pair _ (rw y refl) (k.exchanged i v (contents old) pair found))
+      (k.keeps.left (λ _. true) _))
   insert_changes result new (no_memory_to_admit a l r e) = rw e
       (calm_changes rules R 1 old old (self_calm old) (k.keeps.way.self (contents old)))
   insert_changes result new (not_admitted a s n r e) = rw e
@@ -205,8 +234,8 @@ module _ {K V S H I : Type 0} (rules : Rules K V S) (offers : Offers K V S I) (n
       let start : State K V S H = record old { limiter = s } in
       let hand = way_behind rules names R k.keeps pair in
       let reached = k.keeps.way.trans (k.came i v (contents old) s pair a n)
-          (leaves_keep (λ c d. R (behind pair c) (behind pair d)) start _ ready l
-          (make_way_keeps rules _ hand (contents start))) in
+      (leaves_keep (λ c d. R (behind pair c) (behind pair d)) start _ ready l
+      (make_way_keeps rules _ hand (contents start))) in
       record {
         moves = k.keeps.way.trans reached
             (k.keeps.way.trans (place_keeps rules names R k.keeps hash_of pair ready outcome landed p)
@@ -214,6 +243,6 @@ module _ {K V S H I : Type 0} (rules : Rules K V S) (offers : Offers K V S I) (n
         tables = calm_then rules _ 1 old start new (limiter_calm old s)
             (calm_then rules _ 1 start ready new (leaves_calm start _ ready l)
             (then_calm rules _ 1 ready landed new
-                (place_tables rules _ hand _ hash_of pair ready (_, reached) outcome landed p)
-                (settles_calm rules outcome landed result new t)));
+            (place_tables rules _ hand _ hash_of pair ready (_, reached) outcome landed p)
+            (settles_calm rules outcome landed result new t)));
       }

@@ -20,7 +20,7 @@ module _ (K V L S N H : RattleType) (key : HashMembers K.Denot)
     (links : link_type.Ghosts N.Denot) (link_eq : equality.Ghosts N.Denot) (link_shown : debug.Ghosts N.Denot)
     (build : builder.Ghosts S.Denot H.Denot) (hash : hasher.Ghosts H.Denot)
     (m : MutBor (State K.Denot V.Denot L.Denot S.Denot)) {E : Type 0}
-        (Step : Result Bool E → State K.Denot V.Denot L.Denot S.Denot → Type 0) where
+    (Step : Result Bool E → State K.Denot V.Denot L.Denot S.Denot → Type 0) where
   -- it was made n, whose newest value is lent, where w is left
   abbrev pub Made : Result (Option (MutBor V.Denot)) E → State K.Denot V.Denot L.Denot S.Denot → V.Denot → Type 0
   Made r n w = (made : State K.Denot V.Denot L.Denot S.Denot) × Step (is_kept r) made

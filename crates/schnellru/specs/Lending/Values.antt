@@ -36,7 +36,7 @@ module _ (K V L S N H : RattleType) (key : HashMembers K.Denot)
         → Option (MutBor V.Denot) → Fml
     lends_given gives turned r = LendsSo map_row V m r
         (λ n last. OnSome r ((pair : K.Denot × V.Denot) × gives pair × (option_copied_mut r ≡ Some pair.1)
-            × (n ≡ written (key.eq pair.0) last (turned (key.eq pair.0) m.now))))
+        × (n ≡ written (key.eq pair.0) last (turned (key.eq pair.0) m.now))))
         (λ n. IfNone r (n ≡ m.now))
 
     -- its newest pair has the last value written through r, and at `None` it stays as it is

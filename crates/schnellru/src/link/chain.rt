@@ -112,9 +112,9 @@ pub(crate) fn rewrite<K, V, N: LinkType>(
     ensures placings { table.new.placings ≡ table.old.placings }
     ensures chain { (before : List (Slot (Entry K V N))) (order : List ℕ) →
         IsWhole N.number N.link N.MAX before newest.old oldest.old order
-            → Renumbers N.number N.MAX before table.old.slots links.now →
+        → Renumbers N.number N.MAX before table.old.slots links.now →
         IsChain N.number N.link N.MAX table.new.slots newest.new oldest.new
-            (map (moved_to N.number N.MAX links.now) order) }
+        (map (moved_to N.number N.MAX links.now) order) }
 {
     for old in 0..links.len() {
         let moved = links[old];

@@ -29,7 +29,7 @@ impl<K: Eq + Hash, V, L: Limiter<K, V>, S: BuildHasher> LruMap<K, V, L, S> {
         ensures* writes_back { sem 𝓛 (lends_given K.row V.row L.row S.row L.LinkType.row S.Hasher.row K.Hash L.Limiter
             L.LinkType.LinkType.own L.LinkType.PartialEq L.LinkType.Debug S.BuildHasher S.Hasher.Hasher self.entry
             (GivesByHash K.eq (hash_by K.hash_input S.BuildHasher S.Hasher.Hasher self.old.hasher) self.old.pairs hash
-                F.FnMut is_eq)
+            F.FnMut is_eq)
             promoted result) }
         ensures none { IfNone result
             (GivesNoneByHash K.eq (hash_by K.hash_input S.BuildHasher S.Hasher.Hasher self.old.hasher) self.old.pairs
@@ -49,7 +49,7 @@ impl<K: Eq + Hash, V, L: Limiter<K, V>, S: BuildHasher> LruMap<K, V, L, S> {
         requires callable { F.IsAlwaysCallable is_eq }
         ensures found { IfSome result (λ value. (key : K)
             × GivesByHash K.eq (hash_by K.hash_input S.BuildHasher S.Hasher.Hasher self.now.hasher) self.now.pairs hash
-                F.FnMut is_eq (key, value.now)) }
+            F.FnMut is_eq (key, value.now)) }
         ensures none { IfNone result
             (GivesNoneByHash K.eq (hash_by K.hash_input S.BuildHasher S.Hasher.Hasher self.now.hasher) self.now.pairs
             hash F.FnMut is_eq) }
@@ -62,12 +62,16 @@ impl<K: Eq + Hash, V, L: Limiter<K, V>, S: BuildHasher> LruMap<K, V, L, S> {
     /// told to the limiter. `is_eq` is asked as `get_by_hash` asks it.
     ///
     /// After schnellru's `LruMap::peek_by_hash_mut`.
-    pub fn peek_by_hash_mut<F: FnMut(&K, &V) -> bool>(&mut self, hash: u64, is_eq: F) -> Option<&mut V>
+    pub fn peek_by_hash_mut<F: FnMut(&K, &V) -> bool>(
+        &mut self,
+        hash: u64,
+        is_eq: F,
+    ) -> Option<&mut V>
         requires callable { F.IsAlwaysCallable is_eq }
         ensures* writes_back { sem 𝓛 (lends_given K.row V.row L.row S.row L.LinkType.row S.Hasher.row K.Hash L.Limiter
             L.LinkType.LinkType.own L.LinkType.PartialEq L.LinkType.Debug S.BuildHasher S.Hasher.Hasher self.entry
             (GivesByHash K.eq (hash_by K.hash_input S.BuildHasher S.Hasher.Hasher self.old.hasher) self.old.pairs hash
-                F.FnMut is_eq)
+            F.FnMut is_eq)
             (λ names st. st) result) }
         ensures none { IfNone result
             (GivesNoneByHash K.eq (hash_by K.hash_input S.BuildHasher S.Hasher.Hasher self.old.hasher) self.old.pairs

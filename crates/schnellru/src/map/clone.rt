@@ -8,8 +8,12 @@ use lru_limits::Limiter;
 use std::alloc::AllocError;
 use std::hash::{BuildHasher, Hash};
 
-impl<K: Eq + Hash + Clone + Drop, V: Clone + Drop, L: Limiter<K, V> + Clone, S: BuildHasher + Clone + Drop>
-    LruMap<K, V, L, S> {
+impl<
+    K: Eq + Hash + Clone + Drop,
+    V: Clone + Drop,
+    L: Limiter<K, V> + Clone,
+    S: BuildHasher + Clone + Drop,
+> LruMap<K, V, L, S> {
     /// The map again: its pairs in their order, its limiter, its hasher, its buckets and room, and its counts, each by
     /// its clone. The map itself stays.
     ///
@@ -25,7 +29,7 @@ impl<K: Eq + Hash + Clone + Drop, V: Clone + Drop, L: Limiter<K, V> + Clone, S: 
         requires keys { (key copy : K) → K.is_clone key copy → IsTrue (K.eq key copy) }
         requires hashers { (hasher copy : S) → S.is_clone hasher copy → (key : K) →
             hash_by K.hash_input S.BuildHasher S.Hasher.Hasher copy key
-                ≡ hash_by K.hash_input S.BuildHasher S.Hasher.Hasher hasher key }
+            ≡ hash_by K.hash_input S.BuildHasher S.Hasher.Hasher hasher key }
         ensures clone { IfOk result (IsClone K.is_clone V.is_clone L.is_clone S.is_clone self.now) }
     {
         let entries = self.entries.copy()?;

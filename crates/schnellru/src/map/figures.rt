@@ -91,7 +91,7 @@ impl<K: Eq + Hash, V, L: Limiter<K, V>, S: BuildHasher> LruMap<K, V, L, S> {
     pub fn limiter_mut(&mut self) -> &mut L
         ensures* writes_back { sem 𝓛 (lends_limiter K.row V.row L.row S.row L.LinkType.row S.Hasher.row K.Hash L.Limiter
             L.LinkType.LinkType.own L.LinkType.PartialEq L.LinkType.Debug S.BuildHasher S.Hasher.Hasher self.entry
-                result) }
+            result) }
         ensures value { result.now ≡ self.old.limiter }
     {
         &mut self.limiter

@@ -129,7 +129,7 @@ impl<K: Eq + Hash + Drop, V: Drop, L: Limiter<K, V>, S: BuildHasher> LruMap<K, V
         ensures* writes_back { sem 𝓛 (lends_or K.row V.row L.row S.row L.LinkType.row S.Hasher.row K.Hash L.Limiter
             L.LinkType.LinkType.own L.LinkType.PartialEq L.LinkType.Debug S.BuildHasher S.Hasher.Hasher self.entry
             (MakesNewest L.rules L.offers I.names (hash_by K.hash_input S.BuildHasher S.Hasher.Hasher)
-                (F.post make) key self.old) result) }
+            (F.post make) key self.old) result) }
     {
         match self.ensure_newest(key, make) {
             Ok(true) => Ok(self.newest_value_mut()),
@@ -168,7 +168,7 @@ impl<K: Eq + Hash + Drop, V: Drop, L: Limiter<K, V>, S: BuildHasher> LruMap<K, V
         ensures* writes_back { sem 𝓛 (lends_made K.row V.row L.row S.row L.LinkType.row S.Hasher.row K.Hash L.Limiter
             L.LinkType.LinkType.own L.LinkType.PartialEq L.LinkType.Debug S.BuildHasher S.Hasher.Hasher self.entry
             (MakesNewest L.rules L.offers I.names (hash_by K.hash_input S.BuildHasher S.Hasher.Hasher)
-                (F.post make) key self.old) result) }
+            (F.post make) key self.old) result) }
     {
         let lent = self.lend_or_insert(key, make);
         kept_or(lent)
@@ -241,7 +241,7 @@ impl<K: Eq + Hash + Drop, V: Drop, L: Limiter<K, V>, S: BuildHasher> LruMap<K, V
         ensures* writes_back { sem 𝓛 (lends_or K.row V.row L.row S.row L.LinkType.row S.Hasher.row K.Hash L.Limiter
             L.LinkType.LinkType.own L.LinkType.PartialEq L.LinkType.Debug S.BuildHasher S.Hasher.Hasher self.entry
             (MakesNewestIfMade L.rules L.offers I.names (hash_by K.hash_input S.BuildHasher S.Hasher.Hasher)
-                (F.post make) key self.old) result) }
+            (F.post make) key self.old) result) }
     {
         match self.ensure_newest_fallible(key, make) {
             Ok(true) => Ok(self.newest_value_mut()),
@@ -268,7 +268,7 @@ impl<K: Eq + Hash + Drop, V: Drop, L: Limiter<K, V>, S: BuildHasher> LruMap<K, V
         ensures* writes_back { sem 𝓛 (lends_made K.row V.row L.row S.row L.LinkType.row S.Hasher.row K.Hash L.Limiter
             L.LinkType.LinkType.own L.LinkType.PartialEq L.LinkType.Debug S.BuildHasher S.Hasher.Hasher self.entry
             (MakesNewestIfMade L.rules L.offers I.names (hash_by K.hash_input S.BuildHasher S.Hasher.Hasher)
-                (F.post make) key self.old) result) }
+            (F.post make) key self.old) result) }
     {
         let lent = self.lend_or_insert_fallible(key, make);
         kept_or_error(lent)

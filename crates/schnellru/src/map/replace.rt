@@ -23,10 +23,10 @@ pub(super) fn replace<K: Eq + Hash + Drop, V: Drop, I: LookupKey<K>, L: Insertio
         result ≡ (L.offers.on_replace limiter.old (length entries.old.order) pair.0 key pair.1 value).taken }
     ensures replaced { result ≡ true → (pair : K × V) → entry_at entries.old.slots b ≡ Some pair →
         IsReplaced (L.offers.on_replace limiter.old (length entries.old.order) pair.0 key pair.1 value) b entries.old
-            entries.new limiter.new }
+        entries.new limiter.new }
     ensures given_up { result ≡ false → (pair : K × V) → entry_at entries.old.slots b ≡ Some pair →
         IsGivenUp L.rules (L.offers.on_replace limiter.old (length entries.old.order) pair.0 key pair.1 value) b
-            entries.old entries.new limiter.new }
+        entries.old entries.new limiter.new }
     ensures linked { IsLinked entries.new }
     ensures fits { (hash_of : K → ℕ) → ((x y : K) → IsTrue (K.eq x y) → hash_of x ≡ hash_of y) →
         KeysFit hash_of entries.old.slots → KeysFit hash_of entries.new.slots }

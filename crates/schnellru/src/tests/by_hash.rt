@@ -17,7 +17,10 @@ fn three(alloc: Global) -> Result<LruMap<u64, u64, UnlimitedCompact, LastByte>, 
 #[test]
 fn a_peek_by_hash(rt: HostRuntime) -> Result<(), Fail> {
     let map = three(rt.alloc())?;
-    assert_eq!(rt; map.peek_by_hash(HASH, |key, _| *key == 2).copied(), Some(20));
+    assert_eq!(rt;
+        map.peek_by_hash(HASH, |key, _| *key == 2).copied(),
+        Some(20)
+    );
     assert!(rt; counts_down(&map, 3, 1));
     let asked = Cell::new(0u64);
     let given = map.peek_by_hash(HASH, |_, _| {
@@ -32,8 +35,14 @@ fn a_peek_by_hash(rt: HostRuntime) -> Result<(), Fail> {
 #[test]
 fn a_get_by_hash_promotes(rt: HostRuntime) -> Result<(), Fail> {
     let mut map = three(rt.alloc())?;
-    assert_eq!(rt; map.get_by_hash(HASH, |key, _| *key == 1).copied(), Some(10));
-    assert_eq!(rt; pairs(rt.alloc(), &map)?.as_slice(), [(1, 10), (3, 30), (2, 20)].as_slice());
+    assert_eq!(rt;
+        map.get_by_hash(HASH, |key, _| *key == 1).copied(),
+        Some(10)
+    );
+    assert_eq!(rt;
+        pairs(rt.alloc(), &map)?.as_slice(),
+        [(1, 10), (3, 30), (2, 20)].as_slice()
+    );
     assert!(rt; map.get_by_hash(HASH, |_, value| *value == 40).is_none());
     assert_eq!(rt; ends(&map), (Some(1), Some(2)));
     Ok(())
@@ -45,7 +54,10 @@ fn a_value_is_written_by_hash(rt: HostRuntime) -> Result<(), Fail> {
     if let Some(value) = map.peek_by_hash_mut(HASH, |_, value| *value == 20) {
         *value = 200;
     }
-    assert_eq!(rt; pairs(rt.alloc(), &map)?.as_slice(), [(3, 30), (2, 200), (1, 10)].as_slice());
+    assert_eq!(rt;
+        pairs(rt.alloc(), &map)?.as_slice(),
+        [(3, 30), (2, 200), (1, 10)].as_slice()
+    );
     Ok(())
 }
 

@@ -11,9 +11,18 @@ fn a_copy_is_the_map_again(rt: HostRuntime) -> Result<(), Fail> {
     assert_eq!(rt; map.remove(&7), Some(70));
     assert_eq!(rt; get(&mut map, 3), Some(30));
     let copy = map.clone()?;
-    assert_eq!(rt; pairs(rt.alloc(), &copy)?.as_slice(), pairs(rt.alloc(), &map)?.as_slice());
+    assert_eq!(rt;
+        pairs(rt.alloc(), &copy)?.as_slice(),
+        pairs(rt.alloc(), &map)?.as_slice()
+    );
     assert_eq!(rt; figures(&copy), figures(&map));
-    assert_eq!(rt; copy.move_report(), MoveReport { moved: 24, placed: 15 });
+    assert_eq!(rt;
+        copy.move_report(),
+        MoveReport {
+            moved: 24,
+            placed: 15
+        }
+    );
     for n in 1..=15u64 {
         assert_eq!(rt; copy.peek(&n), map.peek(&n), "{n}");
     }

@@ -32,7 +32,10 @@ fn a_drain_from_the_back(rt: HostRuntime) -> Result<(), Fail> {
     for n in 1..=3u64 {
         assert_eq!(rt; drain.next_back(), Some((n, n)));
     }
-    assert_eq!(rt; (drain.next_back(), drain.next(), drain.len()), (None, None, 0));
+    assert_eq!(rt;
+        (drain.next_back(), drain.next(), drain.len()),
+        (None, None, 0)
+    );
     drop(drain);
     assert!(rt; map.is_empty());
     assert_eq!(rt; map.limiter().cost(), 0);

@@ -86,12 +86,15 @@ impl Limiter<u64, u64> for Telling {
 
     ghost rules = { record {
       is_over_the_limit = λ s length. s.over;
-      on_removed = λ s k v. record { limiter = record s { told = min (s.told + 1) 4294967295; last = k }; key = k;
-          value = v };
+      on_removed = λ s k v. record {
+        limiter = record s { told = min (s.told + 1) 4294967295; last = k };
+        key = k;
+        value = v;
+      };
       on_cleared = λ s. s;
       on_grow = λ s bytes.
           answers (record s { permits = not s.permits; askings = min (s.askings + 1) 4294967295; asked = bytes })
-              s.permits;
+          s.permits;
     } };
 
     fn is_over_the_limit(&self, _length: usize) -> bool {
@@ -165,8 +168,11 @@ impl Limiter<u64, u64> for Within {
 
     ghost rules = { record {
       is_over_the_limit = λ s length. false;
-      on_removed = λ s k v. record { limiter = record s { told = min (s.told + 1) 4294967295; last = (k, v) }; key = k;
-          value = v };
+      on_removed = λ s k v. record {
+        limiter = record s { told = min (s.told + 1) 4294967295; last = (k, v) };
+        key = k;
+        value = v;
+      };
       on_cleared = λ s. s;
       on_grow = λ s bytes. answers s (nat_le bytes s.most);
     } };

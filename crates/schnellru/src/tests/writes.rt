@@ -51,7 +51,10 @@ fn each_value_is_written_once(rt: HostRuntime) -> Result<(), Fail> {
         assert_eq!(rt; raise_each(&mut map), most);
         let mut next = most;
         for (key, value) in &map {
-            assert_eq!(rt; (*key, *value), (next, next.wrapping_mul(10).wrapping_add(1)));
+            assert_eq!(rt;
+                (*key, *value),
+                (next, next.wrapping_mul(10).wrapping_add(1))
+            );
             next = next.saturating_sub(1);
         }
         assert_eq!(rt; next, 0);

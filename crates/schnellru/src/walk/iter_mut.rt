@@ -44,7 +44,7 @@ impl<'a, K: Eq + Hash, V, L: Limiter<K, V>, S: BuildHasher> IterMut<'a, K, V, L,
     pub fn next(&mut self) -> Option<(&K, &mut V)>
         ensures* writes_back { sem 𝓛 (lends_next K.row V.row L.row S.row L.LinkType.row S.Hasher.row K.Hash L.Limiter
             L.LinkType.LinkType.own L.LinkType.PartialEq L.LinkType.Debug S.BuildHasher S.Hasher.Hasher self.entry
-                result) }
+            result) }
         ensures value { option_map deref_pair_mut result ≡ next_pair self.old }
     {
         if self.start < self.end {
@@ -58,7 +58,7 @@ impl<'a, K: Eq + Hash, V, L: Limiter<K, V>, S: BuildHasher> IterMut<'a, K, V, L,
         ensures* writes_back { sem 𝓛
             (lends_next_back K.row V.row L.row S.row L.LinkType.row S.Hasher.row K.Hash L.Limiter
             L.LinkType.LinkType.own L.LinkType.PartialEq L.LinkType.Debug S.BuildHasher S.Hasher.Hasher self.entry
-                result) }
+            result) }
         ensures value { option_map deref_pair_mut result ≡ next_back_pair self.old }
     {
         if self.start < self.end {
@@ -72,7 +72,7 @@ impl<'a, K: Eq + Hash, V, L: Limiter<K, V>, S: BuildHasher> IterMut<'a, K, V, L,
         requires some { walk_start self.old < walk_end self.old }
         ensures* writes_back { sem 𝓛 (lends_first K.row V.row L.row S.row L.LinkType.row S.Hasher.row K.Hash L.Limiter
             L.LinkType.LinkType.own L.LinkType.PartialEq L.LinkType.Debug S.BuildHasher S.Hasher.Hasher self.entry
-                result) }
+            result) }
         ensures value { slice_get (walk_map self.old).pairs (walk_start self.old) ≡ Some (deref_pair_mut result) }
     {
         let at = self.start;
@@ -91,7 +91,7 @@ impl<'a, K: Eq + Hash, V, L: Limiter<K, V>, S: BuildHasher> IterMut<'a, K, V, L,
         requires some { walk_start self.old < walk_end self.old }
         ensures* writes_back { sem 𝓛 (lends_last K.row V.row L.row S.row L.LinkType.row S.Hasher.row K.Hash L.Limiter
             L.LinkType.LinkType.own L.LinkType.PartialEq L.LinkType.Debug S.BuildHasher S.Hasher.Hasher self.entry
-                result) }
+            result) }
         ensures value { slice_get (walk_map self.old).pairs (walk_end self.old - 1) ≡ Some (deref_pair_mut result) }
     {
         let at = self.end - 1;

@@ -19,10 +19,10 @@ loop-preserved g c =
     let k = c.loop.counter in
     let same : contents c.loop.map ≡ pops_first rules k begun = ap contents leaves.is in
     let is_taken : taken.result ≡ left_of rules (pops_first rules k begun).limiter
-        (first (pops_first rules k begun).pairs) =
+    (first (pops_first rules k begun).pairs) =
     taken.ensures.step.pair ∙ ap (λ d. left_of rules d.limiter (first d.pairs)) same in
     let all = leaves_trans c.args.map.now c.loop.map taken.new.self (pops_first rules k begun)
-        (pop_first rules (contents c.loop.map)) leaves taken.ensures.step.state in (
+    (pop_first rules (contents c.loop.map)) leaves taken.ensures.step.state in (
       pairs ++ option_to_list taken.result,
       ap (λ l. l ++ option_to_list taken.result) given
           ∙ ap (λ o. newest_given rules k begun ++ option_to_list o) is_taken
@@ -44,13 +44,17 @@ returns g c =
     let k = c.loop.counter in
     let within : k ≤ c.args.most = omega (arith, c.min-count.ensures, c.len.ensures.len, c.loop.auto.counter-end) in
     let enough : k < c.args.most → length old.pairs
-        ≤ k = λ less. omega (arith, c.min-count.ensures, c.len.ensures.len, c.loop-test.false) in (
+    ≤ k = λ less. omega (arith, c.min-count.ensures, c.len.ensures.len, c.loop-test.false) in (
       pairs,
       record {
         pairs = given ∙ given_enough rules c.args.most k old.pairs old.limiter within enough
             ∙ sym (append-nil (newest_given rules c.args.most (contents old)));
-        state = (c.loop.map, subst (λ d. Leaves old d c.loop.map)
-            (pops_enough rules c.args.most k old.pairs old.limiter within enough) leaves, c.clear.ensures.step);
+        state = (
+          c.loop.map,
+          subst (λ d. Leaves old d c.loop.map)
+              (pops_enough rules c.args.most k old.pairs old.limiter within enough) leaves,
+          c.clear.ensures.step,
+        );
       },
       subst (Writes (g.W.Write.contents c.args.writer.now)
           (g.W.Write.contents c.end_of_pairs.new.writer) c.end_of_pairs.result) (spaced-end pairs c.loop.any any)

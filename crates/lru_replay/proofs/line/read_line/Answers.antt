@@ -14,8 +14,11 @@ returns-in-Ok-Last-clause-ok g c =
     let (bytes, part, kept) = c.loop.invariant in
     let (more, taken, now) = rw c.in-Ok-Last.field-0-is at c.in-Ok-Last.ensures.ok in (
       bytes ++ more,
-      (Lacks-append 10 bytes more part.0 taken.0, subst (Consumes _ _) (sym (append_assoc bytes more (10 ∷ [])))
-          (Consumes-trans _ _ _ _ _ part.1 taken.1)),
+      (
+        Lacks-append 10 bytes more part.0 taken.0,
+        subst (Consumes _ _) (sym (append_assoc bytes more (10 ∷ [])))
+            (Consumes-trans _ _ _ _ _ part.1 taken.1),
+      ),
       now ∙ ap (λ l. take HELD (l ++ more)) kept ∙ kept_again HELD bytes more,
     )
 
@@ -25,8 +28,14 @@ returns-then-is_empty-clause-ok g c =
     let (more, taken, now) = rw c.in-Ok-End.field-0-is at c.in-Ok-End.ensures.ok in
     let held = now ∙ ap (λ l. take HELD (l ++ more)) kept ∙ kept_again HELD bytes more in (
       bytes ++ more,
-      ((Lacks-append 10 bytes more part.0 taken.0, Consumes-trans _ _ _ _ _ part.1 taken.1,
-          Consumes_end _ _ _ _ part.1 taken.2), nothing_held 48 _ (sym held ∙ c.if-is_empty.ensures)),
+      (
+        (
+          Lacks-append 10 bytes more part.0 taken.0,
+          Consumes-trans _ _ _ _ _ part.1 taken.1,
+          Consumes_end _ _ _ _ part.1 taken.2,
+        ),
+        nothing_held 48 _ (sym held ∙ c.if-is_empty.ensures),
+      ),
       held,
     )
 
@@ -37,8 +46,11 @@ returns-else-is_empty-clause-ok g c =
     let held = now ∙ ap (λ l. take HELD (l ++ more)) kept ∙ kept_again HELD bytes more in (
       bytes ++ more,
       (
-        (Lacks-append 10 bytes more part.0 taken.0, Consumes-trans _ _ _ _ _ part.1 taken.1,
-            Consumes_end _ _ _ _ part.1 taken.2),
+        (
+          Lacks-append 10 bytes more part.0 taken.0,
+          Consumes-trans _ _ _ _ _ part.1 taken.1,
+          Consumes_end _ _ _ _ part.1 taken.2,
+        ),
         some_held HELD _ (subst (λ l. 0 < length l) held (c.if-is_empty.ensures)),
       ),
       held,

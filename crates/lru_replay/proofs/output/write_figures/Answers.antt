@@ -45,25 +45,25 @@ returns-in_err-write_named g c =
     let f = c.args.figures in
     let p = err_from_is_err_and c.from_residual.result c.from_residual.ensures.1 in
     rw (p.1, p.2) (failed_front _ _ (len_text f)
-        (from_capacity f) c.in_err-write_named.field-0.0 c.in_err-write_named.ensures)
+    (from_capacity f) c.in_err-write_named.field-0.0 c.in_err-write_named.ensures)
 
 pub returns-in_err-write_named-2 : goal.returns-in_err-write_named-2
 returns-in_err-write_named-2 g c =
     let f = c.args.figures in
     let p = err_from_is_err_and c.from_residual-in_err-write_named-2.result
-        c.from_residual-in_err-write_named-2.ensures.1 in
+    c.from_residual-in_err-write_named-2.ensures.1 in
     rw (p.1, p.2) (later _ _ _ (len_text f)
-        (from_capacity f) c.in_err-write_named-2.field-0.0 c.in_ok-write_named.ensures
+    (from_capacity f) c.in_err-write_named-2.field-0.0 c.in_ok-write_named.ensures
     (failed_front _ _ (capacity_text f)
-        (from_memory f) c.in_err-write_named-2.field-0.0 c.in_err-write_named-2.ensures))
+    (from_memory f) c.in_err-write_named-2.field-0.0 c.in_err-write_named-2.ensures))
 
 pub returns-in_err-write_named-3 : goal.returns-in_err-write_named-3
 returns-in_err-write_named-3 g c =
     let f = c.args.figures in
     let p = err_from_is_err_and c.from_residual-in_err-write_named-3.result
-        c.from_residual-in_err-write_named-3.ensures.1 in
+    c.from_residual-in_err-write_named-3.ensures.1 in
     rw (p.1, p.2) (later _ _ _ (len_text f)
-        (from_capacity f) c.in_err-write_named-3.field-0.0 c.in_ok-write_named.ensures
+    (from_capacity f) c.in_err-write_named-3.field-0.0 c.in_ok-write_named.ensures
     (later _ _ _ (capacity_text f) (from_memory f) c.in_err-write_named-3.field-0.0 c.in_ok-write_named-2.ensures
     (failed_front _ _ (memory_text f) (from_moved f) c.in_err-write_named-3.field-0.0 c.in_err-write_named-3.ensures)))
 
@@ -71,9 +71,9 @@ pub returns-in_err-write_named-4 : goal.returns-in_err-write_named-4
 returns-in_err-write_named-4 g c =
     let f = c.args.figures in
     let p = err_from_is_err_and c.from_residual-in_err-write_named-4.result
-        c.from_residual-in_err-write_named-4.ensures.1 in
+    c.from_residual-in_err-write_named-4.ensures.1 in
     rw (p.1, p.2) (later _ _ _ (len_text f)
-        (from_capacity f) c.in_err-write_named-4.field-0.0 c.in_ok-write_named.ensures
+    (from_capacity f) c.in_err-write_named-4.field-0.0 c.in_ok-write_named.ensures
     (later _ _ _ (capacity_text f) (from_memory f) c.in_err-write_named-4.field-0.0 c.in_ok-write_named-2.ensures
     (later _ _ _ (memory_text f) (from_moved f) c.in_err-write_named-4.field-0.0 c.in_ok-write_named-3.ensures
     (failed_front _ _ (moved_text f) (from_placed f) c.in_err-write_named-4.field-0.0 c.in_err-write_named-4.ensures))))
@@ -82,14 +82,14 @@ pub returns-in_err-write_named-5 : goal.returns-in_err-write_named-5
 returns-in_err-write_named-5 g c =
     let f = c.args.figures in
     let p = err_from_is_err_and c.from_residual-in_err-write_named-5.result
-        c.from_residual-in_err-write_named-5.ensures.1 in
+    c.from_residual-in_err-write_named-5.ensures.1 in
     rw (p.1, p.2) (later _ _ _ (len_text f)
-        (from_capacity f) c.in_err-write_named-5.field-0.0 c.in_ok-write_named.ensures
+    (from_capacity f) c.in_err-write_named-5.field-0.0 c.in_ok-write_named.ensures
     (later _ _ _ (capacity_text f) (from_memory f) c.in_err-write_named-5.field-0.0 c.in_ok-write_named-2.ensures
     (later _ _ _ (memory_text f) (from_moved f) c.in_err-write_named-5.field-0.0 c.in_ok-write_named-3.ensures
     (later _ _ _ (moved_text f) (from_placed f) c.in_err-write_named-5.field-0.0 c.in_ok-write_named-4.ensures
     (failed_front _ _ (placed_text f)
-        (cost_text f.cost) c.in_err-write_named-5.field-0.0 c.in_err-write_named-5.ensures)))))
+    (cost_text f.cost) c.in_err-write_named-5.field-0.0 c.in_err-write_named-5.ensures)))))
 
 pub returns : goal.returns
 returns g c =

@@ -9,11 +9,11 @@ returns-in_err-write_bytes g c =
     let pair : ℕ × ℕ = (c.in-Some.key, c.in-Some.value) in
     let p = err_from_is_err_and c.from_residual.result c.from_residual.ensures.1 in
     rw (c.in-Some.is, c.if-not-any.false, p.1, p.2)
-        (failed_front _ _ (32 ∷ []) (pair_text pair) _ c.in_err-write_bytes.ensures)
+    (failed_front _ _ (32 ∷ []) (pair_text pair) _ c.in_err-write_bytes.ensures)
 
 pub returns : goal.returns
 returns g c =
     let pair : ℕ × ℕ = (c.in-Some.key, c.in-Some.value) in
     rw (c.in-Some.is, c.if-not-any.false)
-        (writes_after _ _ _ (32 ∷ [])
-        (pair_text pair) c.write_pair-2.result c.in_ok-write_bytes.ensures c.write_pair-2.ensures)
+    (writes_after _ _ _ (32 ∷ [])
+    (pair_text pair) c.write_pair-2.result c.in_ok-write_bytes.ensures c.write_pair-2.ensures)

@@ -7,7 +7,7 @@ pub returns-clause-no_limiter : goal.returns-clause-no_limiter
 returns-clause-no_limiter g c =
     let all = c.answer_and_flush in
     exactly_no_limiter (g.R.Read.remaining c.args.reader.now) (g.R.Read.remaining all.new.reader)
-        (g.W.Write.contents c.args.writer.now) (g.W.Write.contents all.new.writer) all.result all.ensures
+    (g.W.Write.contents c.args.writer.now) (g.W.Write.contents all.new.writer) all.result all.ensures
 
 pub returns-clause-write_failed : goal.returns-clause-write_failed
 returns-clause-write_failed g c is =

@@ -13,7 +13,7 @@ returns-clause-rise g c = λ key value old result new ok step.
 pub returns-clause-paid : goal.returns-clause-paid
 returns-clause-paid g c = λ key value old result new ok paid step.
     let after = stays_paid _ _ 1 old new
-        (insert_changes _ _ _ _ (keeps_nothing _ _ _) _ key value old result new step).tables ok paid in
+    (insert_changes _ _ _ _ (keeps_nothing _ _ _) _ key value old result new step).tables ok paid in
     (after, omega arith)
 
 pub returns-clause-counted : goal.returns-clause-counted

@@ -20,4 +20,4 @@ returns-clause-newest g c = λ old result new ok sized step.
 pub returns-clause-cleared : goal.returns-clause-cleared
 returns-clause-cleared g c = λ old ok sized.
     stays_map g.L.Limiter.rules 0 old (cleared g.L.Limiter.rules old)
-        (cleared_changes g.L.Limiter.rules _ _ (stay_distinct _ _) old) ok sized
+    (cleared_changes g.L.Limiter.rules _ _ (stay_distinct _ _) old) ok sized

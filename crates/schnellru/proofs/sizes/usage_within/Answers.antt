@@ -20,26 +20,31 @@ size k few = let least : 2 ^ k ≤ 2 ^ 61 = pow_mono {i = k} {j = 61} (omega (ar
 pub loop-k-preserved : goal.loop-k-preserved
 loop-k-preserved c =
     let e = c.args.entry_bytes in let max = c.args.max in let budget = c.args.budget in let k = c.loop-k.k in
-        let best = c.loop-k.best in
+    let best = c.loop-k.best in
     let is = size k c.loop-k-test.true in
     let used = ap (usage e) is in
     elim c.if-buckets-max.branch [
       | then-buckets-max+in-Some+then-bytes-budget w ↦
           subst (IsBest max e budget (k + 1)) (sym w.best-is)
-              (best_takes max e budget k best w.in-Some.bytes c.loop-k.invariant
+          (best_takes max e budget k best w.in-Some.bytes c.loop-k.invariant
           (omega (arith, is, w.if-buckets-max.true)) (sym used ∙ sym w.in-Some.ensures) w.if-bytes-budget.true)
       | then-buckets-max+in-Some+else-bytes-budget w ↦
           subst (IsBest max e budget (k + 1)) (sym w.best-is)
-              (best_stays max e budget k best c.loop-k.invariant (λ other reached u within.
-          absurd (omega (arith, within, w.if-bytes-budget.false, same_Some other w.in-Some.bytes
-              (sym u ∙ sym used ∙ sym w.in-Some.ensures)))))
+          (best_stays max e budget k best c.loop-k.invariant (λ other reached u within.
+          absurd (omega (
+            arith,
+            within,
+            w.if-bytes-budget.false,
+            same_Some other w.in-Some.bytes
+                (sym u ∙ sym used ∙ sym w.in-Some.ensures),
+          ))))
       | then-buckets-max+in_default w ↦
           subst (IsBest max e budget (k + 1)) (sym w.best-is)
-              (best_stays max e budget k best c.loop-k.invariant (λ other reached u within.
+          (best_stays max e budget k best c.loop-k.invariant (λ other reached u within.
           none-some other (w.in_default.ensures ∙ used ∙ u)))
       | else-buckets-max w ↦
           subst (IsBest max e budget (k + 1)) (sym w.best-is)
-              (best_stays max e budget k best c.loop-k.invariant (λ other reached u within.
+          (best_stays max e budget k best c.loop-k.invariant (λ other reached u within.
           absurd (omega (arith, is, reached, w.if-buckets-max.false))))
     ]
 

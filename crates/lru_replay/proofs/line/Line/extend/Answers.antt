@@ -5,8 +5,11 @@ use Rattle.lru_replay.proofs.ByteLists.{kept_more, kept_full}
 use Rattle.lru_replay.proofs.line.Line.extend.Goals as goal
 
 pub loop-byte-init : goal.loop-byte-init
-loop-byte-init c = record { room = c.requires; so_far = sym (ap (take HELD) (append-nil c.args.self.now)
-    ∙ take_all HELD c.args.self.now c.requires) }
+loop-byte-init c = record {
+  room = c.requires;
+  so_far = sym (ap (take HELD) (append-nil c.args.self.now)
+      ∙ take_all HELD c.args.self.now c.requires);
+}
 
 pub loop-byte-preserved : goal.loop-byte-preserved
 loop-byte-preserved c =
@@ -15,12 +18,12 @@ loop-byte-preserved c =
     let b = get_or piece s.byte-index 0 in
     let short : length s.self < HELD = omega (arith, s.invariant.room, c.if-len-eq-HELD.false) in
     let one : take (s.byte-index + 1) piece ≡ take s.byte-index piece ++ b ∷ [] = take_more piece s.byte-index 0
-        (search rules) in
+    (search rules) in
     record {
       room = rw c.push.ensures (simp length-append (omega (arith, short)));
       so_far = c.push.ensures ∙ kept_more HELD _ _ b s.invariant.so_far short
           ∙ ap (take HELD) (append_assoc c.args.self.now (take s.byte-index piece) (b ∷ [])
-              ∙ ap (λ l. c.args.self.now ++ l) (sym one));
+          ∙ ap (λ l. c.args.self.now ++ l) (sym one));
     }
 
 pub returns-then-len-eq-HELD : goal.returns-then-len-eq-HELD
@@ -29,4 +32,4 @@ returns-then-len-eq-HELD c =
     let piece = c.args.piece.now in
     kept_full HELD _ _ (drop i piece) c.loop-byte.invariant.so_far (omega arith)
     ∙ ap (take HELD) (append_assoc c.args.self.now (take i piece) (drop i piece)
-        ∙ ap (λ l. c.args.self.now ++ l) (take-append-drop i piece))
+    ∙ ap (λ l. c.args.self.now ++ l) (take-append-drop i piece))

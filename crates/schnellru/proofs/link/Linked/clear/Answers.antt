@@ -14,7 +14,7 @@ invariant_of-self g c =
 pub returns-clause-slots : goal.returns-clause-slots
 returns-clause-slots g c =
     rw (← c.self.view_is) (ap pair_slots c.clear.ensures.slots ∙ pair_slots-cleared _ _ _ _
-        ∙ ap (λ n. replicate n empty) (sym (length-pair_slots c.self.inside.table.slots)))
+    ∙ ap (λ n. replicate n empty) (sym (length-pair_slots c.self.inside.table.slots)))
 
 pub returns-clause-order : goal.returns-clause-order
 returns-clause-order g c =

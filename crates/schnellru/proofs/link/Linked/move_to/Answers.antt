@@ -10,7 +10,7 @@ use Rattle.schnellru.proofs.link.Linked.move_to.Goals as goal
 pub returns-in_err-links-clause-linked : goal.returns-in_err-links-clause-linked
 returns-in_err-links-clause-linked g c =
     rw c.in_err-links.ensures.unchanged (IsLinked-view _ _ _ _ g.met.N.LinkType.laws _ _ _ _ c.self.invariant
-        (rw c.in_err-links.ensures.unchanged at c.move_entries.ensures.table))
+    (rw c.in_err-links.ensures.unchanged at c.move_entries.ensures.table))
 
 pub rewrite-requires-clause-moved : goal.rewrite-requires-clause-moved
 rewrite-requires-clause-moved g c =
@@ -22,7 +22,7 @@ invariant_of-self-2 g c =
     let chain = c.rewrite.ensures.chain _ _ c.self.invariant renumbers in
     IsWhole-shown _ _ _ _ g.met.N.LinkType.laws _ _ _ _
     (IsWhole-moved _ _ _ _ _ _ _ renumbers c.rewrite.ensures.pairs _ _ _ _ _ c.self.invariant
-        c.in_ok-links.ensures.entries chain)
+    c.in_ok-links.ensures.entries chain)
 
 pub returns-clause-pairs : goal.returns-clause-pairs
 returns-clause-pairs g c =
@@ -30,11 +30,11 @@ returns-clause-pairs g c =
     let chain = c.rewrite.ensures.chain _ _ c.self.invariant renumbers in
     let order = whole_order _ _ _ _ g.met.N.LinkType.laws _ _ _ _
     (IsWhole-moved _ _ _ _ _ _ _ renumbers c.rewrite.ensures.pairs _ _ _ _ _ c.self.invariant
-        c.in_ok-links.ensures.entries chain) in
+    c.in_ok-links.ensures.entries chain) in
     rw (← c.self.view_is)
     (ap (entries_in (pair_slots c.rewrite.new.table.slots)) order
     ∙ pairs-moved g.N.LinkType.number g.N.LinkType.link g.N.LinkType.MAX _ _ _ _ renumbers c.rewrite.ensures.pairs _ _
-        _ c.self.invariant)
+    _ c.self.invariant)
 
 pub returns-clause-room : goal.returns-clause-room
 returns-clause-room g c =
@@ -45,7 +45,7 @@ returns-clause-room g c =
 pub returns-clause-fits : goal.returns-clause-fits
 returns-clause-fits g c =
     KeysFit-moved g.N.LinkType.number g.N.LinkType.link g.N.LinkType.MAX _ _ _ _ c.in_ok-links.ensures.renumbered
-        c.rewrite.ensures.pairs
+    c.rewrite.ensures.pairs
     (hash_by g.K.Hash.hash_input g.S.BuildHasher g.S.Hasher.Hasher c.args.hasher.now)
     c.in_ok-links.ensures.hashes
 
@@ -53,4 +53,4 @@ pub returns-clause-linked : goal.returns-clause-linked
 returns-clause-linked g c =
     let marks = same_marks c.move_entries.new.table.slots c.rewrite.new.table.slots c.rewrite.ensures.pairs in
     IsLinked-view _ _ _ _ g.met.N.LinkType.laws _ _ _ _ (invariant_of-self-2 g c)
-        (rw marks c.move_entries.ensures.table)
+    (rw marks c.move_entries.ensures.table)

@@ -7,5 +7,5 @@ returns g c =
     record {
       newer = rw (← c.self.view_is)
           (newer_shown _ _ _ _ g.met.N.LinkType.laws _ _ _ _ c.self.invariant c.args.b full c.get.result.now
-              c.get.ensures.entry c.bucket_of.result c.bucket_of.ensures.none c.bucket_of.ensures.some);
+          c.get.ensures.entry c.bucket_of.result c.bucket_of.ensures.none c.bucket_of.ensures.some);
     }

@@ -9,13 +9,16 @@ pub invariant_of-self-lent : goal.invariant_of-self-lent
 invariant_of-self-lent g c w =
     IsWhole-shown _ _ _ _ g.met.N.LinkType.laws _ _ _ _
     (IsWhole-refilled _ _ _ _ g.met.N.LinkType.laws _ _ _ _ c.self.invariant c.args.b c.get_mut.result.now
-        c.get_mut.ensures.entry w)
+    c.get_mut.ensures.entry w)
 
 pub returns : goal.returns
 returns g c = (
-  (refl, λ w. rw (← c.self.view_is)
-      (view-refilled _ _ _ _ g.met.N.LinkType.laws _ _ _ _ c.self.invariant c.args.b c.get_mut.result.now
-      c.get_mut.ensures.entry w _)),
+  (
+    refl,
+    λ w. rw (← c.self.view_is)
+        (view-refilled _ _ _ _ g.met.N.LinkType.laws _ _ _ _ c.self.invariant c.args.b c.get_mut.result.now
+        c.get_mut.ensures.entry w _),
+  ),
   record {
     writes_back = tt;
     pair = rw (← c.self.view_is) (entry_at-pair_slots c.self.inside.table.slots c.args.b
@@ -23,11 +26,11 @@ returns g c = (
     fits = λ hash_of fits last same.
         KeysFit-refilled hash_of c.args.self.now.slots c.args.b (pair_of c.get_mut.result.now) last c.requires
         (rw (← c.self.view_is) (entry_at-pair_slots c.self.inside.table.slots c.args.b
-            ∙ ap (option_map pair_of) c.get_mut.ensures.entry)) same fits;
+        ∙ ap (option_map pair_of) c.get_mut.ensures.entry)) same fits;
     linked = λ last.
         rw (← c.self.view_is)
-            (IsLinked-refilled _ _ _ _ g.met.N.LinkType.laws _ _ _ _ c.self.invariant c.args.b c.get_mut.result.now
-            c.get_mut.ensures.entry
+        (IsLinked-refilled _ _ _ _ g.met.N.LinkType.laws _ _ _ _ c.self.invariant c.args.b c.get_mut.result.now
+        c.get_mut.ensures.entry
         (record { key = last.0; value = last.1 }) c.get_mut.ensures.table);
   },
 )

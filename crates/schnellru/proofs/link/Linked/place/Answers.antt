@@ -26,7 +26,7 @@ invariant_of-self g c =
     (placed_absent _ _ _ _ g.met.N.LinkType.laws _ _ _ _ _ c.self.invariant c.args.hash c.in-Ok.b _ placed within) in
     IsWhole-shown _ _ _ _ g.met.N.LinkType.laws _ _ _ _
     (IsWhole-placed _ _ _ _ g.met.N.LinkType.laws _ _ _ _ _ c.self.invariant c.args.hash c.in-Ok.b _ placed within _ _
-        _ c.link_newest.ensures.pairs chain)
+    _ c.link_newest.ensures.pairs chain)
 
 pub returns-in-Ok-clause-placed : goal.returns-in-Ok-clause-placed
 returns-in-Ok-clause-placed g c =
@@ -37,7 +37,7 @@ returns-in-Ok-clause-placed g c =
     (placed_absent _ _ _ _ g.met.N.LinkType.laws _ _ _ _ _ c.self.invariant c.args.hash c.in-Ok.b _ placed within) in
     let order = whole_order _ _ _ _ g.met.N.LinkType.laws _ _ _ _
     (IsWhole-placed _ _ _ _ g.met.N.LinkType.laws _ _ _ _ _ c.self.invariant c.args.hash c.in-Ok.b _ placed within _ _
-        _ c.link_newest.ensures.pairs chain) in
+    _ c.link_newest.ensures.pairs chain) in
     rw (← c.self.view_is) (
       c.in-Ok.b,
       record {
@@ -47,8 +47,11 @@ returns-in-Ok-clause-placed g c =
             ∙ pair_slots-set c.self.inside.table.slots c.in-Ok.b _;
         order = order;
         placings = c.link_newest.ensures.placings ∙ placed.placings;
-        room = rw (c.link_newest.ensures.pairs, marks_of-pair_slots c.try_place.new.self.slots,
-            marks_of-pair_slots c.self.inside.table.slots) c.in-Ok.ensures.room;
+        room = rw (
+          c.link_newest.ensures.pairs,
+          marks_of-pair_slots c.try_place.new.self.slots,
+          marks_of-pair_slots c.self.inside.table.slots,
+        ) c.in-Ok.ensures.room;
       },
     )
 
@@ -59,11 +62,11 @@ returns-in-Ok-clause-fits g c hash_of fits same =
     let before = rw (← c.self.view_is) at fits in
     let slots = ap pair_slots placed.slots ∙ pair_slots-set c.self.inside.table.slots c.in-Ok.b _ in
     let after = rw slots at
-        (Fits-pair_slots c.try_place.new.self.slots _
-        (c.in-Ok.ensures.fits _ (Fits-entries c.self.inside.table.slots _ before))) in
+    (Fits-pair_slots c.try_place.new.self.slots _
+    (c.in-Ok.ensures.fits _ (Fits-entries c.self.inside.table.slots _ before))) in
     rw (c.link_newest.ensures.pairs, slots)
     (KeysFit-placed hash_of (pair_slots c.self.inside.table.slots) c.in-Ok.b c.args.hash c.args.pair
-        (rw (length-pair_slots c.self.inside.table.slots) within) same after)
+    (rw (length-pair_slots c.self.inside.table.slots) within) same after)
 
 pub returns-in-Ok-clause-linked : goal.returns-in-Ok-clause-linked
 returns-in-Ok-clause-linked g c =
@@ -73,7 +76,7 @@ returns-in-Ok-clause-linked g c =
 pub returns-in-Err-clause-linked : goal.returns-in-Err-clause-linked
 returns-in-Err-clause-linked g c =
     rw c.in-Err.ensures.unchanged (IsLinked-view _ _ _ _ g.met.N.LinkType.laws _ _ _ _ c.self.invariant
-        (rw c.in-Err.ensures.unchanged at c.try_place.ensures.table))
+    (rw c.in-Err.ensures.unchanged at c.try_place.ensures.table))
 
 pub returns-in-Err-clause-no_place : goal.returns-in-Err-clause-no_place
 returns-in-Err-clause-no_place g c = rw

@@ -10,8 +10,8 @@ returns-then-eq-clause-order g c =
     let full = rw (← c.self.view_is) at c.requires in
     let none = equal_links _ _ _ _ g.met.N.LinkType.laws _ _ (sym c.eq.ensures ∙ c.if-eq.true) ∙ c.MAX.ensures in
     rw (← c.self.view_is)
-        (newest_already _ _ _ _ g.met.N.LinkType.laws _ _ _ _ c.self.invariant c.args.b full c.get.result.now
-        c.get.ensures.entry none)
+    (newest_already _ _ _ _ g.met.N.LinkType.laws _ _ _ _ c.self.invariant c.args.b full c.get.result.now
+    c.get.ensures.entry none)
 
 pub returns-then-eq-clause-linked : goal.returns-then-eq-clause-linked
 returns-then-eq-clause-linked g c = rw (← c.self.view_is)
@@ -32,7 +32,7 @@ invariant_of-self g c =
     IsWhole-shown _ _ _ _ g.met.N.LinkType.laws _ _ _ _
     (IsWhole-promoted _ _ _ _ g.met.N.LinkType.laws _ c.unlink.new.table.slots _ _ _ _ _ _ c.self.invariant c.args.b
     (full_entry _ _ _ _ g.met.N.LinkType.laws _ _ _ _ c.self.invariant c.args.b full) (c.link_newest.ensures.pairs
-        ∙ c.unlink.ensures.pairs) chain)
+    ∙ c.unlink.ensures.pairs) chain)
 
 pub returns-clause-order : goal.returns-clause-order
 returns-clause-order g c =
@@ -43,10 +43,10 @@ returns-clause-order g c =
     rw (← c.self.view_is) (whole_order _ _ _ _ g.met.N.LinkType.laws _ _ _ _
     (IsWhole-promoted _ _ _ _ g.met.N.LinkType.laws _ c.unlink.new.table.slots _ _ _ _ _ _ c.self.invariant c.args.b
     (full_entry _ _ _ _ g.met.N.LinkType.laws _ _ _ _ c.self.invariant c.args.b full) (c.link_newest.ensures.pairs
-        ∙ c.unlink.ensures.pairs) chain))
+    ∙ c.unlink.ensures.pairs) chain))
 
 pub returns-clause-linked : goal.returns-clause-linked
 returns-clause-linked g c =
     let marks = same_marks c.self.inside.table.slots c.link_newest.new.table.slots (c.link_newest.ensures.pairs
-        ∙ c.unlink.ensures.pairs) in
+    ∙ c.unlink.ensures.pairs) in
     IsLinked-view _ _ _ _ g.met.N.LinkType.laws _ _ _ _ (invariant_of-self g c) (rw marks c.get.ensures.table)

@@ -13,7 +13,7 @@ invariant_of-self g c =
     IsWhole-shown _ _ _ _ g.met.N.LinkType.laws _ _ _ _
     (IsWhole-taken _ _ _ _ g.met.N.LinkType.laws _ _ _ _ _ _ _ _ c.self.invariant c.args.b
     (full_entry _ _ _ _ g.met.N.LinkType.laws _ _ _ _ c.self.invariant c.args.b full) c.unlink.ensures.pairs left
-        c.take-key.ensures.removed)
+    c.take-key.ensures.removed)
 
 pub returns-clause-removed : goal.returns-clause-removed
 returns-clause-removed g c = rw (← c.self.view_is, ← c.unlink.ensures.pairs)
@@ -27,12 +27,16 @@ returns-clause-order g c =
     rw (← c.self.view_is) (whole_order _ _ _ _ g.met.N.LinkType.laws _ _ _ _
     (IsWhole-taken _ _ _ _ g.met.N.LinkType.laws _ _ _ _ _ _ _ _ c.self.invariant c.args.b
     (full_entry _ _ _ _ g.met.N.LinkType.laws _ _ _ _ c.self.invariant c.args.b full) c.unlink.ensures.pairs left
-        c.take-key.ensures.removed))
+    c.take-key.ensures.removed))
 
 pub returns-clause-room : goal.returns-clause-room
 returns-clause-room g c =
-    rw (← c.self.view_is, ← c.unlink.ensures.pairs, marks_of-pair_slots c.take-key.new.self.slots,
-        marks_of-pair_slots c.unlink.new.table.slots) c.take-key.ensures.room
+    rw (
+      ← c.self.view_is,
+      ← c.unlink.ensures.pairs,
+      marks_of-pair_slots c.take-key.new.self.slots,
+      marks_of-pair_slots c.unlink.new.table.slots,
+    ) c.take-key.ensures.room
 
 pub returns-clause-fits : goal.returns-clause-fits
 returns-clause-fits g c hash_of fits =

@@ -8,7 +8,7 @@ set_newer-requires-clause-there g c =
 pub returns-clause-chain : goal.returns-clause-chain
 returns-clause-chain g c order chain absent =
     rw c.from_usize-link.ensures
-        (IsChain-linked _ _ _ _ g.met.N.LinkType.laws _ _ _ _ _ _ c.args.b order chain absent c.requires.full
+    (IsChain-linked _ _ _ _ g.met.N.LinkType.laws _ _ _ _ _ _ c.args.b order chain absent c.requires.full
     (rw c.from_usize-link.ensures at c.set_newer.ensures.slots)
-        (rw c.from_usize-link.ensures at c.set_newer.ensures.end)
+    (rw c.from_usize-link.ensures at c.set_newer.ensures.end)
     (rw c.MAX.ensures at c.set_links.ensures.links))

@@ -13,36 +13,36 @@ loop-old-init g c = record { links = MovedUpTo-none _ _ c.args.table.now.slots c
 pub move_links-requires-clause-newer : goal.move_links-requires-clause-newer
 move_links-requires-clause-newer g c l e =
     let link = get_or_read c.args.links.now c.loop-old.old c.index-links-old.result c.loop-old-test.true
-        c.index-links-old.is g.N.LinkType.MAX in
+    c.index-links-old.is g.N.LinkType.MAX in
     let leads = rw link at
-        (other_by_test _ _ _ _ g.met.N.LinkType.laws _ _ (rw c.MAX.ensures at (sym c.ne.ensures ∙ c.if-ne.true))) in
+    (other_by_test _ _ _ _ g.met.N.LinkType.laws _ _ (rw c.MAX.ensures at (sym c.ne.ensures ∙ c.if-ne.true))) in
     let there = full_by_link _ _ _ _ c.args.links.now c.requires.moved.3 c.loop-old.old leads in
     let place = c.into_usize.ensures ∙ ap g.N.LinkType.number link in
     let kept = ap (option_map (λ x. x.newer)) (c.loop-old.invariant.links.rest c.loop-old.old (omega arith) leads) in
     newer_place _ _ _ _ g.met.N.LinkType.laws _ _ _ _ _ c.requires.moved.2 _ c.requires.moved.3 c.loop-old.old there l
-        (sym kept ∙ (rw place at e))
+    (sym kept ∙ (rw place at e))
 
 pub move_links-requires-clause-older : goal.move_links-requires-clause-older
 move_links-requires-clause-older g c l e =
     let link = get_or_read c.args.links.now c.loop-old.old c.index-links-old.result c.loop-old-test.true
-        c.index-links-old.is g.N.LinkType.MAX in
+    c.index-links-old.is g.N.LinkType.MAX in
     let leads = rw link at
-        (other_by_test _ _ _ _ g.met.N.LinkType.laws _ _ (rw c.MAX.ensures at (sym c.ne.ensures ∙ c.if-ne.true))) in
+    (other_by_test _ _ _ _ g.met.N.LinkType.laws _ _ (rw c.MAX.ensures at (sym c.ne.ensures ∙ c.if-ne.true))) in
     let there = full_by_link _ _ _ _ c.args.links.now c.requires.moved.3 c.loop-old.old leads in
     let place = c.into_usize.ensures ∙ ap g.N.LinkType.number link in
     let kept = ap (option_map (λ x. x.older)) (c.loop-old.invariant.links.rest c.loop-old.old (omega arith) leads) in
     older_place _ _ _ _ g.met.N.LinkType.laws _ _ _ _ _ c.requires.moved.2 _ c.requires.moved.3 c.loop-old.old there l
-        (sym kept ∙ (rw place at e))
+    (sym kept ∙ (rw place at e))
 
 pub loop-old-preserved : goal.loop-old-preserved
 loop-old-preserved g c =
     let link = get_or_read c.args.links.now c.loop-old.old c.index-links-old.result c.loop-old-test.true
-        c.index-links-old.is g.N.LinkType.MAX in
+    c.index-links-old.is g.N.LinkType.MAX in
     elim c.if-ne.branch [
       | then-ne w ↦
           let leads = rw link at
-              (other_by_test _ _ _ _ g.met.N.LinkType.laws _ _ (rw c.MAX.ensures at (sym c.ne.ensures ∙ w.if-ne.true)))
-              in
+          (other_by_test _ _ _ _ g.met.N.LinkType.laws _ _ (rw c.MAX.ensures at (sym c.ne.ensures ∙ w.if-ne.true)))
+          in
           let moves = rw (w.into_usize.ensures ∙ ap g.N.LinkType.number link) at w.move_links.ensures.links in
           rw w.table-is (record {
             links = MovedUpTo-more _ _ c.requires.moved.0 _ _ _ c.args.links.now c.loop-old.old c.requires.moved.3
@@ -51,8 +51,8 @@ loop-old-preserved g c =
           })
       | else-ne w ↦
           let none = rw link at
-              (equal_by_test _ _ _ _ g.met.N.LinkType.laws _ _
-              (rw c.MAX.ensures at (sym c.ne.ensures ∙ w.if-ne.false))) in
+          (equal_by_test _ _ _ _ g.met.N.LinkType.laws _ _
+          (rw c.MAX.ensures at (sym c.ne.ensures ∙ w.if-ne.false))) in
           rw w.table-is (record {
             links = MovedUpTo-passed _ _ _ _ c.args.links.now c.loop-old.old c.loop-old.invariant.links none;
             placings = c.loop-old.invariant.placings;
@@ -72,4 +72,4 @@ returns-clause-chain g c before order whole renumbers =
     let all : c.loop-old.old ≡ length c.args.links.now = omega arith in
     rw (c.moved_link.ensures, c.moved_link-2.ensures)
     (IsChain-moved _ _ _ _ g.met.N.LinkType.laws before _ _ _ order whole c.args.links.now renumbers _
-        c.requires.reached (rw all at c.loop-old.invariant.links))
+    c.requires.reached (rw all at c.loop-old.invariant.links))

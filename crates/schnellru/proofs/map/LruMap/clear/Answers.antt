@@ -6,16 +6,16 @@ pub invariant_of-self : goal.invariant_of-self
 invariant_of-self g c =
     let m = c.self.inside in let e = c.clear.ensures in
     let rest = beside m.limiter m.hasher m.moved m.placed m.entry_bytes
-        (g.L.LinkType.LinkType.number g.L.LinkType.LinkType.MAX) in
+    (g.L.LinkType.LinkType.number g.L.LinkType.LinkType.MAX) in
     cleared_holds g.L.Limiter.rules m.entries c.clear.new.self e.slots e.order e.placings rest c.on_cleared.new.self
-        c.on_cleared.ensures
+    c.on_cleared.ensures
     _ _ c.self.invariant e.linked (e.fits _)
 
 pub returns : goal.returns
 returns g c =
     let m = c.self.inside in let e = c.clear.ensures in
     let rest = beside m.limiter m.hasher m.moved m.placed m.entry_bytes
-        (g.L.LinkType.LinkType.number g.L.LinkType.LinkType.MAX) in
+    (g.L.LinkType.LinkType.number g.L.LinkType.LinkType.MAX) in
     rw (← c.self.view_is) (record {
       step = cleared_is g.L.Limiter.rules m.entries c.clear.new.self e.slots e.order e.placings rest
           c.on_cleared.new.self c.on_cleared.ensures;

@@ -12,29 +12,34 @@ pub invariant_of-result : goal.invariant_of-result
 invariant_of-result g c =
     let m = c.self.inside in let holds = c.self.invariant in let done = c.in_ok-entries.ensures in
     let rest = beside m.limiter m.hasher m.moved m.placed m.entry_bytes
-        (g.L.LinkType.LinkType.number g.L.LinkType.LinkType.MAX) in
+    (g.L.LinkType.LinkType.number g.L.LinkType.LinkType.MAX) in
     let hash_of = hash_by g.K.Hash.hash_input g.S.BuildHasher g.S.Hasher.Hasher in
     copied_holds g.K.PartialEq.eq hash_of rest m.entries c.in_ok-entries.entries c.in_ok-limiter.limiter
-        c.in_ok-hasher.hasher holds done.linked
+    c.in_ok-hasher.hasher holds done.linked
     (done.fits (hash_of m.hasher) (hash_of c.in_ok-hasher.hasher)
     (λ key copy same. c.requires.hashers m.hasher c.in_ok-hasher.hasher c.in_ok-hasher.ensures.cases copy
     ∙ sym (hash_by-named (record { writes = g.met.K.Hash.respects_eq; one = g.met.K.Eq.laws.congr }) g.S.BuildHasher
-        g.S.Hasher.Hasher m.hasher key copy
+    g.S.Hasher.Hasher m.hasher key copy
     (c.requires.keys key copy same))) holds.fits)
     done.marks
     (distinct_same g.met.K.Eq.laws (IsPairClone g.K.Clone.is_clone g.V.Clone.is_clone)
-        (λ p q r. c.requires.keys p.0 q.0 r.key)
+    (λ p q r. c.requires.keys p.0 q.0 r.key)
     (pairs_of m.entries) (pairs_of c.in_ok-entries.entries) done.pairs holds.map.distinct)
 
 pub returns : goal.returns
 returns g c =
     let m = c.self.inside in let done = c.in_ok-entries.ensures in
     let rest = beside c.in_ok-limiter.limiter c.in_ok-hasher.hasher m.moved m.placed m.entry_bytes
-        (g.L.LinkType.LinkType.number g.L.LinkType.LinkType.MAX) in
-    rw (← c.self.view_is) (record { clone = record {
-      pairs = done.pairs;
-      limiter = c.in_ok-limiter.ensures.cases;
-      hasher = c.in_ok-hasher.ensures.cases;
-      rest = λ i. record (state_of c.in_ok-entries.entries rest) { marks = done.marks i; places = done.order i;
-          placings = done.placings i };
-    } })
+    (g.L.LinkType.LinkType.number g.L.LinkType.LinkType.MAX) in
+    rw (← c.self.view_is) (record {
+      clone = record {
+        pairs = done.pairs;
+        limiter = c.in_ok-limiter.ensures.cases;
+        hasher = c.in_ok-hasher.ensures.cases;
+        rest = λ i. record (state_of c.in_ok-entries.entries rest) {
+          marks = done.marks i;
+          places = done.order i;
+          placings = done.placings i;
+        };
+      };
+    })

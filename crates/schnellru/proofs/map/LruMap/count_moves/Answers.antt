@@ -13,8 +13,14 @@ invariant_of-self g c =
       fits = holds.fits;
       map = record {
         distinct = holds.map.distinct;
-        sized = record { table = sized.table; taken = sized.taken; reachable = sized.reachable; usable = sized.usable;
-            moved = c.saturating_add-self-inside.type_inv; placed = sized.placed };
+        sized = record {
+          table = sized.table;
+          taken = sized.taken;
+          reachable = sized.reachable;
+          usable = sized.usable;
+          moved = c.saturating_add-self-inside.type_inv;
+          placed = sized.placed;
+        };
         paid = omega (arith, paid, len, c.saturating_add-self-inside.ensures);
       };
     }
@@ -23,7 +29,7 @@ pub returns : goal.returns
 returns g c =
     let m = c.self.inside in let rises = c.saturating_add-self-inside.ensures
     ∙ ap (λ n. min (m.moved + n) (2 ^ 64 - 1))
-        (c.len.ensures.len ∙ sym (pairs-length m.entries c.self.invariant.linked)) in
+    (c.len.ensures.len ∙ sym (pairs-length m.entries c.self.invariant.linked)) in
     let rest = beside m.limiter m.hasher m.moved m.placed m.entry_bytes
-        (g.L.LinkType.LinkType.number g.L.LinkType.LinkType.MAX) in
+    (g.L.LinkType.LinkType.number g.L.LinkType.LinkType.MAX) in
     rw (← c.self.view_is) (λ i. record (state_of m.entries rest) { moved = rises i })

@@ -11,7 +11,7 @@ pub returns-clause-oldest : goal.returns-clause-oldest
 returns-clause-oldest g c =
     let t = c.self.inside.entries in
     rw (← c.self.view_is) (c.last.ensures.last ∙ last_at t.order
-        ∙ ap (λ n. last_of n t.order) (sym (pairs-length t c.self.invariant.linked)))
+    ∙ ap (λ n. last_of n t.order) (sym (pairs-length t c.self.invariant.linked)))
 
 pub returns-clause-places : goal.returns-clause-places
 returns-clause-places g c = rw (← c.self.view_is) (sym (pairs-length c.self.inside.entries c.self.invariant.linked))

@@ -15,7 +15,7 @@ returns-in_err-b g c =
     let hash_of = hash_by g.K.Hash.hash_input g.S.BuildHasher g.S.Hasher.Hasher m.hasher in
     let none = no_value m.entries holds.linked (g.Q.LookupKey.names c.args.key.now) hash_of c.hash_one.result
     (λ k named. c.hash_one.ensures
-        ∙ hash_by-named g.met.Q.LookupKey.laws g.S.BuildHasher g.S.Hasher.Hasher m.hasher c.args.key.now k named)
+    ∙ hash_by-named g.met.Q.LookupKey.laws g.S.BuildHasher g.S.Hasher.Hasher m.hasher c.args.key.now k named)
     (c.in_err-b.ensures.none hash_of holds.fits) in
     rw (c.from_residual.ensures, ← c.self.view_is) (
       refl,
@@ -30,35 +30,35 @@ pub invariant_of-self-lent : goal.invariant_of-self-lent
 invariant_of-self-lent g c = λ w.
     let m = c.self.inside in
     let rest = beside m.limiter m.hasher m.moved m.placed m.entry_bytes
-        (g.L.LinkType.LinkType.number g.L.LinkType.LinkType.MAX) in
+    (g.L.LinkType.LinkType.number g.L.LinkType.LinkType.MAX) in
     let t = m.entries in let v = c.promote.new.self in let holds = c.self.invariant in
-        let found = c.in_ok-b.ensures.found in
+    let found = c.in_ok-b.ensures.found in
     let there = ap (λ s. entry_at s c.in_ok-b.b) (sym c.promote.ensures.slots) ∙ c.pair_mut.ensures.pair in
     let key : found.0 ≡ (c.pair_mut.result.now.key, c.pair_mut.result.now.value) = ap (λ o. unwrap_or o found.0)
-        (sym found.1 ∙ there) in
+    (sym found.1 ∙ there) in
     let hash_of = hash_by g.K.Hash.hash_input g.S.BuildHasher g.S.Hasher.Hasher in
     first_holds t v holds.linked c.in_ok-b.b
-        (c.pair_mut.result.now.key, c.pair_mut.result.now.value) there c.promote.ensures.slots c.promote.ensures.order
-        c.promote.ensures.placings
+    (c.pair_mut.result.now.key, c.pair_mut.result.now.value) there c.promote.ensures.slots c.promote.ensures.order
+    c.promote.ensures.placings
     (g.Q.LookupKey.names c.args.key.now) g.met.K.Eq.laws (g.met.Q.LookupKey.laws.one c.args.key.now)
-        (subst (λ p. g.Q.LookupKey.names c.args.key.now p.0 ≡ true) key found.2)
+    (subst (λ p. g.Q.LookupKey.names c.args.key.now p.0 ≡ true) key found.2)
     holds.map.distinct rest w hash_of holds
     (c.pair_mut.ensures.linked (c.pair_mut.result.now.key, w))
     (c.pair_mut.ensures.fits (hash_of m.hasher)
-        (subst (KeysFit (hash_of m.hasher)) (sym c.promote.ensures.slots) holds.fits)
-        (c.pair_mut.result.now.key, w) refl)
+    (subst (KeysFit (hash_of m.hasher)) (sym c.promote.ensures.slots) holds.fits)
+    (c.pair_mut.result.now.key, w) refl)
 
 pub returns : goal.returns
 returns g c =
     let m = c.self.inside in
     let rest = beside m.limiter m.hasher m.moved m.placed m.entry_bytes
-        (g.L.LinkType.LinkType.number g.L.LinkType.LinkType.MAX) in
+    (g.L.LinkType.LinkType.number g.L.LinkType.LinkType.MAX) in
     let t = m.entries in let v = c.promote.new.self in let holds = c.self.invariant in
-        let found = c.in_ok-b.ensures.found in
+    let found = c.in_ok-b.ensures.found in
     let names = g.Q.LookupKey.names c.args.key.now in let one = g.met.Q.LookupKey.laws.one c.args.key.now in
     let there = ap (λ s. entry_at s c.in_ok-b.b) (sym c.promote.ensures.slots) ∙ c.pair_mut.ensures.pair in
     let key : found.0 ≡ (c.pair_mut.result.now.key, c.pair_mut.result.now.value) = ap (λ o. unwrap_or o found.0)
-        (sym found.1 ∙ there) in
+    (sym found.1 ∙ there) in
     let named : names c.pair_mut.result.now.key ≡ true = subst (λ p. names p.0 ≡ true) key found.2 in
     rw (← c.self.view_is) (
       same_follow _ _ _ (λ w. first_state t v holds.linked c.in_ok-b.b

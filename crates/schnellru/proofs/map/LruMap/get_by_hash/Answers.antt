@@ -27,33 +27,33 @@ pub invariant_of-self-lent : goal.invariant_of-self-lent
 invariant_of-self-lent g c = λ w.
     let m = c.self.inside in
     let rest = beside m.limiter m.hasher m.moved m.placed m.entry_bytes
-        (g.L.LinkType.LinkType.number g.L.LinkType.LinkType.MAX) in
+    (g.L.LinkType.LinkType.number g.L.LinkType.LinkType.MAX) in
     let t = m.entries in let v = c.promote.new.self in let holds = c.self.invariant in
-        let now = c.pair_mut.result.now in
+    let now = c.pair_mut.result.now in
     let there = ap (λ s. entry_at s c.in_ok-b.b) (sym c.promote.ensures.slots) ∙ c.pair_mut.ensures.pair in
     let hash_of = hash_by g.K.Hash.hash_input g.S.BuildHasher g.S.Hasher.Hasher in
     let eq = g.K.PartialEq.eq in let laws = g.met.K.Eq.laws in
     first_holds t v holds.linked c.in_ok-b.b (now.key, now.value) there c.promote.ensures.slots c.promote.ensures.order
-        c.promote.ensures.placings
+    c.promote.ensures.placings
     (eq now.key) laws (λ x y h. laws.congr now.key x y h) (laws.refl now.key) holds.map.distinct rest w hash_of holds
     (c.pair_mut.ensures.linked (now.key, w))
     (c.pair_mut.ensures.fits (hash_of m.hasher)
-        (subst (KeysFit (hash_of m.hasher)) (sym c.promote.ensures.slots) holds.fits) (now.key, w) refl)
+    (subst (KeysFit (hash_of m.hasher)) (sym c.promote.ensures.slots) holds.fits) (now.key, w) refl)
 
 pub returns : goal.returns
 returns g c =
     let m = c.self.inside in
     let rest = beside m.limiter m.hasher m.moved m.placed m.entry_bytes
-        (g.L.LinkType.LinkType.number g.L.LinkType.LinkType.MAX) in
+    (g.L.LinkType.LinkType.number g.L.LinkType.LinkType.MAX) in
     let t = m.entries in let v = c.promote.new.self in let holds = c.self.invariant in
-        let now = c.pair_mut.result.now in
+    let now = c.pair_mut.result.now in
     let there = ap (λ s. entry_at s c.in_ok-b.b) (sym c.promote.ensures.slots) ∙ c.pair_mut.ensures.pair in
     let hash_of = hash_by g.K.Hash.hash_input g.S.BuildHasher g.S.Hasher.Hasher m.hasher in
     let eq = g.K.PartialEq.eq in let laws = g.met.K.Eq.laws in let found = c.in_ok-b.ensures.found in
     let gives = gives_by_hash t holds.linked laws holds.map.distinct hash_of holds.fits c.args.hash g.F.FnMut
-        c.args.is_eq c.in_ok-b.b found in
+    c.args.is_eq c.in_ok-b.b found in
     let same : found.accepted.pair ≡ (now.key, now.value) = ap (λ o. unwrap_or o found.accepted.pair)
-        (sym found.accepted.there ∙ there) in
+    (sym found.accepted.there ∙ there) in
     rw (← c.self.view_is) (
       (
         refl,

@@ -21,5 +21,9 @@ overflow_add-result g c =
 pub returns : goal.returns
 returns g c =
     rw (← c.self.view_is)
-        (omega (arith, c.len.ensures.len, c.room.ensures.room,
-        pairs-length c.self.inside.entries c.self.invariant.linked))
+    (omega (
+      arith,
+      c.len.ensures.len,
+      c.room.ensures.room,
+      pairs-length c.self.inside.entries c.self.invariant.linked,
+    ))

@@ -7,9 +7,9 @@ use Rattle.schnellru.proofs.map.LruMap.insert.Goals as goal
 pub returns-clause-says : goal.returns-clause-says
 returns-clause-says g c =
     let old : IsMap g.K.PartialEq.eq c.args.self.now = subst
-        (IsMap g.K.PartialEq.eq) c.self.view_is c.self.invariant.map in
+    (IsMap g.K.PartialEq.eq) c.self.view_is c.self.invariant.map in
     insert_says _ _ _ _ g.met.I.LookupKey.laws g.met.L.Insertion.laws c.args.key c.args.value c.args.self.now _ _
-        old.distinct c.insert_hashed-answer.ensures
+    old.distinct c.insert_hashed-answer.ensures
 
 pub returns-clause-lacks : goal.returns-clause-lacks
 returns-clause-lacks g c = on_err _
@@ -25,4 +25,4 @@ returns-clause-map g c = subst (IsMap g.K.PartialEq.eq) c.self-2.view_is c.self-
 pub returns-clause-stores : goal.returns-clause-stores
 returns-clause-stores g c = λ yes.
     insert_stores _ _ _ _ g.met.I.LookupKey.laws g.met.L.Insertion.laws c.args.key c.args.value c.args.self.now _ _ yes
-        c.insert_hashed-answer.ensures
+    c.insert_hashed-answer.ensures

@@ -18,16 +18,16 @@ insert_new-requires-clause-absent g c =
     let hash_of = hash_by g.K.Hash.hash_input g.S.BuildHasher g.S.Hasher.Hasher m.hasher in
     rw (← c.self.view_is) (not_found m.entries holds.linked (g.I.LookupKey.names c.args.key) hash_of c.args.hash
     (λ k named. (rw (← c.self.view_is) at c.requires.hash)
-        ∙ hash_by-named g.met.I.LookupKey.laws g.S.BuildHasher g.S.Hasher.Hasher m.hasher c.args.key k named)
+    ∙ hash_by-named g.met.I.LookupKey.laws g.S.BuildHasher g.S.Hasher.Hasher m.hasher c.args.key k named)
     (c.in-None.ensures.none hash_of holds.fits))
 
 pub invariant_of-self : goal.invariant_of-self
 invariant_of-self g c =
     let m = c.self.inside in
     let rest = beside m.limiter m.hasher m.moved m.placed m.entry_bytes
-        (g.L.LinkType.LinkType.number g.L.LinkType.LinkType.MAX) in
+    (g.L.LinkType.LinkType.number g.L.LinkType.LinkType.MAX) in
     let t = m.entries in let u = c.replace.new.entries in let l = c.replace.new.limiter in
-        let holds = c.self.invariant in
+    let holds = c.self.invariant in
     let b = c.in-Some.b in let found = c.in-Some.ensures.found in let was = found.0 in
     let names = g.I.LookupKey.names c.args.key in let one = g.met.I.LookupKey.laws.one c.args.key in
     let by = g.L.Insertion.offers.on_replace m.limiter (length t.order) was.0 c.args.key was.1 c.args.value in
@@ -35,10 +35,10 @@ invariant_of-self g c =
     let fits =
     c.replace.ensures.fits (hash_of m.hasher)
     (λ x y e. ap (λ input. g.S.Hasher.Hasher.finish
-        (fold g.S.Hasher.Hasher.write (g.S.BuildHasher.build_hasher m.hasher) input)) (g.met.K.Hash.respects_eq x y e))
-        holds.fits in
+    (fold g.S.Hasher.Hasher.write (g.S.BuildHasher.build_hasher m.hasher) input)) (g.met.K.Hash.respects_eq x y e))
+    holds.fits in
     given_up_holds by t u b l holds.linked c.replace.ensures.linked was found.1 names g.met.K.Eq.laws one
-        holds.map.distinct found.2
+    holds.map.distinct found.2
     rest
     g.L.Limiter.rules (c.replace.ensures.given_up c.if-not-replace.true was found.1) hash_of holds fits
 
@@ -46,9 +46,9 @@ pub invariant_of-self-in-Some : goal.invariant_of-self-in-Some
 invariant_of-self-in-Some g c =
     let m = c.self.inside in
     let rest = beside m.limiter m.hasher m.moved m.placed m.entry_bytes
-        (g.L.LinkType.LinkType.number g.L.LinkType.LinkType.MAX) in
+    (g.L.LinkType.LinkType.number g.L.LinkType.LinkType.MAX) in
     let t = m.entries in let u = c.replace.new.entries in let l = c.replace.new.limiter in
-        let holds = c.self.invariant in
+    let holds = c.self.invariant in
     let b = c.in-Some.b in let found = c.in-Some.ensures.found in let was = found.0 in
     let names = g.I.LookupKey.names c.args.key in let one = g.met.I.LookupKey.laws.one c.args.key in
     let by = g.L.Insertion.offers.on_replace m.limiter (length t.order) was.0 c.args.key was.1 c.args.value in
@@ -56,42 +56,42 @@ invariant_of-self-in-Some g c =
     let fits =
     c.replace.ensures.fits (hash_of m.hasher)
     (λ x y e. ap (λ input. g.S.Hasher.Hasher.finish
-        (fold g.S.Hasher.Hasher.write (g.S.BuildHasher.build_hasher m.hasher) input)) (g.met.K.Hash.respects_eq x y e))
-        holds.fits in
+    (fold g.S.Hasher.Hasher.write (g.S.BuildHasher.build_hasher m.hasher) input)) (g.met.K.Hash.respects_eq x y e))
+    holds.fits in
     replaced_holds by t u b l holds.linked c.replace.ensures.linked was found.1 names g.met.K.Eq.laws one
-        holds.map.distinct found.2
+    holds.map.distinct found.2
     rest
     (c.replace.ensures.replaced c.if-not-replace.false was found.1) hash_of
     (one was.0 by.key found.2 ∙ g.met.L.Insertion.laws.keeps_key m.limiter
-        (length t.order) was.0 c.args.key was.1 c.args.value found.2) holds fits
+    (length t.order) was.0 c.args.key was.1 c.args.value found.2) holds fits
 
 pub returns-then-not-replace : goal.returns-then-not-replace
 returns-then-not-replace g c =
     let m = c.self.inside in
     let rest = beside m.limiter m.hasher m.moved m.placed m.entry_bytes
-        (g.L.LinkType.LinkType.number g.L.LinkType.LinkType.MAX) in
+    (g.L.LinkType.LinkType.number g.L.LinkType.LinkType.MAX) in
     let t = m.entries in let u = c.replace.new.entries in let l = c.replace.new.limiter in
-        let holds = c.self.invariant in
+    let holds = c.self.invariant in
     let b = c.in-Some.b in let found = c.in-Some.ensures.found in let was = found.0 in
     let names = g.I.LookupKey.names c.args.key in let one = g.met.I.LookupKey.laws.one c.args.key in
     let rules = g.L.Limiter.rules in let same = sym (pairs-length t holds.linked) in
     let by = λ (n : ℕ). g.L.Insertion.offers.on_replace m.limiter n was.0 c.args.key was.1 c.args.value in
     rw (← c.self.view_is)
-        (given_up was (pair_found t holds.linked b was found.1 names g.met.K.Eq.laws one holds.map.distinct found.2)
+    (given_up was (pair_found t holds.linked b was found.1 names g.met.K.Eq.laws one holds.map.distinct found.2)
     (subst (λ n. (by n).taken ≡ false) same (sym (c.replace.ensures.taken was found.1) ∙ c.if-not-replace.true)) refl
     (given_up_leaves (by (length (pairs_of t))) t u b l holds.linked c.replace.ensures.linked was found.1 names
-        g.met.K.Eq.laws one holds.map.distinct found.2
+    g.met.K.Eq.laws one holds.map.distinct found.2
     rest
     rules (subst (λ n. IsGivenUp rules (by n) b t u l) same
-        (c.replace.ensures.given_up c.if-not-replace.true was found.1))))
+    (c.replace.ensures.given_up c.if-not-replace.true was found.1))))
 
 pub returns-else-not-replace : goal.returns-else-not-replace
 returns-else-not-replace g c =
     let m = c.self.inside in
     let rest = beside m.limiter m.hasher m.moved m.placed m.entry_bytes
-        (g.L.LinkType.LinkType.number g.L.LinkType.LinkType.MAX) in
+    (g.L.LinkType.LinkType.number g.L.LinkType.LinkType.MAX) in
     let t = m.entries in let u = c.replace.new.entries in let l = c.replace.new.limiter in
-        let holds = c.self.invariant in
+    let holds = c.self.invariant in
     let b = c.in-Some.b in let found = c.in-Some.ensures.found in let was = found.0 in
     let names = g.I.LookupKey.names c.args.key in let one = g.met.I.LookupKey.laws.one c.args.key in
     let rules = g.L.Limiter.rules in let same = sym (pairs-length t holds.linked) in
@@ -99,11 +99,11 @@ returns-else-not-replace g c =
     let by = λ (n : ℕ). g.L.Insertion.offers.on_replace m.limiter n was.0 c.args.key was.1 c.args.value in
     let old = state_of t rest in let mid = state_of u (record rest { limiter = l }) in
     let leaves = replaced_leaves (by (length (pairs_of t))) t u b l holds.linked c.replace.ensures.linked was found.1
-        names g.met.K.Eq.laws one holds.map.distinct found.2
+    names g.met.K.Eq.laws one holds.map.distinct found.2
     rest
     (subst (λ n. IsReplaced (by n) b t u l) same (c.replace.ensures.replaced c.if-not-replace.false was found.1)) in
     rw (← c.self.view_is)
-        (replaced was (pair_found t holds.linked b was found.1 names g.met.K.Eq.laws one holds.map.distinct found.2)
+    (replaced was (pair_found t holds.linked b was found.1 names g.met.K.Eq.laws one holds.map.distinct found.2)
     (subst (λ n. (by n).taken ≡ true) same (sym (c.replace.ensures.taken was found.1) ∙ c.if-not-replace.false))
     (ap (λ y. Ok (not y)) c.is_empty.ensures)
     (leaves_trimmed rules old mid c.trim.new.self _ leaves c.trim.ensures))

@@ -12,7 +12,7 @@ pub returns-in_err-pair : goal.returns-in_err-pair
 returns-in_err-pair g c =
     let m = c.self.inside in
     let rest = beside m.limiter m.hasher m.moved m.placed m.entry_bytes
-        (g.L.LinkType.LinkType.number g.L.LinkType.LinkType.MAX) in
+    (g.L.LinkType.LinkType.number g.L.LinkType.LinkType.MAX) in
     let len = c.len.ensures.len ∙ sym (pairs-length m.entries c.self.invariant.linked) in
     rw (← c.self.view_is) (no_memory_to_admit (rw (← c.self.view_is) at c.requires.absent)
     (subst (λ n. g.L.Insertion.offers.may_lack m.limiter n c.args.key c.args.value) len c.in_err-pair.ensures.lacks)
@@ -23,30 +23,30 @@ pub place_new-requires-clause-hash : goal.place_new-requires-clause-hash
 place_new-requires-clause-hash g c =
     let m = c.self.inside in let pair = c.in-Some.pair in
     let given : g.L.Insertion.offers.on_insert m.limiter c.len.result c.args.key c.args.value c.on_insert.new.self
-        (Some pair) = rw c.in-Some.is at c.in_ok-pair.ensures.offered in
+    (Some pair) = rw c.in-Some.is at c.in_ok-pair.ensures.offered in
     let named = g.met.L.Insertion.laws.names_given m.limiter c.len.result c.args.key c.args.value c.on_insert.new.self
-        pair.0 pair.1 given in
+    pair.0 pair.1 given in
     (rw (← c.self.view_is) at c.requires.hash)
-        ∙ hash_by-named g.met.I.LookupKey.laws g.S.BuildHasher g.S.Hasher.Hasher m.hasher c.args.key pair.0 named
+    ∙ hash_by-named g.met.I.LookupKey.laws g.S.BuildHasher g.S.Hasher.Hasher m.hasher c.args.key pair.0 named
 
 pub place_new-requires-clause-absent : goal.place_new-requires-clause-absent
 place_new-requires-clause-absent g c =
     let m = c.self.inside in let pair = c.in-Some.pair in
     let given : g.L.Insertion.offers.on_insert m.limiter c.len.result c.args.key c.args.value c.on_insert.new.self
-        (Some pair) = rw c.in-Some.is at c.in_ok-pair.ensures.offered in
+    (Some pair) = rw c.in-Some.is at c.in_ok-pair.ensures.offered in
     let named = g.met.L.Insertion.laws.names_given m.limiter c.len.result c.args.key c.args.value c.on_insert.new.self
-        pair.0 pair.1 given in
+    pair.0 pair.1 given in
     sym (lookup_alike (g.I.LookupKey.names c.args.key) (g.K.PartialEq.eq pair.0)
-        (λ k. g.met.I.LookupKey.laws.one c.args.key pair.0 k named) (pairs_of m.entries))
+    (λ k. g.met.I.LookupKey.laws.one c.args.key pair.0 k named) (pairs_of m.entries))
     ∙ (rw (← c.self.view_is) at c.requires.absent)
 
 pub returns-in-Some : goal.returns-in-Some
 returns-in-Some g c =
     let m = c.self.inside in let len = c.len.ensures.len ∙ sym (pairs-length m.entries c.self.invariant.linked) in
-        let step = c.place_new.ensures in
+    let step = c.place_new.ensures in
     rw (← c.self.view_is) (admitted (rw (← c.self.view_is) at c.requires.absent) c.on_insert.new.self c.in-Some.pair
     (subst (λ n. g.L.Insertion.offers.on_insert m.limiter n c.args.key c.args.value c.on_insert.new.self
-        (Some c.in-Some.pair)) len (rw c.in-Some.is at c.in_ok-pair.ensures.offered))
+    (Some c.in-Some.pair)) len (rw c.in-Some.is at c.in_ok-pair.ensures.offered))
     step)
 
 pub returns-in-None : goal.returns-in-None
@@ -54,5 +54,5 @@ returns-in-None g c =
     let m = c.self.inside in let len = c.len.ensures.len ∙ sym (pairs-length m.entries c.self.invariant.linked) in
     rw (← c.self.view_is) (not_admitted (rw (← c.self.view_is) at c.requires.absent) c.on_insert.new.self
     (subst (λ n. g.L.Insertion.offers.on_insert m.limiter n c.args.key c.args.value c.on_insert.new.self None) len
-        (rw c.in-None.is at c.in_ok-pair.ensures.offered))
+    (rw c.in-None.is at c.in_ok-pair.ensures.offered))
     refl refl)

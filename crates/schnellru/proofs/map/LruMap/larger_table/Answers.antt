@@ -24,17 +24,17 @@ pub returns-clause-next : goal.returns-clause-next
 returns-clause-next g c =
     let m = c.self.inside in
     let rest = beside m.limiter m.hasher m.moved m.placed m.entry_bytes
-        (g.L.LinkType.LinkType.number g.L.LinkType.LinkType.MAX) in
+    (g.L.LinkType.LinkType.number g.L.LinkType.LinkType.MAX) in
     rw (← c.self.view_is) (sym (goes_to rest m.entries c.self.invariant.linked c.args.more _ _ _ _
     (c.into_usize-max.ensures ∙ ap g.L.LinkType.LinkType.number c.MAX.ensures) c.buckets.ensures.buckets
-        c.len-len.ensures.len (sym c.larger_table.ensures)))
+    c.len-len.ensures.len (sym c.larger_table.ensures)))
 
 pub returns-clause-count : goal.returns-clause-count
 returns-clause-count g c =
     let st = c.args.self.now in let ok = subst IsSized c.self.view_is c.self.invariant.map.sized in
     let some : 0 < length st.pairs + c.args.more = omega (arith, c.requires.half) in
     if_larger c.args.more st ok some _ (larger_count c.args.more st ok some) c.larger_table.result
-        (returns-clause-next g c)
+    (returns-clause-next g c)
 
 pub returns-clause-reached : goal.returns-clause-reached
 returns-clause-reached g c =
@@ -42,7 +42,7 @@ returns-clause-reached g c =
     let some : 0 < length st.pairs + c.args.more = omega (arith, c.requires.half) in
     if_larger c.args.more st ok some _
     (λ count bytes is. subst (λ st. count < st.max) (sym c.self.view_is)
-        (larger_reached c.args.more st ok some count bytes is))
+    (larger_reached c.args.more st ok some count bytes is))
     c.larger_table.result (returns-clause-next g c)
 
 pub returns-clause-usable : goal.returns-clause-usable
@@ -50,11 +50,11 @@ returns-clause-usable g c =
     let st = c.args.self.now in let ok = subst IsSized c.self.view_is c.self.invariant.map.sized in
     let some : 0 < length st.pairs + c.args.more = omega (arith, c.requires.half) in
     if_larger c.args.more st ok some _ (larger_usable c.args.more st ok some) c.larger_table.result
-        (returns-clause-next g c)
+    (returns-clause-next g c)
 
 pub returns-clause-half : goal.returns-clause-half
 returns-clause-half g c =
     let st = c.args.self.now in let ok = subst IsSized c.self.view_is c.self.invariant.map.sized in
     let some : 0 < length st.pairs + c.args.more = omega (arith, c.requires.half) in
     if_larger c.args.more st ok some _ (larger_half c.args.more st ok some) c.larger_table.result
-        (returns-clause-next g c)
+    (returns-clause-next g c)

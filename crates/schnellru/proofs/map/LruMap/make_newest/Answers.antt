@@ -12,10 +12,10 @@ pub invariant_of-self : goal.invariant_of-self
 invariant_of-self g c =
     let m = c.self.inside in
     let rest = beside m.limiter m.hasher m.moved m.placed m.entry_bytes
-        (g.L.LinkType.LinkType.number g.L.LinkType.LinkType.MAX) in
+    (g.L.LinkType.LinkType.number g.L.LinkType.LinkType.MAX) in
     let t = m.entries in let holds = c.self.invariant in let found = c.in-Some.ensures.found in
     promoted_holds t c.promote.new.self holds.linked c.in-Some.b found.0 found.1 c.promote.ensures.slots
-        c.promote.ensures.order c.promote.ensures.placings
+    c.promote.ensures.order c.promote.ensures.placings
     (g.I.LookupKey.names c.args.key) g.met.K.Eq.laws (g.met.I.LookupKey.laws.one c.args.key) found.2 holds.map.distinct
     rest
     (hash_by g.K.Hash.hash_input g.S.BuildHasher g.S.Hasher.Hasher) holds c.promote.ensures.linked
@@ -26,7 +26,7 @@ make-requires g c =
     let hash_of = hash_by g.K.Hash.hash_input g.S.BuildHasher g.S.Hasher.Hasher m.hasher in
     let none = no_value m.entries holds.linked (g.I.LookupKey.names c.args.key) hash_of c.hash_one-hash.result
     (λ k named. c.hash_one-hash.ensures
-        ∙ hash_by-named g.met.I.LookupKey.laws g.S.BuildHasher g.S.Hasher.Hasher m.hasher c.args.key k named)
+    ∙ hash_by-named g.met.I.LookupKey.laws g.S.BuildHasher g.S.Hasher.Hasher m.hasher c.args.key k named)
     (c.in-None.ensures.none hash_of holds.fits) in
     let absent : lookup (g.I.LookupKey.names c.args.key) c.args.self.now.pairs ≡ None = rw (← c.self.view_is) none in
     c.requires absent
@@ -36,24 +36,24 @@ insert_new-requires-clause-absent g c =
     let m = c.self.inside in let holds = c.self.invariant in
     let hash_of = hash_by g.K.Hash.hash_input g.S.BuildHasher g.S.Hasher.Hasher m.hasher in
     rw (← c.self.view_is)
-        (not_found m.entries holds.linked (g.I.LookupKey.names c.args.key) hash_of c.hash_one-hash.result
+    (not_found m.entries holds.linked (g.I.LookupKey.names c.args.key) hash_of c.hash_one-hash.result
     (λ k named. c.hash_one-hash.ensures
-        ∙ hash_by-named g.met.I.LookupKey.laws g.S.BuildHasher g.S.Hasher.Hasher m.hasher c.args.key k named)
+    ∙ hash_by-named g.met.I.LookupKey.laws g.S.BuildHasher g.S.Hasher.Hasher m.hasher c.args.key k named)
     (c.in-None.ensures.none hash_of holds.fits))
 
 pub returns-in-Some : goal.returns-in-Some
 returns-in-Some g c =
     let m = c.self.inside in
     let rest = beside m.limiter m.hasher m.moved m.placed m.entry_bytes
-        (g.L.LinkType.LinkType.number g.L.LinkType.LinkType.MAX) in
+    (g.L.LinkType.LinkType.number g.L.LinkType.LinkType.MAX) in
     let t = m.entries in let holds = c.self.invariant in let found = c.in-Some.ensures.found in
     let names = g.I.LookupKey.names c.args.key in let one = g.met.I.LookupKey.laws.one c.args.key in
     let value = value_found t holds.linked c.in-Some.b found.0 found.1 names g.met.K.Eq.laws one holds.map.distinct
-        found.2 in
+    found.2 in
     rw (← c.self.view_is)
-        (got found.0.1 value refl
-        (promoted_state t c.promote.new.self holds.linked c.in-Some.b found.0 found.1 c.promote.ensures.slots
-        c.promote.ensures.order c.promote.ensures.placings names g.met.K.Eq.laws one found.2 holds.map.distinct rest))
+    (got found.0.1 value refl
+    (promoted_state t c.promote.new.self holds.linked c.in-Some.b found.0 found.1 c.promote.ensures.slots
+    c.promote.ensures.order c.promote.ensures.placings names g.met.K.Eq.laws one found.2 holds.map.distinct rest))
 
 pub returns-in-None : goal.returns-in-None
 returns-in-None g c =
@@ -61,7 +61,7 @@ returns-in-None g c =
     let hash_of = hash_by g.K.Hash.hash_input g.S.BuildHasher g.S.Hasher.Hasher m.hasher in
     let none = no_value m.entries holds.linked (g.I.LookupKey.names c.args.key) hash_of c.hash_one-hash.result
     (λ k named. c.hash_one-hash.ensures
-        ∙ hash_by-named g.met.I.LookupKey.laws g.S.BuildHasher g.S.Hasher.Hasher m.hasher c.args.key k named)
+    ∙ hash_by-named g.met.I.LookupKey.laws g.S.BuildHasher g.S.Hasher.Hasher m.hasher c.args.key k named)
     (c.in-None.ensures.none hash_of holds.fits) in
     let absent : lookup (g.I.LookupKey.names c.args.key) c.args.self.now.pairs ≡ None = rw (← c.self.view_is) none in
     inserted absent c.make.result c.make.ensures c.insert_new.ensures

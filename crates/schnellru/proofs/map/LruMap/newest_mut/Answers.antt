@@ -9,12 +9,12 @@ pub invariant_of-self-lent : goal.invariant_of-self-lent
 invariant_of-self-lent g c = λ w.
     let m = c.self.inside in
     let rest = beside m.limiter m.hasher m.moved m.placed m.entry_bytes
-        (g.L.LinkType.LinkType.number g.L.LinkType.LinkType.MAX) in
+    (g.L.LinkType.LinkType.number g.L.LinkType.LinkType.MAX) in
     let t = m.entries in let holds = c.self.invariant in
     let hash_of = hash_by g.K.Hash.hash_input g.S.BuildHasher g.S.Hasher.Hasher in
     newest_holds t holds.linked c.in_ok-b.b
-        (c.pair_mut.result.now.key, c.pair_mut.result.now.value) c.pair_mut.ensures.pair (sym c.newest.ensures.newest
-        ∙ c.in_ok-b.was) w
+    (c.pair_mut.result.now.key, c.pair_mut.result.now.value) c.pair_mut.ensures.pair (sym c.newest.ensures.newest
+    ∙ c.in_ok-b.was) w
     rest g.met.K.Eq.laws hash_of holds
     (c.pair_mut.ensures.linked (c.pair_mut.result.now.key, w))
     (c.pair_mut.ensures.fits (hash_of m.hasher) holds.fits (c.pair_mut.result.now.key, w) refl)
@@ -23,7 +23,7 @@ pub returns : goal.returns
 returns g c =
     let m = c.self.inside in
     let rest = beside m.limiter m.hasher m.moved m.placed m.entry_bytes
-        (g.L.LinkType.LinkType.number g.L.LinkType.LinkType.MAX) in
+    (g.L.LinkType.LinkType.number g.L.LinkType.LinkType.MAX) in
     let t = m.entries in let holds = c.self.invariant in
     let first = sym c.newest.ensures.newest ∙ c.in_ok-b.was in
     rw (← c.self.view_is) (

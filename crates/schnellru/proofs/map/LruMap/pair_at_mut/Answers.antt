@@ -12,33 +12,33 @@ pub invariant_of-self-lent : goal.invariant_of-self-lent
 invariant_of-self-lent g c = λ w.
     let m = c.self.inside in
     let rest = beside m.limiter m.hasher m.moved m.placed m.entry_bytes
-        (g.L.LinkType.LinkType.number g.L.LinkType.LinkType.MAX) in
+    (g.L.LinkType.LinkType.number g.L.LinkType.LinkType.MAX) in
     let holds = c.self.invariant in let now = c.pair_mut-pair.result.now in let laws = g.met.K.Eq.laws in
     let hash_of = hash_by g.K.Hash.hash_input g.S.BuildHasher g.S.Hasher.Hasher in
     kept_holds m.entries holds.linked c.args.b (now.key, now.value) c.pair_mut-pair.ensures.pair
     (g.K.PartialEq.eq now.key) laws (λ x y h. laws.congr now.key x y h) (laws.refl now.key)
     holds.map.distinct rest w hash_of holds
     (c.pair_mut-pair.ensures.linked (now.key, w))
-        (c.pair_mut-pair.ensures.fits (hash_of m.hasher) holds.fits (now.key, w) refl)
+    (c.pair_mut-pair.ensures.fits (hash_of m.hasher) holds.fits (now.key, w) refl)
 
 pub returns : goal.returns
 returns g c =
     let m = c.self.inside in
     let rest = beside m.limiter m.hasher m.moved m.placed m.entry_bytes
-        (g.L.LinkType.LinkType.number g.L.LinkType.LinkType.MAX) in
+    (g.L.LinkType.LinkType.number g.L.LinkType.LinkType.MAX) in
     let t = m.entries in let holds = c.self.invariant in let now = c.pair_mut-pair.result.now in
-        let laws = g.met.K.Eq.laws in
+    let laws = g.met.K.Eq.laws in
     let at = rw (← c.self.view_is) at c.requires in
     let got = pair_at t.slots t.order c.args.at c.args.b (now.key, now.value)
-        (all_full t.slots t.order holds.linked.only) at c.pair_mut-pair.ensures.pair in
+    (all_full t.slots t.order holds.linked.only) at c.pair_mut-pair.ensures.pair in
     rw (← c.self.view_is) (
       (
         refl,
         λ w. kept_state t holds.linked c.args.b (now.key, now.value) c.pair_mut-pair.ensures.pair
             (g.K.PartialEq.eq now.key) laws (λ x y h. laws.congr now.key x y h)
-                (laws.refl now.key) holds.map.distinct rest w
+            (laws.refl now.key) holds.map.distinct rest w
             ∙ ap (λ ps. record (state_of t rest) { pairs = ps })
-                (at_set laws (now.key, now.value) w (pairs_of t) c.args.at holds.map.distinct got),
+            (at_set laws (now.key, now.value) w (pairs_of t) c.args.at holds.map.distinct got),
       ),
       record { writes_back = tt; value = got },
     )

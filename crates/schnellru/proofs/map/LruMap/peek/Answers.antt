@@ -9,16 +9,16 @@ returns-in_err-b g c =
     let m = c.self.inside in let holds = c.self.invariant in
     let hash_of = hash_by g.K.Hash.hash_input g.S.BuildHasher g.S.Hasher.Hasher m.hasher in
     rw (← c.self.view_is, c.from_residual.ensures)
-        (sym (no_value m.entries holds.linked (g.Q.LookupKey.names c.args.key.now) hash_of c.hash_one.result
+    (sym (no_value m.entries holds.linked (g.Q.LookupKey.names c.args.key.now) hash_of c.hash_one.result
     (λ k named. c.hash_one.ensures
-        ∙ hash_by-named g.met.Q.LookupKey.laws g.S.BuildHasher g.S.Hasher.Hasher m.hasher c.args.key.now k named)
+    ∙ hash_by-named g.met.Q.LookupKey.laws g.S.BuildHasher g.S.Hasher.Hasher m.hasher c.args.key.now k named)
     (c.in_err-b.ensures.none hash_of holds.fits)))
 
 pub returns : goal.returns
 returns g c =
     let m = c.self.inside in let holds = c.self.invariant in let found = c.in_ok-b.ensures.found in
-        let pair = c.pair.ensures.pair in
+    let pair = c.pair.ensures.pair in
     rw (← c.self.view_is) (ap (λ o. option_map (λ p. p.1) o) (sym pair ∙ found.1)
-        ∙ sym (value_found m.entries holds.linked c.in_ok-b.b found.0 found.1
+    ∙ sym (value_found m.entries holds.linked c.in_ok-b.b found.0 found.1
     (g.Q.LookupKey.names c.args.key.now) g.met.K.Eq.laws
-        (g.met.Q.LookupKey.laws.one c.args.key.now) holds.map.distinct found.2))
+    (g.met.Q.LookupKey.laws.one c.args.key.now) holds.map.distinct found.2))

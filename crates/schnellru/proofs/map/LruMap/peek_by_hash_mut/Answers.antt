@@ -26,7 +26,7 @@ pub invariant_of-self-lent : goal.invariant_of-self-lent
 invariant_of-self-lent g c = λ w.
     let m = c.self.inside in
     let rest = beside m.limiter m.hasher m.moved m.placed m.entry_bytes
-        (g.L.LinkType.LinkType.number g.L.LinkType.LinkType.MAX) in
+    (g.L.LinkType.LinkType.number g.L.LinkType.LinkType.MAX) in
     let holds = c.self.invariant in let now = c.pair_mut.result.now in let laws = g.met.K.Eq.laws in
     let hash_of = hash_by g.K.Hash.hash_input g.S.BuildHasher g.S.Hasher.Hasher in
     kept_holds m.entries holds.linked c.in_ok-b.b (now.key, now.value) c.pair_mut.ensures.pair
@@ -38,14 +38,14 @@ pub returns : goal.returns
 returns g c =
     let m = c.self.inside in
     let rest = beside m.limiter m.hasher m.moved m.placed m.entry_bytes
-        (g.L.LinkType.LinkType.number g.L.LinkType.LinkType.MAX) in
+    (g.L.LinkType.LinkType.number g.L.LinkType.LinkType.MAX) in
     let t = m.entries in let holds = c.self.invariant in let now = c.pair_mut.result.now in
     let hash_of = hash_by g.K.Hash.hash_input g.S.BuildHasher g.S.Hasher.Hasher m.hasher in
     let eq = g.K.PartialEq.eq in let laws = g.met.K.Eq.laws in let found = c.in_ok-b.ensures.found in
     let gives = gives_by_hash t holds.linked laws holds.map.distinct hash_of holds.fits c.args.hash g.F.FnMut
-        c.args.is_eq c.in_ok-b.b found in
+    c.args.is_eq c.in_ok-b.b found in
     let same : found.accepted.pair ≡ (now.key, now.value) = ap (λ o. unwrap_or o found.accepted.pair)
-        (sym found.accepted.there ∙ c.pair_mut.ensures.pair) in
+    (sym found.accepted.there ∙ c.pair_mut.ensures.pair) in
     rw (← c.self.view_is) (
       (
         refl,

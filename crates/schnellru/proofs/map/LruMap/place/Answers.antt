@@ -12,13 +12,13 @@ use Rattle.schnellru.proofs.map.LruMap.place.Goals.{else-room-eq0-via-else-room-
 pub place_without_room-requires-in-Err-clause-no_room : goal.place_without_room-requires-in-Err-clause-no_room
 place_without_room-requires-in-Err-clause-no_room g c = subst (λ st. room st ≡ 0) (sym c.in-Err.ensures.unchanged)
     (no_place_room c.args.self.now
-        (subst IsSized c.self.view_is c.self.invariant.map.sized) c.args.hash c.in-Err.ensures.no_place)
+    (subst IsSized c.self.view_is c.self.invariant.map.sized) c.args.hash c.in-Err.ensures.no_place)
 
 pub place_without_room-requires-in-Err-clause-empty : goal.place_without_room-requires-in-Err-clause-empty
 place_without_room-requires-in-Err-clause-empty g c = subst (λ st. 0 < length st.pairs
     → FirstFreeIs empty c.args.hash st) (sym c.in-Err.ensures.unchanged)
     (no_place_empty c.args.self.now
-        (subst IsSized c.self.view_is c.self.invariant.map.sized) c.args.hash c.in-Err.ensures.no_place)
+    (subst IsSized c.self.view_is c.self.invariant.map.sized) c.args.hash c.in-Err.ensures.no_place)
 
 pub returns-in-Ok : goal.returns-in-Ok
 returns-in-Ok g c =
@@ -29,6 +29,6 @@ returns-in-Ok g c =
       | else-room-eq0-via-else-room-eq0 w ↦ inl (omega (arith, w.if-room-eq0.false, c.room.ensures.room))
     ] in
     bucket_place g.L.Limiter.rules _ c.args.pair c.args.self.now c.place_in_bucket.new.self
-        (subst IsSized c.self.view_is c.self.invariant.map.sized)
+    (subst IsSized c.self.view_is c.self.invariant.map.sized)
     (rw (← c.self.view_is) some) step.placed
-        (subst (λ h. FillsBucket h c.args.self.now c.place_in_bucket.new.self) c.requires.hash step.fills)
+    (subst (λ h. FillsBucket h c.args.self.now c.place_in_bucket.new.self) c.requires.hash step.fills)

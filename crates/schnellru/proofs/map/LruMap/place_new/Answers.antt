@@ -10,7 +10,7 @@ place-requires-clause-absent g c =
     let old = c.args.self.now in let ready = c.make_way.new.self in
     front_absent (g.K.PartialEq.eq c.args.pair.0) ready.pairs old.pairs
     (subst (λ xs. IsFront xs old.pairs) (sym (ap (λ st. st.pairs) c.make_way.ensures.is))
-        (front_make_way g.L.Limiter.rules (contents old))) c.requires.absent
+    (front_make_way g.L.Limiter.rules (contents old))) c.requires.absent
 
 pub returns-in_err-place : goal.returns-in_err-place
 returns-in_err-place g c = (

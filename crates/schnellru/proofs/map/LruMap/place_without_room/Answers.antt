@@ -13,7 +13,7 @@ pub place_after_move-requires-clause-count : goal.place_after_move-requires-clau
 place_after_move-requires-clause-count g c =
     let t = c.self.inside.entries in
     let same : c.buckets-buckets.result ≡ length (marks_of t.slots) = c.buckets-buckets.ensures.buckets
-        ∙ sym (length-marks_of t.slots) in
+    ∙ sym (length-marks_of t.slots) in
     rw same (own_count _ c.self.invariant.map.sized (omega (arith, c.if-buckets-eq0.false, same)))
 
 pub place_after_move-requires-clause-reached : goal.place_after_move-requires-clause-reached
@@ -24,7 +24,7 @@ pub place_after_move-requires-clause-usable : goal.place_after_move-requires-cla
 place_after_move-requires-clause-usable g c =
     let t = c.self.inside.entries in
     let same : c.buckets-buckets.result ≡ length (marks_of t.slots) = c.buckets-buckets.ensures.buckets
-        ∙ sym (length-marks_of t.slots) in
+    ∙ sym (length-marks_of t.slots) in
     rw (same, ← c.self.view_is) c.self.invariant.map.sized.usable
 
 pub place_after_move-requires-clause-half : goal.place_after_move-requires-clause-half
@@ -32,47 +32,65 @@ place_after_move-requires-clause-half g c =
     let t = c.self.inside.entries in
     let takes = c.full_capacity.ensures in
     rw (← c.self.view_is)
-        (omega (arith, takes, c.if-len-full_capacity.true, c.len-len.ensures.len,
-        pairs-length t c.self.invariant.linked))
+    (omega (
+      arith,
+      takes,
+      c.if-len-full_capacity.true,
+      c.len-len.ensures.len,
+      pairs-length t c.self.invariant.linked,
+    ))
 
 pub place_in_larger-requires-clause-lacks_room : goal.place_in_larger-requires-clause-lacks_room
 place_in_larger-requires-clause-lacks_room g c =
     let m = c.self.inside in let t = m.entries in
     let some : 0 < length (pairs_of t) = some_of_half t c.self.invariant.linked
-        (λ none. c.if-buckets-eq0.false (c.buckets-buckets.ensures.buckets ∙ none))
-    (omega (arith, c.full_capacity.ensures ∙ ap full_capacity c.buckets-buckets.ensures.buckets,
-        c.if-len-full_capacity.false, c.len-len.ensures.len)) in
+    (λ none. c.if-buckets-eq0.false (c.buckets-buckets.ensures.buckets ∙ none))
+    (omega (
+      arith,
+      c.full_capacity.ensures ∙ ap full_capacity c.buckets-buckets.ensures.buckets,
+      c.if-len-full_capacity.false,
+      c.len-len.ensures.len,
+    )) in
     (rw (← c.self.view_is) some, c.requires.no_room)
 
 pub place_in_larger-requires-clause-empty : goal.place_in_larger-requires-clause-empty
 place_in_larger-requires-clause-empty g c =
     let m = c.self.inside in let t = m.entries in
     let some : 0 < length (pairs_of t) = some_of_half t c.self.invariant.linked
-        (λ none. c.if-buckets-eq0.false (c.buckets-buckets.ensures.buckets ∙ none))
-    (omega (arith, c.full_capacity.ensures ∙ ap full_capacity c.buckets-buckets.ensures.buckets,
-        c.if-len-full_capacity.false, c.len-len.ensures.len)) in
+    (λ none. c.if-buckets-eq0.false (c.buckets-buckets.ensures.buckets ∙ none))
+    (omega (
+      arith,
+      c.full_capacity.ensures ∙ ap full_capacity c.buckets-buckets.ensures.buckets,
+      c.if-len-full_capacity.false,
+      c.len-len.ensures.len,
+    )) in
     c.requires.empty (rw (← c.self.view_is) some)
 
 pub place_in_larger-requires-clause-half : goal.place_in_larger-requires-clause-half
 place_in_larger-requires-clause-half g c =
     let m = c.self.inside in let t = m.entries in
     let takes = c.full_capacity.ensures
-        ∙ ap full_capacity (c.buckets-buckets.ensures.buckets ∙ sym (length-marks_of t.slots)) in
+    ∙ ap full_capacity (c.buckets-buckets.ensures.buckets ∙ sym (length-marks_of t.slots)) in
     rw (← c.self.view_is)
-        (omega (arith, takes, c.if-len-full_capacity.false, c.len-len.ensures.len,
-        pairs-length t c.self.invariant.linked))
+    (omega (
+      arith,
+      takes,
+      c.if-len-full_capacity.false,
+      c.len-len.ensures.len,
+      pairs-length t c.self.invariant.linked,
+    ))
 
 pub returns-then-len-full_capacity : goal.returns-then-len-full_capacity
 returns-then-len-full_capacity g c =
     let t = c.self.inside.entries in let e = c.place_after_move.ensures in
     let same : buckets c.args.self.now ≡ c.buckets-buckets.result = rw (← c.self.view_is) (length-marks_of t.slots
-        ∙ sym c.buckets-buckets.ensures.buckets) in
+    ∙ sym c.buckets-buckets.ensures.buckets) in
     let takes = c.full_capacity.ensures
-        ∙ ap full_capacity (c.buckets-buckets.ensures.buckets ∙ sym (length-marks_of t.slots)) in
+    ∙ ap full_capacity (c.buckets-buckets.ensures.buckets ∙ sym (length-marks_of t.slots)) in
     let few : length (pairs_of t) < full_capacity (length (marks_of t.slots)) / 2 =
     omega (arith, takes, c.if-len-full_capacity.true, c.len-len.ensures.len, pairs-length t c.self.invariant.linked) in
     rehash_place g.L.Limiter.rules _ c.args.pair c.args.self.now c.place_after_move.new.self
-        (subst IsSized c.self.view_is c.self.invariant.map.sized)
+    (subst IsSized c.self.view_is c.self.invariant.map.sized)
     c.place_after_move.result c.requires.no_room
     (λ some. subst (λ h. FirstFreeIs empty h c.args.self.now) c.requires.hash (c.requires.empty some))
     (rw (← c.self.view_is) few) (rw same e.placed) (λ none. e.succeeds none (sym same))

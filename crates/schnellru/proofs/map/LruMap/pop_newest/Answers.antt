@@ -12,20 +12,20 @@ pub invariant_of-self : goal.invariant_of-self
 invariant_of-self g c =
     let m = c.self.inside in
     let rest = beside m.limiter m.hasher m.moved m.placed m.entry_bytes
-        (g.L.LinkType.LinkType.number g.L.LinkType.LinkType.MAX) in
+    (g.L.LinkType.LinkType.number g.L.LinkType.LinkType.MAX) in
     let holds = c.self.invariant in
     taken_holds g.L.Limiter.rules m.entries c.take_out.new.entries c.in_ok-b.b m.limiter c.take_out.new.limiter
-        c.take_out.result c.take_out.ensures.taken holds.linked c.take_out.ensures.linked
+    c.take_out.result c.take_out.ensures.taken holds.linked c.take_out.ensures.linked
     rest g.met.K.Eq.laws _ holds (c.take_out.ensures.fits _ holds.fits)
 
 pub returns : goal.returns
 returns g c =
     let m = c.self.inside in
     let rest = beside m.limiter m.hasher m.moved m.placed m.entry_bytes
-        (g.L.LinkType.LinkType.number g.L.LinkType.LinkType.MAX) in
+    (g.L.LinkType.LinkType.number g.L.LinkType.LinkType.MAX) in
     let holds = c.self.invariant in let out = c.take_out.ensures.taken in
     let rules = g.L.Limiter.rules in let t = m.entries in let u = c.take_out.new.entries in
-        let l = c.take_out.new.limiter in
+    let l = c.take_out.new.limiter in
     let at = sym c.newest.ensures.newest ∙ c.in_ok-b.was in
     let is = newest_is t holds.linked c.in_ok-b.b at out.pair out.there in
     rw (← c.self.view_is) (record {
@@ -34,7 +34,7 @@ returns g c =
         state = taken_leaves rules t u c.in_ok-b.b m.limiter l c.take_out.result out holds.linked
             c.take_out.ensures.linked rest _
             (taken_pairs rules t u c.in_ok-b.b m.limiter l c.take_out.result out
-                ∙ sym (others_newest t holds.linked c.in_ok-b.b at out.pair out.there))
+            ∙ sym (others_newest t holds.linked c.in_ok-b.b at out.pair out.there))
             (taken_told rules t u c.in_ok-b.b m.limiter l c.take_out.result out _ is);
       };
     })

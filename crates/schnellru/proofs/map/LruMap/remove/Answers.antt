@@ -13,26 +13,26 @@ returns-in_err-b g c =
     let hash_of = hash_by g.K.Hash.hash_input g.S.BuildHasher g.S.Hasher.Hasher m.hasher in
     let none = not_found m.entries holds.linked (g.Q.LookupKey.names c.args.key.now) hash_of c.hash_one.result
     (λ k named. c.hash_one.ensures
-        ∙ hash_by-named g.met.Q.LookupKey.laws g.S.BuildHasher g.S.Hasher.Hasher m.hasher c.args.key.now k named)
+    ∙ hash_by-named g.met.Q.LookupKey.laws g.S.BuildHasher g.S.Hasher.Hasher m.hasher c.args.key.now k named)
     (c.in_err-b.ensures.none hash_of holds.fits) in
     rw (c.from_residual.ensures, ← c.self.view_is)
-        (record { step = none_removed g.L.Limiter.rules (g.Q.LookupKey.names c.args.key.now) _ none })
+    (record { step = none_removed g.L.Limiter.rules (g.Q.LookupKey.names c.args.key.now) _ none })
 
 pub invariant_of-self : goal.invariant_of-self
 invariant_of-self g c =
     let m = c.self.inside in
     let rest = beside m.limiter m.hasher m.moved m.placed m.entry_bytes
-        (g.L.LinkType.LinkType.number g.L.LinkType.LinkType.MAX) in
+    (g.L.LinkType.LinkType.number g.L.LinkType.LinkType.MAX) in
     let holds = c.self.invariant in
     taken_holds g.L.Limiter.rules m.entries c.take_out-value.new.entries c.in_ok-b.b m.limiter
-        c.take_out-value.new.limiter c.take_out-value.result c.take_out-value.ensures.taken holds.linked
+    c.take_out-value.new.limiter c.take_out-value.result c.take_out-value.ensures.taken holds.linked
     c.take_out-value.ensures.linked rest g.met.K.Eq.laws _ holds (c.take_out-value.ensures.fits _ holds.fits)
 
 pub returns : goal.returns
 returns g c =
     let m = c.self.inside in
     let rest = beside m.limiter m.hasher m.moved m.placed m.entry_bytes
-        (g.L.LinkType.LinkType.number g.L.LinkType.LinkType.MAX) in
+    (g.L.LinkType.LinkType.number g.L.LinkType.LinkType.MAX) in
     let holds = c.self.invariant in let found = c.in_ok-b.ensures.found in
     let names = g.Q.LookupKey.names c.args.key.now in let one = g.met.Q.LookupKey.laws.one c.args.key.now in
     let took = c.take_out-value in let out = took.ensures.taken in
@@ -40,14 +40,14 @@ returns g c =
     let key = ap (λ o. unwrap_or o found.0) (sym found.1 ∙ out.there) in
     let named = subst (λ p. names p.0 ≡ true) key found.2 in
     let is = pair_found t holds.linked c.in_ok-b.b out.pair out.there names g.met.K.Eq.laws one holds.map.distinct
-        named in
+    named in
     rw (← c.self.view_is) (record {
       step = record {
         value = ap (option_map (λ p. p.1)) (taken_left rules t u c.in_ok-b.b m.limiter l took.result out _ is);
         state = taken_leaves rules t u c.in_ok-b.b m.limiter l took.result out holds.linked took.ensures.linked rest _
             (taken_pairs rules t u c.in_ok-b.b m.limiter l took.result out
-                ∙ sym (others_are t holds.linked c.in_ok-b.b out.pair out.there names g.met.K.Eq.laws one
-                holds.map.distinct named))
+            ∙ sym (others_are t holds.linked c.in_ok-b.b out.pair out.there names g.met.K.Eq.laws one
+            holds.map.distinct named))
             (taken_told rules t u c.in_ok-b.b m.limiter l took.result out _ is);
       };
     })

@@ -9,32 +9,32 @@ pub returns-then-not-on_grow : goal.returns-then-not-on_grow
 returns-then-not-on_grow g c =
     let m = c.self.inside in
     let rest = beside m.limiter m.hasher m.moved m.placed m.entry_bytes
-        (g.L.LinkType.LinkType.number g.L.LinkType.LinkType.MAX) in
+    (g.L.LinkType.LinkType.number g.L.LinkType.LinkType.MAX) in
     rw (← c.self.view_is) (is_denied g.L.Limiter.rules c.args.n (state_of m.entries rest) _
-        (rw (← c.self.view_is) at c.requires.lacks) c.in-Some.count c.in-Some.bytes
+    (rw (← c.self.view_is) at c.requires.lacks) c.in-Some.count c.in-Some.bytes
     (rw (← c.self.view_is) at (sym c.in-Some.ensures.next)) c.on_grow.new.self c.on_grow.ensures.limiter
-        (sym c.on_grow.ensures.allowed ∙ c.if-not-on_grow.true) refl)
+    (sym c.on_grow.ensures.allowed ∙ c.if-not-on_grow.true) refl)
 
 pub returns-in-Ok : goal.returns-in-Ok
 returns-in-Ok g c =
     let m = c.self.inside in
     let rest = beside m.limiter m.hasher m.moved m.placed m.entry_bytes
-        (g.L.LinkType.LinkType.number g.L.LinkType.LinkType.MAX) in
+    (g.L.LinkType.LinkType.number g.L.LinkType.LinkType.MAX) in
     rw (← c.self.view_is) (is_reserved g.L.Limiter.rules c.args.n (state_of m.entries rest) c.move_to.new.self
-        (rw (← c.self.view_is) at c.requires.lacks)
+    (rw (← c.self.view_is) at c.requires.lacks)
     c.in-Some.count c.in-Some.bytes (rw (← c.self.view_is) at (sym c.in-Some.ensures.next)) c.on_grow.new.self
-        c.on_grow.ensures.limiter
+    c.on_grow.ensures.limiter
     (sym c.on_grow.ensures.allowed ∙ c.if-not-on_grow.false) c.in-Ok.ensures.moved)
 
 pub returns-in-Err : goal.returns-in-Err
 returns-in-Err g c =
     let m = c.self.inside in
     let rest = beside m.limiter m.hasher m.moved m.placed m.entry_bytes
-        (g.L.LinkType.LinkType.number g.L.LinkType.LinkType.MAX) in
+    (g.L.LinkType.LinkType.number g.L.LinkType.LinkType.MAX) in
     rw (← c.self.view_is) (lacks_memory g.L.Limiter.rules c.args.n (state_of m.entries rest) c.move_to.new.self
-        (rw (← c.self.view_is) at c.requires.lacks)
+    (rw (← c.self.view_is) at c.requires.lacks)
     c.in-Some.count c.in-Some.bytes (rw (← c.self.view_is) at (sym c.in-Some.ensures.next)) c.on_grow.new.self
-        c.on_grow.ensures.limiter
+    c.on_grow.ensures.limiter
     (sym c.on_grow.ensures.allowed ∙ c.if-not-on_grow.false) c.in-Err.ensures.unchanged)
 
 pub returns-in-None : goal.returns-in-None

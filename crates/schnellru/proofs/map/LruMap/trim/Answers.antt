@@ -31,7 +31,7 @@ loop-self-preserved g c =
 pub returns-else-is_over_the_limit : goal.returns-else-is_over_the_limit
 returns-else-is_over_the_limit g c =
     let i = c.loop-self.invariant in let rules = g.L.Limiter.rules in let m = c.self.inside in
-        let st = c.loop-self.self in
+    let st = c.loop-self.self in
     let within : rules.is_over_the_limit st.limiter (length st.pairs) ≡ false = rw (← c.self.view_is)
     (ap (rules.is_over_the_limit m.limiter) (pairs-length m.entries c.self.invariant.linked ∙ sym c.len.ensures.len)
     ∙ sym c.is_over_the_limit.ensures ∙ c.if-is_over_the_limit.false) in
@@ -42,4 +42,4 @@ returns-after-loop-self g c =
     let i = c.loop-self.invariant in let st = c.loop-self.self in
     let none = empty-length st.pairs (sym c.is_empty.ensures ∙ c.loop-self-test.false) in
     subst (λ left. Leaves c.args.self.now left st)
-        (sym (i.same_end ∙ trim-empty g.L.Limiter.rules (contents st) none)) i.leaves
+    (sym (i.same_end ∙ trim-empty g.L.Limiter.rules (contents st) none)) i.leaves

@@ -17,19 +17,23 @@ pub invariant_of-self : goal.invariant_of-self
 invariant_of-self g c =
     let a = c.self.inside in let some : 0 < a.left = omega (arith, c.if-self-eq0.false) in
     subst (λ o. IsRest a.entries.now a.front o (a.left - 1)) (sym c.newer-self-inside.ensures.newer)
-        (back-next a.entries.now a.front a.back a.left c.self.invariant some c.in_ok-b.b c.in_ok-b.was)
+    (back-next a.entries.now a.front a.back a.left c.self.invariant some c.in_ok-b.b c.in_ok-b.was)
 
 pub returns-clause-steps : goal.returns-clause-steps
 returns-clause-steps g c =
     let a = c.self.inside in let some : 0 < a.left = omega (arith, c.if-self-eq0.false) in
     rw (← c.self.view_is)
-        (back-cut a.entries.now a.front a.back a.left c.self.invariant some c.in_ok-b.b c.in_ok-b.was _
-        c.pair-pair.ensures.pair)
+    (back-cut a.entries.now a.front a.back a.left c.self.invariant some c.in_ok-b.b c.in_ok-b.was _
+    c.pair-pair.ensures.pair)
 
 pub returns-clause-goes : goal.returns-clause-goes
 returns-clause-goes g c =
     let a = c.self.inside in let some : 0 < a.left = omega (arith, c.if-self-eq0.false) in
     let next = back-next a.entries.now a.front a.back a.left c.self.invariant some c.in_ok-b.b c.in_ok-b.was in
     rw (← c.self.view_is)
-        (omega (arith, rest-length a.entries.now a.front a.back a.left c.self.invariant,
-        rest-length a.entries.now a.front _ (a.left - 1) next, some))
+    (omega (
+      arith,
+      rest-length a.entries.now a.front a.back a.left c.self.invariant,
+      rest-length a.entries.now a.front _ (a.left - 1) next,
+      some,
+    ))
