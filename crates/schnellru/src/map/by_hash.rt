@@ -23,6 +23,12 @@ impl<K: Eq + Hash, V, L: Limiter<K, V>, S: BuildHasher> LruMap<K, V, L, S> {
     ///
     /// Cost: `O(1)` expected, with one call of `is_eq` for each pair that is asked about.
     ///
+    /// ```
+    /// let hash = RandomState::default().hash_one(&1u64);
+    /// assert_eq!(rt; map.get_by_hash(hash, |key, _| *key == 1).copied(), Some(10));
+    /// assert!(rt; map.peek_newest() == Some((&1, &10)));
+    /// ```
+    ///
     /// After schnellru's `LruMap::get_by_hash`.
     pub fn get_by_hash<F: FnMut(&K, &V) -> bool>(&mut self, hash: u64, is_eq: F) -> Option<&mut V>
         requires callable { F.IsAlwaysCallable is_eq }
@@ -44,6 +50,10 @@ impl<K: Eq + Hash, V, L: Limiter<K, V>, S: BuildHasher> LruMap<K, V, L, S> {
     /// The value of a pair of this hash that `is_eq` accepts. The order stays. `is_eq` is asked as `get_by_hash` asks
     /// it.
     ///
+    /// ```
+    /// assert_eq!(rt; map.peek_by_hash(hash, |_, value| *value == 10).copied(), Some(10));
+    /// ```
+    ///
     /// After schnellru's `LruMap::peek_by_hash`.
     pub fn peek_by_hash<F: FnMut(&K, &V) -> bool>(&self, hash: u64, is_eq: F) -> Option<&V>
         requires callable { F.IsAlwaysCallable is_eq }
@@ -60,6 +70,13 @@ impl<K: Eq + Hash, V, L: Limiter<K, V>, S: BuildHasher> LruMap<K, V, L, S> {
 
     /// The value of a pair of this hash that `is_eq` accepts, to be changed. The order stays; what is written is not
     /// told to the limiter. `is_eq` is asked as `get_by_hash` asks it.
+    ///
+    /// ```
+    /// if let Some(value) = map.peek_by_hash_mut(hash, |key, _| *key == 1) {
+    ///     *value = 100;
+    /// }
+    /// assert_eq!(rt; map.peek(&1), Some(&100));
+    /// ```
     ///
     /// After schnellru's `LruMap::peek_by_hash_mut`.
     pub fn peek_by_hash_mut<F: FnMut(&K, &V) -> bool>(

@@ -17,6 +17,12 @@ impl<
     /// The map again: its pairs in their order, its limiter, its hasher, its buckets and room, and its counts, each by
     /// its clone. The map itself stays.
     ///
+    /// ```
+    /// let mut copy = map.clone()?;
+    /// assert_eq!(rt; copy.remove(&1), Some(10));
+    /// assert_eq!(rt; (copy.len(), map.len()), (2, 3));
+    /// ```
+    ///
     /// A clone of a key has to equal the key, and a clone of the hasher has to build hashers of the same hashes. Cost:
     /// `O(buckets)`, with two requests for memory beside those of the clones; a map without buckets makes none.
     ///

@@ -89,6 +89,13 @@ impl<K: Eq + Hash, V, L: Limiter<K, V>, S: BuildHasher> LruMap<K, V, L, S> {
 
     /// The value of a key, to be changed. The order stays; what is written is not told to the limiter.
     ///
+    /// ```
+    /// if let Some(value) = map.peek_mut(&1) {
+    ///     *value = 100;
+    /// }
+    /// assert!(rt; map.peek_oldest() == Some((&1, &100)));
+    /// ```
+    ///
     /// Cost: `O(1)` expected.
     ///
     /// After schnellru's `LruMap::peek_mut`.
@@ -106,6 +113,10 @@ impl<K: Eq + Hash, V, L: Limiter<K, V>, S: BuildHasher> LruMap<K, V, L, S> {
 
     /// The oldest pair. The order stays.
     ///
+    /// ```
+    /// assert!(rt; map.peek_oldest() == Some((&1, &10)));
+    /// ```
+    ///
     /// Cost: `O(1)`.
     ///
     /// After schnellru's `LruMap::peek_oldest`.
@@ -120,6 +131,10 @@ impl<K: Eq + Hash, V, L: Limiter<K, V>, S: BuildHasher> LruMap<K, V, L, S> {
     }
 
     /// The newest pair. The order stays.
+    ///
+    /// ```
+    /// assert!(rt; map.peek_newest() == Some((&3, &30)));
+    /// ```
     ///
     /// Cost: `O(1)`.
     ///

@@ -14,6 +14,10 @@ use std::hash::{BuildHasher, Hash};
 impl<K: Eq + Hash, V, L: Limiter<K, V>, S: BuildHasher> LruMap<K, V, L, S> {
     /// Takes out the oldest pair, as the limiter leaves it, if there is a pair.
     ///
+    /// ```
+    /// assert_eq!(rt; map.pop_oldest(), Some((1, 10)));
+    /// ```
+    ///
     /// Cost: `O(1)`.
     ///
     /// After schnellru's `LruMap::pop_oldest`.
@@ -27,6 +31,10 @@ impl<K: Eq + Hash, V, L: Limiter<K, V>, S: BuildHasher> LruMap<K, V, L, S> {
     }
 
     /// Takes out the newest pair, as the limiter leaves it, if there is a pair.
+    ///
+    /// ```
+    /// assert_eq!(rt; map.pop_newest(), Some((3, 30)));
+    /// ```
     ///
     /// Cost: `O(1)`.
     ///
@@ -62,6 +70,11 @@ impl<K: Eq + Hash + Drop, V, L: Limiter<K, V>, S: BuildHasher> LruMap<K, V, L, S
 impl<K: Eq + Hash + Drop, V: Drop, L: Limiter<K, V>, S: BuildHasher> LruMap<K, V, L, S> {
     /// Drops all pairs. The limiter is told of the clear alone, also where there is no pair. The table keeps its
     /// buckets.
+    ///
+    /// ```
+    /// map.clear();
+    /// assert_eq!(rt; (map.len(), map.guaranteed_capacity()), (0, 3));
+    /// ```
     ///
     /// Cost: `O(buckets)`, also where there are few pairs.
     ///

@@ -2,7 +2,84 @@
 use super::hog::Hog;
 use super::*;
 use crate::{ByCost, MoveReport, UnlimitedCompact};
+use std::cell::Cell;
 use std::test::Fail;
+
+/// A value that counts its copies and its drops. Of its copies only so many are made; then one is refused.
+struct Value<'a> {
+    most: u64,
+    copies: &'a Cell<u64>,
+    drops: &'a Cell<u64>,
+}
+
+impl Clone for Value<'_> {
+    fn clone(&self) -> Result<Self, AllocError> {
+        if self.copies.get() == self.most {
+            return Err(AllocError);
+        }
+        self.copies.set(self.copies.get().saturating_add(1));
+        Ok(Value {
+            most: self.most,
+            copies: self.copies,
+            drops: self.drops,
+        })
+    }
+}
+
+impl Drop for Value<'_> {
+    fn drop(self) {
+        let Value {
+            most: _,
+            copies: _,
+            drops,
+        } = self;
+        drops.set(drops.get().saturating_add(1));
+    }
+}
+
+// Copies a map of five values, of which only so many are copied, drops the copy, and answers whether there was one.
+fn copies_five(
+    alloc: Global,
+    most: u64,
+    copies: &Cell<u64>,
+    drops: &Cell<u64>,
+) -> Result<bool, AllocError> {
+    let mut map: LruMap<u64, Value, UnlimitedCompact> = LruMap::new(
+        alloc,
+        UnlimitedCompact,
+        [1, 2, 3, 4],
+        16,
+    );
+    for n in 1..=5u64 {
+        map.insert(
+            n,
+            Value {
+                most,
+                copies,
+                drops,
+            },
+        )?;
+    }
+    let copied = map.clone().is_ok();
+    Ok(copied && map.len() == 5)
+}
+
+// Five copies and the five values of the map, each dropped once.
+#[test]
+fn each_value_is_copied_once(rt: HostRuntime) -> Result<(), Fail> {
+    let (copies, drops) = (Cell::new(0u64), Cell::new(0u64));
+    assert!(rt; copies_five(rt.alloc(), 9, &copies, &drops)?);
+    assert_eq!(rt; (copies.get(), drops.get()), (5, 10));
+    Ok(())
+}
+
+#[test]
+fn a_copy_that_fails_midway_drops_what_it_made(rt: HostRuntime) -> Result<(), Fail> {
+    let (copies, drops) = (Cell::new(0u64), Cell::new(0u64));
+    assert!(rt; !copies_five(rt.alloc(), 3, &copies, &drops)?);
+    assert_eq!(rt; (copies.get(), drops.get()), (3, 8));
+    Ok(())
+}
 
 #[test]
 fn a_copy_is_the_map_again(rt: HostRuntime) -> Result<(), Fail> {

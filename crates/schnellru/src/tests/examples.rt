@@ -1,6 +1,7 @@
 //! The examples of the public items' documents.
-use crate::{ByLength, ByMemoryUsage, LruMap, RandomState, UnlimitedCompact};
+use crate::{ByLength, ByMemoryUsage, LruMap, MoveReport, RandomState, UnlimitedCompact};
 use std::alloc::{AllocError, Global};
+use std::hash::BuildHasher;
 use std::test::Fail;
 
 // The pairs (1, 10), (2, 20) and (3, 30), at most three of them.
@@ -105,5 +106,69 @@ fn of_walks(rt: HostRuntime) -> Result<(), Fail> {
     }
     assert!(rt; map.is_empty());
     assert_eq!(rt; (total, sum), (140, 140));
+    Ok(())
+}
+
+#[test]
+fn of_both_ends(rt: HostRuntime) -> Result<(), Fail> {
+    let mut map = three(rt.alloc())?;
+    assert_eq!(rt;
+        map.move_report(),
+        MoveReport {
+            moved: 0,
+            placed: 3
+        }
+    );
+    assert!(rt; map.peek_oldest() == Some((&1, &10)));
+    assert!(rt; map.peek_newest() == Some((&3, &30)));
+    assert_eq!(rt; map.pop_oldest(), Some((1, 10)));
+    assert_eq!(rt; map.pop_newest(), Some((3, 30)));
+    map.clear();
+    assert_eq!(rt; (map.len(), map.guaranteed_capacity()), (0, 3));
+    Ok(())
+}
+
+#[test]
+fn of_values_that_are_written(rt: HostRuntime) -> Result<(), Fail> {
+    let mut map = three(rt.alloc())?;
+    let mut walk = map.iter_mut();
+    if let Some((_, value)) = walk.next() {
+        *value = 300;
+    }
+    if let Some((_, value)) = walk.next_back() {
+        *value = 100;
+    }
+    assert_eq!(rt; walk.len(), 1);
+    drop(walk);
+    assert!(rt; map.peek_newest() == Some((&3, &300)));
+    assert!(rt; map.peek_oldest() == Some((&1, &100)));
+    if let Some(value) = map.peek_mut(&1) {
+        *value = 10;
+    }
+    assert!(rt; map.peek_oldest() == Some((&1, &10)));
+    let mut copy = map.clone()?;
+    assert_eq!(rt; copy.remove(&1), Some(10));
+    assert_eq!(rt; (copy.len(), map.len()), (2, 3));
+    Ok(())
+}
+
+// A map with the words of the default hasher.
+#[test]
+fn of_searches_by_a_hash(rt: HostRuntime) -> Result<(), Fail> {
+    let mut map = three(rt.alloc())?;
+    let hash = RandomState::default().hash_one(&1u64);
+    assert_eq!(rt;
+        map.get_by_hash(hash, |key, _| *key == 1).copied(),
+        Some(10)
+    );
+    assert!(rt; map.peek_newest() == Some((&1, &10)));
+    assert_eq!(rt;
+        map.peek_by_hash(hash, |_, value| *value == 10).copied(),
+        Some(10)
+    );
+    if let Some(value) = map.peek_by_hash_mut(hash, |key, _| *key == 1) {
+        *value = 100;
+    }
+    assert_eq!(rt; map.peek(&1), Some(&100));
     Ok(())
 }

@@ -40,7 +40,7 @@ impl<'a, K: Eq + Hash, V, L: Limiter<K, V>, S: BuildHasher> IterMut<'a, K, V, L,
 
     /// The newest pair that is left, with its value to be changed until the next call; `None` where none is left.
     ///
-    /// A caller's proof learns nothing of this shape of a result; `len` and `lend_next` serve it.
+    /// A caller's proof learns nothing of this shape of a result; `len` and `lend_next` serve it. Cost: `O(1)`.
     pub fn next(&mut self) -> Option<(&K, &mut V)>
         ensures* writes_back { sem 𝓛 (lends_next K.row V.row L.row S.row L.LinkType.row S.Hasher.row K.Hash L.Limiter
             L.LinkType.LinkType.own L.LinkType.PartialEq L.LinkType.Debug S.BuildHasher S.Hasher.Hasher self.entry
@@ -110,6 +110,19 @@ impl<K: Eq + Hash, V, L: Limiter<K, V>, S: BuildHasher> LruMap<K, V, L, S> {
     ghost use Rattle.schnellru.specs.Walks.{walk_map, walk_lender, walk_start, walk_end};
 
     /// The pairs, newest first, each value to be changed. The order stays; what is written is not told to the limiter.
+    ///
+    /// ```
+    /// let mut walk = map.iter_mut();
+    /// if let Some((_, value)) = walk.next() {
+    ///     *value = 300;
+    /// }
+    /// if let Some((_, value)) = walk.next_back() {
+    ///     *value = 100;
+    /// }
+    /// assert_eq!(rt; walk.len(), 1);
+    /// ```
+    ///
+    /// Cost: `O(1)`.
     ///
     /// After schnellru's `LruMap::iter_mut`.
     pub fn iter_mut(&mut self) -> IterMut<'_, K, V, L, S>
