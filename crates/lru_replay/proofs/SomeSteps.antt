@@ -51,8 +51,7 @@ cleared_sized {K = K} {V = V} rules old ok =
       taken = sized.taken;
       reachable = sized.reachable;
       usable = sized.usable;
-      moved =
-          ok.moved;
+      moved = ok.moved;
       placed = ok.placed;
     }
 
@@ -69,8 +68,7 @@ module _ {K V S H : Type 0} (rules : Rules K V S) (n : ℕ) (old : State K V S H
     taken = ok.taken;
     reachable = ok.reachable;
     usable = ok.usable;
-    moved =
-        ok.moved;
+    moved = ok.moved;
     placed = ok.placed;
   }
 
@@ -86,8 +84,7 @@ module _ {K V S H : Type 0} (rules : Rules K V S) (n : ℕ) (old : State K V S H
         remade lacks is refl
             (record {
               table = length-marked old ok old.pairs 0 within;
-              exact = omega
-                  (arith, room-marked old ok old.pairs 0 within, within);
+              exact = omega (arith, room-marked old ok old.pairs 0 within, within);
               state = refl;
             }),
         sized-marked old ok old.pairs 0 within (λ _. refl) old.limiter placings old.moved old.placed ok.moved ok.placed,
@@ -179,8 +176,7 @@ module _ {S : Type 0} (rules : Rules ℕ ℕ S) (offers : Offers ℕ ℕ S ℕ) 
   some_step calls.Stats =
       let figures : Figures = record {
         len = length old.pairs;
-        capacity = length old.pairs
-            + room old;
+        capacity = length old.pairs + room old;
         memory = ok.usable.0;
         moved = old.moved;
         placed = old.placed;
@@ -196,8 +192,7 @@ module _ {S : Type 0} (rules : Rules ℕ ℕ S) (offers : Offers ℕ ℕ S ℕ) 
             memory = ok.usable.1;
             moved = refl;
             placed = refl;
-            cost =
-                refl;
+            cost = refl;
           },
           refl,
           refl,

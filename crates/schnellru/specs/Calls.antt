@@ -36,8 +36,7 @@ module _ {K V S : Type 0} (rules : Rules K V S) where
   abbrev pub removal : (K → Bool) → Contents K V S → Contents K V S
   removal names c = record {
     pairs = without names c.pairs;
-    limiter = told_of rules
-        (lookup_entry names c.pairs) c.limiter;
+    limiter = told_of rules (lookup_entry names c.pairs) c.limiter;
   }
 
   -- without the newest pair, of which the limiter is told

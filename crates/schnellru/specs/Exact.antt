@@ -1,6 +1,5 @@
 -- Inserts that leave nothing open but where memory is short: into tables of up to 16 buckets, or where the limiter
--- permits
--- every growth.
+-- permits every growth.
 use Rattle.std.specs.Prelude.{◌≡◌, ◌≢◌, ℕ, ◌+◌, ◌-◌, ◌/◌, ◌==◌, nat_lt, nat_le, Bool, true, false, not, if◌then◌else◌}
 use Rattle.std.specs.Prelude.{◌∷◌, length, Option, Some, None, Result, Ok}
 use Rattle.std.specs.declared.alloc.AllocError.{AllocError}

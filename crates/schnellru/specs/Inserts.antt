@@ -76,8 +76,7 @@ module _ {K V S H I : Type 0} (rules : Rules K V S) (offers : Offers K V S I) (n
           Insert i v old result new
 
     -- memory is short for the table: there is no room, and no buckets or a pair beside which to place the new one,
-    -- where
-    -- s is the limiter after it admitted that
+    -- where s is the limiter after it admitted that
     pub record IsShort (i : I) (v : V) (old : State K V S H) : Type 0 where
       pub no_room : room old ≡ 0
       pub s : S

@@ -34,8 +34,7 @@ module _ {K V S H : Type 0} where
     }
 
   -- The first free bucket that a search for the hash finds was filled: an empty one, which uses one of the room, or, in
-  -- a
-  -- table of more than 16 buckets, a deleted one, which uses none.
+  -- a table of more than 16 buckets, a deleted one, which uses none.
   abbrev pub FillsBucket : ℕ → State K V S H → State K V S H → Type 0
   FillsBucket hash old new = (FirstFreeIs empty hash old × (room new + 1 ≡ room old))
       ⊎ (FirstFreeIs deleted hash old × (16 < buckets old) × (room new ≡ room old))
@@ -85,8 +84,7 @@ module _ {K V S H : Type 0} (rules : Rules K V S) where
         mid ≡ asked bytes old → CannotGrow old mid
 
   -- The oldest leave mid until the pair of this hash finds a bucket, or until they are fewer than half of what the
-  -- table
-  -- takes, and it is made anew for the pair. The map was old before mid was known.
+  -- table takes, and it is made anew for the pair. The map was old before mid was known.
   pub data Evicts (hash : ℕ) (pair : K × V) (old mid : State K V S H) (outcome : Outcome)
       (new : State K V S H) : Type 0 where
     finds_bucket : (n : ℕ) → 0 < n → (buckets old ≤ 16 → n ≡ 1) →

@@ -39,8 +39,7 @@ table_with entry_bytes None = no_table
 table_with entry_bytes (Some buckets) = table_of buckets (usage entry_bytes buckets)
 
 -- Where a table of so many buckets goes for so many pairs, where these need need buckets: to one with as many, if it
--- has
--- fewer, to the same, if the pairs are at most half of what it takes, and else to one of twice the buckets.
+-- has fewer, to the same, if the pairs are at most half of what it takes, and else to one of twice the buckets.
 abbrev pub target_from : ℕ → ℕ → ℕ → ℕ → Option ℕ → Target
 target_from max entry_bytes buckets pairs None = no_table
 target_from max entry_bytes buckets pairs (Some need) =

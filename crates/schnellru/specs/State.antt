@@ -112,8 +112,7 @@ module _ {K V S H : Type 0} where
     pub state : new ≡ record old {
       marks = new.marks;
       places = new.places;
-      placings = count_up old.placings
-          (length old.pairs);
+      placings = count_up old.placings (length old.pairs);
     }
 
   -- new is old with these contents, after some pairs left

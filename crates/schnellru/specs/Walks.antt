@@ -52,8 +52,7 @@ module _ {K V L S N H : Type 0} {equal : equality.Ghosts K} {input : hashing.Gho
     map = record {
       ref_ptr = m.ref_ptr;
       ghost_name = m.ghost_name;
-      now =
-          record m.now { pairs = set_value_at m.now.pairs walk.start w };
+      now = record m.now { pairs = set_value_at m.now.pairs walk.start w };
     };
     start = walk.start + 1;
     end = walk.end;
@@ -71,8 +70,7 @@ module _ {K V L S N H : Type 0} {equal : equality.Ghosts K} {input : hashing.Gho
     map = record {
       ref_ptr = m.ref_ptr;
       ghost_name = m.ghost_name;
-      now =
-          record m.now { pairs = set_value_at m.now.pairs (walk.end - 1) w };
+      now = record m.now { pairs = set_value_at m.now.pairs (walk.end - 1) w };
     };
     start = walk.start;
     end = walk.end - 1;

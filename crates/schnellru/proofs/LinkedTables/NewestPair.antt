@@ -37,8 +37,7 @@ module _ {K V : Type 0} (t v : Linked K V) (linked : IsLinked t) (b : ℕ) (p : 
     promoted_state = λ i. record (state_of v beside) {
       pairs = promoted_pairs i;
       marks = marks_of (slots i);
-      places =
-          (order ∙ sym (places_are t linked b p there names laws one distinct named)) i;
+      places = (order ∙ sym (places_are t linked b p there names laws one distinct named)) i;
       placings = counted i;
     }
 
@@ -73,8 +72,7 @@ module _ {K V : Type 0} (t : Linked K V) (linked : IsLinked t) (b : ℕ) (p : K 
           ≡ record (state_of t beside) { pairs = set_newest (pairs_of t) w }
       newest_state = λ i. record (state_of t beside) {
         pairs = newest_set i;
-        marks = marks_of-refilled t.slots b
-            (p.0, w) i;
+        marks = marks_of-refilled t.slots b (p.0, w) i;
       }
 
       pub newest_holds : {eq : K → K → Bool} → IsEquivalence eq → (hash_of : H → K → ℕ) → Holds eq hash_of t beside

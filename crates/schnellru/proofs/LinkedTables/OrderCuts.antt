@@ -53,8 +53,7 @@ cut_first b (x ∷ xs) d e = let same = same_Some x b e in (
     after = xs;
     whole = ap (λ y. y ∷ xs) same;
     none_before = tt;
-    none_after = subst
-        (λ y. Lacks y xs) same (head_lacks x xs d);
+    none_after = subst (λ y. Lacks y xs) same (head_lacks x xs d);
   },
   refl,
 )

@@ -115,14 +115,12 @@ module _ {K V S H : Type 0} (by : Replaced K V S) (old new : Linked K V) (b : �
     pub given_up_leaves : Leaves before
         (record {
           pairs = without names (pairs_of old);
-          limiter =
-              (rules.on_removed by.limiter by.key by.old_value).limiter;
+          limiter = (rules.on_removed by.limiter by.key by.old_value).limiter;
         }) after
     given_up_leaves = record {
       is = λ i. record (state_of new (record beside { limiter = step.told i })) {
         pairs = given_up_pairs i;
-        placings =
-            step.placings i;
+        placings = step.placings i;
       };
       room = frees_room old new b first next given_up_length (ap (λ o. suc (length o)) step.order
           ∙ fewer) step.room beside (record beside { limiter = l });

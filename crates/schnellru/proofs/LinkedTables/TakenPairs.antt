@@ -37,8 +37,7 @@ module _ {K V S : Type 0} (rules : Rules K V S) (t u : Linked K V) (b : ℕ) (li
     taken_leaves left pairs_are told_is = record {
       is = λ i. record (state_of u (record beside { limiter = told_is i })) {
         pairs = pairs_are i;
-        placings =
-            out.placings i;
+        placings = out.placings i;
       };
       room = frees_room t u b first next (length-removed t.slots u.slots b out.slots)
           (ap (λ o. suc (length o)) out.order
@@ -66,7 +65,6 @@ module _ {K V S H : Type 0} (rules : Rules K V S) (names : K → Bool) (st : Sta
     state = subst (λ left. Leaves st left st)
         (λ i. record {
           pairs = sym (without_none names st.pairs none) i;
-          limiter = told_of rules
-              (sym none i) st.limiter;
+          limiter = told_of rules (sym none i) st.limiter;
         }) (leaves_self st);
   }

@@ -101,8 +101,7 @@ module _ {K V : Type 0} (t : Linked K V) (linked : IsLinked t) (b : ℕ) (p : K 
     pub kept_state : state_of (with_pair t b (p.0, w)) beside ≡ written names w (state_of t beside)
     kept_state = λ i. record (state_of (with_pair t b (p.0, w)) beside) {
       pairs = kept_pairs w i;
-      marks =
-          marks_of-refilled t.slots b (p.0, w) i;
+      marks = marks_of-refilled t.slots b (p.0, w) i;
     }
 
     pub kept_holds : (hash_of : H → K → ℕ) → Holds eq hash_of t beside → IsLinked (with_pair t b (p.0, w))

@@ -93,8 +93,7 @@ module _ {K V S H : Type 0} (rules : Rules K V S) (hash_of : H → K → ℕ) (p
   place_keeps outcome new q (first_table e b bytes u g m) = inl
       (record {
         pairs = ap (λ st. st.pairs) (placed_if (asked rules bytes old) new _ _ _ outcome q m).state;
-        large =
-            with_pairs e;
+        large = with_pairs e;
       })
   place_keeps outcome new q (first_denied e b bytes u d o n) = refused-not_placed (sym o ∙ q)
   place_keeps outcome new q (first_too_large e b u o n) = refused-not_placed (sym o ∙ q)
@@ -105,16 +104,14 @@ module _ {K V S H : Type 0} (rules : Rules K V S) (hash_of : H → K → ℕ) (p
   place_keeps outcome new q (with_room e r s o n) = inl
       (record {
         pairs = ap (λ st. st.pairs) n.state;
-        large = λ refusal. absurd
-            (omega (arith, r, refusal.lacks_room.1));
+        large = λ refusal. absurd (omega (arith, r, refusal.lacks_room.1));
       })
   place_keeps outcome new q (deleted_bucket f i b l o n) = inl
       (record { pairs = ap (λ st. st.pairs) n.state; large = λ refusal. b })
   place_keeps outcome new q (rehashed f i l m) =
       inl (record {
         pairs = ap (λ st. st.pairs) (placed_if old new _ _ _ outcome q m).state;
-        large = λ refusal. absurd
-            (omega (arith, l, refusal.above_half));
+        large = λ refusal. absurd (omega (arith, l, refusal.above_half));
       })
   place_keeps outcome new q (grown f i l count bytes t g m) =
       inl (record {

@@ -22,8 +22,7 @@ module _ {K V S H : Type 0} (t u : Linked K V) (count : ℕ) (linked : IsLinked 
     exact = omega (arith, left, pairs-length t linked);
     state = λ i. record (state_of u beside) {
       pairs = pairs i;
-      placings =
-          (counted ∙ ap (count_up t.placings) (sym (pairs-length t linked))) i;
+      placings = (counted ∙ ap (count_up t.placings) (sym (pairs-length t linked))) i;
     };
   }
 

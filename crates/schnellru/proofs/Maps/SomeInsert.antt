@@ -48,8 +48,7 @@ module _ {K V S H : Type 0} where
           table = refl;
           keeps = omega arith;
           at_most = omega (arith, same);
-          exact = λ _. omega
-              (arith, same);
+          exact = λ _. omega (arith, same);
           untouched = λ _. refl;
         };
       },
@@ -58,8 +57,7 @@ module _ {K V S H : Type 0} where
         taken = ok.taken ∙ sym same;
         reachable = ok.reachable;
         usable = ok.usable;
-        moved =
-            ok.moved;
+        moved = ok.moved;
         placed = ok.placed;
       },
       omega (arith, same),
@@ -107,16 +105,14 @@ module _ {K V S H : Type 0} where
         let new : State K V S H = record old {
           pairs = pairs;
           marks = marked old ok pairs deletions fit;
-          placings =
-              placings;
+          placings = placings;
           moved = moved;
           placed = placed;
         } in (
           new,
           record {
             table = length-marked old ok pairs deletions fit;
-            room_left = omega
-                (arith, room-marked old ok pairs deletions fit);
+            room_left = omega (arith, room-marked old ok pairs deletions fit);
             state = refl;
           },
           sized-marked old ok pairs deletions fit none_deleted old.limiter placings moved placed (counted old.moved 0)
@@ -245,8 +241,7 @@ module _ {K V S H : Type 0} (rules : Rules K V S) (hash_of : H → K → ℕ) (p
               (record {
                 table = is.table;
                 room_left = omega (arith, is.room_left, some, full_table);
-                state =
-                    is.state;
+                state = is.state;
               }),
           sized,
         )

@@ -159,12 +159,10 @@ module _ {K V S H : Type 0} (rules : Rules K V S) (R : Contents K V S → Conten
   reserve_changes result new (reserved l count bytes t g r m) = reserves _ new count m (k.asked bytes (contents old))
       (inr (record {
         bytes = bytes;
-        usable = target_usage old.max old.entry_bytes (buckets old)
-            (length old.pairs + n) count bytes t;
+        usable = target_usage old.max old.entry_bytes (buckets old) (length old.pairs + n) count bytes t;
         limiter = old.limiter;
         holds = (_, k.self (contents old));
-        granted =
-            g;
+        granted = g;
       }))
       (λ ok. larger ok.count)
     where

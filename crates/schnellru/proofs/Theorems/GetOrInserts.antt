@@ -29,8 +29,7 @@ first_named {K} {V} names xs w e = go (lookup_entry names xs) refl (sym (lookup-
       pair = pair;
       rest = without names xs;
       first = refl;
-      named =
-          found_named names xs pair is;
+      named = found_named names xs pair is;
     }
 
 module _ {K V S H : Type 0} (rules : Rules K V S) (names : K → Bool) (new : State K V S H) where

@@ -42,8 +42,7 @@ module _ {K V S : Type 0} (over grants : S → ℕ → Bool) (admits : S → K �
         self = λ c. refl;
         trans = λ p q. q ∙ p;
         asked = λ bytes c. refl;
-        popped = λ c. told_plain
-            (last c.pairs) c.limiter;
+        popped = λ c. told_plain (last c.pairs) c.limiter;
       };
       left = λ test c. told_plain (lookup_entry test c.pairs) c.limiter;
       first = λ q c. refl;

@@ -11,8 +11,7 @@ module _ {K V S H : Type 0} where
   pub pays_trans : {old mid new : State K V S H} → PaysForMoves old mid → PaysForMoves mid new → PaysForMoves old new
   pays_trans p q = record {
     placed = omega (arith, p.placed, q.placed);
-    moved = λ h. omega
-        (arith, p.placed, q.placed, p.moved (omega (arith, q.placed)), q.moved h);
+    moved = λ h. omega (arith, p.placed, q.placed, p.moved (omega (arith, q.placed)), q.moved h);
   }
 
   pub pays_self : (st : State K V S H) → PaysForMoves st st

@@ -33,8 +33,7 @@ module _ {K V S H : Type 0} where
     moved = refl;
     placed = refl;
     table = refl;
-    keeps =
-        omega arith;
+    keeps = omega arith;
     few = omega arith;
     fits = λ h. h;
   }

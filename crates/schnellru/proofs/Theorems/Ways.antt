@@ -25,8 +25,7 @@ use Rattle.schnellru.proofs.Theorems.TableGrowth.{then_calm, calm_changes, leave
 
 module _ {K V S H : Type 0} (rules : Rules K V S) (P : S → Type 0) (pair : K × V) (old : State K V S H) where
   -- the pair is placed after way was made for it, in a table that is the old one or is permitted, and its moves are
-  -- paid
-  -- for
+  -- paid for
   pub record Fills (mid new : State K V S H) : Type 0 where
     pub count : ℕ
     pub spare : ℕ
@@ -124,8 +123,7 @@ module _ {K V S H : Type 0} (rules : Rules K V S) (R : Contents K V S → Conten
         mid = asked rules bytes old;
         way = k.asked bytes (contents old);
         calm = limiter_calm old _;
-        lands =
-            (e, n);
+        lands = (e, n);
       })
   place_lands outcome new (first_too_large e b u o n) = rw o
       (record { mid = old; way = self; calm = self_calm old; lands = (e, n) })
@@ -139,8 +137,7 @@ module _ {K V S H : Type 0} (rules : Rules K V S) (R : Contents K V S → Conten
       (k.asked bytes (contents old)) (limiter_calm old _)
       (inr (record {
         bytes = bytes;
-        usable = target_usage old.max old.entry_bytes (buckets old)
-            (length old.pairs + 1) count bytes t;
+        usable = target_usage old.max old.entry_bytes (buckets old) (length old.pairs + 1) count bytes t;
         limiter = old.limiter;
         holds = holds;
         granted = g;
@@ -203,16 +200,14 @@ module _ {K V S H I : Type 0} (rules : Rules K V S) (offers : Offers K V S I) (n
   exchanges : (pair : K × V) (w : V) → kept_value (replacement rules offers names pair i v old) ≡ w
       → R (contents old) (exchange rules offers names pair i v (contents old))
       → R (contents old) (record {
-        pairs = ((replacement rules offers names pair i v old).key, w)
-            ∷ without (names i) old.pairs;
+        pairs = ((replacement rules offers names pair i v old).key, w) ∷ without (names i) old.pairs;
         limiter = (replacement rules offers names pair i v old).limiter;
       })
   exchanges pair w e r = subst
       (λ x. R (contents old)
       (record {
         pairs = ((replacement rules offers names pair i v old).key, x) ∷ without (names i) old.pairs;
-        limiter =
-            (replacement rules offers names pair i v old).limiter;
+        limiter = (replacement rules offers names pair i v old).limiter;
       })) e r
 
   -- what each move keeps, an insert keeps

@@ -7,8 +7,7 @@ use Rattle.lru_replay.proofs.line.Line.extend.Goals as goal
 pub loop-byte-init : goal.loop-byte-init
 loop-byte-init c = record {
   room = c.requires;
-  so_far = sym (ap (take HELD) (append-nil c.args.self.now)
-      ∙ take_all HELD c.args.self.now c.requires);
+  so_far = sym (ap (take HELD) (append-nil c.args.self.now) ∙ take_all HELD c.args.self.now c.requires);
 }
 
 pub loop-byte-preserved : goal.loop-byte-preserved

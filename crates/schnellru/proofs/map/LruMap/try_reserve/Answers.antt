@@ -94,6 +94,5 @@ returns-in-Err g c =
     (λ none. false≢true (c.in-Err.ensures.succeeds (ap (λ old. old.pairs) (sym c.self.view_is) ∙ none) as_many)) in
     rw (← c.self.view_is)
     (record {
-      step = no_memory_to_remake lacks same some refl
-          (rw (← c.self.view_is) at c.in-Err.ensures.unchanged);
+      step = no_memory_to_remake lacks same some refl (rw (← c.self.view_is) at c.in-Err.ensures.unchanged);
     })
