@@ -1,6 +1,8 @@
 //! Walks from both ends, and pops.
+ghost use Rattle.std.specs.Prelude.{◌≡◌, length};
+
 use super::*;
-use crate::{ByCost, UnlimitedCompact};
+use crate::{ByCost, ByLength, UnlimitedCompact};
 use std::test::Fail;
 
 #[test]
@@ -119,5 +121,21 @@ fn pop_newest_works(rt: HostRuntime) -> Result<(), Fail> {
         assert_eq!(rt; map.limiter().cost(), cost);
     }
     assert_eq!(rt; map.pop_newest(), None);
+    Ok(())
+}
+
+// A walk counts the pairs, by its own contract alone.
+fn counted(map: &LruMap<u64, u64>) -> usize
+    ensures { result ≡ length map.now.pairs }
+{
+    map.iter().count()
+}
+
+#[test]
+fn a_walk_is_counted(rt: HostRuntime) -> Result<(), Fail> {
+    let mut map = map_of(rt.alloc(), ByLength::new(3));
+    assert_eq!(rt; counted(&map), 0);
+    insert_all(&mut map, 1..=4)?;
+    assert_eq!(rt; counted(&map), 3);
     Ok(())
 }
