@@ -30,8 +30,7 @@ fn answers_examples(rt: HostRuntime) {
     // A key that is there becomes the newest when it is inserted, and the oldest go.
     expect(
         &rt,
-        b"length 3\ninsert 1 10\ninsert 2 20\ninsert 3 30\ninsert 4 40\ninsert 5 50\ninsert 6 60\ninsert 5 500\ninsert
-            4 400\nlist\n",
+        b"length 3\ninsert 1 10\ninsert 2 20\ninsert 3 30\ninsert 4 40\ninsert 5 50\ninsert 6 60\ninsert 5 500\ninsert 4 400\nlist\n",
         b"true\ntrue\ntrue\ntrue\ntrue\ntrue\ntrue\ntrue\n4:400 5:500 6:60\n",
         0,
     );
@@ -58,8 +57,7 @@ fn takes_pairs_out(rt: HostRuntime) {
     // The order of the others stays.
     expect(
         &rt,
-        b"length 6\ninsert 1 10\ninsert 2 20\ninsert 3 30\ninsert 4 40\ninsert 5 50\ninsert 6 60\nremove 123\nremove
-            3\nremove 1\nremove 6\nlist\n",
+        b"length 6\ninsert 1 10\ninsert 2 20\ninsert 3 30\ninsert 4 40\ninsert 5 50\ninsert 6 60\nremove 123\nremove 3\nremove 1\nremove 6\nlist\n",
         b"true\ntrue\ntrue\ntrue\ntrue\ntrue\nnone\n30\n10\n60\n5:50 4:40 2:20\n",
         0,
     );
@@ -76,8 +74,7 @@ fn takes_pairs_out(rt: HostRuntime) {
 fn writes_the_greatest_number(rt: HostRuntime) {
     expect(
         &rt,
-        b"cost 18446744073709551615\ninsert 18446744073709551615 18446744073709551615\nget
-            18446744073709551615\nlist\nremove 18446744073709551615\n",
+        b"cost 18446744073709551615\ninsert 18446744073709551615 18446744073709551615\nget 18446744073709551615\nlist\nremove 18446744073709551615\n",
         b"true\n18446744073709551615\n18446744073709551615:18446744073709551615\n18446744073709551615\n",
         0,
     );
@@ -104,8 +101,7 @@ fn reserves(rt: HostRuntime) {
     // Links of 32 bits end at 1,879,048,192 pairs.
     expect(
         &rt,
-        b"compact\nreserve 0\nreserve 7\ninsert 1 10\nreserve 18446744073709551615\nreserve 1879048192\nreserve
-            6\nlist\n",
+        b"compact\nreserve 0\nreserve 7\ninsert 1 10\nreserve 18446744073709551615\nreserve 1879048192\nreserve 6\nlist\n",
         b"ok\nok\ntrue\ntoo large\ntoo large\nok\n1:10\n",
         0,
     );
@@ -137,8 +133,7 @@ fn tells_figures(rt: HostRuntime) -> Result<(), Fail> {
     expect(
         &rt,
         b"length 2\nstats\ninsert 1 10\nstats\nclear\nstats\n",
-        b"len 0 capacity 0 memory 0 moved 0 placed 0\ntrue\nlen 1 capacity 3 memory 148 moved 0 placed 1\nok\nlen 0
-            capacity 3 memory 148 moved 0 placed 1\n",
+        b"len 0 capacity 0 memory 0 moved 0 placed 0\ntrue\nlen 1 capacity 3 memory 148 moved 0 placed 1\nok\nlen 0 capacity 3 memory 148 moved 0 placed 1\n",
         0,
     );
     // The table grows from 4 to 8 to 16 to 32 buckets, which moves 3, 7 and 14 pairs.
@@ -255,8 +250,7 @@ fn answers_bad_lines(rt: HostRuntime) {
     );
     expect(
         &rt,
-        b"compact\ninsert 18446744073709551615 18446744073709551615\ninsert 18446744073709551615 18446744073709551615
-            \nlist\r\nlist\n",
+        b"compact\ninsert 18446744073709551615 18446744073709551615\ninsert 18446744073709551615 18446744073709551615 \nlist\r\nlist\n",
         b"true\nbad\nbad\n18446744073709551615:18446744073709551615\n",
         0,
     );
