@@ -1,7 +1,8 @@
 //! A copy of a map.
-ghost use Rattle.std.specs.Prelude.{◌≡◌, IfOk, IsTrue};
+ghost use Rattle.std.specs.Prelude.{◌≡◌, IfOk, IsOk, IsTrue};
 ghost use Rattle.lru_limits.specs.Hashing.{hash_by};
 ghost use Rattle.schnellru.specs.Clones.{IsClone};
+ghost use Rattle.schnellru.specs.State.{buckets};
 
 use crate::map::LruMap;
 use lru_limits::Limiter;
@@ -37,6 +38,8 @@ impl<
             hash_by K.hash_input S.BuildHasher S.Hasher.Hasher copy key
             ≡ hash_by K.hash_input S.BuildHasher S.Hasher.Hasher hasher key }
         ensures clone { IfOk result (IsClone K.is_clone V.is_clone L.is_clone S.is_clone self.now) }
+        ensures succeeds { buckets self.now ≡ 0 → L.is_infallible self.now.limiter → S.is_infallible self.now.hasher
+            → IsOk result }
     {
         let entries = self.entries.copy()?;
         let hasher = self.hasher.clone()?;

@@ -26,20 +26,18 @@ invariant_of-result g c =
     (λ p q r. c.requires.keys p.0 q.0 r.key)
     (pairs_of m.entries) (pairs_of c.in_ok-entries.entries) done.pairs holds.map.distinct)
 
-pub returns : goal.returns
-returns g c =
+pub returns-clause-clone : goal.returns-clause-clone
+returns-clause-clone g c =
     let m = c.self.inside in let done = c.in_ok-entries.ensures in
     let rest = beside c.in_ok-limiter.limiter c.in_ok-hasher.hasher m.moved m.placed m.entry_bytes
     (g.L.LinkType.LinkType.number g.L.LinkType.LinkType.MAX) in
     rw (← c.self.view_is) (record {
-      clone = record {
-        pairs = done.pairs;
-        limiter = c.in_ok-limiter.ensures.cases;
-        hasher = c.in_ok-hasher.ensures.cases;
-        rest = λ i. record (state_of c.in_ok-entries.entries rest) {
-          marks = done.marks i;
-          places = done.order i;
-          placings = done.placings i;
-        };
+      pairs = done.pairs;
+      limiter = c.in_ok-limiter.ensures.cases;
+      hasher = c.in_ok-hasher.ensures.cases;
+      rest = λ i. record (state_of c.in_ok-entries.entries rest) {
+        marks = done.marks i;
+        places = done.order i;
+        placings = done.placings i;
       };
     })
