@@ -19,6 +19,7 @@ mod hog;
 mod lending;
 mod limiters;
 mod limits;
+mod once;
 mod orders;
 mod readme;
 mod refusals;
