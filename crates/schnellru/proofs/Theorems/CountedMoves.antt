@@ -184,4 +184,4 @@ module _ {K V S H I : Type 0} (rules : Rules K V S) (offers : Offers K V S I) (n
   makes_newest_changes (got w e r step) = calm_changes rules R 1 old new
       (rw step (pairs_calm rules old _ _ (length-front_pairs (names i) old.pairs)))
       (rw step (k.keeps.first i (contents old)))
-  makes_newest_changes (inserted e v m step) = insert_changes rules offers names R k hash_of i v old result new step
+  makes_newest_changes (inserted e v m step) = insert_changes k i v old result new step
