@@ -17,8 +17,8 @@ use Rattle.schnellru.specs.declared.walk.iter_mut.IterMut.{IterMut}
 module _ {K V L S N H : Type 0} {equal : equality.Ghosts K} {input : hashing.Ghosts K} {limits : limiter.Ghosts L K V N}
     {links : link_type.Ghosts N} {link_eq : equality.Ghosts N} {link_shown : debug.Ghosts N}
     {build : builder.Ghosts S H} {hash : hasher.Ghosts H} where
-  abbrev walk : (m : MutBor (State K V L S)) (start end : ℕ) (front back : Option ℕ) → end ≤ length m.now.places → front ≡ slice_get m.now.places start → back
-      ≡ last_of end m.now.places
+  abbrev walk : (m : MutBor (State K V L S)) (start end : ℕ) (front back : Option ℕ) → end ≤ length m.now.places
+      → front ≡ slice_get m.now.places start → back ≡ last_of end m.now.places
       → IterMut K V L S N H equal input limits links link_eq link_shown build hash
   walk m start end front back within first last = record {
     map = m;

@@ -48,8 +48,8 @@ module _ {K V S H : Type 0} (rules : Rules K V S) (hash_of : H → K → ℕ) (p
       land no_memory mid l = away mid l
 
 module _ {K V S H I : Type 0} {rules : Rules K V S} {offers : Offers K V S I} {names : I → K → Bool}
-    {hash_of : H → K → ℕ} {i : I} {v : V}
-    {old : State K V S H} {result : Result Bool AllocError} {new : State K V S H} where
+    {hash_of : H → K → ℕ} {i : I} {v : V} {old : State K V S H} {result : Result Bool AllocError}
+    {new : State K V S H} where
   pub insert_counts : Insert rules offers names hash_of i v old result new → CountsPlacings old new
   insert_counts (replaced pair found y r l) = calm_counts old new (leaves_calm old _ new l)
   insert_counts (given_up pair found y r l) = calm_counts old new (leaves_calm old _ new l)

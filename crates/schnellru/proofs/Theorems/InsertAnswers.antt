@@ -173,11 +173,11 @@ module _ {K V S H I : Type 0} {rules : Rules K V S} {offers : Offers K V S I} {n
   pub insert_stores : {hash_of : H → K → ℕ} {result : Result Bool AllocError} {new : State K V S H} → result ≡ Ok true
       → Insert rules offers names hash_of i v old result new
       → IfSome (first new.pairs) (Stores rules offers names i v old)
-  insert_stores {result = result} {new = new} q (replaced pair found y r l) = stored
+  insert_stores {new = new} q (replaced pair found y r l) = stored
       (with_replaced rules offers names pair i v old) old new l (sym q ∙ r) _ _ refl (left pair found y refl)
-  insert_stores {result = result} {new = new} q (given_up pair found y r l) = absurd (false≢true (same_kept false true (sym r ∙ q)))
-  insert_stores {result = result} {new = new} q (no_memory_to_admit a k r e) = ok-not_err result (rw q refl) r
-  insert_stores {result = result} {new = new} q (not_admitted a s n r e) = absurd (false≢true (same_kept false true (sym r ∙ q)))
+  insert_stores q (given_up pair found y r l) = absurd (false≢true (same_kept false true (sym r ∙ q)))
+  insert_stores {result = result} q (no_memory_to_admit a k r e) = ok-not_err result (rw q refl) r
+  insert_stores q (not_admitted a s n r e) = absurd (false≢true (same_kept false true (sym r ∙ q)))
   insert_stores {hash_of} {result} {new} q (admitted a s pair n (ready, l, outcome, landed, p, t)) = go outcome
       (place_comes rules hash_of pair ready outcome landed p) t
     where

@@ -43,8 +43,8 @@ module _ {K V S H : Type 0} (rules : Rules K V S) (hash_of : H → K → ℕ) (p
   place_lacks new outcome q (evicting f i l mid c (made_anew n pos one half left gone m)) = (f.1, inr f.0)
 
 module _ {K V S H I : Type 0} {rules : Rules K V S} {offers : Offers K V S I} {names : I → K → Bool}
-    {hash_of : H → K → ℕ} {i : I} {v : V} {old : State K V S H}
-    {result : Result Bool AllocError} {new : State K V S H} where
+    {hash_of : H → K → ℕ} {i : I} {v : V} {old : State K V S H} {result : Result Bool AllocError}
+    {new : State K V S H} where
   -- Want of memory is the limiter's own, or the table's.
   pub err_is : IsErr result → Insert rules offers names hash_of i v old result new
       → LacksMemory rules offers names hash_of i v old new

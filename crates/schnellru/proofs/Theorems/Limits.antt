@@ -59,12 +59,12 @@ module _ {K V S H I : Type 0} {rules : Rules K V S} {offers : Offers K V S I} {n
   pub insert_within : {result : Result Bool AllocError} {new : State K V S H}
       → Insert rules offers names hash_of i v old result new → IsWithin rules (contents new)
       ⊎ (length new.pairs ≤ length old.pairs)
-  insert_within {result} {new} (replaced pair found y r l) = inl
+  insert_within {new = new} (replaced pair found y r l) = inl
       (subst (IsWithin rules) (sym (left_are old _ new l)) (trim_ends rules _))
-  insert_within {result} {new} (given_up pair found y r l) = inr
+  insert_within (given_up pair found y r l) = inr
       (omega (arith, ap (λ st. length st.pairs) l.is, length-without (names i) old.pairs))
-  insert_within {result} {new} (no_memory_to_admit a k r e) = inr (omega (arith, ap (λ st. length st.pairs) e))
-  insert_within {result} {new} (not_admitted a s n r e) = inr (omega (arith, ap (λ st. length st.pairs) e))
+  insert_within (no_memory_to_admit a k r e) = inr (omega (arith, ap (λ st. length st.pairs) e))
+  insert_within (not_admitted a s n r e) = inr (omega (arith, ap (λ st. length st.pairs) e))
   insert_within {result} {new} (admitted a s pair n (ready, l, outcome, landed, p, t)) = settled outcome
       (place_comes rules hash_of pair ready outcome landed p) t
     where
@@ -140,5 +140,5 @@ by_memory_usage_stays names hash_of k v old result new step uses =
 pub plain_stays : {K V H : Type 0} {over grants : ℕ → ℕ → Bool} {admits : ℕ → K → V → Bool} {names : K → K → Bool}
     {hash_of : H → K → ℕ} (k : K) (v : V) (old : State K V ℕ H) (result : Result Bool AllocError) (new : State K V ℕ H)
     → Insert (plain over grants) (hands_over admits) names hash_of k v old result new → new.limiter ≡ old.limiter
-plain_stays {over = over} {grants = grants} {admits = admits} {names = names} k v old result new step =
+plain_stays {over = over} {grants} {admits} {names} k v old result new step =
     (insert_changes (keeps_limiter over grants admits names) k v old result new step).moves

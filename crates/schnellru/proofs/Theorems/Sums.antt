@@ -67,8 +67,8 @@ module _ {K V S I : Type 0} {rules : Rules K V S} {offers : Offers K V S I} {cos
   told_holds xs ys None s h e = e ∙ ap (total (λ p. cost p.0 p.1)) (sym h)
   told_holds xs ys (Some p) s h e = let r = laws.takes_off s p.0 p.1 (omega arith) in omega arith
 
-  exchanged_holds : (names : I → K → Bool) (i : I) (v : V) (c : Contents K V S) (pair : K × V) → lookup_entry (names i) c.pairs ≡ Some pair
-      → Holds c → Holds (exchange rules offers names pair i v c)
+  exchanged_holds : (names : I → K → Bool) (i : I) (v : V) (c : Contents K V S) (pair : K × V)
+      → lookup_entry (names i) c.pairs ≡ Some pair → Holds c → Holds (exchange rules offers names pair i v c)
   exchanged_holds names i v c pair found h =
       let n = subst (λ o. IsSplit (λ p. cost p.0 p.1) c.pairs o (without (names i) c.pairs)) found
       (split_named (λ p. cost p.0 p.1) (names i) c.pairs) in
