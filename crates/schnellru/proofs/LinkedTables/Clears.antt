@@ -1,16 +1,13 @@
 -- A linked table of which every bucket was emptied.
 use Rattle.std.proofs.Common.{◌≡◌, ℕ, zero, suc, ◌<◌, List, [], ◌∷◌, replicate, refl, sym, ap, ◌∙◌, arith}
 use Rattle.std.proofs.lemmas.List.{length-replicate}
-use Rattle.std.specs.Prelude.{Contains}
 use Rattle.std.proofs.lemmas.Bool.{false≢true}
 use Rattle.group_table.specs.Bucket.{Slot, empty, is_full, IsFull, marks_of}
 use Rattle.group_table.proofs.CopyLemmas.{copy_at}
 use Rattle.group_table.proofs.FreshLemmas.{entry_count-none}
 use Rattle.schnellru.specs.declared.link.Entry.{Entry}
 use Rattle.schnellru.specs.Inside.Chain.{pair_slots, IsWhole}
-
-none_in : (b : ℕ) → Contains [] b → ⊥
-none_in b h = absurd (omega (arith, h.1))
+use Rattle.schnellru.proofs.Chains.Orders.{Contains-nil}
 
 none_full : (T : Type 0) (n b : ℕ) → IsFull {A = T} (replicate n empty) b → ⊥
 none_full T n b h = false≢true (sym (ap is_full (copy_at n b empty)) ∙ h)
@@ -35,11 +32,11 @@ IsWhole-cleared {K} {V} {N} slots n is below = rw is (record {
   chain = record {
     reached = rw (length-replicate {A = Slot (Entry K V N)} n empty) below;
     distinct = λ i j d p q. absurd (omega (arith, p, q));
-    only = λ b h. absurd (none_in b h);
+    only = λ b h. absurd (Contains-nil b h);
     newest_first = refl;
     oldest_last = refl;
-    newer = λ b h. absurd (none_in b h);
-    older = λ b h. absurd (none_in b h);
+    newer = λ b h. absurd (Contains-nil b h);
+    older = λ b h. absurd (Contains-nil b h);
   };
   all = λ b h. absurd (none_full _ n b h);
   count = entry_count-none (replicate n empty) (λ b. copy_at n b empty);

@@ -115,9 +115,6 @@ module _ {K V : Type 0} (t : Linked K V) where
         go (x ∷ xs) e = absurd (omega (arith, e))
 
   module _ (front back : Option ℕ) (left : ℕ) (rest : IsRest t front back left) (some : 0 < left) where
-    full_middle : AreFull t.slots rest.middle
-    full_middle = middle_full front back left rest
-
     -- there is a bucket in front, and one behind
     pub front-some : front ≡ None → ⊥
     front-some none = go rest.middle rest.count (sym rest.first ∙ none)
@@ -151,7 +148,7 @@ module _ {K V : Type 0} (t : Linked K V) where
         front_order = rest.order ∙ ap (λ l. rest.before ++ (l ++ rest.after)) cut_front.1
 
         pub front-full : IsFull t.slots b
-        front-full = (subst (AreFull t.slots) cut_front.1 full_middle).0
+        front-full = (subst (AreFull t.slots) cut_front.1 (middle_full front back left rest)).0
 
         pub front-next : IsRest t (bucket_after b t.order) back (left - 1)
         front-next = record {
@@ -186,7 +183,7 @@ module _ {K V : Type 0} (t : Linked K V) where
 
         pub back-full : IsFull t.slots b
         back-full = (all_behind (λ c. IsFull t.slots c) cut_back.0 (b ∷ [])
-            (subst (AreFull t.slots) cut_back.1 full_middle)).0
+            (subst (AreFull t.slots) cut_back.1 (middle_full front back left rest))).0
 
         pub back-next : IsRest t front (bucket_before b t.order) (left - 1)
         back-next = record {

@@ -1,6 +1,7 @@
 -- The keys of the pairs stay distinct, and a pair is found if its key is named.
 use Rattle.std.proofs.Common.{◌≡◌, ℕ, Bool, true, false, cond, List, [], ◌∷◌, ◌++◌, length, Option, Some, None, refl}
-use Rattle.std.proofs.Common.{sym, ◌∙◌, subst}
+use Rattle.std.proofs.Common.{sym, ◌∙◌, subst, arith, zero, suc}
+use Rattle.std.specs.Prelude.{Contains}
 use Rattle.std.specs.Cmp.{IsEquivalence}
 use Rattle.std.specs.List.{IsDistinct, AllByRecursion, AllZip}
 use Rattle.lru_limits.specs.Rules.{Rules, Offers}
@@ -30,7 +31,13 @@ module _ {K V : Type 0} (names : K → Bool) where
       go false e h r = (e, r h)
 
 module _ {K V : Type 0} (P : K → Type 0) where
-  -- what holds of all keys holds of those of fewer pairs
+  -- what holds of all keys holds of each
+  pub all_of : (xs : List (K × V)) (x : K × V) → AllByRecursion P (keys_of xs) → Contains xs x → P x.0
+  all_of [] x h w = absurd (omega (arith, w.1))
+  all_of (y ∷ ys) x h (zero, p, e) = subst (λ z. P z.0) e h.0
+  all_of (y ∷ ys) x h (suc k, p, e) = all_of ys x h.1 (k, omega (arith, p), e)
+
+  -- and of those of fewer pairs
   all_front : (xs rest : List (K × V)) → AllByRecursion P (keys_of (xs ++ rest)) → AllByRecursion P (keys_of xs)
   all_front [] rest h = tt
   all_front (x ∷ xs) rest h = (h.0, all_front xs rest h.1)

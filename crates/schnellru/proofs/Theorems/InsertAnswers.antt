@@ -1,7 +1,7 @@
 -- What the answer of an insert says.
 use Rattle.std.proofs.Common.{None, ◌≡◌, ℕ, zero, suc, ◌⊎◌, inl, inr, Bool, true, false, cond, not, List, [], ◌∷◌}
 use Rattle.std.proofs.Common.{length, Result, Ok, Err, refl, sym, ap, ◌∙◌, subst, arith}
-use Rattle.std.proofs.lemmas.Bool.{false≢true}
+use Rattle.std.proofs.lemmas.Bool.{false≢true, true≢false, not-true}
 use Rattle.std.specs.Prelude.{IsErr, Some, IfSome}
 use Rattle.std.specs.declared.alloc.AllocError.{AllocError}
 use Rattle.std.proofs.lemmas.List.{nil_from_length}
@@ -62,10 +62,7 @@ module _ {K V S : Type 0} (rules : Rules K V S) where
       go : ((trim rules c).pairs ≡ [])
           ⊎ ((ys : List (K × V)) × IsFront ys n.rest × ((trim rules c).pairs ≡ n.pair ∷ ys))
           → IsNewest names (trim rules c).pairs
-      go (inl e) = absurd (no (rw e at h))
-        where
-          no : true ≡ false → ⊥
-          no e = grind arith
+      go (inl e) = absurd (true≢false (rw e at h))
       go (inr t) = record { pair = n.pair; rest = t.0; first = t.2; named = n.named }
 
 module _ {K V S H : Type 0} (rules : Rules K V S) (hash_of : H → K → ℕ) (pair : K × V) (old : State K V S H) where
@@ -86,10 +83,6 @@ module _ {K V S H : Type 0} (rules : Rules K V S) (hash_of : H → K → ℕ) (p
       end placed mid f l = (mid.pairs, ap (λ st. st.pairs) l.is.state)
       end refused mid f l = ap (λ st. st.pairs) l.1 ∙ l.0
       end no_memory mid f l = front_trans _ _ _ (front_same _ _ (ap (λ st. st.pairs) l)) f
-
-not_true : (b : Bool) → true ≡ not b → b ≡ false
-not_true true e = absurd (false≢true (sym e))
-not_true false e = refl
 
 module _ {K V S H : Type 0} (rules : Rules K V S) (names : K → Bool) where
   -- after a trimming that answers whether a pair is left
@@ -164,7 +157,7 @@ module _ {K V S H I : Type 0} {rules : Rules K V S} {offers : Offers K V S I} {n
       → c.pairs ≡ pair ∷ rest → Stores rules offers names i v old pair
       → IfSome (first new.pairs) (Stores rules offers names i v old)
   stored c mid new l r pair rest is h =
-      let there : is_empty new.pairs ≡ false = not_true (is_empty new.pairs) (same_kept true _ r) in
+      let there : is_empty new.pairs ≡ false = not-true (is_empty new.pairs) (sym (same_kept true _ r)) in
       let same : new.pairs ≡ (trim rules c).pairs = ap (λ st. st.pairs) l.is in
       subst (λ o. IfSome o (Stores rules offers names i v old))
       (sym (front_first new.pairs c.pairs (subst (λ xs. IsFront xs c.pairs) (sym same) (front_trim rules c)) there

@@ -1,9 +1,8 @@
 -- A limit by length and one by memory usage, over runs of calls.
-use Rattle.std.proofs.Common.{ℕ, ◌≤◌, Bool, true, false, List, [], ◌∷◌, length, Result, sym, ap, subst, arith}
+use Rattle.std.proofs.Common.{ℕ, ◌≤◌, Bool, true, false, length, Result, sym, ap, subst, arith}
 use Rattle.std.proofs.lemmas.Bool.Decides.{nat_tests}
 use Rattle.std.specs.Prelude.{nat_lt, nat_le}
 use Rattle.lru_limits.specs.Stores.{plain, hands_over}
-use Rattle.schnellru.specs.Lists.{without_first}
 use Rattle.schnellru.specs.State.{State}
 use Rattle.schnellru.specs.GetOrInserts.{got, inserted}
 use Rattle.schnellru.specs.Reservations.{Reserve}
@@ -11,7 +10,7 @@ use Rattle.schnellru.specs.Runs.{Step, inserts, makes_newest, gets, removes, pop
 use Rattle.schnellru.specs.Runs.{reserves, Run, ends, goes_on}
 use Rattle.schnellru.specs.Theorems.{UsesAtMost}
 use Rattle.schnellru.specs.declared.map.reserve.ReserveError.{ReserveError}
-use Rattle.schnellru.proofs.Maps.LeavingPairs.{length-without_last}
+use Rattle.schnellru.proofs.Maps.LeavingPairs.{length-without_first, length-without_last}
 use Rattle.schnellru.proofs.Maps.Promotions.{length-front_pairs}
 use Rattle.schnellru.proofs.Theorems.CountedMoves.{reserve_changes}
 use Rattle.schnellru.proofs.Theorems.Limits.{keeps_limiter, uses_at_most, length-without, by_length_stays}
@@ -26,10 +25,6 @@ reserve_uses_at_most names n old result new h = uses_at_most
     (plain (λ _ _. false) (λ most bytes. nat_le bytes most)) _ _ old new (λ bytes e. grind (arith, nat_tests))
     (λ s p. p.1)
     (reserve_changes _ _ (keeps_limiter _ _ (λ _ _ _. true) names).keeps.way n old result new h).tables
-
-length-without_first : {X : Type 0} (xs : List X) → length (without_first xs) ≤ length xs
-length-without_first [] = omega arith
-length-without_first (x ∷ xs) = omega arith
 
 module _ {K V H : Type 0} (names : K → K → Bool) (hash_of : H → K → ℕ) where
   -- a limit by length
