@@ -60,7 +60,8 @@ module _ {K V S H : Type 0} (rules : Rules K V S) (grants : AlwaysGrants rules) 
       → LandsAs rules pair there outcome new
   place_granted outcome new (first_table e b bytes u g m) = rw (ap is_empty e, eq-eqb (buckets old) 0 b, u, g)
       (if_memory rules pair (asked rules bytes old) _ _ _ outcome new m)
-  place_granted outcome new (first_denied e b bytes u d o n) = absurd (true≢false (sym (grants old.limiter bytes).0 ∙ d))
+  place_granted outcome new (first_denied e b bytes u d o n) = absurd
+      (true≢false (sym (grants old.limiter bytes).0 ∙ d))
   place_granted outcome new (first_too_large e b u o n) = rw (ap is_empty e, eq-eqb (buckets old) 0 b, u, o)
       (sym (ap (λ x. record { there = false; left = contents x }) n))
   place_granted outcome new (empty_with_room e b r s o n) = rw

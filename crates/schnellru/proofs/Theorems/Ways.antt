@@ -24,8 +24,8 @@ use Rattle.schnellru.proofs.Theorems.TableGrowth.{limiter_calm, leaves_calm, cal
 use Rattle.schnellru.proofs.Theorems.TableGrowth.{then_calm, calm_changes, leaves_changes}
 
 module _ {K V S H : Type 0} (rules : Rules K V S) (P : S → Type 0) (pair : K × V) (old : State K V S H) where
-  -- the pair is placed after way was made for it, in a table that is the old one or is permitted, and its moves are
-  -- paid for
+  -- the pair is placed after way was made for it, in a table that is the old one or is permitted,
+  -- and its moves are paid for
   pub record Fills (mid new : State K V S H) : Type 0 where
     pub count : ℕ
     pub spare : ℕ
