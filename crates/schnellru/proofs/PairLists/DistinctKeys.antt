@@ -115,8 +115,8 @@ module _ {K V : Type 0} (eq : K → K → Bool) where
     pub absent_without : (xs : List (K × V)) → AreDistinct xs → lookup_entry names (without names xs) ≡ None
     absent_without xs d = none_found names (without names xs) (others_unnamed xs d)
 
-module _ {K V S Q : Type 0} (rules : Rules K V S) (names : Q → K → Bool) {eq : K → K → Bool} {query_input : Q
-    → List (List ℕ)} {key_input : K → List (List ℕ)}
+module _ {K V S Q : Type 0} {rules : Rules K V S} {names : Q → K → Bool} {eq : K → K → Bool}
+    {query_input : Q → List (List ℕ)} {key_input : K → List (List ℕ)}
     (looks_up : IsLookup names eq query_input key_input) where
   pub keeps_distinct : Keeps rules names (λ c d. AreDistinct eq c.pairs → AreDistinct eq d.pairs)
   keeps_distinct = record {
@@ -146,13 +146,16 @@ module _ {K V S I : Type 0} (rules : Rules K V S) (offers : Offers K V S I) (nam
       distinct_newest eq (names i) (looks_up.one i) (r.key, kept_value r) c.pairs (looks_up.one i pair.0 r.key n
       ∙ laws.keeps_key c.limiter (length c.pairs) pair.0 i pair.1 v n)
 
+module _ {K V S I : Type 0} {rules : Rules K V S} {offers : Offers K V S I} {names : I → K → Bool} {eq : K → K → Bool}
+    {query_input : I → List (List ℕ)} {key_input : K → List (List ℕ)}
+    (looks_up : IsLookup names eq query_input key_input) (laws : IsInsertion names eq offers) where
   pub offers_distinct : KeepsOffers rules offers names (λ c d. AreDistinct eq c.pairs → AreDistinct eq d.pairs)
   offers_distinct = record {
-    keeps = keeps_distinct rules names looks_up;
-    came = λ i v c s pair a n. came_distinct i pair c.pairs a
+    keeps = keeps_distinct looks_up;
+    came = λ i v c s pair a n. came_distinct rules offers names looks_up laws i pair c.pairs a
         (laws.names_given c.limiter (length c.pairs) i v s pair.0 pair.1 n);
     turned_down = λ i v c s n d. d;
-    exchanged = exchanged_distinct;
+    exchanged = exchanged_distinct rules offers names looks_up laws;
   }
 
 -- keys that equal distinct ones, one by one, are distinct

@@ -27,8 +27,7 @@ module _ {K V S H : Type 0} (rules : Rules K V S) (hash_of : H → K → ℕ) (p
   place_counts : (outcome : Outcome) (new : State K V S H) → Place rules hash_of pair old outcome new
       → CountsPlacings old new
   place_counts outcome new step =
-      let way = place_lands rules (λ c d. Unit {0}) (stay_any rules).way (λ _. Unit {0}) hash_of pair old tt outcome
-      new step in
+      let way = place_lands rules (λ c d. Unit {0}) stay_any.way (λ _. Unit {0}) hash_of pair old tt outcome new step in
       around_counts old way.mid new new way.calm (self_calm new) (land outcome way.mid way.lands)
     where
       away : (mid : State K V S H) → new ≡ turned_away rules pair mid → CountsPlacings mid new

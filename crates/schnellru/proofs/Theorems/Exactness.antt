@@ -36,10 +36,9 @@ module _ {K V S H : Type 0} (rules : Rules K V S) (pair : K × V) where
   if_memory st count spare moves no_memory new h = tt
   if_memory st count spare moves refused new h = absurd h
 
-  pub is_placed : (st : State K V S H) (count spare moves : ℕ) (outcome : Outcome) (new : State K V S H) → outcome
-      ≡ placed → IsPlaced pair count spare moves st new → LandsAs (lands rules pair (contents st)) outcome new
-  is_placed st count spare moves outcome new o p = rw o
-      (sym (ap (λ x. record { there = true; left = contents x }) p.state))
+  pub is_placed : (st : State K V S H) {count spare moves : ℕ} (outcome : Outcome) (new : State K V S H)
+      → outcome ≡ placed → IsPlaced pair count spare moves st new → LandsAs (lands rules pair (contents st)) outcome new
+  is_placed st outcome new o p = rw o (sym (ap (λ x. record { there = true; left = contents x }) p.state))
 
 module _ {K V S H : Type 0} (rules : Rules K V S) (hash_of : H → K → ℕ) (pair : K × V) (old : State K V S H)
     (small : buckets old ≤ 16) where
@@ -75,12 +74,12 @@ module _ {K V S H : Type 0} (rules : Rules K V S) (hash_of : H → K → ℕ) (p
       (sym (ap (λ x. record { there = false; left = contents x }) n))
   place_lands outcome new (empty_with_room e b r s o n) = rw
       (ap is_empty e, ne_eqb (buckets old) 0 (λ none. omega (arith, b, none)))
-      (is_placed rules pair old _ _ _ outcome new o n)
+      (is_placed rules pair old outcome new o n)
   place_lands outcome new (empty_without_room e b r o n) = rw
       (ap is_empty e, ne_eqb (buckets old) 0 (λ none. omega (arith, b, none)))
-      (is_placed rules pair old _ _ _ outcome new o n)
+      (is_placed rules pair old outcome new o n)
   place_lands outcome new (with_room e r s o n) = rw (is_empty-some old.pairs e, lt-ltb 0 (room old) r)
-      (is_placed rules pair old _ _ _ outcome new o n)
+      (is_placed rules pair old outcome new o n)
   place_lands outcome new (deleted_bucket f i b l o n) = absurd (omega (arith, small))
   place_lands outcome new (rehashed f i l m) = rw (
     is_empty-some old.pairs f.0,
@@ -91,7 +90,7 @@ module _ {K V S H : Type 0} (rules : Rules K V S) (hash_of : H → K → ℕ) (p
       (if_memory rules pair (asked rules bytes old) _ _ _ outcome new m)
   place_lands outcome new (evicting f i l mid c (finds_bucket n pos one half left gone fills o p)) = rw
       (full_lands f.0 f.1 l, evicts_from mid c) (subst (λ x. LandsAs rules pair (lands rules pair x) outcome new)
-      (one_left n mid left (one small) gone) (is_placed rules pair left _ _ _ outcome new o p))
+      (one_left n mid left (one small) gone) (is_placed rules pair left outcome new o p))
   place_lands outcome new (evicting f i l mid c (made_anew n pos one half left gone m)) =
       rw (full_lands f.0 f.1 l, evicts_from mid c) (subst (λ x. LandsAs rules pair (lands rules pair x) outcome new)
       (one_left n mid left (one small) gone) (if_memory rules pair left _ _ _ outcome new m))

@@ -18,11 +18,11 @@ module _ {X : Type 0} where
   pub front_self : (xs : List X) → IsFront xs xs
   front_self xs = ([], sym (append-nil xs))
 
-  pub front_same : (xs ys : List X) → xs ≡ ys → IsFront xs ys
-  front_same xs ys e = ([], sym e ∙ sym (append-nil xs))
+  pub front_same : {xs ys : List X} → xs ≡ ys → IsFront xs ys
+  front_same {xs} e = ([], sym e ∙ sym (append-nil xs))
 
-  pub front_trans : (xs ys zs : List X) → IsFront xs ys → IsFront ys zs → IsFront xs zs
-  front_trans xs ys zs p q = (p.0 ++ q.0, q.1 ∙ ap (λ l. l ++ q.0) p.1 ∙ append_assoc xs p.0 q.0)
+  pub front_trans : (xs : List X) {ys zs : List X} → IsFront xs ys → IsFront ys zs → IsFront xs zs
+  front_trans xs p q = (p.0 ++ q.0, q.1 ∙ ap (λ l. l ++ q.0) p.1 ∙ append_assoc xs p.0 q.0)
 
   pub length-front : (ys xs : List X) → IsFront ys xs → length ys ≤ length xs
   length-front ys xs f = omega (arith, ap length f.1, length-append ys f.0)
@@ -75,7 +75,7 @@ module _ {K V S : Type 0} (rules : Rules K V S) where
   pub front_way : KeepsWay rules (λ c d. IsFront d.pairs c.pairs)
   front_way = record {
     self = λ c. front_self c.pairs;
-    trans = λ p q. front_trans _ _ _ q p;
+    trans = λ p q. front_trans _ q p;
     asked = λ bytes c. front_self c.pairs;
     popped = λ c. front_without_last c.pairs;
   }
@@ -100,10 +100,9 @@ module _ {K V S : Type 0} (rules : Rules K V S) where
     where
       end : (outcome : Outcome) (mid : State K V S H) → IsFront mid.pairs old.pairs
           → Lands rules (λ _. Unit {0}) pair old outcome mid new → Ends pair old new
-      end placed mid f l = inl (front_trans _ _ _ (front_same _ _ (ap (λ st. st.pairs) l.is.state))
-          (front_more pair _ _ f))
-      end refused mid f l = inr (front_trans _ _ _ (front_same _ _ (ap (λ st. st.pairs) l.1)) f)
-      end no_memory mid f l = inr (front_trans _ _ _ (front_same _ _ (ap (λ st. st.pairs) l)) f)
+      end placed mid f l = inl (front_trans _ (front_same (ap (λ st. st.pairs) l.is.state)) (front_more pair _ _ f))
+      end refused mid f l = inr (front_trans _ (front_same (ap (λ st. st.pairs) l.1)) f)
+      end no_memory mid f l = inr (front_trans _ (front_same (ap (λ st. st.pairs) l)) f)
 
 module _ {K V : Type 0} where
   pub found_named : (names : K → Bool) (xs : List (K × V)) (p : K × V) → lookup_entry names xs ≡ Some p → names p.0
@@ -145,16 +144,16 @@ module _ {K V S H I : Type 0} {rules : Rules K V S} {offers : Offers K V S I} {n
       → GivesUp (names i) (λ pair. (replacement rules offers names pair i v old).taken ≡ false) old.pairs new.pairs
   insert_gives_up result new (replaced pair found y r l) =
       behind _ (replaced_named rules offers names looks_up laws i v old pair found)
-      (front_trans _ _ _ (front_same _ _ (ap (λ st. st.pairs) l.is))
+      (front_trans _ (front_same (ap (λ st. st.pairs) l.is))
       (front_trim rules (with_replaced rules offers names pair i v old)))
   insert_gives_up result new (given_up pair found y r l) = without_one pair found y (ap (λ st. st.pairs) l.is)
-  insert_gives_up result new (no_memory_to_admit a k r e) = with_none a (front_same _ _ (ap (λ st. st.pairs) e))
-  insert_gives_up result new (not_admitted a s n r e) = with_none a (front_same _ _ (ap (λ st. st.pairs) e))
+  insert_gives_up result new (no_memory_to_admit a k r e) = with_none a (front_same (ap (λ st. st.pairs) e))
+  insert_gives_up result new (not_admitted a s n r e) = with_none a (front_same (ap (λ st. st.pairs) e))
   insert_gives_up result new (admitted a s pair n (ready, l, outcome, landed, p, t)) = go
       (place_ends rules hash_of pair ready outcome landed p)
     where
       ready_front : IsFront ready.pairs old.pairs
-      ready_front = front_trans _ _ _ (front_same _ _ (ap (λ st. st.pairs) l.is))
+      ready_front = front_trans _ (front_same (ap (λ st. st.pairs) l.is))
           (front_make_way rules (record { pairs = old.pairs; limiter = s }))
 
       others : IsFront ready.pairs (without (names i) old.pairs)
@@ -163,7 +162,7 @@ module _ {K V S H I : Type 0} {rules : Rules K V S} {offers : Offers K V S I} {n
       go : Ends rules pair ready landed → GivesUp (names i) (λ pair. (replacement rules offers names pair i v old).taken
           ≡ false) old.pairs new.pairs
       go (inl f) = behind pair (given_named rules offers names looks_up laws i v old s pair n)
-          (front_trans _ _ _ (settles_keep rules _ (front_way rules) outcome landed result new t)
-          (front_trans _ _ _ f (front_more pair _ _ others)))
-      go (inr f) = with_none a (front_trans _ _ _ (settles_keep rules _ (front_way rules) outcome landed result new t)
-          (front_trans _ _ _ f ready_front))
+          (front_trans _ (settles_keep rules _ (front_way rules) outcome landed result new t)
+          (front_trans _ f (front_more pair _ _ others)))
+      go (inr f) = with_none a (front_trans _ (settles_keep rules _ (front_way rules) outcome landed result new t)
+          (front_trans _ f ready_front))

@@ -82,7 +82,7 @@ module _ {K V S H : Type 0} (rules : Rules K V S) (hash_of : H → K → ℕ) (p
           → Lands rules (λ _. Unit {0}) pair old outcome mid new → Comes outcome new
       end placed mid f l = (mid.pairs, ap (λ st. st.pairs) l.is.state)
       end refused mid f l = ap (λ st. st.pairs) l.1 ∙ l.0
-      end no_memory mid f l = front_trans _ _ _ (front_same _ _ (ap (λ st. st.pairs) l)) f
+      end no_memory mid f l = front_trans _ (front_same (ap (λ st. st.pairs) l)) f
 
 module _ {K V S H : Type 0} (rules : Rules K V S) (names : K → Bool) where
   -- after a trimming that answers whether a pair is left
@@ -144,7 +144,7 @@ module _ {K V S H I : Type 0} {rules : Rules K V S} {offers : Offers K V S I} {n
   insert_says {result} {new} d (admitted a s pair n (ready, l, outcome, landed, p, t)) =
       settled_says rules (names i) hash_of pair ready outcome landed result new
       (given_named rules offers names looks_up laws i v old s pair n)
-      (front_absent (names i) ready.pairs old.pairs (front_trans _ _ _ (front_same _ _ (ap (λ st. st.pairs) l.is))
+      (front_absent (names i) ready.pairs old.pairs (front_trans _ (front_same (ap (λ st. st.pairs) l.is))
       (front_make_way rules (record { pairs = old.pairs; limiter = s }))) a)
       (place_comes rules hash_of pair ready outcome landed p) t
 

@@ -17,20 +17,20 @@ use Rattle.schnellru.proofs.Theorems.Moves.{Keeps, keeps_any}
 use Rattle.schnellru.proofs.TableSizes.NextTable.{larger_takes}
 use Rattle.schnellru.proofs.TableSizes.Growth.{least_power_at_least, least_power_shape, table_with_is, target-same}
 
-module _ {K V S : Type 0} (rules : Rules K V S) where
-  -- no key is looked up
-  abbrev pub no_names : ⊥ → K → Bool
-  no_names q = absurd q
+-- no key is looked up
+abbrev pub no_names : {K : Type 0} → ⊥ → K → Bool
+no_names q = absurd q
 
+module _ {K V S : Type 0} {rules : Rules K V S} where
   -- the keys stay distinct
   pub stay_distinct : (eq : K → K → Bool)
       → Keeps rules no_names (λ c d. AreDistinct eq c.pairs → AreDistinct eq d.pairs)
-  stay_distinct eq = keeps_distinct rules no_names {eq = eq} {query_input = λ q. absurd q} {key_input = λ k. []}
+  stay_distinct eq = keeps_distinct {eq = eq} {query_input = λ q. absurd q} {key_input = λ k. []}
       (record { writes = λ q k h. absurd q; one = λ q x y h. absurd q })
 
   -- nothing is to be kept
   pub stay_any : Keeps rules no_names (λ c d. Unit {0})
-  stay_any = keeps_any rules no_names
+  stay_any = keeps_any
 
 -- the buckets that some pairs need take them
 buckets_take : (max c n : ℕ) → buckets_for max c ≡ Some n → c ≤ full_capacity n

@@ -6,4 +6,4 @@ use Rattle.schnellru.proofs.laws.gets_keep_sums.Goals as goal
 pub returns : goal.returns
 returns g c = λ key old summed. let laws = g.met.L.Summing.laws in
     stays_summed laws old (promoted (g.I.LookupKey.names key) old)
-    (promoted_changes _ _ _ (keeps_sums laws g.I.LookupKey.names).keeps old key).moves summed
+    (promoted_changes (keeps_sums laws g.I.LookupKey.names).keeps old key).moves summed
