@@ -106,23 +106,7 @@ module _ {K V : Type 0} (t : Linked K V) where
     pub rest-length : length (rest_of t front left) ≡ left
     rest-length = ap length rest-is ∙ entries-length t.slots rest.middle middle_full ∙ rest.count
 
-    -- where none are left
-    pub rest-none : left ≡ 0 → rest_of t front left ≡ []
-    rest-none none = go (rest_of t front left) (rest-length ∙ none)
-      where
-        go : (xs : List (K × V)) → length xs ≡ 0 → xs ≡ []
-        go [] e = refl
-        go (x ∷ xs) e = absurd (omega (arith, e))
-
   module _ (front back : Option ℕ) (left : ℕ) (rest : IsRest t front back left) (some : 0 < left) where
-    -- there is a bucket in front, and one behind
-    pub front-some : front ≡ None → ⊥
-    front-some none = go rest.middle rest.count (sym rest.first ∙ none)
-      where
-        go : (ms : List ℕ) → length ms ≡ left → first_bucket (ms ++ rest.after) ≡ None → ⊥
-        go [] c e = absurd (omega (arith, c, some))
-        go (m ∷ ms) c e = none-some m (sym e)
-
     back_is : back ≡ last_bucket rest.middle
     back_is = rest.last ∙ go rest.middle rest.count
       where
@@ -130,6 +114,7 @@ module _ {K V : Type 0} (t : Linked K V) where
         go [] c = absurd (omega (arith, c, some))
         go (m ∷ ms) c = last_behind rest.before m ms
 
+    -- there is a bucket behind
     pub back-some : back ≡ None → ⊥
     back-some none = last_none rest.middle (sym back_is ∙ none) (omega (arith, rest.count, some))
 
