@@ -1,7 +1,7 @@
 -- What the code learns lane by lane and group by group of a search that asks a closure.
 use Rattle.std.proofs.Common.{◌≡◌, ◌≢◌, ℕ, ◌+◌, ◌%◌, ◌/◌, ◌<◌, ◌≤◌, min, Bool, true, false, cond, List, [], ◌∷◌, ◌++◌}
 use Rattle.std.proofs.Common.{length}
-use Rattle.std.proofs.Common.{get_or, Option, None, Some, MatchBool, refl, ap, sym, ◌∙◌, subst, arith, append_assoc}
+use Rattle.std.proofs.Common.{get_or, Option, None, Some, refl, ap, sym, ◌∙◌, subst, arith, append_assoc}
 use Rattle.std.proofs.Common.{nat_eq}
 use Rattle.std.specs.List.{Contains}
 use Rattle.std.specs.Borrow.{Bor}
@@ -17,7 +17,7 @@ use Rattle.group_table.specs.Group.{width, tagged_lanes, IsEmptyLane, HasEmptyLa
 use Rattle.group_table.specs.Group.{RefusesGroup}
 use Rattle.group_table.proofs.BucketLemmas.{full_lt, empty_not_full, bucket_at-past, length-marks_of}
 use Rattle.group_table.proofs.ProbeLemmas.{probed-meets, probed-lane, up_to_lane, up_to_end, group_within}
-use Rattle.group_table.proofs.LayoutLemmas.{length-laid_out, bucket_at-laid_out, mark_from_byte, byte_from_mark}
+use Rattle.group_table.proofs.LayoutLemmas.{length-laid_out, bucket_at-laid_out}
 use Rattle.group_table.proofs.LayoutLemmas.{power_of}
 use Rattle.group_table.proofs.SearchLemmas.{FoldsTo-append, full_by_tag, held_by, has_tag-full, tagged_lanes-more}
 use Rattle.group_table.proofs.SearchLemmas.{RefusesEach-more}
@@ -32,43 +32,12 @@ has_tag-slot_of : {T : Type 0} (byte tag : ℕ) (e : Option T) → byte ≢ tag 
 has_tag-slot_of {T} byte tag None p = has_tag-test T tag (nat_eq byte 128)
 has_tag-slot_of byte tag (Some entry) p = ne_eqb byte tag p
 
-module _ {T : Type 0} (slots : List (Slot T)) (start lane : ℕ) where
-  wider : HasEmptyLane slots start lane → HasEmptyLane slots start (lane + 1)
-  wider w = (w.0, omega (arith, w.1), w.2)
-
-  none_more : HasNoEmptyLane slots start lane → bucket_at (marks_of slots) ((start + lane) % length slots) ≢ empty
-      → HasNoEmptyLane slots start (lane + 1)
-  none_more h here k p = elim (dec_lt k lane) [
-    | yes q ↦ h k q
-    | no q ↦ let e : lane ≡ k = omega arith in
-        subst (λ j. bucket_at (marks_of slots) ((start + j) % length slots) ≢ empty) e here
-  ]
-
-  match_more : (t : Bool) → MatchBool t (HasEmptyLane slots start lane) (HasNoEmptyLane slots start lane)
-      → bucket_at (marks_of slots) ((start + lane) % length slots) ≢ empty
-      → MatchBool t (HasEmptyLane slots start (lane + 1)) (HasNoEmptyLane slots start (lane + 1))
-  match_more true h here = wider h
-  match_more false h here = none_more h here
-
 -- one lane, by its byte
 module _ {T : Type 0} (control : List ℕ) (entries : List (Option T)) (laid_out : IsLaidOut control entries)
     (start lane b : ℕ) (is : b ≡ (start + lane) % length entries)
     (within : b < length entries) where
   pub lane_is : b ≡ (start + lane) % length (slots_of control entries)
   lane_is = is ∙ ap (λ n. (start + lane) % n) (sym (length-laid_out control entries laid_out))
-
-  -- a used bucket leaves it open whether one was empty
-  pub ended_as_before : (t : Bool) → MatchBool t (HasEmptyLane (slots_of control entries) start lane)
-      (HasNoEmptyLane (slots_of control entries) start lane)
-      → get_or control b 0 ≢ 255 → MatchBool t (HasEmptyLane (slots_of control entries) start (lane + 1))
-      (HasNoEmptyLane (slots_of control entries) start (lane + 1))
-  ended_as_before t h used =
-      match_more (slots_of control entries) start lane t h
-      (λ e. used (byte_from_mark control entries laid_out b within (rw (← lane_is) at e)))
-
-  -- and an empty one ends the search
-  pub ended_here : get_or control b 0 ≡ 255 → HasEmptyLane (slots_of control entries) start (lane + 1)
-  ended_here e = (lane, omega arith, rw (← lane_is) (mark_from_byte control entries laid_out b within e))
 
   module _ {F : Type 0} (closure : Mut F (Bor T × Unit {0}) Bool) (tag : ℕ) (f between : F)
       (before : RefusesEach closure (slots_of control entries) f

@@ -26,11 +26,6 @@ probed-lt n hash s pos = mod-lt _ pos
 pub probe_within : (n hash : ℕ) (probe : Probe) → IsProbe n hash probe → 0 < n → probe.start < n
 probe_within n hash probe at pos = rw at.start (probed-lt n hash probe.passed pos)
 
--- a search begins at the hash
-pub probed-first : (n hash : ℕ) → hash % n ≡ probed n hash 0
-probed-first n hash = let e : hash ≡ hash + 8 * 0 * (0 + 1) + 0 = omega arith in
-    ap (λ m. m % n) e ∙ sym (probed-at n hash 0 0 0 (omega arith) (omega arith))
-
 -- the steps of a search to a bucket of the first group are those on the circle
 pub probed-first_group : (n hash b steps : ℕ) → b < n → steps < 16 → steps ≡ (b + (n - hash % n)) % n
     → probed n hash steps ≡ b

@@ -1,7 +1,7 @@
 -- Two runs of used buckets round a bucket tell whether every 16 neighbours hold an empty one.
 use Rattle.std.proofs.Common.{◌≡◌, ◌≢◌, ℕ, ◌+◌, ◌-◌, ◌%◌, ◌<◌, ◌≤◌, List, get_or, refl, ap, sym, ◌∙◌, arith, nat_lt}
 use Rattle.std.proofs.Common.{MatchBool}
-use Rattle.std.proofs.Math.Nat.{mod-add-mod, add-mod_right, mod-lt, mod-eq_of_lt}
+use Rattle.std.proofs.Math.Nat.{mod-add-mod, mod-lt, mod-eq_of_lt}
 use Rattle.std.proofs.lemmas.Bool.{lt-ltb, le-ltb}
 use native.Mathlib.Decide.{dec_lt}
 use Rattle.group_table.specs.Group.{IsRunBefore, IsRunFrom, EmptyNeighbourBytes, HemmedInBytes}
@@ -77,9 +77,3 @@ module _ (control : List ℕ) (n b before after : ℕ) (pos : 0 < n) (bound : b 
         | yes p ↦ rw (lt-ltb (before + after) 16 p) (empty_neighbours p)
         | no p ↦ rw (le-ltb (before + after) 16 (omega arith)) (hemmed_in (omega arith) used)
       ]
-
--- the place before on the circle
-pub step_back : (n at run b : ℕ) → at < n → (at + run) % n ≡ b → ((at + (n - 1)) % n + (run + 1)) % n ≡ b
-step_back n at run b p e =
-    let f : at + (n - 1) + (run + 1) ≡ at + run + n = omega arith in
-    mod-add-mod (at + (n - 1)) n (run + 1) ∙ ap (λ j. j % n) f ∙ add-mod_right (at + run) n ∙ e

@@ -19,8 +19,8 @@ HasLane mask lane = bit_at mask lane ≡ 1
 abbrev pub lowest : ℕ → ℕ
 lowest mask = trailing_zeros w16 mask
 
--- after the bytes of the buckets come those of the first buckets again; of 4 or 8 buckets, bytes of empty ones stand
--- between
+-- after the bytes of the buckets come those of the first buckets again;
+-- of 4 or 8 buckets, bytes of empty ones stand between
 pub record IsRepeated (control : List ℕ) (buckets : ℕ) : Type 0 where
   pub again : (p : ℕ) → max 16 buckets ≤ p → p < buckets + 16
       → slice_index control p ≡ slice_index control (p - max 16 buckets)

@@ -1,8 +1,13 @@
 -- What a width of links promises.
---     IsLinkType number link most eq      the laws of `LinkType`, where the number of `MAX` is most
+--     IsLinkType number link most eq      the laws of `LinkType`, where `MAX` is most
+--     narrowest_most                      the number of `MAX` in the narrowest width
 --     numbers_are_links                   an unsigned number is a link that is its own number
 use Rattle.std.specs.Prelude.{◌≡◌, ◌≢◌, ◌≤◌, ◌<◌, ℕ, Bool, nat_eq, refl}
 use Rattle.std.proofs.Common.{arith}
+
+-- the greatest number of eight bits, which the narrowest links have
+abbrev pub narrowest_most : ℕ
+narrowest_most = 255
 
 pub record IsLinkType {N : Type 0} (number : N → ℕ) (link : ℕ → N) (most : N) (eq : N → N → Bool) : Type 0 where
   -- the link of a number below that of `MAX` has that number
@@ -14,10 +19,10 @@ pub record IsLinkType {N : Type 0} (number : N → ℕ) (link : ℕ → N) (most
   -- and `==` compares the numbers
   pub eq_by_number : (a b : N) → eq a b ≡ nat_eq (number a) (number b)
   -- a link has at least eight bits
-  pub wide_enough : 255 ≤ number most
+  pub wide_enough : narrowest_most ≤ number most
 
 -- each number up to most is a link of its own, and most itself stands for no bucket
-pub numbers_are_links : (most : ℕ) → 255 ≤ most → IsLinkType (λ n. n) (λ n. n) most nat_eq
+pub numbers_are_links : (most : ℕ) → narrowest_most ≤ most → IsLinkType (λ n. n) (λ n. n) most nat_eq
 numbers_are_links most wide = record {
   number_of_link = λ n below. refl;
   link_below = λ n below same. let h : n ≡ most = same in absurd (omega arith);

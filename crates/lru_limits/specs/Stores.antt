@@ -1,8 +1,7 @@
 -- Words for limiters that store a pair as it was handed over.
 --     plain over grants                    the rules of a limiter that never changes
 --     hands_over admits                    its offers: an element is stored where admits says so, a new value always
---     HandsOver accepts s k v t given      the limiter is left as s, which is t, and the pair is given exactly if it is
--- accepted
+--     HandsOver accepts s k v t given      the limiter stays s, which is t, and the pair is given exactly if accepted
 --     unmoved s k v                        a pair that left, and the limiter is now s
 --     answers s b                          the answer b on growth, and the limiter is now s
 --     replaces s k v w                     the new value is taken, and the limiter is now s

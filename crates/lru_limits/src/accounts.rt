@@ -105,8 +105,8 @@ impl<T> Costed for Vec<T> {
 ///
 /// Its account starts with a map as the sum over the pairs of the map, and stays that sum through each call, while
 /// nobody writes to the values or to the limiter behind its back: each callback changes the account as the laws say.
-/// The two that take a cost off are bound by them only where the account has that much. `docs/LIMITERS.md` shows an
-/// impl.
+/// The two that take a cost off are bound by them only where the account has that much.
+/// `docs/LIMITERS.md` shows an impl.
 ///
 /// ```
 /// assert_eq!(rt; Summing::<u64, u64, u64>::account(&limiter), 2);

@@ -31,8 +31,7 @@ pub trait Limiter<K, V> {
     fn is_over_the_limit(&self, length: usize) -> bool
         ensures { result ≡ rules.is_over_the_limit self.now length };
 
-    /// Told of a pair that has left the map. What is written to the key and the value is what the caller of the map
-    /// gets.
+    /// Told of a pair that has left the map. The caller of the map gets what is written to the key and the value.
     fn on_removed(&mut self, key: &mut K, value: &mut V)
         ensures limiter { self.new ≡ (rules.on_removed self.old key.old value.old).limiter }
         ensures key { key.new ≡ (rules.on_removed self.old key.old value.old).key }

@@ -7,7 +7,7 @@
 --     inserted-found       under such a limiter, after an insert that answered true, a look-up finds the value
 --     inserted-only        whatever it answered, a look-up finds no other one
 --     inserted-all         what holds of each pair holds of each after an insert, if it holds of the inserted one
-pub use Rattle.schnellru.proofs.Maps.LeavingPairs.{leaves_trans}
+pub use Rattle.schnellru.proofs.Maps.LeavingPairs.{leaves_trans, length-without_first}
 pub use Rattle.schnellru.proofs.Maps.Promotions.{promoted_sized, promoted_is_map}
 pub use Rattle.schnellru.proofs.Maps.SomeInsert.{some_insert, some_leave}
 pub use Rattle.schnellru.proofs.TableSizes.SomeMarks.{marked, length-marked, room-marked, sized-marked}

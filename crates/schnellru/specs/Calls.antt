@@ -17,8 +17,8 @@ module _ {K V S H : Type 0} where
   abbrev pub written : (K → Bool) → V → State K V S H → State K V S H
   written names value st = record st { pairs = set_value names st.pairs value }
 
-  -- The value of the named key is lent, and its pair comes first, with what is left in the value. Where there is none,
-  -- nothing changes.
+  -- The value of the named key is lent, and its pair comes first, with what is left in the value.
+  -- Where there is none, nothing changes.
   pub data Get (names : K → Bool) (old : State K V S H) (result : Option V) (new : State K V S H) : Type 0 where
     found : (value left : V) → lookup names old.pairs ≡ Some value →
         result ≡ Some value → new ≡ written names left (promoted names old) →

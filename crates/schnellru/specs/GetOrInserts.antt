@@ -14,8 +14,8 @@ use Rattle.schnellru.specs.Theorems.{IsNewest}
 
 module _ {K V S H I : Type 0} (rules : Rules K V S) (offers : Offers K V S I) (names : I → K → Bool)
     (hash_of : H → K → ℕ) where
-  -- A key that is there is got; else a value that the closure makes is inserted. The answer is whether the key is
-  -- there.
+  -- A key that is there is got; else a value that the closure makes is inserted.
+  -- The answer is whether the key is there.
   pub data MakesNewest (makes : V → Type 0) (i : I) (old : State K V S H) (result : Result Bool AllocError)
       (new : State K V S H) : Type 0 where
     got : (w : V) → lookup (names i) old.pairs ≡ Some w →

@@ -76,8 +76,8 @@ module _ {K V S H : Type 0} (rules : Rules K V S) where
   IsPlacedIfMemory pair count spare moves old no_memory new = new ≡ turned_away pair old
   IsPlacedIfMemory pair count spare moves old refused new = ⊥
 
-  -- there is no larger table, and mid is the state in which this is known: links or bytes do not reach one, or the
-  -- limiter refuses it
+  -- there is no larger table, and mid is the state in which this is known:
+  -- links or bytes do not reach one, or the limiter refuses it
   pub data CannotGrow (old mid : State K V S H) : Type 0 where
     no_target : table_for 1 old ≡ no_table → mid ≡ old → CannotGrow old mid
     denied : (count bytes : ℕ) → table_for 1 old ≡ new_table count bytes → Denies bytes old →

@@ -22,8 +22,8 @@ pub record IsGreatestUsage (max entry_bytes budget bytes : ℕ) : Type 0 where
   pub greatest : (buckets other : ℕ) → IsPowerFromFour buckets → buckets < max →
       usage entry_bytes buckets ≡ Some other → other ≤ budget → other ≤ bytes
 
--- Where a table goes that is to take more pairs: nowhere, to a table as large as it is, or to one of so many buckets
--- and bytes.
+-- Where a table goes that is to take more pairs: nowhere, to a table as large as it is,
+-- or to one of so many buckets and bytes.
 pub data Target : Type 0 where
   no_table same_table : Target
   new_table : ℕ → ℕ → Target

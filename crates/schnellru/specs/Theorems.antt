@@ -11,8 +11,8 @@ use Rattle.schnellru.specs.Place.{LacksRoom, CannotGrow}
 use Rattle.schnellru.specs.Inserts.{replacement, MayGive}
 
 module _ {K V S H : Type 0} where
-  -- from old to new, moved and potential together rise by at most 2 for each element placed, while the count of these
-  -- goes on
+  -- from old to new, moved and potential together rise by at most 2 for each element placed,
+  -- while the count of these goes on
   pub record PaysForMoves (old new : State K V S H) : Type 0 where
     pub placed : old.placed ≤ new.placed
     pub moved : new.placed < 2 ^ 64 - 1 →

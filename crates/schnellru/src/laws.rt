@@ -1,5 +1,5 @@
-//! What is proved of each call, and of all calls, one after another. Each theorem is the contract of a function that
-//! does nothing.
+//! What is proved of each call, and of all calls, one after another.
+//! Each theorem is the contract of a function that does nothing.
 
 ghost use Rattle.std.specs.Prelude.{◌≡◌, ◌≢◌, ℕ, ◌≤◌, ◌<◌, ◌+◌, ◌*◌, ◌/◌, ◌⊎◌, ◌∷◌, Bool, false, Option, Some, None};
 ghost use Rattle.std.specs.Prelude.{IfSome, Result, Ok, true, IsOk, IsErr, length};
@@ -44,8 +44,8 @@ pub fn inserts_give_up_the_oldest<
         old.pairs new.pairs }
 {}
 
-/// An insert answers true exactly where its key is there afterwards: it is the newest then, and the limiter is not
-/// over.
+/// An insert answers true exactly where its key is there afterwards.
+/// It is the newest then, and the limiter is not over.
 pub fn inserts_say_whether<
     K: Eq + Hash,
     V,
@@ -79,8 +79,8 @@ pub fn inserts_store_the_value<
         lookup (I.names key) new.pairs ≡ Some value }
 {}
 
-/// Want of memory in an insert is that of `on_insert`, or that of a table without room. It leaves a front part of the
-/// pairs.
+/// Want of memory in an insert is that of `on_insert`, or that of a table without room.
+/// It leaves a front part of the pairs.
 pub fn inserts_lack_memory_at_no_room<
     K: Eq + Hash,
     V,
@@ -245,8 +245,8 @@ pub fn growth_keeps_the_list<K: Eq + Hash, V, L: Limiter<K, V>, S: BuildHasher>(
         (new.pairs ≡ old.pairs) ⊎ IsRefusedGrowth L.rules old }
 {}
 
-/// With `ByLength` an insert leaves the limiter as it was, and at most `max_length` pairs, if there were no more
-/// before.
+/// With `ByLength` an insert leaves the limiter as it was.
+/// It leaves at most `max_length` pairs, if there were no more before.
 pub fn inserts_keep_the_length<K: Eq + Hash + Drop, V: Drop, S: BuildHasher>()
     ensures limiter { (key : K) (value : V) (old : State K V ByLength S) (result : Result Bool AllocError)
         (new : State K V ByLength S) →

@@ -314,8 +314,8 @@ impl<K: Eq + Hash + Drop, V: Drop, N: LinkType> Linked<K, V, N> {
     }
 }
 
-// Moves the entries into a table of so many buckets, or, among as many as now, within this one, and answers where each
-// is.
+// Moves the entries into a table of so many buckets, or, among as many as now, within this one.
+// It answers where each is.
 fn move_entries<K: Eq + Hash + Drop, V: Drop, N: LinkType, S: BuildHasher>(
     table: &mut Table<Entry<K, V, N>>,
     buckets: usize,

@@ -165,8 +165,8 @@ impl<K: Eq + Hash, V, L: Limiter<K, V>> LruMap<K, V, L, RandomState> {
 impl<K: Eq + Hash, V, S: BuildHasher> LruMap<K, V, ByMemoryUsage, S> {
     /// An empty map whose table may use so many bytes, with this hasher.
     ///
-    /// The budget is kept as `memory_usage` counts, by the bytes of an entry that are given here. Cost: `O(1)`, and no
-    /// memory.
+    /// The budget is kept as `memory_usage` counts, by the bytes of an entry that are given here.
+    /// Cost: `O(1)`, and no memory.
     ///
     /// After schnellru's `LruMap::with_memory_budget_and_hasher`.
     pub fn with_memory_budget_and_hasher(
@@ -184,8 +184,8 @@ impl<K: Eq + Hash, V, S: BuildHasher> LruMap<K, V, ByMemoryUsage, S> {
 impl<K: Eq + Hash, V> LruMap<K, V, ByMemoryUsage, RandomState> {
     /// An empty map whose table may use so many bytes, with the hasher that these words seed.
     ///
-    /// The budget is kept as `memory_usage` counts, by the bytes of an entry that are given here. Cost: `O(1)`, and no
-    /// memory.
+    /// The budget is kept as `memory_usage` counts, by the bytes of an entry that are given here.
+    /// Cost: `O(1)`, and no memory.
     ///
     /// ```
     /// let mut map: LruMap<u64, u64, ByMemoryUsage> = LruMap::with_memory_budget(alloc, 84, [1, 2, 3, 4], 16);

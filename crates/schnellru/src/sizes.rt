@@ -32,8 +32,8 @@ pub(crate) fn bytes_of(entry_bytes: usize, buckets: usize) -> usize
     (entry_bytes * buckets + 15) / 16 * 16 + buckets + 16
 }
 
-// The buckets and the bytes of the table that a table goes to which is to take so many pairs, more than half of what it
-// takes.
+// The buckets and the bytes of the table that a table goes to which is to take so many pairs,
+// more than half of what it takes.
 #[tactic(auto, unfolding(crate::specs::Sizes::target))]
 pub(crate) fn larger_table(
     max: usize,

@@ -67,8 +67,8 @@ impl<T: Drop> Table<T> {
 
     /// Gives all entries new buckets so that none is deleted, among as many as now, and answers as `relocate` does.
     ///
-    /// The entries are not moved into another table, and `hash_of` is asked once for each. It takes time by the
-    /// buckets.
+    /// The entries are not moved into another table, and `hash_of` is asked once for each.
+    /// It takes time by the buckets.
     ///
     /// # Errors
     ///

@@ -8,8 +8,7 @@ use crate::{
 use std::alloc::{AllocError, Global};
 use std::test::Fail;
 
-// Whether a map of so many pairs is over, whether an element is taken, and whether a table of so many bytes is
-// permitted.
+// Whether a map of so many pairs is over, an element is taken, and a table of so many bytes is permitted.
 fn says<L: Limiter<u64, u64> + Insertion<u64, u64, u64>>(
     limiter: &mut L,
     alloc: Global,

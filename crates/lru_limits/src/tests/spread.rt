@@ -31,8 +31,8 @@ fn is_even(counts: &[u64], keys: usize) -> bool {
     sum == keys
 }
 
-// A table of so many groups of 16 buckets, where a hash begins at the bucket of its low bits and has its top 7 bits as
-// tag.
+// A table of so many groups of 16 buckets.
+// A hash begins there at the bucket of its low bits, and its top 7 bits are its tag.
 fn is_spread(alloc: Global, keys: &[u64], groups: usize) -> Result<bool, AllocError> {
     for words in [[1, 2, 3, 4], [11, 22, 33, 44]] {
         let state = RandomState::with_seeds(words);

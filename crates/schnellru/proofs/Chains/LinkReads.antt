@@ -20,16 +20,16 @@ last_some [] p e = absurd (omega arith)
 last_some (c ∷ []) p e = none-some c (sym e)
 last_some (c ∷ d ∷ ds) p e = last_some (d ∷ ds) (omega arith) e
 
-module _ {N : Type 0} (number : N → ℕ) (link : ℕ → N) (none : N) (eq : N → N → Bool)
+module _ {N : Type 0} {number : N → ℕ} {link : ℕ → N} {none : N} {eq : N → N → Bool}
     (laws : IsLinkType number link none eq) where
-  pub equal_links : (a b : N) → eq a b ≡ true → a ≡ b
-  equal_links a b e = laws.equal_by_number a b (eqb-true _ _ (sym (laws.eq_by_number a b) ∙ e))
+  pub equal_links : {a b : N} → eq a b ≡ true → a ≡ b
+  equal_links {a} {b} e = laws.equal_by_number a b (eqb-true _ _ (sym (laws.eq_by_number a b) ∙ e))
 
-  pub equal_by_test : (a b : N) → not (eq a b) ≡ false → a ≡ b
-  equal_by_test a b e = equal_links a b (not-false (eq a b) e)
+  pub equal_by_test : {a b : N} → not (eq a b) ≡ false → a ≡ b
+  equal_by_test {a} {b} e = equal_links (not-false (eq a b) e)
 
-  pub other_by_test : (a b : N) → not (eq a b) ≡ true → a ≢ b
-  other_by_test a b e same = eqb-false (number a) (number b) (sym (laws.eq_by_number a b) ∙ not-true (eq a b) e)
+  pub other_by_test : {a b : N} → not (eq a b) ≡ true → a ≢ b
+  other_by_test {a} {b} e same = eqb-false (number a) (number b) (sym (laws.eq_by_number a b) ∙ not-true (eq a b) e)
       (ap number same)
 
   -- the bucket that a link leads to
@@ -40,11 +40,11 @@ module _ {N : Type 0} (number : N → ℕ) (link : ℕ → N) (none : N) (eq : N
 
   read_link : (r o : Option ℕ) (l : N) → l ≡ link_to link none o → ((y : ℕ) → o ≡ Some y → y < number none)
       → IfNone r (l ≡ none) → IfSome r (λ b. (l ≢ none) × (b ≡ number l)) → r ≡ o
-  read_link None o l e bounds at_none at_some = sym (end_by_link number link none eq laws o bounds (sym e ∙ at_none))
+  read_link None o l e bounds at_none at_some = sym (end_by_link laws o bounds (sym e ∙ at_none))
   read_link (Some b) o l e bounds at_none at_some =
       ap Some at_some.1 ∙ sym (leads_to o l e bounds (λ is. at_some.0 (e ∙ ap (link_to link none) is)))
 
-  module _ {K V : Type 0} (slots : List (Slot (Entry K V N))) (newest oldest : N) (order : List ℕ)
+  module _ {K V : Type 0} {slots : List (Slot (Entry K V N))} {newest oldest : N} {order : List ℕ}
       (whole : IsWhole number link none slots newest oldest order) where
     pub newest_shown : (r : Option ℕ) → IfNone r (newest ≡ none)
         → IfSome r (λ b. (newest ≢ none) × (b ≡ number newest)) → r ≡ first_bucket order
@@ -71,20 +71,17 @@ module _ {N : Type 0} (number : N → ℕ) (link : ℕ → N) (none : N) (eq : N
         pub older_shown : (r : Option ℕ) → IfNone r (entry.older ≡ none)
             → IfSome r (λ c. (entry.older ≢ none) × (c ≡ number entry.older)) → r ≡ bucket_after b order
         older_shown r at_none at_some =
-            read_link r (bucket_after b order) entry.older
-            (older_link number link none eq laws slots newest oldest order whole.chain b inside entry is)
+            read_link r (bucket_after b order) entry.older (older_link laws whole.chain b inside entry is)
             (λ y e. chained_below whole.chain y (after_in b y order e)) at_none at_some
 
         pub newer_shown : (r : Option ℕ) → IfNone r (entry.newer ≡ none)
             → IfSome r (λ c. (entry.newer ≢ none) × (c ≡ number entry.newer)) → r ≡ bucket_before b order
         newer_shown r at_none at_some =
-            read_link r (bucket_before b order) entry.newer
-            (newer_link number link none eq laws slots newest oldest order whole.chain b inside entry is)
+            read_link r (bucket_before b order) entry.newer (newer_link laws whole.chain b inside entry is)
             (λ y e. chained_below whole.chain y (before_in b y order whole.chain.distinct e)) at_none at_some
 
         -- the bucket with no newer one is the newest already
         pub newest_already : entry.newer ≡ none → order ≡ b ∷ without_bucket b order
-        newest_already e = newest_again b order whole.chain.distinct inside
-            (end_by_link number link none eq laws (bucket_before b order)
+        newest_already e = newest_again b order whole.chain.distinct inside (end_by_link laws (bucket_before b order)
             (λ y k. chained_below whole.chain y (before_in b y order whole.chain.distinct k))
-            (sym (newer_link number link none eq laws slots newest oldest order whole.chain b inside entry is) ∙ e))
+            (sym (newer_link laws whole.chain b inside entry is) ∙ e))

@@ -82,7 +82,7 @@ module _ {K V N : Type 0} (slots : List (Slot (Entry K V N))) (b : ℕ) (entry :
           ];
         }
 
-module _ {N : Type 0} (number : N → ℕ) (link : ℕ → N) (none : N) (eq : N → N → Bool)
+module _ {N : Type 0} {number : N → ℕ} {link : ℕ → N} {none : N} {eq : N → N → Bool}
     (laws : IsLinkType number link none eq) where
   -- a link to a bucket below the number of none
   pub number-link_to : (o : Option ℕ) (x : ℕ) → o ≡ Some x → x < number none → number (link_to link none o) ≡ x
@@ -109,7 +109,7 @@ module _ {N : Type 0} (number : N → ℕ) (link : ℕ → N) (none : N) (eq : N
     leads_to_full slots reached (Some y) is_full = inr
         (rw (laws.number_of_link y (omega (arith, full_lt slots y (is_full y refl), reached))) (is_full y refl))
 
-    module _ (slots : List (Slot (Entry K V N))) (newest oldest : N) (order : List ℕ)
+    module _ {slots : List (Slot (Entry K V N))} {newest oldest : N} {order : List ℕ}
         (chain : IsChain number link none slots newest oldest order) where
       module _ (b : ℕ) (there : Contains order b) (entry : Entry K V N) (is : entry_at slots b ≡ Some entry) where
         -- the links of an entry are to its neighbours
@@ -133,9 +133,8 @@ module _ {N : Type 0} (number : N → ℕ) (link : ℕ → N) (none : N) (eq : N
           (leads_to_full slots chain.reached (first_bucket order) (λ y e. chain.only y (first_in order y e)))
 
     -- a bucket leaves the chain: its neighbours get each other's links
-    module _ (s0 s1 s2 : List (Slot (Entry K V N))) (newest oldest newest' oldest' newer older : N) (b : ℕ)
-        (order : List ℕ)
-        (chain : IsChain number link none s0 newest oldest order) (there : Contains order b)
+    module _ {s0 s1 s2 : List (Slot (Entry K V N))} {newest oldest newest' oldest' newer older : N} (b : ℕ)
+        {order : List ℕ} (chain : IsChain number link none s0 newest oldest order) (there : Contains order b)
         (newer_is : newer ≡ link_to link none (bucket_before b order))
         (older_is : older ≡ link_to link none (bucket_after b order))
         (first : SetsOlder number s0 s1 newer older) (newest_is : SetsEnd none newest newest' newer older)
@@ -207,7 +206,7 @@ module _ {N : Type 0} (number : N → ℕ) (link : ℕ → N) (none : N) (eq : N
       }
 
     -- a bucket comes as the newest
-    module _ (s0 s1 s2 : List (Slot (Entry K V N))) (newest oldest oldest' : N) (b : ℕ) (order : List ℕ)
+    module _ {s0 s1 s2 : List (Slot (Entry K V N))} {newest oldest oldest' : N} (b : ℕ) {order : List ℕ}
         (chain : IsChain number link none s0 newest oldest order) (absent : Contains order b → ⊥) (full : IsFull s0 b)
         (first : SetsNewer number s0 s1 newest (link b)) (oldest_is : SetsEnd none oldest oldest' newest (link b))
         (second : SetsLinks s1 s2 b none newest) where

@@ -41,40 +41,6 @@ module _ {N : Type 0} (number : N → ℕ) (none : N) {K V : Type 0} where
         others = w.others;
       }
 
-  -- what a renumbering says, also of no entries
-  module _ (before after : List (Slot (Entry K V N))) (links : List N) where
-    no_full : (b : ℕ) → IsFull before b → entry_count before ≡ 0 → ⊥
-    no_full b there e = absurd (omega (arith, count_by-pos is_full before b (full_lt before b there) there, e))
-
-    pub fewer_links : Renumbers number none before after links → length links ≤ length before
-    fewer_links (inl w) = omega (arith, ap length w.1)
-    fewer_links (inr r) = omega (arith, r.one_each)
-
-    pub place_of : Renumbers number none before after links → (b : ℕ) → IsFull before b → b < length links
-    place_of (inl w) b there = absurd (no_full b there w.0)
-    place_of (inr r) b there = omega (arith, r.one_each, full_lt before b there)
-
-    pub moved_entry : Renumbers number none before after links → (b : ℕ) → IsFull before b
-        → entry_at after (moved_to number none links b) ≡ entry_at before b
-    moved_entry (inl w) b there = absurd (no_full b there w.0)
-    moved_entry (inr r) b there = let w = entry_by_full (bucket_at before b) there in r.moved b w.0 w.1 ∙ sym w.1
-
-    pub moved_apart : Renumbers number none before after links → (b c : ℕ) → IsFull before b → IsFull before c
-        → moved_to number none links b ≡ moved_to number none links c → b ≡ c
-    moved_apart (inl w) b c there other e = absurd (no_full b there w.0)
-    moved_apart (inr r) b c there other e = r.apart b c there other e
-
-    by_entry : (b : ℕ) (o : Option (Entry K V N)) → entry_at before b ≡ o → (o ≡ None → ⊥) → IsFull before b
-    by_entry b None e some = absurd (some refl)
-    by_entry b (Some entry) e some = full_by_entry (bucket_at before b) entry e
-
-    pub full_by_link : Renumbers number none before after links → (b : ℕ) → get_or links b none ≢ none → IsFull before b
-    full_by_link (inl w) b leads = absurd (leads (ap (λ xs. get_or xs b none) w.1))
-    full_by_link (inr r) b leads = elim (dec_lt b (length links)) [
-      | yes p ↦ by_entry b (entry_at before b) refl (λ e. leads (r.others b (omega (arith, r.one_each, p)) e))
-      | no p ↦ absurd (leads (get_or_past links b none (omega arith)))
-    ]
-
   -- how far the links have been moved: those of the entries of the buckets before this one
   pub record MovedUpTo (start now : List (Slot (Entry K V N))) (links : List N) (old : ℕ) : Type 0 where
     pub pairs : pair_slots now ≡ pair_slots start
@@ -87,73 +53,108 @@ module _ {N : Type 0} (number : N → ℕ) (none : N) {K V : Type 0} where
     pub rest : (b : ℕ) → old ≤ b → get_or links b none ≢ none → entry_at now (moved_to number none links b)
         ≡ entry_at start (moved_to number none links b)
 
-  pub MovedUpTo-none : (start : List (Slot (Entry K V N))) (links : List N) → MovedUpTo start start links 0
-  MovedUpTo-none start links = record {
+no_full : {T : Type 0} (before : List (Slot T)) (b : ℕ) → IsFull before b → entry_count before ≡ 0 → ⊥
+no_full before b there e = absurd (omega (arith, count_by-pos is_full before b (full_lt before b there) there, e))
+
+by_entry : {T : Type 0} (before : List (Slot T)) (b : ℕ) (o : Option T) → entry_at before b ≡ o → (o ≡ None → ⊥)
+    → IsFull before b
+by_entry before b None e some = absurd (some refl)
+by_entry before b (Some entry) e some = full_by_entry (bucket_at before b) entry e
+
+-- what a renumbering says, also of no entries
+module _ {N : Type 0} {number : N → ℕ} {none : N} {T : Type 0} {before after : List (Slot T)} {links : List N} where
+  pub fewer_links : Renumbers number none before after links → length links ≤ length before
+  fewer_links (inl w) = omega (arith, ap length w.1)
+  fewer_links (inr r) = omega (arith, r.one_each)
+
+  pub place_of : Renumbers number none before after links → (b : ℕ) → IsFull before b → b < length links
+  place_of (inl w) b there = absurd (no_full before b there w.0)
+  place_of (inr r) b there = omega (arith, r.one_each, full_lt before b there)
+
+  pub moved_entry : Renumbers number none before after links → (b : ℕ) → IsFull before b
+      → entry_at after (moved_to number none links b) ≡ entry_at before b
+  moved_entry (inl w) b there = absurd (no_full before b there w.0)
+  moved_entry (inr r) b there = let w = entry_by_full (bucket_at before b) there in r.moved b w.0 w.1 ∙ sym w.1
+
+  pub moved_apart : Renumbers number none before after links → (b c : ℕ) → IsFull before b → IsFull before c
+      → moved_to number none links b ≡ moved_to number none links c → b ≡ c
+  moved_apart (inl w) b c there other e = absurd (no_full before b there w.0)
+  moved_apart (inr r) b c there other e = r.apart b c there other e
+
+  pub full_by_link : Renumbers number none before after links → (b : ℕ) → get_or links b none ≢ none → IsFull before b
+  full_by_link (inl w) b leads = absurd (leads (ap (λ xs. get_or xs b none) w.1))
+  full_by_link (inr r) b leads = elim (dec_lt b (length links)) [
+    | yes p ↦ by_entry before b (entry_at before b) refl (λ e. leads (r.others b (omega (arith, r.one_each, p)) e))
+    | no p ↦ absurd (leads (get_or_past links b none (omega arith)))
+  ]
+
+module _ {N : Type 0} {number : N → ℕ} {none : N} {K V : Type 0} {start : List (Slot (Entry K V N))}
+    {links : List N} where
+  pub MovedUpTo-none : MovedUpTo number none start start links 0
+  MovedUpTo-none = record {
     pairs = refl;
     newer = λ b p leads. absurd (omega arith);
     older = λ b p leads. absurd (omega arith);
     rest = λ b p leads. refl;
   }
 
-  pub MovedUpTo-passed : (start now : List (Slot (Entry K V N))) (links : List N) (old : ℕ)
-      → MovedUpTo start now links old → get_or links old none ≡ none → MovedUpTo start now links (old + 1)
-  MovedUpTo-passed start now links old w e =
-      let other : (b : ℕ) → get_or links b none ≢ none → b ≢ old = λ b leads h. leads (ap (λ k. get_or links k none) h
-      ∙ e) in
-      record {
-        pairs = w.pairs;
-        newer = λ b p leads. w.newer b (below_next b old p (other b leads)) leads;
-        older = λ b p leads. w.older b (below_next b old p (other b leads)) leads;
-        rest = λ b p leads. w.rest b (omega arith) leads;
+  module _ {now : List (Slot (Entry K V N))} {old : ℕ} (w : MovedUpTo number none start now links old) where
+    pub MovedUpTo-passed : get_or links old none ≡ none → MovedUpTo number none start now links (old + 1)
+    MovedUpTo-passed e =
+        let other : (b : ℕ) → get_or links b none ≢ none → b ≢ old = λ b leads h. leads
+        (ap (λ k. get_or links k none) h ∙ e) in
+        record {
+          pairs = w.pairs;
+          newer = λ b p leads. w.newer b (below_next b old p (other b leads)) leads;
+          older = λ b p leads. w.older b (below_next b old p (other b leads)) leads;
+          rest = λ b p leads. w.rest b (omega arith) leads;
+        }
+
+    module _ {before next : List (Slot (Entry K V N))} (renumbers : Renumbers number none before start links)
+        (leads : get_or links old none ≢ none)
+        (moves : MovesLinks number none links now next (moved_to number none links old)) where
+      other_place : (b : ℕ) → b ≢ old → get_or links b none ≢ none
+          → moved_to number none links b ≢ moved_to number none links old
+      other_place b other there e = other
+          (moved_apart renumbers b old (full_by_link renumbers b there) (full_by_link renumbers old leads) e)
+
+      pub MovedUpTo-more : MovedUpTo number none start next links (old + 1)
+      MovedUpTo-more = record {
+        pairs = moves.pairs ∙ w.pairs;
+        newer = λ b p there. elim (cases_eq b old) [
+          | inl h ↦ rw h (moves.newer_there
+              ∙ ap (λ o. option_map (moved_link number none links) (option_map (λ x. x.newer) o))
+              (w.rest old (omega arith) leads))
+          | inr h ↦ ap (option_map (λ x. x.newer)) (moves.others _ (other_place b h there))
+              ∙ w.newer b (below_next b old p h) there
+        ];
+        older = λ b p there. elim (cases_eq b old) [
+          | inl h ↦ rw h (moves.older_there
+              ∙ ap (λ o. option_map (moved_link number none links) (option_map (λ x. x.older) o))
+              (w.rest old (omega arith) leads))
+          | inr h ↦ ap (option_map (λ x. x.older)) (moves.others _ (other_place b h there))
+              ∙ w.older b (below_next b old p h) there
+        ];
+        rest = λ b p there. moves.others _ (other_place b (λ h. absurd (omega (arith, h))) there)
+            ∙ w.rest b (omega arith) there;
       }
 
-  module _ (before start now next : List (Slot (Entry K V N))) (links : List N) (old : ℕ)
-      (renumbers : Renumbers number none before start links) (w : MovedUpTo start now links old)
-      (leads : get_or links old none ≢ none)
-      (moves : MovesLinks number none links now next (moved_to number none links old)) where
-    other_place : (b : ℕ) → b ≢ old → get_or links b none ≢ none
-        → moved_to number none links b ≢ moved_to number none links old
-    other_place b other there e =
-        other (moved_apart before start links renumbers b old (full_by_link before start links renumbers b there)
-        (full_by_link before start links renumbers old leads) e)
-
-    pub MovedUpTo-more : MovedUpTo start next links (old + 1)
-    MovedUpTo-more = record {
-      pairs = moves.pairs ∙ w.pairs;
-      newer = λ b p there. elim (cases_eq b old) [
-        | inl h ↦ rw h (moves.newer_there
-            ∙ ap (λ o. option_map (moved_link number none links) (option_map (λ x. x.newer) o))
-            (w.rest old (omega arith) leads))
-        | inr h ↦ ap (option_map (λ x. x.newer)) (moves.others _ (other_place b h there))
-            ∙ w.newer b (below_next b old p h) there
-      ];
-      older = λ b p there. elim (cases_eq b old) [
-        | inl h ↦ rw h (moves.older_there
-            ∙ ap (λ o. option_map (moved_link number none links) (option_map (λ x. x.older) o))
-            (w.rest old (omega arith) leads))
-        | inr h ↦ ap (option_map (λ x. x.older)) (moves.others _ (other_place b h there))
-            ∙ w.older b (below_next b old p h) there
-      ];
-      rest = λ b p there. moves.others _ (other_place b (λ h. absurd (omega (arith, h))) there)
-          ∙ w.rest b (omega arith) there;
-    }
-
-module _ {N : Type 0} (number : N → ℕ) (link : ℕ → N) (none : N) (eq : N → N → Bool)
+module _ {N : Type 0} {number : N → ℕ} {link : ℕ → N} {none : N} {eq : N → N → Bool}
     (laws : IsLinkType number link none eq) {K V : Type 0}
-    (before start : List (Slot (Entry K V N))) (newest oldest : N) (order : List ℕ)
+    {before start : List (Slot (Entry K V N))} {newest oldest : N} {order : List ℕ}
     (whole : IsWhole number link none before newest oldest order)
-    (links : List N) (renumbers : Renumbers number none before start links) where
+    {links : List N} (renumbers : Renumbers number none before start links) where
   abbrev m : ℕ → ℕ
   m b = moved_to number none links b
 
   pub few_links : length links ≤ number none
-  few_links = omega (arith, fewer_links number none before start links renumbers, whole.chain.reached)
+  few_links = omega (arith, fewer_links renumbers, whole.chain.reached)
 
   has_place : (o : Option ℕ) → ((y : ℕ) → o ≡ Some y → IsFull before y)
       → HasPlace number none links (link_to link none o)
   has_place None full = inl refl
   has_place (Some y) full =
-      let p = place_of number none before start links renumbers y (full y refl) in
+      let p = place_of renumbers y (full y refl) in
       inr (rw (laws.number_of_link y (omega (arith, p, few_links))) p)
 
   full_before : (b y : ℕ) → bucket_before b order ≡ Some y → IsFull before y
@@ -177,11 +178,11 @@ module _ {N : Type 0} (number : N → ℕ) (link : ℕ → N) (none : N) (eq : N
   -- the links of an entry that moved are those to its neighbours before
   module _ (b : ℕ) (there : IsFull before b) where
     pub moved_newer : newer_at start (m b) ≡ Some (link_to link none (bucket_before b order))
-    moved_newer = ap (option_map (λ x. x.newer)) (moved_entry number none before start links renumbers b there)
+    moved_newer = ap (option_map (λ x. x.newer)) (moved_entry renumbers b there)
         ∙ whole.chain.newer b (whole.all b there)
 
     pub moved_older : older_at start (m b) ≡ Some (link_to link none (bucket_after b order))
-    moved_older = ap (option_map (λ x. x.older)) (moved_entry number none before start links renumbers b there)
+    moved_older = ap (option_map (λ x. x.older)) (moved_entry renumbers b there)
         ∙ whole.chain.older b (whole.all b there)
 
     pub newer_place : (l : N) → newer_at start (m b) ≡ Some l → HasPlace number none links l
@@ -194,9 +195,9 @@ module _ {N : Type 0} (number : N → ℕ) (link : ℕ → N) (none : N) (eq : N
 
     pub moved_full : IsFull start (m b)
     moved_full = let w = entry_by_full (bucket_at before b) there in full_by_entry (bucket_at start (m b)) w.0
-        (moved_entry number none before start links renumbers b there ∙ w.1)
+        (moved_entry renumbers b there ∙ w.1)
 
-  module _ (now : List (Slot (Entry K V N))) (reached : length start < number none)
+  module _ {now : List (Slot (Entry K V N))} (reached : length start < number none)
       (w : MovedUpTo number none start now links (length links)) where
     below_none : (y : ℕ) → IsFull before y → m y < number none
     below_none y there = omega (arith, full_lt start (m y) (moved_full y there), reached)
@@ -208,20 +209,19 @@ module _ {N : Type 0} (number : N → ℕ) (link : ℕ → N) (none : N) (eq : N
         → moved_link number none links (link_to link none o) ≡ link_to link none (option_map m o)
     moved_link_to None full = get_or_past links (number none) none few_links
     moved_link_to (Some y) full =
-        let p = place_of number none before start links renumbers y (full y refl) in
+        let p = place_of renumbers y (full y refl) in
         ap (λ k. get_or links k none) (laws.number_of_link y (omega (arith, p, few_links)))
         ∙ laws.equal_by_number (get_or links y none) (link (m y))
         (sym (laws.number_of_link (m y) (below_none y (full y refl))))
 
     moves_apart : MovesApart m order
-    moves_apart b c p q e = moved_apart number none before start links renumbers b c (whole.chain.only b p)
-        (whole.chain.only c q) e
+    moves_apart b c p q e = moved_apart renumbers b c (whole.chain.only b p) (whole.chain.only c q) e
 
     now_newer : (b : ℕ) → Contains order b → newer_at now (m b)
         ≡ Some (link_to link none (bucket_before (m b) (map m order)))
     now_newer b inside =
         let there = whole.chain.only b inside in
-        w.newer b (place_of number none before start links renumbers b there) (leads_on b there)
+        w.newer b (place_of renumbers b there) (leads_on b there)
         ∙ ap (option_map (moved_link number none links)) (moved_newer b there)
         ∙ ap Some (moved_link_to (bucket_before b order) (full_before b)
         ∙ ap (link_to link none) (sym (before-moved m order moves_apart whole.chain.distinct b inside)))
@@ -230,7 +230,7 @@ module _ {N : Type 0} (number : N → ℕ) (link : ℕ → N) (none : N) (eq : N
         ≡ Some (link_to link none (bucket_after (m b) (map m order)))
     now_older b inside =
         let there = whole.chain.only b inside in
-        w.older b (place_of number none before start links renumbers b there) (leads_on b there)
+        w.older b (place_of renumbers b there) (leads_on b there)
         ∙ ap (option_map (moved_link number none links)) (moved_older b there)
         ∙ ap Some (moved_link_to (bucket_after b order) (full_after b)
         ∙ ap (link_to link none) (sym (after-moved m order moves_apart whole.chain.distinct b inside)))

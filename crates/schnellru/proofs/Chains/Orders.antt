@@ -11,21 +11,22 @@ use Rattle.schnellru.specs.Inside.Chain.{first_bucket, last_bucket, bucket_after
 use Rattle.schnellru.specs.Inside.Linked.{without_bucket}
 
 -- an element of a list is its head, or one of its tail
-pub Contains-here : (c : ℕ) (cs : List ℕ) → Contains (c ∷ cs) c
-Contains-here c cs = (zero, omega arith, refl)
+module _ {T : Type 0} where
+  pub Contains-here : (c : T) (cs : List T) → Contains (c ∷ cs) c
+  Contains-here c cs = (zero, omega arith, refl)
 
-pub Contains-later : (c x : ℕ) (cs : List ℕ) → Contains cs x → Contains (c ∷ cs) x
-Contains-later c x cs w = (suc w.0, omega (arith, w.1), w.2)
+  pub Contains-later : (c x : T) (cs : List T) → Contains cs x → Contains (c ∷ cs) x
+  Contains-later c x cs w = (suc w.0, omega (arith, w.1), w.2)
 
-cases_at : (c x : ℕ) (cs : List ℕ) (k : ℕ) → k < length (c ∷ cs) → get_or (c ∷ cs) k x ≡ x → (c ≡ x) ⊎ Contains cs x
-cases_at c x cs zero p e = inl e
-cases_at c x cs (suc k) p e = inr (k, omega (arith, p), e)
+  cases_at : (c x : T) (cs : List T) (k : ℕ) → k < length (c ∷ cs) → get_or (c ∷ cs) k x ≡ x → (c ≡ x) ⊎ Contains cs x
+  cases_at c x cs zero p e = inl e
+  cases_at c x cs (suc k) p e = inr (k, omega (arith, p), e)
 
-pub Contains-cases : (c x : ℕ) (cs : List ℕ) → Contains (c ∷ cs) x → (c ≡ x) ⊎ Contains cs x
-Contains-cases c x cs w = cases_at c x cs w.0 w.1 w.2
+  pub Contains-cases : (c x : T) (cs : List T) → Contains (c ∷ cs) x → (c ≡ x) ⊎ Contains cs x
+  Contains-cases c x cs w = cases_at c x cs w.0 w.1 w.2
 
-pub Contains-nil : (x : ℕ) → Contains [] x → ⊥
-Contains-nil x w = absurd (omega (arith, w.1))
+  pub Contains-nil : (x : T) → Contains [] x → ⊥
+  Contains-nil x w = absurd (omega (arith, w.1))
 
 -- what is in a list is none that is not
 pub other_than : (b : ℕ) (order : List ℕ) → (Contains order b → ⊥) → (x : ℕ) → Contains order x → x ≢ b

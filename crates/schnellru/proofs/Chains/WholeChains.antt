@@ -28,7 +28,7 @@ use Rattle.schnellru.proofs.LinkedTables.PairSlots.{entry_count-pair_slots, pair
 use Rattle.schnellru.proofs.Chains.LinkWrites.{chained_below}
 use Rattle.schnellru.proofs.LinkedTables.KeyHashes.{not_full}
 
-module _ {N : Type 0} (number : N → ℕ) (link : ℕ → N) (none : N) (eq : N → N → Bool)
+module _ {N : Type 0} {number : N → ℕ} {link : ℕ → N} {none : N} {eq : N → N → Bool}
     (laws : IsLinkType number link none eq) {K V : Type 0} where
   one_along : (n : ℕ) (slots : List (Slot (Entry K V N))) (from older : N) (at : Option (Entry K V N))
       → option_map (λ x. x.older) at ≡ Some older
@@ -62,25 +62,25 @@ module _ {N : Type 0} (number : N → ℕ) (link : ℕ → N) (none : N) (eq : N
       ∙ ap (λ x. x ∷ along number n slots (link_to link none (first_bucket cs))) is ∙ ap (λ xs. c ∷ xs) rest
 
   -- the order is the one that the table shows
-  pub whole_order : (slots : List (Slot (Entry K V N))) (newest oldest : N) (order : List ℕ)
+  pub whole_order : {slots : List (Slot (Entry K V N))} {newest oldest : N} {order : List ℕ}
       → IsWhole number link none slots newest oldest order → along number (length slots) slots newest ≡ order
-  whole_order slots newest oldest order whole =
+  whole_order {slots} {newest} {oldest} {order} whole =
       ap (along number (length slots) slots) whole.chain.newest_first
       ∙ along-chain slots whole.chain.reached (length slots) order whole.chain.distinct
       (chained_below whole.chain) whole.chain.older (omega (arith, count_by-le-length is_full slots, whole.count))
 
-  pub IsWhole-shown : (slots : List (Slot (Entry K V N))) (newest oldest : N) (order : List ℕ)
+  pub IsWhole-shown : {slots : List (Slot (Entry K V N))} {newest oldest : N} {order : List ℕ}
       → IsWhole number link none slots newest oldest order
       → IsWhole number link none slots newest oldest (along number (length slots) slots newest)
-  IsWhole-shown slots newest oldest order whole = subst (IsWhole number link none slots newest oldest)
-      (sym (whole_order slots newest oldest order whole)) whole
+  IsWhole-shown {slots} {newest} {oldest} whole = subst (IsWhole number link none slots newest oldest)
+      (sym (whole_order whole)) whole
 
   -- a whole table is linked
-  pub IsLinked-view : {placings : ℕ} (slots : List (Slot (Entry K V N))) (newest oldest : N) (order : List ℕ)
+  pub IsLinked-view : {placings : ℕ} {slots : List (Slot (Entry K V N))} {newest oldest : N} {order : List ℕ}
       → IsWhole number link none slots newest oldest order
       → IsTable (marks_of slots)
       → IsLinked {K = K} {V = V} (record { slots = pair_slots slots; order = order; placings = placings })
-  IsLinked-view slots newest oldest order whole table = record {
+  IsLinked-view {slots = slots} whole table = record {
     table = rw (marks_of-pair_slots slots) table;
     distinct = whole.chain.distinct;
     all = λ b there. whole.all b (sym (is_full-pair_slots slots b) ∙ there);
@@ -103,7 +103,7 @@ module _ {N : Type 0} (number : N → ℕ) (link : ℕ → N) (none : N) (eq : N
     older = λ b there. ap (λ s. option_map (λ x. x.older) (entry_of s)) (kept b there) ∙ chain.older b there;
   }
 
-  module _ (s0 s1 s2 : List (Slot (Entry K V N))) (newest oldest newest' oldest' : N) (order : List ℕ)
+  module _ {s0 s2 : List (Slot (Entry K V N))} {newest oldest newest' oldest' : N} {order : List ℕ}
       (whole : IsWhole number link none s0 newest oldest order) (b : ℕ) where
     -- a bucket became the newest
     pub IsWhole-promoted : IsFull s0 b → pair_slots s2 ≡ pair_slots s0 → IsChain number link none s2 newest' oldest'
@@ -126,7 +126,7 @@ module _ {N : Type 0} (number : N → ℕ) (link : ℕ → N) (none : N) (eq : N
     }
 
     -- a bucket left the chain, and then its entry the table
-    module _ (there : IsFull s0 b) (same : pair_slots s1 ≡ pair_slots s0)
+    module _ {s1 : List (Slot (Entry K V N))} (there : IsFull s0 b) (same : pair_slots s1 ≡ pair_slots s0)
         (chain : IsChain number link none s1 newest' oldest' (without_bucket b order)) (removes : Removes s1 s2 b) where
       emptied : IsFull s2 b → ⊥
       emptied h = not_full (bucket_at s2 b) (entry_at-removed s1 s2 b (same_full s0 s1 same b ∙ there) removes) h
@@ -151,9 +151,9 @@ module _ {N : Type 0} (number : N → ℕ) (link : ℕ → N) (none : N) (eq : N
       }
 
   -- an entry went into the table, and then its bucket into the chain
-  module _ (old new : Table (Entry K V N)) (newest oldest : N) (order : List ℕ)
+  module _ {old new : Table (Entry K V N)} {newest oldest : N} {order : List ℕ}
       (whole : IsWhole number link none old.slots newest oldest order)
-      (hash b : ℕ) (entry : Entry K V N) (places : Places old new hash entry b) (within : b < length old.slots) where
+      {hash b : ℕ} {entry : Entry K V N} (places : Places old new hash entry b) (within : b < length old.slots) where
     pub placed_absent : Contains order b → ⊥
     placed_absent w = false≢true (sym (sym (is_full-marks_of old.slots b) ∙ places.first.free_there)
         ∙ whole.chain.only b w)
@@ -163,10 +163,10 @@ module _ {N : Type 0} (number : N → ℕ) (link : ℕ → N) (none : N) (eq : N
         IsChain-kept old.slots new.slots newest oldest order (ap length places.slots ∙ length-set old.slots b _)
         (λ x w. bucket_at-placed_other old new hash entry b places x (other_than b order placed_absent x w)) whole.chain
 
-    pub IsWhole-placed : (s2 : List (Slot (Entry K V N))) (newest' oldest' : N) → pair_slots s2 ≡ pair_slots new.slots
+    pub IsWhole-placed : {s2 : List (Slot (Entry K V N))} {newest' oldest' : N} → pair_slots s2 ≡ pair_slots new.slots
         → IsChain number link none s2 newest' oldest' (b ∷ order) → IsWhole number link none s2 newest' oldest'
         (b ∷ order)
-    IsWhole-placed s2 newest' oldest' same chain = record {
+    IsWhole-placed {s2} same chain = record {
       chain = chain;
       all = λ x h. elim (cases_eq x b) [
         | inl k ↦ subst (Contains (b ∷ order)) (sym k) (Contains-here b order)
@@ -183,7 +183,7 @@ module _ {N : Type 0} (number : N → ℕ) (link : ℕ → N) (none : N) (eq : N
     }
 
   -- a pair was written
-  module _ (slots : List (Slot (Entry K V N))) (newest oldest : N) (order : List ℕ)
+  module _ {slots : List (Slot (Entry K V N))} {newest oldest : N} {order : List ℕ}
       (whole : IsWhole number link none slots newest oldest order)
       (b : ℕ) (entry : Entry K V N) (is : entry_at slots b ≡ Some entry) (pair : Pair K V) where
     abbrev next : Entry K V N
@@ -228,7 +228,7 @@ module _ {N : Type 0} (number : N → ℕ) (link : ℕ → N) (none : N) (eq : N
         (with_pair (record { slots = pair_slots slots; order = order; placings = placings }) b (pair.key, pair.value))
     view-refilled placings =
         let wrote = pair_slots-rewritten slots b next in
-        let stays = whole_order after newest oldest order IsWhole-refilled in
+        let stays = whole_order IsWhole-refilled in
         cc
 
     pub IsLinked-refilled : {placings : ℕ} → IsTable (marks_of slots)
@@ -236,4 +236,4 @@ module _ {N : Type 0} (number : N → ℕ) (link : ℕ → N) (none : N) (eq : N
         (pair.key, pair.value))
     IsLinked-refilled {placings} table =
         rw (← pair_slots-rewritten slots b next)
-        (IsLinked-view after newest oldest order IsWhole-refilled (rw (marks_of-refilled slots b next) table))
+        (IsLinked-view IsWhole-refilled (rw (marks_of-refilled slots b next) table))

@@ -18,7 +18,7 @@ use Rattle.schnellru.specs.Inside.Linked.{Linked, IsLinked, KeysFit, hash_in, en
 use Rattle.schnellru.specs.Inside.Searches.{Answers, Finds, FindsNone}
 use Rattle.schnellru.proofs.Chains.Orders.{Contains-here, Contains-later, Contains-cases, Contains-nil, distinct_head}
 use Rattle.schnellru.proofs.Chains.Orders.{distinct_tail, in_without}
-use Rattle.schnellru.proofs.PairLists.DistinctKeys.{AreDistinct, NoneNamed, others_unnamed}
+use Rattle.schnellru.proofs.PairLists.DistinctKeys.{AreDistinct, NoneNamed, all_of, others_unnamed}
 use Rattle.schnellru.proofs.LinkedTables.OrderCuts.{entries-append}
 use Rattle.schnellru.proofs.LinkedTables.BucketPairs.{others_are}
 use Rattle.schnellru.proofs.LinkedTables.KeyHashes.{hash_in-entry}
@@ -47,13 +47,6 @@ module _ {T : Type 0} (slots : List (Slot T)) where
     | inl k ↦ (c, Contains-here c cs, only_entry (entry_at slots c) x k)
     | inr k ↦ let on = bucket_in cs x k in (on.0, Contains-later c on.0 cs on.1, on.2)
   ]
-
--- what holds of all keys holds of each
-all_of : {K V : Type 0} (P : K → Type 0) (xs : List (K × V)) (x : K × V) → AllByRecursion P (keys_of xs)
-    → Contains xs x → P x.0
-all_of P [] x h w = absurd (omega (arith, w.1))
-all_of P (y ∷ ys) x h (zero, p, e) = subst (λ z. P z.0) e h.0
-all_of P (y ∷ ys) x h (suc k, p, e) = all_of P ys x h.1 (k, omega (arith, p), e)
 
 kept_pass : (p : ℕ → Bool) (bs : List ℕ) (b : ℕ) → Contains (filter p bs) b → p b ≡ true
 kept_pass p [] b w = absurd (Contains-nil b w)

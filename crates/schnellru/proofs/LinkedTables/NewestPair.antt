@@ -1,5 +1,5 @@
 -- The newest pair of a linked table: a pair that comes first, and one that is written there.
-use Rattle.std.proofs.Common.{◌≡◌, ℕ, Bool, true, List, [], ◌∷◌, ◌++◌, Some, None, refl, sym, ap, ◌∙◌, subst}
+use Rattle.std.proofs.Common.{◌≡◌, ℕ, Bool, true, ◌∷◌, ◌++◌, Some, None, refl, sym, ap, ◌∙◌, subst}
 use Rattle.std.specs.Prelude.{option_to_list}
 use Rattle.std.specs.Cmp.{IsEquivalence}
 use Rattle.group_table.specs.Bucket.{bucket_at, entry_at, marks_of}
@@ -82,9 +82,3 @@ module _ {K V : Type 0} (t : Linked K V) (linked : IsLinked t) (b : ℕ) (p : K 
           first_holds t t linked b p there refl newest_order refl (eq p.0) laws (λ x y h. laws.congr p.0 x y h)
           (laws.refl p.0) holds.map.distinct
           beside w hash_of holds next fits
-
--- the newest value is the one that was set
-pub newest_after_set : {K V : Type 0} (xs : List (K × V)) (v w : V) → newest_value xs ≡ Some v
-    → newest_value (set_newest xs w) ≡ Some w
-newest_after_set [] v w e = absurd cc
-newest_after_set (x ∷ xs) v w e = refl

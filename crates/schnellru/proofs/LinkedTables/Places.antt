@@ -3,22 +3,22 @@ use Rattle.std.proofs.Common.{◌≡◌, ◌≢◌, ℕ, zero, suc, Bool, false,
 use Rattle.std.proofs.Common.{sym, ap, ◌∙◌, subst, arith, ne_eqb, eq-eqb}
 use Rattle.std.specs.Prelude.{Contains, AllPairs, option_to_list, slice_get}
 use Rattle.std.specs.Cmp.{IsEquivalence}
-use Rattle.std.specs.List.{IsDistinct, AllByRecursion}
+use Rattle.std.specs.List.{IsDistinct}
 use Rattle.std.specs.Map.{set_value}
 use Rattle.std.proofs.lemmas.Option.{none-some, same_Some}
 use Rattle.group_table.specs.Bucket.{Slot, entry_at, bucket_at}
 use Rattle.group_table.proofs.SearchLemmas.{entry_by_full}
-use Rattle.schnellru.specs.Lists.{keys_of, set_value_at, last_of}
+use Rattle.schnellru.specs.Lists.{set_value_at, last_of}
 use Rattle.schnellru.specs.Inside.Chain.{first_bucket, last_bucket, bucket_after, bucket_before}
 use Rattle.schnellru.specs.Inside.Linked.{entries_in}
 use Rattle.schnellru.proofs.Chains.Orders.{Contains-here, Contains-later, distinct_head, distinct_tail}
-use Rattle.schnellru.proofs.PairLists.DistinctKeys.{AreDistinct}
+use Rattle.schnellru.proofs.PairLists.DistinctKeys.{AreDistinct, all_of}
 use Rattle.schnellru.proofs.LinkedTables.BucketPairs.{AreFull}
 
-pub got_in : (order : List ℕ) (i b : ℕ) → slice_get order i ≡ Some b → Contains order b
-got_in [] i b e = absurd (none-some b e)
-got_in (c ∷ cs) zero b e = (0, omega arith, same_Some c b e)
-got_in (c ∷ cs) (suc i) b e = Contains-later c b cs (got_in cs i b e)
+got_in : {T : Type 0} (xs : List T) (i : ℕ) (x : T) → slice_get xs i ≡ Some x → Contains xs x
+got_in [] i x e = absurd (none-some x e)
+got_in (y ∷ ys) zero x e = (0, omega arith, same_Some y x e)
+got_in (y ∷ ys) (suc i) x e = Contains-later y x ys (got_in ys i x e)
 
 -- the first bucket, and the last
 pub first_at : (order : List ℕ) → first_bucket order ≡ slice_get order 0
@@ -77,11 +77,6 @@ pair_at slots (c ∷ cs) (suc i) b x full e there =
 
 -- a value is written at the place of the key
 module _ {K V : Type 0} {eq : K → K → Bool} (laws : IsEquivalence eq) (p : K × V) (w : V) where
-  met : (P : K → Type 0) (xs : List (K × V)) (i : ℕ) → slice_get xs i ≡ Some p → AllByRecursion P (keys_of xs) → P p.0
-  met P [] i e h = absurd (none-some p e)
-  met P (x ∷ xs) zero e h = subst (λ q. P q.0) (same_Some x p e) h.0
-  met P (x ∷ xs) (suc i) e h = met P xs i e h.1
-
   pub at_set : (xs : List (K × V)) (i : ℕ) → AreDistinct eq xs → slice_get xs i ≡ Some p → set_value (eq p.0) xs w
       ≡ set_value_at xs i w
   unfolding IsDistinct
@@ -91,5 +86,5 @@ module _ {K V : Type 0} {eq : K → K → Bool} (laws : IsEquivalence eq) (p : K
       ∙ laws.refl p.0)
   at_set (x ∷ xs) (suc i) d e =
       ap (λ t. cond t ((x.0, w) ∷ xs) (x ∷ set_value (eq p.0) xs w))
-      (laws.symm p.0 x.0 ∙ met (λ k. eq x.0 k ≡ false) xs i e d.0)
+      (laws.symm p.0 x.0 ∙ all_of (λ k. eq x.0 k ≡ false) xs p d.0 (got_in xs i p e))
       ∙ ap (λ l. x ∷ l) (at_set xs i d.1 e)

@@ -24,20 +24,20 @@ entries_in-moved old new m (b ∷ bs) same =
     ∙ ap (λ es. option_to_list (entry_at old b) ++ es)
     (entries_in-moved old new m bs (λ c w. same c (Contains-later b c bs w)))
 
-module _ {N : Type 0} (number : N → ℕ) (link : ℕ → N) (none : N) {K V : Type 0}
-    (before start now : List (Slot (Entry K V N))) (links : List N)
-    (renumbers : Renumbers number none before start links) (same : pair_slots now ≡ pair_slots start) where
+module _ {N : Type 0} {number : N → ℕ} {none : N} {K V : Type 0} {before start : List (Slot (Entry K V N))}
+    {links : List N} (renumbers : Renumbers number none before start links) (now : List (Slot (Entry K V N)))
+    (same : pair_slots now ≡ pair_slots start) where
   came_from : Renumbers number none before start links → entry_count start ≡ entry_count before → (x : ℕ)
       → IsFull start x → (b : ℕ) × IsFull before b × (moved_to number none links b ≡ x)
   came_from (inl w) counts x there = absurd
       (omega (arith, counts, w.0, count_by-pos is_full start x (full_lt start x there) there))
   came_from (inr r) counts x there = r.onto x there
 
-  pub IsWhole-moved : (newest oldest newest' oldest' : N) (order : List ℕ)
+  pub IsWhole-moved : {link : ℕ → N} {newest oldest newest' oldest' : N} {order : List ℕ}
       → IsWhole number link none before newest oldest order → entry_count start ≡ entry_count before
       → IsChain number link none now newest' oldest' (map (moved_to number none links) order)
       → IsWhole number link none now newest' oldest' (map (moved_to number none links) order)
-  IsWhole-moved newest oldest newest' oldest' order whole counts chain = record {
+  IsWhole-moved {order = order} whole counts chain = record {
     chain = chain;
     all = λ x full.
         let r = came_from renumbers counts x (sym (same_full start now same x) ∙ full) in
@@ -56,14 +56,14 @@ module _ {N : Type 0} (number : N → ℕ) (link : ℕ → N) (none : N) {K V : 
   pair_moved : (b : ℕ) → IsFull before b → entry_at (pair_slots start) (moved_to number none links b)
       ≡ entry_at (pair_slots before) b
   pair_moved b there =
-      entry_at-pair_slots start (moved_to number none links b)
-      ∙ ap (option_map pair_of) (moved_entry number none before start links renumbers b there)
+      entry_at-pair_slots start (moved_to number none links b) ∙ ap (option_map pair_of) (moved_entry renumbers b there)
       ∙ sym (entry_at-pair_slots before b)
 
   -- the pairs stand in the same order
-  pub pairs-moved : (newest oldest : N) (order : List ℕ) → IsWhole number link none before newest oldest order
+  pub pairs-moved : {link : ℕ → N} {newest oldest : N} {order : List ℕ}
+      → IsWhole number link none before newest oldest order
       → entries_in (pair_slots now) (map (moved_to number none links) order) ≡ entries_in (pair_slots before) order
-  pairs-moved newest oldest order whole =
+  pairs-moved {order = order} whole =
       entries_in-moved (pair_slots before) (pair_slots now) (moved_to number none links) order
       (λ b inside. ap (λ slots. entry_at slots (moved_to number none links b)) same
       ∙ pair_moved b (whole.chain.only b inside))

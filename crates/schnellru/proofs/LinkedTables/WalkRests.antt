@@ -106,26 +106,7 @@ module _ {K V : Type 0} (t : Linked K V) where
     pub rest-length : length (rest_of t front left) ≡ left
     rest-length = ap length rest-is ∙ entries-length t.slots rest.middle middle_full ∙ rest.count
 
-    -- where none are left
-    pub rest-none : left ≡ 0 → rest_of t front left ≡ []
-    rest-none none = go (rest_of t front left) (rest-length ∙ none)
-      where
-        go : (xs : List (K × V)) → length xs ≡ 0 → xs ≡ []
-        go [] e = refl
-        go (x ∷ xs) e = absurd (omega (arith, e))
-
   module _ (front back : Option ℕ) (left : ℕ) (rest : IsRest t front back left) (some : 0 < left) where
-    full_middle : AreFull t.slots rest.middle
-    full_middle = middle_full front back left rest
-
-    -- there is a bucket in front, and one behind
-    pub front-some : front ≡ None → ⊥
-    front-some none = go rest.middle rest.count (sym rest.first ∙ none)
-      where
-        go : (ms : List ℕ) → length ms ≡ left → first_bucket (ms ++ rest.after) ≡ None → ⊥
-        go [] c e = absurd (omega (arith, c, some))
-        go (m ∷ ms) c e = none-some m (sym e)
-
     back_is : back ≡ last_bucket rest.middle
     back_is = rest.last ∙ go rest.middle rest.count
       where
@@ -133,6 +114,7 @@ module _ {K V : Type 0} (t : Linked K V) where
         go [] c = absurd (omega (arith, c, some))
         go (m ∷ ms) c = last_behind rest.before m ms
 
+    -- there is a bucket behind
     pub back-some : back ≡ None → ⊥
     back-some none = last_none rest.middle (sym back_is ∙ none) (omega (arith, rest.count, some))
 
@@ -151,7 +133,7 @@ module _ {K V : Type 0} (t : Linked K V) where
         front_order = rest.order ∙ ap (λ l. rest.before ++ (l ++ rest.after)) cut_front.1
 
         pub front-full : IsFull t.slots b
-        front-full = (subst (AreFull t.slots) cut_front.1 full_middle).0
+        front-full = (subst (AreFull t.slots) cut_front.1 (middle_full front back left rest)).0
 
         pub front-next : IsRest t (bucket_after b t.order) back (left - 1)
         front-next = record {
@@ -186,7 +168,7 @@ module _ {K V : Type 0} (t : Linked K V) where
 
         pub back-full : IsFull t.slots b
         back-full = (all_behind (λ c. IsFull t.slots c) cut_back.0 (b ∷ [])
-            (subst (AreFull t.slots) cut_back.1 full_middle)).0
+            (subst (AreFull t.slots) cut_back.1 (middle_full front back left rest))).0
 
         pub back-next : IsRest t front (bucket_before b t.order) (left - 1)
         back-next = record {

@@ -1,11 +1,10 @@
 -- A pair of a linked table is written, or comes first.
-use Rattle.std.proofs.Common.{◌≡◌, ℕ, Bool, true, cond, List, [], ◌∷◌, ◌++◌, length, Some, sym, ap, ◌∙◌, subst}
+use Rattle.std.proofs.Common.{◌≡◌, ℕ, Bool, true, cond, List, [], ◌∷◌, ◌++◌, Some, sym, ap, ◌∙◌, subst}
 use Rattle.std.proofs.Common.{slice_set, ◌⊎◌, inl}
 use Rattle.std.specs.Prelude.{option_to_list}
 use Rattle.std.specs.Cmp.{IsEquivalence}
 use Rattle.std.specs.Map.{set_value}
 use Rattle.std.specs.List.{IsDistinct}
-use Rattle.std.proofs.lemmas.List.{length-set}
 use Rattle.std.proofs.lemmas.Map.{keys-set_value}
 use Rattle.group_table.specs.Bucket.{IsFull, bucket_at, entry_at, refilled, marks_of}
 use Rattle.group_table.proofs.RefillLemmas.{entry_at-refilled, marks_of-refilled}
@@ -20,9 +19,6 @@ use Rattle.schnellru.proofs.LinkedTables.BucketPairs.{cut_here, cut_pairs, unnam
 use Rattle.schnellru.proofs.Maps.HeldMaps.{alike_holds}
 
 module _ {K V : Type 0} (t : Linked K V) (b : ℕ) (q : K × V) where
-  pub written_length : length (with_pair t b q).slots ≡ length t.slots
-  written_length = length-set t.slots b (refilled (bucket_at t.slots b) q)
-
   -- the pair that is written comes first, where its bucket does
   pub written_first : IsFull t.slots b → (order : List ℕ) → entries_in (with_pair t b q).slots
       (b ∷ without_bucket b order) ≡ q ∷ entries_in t.slots (without_bucket b order)

@@ -1,6 +1,7 @@
 -- Which pairs a placing gives up.
-use Rattle.std.proofs.Common.{◌≡◌, ◌≢◌, ℕ, suc, ◌+◌, ◌-◌, ◌/◌, ◌<◌, ◌≤◌, ◌⊎◌, inl, inr, true, false, [], ◌∷◌, length}
+use Rattle.std.proofs.Common.{◌≡◌, ◌≢◌, ℕ, suc, ◌+◌, ◌-◌, ◌/◌, ◌<◌, ◌≤◌, ◌⊎◌, inl, inr, [], ◌∷◌, length}
 use Rattle.std.proofs.Common.{refl, sym, ap, ◌∙◌, arith}
+use Rattle.std.proofs.lemmas.Bool.{true≢false}
 use Rattle.group_table.specs.Sizes.{full_capacity}
 use Rattle.lru_limits.specs.Rules.{Rules}
 use Rattle.schnellru.specs.Lists.{without_last}
@@ -52,13 +53,10 @@ module _ {K V S H : Type 0} (rules : Rules K V S) (hash_of : H → K → ℕ) (p
       no : new_table count bytes ≡ no_table → ⊥
       no h = grind arith
   not_granted count bytes t g mid (denied count' bytes' u d e) = absurd
-      (no (sym g ∙ ap (λ n. (rules.on_grow old.limiter n).allowed) (same (sym t ∙ u)) ∙ d))
+      (true≢false (sym g ∙ ap (λ n. (rules.on_grow old.limiter n).allowed) (same (sym t ∙ u)) ∙ d))
     where
       same : new_table count bytes ≡ new_table count' bytes' → bytes ≡ bytes'
       same h = grind arith
-
-      no : true ≡ false → ⊥
-      no h = grind arith
 
   -- after so many of the oldest left, so many are left
   pub left_length : (n : ℕ) (mid left : State K V S H) → CannotGrow rules old mid

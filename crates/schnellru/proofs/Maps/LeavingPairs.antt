@@ -1,10 +1,14 @@
 -- What is left when pairs leave, and when growth is refused.
-use Rattle.std.proofs.Common.{◌≡◌, ℕ, zero, suc, ◌-◌, ◌<◌, true, false, List, [], ◌∷◌, length, refl, sym, ap, ◌∙◌}
+use Rattle.std.proofs.Common.{◌≡◌, ℕ, zero, suc, ◌-◌, ◌<◌, ◌≤◌, true, false, List, [], ◌∷◌, length, refl, sym, ap, ◌∙◌}
 use Rattle.std.proofs.Common.{subst, arith}
-use Rattle.schnellru.specs.Lists.{without_last}
+use Rattle.schnellru.specs.Lists.{without_first, without_last}
 use Rattle.lru_limits.specs.Rules.{Rules}
 use Rattle.schnellru.specs.State.{State, Contents, contents, FreesRoom, Leaves, pop, pops, trim, trim_from}
 use Rattle.schnellru.specs.Place.{CannotGrow, no_target, denied, OldestLeave}
+
+pub length-without_first : {X : Type 0} (xs : List X) → length (without_first xs) ≤ length xs
+length-without_first [] = omega arith
+length-without_first (x ∷ xs) = omega arith
 
 pub length-without_last : {X : Type 0} (xs : List X) → length (without_last xs) ≡ length xs - 1
 length-without_last [] = refl

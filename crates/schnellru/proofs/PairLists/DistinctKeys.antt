@@ -1,6 +1,7 @@
 -- The keys of the pairs stay distinct, and a pair is found if its key is named.
 use Rattle.std.proofs.Common.{◌≡◌, ℕ, Bool, true, false, cond, List, [], ◌∷◌, ◌++◌, length, Option, Some, None, refl}
-use Rattle.std.proofs.Common.{sym, ◌∙◌, subst}
+use Rattle.std.proofs.Common.{sym, ◌∙◌, subst, arith, zero, suc}
+use Rattle.std.specs.Prelude.{Contains}
 use Rattle.std.specs.Cmp.{IsEquivalence}
 use Rattle.std.specs.List.{IsDistinct, AllByRecursion, AllZip}
 use Rattle.lru_limits.specs.Rules.{Rules, Offers}
@@ -30,7 +31,13 @@ module _ {K V : Type 0} (names : K → Bool) where
       go false e h r = (e, r h)
 
 module _ {K V : Type 0} (P : K → Type 0) where
-  -- what holds of all keys holds of those of fewer pairs
+  -- what holds of all keys holds of each
+  pub all_of : (xs : List (K × V)) (x : K × V) → AllByRecursion P (keys_of xs) → Contains xs x → P x.0
+  all_of [] x h w = absurd (omega (arith, w.1))
+  all_of (y ∷ ys) x h (zero, p, e) = subst (λ z. P z.0) e h.0
+  all_of (y ∷ ys) x h (suc k, p, e) = all_of ys x h.1 (k, omega (arith, p), e)
+
+  -- and of those of fewer pairs
   all_front : (xs rest : List (K × V)) → AllByRecursion P (keys_of (xs ++ rest)) → AllByRecursion P (keys_of xs)
   all_front [] rest h = tt
   all_front (x ∷ xs) rest h = (h.0, all_front xs rest h.1)
@@ -108,8 +115,8 @@ module _ {K V : Type 0} (eq : K → K → Bool) where
     pub absent_without : (xs : List (K × V)) → AreDistinct xs → lookup_entry names (without names xs) ≡ None
     absent_without xs d = none_found names (without names xs) (others_unnamed xs d)
 
-module _ {K V S Q : Type 0} (rules : Rules K V S) (names : Q → K → Bool) {eq : K → K → Bool} {query_input : Q
-    → List (List ℕ)} {key_input : K → List (List ℕ)}
+module _ {K V S Q : Type 0} {rules : Rules K V S} {names : Q → K → Bool} {eq : K → K → Bool}
+    {query_input : Q → List (List ℕ)} {key_input : K → List (List ℕ)}
     (looks_up : IsLookup names eq query_input key_input) where
   pub keeps_distinct : Keeps rules names (λ c d. AreDistinct eq c.pairs → AreDistinct eq d.pairs)
   keeps_distinct = record {
@@ -139,13 +146,16 @@ module _ {K V S I : Type 0} (rules : Rules K V S) (offers : Offers K V S I) (nam
       distinct_newest eq (names i) (looks_up.one i) (r.key, kept_value r) c.pairs (looks_up.one i pair.0 r.key n
       ∙ laws.keeps_key c.limiter (length c.pairs) pair.0 i pair.1 v n)
 
+module _ {K V S I : Type 0} {rules : Rules K V S} {offers : Offers K V S I} {names : I → K → Bool} {eq : K → K → Bool}
+    {query_input : I → List (List ℕ)} {key_input : K → List (List ℕ)}
+    (looks_up : IsLookup names eq query_input key_input) (laws : IsInsertion names eq offers) where
   pub offers_distinct : KeepsOffers rules offers names (λ c d. AreDistinct eq c.pairs → AreDistinct eq d.pairs)
   offers_distinct = record {
-    keeps = keeps_distinct rules names looks_up;
-    came = λ i v c s pair a n. came_distinct i pair c.pairs a
+    keeps = keeps_distinct looks_up;
+    came = λ i v c s pair a n. came_distinct rules offers names looks_up laws i pair c.pairs a
         (laws.names_given c.limiter (length c.pairs) i v s pair.0 pair.1 n);
     turned_down = λ i v c s n d. d;
-    exchanged = exchanged_distinct;
+    exchanged = exchanged_distinct rules offers names looks_up laws;
   }
 
 -- keys that equal distinct ones, one by one, are distinct

@@ -1,9 +1,10 @@
 -- Pairs with distinct keys, cut at the one whose key is named.
-use Rattle.std.proofs.Common.{◌≡◌, Bool, true, false, List, [], ◌∷◌, ◌++◌, Some, refl, ap, ◌∙◌, cond, option_map}
+use Rattle.std.proofs.Common.{◌≡◌, Bool, true, false, List, [], ◌∷◌, ◌++◌, Some, refl, ap, ◌∙◌, arith, cond, option_map}
 use Rattle.std.specs.Cmp.{IsEquivalence}
-use Rattle.std.specs.List.{IsDistinct, AllByRecursion}
-use Rattle.schnellru.specs.Lists.{lookup, lookup_entry, without, keys_of, last, without_last}
-use Rattle.schnellru.proofs.PairLists.DistinctKeys.{AreDistinct, NoneNamed}
+use Rattle.std.specs.List.{IsDistinct}
+use Rattle.std.proofs.lemmas.List.Elements.{Contains-append_right}
+use Rattle.schnellru.specs.Lists.{lookup, lookup_entry, without, last, without_last}
+use Rattle.schnellru.proofs.PairLists.DistinctKeys.{AreDistinct, NoneNamed, all_of}
 
 -- the value of a key is that of its pair
 pub lookup-entry : {K V : Type 0} (names : K → Bool) (xs : List (K × V)) → lookup names xs
@@ -27,17 +28,14 @@ module _ {K V : Type 0} (names : K → Bool) where
     cut_without (x ∷ xs) ys h = rw h.0 (ap (λ l. x ∷ l) (cut_without xs ys h.1))
 
   module _ {eq : K → K → Bool} (laws : IsEquivalence eq) (one : (x y : K) → names x ≡ true → names y ≡ eq x y) where
-    met : (P : K → Type 0) (xs ys : List (K × V)) (p : K × V) → AllByRecursion P (keys_of (xs ++ p ∷ ys)) → P p.0
-    met P [] ys p h = h.0
-    met P (x ∷ xs) ys p h = met P xs ys p h.1
-
     -- where one is, those before it are not
     pub others_unnamed : (xs ys : List (K × V)) (p : K × V) → names p.0 ≡ true → AreDistinct eq (xs ++ p ∷ ys)
         → NoneNamed names xs
     unfolding IsDistinct
     others_unnamed [] ys p named d = tt
     others_unnamed (x ∷ xs) ys p named d = (
-      one p.0 x.0 named ∙ laws.symm p.0 x.0 ∙ met (λ k. eq x.0 k ≡ false) xs ys p d.0,
+      one p.0 x.0 named ∙ laws.symm p.0 x.0 ∙ all_of (λ k. eq x.0 k ≡ false) (xs ++ p ∷ ys) p d.0
+          (Contains-append_right xs (p ∷ ys) p (0, omega arith, refl)),
       others_unnamed xs ys p named d.1,
     )
 

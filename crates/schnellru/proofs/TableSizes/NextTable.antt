@@ -18,10 +18,10 @@ use Rattle.schnellru.proofs.TableSizes.Doubling.{target_keeps}
 
 module _ {K V S H : Type 0} (beside : Beside S H) (t : Linked K V) (linked : IsLinked t) where
   -- where the table of a map goes for n more, from the figures of its linked table
-  pub goes_to : (n : ℕ) (next : Target) (most count pairs : ℕ) → most ≡ beside.max → count ≡ length t.slots → pairs
+  pub goes_to : (n : ℕ) {next : Target} {most count pairs : ℕ} → most ≡ beside.max → count ≡ length t.slots → pairs
       ≡ length t.order →
       target most beside.entry_bytes count (pairs + n) ≡ next → table_for n (state_of t beside) ≡ next
-  goes_to n next most count pairs is_max is_count is_pairs is =
+  goes_to n {count = count} {pairs = pairs} is_max is_count is_pairs is =
       let buckets_are : count ≡ length (marks_of t.slots) = is_count ∙ sym (length-marks_of t.slots) in
       let pairs_are : pairs ≡ length (pairs_of t) = is_pairs ∙ sym (pairs-length t linked) in
       (λ i. target (sym is_max i) beside.entry_bytes (sym buckets_are i) (sym pairs_are i + n)) ∙ is

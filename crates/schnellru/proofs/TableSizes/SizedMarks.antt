@@ -15,7 +15,3 @@ module _ {K V S H : Type 0} (st : State K V S H) (ok : IsSized st) where
   -- where there are buckets, they are as many as a table can have
   pub own_count : 0 < buckets st → IsPowerFromFour (buckets st)
   own_count some = elim ok.table.count [ inl none ↦ absurd (omega (arith, none, some)) | inr power ↦ power ]
-
-  -- and links reach them
-  pub own_reached : 0 < buckets st → buckets st < st.max
-  own_reached some = elim ok.reachable [ inl none ↦ absurd (omega (arith, none, some)) | inr below ↦ below ]

@@ -25,7 +25,7 @@ use Rattle.schnellru.proofs.Theorems.TableGrowth.{leaves_calm, calm_trans, calm_
 use Rattle.schnellru.proofs.Theorems.Ways.{insert_changes}
 use Rattle.schnellru.proofs.Maps.Promotions.{length-front_pairs}
 
-module _ {K V S Q : Type 0} (rules : Rules K V S) (names : Q → K → Bool) (R : Contents K V S → Contents K V S → Type 0)
+module _ {K V S Q : Type 0} {rules : Rules K V S} {names : Q → K → Bool} {R : Contents K V S → Contents K V S → Type 0}
     (k : Keeps rules names R) where
   pop_first_keeps : (c : Contents K V S) → R c (pop_first rules c)
   pop_first_keeps c = go c.pairs c.limiter
@@ -79,8 +79,8 @@ module _ {K V S H : Type 0} (rules : Rules K V S) (old : State K V S H) where
     fits = λ f. omega (arith, room_cleared (buckets old));
   }
 
-module _ {K V S H Q : Type 0} (rules : Rules K V S) (names : Q → K → Bool) (R : Contents K V S → Contents K V S
-    → Type 0) (k : Keeps rules names R) (old : State K V S H) where
+module _ {K V S H Q : Type 0} {rules : Rules K V S} {names : Q → K → Bool}
+    {R : Contents K V S → Contents K V S → Type 0} (k : Keeps rules names R) (old : State K V S H) where
   pub promoted_changes : (q : Q) → Changes rules R 0 old (promoted (names q) old)
   promoted_changes q = calm_changes rules R 0 old _ (pairs_calm rules old _ _ (length-front_pairs (names q) old.pairs))
       (k.first q (contents old))
@@ -95,8 +95,7 @@ module _ {K V S H Q : Type 0} (rules : Rules K V S) (names : Q → K → Bool) (
 
   pub pop_newest_changes : (result : Option (K × V)) (new : State K V S H) → PopNewest rules old result new
       → Changes rules R 0 old new
-  pop_newest_changes result new h = leaves_changes rules R 0 old _ new h.state
-      (pop_first_keeps rules names R k (contents old))
+  pop_newest_changes result new h = leaves_changes rules R 0 old _ new h.state (pop_first_keeps k (contents old))
 
   pub cleared_changes : Changes rules R 0 old (cleared rules old)
   cleared_changes = calm_changes rules R 0 old _ (cleared_calm rules old) (k.cleared (contents old))
@@ -104,7 +103,7 @@ module _ {K V S H Q : Type 0} (rules : Rules K V S) (names : Q → K → Bool) (
   pub drain_changes : (newest oldest : ℕ) (result : List (K × V)) (new : State K V S H)
       → Drained rules newest oldest old result new → Changes rules R 0 old new
   drain_changes newest oldest result new h = let (mid, l, e) = h.state in
-      let r = k.way.trans (pops_first_keep rules names R k newest (contents old)) (pops_keep rules R k.way oldest _) in
+      let r = k.way.trans (pops_first_keep k newest (contents old)) (pops_keep rules R k.way oldest _) in
       rw e (calm_changes rules R 0 old _ (calm_trans old mid _ (leaves_calm old _ mid l) (cleared_calm rules mid))
       (k.way.trans (leaves_keep R old _ mid l r) (k.cleared (contents mid))))
 
@@ -120,7 +119,7 @@ module _ {K V S H : Type 0} (rules : Rules K V S) (R : Contents K V S → Conten
       → Changes rules R 0 old (record old { limiter = s })
   set_changes s r = calm_changes rules R 0 old _ (limiter_calm old s) r
 
-module _ {K V S H : Type 0} (rules : Rules K V S) (R : Contents K V S → Contents K V S → Type 0) (k : KeepsWay rules R)
+module _ {K V S H : Type 0} {rules : Rules K V S} {R : Contents K V S → Contents K V S → Type 0} (k : KeepsWay rules R)
     (n : ℕ) (old : State K V S H) where
   -- how far the table grows is left open
   abbrev pub Grows : State K V S H → Type 0
@@ -176,12 +175,11 @@ module _ {K V S H : Type 0} (rules : Rules K V S) (R : Contents K V S → Conten
   reserve_changes result new (no_memory_to_grow l count bytes t g r e) = asks_only bytes new e
   reserve_changes result new (denied_room l count bytes t d r e) = asks_only bytes new e
 
-module _ {K V S H I : Type 0} (rules : Rules K V S) (offers : Offers K V S I) (names : I → K → Bool)
-    (R : Contents K V S → Contents K V S → Type 0) (k : KeepsOffers rules offers names R)
-    (hash_of : H → K → ℕ) (makes : V → Type 0) (i : I) (old : State K V S H) (result : Result Bool AllocError)
-    (new : State K V S H) where
+module _ {K V S H I : Type 0} {rules : Rules K V S} {offers : Offers K V S I} {names : I → K → Bool}
+    {R : Contents K V S → Contents K V S → Type 0} (k : KeepsOffers rules offers names R) {hash_of : H → K → ℕ}
+    {makes : V → Type 0} {i : I} {old : State K V S H} {result : Result Bool AllocError} {new : State K V S H} where
   pub makes_newest_changes : MakesNewest rules offers names hash_of makes i old result new → Changes rules R 1 old new
   makes_newest_changes (got w e r step) = calm_changes rules R 1 old new
       (rw step (pairs_calm rules old _ _ (length-front_pairs (names i) old.pairs)))
       (rw step (k.keeps.first i (contents old)))
-  makes_newest_changes (inserted e v m step) = insert_changes rules offers names R k hash_of i v old result new step
+  makes_newest_changes (inserted e v m step) = insert_changes k i v old result new step

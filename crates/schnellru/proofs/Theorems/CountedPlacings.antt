@@ -6,7 +6,7 @@ use Rattle.schnellru.specs.State.{State}
 use Rattle.schnellru.specs.Place.{Place, Outcome, placed, refused, no_memory, turned_away}
 use Rattle.schnellru.specs.Inserts.{Insert, replaced, given_up, no_memory_to_admit, not_admitted, admitted}
 use Rattle.schnellru.specs.Theorems.{CountsPlacings}
-use Rattle.schnellru.proofs.Theorems.Moves.{KeepsWay}
+use Rattle.schnellru.proofs.Theorems.Removals.{stay_any}
 use Rattle.schnellru.proofs.Theorems.TableGrowth.{Calm, calm_trans, self_calm, limiter_calm, leaves_calm, settles_calm}
 use Rattle.schnellru.proofs.Theorems.Ways.{Lands, place_lands}
 
@@ -24,13 +24,10 @@ module _ {K V S H : Type 0} where
       omega (arith, rise, first.placings, first.moved, first.placed, last.placings, last.moved, last.placed)
 
 module _ {K V S H : Type 0} (rules : Rules K V S) (hash_of : H → K → ℕ) (pair : K × V) (old : State K V S H) where
-  any_way : KeepsWay rules (λ c d. Unit {0})
-  any_way = record { self = λ c. tt; trans = λ p q. tt; asked = λ bytes c. tt; popped = λ c. tt }
-
   place_counts : (outcome : Outcome) (new : State K V S H) → Place rules hash_of pair old outcome new
       → CountsPlacings old new
   place_counts outcome new step =
-      let way = place_lands rules (λ c d. Unit {0}) any_way (λ _. Unit {0}) hash_of pair old tt outcome new step in
+      let way = place_lands rules (λ c d. Unit {0}) stay_any.way (λ _. Unit {0}) hash_of pair old tt outcome new step in
       around_counts old way.mid new new way.calm (self_calm new) (land outcome way.mid way.lands)
     where
       away : (mid : State K V S H) → new ≡ turned_away rules pair mid → CountsPlacings mid new
@@ -47,9 +44,9 @@ module _ {K V S H : Type 0} (rules : Rules K V S) (hash_of : H → K → ℕ) (p
       land refused mid l = away mid l.1
       land no_memory mid l = away mid l
 
-module _ {K V S H I : Type 0} (rules : Rules K V S) (offers : Offers K V S I) (names : I → K → Bool)
-    (hash_of : H → K → ℕ) (i : I) (v : V)
-    (old : State K V S H) (result : Result Bool AllocError) (new : State K V S H) where
+module _ {K V S H I : Type 0} {rules : Rules K V S} {offers : Offers K V S I} {names : I → K → Bool}
+    {hash_of : H → K → ℕ} {i : I} {v : V} {old : State K V S H} {result : Result Bool AllocError}
+    {new : State K V S H} where
   pub insert_counts : Insert rules offers names hash_of i v old result new → CountsPlacings old new
   insert_counts (replaced pair found y r l) = calm_counts old new (leaves_calm old _ new l)
   insert_counts (given_up pair found y r l) = calm_counts old new (leaves_calm old _ new l)

@@ -18,6 +18,7 @@ use Rattle.schnellru.specs.Inserts.{Insert, replaced, given_up, no_memory_to_adm
 use Rattle.schnellru.specs.Inserts.{with_replaced, Settles}
 use Rattle.schnellru.proofs.Maps.LeavingPairs.{oldest_leaves}
 use Rattle.schnellru.proofs.Maps.Outcomes.{ok-not_err}
+use Rattle.schnellru.proofs.Theorems.Moves.{left_are}
 use Rattle.schnellru.specs.Exact.{Landing, Ending, lands, evicts, grows, landing, trimmed, settled, ending_there}
 use Rattle.schnellru.specs.Exact.{ending_new, IsEnding, EndsBy, EndsExactly, EndsAlike, IsDetermined}
 
@@ -35,10 +36,9 @@ module _ {K V S H : Type 0} (rules : Rules K V S) (pair : K × V) where
   if_memory st count spare moves no_memory new h = tt
   if_memory st count spare moves refused new h = absurd h
 
-  pub is_placed : (st : State K V S H) (count spare moves : ℕ) (outcome : Outcome) (new : State K V S H) → outcome
-      ≡ placed → IsPlaced pair count spare moves st new → LandsAs (lands rules pair (contents st)) outcome new
-  is_placed st count spare moves outcome new o p = rw o
-      (sym (ap (λ x. record { there = true; left = contents x }) p.state))
+  pub is_placed : (st : State K V S H) {count spare moves : ℕ} (outcome : Outcome) (new : State K V S H)
+      → outcome ≡ placed → IsPlaced pair count spare moves st new → LandsAs (lands rules pair (contents st)) outcome new
+  is_placed st outcome new o p = rw o (sym (ap (λ x. record { there = true; left = contents x }) p.state))
 
 module _ {K V S H : Type 0} (rules : Rules K V S) (hash_of : H → K → ℕ) (pair : K × V) (old : State K V S H)
     (small : buckets old ≤ 16) where
@@ -74,12 +74,12 @@ module _ {K V S H : Type 0} (rules : Rules K V S) (hash_of : H → K → ℕ) (p
       (sym (ap (λ x. record { there = false; left = contents x }) n))
   place_lands outcome new (empty_with_room e b r s o n) = rw
       (ap is_empty e, ne_eqb (buckets old) 0 (λ none. omega (arith, b, none)))
-      (is_placed rules pair old _ _ _ outcome new o n)
+      (is_placed rules pair old outcome new o n)
   place_lands outcome new (empty_without_room e b r o n) = rw
       (ap is_empty e, ne_eqb (buckets old) 0 (λ none. omega (arith, b, none)))
-      (is_placed rules pair old _ _ _ outcome new o n)
+      (is_placed rules pair old outcome new o n)
   place_lands outcome new (with_room e r s o n) = rw (is_empty-some old.pairs e, lt-ltb 0 (room old) r)
-      (is_placed rules pair old _ _ _ outcome new o n)
+      (is_placed rules pair old outcome new o n)
   place_lands outcome new (deleted_bucket f i b l o n) = absurd (omega (arith, small))
   place_lands outcome new (rehashed f i l m) = rw (
     is_empty-some old.pairs f.0,
@@ -90,7 +90,7 @@ module _ {K V S H : Type 0} (rules : Rules K V S) (hash_of : H → K → ℕ) (p
       (if_memory rules pair (asked rules bytes old) _ _ _ outcome new m)
   place_lands outcome new (evicting f i l mid c (finds_bucket n pos one half left gone fills o p)) = rw
       (full_lands f.0 f.1 l, evicts_from mid c) (subst (λ x. LandsAs rules pair (lands rules pair x) outcome new)
-      (one_left n mid left (one small) gone) (is_placed rules pair left _ _ _ outcome new o p))
+      (one_left n mid left (one small) gone) (is_placed rules pair left outcome new o p))
   place_lands outcome new (evicting f i l mid c (made_anew n pos one half left gone m)) =
       rw (full_lands f.0 f.1 l, evicts_from mid c) (subst (λ x. LandsAs rules pair (lands rules pair x) outcome new)
       (one_left n mid left (one small) gone) (if_memory rules pair left _ _ _ outcome new m))
@@ -119,17 +119,14 @@ module _ {K V S H : Type 0} (rules : Rules K V S) (hash_of : H → K → ℕ) (o
       subst (λ x. LandsAs rules pair x outcome landed) is (place_lands rules hash_of pair ready tiny outcome landed p)
 
 -- an insert ends as the pairs and the limiter have it, where each placing does
-module _ {K V S H I : Type 0} (rules : Rules K V S) (offers : Offers K V S I) (names : I → K → Bool)
-    (hash_of : H → K → ℕ) (i : I) (v : V) (old : State K V S H) where
-  left_is : (mid : State K V S H) (c : Contents K V S) (new : State K V S H) → Leaves mid c new → contents new ≡ c
-  left_is mid c new l = ap contents l.is
-
+module _ {K V S H I : Type 0} (rules : Rules K V S) (offers : Offers K V S I) (names : I → K → Bool) (i : I) (v : V)
+    (old : State K V S H) where
   trimmed_ends : (mid : State K V S H) (c : Contents K V S) (result : Result Bool AllocError) (new : State K V S H)
       → result ≡ Ok (not (is_empty new.pairs)) → Leaves mid (trim rules c) new → IsEnding rules offers names i v old
       (trimmed rules c) result new
   trimmed_ends mid c result new r l = (
-    r ∙ ap (λ x. Ok (not (is_empty x.pairs))) (left_is mid (trim rules c) new l),
-    left_is mid (trim rules c) new l,
+    r ∙ ap (λ x. Ok (not (is_empty x.pairs))) (left_are mid (trim rules c) new l),
+    left_are mid (trim rules c) new l,
   )
 
   settled_ends : (l : Landing K V S) (pair : K × V) (outcome : Outcome) (landed : State K V S H)
@@ -139,20 +136,22 @@ module _ {K V S H I : Type 0} (rules : Rules K V S) (offers : Offers K V S I) (n
   settled_ends l pair refused landed result new ok h s = rw h (s.0, ap contents s.1)
   settled_ends l pair no_memory landed result new ok h s = ok-not_err result ok s.0
 
-  pub insert_ends : PlacesExactly rules hash_of old → (result : Result Bool AllocError) (new : State K V S H)
+module _ {K V S H I : Type 0} {rules : Rules K V S} {offers : Offers K V S I} {names : I → K → Bool}
+    {hash_of : H → K → ℕ} {i : I} {v : V} {old : State K V S H} where
+  pub insert_ends : PlacesExactly rules hash_of old → {result : Result Bool AllocError} {new : State K V S H}
       → IsOk result → Insert rules offers names hash_of i v old result new
       → EndsExactly rules offers names i v old result new
-  insert_ends places result new ok (replaced pair found y r l) = rw (found, y)
-      (trimmed_ends old (with_replaced rules offers names pair i v old) result new r l)
-  insert_ends places result new ok (given_up pair found y r l) = rw (found, y) (r, left_is old _ new l)
-  insert_ends places result new ok (no_memory_to_admit a k r e) = ok-not_err result ok r
-  insert_ends places result new ok (not_admitted a s n r e) = rw a (s, None, n, (r, ap contents e))
-  insert_ends places result new ok (admitted a s pair n (ready, l, outcome, landed, p, t)) =
+  insert_ends places {result} {new} ok (replaced pair found y r l) = rw (found, y)
+      (trimmed_ends rules offers names i v old old (with_replaced rules offers names pair i v old) result new r l)
+  insert_ends places {new = new} ok (given_up pair found y r l) = rw (found, y) (r, left_are old _ new l)
+  insert_ends places {result} ok (no_memory_to_admit a k r e) = ok-not_err result ok r
+  insert_ends places ok (not_admitted a s n r e) = rw a (s, None, n, (r, ap contents e))
+  insert_ends places {result} {new} ok (admitted a s pair n (ready, l, outcome, landed, p, t)) =
       rw a (
         s,
         Some pair,
         n,
-        settled_ends _ pair outcome landed result new ok
+        settled_ends rules offers names i v old _ pair outcome landed result new ok
             (places s pair ready l outcome landed p) t,
       )
 

@@ -18,11 +18,11 @@ module _ {X : Type 0} where
   pub front_self : (xs : List X) → IsFront xs xs
   front_self xs = ([], sym (append-nil xs))
 
-  pub front_same : (xs ys : List X) → xs ≡ ys → IsFront xs ys
-  front_same xs ys e = ([], sym e ∙ sym (append-nil xs))
+  pub front_same : {xs ys : List X} → xs ≡ ys → IsFront xs ys
+  front_same {xs} e = ([], sym e ∙ sym (append-nil xs))
 
-  pub front_trans : (xs ys zs : List X) → IsFront xs ys → IsFront ys zs → IsFront xs zs
-  front_trans xs ys zs p q = (p.0 ++ q.0, q.1 ∙ ap (λ l. l ++ q.0) p.1 ∙ append_assoc xs p.0 q.0)
+  pub front_trans : (xs : List X) {ys zs : List X} → IsFront xs ys → IsFront ys zs → IsFront xs zs
+  front_trans xs p q = (p.0 ++ q.0, q.1 ∙ ap (λ l. l ++ q.0) p.1 ∙ append_assoc xs p.0 q.0)
 
   pub length-front : (ys xs : List X) → IsFront ys xs → length ys ≤ length xs
   length-front ys xs f = omega (arith, ap length f.1, length-append ys f.0)
@@ -75,7 +75,7 @@ module _ {K V S : Type 0} (rules : Rules K V S) where
   pub front_way : KeepsWay rules (λ c d. IsFront d.pairs c.pairs)
   front_way = record {
     self = λ c. front_self c.pairs;
-    trans = λ p q. front_trans _ _ _ q p;
+    trans = λ p q. front_trans _ q p;
     asked = λ bytes c. front_self c.pairs;
     popped = λ c. front_without_last c.pairs;
   }
@@ -95,15 +95,14 @@ module _ {K V S : Type 0} (rules : Rules K V S) where
 
   place_ends : {H : Type 0} (hash_of : H → K → ℕ) (pair : K × V) (old : State K V S H) (outcome : Outcome)
       (new : State K V S H) → Place rules hash_of pair old outcome new → Ends pair old new
-  place_ends hash_of pair old outcome new p = let m = place_lands rules _ front_way
+  place_ends {H} hash_of pair old outcome new p = let m = place_lands rules _ front_way
       (λ _. Unit {0}) hash_of pair old tt outcome new p in end outcome m.mid m.way m.lands
     where
-      end : (outcome : Outcome) (mid : State _ _ _ _) → IsFront mid.pairs old.pairs
+      end : (outcome : Outcome) (mid : State K V S H) → IsFront mid.pairs old.pairs
           → Lands rules (λ _. Unit {0}) pair old outcome mid new → Ends pair old new
-      end placed mid f l = inl (front_trans _ _ _ (front_same _ _ (ap (λ st. st.pairs) l.is.state))
-          (front_more pair _ _ f))
-      end refused mid f l = inr (front_trans _ _ _ (front_same _ _ (ap (λ st. st.pairs) l.1)) f)
-      end no_memory mid f l = inr (front_trans _ _ _ (front_same _ _ (ap (λ st. st.pairs) l)) f)
+      end placed mid f l = inl (front_trans _ (front_same (ap (λ st. st.pairs) l.is.state)) (front_more pair _ _ f))
+      end refused mid f l = inr (front_trans _ (front_same (ap (λ st. st.pairs) l.1)) f)
+      end no_memory mid f l = inr (front_trans _ (front_same (ap (λ st. st.pairs) l)) f)
 
 module _ {K V : Type 0} where
   pub found_named : (names : K → Bool) (xs : List (K × V)) (p : K × V) → lookup_entry names xs ≡ Some p → names p.0
@@ -120,48 +119,50 @@ module _ {K V : Type 0} where
       go false e f h = f h
 
 module _ {K V S H I : Type 0} (rules : Rules K V S) (offers : Offers K V S I) (names : I → K → Bool)
-    (hash_of : H → K → ℕ) where
-  module _ {eq : K → K → Bool} {query_input : I → List (List ℕ)} {key_input : K → List (List ℕ)}
-      (looks_up : IsLookup names eq query_input key_input)
-      (laws : IsInsertion names eq offers) (i : I) (v : V) (old : State K V S H) where
-    -- the pair that was given has a key that i names
-    pub given_named : (s : S) (pair : K × V) → MayGive rules offers names i v old s (Some pair) → names i pair.0 ≡ true
-    given_named s pair n = laws.names_given old.limiter (length old.pairs) i v s pair.0 pair.1 n
+    {eq : K → K → Bool} {query_input : I → List (List ℕ)} {key_input : K → List (List ℕ)}
+    (looks_up : IsLookup names eq query_input key_input)
+    (laws : IsInsertion names eq offers) (i : I) (v : V) (old : State K V S H) where
+  -- the pair that was given has a key that i names
+  pub given_named : (s : S) (pair : K × V) → MayGive rules offers names i v old s (Some pair) → names i pair.0 ≡ true
+  given_named s pair n = laws.names_given old.limiter (length old.pairs) i v s pair.0 pair.1 n
 
-    -- and so has the pair that was replaced
-    pub replaced_named : (pair : K × V) → lookup_entry (names i) old.pairs ≡ Some pair
-        → names i (replacement rules offers names pair i v old).key ≡ true
-    replaced_named pair found =
-        let n = found_named (names i) old.pairs pair found in
-        looks_up.one i pair.0 (replacement rules offers names pair i v old).key n
-        ∙ laws.keeps_key old.limiter (length old.pairs) pair.0 i pair.1 v n
+  -- and so has the pair that was replaced
+  pub replaced_named : (pair : K × V) → lookup_entry (names i) old.pairs ≡ Some pair
+      → names i (replacement rules offers names pair i v old).key ≡ true
+  replaced_named pair found =
+      let n = found_named (names i) old.pairs pair found in
+      looks_up.one i pair.0 (replacement rules offers names pair i v old).key n
+      ∙ laws.keeps_key old.limiter (length old.pairs) pair.0 i pair.1 v n
 
-    -- Inserts give up pairs from the old end alone, save one whose replacement is refused.
-    pub insert_gives_up : (result : Result Bool AllocError) (new : State K V S H)
-        → Insert rules offers names hash_of i v old result new
-        → GivesUp (names i) (λ pair. (replacement rules offers names pair i v old).taken ≡ false) old.pairs new.pairs
-    insert_gives_up result new (replaced pair found y r l) =
-        behind _ (replaced_named pair found) (front_trans _ _ _ (front_same _ _ (ap (λ st. st.pairs) l.is))
-        (front_trim rules (with_replaced rules offers names pair i v old)))
-    insert_gives_up result new (given_up pair found y r l) = without_one pair found y (ap (λ st. st.pairs) l.is)
-    insert_gives_up result new (no_memory_to_admit a k r e) = with_none a (front_same _ _ (ap (λ st. st.pairs) e))
-    insert_gives_up result new (not_admitted a s n r e) = with_none a (front_same _ _ (ap (λ st. st.pairs) e))
-    insert_gives_up result new (admitted a s pair n (ready, l, outcome, landed, p, t)) = go
-        (place_ends rules hash_of pair ready outcome landed p)
-      where
-        ready_front : IsFront ready.pairs old.pairs
-        ready_front = front_trans _ _ _ (front_same _ _ (ap (λ st. st.pairs) l.is))
-            (front_make_way rules (record { pairs = old.pairs; limiter = s }))
+module _ {K V S H I : Type 0} {rules : Rules K V S} {offers : Offers K V S I} {names : I → K → Bool}
+    {hash_of : H → K → ℕ} {eq : K → K → Bool} {query_input : I → List (List ℕ)} {key_input : K → List (List ℕ)}
+    (looks_up : IsLookup names eq query_input key_input)
+    (laws : IsInsertion names eq offers) (i : I) (v : V) (old : State K V S H) where
+  -- Inserts give up pairs from the old end alone, save one whose replacement is refused.
+  pub insert_gives_up : (result : Result Bool AllocError) (new : State K V S H)
+      → Insert rules offers names hash_of i v old result new
+      → GivesUp (names i) (λ pair. (replacement rules offers names pair i v old).taken ≡ false) old.pairs new.pairs
+  insert_gives_up result new (replaced pair found y r l) =
+      behind _ (replaced_named rules offers names looks_up laws i v old pair found)
+      (front_trans _ (front_same (ap (λ st. st.pairs) l.is))
+      (front_trim rules (with_replaced rules offers names pair i v old)))
+  insert_gives_up result new (given_up pair found y r l) = without_one pair found y (ap (λ st. st.pairs) l.is)
+  insert_gives_up result new (no_memory_to_admit a k r e) = with_none a (front_same (ap (λ st. st.pairs) e))
+  insert_gives_up result new (not_admitted a s n r e) = with_none a (front_same (ap (λ st. st.pairs) e))
+  insert_gives_up result new (admitted a s pair n (ready, l, outcome, landed, p, t)) = go
+      (place_ends rules hash_of pair ready outcome landed p)
+    where
+      ready_front : IsFront ready.pairs old.pairs
+      ready_front = front_trans _ (front_same (ap (λ st. st.pairs) l.is))
+          (front_make_way rules (record { pairs = old.pairs; limiter = s }))
 
-        others : IsFront ready.pairs (without (names i) old.pairs)
-        others = subst (IsFront ready.pairs) (sym (without_none (names i) old.pairs a)) ready_front
+      others : IsFront ready.pairs (without (names i) old.pairs)
+      others = subst (IsFront ready.pairs) (sym (without_none (names i) old.pairs a)) ready_front
 
-        go : Ends rules pair ready landed
-            → GivesUp (names i) (λ pair. (replacement rules offers names pair i v old).taken
-            ≡ false) old.pairs new.pairs
-        go (inl f) = behind pair (given_named s pair n)
-            (front_trans _ _ _ (settles_keep rules _ (front_way rules) outcome landed result new t)
-            (front_trans _ _ _ f (front_more pair _ _ others)))
-        go (inr f) = with_none a
-            (front_trans _ _ _ (settles_keep rules _ (front_way rules) outcome landed result new t)
-            (front_trans _ _ _ f ready_front))
+      go : Ends rules pair ready landed → GivesUp (names i) (λ pair. (replacement rules offers names pair i v old).taken
+          ≡ false) old.pairs new.pairs
+      go (inl f) = behind pair (given_named rules offers names looks_up laws i v old s pair n)
+          (front_trans _ (settles_keep rules _ (front_way rules) outcome landed result new t)
+          (front_trans _ f (front_more pair _ _ others)))
+      go (inr f) = with_none a (front_trans _ (settles_keep rules _ (front_way rules) outcome landed result new t)
+          (front_trans _ f ready_front))

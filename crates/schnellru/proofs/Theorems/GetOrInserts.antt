@@ -53,24 +53,23 @@ no_pair {K} {V} names xs none = go (lookup_entry names xs) (sym (lookup-entry na
     go None e = refl
     go (Some pair) e = absurd (none-some pair.1 (sym e))
 
-module _ {K V S H I : Type 0} (rules : Rules K V S) (offers : Offers K V S I) (names : I → K → Bool)
-    (hash_of : H → K → ℕ) {eq : K → K → Bool} {query_input : I → List (List ℕ)} {key_input : K → List (List ℕ)}
-    (looks_up : IsLookup names eq query_input key_input) (laws : IsInsertion names eq offers) (i : I)
-    (makes : V → Type 0) (old : State K V S H) where
-  pub makes_says : (result : Result Bool AllocError) (new : State K V S H) → AreDistinct eq old.pairs
+module _ {K V S H I : Type 0} {rules : Rules K V S} {offers : Offers K V S I} {names : I → K → Bool}
+    {hash_of : H → K → ℕ} {eq : K → K → Bool} {query_input : I → List (List ℕ)} {key_input : K → List (List ℕ)}
+    (looks_up : IsLookup names eq query_input key_input) (laws : IsInsertion names eq offers) {i : I}
+    {makes : V → Type 0} {old : State K V S H} where
+  pub makes_says : {result : Result Bool AllocError} {new : State K V S H} → AreDistinct eq old.pairs
       → MakesNewest rules offers names hash_of makes i old result new → SaysNewest (names i) result new
-  makes_says result new d (got w there r step) = rw r (rw step (first_named (names i) old.pairs w there))
-  makes_says result new d (inserted absent v made step) = says_newest rules (names i) new result
-      (insert_says rules offers names hash_of looks_up laws i v old result new d step)
+  makes_says {result} {new} d (got w there r step) = rw r (rw step (first_named (names i) old.pairs w there))
+  makes_says {result} {new} d (inserted absent v made step) = says_newest rules (names i) new result
+      (insert_says looks_up laws d step)
 
-module _ {K V S H I E : Type 0} (rules : Rules K V S) (offers : Offers K V S I) (names : I → K → Bool)
-    (hash_of : H → K → ℕ) {eq : K → K → Bool} {query_input : I → List (List ℕ)} {key_input : K → List (List ℕ)}
-    (looks_up : IsLookup names eq query_input key_input) (laws : IsInsertion names eq offers) (i : I)
-    (makes : Result V E → Type 0) (old : State K V S H) where
-  pub says_if_made : (result : Result Bool (GetOrInsertError E)) (new : State K V S H) → AreDistinct eq old.pairs
+module _ {K V S H I E : Type 0} {rules : Rules K V S} {offers : Offers K V S I} {names : I → K → Bool}
+    {hash_of : H → K → ℕ} {eq : K → K → Bool} {query_input : I → List (List ℕ)} {key_input : K → List (List ℕ)}
+    (looks_up : IsLookup names eq query_input key_input) (laws : IsInsertion names eq offers) {i : I}
+    {makes : Result V E → Type 0} {old : State K V S H} where
+  pub says_if_made : {result : Result Bool (GetOrInsertError E)} {new : State K V S H} → AreDistinct eq old.pairs
       → MakesNewestIfMade rules offers names hash_of makes i old result new → SaysNewest (names i) result new
-  says_if_made result new d (if_made.got w there r step) = rw r (rw step (first_named (names i) old.pairs w there))
-  says_if_made result new d (if_made.failed none e made r step) = rw r (rw step (no_pair (names i) old.pairs none))
-  says_if_made result new d (if_made.inserted none v made flag step r) =
-      rw r (says_or_memory rules (names i) new E flag
-      (insert_says rules offers names hash_of looks_up laws i v old flag new d step))
+  says_if_made {result} {new} d (if_made.got w there r step) = rw r (rw step (first_named (names i) old.pairs w there))
+  says_if_made {result} {new} d (if_made.failed none e made r step) = rw r (rw step (no_pair (names i) old.pairs none))
+  says_if_made {result} {new} d (if_made.inserted none v made flag step r) =
+      rw r (says_or_memory rules (names i) new E flag (insert_says looks_up laws d step))

@@ -5,7 +5,7 @@ use Rattle.std.specs.Prelude.{nat_lt, nat_le}
 use Rattle.std.proofs.lemmas.Bool.Decides.{nat_tests}
 use Rattle.lru_limits.specs.Rules.{Rules}
 use Rattle.group_table.specs.Sizes.{full_capacity}
-use Rattle.std.proofs.lemmas.Bool.{eq-eqb, ne_eqb}
+use Rattle.std.proofs.lemmas.Bool.{true≢false, eq-eqb, ne_eqb}
 use Rattle.schnellru.specs.Lists.{is_empty}
 use Rattle.schnellru.proofs.PairLists.Emptiness.{is_empty-some}
 use Rattle.schnellru.specs.Sizes.{Target, target, no_table, same_table, new_table}
@@ -54,30 +54,25 @@ module _ {K V S H : Type 0} (rules : Rules K V S) (grants : AlwaysGrants rules) 
 
   no_refusal : {A : Type 0} (mid : State K V S H) → CannotGrow rules old mid → A
   no_refusal mid (no_target t e) = absurd (tables t)
-  no_refusal mid (denied count bytes t d e) = absurd (no (sym (grants old.limiter bytes).0 ∙ d))
-    where
-      no : true ≡ false → ⊥
-      no h = grind arith
+  no_refusal mid (denied count bytes t d e) = absurd (true≢false (sym (grants old.limiter bytes).0 ∙ d))
 
   pub place_granted : (outcome : Outcome) (new : State K V S H) → Place rules hash_of pair old outcome new
       → LandsAs rules pair there outcome new
   place_granted outcome new (first_table e b bytes u g m) = rw (ap is_empty e, eq-eqb (buckets old) 0 b, u, g)
       (if_memory rules pair (asked rules bytes old) _ _ _ outcome new m)
-  place_granted outcome new (first_denied e b bytes u d o n) = absurd (no (sym (grants old.limiter bytes).0 ∙ d))
-    where
-      no : true ≡ false → ⊥
-      no h = grind arith
+  place_granted outcome new (first_denied e b bytes u d o n) = absurd
+      (true≢false (sym (grants old.limiter bytes).0 ∙ d))
   place_granted outcome new (first_too_large e b u o n) = rw (ap is_empty e, eq-eqb (buckets old) 0 b, u, o)
       (sym (ap (λ x. record { there = false; left = contents x }) n))
   place_granted outcome new (empty_with_room e b r s o n) = rw
       (ap is_empty e, ne_eqb (buckets old) 0 (λ none. omega (arith, b, none)))
-      (is_placed rules pair old _ _ _ outcome new o n)
+      (is_placed rules pair old outcome new o n)
   place_granted outcome new (empty_without_room e b r o n) = rw
       (ap is_empty e, ne_eqb (buckets old) 0 (λ none. omega (arith, b, none)))
-      (is_placed rules pair old _ _ _ outcome new o n)
-  place_granted outcome new (with_room e r s o n) = rw (lands_anyway e) (is_placed rules pair old _ _ _ outcome new o n)
+      (is_placed rules pair old outcome new o n)
+  place_granted outcome new (with_room e r s o n) = rw (lands_anyway e) (is_placed rules pair old outcome new o n)
   place_granted outcome new (deleted_bucket f i b l o n) = rw (lands_anyway f.0)
-      (is_placed rules pair old _ _ _ outcome new o n)
+      (is_placed rules pair old outcome new o n)
   place_granted outcome new (rehashed f i l m) = rw (lands_anyway f.0) (if_memory rules pair old _ _ _ outcome new m)
   place_granted outcome new (grown f i l count bytes t g m) = rw (lands_anyway f.0, ← (asked_same bytes))
       (if_memory rules pair (asked rules bytes old) _ _ _ outcome new m)

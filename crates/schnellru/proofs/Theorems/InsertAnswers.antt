@@ -1,7 +1,7 @@
 -- What the answer of an insert says.
 use Rattle.std.proofs.Common.{None, ◌≡◌, ℕ, zero, suc, ◌⊎◌, inl, inr, Bool, true, false, cond, not, List, [], ◌∷◌}
 use Rattle.std.proofs.Common.{length, Result, Ok, Err, refl, sym, ap, ◌∙◌, subst, arith}
-use Rattle.std.proofs.lemmas.Bool.{false≢true}
+use Rattle.std.proofs.lemmas.Bool.{false≢true, true≢false, not-true}
 use Rattle.std.specs.Prelude.{IsErr, Some, IfSome}
 use Rattle.std.specs.declared.alloc.AllocError.{AllocError}
 use Rattle.std.proofs.lemmas.List.{nil_from_length}
@@ -62,10 +62,7 @@ module _ {K V S : Type 0} (rules : Rules K V S) where
       go : ((trim rules c).pairs ≡ [])
           ⊎ ((ys : List (K × V)) × IsFront ys n.rest × ((trim rules c).pairs ≡ n.pair ∷ ys))
           → IsNewest names (trim rules c).pairs
-      go (inl e) = absurd (no (rw e at h))
-        where
-          no : true ≡ false → ⊥
-          no e = grind arith
+      go (inl e) = absurd (true≢false (rw e at h))
       go (inr t) = record { pair = n.pair; rest = t.0; first = t.2; named = n.named }
 
 module _ {K V S H : Type 0} (rules : Rules K V S) (hash_of : H → K → ℕ) (pair : K × V) (old : State K V S H) where
@@ -85,11 +82,7 @@ module _ {K V S H : Type 0} (rules : Rules K V S) (hash_of : H → K → ℕ) (p
           → Lands rules (λ _. Unit {0}) pair old outcome mid new → Comes outcome new
       end placed mid f l = (mid.pairs, ap (λ st. st.pairs) l.is.state)
       end refused mid f l = ap (λ st. st.pairs) l.1 ∙ l.0
-      end no_memory mid f l = front_trans _ _ _ (front_same _ _ (ap (λ st. st.pairs) l)) f
-
-not_true : (b : Bool) → true ≡ not b → b ≡ false
-not_true true e = absurd (false≢true (sym e))
-not_true false e = refl
+      end no_memory mid f l = front_trans _ (front_same (ap (λ st. st.pairs) l)) f
 
 module _ {K V S H : Type 0} (rules : Rules K V S) (names : K → Bool) where
   -- after a trimming that answers whether a pair is left
@@ -109,31 +102,31 @@ module _ {K V S H : Type 0} (rules : Rules K V S) (names : K → Bool) where
       go false e = let k : is_empty (trim rules c).pairs ≡ false = rw same at e in
           (rw same (trim_newest rules names c k n), rw (same, same_limiter) (trim_within rules c k))
 
-module _ {K V S H I : Type 0} (rules : Rules K V S) (offers : Offers K V S I) (names : I → K → Bool)
-    (hash_of : H → K → ℕ) {eq : K → K → Bool} {query_input : I → List (List ℕ)} {key_input : K → List (List ℕ)}
-    (looks_up : IsLookup names eq query_input key_input) (laws : IsInsertion names eq offers) (i : I) (v : V)
-    (old : State K V S H) where
   -- an error says that the key is not there
-  err_says : (result : Result Bool AllocError) (new : State K V S H) → IsErr result → lookup_entry (names i) new.pairs
-      ≡ None → SaysWhether rules (names i) result new
+  err_says : (result : Result Bool AllocError) (new : State K V S H) → IsErr result → lookup_entry names new.pairs
+      ≡ None → SaysWhether rules names result new
   err_says (Ok b) new h absent = absurd (grind (arith, h))
   err_says (Err e) new h absent = absent
 
-  settled_says : (pair : K × V) (ready : State K V S H) (outcome : Outcome) (landed : State K V S H)
-      (result : Result Bool AllocError) (new : State K V S H) → names i pair.0 ≡ true
-      → lookup_entry (names i) ready.pairs ≡ None → Comes rules hash_of pair ready outcome landed
-      → Settles rules outcome landed result new → SaysWhether rules (names i) result new
-  settled_says pair ready placed landed result new n absent b s = trimmed_says rules (names i) landed
-      (contents landed) result new s.1 s.0 (record { pair = pair; rest = b.0; first = b.1; named = n })
-  settled_says pair ready refused landed result new n absent b s = rw s.0
-      (ap (λ st. lookup_entry (names i) st.pairs) s.1 ∙ ap (lookup_entry (names i)) b)
-  settled_says pair ready no_memory landed result new n absent b s = err_says result new s.0
-      (ap (λ st. lookup_entry (names i) st.pairs) s.1 ∙ front_absent (names i) landed.pairs ready.pairs b absent)
+  settled_says : (hash_of : H → K → ℕ) (pair : K × V) (ready : State K V S H) (outcome : Outcome)
+      (landed : State K V S H) (result : Result Bool AllocError) (new : State K V S H) → names pair.0 ≡ true
+      → lookup_entry names ready.pairs ≡ None → Comes rules hash_of pair ready outcome landed
+      → Settles rules outcome landed result new → SaysWhether rules names result new
+  settled_says hash_of pair ready placed landed result new n absent b s = trimmed_says landed (contents landed)
+      result new s.1 s.0 (record { pair = pair; rest = b.0; first = b.1; named = n })
+  settled_says hash_of pair ready refused landed result new n absent b s = rw s.0
+      (ap (λ st. lookup_entry names st.pairs) s.1 ∙ ap (lookup_entry names) b)
+  settled_says hash_of pair ready no_memory landed result new n absent b s = err_says result new s.0
+      (ap (λ st. lookup_entry names st.pairs) s.1 ∙ front_absent names landed.pairs ready.pairs b absent)
 
+module _ {K V S H I : Type 0} {rules : Rules K V S} {offers : Offers K V S I} {names : I → K → Bool}
+    {hash_of : H → K → ℕ} {eq : K → K → Bool} {query_input : I → List (List ℕ)} {key_input : K → List (List ℕ)}
+    (looks_up : IsLookup names eq query_input key_input) (laws : IsInsertion names eq offers) {i : I} {v : V}
+    {old : State K V S H} where
   -- The answer of an insert says whether the key is there.
-  pub insert_says : (result : Result Bool AllocError) (new : State K V S H) → AreDistinct eq old.pairs
+  pub insert_says : {result : Result Bool AllocError} {new : State K V S H} → AreDistinct eq old.pairs
       → Insert rules offers names hash_of i v old result new → SaysWhether rules (names i) result new
-  insert_says result new d (replaced pair found y r l) = trimmed_says rules (names i) old
+  insert_says {result} {new} d (replaced pair found y r l) = trimmed_says rules (names i) old
       (with_replaced rules offers names pair i v old) result new l r (record {
         pair = (
           (replacement rules offers names pair i v old).key,
@@ -141,20 +134,22 @@ module _ {K V S H I : Type 0} (rules : Rules K V S) (offers : Offers K V S I) (n
         );
         rest = without (names i) old.pairs;
         first = refl;
-        named = replaced_named rules offers names hash_of looks_up laws i v old pair found;
+        named = replaced_named rules offers names looks_up laws i v old pair found;
       })
-  insert_says result new d (given_up pair found y r l) = rw r (ap (λ st. lookup_entry (names i) st.pairs) l.is
+  insert_says {result} {new} d (given_up pair found y r l) = rw r (ap (λ st. lookup_entry (names i) st.pairs) l.is
       ∙ absent_without eq (names i) (λ x y n. looks_up.one i x y n) old.pairs d)
-  insert_says result new d (no_memory_to_admit a k r e) = err_says result new r
+  insert_says {result} {new} d (no_memory_to_admit a k r e) = err_says rules (names i) result new r
       (ap (λ st. lookup_entry (names i) st.pairs) e ∙ a)
-  insert_says result new d (not_admitted a s n r e) = rw r (ap (λ st. lookup_entry (names i) st.pairs) e ∙ a)
-  insert_says result new d (admitted a s pair n (ready, l, outcome, landed, p, t)) =
-      settled_says pair ready outcome landed result new
-      (given_named rules offers names hash_of looks_up laws i v old s pair n)
-      (front_absent (names i) ready.pairs old.pairs (front_trans _ _ _ (front_same _ _ (ap (λ st. st.pairs) l.is))
+  insert_says {result} {new} d (not_admitted a s n r e) = rw r (ap (λ st. lookup_entry (names i) st.pairs) e ∙ a)
+  insert_says {result} {new} d (admitted a s pair n (ready, l, outcome, landed, p, t)) =
+      settled_says rules (names i) hash_of pair ready outcome landed result new
+      (given_named rules offers names looks_up laws i v old s pair n)
+      (front_absent (names i) ready.pairs old.pairs (front_trans _ (front_same (ap (λ st. st.pairs) l.is))
       (front_make_way rules (record { pairs = old.pairs; limiter = s }))) a)
       (place_comes rules hash_of pair ready outcome landed p) t
 
+module _ {K V S H I : Type 0} {rules : Rules K V S} {offers : Offers K V S I} {names : I → K → Bool} {i : I} {v : V}
+    {old : State K V S H} where
   -- The newest pair is the one that the insert stores.
   stored : (c : Contents K V S) (mid : State K V S H) (new : State K V S H) → Leaves mid (trim rules c) new
       → ◌≡◌ {A = Result Bool AllocError} (Ok true) (Ok (not (is_empty new.pairs)))
@@ -162,21 +157,21 @@ module _ {K V S H I : Type 0} (rules : Rules K V S) (offers : Offers K V S I) (n
       → c.pairs ≡ pair ∷ rest → Stores rules offers names i v old pair
       → IfSome (first new.pairs) (Stores rules offers names i v old)
   stored c mid new l r pair rest is h =
-      let there : is_empty new.pairs ≡ false = not_true (is_empty new.pairs) (same_kept true _ r) in
+      let there : is_empty new.pairs ≡ false = not-true (is_empty new.pairs) (sym (same_kept true _ r)) in
       let same : new.pairs ≡ (trim rules c).pairs = ap (λ st. st.pairs) l.is in
       subst (λ o. IfSome o (Stores rules offers names i v old))
       (sym (front_first new.pairs c.pairs (subst (λ xs. IsFront xs c.pairs) (sym same) (front_trim rules c)) there
       ∙ ap first is)) h
 
-  pub insert_stores : (result : Result Bool AllocError) (new : State K V S H) → result ≡ Ok true
+  pub insert_stores : {hash_of : H → K → ℕ} {result : Result Bool AllocError} {new : State K V S H} → result ≡ Ok true
       → Insert rules offers names hash_of i v old result new
       → IfSome (first new.pairs) (Stores rules offers names i v old)
-  insert_stores result new q (replaced pair found y r l) = stored
+  insert_stores {new = new} q (replaced pair found y r l) = stored
       (with_replaced rules offers names pair i v old) old new l (sym q ∙ r) _ _ refl (left pair found y refl)
-  insert_stores result new q (given_up pair found y r l) = absurd (false≢true (same_kept false true (sym r ∙ q)))
-  insert_stores result new q (no_memory_to_admit a k r e) = ok-not_err result (rw q refl) r
-  insert_stores result new q (not_admitted a s n r e) = absurd (false≢true (same_kept false true (sym r ∙ q)))
-  insert_stores result new q (admitted a s pair n (ready, l, outcome, landed, p, t)) = go outcome
+  insert_stores q (given_up pair found y r l) = absurd (false≢true (same_kept false true (sym r ∙ q)))
+  insert_stores {result = result} q (no_memory_to_admit a k r e) = ok-not_err result (rw q refl) r
+  insert_stores q (not_admitted a s n r e) = absurd (false≢true (same_kept false true (sym r ∙ q)))
+  insert_stores {hash_of} {result} {new} q (admitted a s pair n (ready, l, outcome, landed, p, t)) = go outcome
       (place_comes rules hash_of pair ready outcome landed p) t
     where
       go : (outcome : Outcome) → Comes rules hash_of pair ready outcome landed

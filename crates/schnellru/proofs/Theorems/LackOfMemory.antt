@@ -42,9 +42,9 @@ module _ {K V S H : Type 0} (rules : Rules K V S) (hash_of : H → K → ℕ) (p
       placed-not_no_memory (sym o ∙ q)
   place_lacks new outcome q (evicting f i l mid c (made_anew n pos one half left gone m)) = (f.1, inr f.0)
 
-module _ {K V S H I : Type 0} (rules : Rules K V S) (offers : Offers K V S I) (names : I → K → Bool)
-    (hash_of : H → K → ℕ) (i : I) (v : V) (old : State K V S H)
-    (result : Result Bool AllocError) (new : State K V S H) where
+module _ {K V S H I : Type 0} {rules : Rules K V S} {offers : Offers K V S I} {names : I → K → Bool}
+    {hash_of : H → K → ℕ} {i : I} {v : V} {old : State K V S H} {result : Result Bool AllocError}
+    {new : State K V S H} where
   -- Want of memory is the limiter's own, or the table's.
   pub err_is : IsErr result → Insert rules offers names hash_of i v old result new
       → LacksMemory rules offers names hash_of i v old new
@@ -78,7 +78,7 @@ module _ {K V S H I : Type 0} (rules : Rules K V S) (offers : Offers K V S I) (n
   pub err_keeps : IsErr result → Insert rules offers names hash_of i v old result new → IsFront new.pairs old.pairs
   err_keeps h (replaced pair found y r l) = ok-not_err result (rw r refl) h
   err_keeps h (given_up pair found y r l) = ok-not_err result (rw r refl) h
-  err_keeps h (no_memory_to_admit a k r e) = front_same _ _ (ap (λ st. st.pairs) e)
+  err_keeps h (no_memory_to_admit a k r e) = front_same (ap (λ st. st.pairs) e)
   err_keeps h (not_admitted a s n r e) = ok-not_err result (rw r refl) h
   err_keeps h (admitted a s pair n (ready, l, outcome, landed, p, t)) = go outcome p t
     where
@@ -86,9 +86,9 @@ module _ {K V S H I : Type 0} (rules : Rules K V S) (offers : Offers K V S I) (n
           → Settles rules outcome landed result new → IsFront new.pairs old.pairs
       go placed p t = ok-not_err result (rw t.0 refl) h
       go refused p t = ok-not_err result (rw t.0 refl) h
-      go no_memory p t = front_trans _ _ _ (front_same _ _ (ap (λ st. st.pairs) t.1))
-          (front_trans _ _ _ (place_comes rules hash_of pair ready no_memory landed p)
-          (front_trans _ _ _ (front_same _ _ (ap (λ st. st.pairs) l.is))
+      go no_memory p t = front_trans _ (front_same (ap (λ st. st.pairs) t.1))
+          (front_trans _ (place_comes rules hash_of pair ready no_memory landed p)
+          (front_trans _ (front_same (ap (λ st. st.pairs) l.is))
           (front_make_way rules (record { pairs = old.pairs; limiter = s }))))
 
 -- what an error implies, of a result that may be one

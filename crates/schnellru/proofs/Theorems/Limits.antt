@@ -29,11 +29,12 @@ module _ {K V : Type 0} (names : K → Bool) where
       go true h = omega arith
       go false h = omega (arith, h)
 
-module _ {K V S : Type 0} (over grants : S → ℕ → Bool) (admits : S → K → V → Bool) (names : K → K → Bool) where
-  told_plain : (pair : Option (K × V)) (s : S) → told_of {K = K} {V = V} (plain over grants) pair s ≡ s
-  told_plain None s = refl
-  told_plain (Some pair) s = refl
+told_plain : {K V S : Type 0} (over grants : S → ℕ → Bool) (pair : Option (K × V)) (s : S)
+    → told_of (plain over grants) pair s ≡ s
+told_plain over grants None s = refl
+told_plain over grants (Some pair) s = refl
 
+module _ {K V S : Type 0} {over grants : S → ℕ → Bool} {admits : S → K → V → Bool} {names : K → K → Bool} where
   -- a limiter that is told nothing new stays as it is
   pub keeps_limiter : KeepsOffers (plain over grants) (hands_over admits) names (λ c d. d.limiter ≡ c.limiter)
   keeps_limiter = record {
@@ -42,9 +43,9 @@ module _ {K V S : Type 0} (over grants : S → ℕ → Bool) (admits : S → K �
         self = λ c. refl;
         trans = λ p q. q ∙ p;
         asked = λ bytes c. refl;
-        popped = λ c. told_plain (last c.pairs) c.limiter;
+        popped = λ c. told_plain over grants (last c.pairs) c.limiter;
       };
-      left = λ test c. told_plain (lookup_entry test c.pairs) c.limiter;
+      left = λ test c. told_plain over grants (lookup_entry test c.pairs) c.limiter;
       first = λ q c. refl;
       cleared = λ c. refl;
     };
@@ -53,19 +54,19 @@ module _ {K V S : Type 0} (over grants : S → ℕ → Bool) (admits : S → K �
     exchanged = λ i v c pair found. refl;
   }
 
-module _ {K V S H I : Type 0} (rules : Rules K V S) (offers : Offers K V S I) (names : I → K → Bool)
-    (hash_of : H → K → ℕ) (i : I) (v : V) (old : State K V S H) where
+module _ {K V S H I : Type 0} {rules : Rules K V S} {offers : Offers K V S I} {names : I → K → Bool}
+    {hash_of : H → K → ℕ} {i : I} {v : V} {old : State K V S H} where
   -- no more pairs are left than there were, or the limiter is not over
-  pub insert_within : (result : Result Bool AllocError) (new : State K V S H)
+  pub insert_within : {result : Result Bool AllocError} {new : State K V S H}
       → Insert rules offers names hash_of i v old result new → IsWithin rules (contents new)
       ⊎ (length new.pairs ≤ length old.pairs)
-  insert_within result new (replaced pair found y r l) = inl
+  insert_within {new = new} (replaced pair found y r l) = inl
       (subst (IsWithin rules) (sym (left_are old _ new l)) (trim_ends rules _))
-  insert_within result new (given_up pair found y r l) = inr
+  insert_within (given_up pair found y r l) = inr
       (omega (arith, ap (λ st. length st.pairs) l.is, length-without (names i) old.pairs))
-  insert_within result new (no_memory_to_admit a k r e) = inr (omega (arith, ap (λ st. length st.pairs) e))
-  insert_within result new (not_admitted a s n r e) = inr (omega (arith, ap (λ st. length st.pairs) e))
-  insert_within result new (admitted a s pair n (ready, l, outcome, landed, p, t)) = settled outcome
+  insert_within (no_memory_to_admit a k r e) = inr (omega (arith, ap (λ st. length st.pairs) e))
+  insert_within (not_admitted a s n r e) = inr (omega (arith, ap (λ st. length st.pairs) e))
+  insert_within {result} {new} (admitted a s pair n (ready, l, outcome, landed, p, t)) = settled outcome
       (place_comes rules hash_of pair ready outcome landed p) t
     where
       fewer : length ready.pairs ≤ length old.pairs
@@ -123,8 +124,7 @@ pub by_length_stays : {K V H : Type 0} (names : K → K → Bool) (hash_of : H �
     → length new.pairs ≤ old.limiter
 by_length_stays names hash_of k v old result new step few =
     length_at_most (plain (λ most n. nat_lt most n) (λ _ _. true)) old new (λ n e. grind (arith, nat_tests))
-    (insert_changes _ _ _ _ (keeps_limiter _ _ _ names) hash_of k v old result new step).moves
-    (insert_within _ _ _ _ k v old result new step) few
+    (insert_changes keeps_limiter k v old result new step).moves (insert_within step) few
 
 -- a limit by memory usage
 pub by_memory_usage_stays : {K V H : Type 0} (names : K → K → Bool) (hash_of : H → K → ℕ) (k : K) (v : V)
@@ -135,12 +135,10 @@ pub by_memory_usage_stays : {K V H : Type 0} (names : K → K → Bool) (hash_of
 by_memory_usage_stays names hash_of k v old result new step uses =
     uses_at_most (plain (λ _ _. false) (λ most bytes. nat_le bytes most)) _ 1 old new
     (λ bytes e. grind (arith, nat_tests)) (λ s p. p.1)
-    (insert_changes _ _ _ _ (keeps_limiter _ _ _ names) hash_of k v old result new step).tables uses
+    (insert_changes keeps_limiter k v old result new step).tables uses
 
 -- neither changes
-pub plain_stays : {K V H : Type 0} (over grants : ℕ → ℕ → Bool) (admits : ℕ → K → V → Bool) (names : K → K → Bool)
-    (hash_of : H → K → ℕ) (k : K) (v : V) (old : State K V ℕ H)
-    (result : Result Bool AllocError) (new : State K V ℕ H)
+pub plain_stays : {K V H : Type 0} {over grants : ℕ → ℕ → Bool} {admits : ℕ → K → V → Bool} {names : K → K → Bool}
+    {hash_of : H → K → ℕ} (k : K) (v : V) (old : State K V ℕ H) (result : Result Bool AllocError) (new : State K V ℕ H)
     → Insert (plain over grants) (hands_over admits) names hash_of k v old result new → new.limiter ≡ old.limiter
-plain_stays over grants admits names hash_of k v old result new step =
-    (insert_changes _ _ _ _ (keeps_limiter over grants admits names) hash_of k v old result new step).moves
+plain_stays k v old result new step = (insert_changes keeps_limiter k v old result new step).moves

@@ -58,19 +58,24 @@ module _ {K V S I : Type 0} (rules : Rules K V S) (offers : Offers K V S I) (nam
     pub exchanged : (i : I) (v : V) (c : Contents K V S) (pair : K × V) → lookup_entry (names i) c.pairs ≡ Some pair
         → R c (exchange pair i v c)
 
-  -- nothing is to be kept
-  pub keeps_nothing : KeepsOffers (λ c d. Unit {0})
-  keeps_nothing = record {
-    keeps = record {
-      way = record { self = λ c. tt; trans = λ p q. tt; asked = λ bytes c. tt; popped = λ c. tt };
-      left = λ test c. tt;
-      first = λ q c. tt;
-      cleared = λ c. tt;
-    };
-    came = λ i v c s pair a n. tt;
-    turned_down = λ i v c s n. tt;
-    exchanged = λ i v c pair found. tt;
-  }
+-- nothing is to be kept
+pub keeps_any : {K V S Q : Type 0} {rules : Rules K V S} {names : Q → K → Bool} → Keeps rules names (λ c d. Unit {0})
+keeps_any = record {
+  way = record { self = λ c. tt; trans = λ p q. tt; asked = λ bytes c. tt; popped = λ c. tt };
+  left = λ test c. tt;
+  first = λ q c. tt;
+  cleared = λ c. tt;
+}
+
+-- nor of an insert
+pub keeps_nothing : {K V S I : Type 0} {rules : Rules K V S} {offers : Offers K V S I} {names : I → K → Bool}
+    → KeepsOffers rules offers names (λ c d. Unit {0})
+keeps_nothing = record {
+  keeps = keeps_any;
+  came = λ i v c s pair a n. tt;
+  turned_down = λ i v c s n. tt;
+  exchanged = λ i v c pair found. tt;
+}
 
 -- what left left these
 pub left_are : {K V S H : Type 0} (old : State K V S H) (left : Contents K V S) (new : State K V S H)

@@ -5,7 +5,6 @@ use Rattle.std.specs.Prelude.{nat_lt, nat_le, ◌==◌}
 use Rattle.std.proofs.lemmas.Bool.Decides.{nat_tests}
 use Rattle.std.proofs.lemmas.Option.{cond_some, same_Some}
 use Rattle.group_table.specs.Sizes.{full_capacity, least_power, below, buckets_for}
-use Rattle.group_table.proofs.PowerLemmas.{first_power_least}
 use Rattle.group_table.proofs.SizeLemmas.{takes_enough, full_capacity-small}
 use Rattle.lru_limits.specs.Rules.{Rules}
 use Rattle.schnellru.specs.Sizes.{same_table, new_table, table_with, target_from, target}
@@ -14,33 +13,24 @@ use Rattle.schnellru.specs.Reservations.{Reserve, enough_room, remade, reserved}
 use Rattle.schnellru.specs.Reservations.{too_many, no_such_table, no_memory_to_remake, no_memory_to_grow, denied_room}
 use Rattle.schnellru.specs.declared.map.reserve.ReserveError.{ReserveError}
 use Rattle.schnellru.proofs.PairLists.DistinctKeys.{AreDistinct, keeps_distinct}
-use Rattle.schnellru.proofs.Theorems.Moves.{Keeps}
+use Rattle.schnellru.proofs.Theorems.Moves.{Keeps, keeps_any}
 use Rattle.schnellru.proofs.TableSizes.NextTable.{larger_takes}
-use Rattle.schnellru.proofs.TableSizes.Growth.{least_power_shape, table_with_is, target-same}
+use Rattle.schnellru.proofs.TableSizes.Growth.{least_power_at_least, least_power_shape, table_with_is, target-same}
 
-module _ {K V S : Type 0} (rules : Rules K V S) where
-  -- no key is looked up
-  abbrev pub no_names : ⊥ → K → Bool
-  no_names q = absurd q
+-- no key is looked up
+abbrev pub no_names : {K : Type 0} → ⊥ → K → Bool
+no_names q = absurd q
 
+module _ {K V S : Type 0} {rules : Rules K V S} where
   -- the keys stay distinct
   pub stay_distinct : (eq : K → K → Bool)
       → Keeps rules no_names (λ c d. AreDistinct eq c.pairs → AreDistinct eq d.pairs)
-  stay_distinct eq = keeps_distinct rules no_names {eq = eq} {query_input = λ q. absurd q} {key_input = λ k. []}
+  stay_distinct eq = keeps_distinct {eq = eq} {query_input = λ q. absurd q} {key_input = λ k. []}
       (record { writes = λ q k h. absurd q; one = λ q x y h. absurd q })
 
   -- nothing is to be kept
   pub stay_any : Keeps rules no_names (λ c d. Unit {0})
-  stay_any = record {
-    way = record { self = λ c. tt; trans = λ p q. tt; asked = λ bytes c. tt; popped = λ c. tt };
-    left = λ test c. tt;
-    first = λ q c. tt;
-    cleared = λ c. tt;
-  }
-
-least_power_from : (n : ℕ) → n ≤ 2 ^ 64 → n ≤ least_power n
-unfolding least_power
-least_power_from n h = first_power_least 64 n 1 (omega arith)
+  stay_any = keeps_any
 
 -- the buckets that some pairs need take them
 buckets_take : (max c n : ℕ) → buckets_for max c ≡ Some n → c ≤ full_capacity n
@@ -62,7 +52,7 @@ buckets_take max c n =
     pick false false false true p q r s t h =
         let is : least_power (8 * c / 7)
         ≡ n = (cond_some (nat_lt (least_power (8 * c / 7)) max) (least_power (8 * c / 7)) n h).1 in
-        let shape = least_power_shape (8 * c / 7) in let most = t refl in let least = least_power_from (8 * c / 7)
+        let shape = least_power_shape (8 * c / 7) in let most = t refl in let least = least_power_at_least (8 * c / 7)
         (omega (arith, most)) in
         (takes_enough c n (shape.0, sym is ∙ shape.1) (s refl) (omega (arith, is, least))).1
     pick false false false false p q r s t h = absurd (grind arith)

@@ -1,9 +1,8 @@
 -- A limit by length and one by memory usage, over runs of calls.
-use Rattle.std.proofs.Common.{ℕ, ◌≤◌, Bool, true, false, List, [], ◌∷◌, length, Result, sym, ap, subst, arith}
+use Rattle.std.proofs.Common.{ℕ, ◌≤◌, Bool, true, false, length, Result, sym, ap, subst, arith}
 use Rattle.std.proofs.lemmas.Bool.Decides.{nat_tests}
 use Rattle.std.specs.Prelude.{nat_lt, nat_le}
 use Rattle.lru_limits.specs.Stores.{plain, hands_over}
-use Rattle.schnellru.specs.Lists.{without_first}
 use Rattle.schnellru.specs.State.{State}
 use Rattle.schnellru.specs.GetOrInserts.{got, inserted}
 use Rattle.schnellru.specs.Reservations.{Reserve}
@@ -11,7 +10,7 @@ use Rattle.schnellru.specs.Runs.{Step, inserts, makes_newest, gets, removes, pop
 use Rattle.schnellru.specs.Runs.{reserves, Run, ends, goes_on}
 use Rattle.schnellru.specs.Theorems.{UsesAtMost}
 use Rattle.schnellru.specs.declared.map.reserve.ReserveError.{ReserveError}
-use Rattle.schnellru.proofs.Maps.LeavingPairs.{length-without_last}
+use Rattle.schnellru.proofs.Maps.LeavingPairs.{length-without_first, length-without_last}
 use Rattle.schnellru.proofs.Maps.Promotions.{length-front_pairs}
 use Rattle.schnellru.proofs.Theorems.CountedMoves.{reserve_changes}
 use Rattle.schnellru.proofs.Theorems.Limits.{keeps_limiter, uses_at_most, length-without, by_length_stays}
@@ -25,11 +24,7 @@ pub reserve_uses_at_most : {K V H : Type 0} (names : K → K → Bool) (n : ℕ)
 reserve_uses_at_most names n old result new h = uses_at_most
     (plain (λ _ _. false) (λ most bytes. nat_le bytes most)) _ _ old new (λ bytes e. grind (arith, nat_tests))
     (λ s p. p.1)
-    (reserve_changes _ _ (keeps_limiter _ _ (λ _ _ _. true) names).keeps.way n old result new h).tables
-
-length-without_first : {X : Type 0} (xs : List X) → length (without_first xs) ≤ length xs
-length-without_first [] = omega arith
-length-without_first (x ∷ xs) = omega arith
+    (reserve_changes (keeps_limiter {admits = λ _ _ _. true} {names = names}).keeps.way n old result new h).tables
 
 module _ {K V H : Type 0} (names : K → K → Bool) (hash_of : H → K → ℕ) where
   -- a limit by length
@@ -63,7 +58,7 @@ module _ {K V H : Type 0} (names : K → K → Bool) (hash_of : H → K → ℕ)
       → length old.pairs ≤ old.limiter → length new.pairs ≤ old.limiter
   run_stays_short new old ends few = few
   run_stays_short new old (goes_on mid s sized r) few =
-      let same = (step_changes _ _ names hash_of _ (keeps_limiter _ _ _ names) old mid s).1.moves in
+      let same = (step_changes keeps_limiter old mid s).1.moves in
       subst (λ most. length new.pairs ≤ most) same
       (run_stays_short new mid r
       (subst (λ most. length mid.pairs ≤ most) (sym same) (step_stays_short old mid s few)))
@@ -73,8 +68,7 @@ module _ {K V H : Type 0} (names : K → K → Bool) (hash_of : H → K → ℕ)
       (hands_over (λ _ _ _. true)) names hash_of old new
       → UsesAtMost old.limiter old → UsesAtMost old.limiter new
   step_uses_at_most old new s = uses_at_most (plain (λ _ _. false) (λ most bytes. nat_le bytes most)) _ _ old new
-      (λ bytes e. grind (arith, nat_tests)) (λ s p. p.1)
-      (step_changes _ _ names hash_of _ (keeps_limiter _ _ _ names) old new s).1.tables
+      (λ bytes e. grind (arith, nat_tests)) (λ s p. p.1) (step_changes keeps_limiter old new s).1.tables
 
   pub run_uses_at_most : (new old : State K V ℕ H)
       → Run (Step (plain (λ _ _. false) (λ most bytes. nat_le bytes most)) (hands_over (λ _ _ _. true)) names hash_of)
@@ -82,7 +76,7 @@ module _ {K V H : Type 0} (names : K → K → Bool) (hash_of : H → K → ℕ)
       → UsesAtMost old.limiter old → UsesAtMost old.limiter new
   run_uses_at_most new old ends uses = uses
   run_uses_at_most new old (goes_on mid s sized r) uses =
-      let same = (step_changes _ _ names hash_of _ (keeps_limiter _ _ _ names) old mid s).1.moves in
+      let same = (step_changes keeps_limiter old mid s).1.moves in
       subst (λ most. UsesAtMost most new) same
       (run_uses_at_most new mid r
       (subst (λ most. UsesAtMost most mid) (sym same) (step_uses_at_most old mid s uses)))

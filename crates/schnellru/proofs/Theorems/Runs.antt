@@ -1,5 +1,5 @@
 -- What each move keeps, every step keeps, and so does every run.
-use Rattle.std.proofs.Common.{◌≡◌, ℕ, Bool, List, subst}
+use Rattle.std.proofs.Common.{ℕ, Bool, List, subst}
 use Rattle.std.specs.List.{IsDistinct}
 use Rattle.std.specs.Map.{set_value}
 use Rattle.std.proofs.lemmas.Map.{keys-set_value}
@@ -22,23 +22,20 @@ use Rattle.schnellru.proofs.Theorems.CountedMoves.{promoted_changes, remove_chan
 use Rattle.schnellru.proofs.Theorems.CountedMoves.{pop_newest_changes, cleared_changes, drain_changes}
 use Rattle.schnellru.proofs.Theorems.CountedMoves.{reserve_changes, makes_newest_changes, written_changes, set_changes}
 
-module _ {K V S H I : Type 0} (rules : Rules K V S) (offers : Offers K V S I) (names : I → K → Bool)
-    (hash_of : H → K → ℕ) where
-  module _ (R : Contents K V S → Contents K V S → Type 0) (k : KeepsOffers rules offers names R) where
+module _ {K V S H I : Type 0} {rules : Rules K V S} {offers : Offers K V S I} {names : I → K → Bool}
+    {hash_of : H → K → ℕ} where
+  module _ {R : Contents K V S → Contents K V S → Type 0} (k : KeepsOffers rules offers names R) where
     pub step_changes : (old new : State K V S H) → Step rules offers names hash_of old new → (more : ℕ)
         × Changes rules R more old new
-    step_changes old new (inserts key value result h) =
-        (_, insert_changes rules offers names R k hash_of key value old result new h)
-    step_changes old new (makes_newest value key result h) =
-        (_, makes_newest_changes rules offers names R k hash_of (λ v. v ≡ value) key old result new h)
-    step_changes old new (gets key e) = rw e (_, promoted_changes rules names R k.keeps old key)
-    step_changes old new (removes test result h) = (_, remove_changes rules names R k.keeps old test result new h)
-    step_changes old new (pops_oldest result h) = (_, pop_oldest_changes rules names R k.keeps old result new h)
-    step_changes old new (pops_newest result h) = (_, pop_newest_changes rules names R k.keeps old result new h)
-    step_changes old new (drains newest oldest result h) =
-        (_, drain_changes rules names R k.keeps old newest oldest result new h)
-    step_changes old new (clears e) = rw e (_, cleared_changes rules names R k.keeps old)
-    step_changes old new (reserves n result h) = (_, reserve_changes rules R k.keeps.way n old result new h)
+    step_changes old new (inserts key value result h) = (_, insert_changes k key value old result new h)
+    step_changes old new (makes_newest value key result h) = (_, makes_newest_changes k h)
+    step_changes old new (gets key e) = rw e (_, promoted_changes k.keeps old key)
+    step_changes old new (removes test result h) = (_, remove_changes k.keeps old test result new h)
+    step_changes old new (pops_oldest result h) = (_, pop_oldest_changes k.keeps old result new h)
+    step_changes old new (pops_newest result h) = (_, pop_newest_changes k.keeps old result new h)
+    step_changes old new (drains newest oldest result h) = (_, drain_changes k.keeps old newest oldest result new h)
+    step_changes old new (clears e) = rw e (_, cleared_changes k.keeps old)
+    step_changes old new (reserves n result h) = (_, reserve_changes k.keeps.way n old result new h)
 
     -- and what is written, where that keeps what is to be kept
     pub any_changes : ((c : Contents K V S) (test : K → Bool) (value : V)
@@ -60,14 +57,13 @@ module _ {K V S H I : Type 0} (rules : Rules K V S) (offers : Offers K V S I) (n
       → PaysForMoves old new
   run_pays new old ok ends = pays_self new
   run_pays new old ok (goes_on mid s sized r) =
-      pays_trans ((any_changes _ (keeps_nothing rules offers names) (λ c test value. tt)
+      pays_trans ((any_changes keeps_nothing (λ c test value. tt)
       (λ c s. tt) old mid s).1.tables.pays (bounded_of old ok)) (run_pays new mid sized r)
 
-  pub run_summed : (cost : K → V → ℕ) (account : S → ℕ) → IsAccount rules offers cost account
+  pub run_summed : {cost : K → V → ℕ} {account : S → ℕ} → IsAccount rules offers cost account
       → (new old : State K V S H)
       → Run (Step rules offers names hash_of) new old → IsSummed cost account old → IsSummed cost account new
-  run_summed cost account laws new old r = stays_summed rules offers names cost account laws old new
-      (run_keeps _ (keeps_sums rules offers names cost account laws) new old r)
+  run_summed laws new old r = stays_summed laws old new (run_keeps (keeps_sums laws names) new old r)
 
   module _ {eq : K → K → Bool} {query_input : I → List (List ℕ)} {key_input : K → List (List ℕ)}
       (looks_up : IsLookup names eq query_input key_input)
@@ -75,7 +71,7 @@ module _ {K V S H I : Type 0} (rules : Rules K V S) (offers : Offers K V S I) (n
     any_is_map : (old new : State K V S H) → AnyStep rules offers names hash_of old new → IsMap eq old → IsSized new
         → IsMap eq new
     any_is_map old new s =
-        let changed = any_changes _ (offers_distinct rules offers names looks_up laws)
+        let changed = any_changes (offers_distinct looks_up laws)
         (λ c test value d. subst (IsDistinct eq) (sym (keys-set_value test c.pairs value)) d)
         (λ c s d. d) old new s in
         stays_map rules changed.0 old new changed.1

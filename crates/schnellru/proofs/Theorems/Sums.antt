@@ -55,8 +55,8 @@ module _ {K V : Type 0} (cost : K × V → ℕ) (names : K → Bool) where
       go None ys h = ap (total cost) h
       go (Some x) ys h = omega (arith, h)
 
-module _ {K V S I : Type 0} (rules : Rules K V S) (offers : Offers K V S I) (names : I → K → Bool) (cost : K → V → ℕ)
-    (account : S → ℕ) (laws : IsAccount rules offers cost account) where
+module _ {K V S I : Type 0} {rules : Rules K V S} {offers : Offers K V S I} {cost : K → V → ℕ}
+    {account : S → ℕ} (laws : IsAccount rules offers cost account) where
   -- the account is the sum over the pairs
   abbrev Holds : Contents K V S → Type 0
   Holds c = account c.limiter ≡ total (λ p. cost p.0 p.1) c.pairs
@@ -67,15 +67,15 @@ module _ {K V S I : Type 0} (rules : Rules K V S) (offers : Offers K V S I) (nam
   told_holds xs ys None s h e = e ∙ ap (total (λ p. cost p.0 p.1)) (sym h)
   told_holds xs ys (Some p) s h e = let r = laws.takes_off s p.0 p.1 (omega arith) in omega arith
 
-  exchanged_holds : (i : I) (v : V) (c : Contents K V S) (pair : K × V) → lookup_entry (names i) c.pairs ≡ Some pair
-      → Holds c → Holds (exchange rules offers names pair i v c)
-  exchanged_holds i v c pair found h =
+  exchanged_holds : (names : I → K → Bool) (i : I) (v : V) (c : Contents K V S) (pair : K × V)
+      → lookup_entry (names i) c.pairs ≡ Some pair → Holds c → Holds (exchange rules offers names pair i v c)
+  exchanged_holds names i v c pair found h =
       let n = subst (λ o. IsSplit (λ p. cost p.0 p.1) c.pairs o (without (names i) c.pairs)) found
       (split_named (λ p. cost p.0 p.1) (names i) c.pairs) in
       let r = laws.exchanges c.limiter (length c.pairs) pair.0 i pair.1 v (omega arith) in omega arith
 
-  pub keeps_sums : KeepsOffers rules offers names (λ c d. Holds c → Holds d)
-  keeps_sums = record {
+  pub keeps_sums : (names : I → K → Bool) → KeepsOffers rules offers names (λ c d. Holds c → Holds d)
+  keeps_sums names = record {
     keeps = record {
       way = record {
         self = λ c h. h;
@@ -89,7 +89,7 @@ module _ {K V S I : Type 0} (rules : Rules K V S) (offers : Offers K V S I) (nam
     };
     came = λ i v c s pair a n h. let r = laws.adds c.limiter (length c.pairs) i v s pair.0 pair.1 n in omega arith;
     turned_down = λ i v c s n h. laws.refuses c.limiter (length c.pairs) i v s n ∙ h;
-    exchanged = exchanged_holds;
+    exchanged = exchanged_holds names;
   }
 
   -- what makes these moves keeps the account the sum of the costs

@@ -24,8 +24,8 @@ use Rattle.schnellru.proofs.Theorems.TableGrowth.{limiter_calm, leaves_calm, cal
 use Rattle.schnellru.proofs.Theorems.TableGrowth.{then_calm, calm_changes, leaves_changes}
 
 module _ {K V S H : Type 0} (rules : Rules K V S) (P : S → Type 0) (pair : K × V) (old : State K V S H) where
-  -- the pair is placed after way was made for it, in a table that is the old one or is permitted, and its moves are
-  -- paid for
+  -- the pair is placed after way was made for it, in a table that is the old one or is permitted,
+  -- and its moves are paid for
   pub record Fills (mid new : State K V S H) : Type 0 where
     pub count : ℕ
     pub spare : ℕ
@@ -178,24 +178,24 @@ module _ {K V S Q : Type 0} (rules : Rules K V S) (names : Q → K → Bool) (R 
   place_keeps : {H : Type 0} (hash_of : H → K → ℕ) (pair : K × V) (old : State K V S H) (outcome : Outcome)
       (new : State K V S H) → Place rules hash_of pair old outcome new
       → R (behind pair (contents old)) (contents new)
-  place_keeps hash_of pair old outcome new p =
+  place_keeps {H} hash_of pair old outcome new p =
       let m = place_lands rules _ (way_behind rules names R k pair) (λ _. Unit {0}) hash_of pair old tt outcome new p in
       end outcome m.mid m.way m.lands
     where
-      away : (mid : State _ _ _ _) → R (behind pair (contents old)) (behind pair (contents mid)) → new
+      away : (mid : State K V S H) → R (behind pair (contents old)) (behind pair (contents mid)) → new
           ≡ turned_away rules pair mid → R (behind pair (contents old)) (contents new)
       away mid r e = subst (R _) (sym (ap contents e)) (k.way.trans r (k.left (λ _. true) (behind pair (contents mid))))
 
-      end : (outcome : Outcome) (mid : State _ _ _ _) → R (behind pair (contents old)) (behind pair (contents mid))
+      end : (outcome : Outcome) (mid : State K V S H) → R (behind pair (contents old)) (behind pair (contents mid))
           → Lands rules (λ _. Unit {0}) pair old outcome mid new
           → R (behind pair (contents old)) (contents new)
       end placed mid r l = subst (R _) (sym (ap contents l.is.state)) r
       end refused mid r l = away mid r l.1
       end no_memory mid r l = away mid r l
 
-module _ {K V S H I : Type 0} (rules : Rules K V S) (offers : Offers K V S I) (names : I → K → Bool)
-    (R : Contents K V S → Contents K V S → Type 0) (k : KeepsOffers rules offers names R)
-    (hash_of : H → K → ℕ) (i : I) (v : V) (old : State K V S H) where
+module _ {K V S H I : Type 0} {rules : Rules K V S} {offers : Offers K V S I} {names : I → K → Bool}
+    {R : Contents K V S → Contents K V S → Type 0} (k : KeepsOffers rules offers names R) (i : I) (v : V)
+    (old : State K V S H) where
   -- what a replacement leaves, where this value of the two stays
   exchanges : (pair : K × V) (w : V) → kept_value (replacement rules offers names pair i v old) ≡ w
       → R (contents old) (exchange rules offers names pair i v (contents old))
@@ -211,7 +211,7 @@ module _ {K V S H I : Type 0} (rules : Rules K V S) (offers : Offers K V S I) (n
       })) e r
 
   -- what each move keeps, an insert keeps
-  pub insert_changes : (result : Result Bool AllocError) (new : State K V S H)
+  pub insert_changes : {hash_of : H → K → ℕ} (result : Result Bool AllocError) (new : State K V S H)
       → Insert rules offers names hash_of i v old result new → Changes rules R 1 old new
   insert_changes result new (replaced pair found y r l) =
       leaves_changes rules R 1 old _ new l
@@ -225,7 +225,7 @@ module _ {K V S H I : Type 0} (rules : Rules K V S) (offers : Offers K V S I) (n
       (calm_changes rules R 1 old old (self_calm old) (k.keeps.way.self (contents old)))
   insert_changes result new (not_admitted a s n r e) = rw e
       (calm_changes rules R 1 old _ (limiter_calm old s) (k.turned_down i v (contents old) s n))
-  insert_changes result new (admitted a s pair n (ready, l, outcome, landed, p, t)) =
+  insert_changes {hash_of} result new (admitted a s pair n (ready, l, outcome, landed, p, t)) =
       let start : State K V S H = record old { limiter = s } in
       let hand = way_behind rules names R k.keeps pair in
       let reached = k.keeps.way.trans (k.came i v (contents old) s pair a n)

@@ -1,5 +1,5 @@
--- How links keep an order of buckets: each entry has the numbers of its two neighbours. No public clause cites this
--- module.
+-- How links keep an order of buckets: each entry has the numbers of its two neighbours.
+-- No public clause cites this module.
 use Rattle.std.specs.Prelude.{◌≡◌, ◌≢◌, ◌⊎◌, ℕ, zero, suc, ◌<◌, slice_index_or, List, [], ◌∷◌, length, map, nat_eq}
 use Rattle.std.specs.Prelude.{if◌then◌else◌, Option, Some, None, option_map, unwrap_or, Contains, AllPairs}
 use Rattle.group_table.specs.Bucket.{empty, deleted, full, Slot, IsFull, entry_at, entry_count}
@@ -99,8 +99,8 @@ pub record SetsEnd {N : Type 0} (none old new at to : N) : Type 0 where
   pub stays : at ≢ none → new ≡ old
 
 module _ {K V N : Type 0} (number : N → ℕ) (link : ℕ → N) (none : N) where
-  -- the links, which reach every bucket, keep the order of some full buckets: its ends, and the neighbours of each
-  -- bucket
+  -- the links, which reach every bucket, keep the order of some full buckets:
+  -- its ends, and the neighbours of each bucket
   pub record IsChain (slots : List (Slot (Entry K V N))) (newest oldest : N) (order : List ℕ) : Type 0 where
     pub reached : length slots < number none
     pub distinct : AllPairs ◌≢◌ order

@@ -24,8 +24,8 @@ pub fn runs_keep_sums<K: Eq + Hash, V, I: LookupKey<K>, L: Summing<K, V, I>, S: 
         IsSummed L.cost_of L.account old → IsSummed L.cost_of L.account new }
 {}
 
-/// Over any calls moved and potential together rise by at most two for each element that is placed, while the count of
-/// these goes on.
+/// Over any calls moved and potential together rise by at most two for each element that is placed,
+/// while the count of these goes on.
 pub fn runs_pay_for_moves<K: Eq + Hash, V, I: LookupKey<K>, L: Insertion<K, V, I>, S: BuildHasher>()
     ensures rise { (old new : State K V L S) →
         Run (AnyStep L.rules L.offers I.names (hash_by K.hash_input S.BuildHasher S.Hasher.Hasher)) new old →

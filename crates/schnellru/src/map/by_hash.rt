@@ -47,8 +47,8 @@ impl<K: Eq + Hash, V, L: Limiter<K, V>, S: BuildHasher> LruMap<K, V, L, S> {
         Some(&mut self.entries.pair_mut(b).value)
     }
 
-    /// The value of a pair of this hash that `is_eq` accepts. The order stays. `is_eq` is asked as `get_by_hash` asks
-    /// it.
+    /// The value of a pair of this hash that `is_eq` accepts. The order stays.
+    /// `is_eq` is asked as `get_by_hash` asks it.
     ///
     /// ```
     /// assert_eq!(rt; map.peek_by_hash(hash, |_, value| *value == 10).copied(), Some(10));

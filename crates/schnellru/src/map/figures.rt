@@ -34,19 +34,19 @@ impl<K: Eq + Hash, V, L: Limiter<K, V>, S: BuildHasher> LruMap<K, V, L, S> {
 
     /// How many pairs the table is sure to take without growing: those that it has, and its room.
     ///
-    /// It does not depend on the limiter, and may fall where a pair leaves a table of more than 16 buckets. Cost:
-    /// `O(1)`.
+    /// It does not depend on the limiter, and may fall where a pair leaves a table of more than 16 buckets.
+    /// Cost: `O(1)`.
     pub fn guaranteed_capacity(&self) -> usize
         ensures { result ≡ length self.now.pairs + room self.now }
     {
         self.entries.len() + self.entries.room()
     }
 
-    /// The bytes of the table: its entries, rounded up to a multiple of 16, a byte for each bucket, and 16 more; 0
-    /// without buckets.
+    /// The bytes of the table, or 0 without buckets.
+    /// They are those of its entries, rounded up to a multiple of 16, a byte for each bucket, and 16 more.
     ///
-    /// An entry counts as the bytes that the constructor was told. 4 buckets of 16 bytes are 64 + 4 + 16 = 84. Cost:
-    /// `O(1)`.
+    /// An entry counts as the bytes that the constructor was told. 4 buckets of 16 bytes are 64 + 4 + 16 = 84.
+    /// Cost: `O(1)`.
     pub fn memory_usage(&self) -> usize
         ensures { usage self.now.entry_bytes (buckets self.now) ≡ Some result }
     {

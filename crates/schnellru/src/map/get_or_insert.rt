@@ -138,8 +138,7 @@ impl<K: Eq + Hash + Drop, V: Drop, L: Limiter<K, V>, S: BuildHasher> LruMap<K, V
         }
     }
 
-    /// The value of a key, to be changed. Where the key is not there, it is inserted with the value that the closure
-    /// makes.
+    /// The value of a key, to be changed. A key that is not there is inserted with the value that the closure makes.
     ///
     /// For a key that is there the closure is not called, its pair becomes the newest, and nothing is told to the
     /// limiter. `None` says that the new pair is not in the map, as `insert` says it by false. A proof about a caller

@@ -45,8 +45,8 @@ impl<K: Eq + Hash, V, L: Limiter<K, V>, S: BuildHasher> LruMap<K, V, L, S> {
 
     /// The value of the newest pair, to be changed. What is written is not told to the limiter.
     ///
-    /// `None` says that there are no pairs. After `ensure_newest` answered true it is the value of that key. Cost:
-    /// `O(1)`.
+    /// `None` says that there are no pairs. After `ensure_newest` answered true it is the value of that key.
+    /// Cost: `O(1)`.
     #[inline]
     pub fn newest_mut(&mut self) -> Option<&mut V>
         ensures* writes_back { sem 𝓛 (lends_newest K.row V.row L.row S.row L.LinkType.row S.Hasher.row K.Hash L.Limiter

@@ -68,8 +68,8 @@ impl<K: Eq + Hash + Drop, V, L: Limiter<K, V>, S: BuildHasher> LruMap<K, V, L, S
 }
 
 impl<K: Eq + Hash + Drop, V: Drop, L: Limiter<K, V>, S: BuildHasher> LruMap<K, V, L, S> {
-    /// Drops all pairs. The limiter is told of the clear alone, also where there is no pair. The table keeps its
-    /// buckets.
+    /// Drops all pairs. The limiter is told of the clear alone, also where there is no pair.
+    /// The table keeps its buckets.
     ///
     /// ```
     /// map.clear();

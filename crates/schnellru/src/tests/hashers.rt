@@ -5,8 +5,8 @@ use crate::{DefaultHasher, RandomState};
 use std::cell::Cell;
 use std::hash::{BuildHasher, Hasher};
 
-/// Hashes to the last byte that was written, which is the highest one of a number: to 0 for a `u64` below 2 to the
-/// 56th.
+/// Hashes to the last byte that was written, which is the highest one of a number.
+/// A `u64` below 2 to the 56th hashes to 0.
 #[derive(Clone, Copy)]
 pub struct LastByte(pub u64);
 

@@ -9,8 +9,8 @@ use lru_limits::Limiter;
 use std::hash::{BuildHasher, Hash};
 use std::iter::FusedIterator;
 
-/// Takes the pairs out of a map from both ends. What is left is cleared when it is dropped, and stays where it is
-/// forgotten.
+/// Takes the pairs out of a map from both ends.
+/// What is left is cleared when it is dropped, and stays where it is forgotten.
 ///
 /// A pair that is taken is one that `pop_newest` or `pop_oldest` takes: the limiter is told of it, and what it leaves
 /// of the pair is given. The clear tells the limiter of the clear alone.

@@ -1,4 +1,4 @@
-use Rattle.std.proofs.Common.{◌≤◌, ◌<◌, ◌+◌, ◌%◌, slice_index, sym, arith}
+use Rattle.std.proofs.Common.{◌<◌, ◌+◌, ◌%◌, slice_index, sym, arith}
 use Rattle.group_table.specs.Bytes.{IsFreeByte}
 use Rattle.group_table.specs.Control.{buckets_of}
 use Rattle.group_table.proofs.Masks.{mask_at, mask_from_start, none_of_zero}

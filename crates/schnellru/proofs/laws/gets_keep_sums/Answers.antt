@@ -5,5 +5,5 @@ use Rattle.schnellru.proofs.laws.gets_keep_sums.Goals as goal
 
 pub returns : goal.returns
 returns g c = λ key old summed. let laws = g.met.L.Summing.laws in
-    stays_summed _ _ g.I.LookupKey.names _ _ laws old (promoted (g.I.LookupKey.names key) old)
-    (promoted_changes _ _ _ (keeps_sums _ _ g.I.LookupKey.names _ _ laws).keeps old key).moves summed
+    stays_summed laws old (promoted (g.I.LookupKey.names key) old)
+    (promoted_changes (keeps_sums laws g.I.LookupKey.names).keeps old key).moves summed

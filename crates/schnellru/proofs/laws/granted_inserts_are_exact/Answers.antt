@@ -4,4 +4,4 @@ use Rattle.schnellru.proofs.laws.granted_inserts_are_exact.Goals as goal
 
 pub returns : goal.returns
 returns g c = λ key value old result new grants tables ok step.
-    insert_ends _ _ _ _ key value old (granted_places _ grants _ old tables) result new ok step
+    insert_ends (granted_places _ grants _ old tables) ok step

@@ -5,11 +5,10 @@ use Rattle.schnellru.proofs.laws.inserts_keep_maps.Goals as goal
 
 pub returns-clause-keys : goal.returns-clause-keys
 returns-clause-keys g c = λ key value old result new d step.
-    (insert_changes _ _ _ _ (offers_distinct _ _ _ g.met.I.LookupKey.laws g.met.L.Insertion.laws) _ key value old
+    (insert_changes (offers_distinct g.met.I.LookupKey.laws g.met.L.Insertion.laws) key value old
     result new step).moves d
 
 pub returns-clause-map : goal.returns-clause-map
 returns-clause-map g c = λ key value old result new ok sized step.
-    stays_map _ 1 old new
-    (insert_changes _ _ _ _ (offers_distinct _ _ _ g.met.I.LookupKey.laws g.met.L.Insertion.laws) _ key value old
+    stays_map _ 1 old new (insert_changes (offers_distinct g.met.I.LookupKey.laws g.met.L.Insertion.laws) key value old
     result new step) ok sized

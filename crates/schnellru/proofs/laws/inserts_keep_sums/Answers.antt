@@ -4,5 +4,5 @@ use Rattle.schnellru.proofs.laws.inserts_keep_sums.Goals as goal
 
 pub returns : goal.returns
 returns g c = λ key value old result new summed step. let laws = g.met.L.Summing.laws in
-    stays_summed _ _ g.I.LookupKey.names _ _ laws old new
-    (insert_changes _ _ _ _ (keeps_sums _ _ _ _ _ laws) _ key value old result new step).moves summed
+    stays_summed laws old new
+    (insert_changes (keeps_sums laws g.I.LookupKey.names) key value old result new step).moves summed

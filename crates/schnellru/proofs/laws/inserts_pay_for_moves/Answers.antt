@@ -8,13 +8,12 @@ use Rattle.schnellru.proofs.laws.inserts_pay_for_moves.Goals as goal
 
 pub returns-clause-rise : goal.returns-clause-rise
 returns-clause-rise g c = λ key value old result new ok step.
-    (insert_changes _ _ _ _ (keeps_nothing _ _ _) _ key value old result new step).tables.pays (bounded_of old ok)
+    (insert_changes keeps_nothing key value old result new step).tables.pays (bounded_of old ok)
 
 pub returns-clause-paid : goal.returns-clause-paid
 returns-clause-paid g c = λ key value old result new ok paid step.
-    let after = stays_paid _ _ 1 old new
-    (insert_changes _ _ _ _ (keeps_nothing _ _ _) _ key value old result new step).tables ok paid in
+    let after = stays_paid _ _ 1 old new (insert_changes keeps_nothing key value old result new step).tables ok paid in
     (after, omega arith)
 
 pub returns-clause-counted : goal.returns-clause-counted
-returns-clause-counted g c = λ key value old result new step. insert_counts _ _ _ _ key value old result new step
+returns-clause-counted g c = λ key value old result new step. insert_counts step

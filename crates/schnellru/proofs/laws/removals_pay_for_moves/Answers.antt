@@ -6,16 +6,16 @@ use Rattle.schnellru.proofs.laws.removals_pay_for_moves.Goals as goal
 
 pub returns-clause-removed : goal.returns-clause-removed
 returns-clause-removed g c = λ names old result new ok step.
-    (remove_changes _ _ _ (stay_any _) old names result new step).tables.pays (bounded_of old ok)
+    (remove_changes stay_any old names result new step).tables.pays (bounded_of old ok)
 
 pub returns-clause-oldest : goal.returns-clause-oldest
 returns-clause-oldest g c = λ old result new ok step.
-    (pop_oldest_changes _ _ _ (stay_any _) old result new step).tables.pays (bounded_of old ok)
+    (pop_oldest_changes stay_any old result new step).tables.pays (bounded_of old ok)
 
 pub returns-clause-newest : goal.returns-clause-newest
 returns-clause-newest g c = λ old result new ok step.
-    (pop_newest_changes _ _ _ (stay_any _) old result new step).tables.pays (bounded_of old ok)
+    (pop_newest_changes stay_any old result new step).tables.pays (bounded_of old ok)
 
 pub returns-clause-cleared : goal.returns-clause-cleared
 returns-clause-cleared g c = λ old ok.
-    (cleared_changes g.L.Limiter.rules _ _ (stay_any _) old).tables.pays (bounded_of old ok)
+    (cleared_changes {rules = g.L.Limiter.rules} stay_any old).tables.pays (bounded_of old ok)

@@ -5,4 +5,4 @@ use Rattle.schnellru.proofs.laws.reservations_pay_for_moves.Goals as goal
 
 pub returns : goal.returns
 returns g c = λ n old result new ok step.
-    (reserve_changes _ _ (stay_any _).way n old result new step).tables.pays (bounded_of old ok)
+    (reserve_changes stay_any.way n old result new step).tables.pays (bounded_of old ok)

@@ -2,8 +2,7 @@ use Rattle.schnellru.proofs.Theorems.Exactness.{insert_ends, small_places, inser
 use Rattle.schnellru.proofs.laws.small_inserts_are_exact.Goals as goal
 
 pub returns-clause-exact : goal.returns-clause-exact
-returns-clause-exact g c = λ key value old result new small ok step.
-    insert_ends _ _ _ _ key value old (small_places _ _ old small) result new ok step
+returns-clause-exact g c = λ key value old result new small ok step. insert_ends (small_places _ _ old small) ok step
 
 pub returns-clause-alike : goal.returns-clause-alike
 returns-clause-alike g c = λ key value old result other new others determined h k.

@@ -45,5 +45,4 @@ returns-clause-fits g c = λ hash_of other alike fits.
     (λ x made r. search rules) old new done.copies hash_of other alike done.fits (rw (← c.self.view_is) at fits)
 
 pub returns-clause-linked : goal.returns-clause-linked
-returns-clause-linked g c =
-    IsLinked-view _ _ _ _ g.met.N.LinkType.laws _ _ _ _ (invariant_of-result g c) c.in_ok-table.ensures.table
+returns-clause-linked g c = IsLinked-view g.met.N.LinkType.laws (invariant_of-result g c) c.in_ok-table.ensures.table

@@ -5,6 +5,6 @@ pub returns : goal.returns
 returns g c =
     record {
       last = rw (← c.self.view_is)
-          (last_shown _ _ _ _ g.met.N.LinkType.laws _ _ _ _ c.self.invariant c.bucket_of.result c.bucket_of.ensures.none
+          (last_shown g.met.N.LinkType.laws c.self.invariant c.bucket_of.result c.bucket_of.ensures.none
           c.bucket_of.ensures.some);
     }

@@ -3,4 +3,4 @@ use Rattle.schnellru.proofs.link.Linked.len.Goals as goal
 
 pub returns-clause-linked : goal.returns-clause-linked
 returns-clause-linked g c = rw (← c.self.view_is)
-    (IsLinked-view _ _ _ _ g.met.N.LinkType.laws _ _ _ _ c.self.invariant c.len.ensures.table)
+    (IsLinked-view g.met.N.LinkType.laws c.self.invariant c.len.ensures.table)

@@ -9,7 +9,7 @@ use Rattle.schnellru.proofs.link.Linked.move_to.Goals as goal
 
 pub returns-in_err-links-clause-linked : goal.returns-in_err-links-clause-linked
 returns-in_err-links-clause-linked g c =
-    rw c.in_err-links.ensures.unchanged (IsLinked-view _ _ _ _ g.met.N.LinkType.laws _ _ _ _ c.self.invariant
+    rw c.in_err-links.ensures.unchanged (IsLinked-view g.met.N.LinkType.laws c.self.invariant
     (rw c.in_err-links.ensures.unchanged at c.move_entries.ensures.table))
 
 pub rewrite-requires-clause-moved : goal.rewrite-requires-clause-moved
@@ -20,21 +20,20 @@ pub invariant_of-self-2 : goal.invariant_of-self-2
 invariant_of-self-2 g c =
     let renumbers = rw (← c.as_slice.ensures.value) at c.in_ok-links.ensures.renumbered in
     let chain = c.rewrite.ensures.chain _ _ c.self.invariant renumbers in
-    IsWhole-shown _ _ _ _ g.met.N.LinkType.laws _ _ _ _
-    (IsWhole-moved _ _ _ _ _ _ _ renumbers c.rewrite.ensures.pairs _ _ _ _ _ c.self.invariant
+    IsWhole-shown g.met.N.LinkType.laws
+    (IsWhole-moved renumbers c.rewrite.new.table.slots c.rewrite.ensures.pairs c.self.invariant
     c.in_ok-links.ensures.entries chain)
 
 pub returns-clause-pairs : goal.returns-clause-pairs
 returns-clause-pairs g c =
     let renumbers = rw (← c.as_slice.ensures.value) at c.in_ok-links.ensures.renumbered in
     let chain = c.rewrite.ensures.chain _ _ c.self.invariant renumbers in
-    let order = whole_order _ _ _ _ g.met.N.LinkType.laws _ _ _ _
-    (IsWhole-moved _ _ _ _ _ _ _ renumbers c.rewrite.ensures.pairs _ _ _ _ _ c.self.invariant
+    let order = whole_order g.met.N.LinkType.laws
+    (IsWhole-moved renumbers c.rewrite.new.table.slots c.rewrite.ensures.pairs c.self.invariant
     c.in_ok-links.ensures.entries chain) in
     rw (← c.self.view_is)
     (ap (entries_in (pair_slots c.rewrite.new.table.slots)) order
-    ∙ pairs-moved g.N.LinkType.number g.N.LinkType.link g.N.LinkType.MAX _ _ _ _ renumbers c.rewrite.ensures.pairs _ _
-    _ c.self.invariant)
+    ∙ pairs-moved renumbers c.rewrite.new.table.slots c.rewrite.ensures.pairs c.self.invariant)
 
 pub returns-clause-room : goal.returns-clause-room
 returns-clause-room g c =
@@ -44,13 +43,11 @@ returns-clause-room g c =
 
 pub returns-clause-fits : goal.returns-clause-fits
 returns-clause-fits g c =
-    KeysFit-moved g.N.LinkType.number g.N.LinkType.link g.N.LinkType.MAX _ _ _ _ c.in_ok-links.ensures.renumbered
-    c.rewrite.ensures.pairs
+    KeysFit-moved c.in_ok-links.ensures.renumbered c.rewrite.new.table.slots c.rewrite.ensures.pairs
     (hash_by g.K.Hash.hash_input g.S.BuildHasher g.S.Hasher.Hasher c.args.hasher.now)
     c.in_ok-links.ensures.hashes
 
 pub returns-clause-linked : goal.returns-clause-linked
 returns-clause-linked g c =
     let marks = same_marks c.move_entries.new.table.slots c.rewrite.new.table.slots c.rewrite.ensures.pairs in
-    IsLinked-view _ _ _ _ g.met.N.LinkType.laws _ _ _ _ (invariant_of-self-2 g c)
-    (rw marks c.move_entries.ensures.table)
+    IsLinked-view g.met.N.LinkType.laws (invariant_of-self-2 g c) (rw marks c.move_entries.ensures.table)

@@ -6,6 +6,6 @@ pub returns : goal.returns
 returns g c =
     let some = rw (← c.self.view_is) at c.requires in
     record {
-      oldest = rw (← c.self.view_is) (oldest_shown _ _ _ _ g.met.N.LinkType.laws _ _ _ _ c.self.invariant some
+      oldest = rw (← c.self.view_is) (oldest_shown g.met.N.LinkType.laws c.self.invariant some
           ∙ ap Some (sym c.into_usize.ensures));
     }

@@ -7,16 +7,14 @@ use Rattle.schnellru.proofs.link.Linked.pair_mut.Goals as goal
 
 pub invariant_of-self-lent : goal.invariant_of-self-lent
 invariant_of-self-lent g c w =
-    IsWhole-shown _ _ _ _ g.met.N.LinkType.laws _ _ _ _
-    (IsWhole-refilled _ _ _ _ g.met.N.LinkType.laws _ _ _ _ c.self.invariant c.args.b c.get_mut.result.now
-    c.get_mut.ensures.entry w)
+    IsWhole-shown g.met.N.LinkType.laws
+    (IsWhole-refilled g.met.N.LinkType.laws c.self.invariant c.args.b c.get_mut.result.now c.get_mut.ensures.entry w)
 
 pub returns : goal.returns
 returns g c = (
   (
     refl,
-    λ w. rw (← c.self.view_is)
-        (view-refilled _ _ _ _ g.met.N.LinkType.laws _ _ _ _ c.self.invariant c.args.b c.get_mut.result.now
+    λ w. rw (← c.self.view_is) (view-refilled g.met.N.LinkType.laws c.self.invariant c.args.b c.get_mut.result.now
         c.get_mut.ensures.entry w _),
   ),
   record {
@@ -28,8 +26,7 @@ returns g c = (
         (rw (← c.self.view_is) (entry_at-pair_slots c.self.inside.table.slots c.args.b
         ∙ ap (option_map pair_of) c.get_mut.ensures.entry)) same fits;
     linked = λ last.
-        rw (← c.self.view_is)
-        (IsLinked-refilled _ _ _ _ g.met.N.LinkType.laws _ _ _ _ c.self.invariant c.args.b c.get_mut.result.now
+        rw (← c.self.view_is) (IsLinked-refilled g.met.N.LinkType.laws c.self.invariant c.args.b c.get_mut.result.now
         c.get_mut.ensures.entry
         (record { key = last.0; value = last.1 }) c.get_mut.ensures.table);
   },

@@ -13,31 +13,27 @@ link_newest-requires-clause-chained g c =
     let placed = c.in-Ok.ensures.placed in
     let within = fills_within c.self.inside.table.slots c.args.hash c.in-Ok.b placed.first c.in-Ok.ensures.may_fill in (
       _,
-      IsChain-placed _ _ _ _ g.met.N.LinkType.laws _ _ _ _ _ c.self.invariant c.args.hash c.in-Ok.b _ placed within,
-      placed_absent _ _ _ _ g.met.N.LinkType.laws _ _ _ _ _ c.self.invariant c.args.hash c.in-Ok.b _ placed within,
+      IsChain-placed g.met.N.LinkType.laws c.self.invariant placed within,
+      placed_absent g.met.N.LinkType.laws c.self.invariant placed within,
     )
 
 pub invariant_of-self : goal.invariant_of-self
 invariant_of-self g c =
     let placed = c.in-Ok.ensures.placed in
     let within = fills_within c.self.inside.table.slots c.args.hash c.in-Ok.b placed.first c.in-Ok.ensures.may_fill in
-    let chain = c.link_newest.ensures.chain _
-    (IsChain-placed _ _ _ _ g.met.N.LinkType.laws _ _ _ _ _ c.self.invariant c.args.hash c.in-Ok.b _ placed within)
-    (placed_absent _ _ _ _ g.met.N.LinkType.laws _ _ _ _ _ c.self.invariant c.args.hash c.in-Ok.b _ placed within) in
-    IsWhole-shown _ _ _ _ g.met.N.LinkType.laws _ _ _ _
-    (IsWhole-placed _ _ _ _ g.met.N.LinkType.laws _ _ _ _ _ c.self.invariant c.args.hash c.in-Ok.b _ placed within _ _
-    _ c.link_newest.ensures.pairs chain)
+    let chain = c.link_newest.ensures.chain _ (IsChain-placed g.met.N.LinkType.laws c.self.invariant placed within)
+    (placed_absent g.met.N.LinkType.laws c.self.invariant placed within) in
+    IsWhole-shown g.met.N.LinkType.laws (IsWhole-placed g.met.N.LinkType.laws c.self.invariant placed within
+    c.link_newest.ensures.pairs chain)
 
 pub returns-in-Ok-clause-placed : goal.returns-in-Ok-clause-placed
 returns-in-Ok-clause-placed g c =
     let placed = c.in-Ok.ensures.placed in
     let within = fills_within c.self.inside.table.slots c.args.hash c.in-Ok.b placed.first c.in-Ok.ensures.may_fill in
-    let chain = c.link_newest.ensures.chain _
-    (IsChain-placed _ _ _ _ g.met.N.LinkType.laws _ _ _ _ _ c.self.invariant c.args.hash c.in-Ok.b _ placed within)
-    (placed_absent _ _ _ _ g.met.N.LinkType.laws _ _ _ _ _ c.self.invariant c.args.hash c.in-Ok.b _ placed within) in
-    let order = whole_order _ _ _ _ g.met.N.LinkType.laws _ _ _ _
-    (IsWhole-placed _ _ _ _ g.met.N.LinkType.laws _ _ _ _ _ c.self.invariant c.args.hash c.in-Ok.b _ placed within _ _
-    _ c.link_newest.ensures.pairs chain) in
+    let chain = c.link_newest.ensures.chain _ (IsChain-placed g.met.N.LinkType.laws c.self.invariant placed within)
+    (placed_absent g.met.N.LinkType.laws c.self.invariant placed within) in
+    let order = whole_order g.met.N.LinkType.laws (IsWhole-placed g.met.N.LinkType.laws c.self.invariant placed within
+    c.link_newest.ensures.pairs chain) in
     rw (← c.self.view_is) (
       c.in-Ok.b,
       record {
@@ -71,11 +67,11 @@ returns-in-Ok-clause-fits g c hash_of fits same =
 pub returns-in-Ok-clause-linked : goal.returns-in-Ok-clause-linked
 returns-in-Ok-clause-linked g c =
     let marks = same_marks c.try_place.new.self.slots c.link_newest.new.table.slots c.link_newest.ensures.pairs in
-    IsLinked-view _ _ _ _ g.met.N.LinkType.laws _ _ _ _ (invariant_of-self g c) (rw marks c.try_place.ensures.table)
+    IsLinked-view g.met.N.LinkType.laws (invariant_of-self g c) (rw marks c.try_place.ensures.table)
 
 pub returns-in-Err-clause-linked : goal.returns-in-Err-clause-linked
 returns-in-Err-clause-linked g c =
-    rw c.in-Err.ensures.unchanged (IsLinked-view _ _ _ _ g.met.N.LinkType.laws _ _ _ _ c.self.invariant
+    rw c.in-Err.ensures.unchanged (IsLinked-view g.met.N.LinkType.laws c.self.invariant
     (rw c.in-Err.ensures.unchanged at c.try_place.ensures.table))
 
 pub returns-in-Err-clause-no_place : goal.returns-in-Err-clause-no_place

@@ -10,4 +10,4 @@ returns-clause-room g c = rw (← c.self.view_is)
 
 pub returns-clause-linked : goal.returns-clause-linked
 returns-clause-linked g c = rw (← c.self.view_is)
-    (IsLinked-view _ _ _ _ g.met.N.LinkType.laws _ _ _ _ c.self.invariant c.room.ensures.table)
+    (IsLinked-view g.met.N.LinkType.laws c.self.invariant c.room.ensures.table)

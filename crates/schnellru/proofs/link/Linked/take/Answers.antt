@@ -8,11 +8,10 @@ use Rattle.schnellru.proofs.link.Linked.take.Goals as goal
 pub invariant_of-self : goal.invariant_of-self
 invariant_of-self g c =
     let full = rw (← c.self.view_is) at c.requires in
-    let there = inside _ _ _ _ g.met.N.LinkType.laws _ _ _ _ c.self.invariant c.args.b full in
+    let there = inside g.met.N.LinkType.laws c.self.invariant c.args.b full in
     let left = c.unlink.ensures.chain _ c.self.invariant.chain there in
-    IsWhole-shown _ _ _ _ g.met.N.LinkType.laws _ _ _ _
-    (IsWhole-taken _ _ _ _ g.met.N.LinkType.laws _ _ _ _ _ _ _ _ c.self.invariant c.args.b
-    (full_entry _ _ _ _ g.met.N.LinkType.laws _ _ _ _ c.self.invariant c.args.b full) c.unlink.ensures.pairs left
+    IsWhole-shown g.met.N.LinkType.laws (IsWhole-taken g.met.N.LinkType.laws c.self.invariant c.args.b
+    (full_entry g.met.N.LinkType.laws c.self.invariant c.args.b full) c.unlink.ensures.pairs left
     c.take-key.ensures.removed)
 
 pub returns-clause-removed : goal.returns-clause-removed
@@ -22,11 +21,11 @@ returns-clause-removed g c = rw (← c.self.view_is, ← c.unlink.ensures.pairs)
 pub returns-clause-order : goal.returns-clause-order
 returns-clause-order g c =
     let full = rw (← c.self.view_is) at c.requires in
-    let there = inside _ _ _ _ g.met.N.LinkType.laws _ _ _ _ c.self.invariant c.args.b full in
+    let there = inside g.met.N.LinkType.laws c.self.invariant c.args.b full in
     let left = c.unlink.ensures.chain _ c.self.invariant.chain there in
-    rw (← c.self.view_is) (whole_order _ _ _ _ g.met.N.LinkType.laws _ _ _ _
-    (IsWhole-taken _ _ _ _ g.met.N.LinkType.laws _ _ _ _ _ _ _ _ c.self.invariant c.args.b
-    (full_entry _ _ _ _ g.met.N.LinkType.laws _ _ _ _ c.self.invariant c.args.b full) c.unlink.ensures.pairs left
+    rw (← c.self.view_is) (whole_order g.met.N.LinkType.laws
+    (IsWhole-taken g.met.N.LinkType.laws c.self.invariant c.args.b
+    (full_entry g.met.N.LinkType.laws c.self.invariant c.args.b full) c.unlink.ensures.pairs left
     c.take-key.ensures.removed))
 
 pub returns-clause-room : goal.returns-clause-room
@@ -46,5 +45,4 @@ returns-clause-fits g c hash_of fits =
     (Fits-pair_slots _ _ (c.take-key.ensures.fits _ (Fits-entries c.unlink.new.table.slots _ before)))
 
 pub returns-clause-linked : goal.returns-clause-linked
-returns-clause-linked g c = IsLinked-view _ _ _ _ g.met.N.LinkType.laws _ _ _ _
-    (invariant_of-self g c) c.take-key.ensures.table
+returns-clause-linked g c = IsLinked-view g.met.N.LinkType.laws (invariant_of-self g c) c.take-key.ensures.table

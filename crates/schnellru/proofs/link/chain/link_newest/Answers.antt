@@ -2,13 +2,11 @@ use Rattle.schnellru.proofs.Chains.LinkWrites.{newest_leads, IsChain-linked}
 use Rattle.schnellru.proofs.link.chain.link_newest.Goals as goal
 
 pub set_newer-requires-clause-there : goal.set_newer-requires-clause-there
-set_newer-requires-clause-there g c =
-    newest_leads _ _ _ _ g.met.N.LinkType.laws _ _ _ c.requires.chained.0 c.requires.chained.1
+set_newer-requires-clause-there g c = newest_leads g.met.N.LinkType.laws c.requires.chained.1
 
 pub returns-clause-chain : goal.returns-clause-chain
 returns-clause-chain g c order chain absent =
-    rw c.from_usize-link.ensures
-    (IsChain-linked _ _ _ _ g.met.N.LinkType.laws _ _ _ _ _ _ c.args.b order chain absent c.requires.full
+    rw c.from_usize-link.ensures (IsChain-linked g.met.N.LinkType.laws c.args.b chain absent c.requires.full
     (rw c.from_usize-link.ensures at c.set_newer.ensures.slots)
     (rw c.from_usize-link.ensures at c.set_newer.ensures.end)
     (rw c.MAX.ensures at c.set_links.ensures.links))

@@ -5,12 +5,12 @@ use Rattle.schnellru.proofs.link.chain.unlink.Goals as goal
 
 pub set_older-requires-clause-there : goal.set_older-requires-clause-there
 set_older-requires-clause-there g c =
-    newer_leads _ _ _ _ g.met.N.LinkType.laws _ _ _ c.requires.0 c.requires.1 c.args.b c.requires.2
+    newer_leads g.met.N.LinkType.laws c.requires.1 c.args.b c.requires.2
     c.get-entry.result.now c.get-entry.ensures.entry
 
 pub set_newer-requires-clause-there : goal.set_newer-requires-clause-there
 set_newer-requires-clause-there g c =
-    elim (older_leads _ _ _ _ g.met.N.LinkType.laws _ _ _ c.requires.0 c.requires.1 c.args.b c.requires.2
+    elim (older_leads g.met.N.LinkType.laws c.requires.1 c.args.b c.requires.2
     c.get-entry.result.now c.get-entry.ensures.entry) [
       | inl none ↦ inl none
       | inr full ↦ inr (same_full _ _ c.set_older.ensures.slots.pairs _ ∙ full)
@@ -18,9 +18,7 @@ set_newer-requires-clause-there g c =
 
 pub returns-clause-chain : goal.returns-clause-chain
 returns-clause-chain g c order chain there =
-    IsChain-unlinked _ _ _ _ g.met.N.LinkType.laws _ _ _ _ _ _ _ _ _ c.args.b order chain there
-    (newer_link _ _ _ _ g.met.N.LinkType.laws _ _ _ order chain c.args.b there c.get-entry.result.now
-    c.get-entry.ensures.entry)
-    (older_link _ _ _ _ g.met.N.LinkType.laws _ _ _ order chain c.args.b there c.get-entry.result.now
-    c.get-entry.ensures.entry)
+    IsChain-unlinked g.met.N.LinkType.laws c.args.b chain there
+    (newer_link g.met.N.LinkType.laws chain c.args.b there c.get-entry.result.now c.get-entry.ensures.entry)
+    (older_link g.met.N.LinkType.laws chain c.args.b there c.get-entry.result.now c.get-entry.ensures.entry)
     c.set_older.ensures.slots c.set_older.ensures.end c.set_newer.ensures.slots c.set_newer.ensures.end

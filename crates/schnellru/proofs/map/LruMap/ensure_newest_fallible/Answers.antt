@@ -7,5 +7,4 @@ pub returns-clause-says : goal.returns-clause-says
 returns-clause-says g c =
     let old : IsMap g.K.PartialEq.eq c.args.self.now = subst
     (IsMap g.K.PartialEq.eq) c.self.view_is c.self.invariant.map in
-    says_if_made _ _ _ _ g.met.I.LookupKey.laws g.met.L.Insertion.laws c.args.key _ c.args.self.now _ _ old.distinct
-    c.make_newest_if_made-answer.ensures
+    says_if_made g.met.I.LookupKey.laws g.met.L.Insertion.laws old.distinct c.make_newest_if_made-answer.ensures

@@ -154,7 +154,7 @@ get_or_insert_spec 𝓤 𝓛 𝓜 𝓡 wired K V L S N H I F LK LV LL LS LN LH L
     move ! (1 ∷ []) $ split ! $ heard ! _ (λ l0. split ! $ heard ! _ (λ l1. split ! $ heard ! _ (λ l2. split ! $ heard ! _ (λ l3. split ! $ heard ! _ (λ l4. split ! $ heard ! _ (λ l5. split ! $ heard ! _ (λ l6. split ! $ heard ! _ (λ l7.
     use0 𝓛 (raw (fact 𝓤 (κs.1.1.1.1.1.1.1.1.0 ⊑ F.lives))) (fact_i 𝓤 _ (emp 𝓤) l7) $ join ! $ use0 𝓛 (raw (fact 𝓤 (κs.1.1.1.1.1.1.1.0 ⊑ I.lives))) (fact_i 𝓤 _ (emp 𝓤) l6) $ join ! $ use0 𝓛 (raw (fact 𝓤 (κs.1.1.1.1.1.1.0 ⊑ H.lives))) (fact_i 𝓤 _ (emp 𝓤) l5) $ join ! $ use0 𝓛 (raw (fact 𝓤 (κs.1.1.1.1.1.0 ⊑ N.lives))) (fact_i 𝓤 _ (emp 𝓤) l4) $ join ! $ use0 𝓛 (raw (fact 𝓤 (κs.1.1.1.1.0 ⊑ S.lives))) (fact_i 𝓤 _ (emp 𝓤) l3) $ join ! $ use0 𝓛 (raw (fact 𝓤 (κs.1.1.1.0 ⊑ L.lives))) (fact_i 𝓤 _ (emp 𝓤) l2) $ join ! $ use0 𝓛 (raw (fact 𝓤 (κs.1.1.0 ⊑ V.lives))) (fact_i 𝓤 _ (emp 𝓤) l1) $ join ! $ use0 𝓛 (raw (fact 𝓤 (κs.1.0 ⊑ K.lives))) (fact_i 𝓤 _ (emp 𝓤) l0) $ join ! $
     move ! (1 ∷ 0 ∷ []) $ join ! $ use1 𝓛 (raw (G₁.pre z₁)) (id⊢ 𝓤 _) $
-    enter ! _ _ _ _ _ $ alloc_all ! (λ l. pass_all ! refl ((tt, tt), (one₁.2, (one₂.2, tt))) $
+    enter ! 𝓣.C 𝓣.Λ fn _ _ $ alloc_all ! (λ l. pass_all ! refl ((tt, tt), (one₁.2, (one₂.2, tt))) $
     sets ! (addr ! (through ! refl (stop !))) refl (tt, tt) $ sets ! (of_opd ! (get ! refl)) refl one₁.2 $ sets ! (of_opd ! (get ! refl)) refl one₂.2 $
     calls_at ! (framed 𝓤 𝓛.H 𝓜 𝓣) G₁ (lend-thm.met 𝓤 𝓛 𝓜 𝓡 (code.calls-schnellru::map::LruMap::lend_or_insert 𝓡.env wired) K V L S N H I F LK LV LL LS LN LH LI LF cN kE kEd kP kPd kH kHd lL lLd nL nLd nC nCd nE nEd nP nPd nD nDd sB sBd hH hHd kDd vDd hDd iL iLd iH iHd iE iEd iP iPd fF fFd lI lId iDd fDd m1 m2 m3 m4 m5 m6 m7 m8 m9 m10 m11 m12 m13 m14 m15 m16 m17 m18 m19 m20 m21 m22) z₁
     (and_then ! (get ! refl) (and_then ! (get ! refl) (and_then ! (get ! refl) (no_more !)))) (λ v.

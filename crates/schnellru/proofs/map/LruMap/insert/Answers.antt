@@ -8,21 +8,16 @@ pub returns-clause-says : goal.returns-clause-says
 returns-clause-says g c =
     let old : IsMap g.K.PartialEq.eq c.args.self.now = subst
     (IsMap g.K.PartialEq.eq) c.self.view_is c.self.invariant.map in
-    insert_says _ _ _ _ g.met.I.LookupKey.laws g.met.L.Insertion.laws c.args.key c.args.value c.args.self.now _ _
-    old.distinct c.insert_hashed-answer.ensures
+    insert_says g.met.I.LookupKey.laws g.met.L.Insertion.laws old.distinct c.insert_hashed-answer.ensures
 
 pub returns-clause-lacks : goal.returns-clause-lacks
-returns-clause-lacks g c = on_err _
-    (λ failed. err_is _ _ _ _ c.args.key c.args.value c.args.self.now _ _ failed c.insert_hashed-answer.ensures)
+returns-clause-lacks g c = on_err _ (λ failed. err_is failed c.insert_hashed-answer.ensures)
 
 pub returns-clause-keeps : goal.returns-clause-keeps
-returns-clause-keeps g c = on_err _
-    (λ failed. err_keeps _ _ _ _ c.args.key c.args.value c.args.self.now _ _ failed c.insert_hashed-answer.ensures)
+returns-clause-keeps g c = on_err _ (λ failed. err_keeps failed c.insert_hashed-answer.ensures)
 
 pub returns-clause-map : goal.returns-clause-map
 returns-clause-map g c = subst (IsMap g.K.PartialEq.eq) c.self-2.view_is c.self-2.invariant.map
 
 pub returns-clause-stores : goal.returns-clause-stores
-returns-clause-stores g c = λ yes.
-    insert_stores _ _ _ _ g.met.I.LookupKey.laws g.met.L.Insertion.laws c.args.key c.args.value c.args.self.now _ _ yes
-    c.insert_hashed-answer.ensures
+returns-clause-stores g c = λ yes. insert_stores yes c.insert_hashed-answer.ensures

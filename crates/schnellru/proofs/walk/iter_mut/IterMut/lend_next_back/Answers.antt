@@ -4,6 +4,6 @@ use Rattle.schnellru.proofs.walk.iter_mut.IterMut.lend_next_back.Goals as goal
 
 pub returns : goal.returns
 returns g c = (
-  (refl, λ w. same_walk _ _ _ _ _ _ _ _ _ _ _ _ _),
+  (refl, λ w. same_walk),
   record { writes_back = tt; value = c.pair_at_mut.ensures.value },
 )

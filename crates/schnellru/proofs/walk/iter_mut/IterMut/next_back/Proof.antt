@@ -71,7 +71,7 @@ next_back_spec 𝓤 𝓛 𝓜 𝓡 wired K V L S N H LK LV LL LS LN LH cN kE kEd
     ∷ (raw (fact 𝓤 (κs.1.1.0 ⊑ K.lives)) ⊛ raw (fact 𝓤 (κs.1.1.1.0 ⊑ V.lives)) ⊛ raw (fact 𝓤 (κs.1.1.1.1.0 ⊑ L.lives)) ⊛ raw (fact 𝓤 (κs.1.1.1.1.1.0 ⊑ S.lives)) ⊛ raw (fact 𝓤 (κs.1.1.1.1.1.1.0 ⊑ N.lives)) ⊛ raw (fact 𝓤 (κs.1.1.1.1.1.1.1.0 ⊑ H.lives)) ⊛ ‵ ftrue) ∷ []) ∵
     split ! $ split ! $ move ! (2 ∷ []) $ split ! $ keep ! (4 ∷ 0 ∷ 2 ∷ 3 ∷ []) $
     split ! $ heard ! _ (λ lK. split ! $ heard ! _ (λ lV. split ! $ heard ! _ (λ lL'. split ! $ heard ! _ (λ lS. split ! $ heard ! _ (λ lN. split ! $ heard ! _ (λ lH. drop ! $
-    enter ! _ _ _ _ _ $ alloc_all ! (λ l. pass_all ! refl ((tt, tt), tt) $
+    enter ! 𝓣.C 𝓣.Λ fn _ (End.post y) $ alloc_all ! (λ l. pass_all ! refl ((tt, tt), tt) $
     fsplit3 ! $ move ! (1 ∷ 2 ∷ 3 ∷ []) $ opens ! tt R {h = s} b o (λ us. move ! (1 ∷ []) $ peeks ! R _ (shows 𝓛 R) s us (λ is.
     let word = low.val_is s us is in
     rewrite ! 1 Cell word refl $ move ! (1 ∷ []) $ well_typed ! (λ ok.
