@@ -4,10 +4,6 @@ use std::test::Fail;
 
 mod bytes;
 mod drawn;
-mod drops;
-mod hog;
-mod orders;
-mod relocations;
 
 // An empty table of 4, 8, 16, 32 or, for any other number, 64 buckets.
 fn table_of<T>(alloc: Global, buckets: usize) -> Result<Table<T>, AllocError> {
