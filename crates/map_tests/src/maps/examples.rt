@@ -1,5 +1,8 @@
 //! The examples of the public items' documents.
-use schnellru::{ByLength, ByMemoryUsage, LruMap, MoveReport, RandomState, UnlimitedCompact};
+use schnellru::{
+    ByLength, ByMemoryUsage, GetOrInsertError, LruMap, MoveReport, RandomState, ReserveError,
+    Unlimited, UnlimitedCompact,
+};
 use std::alloc::{AllocError, Global};
 use std::hash::BuildHasher;
 use std::test::Fail;
@@ -170,5 +173,52 @@ fn of_searches_by_a_hash(rt: HostRuntime) -> Result<(), Fail> {
         *value = 100;
     }
     assert_eq!(rt; map.peek(&1), Some(&100));
+    Ok(())
+}
+
+#[test]
+fn of_seeds(rt: HostRuntime) -> Result<(), Fail> {
+    let alloc = rt.alloc();
+    let mut map: LruMap<u64, u64> = LruMap::with_seed(alloc, ByLength::new(3), [5, 6, 7, 8], 16);
+    map.insert(1, 10)?;
+    let hash = RandomState::with_seeds([5, 6, 7, 8]).hash_one(&1u64);
+    assert_eq!(rt;
+        map.peek_by_hash(hash, |key, _| *key == 1).copied(),
+        Some(10)
+    );
+    Ok(())
+}
+
+#[test]
+fn of_refused_reservations(rt: HostRuntime) {
+    let alloc = rt.alloc();
+    let mut map: LruMap<u64, u64, Unlimited> = LruMap::new(alloc, Unlimited, [1, 2, 3, 4], 16);
+    assert_eq!(rt; map.try_reserve(usize::MAX), Err(ReserveError::TooLarge));
+    assert_eq!(rt; map.try_reserve(1 << 50), Err(ReserveError::Memory));
+    let mut map: LruMap<u64, u64, ByMemoryUsage> = LruMap::with_memory_budget(
+        alloc,
+        84,
+        [1, 2, 3, 4],
+        16,
+    );
+    assert_eq!(rt; map.try_reserve(4), Err(ReserveError::Refused));
+}
+
+#[test]
+fn of_closures_that_may_fail(rt: HostRuntime) -> Result<(), Fail> {
+    let mut map = three(rt.alloc())?;
+    let answer = map.ensure_newest_fallible(4, || Err(7u8));
+    assert_eq!(rt; answer, Err(GetOrInsertError::Caller(7)));
+    assert!(rt; map.ensure_newest_fallible(4, || Err(7u8)).is_err());
+    assert!(rt; map.peek(&4).is_none());
+    assert!(rt; map.ensure_newest_fallible(4, || Ok::<u64, u8>(40))?);
+    assert!(rt; map.peek_newest() == Some((&4, &40)));
+    assert!(rt; map.get_or_insert_fallible(5, || Err(7u8)).is_err());
+    assert!(rt; map.peek(&5).is_none());
+    assert_eq!(rt;
+        map.get_or_insert_fallible(5, || Ok::<u64, u8>(50))?
+            .copied(),
+        Some(50)
+    );
     Ok(())
 }
