@@ -37,7 +37,9 @@ impl BuildHasher for LastByte {
 /// Counts the hashers that it makes.
 #[derive(Drop)]
 pub struct Counted<'a> {
+    /// What makes them.
     pub state: RandomState,
+    /// How many it has made.
     pub builds: &'a Cell<u64>,
 }
 

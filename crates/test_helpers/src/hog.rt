@@ -1,4 +1,6 @@
 //! Memory that a test takes for itself, so that `Global` refuses the requests of others.
+//!
+//! No contract can say what memory is left, so these calls are proved safe, and promise no more.
 use std::alloc::{AllocError, Global};
 
 // The sizes that are tried: halves of the largest one, and from SMALL down each multiple of STEP.

@@ -21,10 +21,12 @@ impl LookupKey<String> for InsertKey<'_> {
     }
 }
 
-/// Limits nothing, and counts how often a text was offered and replaced a value.
+/// Limits nothing, takes texts and `String`s, and counts the texts.
 #[derive(Clone, Copy, Debug, Default)]
 pub struct Counting {
+    /// How many texts became a key.
     pub inserts: u32,
+    /// How many texts came for a key that was there.
     pub replacements: u32,
 }
 

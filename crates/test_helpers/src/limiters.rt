@@ -59,17 +59,25 @@ impl<N: LinkType> Insertion<u64, u64, u64> for LinkedBy<N> {
 /// Over at every length or at none, permits each second growth, and keeps what it was told and asked.
 #[derive(Clone, Copy)]
 pub struct Telling {
+    /// Whether it is over, at every length.
     pub over: bool,
+    /// Whether it permits the next growth.
     pub permits: bool,
+    /// How many pairs it was told of.
     pub told: u32,
+    /// The key of the last one.
     pub last: u64,
+    /// How often it was asked whether the table may grow.
     pub askings: u32,
+    /// How many bytes the last table had that it was asked for.
     pub asked: usize,
 }
 
 impl Telling {
     /// Whether it is over, and whether it permits the first growth.
-    pub fn new(over: bool, permits: bool) -> Telling {
+    pub fn new(over: bool, permits: bool) -> Telling
+        ensures { result ≡ record { over = over; permits = permits; told = 0; last = 0; askings = 0; asked = 0 } }
+    {
         Telling {
             over,
             permits,
@@ -147,14 +155,19 @@ impl Insertion<u64, u64, u64> for Telling {
 /// Permits tables of at most so many bytes, and keeps how many pairs it was told of, and the last one.
 #[derive(Clone, Copy)]
 pub struct Within {
+    /// How many bytes the greatest table has that it permits.
     pub most: usize,
+    /// How many pairs it was told of.
     pub told: u32,
+    /// The last one.
     pub last: (u64, u64),
 }
 
 impl Within {
     /// Told of no pair as yet.
-    pub fn new(most: usize) -> Within {
+    pub fn new(most: usize) -> Within
+        ensures { result ≡ record { most = most; told = 0; last = (0, 0) } }
+    {
         Within {
             most,
             told: 0,
@@ -224,7 +237,9 @@ impl Insertion<u64, u64, u64> for Within {
 /// pair as it was.
 #[derive(Clone, Copy, Default)]
 pub struct Blanking {
+    /// Whether it writes into keys too.
     pub keys: bool,
+    /// The last pair that left.
     pub last: (u64, u64),
 }
 

@@ -1,3 +1,4 @@
+//! What a table tells of itself, whom a search asks, and the control bytes.
 use super::*;
 use std::process::Abort;
 use std::test::Fail;
