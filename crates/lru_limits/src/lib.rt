@@ -21,6 +21,3 @@ pub use hasher::{DefaultHasher, RandomState};
 pub use keys::LookupKey;
 pub use limiter::{Insertion, Limiter};
 pub use limiters::{ByLength, ByMemoryUsage, Unlimited, UnlimitedCompact};
-
-#[cfg(test)]
-mod tests;

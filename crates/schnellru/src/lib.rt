@@ -22,6 +22,3 @@ pub use map::{DEFAULT_ENTRY_BYTES, LruMap};
 pub use walk::drain::Drain;
 pub use walk::iter_mut::IterMut;
 pub use walk::{Iter, Walk};
-
-#[cfg(test)]
-mod tests;

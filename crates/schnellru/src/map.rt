@@ -155,6 +155,15 @@ impl<K: Eq + Hash, V, L: Limiter<K, V>> LruMap<K, V, L, RandomState> {
     }
 
     /// The same as `new`, under schnellru's name for seeds that are given.
+    ///
+    /// ```
+    /// let mut map: LruMap<u64, u64> = LruMap::with_seed(alloc, ByLength::new(3), [5, 6, 7, 8], 16);
+    /// map.insert(1, 10)?;
+    /// let hash = RandomState::with_seeds([5, 6, 7, 8]).hash_one(&1u64);
+    /// assert_eq!(rt; map.peek_by_hash(hash, |key, _| *key == 1).copied(), Some(10));
+    /// ```
+    ///
+    /// After schnellru's `LruMap::with_seed`.
     pub fn with_seed(alloc: Global, limiter: L, seed: [u64; 4], entry_bytes: usize) -> Self
         ensures { result ≡ empty_map limiter (seeded seed) entry_bytes (L.LinkType.number L.LinkType.MAX) }
     {

@@ -1,13 +1,10 @@
+//! What a table tells of itself, whom a search asks, and the control bytes.
 use super::*;
 use std::process::Abort;
 use std::test::Fail;
 
 mod bytes;
 mod drawn;
-mod drops;
-mod hog;
-mod orders;
-mod relocations;
 
 // An empty table of 4, 8, 16, 32 or, for any other number, 64 buckets.
 fn table_of<T>(alloc: Global, buckets: usize) -> Result<Table<T>, AllocError> {

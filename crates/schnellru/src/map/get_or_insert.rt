@@ -22,6 +22,11 @@ pub(crate) enum NotLent<E> {
 }
 
 /// Why no value is lent by `get_or_insert_fallible`.
+///
+/// ```
+/// let answer = map.ensure_newest_fallible(4, || Err(7u8));
+/// assert_eq!(rt; answer, Err(GetOrInsertError::Caller(7)));
+/// ```
 #[derive(Debug, Drop, PartialEq, Eq, Error)]
 pub enum GetOrInsertError<E> {
     /// Memory was refused.
@@ -175,6 +180,13 @@ impl<K: Eq + Hash + Drop, V: Drop, L: Limiter<K, V>, S: BuildHasher> LruMap<K, V
 
     /// The same as `ensure_newest` with a closure that may fail. Where it fails nothing has changed.
     ///
+    /// ```
+    /// assert!(rt; map.ensure_newest_fallible(4, || Err(7u8)).is_err());
+    /// assert!(rt; map.peek(&4).is_none());
+    /// assert!(rt; map.ensure_newest_fallible(4, || Ok::<u64, u8>(40))?);
+    /// assert!(rt; map.peek_newest() == Some((&4, &40)));
+    /// ```
+    ///
     /// # Errors
     ///
     /// `Caller` has the error of the closure. `Memory` comes as the `Err` of `insert` comes.
@@ -250,6 +262,12 @@ impl<K: Eq + Hash + Drop, V: Drop, L: Limiter<K, V>, S: BuildHasher> LruMap<K, V
     }
 
     /// The same as `get_or_insert` with a closure that may fail. Where it fails nothing has changed.
+    ///
+    /// ```
+    /// assert!(rt; map.get_or_insert_fallible(5, || Err(7u8)).is_err());
+    /// assert!(rt; map.peek(&5).is_none());
+    /// assert_eq!(rt; map.get_or_insert_fallible(5, || Ok::<u64, u8>(50))?.copied(), Some(50));
+    /// ```
     ///
     /// # Errors
     ///

@@ -11,6 +11,14 @@ use std::hash::{BuildHasher, Hash};
 use thiserror::Error;
 
 /// Why no room is reserved.
+///
+/// ```
+/// let mut map: LruMap<u64, u64, Unlimited> = LruMap::new(alloc, Unlimited, [1, 2, 3, 4], 16);
+/// assert_eq!(rt; map.try_reserve(usize::MAX), Err(ReserveError::TooLarge));
+/// assert_eq!(rt; map.try_reserve(1 << 50), Err(ReserveError::Memory));
+/// let mut map: LruMap<u64, u64, ByMemoryUsage> = LruMap::with_memory_budget(alloc, 84, [1, 2, 3, 4], 16);
+/// assert_eq!(rt; map.try_reserve(4), Err(ReserveError::Refused));
+/// ```
 #[derive(Clone, Copy, Debug, PartialEq, Eq, Error)]
 pub enum ReserveError {
     /// There is no table for so many pairs.

@@ -1,4 +1,5 @@
-//! The control bytes of tables after placings and removals of drawn hashes, compared with the rules of docs/TABLE.md.
+//! The control bytes of tables after placings and removals of drawn hashes, compared with the rules of docs/TABLE.md,
+//! and those of their copies.
 use super::*;
 
 const STEPS: usize = 400;
@@ -95,6 +96,8 @@ fn drawn_placings_and_removals(rt: HostRuntime) -> Result<(), Fail> {
             let used = bytes.iter().filter(|byte| **byte != 255).count();
             assert_eq!(rt; table.room(), full.saturating_sub(used), "at {step}");
         }
+        let copy = table.clone_with(|hash| Ok(*hash))?;
+        assert_eq!(rt; copy.control.as_slice(), table.control.as_slice());
     }
     Ok(())
 }

@@ -1,0 +1,64 @@
+//! A look-up key of two fields. `docs/LIMITERS.md` explains it.
+ghost use Rattle.std.specs.Prelude.{◌≡◌, ◌&&◌, nat_eq};
+ghost use Rattle.std.specs.Hash as fed;
+ghost use Rattle.lru_limits.specs.Keys.{number-lawful, field-lawful, both-lawful};
+ghost use Rattle.lru_limits.specs.Texts.{names_text, names_text-lawful};
+
+use super::bounds::has_hash_of_key;
+use lru_limits::{LookupKey, RandomState};
+use std::test::Fail;
+
+/// A name that belongs to a tenant.
+#[derive(Drop, PartialEq, Eq, Hash)]
+pub struct Name {
+    pub tenant: u64,
+    pub text: String,
+}
+
+/// What names it, without a `String`.
+#[derive(Clone, Copy, PartialEq, Eq, Hash)]
+pub struct Naming<'a> {
+    pub tenant: u64,
+    pub text: &'a str,
+}
+
+impl LookupKey<Name> for Naming<'_> {
+    ghost names = { λ q k. nat_eq q.tenant k.tenant && names_text q.text.now k.text };
+
+    ghost laws = { both-lawful
+        (field-lawful (λ q. q.tenant) (λ k. k.tenant) (number-lawful fed.u64))
+        (field-lawful (λ q. q.text.now) (λ k. k.text) (names_text-lawful (λ bytes. bytes))) };
+
+    fn is_key(&self, key: &Name) -> bool {
+        self.tenant == key.tenant && self.text == key.text.as_str()
+    }
+}
+
+#[test]
+fn both_fields_name_the_key(rt: HostRuntime) -> Result<(), Fail> {
+    let name = Name {
+        tenant: 7,
+        text: String::from_str(rt.alloc(), "a longer text of the map")?,
+    };
+    let naming = Naming {
+        tenant: 7,
+        text: "a longer text of the map",
+    };
+    assert!(rt; naming.is_key(&name));
+    assert!(rt;
+        !Naming {
+            tenant: 8,
+            ..naming
+        }
+        .is_key(&name)
+    );
+    assert!(rt;
+        !Naming {
+            text: "another",
+            ..naming
+        }
+        .is_key(&name)
+    );
+    assert!(rt; has_hash_of_key(&RandomState::default(), &naming, &name));
+    Ok(())
+}

@@ -1,0 +1,127 @@
+//! Callers of a map whose own contracts rest on those of its calls: the code of docs/CALLING.md.
+ghost use Rattle.std.specs.Prelude.{◌≡◌, ◌≤◌, length, nat_eq, Some, Ok, IfOk, true};
+ghost use Rattle.std.specs.List.{All};
+ghost use Rattle.schnellru.specs.Lists.{lookup};
+ghost use Rattle.schnellru.specs.Theorems.{IsSummed, KeepsValues};
+
+use schnellru::{ByCost, ByLength, Insertion, LruMap, RandomState, Summing, laws};
+use std::alloc::AllocError;
+use std::hash::Hash;
+use std::test::Fail;
+
+/// Puts a value under a key, and answers whether the key is there then. A look-up gives the value, if it is.
+fn put(map: &mut LruMap<u64, u64>, key: u64, value: u64) -> Result<bool, AllocError>
+    ensures { result ≡ Ok true → lookup (nat_eq key) map.new.pairs ≡ Some value }
+{
+    let kept = map.insert(key, value)?;
+    if kept {
+        let found = map.peek(&key).copied();
+        prove!(found == Some(value));
+    }
+    Ok(kept)
+}
+
+/// The same for any types, under a limiter that stores each value as it comes.
+fn put_any<K: Eq + Hash + Drop, V: Drop, L: Insertion<K, V, K>>(
+    map: &mut LruMap<K, V, L>,
+    key: K,
+    value: V,
+) -> Result<bool, AllocError>
+    requires { KeepsValues L.offers }
+    ensures { result ≡ Ok true → lookup (K.eq key) map.new.pairs ≡ Some value }
+{
+    map.insert(key, value)
+}
+
+/// Writes a value under a key that is there, and answers whether it is. A look-up gives the value then.
+fn overwrite(map: &mut LruMap<u64, u64>, key: u64, value: u64) -> bool
+    ensures { result ≡ true → lookup (nat_eq key) map.new.pairs ≡ Some value }
+{
+    match map.get(&key) {
+        Some(place) => {
+            *place = value;
+            true
+        }
+        None => false,
+    }
+}
+
+/// What the closure answers at a key, from the map if the key is there. Each pair of the map has to be an answer of the
+/// closure's, and is one then.
+fn memo<F: Fn(u64) -> u64>(
+    map: &mut LruMap<u64, u64>,
+    answers: F,
+    key: u64,
+) -> Result<u64, AllocError>
+    requires callable { F.IsAlwaysCallable answers }
+    requires known { All (λ p. F.post answers p.0 p.1) map.old.pairs }
+    ensures value { IfOk result (λ value. F.post answers key value) }
+    ensures knows { All (λ p. F.post answers p.0 p.1) map.new.pairs }
+{
+    laws::inserts_give_up_the_oldest::<u64, u64, u64, ByLength, RandomState>();
+    if let Some(value) = map.get(&key) {
+        return Ok(*value);
+    }
+    let value = answers(key);
+    map.insert(key, value)?;
+    Ok(value)
+}
+
+/// Puts a pair into a map that is within its length, and leaves it so.
+fn put_within(map: &mut LruMap<u64, u64>, key: u64, value: u64) -> Result<bool, AllocError>
+    requires { length map.old.pairs ≤ map.old.limiter }
+    ensures { length map.new.pairs ≤ map.new.limiter }
+{
+    laws::inserts_keep_the_length::<u64, u64, RandomState>();
+    map.insert(key, value)
+}
+
+/// Puts a value in place of that of another key. The limiter goes on to hold the sum of the values.
+fn exchange(
+    map: &mut LruMap<u64, u64, ByCost>,
+    old: u64,
+    new: u64,
+    value: u64,
+) -> Result<bool, AllocError>
+    requires { IsSummed ⟦<ByCost as Summing<u64, u64, u64>>⟧.cost_of
+        ⟦<ByCost as Summing<u64, u64, u64>>⟧.account map.old }
+    ensures { IsSummed ⟦<ByCost as Summing<u64, u64, u64>>⟧.cost_of
+        ⟦<ByCost as Summing<u64, u64, u64>>⟧.account map.new }
+{
+    laws::removals_keep_sums::<u64, u64, u64, ByCost, RandomState>();
+    laws::inserts_keep_sums::<u64, u64, u64, ByCost, RandomState>();
+    map.remove(&old);
+    map.insert(new, value)
+}
+
+#[test]
+fn what_is_put_is_found(rt: HostRuntime) -> Result<(), Fail> {
+    let mut map = LruMap::new(rt.alloc(), ByLength::new(2), [1, 2, 3, 4], 16);
+    assert!(rt; put(&mut map, 1, 10)?);
+    assert!(rt; put_any(&mut map, 1, 15)?);
+    assert!(rt; overwrite(&mut map, 1, 20));
+    assert!(rt; !overwrite(&mut map, 2, 20));
+    assert_eq!(rt; map.peek(&1).copied(), Some(20));
+    Ok(())
+}
+
+#[test]
+fn answers_are_remembered(rt: HostRuntime) -> Result<(), Fail> {
+    let square = |n: u64| n.wrapping_mul(n);
+    let mut squares = LruMap::new(rt.alloc(), ByLength::new(2), [1, 2, 3, 4], 16);
+    assert_eq!(rt; memo(&mut squares, square, 3)?, 9);
+    assert_eq!(rt; memo(&mut squares, square, 4)?, 16);
+    assert_eq!(rt; memo(&mut squares, square, 3)?, 9);
+    Ok(())
+}
+
+#[test]
+fn laws_are_cited(rt: HostRuntime) -> Result<(), Fail> {
+    let mut short = LruMap::new(rt.alloc(), ByLength::new(1), [1, 2, 3, 4], 16);
+    assert!(rt; put_within(&mut short, 1, 10)?);
+    let mut costs = LruMap::new(rt.alloc(), ByCost::new(10), [1, 2, 3, 4], 16);
+    assert!(rt; exchange(&mut costs, 1, 2, 7)?);
+    assert!(rt; exchange(&mut costs, 2, 3, 9)?);
+    assert_eq!(rt; costs.limiter().cost(), 9);
+    Ok(())
+}

@@ -1,0 +1,20 @@
+//! What tests share.
+//!
+//! - [`Hog`]: takes all memory, so that the requests of others are refused.
+//! - [`LinkedBy`], [`Telling`], [`Within`], [`Blanking`]: limiters of maps from numbers to numbers.
+//! - [`InsertKey`] and [`Counting`]: texts that become a `String` when they are stored, and a limiter that takes them.
+//! - [`Weighed`]: a value with a cost of its own.
+//! - [`LastByte`], [`Sum`], [`Counted`]: hashers.
+#![tactic(auto)]
+
+mod hashers;
+mod hog;
+mod insert_key;
+mod limiters;
+mod weighed;
+
+pub use hashers::{Counted, LastByte, Sum};
+pub use hog::Hog;
+pub use insert_key::{Counting, InsertKey};
+pub use limiters::{Blanking, LinkedBy, Telling, Within};
+pub use weighed::Weighed;
