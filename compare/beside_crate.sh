@@ -4,10 +4,11 @@
 #
 #     compare/beside_crate.sh CHECKOUT [SEED [ANSWERS]]   lists of lines that are drawn; a SEED of - is drawn too
 #     compare/beside_crate.sh CHECKOUT lines <FILE        the lines of a file
+#     compare/beside_crate.sh CHECKOUT answers <FILE      writes what the crate answers to these, and compares nothing
 set -euo pipefail
 crate=../crates/lru_replay
 checkout=$(realpath "$1")
-seed=${2:--}
+mode=${2:--}
 answers=${3:-250000}
 cd "$(dirname "$0")"
 out=$(mktemp -d)
@@ -17,8 +18,8 @@ trap 'rm -rf "$out"' EXIT
 rustc --edition 2024 -C opt-level=3 -C target-cpu=x86-64-v2 rust/main.rs -o "$out/beside_crate" \
     --extern "schnellru=$checkout/target/release/libschnellru.rlib" -L "dependency=$checkout/target/release/deps"
 program=$crate/out/$(basename "$crate")
-if [ "$seed" = lines ]; then
-    "$out/beside_crate" "$program"
-else
-    "$out/beside_crate" "$program" "$seed" "$answers"
-fi
+case "$mode" in
+    answers) "$out/beside_crate" answers ;;
+    lines) "$out/beside_crate" "$program" lines ;;
+    *) "$out/beside_crate" "$program" "$mode" "$answers" ;;
+esac

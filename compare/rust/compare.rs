@@ -12,26 +12,29 @@ pub struct Counts {
     sums: u64,
     /// How many lists were cut, by `Cut`.
     cuts: [u64; 3],
-    /// How many answers stand after these cuts.
+    /// How many lists differ after a table was made anew in place.
+    in_place: u64,
+    /// How many answers stand after these cuts, or after such a difference.
     after_cuts: u64,
 }
 
 /// What stands above the counts.
-pub const HEADING: &str = "lists  compared      sum  reserved   cleared   at half     after these";
+pub const HEADING: &str = "lists  compared  sum  reserved  cleared  at half  in place  after these";
 
 impl Display for Counts {
     fn fmt(&self, f: &mut Formatter) -> Written {
         let [reserved, cleared, given_up] = self.cuts;
         write!(
             f,
-            "{:>5}  {:>8} {:>8}",
+            "{:>5}  {:>8}  {:>3}",
             self.lists, self.compared, self.sums
         )?;
         write!(
             f,
-            "  {reserved:>8}  {cleared:>8}  {given_up:>8}  {:>14}",
-            self.after_cuts
-        )
+            "  {reserved:>8}  {cleared:>7}  {given_up:>7}  {:>8}",
+            self.in_place
+        )?;
+        write!(f, "  {:>11}", self.after_cuts)
     }
 }
 
@@ -69,19 +72,31 @@ fn output_of(program: &str, lines: &[String]) -> String {
     String::from_utf8_lossy(&output.stdout).into_owned()
 }
 
+/// Whether an answer may differ because entries stand in other buckets: figures, and under a limit on memory all that
+/// comes of which pairs left.
+fn may_differ_in_place(lines: &[String], at: usize, moved_in_place: Option<usize>) -> bool {
+    let open = lines[at] == "stats" || lines[0].starts_with("memory ");
+    open && moved_in_place.is_some_and(|first| at > first)
+}
+
 /// Compares the answers to the lines.
 pub fn compared(program: &str, lines: &[String], counts: &mut Counts) -> Result<(), Difference> {
     let output = output_of(program, lines);
     let mut here = output.lines();
-    let there = answers(lines.iter().map(String::as_str)).expect("the first line names a limit");
+    let there = answers(lines.iter().map(String::as_str)).unwrap_or_else(|why| panic!("{why}"));
     counts.lists += 1;
     for (told, at) in there.told.iter().zip(1..) {
-        let here = here.next().unwrap_or("nothing");
+        let here_told = here.next().unwrap_or("nothing");
         match told {
             None => counts.sums += 1,
-            Some(told) if told == here => counts.compared += 1,
+            Some(told) if told == here_told => counts.compared += 1,
+            Some(_) if may_differ_in_place(lines, at, there.moved_in_place) => {
+                counts.in_place += 1;
+                counts.after_cuts += 1 + here.count() as u64;
+                return Ok(());
+            }
             Some(told) => {
-                let (line, here, there) = (lines[at].clone(), here.into(), told.clone());
+                let (line, here, there) = (lines[at].clone(), here_told.into(), told.clone());
                 return Err(Difference {
                     at,
                     line,

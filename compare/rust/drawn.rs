@@ -182,6 +182,23 @@ fn line(draw: &mut Draw, style: &Style, weights: &Weights) -> String {
     }
 }
 
+/// Turns of lines that take out pairs and of lines that put some in, which leave deleted buckets.
+fn turns(draw: &mut Draw, style: &Style) -> Vec<String> {
+    let most = 1 + draw.below(style.keys.min(200));
+    let pop = draw.one_of(&["pop-oldest", "pop-newest"]);
+    let mut lines = Vec::new();
+    for _ in 0..draw.below(1 + 1000 / most) {
+        let pops = draw.below(most);
+        lines.extend((0..pops).map(|_| String::from(pop)));
+        for _ in 0..draw.below(most + most / 2) {
+            let key = draw.below(style.keys).wrapping_mul(style.stride);
+            lines.push(format!("insert {key} {}", draw.below(style.most_value)));
+        }
+        lines.push("stats".into());
+    }
+    lines
+}
+
 /// Lines that take out all pairs of up to so many, one by one, and then one that makes room.
 fn emptying(draw: &mut Draw, pairs: u64) -> impl Iterator<Item = String> {
     let pop = draw.one_of(&["pop-oldest", "pop-newest"]);
@@ -198,6 +215,9 @@ pub fn list(seed: u64, limit: &str) -> Vec<String> {
         let weights = weights(&mut draw, style.keys);
         for _ in 0..5 + draw.of_any_size(11) {
             lines.push(line(&mut draw, &style, &weights));
+        }
+        if draw.once_in(8) {
+            lines.extend(turns(&mut draw, &style));
         }
         if draw.once_in(8) {
             let pairs = style.keys.min(lines.len() as u64);

@@ -1,7 +1,7 @@
 //! Gives lists of lines to the program of this repository and to the crate schnellru, and compares the answers.
 //!
 //! With the arguments PROGRAM SEED ANSWERS it draws lists until so many answers were compared under each first line.
-//! With PROGRAM alone it compares the answers to the lines of standard input, and with no argument it writes what the
+//! With PROGRAM `lines` it compares the answers to the lines of standard input, and with `answers` it writes what the
 //! crate answers to them.
 mod answers;
 mod compare;
@@ -16,12 +16,21 @@ use std::io::read_to_string;
 use std::process::ExitCode;
 use std::time::{Instant, SystemTime, UNIX_EPOCH};
 
+/// The lines of standard input.
+fn input() -> Vec<String> {
+    let input = read_to_string(std::io::stdin()).expect("the input is text");
+    input.split_terminator('\n').map(String::from).collect()
+}
+
 /// Writes the answers of the crate to the lines of standard input.
 fn answer() -> ExitCode {
-    let input = read_to_string(std::io::stdin()).expect("the input is text");
-    let Some(answers) = answers::answers(input.lines()) else {
-        println!("no limiter");
-        return ExitCode::from(1);
+    let lines = input();
+    let answers = match answers::answers(lines.iter().map(String::as_str)) {
+        Ok(answers) => answers,
+        Err(why) => {
+            println!("{why}");
+            return ExitCode::from(1);
+        }
     };
     for told in &answers.told {
         println!("{}", told.as_deref().unwrap_or("not compared"));
@@ -52,8 +61,11 @@ fn show(program: &str, lines: &[String], difference: &Difference) -> ExitCode {
 
 /// Compares the answers to the lines of standard input.
 fn compare_input(program: &str) -> ExitCode {
-    let input = read_to_string(std::io::stdin()).expect("the input is text");
-    let lines: Vec<String> = input.lines().map(String::from).collect();
+    let lines = input();
+    if let Err(why) = answers::answers(lines.iter().take(1).map(String::as_str)) {
+        println!("{why}");
+        return ExitCode::from(1);
+    }
     let mut counts = Counts::default();
     match compared(program, &lines, &mut counts) {
         Ok(()) => {
@@ -86,24 +98,26 @@ fn compare_drawn(program: &str, seed: u64, answers: u64) -> ExitCode {
     ExitCode::SUCCESS
 }
 
+/// A seed that was not used before.
+fn time() -> u64 {
+    SystemTime::now()
+        .duration_since(UNIX_EPOCH)
+        .map_or(0, |time| time.as_nanos() as u64)
+}
+
+fn number(text: &str) -> u64 {
+    text.parse().expect("a seed and a count are numbers")
+}
+
 fn main() -> ExitCode {
-    // A reservation of the crate that fails panics.
-    std::panic::set_hook(Box::new(|_| {}));
+    answers::hush_reservations();
     let arguments: Vec<String> = std::env::args().skip(1).collect();
-    let number = |text: &String| {
-        text.parse::<u64>()
-            .expect("the seed and the count are numbers")
-    };
-    match &arguments[..] {
-        [] => answer(),
-        [program] => compare_input(program),
+    let arguments: Vec<&str> = arguments.iter().map(String::as_str).collect();
+    match arguments[..] {
+        ["answers"] => answer(),
+        [program, "lines"] => compare_input(program),
         [program, seed, answers] => {
-            let drawn = || {
-                SystemTime::now()
-                    .duration_since(UNIX_EPOCH)
-                    .map_or(0, |time| time.as_nanos() as u64)
-            };
-            let seed = if seed == "-" { drawn() } else { number(seed) };
+            let seed = if seed == "-" { time() } else { number(seed) };
             compare_drawn(program, seed, number(answers))
         }
         _ => ExitCode::from(2),
