@@ -47,6 +47,18 @@ pub struct Difference {
     there: String,
 }
 
+impl Difference {
+    fn new(at: usize, line: &str, here: &str, there: &str) -> Difference {
+        let [line, here, there] = [line, here, there].map(String::from);
+        Difference {
+            at,
+            line,
+            here,
+            there,
+        }
+    }
+}
+
 impl Display for Difference {
     fn fmt(&self, f: &mut Formatter) -> Written {
         writeln!(f, "The answers to line {} differ: {}", self.at, self.line)?;
@@ -55,7 +67,7 @@ impl Display for Difference {
     }
 }
 
-/// What the program writes to the lines.
+/// What the program writes to the lines, and its end where that is no success.
 fn output_of(program: &str, lines: &[String]) -> String {
     let mut child = Command::new(program)
         .stdin(Stdio::piped())
@@ -69,7 +81,11 @@ fn output_of(program: &str, lines: &[String]) -> String {
         .wait_with_output()
         .expect("the program can be waited for");
     let _ = writer.join();
-    String::from_utf8_lossy(&output.stdout).into_owned()
+    let mut text = String::from_utf8_lossy(&output.stdout).into_owned();
+    if !output.status.success() {
+        text += &format!("the program ended with {}", output.status);
+    }
+    text
 }
 
 /// Whether an answer may differ because entries stand in other buckets: figures, and under a limit on memory all that
@@ -95,20 +111,14 @@ pub fn compared(program: &str, lines: &[String], counts: &mut Counts) -> Result<
                 counts.after_cuts += 1 + here.count() as u64;
                 return Ok(());
             }
-            Some(told) => {
-                let (line, here, there) = (lines[at].clone(), here_told.into(), told.clone());
-                return Err(Difference {
-                    at,
-                    line,
-                    here,
-                    there,
-                });
-            }
+            Some(told) => return Err(Difference::new(at, &lines[at], here_told, told)),
         }
     }
     if let Some(cut) = there.cut {
         counts.cuts[cut as usize] += 1;
         counts.after_cuts += here.count() as u64;
+    } else if let Some(more) = here.next() {
+        return Err(Difference::new(lines.len(), "the end", more, "nothing"));
     }
     Ok(())
 }
