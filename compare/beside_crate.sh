@@ -6,7 +6,7 @@
 #     compare/beside_crate.sh CHECKOUT lines <FILE        the lines of a file
 #     compare/beside_crate.sh CHECKOUT answers <FILE      writes what the crate answers to these, and compares nothing
 set -euo pipefail
-crate=../crates/lru_replay
+crate=../crates/replay
 checkout=$(realpath "${1:?the folder of a checkout of schnellru}")
 mode=${2:--}
 answers=${3:-250000}
