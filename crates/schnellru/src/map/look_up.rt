@@ -3,7 +3,7 @@ ghost use Rattle.std.specs.Prelude.{◌≡◌, ◌<◌, length, option_map, Some
 ghost use Rattle.std.specs.Option.{option_copied, option_copied_mut};
 ghost use Rattle.std.specs.Borrow.{sem};
 ghost use Rattle.std.specs.Map.Iter.{deref_pair};
-ghost use Rattle.schnellru.specs.Lists.{lookup, first, last, newest_value};
+ghost use Rattle.schnellru.specs.Lists.{lookup, lookup_entry, first, last, newest_value};
 ghost use Rattle.schnellru.specs.State.{State, IsMap};
 ghost use Rattle.schnellru.specs.Calls.{Get, promoted, written};
 
@@ -85,6 +85,26 @@ impl<K: Eq + Hash, V, L: Limiter<K, V>, S: BuildHasher> LruMap<K, V, L, S> {
     {
         let b = self.entries.find(self.hasher.hash_one(key), key)?;
         Some(&self.entries.pair(b).value)
+    }
+
+    /// The pair of a key. The order stays.
+    ///
+    /// The key is the one that is stored, which may differ from an equal one that is looked up.
+    ///
+    /// ```
+    /// assert!(rt; map.peek_key_value(&1) == Some((&1, &10)));
+    /// ```
+    ///
+    /// Cost: `O(1)` expected.
+    ///
+    /// After std's `HashMap::get_key_value`; schnellru has no such call.
+    #[inline]
+    pub fn peek_key_value<Q: LookupKey<K>>(&self, key: &Q) -> Option<(&K, &V)>
+        ensures { option_map deref_pair result ≡ lookup_entry (Q.names key.now) self.now.pairs }
+    {
+        let b = self.entries.find(self.hasher.hash_one(key), key)?;
+        let pair = self.entries.pair(b);
+        Some((&pair.key, &pair.value))
     }
 
     /// The value of a key, to be changed. The order stays; what is written is not told to the limiter.
