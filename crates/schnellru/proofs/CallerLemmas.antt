@@ -1,20 +1,27 @@
 -- For who proves a caller of a map. The only lemmas of this crate that another crate cites.
 --     read_back            a get through which nothing is written brings the pair to the front, and no more
 --     promoted-absent      where nothing is found, nothing comes to the front
+--     written-absent       where nothing is found, a write changes nothing
 --     written-found        after a value was written through a get, a look-up finds it
 --     read-all             what holds of each pair holds of each after a get through which nothing is written
 --     hands_over-keeps     a limiter that stores pairs as they come keeps their values
 --     inserted-found       under such a limiter, after an insert that answered true, a look-up finds the value
 --     inserted-only        whatever it answered, a look-up finds no other one
 --     inserted-all         what holds of each pair holds of each after an insert, if it holds of the inserted one
-pub use Rattle.schnellru.proofs.Maps.LeavingPairs.{leaves_trans, length-without_first}
+--     given-found          a search by a hash with a closure that tests a key gives the pair of that key
+--     given-tag            and only one whose hash has the tag of the hash
+--     given-promoted       one through which nothing is written brings that pair to the front, and no more
+--     none-found           where it gives none, no pair of that key has the hash
+pub use Rattle.schnellru.proofs.Theorems.KeySearches.{given-found, given-tag, none-found}
+pub use Rattle.schnellru.proofs.Maps.LeavingPairs.{leaves_trans, length-without_first, length-without_last}
 pub use Rattle.schnellru.proofs.Maps.Promotions.{promoted_sized, promoted_is_map}
 pub use Rattle.schnellru.proofs.Maps.SomeInsert.{some_insert, some_leave}
-pub use Rattle.schnellru.proofs.TableSizes.SomeMarks.{marked, length-marked, room-marked, sized-marked}
+pub use Rattle.schnellru.proofs.Maps.SomeReservation.{cleared_sized, some_reservation}
 pub use Rattle.schnellru.proofs.Theorems.Limits.{length-without}
 use Rattle.std.proofs.Common.{◌≡◌, ℕ, Bool, true, false, cond, List, [], ◌∷◌, ◌++◌, refl, sym, ap, ◌∙◌, subst}
 use Rattle.std.proofs.Common.{Option, Some, None, Result, Ok, Err}
 use Rattle.std.specs.Prelude.{IfSome, option_map, unwrap_or}
+use Rattle.std.specs.Cmp.{IsEquivalence}
 use Rattle.std.specs.List.{All}
 use Rattle.std.specs.Map.{set_value}
 use Rattle.std.proofs.lemmas.List.Elements.{All-nil, All-cons, All-head, All-tail}
@@ -75,6 +82,16 @@ module _ {K V : Type 0} (names : K → Bool) where
               → cond y places (b ∷ other_places names xs places) ≡ b ∷ places
           go true e r = absurd cc
           go false e r = ap (λ bs. b ∷ bs) (r e)
+
+  set-none : (xs : List (K × V)) (w : V) → lookup names xs ≡ None → set_value names xs w ≡ xs
+  set-none [] w none = refl
+  set-none (x ∷ xs) w none = go (names x.0) none (set-none xs w)
+    where
+      go : (b : Bool) → cond b (Some x.1) (lookup names xs) ≡ None
+          → (lookup names xs ≡ None → set_value names xs w ≡ xs)
+          → cond b ((x.0, w) ∷ xs) (x ∷ set_value names xs w) ≡ x ∷ xs
+      go true e r = absurd cc
+      go false e r = ap (λ ys. x ∷ ys) (r e)
 
   not-found : (xs : List (K × V)) → lookup_entry names xs ≡ None → (w : V) → lookup names xs ≡ Some w → ⊥
   not-found xs none w found = none-some w (sym (ap (option_map (λ p. p.1)) none) ∙ sym (lookup-entry names xs) ∙ found)
@@ -169,6 +186,9 @@ module _ {K V S H : Type 0} (names : K → Bool) (st : State K V S H) where
   promoted-absent none = λ i.
       record st { pairs = front-none names st.pairs none i; places = places-none names st.pairs st.places none i }
 
+  pub written-absent : (value : V) → lookup names st.pairs ≡ None → written names value st ≡ st
+  written-absent value none = ap (λ pairs. record st { pairs = pairs }) (set-none names st.pairs value none)
+
   pub written-found : (v w : V) → lookup names st.pairs ≡ Some v
       → lookup names (written names w (promoted names st)).pairs ≡ Some w
   written-found v w found = lookup-set names (front names st.pairs) v w (lookup-front names st.pairs ∙ found)
@@ -176,3 +196,12 @@ module _ {K V S H : Type 0} (names : K → Bool) (st : State K V S H) where
   pub read-all : (P : K × V → Type 0) (v : V) → lookup names st.pairs ≡ Some v → All P st.pairs
       → All P (written names v (promoted names st)).pairs
   read-all P v found h = subst (λ s. All P s.pairs) (sym (read_back v found)) (front-all P names st.pairs h)
+
+-- a search by a hash through which nothing is written brings the pair of its key to the front, and no more
+pub given-promoted : {K V S H : Type 0} {eq : K → K → Bool} (laws : IsEquivalence eq) (key : K) (st : State K V S H)
+    (pair : K × V) → lookup_entry (eq key) st.pairs ≡ Some pair
+    → written (eq pair.0) pair.1 (promoted (eq pair.0) st) ≡ promoted (eq key) st
+given-promoted {eq = eq} laws key st pair found =
+    let same : eq key ≡ eq pair.0 = λ i k. laws.congr key pair.0 k (found_named (eq key) st.pairs pair found) i in
+    subst (λ names. written names pair.1 (promoted names st) ≡ promoted (eq key) st) same
+    (read_back (eq key) st pair.1 (lookup-entry (eq key) st.pairs ∙ ap (option_map (λ p. p.1)) found))

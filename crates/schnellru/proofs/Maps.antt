@@ -9,4 +9,5 @@ pub mod ClearedMaps
 pub mod MovedPairs
 pub mod Placements
 pub mod SomeInsert
+pub mod SomeReservation
 pub mod EmptyMaps

@@ -17,3 +17,5 @@ pub mod Runs
 pub mod RunLimits
 pub mod Removals
 pub mod GetOrInserts
+pub mod KeySearches
+pub mod CostLimits

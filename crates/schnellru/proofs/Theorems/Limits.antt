@@ -16,7 +16,8 @@ use Rattle.schnellru.specs.Theorems.{UsesAtMost}
 use Rattle.schnellru.proofs.Theorems.Moves.{KeepsOffers, left_are}
 use Rattle.schnellru.proofs.Theorems.TableGrowth.{Tables, IsNextCount}
 use Rattle.schnellru.proofs.Theorems.Ways.{insert_changes}
-use Rattle.schnellru.proofs.Theorems.Fronts.{front_make_way, length-front}
+use Rattle.schnellru.proofs.Theorems.Fronts.{front_make_way}
+use Rattle.schnellru.proofs.Theorems.Sums.{total, total-least, split-least, split_named}
 use Rattle.schnellru.proofs.Theorems.InsertAnswers.{IsWithin, trim_ends, Comes, place_comes}
 
 module _ {K V : Type 0} (names : K → Bool) where
@@ -54,45 +55,57 @@ module _ {K V S : Type 0} {over grants : S → ℕ → Bool} {admits : S → K �
     exchanged = λ i v c pair found. refl;
   }
 
-module _ {K V S H I : Type 0} {rules : Rules K V S} {offers : Offers K V S I} {names : I → K → Bool}
-    {hash_of : H → K → ℕ} {i : I} {v : V} {old : State K V S H} where
-  -- no more pairs are left than there were, or the limiter is not over
-  pub insert_within : {result : Result Bool AllocError} {new : State K V S H}
-      → Insert rules offers names hash_of i v old result new → IsWithin rules (contents new)
-      ⊎ (length new.pairs ≤ length old.pairs)
-  insert_within {new = new} (replaced pair found y r l) = inl
-      (subst (IsWithin rules) (sym (left_are old _ new l)) (trim_ends rules _))
-  insert_within (given_up pair found y r l) = inr
-      (omega (arith, ap (λ st. length st.pairs) l.is, length-without (names i) old.pairs))
-  insert_within (no_memory_to_admit a k r e) = inr (omega (arith, ap (λ st. length st.pairs) e))
-  insert_within (not_admitted a s n r e) = inr (omega (arith, ap (λ st. length st.pairs) e))
-  insert_within {result} {new} (admitted a s pair n (ready, l, outcome, landed, p, t)) = settled outcome
-      (place_comes rules hash_of pair ready outcome landed p) t
-    where
-      fewer : length ready.pairs ≤ length old.pairs
-      fewer = omega (
-        arith,
-        ap (λ st. length st.pairs) l.is,
-        length-front _ old.pairs
-            (front_make_way rules (record { pairs = old.pairs; limiter = s })),
-      )
+module _ {K V : Type 0} (f : K × V → ℕ) where
+  -- the total of what is left without a named pair is at most that of all
+  pub total-without : (names : K → Bool) (xs : List (K × V)) → total f (without names xs) ≤ total f xs
+  total-without names xs = split-least f xs (lookup_entry names xs) (without names xs) (split_named f names xs)
 
-      settled : (outcome : Outcome) → Comes rules hash_of pair ready outcome landed
-          → Settles rules outcome landed result new → IsWithin rules (contents new)
-          ⊎ (length new.pairs ≤ length old.pairs)
-      settled placed b h = inl (subst (IsWithin rules) (sym (left_are landed _ new h.1)) (trim_ends rules _))
-      settled refused b h = inr (omega (arith, ap (λ st. length st.pairs) h.1, ap length b))
-      settled no_memory b h = inr (omega (arith, ap (λ st. length st.pairs) h.1, length-front _ ready.pairs b, fewer))
+  module _ {S H I : Type 0} {rules : Rules K V S} {offers : Offers K V S I} {names : I → K → Bool}
+      {hash_of : H → K → ℕ} {i : I} {v : V} {old : State K V S H} where
+    -- no greater total is left than there was, or the limiter is not over
+    pub insert_within : {result : Result Bool AllocError} {new : State K V S H}
+        → Insert rules offers names hash_of i v old result new → IsWithin rules (contents new)
+        ⊎ (total f new.pairs ≤ total f old.pairs)
+    insert_within {new = new} (replaced pair found y r l) = inl
+        (subst (IsWithin rules) (sym (left_are old _ new l)) (trim_ends rules _))
+    insert_within (given_up pair found y r l) = inr
+        (omega (arith, ap (λ st. total f st.pairs) l.is, total-without (names i) old.pairs))
+    insert_within (no_memory_to_admit a k r e) = inr (omega (arith, ap (λ st. total f st.pairs) e))
+    insert_within (not_admitted a s n r e) = inr (omega (arith, ap (λ st. total f st.pairs) e))
+    insert_within {result} {new} (admitted a s pair n (ready, l, outcome, landed, p, t)) = settled outcome
+        (place_comes rules hash_of pair ready outcome landed p) t
+      where
+        fewer : total f ready.pairs ≤ total f old.pairs
+        fewer = omega (
+          arith,
+          ap (λ st. total f st.pairs) l.is,
+          total-least f _ old.pairs (front_make_way rules (record { pairs = old.pairs; limiter = s })),
+        )
+
+        settled : (outcome : Outcome) → Comes rules hash_of pair ready outcome landed
+            → Settles rules outcome landed result new → IsWithin rules (contents new)
+            ⊎ (total f new.pairs ≤ total f old.pairs)
+        settled placed b h = inl (subst (IsWithin rules) (sym (left_are landed _ new h.1)) (trim_ends rules _))
+        settled refused b h = inr (omega (arith, ap (λ st. total f st.pairs) h.1, ap (total f) b))
+        settled no_memory b h = inr
+            (omega (arith, ap (λ st. total f st.pairs) h.1, total-least f _ ready.pairs b, fewer))
+
+-- the number of pairs is a total
+length-total : {X : Type 0} (xs : List X) → total (λ _. 1) xs ≡ length xs
+length-total [] = refl
+length-total (x ∷ xs) = omega (arith, length-total xs)
 
 -- where the limiter is not over with at most its number of pairs, no more are left
 length_at_most : {K V H : Type 0} (rules : Rules K V ℕ) (old new : State K V ℕ H)
     → ((n : ℕ) → rules.is_over_the_limit old.limiter n ≡ false → n ≤ old.limiter) → new.limiter ≡ old.limiter
-    → IsWithin rules (contents new) ⊎ (length new.pairs ≤ length old.pairs) → length old.pairs ≤ old.limiter
+    → IsWithin rules (contents new) ⊎ (total (λ _. 1) new.pairs ≤ total (λ _. 1) old.pairs)
+    → length old.pairs ≤ old.limiter
     → length new.pairs ≤ old.limiter
 length_at_most rules old new within same (inl (inl e)) few = omega (arith, empty-length new.pairs e)
 length_at_most rules old new within same (inl (inr e)) few = within (length new.pairs)
     (ap (λ s. rules.is_over_the_limit s (length new.pairs)) (sym same) ∙ e)
-length_at_most rules old new within same (inr e) few = omega (arith, e, few)
+length_at_most rules old new within same (inr e) few =
+    omega (arith, e, few, length-total old.pairs, length-total new.pairs)
 
 -- where it grants no more bytes than its number, a table uses no more
 pub uses_at_most : {K V H : Type 0} (rules : Rules K V ℕ) (P : ℕ → Type 0) (more : ℕ) (old new : State K V ℕ H)
@@ -124,7 +137,7 @@ pub by_length_stays : {K V H : Type 0} (names : K → K → Bool) (hash_of : H �
     → length new.pairs ≤ old.limiter
 by_length_stays names hash_of k v old result new step few =
     length_at_most (plain (λ most n. nat_lt most n) (λ _ _. true)) old new (λ n e. grind (arith, nat_tests))
-    (insert_changes keeps_limiter k v old result new step).moves (insert_within step) few
+    (insert_changes keeps_limiter k v old result new step).moves (insert_within (λ _. 1) step) few
 
 -- a limit by memory usage
 pub by_memory_usage_stays : {K V H : Type 0} (names : K → K → Bool) (hash_of : H → K → ℕ) (k : K) (v : V)

@@ -1,11 +1,11 @@
 -- The account stays the sum of the costs.
-use Rattle.std.proofs.Common.{◌≡◌, ℕ, ◌+◌, Bool, true, false, cond, List, [], ◌∷◌, length, Option, Some, None, refl}
-use Rattle.std.proofs.Common.{sym, ap, ◌∙◌, subst, arith, sum_by}
+use Rattle.std.proofs.Common.{◌≡◌, ℕ, ◌+◌, ◌≤◌, ◌++◌, Bool, true, false, cond, List, [], ◌∷◌, length, Option, Some, None}
+use Rattle.std.proofs.Common.{refl, sym, ap, ◌∙◌, subst, arith, sum_by}
 use Rattle.std.proofs.lemmas.List.Recursion.{is_sum_by}
 use Rattle.lru_limits.specs.Rules.{Rules, Offers}
 use Rattle.lru_limits.specs.Laws.{IsAccount}
 use Rattle.schnellru.specs.Theorems.{IsSummed}
-use Rattle.schnellru.specs.Lists.{last, without_last, after, front, lookup_entry, without}
+use Rattle.schnellru.specs.Lists.{IsFront, last, without_last, after, front, lookup_entry, without}
 use Rattle.schnellru.specs.State.{State, Contents, contents, told_of}
 use Rattle.schnellru.proofs.Theorems.Moves.{KeepsOffers, exchange}
 
@@ -18,12 +18,24 @@ module _ {X : Type 0} (f : X → ℕ) where
   pub total-is : (xs : List X) → total xs ≡ sum_by f xs
   total-is = is_sum_by total f refl (λ _ _. refl)
 
+  total-append : (xs ys : List X) → total (xs ++ ys) ≡ total xs + total ys
+  total-append [] ys = omega arith
+  total-append (x ∷ xs) ys = omega (arith, total-append xs ys)
+
+  -- the total of a front part is at most that of the list
+  pub total-least : (xs ys : List X) → IsFront xs ys → total xs ≤ total ys
+  total-least xs ys h = omega (arith, ap total h.1, total-append xs h.0)
+
   -- the list's total is that of what is left and of what goes
   abbrev pub IsSplit : List X → Option X → List X → Type 0
   IsSplit xs None ys = ys ≡ xs
   IsSplit xs (Some x) ys = total ys + f x ≡ total xs
 
-  split_last : (xs : List X) → IsSplit xs (last xs) (without_last xs)
+  pub split-least : (xs : List X) (o : Option X) (ys : List X) → IsSplit xs o ys → total ys ≤ total xs
+  split-least xs None ys h = omega (arith, ap total h)
+  split-least xs (Some x) ys h = omega (arith, h)
+
+  pub split_last : (xs : List X) → IsSplit xs (last xs) (without_last xs)
   split_last [] = refl
   split_last (x ∷ []) = omega arith
   split_last (x ∷ y ∷ ys) = more (last (y ∷ ys)) refl (split_last (y ∷ ys))

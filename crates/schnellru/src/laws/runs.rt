@@ -1,12 +1,12 @@
 //! What is proved of all calls, one after another. A step is what one call makes of a map (`specs/Runs`).
 
-ghost use Rattle.std.specs.Prelude.{ℕ, ◌≤◌, length};
+ghost use Rattle.std.specs.Prelude.{◌≡◌, ℕ, ◌≤◌, length};
 ghost use Rattle.lru_limits.specs.Hashing.{hash_by};
 ghost use Rattle.schnellru.specs.State.{State, IsSized, IsMap, empty_map};
 ghost use Rattle.schnellru.specs.Runs.{Step, AnyStep, Run};
 ghost use Rattle.schnellru.specs.Theorems.{PaysForMoves, UsesAtMost, IsSummed};
 
-use lru_limits::{ByLength, ByMemoryUsage, Insertion, Limiter, LookupKey, Summing};
+use lru_limits::{ByCost, ByLength, ByMemoryUsage, Costed, Insertion, Limiter, LookupKey, Summing};
 use std::hash::{BuildHasher, Hash};
 
 /// What holds of every map holds after any calls, whatever is written through what they lend: no two keys are equal,
@@ -32,20 +32,41 @@ pub fn runs_pay_for_moves<K: Eq + Hash, V, I: LookupKey<K>, L: Insertion<K, V, I
         IsSized old → PaysForMoves old new }
 {}
 
-/// With `ByLength` there are at most `max_length` pairs after any calls, if there were no more before.
+/// With `ByLength` there are at most `max_length` pairs after any calls, if there were no more before. The limiter
+/// stays.
 pub fn runs_keep_the_length<K: Eq + Hash + Drop, V: Drop, S: BuildHasher>()
     ensures length { (old new : State K V ByLength S) →
         Run (Step ⟦<ByLength as Limiter<K, V>>⟧.rules ⟦<ByLength as Insertion<K, V, K>>⟧.offers K.eq
         (hash_by K.hash_input S.BuildHasher S.Hasher.Hasher)) new old →
         length old.pairs ≤ old.limiter → length new.pairs ≤ old.limiter }
+    ensures limiter { (old new : State K V ByLength S) →
+        Run (Step ⟦<ByLength as Limiter<K, V>>⟧.rules ⟦<ByLength as Insertion<K, V, K>>⟧.offers K.eq
+        (hash_by K.hash_input S.BuildHasher S.Hasher.Hasher)) new old → new.limiter ≡ old.limiter }
 {}
 
 /// With `ByMemoryUsage` the table uses at most `max_memory_usage` bytes after any calls, if it used no more before.
+/// The limiter stays.
 pub fn runs_keep_the_memory_usage<K: Eq + Hash + Drop, V: Drop, S: BuildHasher>()
     ensures usage { (old new : State K V ByMemoryUsage S) →
         Run (Step ⟦<ByMemoryUsage as Limiter<K, V>>⟧.rules ⟦<ByMemoryUsage as Insertion<K, V, K>>⟧.offers K.eq
         (hash_by K.hash_input S.BuildHasher S.Hasher.Hasher)) new old →
         UsesAtMost old.limiter old → UsesAtMost old.limiter new }
+    ensures limiter { (old new : State K V ByMemoryUsage S) →
+        Run (Step ⟦<ByMemoryUsage as Limiter<K, V>>⟧.rules ⟦<ByMemoryUsage as Insertion<K, V, K>>⟧.offers K.eq
+        (hash_by K.hash_input S.BuildHasher S.Hasher.Hasher)) new old → new.limiter ≡ old.limiter }
+{}
+
+/// With `ByCost` the cost is at most the limit after any calls, if it was so before and was the sum of the costs of the
+/// pairs. The limit stays.
+pub fn runs_keep_the_cost<K: Eq + Hash + Drop, V: Costed + Drop, S: BuildHasher>()
+    ensures cost { (old new : State K V ByCost S) →
+        Run (Step ⟦<ByCost as Limiter<K, V>>⟧.rules ⟦<ByCost as Insertion<K, V, K>>⟧.offers K.eq
+        (hash_by K.hash_input S.BuildHasher S.Hasher.Hasher)) new old →
+        IsSummed ⟦<ByCost as Summing<K, V, K>>⟧.cost_of ⟦<ByCost as Summing<K, V, K>>⟧.account old →
+        old.limiter.cost ≤ old.limiter.limit → new.limiter.cost ≤ old.limiter.limit }
+    ensures limit { (old new : State K V ByCost S) →
+        Run (Step ⟦<ByCost as Limiter<K, V>>⟧.rules ⟦<ByCost as Insertion<K, V, K>>⟧.offers K.eq
+        (hash_by K.hash_input S.BuildHasher S.Hasher.Hasher)) new old → new.limiter.limit ≡ old.limiter.limit }
 {}
 
 /// A map without pairs and buckets, with which every run begins, is a map.

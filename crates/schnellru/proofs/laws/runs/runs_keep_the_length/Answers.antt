@@ -1,5 +1,10 @@
+use Rattle.schnellru.proofs.Theorems.Limits.{keeps_limiter}
+use Rattle.schnellru.proofs.Theorems.Runs.{run_keeps}
 use Rattle.schnellru.proofs.Theorems.RunLimits.{run_stays_short}
 use Rattle.schnellru.proofs.laws.runs.runs_keep_the_length.Goals as goal
 
 pub returns : goal.returns
-returns g c = record { length = λ old new run few. run_stays_short _ _ new old run few }
+returns g c = record {
+  length = λ old new run few. run_stays_short _ _ new old run few;
+  limiter = λ old new run. run_keeps keeps_limiter new old run;
+}

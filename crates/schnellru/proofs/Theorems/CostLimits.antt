@@ -1,0 +1,114 @@
+-- A limit by cost, over runs of calls.
+use Rattle.std.proofs.Common.{◌≡◌, ℕ, ◌≤◌, Bool, true, false, cond, List, [], ◌∷◌, Option, Some, None, refl, sym}
+use Rattle.std.proofs.Common.{ap, ◌∙◌, subst, arith, ◌⊎◌, inl, inr}
+use Rattle.std.proofs.lemmas.Bool.Decides.{nat_tests}
+use Rattle.std.specs.Prelude.{nat_lt}
+use Rattle.lru_limits.specs.Budget.{Budget, by_cost, charges, charges-sums}
+use Rattle.schnellru.specs.GetOrInserts.{got, inserted}
+use Rattle.schnellru.specs.Lists.{is_empty, last, without_first, without_last, lookup_entry}
+use Rattle.schnellru.specs.State.{State, contents, told_of}
+use Rattle.schnellru.specs.Runs.{Step, inserts, makes_newest, gets, removes, pops_oldest, pops_newest, drains, clears}
+use Rattle.schnellru.specs.Runs.{reserves, Run, ends, goes_on}
+use Rattle.schnellru.specs.Theorems.{IsSummed}
+use Rattle.schnellru.proofs.Theorems.InsertAnswers.{IsWithin}
+use Rattle.schnellru.proofs.Theorems.Limits.{insert_within, total-without}
+use Rattle.schnellru.proofs.Theorems.Moves.{KeepsOffers}
+use Rattle.schnellru.proofs.Theorems.Removals.{reserved_list}
+use Rattle.schnellru.proofs.Theorems.Runs.{run_keeps, run_summed}
+use Rattle.schnellru.proofs.Theorems.Sums.{total, total-is, total-front, split-least, split_last}
+
+told_limit : {K V : Type 0} (cost : V → ℕ) (pair : Option (K × V)) (b : Budget)
+    → (told_of (by_cost cost) pair b).limit ≡ b.limit
+told_limit cost None b = refl
+told_limit cost (Some pair) b = refl
+
+charged_limit : (b : Budget) (accepts : Bool) (c : Budget) → c.limit ≡ b.limit
+    → (let d : Budget = cond accepts c b in d).limit ≡ b.limit
+charged_limit b true c e = e
+charged_limit b false c e = refl
+
+-- no call sets the limit
+pub keeps_limit : {K V : Type 0} (cost : V → ℕ) {names : K → K → Bool}
+    → KeepsOffers (by_cost cost) (charges cost) names (λ c d. d.limiter.limit ≡ c.limiter.limit)
+keeps_limit cost = record {
+  keeps = record {
+    way = record {
+      self = λ c. refl;
+      trans = λ p q. q ∙ p;
+      asked = λ bytes c. refl;
+      popped = λ c. told_limit cost (last c.pairs) c.limiter;
+    };
+    left = λ test c. told_limit cost (lookup_entry test c.pairs) c.limiter;
+    first = λ q c. refl;
+    cleared = λ c. refl;
+  };
+  came = λ i v c s pair a offer. ap (λ b. b.limit) offer.limiter ∙ charged_limit c.limiter _ _ refl;
+  turned_down = λ i v c s offer. ap (λ b. b.limit) offer.limiter ∙ charged_limit c.limiter _ _ refl;
+  exchanged = λ i v c pair found. charged_limit c.limiter _ _ refl;
+}
+
+module _ {K V H : Type 0} (cost : V → ℕ) (names : K → K → Bool) (hash_of : H → K → ℕ) where
+  module _ (old new : State K V Budget H)
+      (was : IsSummed (λ k v. cost v) (λ b. b.cost) old) (is : IsSummed (λ k v. cost v) (λ b. b.cost) new)
+      (same : new.limiter.limit ≡ old.limiter.limit) (within : old.limiter.cost ≤ old.limiter.limit) where
+    abbrev value_cost : K × V → ℕ
+    value_cost p = cost p.1
+
+    abbrev Within : Type 0
+    Within = new.limiter.cost ≤ old.limiter.limit
+
+    -- where no greater sum is left, it is within the limit
+    less : total value_cost new.pairs ≤ total value_cost old.pairs → Within
+    less h = omega (arith, was, is, same, within, total-is value_cost new.pairs, total-is value_cost old.pairs, h)
+
+    none : (pairs : List (K × V)) → new.pairs ≡ pairs → is_empty pairs ≡ true → Within
+    none [] e h = less (omega (arith, ap (total value_cost) e))
+    none (p ∷ pairs) e h = absurd cc
+
+    ended : IsWithin (by_cost cost) (contents new) ⊎ (total value_cost new.pairs ≤ total value_cost old.pairs)
+        → Within
+    ended (inl (inl e)) = none new.pairs refl e
+    ended (inl (inr e)) =
+        let not_over : nat_lt new.limiter.limit new.limiter.cost ≡ false = e in
+        let kept : new.limiter.cost ≤ new.limiter.limit = grind (arith, nat_tests) in
+        omega (arith, same, kept)
+    ended (inr h) = less h
+
+    step_within : Step (by_cost cost) (charges cost) names hash_of old new → Within
+    step_within (inserts k v result h) = ended (insert_within value_cost h)
+    step_within (makes_newest v k result (got w e r step)) = less
+        (omega (arith, ap (λ st. total value_cost st.pairs) step, total-front value_cost (names k) old.pairs))
+    step_within (makes_newest v k result (inserted e w m step)) = ended (insert_within value_cost step)
+    step_within (gets k e) = less
+        (omega (arith, ap (λ st. total value_cost st.pairs) e, total-front value_cost (names k) old.pairs))
+    step_within (removes test result h) = less
+        (omega (arith, ap (λ st. total value_cost st.pairs) h.state.is, total-without value_cost test old.pairs))
+    step_within (pops_oldest result h) = less
+        (omega (
+          arith,
+          ap (λ st. total value_cost st.pairs) h.state.is,
+          split-least value_cost old.pairs (last old.pairs) (without_last old.pairs) (split_last value_cost old.pairs),
+        ))
+    step_within (pops_newest result h) = less
+        (omega (arith, ap (λ st. total value_cost st.pairs) h.state.is, fewer old.pairs))
+      where
+        fewer : (xs : List (K × V)) → total value_cost (without_first xs) ≤ total value_cost xs
+        fewer [] = omega arith
+        fewer (x ∷ xs) = omega arith
+    step_within (drains newest oldest result h) = less
+        (omega (arith, ap (λ st. total value_cost st.pairs) h.state.2))
+    step_within (clears e) = less (omega (arith, ap (λ st. total value_cost st.pairs) e))
+    step_within (reserves n result h) = less
+        (omega (arith, ap (total value_cost) (reserved_list _ n old result new h).0))
+
+  pub run_within_cost : (new old : State K V Budget H) → Run (Step (by_cost cost) (charges cost) names hash_of) new old
+      → IsSummed (λ k v. cost v) (λ b. b.cost) old → old.limiter.cost ≤ old.limiter.limit
+      → new.limiter.cost ≤ old.limiter.limit
+  run_within_cost new old ends was within = within
+  run_within_cost new old (goes_on mid s sized r) was within =
+      let one : Run (Step (by_cost cost) (charges cost) names hash_of) mid old = goes_on mid s sized ends in
+      let is = run_summed (charges-sums cost) mid old one was in
+      let same : mid.limiter.limit ≡ old.limiter.limit = run_keeps (keeps_limit cost) mid old one in
+      let kept : mid.limiter.cost ≤ old.limiter.limit = step_within old mid was is same within s in
+      subst (λ n. new.limiter.cost ≤ n) same
+      (run_within_cost new mid r is (subst (λ n. mid.limiter.cost ≤ n) (sym same) kept))
