@@ -9,18 +9,18 @@ use Rattle.lru_limits.specs.Rules.{Rules, Offers}
 use Rattle.schnellru.specs.State.{IsSized}
 use Rattle.lru_replay.specs.declared.outcome.ReplayError.{ReplayError}
 use Rattle.lru_replay.specs.declared.outcome.ReplayError.TheVariants as errors
-use Rattle.lru_replay.specs.Lines.{lines_of, TakesPart, TakesFed, TakesRest, TakesLines}
+use Rattle.lru_replay.specs.Lines.{lines_of, fed, TakesPart, TakesFed, TakesRest, TakesLines}
 use Rattle.lru_replay.specs.Maps.{Map}
-use Rattle.lru_replay.specs.Runs.{AnswersLine, Answers, IsRun, IsTextOf, answer_line}
+use Rattle.lru_replay.specs.LineRuns.{AnswersLine, Answers, IsLineRun, IsTextOf}
 use Rattle.lru_replay.proofs.ByteLists.{Consumes_end}
 use Rattle.lru_replay.proofs.LineLists.{takes_line_more, takes_part_more, lines_at_end, lines_of-last}
-use Rattle.lru_replay.proofs.RunLists.{run-append, run-one}
+use Rattle.lru_replay.proofs.LineRuns.{line_run-append, line_run-one}
 
 module _ {S : Type 0} (rules : Rules ℕ ℕ S) (offers : Offers ℕ ℕ S ℕ) (told : S → Option ℕ) where
   -- these lines were read whole, and the text of a run over them was written
   abbrev pub RunsSoFar : Map S → Option (List ℕ) → Option (List ℕ) → Option (List ℕ) → Option (List ℕ) → Map S → Type 0
   RunsSoFar old r₀ r₁ w₀ w₁ now = (lines : List (List ℕ)) × (text : List ℕ)
-      × IsRun rules offers told old lines text now × TakesLines r₀ r₁ lines [] × Appends w₀ w₁ text
+      × IsLineRun rules offers told old lines text now × TakesLines r₀ r₁ lines [] × Appends w₀ w₁ text
 
   module _ (old now : Map S) (r₀ r₁ r₂ w₀ w₁ : Option (List ℕ)) (line : List ℕ) where
     -- a read failed in the next line
@@ -37,7 +37,7 @@ module _ {S : Type 0} (rules : Rules ℕ ℕ S) (offers : Offers ℕ ℕ S ℕ) 
         text,
         (
           now,
-          subst (λ ls. IsRun rules offers told old ls text now)
+          subst (λ ls. IsLineRun rules offers told old ls text now)
               (sym (all ∙ ap (λ l. lines ++ lines_of l) none ∙ append-nil lines)) run,
         ),
         wrote,
@@ -49,28 +49,28 @@ module _ {S : Type 0} (rules : Rules ℕ ℕ S) (offers : Offers ℕ ℕ S ℕ) 
     -- a line with its line feed was answered
     pub line_answered : RunsSoFar old r₀ r₁ w₀ w₁ now → TakesFed r₁ r₂ line
         → AnswersLine rules offers told now line new w₁ w₂ (Ok tt) → RunsSoFar old r₀ r₂ w₀ w₂ new
-    line_answered (lines, text, run, reads, wrote) taken (answer, step, answered) = (
+    line_answered (lines, text, run, reads, wrote) taken (next, step, answered) = (
       lines ++ line ∷ [],
-      text ++ answer_line answer,
-      run-append rules offers told old lines text now (line ∷ []) (answer_line answer) new run
-          (run-one rules offers told now line answer new step sized),
+      text ++ fed next,
+      line_run-append rules offers told old lines text now (line ∷ []) (fed next) new run
+          (line_run-one rules offers told now line next new step sized),
       takes_line_more r₀ r₁ r₂ lines line reads taken,
-      Appends-trans w₀ w₁ w₂ text (answer_line answer) wrote answered,
+      Appends-trans w₀ w₁ w₂ text (fed next) wrote answered,
     )
 
     -- a write failed within its answer line
     pub line_cut : (e : ReplayError) → RunsSoFar old r₀ r₁ w₀ w₁ now → TakesFed r₁ r₂ line
         → AnswersLine rules offers told now line new w₁ w₂ (Err e)
         → Answers (IsTextOf rules offers told old) r₀ r₂ w₀ w₂ (Err e)
-    line_cut errors.Read so_far taken (answer, step, (same, part, front, written)) = absurd (cc same)
-    line_cut errors.Write (lines, text, run, reads, wrote) taken (answer, step, (same, part, (rest, is), written)) = (
+    line_cut errors.Read so_far taken (next, step, (same, part, front, written)) = absurd (cc same)
+    line_cut errors.Write (lines, text, run, reads, wrote) taken (next, step, (same, part, (rest, is), written)) = (
       lines ++ line ∷ [],
-      text ++ answer_line answer,
+      text ++ fed next,
       text ++ part,
       (
         new,
-        run-append rules offers told old lines text now (line ∷ []) (answer_line answer) new run
-            (run-one rules offers told now line answer new step sized),
+        line_run-append rules offers told old lines text now (line ∷ []) (fed next) new run
+            (line_run-one rules offers told now line next new step sized),
       ),
       inl (takes_line_more r₀ r₁ r₂ lines line reads taken),
       (rest, ap (λ l. text ++ l) is ∙ sym (append_assoc text part rest)),
@@ -89,26 +89,26 @@ module _ {S : Type 0} (rules : Rules ℕ ℕ S) (offers : Offers ℕ ℕ S ℕ) 
         → 0 < length line
         → AnswersLine rules offers told now line new w₁ w₂ result
         → Answers (IsTextOf rules offers told old) r₀ r₂ w₀ w₂ result
-    last_answered (Ok u) (lines, text, run, reads, wrote) taken some (answer, step, answered) =
-        let whole = run-append rules offers told old lines text now (line ∷ []) (answer_line answer) new run
-        (run-one rules offers told now line answer new step sized) in (
+    last_answered (Ok u) (lines, text, run, reads, wrote) taken some (next, step, answered) =
+        let whole = line_run-append rules offers told old lines text now (line ∷ []) (fed next) new run
+        (line_run-one rules offers told now line next new step sized) in (
           IfSome_then r₀ (all_lines lines reads taken some) (λ input all. (
-            text ++ answer_line answer,
-            (new, subst (λ ls. IsRun rules offers told old ls (text ++ answer_line answer) new) (sym all) whole),
-            Appends-trans w₀ w₁ w₂ text (answer_line answer) wrote answered,
+            text ++ fed next,
+            (new, subst (λ ls. IsLineRun rules offers told old ls (text ++ fed next) new) (sym all) whole),
+            Appends-trans w₀ w₁ w₂ text (fed next) wrote answered,
           )),
           Consumes_end r₀ r₁ r₂ _ reads.2 taken.2,
         )
-    last_answered (Err errors.Read) so_far taken some (answer, step, (same, part, front, written)) = absurd (cc same)
+    last_answered (Err errors.Read) so_far taken some (next, step, (same, part, front, written)) = absurd (cc same)
     last_answered (Err errors.Write) (lines, text, run, reads, wrote) taken some
-        (answer, step, (same, part, (rest, is), written)) = (
+        (next, step, (same, part, (rest, is), written)) = (
           lines ++ line ∷ [],
-          text ++ answer_line answer,
+          text ++ fed next,
           text ++ part,
           (
             new,
-            run-append rules offers told old lines text now (line ∷ []) (answer_line answer) new run
-                (run-one rules offers told now line answer new step sized),
+            line_run-append rules offers told old lines text now (line ∷ []) (fed next) new run
+                (line_run-one rules offers told now line next new step sized),
           ),
           inr (Consumes_end r₀ r₁ r₂ _ reads.2 taken.2, all_lines lines reads taken some),
           (rest, ap (λ l. text ++ l) is ∙ sym (append_assoc text part rest)),

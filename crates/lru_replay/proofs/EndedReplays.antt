@@ -9,8 +9,8 @@ use Rattle.lru_limits.specs.Rules.{Rules, Offers}
 use Rattle.schnellru.specs.Lists.{IsFront}
 use Rattle.schnellru.specs.State.{IsSized}
 use Rattle.std.proofs.lemmas.Option.{IfSome_then}
-use Rattle.lru_replay.specs.declared.call.Limit.{Limit}
-use Rattle.lru_replay.specs.declared.call.Limit.TheVariants as limits
+use Rattle.lru_replay.specs.declared.command.Limit.{Limit}
+use Rattle.lru_replay.specs.declared.command.Limit.TheVariants as limits
 use Rattle.lru_replay.specs.declared.line.Ending.{Ending}
 use Rattle.lru_replay.specs.declared.line.Ending.TheVariants as endings
 use Rattle.lru_replay.specs.declared.outcome.ReplayEnd.{ReplayEnd}
@@ -25,9 +25,9 @@ use Rattle.lru_replay.specs.Replay.{WritesCut, WritesCutSoFar, Replays}
 use Rattle.lru_replay.specs.Limits.{length_rules, length_offers, memory_rules, cost_rules, cost_offers, no_rules}
 use Rattle.lru_replay.specs.Limits.{all_offers, no_cost, cost_told, AlwaysOffers}
 use Rattle.lru_replay.specs.Maps.{Map, empty, links_of_32_bits, links_of_64_bits}
-use Rattle.lru_replay.specs.Runs.{IsTextOf, Answers}
+use Rattle.lru_replay.specs.LineRuns.{IsTextOf, Answers}
 use Rattle.lru_replay.proofs.LineLists.{lines_of-fed, lines_of-last, lines_at_end, lines_left, takes_line_before}
-use Rattle.lru_replay.proofs.RunLists.{some_run, run_sized, run-append}
+use Rattle.lru_replay.proofs.LineRuns.{some_line_run, line_run_sized, line_run-append}
 use Rattle.lru_replay.proofs.ByteLists.{Consumes_end}
 use Rattle.lru_replay.proofs.EmptyMaps.{empty_is_sized, length_always, cost_always, all_always}
 use Rattle.lru_replay.proofs.Spelled.{limit_or}
@@ -74,9 +74,9 @@ module _ {S : Type 0} (rules : Rules ℕ ℕ S) (offers : Offers ℕ ℕ S ℕ) 
   text_goes_on : (lines more : List (List ℕ)) (text : List ℕ) → IsTextOf rules offers told old lines text
       → (u : List ℕ) × IsTextOf rules offers told old (lines ++ more) (text ++ u)
   text_goes_on lines more text (now, run) =
-      let (u, new, others) = some_run rules offers told offered now
-      (run_sized rules offers told old lines text now sized run) more in
-      (u, (new, run-append rules offers told old lines text now more u new run others))
+      let (u, new, others) = some_line_run rules offers told offered now
+      (line_run_sized rules offers told old lines text now sized run) more in
+      (u, (new, line_run-append rules offers told old lines text now more u new run others))
 
 under_goes_on : (limit : Limit) (lines more : List (List ℕ)) (text : List ℕ) → IsTextUnder limit lines text
     → (u : List ℕ) × IsTextUnder limit (lines ++ more) (text ++ u)
@@ -92,10 +92,10 @@ under_goes_on limits.Compact = text_goes_on no_rules all_offers no_cost all_alwa
     (empty (record {}) 32 links_of_32_bits) (empty_is_sized (record {}) 32 links_of_32_bits)
 
 no_lines_under : (limit : Limit) → IsTextUnder limit [] []
-no_lines_under (limits.Length most) = (empty most 32 links_of_32_bits, (refl, refl))
-no_lines_under (limits.Memory budget entry_bytes) = (empty budget entry_bytes links_of_32_bits, (refl, refl))
-no_lines_under (limits.Cost most) = (empty (record { limit = most; cost = 0 }) 32 links_of_64_bits, (refl, refl))
-no_lines_under limits.Compact = (empty (record {}) 32 links_of_32_bits, (refl, refl))
+no_lines_under (limits.Length most) = (empty most 32 links_of_32_bits, ([], refl, refl))
+no_lines_under (limits.Memory budget entry_bytes) = (empty budget entry_bytes links_of_32_bits, ([], refl, refl))
+no_lines_under (limits.Cost most) = (empty (record { limit = most; cost = 0 }) 32 links_of_64_bits, ([], refl, refl))
+no_lines_under limits.Compact = (empty (record {}) 32 links_of_32_bits, ([], refl, refl))
 
 -- So each list of lines has something written of it,
 some_output : (lines : List (List ℕ)) → (text : List ℕ) × IsOutput lines text

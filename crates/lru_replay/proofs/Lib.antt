@@ -6,8 +6,14 @@ pub mod LineLists
 pub mod Spelled
 pub mod Held
 pub mod EmptyMaps
+pub mod Pops
 pub mod DrainedPairs
 pub mod SomeSteps
-pub mod RunLists
+pub mod CallRuns
+pub mod LineRuns
 pub mod AnsweredLines
 pub mod EndedReplays
+pub mod Made
+pub mod CallKinds
+pub mod SummedCalls
+pub mod CallLaws

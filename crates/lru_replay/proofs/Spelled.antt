@@ -10,12 +10,12 @@ use Rattle.std.specs.Str.{bytes_eq}
 use Rattle.std.specs.Str.Parse.{digits_value}
 use Rattle.std.specs.Prelude.{nat_lt}
 use Rattle.std.specs.Bool.{Decides}
-use Rattle.lru_replay.specs.declared.call.Call.{Call}
-use Rattle.lru_replay.specs.declared.call.Call.TheVariants as calls
-use Rattle.lru_replay.specs.declared.call.Limit.{Limit}
-use Rattle.lru_replay.specs.declared.call.Limit.TheVariants as limits
-use Rattle.lru_replay.specs.Grammar.{SpellsCall, SpellsLimit, pair_spelling, call_spelling, limit_spelling, FitsCall}
-use Rattle.lru_replay.specs.Grammar.{FitsLimit}
+use Rattle.lru_replay.specs.declared.command.Command.{Command}
+use Rattle.lru_replay.specs.declared.command.Command.TheVariants as commands
+use Rattle.lru_replay.specs.declared.command.Limit.{Limit}
+use Rattle.lru_replay.specs.declared.command.Limit.TheVariants as limits
+use Rattle.lru_replay.specs.Grammar.{SpellsCommand, SpellsLimit, pair_spelling, command_spelling, limit_spelling}
+use Rattle.lru_replay.specs.Grammar.{FitsCommand, FitsLimit}
 use Rattle.lru_replay.specs.Lines.{Lacks}
 use Rattle.lru_replay.proofs.Numbers.{decimal_lacks_space}
 
@@ -40,16 +40,16 @@ after_word_is (x ∷ a) b lacks = rw (ne_eqb x 32 lacks.0) (after_word_is a b la
 value_of_decimal : (n : ℕ) → n < 2 ^ 64 → digits_value 10 (decimal n) ≡ n
 value_of_decimal n h = (decimal_is_IsNumeral n h).1
 
--- the calls that the line may spell
-abbrev pub guesses : List ℕ → List Call
-guesses line = calls.Insert (digits_value 10 (front_word (drop 7 line))) (digits_value 10 (after_word (drop 7 line)))
-    ∷ calls.Get (digits_value 10 (drop 4 line)) ∷ calls.Peek (digits_value 10 (drop 5 line))
-    ∷ calls.Remove (digits_value 10 (drop 7 line)) ∷ calls.Reserve (digits_value 10 (drop 8 line))
-    ∷ calls.Drain (digits_value 10 (drop 6 line)) ∷ calls.PopOldest ∷ calls.PopNewest ∷ calls.Clear ∷ calls.List
-    ∷ calls.Stats ∷ []
+-- the commands that the line may spell
+abbrev pub guesses : List ℕ → List Command
+guesses line = commands.Insert (digits_value 10 (front_word (drop 7 line))) (digits_value 10 (after_word (drop 7 line)))
+    ∷ commands.Get (digits_value 10 (drop 4 line)) ∷ commands.Peek (digits_value 10 (drop 5 line))
+    ∷ commands.Remove (digits_value 10 (drop 7 line)) ∷ commands.Reserve (digits_value 10 (drop 8 line))
+    ∷ commands.Drain (digits_value 10 (drop 6 line)) ∷ commands.PopOldest ∷ commands.PopNewest ∷ commands.Clear
+    ∷ commands.List ∷ commands.Stats ∷ []
 
 abbrev pub Spelled : List ℕ → Type 0
-Spelled line = (call : Call) × SpellsCall line call
+Spelled line = (command : Command) × SpellsCommand line command
 
 -- What can be told of two facts can be told of both.
 both_or : {P Q : Type 0} → P ⊎ (P → ⊥) → Q ⊎ (Q → ⊥) → (P × Q) ⊎ ((P × Q) → ⊥)
@@ -65,18 +65,18 @@ told false d = inr (not_from_Decides false d refl)
 lt_or : (n limit : ℕ) → (n < limit) ⊎ (n < limit → ⊥)
 lt_or n limit = told (nat_lt n limit) (Decides-ltb n limit)
 
-fits_call : (call : Call) → FitsCall call ⊎ (FitsCall call → ⊥)
-fits_call (calls.Insert k v) = both_or (lt_or k (2 ^ 64)) (lt_or v (2 ^ 64))
-fits_call (calls.Get k) = lt_or k (2 ^ 64)
-fits_call (calls.Peek k) = lt_or k (2 ^ 64)
-fits_call (calls.Remove k) = lt_or k (2 ^ 64)
-fits_call (calls.Reserve n) = lt_or n (2 ^ 64)
-fits_call (calls.Drain n) = lt_or n (2 ^ 64)
-fits_call calls.PopOldest = inl tt
-fits_call calls.PopNewest = inl tt
-fits_call calls.Clear = inl tt
-fits_call calls.Stats = inl tt
-fits_call calls.List = inl tt
+fits_command : (command : Command) → FitsCommand command ⊎ (FitsCommand command → ⊥)
+fits_command (commands.Insert k v) = both_or (lt_or k (2 ^ 64)) (lt_or v (2 ^ 64))
+fits_command (commands.Get k) = lt_or k (2 ^ 64)
+fits_command (commands.Peek k) = lt_or k (2 ^ 64)
+fits_command (commands.Remove k) = lt_or k (2 ^ 64)
+fits_command (commands.Reserve n) = lt_or n (2 ^ 64)
+fits_command (commands.Drain n) = lt_or n (2 ^ 64)
+fits_command commands.PopOldest = inl tt
+fits_command commands.PopNewest = inl tt
+fits_command commands.Clear = inl tt
+fits_command commands.Stats = inl tt
+fits_command commands.List = inl tt
 
 fits_limit : (limit : Limit) → FitsLimit limit ⊎ (FitsLimit limit → ⊥)
 fits_limit (limits.Length n) = lt_or n (2 ^ 32)
@@ -87,8 +87,8 @@ fits_limit limits.Compact = inl tt
 same_or : (xs ys : List ℕ) → (xs ≡ ys) ⊎ (xs ≡ ys → ⊥)
 same_or xs ys = told (bytes_eq xs ys) (bytes_eq-Decides xs ys)
 
-spells_or : (line : List ℕ) (call : Call) → SpellsCall line call ⊎ (SpellsCall line call → ⊥)
-spells_or line call = both_or (fits_call call) (same_or line (call_spelling call))
+spells_or : (line : List ℕ) (command : Command) → SpellsCommand line command ⊎ (SpellsCommand line command → ⊥)
+spells_or line command = both_or (fits_command command) (same_or line (command_spelling command))
 
 -- what is read off two numbers with a space between them
 module _ (words : List ℕ) (k v : ℕ) (k_fits : k < 2 ^ 64) (v_fits : v < 2 ^ 64) (is : words ≡ pair_spelling k v) where
@@ -102,30 +102,30 @@ module _ (words : List ℕ) (k v : ℕ) (k_fits : k < 2 ^ 64) (v_fits : v < 2 ^ 
       ∙ ap (digits_value 10) (after_word_is (decimal k) (decimal v) (decimal_lacks_space k k_fits))
       ∙ value_of_decimal v v_fits
 
--- a call that the line spells is among the guesses
-guessed : (line : List ℕ) (P : Call → Type 0) → AllByRecursion P (guesses line) → (call : Call) → SpellsCall line call
-    → P call
-guessed line P all (calls.Insert k v) (fits, is) =
+-- a command that the line spells is among the guesses
+guessed : (line : List ℕ) (P : Command → Type 0) → AllByRecursion P (guesses line) → (command : Command)
+    → SpellsCommand line command → P command
+guessed line P all (commands.Insert k v) (fits, is) =
     let rest : drop 7 line ≡ pair_spelling k v = ap (drop 7) is in
     let key = first_number (drop 7 line) k v fits.0 fits.1 rest in
     let value = second_number (drop 7 line) k v fits.0 fits.1 rest in
-    subst (λ n. P (calls.Insert k n)) value
-    (subst (λ n. P (calls.Insert n (digits_value 10 (after_word (drop 7 line))))) key all.0)
-guessed line P all (calls.Get k) (fits, is) = subst (λ n. P (calls.Get n)) (ap (λ l. digits_value 10 (drop 4 l)) is
-    ∙ value_of_decimal k fits) all.1.0
-guessed line P all (calls.Peek k) (fits, is) = subst (λ n. P (calls.Peek n)) (ap (λ l. digits_value 10 (drop 5 l)) is
-    ∙ value_of_decimal k fits) all.1.1.0
-guessed line P all (calls.Remove k) (fits, is) = subst (λ n. P (calls.Remove n))
+    subst (λ n. P (commands.Insert k n)) value
+    (subst (λ n. P (commands.Insert n (digits_value 10 (after_word (drop 7 line))))) key all.0)
+guessed line P all (commands.Get k) (fits, is) = subst (λ n. P (commands.Get n))
+    (ap (λ l. digits_value 10 (drop 4 l)) is ∙ value_of_decimal k fits) all.1.0
+guessed line P all (commands.Peek k) (fits, is) = subst (λ n. P (commands.Peek n))
+    (ap (λ l. digits_value 10 (drop 5 l)) is ∙ value_of_decimal k fits) all.1.1.0
+guessed line P all (commands.Remove k) (fits, is) = subst (λ n. P (commands.Remove n))
     (ap (λ l. digits_value 10 (drop 7 l)) is ∙ value_of_decimal k fits) all.1.1.1.0
-guessed line P all (calls.Reserve n) (fits, is) = subst (λ n. P (calls.Reserve n))
+guessed line P all (commands.Reserve n) (fits, is) = subst (λ n. P (commands.Reserve n))
     (ap (λ l. digits_value 10 (drop 8 l)) is ∙ value_of_decimal n fits) all.1.1.1.1.0
-guessed line P all (calls.Drain n) (fits, is) = subst (λ n. P (calls.Drain n)) (ap (λ l. digits_value 10 (drop 6 l)) is
-    ∙ value_of_decimal n fits) all.1.1.1.1.1.0
-guessed line P all calls.PopOldest s = all.1.1.1.1.1.1.0
-guessed line P all calls.PopNewest s = all.1.1.1.1.1.1.1.0
-guessed line P all calls.Clear s = all.1.1.1.1.1.1.1.1.0
-guessed line P all calls.List s = all.1.1.1.1.1.1.1.1.1.0
-guessed line P all calls.Stats s = all.1.1.1.1.1.1.1.1.1.1.0
+guessed line P all (commands.Drain n) (fits, is) = subst (λ n. P (commands.Drain n))
+    (ap (λ l. digits_value 10 (drop 6 l)) is ∙ value_of_decimal n fits) all.1.1.1.1.1.0
+guessed line P all commands.PopOldest s = all.1.1.1.1.1.1.0
+guessed line P all commands.PopNewest s = all.1.1.1.1.1.1.1.0
+guessed line P all commands.Clear s = all.1.1.1.1.1.1.1.1.0
+guessed line P all commands.List s = all.1.1.1.1.1.1.1.1.1.0
+guessed line P all commands.Stats s = all.1.1.1.1.1.1.1.1.1.1.0
 
 -- something of a list has a property that can be told, or nothing has
 any_of : {X : Type 0} (P : X → Type 0) → ((x : X) → P x ⊎ (P x → ⊥)) → (xs : List X) → ((x : X) × P x)
@@ -139,14 +139,15 @@ any_of {X} P tell (x ∷ xs) = both (tell x) (any_of P tell xs)
     both (inr refused) (inl found) = inl found
     both (inr refused) (inr none) = inr (refused, none)
 
--- each line spells a call, or spells none
-pub spelled_or : (line : List ℕ) → Spelled line ⊎ ((call : Call) → SpellsCall line call → ⊥)
-spelled_or line = both (any_of (SpellsCall line) (spells_or line) (guesses line))
+-- each line spells a command, or spells none
+pub spelled_or : (line : List ℕ) → Spelled line ⊎ ((command : Command) → SpellsCommand line command → ⊥)
+spelled_or line = both (any_of (SpellsCommand line) (spells_or line) (guesses line))
   where
-    both : Spelled line ⊎ AllByRecursion (λ call. SpellsCall line call → ⊥) (guesses line) → Spelled line
-        ⊎ ((call : Call) → SpellsCall line call → ⊥)
+    both : Spelled line ⊎ AllByRecursion (λ command. SpellsCommand line command → ⊥) (guesses line) → Spelled line
+        ⊎ ((command : Command) → SpellsCommand line command → ⊥)
     both (inl found) = inl found
-    both (inr none) = inr (λ call spells. guessed line (λ call. SpellsCall line call → ⊥) none call spells spells)
+    both (inr none) = inr
+        (λ command spells. guessed line (λ command. SpellsCommand line command → ⊥) none command spells spells)
 
 limit_spells_or : (line : List ℕ) (limit : Limit) → SpellsLimit line limit ⊎ (SpellsLimit line limit → ⊥)
 limit_spells_or line limit = both_or (fits_limit limit) (same_or line (limit_spelling limit))

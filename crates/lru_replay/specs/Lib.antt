@@ -1,9 +1,12 @@
 pub mod Maps
 pub mod Limits
 pub mod Figures
+pub mod Replies
 pub mod Steps
+pub mod CallRuns
 pub mod Grammar
+pub mod Commands
 pub mod Lines
 pub mod Output
-pub mod Runs
+pub mod LineRuns
 pub mod Replay

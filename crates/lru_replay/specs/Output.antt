@@ -1,4 +1,4 @@
--- What is written: the text of an answer, or a beginning of it where a write fails.
+-- What is written: the text of a reply, or a beginning of it where a write fails.
 use Rattle.std.specs.Prelude.{◌≡◌, ℕ, Bool, true, false, List, [], ◌∷◌, ◌++◌, Option, Some, None, Result, Ok, Err}
 use Rattle.std.specs.Prelude.{decimal, codes}
 use Rattle.std.specs.Io.KnownBytes.{Appends}
@@ -8,7 +8,7 @@ use Rattle.schnellru.specs.declared.map.reserve.ReserveError.TheVariants.{TooLar
 use Rattle.lru_replay.specs.declared.figures.Figures.{Figures}
 use Rattle.lru_replay.specs.declared.outcome.ReplayError.{ReplayError}
 use Rattle.lru_replay.specs.declared.outcome.ReplayError.TheVariants as errors
-use Rattle.lru_replay.specs.Steps.{Answer, flag, value, pair, listed, reservation, stats, done, no_memory, bad}
+use Rattle.lru_replay.specs.Replies.{Reply, flag, value, pair, listed, reserved, stats, done, no_memory, cost_differs}
 
 -- a write failed, and a beginning of the text was written
 abbrev pub Fails : ReplayError → Option (List ℕ) → Option (List ℕ) → List ℕ → Type 0
@@ -62,26 +62,32 @@ reservation_text (Err Memory) = codes "no memory"
 abbrev pub named_text : List ℕ → ℕ → List ℕ
 named_text name n = name ++ decimal n
 
+-- as ` cost 3` after the figures, and nothing where no cost is kept
 abbrev pub cost_text : Option ℕ → List ℕ
 cost_text None = []
 cost_text (Some cost) = named_text (codes " cost ") cost
 
--- as `len 1 capacity 3 memory 148 moved 0 placed 3`, and ` cost 3` after it where a cost is kept
+-- as `len 1 capacity 3 memory 148 moved 0 placed 3`
 abbrev pub figures_text : Figures → List ℕ
 figures_text figures = named_text (codes "len ") figures.len ++ (named_text (codes " capacity ") figures.capacity
     ++ (named_text (codes " memory ") figures.memory ++ (named_text (codes " moved ") figures.moved
-    ++ (named_text (codes " placed ") figures.placed ++ cost_text figures.cost))))
+    ++ named_text (codes " placed ") figures.placed)))
 
-abbrev pub answer_text : Answer → List ℕ
-answer_text (flag there) = flag_text there
-answer_text (value v) = value_text v
-answer_text (pair left) = left_text left
-answer_text (listed pairs) = pairs_text pairs
-answer_text (reservation result) = reservation_text result
-answer_text (stats figures) = figures_text figures
-answer_text done = codes "ok"
-answer_text no_memory = codes "no memory"
-answer_text bad = codes "bad"
+-- A reply, where the limiter keeps this cost, if any. No line is told that a cost differs.
+abbrev pub reply_text : Option ℕ → Reply ℕ ℕ → List ℕ
+reply_text cost (flag there) = flag_text there
+reply_text cost (value v) = value_text v
+reply_text cost (pair left) = left_text left
+reply_text cost (listed pairs) = pairs_text pairs
+reply_text cost (reserved result) = reservation_text result
+reply_text cost (stats figures) = figures_text figures ++ cost_text cost
+reply_text cost done = codes "ok"
+reply_text cost no_memory = codes "no memory"
+reply_text cost cost_differs = []
+
+-- the text of a line that spells no command
+abbrev pub bad_text : List ℕ
+bad_text = codes "bad"
 
 -- what is written where no limiter is named
 abbrev pub no_limiter_text : List ℕ

@@ -2,8 +2,8 @@
 use Rattle.std.specs.Prelude.{◌≡◌, ℕ, List, [], ◌∷◌, ◌⊎◌, Option, OnSome, IfSome, Result, Ok, Err}
 use Rattle.std.specs.Io.KnownBytes.{Appends, IsAtEnd}
 use Rattle.lru_limits.specs.declared.limiters.unlimited_compact.UnlimitedCompact.{UnlimitedCompact}
-use Rattle.lru_replay.specs.declared.call.Limit.{Limit}
-use Rattle.lru_replay.specs.declared.call.Limit.TheVariants as limits
+use Rattle.lru_replay.specs.declared.command.Limit.{Limit}
+use Rattle.lru_replay.specs.declared.command.Limit.TheVariants as limits
 use Rattle.lru_replay.specs.declared.outcome.ReplayEnd.{ReplayEnd}
 use Rattle.lru_replay.specs.declared.outcome.ReplayEnd.TheVariants as ends
 use Rattle.lru_replay.specs.declared.outcome.ReplayError.{ReplayError}
@@ -15,7 +15,7 @@ use Rattle.lru_replay.specs.Limits.{all_offers, no_cost, cost_told}
 use Rattle.lru_replay.specs.Lines.{lines_of, TakesFirst, TakesLines, TakesAll}
 use Rattle.lru_replay.specs.Maps.{empty, links_of_32_bits, links_of_64_bits}
 use Rattle.lru_replay.specs.Output.{no_limiter_text}
-use Rattle.lru_replay.specs.Runs.{IsTextOf, WritesText, WritesTextSoFar}
+use Rattle.lru_replay.specs.LineRuns.{IsTextOf, WritesText, WritesTextSoFar}
 
 -- The lines are answered by this text, from the empty map under the limit.
 abbrev pub IsTextUnder : Limit → List (List ℕ) → List ℕ → Type 0

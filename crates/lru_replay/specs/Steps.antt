@@ -1,62 +1,73 @@
--- What each call answers, and what it leaves.
-use Rattle.std.specs.Prelude.{◌≡◌, ℕ, nat_eq, Bool, List, Option, Result, Ok, Err}
+-- What each call says, and what it leaves of the map.
+--     rules, offers       what the limiter says (`Rules`, `Offers` of `lru_limits`)
+--     eq                  when two keys are equal
+--     hash_of h k         the hash of the key k, by the hasher h
+use Rattle.std.specs.Prelude.{◌≡◌, ℕ, Bool, List, Option, Some, None, Result, is_some}
 use Rattle.std.specs.declared.alloc.AllocError.{AllocError}
+use Rattle.group_table.specs.Probe.{hash_tag}
 use Rattle.lru_limits.specs.Rules.{Rules, Offers}
-use Rattle.schnellru.specs.Calls.{promoted, Remove, PopOldest, PopNewest, cleared}
+use Rattle.schnellru.specs.Calls.{promoted, written, Remove, PopOldest, PopNewest, cleared}
 use Rattle.schnellru.specs.Drains.{Drained}
+use Rattle.schnellru.specs.GetOrInserts.{MakesNewest}
 use Rattle.schnellru.specs.Inserts.{Insert}
-use Rattle.schnellru.specs.Lists.{lookup}
+use Rattle.schnellru.specs.Lists.{first, last, lookup, lookup_entry}
 use Rattle.schnellru.specs.Reservations.{Reserve}
+use Rattle.schnellru.specs.State.{State}
 use Rattle.schnellru.specs.declared.map.reserve.ReserveError.{ReserveError}
 use Rattle.lru_replay.specs.declared.call.Call.{Call}
 use Rattle.lru_replay.specs.declared.call.Call.TheVariants as calls
 use Rattle.lru_replay.specs.declared.figures.Figures.{Figures}
 use Rattle.lru_replay.specs.Figures.{IsFigures}
-use Rattle.lru_replay.specs.Maps.{Map, hash_of}
+use Rattle.lru_replay.specs.Replies.{Reply, flag, value, pair, listed, reserved, stats, done, insert_reply, made_reply}
 
-pub data Answer : Type 0 where
-  -- whether the key of an insertion is there now
-  flag : Bool → Answer
-  -- the value of a key, if it is there
-  value : Option ℕ → Answer
-  -- the pair that leaves, if there is one
-  pair : Option (ℕ × ℕ) → Answer
-  -- pairs, newest first
-  listed : List (ℕ × ℕ) → Answer
-  -- whether room is reserved
-  reservation : Result (Unit {0}) ReserveError → Answer
-  -- the figures of the map
-  stats : Figures → Answer
-  -- it is done, and there is nothing to say of it
-  done : Answer
-  no_memory : Answer
-  -- the line says nothing
-  bad : Answer
+module _ {K V : Type 0} (eq : K → K → Bool) (hash_of : K → ℕ) where
+  -- What a search by a hash finds of a key: its pair, whose hash has the tag of the hash, or nothing, where the key is
+  -- not there or has another hash.
+  pub data FindsByHash (hash : ℕ) (key : K) (pairs : List (K × V)) (result : Option V) : Type 0 where
+    found : (there : K × V) → lookup_entry (eq key) pairs ≡ Some there → hash_tag (hash_of there.0) ≡ hash_tag hash
+        → result ≡ Some there.1 → FindsByHash hash key pairs result
+    not_found : ((there : K × V) → lookup_entry (eq key) pairs ≡ Some there → hash_of there.0 ≡ hash → ⊥)
+        → result ≡ None → FindsByHash hash key pairs result
 
--- how an insert tells the answer
-abbrev pub insert_answer : Result Bool AllocError → Answer
-insert_answer (Ok there) = flag there
-insert_answer (Err e) = no_memory
+module _ {K V S H : Type 0} (eq : K → K → Bool) where
+  -- the pair of the key comes first, where its value was found
+  abbrev pub promoted_if : Option V → K → State K V S H → State K V S H
+  promoted_if (Some v) key st = promoted (eq key) st
+  promoted_if None key st = st
 
-module _ {S : Type 0} (rules : Rules ℕ ℕ S) (offers : Offers ℕ ℕ S ℕ) (told : S → Option ℕ) where
-  -- what may come of a call under this limiter: its answer, and the map after it
-  abbrev pub Step : Map S → Call → Answer → Map S → Type 0
-  Step old (calls.Insert key new_value) answer new = (result : Result Bool AllocError)
-      × Insert rules offers nat_eq hash_of key new_value old result new × (answer ≡ insert_answer result)
-  Step old (calls.Get key) answer new =
-      (answer ≡ value (lookup (nat_eq key) old.pairs)) × (new ≡ promoted (nat_eq key) old)
-  Step old (calls.Peek key) answer new = (answer ≡ value (lookup (nat_eq key) old.pairs)) × (new ≡ old)
-  Step old (calls.Remove key) answer new =
-      (result : Option ℕ) × Remove rules (nat_eq key) old result new × (answer ≡ value result)
-  Step old calls.PopOldest answer new =
-      (result : Option (ℕ × ℕ)) × PopOldest rules old result new × (answer ≡ pair result)
-  Step old calls.PopNewest answer new =
-      (result : Option (ℕ × ℕ)) × PopNewest rules old result new × (answer ≡ pair result)
-  Step old (calls.Reserve n) answer new =
-      (result : Result (Unit {0}) ReserveError) × Reserve rules n old result new × (answer ≡ reservation result)
-  Step old (calls.Drain n) answer new =
-      (pairs : List (ℕ × ℕ)) × Drained rules n 0 old pairs new × (answer ≡ listed pairs)
-  Step old calls.Clear answer new = (answer ≡ done) × (new ≡ cleared rules old)
-  Step old calls.List answer new = (answer ≡ listed old.pairs) × (new ≡ old)
-  Step old calls.Stats answer new =
-      (figures : Figures) × IsFigures told old figures × (answer ≡ stats figures) × (new ≡ old)
+module _ {K V S H : Type 0} (rules : Rules K V S) (offers : Offers K V S K) (eq : K → K → Bool)
+    (hash_of : H → K → ℕ) where
+  -- from old, the call may say this and leave new
+  abbrev pub Step : State K V S H → Call K V S → Reply K V → State K V S H → Type 0
+  Step old (calls.Insert key v) reply new = (result : Result Bool AllocError)
+      × Insert rules offers eq hash_of key v old result new × (reply ≡ insert_reply result)
+  Step old (calls.GetOrInsert key v) reply new = (result : Result Bool AllocError)
+      × MakesNewest rules offers eq hash_of (λ made. made ≡ v) key old result new
+      × (reply ≡ made_reply result new.pairs)
+  Step old (calls.Get key) reply new =
+      (reply ≡ value (lookup (eq key) old.pairs)) × (new ≡ promoted (eq key) old)
+  Step old (calls.Peek key) reply new = (reply ≡ value (lookup (eq key) old.pairs)) × (new ≡ old)
+  Step old (calls.GetByHash hash key) reply new = (result : Option V)
+      × FindsByHash eq (hash_of old.hasher) hash key old.pairs result × (reply ≡ value result)
+      × (new ≡ promoted_if eq result key old)
+  Step old (calls.PeekByHash hash key) reply new = (result : Option V)
+      × FindsByHash eq (hash_of old.hasher) hash key old.pairs result × (reply ≡ value result) × (new ≡ old)
+  Step old (calls.Write key v) reply new =
+      (reply ≡ flag (is_some (lookup (eq key) old.pairs))) × (new ≡ written (eq key) v old)
+  Step old (calls.Remove key) reply new =
+      (result : Option V) × Remove rules (eq key) old result new × (reply ≡ value result)
+  Step old calls.PopOldest reply new =
+      (result : Option (K × V)) × PopOldest rules old result new × (reply ≡ pair result)
+  Step old calls.PopNewest reply new =
+      (result : Option (K × V)) × PopNewest rules old result new × (reply ≡ pair result)
+  Step old calls.PeekOldest reply new = (reply ≡ pair (last old.pairs)) × (new ≡ old)
+  Step old calls.PeekNewest reply new = (reply ≡ pair (first old.pairs)) × (new ≡ old)
+  Step old (calls.Reserve n) reply new =
+      (result : Result (Unit {0}) ReserveError) × Reserve rules n old result new × (reply ≡ reserved result)
+  Step old calls.Clear reply new = (reply ≡ done) × (new ≡ cleared rules old)
+  Step old (calls.Drain front back) reply new =
+      (pairs : List (K × V)) × Drained rules front back old pairs new × (reply ≡ listed pairs)
+  Step old calls.List reply new = (reply ≡ listed old.pairs) × (new ≡ old)
+  Step old calls.Stats reply new =
+      (figures : Figures) × IsFigures old figures × (reply ≡ stats figures) × (new ≡ old)
+  Step old (calls.SetLimiter s) reply new = (reply ≡ done) × (new ≡ record old { limiter = s })

@@ -1,171 +1,85 @@
-//! What a line says: a call on the map, or, the first line, what limits the map.
-ghost use Rattle.std.specs.Prelude.{◌≡◌, ◌≢◌, ℕ, List, ◌++◌, IfSome, IfNone, true, false};
-ghost use Rattle.lru_replay.specs.Grammar.{SpellsCall, IsPlain, SpellsLimit, SpellsPair, SpellsNumber, StartsAsNumber};
+//! The calls of a run, and their answers.
+use schnellru::{MoveReport, ReserveError};
 
-use crate::bytes::index_of;
-
-/// A call on the map.
-#[derive(Clone, Copy, Debug, PartialEq, Eq)]
-pub enum Call {
-    /// `insert K V`: makes the pair of this key and value the newest.
-    Insert(u64, u64),
-    /// `get K`: gives the value of the key, and makes its pair the newest.
-    Get(u64),
-    /// `peek K`: gives the value of the key.
-    Peek(u64),
-    /// `remove K`: takes the pair of the key out, and gives its value.
-    Remove(u64),
-    /// `pop-oldest`: takes the oldest pair out, and gives it.
+/// A call of a run. `docs/RUNS.md` tells what each answers.
+///
+/// ```
+/// let calls = vec![in alloc; Call::Insert(1, 10), Call::Get(1), Call::Peek(2)]?;
+/// ```
+#[derive(Debug, Drop)]
+pub enum Call<K, V, L> {
+    /// `insert`: makes the pair of this key and value the newest.
+    Insert(K, V),
+    /// `get_or_insert`: gives the value of the key, which is inserted with this value where it is not there.
+    GetOrInsert(K, V),
+    /// `get`: gives the value of the key, and makes its pair the newest.
+    Get(K),
+    /// `peek`: gives the value of the key.
+    Peek(K),
+    /// `get_by_hash`, with a closure that accepts this key alone.
+    GetByHash(u64, K),
+    /// `peek_by_hash`, with a closure that accepts this key alone.
+    PeekByHash(u64, K),
+    /// Writes the value through `peek_mut` of the key.
+    Write(K, V),
+    /// `remove`: takes the pair of the key out, and gives its value.
+    Remove(K),
+    /// `pop_oldest`: takes the oldest pair out, and gives it.
     PopOldest,
-    /// `pop-newest`: takes the newest pair out, and gives it.
+    /// `pop_newest`: takes the newest pair out, and gives it.
     PopNewest,
-    /// `reserve N`: makes room for so many pairs more.
-    Reserve(u64),
-    /// `drain N`: gives the newest pairs, at most so many, and drops all.
-    Drain(u64),
+    /// `peek_oldest`: gives the oldest pair.
+    PeekOldest,
+    /// `peek_newest`: gives the newest pair.
+    PeekNewest,
+    /// `try_reserve`: makes room for so many pairs more.
+    Reserve(usize),
     /// `clear`: drops all pairs.
     Clear,
-    /// `list`: gives all pairs.
+    /// `drain`: gives so many pairs from the newest end, then so many from the oldest, and drops the others.
+    Drain {
+        /// How many from the newest end.
+        front: usize,
+        /// How many from the oldest end.
+        back: usize,
+    },
+    /// Gives all pairs, newest first.
     List,
-    /// `stats`: gives the figures of the map.
+    /// Gives the figures of the map.
     Stats,
+    /// Writes another limiter through `limiter_mut`.
+    SetLimiter(L),
 }
 
-/// What limits the map.
-#[derive(Clone, Copy, Debug, PartialEq, Eq)]
-pub enum Limit {
-    /// `length N`: at most so many pairs.
-    Length(u32),
-    /// `memory N E`: a table of at most N bytes, where an entry has E.
-    Memory(usize, usize),
-    /// `cost N`: at most this sum of the values.
-    Cost(u64),
-    /// `compact`: nothing does.
-    Compact,
-}
-
-/// What stands after the word, if the line begins with it.
-fn after<'a>(line: &'a [u8], word: &[u8]) -> Option<&'a [u8]>
-    ensures some { IfSome result (λ rest. line.now ≡ word.now ++ rest.now) }
-    ensures none { IfNone result ((rest : List ℕ) → line.now ≢ word.now ++ rest) }
-{
-    line.strip_prefix(word)
-}
-
-/// Whether the word can begin a number: not by a sign, nor by a zero in front of another digit.
-fn starts_as_number(word: &[u8]) -> bool
-    ensures yes { result ≡ true → StartsAsNumber word.now }
-    ensures no { result ≡ false → StartsAsNumber word.now → ⊥ }
-{
-    if word.is_empty() || word[0] == b'+' {
-        return false;
-    }
-    word[0] != b'0' || word.len() == 1
-}
-
-/// A number in decimal digits, with no zero in front of another digit.
-fn number(word: &[u8]) -> Option<u64>
-    ensures some { IfSome result (λ n. SpellsNumber word.now n) }
-    ensures none { IfNone result ((n : ℕ) → SpellsNumber word.now n → ⊥) }
-{
-    if !starts_as_number(word) {
-        return None;
-    }
-    let text = str::from_utf8(word).ok()?;
-    text.parse().ok()
-}
-
-/// Two numbers with one space between them.
-fn number_pair(words: &[u8]) -> Option<(u64, u64)>
-    ensures some { IfSome result (λ pair. SpellsPair words.now pair.0 pair.1) }
-    ensures none { IfNone result ((k v : ℕ) → SpellsPair words.now k v → ⊥) }
-{
-    let at = index_of(words, b' ');
-    if at == words.len() {
-        return None;
-    }
-    let first = number(&words[..at])?;
-    let second = number(&words[at + 1..])?;
-    Some((first, second))
-}
-
-/// The call that the line spells.
-pub fn call_of(line: &[u8]) -> Option<Call>
-    ensures some { IfSome result (λ call. SpellsCall line.now call) }
-    ensures none { IfNone result ((call : Call) → SpellsCall line.now call → ⊥) }
-{
-    if let Some(rest) = after(line, b"insert ") {
-        let (key, value) = number_pair(rest)?;
-        return Some(Call::Insert(key, value));
-    }
-    if let Some(rest) = after(line, b"get ") {
-        let key = number(rest)?;
-        return Some(Call::Get(key));
-    }
-    if let Some(rest) = after(line, b"peek ") {
-        let key = number(rest)?;
-        return Some(Call::Peek(key));
-    }
-    if let Some(rest) = after(line, b"remove ") {
-        let key = number(rest)?;
-        return Some(Call::Remove(key));
-    }
-    if let Some(rest) = after(line, b"reserve ") {
-        let n = number(rest)?;
-        return Some(Call::Reserve(n));
-    }
-    if let Some(rest) = after(line, b"drain ") {
-        let n = number(rest)?;
-        return Some(Call::Drain(n));
-    }
-    plain_call_of(line)
-}
-
-/// The call that the line spells by one word alone.
-fn plain_call_of(line: &[u8]) -> Option<Call>
-    ensures some { IfSome result (λ call. SpellsCall line.now call) }
-    ensures none { IfNone result ((call : Call) → IsPlain call → SpellsCall line.now call → ⊥) }
-{
-    if line == b"list".as_slice() {
-        return Some(Call::List);
-    }
-    if line == b"pop-oldest".as_slice() {
-        return Some(Call::PopOldest);
-    }
-    if line == b"pop-newest".as_slice() {
-        return Some(Call::PopNewest);
-    }
-    if line == b"clear".as_slice() {
-        return Some(Call::Clear);
-    }
-    if line == b"stats".as_slice() {
-        return Some(Call::Stats);
-    }
-    None
-}
-
-/// The limit that the line names.
-pub fn limit_of(line: &[u8]) -> Option<Limit>
-    ensures some { IfSome result (λ limit. SpellsLimit line.now limit) }
-    ensures none { IfNone result ((limit : Limit) → SpellsLimit line.now limit → ⊥) }
-{
-    if let Some(rest) = after(line, b"length ") {
-        let n = number(rest)?;
-        if n > u32::MAX as u64 {
-            return None;
-        }
-        return Some(Limit::Length(n as u32));
-    }
-    if let Some(rest) = after(line, b"memory ") {
-        let (budget, entry_bytes) = number_pair(rest)?;
-        return Some(Limit::Memory(budget as usize, entry_bytes as usize));
-    }
-    if let Some(rest) = after(line, b"cost ") {
-        let most = number(rest)?;
-        return Some(Limit::Cost(most));
-    }
-    if line == b"compact".as_slice() {
-        return Some(Limit::Compact);
-    }
-    None
+/// The answer to a call.
+#[derive(Debug, Drop, PartialEq)]
+pub enum Answer<K, V> {
+    /// To `Insert` and `Write`: whether the key is in the map.
+    Flag(bool),
+    /// To `GetOrInsert`, `Get`, `Peek`, `Remove` and the searches by a hash: the value, if there is one.
+    Value(Option<V>),
+    /// To the pops and the peeks at an end: the pair, if there is one.
+    Pair(Option<(K, V)>),
+    /// To `List` and `Drain`: the pairs.
+    Pairs(Vec<(K, V)>),
+    /// To `Clear` and `SetLimiter`: it is done.
+    Done,
+    /// To `Reserve`: whether there is room, or why not.
+    Reserved(Result<(), ReserveError>),
+    /// To `Stats`: the figures of the map.
+    Stats {
+        /// The number of pairs.
+        len: usize,
+        /// How many pairs the table is sure to take without growing.
+        capacity: usize,
+        /// The bytes of the table.
+        memory: usize,
+        /// What inserts have moved and placed.
+        report: MoveReport,
+    },
+    /// To `Insert` and `GetOrInsert`: no memory was found. To `List` and `Drain`: none was found for the pairs, and
+    /// nothing has changed. A reservation tells it in `Reserved`.
+    Memory,
+    /// To `Write` and `SetLimiter`, under a summing limiter: the sum would be another, and nothing has changed.
+    CostDiffers,
 }

@@ -2,7 +2,8 @@
 ghost use Rattle.std.specs.Prelude.{◌≡◌, ℕ, Option, Some, None};
 ghost use Rattle.lru_replay.specs.Figures.{IsFigures};
 
-use schnellru::{ByCost, ByLength, ByMemoryUsage, Insertion, LruMap, UnlimitedCompact};
+use schnellru::{ByCost, ByLength, ByMemoryUsage, Limiter, LruMap, UnlimitedCompact};
+use std::hash::{BuildHasher, Hash};
 
 /// A limiter of a replay, which may keep a cost.
 pub trait TellsCost {
@@ -59,13 +60,13 @@ pub struct Figures {
     pub moved: u64,
     /// How many new entries inserts have placed.
     pub placed: u64,
-    /// The cost that the limiter keeps, if it keeps one.
-    pub cost: Option<u64>,
 }
 
 /// The figures of the map.
-pub fn figures_of<L: Insertion<u64, u64, u64> + TellsCost>(map: &LruMap<u64, u64, L>) -> Figures
-    ensures { IsFigures L.told map.now result }
+pub fn figures_of<K: Eq + Hash, V, L: Limiter<K, V>, S: BuildHasher>(
+    map: &LruMap<K, V, L, S>,
+) -> Figures
+    ensures { IsFigures map.now result }
 {
     let report = map.move_report();
     Figures {
@@ -74,6 +75,5 @@ pub fn figures_of<L: Insertion<u64, u64, u64> + TellsCost>(map: &LruMap<u64, u64
         memory: map.memory_usage(),
         moved: report.moved,
         placed: report.placed,
-        cost: map.limiter().told_cost(),
     }
 }

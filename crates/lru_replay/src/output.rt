@@ -1,4 +1,4 @@
-//! The texts of answers, written piece by piece.
+//! The texts of replies, written piece by piece.
 ghost use Rattle.std.specs.Prelude.{◌≡◌, ℕ, Bool, Option, [], ◌∷◌, decimal};
 ghost use Rattle.lru_replay.specs.Output.{Writes, flag_text, value_text, left_text, pair_text, rest_text, pairs_text};
 ghost use Rattle.lru_replay.specs.Output.{reservation_text, figures_text, cost_text, named_text, taken_text};
@@ -112,12 +112,11 @@ pub fn write_figures<W: Write>(writer: &mut W, figures: Figures) -> Result<(), R
     write_named(writer, b" capacity ", figures.capacity as u64)?;
     write_named(writer, b" memory ", figures.memory as u64)?;
     write_named(writer, b" moved ", figures.moved)?;
-    write_named(writer, b" placed ", figures.placed)?;
-    write_cost(writer, figures.cost)
+    write_named(writer, b" placed ", figures.placed)
 }
 
-/// Writes the cost, where one is kept.
-fn write_cost<W: Write>(writer: &mut W, cost: Option<u64>) -> Result<(), ReplayError>
+/// Writes the cost after the figures, where one is kept.
+pub fn write_cost<W: Write>(writer: &mut W, cost: Option<u64>) -> Result<(), ReplayError>
     ensures { Writes (W.contents writer.old) (W.contents writer.new) result (cost_text cost) }
 {
     match cost {

@@ -122,6 +122,8 @@ fn of_both_ends(rt: HostRuntime) -> Result<(), Fail> {
             placed: 3
         }
     );
+    assert!(rt; map.peek_key_value(&1) == Some((&1, &10)));
+    assert!(rt; map.peek_key_value(&4).is_none());
     assert!(rt; map.peek_oldest() == Some((&1, &10)));
     assert!(rt; map.peek_newest() == Some((&3, &30)));
     assert_eq!(rt; map.pop_oldest(), Some((1, 10)));

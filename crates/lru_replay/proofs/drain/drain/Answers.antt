@@ -6,8 +6,8 @@ use Rattle.schnellru.specs.Calls.{left_of, pop_first}
 use Rattle.schnellru.specs.Drains.{pops_first, newest_given}
 use Rattle.schnellru.proofs.CallerLemmas.{leaves_trans}
 use Rattle.lru_replay.specs.Output.{Writes, taken_text}
-use Rattle.lru_replay.proofs.DrainedPairs.{pops_first-more, newest_given-more, pops_enough, given_enough, spaced}
-use Rattle.lru_replay.proofs.DrainedPairs.{spaced-more, spaced-end, some-more}
+use Rattle.lru_replay.proofs.DrainedPairs.{spaced, spaced-more, spaced-end, some-more}
+use Rattle.lru_replay.proofs.Pops.{from_newest, many-more, all-more, many_enough, all_enough}
 use Rattle.lru_replay.proofs.drain.drain.Goals as goal
 
 pub loop-preserved : goal.loop-preserved
@@ -26,9 +26,9 @@ loop-preserved g c =
       pairs ++ option_to_list taken.result,
       ap (λ l. l ++ option_to_list taken.result) given
           ∙ ap (λ o. newest_given rules k begun ++ option_to_list o) is_taken
-          ∙ sym (newest_given-more rules k begun) ∙ ap (λ n. newest_given rules n begun) (sym (add-one k)),
+          ∙ sym (all-more (from_newest rules) k begun) ∙ ap (λ n. newest_given rules n begun) (sym (add-one k)),
       subst (λ d. Leaves c.args.map.now d taken.new.self) (ap (pop_first rules) same
-          ∙ sym (pops_first-more rules k begun) ∙ ap (λ n. pops_first rules n begun) (sym (add-one k))) all,
+          ∙ sym (many-more (from_newest rules) k begun) ∙ ap (λ n. pops_first rules n begun) (sym (add-one k))) all,
       some-more c.loop.any c.is_some-any.result pairs taken.result any c.is_some-any.ensures,
       subst (Writes (g.W.Write.contents c.args.writer.now)
           (g.W.Write.contents c.write_taken-written.new.writer) c.write_taken-written.result)
@@ -47,12 +47,12 @@ returns g c =
     ≤ k = λ less. omega (arith, c.min-count.ensures, c.len.ensures.len, c.loop-test.false) in (
       pairs,
       record {
-        pairs = given ∙ given_enough rules c.args.most k old.pairs old.limiter within enough
+        pairs = given ∙ all_enough (from_newest rules) c.args.most k (contents old) within enough
             ∙ sym (append-nil (newest_given rules c.args.most (contents old)));
         state = (
           c.loop.map,
           subst (λ d. Leaves old d c.loop.map)
-              (pops_enough rules c.args.most k old.pairs old.limiter within enough) leaves,
+              (many_enough (from_newest rules) c.args.most k (contents old) within enough) leaves,
           c.clear.ensures.step,
         );
       },

@@ -3,7 +3,7 @@ use Rattle.std.proofs.lemmas.Result.{err_from_is_err_and}
 use Rattle.std.specs.Io.KnownBytes.{Appends}
 use Rattle.lru_replay.specs.declared.figures.Figures.{Figures}
 use Rattle.lru_replay.specs.declared.outcome.ReplayError.{ReplayError}
-use Rattle.lru_replay.specs.Output.{Fails, named_text, cost_text}
+use Rattle.lru_replay.specs.Output.{Fails, named_text}
 use Rattle.lru_replay.proofs.Written.{writes_after, failed_front}
 use Rattle.lru_replay.proofs.output.write_figures.Goals as goal
 
@@ -28,11 +28,8 @@ moved_text figures = named_text (codes " moved ") figures.moved
 abbrev pub placed_text : Figures → List ℕ
 placed_text figures = named_text (codes " placed ") figures.placed
 
-abbrev pub from_placed : Figures → List ℕ
-from_placed figures = placed_text figures ++ cost_text figures.cost
-
 abbrev pub from_moved : Figures → List ℕ
-from_moved figures = moved_text figures ++ from_placed figures
+from_moved figures = moved_text figures ++ placed_text figures
 
 abbrev pub from_memory : Figures → List ℕ
 from_memory figures = memory_text figures ++ from_moved figures
@@ -76,27 +73,14 @@ returns-in_err-write_named-4 g c =
     (from_capacity f) c.in_err-write_named-4.field-0.0 c.in_ok-write_named.ensures
     (later _ _ _ (capacity_text f) (from_memory f) c.in_err-write_named-4.field-0.0 c.in_ok-write_named-2.ensures
     (later _ _ _ (memory_text f) (from_moved f) c.in_err-write_named-4.field-0.0 c.in_ok-write_named-3.ensures
-    (failed_front _ _ (moved_text f) (from_placed f) c.in_err-write_named-4.field-0.0 c.in_err-write_named-4.ensures))))
-
-pub returns-in_err-write_named-5 : goal.returns-in_err-write_named-5
-returns-in_err-write_named-5 g c =
-    let f = c.args.figures in
-    let p = err_from_is_err_and c.from_residual-in_err-write_named-5.result
-    c.from_residual-in_err-write_named-5.ensures.1 in
-    rw (p.1, p.2) (later _ _ _ (len_text f)
-    (from_capacity f) c.in_err-write_named-5.field-0.0 c.in_ok-write_named.ensures
-    (later _ _ _ (capacity_text f) (from_memory f) c.in_err-write_named-5.field-0.0 c.in_ok-write_named-2.ensures
-    (later _ _ _ (memory_text f) (from_moved f) c.in_err-write_named-5.field-0.0 c.in_ok-write_named-3.ensures
-    (later _ _ _ (moved_text f) (from_placed f) c.in_err-write_named-5.field-0.0 c.in_ok-write_named-4.ensures
-    (failed_front _ _ (placed_text f)
-    (cost_text f.cost) c.in_err-write_named-5.field-0.0 c.in_err-write_named-5.ensures)))))
+    (failed_front _ _ (moved_text f) (placed_text f) c.in_err-write_named-4.field-0.0 c.in_err-write_named-4.ensures))))
 
 pub returns : goal.returns
 returns g c =
     let f = c.args.figures in
-    writes_after _ _ _ (len_text f) (from_capacity f) c.write_cost.result c.in_ok-write_named.ensures
-    (writes_after _ _ _ (capacity_text f) (from_memory f) c.write_cost.result c.in_ok-write_named-2.ensures
-    (writes_after _ _ _ (memory_text f) (from_moved f) c.write_cost.result c.in_ok-write_named-3.ensures
-    (writes_after _ _ _ (moved_text f) (from_placed f) c.write_cost.result c.in_ok-write_named-4.ensures
-    (writes_after _ _ _ (placed_text f) (cost_text f.cost) c.write_cost.result c.in_ok-write_named-5.ensures
-    c.write_cost.ensures))))
+    let result = c.write_named-5.result in
+    writes_after _ _ _ (len_text f) (from_capacity f) result c.in_ok-write_named.ensures
+    (writes_after _ _ _ (capacity_text f) (from_memory f) result c.in_ok-write_named-2.ensures
+    (writes_after _ _ _ (memory_text f) (from_moved f) result c.in_ok-write_named-3.ensures
+    (writes_after _ _ _ (moved_text f) (placed_text f) result c.in_ok-write_named-4.ensures
+    c.write_named-5.ensures)))

@@ -1,0 +1,57 @@
+-- What a call of a run is to the map: a step of it, a write, another limiter, or a look that changes nothing.
+use Rattle.std.proofs.Common.{◌≡◌, ℕ, Bool, Some, None, refl, inl, inr, ◌⊎◌}
+use Rattle.lru_limits.specs.Rules.{Rules, Offers}
+use Rattle.schnellru.specs.Calls.{written}
+use Rattle.schnellru.specs.Runs.{Step, inserts, makes_newest, gets, removes, pops_oldest, pops_newest, drains, clears}
+use Rattle.schnellru.specs.Runs.{reserves, AnyStep, calls as any_call, writes, sets_limiter as sets}
+use Rattle.schnellru.specs.State.{State}
+use Rattle.lru_replay.specs.CallRuns.{CallStep}
+use Rattle.lru_replay.specs.Replies.{Reply}
+use Rattle.lru_replay.specs.Steps.{Step as StepOf}
+use Rattle.lru_replay.specs.declared.call.Call.{Call}
+use Rattle.lru_replay.specs.declared.call.Call.TheVariants as calls
+
+module _ {K V S H : Type 0} (rules : Rules K V S) (offers : Offers K V S K) (eq : K → K → Bool)
+    (hash_of : H → K → ℕ) (old new : State K V S H) where
+  pub data Kind (call : Call K V S) : Type 0 where
+    calls_map : Step rules offers eq hash_of old new → Kind call
+    stays : new ≡ old → Kind call
+    writes_value : (key : K) (v : V) → call ≡ calls.Write key v → new ≡ written (eq key) v old → Kind call
+    sets_limiter : (s : S) → call ≡ calls.SetLimiter s → new ≡ record old { limiter = s } → Kind call
+
+module _ {K V S H : Type 0} {rules : Rules K V S} {offers : Offers K V S K} {eq : K → K → Bool}
+    {hash_of : H → K → ℕ} {old new : State K V S H} where
+  step_kind : (call : Call K V S) (reply : Reply K V) → StepOf rules offers eq hash_of old call reply new
+      → Kind rules offers eq hash_of old new call
+  step_kind (calls.Insert k v) reply (result, h, is) = calls_map (inserts k v result h)
+  step_kind (calls.GetOrInsert k v) reply (result, h, is) = calls_map (makes_newest v k result h)
+  step_kind (calls.Get k) reply (is, e) = calls_map (gets k e)
+  step_kind (calls.Peek k) reply (is, e) = stays e
+  step_kind (calls.GetByHash hash k) reply (Some w, h, is, e) = calls_map (gets k e)
+  step_kind (calls.GetByHash hash k) reply (None, h, is, e) = stays e
+  step_kind (calls.PeekByHash hash k) reply (result, h, is, e) = stays e
+  step_kind (calls.Write k v) reply (is, e) = writes_value k v refl e
+  step_kind (calls.Remove k) reply (result, h, is) = calls_map (removes (eq k) result h)
+  step_kind calls.PopOldest reply (result, h, is) = calls_map (pops_oldest result h)
+  step_kind calls.PopNewest reply (result, h, is) = calls_map (pops_newest result h)
+  step_kind calls.PeekOldest reply (is, e) = stays e
+  step_kind calls.PeekNewest reply (is, e) = stays e
+  step_kind (calls.Reserve n) reply (result, h, is) = calls_map (reserves n result h)
+  step_kind calls.Clear reply (is, e) = calls_map (clears e)
+  step_kind (calls.Drain front back) reply (pairs, h, is) = calls_map (drains front back pairs h)
+  step_kind calls.List reply (is, e) = stays e
+  step_kind calls.Stats reply (figures, h, is, e) = stays e
+  step_kind (calls.SetLimiter s) reply (is, e) = sets_limiter s refl e
+
+  pub kind_of : (call : Call K V S) (reply : Reply K V) → CallStep rules offers eq hash_of old call reply new
+      → Kind rules offers eq hash_of old new call
+  kind_of call reply (inl step) = step_kind call reply step
+  kind_of call reply (inr (stores, is, e)) = stays e
+
+  -- so it is one of any steps of the map, or nothing changes
+  pub any_step : (call : Call K V S) → Kind rules offers eq hash_of old new call
+      → AnyStep rules offers eq hash_of old new ⊎ (new ≡ old)
+  any_step call (calls_map step) = inl (any_call step)
+  any_step call (stays e) = inr e
+  any_step call (writes_value key v is e) = inl (writes (eq key) v e)
+  any_step call (sets_limiter s is e) = inl (sets s e)

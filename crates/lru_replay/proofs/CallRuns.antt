@@ -1,0 +1,60 @@
+-- Runs of any steps, one after the other, and the answers of calls.
+use Rattle.std.proofs.Common.{◌≡◌, List, [], ◌∷◌, ◌++◌, length, refl, sym, ap, subst, arith}
+use Rattle.lru_replay.specs.declared.call.Answer.{Answer}
+use Rattle.lru_replay.specs.CallRuns.{IsRun}
+use Rattle.lru_replay.specs.Replies.{said, all_said}
+
+module _ {S C R : Type 0} (IsStep : S → C → R → S → Type 0) (Holds : S → Type 0) where
+  -- a run goes on by a run from where it ends
+  pub run-append : (old : S) (calls : List C) (replies : List R) (mid : S) (more : List C) (others : List R) (new : S)
+      → IsRun IsStep Holds old calls replies mid → IsRun IsStep Holds mid more others new
+      → IsRun IsStep Holds old (calls ++ more) (replies ++ others) new
+  run-append old [] [] mid more others new same rest = subst (λ s. IsRun IsStep Holds s more others new) same rest
+  run-append old [] (reply ∷ replies) mid more others new none rest = absurd none
+  run-append old (call ∷ calls) [] mid more others new none rest = absurd none
+  run-append old (call ∷ calls) (reply ∷ replies) mid more others new (next, step, holds, run) rest =
+      (next, step, holds, run-append next calls replies mid more others new run rest)
+
+  -- and by one more step
+  pub run-push : (old : S) (calls : List C) (replies : List R) (mid : S) (call : C) (reply : R) (new : S)
+      → IsRun IsStep Holds old calls replies mid → IsStep mid call reply new → Holds new
+      → IsRun IsStep Holds old (calls ++ call ∷ []) (replies ++ reply ∷ []) new
+  run-push old calls replies mid call reply new run step holds =
+      run-append old calls replies mid (call ∷ []) (reply ∷ []) new run (new, step, holds, refl)
+
+  -- what holds at the start and in between holds at the end
+  pub run_holds : (a : S) (calls : List C) (replies : List R) (b : S) → Holds a
+      → IsRun IsStep Holds a calls replies b → Holds b
+  run_holds a [] [] b holds same = subst Holds (sym same) holds
+  run_holds a [] (reply ∷ replies) b holds p = absurd p
+  run_holds a (call ∷ calls) [] b holds p = absurd p
+  run_holds a (call ∷ calls) (reply ∷ replies) b holds (mid, step, after, run) =
+      run_holds mid calls replies b after run
+
+  -- where each call has a step, each list of calls has a run
+  pub some_run : ((a : S) → Holds a → (call : C) → (reply : R) × (b : S) × IsStep a call reply b × Holds b)
+      → (a : S) → Holds a → (calls : List C) → (replies : List R) × (b : S) × IsRun IsStep Holds a calls replies b
+  some_run step a holds [] = ([], a, refl)
+  some_run step a holds (call ∷ calls) =
+      let (reply, mid, is, after) = step a holds call in
+      let (replies, b, run) = some_run step mid after calls in
+      (reply ∷ replies, b, (mid, is, after, run))
+
+-- what follows from what holds of each state holds of each
+pub run-follows : {S C R : Type 0} (IsStep : S → C → R → S → Type 0) {Holds Follows : S → Type 0}
+    → ((s : S) → Holds s → Follows s) → (old : S) (calls : List C) (replies : List R) (new : S)
+    → IsRun IsStep Holds old calls replies new → IsRun IsStep Follows old calls replies new
+run-follows IsStep f old [] [] new same = same
+run-follows IsStep f old [] (reply ∷ replies) new none = absurd none
+run-follows IsStep f old (call ∷ calls) [] new none = absurd none
+run-follows IsStep f old (call ∷ calls) (reply ∷ replies) new (mid, step, holds, run) =
+    (mid, step, f mid holds, run-follows IsStep f mid calls replies new run)
+
+pub all_said-push : {K V : Type 0} (answers : List (Answer K V)) (answer : Answer K V)
+    → all_said (answers ++ answer ∷ []) ≡ all_said answers ++ said answer ∷ []
+all_said-push [] answer = refl
+all_said-push (a ∷ answers) answer = ap (λ l. said a ∷ l) (all_said-push answers answer)
+
+pub empty : {X : Type 0} (xs : List X) → length xs ≡ 0 → xs ≡ []
+empty [] e = refl
+empty (x ∷ xs) e = absurd (omega (arith, e))

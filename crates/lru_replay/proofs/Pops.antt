@@ -1,0 +1,127 @@
+-- Pops at one end of a map, one after another: so many as there are pairs do what more of them do.
+use Rattle.std.proofs.Common.{◌≡◌, ℕ, zero, suc, ◌-◌, ◌<◌, ◌≤◌, List, [], ◌∷◌, ◌++◌, length, option_to_list}
+use Rattle.std.proofs.Common.{refl, sym, ap, ◌∙◌, arith, append_assoc}
+use Rattle.std.proofs.lemmas.List.{append-nil}
+use Rattle.lru_limits.specs.Rules.{Rules}
+use Rattle.schnellru.specs.Lists.{first, last}
+use Rattle.schnellru.specs.State.{Contents, pop, pops}
+use Rattle.schnellru.specs.Calls.{left_of, pop_first}
+use Rattle.schnellru.specs.Drains.{pops_first, newest_given, oldest_given}
+use Rattle.schnellru.proofs.CallerLemmas.{length-without_last}
+
+module _ {K V S : Type 0} where
+  -- one takes a pair out, which it gives; many does so so many times, and all is what they give
+  pub record ArePops (one : Contents K V S → Contents K V S) (gives : Contents K V S → List (K × V))
+      (many : ℕ → Contents K V S → Contents K V S) (all : ℕ → Contents K V S → List (K × V)) : Type 0 where
+    pub none : (c : Contents K V S) → many 0 c ≡ c
+    pub more : (n : ℕ) (c : Contents K V S) → many (suc n) c ≡ many n (one c)
+    pub nothing : (c : Contents K V S) → all 0 c ≡ []
+    pub given : (n : ℕ) (c : Contents K V S) → all (suc n) c ≡ gives c ++ all n (one c)
+    pub shorter : (c : Contents K V S) → length (one c).pairs ≡ length c.pairs - 1
+    -- where there is no pair, nothing changes
+    pub still : (c : Contents K V S) → length c.pairs ≤ 0 → one c ≡ c
+    pub without : (c : Contents K V S) → length c.pairs ≤ 0 → gives c ≡ []
+
+module _ {K V S : Type 0} {one : Contents K V S → Contents K V S} {gives : Contents K V S → List (K × V)}
+    {many : ℕ → Contents K V S → Contents K V S} {all : ℕ → Contents K V S → List (K × V)}
+    (p : ArePops one gives many all) where
+  -- one more
+  pub many-more : (n : ℕ) (c : Contents K V S) → many (suc n) c ≡ one (many n c)
+  many-more zero c = p.more 0 c ∙ p.none (one c) ∙ sym (ap one (p.none c))
+  many-more (suc n) c = p.more (suc n) c ∙ many-more n (one c) ∙ sym (ap one (p.more n c))
+
+  pub all-more : (n : ℕ) (c : Contents K V S) → all (suc n) c ≡ all n c ++ gives (many n c)
+  all-more zero c =
+      p.given 0 c ∙ ap (λ l. gives c ++ l) (p.nothing (one c)) ∙ append-nil (gives c)
+      ∙ sym (ap (λ l. l ++ gives (many 0 c)) (p.nothing c) ∙ ap gives (p.none c))
+  all-more (suc n) c =
+      p.given (suc n) c ∙ ap (λ l. gives c ++ l) (all-more n (one c))
+      ∙ sym (append_assoc (gives c) (all n (one c)) (gives (many n (one c))))
+      ∙ sym ((λ i. p.given n c i ++ gives (p.more n c i)))
+
+  pub length-many : (n : ℕ) (c : Contents K V S) → length (many n c).pairs ≡ length c.pairs - n
+  length-many zero c = omega (arith, ap (λ d. length d.pairs) (p.none c))
+  length-many (suc n) c = omega
+      (arith, ap (λ d. length d.pairs) (p.more n c), length-many n (one c), p.shorter c)
+
+  -- where there is no pair, nothing is taken
+  none_left : (n : ℕ) (c : Contents K V S) → length c.pairs ≤ 0 → many n c ≡ c
+  none_left zero c few = p.none c
+  none_left (suc n) c few = p.more n c ∙ ap (many n) (p.still c few) ∙ none_left n c few
+
+  nothing_given : (n : ℕ) (c : Contents K V S) → length c.pairs ≤ 0 → all n c ≡ []
+  nothing_given zero c few = p.nothing c
+  nothing_given (suc n) c few =
+      p.given n c ∙ ap (λ l. l ++ all n (one c)) (p.without c few) ∙ ap (all n) (p.still c few) ∙ nothing_given n c few
+
+  -- so as many as there are pairs do what more of them do
+  pub many_enough : (n k : ℕ) (c : Contents K V S) → k ≤ n → (k < n → length c.pairs ≤ k) → many k c ≡ many n c
+  many_enough zero zero c most enough = refl
+  many_enough zero (suc k) c most enough = absurd (omega arith)
+  many_enough (suc n) zero c most enough = p.none c ∙ sym (none_left (suc n) c (enough (omega arith)))
+  many_enough (suc n) (suc k) c most enough =
+      p.more k c ∙ many_enough n k (one c) (omega arith)
+      (λ less. let few = enough (omega arith) in omega (arith, p.shorter c, few)) ∙ sym (p.more n c)
+
+  pub all_enough : (n k : ℕ) (c : Contents K V S) → k ≤ n → (k < n → length c.pairs ≤ k) → all k c ≡ all n c
+  all_enough zero zero c most enough = refl
+  all_enough zero (suc k) c most enough = absurd (omega arith)
+  all_enough (suc n) zero c most enough = p.nothing c ∙ sym (nothing_given (suc n) c (enough (omega arith)))
+  all_enough (suc n) (suc k) c most enough =
+      p.given k c ∙ ap (λ l. gives c ++ l) (all_enough n k (one c) (omega arith)
+      (λ less. let few = enough (omega arith) in omega (arith, p.shorter c, few))) ∙ sym (p.given n c)
+
+module _ {K V S : Type 0} (rules : Rules K V S) where
+  -- what a pop of the newest pair gives, and one of the oldest
+  abbrev pub newest_pair : Contents K V S → List (K × V)
+  newest_pair c = option_to_list (left_of rules c.limiter (first c.pairs))
+
+  abbrev pub oldest_pair : Contents K V S → List (K × V)
+  oldest_pair c = option_to_list (left_of rules c.limiter (last c.pairs))
+
+  first_shorter : (pairs : List (K × V)) (s : S)
+      → length (pop_first rules (record { pairs = pairs; limiter = s })).pairs ≡ length pairs - 1
+  first_shorter [] s = omega arith
+  first_shorter (x ∷ xs) s = omega arith
+
+  first_still : (pairs : List (K × V)) (s : S) → length pairs ≤ 0
+      → pop_first rules (record { pairs = pairs; limiter = s }) ≡ record { pairs = pairs; limiter = s }
+  first_still [] s few = refl
+  first_still (x ∷ xs) s few = absurd (omega (arith, few))
+
+  first_without : (pairs : List (K × V)) (s : S) → length pairs ≤ 0
+      → newest_pair (record { pairs = pairs; limiter = s }) ≡ []
+  first_without [] s few = refl
+  first_without (x ∷ xs) s few = absurd (omega (arith, few))
+
+  pub from_newest : ArePops (pop_first rules) newest_pair (pops_first rules) (newest_given rules)
+  from_newest = record {
+    none = λ c. refl;
+    more = λ n c. refl;
+    nothing = λ c. refl;
+    given = λ n c. refl;
+    shorter = λ c. first_shorter c.pairs c.limiter;
+    still = λ c few. first_still c.pairs c.limiter few;
+    without = λ c few. first_without c.pairs c.limiter few;
+  }
+
+  last_still : (pairs : List (K × V)) (s : S) → length pairs ≤ 0
+      → pop rules (record { pairs = pairs; limiter = s }) ≡ record { pairs = pairs; limiter = s }
+  last_still [] s few = refl
+  last_still (x ∷ xs) s few = absurd (omega (arith, few))
+
+  last_without : (pairs : List (K × V)) (s : S) → length pairs ≤ 0
+      → oldest_pair (record { pairs = pairs; limiter = s }) ≡ []
+  last_without [] s few = refl
+  last_without (x ∷ xs) s few = absurd (omega (arith, few))
+
+  pub from_oldest : ArePops (pop rules) oldest_pair (pops rules) (oldest_given rules)
+  from_oldest = record {
+    none = λ c. refl;
+    more = λ n c. refl;
+    nothing = λ c. refl;
+    given = λ n c. refl;
+    shorter = λ c. length-without_last c.pairs;
+    still = λ c few. last_still c.pairs c.limiter few;
+    without = λ c few. last_without c.pairs c.limiter few;
+  }

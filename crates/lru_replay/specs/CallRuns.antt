@@ -1,0 +1,57 @@
+-- Runs of calls: a step for each call, each from the state that the one before left.
+use Rattle.std.specs.Prelude.{◌≡◌, ℕ, Bool, List, [], ◌∷◌, ◌⊎◌, MatchOption}
+use Rattle.lru_limits.specs.Rules.{Rules, Offers}
+use Rattle.schnellru.specs.Lists.{lookup_entry}
+use Rattle.schnellru.specs.State.{State, IsMap}
+use Rattle.schnellru.specs.Theorems.{IsSummed}
+use Rattle.lru_replay.specs.declared.call.Call.{Call}
+use Rattle.lru_replay.specs.declared.call.Call.TheVariants as calls
+use Rattle.lru_replay.specs.Replies.{Reply, no_memory, cost_differs}
+use Rattle.lru_replay.specs.Steps.{Step}
+
+-- Steps one after another, one reply a call. What holds of each state in between is Holds.
+module _ {S C R : Type 0} (IsStep : S → C → R → S → Type 0) (Holds : S → Type 0) where
+  abbrev pub IsRun : S → List C → List R → S → Type 0
+  IsRun old [] [] new = new ≡ old
+  IsRun old (call ∷ calls) (reply ∷ replies) new =
+      (mid : S) × IsStep old call reply mid × Holds mid × IsRun mid calls replies new
+  IsRun old [] (reply ∷ replies) new = ⊥
+  IsRun old (call ∷ calls) [] new = ⊥
+
+module _ {K V S : Type 0} where
+  -- the pairs that the call gives are stored, which takes memory
+  abbrev pub StoresPairs : Call K V S → Type 0
+  StoresPairs calls.List = Unit {0}
+  StoresPairs (calls.Drain front back) = Unit {0}
+  StoresPairs call = ⊥
+
+  -- the call sets no other limiter
+  abbrev pub SetsNoLimiter : Call K V S → Type 0
+  SetsNoLimiter (calls.SetLimiter s) = ⊥
+  SetsNoLimiter call = Unit {0}
+
+module _ {K V S H : Type 0} (eq : K → K → Bool) (cost : K → V → ℕ) (account : S → ℕ) where
+  -- a write keeps the cost of its pair, and another limiter has the same account
+  abbrev pub KeepsCost : State K V S H → Call K V S → Type 0
+  KeepsCost old (calls.Write key v) =
+      MatchOption (lookup_entry (eq key) old.pairs) (Unit {0}) (λ there. cost there.0 v ≡ cost there.0 there.1)
+  KeepsCost old (calls.SetLimiter s) = account s ≡ account old.limiter
+  KeepsCost old call = Unit {0}
+
+  -- it is a map, and its account is the sum of the costs, if that of the map first is
+  pub record IsSummedFrom (first st : State K V S H) : Type 0 where
+    pub map : IsMap eq st
+    pub sum : IsSummed cost account first → IsSummed cost account st
+
+module _ {K V S H : Type 0} (rules : Rules K V S) (offers : Offers K V S K) (eq : K → K → Bool)
+    (hash_of : H → K → ℕ) where
+  -- a step, or no memory is found to store pairs, and nothing changes
+  abbrev pub CallStep : State K V S H → Call K V S → Reply K V → State K V S H → Type 0
+  CallStep old call reply new = Step rules offers eq hash_of old call reply new
+      ⊎ (StoresPairs call × (reply ≡ no_memory) × (new ≡ old))
+
+  module _ (cost : K → V → ℕ) (account : S → ℕ) where
+    -- a step that keeps the cost, or one that would not is told so, and nothing changes
+    abbrev pub SummingStep : State K V S H → Call K V S → Reply K V → State K V S H → Type 0
+    SummingStep old call reply new = (KeepsCost eq cost account old call × CallStep old call reply new)
+        ⊎ ((KeepsCost eq cost account old call → ⊥) × (reply ≡ cost_differs) × (new ≡ old))

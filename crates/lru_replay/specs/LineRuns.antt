@@ -1,0 +1,70 @@
+-- A run over lines, under a limiter: each line is a step of the map and has a text.
+use Rattle.std.specs.Prelude.{◌≡◌, ℕ, nat_eq, List, ◌⊎◌, flat_map, Option, OnSome, IfSome, Result, Ok, Err}
+use Rattle.std.specs.Io.KnownBytes.{Appends, IsAtEnd}
+use Rattle.lru_limits.specs.Rules.{Rules, Offers}
+use Rattle.schnellru.specs.Lists.{IsFront}
+use Rattle.schnellru.specs.State.{IsSized}
+use Rattle.lru_replay.specs.declared.command.Command.{Command}
+use Rattle.lru_replay.specs.declared.outcome.ReplayError.{ReplayError}
+use Rattle.lru_replay.specs.declared.outcome.ReplayError.TheVariants as errors
+use Rattle.lru_replay.specs.CallRuns.{IsRun}
+use Rattle.lru_replay.specs.Commands.{call_of}
+use Rattle.lru_replay.specs.Grammar.{SpellsCommand}
+use Rattle.lru_replay.specs.Lines.{lines_of, fed, TakesLines, TakesWhole}
+use Rattle.lru_replay.specs.Maps.{Map, hash_of}
+use Rattle.lru_replay.specs.Output.{reply_text, bad_text, Writes}
+use Rattle.lru_replay.specs.Replies.{Reply}
+use Rattle.lru_replay.specs.Steps.{Step}
+
+module _ {S : Type 0} (rules : Rules ℕ ℕ S) (offers : Offers ℕ ℕ S ℕ) (told : S → Option ℕ) where
+  -- the call of the command is carried out, and the text is that of the reply
+  abbrev pub CommandStep : Map S → Command → List ℕ → Map S → Type 0
+  CommandStep old command text new = (reply : Reply ℕ ℕ)
+      × Step rules offers nat_eq hash_of old (call_of command) reply new
+      × (text ≡ reply_text (told old.limiter) reply)
+
+  -- The line spells a command, which is carried out, or it spells none, is bad, and changes nothing.
+  abbrev pub LineStep : Map S → List ℕ → List ℕ → Map S → Type 0
+  LineStep old line text new = ((command : Command) × SpellsCommand line command × CommandStep old command text new)
+      ⊎ (((command : Command) → SpellsCommand line command → ⊥) × (text ≡ bad_text) × (new ≡ old))
+
+  -- The line is answered, and its text is written with a line feed, or a beginning of that where a write failed.
+  abbrev pub AnswersLine : Map S → List ℕ → Map S → Option (List ℕ) → Option (List ℕ) → Result (Unit {0}) ReplayError
+      → Type 0
+  AnswersLine before line after old new result =
+      (text : List ℕ) × LineStep before line text after × Writes old new result (fed text)
+
+  -- A run over the lines, where each line leaves a map whose table is sound. The text is that of each line with a line
+  -- feed, one after another.
+  abbrev pub IsLineRun : Map S → List (List ℕ) → List ℕ → Map S → Type 0
+  IsLineRun old lines text new =
+      (texts : List (List ℕ)) × IsRun LineStep IsSized old lines texts new × (text ≡ flat_map fed texts)
+
+  -- some run over the lines, from this map, has the text
+  abbrev pub IsTextOf : Map S → List (List ℕ) → List ℕ → Type 0
+  IsTextOf old lines text = (new : Map S) × IsLineRun old lines text new
+
+-- Below, IsText tells the texts of lines. What a reader had left, where it is known, is from, and what it has left is
+-- to. A writer's bytes are old and new.
+module _ (IsText : List (List ℕ) → List ℕ → Type 0) where
+  -- a text of all the lines was written
+  abbrev pub WritesText : Option (List ℕ) → Option (List ℕ) → Option (List ℕ) → Type 0
+  WritesText from old new =
+      IfSome from (λ input. (text : List ℕ) × IsText (lines_of input) text × Appends old new text)
+
+  -- some lines were read whole, and a part of the next, and a text of the whole ones was written
+  abbrev pub WritesTextSoFar : Option (List ℕ) → Option (List ℕ) → Option (List ℕ) → Option (List ℕ) → Type 0
+  WritesTextSoFar from to old new = (lines : List (List ℕ)) × (text part : List ℕ)
+      × IsText lines text × TakesLines from to lines part × Appends old new text
+
+  -- some lines were read whole, and a beginning of a text of them was written
+  abbrev pub BeginsText : Option (List ℕ) → Option (List ℕ) → Option (List ℕ) → Option (List ℕ) → Type 0
+  BeginsText from to old new = (lines : List (List ℕ)) × (text part : List ℕ)
+      × IsText lines text × TakesWhole from to lines × IsFront part text × Appends old new part
+
+  -- what was read and written, by how the answers to the lines ended
+  abbrev pub Answers : Option (List ℕ) → Option (List ℕ) → Option (List ℕ) → Option (List ℕ)
+      → Result (Unit {0}) ReplayError → Type 0
+  Answers from to old new (Ok _) = WritesText from old new × OnSome from (IsAtEnd to)
+  Answers from to old new (Err errors.Read) = WritesTextSoFar from to old new
+  Answers from to old new (Err errors.Write) = BeginsText from to old new

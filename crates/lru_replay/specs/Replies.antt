@@ -1,0 +1,62 @@
+-- What a call says, as the logic has it.
+use Rattle.std.specs.Prelude.{Bool, true, false, List, [], ◌∷◌, Option, None, Result, Ok, Err}
+use Rattle.std.specs.declared.alloc.AllocError.{AllocError}
+use Rattle.schnellru.specs.Lists.{newest_value}
+use Rattle.schnellru.specs.declared.map.reserve.ReserveError.{ReserveError}
+use Rattle.lru_replay.specs.declared.call.Answer.{Answer}
+use Rattle.lru_replay.specs.declared.call.Answer.TheVariants as answers
+use Rattle.lru_replay.specs.declared.figures.Figures.{Figures}
+
+pub data Reply (K V : Type 0) : Type 0 where
+  -- whether the key of an insertion or of a write is there now
+  flag : Bool → Reply K V
+  -- the value of a key, if it is there
+  value : Option V → Reply K V
+  -- a pair, if there is one
+  pair : Option (K × V) → Reply K V
+  -- pairs, in the order in which they were given
+  listed : List (K × V) → Reply K V
+  -- whether room is reserved
+  reserved : Result (Unit {0}) ReserveError → Reply K V
+  -- the figures of the map
+  stats : Figures → Reply K V
+  -- it is done, and there is nothing to say of it
+  done : Reply K V
+  no_memory : Reply K V
+  -- a sum would change by it, so it is not done
+  cost_differs : Reply K V
+
+module _ {K V : Type 0} where
+  -- what an answer says
+  abbrev pub said : Answer K V → Reply K V
+  said (answers.Flag b) = flag b
+  said (answers.Value v) = value v
+  said (answers.Pair p) = pair p
+  said (answers.Pairs ps) = listed ps.items
+  said answers.Done = done
+  said (answers.Reserved result) = reserved result
+  said (answers.Stats len capacity memory report) = stats (record {
+    len = len;
+    capacity = capacity;
+    memory = memory;
+    moved = report.moved;
+    placed = report.placed;
+  })
+  said answers.Memory = no_memory
+  said answers.CostDiffers = cost_differs
+
+  -- what each answer says
+  abbrev pub all_said : List (Answer K V) → List (Reply K V)
+  all_said [] = []
+  all_said (answer ∷ answers) = said answer ∷ all_said answers
+
+  -- how an insert says its answer
+  abbrev pub insert_reply : Result Bool AllocError → Reply K V
+  insert_reply (Ok there) = flag there
+  insert_reply (Err e) = no_memory
+
+  -- how a get that inserts says its answer, where these are the pairs after it
+  abbrev pub made_reply : Result Bool AllocError → List (K × V) → Reply K V
+  made_reply (Ok true) pairs = value (newest_value pairs)
+  made_reply (Ok false) pairs = value None
+  made_reply (Err e) pairs = no_memory

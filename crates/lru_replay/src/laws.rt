@@ -1,0 +1,70 @@
+//! What is proved of runs of calls, beside what `run_calls` and `run_summing` say of each. The functions do nothing:
+//! their contracts are the theorems.
+ghost use Rattle.std.specs.Prelude.{◌≤◌, length, List};
+ghost use Rattle.std.specs.List.{AllByRecursion};
+ghost use Rattle.lru_limits.specs.Hashing.{hash_by};
+ghost use Rattle.schnellru.specs.State.{State, IsSized, IsMap};
+ghost use Rattle.schnellru.specs.Theorems.{PaysForMoves, UsesAtMost, IsSummed};
+ghost use Rattle.lru_replay.specs.declared.call.Call.{Call};
+ghost use Rattle.lru_replay.specs.CallRuns.{IsRun, CallStep, SummingStep, SetsNoLimiter};
+ghost use Rattle.lru_replay.specs.Replies.{Reply};
+
+use schnellru::{ByCost, ByLength, ByMemoryUsage, Costed, Insertion, Limiter, Summing, laws};
+use std::hash::{BuildHasher, Hash};
+
+/// Over any stretch of calls moved and potential together rise by at most two for each element that is placed, while
+/// the count of these goes on.
+pub fn calls_pay_for_moves<K: Eq + Hash, V, L: Insertion<K, V, K>, S: BuildHasher>()
+    ensures rise { (old new : State K V L S) (calls : List (Call K V L)) (replies : List (Reply K V)) →
+        IsRun (CallStep L.rules L.offers K.eq (hash_by K.hash_input S.BuildHasher S.Hasher.Hasher)) (IsMap K.eq)
+        old calls replies new → IsSized old → PaysForMoves old new }
+{
+    laws::runs_pay_for_moves::<K, V, K, L, S>();
+}
+
+/// With `ByLength` there are at most `max_length` pairs after each of the calls, if there were no more before, and none
+/// sets another limiter.
+pub fn calls_keep_the_length<K: Eq + Hash + Drop, V: Drop, S: BuildHasher>()
+    ensures length { (old new : State K V ByLength S) (calls : List (Call K V ByLength)) (replies : List (Reply K V)) →
+        IsRun (CallStep ⟦<ByLength as Limiter<K, V>>⟧.rules ⟦<ByLength as Insertion<K, V, K>>⟧.offers K.eq
+        (hash_by K.hash_input S.BuildHasher S.Hasher.Hasher)) (IsMap K.eq) old calls replies new →
+        AllByRecursion SetsNoLimiter calls → length old.pairs ≤ old.limiter →
+        IsRun (CallStep ⟦<ByLength as Limiter<K, V>>⟧.rules ⟦<ByLength as Insertion<K, V, K>>⟧.offers K.eq
+        (hash_by K.hash_input S.BuildHasher S.Hasher.Hasher)) (λ st. length st.pairs ≤ old.limiter)
+        old calls replies new }
+{
+    laws::runs_keep_the_length::<K, V, S>();
+}
+
+/// With `ByMemoryUsage` the table uses at most `max_memory_usage` bytes after each of the calls, if it used no more
+/// before, and none sets another limiter.
+pub fn calls_keep_the_memory_usage<K: Eq + Hash + Drop, V: Drop, S: BuildHasher>()
+    ensures usage { (old new : State K V ByMemoryUsage S) (calls : List (Call K V ByMemoryUsage))
+        (replies : List (Reply K V)) →
+        IsRun (CallStep ⟦<ByMemoryUsage as Limiter<K, V>>⟧.rules ⟦<ByMemoryUsage as Insertion<K, V, K>>⟧.offers K.eq
+        (hash_by K.hash_input S.BuildHasher S.Hasher.Hasher)) (IsMap K.eq) old calls replies new →
+        AllByRecursion SetsNoLimiter calls → UsesAtMost old.limiter old →
+        IsRun (CallStep ⟦<ByMemoryUsage as Limiter<K, V>>⟧.rules ⟦<ByMemoryUsage as Insertion<K, V, K>>⟧.offers K.eq
+        (hash_by K.hash_input S.BuildHasher S.Hasher.Hasher)) (λ st. UsesAtMost old.limiter st)
+        old calls replies new }
+{
+    laws::runs_keep_the_memory_usage::<K, V, S>();
+}
+
+/// With `ByCost` the cost is at most the limit after each of the calls, if it was so before and was the sum of the
+/// costs of the pairs, and none sets another limiter.
+pub fn calls_keep_the_cost<K: Eq + Hash + Drop, V: Costed + Drop, S: BuildHasher>()
+    ensures cost { (old new : State K V ByCost S) (calls : List (Call K V ByCost)) (replies : List (Reply K V)) →
+        IsRun (SummingStep ⟦<ByCost as Limiter<K, V>>⟧.rules ⟦<ByCost as Insertion<K, V, K>>⟧.offers K.eq
+        (hash_by K.hash_input S.BuildHasher S.Hasher.Hasher) ⟦<ByCost as Summing<K, V, K>>⟧.cost_of
+        ⟦<ByCost as Summing<K, V, K>>⟧.account) (IsMap K.eq) old calls replies new →
+        AllByRecursion SetsNoLimiter calls →
+        IsSummed ⟦<ByCost as Summing<K, V, K>>⟧.cost_of ⟦<ByCost as Summing<K, V, K>>⟧.account old →
+        old.limiter.cost ≤ old.limiter.limit →
+        IsRun (SummingStep ⟦<ByCost as Limiter<K, V>>⟧.rules ⟦<ByCost as Insertion<K, V, K>>⟧.offers K.eq
+        (hash_by K.hash_input S.BuildHasher S.Hasher.Hasher) ⟦<ByCost as Summing<K, V, K>>⟧.cost_of
+        ⟦<ByCost as Summing<K, V, K>>⟧.account) (λ st. st.limiter.cost ≤ old.limiter.limit) old calls replies new }
+{
+    laws::runs_keep_the_cost::<K, V, S>();
+    laws::runs_keep_sums::<K, V, K, ByCost, S>();
+}

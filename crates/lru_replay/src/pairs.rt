@@ -1,0 +1,96 @@
+//! The calls of a run that answer pairs, whose memory is taken first.
+ghost use Rattle.std.specs.Prelude.{◌≡◌, ◌++◌, ◌+◌, ◌≤◌, ◌<◌, option_to_list};
+ghost use Rattle.std.specs.Vec.{vec_len, vec_capacity};
+ghost use Rattle.lru_limits.specs.Hashing.{hash_by};
+ghost use Rattle.schnellru.specs.Drains.{newest_given, oldest_given, pops_first};
+ghost use Rattle.schnellru.specs.State.{contents, Leaves, pops};
+ghost use Rattle.lru_replay.specs.declared.call.Call.TheVariants as calls;
+ghost use Rattle.lru_replay.specs.CallRuns.{CallStep};
+ghost use Rattle.lru_replay.specs.Replies.{said};
+
+use crate::call::Answer;
+use schnellru::{Insertion, Limiter, LruMap};
+use std::alloc::Global;
+use std::hash::{BuildHasher, Hash};
+
+/// All pairs, newest first.
+pub fn list<K: Copy + Eq + Hash, V: Copy, L: Insertion<K, V, K>, S: BuildHasher>(
+    alloc: Global,
+    map: &LruMap<K, V, L, S>,
+) -> Answer<K, V>
+    ensures { CallStep L.rules L.offers K.eq (hash_by K.hash_input S.BuildHasher S.Hasher.Hasher)
+        map.now calls.List (said result) map.now }
+{
+    let Ok(mut pairs) = Vec::with_capacity(alloc, map.len()) else {
+        return Answer::Memory;
+    };
+    for (key, value) in map.iter() {
+        pairs.push_reserved((*key, *value));
+    }
+    Answer::Pairs(pairs)
+}
+
+/// So many of the newest pairs, then so many of the oldest. The others are dropped.
+pub fn drain<K: Eq + Hash + Drop, V: Drop, L: Insertion<K, V, K>, S: BuildHasher>(
+    alloc: Global,
+    map: &mut LruMap<K, V, L, S>,
+    front: usize,
+    back: usize,
+) -> Answer<K, V>
+    ensures { CallStep L.rules L.offers K.eq (hash_by K.hash_input S.BuildHasher S.Hasher.Hasher)
+        map.old (calls.Drain front back) (said result) map.new }
+{
+    let newest = front.min(map.len());
+    let oldest = back.min(map.len() - newest);
+    let Ok(mut pairs) = Vec::with_capacity(alloc, newest + oldest) else {
+        return Answer::Memory;
+    };
+    take_newest(map, newest, &mut pairs);
+    take_oldest(map, oldest, &mut pairs);
+    map.clear();
+    Answer::Pairs(pairs)
+}
+
+/// Takes out so many of the newest pairs, one after another.
+fn take_newest<K: Eq + Hash, V, L: Limiter<K, V>, S: BuildHasher>(
+    map: &mut LruMap<K, V, L, S>,
+    count: usize,
+    pairs: &mut Vec<(K, V)>,
+)
+    requires { vec_len pairs.old + count ≤ vec_capacity pairs.old }
+    ensures pairs { pairs.new.items ≡ pairs.old.items ++ newest_given L.rules count (contents map.old) }
+    ensures len { vec_len pairs.new ≤ vec_len pairs.old + count }
+    ensures capacity { vec_capacity pairs.new ≡ vec_capacity pairs.old }
+    ensures left { Leaves map.old (pops_first L.rules count (contents map.old)) map.new }
+{
+    for _ in 0..count {
+        add(pairs, map.pop_newest());
+    }
+}
+
+/// Takes out so many of the oldest pairs, one after another.
+fn take_oldest<K: Eq + Hash, V, L: Limiter<K, V>, S: BuildHasher>(
+    map: &mut LruMap<K, V, L, S>,
+    count: usize,
+    pairs: &mut Vec<(K, V)>,
+)
+    requires { vec_len pairs.old + count ≤ vec_capacity pairs.old }
+    ensures pairs { pairs.new.items ≡ pairs.old.items ++ oldest_given L.rules count (contents map.old) }
+    ensures left { Leaves map.old (pops L.rules count (contents map.old)) map.new }
+{
+    for _ in 0..count {
+        add(pairs, map.pop_oldest());
+    }
+}
+
+/// Adds the pair, if there is one.
+fn add<K, V>(pairs: &mut Vec<(K, V)>, pair: Option<(K, V)>)
+    requires { vec_len pairs.old < vec_capacity pairs.old }
+    ensures items { pairs.new.items ≡ pairs.old.items ++ option_to_list pair }
+    ensures len { vec_len pairs.new ≤ vec_len pairs.old + 1 }
+    ensures capacity { vec_capacity pairs.new ≡ vec_capacity pairs.old }
+{
+    if let Some(pair) = pair {
+        pairs.push_reserved(pair);
+    }
+}

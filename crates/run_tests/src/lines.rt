@@ -1,0 +1,4 @@
+//! Replays of lines: worked examples, and readers and writers that fail.
+mod failures;
+mod rows;
+mod streams;

@@ -1,0 +1,343 @@
+//! Inputs, with the text and the status that each must give.
+use super::streams::Repeated;
+use lru_replay::{ReplayEnd, ReplayError, replay, status};
+use std::io::BufReader;
+use std::ops::Range;
+use std::process::Abort;
+use std::test::Fail;
+
+/// The example of the README.
+pub const EXAMPLE: &[u8] =
+    b"length 3\ninsert 1 10\ninsert 2 20\ninsert 3 30\nlist\nget 1\nlist\ninsert 4 40\npeek 2\nlist\n";
+
+/// The answers of the example.
+pub const EXAMPLE_TEXT: &[u8] =
+    b"true\ntrue\ntrue\n3:30 2:20 1:10\n10\n1:10 3:30 2:20\ntrue\nnone\n4:40 1:10 3:30\n";
+
+/// Replays the input, and compares what is written and the status.
+fn expect(rt: &(impl Abort + AllocGlobal), input: &[u8], want: &[u8], code: u8) {
+    let mut reader = input;
+    let mut writer = Vec::new(rt.alloc());
+    let end = replay(rt.alloc(), &mut reader, &mut writer);
+    assert_eq!(rt; status(&end), code);
+    assert!(rt; writer.as_slice() == want);
+}
+
+#[test]
+fn answers_examples(rt: HostRuntime) {
+    expect(&rt, EXAMPLE, EXAMPLE_TEXT, 0);
+    // A key that is there becomes the newest when it is inserted, and the oldest go.
+    expect(
+        &rt,
+        b"length 3\ninsert 1 10\ninsert 2 20\ninsert 3 30\ninsert 4 40\ninsert 5 50\ninsert 6 60\ninsert 5 500\ninsert 4 400\nlist\n",
+        b"true\ntrue\ntrue\ntrue\ntrue\ntrue\ntrue\ntrue\n4:400 5:500 6:60\n",
+        0,
+    );
+    // The last line lacks its line feed.
+    expect(
+        &rt,
+        b"compact\nlist\nget 1 2\ninsert 1 10\nlist",
+        b"-\nbad\ntrue\n1:10\n",
+        0,
+    );
+    expect(&rt, b"length 0\ninsert 1 10\nlist\n", b"false\n-\n", 0);
+    expect(&rt, b"compact", b"", 0);
+}
+
+#[test]
+fn takes_pairs_out(rt: HostRuntime) {
+    // The oldest, the newest and a named pair leave.
+    expect(
+        &rt,
+        b"compact\ninsert 1 10\ninsert 2 20\ninsert 3 30\npop-oldest\npop-newest\nremove 2\npop-oldest\nclear\n",
+        b"true\ntrue\ntrue\n1:10\n3:30\n20\nnone\nok\n",
+        0,
+    );
+    // The order of the others stays.
+    expect(
+        &rt,
+        b"length 6\ninsert 1 10\ninsert 2 20\ninsert 3 30\ninsert 4 40\ninsert 5 50\ninsert 6 60\nremove 123\nremove 3\nremove 1\nremove 6\nlist\n",
+        b"true\ntrue\ntrue\ntrue\ntrue\ntrue\nnone\n30\n10\n60\n5:50 4:40 2:20\n",
+        0,
+    );
+    // A cleared map takes pairs again.
+    expect(
+        &rt,
+        b"length 2\nclear\ninsert 1 10\ninsert 2 20\nclear\nlist\npop-newest\ninsert 3 30\nlist",
+        b"ok\ntrue\ntrue\nok\n-\nnone\ntrue\n3:30\n",
+        0,
+    );
+}
+
+#[test]
+fn writes_the_greatest_number(rt: HostRuntime) {
+    expect(
+        &rt,
+        b"cost 18446744073709551615\ninsert 18446744073709551615 18446744073709551615\nget 18446744073709551615\nlist\nremove 18446744073709551615\n",
+        b"true\n18446744073709551615\n18446744073709551615:18446744073709551615\n18446744073709551615\n",
+        0,
+    );
+    expect(
+        &rt,
+        b"compact\ninsert 0 18446744073709551615\npeek 0\npop-newest\n",
+        b"true\n18446744073709551615\n0:18446744073709551615\n",
+        0,
+    );
+}
+
+#[test]
+fn lines_of_other_systems(rt: HostRuntime) {
+    // A carriage return belongs to its line, a byte-order mark to the first.
+    expect(&rt, b"length 3\r\ninsert 1 10\r\n", b"no limiter\n", 1);
+    expect(&rt, b"length 3\ninsert 1 10\r\nlist\r\n", b"bad\nbad\n", 0);
+    expect(&rt, b"\xef\xbb\xbflength 3\nlist\n", b"no limiter\n", 1);
+    expect(&rt, b"\nlength 3\nlist\n", b"no limiter\n", 1);
+    expect(&rt, b"length 3\n\nlist\n\n", b"bad\n-\nbad\n", 0);
+}
+
+#[test]
+fn reserves(rt: HostRuntime) {
+    // Links of 32 bits end at 1,879,048,192 pairs.
+    expect(
+        &rt,
+        b"compact\nreserve 0\nreserve 7\ninsert 1 10\nreserve 18446744073709551615\nreserve 1879048192\nreserve 6\nlist\n",
+        b"ok\nok\ntrue\ntoo large\ntoo large\nok\n1:10\n",
+        0,
+    );
+}
+
+#[test]
+fn limits_memory(rt: HostRuntime) -> Result<(), Fail> {
+    // 8 buckets of 16 bytes an entry use 152 bytes, and take 7 pairs.
+    expect(
+        &rt,
+        b"memory 152 16\nreserve 7\nstats\nreserve 8\nreserve 18446744073709551615\n",
+        b"ok\nlen 0 capacity 7 memory 152 moved 0 placed 0\nrefused\ntoo large\n",
+        0,
+    );
+    expect_newest(&rt, "memory 152 16", 1..9, 7)?;
+    expect(&rt, b"memory 83 16\ninsert 1 10\nlist\n", b"false\n-\n", 0);
+    // An entry of so many bytes has no table.
+    expect(
+        &rt,
+        b"memory 18446744073709551615 18446744073709551615\ninsert 1 10\nreserve 1\n",
+        b"false\ntoo large\n",
+        0,
+    );
+    Ok(())
+}
+
+#[test]
+fn tells_figures(rt: HostRuntime) -> Result<(), Fail> {
+    expect(
+        &rt,
+        b"length 2\nstats\ninsert 1 10\nstats\nclear\nstats\n",
+        b"len 0 capacity 0 memory 0 moved 0 placed 0\ntrue\nlen 1 capacity 3 memory 148 moved 0 placed 1\nok\nlen 0 capacity 3 memory 148 moved 0 placed 1\n",
+        0,
+    );
+    // The table grows from 4 to 8 to 16 to 32 buckets, which moves 3, 7 and 14 pairs.
+    let mut input = String::new(rt.alloc());
+    let mut want = String::new(rt.alloc());
+    input.push_str("memory 100000 16\n")?;
+    for key in 0..15 {
+        let line = format!(in rt.alloc(); "insert {key} {key}\n")?;
+        input.push_str(line.as_str())?;
+        want.push_str("true\n")?;
+    }
+    input.push_str("stats\n")?;
+    want.push_str("len 15 capacity 28 memory 560 moved 24 placed 15\n")?;
+    expect(&rt, input.as_bytes(), want.as_bytes(), 0);
+    Ok(())
+}
+
+#[test]
+fn limits_the_cost(rt: HostRuntime) {
+    expect(
+        &rt,
+        b"cost 3\ninsert 1 1\ninsert 2 2\ninsert 3 3\nlist\nstats\n",
+        b"true\ntrue\ntrue\n3:3\nlen 1 capacity 3 memory 148 moved 0 placed 3 cost 3\n",
+        0,
+    );
+    expect(
+        &rt,
+        b"cost 3\ninsert 1 1\ninsert 2 1\ninsert 3 1\ninsert 4 2\nlist\n",
+        b"true\ntrue\ntrue\ntrue\n4:2 3:1\n",
+        0,
+    );
+    expect(
+        &rt,
+        b"cost 1\ninsert 1 1\ninsert 1 2\nlist\ninsert 2 2\nlist\n",
+        b"true\nfalse\n-\nfalse\n-\n",
+        0,
+    );
+}
+
+#[test]
+fn drains(rt: HostRuntime) {
+    expect(
+        &rt,
+        b"cost 10\ninsert 1 1\ninsert 2 2\ninsert 3 3\ndrain 2\nlist\nstats\ninsert 4 4\ndrain 18446744073709551615\n",
+        b"true\ntrue\ntrue\n3:3 2:2\n-\nlen 0 capacity 3 memory 148 moved 0 placed 3 cost 0\ntrue\n4:4\n",
+        0,
+    );
+    expect(
+        &rt,
+        b"length 3\ninsert 1 10\ninsert 2 20\ninsert 3 30\nget 1\ndrain 3\ndrain 3\n",
+        b"true\ntrue\ntrue\n10\n1:10 3:30 2:20\n-\n",
+        0,
+    );
+}
+
+/// Inserts the keys, each with its tenfold as the value, and expects that the newest so many are listed.
+fn expect_newest(
+    rt: &(impl Abort + AllocGlobal),
+    limit: &str,
+    keys: Range<u64>,
+    listed: u64,
+) -> Result<(), Fail> {
+    let mut input = format!(in rt.alloc(); "{limit}\n")?;
+    let mut want = String::new(rt.alloc());
+    for key in keys.start..keys.end {
+        let line = format!(in rt.alloc(); "insert {} {}\n", key, key.saturating_mul(10))?;
+        input.push_str(line.as_str())?;
+        want.push_str("true\n")?;
+    }
+    input.push_str("list\n")?;
+    for i in 0..listed {
+        let key = keys.end.saturating_sub(i).saturating_sub(1);
+        let end = if i.saturating_add(1) == listed {
+            '\n'
+        } else {
+            ' '
+        };
+        let pair = format!(in rt.alloc(); "{}:{}{}", key, key.saturating_mul(10), end)?;
+        want.push_str(pair.as_str())?;
+    }
+    expect(rt, input.as_bytes(), want.as_bytes(), 0);
+    Ok(())
+}
+
+#[test]
+fn lists_the_newest(rt: HostRuntime) -> Result<(), Fail> {
+    // The table grows to 64 buckets.
+    expect_newest(&rt, "compact", 0..40, 40)?;
+    expect_newest(&rt, "length 7", 9..32, 7)
+}
+
+#[test]
+fn refuses_first_lines(rt: HostRuntime) {
+    expect(&rt, b"", b"no limiter\n", 1);
+    expect(&rt, b"length 4294967296\nlist\n", b"no limiter\n", 1);
+    expect(&rt, b"\ncompact\nlist\n", b"no limiter\n", 1);
+    expect(&rt, b" compact\n", b"no limiter\n", 1);
+    expect(&rt, b"length\n", b"no limiter\n", 1);
+    expect(&rt, b"length 03\n", b"no limiter\n", 1);
+    expect(&rt, b"list\n", b"no limiter\n", 1);
+    expect(&rt, b"memory 152\n", b"no limiter\n", 1);
+    expect(&rt, b"memory 152 016\n", b"no limiter\n", 1);
+    expect(&rt, b"cost 18446744073709551616\n", b"no limiter\n", 1);
+    expect(&rt, b"cost 3 3\n", b"no limiter\n", 1);
+}
+
+#[test]
+fn answers_bad_lines(rt: HostRuntime) {
+    expect(
+        &rt,
+        b"length 2\ninsert 01 1\ninsert 1 18446744073709551616\n\nlist \ndrain 5\ninsert 1 10\ndrain 0\nlist\n",
+        b"bad\nbad\nbad\nbad\n-\ntrue\n-\n-\n",
+        0,
+    );
+    expect(
+        &rt,
+        b"compact\ninsert 18446744073709551615 18446744073709551615\ninsert 18446744073709551615 18446744073709551615 \nlist\r\nlist\n",
+        b"true\nbad\nbad\n18446744073709551615:18446744073709551615\n",
+        0,
+    );
+    for line in [
+        b"insert +1 1\n".as_slice(),
+        b"insert 1  1\n",
+        b" insert 1 1\n",
+        b"insert 1 1 1\n",
+        b"insert 1\n",
+        b"insert \n",
+        b"insert 1 00\n",
+        b"insert 1 -1\n",
+        b"insert 0x1 1\n",
+        b"INSERT 1 1\n",
+        b"get\n",
+        b"get \n",
+        b"get 1\t\n",
+        b"peek 1x\n",
+        b"peek \xff\n",
+        b"remove\n",
+        b"remove 01\n",
+        b"remove 1 10\n",
+        b"pop-oldest 1\n",
+        b"pop_oldest\n",
+        b"pop-newest \n",
+        b"clear 1\n",
+        b"reserve\n",
+        b"reserve 18446744073709551616\n",
+        b"drain\n",
+        b"drain 01\n",
+        b"list list\n",
+        b"lists\n",
+        b"length 3\n",
+        b"compact\n",
+        b"stats 1\n",
+    ] {
+        expect_bad(&rt, line);
+    }
+}
+
+/// The line answers `bad`, and changes nothing.
+fn expect_bad(rt: &(impl Abort + AllocGlobal), line: &[u8]) {
+    let mut input = Vec::new(rt.alloc());
+    let written = input.extend_from_slice(b"compact\ninsert 1 10\n").is_ok()
+        && input.extend_from_slice(line).is_ok()
+        && input.extend_from_slice(b"list\n").is_ok();
+    assert!(rt; written);
+    expect(rt, input.as_slice(), b"true\nbad\n1:10\n", 0);
+}
+
+#[test]
+fn reads_long_lines_through(rt: HostRuntime) -> Result<(), Fail> {
+    let long = Repeated {
+        byte: b'1',
+        left: 1_000_000,
+        others: b"\nlist\n",
+    };
+    let mut before = BufReader::new(rt.alloc(), long)?;
+    let mut writer = Vec::new(rt.alloc());
+    let end = replay(rt.alloc(), &mut before, &mut writer);
+    assert_eq!(rt; end, Ok(ReplayEnd::NoLimiter));
+    assert!(rt; writer.as_slice() == b"no limiter\n".as_slice());
+
+    let long = Repeated {
+        byte: b'1',
+        left: 1_000_000,
+        others: b"\nlist\n",
+    };
+    let after = std::io::Read::chain(b"compact\ninsert 1 10\n".as_slice(), long);
+    let mut reader = BufReader::new(rt.alloc(), after)?;
+    let mut writer = Vec::new(rt.alloc());
+    let end = replay(rt.alloc(), &mut reader, &mut writer);
+    assert_eq!(rt; end, Ok(ReplayEnd::Done));
+    assert!(rt; writer.as_slice() == b"true\nbad\n1:10\n".as_slice());
+    Ok(())
+}
+
+#[test]
+fn prints_errors(rt: HostRuntime) -> Result<(), Fail> {
+    let read = format!(in rt.alloc(); "{}", ReplayError::Read)?;
+    assert_eq!(rt; read.as_str(), "read failed");
+    let write = format!(in rt.alloc(); "{}", ReplayError::Write)?;
+    assert_eq!(rt; write.as_str(), "write failed");
+    assert_eq!(rt; ReplayError::Read as u8, 1);
+    assert_eq!(rt; ReplayError::Write as u8, 2);
+    assert_eq!(rt; status(&Ok(ReplayEnd::Done)), 0);
+    assert_eq!(rt; status(&Ok(ReplayEnd::NoLimiter)), 1);
+    assert_eq!(rt; status(&Err(ReplayError::Read)), 2);
+    assert_eq!(rt; status(&Err(ReplayError::Write)), 2);
+    Ok(())
+}
