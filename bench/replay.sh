@@ -2,7 +2,7 @@
 # Times the program on a million lines, on maps of 3, 100 and 100,000 pairs, and on one line of 100 MB.
 # It builds the program first, which proves it.
 set -euo pipefail
-cd "$(dirname "$0")/../crates/lru_replay"
+cd "$(dirname "$0")/../crates/replay"
 input=$(mktemp)
 trap 'rm -f "$input"' EXIT
 rt run <stdin >"$input" 2>&1 || { cat "$input"; exit 1; }
@@ -26,7 +26,7 @@ long_line() {
 measure() { # a name, and the file of the input
     local start end
     start=$(date +%s%N)
-    out/lru_replay <"$2" >/dev/null
+    out/replay <"$2" >/dev/null
     end=$(date +%s%N)
     printf '%-32s %5d ms\n' "$1" $(((end - start) / 1000000))
 }
