@@ -113,7 +113,7 @@ pub fn peek_by_hash<K: Eq + Hash, V: Copy, L: Limiter<K, V>, S: BuildHasher>(
     ensures { FindsByHash K.eq (hash_by K.hash_input S.BuildHasher S.Hasher.Hasher map.now.hasher) hash key.now
         map.now.pairs result }
 {
-    // As above.
+    // Nothing at run time: it tells the proof that no two keys are equal.
     let _len = map.len();
     match map.peek_by_hash(hash, |other, _| key == other) {
         Some(value) => Some(*value),
