@@ -1,0 +1,85 @@
+-- What a call leaves of the tenant that it names is what it leaves of the cache.
+use Rattle.std.proofs.Common.{◌≡◌, ℕ, Bool, true, false, cond, nat_eq, Option, Some, None, is_some, Err, arith, sym, ap, refl}
+use Rattle.std.proofs.Common.{subst}
+use Rattle.std.proofs.lemmas.Bool.{eqb-true, true≢false}
+use Rattle.std.specs.HashMap.{HashMap, UpdatesBy, values}
+use Rattle.std.specs.List.{All}
+use Rattle.std.specs.List.Sorted.{IsPermutation}
+use Rattle.std.specs.Map.{remove_entry}
+use Rattle.std.proofs.lemmas.Map.Views.{All-map-remove_entry, All-map-IsPermutation}
+use Rattle.schnellru.specs.State.{IsMap}
+use Rattle.lru_limits.specs.Mixing.{Mixer}
+use Rattle.lru_tenants.specs.Cache.{Cache, Tenant, tenant, fresh, Leaves, IsTenant}
+use Rattle.lru_tenants.specs.TenantRuns.{named, TenantStep, CacheStep}
+use Rattle.lru_tenants.specs.declared.cache.TenantError.TheVariants.{AlreadyOpen}
+use Rattle.lru_tenants.specs.declared.call.TenantAnswer.{TenantAnswer}
+use Rattle.lru_tenants.specs.declared.call.TenantAnswer.TheVariants as answers
+use Rattle.lru_tenants.specs.declared.call.TenantCall.{TenantCall}
+use Rattle.lru_tenants.specs.declared.call.TenantCall.TheVariants as calls
+
+pub absent-from : {X : Type 0} (found : Option X) → is_some found ≡ false → found ≡ None
+absent-from None absent = refl
+absent-from (Some x) absent = absurd (true≢false absent)
+
+module _ {K V : Type 0} where
+  -- a cache that stays leaves the tenant as it is
+  pub leaves-same : (name : ℕ) (cache : Cache K V) → Leaves name (tenant name cache) cache cache
+  leaves-same name cache = record {
+    tenants = λ other. same other (nat_eq name other) refl;
+    hasher = refl;
+    entry_bytes = refl;
+  }
+    where
+      same : (other : ℕ) (is : Bool) → nat_eq name other ≡ is →
+          tenant other cache ≡ cond is (tenant name cache) (tenant other cache)
+      same other true e = ap (λ n. tenant n cache) (sym (eqb-true name other e))
+      same other false e = refl
+
+  -- so it does where the table of tenants has another map at its name, or none
+  pub leaves-updated : {S : Type 0} (name : ℕ) (left : Option (Tenant K V)) (hasher : Mixer) (entry_bytes : ℕ)
+      (old new : HashMap ℕ (Tenant K V) S) → UpdatesBy nat_eq (nat_eq name) old new left
+      → Leaves name left (record { tenants = old.entries; hasher = hasher; entry_bytes = entry_bytes })
+      (record { tenants = new.entries; hasher = hasher; entry_bytes = entry_bytes })
+  leaves-updated name left hasher entry_bytes old new updates =
+      record { tenants = updates.0; hasher = refl; entry_bytes = refl }
+
+-- what holds of each map holds of each after a removal, and after an insertion of one of which it holds
+module _ {K X S : Type 0} (P : X → Type 0) where
+  pub kept-removed : (test : K → Bool) (old new : HashMap K X S) → All P (values old)
+      → IsPermutation (remove_entry test old.entries) new.entries → All P (values new)
+  kept-removed test old new all is = All-map-IsPermutation (λ e. e.1) P (remove_entry test old.entries) new.entries is
+      (All-map-remove_entry test (λ e. e.1) P old.entries all)
+
+module _ {K V : Type 0} (eq : K → K → Bool) (cost : V → ℕ) where
+  -- a tenant that opens is one
+  pub fresh-tenant : (cache : Cache K V) (budget : ℕ) → IsMap eq (fresh cache budget)
+      → IsTenant eq cost (fresh cache budget)
+  fresh-tenant cache budget map = record { map = map; sum = refl; within = omega arith }
+
+module _ {K V : Type 0} (eq : K → K → Bool) (cost : V → ℕ) (hash_of : Mixer → K → ℕ)
+    (fresh : ℕ → Tenant K V) where
+  -- a step of the tenant that the call names, by what it is before
+  pub step-from : (call : TenantCall K V) (answer : TenantAnswer V) (old new : Cache K V)
+      (was left : Option (Tenant K V)) → tenant (named call) old ≡ was
+      → TenantStep eq cost hash_of fresh was call answer left → Leaves (named call) left old new
+      → CacheStep eq cost hash_of fresh old call answer new
+  step-from call answer old new was left is step leaves =
+      (left, subst (λ t. TenantStep eq cost hash_of fresh t call answer left) (sym is) step, leaves)
+
+  -- one that leaves it as it is
+  pub step-same : (call : TenantCall K V) (answer : TenantAnswer V) (cache : Cache K V)
+      (was : Option (Tenant K V)) → tenant (named call) cache ≡ was
+      → TenantStep eq cost hash_of fresh was call answer was → CacheStep eq cost hash_of fresh cache call answer cache
+  step-same call answer cache was is step = step-from call answer cache cache was was is step
+      (subst (λ t. Leaves (named call) t cache cache) is (leaves-same (named call) cache))
+
+  -- a tenant that is open is not opened
+  pub open-again : (name budget : ℕ) (cache : Cache K V) → is_some (tenant name cache) ≡ true
+      → CacheStep eq cost hash_of fresh cache (calls.Open name budget) (answers.Opened (Err AlreadyOpen)) cache
+  open-again name budget cache yes_there = go (tenant name cache) refl yes_there
+    where
+      go : (was : Option (Tenant K V)) → tenant name cache ≡ was → is_some was ≡ true
+          → CacheStep eq cost hash_of fresh cache (calls.Open name budget) (answers.Opened (Err AlreadyOpen)) cache
+      go (Some map) is there = step-same (calls.Open name budget) (answers.Opened (Err AlreadyOpen)) cache (Some map) is
+          (refl, refl)
+      go None is absent = absurd (true≢false (sym absent))

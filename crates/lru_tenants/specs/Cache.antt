@@ -1,0 +1,48 @@
+-- A cache of tenants: a map for each that is open.
+use Rattle.std.specs.Prelude.{◌≡◌, ℕ, ◌^◌, ◌-◌, ◌≤◌, Bool, nat_eq, List, cond, Option}
+use Rattle.std.specs.List.{All}
+use Rattle.std.specs.Map.{values_of}
+use Rattle.lru_limits.specs.Budget.{Budget}
+use Rattle.lru_limits.specs.Mixing.{Mixer}
+use Rattle.schnellru.specs.Lists.{lookup}
+use Rattle.schnellru.specs.State.{State, IsMap, empty_map}
+use Rattle.schnellru.specs.Theorems.{IsSummed}
+
+-- the map of a tenant, under its budget
+abbrev pub Tenant : Type 0 → Type 0 → Type 0
+Tenant K V = State K V Budget Mixer
+
+-- what a contract sees of a cache
+pub record Cache (K V : Type 0) : Type 0 where
+  -- the open tenants by their names, in no order that is told
+  pub tenants : List (ℕ × Tenant K V)
+  -- what builds the hashers of keys, and what a bucket takes
+  pub hasher : Mixer
+  pub entry_bytes : ℕ
+
+module _ {K V : Type 0} where
+  -- the map of the tenant of this name, if it is open
+  abbrev pub tenant : ℕ → Cache K V → Option (Tenant K V)
+  tenant name cache = lookup (nat_eq name) cache.tenants
+
+  -- the empty map with which a tenant opens
+  abbrev pub fresh : Cache K V → ℕ → Tenant K V
+  fresh cache budget =
+      empty_map (record { limit = budget; cost = 0 }) cache.hasher cache.entry_bytes (2 ^ 64 - 1)
+
+  -- the tenant of this name is left so, and the others stay
+  pub record Leaves (name : ℕ) (left : Option (Tenant K V)) (old new : Cache K V) : Type 0 where
+    pub tenants : (other : ℕ) → tenant other new ≡ cond (nat_eq name other) left (tenant other old)
+    pub hasher : new.hasher ≡ old.hasher
+    pub entry_bytes : new.entry_bytes ≡ old.entry_bytes
+
+  -- what holds of the map of every tenant
+  pub record IsTenant (eq : K → K → Bool) (cost : V → ℕ) (own : Tenant K V) : Type 0 where
+    pub map : IsMap eq own
+    -- the account is the sum of the costs, and within the budget
+    pub sum : IsSummed (λ k v. cost v) (λ b. b.cost) own
+    pub within : own.limiter.cost ≤ own.limiter.limit
+
+  -- it holds of each
+  abbrev pub AreTenants : (K → K → Bool) → (V → ℕ) → Cache K V → Type 0
+  AreTenants eq cost cache = All (IsTenant eq cost) (values_of cache.tenants)

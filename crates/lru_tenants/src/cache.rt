@@ -1,0 +1,194 @@
+//! `TenantCache`. A clause sees a cache as its open tenants, each with its map.
+ghost use Rattle.std.specs.Prelude.{◌≡◌, []};
+ghost use Rattle.lru_limits.specs.Budget.{by_cost, charges};
+ghost use Rattle.lru_limits.specs.Mixing.{seeded};
+ghost use Rattle.schnellru.specs.Inserts.{Insert};
+ghost use Rattle.lru_tenants.specs.Cache.{fresh, IsTenant, AreTenants};
+ghost use Rattle.lru_tenants.specs.TenantRuns.{hash_of, put_answer, CacheStep};
+ghost use Rattle.lru_tenants.specs.declared.call.TenantAnswer.TheVariants as answers;
+ghost use Rattle.lru_tenants.specs.declared.call.TenantCall.TheVariants as calls;
+
+use schnellru::{ByCost, Costed, LruMap, RandomState, laws};
+use std::alloc::{AllocError, Global};
+use std::collections::HashMap;
+use std::hash::Hash;
+use std::marker::Model;
+use thiserror::Error;
+
+/// Why a call on a tenant did nothing, or not all.
+#[derive(Clone, Copy, Debug, PartialEq, Eq, Error)]
+pub enum TenantError {
+    /// The tenant is open already.
+    #[error("already open")]
+    AlreadyOpen = 1,
+    /// The tenant is not open.
+    #[error("not open")]
+    NotOpen = 2,
+    /// Memory was refused.
+    #[error("no memory")]
+    Memory = 3,
+}
+
+/// A cache for many tenants, which are named by numbers: a map for each, limited by the cost of its values.
+///
+/// ```
+/// let mut cache: TenantCache<u64, u64> = TenantCache::new(alloc, [1, 2, 3, 4], 16);
+/// assert_eq!(rt; cache.open(1, 3), Ok(()));
+/// assert_eq!(rt; cache.put(1, 7, 2), Ok(true));
+/// assert_eq!(rt; cache.cost(1), Ok(2));
+/// ```
+#[derive(Drop)]
+pub struct TenantCache<K: Eq + Hash, V: Costed> {
+    tenants: HashMap<u64, LruMap<K, V, ByCost, RandomState>, RandomState, Global>,
+    seed: [u64; 4],
+    entry_bytes: usize,
+    alloc: Global,
+}
+
+impl<K: Eq + Hash, V: Costed> Model for TenantCache<K, V> {
+    ghost use Rattle.std.specs.List.{All};
+    ghost use Rattle.std.specs.Map.{values_of};
+    ghost use Rattle.lru_limits.specs.Mixing.{seeded};
+    ghost use Rattle.lru_tenants.specs.Cache.{Cache, IsTenant};
+
+    ghost Value = { Cache K V };
+
+    ghost view = { λ c. record {
+      tenants = c.tenants.entries;
+      hasher = seeded c.seed;
+      entry_bytes = c.entry_bytes;
+    } };
+
+    ghost invariant = { λ c. All (IsTenant K.eq V.cost) (values_of c.tenants.entries) };
+}
+
+impl<K: Eq + Hash, V: Costed> TenantCache<K, V> {
+    /// A cache without tenants.
+    pub fn new(alloc: Global, seed: [u64; 4], entry_bytes: usize) -> Self
+        ensures { result ≡ record { tenants = []; hasher = seeded seed; entry_bytes = entry_bytes } }
+    {
+        TenantCache {
+            tenants: HashMap::with_hasher(alloc, RandomState::with_seeds(seed)),
+            seed,
+            entry_bytes,
+            alloc,
+        }
+    }
+
+    /// The sum of the costs of a tenant's values.
+    ///
+    /// Cost: `O(1)` expected.
+    ///
+    /// # Errors
+    ///
+    /// `NotOpen`.
+    pub fn cost(&self, name: u64) -> Result<u64, TenantError>
+        ensures { CacheStep K.eq V.cost (hash_of K.hash_input) (fresh self.now)
+            self.now (calls.Cost name) (answers.Cost result) self.now }
+    {
+        let Some(map) = self.tenants.get(&name) else {
+            return Err(TenantError::NotOpen);
+        };
+        Ok(map.limiter().cost())
+    }
+}
+
+impl<K: Eq + Hash + Drop, V: Costed + Drop> TenantCache<K, V> {
+    /// Opens a tenant, whose map is empty, with the greatest sum of costs that it may come to.
+    ///
+    /// ```
+    /// assert_eq!(rt; cache.open(1, 3), Ok(()));
+    /// assert_eq!(rt; cache.open(1, 5), Err(TenantError::AlreadyOpen));
+    /// ```
+    ///
+    /// Cost: `O(1)` expected, amortised over the tenants.
+    ///
+    /// # Errors
+    ///
+    /// `AlreadyOpen`, or `Memory`: none was found for one tenant more. Both change nothing.
+    pub fn open(&mut self, name: u64, budget: u64) -> Result<(), TenantError>
+        ensures step { CacheStep K.eq V.cost (hash_of K.hash_input) (fresh self.old)
+            self.old (calls.Open name budget) (answers.Opened result) self.new }
+        ensures tenants { AreTenants K.eq V.cost self.new }
+    {
+        laws::runs_begin_with_maps::<K, V, ByCost, RandomState>();
+        if self.tenants.contains_key(&name) {
+            return Err(TenantError::AlreadyOpen);
+        }
+        let map = LruMap::new(
+            self.alloc,
+            ByCost::new(budget),
+            self.seed,
+            self.entry_bytes,
+        );
+        match self.tenants.insert(name, map) {
+            Ok(_) => Ok(()),
+            Err(_) => Err(TenantError::Memory),
+        }
+    }
+
+    /// Puts a value under a key, as the newest pair of the tenant, and answers whether the key is there then.
+    ///
+    /// It is an `insert` into the map of the tenant: a value whose own cost is above the budget is not taken, and the
+    /// tenant's oldest pairs leave until the sum of its costs is within it.
+    ///
+    /// Cost: that of `LruMap::insert`.
+    ///
+    /// # Errors
+    ///
+    /// `NotOpen`: nothing has changed. `Memory`: none was found for the pair; the newest of the tenant's pairs are left.
+    pub fn put(&mut self, name: u64, key: K, value: V) -> Result<bool, TenantError>
+        ensures step { CacheStep K.eq V.cost (hash_of K.hash_input) (fresh self.old)
+            self.old (calls.Put name key value) (answers.Put result) self.new }
+        ensures tenants { AreTenants K.eq V.cost self.new }
+    {
+        let Some(map) = self.tenants.get_mut(&name) else {
+            return Err(TenantError::NotOpen);
+        };
+        put_answer(insert(map, key, value))
+    }
+
+    /// Closes a tenant, whose pairs are dropped, and answers how many these were.
+    ///
+    /// Cost: `O(buckets)` of its table.
+    ///
+    /// # Errors
+    ///
+    /// `NotOpen`: nothing has changed.
+    pub fn close(&mut self, name: u64) -> Result<usize, TenantError>
+        ensures step { CacheStep K.eq V.cost (hash_of K.hash_input) (fresh self.old)
+            self.old (calls.Close name) (answers.Closed result) self.new }
+        ensures tenants { AreTenants K.eq V.cost self.new }
+    {
+        let Some(map) = self.tenants.remove(&name) else {
+            return Err(TenantError::NotOpen);
+        };
+        Ok(map.len())
+    }
+}
+
+// An insert into the map of a tenant, whose budget stays.
+fn insert<K: Eq + Hash + Drop, V: Costed + Drop>(
+    map: &mut LruMap<K, V, ByCost, RandomState>,
+    key: K,
+    value: V,
+) -> Result<bool, AllocError>
+    requires { IsTenant K.eq V.cost map.old }
+    ensures inserts { Insert (by_cost V.cost) (charges V.cost) K.eq (hash_of K.hash_input) key value map.old result map.new }
+    ensures budget { map.new.limiter.limit ≡ map.old.limiter.limit }
+    ensures tenant { IsTenant K.eq V.cost map.new }
+{
+    laws::inserts_keep_sums::<K, V, K, ByCost, RandomState>();
+    laws::runs_keep_the_cost::<K, V, RandomState>();
+    map.insert(key, value)
+}
+
+// What a put answers, where the insert into the map of its tenant answers this.
+fn put_answer(inserted: Result<bool, AllocError>) -> Result<bool, TenantError>
+    ensures { result ≡ put_answer inserted }
+{
+    match inserted {
+        Ok(there) => Ok(there),
+        Err(_) => Err(TenantError::Memory),
+    }
+}

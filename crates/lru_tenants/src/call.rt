@@ -1,0 +1,36 @@
+//! The calls of a run on a cache, and their answers.
+use crate::cache::TenantError;
+
+/// A call of a run. Each names its tenant.
+///
+/// ```
+/// let calls = vec![in alloc; TenantCall::Open(1, 3), TenantCall::Put(1, 7, 1), TenantCall::Cost(1)]?;
+/// ```
+#[derive(Debug, Drop)]
+pub enum TenantCall<K, V> {
+    /// `open`: opens the tenant with this budget.
+    Open(u64, u64),
+    /// `put`: puts the value under the key, as the newest pair of the tenant.
+    Put(u64, K, V),
+    /// `get`: gives the tenant's value of the key, and makes its pair the newest.
+    Get(u64, K),
+    /// `cost`: gives the sum of the costs of the tenant's values.
+    Cost(u64),
+    /// `close`: drops the tenant's pairs, and forgets the tenant.
+    Close(u64),
+}
+
+/// The answer to a call.
+#[derive(Debug, Drop, PartialEq)]
+pub enum TenantAnswer<V> {
+    /// To `Open`.
+    Opened(Result<(), TenantError>),
+    /// To `Put`: whether the key is there.
+    Put(Result<bool, TenantError>),
+    /// To `Get`: the value, if there is one.
+    Got(Result<Option<V>, TenantError>),
+    /// To `Cost`: the sum of the costs.
+    Cost(Result<u64, TenantError>),
+    /// To `Close`: how many pairs were dropped.
+    Closed(Result<usize, TenantError>),
+}
