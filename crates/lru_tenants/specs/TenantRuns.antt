@@ -43,6 +43,17 @@ module _ {K V : Type 0} (eq : K → K → Bool) (cost : V → ℕ) (hash_of : Mi
     pub budget : left.limiter.limit ≡ old.limiter.limit
     pub answers : answer ≡ put_answer result
 
+module _ {K V : Type 0} where
+  -- a get by what names a key: its value, and its pair becomes the newest
+  abbrev pub Gets : (K → Bool) → Option (Tenant K V) → Result (Option V) TenantError → Option (Tenant K V) → Type 0
+  Gets names (Some map) answer new = (answer ≡ Ok (lookup names map.pairs)) × (new ≡ Some (promoted names map))
+  Gets names None answer new = (answer ≡ Err NotOpen) × (new ≡ None)
+
+  -- the same of a cache, in which the other tenants stay
+  abbrev pub GetStep : (K → Bool) → ℕ → Cache K V → Result (Option V) TenantError → Cache K V → Type 0
+  GetStep names name old answer new =
+      (left : Option (Tenant K V)) × Gets names (tenant name old) answer left × Leaves name left old new
+
 module _ {K V : Type 0} (eq : K → K → Bool) (cost : V → ℕ) (hash_of : Mixer → K → ℕ)
     (fresh : ℕ → Tenant K V) where
   -- the call may answer this and leave the tenant that it names so; `None` is a tenant that is not open
@@ -55,14 +66,15 @@ module _ {K V : Type 0} (eq : K → K → Bool) (cost : V → ℕ) (hash_of : Mi
   TenantStep (Some map) (calls.Put name key value) answer new = (result : Result Bool TenantError)
       × (left : Tenant K V) × Puts eq cost hash_of key value map result left
       × (answer ≡ answers.Put result) × (new ≡ Some left)
-  TenantStep (Some map) (calls.Get name key) answer new =
-      (answer ≡ answers.Got (Ok (lookup (eq key) map.pairs))) × (new ≡ Some (promoted (eq key) map))
+  TenantStep (Some map) (calls.Get name key) answer new = (result : Result (Option V) TenantError)
+      × Gets (eq key) (Some map) result new × (answer ≡ answers.Got result)
   TenantStep (Some map) (calls.Cost name) answer new =
       (answer ≡ answers.Cost (Ok map.limiter.cost)) × (new ≡ Some map)
   TenantStep (Some map) (calls.Close name) answer new =
       (answer ≡ answers.Closed (Ok (length map.pairs))) × (new ≡ None)
   TenantStep None (calls.Put name key value) answer new = (answer ≡ answers.Put (Err NotOpen)) × (new ≡ None)
-  TenantStep None (calls.Get name key) answer new = (answer ≡ answers.Got (Err NotOpen)) × (new ≡ None)
+  TenantStep None (calls.Get name key) answer new = (result : Result (Option V) TenantError)
+      × Gets (eq key) None result new × (answer ≡ answers.Got result)
   TenantStep None (calls.Cost name) answer new = (answer ≡ answers.Cost (Err NotOpen)) × (new ≡ None)
   TenantStep None (calls.Close name) answer new = (answer ≡ answers.Closed (Err NotOpen)) × (new ≡ None)
 

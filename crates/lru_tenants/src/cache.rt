@@ -1,14 +1,16 @@
 //! `TenantCache`. A clause sees a cache as its open tenants, each with its map.
-ghost use Rattle.std.specs.Prelude.{◌≡◌, []};
+ghost use Rattle.std.specs.Prelude.{◌≡◌, [], Option};
+ghost use Rattle.std.specs.Borrow.{sem};
 ghost use Rattle.lru_limits.specs.Budget.{by_cost, charges};
 ghost use Rattle.lru_limits.specs.Mixing.{seeded};
 ghost use Rattle.schnellru.specs.Inserts.{Insert};
-ghost use Rattle.lru_tenants.specs.Cache.{fresh, IsTenant, AreTenants};
-ghost use Rattle.lru_tenants.specs.TenantRuns.{hash_of, put_answer, CacheStep};
+ghost use Rattle.lru_tenants.specs.Cache.{Tenant, tenant, fresh, IsTenant, AreTenants};
+ghost use Rattle.lru_tenants.specs.TenantRuns.{hash_of, put_answer, Gets, GetStep, CacheStep};
+ghost use Rattle.lru_tenants.specs.Lending.{read};
 ghost use Rattle.lru_tenants.specs.declared.call.TenantAnswer.TheVariants as answers;
 ghost use Rattle.lru_tenants.specs.declared.call.TenantCall.TheVariants as calls;
 
-use schnellru::{ByCost, Costed, LruMap, RandomState, laws};
+use schnellru::{ByCost, Costed, LookupKey, LruMap, RandomState, laws};
 use std::alloc::{AllocError, Global};
 use std::collections::HashMap;
 use std::hash::Hash;
@@ -63,6 +65,8 @@ impl<K: Eq + Hash, V: Costed> Model for TenantCache<K, V> {
 }
 
 impl<K: Eq + Hash, V: Costed> TenantCache<K, V> {
+    ghost use Rattle.lru_tenants.specs.Lending.{ends_so};
+
     /// A cache without tenants.
     pub fn new(alloc: Global, seed: [u64; 4], entry_bytes: usize) -> Self
         ensures { result ≡ record { tenants = []; hasher = seeded seed; entry_bytes = entry_bytes } }
@@ -72,6 +76,34 @@ impl<K: Eq + Hash, V: Costed> TenantCache<K, V> {
             seed,
             entry_bytes,
             alloc,
+        }
+    }
+
+    /// A tenant's value of a key. Its pair becomes the tenant's newest.
+    ///
+    /// `String` keys are looked up by a text, as `cache.get(1, &"a")`. The value is lent to be read alone, so that its
+    /// cost stays.
+    ///
+    /// Cost: `O(1)` expected.
+    ///
+    /// # Errors
+    ///
+    /// `NotOpen`: nothing has changed.
+    pub fn get<Q: LookupKey<K>>(
+        &mut self,
+        name: u64,
+        key: &Q,
+    ) -> Result<Option<&V>, TenantError>
+        ensures* leaves { sem 𝓛 (ends_so K.row V.row K.Hash V.Costed self.entry
+            (λ new. GetStep (Q.names key.now) name self.old (read result) new)) }
+        ensures value { (left : Option (Tenant K V)) × Gets (Q.names key.now) (tenant name self.old) (read result) left }
+    {
+        let Some(map) = self.tenants.get_mut(&name) else {
+            return Err(TenantError::NotOpen);
+        };
+        match map.get(key) {
+            Some(value) => Ok(Some(&*value)),
+            None => Ok(None),
         }
     }
 

@@ -1,0 +1,27 @@
+-- A get keeps what holds of a tenant's map.
+use Rattle.std.proofs.Common.{◌≡◌, ◌∙◌, ℕ, Bool, List, Some, None, Option, Result, Ok, sym, ap, subst}
+use Rattle.lru_limits.specs.Laws.{IsLookup}
+use Rattle.schnellru.specs.Calls.{promoted}
+use Rattle.schnellru.specs.Lists.{front, lookup}
+use Rattle.schnellru.proofs.CallerLemmas.{promoted_is_map}
+use Rattle.schnellru.proofs.Theorems.Sums.{total-is, total-front}
+use Rattle.lru_tenants.specs.Cache.{Tenant, IsTenant}
+use Rattle.lru_tenants.specs.TenantRuns.{Gets}
+
+module _ {K V Q : Type 0} {names : Q → K → Bool} {eq : K → K → Bool} {query_input : Q → List (List ℕ)}
+    {key_input : K → List (List ℕ)} (looks_up : IsLookup names eq query_input key_input) (q : Q)
+    (cost : V → ℕ) where
+  pub promoted_is_tenant : (map : Tenant K V) → IsTenant eq cost map → IsTenant eq cost (promoted (names q) map)
+  promoted_is_tenant map is = record {
+    map = promoted_is_map looks_up q map is.map;
+    sum = is.sum ∙ sym (total-is (λ p. cost p.1) map.pairs) ∙ sym (total-front (λ p. cost p.1) (names q) map.pairs)
+        ∙ total-is (λ p. cost p.1) (front (names q) map.pairs);
+    within = is.within;
+  }
+
+-- what a get answers and leaves of a tenant that is open
+pub gets-open : {K V : Type 0} (names : K → Bool) (was : Option (Tenant K V)) (map left : Tenant K V) (found : Option V)
+    → was ≡ Some map → found ≡ lookup names map.pairs → left ≡ promoted names map
+    → Gets names was (Ok found) (Some left)
+gets-open names was map left found is value turned =
+    subst (λ t. Gets names t (Ok found) (Some left)) (sym is) (ap Ok value, ap Some turned)

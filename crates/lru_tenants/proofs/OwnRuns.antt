@@ -1,0 +1,42 @@
+-- A run of calls on a cache is a run of each tenant.
+use Rattle.std.proofs.Common.{◌≡◌, ℕ, Bool, true, false, cond, nat_eq, List, [], ◌∷◌, ◌++◌, Option, Some, None, refl, sym, ap, ◌∙◌}
+use Rattle.std.proofs.Common.{subst, inl, inr, ◌⊎◌}
+use Rattle.std.specs.Prelude.{IfSome}
+use Rattle.std.proofs.lemmas.Bool.{eqb-true, eqb-refl}
+use Rattle.lru_limits.specs.Mixing.{Mixer}
+use Rattle.lru_tenants.specs.Cache.{Cache, Tenant, tenant, Leaves, IsTenant}
+use Rattle.lru_tenants.specs.TenantRuns.{named, TenantStep, IsOwnRun, CacheStep}
+use Rattle.lru_tenants.specs.declared.call.TenantAnswer.{TenantAnswer}
+use Rattle.lru_tenants.specs.declared.call.TenantCall.{TenantCall}
+
+module _ {K V : Type 0} (eq : K → K → Bool) (cost : V → ℕ) (hash_of : Mixer → K → ℕ)
+    (fresh : ℕ → Tenant K V) (name : ℕ) where
+  abbrev Own : Option (Tenant K V) → List (TenantCall K V) → List (TenantAnswer V) → Option (Tenant K V) → Type 0
+  Own = IsOwnRun eq cost hash_of fresh name
+
+  -- a run of a tenant goes on by one from where it ends
+  pub own-append : (old : Option (Tenant K V)) (calls : List (TenantCall K V)) (answers : List (TenantAnswer V))
+      (mid : Option (Tenant K V)) (more : List (TenantCall K V)) (others : List (TenantAnswer V))
+      (new : Option (Tenant K V)) → Own old calls answers mid → Own mid more others new
+      → Own old (calls ++ more) (answers ++ others) new
+  own-append old [] [] mid more others new same rest = subst (λ t. Own t more others new) same rest
+  own-append old [] (answer ∷ answers) mid more others new none rest = absurd none
+  own-append old (call ∷ calls) [] mid more others new none rest = absurd none
+  own-append old (call ∷ calls) (answer ∷ answers) mid more others new (inl (is, next, step, holds, run)) rest =
+      inl (is, next, step, holds, own-append next calls answers mid more others new run rest)
+  own-append old (call ∷ calls) (answer ∷ answers) mid more others new (inr (other, run)) rest =
+      inr (other, own-append old calls answers mid more others new run rest)
+
+  -- a call on the cache is one of the tenant, or leaves it as it is
+  pub own-step : (old new : Cache K V) (call : TenantCall K V) (answer : TenantAnswer V)
+      → CacheStep eq cost hash_of fresh old call answer new → IfSome (tenant name new) (IsTenant eq cost)
+      → Own (tenant name old) (call ∷ []) (answer ∷ []) (tenant name new)
+  own-step old new call answer (left, step, leaves) holds = go (nat_eq (named call) name) refl (leaves.tenants name)
+    where
+      go : (is : Bool) → nat_eq (named call) name ≡ is → tenant name new ≡ cond is left (tenant name old)
+          → Own (tenant name old) (call ∷ []) (answer ∷ []) (tenant name new)
+      go true e now =
+          let same = eqb-true (named call) name e in
+          inl (same, left, subst (λ n. TenantStep eq cost hash_of fresh (tenant n old) call answer left) same step,
+          subst (λ t. IfSome t (IsTenant eq cost)) now holds, now)
+      go false e now = inr (λ same. ?, now)
