@@ -10,12 +10,8 @@ use Rattle.std.proofs.lemmas.Map.Views.{All-map-remove_entry, All-map-IsPermutat
 use Rattle.schnellru.specs.State.{IsMap}
 use Rattle.lru_limits.specs.Mixing.{Mixer}
 use Rattle.lru_tenants.specs.Cache.{Cache, Tenant, tenant, fresh, Leaves, IsTenant}
-use Rattle.lru_tenants.specs.TenantRuns.{named, TenantStep, CacheStep}
+use Rattle.lru_tenants.specs.TenantRuns.{Opens, On}
 use Rattle.lru_tenants.specs.declared.cache.TenantError.TheVariants.{AlreadyOpen}
-use Rattle.lru_tenants.specs.declared.call.TenantAnswer.{TenantAnswer}
-use Rattle.lru_tenants.specs.declared.call.TenantAnswer.TheVariants as answers
-use Rattle.lru_tenants.specs.declared.call.TenantCall.{TenantCall}
-use Rattle.lru_tenants.specs.declared.call.TenantCall.TheVariants as calls
 
 pub absent-from : {X : Type 0} (found : Option X) → is_some found ≡ false → found ≡ None
 absent-from None absent = refl
@@ -56,30 +52,24 @@ module _ {K V : Type 0} (eq : K → K → Bool) (cost : V → ℕ) where
       → IsTenant eq cost (fresh cache budget)
   fresh-tenant cache budget map = record { map = map; sum = refl; within = omega arith }
 
-module _ {K V : Type 0} (eq : K → K → Bool) (cost : V → ℕ) (hash_of : Mixer → K → ℕ)
-    (fresh : ℕ → Tenant K V) where
-  -- a step of the tenant that the call names, by what it is before
-  pub step-from : (call : TenantCall K V) (answer : TenantAnswer V) (old new : Cache K V)
-      (was left : Option (Tenant K V)) → tenant (named call) old ≡ was
-      → TenantStep eq cost hash_of fresh was call answer left → Leaves (named call) left old new
-      → CacheStep eq cost hash_of fresh old call answer new
-  step-from call answer old new was left is step leaves =
-      (left, subst (λ t. TenantStep eq cost hash_of fresh t call answer left) (sym is) step, leaves)
+module _ {K V R : Type 0} (name : ℕ) (Does : Option (Tenant K V) → R → Option (Tenant K V) → Type 0) (answer : R) where
+  -- what is done to the tenant is done to the cache, by what the tenant is before
+  pub on-from : (old new : Cache K V) (was left : Option (Tenant K V)) → tenant name old ≡ was → Does was answer left
+      → Leaves name left old new → On name Does old answer new
+  on-from old new was left is does leaves = (left, subst (λ t. Does t answer left) (sym is) does, leaves)
 
-  -- one that leaves it as it is
-  pub step-same : (call : TenantCall K V) (answer : TenantAnswer V) (cache : Cache K V)
-      (was : Option (Tenant K V)) → tenant (named call) cache ≡ was
-      → TenantStep eq cost hash_of fresh was call answer was → CacheStep eq cost hash_of fresh cache call answer cache
-  step-same call answer cache was is step = step-from call answer cache cache was was is step
-      (subst (λ t. Leaves (named call) t cache cache) is (leaves-same (named call) cache))
+  -- where it stays, so does the cache
+  pub on-same : (cache : Cache K V) (was : Option (Tenant K V)) → tenant name cache ≡ was → Does was answer was
+      → On name Does cache answer cache
+  on-same cache was is does =
+      on-from cache cache was was is does (subst (λ t. Leaves name t cache cache) is (leaves-same name cache))
 
-  -- a tenant that is open is not opened
-  pub open-again : (name budget : ℕ) (cache : Cache K V) → is_some (tenant name cache) ≡ true
-      → CacheStep eq cost hash_of fresh cache (calls.Open name budget) (answers.Opened (Err AlreadyOpen)) cache
-  open-again name budget cache yes_there = go (tenant name cache) refl yes_there
-    where
-      go : (was : Option (Tenant K V)) → tenant name cache ≡ was → is_some was ≡ true
-          → CacheStep eq cost hash_of fresh cache (calls.Open name budget) (answers.Opened (Err AlreadyOpen)) cache
-      go (Some map) is there = step-same (calls.Open name budget) (answers.Opened (Err AlreadyOpen)) cache (Some map) is
-          (refl, refl)
-      go None is absent = absurd (true≢false (sym absent))
+-- a tenant that is open is not opened
+pub open-again : {K V : Type 0} (name : ℕ) (fresh : Tenant K V) (cache : Cache K V) → is_some (tenant name cache) ≡ true
+    → On name (Opens fresh) cache (Err AlreadyOpen) cache
+open-again {K} {V} name fresh cache there = go (tenant name cache) refl there
+  where
+    go : (was : Option (Tenant K V)) → tenant name cache ≡ was → is_some was ≡ true
+        → On name (Opens fresh) cache (Err AlreadyOpen) cache
+    go (Some map) is found = on-same name (Opens fresh) (Err AlreadyOpen) cache (Some map) is (refl, refl)
+    go None is found = absurd (true≢false (sym found))

@@ -2,10 +2,10 @@
 use Rattle.std.proofs.Common.{◌≡◌, ℕ, Bool, true, false, cond, nat_eq, List, [], ◌∷◌, ◌++◌, Option, Some, None, refl, sym, ap, ◌∙◌}
 use Rattle.std.proofs.Common.{subst, inl, inr, ◌⊎◌}
 use Rattle.std.specs.Prelude.{IfSome}
-use Rattle.std.proofs.lemmas.Bool.{eqb-true, eqb-refl}
+use Rattle.std.proofs.lemmas.Bool.{eqb-true, eq-eqb, true≢false}
 use Rattle.lru_limits.specs.Mixing.{Mixer}
 use Rattle.lru_tenants.specs.Cache.{Cache, Tenant, tenant, Leaves, IsTenant}
-use Rattle.lru_tenants.specs.TenantRuns.{named, TenantStep, IsOwnRun, CacheStep}
+use Rattle.lru_tenants.specs.TenantRuns.{named, TenantStep, On, IsOwnRun}
 use Rattle.lru_tenants.specs.declared.call.TenantAnswer.{TenantAnswer}
 use Rattle.lru_tenants.specs.declared.call.TenantCall.{TenantCall}
 
@@ -29,7 +29,7 @@ module _ {K V : Type 0} (eq : K → K → Bool) (cost : V → ℕ) (hash_of : Mi
 
   -- a call on the cache is one of the tenant, or leaves it as it is
   pub own-step : (old new : Cache K V) (call : TenantCall K V) (answer : TenantAnswer V)
-      → CacheStep eq cost hash_of fresh old call answer new → IfSome (tenant name new) (IsTenant eq cost)
+      → On (named call) (TenantStep eq cost hash_of fresh call) old answer new → IfSome (tenant name new) (IsTenant eq cost)
       → Own (tenant name old) (call ∷ []) (answer ∷ []) (tenant name new)
   own-step old new call answer (left, step, leaves) holds = go (nat_eq (named call) name) refl (leaves.tenants name)
     where
@@ -37,6 +37,6 @@ module _ {K V : Type 0} (eq : K → K → Bool) (cost : V → ℕ) (hash_of : Mi
           → Own (tenant name old) (call ∷ []) (answer ∷ []) (tenant name new)
       go true e now =
           let same = eqb-true (named call) name e in
-          inl (same, left, subst (λ n. TenantStep eq cost hash_of fresh (tenant n old) call answer left) same step,
+          inl (same, left, subst (λ n. TenantStep eq cost hash_of fresh call (tenant n old) answer left) same step,
           subst (λ t. IfSome t (IsTenant eq cost)) now holds, now)
-      go false e now = inr (λ same. ?, now)
+      go false e now = inr (λ same. true≢false (sym (eq-eqb (named call) name same) ∙ e), now)

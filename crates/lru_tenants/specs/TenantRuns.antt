@@ -34,62 +34,67 @@ abbrev pub put_answer : Result Bool AllocError → Result Bool TenantError
 put_answer (Ok there) = Ok there
 put_answer (Err e) = Err Memory
 
-module _ {K V : Type 0} (eq : K → K → Bool) (cost : V → ℕ) (hash_of : Mixer → K → ℕ) where
-  -- a put to an open tenant: an insert into its map, whose budget stays
-  pub record Puts (key : K) (value : V) (old : Tenant K V) (answer : Result Bool TenantError)
-      (left : Tenant K V) : Type 0 where
-    pub result : Result Bool AllocError
-    pub inserts : Insert (by_cost cost) (charges cost) eq hash_of key value old result left
-    pub budget : left.limiter.limit ≡ old.limiter.limit
-    pub answers : answer ≡ put_answer result
-
+-- what each call may answer, and what it leaves of its tenant; `None` is a tenant that is not open
 module _ {K V : Type 0} where
-  -- a get by what names a key: its value, and its pair becomes the newest
-  abbrev pub Gets : (K → Bool) → Option (Tenant K V) → Result (Option V) TenantError → Option (Tenant K V) → Type 0
-  Gets names (Some map) answer new = (answer ≡ Ok (lookup names map.pairs)) × (new ≡ Some (promoted names map))
-  Gets names None answer new = (answer ≡ Err NotOpen) × (new ≡ None)
+  -- one that is not open opens with this map, where there is memory
+  abbrev pub Opens : Tenant K V → Option (Tenant K V) → Result (Unit {0}) TenantError → Option (Tenant K V) → Type 0
+  Opens fresh None answer new = ((answer ≡ Ok tt) × (new ≡ Some fresh)) ⊎ ((answer ≡ Err Memory) × (new ≡ None))
+  Opens fresh (Some map) answer new = (answer ≡ Err AlreadyOpen) × (new ≡ Some map)
 
-  -- the same of a cache, in which the other tenants stay
-  abbrev pub GetStep : (K → Bool) → ℕ → Cache K V → Result (Option V) TenantError → Cache K V → Type 0
-  GetStep names name old answer new =
-      (left : Option (Tenant K V)) × Gets names (tenant name old) answer left × Leaves name left old new
+  -- a get by what names a key gives its value, and its pair becomes the newest
+  abbrev pub Gets : (K → Bool) → Option (Tenant K V) → Result (Option V) TenantError → Option (Tenant K V) → Type 0
+  Gets names None answer new = (answer ≡ Err NotOpen) × (new ≡ None)
+  Gets names (Some map) answer new = (answer ≡ Ok (lookup names map.pairs)) × (new ≡ Some (promoted names map))
+
+  -- the cost is that of its limiter
+  abbrev pub Costs : Option (Tenant K V) → Result ℕ TenantError → Option (Tenant K V) → Type 0
+  Costs None answer new = (answer ≡ Err NotOpen) × (new ≡ None)
+  Costs (Some map) answer new = (answer ≡ Ok map.limiter.cost) × (new ≡ Some map)
+
+  -- one that is open closes, and so many pairs are dropped
+  abbrev pub Closes : Option (Tenant K V) → Result ℕ TenantError → Option (Tenant K V) → Type 0
+  Closes None answer new = (answer ≡ Err NotOpen) × (new ≡ None)
+  Closes (Some map) answer new = (answer ≡ Ok (length map.pairs)) × (new ≡ None)
+
+  -- a put inserts into its map, whose budget stays
+  module _ (eq : K → K → Bool) (cost : V → ℕ) (hash_of : Mixer → K → ℕ) (key : K) (value : V) where
+    pub record PutsInto (old : Tenant K V) (answer : Result Bool TenantError) (left : Tenant K V) : Type 0 where
+      pub result : Result Bool AllocError
+      pub inserts : Insert (by_cost cost) (charges cost) eq hash_of key value old result left
+      pub budget : left.limiter.limit ≡ old.limiter.limit
+      pub said : answer ≡ put_answer result
+
+    abbrev pub Puts : Option (Tenant K V) → Result Bool TenantError → Option (Tenant K V) → Type 0
+    Puts None answer new = (answer ≡ Err NotOpen) × (new ≡ None)
+    Puts (Some map) answer new = (left : Tenant K V) × PutsInto map answer left × (new ≡ Some left)
+
+  -- what a call does to the tenant of a name it does to the cache, in which the others stay
+  abbrev pub On : {R : Type 0} → ℕ → (Option (Tenant K V) → R → Option (Tenant K V) → Type 0)
+      → Cache K V → R → Cache K V → Type 0
+  On name Does old answer new = (left : Option (Tenant K V)) × Does (tenant name old) answer left × Leaves name left old new
 
 module _ {K V : Type 0} (eq : K → K → Bool) (cost : V → ℕ) (hash_of : Mixer → K → ℕ)
     (fresh : ℕ → Tenant K V) where
-  -- the call may answer this and leave the tenant that it names so; `None` is a tenant that is not open
-  abbrev pub TenantStep : Option (Tenant K V) → TenantCall K V → TenantAnswer V → Option (Tenant K V) → Type 0
-  TenantStep None (calls.Open name budget) answer new =
-      ((answer ≡ answers.Opened (Ok tt)) × (new ≡ Some (fresh budget)))
-      ⊎ ((answer ≡ answers.Opened (Err Memory)) × (new ≡ None))
-  TenantStep (Some map) (calls.Open name budget) answer new =
-      (answer ≡ answers.Opened (Err AlreadyOpen)) × (new ≡ Some map)
-  TenantStep (Some map) (calls.Put name key value) answer new = (result : Result Bool TenantError)
-      × (left : Tenant K V) × Puts eq cost hash_of key value map result left
-      × (answer ≡ answers.Put result) × (new ≡ Some left)
-  TenantStep (Some map) (calls.Get name key) answer new = (result : Result (Option V) TenantError)
-      × Gets (eq key) (Some map) result new × (answer ≡ answers.Got result)
-  TenantStep (Some map) (calls.Cost name) answer new =
-      (answer ≡ answers.Cost (Ok map.limiter.cost)) × (new ≡ Some map)
-  TenantStep (Some map) (calls.Close name) answer new =
-      (answer ≡ answers.Closed (Ok (length map.pairs))) × (new ≡ None)
-  TenantStep None (calls.Put name key value) answer new = (answer ≡ answers.Put (Err NotOpen)) × (new ≡ None)
-  TenantStep None (calls.Get name key) answer new = (result : Result (Option V) TenantError)
-      × Gets (eq key) None result new × (answer ≡ answers.Got result)
-  TenantStep None (calls.Cost name) answer new = (answer ≡ answers.Cost (Err NotOpen)) × (new ≡ None)
-  TenantStep None (calls.Close name) answer new = (answer ≡ answers.Closed (Err NotOpen)) × (new ≡ None)
+  -- the call may answer this and leave the tenant that it names so
+  abbrev pub TenantStep : TenantCall K V → Option (Tenant K V) → TenantAnswer V → Option (Tenant K V) → Type 0
+  TenantStep (calls.Open name budget) old answer new = (result : Result (Unit {0}) TenantError)
+      × Opens (fresh budget) old result new × (answer ≡ answers.Opened result)
+  TenantStep (calls.Put name key value) old answer new = (result : Result Bool TenantError)
+      × Puts eq cost hash_of key value old result new × (answer ≡ answers.Put result)
+  TenantStep (calls.Get name key) old answer new = (result : Result (Option V) TenantError)
+      × Gets (eq key) old result new × (answer ≡ answers.Got result)
+  TenantStep (calls.Cost name) old answer new = (result : Result ℕ TenantError)
+      × Costs old result new × (answer ≡ answers.Cost result)
+  TenantStep (calls.Close name) old answer new = (result : Result ℕ TenantError)
+      × Closes old result new × (answer ≡ answers.Closed result)
 
   -- The calls that name the tenant, and their answers, take it from old to new. Calls of others leave it as it is.
   abbrev pub IsOwnRun : ℕ → Option (Tenant K V) → List (TenantCall K V) → List (TenantAnswer V)
       → Option (Tenant K V) → Type 0
   IsOwnRun name old [] [] new = new ≡ old
   IsOwnRun name old (call ∷ calls) (answer ∷ answers) new =
-      ((named call ≡ name) × ((mid : Option (Tenant K V)) × TenantStep old call answer mid
+      ((named call ≡ name) × ((mid : Option (Tenant K V)) × TenantStep call old answer mid
       × IfSome mid (IsTenant eq cost) × IsOwnRun name mid calls answers new))
       ⊎ ((named call ≡ name → ⊥) × IsOwnRun name old calls answers new)
   IsOwnRun name old [] (answer ∷ answers) new = ⊥
   IsOwnRun name old (call ∷ calls) [] new = ⊥
-
-  -- What a call on a cache answers and leaves: a step of the tenant that it names, and no other changes.
-  abbrev pub CacheStep : Cache K V → TenantCall K V → TenantAnswer V → Cache K V → Type 0
-  CacheStep old call answer new = (left : Option (Tenant K V))
-      × TenantStep (tenant (named call) old) call answer left × Leaves (named call) left old new

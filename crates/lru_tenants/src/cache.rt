@@ -1,14 +1,12 @@
 //! `TenantCache`. A clause sees a cache as its open tenants, each with its map.
-ghost use Rattle.std.specs.Prelude.{◌≡◌, [], Option};
+ghost use Rattle.std.specs.Prelude.{◌≡◌, [], length, Option};
 ghost use Rattle.std.specs.Borrow.{sem};
 ghost use Rattle.lru_limits.specs.Budget.{by_cost, charges};
 ghost use Rattle.lru_limits.specs.Mixing.{seeded};
 ghost use Rattle.schnellru.specs.Inserts.{Insert};
 ghost use Rattle.lru_tenants.specs.Cache.{Tenant, tenant, fresh, IsTenant, AreTenants};
-ghost use Rattle.lru_tenants.specs.TenantRuns.{hash_of, put_answer, Gets, GetStep, CacheStep};
+ghost use Rattle.lru_tenants.specs.TenantRuns.{hash_of, put_answer, Opens, Puts, Gets, Costs, Closes, On};
 ghost use Rattle.lru_tenants.specs.Lending.{read};
-ghost use Rattle.lru_tenants.specs.declared.call.TenantAnswer.TheVariants as answers;
-ghost use Rattle.lru_tenants.specs.declared.call.TenantCall.TheVariants as calls;
 
 use schnellru::{ByCost, Costed, LookupKey, LruMap, RandomState, laws};
 use std::alloc::{AllocError, Global};
@@ -95,7 +93,7 @@ impl<K: Eq + Hash, V: Costed> TenantCache<K, V> {
         key: &Q,
     ) -> Result<Option<&V>, TenantError>
         ensures* leaves { sem 𝓛 (ends_so K.row V.row K.Hash V.Costed self.entry
-            (λ new. GetStep (Q.names key.now) name self.old (read result) new)) }
+            (On name (Gets (Q.names key.now)) self.old (read result))) }
         ensures value { (left : Option (Tenant K V)) × Gets (Q.names key.now) (tenant name self.old) (read result) left }
     {
         let Some(map) = self.tenants.get_mut(&name) else {
@@ -107,6 +105,16 @@ impl<K: Eq + Hash, V: Costed> TenantCache<K, V> {
         }
     }
 
+    /// How many tenants are open.
+    ///
+    /// Cost: `O(1)`.
+    pub fn len(&self) -> usize
+        ensures len { result ≡ length self.now.tenants }
+        ensures tenants { AreTenants K.eq V.cost self.now }
+    {
+        self.tenants.len()
+    }
+
     /// The sum of the costs of a tenant's values.
     ///
     /// Cost: `O(1)` expected.
@@ -115,8 +123,8 @@ impl<K: Eq + Hash, V: Costed> TenantCache<K, V> {
     ///
     /// `NotOpen`.
     pub fn cost(&self, name: u64) -> Result<u64, TenantError>
-        ensures { CacheStep K.eq V.cost (hash_of K.hash_input) (fresh self.now)
-            self.now (calls.Cost name) (answers.Cost result) self.now }
+        ensures costs { On name Costs self.now result self.now }
+        ensures tenants { AreTenants K.eq V.cost self.now }
     {
         let Some(map) = self.tenants.get(&name) else {
             return Err(TenantError::NotOpen);
@@ -139,8 +147,7 @@ impl<K: Eq + Hash + Drop, V: Costed + Drop> TenantCache<K, V> {
     ///
     /// `AlreadyOpen`, or `Memory`: none was found for one tenant more. Both change nothing.
     pub fn open(&mut self, name: u64, budget: u64) -> Result<(), TenantError>
-        ensures step { CacheStep K.eq V.cost (hash_of K.hash_input) (fresh self.old)
-            self.old (calls.Open name budget) (answers.Opened result) self.new }
+        ensures opens { On name (Opens (fresh self.old budget)) self.old result self.new }
         ensures tenants { AreTenants K.eq V.cost self.new }
     {
         laws::runs_begin_with_maps::<K, V, ByCost, RandomState>();
@@ -170,8 +177,7 @@ impl<K: Eq + Hash + Drop, V: Costed + Drop> TenantCache<K, V> {
     ///
     /// `NotOpen`: nothing has changed. `Memory`: none was found for the pair; the newest of the tenant's pairs are left.
     pub fn put(&mut self, name: u64, key: K, value: V) -> Result<bool, TenantError>
-        ensures step { CacheStep K.eq V.cost (hash_of K.hash_input) (fresh self.old)
-            self.old (calls.Put name key value) (answers.Put result) self.new }
+        ensures puts { On name (Puts K.eq V.cost (hash_of K.hash_input) key value) self.old result self.new }
         ensures tenants { AreTenants K.eq V.cost self.new }
     {
         let Some(map) = self.tenants.get_mut(&name) else {
@@ -188,8 +194,7 @@ impl<K: Eq + Hash + Drop, V: Costed + Drop> TenantCache<K, V> {
     ///
     /// `NotOpen`: nothing has changed.
     pub fn close(&mut self, name: u64) -> Result<usize, TenantError>
-        ensures step { CacheStep K.eq V.cost (hash_of K.hash_input) (fresh self.old)
-            self.old (calls.Close name) (answers.Closed result) self.new }
+        ensures closes { On name Closes self.old result self.new }
         ensures tenants { AreTenants K.eq V.cost self.new }
     {
         let Some(map) = self.tenants.remove(&name) else {

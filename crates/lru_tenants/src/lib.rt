@@ -6,7 +6,8 @@
 
 mod cache;
 mod call;
+mod runs;
 
 pub use cache::{TenantCache, TenantError};
 pub use call::{TenantAnswer, TenantCall};
-
+pub use runs::run_tenants;

@@ -11,7 +11,7 @@ use Rattle.lru_tenants.specs.declared.call.TenantAnswer.TheVariants as answers
 use Rattle.lru_tenants.specs.declared.call.TenantCall.TheVariants as calls
 use Rattle.lru_tenants.proofs.Gets.{promoted_is_tenant, gets-open}
 use Rattle.schnellru.specs.Lists.{lookup}
-use Rattle.lru_tenants.proofs.Changes.{step-same, step-from, leaves-updated, open-again}
+use Rattle.lru_tenants.proofs.Changes.{leaves-updated}
 use Rattle.lru_tenants.proofs.cache.TenantCache.get.Goals as goal
 
 pub invariant_of-self-in-Some-get : goal.invariant_of-self-in-Some-get

@@ -5,22 +5,19 @@ use Rattle.std.specs.Option.{option_copied}
 use Rattle.schnellru.specs.State.{empty_map}
 use Rattle.lru_limits.specs.Mixing.{seeded}
 use Rattle.lru_tenants.specs.Cache.{Cache, Tenant, tenant, fresh, IsTenant}
-use Rattle.lru_tenants.specs.TenantRuns.{hash_of, Puts, CacheStep}
+use Rattle.lru_tenants.specs.TenantRuns.{hash_of, put_answer, Opens, Puts, Gets, Costs, Closes}
 use Rattle.lru_tenants.specs.declared.cache.TenantError.TheVariants.{NotOpen, AlreadyOpen, Memory}
-use Rattle.lru_tenants.specs.declared.call.TenantAnswer.TheVariants as answers
-use Rattle.lru_tenants.specs.declared.call.TenantCall.TheVariants as calls
-use Rattle.lru_tenants.proofs.Changes.{step-same, step-from, leaves-updated, open-again, absent-from, fresh-tenant}
+use Rattle.lru_tenants.proofs.Changes.{on-same, on-from, leaves-updated, open-again, absent-from, fresh-tenant}
 use Rattle.lru_tenants.proofs.cache.TenantCache.open.Goals as goal
 
-pub returns-then-contains_key-clause-step : goal.returns-then-contains_key-clause-step
-returns-then-contains_key-clause-step g c =
+pub returns-then-contains_key-clause-opens : goal.returns-then-contains_key-clause-opens
+returns-then-contains_key-clause-opens g c =
     let cache : Cache g.row.K.Denot g.row.V.Denot = record {
       tenants = c.self.inside.tenants.entries;
       hasher = seeded c.self.inside.seed;
       entry_bytes = c.self.inside.entry_bytes;
     } in
-    rw (← c.self.view_is) (open-again g.K.PartialEq.eq g.V.Costed.cost (hash_of g.K.Hash.hash_input) (fresh cache)
-    c.args.name c.args.budget cache (sym c.contains_key.ensures ∙ c.if-contains_key.true))
+    rw (← c.self.view_is) (open-again c.args.name (fresh cache c.args.budget) cache (sym c.contains_key.ensures ∙ c.if-contains_key.true))
 
 pub invariant_of-self : goal.invariant_of-self
 invariant_of-self g c =
@@ -38,8 +35,8 @@ invariant_of-self g c =
     All-values-PutsEntry nat_eq P c.self.inside.tenants c.insert.new.self c.args.name c.new-map.result c.in-Ok.field-0
     c.in-Ok.ensures.entries c.self.invariant new
 
-pub returns-in-Ok-clause-step : goal.returns-in-Ok-clause-step
-returns-in-Ok-clause-step g c =
+pub returns-in-Ok-clause-opens : goal.returns-in-Ok-clause-opens
+returns-in-Ok-clause-opens g c =
     let cache : Cache g.row.K.Denot g.row.V.Denot = record {
       tenants = c.self.inside.tenants.entries;
       hasher = seeded c.self.inside.seed;
@@ -47,8 +44,7 @@ returns-in-Ok-clause-step g c =
     } in
     let is : c.new-map.result ≡ fresh cache c.args.budget = c.new-map.ensures ∙ ap (λ l. empty_map l cache.hasher
         cache.entry_bytes (2 ^ 64 - 1)) c.new.ensures in
-    rw (← c.self.view_is) (step-from g.K.PartialEq.eq g.V.Costed.cost (hash_of g.K.Hash.hash_input) (fresh cache)
-    (calls.Open c.args.name c.args.budget) (answers.Opened (Ok tt)) cache
+    rw (← c.self.view_is) (on-from c.args.name (Opens (fresh cache c.args.budget)) (Ok tt) cache
     (record cache { tenants = c.insert.new.self.entries }) None (Some c.new-map.result)
     (absent-from (tenant c.args.name cache) (sym c.contains_key.ensures ∙ c.if-contains_key.false))
     (inl (refl, ap Some is))
@@ -74,15 +70,14 @@ returns-in-Ok-clause-tenants g c =
 pub invariant_of-self-2 : goal.invariant_of-self-2
 invariant_of-self-2 g c = rw (c.in-Err.ensures.err) c.self.invariant
 
-pub returns-clause-step : goal.returns-clause-step
-returns-clause-step g c =
+pub returns-clause-opens : goal.returns-clause-opens
+returns-clause-opens g c =
     let cache : Cache g.row.K.Denot g.row.V.Denot = record {
       tenants = c.self.inside.tenants.entries;
       hasher = seeded c.self.inside.seed;
       entry_bytes = c.self.inside.entry_bytes;
     } in
-    rw (c.in-Err.ensures.err, ← c.self.view_is) (step-same g.K.PartialEq.eq g.V.Costed.cost
-    (hash_of g.K.Hash.hash_input) (fresh cache) (calls.Open c.args.name c.args.budget) (answers.Opened (Err Memory))
+    rw (c.in-Err.ensures.err, ← c.self.view_is) (on-same c.args.name (Opens (fresh cache c.args.budget)) (Err Memory)
     cache None c.in-Err.ensures.absent (inr (refl, refl)))
 
 pub returns-clause-tenants : goal.returns-clause-tenants

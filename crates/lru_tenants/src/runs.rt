@@ -1,0 +1,94 @@
+//! Lists of calls on a cache.
+ghost use Rattle.std.specs.Prelude.{◌≡◌, ℕ, IfOk};
+ghost use Rattle.std.specs.Result.{OnErr};
+ghost use Rattle.lru_tenants.specs.Cache.{tenant, fresh, AreTenants};
+ghost use Rattle.lru_tenants.specs.TenantRuns.{named, hash_of, Gets, On, TenantStep, IsOwnRun};
+
+use crate::cache::{TenantCache, TenantError};
+use crate::call::{TenantAnswer, TenantCall};
+use schnellru::Costed;
+use std::alloc::{AllocError, Global};
+use std::hash::Hash;
+
+/// Carries out the calls on the cache, one after another, and gives their answers, one a call.
+///
+/// The answers to a tenant are those of its own calls alone, whatever calls of others come between.
+///
+/// ```
+/// let calls = vec![in alloc; TenantCall::Open(1, 3), TenantCall::Put(1, 7, 1), TenantCall::Get(2, 7)]?;
+/// let answers = run_tenants(alloc, &mut cache, calls)?;
+/// assert!(rt; answers.get(1) == Some(&TenantAnswer::Put(Ok(true))));
+/// assert!(rt; answers.get(2) == Some(&TenantAnswer::Got(Err(TenantError::NotOpen))));
+/// ```
+///
+/// Cost: that of the calls, and one request for memory for the answers.
+///
+/// # Errors
+///
+/// `Err` says that there was no memory for the answers. No call was made then.
+pub fn run_tenants<K: Copy + Eq + Hash + Drop, V: Copy + Costed + Drop>(
+    alloc: Global,
+    cache: &mut TenantCache<K, V>,
+    calls: Vec<TenantCall<K, V>>,
+) -> Result<Vec<TenantAnswer<V>>, AllocError>
+    // Each tenant's own calls and answers are a run from what it was before, and its cost stays within its budget.
+    ensures own { IfOk result (λ answers. (name : ℕ) →
+        IsOwnRun K.eq V.cost (hash_of K.hash_input) (fresh cache.old) name (tenant name cache.old) calls.items
+        answers.items (tenant name cache.new)) }
+    ensures tenants { AreTenants K.eq V.cost cache.new }
+    ensures unmade { OnErr result (cache.new ≡ cache.old) }
+{
+    // Nothing at run time: it tells the proof what holds of the tenants.
+    let _len = cache.len();
+    let mut answers = Vec::with_capacity(alloc, calls.len())?;
+    for call in calls {
+        answers.push_reserved(carry_out(cache, call));
+    }
+    Ok(answers)
+}
+
+/// Carries out a call.
+fn carry_out<K: Copy + Eq + Hash + Drop, V: Copy + Costed + Drop>(
+    cache: &mut TenantCache<K, V>,
+    call: TenantCall<K, V>,
+) -> TenantAnswer<V>
+    ensures step { On (named call) (TenantStep K.eq V.cost (hash_of K.hash_input) (fresh cache.old) call) cache.old
+        result cache.new }
+    ensures tenants { AreTenants K.eq V.cost cache.new }
+{
+    let answer = answer_to(cache, call);
+    // Nothing at run time: it tells the proof what holds of the tenants.
+    let _len = cache.len();
+    answer
+}
+
+/// The answer to a call.
+fn answer_to<K: Copy + Eq + Hash + Drop, V: Copy + Costed + Drop>(
+    cache: &mut TenantCache<K, V>,
+    call: TenantCall<K, V>,
+) -> TenantAnswer<V>
+    ensures { On (named call) (TenantStep K.eq V.cost (hash_of K.hash_input) (fresh cache.old) call) cache.old
+        result cache.new }
+{
+    match call {
+        TenantCall::Open(name, budget) => TenantAnswer::Opened(cache.open(name, budget)),
+        TenantCall::Put(name, key, value) => TenantAnswer::Put(cache.put(name, key, value)),
+        TenantCall::Get(name, key) => TenantAnswer::Got(get(cache, name, &key)),
+        TenantCall::Cost(name) => TenantAnswer::Cost(cache.cost(name)),
+        TenantCall::Close(name) => TenantAnswer::Closed(cache.close(name)),
+    }
+}
+
+/// A tenant's value of a key, whose pair becomes the newest.
+fn get<K: Eq + Hash, V: Copy + Costed>(
+    cache: &mut TenantCache<K, V>,
+    name: u64,
+    key: &K,
+) -> Result<Option<V>, TenantError>
+    ensures { On name (Gets (K.eq key.now)) cache.old result cache.new }
+{
+    match cache.get(name, key) {
+        Ok(value) => Ok(value.copied()),
+        Err(error) => Err(error),
+    }
+}
