@@ -1,10 +1,12 @@
 -- A run of calls on a cache is a run of each tenant.
 use Rattle.std.proofs.Common.{◌≡◌, ℕ, Bool, true, false, cond, nat_eq, List, [], ◌∷◌, ◌++◌, Option, Some, None, refl, sym, ap, ◌∙◌}
-use Rattle.std.proofs.Common.{subst, inl, inr, ◌⊎◌}
+use Rattle.std.proofs.Common.{◌^◌, ◌-◌, length, arith, subst, inl, inr, ◌⊎◌}
 use Rattle.std.specs.Prelude.{IfSome}
+use Rattle.std.proofs.lemmas.Map.Views.{IfSome-lookup_from_All}
+use Rattle.schnellru.specs.State.{empty_map}
 use Rattle.std.proofs.lemmas.Bool.{eqb-true, eq-eqb, true≢false}
 use Rattle.lru_limits.specs.Mixing.{Mixer}
-use Rattle.lru_tenants.specs.Cache.{Cache, Tenant, tenant, Leaves, IsTenant}
+use Rattle.lru_tenants.specs.Cache.{Cache, Tenant, tenant, fresh, Leaves, IsTenant, AreTenants}
 use Rattle.lru_tenants.specs.TenantRuns.{named, TenantStep, On, IsOwnRun}
 use Rattle.lru_tenants.specs.declared.call.TenantAnswer.{TenantAnswer}
 use Rattle.lru_tenants.specs.declared.call.TenantCall.{TenantCall}
@@ -22,8 +24,8 @@ module _ {K V : Type 0} (eq : K → K → Bool) (cost : V → ℕ) (hash_of : Mi
   own-append old [] [] mid more others new same rest = subst (λ t. Own t more others new) same rest
   own-append old [] (answer ∷ answers) mid more others new none rest = absurd none
   own-append old (call ∷ calls) [] mid more others new none rest = absurd none
-  own-append old (call ∷ calls) (answer ∷ answers) mid more others new (inl (is, next, step, holds, run)) rest =
-      inl (is, next, step, holds, own-append next calls answers mid more others new run rest)
+  own-append old (call ∷ calls) (answer ∷ answers) mid more others new (inl (is, (next, step, holds, run))) rest =
+      inl (is, (next, step, holds, own-append next calls answers mid more others new run rest))
   own-append old (call ∷ calls) (answer ∷ answers) mid more others new (inr (other, run)) rest =
       inr (other, own-append old calls answers mid more others new run rest)
 
@@ -37,6 +39,26 @@ module _ {K V : Type 0} (eq : K → K → Bool) (cost : V → ℕ) (hash_of : Mi
           → Own (tenant name old) (call ∷ []) (answer ∷ []) (tenant name new)
       go true e now =
           let same = eqb-true (named call) name e in
-          inl (same, left, subst (λ n. TenantStep eq cost hash_of fresh call (tenant n old) answer left) same step,
-          subst (λ t. IfSome t (IsTenant eq cost)) now holds, now)
+          inl (same, (left, subst (λ n. TenantStep eq cost hash_of fresh call (tenant n old) answer left) same step,
+          subst (λ t. IfSome t (IsTenant eq cost)) now holds, now))
       go false e now = inr (λ same. true≢false (sym (eq-eqb (named call) name same) ∙ e), now)
+
+  -- and so a run of calls on the cache, with one more, is a run of the tenant
+  pub own-push : (first old new : Cache K V) (calls : List (TenantCall K V)) (answers : List (TenantAnswer V))
+      (call : TenantCall K V) (answer : TenantAnswer V) → Own (tenant name first) calls answers (tenant name old)
+      → On (named call) (TenantStep eq cost hash_of fresh call) old answer new → AreTenants eq cost new
+      → Own (tenant name first) (calls ++ call ∷ []) (answers ++ answer ∷ []) (tenant name new)
+  own-push first old new calls answers call answer run step all =
+      own-append (tenant name first) calls answers (tenant name old) (call ∷ []) (answer ∷ []) (tenant name new) run
+      (own-step old new call answer step
+      (IfSome-lookup_from_All (IsTenant eq cost) (nat_eq name) new.tenants all))
+
+-- caches whose hasher and bytes are the same open tenants with the same maps
+pub fresh-same : {K V : Type 0} (old new : Cache K V) → new.hasher ≡ old.hasher → new.entry_bytes ≡ old.entry_bytes
+    → fresh new ≡ fresh old
+fresh-same old new hasher bytes = λ i budget.
+    empty_map (record { limit = budget; cost = 0 }) (hasher i) (bytes i) (2 ^ 64 - 1)
+
+pub empty : {X : Type 0} (xs : List X) → length xs ≡ 0 → xs ≡ []
+empty [] e = refl
+empty (x ∷ xs) e = absurd (omega (arith, e))
