@@ -1,15 +1,15 @@
 -- What a call leaves of the tenant that it names is what it leaves of the cache.
-use Rattle.std.proofs.Common.{◌≡◌, ℕ, Bool, true, false, cond, nat_eq, Option, Some, None, is_some, Err, arith, sym, ap, refl}
+use Rattle.std.proofs.Common.{◌≡◌, ℕ, Bool, true, false, cond, nat_eq, List, Option, Some, None, is_some, Err, sym, ap, refl}
 use Rattle.std.proofs.Common.{subst}
 use Rattle.std.proofs.lemmas.Bool.{eqb-true, true≢false}
-use Rattle.std.specs.HashMap.{HashMap, UpdatesBy, values}
+use Rattle.std.specs.HashMap.{HashMap, UpdatesBy, values, get_by}
 use Rattle.std.specs.List.{All}
 use Rattle.std.specs.List.Sorted.{IsPermutation}
 use Rattle.std.specs.Map.{remove_entry}
-use Rattle.std.proofs.lemmas.Map.Views.{All-map-remove_entry, All-map-IsPermutation}
-use Rattle.schnellru.specs.State.{IsMap}
-use Rattle.lru_limits.specs.Mixing.{Mixer}
-use Rattle.lru_tenants.specs.Cache.{Cache, Tenant, tenant, fresh, Leaves, IsTenant}
+use Rattle.std.proofs.lemmas.Map.Views.{All-map-remove_entry, All-map-IsPermutation, IfSome-lookup_from_All}
+use Rattle.std.specs.Prelude.{IfSome}
+use Rattle.lru_limits.specs.Mixing.{seeded}
+use Rattle.lru_tenants.specs.Cache.{Cache, Tenant, tenant, Leaves}
 use Rattle.lru_tenants.specs.TenantRuns.{Opens, On}
 use Rattle.lru_tenants.specs.declared.cache.TenantError.TheVariants.{AlreadyOpen}
 
@@ -18,6 +18,11 @@ absent-from None absent = refl
 absent-from (Some x) absent = absurd (true≢false absent)
 
 module _ {K V : Type 0} where
+  -- the cache of these tenants
+  abbrev pub cache_of : {S : Type 0} → HashMap ℕ (Tenant K V) S → List ℕ → ℕ → Cache K V
+  cache_of tenants seed entry_bytes =
+      record { tenants = tenants.entries; hasher = seeded seed; entry_bytes = entry_bytes }
+
   -- a cache that stays leaves the tenant as it is
   pub leaves-same : (name : ℕ) (cache : Cache K V) → Leaves name (tenant name cache) cache cache
   leaves-same name cache = record {
@@ -32,27 +37,21 @@ module _ {K V : Type 0} where
       same other false e = refl
 
   -- so it does where the table of tenants has another map at its name, or none
-  pub leaves-updated : {S : Type 0} (name : ℕ) (left : Option (Tenant K V)) (hasher : Mixer) (entry_bytes : ℕ)
+  pub leaves-updated : {S : Type 0} (name : ℕ) (left : Option (Tenant K V)) (seed : List ℕ) (entry_bytes : ℕ)
       (old new : HashMap ℕ (Tenant K V) S) → UpdatesBy nat_eq (nat_eq name) old new left
-      → Leaves name left (record { tenants = old.entries; hasher = hasher; entry_bytes = entry_bytes })
-      (record { tenants = new.entries; hasher = hasher; entry_bytes = entry_bytes })
-  leaves-updated name left hasher entry_bytes old new updates =
+      → Leaves name left (cache_of old seed entry_bytes) (cache_of new seed entry_bytes)
+  leaves-updated name left seed entry_bytes old new updates =
       record { tenants = updates.0; hasher = refl; entry_bytes = refl }
 
--- what holds of each map holds of each after a removal, and after an insertion of one of which it holds
+-- what holds of each value holds of each after a removal
 module _ {K X S : Type 0} (P : X → Type 0) where
   pub kept-removed : (test : K → Bool) (old new : HashMap K X S) → All P (values old)
       → IsPermutation (remove_entry test old.entries) new.entries → All P (values new)
   kept-removed test old new all is = All-map-IsPermutation (λ e. e.1) P (remove_entry test old.entries) new.entries is
       (All-map-remove_entry test (λ e. e.1) P old.entries all)
 
-module _ {K V : Type 0} (eq : K → K → Bool) (cost : V → ℕ) where
-  -- a tenant that opens is one
-  pub fresh-tenant : (cache : Cache K V) (budget : ℕ) → IsMap eq (fresh cache budget)
-      → IsTenant eq cost (fresh cache budget)
-  fresh-tenant cache budget map = record { map = map; sum = refl; within = omega arith }
-
-module _ {K V R : Type 0} (name : ℕ) (Does : Option (Tenant K V) → R → Option (Tenant K V) → Type 0) (answer : R) where
+module _ {K V R : Type 0} (name : ℕ) (Does : Option (Tenant K V) → R → Option (Tenant K V) → Type 0)
+    (answer : R) where
   -- what is done to the tenant is done to the cache, by what the tenant is before
   pub on-from : (old new : Cache K V) (was left : Option (Tenant K V)) → tenant name old ≡ was → Does was answer left
       → Leaves name left old new → On name Does old answer new
@@ -73,3 +72,8 @@ open-again {K} {V} name fresh cache there = go (tenant name cache) refl there
         → On name (Opens fresh) cache (Err AlreadyOpen) cache
     go (Some map) is found = on-same name (Opens fresh) (Err AlreadyOpen) cache (Some map) is (refl, refl)
     go None is found = absurd (true≢false (sym found))
+
+-- what holds of each value of a table holds of the one that is found
+pub found-all : {K X S : Type 0} (P : X → Type 0) (test : K → Bool) (map : HashMap K X S) (x : X)
+    → get_by test map ≡ Some x → All P (values map) → P x
+found-all P test map x found all = subst (λ o. IfSome o P) found (IfSome-lookup_from_All P test map.entries all)

@@ -1,10 +1,9 @@
 -- A get keeps what holds of a tenant's map.
-use Rattle.std.proofs.Common.{◌≡◌, ◌∙◌, ℕ, Bool, List, Some, None, Option, Result, Ok, sym, ap, subst}
+use Rattle.std.proofs.Common.{◌≡◌, ℕ, Bool, List, Some, Option, Ok, sym, ap, subst}
 use Rattle.lru_limits.specs.Laws.{IsLookup}
 use Rattle.schnellru.specs.Calls.{promoted}
-use Rattle.schnellru.specs.Lists.{front, lookup}
-use Rattle.schnellru.proofs.CallerLemmas.{promoted_is_map}
-use Rattle.schnellru.proofs.Theorems.Sums.{total-is, total-front}
+use Rattle.schnellru.specs.Lists.{lookup}
+use Rattle.schnellru.proofs.CallerLemmas.{promoted_is_map, promoted-summed}
 use Rattle.lru_tenants.specs.Cache.{Tenant, IsTenant}
 use Rattle.lru_tenants.specs.TenantRuns.{Gets}
 
@@ -14,8 +13,7 @@ module _ {K V Q : Type 0} {names : Q → K → Bool} {eq : K → K → Bool} {qu
   pub promoted_is_tenant : (map : Tenant K V) → IsTenant eq cost map → IsTenant eq cost (promoted (names q) map)
   promoted_is_tenant map is = record {
     map = promoted_is_map looks_up q map is.map;
-    sum = is.sum ∙ sym (total-is (λ p. cost p.1) map.pairs) ∙ sym (total-front (λ p. cost p.1) (names q) map.pairs)
-        ∙ total-is (λ p. cost p.1) (front (names q) map.pairs);
+    sum = promoted-summed (names q) map (λ k v. cost v) (λ b. b.cost) is.sum;
     within = is.within;
   }
 

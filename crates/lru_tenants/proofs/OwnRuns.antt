@@ -1,12 +1,12 @@
 -- A run of calls on a cache is a run of each tenant.
-use Rattle.std.proofs.Common.{◌≡◌, ℕ, Bool, true, false, cond, nat_eq, List, [], ◌∷◌, ◌++◌, Option, Some, None, refl, sym, ap, ◌∙◌}
-use Rattle.std.proofs.Common.{◌^◌, ◌-◌, length, arith, subst, inl, inr, ◌⊎◌}
+use Rattle.std.proofs.Common.{◌≡◌, ℕ, Bool, true, false, cond, nat_eq, List, [], ◌∷◌, ◌++◌, Option, refl, sym, ◌∙◌}
+use Rattle.std.proofs.Common.{◌^◌, ◌-◌, length, arith, subst, inl, inr}
 use Rattle.std.specs.Prelude.{IfSome}
 use Rattle.std.proofs.lemmas.Map.Views.{IfSome-lookup_from_All}
 use Rattle.schnellru.specs.State.{empty_map}
 use Rattle.std.proofs.lemmas.Bool.{eqb-true, eq-eqb, true≢false}
 use Rattle.lru_limits.specs.Mixing.{Mixer}
-use Rattle.lru_tenants.specs.Cache.{Cache, Tenant, tenant, fresh, Leaves, IsTenant, AreTenants}
+use Rattle.lru_tenants.specs.Cache.{Cache, Tenant, tenant, fresh, IsTenant, AreTenants}
 use Rattle.lru_tenants.specs.TenantRuns.{named, TenantStep, On, IsOwnRun}
 use Rattle.lru_tenants.specs.declared.call.TenantAnswer.{TenantAnswer}
 use Rattle.lru_tenants.specs.declared.call.TenantCall.{TenantCall}
@@ -39,8 +39,15 @@ module _ {K V : Type 0} (eq : K → K → Bool) (cost : V → ℕ) (hash_of : Mi
           → Own (tenant name old) (call ∷ []) (answer ∷ []) (tenant name new)
       go true e now =
           let same = eqb-true (named call) name e in
-          inl (same, (left, subst (λ n. TenantStep eq cost hash_of fresh call (tenant n old) answer left) same step,
-          subst (λ t. IfSome t (IsTenant eq cost)) now holds, now))
+          inl (
+            same,
+            (
+              left,
+              subst (λ n. TenantStep eq cost hash_of fresh call (tenant n old) answer left) same step,
+              subst (λ t. IfSome t (IsTenant eq cost)) now holds,
+              now,
+            ),
+          )
       go false e now = inr (λ same. true≢false (sym (eq-eqb (named call) name same) ∙ e), now)
 
   -- and so a run of calls on the cache, with one more, is a run of the tenant

@@ -1,7 +1,8 @@
 -- What a call does to the tenant that it names, and what a run of calls does to each tenant.
 --     fresh budget        the empty map with which a tenant opens
 --     hash_of h k         the hash of the key k, by the hasher h
-use Rattle.std.specs.Prelude.{◌≡◌, ◌⊎◌, ℕ, Bool, List, [], ◌∷◌, fold, length, Option, Some, None, IfSome, Result, Ok, Err}
+use Rattle.std.specs.Prelude.{◌≡◌, ◌⊎◌, ℕ, Bool, List, [], ◌∷◌, fold, length, Option, Some, None, option_map, IfSome}
+use Rattle.std.specs.Prelude.{Result, Ok, Err}
 use Rattle.std.specs.declared.alloc.AllocError.{AllocError}
 use Rattle.lru_limits.specs.Budget.{by_cost, charges}
 use Rattle.lru_limits.specs.Mixing.{Mixer, written, closed}
@@ -41,10 +42,14 @@ module _ {K V : Type 0} where
   Opens fresh None answer new = ((answer ≡ Ok tt) × (new ≡ Some fresh)) ⊎ ((answer ≡ Err Memory) × (new ≡ None))
   Opens fresh (Some map) answer new = (answer ≡ Err AlreadyOpen) × (new ≡ Some map)
 
-  -- a get by what names a key gives its value, and its pair becomes the newest
+  -- what a get by what names a key answers
+  abbrev pub got : (K → Bool) → Option (Tenant K V) → Result (Option V) TenantError
+  got names None = Err NotOpen
+  got names (Some map) = Ok (lookup names map.pairs)
+
+  -- its pair becomes the newest
   abbrev pub Gets : (K → Bool) → Option (Tenant K V) → Result (Option V) TenantError → Option (Tenant K V) → Type 0
-  Gets names None answer new = (answer ≡ Err NotOpen) × (new ≡ None)
-  Gets names (Some map) answer new = (answer ≡ Ok (lookup names map.pairs)) × (new ≡ Some (promoted names map))
+  Gets names old answer new = (answer ≡ got names old) × (new ≡ option_map (promoted names) old)
 
   -- the cost is that of its limiter
   abbrev pub Costs : Option (Tenant K V) → Result ℕ TenantError → Option (Tenant K V) → Type 0

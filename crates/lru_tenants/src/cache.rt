@@ -1,11 +1,11 @@
 //! `TenantCache`. A clause sees a cache as its open tenants, each with its map.
-ghost use Rattle.std.specs.Prelude.{◌≡◌, [], length, Option};
+ghost use Rattle.std.specs.Prelude.{◌≡◌, [], length};
 ghost use Rattle.std.specs.Borrow.{sem};
 ghost use Rattle.lru_limits.specs.Budget.{by_cost, charges};
 ghost use Rattle.lru_limits.specs.Mixing.{seeded};
 ghost use Rattle.schnellru.specs.Inserts.{Insert};
-ghost use Rattle.lru_tenants.specs.Cache.{Tenant, tenant, fresh, IsTenant, AreTenants};
-ghost use Rattle.lru_tenants.specs.TenantRuns.{hash_of, put_answer, Opens, Puts, Gets, Costs, Closes, On};
+ghost use Rattle.lru_tenants.specs.Cache.{tenant, fresh, IsTenant, AreTenants};
+ghost use Rattle.lru_tenants.specs.TenantRuns.{hash_of, put_answer, Opens, Puts, got, Gets, Costs, Closes, On};
 ghost use Rattle.lru_tenants.specs.Lending.{read};
 
 use schnellru::{ByCost, Costed, LookupKey, LruMap, RandomState, laws};
@@ -66,6 +66,9 @@ impl<K: Eq + Hash, V: Costed> TenantCache<K, V> {
     ghost use Rattle.lru_tenants.specs.Lending.{ends_so};
 
     /// A cache without tenants.
+    ///
+    /// The words seed the hasher of all maps, and so many bytes are told to each as those of an entry, as to
+    /// `LruMap::new`. Where keys come from outside, take words that nobody can guess. Cost: `O(1)`, and no memory.
     pub fn new(alloc: Global, seed: [u64; 4], entry_bytes: usize) -> Self
         ensures { result ≡ record { tenants = []; hasher = seeded seed; entry_bytes = entry_bytes } }
     {
@@ -87,14 +90,10 @@ impl<K: Eq + Hash, V: Costed> TenantCache<K, V> {
     /// # Errors
     ///
     /// `NotOpen`: nothing has changed.
-    pub fn get<Q: LookupKey<K>>(
-        &mut self,
-        name: u64,
-        key: &Q,
-    ) -> Result<Option<&V>, TenantError>
+    pub fn get<Q: LookupKey<K>>(&mut self, name: u64, key: &Q) -> Result<Option<&V>, TenantError>
         ensures* leaves { sem 𝓛 (ends_so K.row V.row K.Hash V.Costed self.entry
             (On name (Gets (Q.names key.now)) self.old (read result))) }
-        ensures value { (left : Option (Tenant K V)) × Gets (Q.names key.now) (tenant name self.old) (read result) left }
+        ensures value { read result ≡ got (Q.names key.now) (tenant name self.old) }
     {
         let Some(map) = self.tenants.get_mut(&name) else {
             return Err(TenantError::NotOpen);
@@ -134,7 +133,7 @@ impl<K: Eq + Hash, V: Costed> TenantCache<K, V> {
 }
 
 impl<K: Eq + Hash + Drop, V: Costed + Drop> TenantCache<K, V> {
-    /// Opens a tenant, whose map is empty, with the greatest sum of costs that it may come to.
+    /// Opens a tenant, whose map is empty, with the greatest sum of costs that its values may come to.
     ///
     /// ```
     /// assert_eq!(rt; cache.open(1, 3), Ok(()));
@@ -150,20 +149,23 @@ impl<K: Eq + Hash + Drop, V: Costed + Drop> TenantCache<K, V> {
         ensures opens { On name (Opens (fresh self.old budget)) self.old result self.new }
         ensures tenants { AreTenants K.eq V.cost self.new }
     {
-        laws::runs_begin_with_maps::<K, V, ByCost, RandomState>();
         if self.tenants.contains_key(&name) {
             return Err(TenantError::AlreadyOpen);
         }
-        let map = LruMap::new(
-            self.alloc,
-            ByCost::new(budget),
-            self.seed,
-            self.entry_bytes,
-        );
+        let map = self.fresh(budget);
         match self.tenants.insert(name, map) {
             Ok(_) => Ok(()),
             Err(_) => Err(TenantError::Memory),
         }
+    }
+
+    // The map with which a tenant opens.
+    fn fresh(&self, budget: u64) -> LruMap<K, V, ByCost, RandomState>
+        ensures map { result ≡ fresh self.now budget }
+        ensures tenant { IsTenant K.eq V.cost result }
+    {
+        laws::runs_begin_with_maps::<K, V, ByCost, RandomState>();
+        LruMap::new(self.alloc, ByCost::new(budget), self.seed, self.entry_bytes)
     }
 
     /// Puts a value under a key, as the newest pair of the tenant, and answers whether the key is there then.
@@ -175,15 +177,16 @@ impl<K: Eq + Hash + Drop, V: Costed + Drop> TenantCache<K, V> {
     ///
     /// # Errors
     ///
-    /// `NotOpen`: nothing has changed. `Memory`: none was found for the pair; the newest of the tenant's pairs are left.
+    /// `NotOpen`: nothing has changed. `Memory`: none was found for the pair. The newest of the tenant's pairs
+    /// are left, as after an `Err` of `LruMap::insert`.
     pub fn put(&mut self, name: u64, key: K, value: V) -> Result<bool, TenantError>
         ensures puts { On name (Puts K.eq V.cost (hash_of K.hash_input) key value) self.old result self.new }
         ensures tenants { AreTenants K.eq V.cost self.new }
     {
-        let Some(map) = self.tenants.get_mut(&name) else {
+        let Some(own) = self.tenants.get_mut(&name) else {
             return Err(TenantError::NotOpen);
         };
-        put_answer(insert(map, key, value))
+        put_answer(insert(own, key, value))
     }
 
     /// Closes a tenant, whose pairs are dropped, and answers how many these were.
@@ -211,7 +214,8 @@ fn insert<K: Eq + Hash + Drop, V: Costed + Drop>(
     value: V,
 ) -> Result<bool, AllocError>
     requires { IsTenant K.eq V.cost map.old }
-    ensures inserts { Insert (by_cost V.cost) (charges V.cost) K.eq (hash_of K.hash_input) key value map.old result map.new }
+    ensures inserts { Insert (by_cost V.cost) (charges V.cost) K.eq (hash_of K.hash_input) key value
+        map.old result map.new }
     ensures budget { map.new.limiter.limit ≡ map.old.limiter.limit }
     ensures tenant { IsTenant K.eq V.cost map.new }
 {

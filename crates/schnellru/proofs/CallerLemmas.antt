@@ -1,5 +1,6 @@
 -- For who proves a caller of a map. The only lemmas of this crate that another crate cites.
 --     read_back            a get through which nothing is written brings the pair to the front, and no more
+--     promoted-summed      and keeps the sum of the costs
 --     promoted-absent      where nothing is found, nothing comes to the front
 --     written-absent       where nothing is found, a write changes nothing
 --     written-found        after a value was written through a get, a look-up finds it
@@ -34,10 +35,11 @@ use Rattle.schnellru.specs.Lists.{first, without_first, lookup, lookup_entry, wi
 use Rattle.schnellru.specs.Lists.{place_of, other_places, front_places}
 use Rattle.schnellru.specs.State.{State}
 use Rattle.schnellru.specs.Calls.{promoted, written}
-use Rattle.schnellru.specs.Theorems.{SaysWhether, Stores, KeepsValues, GivesUp, behind, with_none, without_one}
+use Rattle.schnellru.specs.Theorems.{SaysWhether, Stores, KeepsValues, IsSummed, GivesUp, behind, with_none, without_one}
 use Rattle.schnellru.proofs.Theorems.Fronts.{found_named, without_none}
 use Rattle.schnellru.proofs.PairLists.NamedPairs.{lookup-entry}
 use Rattle.schnellru.proofs.Theorems.InsertAnswers.{insert_found}
+use Rattle.schnellru.proofs.Theorems.Sums.{total-is, total-front}
 
 module _ {K V : Type 0} (names : K → Bool) where
   lookup-front : (xs : List (K × V)) → lookup names (front names xs) ≡ lookup names xs
@@ -181,6 +183,13 @@ module _ {K V S H : Type 0} (names : K → Bool) (st : State K V S H) where
       → written names value (promoted names st) ≡ promoted names st
   read_back value found = ap (λ pairs. record (promoted names st) { pairs = pairs })
       (set_value_same names (front names st.pairs) value (lookup-front names st.pairs ∙ found))
+
+  -- the sum of the costs stays
+  pub promoted-summed : (cost : K → V → ℕ) (account : S → ℕ) → IsSummed cost account st
+      → IsSummed cost account (promoted names st)
+  promoted-summed cost account summed =
+      let f = λ (p : K × V). cost p.0 p.1 in
+      summed ∙ sym (total-is f st.pairs) ∙ sym (total-front f names st.pairs) ∙ total-is f (front names st.pairs)
 
   pub promoted-absent : lookup names st.pairs ≡ None → promoted names st ≡ st
   promoted-absent none = λ i.

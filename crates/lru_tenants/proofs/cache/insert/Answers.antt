@@ -1,5 +1,5 @@
 use Rattle.std.proofs.Common.{◌≤◌, sym, subst}
-use Rattle.schnellru.specs.Runs.{Step, Run, ends, goes_on}
+use Rattle.schnellru.specs.Runs.{ends, goes_on}
 use Rattle.schnellru.specs.Runs.Step.{inserts}
 use Rattle.lru_tenants.proofs.cache.insert.Goals as goal
 
@@ -12,10 +12,10 @@ returns-clause-budget g c =
 pub returns-clause-tenant : goal.returns-clause-tenant
 returns-clause-tenant g c =
     let run = goes_on c.insert.new.self (inserts c.args.key c.args.value c.insert.result c.insert.ensures.step)
-        c.insert.ensures.map.sized ends in
+    c.insert.ensures.map.sized ends in
     let limit = c.runs_keep_the_cost.ensures.limit c.args.map.now c.insert.new.self run in
     let within = c.runs_keep_the_cost.ensures.cost c.args.map.now c.insert.new.self run c.requires.sum
-        c.requires.within in
+    c.requires.within in
     record {
       map = c.insert.ensures.map;
       sum = c.inserts_keep_sums.ensures c.args.key c.args.value c.args.map.now c.insert.result c.insert.new.self

@@ -1,4 +1,4 @@
-use Rattle.std.proofs.Common.{◌≡◌, ◌++◌, ◌∷◌, [], ℕ, arith, sym, ap, ◌∙◌, subst, length, append_assoc}
+use Rattle.std.proofs.Common.{◌≡◌, ◌++◌, ◌∷◌, [], arith, sym, ap, ◌∙◌, subst, length, append_assoc}
 use Rattle.std.specs.Vec.Iter.{into_iter_items}
 use Rattle.std.proofs.lemmas.List.{append-nil, length-append}
 use Rattle.lru_tenants.specs.Cache.{tenant, fresh}
@@ -15,7 +15,7 @@ loop-call-preserved g c =
     let call = c.in-Some.call in
     let answer = c.carry_out.result in
     let step = subst (λ f. On (named call) (TenantStep eq g.V.Costed.cost hash_of f call) c.loop-call.cache answer
-        c.carry_out.new.cache) (fresh-same first c.loop-call.cache h.hasher h.entry_bytes) c.carry_out.ensures.step in
+    c.carry_out.new.cache) (fresh-same first c.loop-call.cache h.hasher h.entry_bytes) c.carry_out.ensures.step in
     record {
       items = append_assoc c.loop-call.yielded (call ∷ []) (into_iter_items c.next.new.self)
           ∙ ap (λ l. c.loop-call.yielded ++ l) (sym c.in-Some.ensures.steps.0) ∙ h.items;

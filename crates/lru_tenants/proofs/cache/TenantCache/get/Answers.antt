@@ -1,40 +1,31 @@
-use Rattle.std.proofs.Common.{Some, None, Ok, Err, sym, refl, ◌∙◌, ap, subst, is_some, nat_eq}
-use Rattle.std.specs.Prelude.{IfSome}
-use Rattle.std.proofs.lemmas.Map.Views.{All-values-set_value, IfSome-lookup_from_All}
+use Rattle.std.proofs.Common.{subst, Some, None, sym, refl, ap, is_some, nat_eq}
+use Rattle.std.proofs.lemmas.Map.Views.{All-values-set_value}
 use Rattle.schnellru.specs.Calls.{promoted, written}
-use Rattle.schnellru.proofs.CallerLemmas.{read_back, promoted-absent}
-use Rattle.lru_limits.specs.Mixing.{seeded}
-use Rattle.lru_tenants.specs.Cache.{Cache, Tenant, tenant, fresh, IsTenant}
-use Rattle.lru_tenants.specs.TenantRuns.{Gets}
-use Rattle.lru_tenants.specs.declared.cache.TenantError.TheVariants.{NotOpen, AlreadyOpen, Memory}
-use Rattle.lru_tenants.specs.declared.call.TenantAnswer.TheVariants as answers
-use Rattle.lru_tenants.specs.declared.call.TenantCall.TheVariants as calls
-use Rattle.lru_tenants.proofs.Gets.{promoted_is_tenant, gets-open}
 use Rattle.schnellru.specs.Lists.{lookup}
+use Rattle.schnellru.proofs.CallerLemmas.{read_back, promoted-absent}
+use Rattle.lru_tenants.specs.Cache.{IsTenant}
 use Rattle.lru_tenants.proofs.Changes.{leaves-updated}
+use Rattle.lru_tenants.proofs.Changes.{found-all}
+use Rattle.lru_tenants.proofs.Gets.{promoted_is_tenant, gets-open}
 use Rattle.lru_tenants.proofs.cache.TenantCache.get.Goals as goal
 
 pub invariant_of-self-in-Some-get : goal.invariant_of-self-in-Some-get
 invariant_of-self-in-Some-get g c =
     let names = g.Q.LookupKey.names c.args.key.now in
-    let was : IsTenant g.K.PartialEq.eq g.V.Costed.cost c.in-Some.map.now =
-        subst (λ t. IfSome t (IsTenant g.K.PartialEq.eq g.V.Costed.cost)) (sym c.in-Some.ensures.value)
-        (IfSome-lookup_from_All (IsTenant g.K.PartialEq.eq g.V.Costed.cost) (nat_eq c.args.name)
-        c.self.inside.tenants.entries c.self.invariant) in
+    let left = written names c.in-Some-get.value.now (promoted names c.in-Some.map.now) in
+    let was = found-all (IsTenant g.K.PartialEq.eq g.V.Costed.cost) (nat_eq c.args.name) c.self.inside.tenants
+    c.in-Some.map.now (sym c.in-Some.ensures.value) c.self.invariant in
     let back = read_back names c.in-Some.map.now c.in-Some-get.value.now (sym c.in-Some-get.ensures.value) in
     let is = subst (IsTenant g.K.PartialEq.eq g.V.Costed.cost) (sym back)
-        (promoted_is_tenant g.met.Q.LookupKey.laws c.args.key.now g.V.Costed.cost c.in-Some.map.now was) in
-    rw ((c.get_mut.follows.holds (written names c.in-Some-get.value.now (promoted names c.in-Some.map.now))).0)
+    (promoted_is_tenant g.met.Q.LookupKey.laws c.args.key.now g.V.Costed.cost c.in-Some.map.now was) in
+    rw ((c.get_mut.follows.holds left).0)
     (All-values-set_value (nat_eq c.args.name) (IsTenant g.K.PartialEq.eq g.V.Costed.cost)
-    c.self.inside.tenants.entries (written names c.in-Some-get.value.now (promoted names c.in-Some.map.now))
-    c.self.invariant is)
+    c.self.inside.tenants.entries left c.self.invariant is)
 
 pub invariant_of-self-in-None : goal.invariant_of-self-in-None
 invariant_of-self-in-None g c =
-    let was : IsTenant g.K.PartialEq.eq g.V.Costed.cost c.in-Some.map.now =
-        subst (λ t. IfSome t (IsTenant g.K.PartialEq.eq g.V.Costed.cost)) (sym c.in-Some.ensures.value)
-        (IfSome-lookup_from_All (IsTenant g.K.PartialEq.eq g.V.Costed.cost) (nat_eq c.args.name)
-        c.self.inside.tenants.entries c.self.invariant) in
+    let was = found-all (IsTenant g.K.PartialEq.eq g.V.Costed.cost) (nat_eq c.args.name) c.self.inside.tenants
+    c.in-Some.map.now (sym c.in-Some.ensures.value) c.self.invariant in
     rw ((c.get_mut.follows.holds c.in-Some.map.now).0)
     (All-values-set_value (nat_eq c.args.name) (IsTenant g.K.PartialEq.eq g.V.Costed.cost)
     c.self.inside.tenants.entries c.in-Some.map.now c.self.invariant was)
@@ -47,12 +38,21 @@ returns-in-Some-get g c =
     let there = sym c.in-Some.ensures.value in
     let found = c.in-Some-get.ensures.value in
     let gets = gets-open names (lookup (nat_eq c.args.name) c.self.inside.tenants.entries) c.in-Some.map.now left
-        (Some c.in-Some-get.value.now) there found
-        (read_back names c.in-Some.map.now c.in-Some-get.value.now (sym found)) in
-    rw (← c.self.view_is) ((refl, λ _. tt, (Some left, gets,
-    leaves-updated c.args.name (Some left) (seeded c.self.inside.seed) c.self.inside.entry_bytes
-    c.self.inside.tenants (c.get_mut.follows.lender left) (writes.3 (ap is_some there)))),
-    record { leaves = tt; value = (Some left, gets) })
+    (Some c.in-Some-get.value.now) there found
+    (read_back names c.in-Some.map.now c.in-Some-get.value.now (sym found)) in
+    rw (← c.self.view_is) (
+      (
+        refl,
+        λ _. tt,
+        (
+          Some left,
+          gets,
+          leaves-updated c.args.name (Some left) c.self.inside.seed c.self.inside.entry_bytes c.self.inside.tenants
+              (c.get_mut.follows.lender left) (writes.3 (ap is_some there)),
+        ),
+      ),
+      record { leaves = tt; value = gets.0 },
+    )
 
 pub returns-in-None : goal.returns-in-None
 returns-in-None g c =
@@ -62,8 +62,17 @@ returns-in-None g c =
     let there = sym c.in-Some.ensures.value in
     let found = c.in-None.ensures.value in
     let gets = gets-open names (lookup (nat_eq c.args.name) c.self.inside.tenants.entries) left left None there found
-        (sym (promoted-absent names left (sym found))) in
-    rw (← c.self.view_is) ((refl, λ _. tt, (Some left, gets,
-    leaves-updated c.args.name (Some left) (seeded c.self.inside.seed) c.self.inside.entry_bytes
-    c.self.inside.tenants (c.get_mut.follows.lender left) (writes.3 (ap is_some there)))),
-    record { leaves = tt; value = (Some left, gets) })
+    (sym (promoted-absent names left (sym found))) in
+    rw (← c.self.view_is) (
+      (
+        refl,
+        λ _. tt,
+        (
+          Some left,
+          gets,
+          leaves-updated c.args.name (Some left) c.self.inside.seed c.self.inside.entry_bytes c.self.inside.tenants
+              (c.get_mut.follows.lender left) (writes.3 (ap is_some there)),
+        ),
+      ),
+      record { leaves = tt; value = gets.0 },
+    )
