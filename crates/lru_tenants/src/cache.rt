@@ -1,9 +1,12 @@
 //! `TenantCache`. A clause sees a cache as its open tenants, each with its map.
-ghost use Rattle.std.specs.Prelude.{◌≡◌, [], length};
+ghost use Rattle.std.specs.Prelude.{◌≡◌, [], length, nat_eq};
+ghost use Rattle.std.specs.List.{IsDistinct};
+ghost use Rattle.std.specs.Map.{keys_of};
 ghost use Rattle.std.specs.Borrow.{sem};
 ghost use Rattle.lru_limits.specs.Budget.{by_cost, charges};
 ghost use Rattle.lru_limits.specs.Mixing.{seeded};
 ghost use Rattle.schnellru.specs.Inserts.{Insert};
+ghost use Rattle.schnellru.specs.Lists.{is_empty};
 ghost use Rattle.lru_tenants.specs.Cache.{tenant, fresh, IsTenant, AreTenants};
 ghost use Rattle.lru_tenants.specs.TenantRuns.{hash_of, put_answer, Opens, Puts, got, Gets, Costs, Closes, On};
 ghost use Rattle.lru_tenants.specs.Lending.{read};
@@ -109,9 +112,19 @@ impl<K: Eq + Hash, V: Costed> TenantCache<K, V> {
     /// Cost: `O(1)`.
     pub fn len(&self) -> usize
         ensures len { result ≡ length self.now.tenants }
+        ensures names { IsDistinct nat_eq (keys_of self.now.tenants) }
         ensures tenants { AreTenants K.eq V.cost self.now }
     {
         self.tenants.len()
+    }
+
+    /// Whether no tenant is open.
+    ///
+    /// Cost: `O(1)`.
+    pub fn is_empty(&self) -> bool
+        ensures { result ≡ is_empty self.now.tenants }
+    {
+        self.tenants.is_empty()
     }
 
     /// The sum of the costs of a tenant's values.

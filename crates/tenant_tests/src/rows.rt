@@ -46,10 +46,11 @@ fn opened_again(rt: &impl Abort, cache: &mut TenantCache<u64, u64>) {
 #[test]
 fn tenants_one_call_after_another(rt: HostRuntime) -> Result<(), Fail> {
     let mut cache = TenantCache::new(rt.alloc(), [1, 2, 3, 4], 16);
+    assert!(rt; cache.is_empty());
     opened_and_filled(&rt, &mut cache);
     read_and_closed(&rt, &mut cache);
     opened_again(&rt, &mut cache);
-    assert_eq!(rt; cache.len(), 2);
+    assert!(rt; cache.len() == 2 && !cache.is_empty());
     Ok(())
 }
 
