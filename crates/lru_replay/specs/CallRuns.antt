@@ -25,6 +25,12 @@ module _ {K V S : Type 0} where
   StoresPairs (calls.Drain front back) = Unit {0}
   StoresPairs call = ⊥
 
+  -- a step, or no memory is found to store pairs, and nothing changes
+  abbrev pub StepIfMemory : {A : Type 0} → (A → Call K V S → Reply K V → A → Type 0) → A → Call K V S → Reply K V → A
+      → Type 0
+  StepIfMemory IsStep old call reply new = IsStep old call reply new
+      ⊎ (StoresPairs call × (reply ≡ no_memory) × (new ≡ old))
+
   -- the call sets no other limiter
   abbrev pub SetsNoLimiter : Call K V S → Type 0
   SetsNoLimiter (calls.SetLimiter s) = ⊥
@@ -45,10 +51,9 @@ module _ {K V S H : Type 0} (eq : K → K → Bool) (cost : K → V → ℕ) (ac
 
 module _ {K V S H : Type 0} (rules : Rules K V S) (offers : Offers K V S K) (eq : K → K → Bool)
     (hash_of : H → K → ℕ) where
-  -- a step, or no memory is found to store pairs, and nothing changes
+  -- a step of a map, or no memory is found to store pairs
   abbrev pub CallStep : State K V S H → Call K V S → Reply K V → State K V S H → Type 0
-  CallStep old call reply new = Step rules offers eq hash_of old call reply new
-      ⊎ (StoresPairs call × (reply ≡ no_memory) × (new ≡ old))
+  CallStep = StepIfMemory (Step rules offers eq hash_of)
 
   module _ (cost : K → V → ℕ) (account : S → ℕ) where
     -- a step that keeps the cost, or one that would not is told so, and nothing changes

@@ -10,13 +10,13 @@ ghost use Rattle.group_table.specs.Sizes.{full_capacity};
 ghost use Rattle.lru_limits.specs.Hashing.{hash_by};
 ghost use Rattle.schnellru.specs.Lists.{first, without_last, keys_of, lookup, lookup_entry, IsFront};
 ghost use Rattle.schnellru.specs.Sizes.{usage, IsGreatestUsage};
-ghost use Rattle.schnellru.specs.State.{State, buckets, room, FirstFreeIs, IsSized, IsPaid, IsMap};
+ghost use Rattle.schnellru.specs.State.{State, contents, buckets, room, FirstFreeIs, IsSized, IsPaid, IsMap};
 ghost use Rattle.schnellru.specs.Place.{Place, Outcome, placed, no_memory, IsPlaced, LacksRoom};
 ghost use Rattle.schnellru.specs.Calls.{Get, promoted, Remove, PopOldest, PopNewest, cleared};
 ghost use Rattle.schnellru.specs.Reservations.{Reserve};
 ghost use Rattle.schnellru.specs.declared.map.reserve.ReserveError.{ReserveError};
 ghost use Rattle.schnellru.specs.Inserts.{Insert, replacement, LacksMemory};
-ghost use Rattle.schnellru.specs.Exact.{IsDetermined, EndsExactly, EndsAlike, AlwaysGrants, HasTables};
+ghost use Rattle.schnellru.specs.Exact.{IsDetermined, EndsExactly, InsertsInList, EndsAlike, AlwaysGrants, HasTables};
 ghost use Rattle.schnellru.specs.Theorems.{PaysForMoves, CountsPlacings, Stores, KeepsValues, IsRefusedGrowth};
 ghost use Rattle.schnellru.specs.Theorems.{UsesAtMost, GivesUp, IsSummed, SaysWhether};
 
@@ -40,7 +40,7 @@ pub fn inserts_give_up_the_oldest<
 >()
     ensures { (key : I) (value : V) (old : State K V L S) (result : Result Bool AllocError) (new : State K V L S) →
         Insert L.rules L.offers I.names (hash_by K.hash_input S.BuildHasher S.Hasher.Hasher) key value old result new →
-        GivesUp (I.names key) (λ pair. (replacement L.rules L.offers I.names pair key value old).taken ≡ false)
+        GivesUp (I.names key) (λ pair. (replacement L.rules L.offers I.names pair key value (contents old)).taken ≡ false)
         old.pairs new.pairs }
 {}
 
@@ -121,8 +121,9 @@ pub fn small_inserts_are_exact<
         EndsAlike result other new others }
 {}
 
-/// So it does in a table of any size, where the limiter permits every growth, as `ByLength` does and the unlimited
-/// ones, and links and bytes reach the tables that it may need.
+/// Where the limiter permits every growth, as `ByLength` does and the unlimited ones, and links and bytes reach the
+/// tables that it may need, an insert is one into a list of pairs that has no table. It leaves nothing open but where
+/// memory is short.
 pub fn granted_inserts_are_exact<
     K: Eq + Hash,
     V,
@@ -131,9 +132,9 @@ pub fn granted_inserts_are_exact<
     S: BuildHasher,
 >()
     ensures { (key : I) (value : V) (old : State K V L S) (result : Result Bool AllocError) (new : State K V L S) →
-        AlwaysGrants L.rules → HasTables old → IsOk result →
+        AlwaysGrants L.rules → HasTables old →
         Insert L.rules L.offers I.names (hash_by K.hash_input S.BuildHasher S.Hasher.Hasher) key value old result new →
-        EndsExactly L.rules L.offers I.names key value old result new }
+        InsertsInList L.rules L.offers I.names key value (contents old) result (contents new) }
 {}
 
 /// An insert that grows the table makes one that takes fewer than four times the pairs.

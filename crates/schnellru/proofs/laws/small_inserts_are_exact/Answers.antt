@@ -1,8 +1,8 @@
-use Rattle.schnellru.proofs.Theorems.Exactness.{insert_ends, small_places, inserts_alike}
+use Rattle.schnellru.proofs.Theorems.Exactness.{insert_ends, inserts_alike}
 use Rattle.schnellru.proofs.laws.small_inserts_are_exact.Goals as goal
 
 pub returns-clause-exact : goal.returns-clause-exact
-returns-clause-exact g c = λ key value old result new small ok step. insert_ends (small_places _ _ old small) ok step
+returns-clause-exact g c = λ key value old result new small ok step. insert_ends small ok step
 
 pub returns-clause-alike : goal.returns-clause-alike
 returns-clause-alike g c = λ key value old result other new others determined h k.
