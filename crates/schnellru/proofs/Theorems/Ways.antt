@@ -52,6 +52,8 @@ module _ {K V S H : Type 0} (rules : Rules K V S) (P : S → Type 0) (pair : K �
   lands_tables : (outcome : Outcome) (mid new : State K V S H) → Calm old mid → Lands outcome mid new
       → Tables rules P 1 old new
   lands_tables placed mid new f l = record {
+    hasher = ap (λ x. x.hasher) l.is.state ∙ f.hasher;
+    max = ap (λ x. x.max) l.is.state ∙ f.max;
     entry_bytes = ap (λ x. x.entry_bytes) l.is.state ∙ f.entry_bytes;
     count = rw l.is.table l.next;
     moved = λ bound. omega (arith, ap (λ x. x.moved) l.is.state);
