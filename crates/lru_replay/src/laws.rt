@@ -1,12 +1,15 @@
 //! What is proved of runs of calls, beside what `run_calls` and `run_summing` say of each. The functions do nothing:
 //! their contracts are the theorems.
 ghost use Rattle.std.specs.Prelude.{◌≤◌, length, List};
-ghost use Rattle.std.specs.List.{AllByRecursion};
+ghost use Rattle.std.specs.List.{AllByRecursion, IsDistinct};
 ghost use Rattle.lru_limits.specs.Hashing.{hash_by};
-ghost use Rattle.schnellru.specs.State.{State, IsSized, IsMap};
+ghost use Rattle.schnellru.specs.Exact.{AlwaysGrants, HasTables};
+ghost use Rattle.schnellru.specs.Lists.{keys_of};
+ghost use Rattle.schnellru.specs.State.{State, contents, IsSized, IsMap};
 ghost use Rattle.schnellru.specs.Theorems.{PaysForMoves, UsesAtMost, IsSummed};
 ghost use Rattle.lru_replay.specs.declared.call.Call.{Call};
 ghost use Rattle.lru_replay.specs.CallRuns.{IsRun, CallStep, SummingStep, SetsNoLimiter};
+ghost use Rattle.lru_replay.specs.ListRuns.{ListCallStep};
 ghost use Rattle.lru_replay.specs.Replies.{Reply};
 
 use schnellru::{ByCost, ByLength, ByMemoryUsage, Costed, Insertion, Limiter, Summing, laws};
@@ -67,4 +70,18 @@ pub fn calls_keep_the_cost<K: Eq + Hash + Drop, V: Costed + Drop, S: BuildHasher
 {
     laws::runs_keep_the_cost::<K, V, S>();
     laws::runs_keep_sums::<K, V, K, ByCost, S>();
+}
+
+/// Where the limiter permits every growth, as `ByLength`, `ByCost` and the unlimited ones do, and links and bytes reach
+/// the tables that the pairs may need, a run is one on a list of pairs with distinct keys that has no table: each answer
+/// and each state is as the list and the limiter have it.
+pub fn granted_calls_are_exact<K: Eq + Hash, V, L: Insertion<K, V, K>, S: BuildHasher>()
+    ensures exact { (old new : State K V L S) (calls : List (Call K V L)) (replies : List (Reply K V)) →
+        AlwaysGrants L.rules → HasTables old →
+        IsRun (CallStep L.rules L.offers K.eq (hash_by K.hash_input S.BuildHasher S.Hasher.Hasher))
+        (λ st. IsMap K.eq st × HasTables st) old calls replies new →
+        IsRun (ListCallStep L.rules L.offers K.eq (hash_by K.hash_input S.BuildHasher S.Hasher.Hasher old.hasher))
+        (λ list. IsDistinct K.eq (keys_of list.pairs)) (contents old) calls replies (contents new) }
+{
+    laws::granted_inserts_are_exact::<K, V, K, L, S>();
 }

@@ -1,0 +1,10 @@
+use Rattle.std.proofs.Common.{refl}
+use Rattle.lru_replay.proofs.ListRuns.{run_in_list}
+use Rattle.lru_replay.proofs.laws.granted_calls_are_exact.Goals as goal
+
+pub returns : goal.returns
+returns g c = record {
+  exact = λ old new calls replies grants tables run.
+      run_in_list g.L.Limiter.rules g.L.Insertion.offers g.K.PartialEq.eq _ c.granted_inserts_are_exact.ensures grants
+      old.hasher old calls replies new refl tables run;
+}
