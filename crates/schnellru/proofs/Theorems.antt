@@ -15,6 +15,7 @@ pub mod Limits
 pub mod CountedMoves
 pub mod Runs
 pub mod RunLimits
+pub mod SmallTables
 pub mod Removals
 pub mod GetOrInserts
 pub mod KeySearches

@@ -137,6 +137,16 @@ abbrev pub IsDetermined : {K V S I : Type 0} → Offers K V S I → Type 0
 IsDetermined {K} {V} {S} {I} offers = (s : S) (n : ℕ) (i : I) (v : V) (t u : S) (given other : Option (K × V)) →
     offers.on_insert s n i v t given → offers.on_insert s n i v u other → (t ≡ u) × (given ≡ other)
 
+-- an offer finds the memory that it asks for
+abbrev pub NeverLacks : {K V S I : Type 0} → Offers K V S I → Type 0
+NeverLacks {V = V} {S = S} {I = I} offers = (s : S) (n : ℕ) (i : I) (v : V) → offers.may_lack s n i v → ⊥
+
+-- two maps differ at most in which of their buckets are full
+pub record LookAlike {K V S H : Type 0} (st other : State K V S H) : Type 0 where
+  pub table : buckets other ≡ buckets st
+  pub room : room other ≡ room st
+  pub state : other ≡ record st { marks = other.marks; places = other.places }
+
 -- the limiter permits every growth, and stays as it is
 abbrev pub AlwaysGrants : {K V S : Type 0} → Rules K V S → Type 0
 AlwaysGrants {K} {V} {S} rules = (s : S) (bytes : ℕ) →

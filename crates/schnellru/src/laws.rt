@@ -2,7 +2,7 @@
 //! Each theorem is the contract of a function that does nothing.
 
 ghost use Rattle.std.specs.Prelude.{◌≡◌, ◌≢◌, ℕ, ◌≤◌, ◌<◌, ◌+◌, ◌*◌, ◌/◌, ◌⊎◌, ◌∷◌, Bool, false, Option, Some, None};
-ghost use Rattle.std.specs.Prelude.{IfSome, Result, Ok, true, IsOk, IsErr, length};
+ghost use Rattle.std.specs.Prelude.{IfSome, Result, Ok, true, IsOk, IsErr, is_err, length};
 ghost use Rattle.std.specs.List.{IsDistinct};
 ghost use Rattle.std.specs.declared.alloc.AllocError.{AllocError};
 ghost use Rattle.group_table.specs.Bucket.{deleted};
@@ -16,7 +16,8 @@ ghost use Rattle.schnellru.specs.Calls.{Get, promoted, Remove, PopOldest, PopNew
 ghost use Rattle.schnellru.specs.Reservations.{Reserve};
 ghost use Rattle.schnellru.specs.declared.map.reserve.ReserveError.{ReserveError};
 ghost use Rattle.schnellru.specs.Inserts.{Insert, replacement, LacksMemory};
-ghost use Rattle.schnellru.specs.Exact.{IsDetermined, EndsExactly, InsertsInList, EndsAlike, AlwaysGrants, HasTables};
+ghost use Rattle.schnellru.specs.Exact.{IsDetermined, NeverLacks, EndsExactly, InsertsInList, EndsAlike};
+ghost use Rattle.schnellru.specs.Exact.{LookAlike, AlwaysGrants, HasTables};
 ghost use Rattle.schnellru.specs.Theorems.{PaysForMoves, CountsPlacings, Stores, KeepsValues, IsRefusedGrowth};
 ghost use Rattle.schnellru.specs.Theorems.{UsesAtMost, GivesUp, IsSummed, SaysWhether};
 
@@ -119,6 +120,26 @@ pub fn small_inserts_are_exact<
         EndsExactly L.rules L.offers I.names key value old result new →
         EndsExactly L.rules L.offers I.names key value old other others →
         EndsAlike result other new others }
+{}
+
+/// Two maps that differ at most in which buckets are full, in tables of up to 16, do so after inserts of the same, if
+/// offers leave nothing open and find their memory, and both inserts find memory or neither does. Both answer the same.
+pub fn small_inserts_look_alike<
+    K: Eq + Hash,
+    V,
+    I: LookupKey<K>,
+    L: Insertion<K, V, I>,
+    S: BuildHasher,
+>()
+    ensures { (key : I) (value : V) (old : State K V L S) (result : Result Bool AllocError) (new other : State K V L S)
+        (answer : Result Bool AllocError) (last : State K V L S) →
+        IsDetermined L.offers → NeverLacks L.offers →
+        buckets old ≤ 16 → buckets new ≤ 16 → buckets last ≤ 16 →
+        LookAlike old other → is_err result ≡ is_err answer →
+        Insert L.rules L.offers I.names (hash_by K.hash_input S.BuildHasher S.Hasher.Hasher) key value old result new →
+        Insert L.rules L.offers I.names (hash_by K.hash_input S.BuildHasher S.Hasher.Hasher) key value other answer
+        last →
+        (result ≡ answer) × LookAlike new last }
 {}
 
 /// Where the limiter permits every growth, as `ByLength` does and the unlimited ones, and links and bytes reach the
