@@ -12,6 +12,8 @@
 --     given-tag            and only one whose hash has the tag of the hash
 --     given-promoted       one through which nothing is written brings that pair to the front, and no more
 --     none-found           where it gives none, no pair of that key has the hash
+--     Shape, shape         a map, but for which of its buckets are full; `same_shape` and `look_alike` say so
+--     left_shape, cleared_shape, reserve_is      what calls make of it in tables of up to 16 buckets
 --     any_step_same        no call changes what builds the hashers, how far links reach, and what a bucket takes
 pub use Rattle.schnellru.proofs.Theorems.KeySearches.{given-found, given-tag, none-found}
 pub use Rattle.schnellru.proofs.Maps.LeavingPairs.{leaves_trans, length-without_first, length-without_last}
@@ -20,6 +22,8 @@ pub use Rattle.schnellru.proofs.Maps.SomeInsert.{some_insert, some_leave}
 pub use Rattle.schnellru.proofs.Maps.SomeReservation.{cleared_sized, some_reservation}
 pub use Rattle.schnellru.proofs.Theorems.Limits.{length-without}
 pub use Rattle.schnellru.proofs.Theorems.Runs.{any_step_same}
+pub use Rattle.schnellru.proofs.Theorems.SmallTables.{Shape, shape, same_shape, look_alike, with_left, left_shape}
+pub use Rattle.schnellru.proofs.Theorems.SmallCalls.{clears, cleared_shape, is_memory, reserve_in, reserve_is}
 use Rattle.std.proofs.Common.{◌≡◌, ℕ, Bool, true, false, cond, List, [], ◌∷◌, ◌++◌, refl, sym, ap, ◌∙◌, subst}
 use Rattle.std.proofs.Common.{Option, Some, None, Result, Ok, Err}
 use Rattle.std.specs.Prelude.{IfSome, option_map, unwrap_or}

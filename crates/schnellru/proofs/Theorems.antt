@@ -16,6 +16,7 @@ pub mod CountedMoves
 pub mod Runs
 pub mod RunLimits
 pub mod SmallTables
+pub mod SmallCalls
 pub mod Removals
 pub mod GetOrInserts
 pub mod KeySearches

@@ -127,10 +127,10 @@ module _ {K V S I : Type 0} (rules : Rules K V S) (offers : Offers K V S I) (nam
         InsertsInList old result new
 
 -- two inserts ended alike
-pub record EndsAlike {K V S H : Type 0} (result other : Result Bool AllocError)
-    (new others : State K V S H) : Type 0 where
+pub record EndsAlike {K V S : Type 0} (result other : Result Bool AllocError)
+    (new others : Contents K V S) : Type 0 where
   pub answers : result ≡ other
-  pub contents : contents new ≡ contents others
+  pub contents : new ≡ others
 
 -- an offer leaves nothing open
 abbrev pub IsDetermined : {K V S I : Type 0} → Offers K V S I → Type 0

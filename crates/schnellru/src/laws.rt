@@ -10,14 +10,14 @@ ghost use Rattle.group_table.specs.Sizes.{full_capacity};
 ghost use Rattle.lru_limits.specs.Hashing.{hash_by};
 ghost use Rattle.schnellru.specs.Lists.{first, without_last, keys_of, lookup, lookup_entry, IsFront};
 ghost use Rattle.schnellru.specs.Sizes.{usage, IsGreatestUsage};
-ghost use Rattle.schnellru.specs.State.{State, contents, buckets, room, FirstFreeIs, IsSized, IsPaid, IsMap};
+ghost use Rattle.schnellru.specs.State.{State, Contents, contents, buckets, room, FirstFreeIs, IsSized, IsPaid, IsMap};
 ghost use Rattle.schnellru.specs.Place.{Place, Outcome, placed, no_memory, IsPlaced, LacksRoom};
 ghost use Rattle.schnellru.specs.Calls.{Get, promoted, Remove, PopOldest, PopNewest, cleared};
 ghost use Rattle.schnellru.specs.Reservations.{Reserve};
 ghost use Rattle.schnellru.specs.declared.map.reserve.ReserveError.{ReserveError};
 ghost use Rattle.schnellru.specs.Inserts.{Insert, replacement, LacksMemory};
-ghost use Rattle.schnellru.specs.Exact.{IsDetermined, NeverLacks, EndsExactly, InsertsInList, EndsAlike};
-ghost use Rattle.schnellru.specs.Exact.{LookAlike, AlwaysGrants, HasTables};
+ghost use Rattle.schnellru.specs.Exact.{IsDetermined, NeverLacks, EndsExactly, EndsIfLanded, InsertsInList};
+ghost use Rattle.schnellru.specs.Exact.{Landing, EndsAlike, LookAlike, AlwaysGrants, HasTables};
 ghost use Rattle.schnellru.specs.Theorems.{PaysForMoves, CountsPlacings, Stores, KeepsValues, IsRefusedGrowth};
 ghost use Rattle.schnellru.specs.Theorems.{UsesAtMost, GivesUp, IsSummed, SaysWhether};
 
@@ -102,7 +102,8 @@ pub fn inserts_lack_memory_at_no_room<
 {}
 
 /// An insert into a table of up to 16 buckets leaves nothing open but where memory is short: not what it answers, nor
-/// the pairs, nor the limiter. Where the limiter's offers leave nothing open, two inserts of the same end alike.
+/// the pairs, nor the limiter. Where the limiter's offers leave nothing open, two inserts of the same end alike, however
+/// a pair lands that the limiter gives.
 pub fn small_inserts_are_exact<
     K: Eq + Hash,
     V,
@@ -115,10 +116,10 @@ pub fn small_inserts_are_exact<
         buckets old ≤ 16 → IsOk result →
         Insert L.rules L.offers I.names (hash_by K.hash_input S.BuildHasher S.Hasher.Hasher) key value old result new →
         EndsExactly L.rules L.offers I.names key value old result new }
-    ensures alike { (key : I) (value : V) (old : State K V L S) (result other : Result Bool AllocError)
-        (new others : State K V L S) → IsDetermined L.offers →
-        EndsExactly L.rules L.offers I.names key value old result new →
-        EndsExactly L.rules L.offers I.names key value old other others →
+    ensures alike { (land : K × V → Contents K V L → Landing K V L) (key : I) (value : V) (old : Contents K V L)
+        (result other : Result Bool AllocError) (new others : Contents K V L) → IsDetermined L.offers →
+        EndsIfLanded L.rules L.offers I.names land key value old result new →
+        EndsIfLanded L.rules L.offers I.names land key value old other others →
         EndsAlike result other new others }
 {}
 

@@ -20,7 +20,7 @@ use Rattle.schnellru.proofs.Maps.LeavingPairs.{oldest_leaves}
 use Rattle.schnellru.proofs.Maps.Outcomes.{ok-not_err}
 use Rattle.schnellru.proofs.Theorems.Moves.{left_are}
 use Rattle.schnellru.specs.Exact.{Landing, Ending, lands, evicts, grows, landing, trimmed, settled, lands_in}
-use Rattle.schnellru.specs.Exact.{ending_there, ending_new, IsEnding, EndsBy, EndsExactly, EndsAlike, IsDetermined}
+use Rattle.schnellru.specs.Exact.{ending_there, ending_new, IsEnding, EndsBy, EndsIfLanded, EndsExactly, EndsAlike, IsDetermined}
 
 module _ {K V S H : Type 0} (rules : Rules K V S) (pair : K × V) where
   -- The pair, the pairs and the limiter are as they are to be, where memory is not short.
@@ -148,25 +148,20 @@ module _ {K V S H I : Type 0} {rules : Rules K V S} {offers : Offers K V S I} {n
             (small_places rules hash_of old small s pair ready l outcome landed p) t,
       )
 
-module _ {K V S H I : Type 0} (rules : Rules K V S) (offers : Offers K V S I) (names : I → K → Bool) (i : I) (v : V)
-    (old : State K V S H)
-    (determined : IsDetermined offers) (result other : Result Bool AllocError) (new others : State K V S H) where
-  alike : (e : Ending K V S) → IsEnding e result (contents new) → IsEnding e other (contents others)
-      → EndsAlike result other new others
+module _ {K V S I : Type 0} (rules : Rules K V S) (offers : Offers K V S I) (names : I → K → Bool)
+    (land : K × V → Contents K V S → Landing K V S) (i : I) (v : V) (old : Contents K V S)
+    (determined : IsDetermined offers) (result other : Result Bool AllocError) (new others : Contents K V S) where
+  alike : (e : Ending K V S) → IsEnding e result new → IsEnding e other others → EndsAlike result other new others
   alike e h k = record { answers = h.0 ∙ sym k.0; contents = h.1 ∙ sym k.1 }
 
-  ends_alike : (o : Option (K × V)) → EndsBy rules offers names (lands_in rules old) i v (contents old) o result
-      (contents new)
-      → EndsBy rules offers names (lands_in rules old) i v (contents old) o other (contents others)
-      → EndsAlike result other new others
-  ends_alike (Some pair) h k = alike
-      (ending_there rules offers names (lands_in rules old) i v (contents old) pair) h k
+  ends_alike : (o : Option (K × V)) → EndsBy rules offers names land i v old o result new
+      → EndsBy rules offers names land i v old o other others → EndsAlike result other new others
+  ends_alike (Some pair) h k = alike (ending_there rules offers names land i v old pair) h k
   ends_alike None h k =
       let d = determined old.limiter (length old.pairs) i v h.0 k.0 h.1 k.1 h.2 k.2 in
-      alike (ending_new rules offers names (lands_in rules old) i v (contents old) k.0 k.1)
-      (rw (← d.0, ← d.1) h.3) k.3
+      alike (ending_new rules offers names land i v old k.0 k.1) (rw (← d.0, ← d.1) h.3) k.3
 
-  -- Two inserts of the same that end exactly end alike.
-  pub inserts_alike : EndsExactly rules offers names i v old result new
-      → EndsExactly rules offers names i v old other others → EndsAlike result other new others
+  -- Two inserts of the same, where each pair lands alike, end alike.
+  pub inserts_alike : EndsIfLanded rules offers names land i v old result new
+      → EndsIfLanded rules offers names land i v old other others → EndsAlike result other new others
   inserts_alike h k = ends_alike (lookup_entry (names i) old.pairs) h k
