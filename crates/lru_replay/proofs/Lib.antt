@@ -18,3 +18,4 @@ pub mod CallKinds
 pub mod SummedCalls
 pub mod CallLaws
 pub mod ListRuns
+pub mod AlikeRuns

@@ -1,5 +1,6 @@
 -- Runs of calls: a step for each call, each from the state that the one before left.
 use Rattle.std.specs.Prelude.{◌≡◌, ℕ, Bool, List, [], ◌∷◌, ◌⊎◌, MatchOption}
+use Rattle.group_table.specs.Probe.{hash_tag}
 use Rattle.lru_limits.specs.Rules.{Rules, Offers}
 use Rattle.schnellru.specs.Lists.{lookup_entry}
 use Rattle.schnellru.specs.State.{State, IsMap}
@@ -30,6 +31,12 @@ module _ {K V S : Type 0} where
       → Type 0
   StepIfMemory IsStep old call reply new = IsStep old call reply new
       ⊎ (StoresPairs call × (reply ≡ no_memory) × (new ≡ old))
+
+  -- a search by a hash is by that of its key, or by one of another tag
+  abbrev pub HasPlainSearch : (K → ℕ) → Call K V S → Type 0
+  HasPlainSearch hash_of (calls.GetByHash hash key) = hash_tag (hash_of key) ≡ hash_tag hash → hash_of key ≡ hash
+  HasPlainSearch hash_of (calls.PeekByHash hash key) = hash_tag (hash_of key) ≡ hash_tag hash → hash_of key ≡ hash
+  HasPlainSearch hash_of call = Unit {0}
 
   -- the call sets no other limiter
   abbrev pub SetsNoLimiter : Call K V S → Type 0

@@ -1,16 +1,16 @@
 //! What is proved of runs of calls, beside what `run_calls` and `run_summing` say of each. The functions do nothing:
 //! their contracts are the theorems.
-ghost use Rattle.std.specs.Prelude.{◌≤◌, length, List};
+ghost use Rattle.std.specs.Prelude.{◌≡◌, ◌≤◌, length, List, map};
 ghost use Rattle.std.specs.List.{AllByRecursion, IsDistinct};
 ghost use Rattle.lru_limits.specs.Hashing.{hash_by};
-ghost use Rattle.schnellru.specs.Exact.{AlwaysGrants, HasTables};
+ghost use Rattle.schnellru.specs.Exact.{AlwaysGrants, HasTables, IsDetermined, NeverLacks, LookAlike};
 ghost use Rattle.schnellru.specs.Lists.{keys_of};
-ghost use Rattle.schnellru.specs.State.{State, contents, IsSized, IsMap};
+ghost use Rattle.schnellru.specs.State.{State, contents, buckets, IsSized, IsMap};
 ghost use Rattle.schnellru.specs.Theorems.{PaysForMoves, UsesAtMost, IsSummed};
 ghost use Rattle.lru_replay.specs.declared.call.Call.{Call};
-ghost use Rattle.lru_replay.specs.CallRuns.{IsRun, CallStep, SummingStep, SetsNoLimiter};
+ghost use Rattle.lru_replay.specs.CallRuns.{IsRun, CallStep, SummingStep, SetsNoLimiter, HasPlainSearch};
 ghost use Rattle.lru_replay.specs.ListRuns.{ListCallStep};
-ghost use Rattle.lru_replay.specs.Replies.{Reply};
+ghost use Rattle.lru_replay.specs.Replies.{Reply, wants_memory};
 
 use schnellru::{ByCost, ByLength, ByMemoryUsage, Costed, Insertion, Limiter, Summing, laws};
 use std::hash::{BuildHasher, Hash};
@@ -84,4 +84,21 @@ pub fn granted_calls_are_exact<K: Eq + Hash, V, L: Insertion<K, V, K>, S: BuildH
         (λ list. IsDistinct K.eq (keys_of list.pairs)) (contents old) calls replies (contents new) }
 {
     laws::granted_inserts_are_exact::<K, V, K, L, S>();
+}
+
+/// Two runs of the same calls give the same answers, under a limiter that leaves nothing open, if they find the same
+/// wants of memory, no table of theirs has more than 16 buckets, and the two maps before them differ at most in which
+/// buckets are full. So do the two maps after them.
+pub fn small_calls_are_alike<K: Eq + Hash, V, L: Insertion<K, V, K>, S: BuildHasher>()
+    ensures alike { (old other new last : State K V L S) (calls : List (Call K V L)) (replies answers : List (Reply K V)) →
+        IsDetermined L.offers → NeverLacks L.offers → LookAlike old other → buckets old ≤ 16 →
+        AllByRecursion (HasPlainSearch (hash_by K.hash_input S.BuildHasher S.Hasher.Hasher old.hasher)) calls →
+        IsRun (CallStep L.rules L.offers K.eq (hash_by K.hash_input S.BuildHasher S.Hasher.Hasher))
+        (λ st. buckets st ≤ 16) old calls replies new →
+        IsRun (CallStep L.rules L.offers K.eq (hash_by K.hash_input S.BuildHasher S.Hasher.Hasher))
+        (λ st. buckets st ≤ 16) other calls answers last →
+        map wants_memory replies ≡ map wants_memory answers →
+        (replies ≡ answers) × LookAlike new last }
+{
+    laws::small_inserts_look_alike::<K, V, K, L, S>();
 }

@@ -20,6 +20,7 @@ pub use Rattle.schnellru.proofs.Maps.LeavingPairs.{leaves_trans, length-without_
 pub use Rattle.schnellru.proofs.Maps.Promotions.{promoted_sized, promoted_is_map}
 pub use Rattle.schnellru.proofs.Maps.SomeInsert.{some_insert, some_leave}
 pub use Rattle.schnellru.proofs.Maps.SomeReservation.{cleared_sized, some_reservation}
+pub use Rattle.schnellru.proofs.Theorems.Fronts.{found_named}
 pub use Rattle.schnellru.proofs.Theorems.Limits.{length-without}
 pub use Rattle.schnellru.proofs.Theorems.Runs.{any_step_same}
 pub use Rattle.schnellru.proofs.Theorems.SmallTables.{Shape, shape, same_shape, look_alike, with_left, left_shape}
