@@ -1,17 +1,19 @@
 -- Where growth is permitted, calls are those on a list of pairs that has no table.
 use Rattle.std.proofs.Common.{◌≡◌, ℕ, Bool, true, false, cond, List, [], ◌∷◌, Option, Some, None, Result, refl, sym, ap}
-use Rattle.std.proofs.Common.{◌∙◌, subst, inl, inr, arith}
+use Rattle.std.proofs.Common.{◌∙◌, subst, inl, inr, arith, ◌+◌, ◌*◌, ◌≤◌, suc, length}
 use Rattle.std.specs.List.{IsDistinct}
 use Rattle.std.specs.declared.alloc.AllocError.{AllocError}
 use Rattle.lru_limits.specs.Rules.{Rules, Offers}
-use Rattle.schnellru.proofs.CallerLemmas.{any_step_same}
-use Rattle.schnellru.specs.Exact.{AlwaysGrants, HasTables, InsertsInList}
+use Rattle.schnellru.proofs.CallerLemmas.{any_step_same, has_tables}
+use Rattle.schnellru.specs.Exact.{AlwaysGrants, HasTables, HasTableFor, InsertsInList}
 use Rattle.schnellru.specs.GetOrInserts.{MakesNewest, got, inserted}
 use Rattle.schnellru.specs.Inserts.{Insert}
 use Rattle.schnellru.specs.Lists.{lookup, lookup_entry, after, newest_value, keys_of}
 use Rattle.schnellru.specs.Place.{asked}
 use Rattle.schnellru.specs.Reservations.{Reserve, too_many, enough_room, no_such_table, remade, no_memory_to_remake}
 use Rattle.schnellru.specs.Reservations.{denied_room, reserved, no_memory_to_grow}
+use Rattle.schnellru.specs.Runs.{AnyStep}
+use Rattle.schnellru.specs.Sizes.{usage}
 use Rattle.schnellru.specs.State.{State, contents, IsMap}
 use Rattle.schnellru.specs.declared.map.reserve.ReserveError.{ReserveError}
 use Rattle.lru_replay.specs.CallRuns.{IsRun, CallStep}
@@ -123,3 +125,39 @@ module _ {K V S H : Type 0} (rules : Rules K V S) (offers : Offers K V S K) (eq 
       map.distinct,
       run_in_list hasher mid calls replies new (same_hasher old mid tables call reply step ∙ built) more run,
     )
+
+-- Where links and bytes reach a table for many more pairs than there are and calls, they reach those of each state.
+module _ {K V S H : Type 0} {rules : Rules K V S} {offers : Offers K V S K} {eq : K → K → Bool}
+    {hash_of : H → K → ℕ} (law : (old new : State K V S H) → AnyStep rules offers eq hash_of old new
+    → length new.pairs ≤ length old.pairs + 1) where
+  table_stays : (n m : ℕ) (old new : State K V S H) → m ≤ n → new.max ≡ old.max → new.entry_bytes ≡ old.entry_bytes
+      → HasTableFor n old → HasTableFor m new
+  table_stays n m old new few max bytes t = record {
+    count = t.count;
+    bytes = t.bytes;
+    power = t.power;
+    reached = omega (arith, max, t.reached);
+    usable = ap (λ e. usage e t.count) bytes ∙ t.usable;
+    takes = omega (arith, few, t.takes);
+  }
+
+  call_reaches : (calls : ℕ) (old new : State K V S H) (call : Call K V S) (reply : Reply K V)
+      → CallStep rules offers eq hash_of old call reply new → HasTableFor (8 * (length old.pairs + suc calls + 1)) old
+      → HasTableFor (8 * (length new.pairs + calls + 1)) new
+  call_reaches calls old new call reply step t = elim (any_step call (kind_of call reply step)) [
+    | inl any ↦ let same = any_step_same old new any in
+        table_stays _ _ old new (omega (arith, law old new any)) same.1 same.2 t
+    | inr same ↦ table_stays _ _ old new (omega (arith, ap (λ st. length st.pairs) same)) (ap (λ st. st.max) same)
+        (ap (λ st. st.entry_bytes) same) t
+  ]
+
+  pub run_reaches : (old : State K V S H) (calls : List (Call K V S)) (replies : List (Reply K V))
+      (new : State K V S H) → HasTableFor (8 * (length old.pairs + length calls + 1)) old
+      → IsRun (CallStep rules offers eq hash_of) (IsMap eq) old calls replies new
+      → IsRun (CallStep rules offers eq hash_of) (λ st. IsMap eq st × HasTables st) old calls replies new
+  run_reaches old [] [] new t same = same
+  run_reaches old [] (reply ∷ replies) new t none = absurd none
+  run_reaches old (call ∷ calls) [] new t none = absurd none
+  run_reaches old (call ∷ calls) (reply ∷ replies) new t (mid, step, map, run) =
+      let next = call_reaches (length calls) old mid call reply step t in
+      (mid, step, (map, has_tables _ mid next (omega arith) map.sized), run_reaches mid calls replies new next run)

@@ -1,9 +1,9 @@
 //! What is proved of runs of calls, beside what `run_calls` and `run_summing` say of each. The functions do nothing:
 //! their contracts are the theorems.
-ghost use Rattle.std.specs.Prelude.{◌≡◌, ◌≤◌, length, List, map};
+ghost use Rattle.std.specs.Prelude.{◌≡◌, ◌≤◌, ◌+◌, ◌*◌, length, List, map};
 ghost use Rattle.std.specs.List.{AllByRecursion, IsDistinct};
 ghost use Rattle.lru_limits.specs.Hashing.{hash_by};
-ghost use Rattle.schnellru.specs.Exact.{AlwaysGrants, HasTables, IsDetermined, NeverLacks, LookAlike};
+ghost use Rattle.schnellru.specs.Exact.{AlwaysGrants, HasTables, HasTableFor, IsDetermined, NeverLacks, LookAlike};
 ghost use Rattle.schnellru.specs.Lists.{keys_of};
 ghost use Rattle.schnellru.specs.State.{State, contents, buckets, IsSized, IsMap};
 ghost use Rattle.schnellru.specs.Theorems.{PaysForMoves, UsesAtMost, IsSummed};
@@ -82,8 +82,15 @@ pub fn granted_calls_are_exact<K: Eq + Hash, V, L: Insertion<K, V, K>, S: BuildH
         (λ st. IsMap K.eq st × HasTables st) old calls replies new →
         IsRun (ListCallStep L.rules L.offers K.eq (hash_by K.hash_input S.BuildHasher S.Hasher.Hasher old.hasher))
         (λ list. IsDistinct K.eq (keys_of list.pairs)) (contents old) calls replies (contents new) }
+    ensures reached { (old new : State K V L S) (calls : List (Call K V L)) (replies : List (Reply K V)) →
+        HasTableFor (8 * (length old.pairs + length calls + 1)) old → IsMap K.eq old →
+        IsRun (CallStep L.rules L.offers K.eq (hash_by K.hash_input S.BuildHasher S.Hasher.Hasher)) (IsMap K.eq)
+        old calls replies new →
+        HasTables old × IsRun (CallStep L.rules L.offers K.eq (hash_by K.hash_input S.BuildHasher S.Hasher.Hasher))
+        (λ st. IsMap K.eq st × HasTables st) old calls replies new }
 {
     laws::granted_inserts_are_exact::<K, V, K, L, S>();
+    laws::calls_add_one_pair::<K, V, K, L, S>();
 }
 
 /// Two runs of the same calls give the same answers, under a limiter that leaves nothing open, if they find the same

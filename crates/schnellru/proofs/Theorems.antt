@@ -14,6 +14,7 @@ pub mod Sums
 pub mod Limits
 pub mod CountedMoves
 pub mod Runs
+pub mod AddedPairs
 pub mod RunLimits
 pub mod SmallTables
 pub mod SmallCalls

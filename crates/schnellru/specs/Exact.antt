@@ -1,10 +1,10 @@
 -- Inserts that leave nothing open but where memory is short: into tables of up to 16 buckets, or where the limiter
 -- permits every growth.
-use Rattle.std.specs.Prelude.{◌≡◌, ◌≢◌, ℕ, ◌+◌, ◌-◌, ◌/◌, ◌==◌, nat_lt, nat_le, Bool, true, false, not, if◌then◌else◌}
+use Rattle.std.specs.Prelude.{◌≡◌, ◌≢◌, ℕ, ◌+◌, ◌-◌, ◌/◌, ◌==◌, ◌<◌, ◌≤◌, nat_lt, nat_le, Bool, true, false, not, if◌then◌else◌}
 use Rattle.std.specs.Prelude.{◌∷◌, length, Option, Some, None, Result, Ok, IsErr}
 use Rattle.std.specs.declared.alloc.AllocError.{AllocError}
 use Rattle.lru_limits.specs.Rules.{Rules, Offers}
-use Rattle.group_table.specs.Sizes.{full_capacity}
+use Rattle.group_table.specs.Sizes.{IsPowerFromFour, full_capacity}
 use Rattle.schnellru.specs.Sizes.{usage, Target, target, no_table, same_table, new_table}
 use Rattle.schnellru.specs.Lists.{is_empty, lookup_entry}
 use Rattle.schnellru.specs.State.{State, buckets, room, Contents, contents, pops, trim}
@@ -151,6 +151,15 @@ pub record LookAlike {K V S H : Type 0} (st other : State K V S H) : Type 0 wher
 abbrev pub AlwaysGrants : {K V S : Type 0} → Rules K V S → Type 0
 AlwaysGrants {K} {V} {S} rules = (s : S) (bytes : ℕ) →
     ((rules.on_grow s bytes).allowed ≡ true) × ((rules.on_grow s bytes).limiter ≡ s)
+
+-- links and bytes reach a table that takes so many pairs
+pub record HasTableFor {K V S H : Type 0} (n : ℕ) (st : State K V S H) : Type 0 where
+  pub count : ℕ
+  pub bytes : ℕ
+  pub power : IsPowerFromFour count
+  pub reached : count < st.max
+  pub usable : usage st.entry_bytes count ≡ Some bytes
+  pub takes : n ≤ full_capacity count
 
 -- there is a table for one pair more, and for as many as there are
 abbrev pub HasTables : {K V S H : Type 0} → State K V S H → Type 0

@@ -27,7 +27,7 @@ use std::hash::{BuildHasher, Hash};
 mod runs;
 
 pub use runs::{
-    runs_begin_with_maps, runs_keep_maps, runs_keep_sums, runs_keep_the_cost, runs_keep_the_length,
+    calls_add_one_pair, runs_begin_with_maps, runs_keep_maps, runs_keep_sums, runs_keep_the_cost, runs_keep_the_length,
     runs_keep_the_memory_usage, runs_pay_for_moves,
 };
 
