@@ -70,9 +70,12 @@ module _ {K V S H : Type 0} (rules : Rules K V S) (offers : Offers K V S K) (eq 
             ∙ ap value (newest_found (eq key) _ old.pairs w found),
         ap contents e,
       )
-      made_in_list key v result reply (inserted none w made step) is = rw none
-          (result, law key v old result new grants tables (subst (λ x. Insert rules offers eq hash_of key x old result
-          new) made step), is)
+      made_in_list key v result reply (inserted none w made step) is = rw none (
+        result,
+        law key v old result new grants tables (subst (λ x. Insert rules offers eq hash_of key x old result
+            new) made step),
+        is,
+      )
 
       in_list : (call : Call K V S) (reply : Reply K V) → Step rules offers eq hash_of old call reply new
           → ListStep rules offers eq (hash_of old.hasher) (contents old) call reply (contents new)

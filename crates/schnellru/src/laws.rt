@@ -27,8 +27,8 @@ use std::hash::{BuildHasher, Hash};
 mod runs;
 
 pub use runs::{
-    calls_add_one_pair, runs_begin_with_maps, runs_keep_maps, runs_keep_sums, runs_keep_the_cost, runs_keep_the_length,
-    runs_keep_the_memory_usage, runs_pay_for_moves,
+    calls_add_one_pair, runs_begin_with_maps, runs_keep_maps, runs_keep_sums, runs_keep_the_cost,
+    runs_keep_the_length, runs_keep_the_memory_usage, runs_pay_for_moves,
 };
 
 /// An insert gives up pairs from the old end alone, save one whose replacement is refused.

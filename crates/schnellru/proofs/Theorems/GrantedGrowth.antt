@@ -110,8 +110,13 @@ module _ {K V S H I : Type 0} (rules : Rules K V S) (offers : Offers K V S I) (n
       → EndsSo
   settles a s pair n ready same tables grants hash_of placed landed beside t =
       let left = beside ∙ ap (λ c. (lands rules pair c).left) same in
-      ends (rw a (s, Some pair, n, subst (λ c. IsEnding (trimmed rules c) result (contents new)) left
-      (trimmed_ends rules landed (contents landed) result new t.0 t.1)))
+      ends (rw a (
+        s,
+        Some pair,
+        n,
+        subst (λ c. IsEnding (trimmed rules c) result (contents new)) left
+            (trimmed_ends rules landed (contents landed) result new t.0 t.1),
+      ))
   settles a s pair n ready same tables grants hash_of refused landed beside t = absurd beside
   settles a s pair n ready same tables grants hash_of no_memory landed beside t =
       not_placed a s pair n t.0 (ap contents t.1 ∙ beside ∙ ap (λ c. (turns_away rules pair c).left) same)

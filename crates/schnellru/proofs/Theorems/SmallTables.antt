@@ -176,8 +176,11 @@ module _ {K V S H : Type 0} (rules : Rules K V S) (hash_of : H → K → ℕ) (p
         let half_of = ap full_capacity same_table_mid in
         let spare = ap (λ k. k - 1) (sym (ap (λ sh. sh.spare) is))
         ∙ fills_one _ left new (omega (arith, small, same_table_mid, ap (λ sh. sh.count) is)) fills in
-        rw (le-leb (full_capacity (buckets mid) / 2 + 1) (length mid.pairs)
-        (omega (arith, half, half_of, one, same_length)), o) (ap (λ sh. (placed, sh))
+        rw (
+          le-leb (full_capacity (buckets mid) / 2 + 1) (length mid.pairs)
+              (omega (arith, half, half_of, one, same_length)),
+          o,
+        ) (ap (λ sh. (placed, sh))
         ((λ j. landed pair (sym is j) (sym same_table_mid j) (spare j) 0) ∙ sym (landed_shape pair _ _ _ left new p)))
 
     anew_is : (n : ℕ) (left new : State K V S H) (outcome : Outcome) → n ≡ 1
@@ -285,71 +288,71 @@ module _ {K V S H : Type 0} (rules : Rules K V S) where
   lacks_is no_memory mid result new s = s.0
 
 module _ {K V S H I : Type 0} (rules : Rules K V S) (offers : Offers K V S I) (names : I → K → Bool) (i : I) (v : V)
-    where
-  abbrev settles : Outcome × Shape K V S H → Option Bool × Shape K V S H
-  settles l = settled rules l.0 l.1
+  where
+    abbrev settles : Outcome × Shape K V S H → Option Bool × Shape K V S H
+    settles l = settled rules l.0 l.1
 
-  abbrev ends_there : K × V → Shape K V S H → Option Bool × Shape K V S H
-  ends_there pair sh = cond (replacement rules offers names pair i v (contents sh.bare)).taken
-      (trimmed rules (with_replaced rules offers names pair i v (contents sh.bare)) sh)
-      (Some false, with_left (with_given_up rules offers names pair i v (contents sh.bare)) sh)
+    abbrev ends_there : K × V → Shape K V S H → Option Bool × Shape K V S H
+    ends_there pair sh = cond (replacement rules offers names pair i v (contents sh.bare)).taken
+        (trimmed rules (with_replaced rules offers names pair i v (contents sh.bare)) sh)
+        (Some false, with_left (with_given_up rules offers names pair i v (contents sh.bare)) sh)
 
-  abbrev ends_new : Bool → Shape K V S H → S → Option (K × V) → Option Bool × Shape K V S H
-  ends_new lacks sh s None = (Some false, relimited s sh)
-  ends_new lacks sh s (Some pair) = settles (place_in rules pair lacks
-      (with_left (make_way rules (record { pairs = sh.bare.pairs; limiter = s })) (relimited s sh)))
+    abbrev ends_new : Bool → Shape K V S H → S → Option (K × V) → Option Bool × Shape K V S H
+    ends_new lacks sh s None = (Some false, relimited s sh)
+    ends_new lacks sh s (Some pair) = settles (place_in rules pair lacks
+        (with_left (make_way rules (record { pairs = sh.bare.pairs; limiter = s })) (relimited s sh)))
 
-  abbrev EndsBy : Bool → Shape K V S H → Option (K × V) → Option Bool × Shape K V S H → Type 0
-  EndsBy lacks sh (Some pair) ended = ends_there pair sh ≡ ended
-  EndsBy lacks sh None ended = (s : S) × (given : Option (K × V))
-      × MayGive rules offers names i v (contents sh.bare) s given × (ends_new lacks sh s given ≡ ended)
+    abbrev EndsBy : Bool → Shape K V S H → Option (K × V) → Option Bool × Shape K V S H → Type 0
+    EndsBy lacks sh (Some pair) ended = ends_there pair sh ≡ ended
+    EndsBy lacks sh None ended = (s : S) × (given : Option (K × V))
+        × MayGive rules offers names i v (contents sh.bare) s given × (ends_new lacks sh s given ≡ ended)
 
-  abbrev Ends : Bool → Shape K V S H → Option Bool × Shape K V S H → Type 0
-  Ends lacks sh ended = EndsBy lacks sh (lookup_entry (names i) sh.bare.pairs) ended
+    abbrev Ends : Bool → Shape K V S H → Option Bool × Shape K V S H → Type 0
+    Ends lacks sh ended = EndsBy lacks sh (lookup_entry (names i) sh.bare.pairs) ended
 
-  ends_alike : IsDetermined offers → (lacks : Bool) (sh : Shape K V S H) (o : Option (K × V))
-      (ended other : Option Bool × Shape K V S H) → EndsBy lacks sh o ended → EndsBy lacks sh o other → ended ≡ other
-  ends_alike determined lacks sh (Some pair) ended other h k = sym h ∙ k
-  ends_alike determined lacks sh None ended other h k =
-      let d = determined sh.bare.limiter (length sh.bare.pairs) i v h.0 k.0 h.1 k.1 h.2 k.2 in
-      sym h.3 ∙ (λ j. ends_new lacks sh (d.0 j) (d.1 j)) ∙ k.3
+    ends_alike : IsDetermined offers → (lacks : Bool) (sh : Shape K V S H) (o : Option (K × V))
+        (ended other : Option Bool × Shape K V S H) → EndsBy lacks sh o ended → EndsBy lacks sh o other → ended ≡ other
+    ends_alike determined lacks sh (Some pair) ended other h k = sym h ∙ k
+    ends_alike determined lacks sh None ended other h k =
+        let d = determined sh.bare.limiter (length sh.bare.pairs) i v h.0 k.0 h.1 k.1 h.2 k.2 in
+        sym h.3 ∙ (λ j. ends_new lacks sh (d.0 j) (d.1 j)) ∙ k.3
 
-  module _ (hash_of : H → K → ℕ) (never : NeverLacks offers) (old : State K V S H) (small : buckets old ≤ 16)
-      (result : Result Bool AllocError) (new : State K V S H) (after : buckets new ≤ 16) where
-    insert_is : Insert rules offers names hash_of i v old result new → Ends (is_err result) (shape old)
-        (told result, shape new)
-    insert_is (replaced pair found y r l) = rw (found, y)
-        (trimmed_is rules (with_replaced rules offers names pair i v (contents old)) old result new small r l)
-    insert_is (given_up pair found y r l) = rw (found, y, r)
-        (ap (λ sh. (Some false, sh)) (sym (left_shape old _ new small l)))
-    insert_is (no_memory_to_admit a k r e) = absurd (never old.limiter (length old.pairs) i v k)
-    insert_is (not_admitted a s n r e) = rw (a, r) (s, None, n, ap (λ st. (Some false, shape st)) (sym e))
-    insert_is (admitted a s pair n (ready, l, outcome, mid, p, t)) =
-        let start : State K V S H = record old { limiter = s } in
-        let is = left_shape start (make_way rules (contents start)) ready small l in
-        let tiny : buckets ready ≤ 16 = omega (arith, small, l.room.table) in
-        rw a (
-          s,
-          Some pair,
-          n,
-          (λ j. settles (place_in rules pair (lacks_is rules outcome mid result new t j) (sym is j)))
-              ∙ ap settles (place_is rules hash_of pair ready tiny outcome mid p)
-              ∙ settled_is rules outcome mid result new after t,
-        )
+    module _ (hash_of : H → K → ℕ) (never : NeverLacks offers) (old : State K V S H) (small : buckets old ≤ 16)
+        (result : Result Bool AllocError) (new : State K V S H) (after : buckets new ≤ 16) where
+      insert_is : Insert rules offers names hash_of i v old result new → Ends (is_err result) (shape old)
+          (told result, shape new)
+      insert_is (replaced pair found y r l) = rw (found, y)
+          (trimmed_is rules (with_replaced rules offers names pair i v (contents old)) old result new small r l)
+      insert_is (given_up pair found y r l) = rw (found, y, r)
+          (ap (λ sh. (Some false, sh)) (sym (left_shape old _ new small l)))
+      insert_is (no_memory_to_admit a k r e) = absurd (never old.limiter (length old.pairs) i v k)
+      insert_is (not_admitted a s n r e) = rw (a, r) (s, None, n, ap (λ st. (Some false, shape st)) (sym e))
+      insert_is (admitted a s pair n (ready, l, outcome, mid, p, t)) =
+          let start : State K V S H = record old { limiter = s } in
+          let is = left_shape start (make_way rules (contents start)) ready small l in
+          let tiny : buckets ready ≤ 16 = omega (arith, small, l.room.table) in
+          rw a (
+            s,
+            Some pair,
+            n,
+            (λ j. settles (place_in rules pair (lacks_is rules outcome mid result new t j) (sym is j)))
+                ∙ ap settles (place_is rules hash_of pair ready tiny outcome mid p)
+                ∙ settled_is rules outcome mid result new after t,
+          )
 
-  -- two inserts of the same end alike, if both find memory or neither does
-  pub small_inserts_alike : {hash_of : H → K → ℕ} → IsDetermined offers → NeverLacks offers
-      → (old : State K V S H) (result : Result Bool AllocError) (new other : State K V S H)
-      (answer : Result Bool AllocError) (last : State K V S H) → buckets old ≤ 16
-      → buckets new ≤ 16 → buckets last ≤ 16 → LookAlike old other → is_err result ≡ is_err answer
-      → Insert rules offers names hash_of i v old result new → Insert rules offers names hash_of i v other answer last
-      → (result ≡ answer) × LookAlike new last
-  small_inserts_alike {hash_of} determined never old result new other answer last small after too alike same h k =
-      let e = same_shape alike in
-      let one = insert_is hash_of never old small result new after h in
-      let two = insert_is hash_of never other (omega (arith, small, alike.table)) answer last too k in
-      let moved = subst (λ lacks. Ends lacks (shape old) (told answer, shape last)) (sym same)
-      (subst (λ sh. Ends (is_err answer) sh (told answer, shape last)) e two) in
-      let ends = ends_alike determined (is_err result) (shape old) (lookup_entry (names i) old.pairs)
-      (told result, shape new) (told answer, shape last) one moved in
-      (told_same result answer (ap (λ x. x.0) ends), look_alike new last (sym (ap (λ x. x.1) ends)))
+    -- two inserts of the same end alike, if both find memory or neither does
+    pub small_inserts_alike : {hash_of : H → K → ℕ} → IsDetermined offers → NeverLacks offers
+        → (old : State K V S H) (result : Result Bool AllocError) (new other : State K V S H)
+        (answer : Result Bool AllocError) (last : State K V S H) → buckets old ≤ 16
+        → buckets new ≤ 16 → buckets last ≤ 16 → LookAlike old other → is_err result ≡ is_err answer
+        → Insert rules offers names hash_of i v old result new → Insert rules offers names hash_of i v other answer last
+        → (result ≡ answer) × LookAlike new last
+    small_inserts_alike {hash_of} determined never old result new other answer last small after too alike same h k =
+        let e = same_shape alike in
+        let one = insert_is hash_of never old small result new after h in
+        let two = insert_is hash_of never other (omega (arith, small, alike.table)) answer last too k in
+        let moved = subst (λ lacks. Ends lacks (shape old) (told answer, shape last)) (sym same)
+        (subst (λ sh. Ends (is_err answer) sh (told answer, shape last)) e two) in
+        let ends = ends_alike determined (is_err result) (shape old) (lookup_entry (names i) old.pairs)
+        (told result, shape new) (told answer, shape last) one moved in
+        (told_same result answer (ap (λ x. x.0) ends), look_alike new last (sym (ap (λ x. x.1) ends)))
