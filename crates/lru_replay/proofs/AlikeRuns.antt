@@ -176,9 +176,9 @@ module _ {K V S H : Type 0} (rules : Rules K V S) (offers : Offers K V S K) (eq 
           (is' ∙ ap value (sym same))
           (ap shape (e' ∙ ap (λ r. promoted_if eq r k other) (sym same)))
 
-      step_alike : wants_memory reply ≡ wants_memory answer → (call : Call K V S) → HasPlainSearch (hash_of old.hasher) call
-          → Step rules offers eq hash_of old call reply new → Step rules offers eq hash_of other call answer last
-          → AreAlike
+      step_alike : wants_memory reply ≡ wants_memory answer → (call : Call K V S)
+          → HasPlainSearch (hash_of old.hasher) call → Step rules offers eq hash_of old call reply new
+          → Step rules offers eq hash_of other call answer last → AreAlike
       step_alike wants (calls.Insert k v) plain h h' = insert_alike wants k v h h'
       step_alike wants (calls.GetOrInsert k v) plain (result, h, is) (result', h', is') =
           made_alike wants k v result result' h h' is is'
@@ -245,9 +245,9 @@ module _ {K V S H : Type 0} (rules : Rules K V S) (offers : Offers K V S K) (eq 
     stored_wants old new call reply stores step = absurd stores
 
     call_alike : (old other new last : State K V S H) → LookAlike old other → buckets old ≤ 16 → buckets new ≤ 16
-        → buckets last ≤ 16 → (reply answer : Reply K V) → wants_memory reply ≡ wants_memory answer → (call : Call K V S)
-        → HasPlainSearch (hash_of old.hasher) call → CallStep rules offers eq hash_of old call reply new
-        → CallStep rules offers eq hash_of other call answer last → (reply ≡ answer) × LookAlike new last
+        → buckets last ≤ 16 → (reply answer : Reply K V) → wants_memory reply ≡ wants_memory answer
+        → (call : Call K V S) → HasPlainSearch (hash_of old.hasher) call
+        → CallStep rules offers eq hash_of old call reply new → CallStep rules offers eq hash_of other call answer last → (reply ≡ answer) × LookAlike new last
     call_alike old other new last alike small after too reply answer wants call plain (inl s) (inl t) =
         step_alike old other new last alike small after too reply answer wants call plain s t
     call_alike old other new last alike small after too reply answer wants call plain (inl s) (inr (stores, is, e)) =
@@ -257,8 +257,8 @@ module _ {K V S H : Type 0} (rules : Rules K V S) (offers : Offers K V S K) (eq 
         let both : true ≡ false = ap wants_memory (sym is) ∙ wants ∙ stored_wants other last call answer stores t in
         absurd (true≢false both)
     call_alike old other new last alike small after too reply answer wants call plain (inr h) (inr k) =
-        told_by old other new last alike small after too reply answer (λ sh. no_memory) (λ sh. sh) h.1 (ap shape h.2) k.1
-        (ap shape k.2)
+        told_by old other new last alike small after too reply answer (λ sh. no_memory) (λ sh. sh)
+        h.1 (ap shape h.2) k.1 (ap shape k.2)
 
     same_hasher : (old new : State K V S H) (call : Call K V S) (reply : Reply K V)
         → CallStep rules offers eq hash_of old call reply new → new.hasher ≡ old.hasher
@@ -286,6 +286,6 @@ module _ {K V S H : Type 0} (rules : Rules K V S) (offers : Offers K V S K) (eq 
         (mid, step, few, run) (middle, stepped, little, ran) wants =
         let own = subst (λ h. HasPlainSearch (hash_of h) call) (sym built) plain in
         let one = call_alike old other mid middle alike small few little r a (head_same wants) call own step stepped in
-        let rest = runs_alike hasher calls mid middle new last rs others (same_hasher old mid call r step ∙ built) one.1 few
-        more run ran (tail_same wants) in
+        let rest = runs_alike hasher calls mid middle new last rs others (same_hasher old mid call r step ∙ built) one.1
+        few more run ran (tail_same wants) in
         ((λ j. one.0 j ∷ rest.0 j), rest.1)

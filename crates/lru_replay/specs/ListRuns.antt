@@ -1,7 +1,8 @@
 -- Calls on a list of pairs under a limiter, newest first: what each says and leaves where there is no table.
 --     rules, offers, eq   as in `Steps`
 --     hash_of k           the hash of the key k
-use Rattle.std.specs.Prelude.{◌≡◌, ℕ, ◌++◌, Bool, [], Option, Some, None, Result, MatchOption, is_some, length, option_map}
+use Rattle.std.specs.Prelude.{◌≡◌, ℕ, ◌++◌, Bool, [], Option, Some, None, Result, MatchOption, is_some, length}
+use Rattle.std.specs.Prelude.{option_map}
 use Rattle.std.specs.Map.{set_value}
 use Rattle.std.specs.declared.alloc.AllocError.{AllocError}
 use Rattle.lru_limits.specs.Rules.{Rules, Offers}

@@ -73,8 +73,9 @@ pub fn calls_keep_the_cost<K: Eq + Hash + Drop, V: Costed + Drop, S: BuildHasher
 }
 
 /// Where the limiter permits every growth, as `ByLength`, `ByCost` and the unlimited ones do, and links and bytes reach
-/// the tables that the pairs may need, a run is one on a list of pairs with distinct keys that has no table: each answer
-/// and each state is as the list and the limiter have it.
+/// the tables that the pairs may need, a run is one on a list of pairs with distinct keys that has no table. So each
+/// answer and each state is as the list and the limiter have it. They reach those tables, if they reach one for eight
+/// times as many pairs as there are and calls.
 pub fn granted_calls_are_exact<K: Eq + Hash, V, L: Insertion<K, V, K>, S: BuildHasher>()
     ensures exact { (old new : State K V L S) (calls : List (Call K V L)) (replies : List (Reply K V)) →
         AlwaysGrants L.rules → HasTables old →
@@ -97,7 +98,8 @@ pub fn granted_calls_are_exact<K: Eq + Hash, V, L: Insertion<K, V, K>, S: BuildH
 /// wants of memory, no table of theirs has more than 16 buckets, and the two maps before them differ at most in which
 /// buckets are full. So do the two maps after them.
 pub fn small_calls_are_alike<K: Eq + Hash, V, L: Insertion<K, V, K>, S: BuildHasher>()
-    ensures alike { (old other new last : State K V L S) (calls : List (Call K V L)) (replies answers : List (Reply K V)) →
+    ensures alike { (old other new last : State K V L S) (calls : List (Call K V L))
+        (replies answers : List (Reply K V)) →
         IsDetermined L.offers → NeverLacks L.offers → LookAlike old other → buckets old ≤ 16 →
         AllByRecursion (HasPlainSearch (hash_by K.hash_input S.BuildHasher S.Hasher.Hasher old.hasher)) calls →
         IsRun (CallStep L.rules L.offers K.eq (hash_by K.hash_input S.BuildHasher S.Hasher.Hasher))

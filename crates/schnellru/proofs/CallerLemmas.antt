@@ -188,7 +188,8 @@ pub charges-finds : {K V : Type 0} (cost : V → ℕ) → NeverLacks (charges {K
 charges-finds cost = λ s n i v lacks. lacks
 
 -- those permit every growth that answer true
-pub plain-grants : (K V : Type 0) {S : Type 0} (over : S → ℕ → Bool) → AlwaysGrants (plain {K = K} {V = V} over (λ _ _. true))
+pub plain-grants : (K V : Type 0) {S : Type 0} (over : S → ℕ → Bool)
+    → AlwaysGrants (plain {K = K} {V = V} over (λ _ _. true))
 plain-grants K V over = λ s bytes. (refl, refl)
 
 pub by_cost-grants : (K : Type 0) {V : Type 0} (cost : V → ℕ) → AlwaysGrants (by_cost {K = K} cost)

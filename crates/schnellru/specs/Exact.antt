@@ -1,7 +1,7 @@
 -- Inserts that leave nothing open but where memory is short: into tables of up to 16 buckets, or where the limiter
 -- permits every growth.
-use Rattle.std.specs.Prelude.{◌≡◌, ◌≢◌, ℕ, ◌+◌, ◌-◌, ◌/◌, ◌==◌, ◌<◌, ◌≤◌, nat_lt, nat_le, Bool, true, false, not, if◌then◌else◌}
-use Rattle.std.specs.Prelude.{◌∷◌, length, Option, Some, None, Result, Ok, IsErr}
+use Rattle.std.specs.Prelude.{◌≡◌, ◌≢◌, ℕ, ◌+◌, ◌-◌, ◌/◌, ◌==◌, ◌<◌, ◌≤◌, nat_lt, nat_le, Bool, true, false, not}
+use Rattle.std.specs.Prelude.{if◌then◌else◌, ◌∷◌, length, Option, Some, None, Result, Ok, IsErr}
 use Rattle.std.specs.declared.alloc.AllocError.{AllocError}
 use Rattle.lru_limits.specs.Rules.{Rules, Offers}
 use Rattle.group_table.specs.Sizes.{IsPowerFromFour, full_capacity}
@@ -111,7 +111,8 @@ module _ {K V S I : Type 0} (rules : Rules K V S) (offers : Offers K V S I) (nam
   EndsExactly old result new = EndsIfLanded rules offers names (lands_in rules old) i v (contents old) result
       (contents new)
 
-  -- An insert into a list of pairs that has no table: each pair that the limiter gives is placed. Or no memory is found,
+  -- An insert into a list of pairs that has no table: each pair that the limiter gives is placed.
+  -- Or no memory is found,
   pub data InsertsInList (old : Contents K V S) (result : Result Bool AllocError) (new : Contents K V S) : Type 0 where
     ends : EndsIfLanded rules offers names (lands rules) i v old result new →
         InsertsInList old result new

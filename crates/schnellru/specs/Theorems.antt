@@ -75,7 +75,8 @@ module _ {K V S H I : Type 0} (rules : Rules K V S) (offers : Offers K V S I) (n
           (replacement rules offers names was i v (contents old)).new_value,
         ) →
         Stores i v old pair
-    given : lookup_entry (names i) old.pairs ≡ None → (s : S) → MayGive rules offers names i v (contents old) s (Some pair) →
+    given : lookup_entry (names i) old.pairs ≡ None →
+        (s : S) → MayGive rules offers names i v (contents old) s (Some pair) →
         Stores i v old pair
 
 -- the limiter stores each value as it was inserted

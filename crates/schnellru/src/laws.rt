@@ -41,8 +41,9 @@ pub fn inserts_give_up_the_oldest<
 >()
     ensures { (key : I) (value : V) (old : State K V L S) (result : Result Bool AllocError) (new : State K V L S) →
         Insert L.rules L.offers I.names (hash_by K.hash_input S.BuildHasher S.Hasher.Hasher) key value old result new →
-        GivesUp (I.names key) (λ pair. (replacement L.rules L.offers I.names pair key value (contents old)).taken ≡ false)
-        old.pairs new.pairs }
+        GivesUp (I.names key)
+        (λ pair. (replacement L.rules L.offers I.names pair key value (contents old)).taken ≡ false) old.pairs
+        new.pairs }
 {}
 
 /// An insert answers true exactly where its key is there afterwards.
@@ -102,8 +103,8 @@ pub fn inserts_lack_memory_at_no_room<
 {}
 
 /// An insert into a table of up to 16 buckets leaves nothing open but where memory is short: not what it answers, nor
-/// the pairs, nor the limiter. Where the limiter's offers leave nothing open, two inserts of the same end alike, however
-/// a pair lands that the limiter gives.
+/// the pairs, nor the limiter. Where the limiter's offers leave nothing open, two inserts of the same end alike,
+/// however a pair lands that the limiter gives.
 pub fn small_inserts_are_exact<
     K: Eq + Hash,
     V,

@@ -11,7 +11,8 @@ use Rattle.std.proofs.lemmas.Option.{cond_some, same_Some}
 use Rattle.group_table.specs.Sizes.{IsPowerFromFour, IsBucketCount, full_capacity, least_power, below, buckets_for}
 use Rattle.group_table.proofs.PowerLemmas.{doubled, first_power_least, first_power_shape, power_gap}
 use Rattle.group_table.proofs.SizeLemmas.{full_capacity-large, power_pos}
-use Rattle.schnellru.specs.Sizes.{bytes_of, usage, no_table, same_table, new_table, table_of, table_with, target_from, target}
+use Rattle.schnellru.specs.Sizes.{bytes_of, usage, no_table, same_table, new_table, table_of, table_with, target_from}
+use Rattle.schnellru.specs.Sizes.{target}
 
 -- 4, 8, or at least 16
 pub sizes_of : (k b : ℕ) → b ≡ 4 * 2 ^ k → (b ≡ 4) ⊎ ((b ≡ 8) ⊎ (16 ≤ b))

@@ -1,17 +1,17 @@
 -- Links and bytes reach the tables that pairs may need, where they reach one for eight times as many.
-use Rattle.std.proofs.Common.{◌≡◌, ◌≢◌, ℕ, zero, suc, ◌+◌, ◌-◌, ◌*◌, ◌/◌, ◌^◌, ◌<◌, ◌≤◌, ◌⊎◌, inl, inr, Bool, true, false}
-use Rattle.std.proofs.Common.{cond, length, Option, Some, None, refl, sym, ◌∙◌, arith, pow-add, subst, ap}
+use Rattle.std.proofs.Common.{◌≡◌, ◌≢◌, ℕ, zero, suc, ◌+◌, ◌-◌, ◌*◌, ◌/◌, ◌^◌, ◌<◌, ◌≤◌, inl, inr, Bool, true}
+use Rattle.std.proofs.Common.{false, cond, length, Some, refl, arith, pow-add}
 use native.Mathlib.Decide.{dec_lt}
-use Rattle.std.specs.Prelude.{nat_lt, nat_le, ◌==◌}
+use Rattle.std.specs.Prelude.{nat_lt, nat_le}
 use Rattle.std.proofs.lemmas.Bool.Decides.{nat_tests}
 use Rattle.std.proofs.lemmas.Bool.{eq-eqb, ne_eqb, le-leb}
 use Rattle.group_table.specs.Sizes.{IsBucketCount, full_capacity, buckets_for}
 use Rattle.schnellru.specs.Exact.{HasTables, HasTableFor}
-use Rattle.schnellru.specs.Sizes.{bytes_of, usage, no_table, same_table, new_table, table_with, target_from, target}
+use Rattle.schnellru.specs.Sizes.{bytes_of, usage, no_table, same_table, new_table, table_with, target}
 use Rattle.schnellru.specs.State.{State, buckets, IsSized}
 use Rattle.schnellru.proofs.TableSizes.Budgets.{bytes_mono}
 use Rattle.schnellru.proofs.TableSizes.Doubling.{half_needs}
-use Rattle.schnellru.proofs.TableSizes.Growth.{full_capacity-at_most, sizes_of, usage_addressable, usage_bytes}
+use Rattle.schnellru.proofs.TableSizes.Growth.{full_capacity-at_most, usage_addressable, usage_bytes}
 
 -- a table has a usage, where a larger one has
 usage_of_less : (e m n bytes : ℕ) → m ≤ n → usage e n ≡ Some bytes → (other : ℕ) × (usage e m ≡ Some other)
@@ -45,7 +45,8 @@ module _ (k max e count bytes : ℕ) (size : count ≡ 4 * 2 ^ k) (reached : cou
 
   need_within : (c : ℕ) → c ≤ full_capacity count / 2 → table_with e (buckets_for max c) ≢ no_table
   need_within c half is =
-      let (need, e, small) = half_needs k max count c size reached (omega (arith, usage_addressable e count bytes usable)) half in
+      let (need, e, small) = half_needs k max count c size reached
+      (omega (arith, usage_addressable e count bytes usable)) half in
       some_table need small (rw e at is)
 
   pub has_target : (b c : ℕ) → IsBucketCount b → 8 * c ≤ full_capacity count → target max e b c ≢ no_table

@@ -1,10 +1,9 @@
 -- No call adds more than one pair.
-use Rattle.std.proofs.Common.{◌≡◌, ℕ, ◌+◌, ◌≤◌, Bool, List, ◌∷◌, length, Result, ap, arith, refl}
+use Rattle.std.proofs.Common.{◌≡◌, ℕ, ◌+◌, ◌≤◌, Bool, List, ◌∷◌, length, Result, ap, arith}
 use Rattle.std.proofs.lemmas.Map.{length-set_value}
 use Rattle.lru_limits.specs.Laws.{IsLookup, IsInsertion}
 use Rattle.lru_limits.specs.Rules.{Rules, Offers}
-use Rattle.schnellru.specs.Drains.{pops_first}
-use Rattle.schnellru.specs.GetOrInserts.{MakesNewest, got, inserted}
+use Rattle.schnellru.specs.GetOrInserts.{got, inserted}
 use Rattle.schnellru.specs.Lists.{without}
 use Rattle.schnellru.specs.Reservations.{Reserve, too_many, enough_room, no_such_table, remade, no_memory_to_remake}
 use Rattle.schnellru.specs.Reservations.{denied_room, reserved, no_memory_to_grow}

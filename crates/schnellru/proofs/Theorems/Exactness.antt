@@ -20,7 +20,8 @@ use Rattle.schnellru.proofs.Maps.LeavingPairs.{oldest_leaves}
 use Rattle.schnellru.proofs.Maps.Outcomes.{ok-not_err}
 use Rattle.schnellru.proofs.Theorems.Moves.{left_are}
 use Rattle.schnellru.specs.Exact.{Landing, Ending, lands, evicts, grows, landing, trimmed, settled, lands_in}
-use Rattle.schnellru.specs.Exact.{ending_there, ending_new, IsEnding, EndsBy, EndsIfLanded, EndsExactly, EndsAlike, IsDetermined}
+use Rattle.schnellru.specs.Exact.{ending_there, ending_new, IsEnding, EndsBy, EndsIfLanded, EndsExactly, EndsAlike}
+use Rattle.schnellru.specs.Exact.{IsDetermined}
 
 module _ {K V S H : Type 0} (rules : Rules K V S) (pair : K × V) where
   -- The pair, the pairs and the limiter are as they are to be, where memory is not short.

@@ -19,7 +19,6 @@ use Rattle.schnellru.specs.Place.{IsPlaced, IsPlacedIfMemory}
 use Rattle.schnellru.specs.Sizes.{usage, Target, target, no_table, same_table, new_table}
 use Rattle.schnellru.specs.State.{State, Contents, buckets, room, contents, Leaves, pops, trim}
 use Rattle.schnellru.proofs.Maps.LeavingPairs.{oldest_leaves, known_is}
-use Rattle.schnellru.proofs.Maps.Outcomes.{ok-not_err}
 use Rattle.schnellru.proofs.PairLists.Emptiness.{is_empty-some}
 
 -- a map, but for which of its buckets are full
@@ -56,8 +55,8 @@ module _ {K V S H : Type 0} where
     bare = record sh.bare { pairs = c.pairs; limiter = c.limiter };
   }
 
-  pub left_shape : (old : State K V S H) (c : Contents K V S) (new : State K V S H) → buckets old ≤ 16 → Leaves old c new
-      → shape new ≡ with_left c (shape old)
+  pub left_shape : (old : State K V S H) (c : Contents K V S) (new : State K V S H) → buckets old ≤ 16
+      → Leaves old c new → shape new ≡ with_left c (shape old)
   left_shape old c new small l =
       let spare : room new ≡ room old + length old.pairs - length c.pairs = omega
       (arith, l.room.exact small, ap (λ st. length st.pairs) l.is) in
@@ -82,7 +81,8 @@ module _ {K V S H : Type 0} where
       (λ j. record { count = p.table j; spare = p.room_left j; bare = record (p.state j) { marks = []; places = [] } })
 
   -- up to 16 buckets an empty one is filled
-  fills_one : (hash : ℕ) (old new : State K V S H) → buckets old ≤ 16 → FillsBucket hash old new → room old - 1 ≡ room new
+  fills_one : (hash : ℕ) (old new : State K V S H) → buckets old ≤ 16 → FillsBucket hash old new
+      → room old - 1 ≡ room new
   fills_one hash old new small (inl (first, r)) = omega (arith, r)
   fills_one hash old new small (inr (first, large, r)) = absurd (omega (arith, small, large))
 
@@ -186,7 +186,8 @@ module _ {K V S H : Type 0} (rules : Rules K V S) (hash_of : H → K → ℕ) (p
     anew_is : (n : ℕ) (left new : State K V S H) (outcome : Outcome) → n ≡ 1
         → length old.pairs + 1 ≡ full_capacity (buckets old) / 2 + n
         → OldestLeave rules (hash_of old.hasher pair.0) n mid left
-        → IsPlacedIfMemory rules pair (buckets old) (full_capacity (buckets old) / 2) (length left.pairs) left outcome new
+        → IsPlacedIfMemory rules pair (buckets old) (full_capacity (buckets old) / 2) (length left.pairs) left outcome
+        new
         → evict rules pair (lacks_memory outcome) (shape mid) ≡ (outcome, shape new)
     anew_is n left new outcome one half gone m =
         let is = one_left n left one gone in
