@@ -15,6 +15,7 @@
 --     given-tag            and only one whose hash has the tag of the hash
 --     given-promoted       one through which nothing is written brings that pair to the front, and no more
 --     none-found           where it gives none, no pair of that key has the hash
+--     sum-set              a write that keeps the cost of its pair keeps the sum of the costs
 --     has_tables           there are tables for the pairs of a map, where links and bytes reach one for many more
 --     Shape, shape         a map, but for which of its buckets are full; `same_shape` and `look_alike` say so
 --     left_shape, cleared_shape, reserve_is      what calls make of it in tables of up to 16 buckets
@@ -28,6 +29,7 @@ pub use Rattle.schnellru.proofs.Theorems.Fronts.{found_named}
 pub use Rattle.schnellru.proofs.Theorems.Limits.{length-without}
 pub use Rattle.schnellru.proofs.TableSizes.Reached.{has_tables}
 pub use Rattle.schnellru.proofs.Theorems.Runs.{any_step_same}
+pub use Rattle.schnellru.proofs.Theorems.Sums.{sum-set}
 pub use Rattle.schnellru.proofs.Theorems.SmallTables.{Shape, shape, same_shape, look_alike, with_left, left_shape}
 pub use Rattle.schnellru.proofs.Theorems.SmallCalls.{clears, cleared_shape, is_memory, reserve_in, reserve_is}
 use Rattle.std.proofs.Common.{◌≡◌, ℕ, Bool, true, false, cond, List, [], ◌∷◌, ◌++◌, refl, sym, ap, ◌∙◌, subst}

@@ -1,8 +1,8 @@
 use Rattle.std.proofs.Common.{◌≤◌, refl, sym, ◌∙◌}
+use Rattle.schnellru.proofs.CallerLemmas.{sum-set}
 use Rattle.schnellru.specs.Theorems.{IsSummed}
 use Rattle.lru_replay.proofs.CallLaws.{run_within, summing_kinds}
 use Rattle.lru_replay.proofs.CallRuns.{run-follows}
-use Rattle.lru_replay.proofs.SummedCalls.{sum-set}
 use Rattle.lru_replay.specs.CallRuns.{KeepsCost}
 use Rattle.lru_replay.proofs.laws.calls_keep_the_cost.Goals as goal
 
