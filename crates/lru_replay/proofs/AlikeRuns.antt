@@ -1,6 +1,6 @@
 -- In tables of up to 16 buckets two runs of the same calls are alike.
 use Rattle.std.proofs.Common.{◌≡◌, ℕ, ◌≤◌, Bool, true, false, List, [], ◌∷◌, ◌++◌, Option, Some, None, Result, Ok, Err}
-use Rattle.std.proofs.Common.{refl, sym, ap, ◌∙◌, subst, inl, inr, map, length, arith, option_map}
+use Rattle.std.proofs.Common.{refl, sym, ap, ◌∙◌, subst, inl, inr, ◌⊎◌, map, length, arith, option_map}
 use Rattle.std.specs.Prelude.{is_err, is_some, IsTrue}
 use Rattle.std.specs.List.{AllByRecursion}
 use Rattle.std.proofs.lemmas.Bool.{true≢false}
@@ -8,7 +8,7 @@ use Rattle.std.specs.Map.{set_value}
 use Rattle.std.specs.declared.alloc.AllocError.{AllocError}
 use Rattle.group_table.specs.Probe.{hash_tag}
 use Rattle.lru_limits.specs.Rules.{Rules, Offers}
-use Rattle.schnellru.proofs.CallerLemmas.{any_step_same, Shape, shape, same_shape, look_alike, with_left, left_shape}
+use Rattle.schnellru.proofs.CallerLemmas.{Shape, shape, same_shape, look_alike, with_left, left_shape}
 use Rattle.schnellru.proofs.CallerLemmas.{clears, cleared_shape, is_memory, reserve_in, reserve_is, found_named}
 use Rattle.schnellru.specs.Calls.{left_of, removal, pop_first}
 use Rattle.schnellru.specs.Drains.{pops_first, newest_given, oldest_given}
@@ -17,19 +17,20 @@ use Rattle.schnellru.specs.GetOrInserts.{MakesNewest, got, inserted}
 use Rattle.schnellru.specs.Inserts.{Insert}
 use Rattle.schnellru.specs.Lists.{first, last as last_of, front, lookup, lookup_entry, newest_value}
 use Rattle.schnellru.specs.Reservations.{Reserve}
+use Rattle.schnellru.specs.Runs.{AnyStep}
 use Rattle.schnellru.specs.Sizes.{usage}
 use Rattle.schnellru.specs.State.{State, buckets, contents, pop, pops}
 use Rattle.schnellru.specs.declared.map.reserve.ReserveError.{ReserveError}
 use Rattle.schnellru.specs.declared.map.reserve.ReserveError.TheVariants.{TooLarge, Refused, Memory}
-use Rattle.lru_replay.specs.CallRuns.{IsRun, CallStep, HasPlainSearch, StoresPairs}
+use Rattle.lru_replay.specs.CallRuns.{IsRun, CallStep, SummingStep, KeepsCost, HasPlainSearch, StoresPairs}
 use Rattle.lru_replay.specs.Figures.{IsFigures}
 use Rattle.lru_replay.specs.Replies.{Reply, flag, value, pair, listed, reserved, stats, done, no_memory, insert_reply}
-use Rattle.lru_replay.specs.Replies.{made_reply, wants_memory}
+use Rattle.lru_replay.specs.Replies.{made_reply, wants_memory, cost_differs}
 use Rattle.lru_replay.specs.Steps.{Step, FindsByHash, found, not_found, promoted_if}
 use Rattle.lru_replay.specs.declared.call.Call.{Call}
 use Rattle.lru_replay.specs.declared.call.Call.TheVariants as calls
 use Rattle.lru_replay.specs.declared.figures.Figures.{Figures}
-use Rattle.lru_replay.proofs.CallKinds.{kind_of, any_step}
+use Rattle.lru_replay.proofs.ListRuns.{same_hasher}
 
 head_same : {x y : Bool} {xs ys : List Bool} → x ∷ xs ≡ y ∷ ys → x ≡ y
 head_same e = cc
@@ -244,7 +245,7 @@ module _ {K V S H : Type 0} (rules : Rules K V S) (offers : Offers K V S K) (eq 
     stored_wants old new (calls.Drain front back) reply stores (pairs, h, is) = ap wants_memory is
     stored_wants old new call reply stores step = absurd stores
 
-    call_alike : (old other new last : State K V S H) → LookAlike old other → buckets old ≤ 16 → buckets new ≤ 16
+    pub call_alike : (old other new last : State K V S H) → LookAlike old other → buckets old ≤ 16 → buckets new ≤ 16
         → buckets last ≤ 16 → (reply answer : Reply K V) → wants_memory reply ≡ wants_memory answer
         → (call : Call K V S) → HasPlainSearch (hash_of old.hasher) call
         → CallStep rules offers eq hash_of old call reply new → CallStep rules offers eq hash_of other call answer last → (reply ≡ answer) × LookAlike new last
@@ -260,32 +261,45 @@ module _ {K V S H : Type 0} (rules : Rules K V S) (offers : Offers K V S K) (eq 
         told_by old other new last alike small after too reply answer (λ sh. no_memory) (λ sh. sh)
         h.1 (ap shape h.2) k.1 (ap shape k.2)
 
-    same_hasher : (old new : State K V S H) (call : Call K V S) (reply : Reply K V)
-        → CallStep rules offers eq hash_of old call reply new → new.hasher ≡ old.hasher
-    same_hasher old new call reply step = elim (any_step call (kind_of call reply step)) [
-      | inl any ↦ (any_step_same old new any).0
-      | inr same ↦ ap (λ st. st.hasher) same
-    ]
+    pub summing_alike : (cost : K → V → ℕ) (account : S → ℕ) (old other new last : State K V S H) → LookAlike old other
+        → buckets old ≤ 16 → buckets new ≤ 16 → buckets last ≤ 16 → (reply answer : Reply K V)
+        → wants_memory reply ≡ wants_memory answer → (call : Call K V S) → HasPlainSearch (hash_of old.hasher) call
+        → SummingStep rules offers eq hash_of cost account old call reply new
+        → SummingStep rules offers eq hash_of cost account other call answer last → (reply ≡ answer) × LookAlike new last
+    summing_alike cost account old other new last alike small after too reply answer wants call plain (inl s) (inl t) =
+        call_alike old other new last alike small after too reply answer wants call plain s.1 t.1
+    summing_alike cost account old other new last alike small after too reply answer wants call plain (inl s) (inr t) =
+        absurd (t.0 (subst (λ c. KeepsCost eq cost account c call) (sym (ap contents alike.state)) s.0))
+    summing_alike cost account old other new last alike small after too reply answer wants call plain (inr s) (inl t) =
+        absurd (s.0 (subst (λ c. KeepsCost eq cost account c call) (ap contents alike.state) t.0))
+    summing_alike cost account old other new last alike small after too reply answer wants call plain (inr s) (inr t) =
+        told_by old other new last alike small after too reply answer (λ sh. cost_differs) (λ sh. sh)
+        s.1 (ap shape s.2) t.1 (ap shape t.2)
 
-    abbrev IsSmallRun : State K V S H → List (Call K V S) → List (Reply K V) → State K V S H → Type 0
-    IsSmallRun = IsRun (CallStep rules offers eq hash_of) (λ st. buckets st ≤ 16)
-
-    -- so two runs of the same calls are alike
-    pub runs_alike : (hasher : H) (calls : List (Call K V S)) (old other new last : State K V S H)
-        (replies answers : List (Reply K V)) → old.hasher ≡ hasher → LookAlike old other → buckets old ≤ 16
-        → AllByRecursion (HasPlainSearch (hash_of hasher)) calls → IsSmallRun old calls replies new
-        → IsSmallRun other calls answers last → map wants_memory replies ≡ map wants_memory answers
-        → (replies ≡ answers) × LookAlike new last
-    runs_alike hasher [] old other new last [] [] built alike small plain same too wants =
-        (refl, subst (λ st. LookAlike st last) (sym same) (subst (LookAlike old) (sym too) alike))
-    runs_alike hasher [] old other new last (r ∷ rs) answers built alike small plain p q wants = absurd p
-    runs_alike hasher [] old other new last [] (a ∷ others) built alike small plain p q wants = absurd q
-    runs_alike hasher (call ∷ calls) old other new last [] answers built alike small plain p q wants = absurd p
-    runs_alike hasher (call ∷ calls) old other new last (r ∷ rs) [] built alike small plain p q wants = absurd q
-    runs_alike hasher (call ∷ calls) old other new last (r ∷ rs) (a ∷ others) built alike small (plain, more)
-        (mid, step, few, run) (middle, stepped, little, ran) wants =
-        let own = subst (λ h. HasPlainSearch (hash_of h) call) (sym built) plain in
-        let one = call_alike old other mid middle alike small few little r a (head_same wants) call own step stepped in
-        let rest = runs_alike hasher calls mid middle new last rs others (same_hasher old mid call r step ∙ built) one.1
-        few more run ran (tail_same wants) in
-        ((λ j. one.0 j ∷ rest.0 j), rest.1)
+-- Where two steps of the same call are alike, so are two runs of the same calls.
+module _ {K V S H : Type 0} {rules : Rules K V S} {offers : Offers K V S K} {eq : K → K → Bool} {hash_of : H → K → ℕ}
+    {IsStep : State K V S H → Call K V S → Reply K V → State K V S H → Type 0}
+    (moves : (old new : State K V S H) (call : Call K V S) (reply : Reply K V) → IsStep old call reply new
+    → AnyStep rules offers eq hash_of old new ⊎ (new ≡ old))
+    (one_alike : (old other new last : State K V S H) → LookAlike old other → buckets old ≤ 16 → buckets new ≤ 16
+    → buckets last ≤ 16 → (reply answer : Reply K V) → wants_memory reply ≡ wants_memory answer → (call : Call K V S)
+    → HasPlainSearch (hash_of old.hasher) call → IsStep old call reply new → IsStep other call answer last
+    → (reply ≡ answer) × LookAlike new last) where
+  pub runs_alike : (hasher : H) (calls : List (Call K V S)) (old other new last : State K V S H)
+      (replies answers : List (Reply K V)) → old.hasher ≡ hasher → LookAlike old other → buckets old ≤ 16
+      → AllByRecursion (HasPlainSearch (hash_of hasher)) calls → IsRun IsStep (λ st. buckets st ≤ 16) old calls replies new
+      → IsRun IsStep (λ st. buckets st ≤ 16) other calls answers last → map wants_memory replies
+      ≡ map wants_memory answers → (replies ≡ answers) × LookAlike new last
+  runs_alike hasher [] old other new last [] [] built alike small plain same too wants =
+      (refl, subst (λ st. LookAlike st last) (sym same) (subst (LookAlike old) (sym too) alike))
+  runs_alike hasher [] old other new last (r ∷ rs) answers built alike small plain p q wants = absurd p
+  runs_alike hasher [] old other new last [] (a ∷ others) built alike small plain p q wants = absurd q
+  runs_alike hasher (call ∷ calls) old other new last [] answers built alike small plain p q wants = absurd p
+  runs_alike hasher (call ∷ calls) old other new last (r ∷ rs) [] built alike small plain p q wants = absurd q
+  runs_alike hasher (call ∷ calls) old other new last (r ∷ rs) (a ∷ others) built alike small (plain, more)
+      (mid, step, few, run) (middle, stepped, little, ran) wants =
+      let own = subst (λ h. HasPlainSearch (hash_of h) call) (sym built) plain in
+      let one = one_alike old other mid middle alike small few little r a (head_same wants) call own step stepped in
+      let rest = runs_alike hasher calls mid middle new last rs others
+      (same_hasher moves old mid call r step ∙ built) one.1 few more run ran (tail_same wants) in
+      ((λ j. one.0 j ∷ rest.0 j), rest.1)

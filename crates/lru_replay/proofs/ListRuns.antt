@@ -1,6 +1,6 @@
 -- Where growth is permitted, calls are those on a list of pairs that has no table.
-use Rattle.std.proofs.Common.{◌≡◌, ℕ, Bool, true, false, cond, List, [], ◌∷◌, Option, Some, None, Result, refl, sym, ap}
-use Rattle.std.proofs.Common.{◌∙◌, subst, inl, inr, arith, ◌+◌, ◌*◌, ◌≤◌, suc, length}
+use Rattle.std.proofs.Common.{◌≡◌, ℕ, Bool, true, false, cond, List, [], ◌∷◌, Some, None, Result, ap}
+use Rattle.std.proofs.Common.{◌∙◌, ◌⊎◌, subst, inl, inr, arith, ◌+◌, ◌*◌, ◌≤◌, suc, length}
 use Rattle.std.specs.List.{IsDistinct}
 use Rattle.std.specs.declared.alloc.AllocError.{AllocError}
 use Rattle.lru_limits.specs.Rules.{Rules, Offers}
@@ -14,15 +14,14 @@ use Rattle.schnellru.specs.Reservations.{Reserve, too_many, enough_room, no_such
 use Rattle.schnellru.specs.Reservations.{denied_room, reserved, no_memory_to_grow}
 use Rattle.schnellru.specs.Runs.{AnyStep}
 use Rattle.schnellru.specs.Sizes.{usage}
-use Rattle.schnellru.specs.State.{State, contents, IsMap}
+use Rattle.schnellru.specs.State.{State, Contents, contents, IsMap}
 use Rattle.schnellru.specs.declared.map.reserve.ReserveError.{ReserveError}
-use Rattle.lru_replay.specs.CallRuns.{IsRun, CallStep}
-use Rattle.lru_replay.specs.ListRuns.{ListStep, ListCallStep, emptied}
+use Rattle.lru_replay.specs.CallRuns.{IsRun, CallStep, SummingStep}
+use Rattle.lru_replay.specs.ListRuns.{ListStep, ListCallStep, ListSummingStep, emptied}
 use Rattle.lru_replay.specs.Replies.{Reply, value, pair, listed, made_reply}
 use Rattle.lru_replay.specs.Steps.{Step}
 use Rattle.lru_replay.specs.declared.call.Call.{Call}
 use Rattle.lru_replay.specs.declared.call.Call.TheVariants as calls
-use Rattle.lru_replay.proofs.CallKinds.{kind_of, any_step}
 
 -- a value that is found is that of the pair that comes to the front
 newest_found : {K V : Type 0} (names : K → Bool) (others xs : List (K × V)) (w : V) → lookup names xs ≡ Some w
@@ -100,67 +99,87 @@ module _ {K V S H : Type 0} (rules : Rules K V S) (offers : Offers K V S K) (eq 
       in_list calls.Stats reply (figures, h, is, e) = (figures, h.len, is, ap contents e)
       in_list (calls.SetLimiter s) reply (is, e) = (is, ap contents e)
 
-      call_in_list : (call : Call K V S) (reply : Reply K V) → CallStep rules offers eq hash_of old call reply new
+      pub call_in_list : (call : Call K V S) (reply : Reply K V) → CallStep rules offers eq hash_of old call reply new
           → ListCallStep rules offers eq (hash_of old.hasher) (contents old) call reply (contents new)
       call_in_list call reply (inl step) = inl (in_list call reply step)
       call_in_list call reply (inr (stores, is, e)) = inr (stores, is, ap contents e)
 
-      same_hasher : (call : Call K V S) (reply : Reply K V) → CallStep rules offers eq hash_of old call reply new
-          → new.hasher ≡ old.hasher
-      same_hasher call reply step = elim (any_step call (kind_of call reply step)) [
-        | inl any ↦ (any_step_same old new any).0
-        | inr same ↦ ap (λ st. st.hasher) same
-      ]
+      pub summing_in_list : (cost : K → V → ℕ) (account : S → ℕ) (call : Call K V S) (reply : Reply K V)
+          → SummingStep rules offers eq hash_of cost account old call reply new
+          → ListSummingStep rules offers eq (hash_of old.hasher) cost account (contents old) call reply (contents new)
+      summing_in_list cost account call reply (inl (keeps, step)) = inl (keeps, call_in_list call reply step)
+      summing_in_list cost account call reply (inr (differs, is, e)) = inr (differs, is, ap contents e)
 
-    -- a run of calls is one on a list
+-- Runs of any of these steps.
+--     moves     each is a step of the map, or changes nothing
+module _ {K V S H : Type 0} {rules : Rules K V S} {offers : Offers K V S K} {eq : K → K → Bool} {hash_of : H → K → ℕ}
+    {IsStep : State K V S H → Call K V S → Reply K V → State K V S H → Type 0}
+    (moves : (old new : State K V S H) (call : Call K V S) (reply : Reply K V) → IsStep old call reply new
+    → AnyStep rules offers eq hash_of old new ⊎ (new ≡ old)) where
+  pub same_hasher : (old new : State K V S H) (call : Call K V S) (reply : Reply K V) → IsStep old call reply new
+      → new.hasher ≡ old.hasher
+  same_hasher old new call reply step = elim (moves old new call reply step) [
+    | inl any ↦ (any_step_same old new any).0
+    | inr same ↦ ap (λ st. st.hasher) same
+  ]
+
+  -- where each call is one on a list, a run is
+  module _ (IsListStep : (K → ℕ) → Contents K V S → Call K V S → Reply K V → Contents K V S → Type 0)
+      (in_list : (old new : State K V S H) → HasTables old → (call : Call K V S) (reply : Reply K V)
+      → IsStep old call reply new → IsListStep (hash_of old.hasher) (contents old) call reply (contents new)) where
     pub run_in_list : (hasher : H) (old : State K V S H) (calls : List (Call K V S)) (replies : List (Reply K V))
         (new : State K V S H) → old.hasher ≡ hasher → HasTables old
-        → IsRun (CallStep rules offers eq hash_of) (λ st. IsMap eq st × HasTables st) old calls replies new
-        → IsRun (ListCallStep rules offers eq (hash_of hasher)) (λ c. IsDistinct eq (keys_of c.pairs)) (contents old)
-        calls replies (contents new)
+        → IsRun IsStep (λ st. IsMap eq st × HasTables st) old calls replies new
+        → IsRun (IsListStep (hash_of hasher)) (λ c. IsDistinct eq (keys_of c.pairs)) (contents old) calls replies
+        (contents new)
     run_in_list hasher old [] [] new built tables same = ap contents same
     run_in_list hasher old [] (reply ∷ replies) new built tables none = absurd none
     run_in_list hasher old (call ∷ calls) [] new built tables none = absurd none
     run_in_list hasher old (call ∷ calls) (reply ∷ replies) new built tables (mid, step, (map, more), run) = (
       contents mid,
-      subst (λ h. ListCallStep rules offers eq (hash_of h) (contents old) call reply (contents mid)) built
-          (call_in_list old mid tables call reply step),
+      subst (λ h. IsListStep (hash_of h) (contents old) call reply (contents mid)) built
+          (in_list old mid tables call reply step),
       map.distinct,
-      run_in_list hasher mid calls replies new (same_hasher old mid tables call reply step ∙ built) more run,
+      run_in_list hasher mid calls replies new (same_hasher old mid call reply step ∙ built) more run,
     )
 
--- Where links and bytes reach a table for many more pairs than there are and calls, they reach those of each state.
-module _ {K V S H : Type 0} {rules : Rules K V S} {offers : Offers K V S K} {eq : K → K → Bool}
-    {hash_of : H → K → ℕ} (law : (old new : State K V S H) → AnyStep rules offers eq hash_of old new
-    → length new.pairs ≤ length old.pairs + 1) where
-  table_stays : (n m : ℕ) (old new : State K V S H) → m ≤ n → new.max ≡ old.max → new.entry_bytes ≡ old.entry_bytes
-      → HasTableFor n old → HasTableFor m new
-  table_stays n m old new few max bytes t = record {
-    count = t.count;
-    bytes = t.bytes;
-    power = t.power;
-    reached = omega (arith, max, t.reached);
-    usable = ap (λ e. usage e t.count) bytes ∙ t.usable;
-    takes = omega (arith, few, t.takes);
-  }
+  -- Where links and bytes reach a table for many more pairs than there are and calls, they reach those of each state.
+  module _ (adds : (old new : State K V S H) → AnyStep rules offers eq hash_of old new
+      → length new.pairs ≤ length old.pairs + 1) where
+    table_stays : (n m : ℕ) (old new : State K V S H) → m ≤ n → new.max ≡ old.max → new.entry_bytes ≡ old.entry_bytes
+        → HasTableFor n old → HasTableFor m new
+    table_stays n m old new few max bytes t = record {
+      count = t.count;
+      bytes = t.bytes;
+      power = t.power;
+      reached = omega (arith, max, t.reached);
+      usable = ap (λ e. usage e t.count) bytes ∙ t.usable;
+      takes = omega (arith, few, t.takes);
+    }
 
-  call_reaches : (calls : ℕ) (old new : State K V S H) (call : Call K V S) (reply : Reply K V)
-      → CallStep rules offers eq hash_of old call reply new → HasTableFor (8 * (length old.pairs + suc calls + 1)) old
-      → HasTableFor (8 * (length new.pairs + calls + 1)) new
-  call_reaches calls old new call reply step t = elim (any_step call (kind_of call reply step)) [
-    | inl any ↦ let same = any_step_same old new any in
-        table_stays _ _ old new (omega (arith, law old new any)) same.1 same.2 t
-    | inr same ↦ table_stays _ _ old new (omega (arith, ap (λ st. length st.pairs) same)) (ap (λ st. st.max) same)
-        (ap (λ st. st.entry_bytes) same) t
-  ]
+    call_reaches : (calls : ℕ) (old new : State K V S H) (call : Call K V S) (reply : Reply K V)
+        → IsStep old call reply new → HasTableFor (8 * (length old.pairs + suc calls + 1)) old
+        → HasTableFor (8 * (length new.pairs + calls + 1)) new
+    call_reaches calls old new call reply step t = elim (moves old new call reply step) [
+      | inl any ↦ let same = any_step_same old new any in
+          table_stays _ _ old new (omega (arith, adds old new any)) same.1 same.2 t
+      | inr same ↦ table_stays _ _ old new (omega (arith, ap (λ st. length st.pairs) same)) (ap (λ st. st.max) same)
+          (ap (λ st. st.entry_bytes) same) t
+    ]
 
-  pub run_reaches : (old : State K V S H) (calls : List (Call K V S)) (replies : List (Reply K V))
-      (new : State K V S H) → HasTableFor (8 * (length old.pairs + length calls + 1)) old
-      → IsRun (CallStep rules offers eq hash_of) (IsMap eq) old calls replies new
-      → IsRun (CallStep rules offers eq hash_of) (λ st. IsMap eq st × HasTables st) old calls replies new
-  run_reaches old [] [] new t same = same
-  run_reaches old [] (reply ∷ replies) new t none = absurd none
-  run_reaches old (call ∷ calls) [] new t none = absurd none
-  run_reaches old (call ∷ calls) (reply ∷ replies) new t (mid, step, map, run) =
-      let next = call_reaches (length calls) old mid call reply step t in
-      (mid, step, (map, has_tables _ mid next (omega arith) map.sized), run_reaches mid calls replies new next run)
+    run_reaches : (old : State K V S H) (calls : List (Call K V S)) (replies : List (Reply K V)) (new : State K V S H)
+        → HasTableFor (8 * (length old.pairs + length calls + 1)) old → IsRun IsStep (IsMap eq) old calls replies new
+        → IsRun IsStep (λ st. IsMap eq st × HasTables st) old calls replies new
+    run_reaches old [] [] new t same = same
+    run_reaches old [] (reply ∷ replies) new t none = absurd none
+    run_reaches old (call ∷ calls) [] new t none = absurd none
+    run_reaches old (call ∷ calls) (reply ∷ replies) new t (mid, step, map, run) =
+        let next = call_reaches (length calls) old mid call reply step t in
+        (mid, step, (map, has_tables _ mid next (omega arith) map.sized), run_reaches mid calls replies new next run)
+
+    pub whole_reaches : (old : State K V S H) (calls : List (Call K V S)) (replies : List (Reply K V))
+        (new : State K V S H) → HasTableFor (8 * (length old.pairs + length calls + 1)) old → IsMap eq old
+        → IsRun IsStep (IsMap eq) old calls replies new
+        → HasTables old × IsRun IsStep (λ st. IsMap eq st × HasTables st) old calls replies new
+    whole_reaches old calls replies new t map run =
+        (has_tables _ old t (omega arith) map.sized, run_reaches old calls replies new t run)

@@ -1,12 +1,9 @@
 -- Calls that keep the cost keep the account the sum of the costs.
-use Rattle.std.proofs.Common.{◌≡◌, ℕ, ◌+◌, Bool, true, false, cond, List, [], ◌∷◌, Some, refl, sym, ap, ◌∙◌, subst}
-use Rattle.std.proofs.Common.{sum_by, MatchOption}
-use Rattle.std.specs.Map.{set_value}
-use Rattle.std.proofs.lemmas.List.Recursion.{is_sum_by}
+use Rattle.std.proofs.Common.{ℕ, Bool, sym, ◌∙◌, subst}
 use Rattle.lru_limits.specs.Rules.{Rules, Offers}
 use Rattle.schnellru.proofs.CallerLemmas.{sum-set}
 use Rattle.schnellru.specs.Runs.{Step, Run, ends, goes_on}
-use Rattle.schnellru.specs.State.{State, IsSized}
+use Rattle.schnellru.specs.State.{State, contents, IsSized}
 use Rattle.schnellru.specs.Theorems.{IsSummed}
 use Rattle.lru_replay.specs.CallRuns.{CallStep, KeepsCost}
 use Rattle.lru_replay.specs.Replies.{Reply}
@@ -21,17 +18,17 @@ module _ {K V S H : Type 0} (rules : Rules K V S) (offers : Offers K V S K) (eq 
       → IsSummed cost account old → IsSummed cost account new
 
   module _ (law : RunsKeepSums) (old new : State K V S H) (sized : IsSized new) where
-    kind_summed : (call : Call K V S) → KeepsCost eq cost account old call
+    kind_summed : (call : Call K V S) → KeepsCost eq cost account (contents old) call
         → Kind rules offers eq hash_of old new call → IsSummed cost account old → IsSummed cost account new
     kind_summed call keeps (calls_map step) = law old new (goes_on new step sized ends)
     kind_summed call keeps (stays e) = λ h. subst (IsSummed cost account) (sym e) h
     kind_summed call keeps (writes_value k v is e) =
-        let kept = subst (KeepsCost eq cost account old) is keeps in
+        let kept = subst (KeepsCost eq cost account (contents old)) is keeps in
         λ h. subst (IsSummed cost account) (sym e) (h ∙ sym (sum-set (λ p. cost p.0 p.1) (eq k) v old.pairs kept))
     kind_summed call keeps (sets_limiter s is e) =
-        let kept = subst (KeepsCost eq cost account old) is keeps in
+        let kept = subst (KeepsCost eq cost account (contents old)) is keeps in
         λ h. subst (IsSummed cost account) (sym e) (kept ∙ h)
 
-    pub call_summed : (call : Call K V S) (reply : Reply K V) → KeepsCost eq cost account old call
+    pub call_summed : (call : Call K V S) (reply : Reply K V) → KeepsCost eq cost account (contents old) call
         → CallStep rules offers eq hash_of old call reply new → IsSummed cost account old → IsSummed cost account new
     call_summed call reply keeps step = kind_summed call keeps (kind_of call reply step)

@@ -3,7 +3,7 @@ use Rattle.std.specs.Prelude.{◌≡◌, ℕ, Bool, List, [], ◌∷◌, ◌⊎�
 use Rattle.group_table.specs.Probe.{hash_tag}
 use Rattle.lru_limits.specs.Rules.{Rules, Offers}
 use Rattle.schnellru.specs.Lists.{lookup_entry}
-use Rattle.schnellru.specs.State.{State, IsMap}
+use Rattle.schnellru.specs.State.{State, Contents, contents, IsMap}
 use Rattle.schnellru.specs.Theorems.{IsSummed}
 use Rattle.lru_replay.specs.declared.call.Call.{Call}
 use Rattle.lru_replay.specs.declared.call.Call.TheVariants as calls
@@ -43,14 +43,21 @@ module _ {K V S : Type 0} where
   SetsNoLimiter (calls.SetLimiter s) = ⊥
   SetsNoLimiter call = Unit {0}
 
-module _ {K V S H : Type 0} (eq : K → K → Bool) (cost : K → V → ℕ) (account : S → ℕ) where
+module _ {K V S : Type 0} (eq : K → K → Bool) (cost : K → V → ℕ) (account : S → ℕ) where
   -- a write keeps the cost of its pair, and another limiter has the same account
-  abbrev pub KeepsCost : State K V S H → Call K V S → Type 0
+  abbrev pub KeepsCost : Contents K V S → Call K V S → Type 0
   KeepsCost old (calls.Write key v) =
       MatchOption (lookup_entry (eq key) old.pairs) (Unit {0}) (λ there. cost there.0 v ≡ cost there.0 there.1)
   KeepsCost old (calls.SetLimiter s) = account s ≡ account old.limiter
   KeepsCost old call = Unit {0}
 
+  -- a step that keeps the cost, or one that would not is told so, and nothing changes
+  abbrev pub StepIfKept : {A : Type 0} → (A → Contents K V S) → (A → Call K V S → Reply K V → A → Type 0) → A
+      → Call K V S → Reply K V → A → Type 0
+  StepIfKept of IsStep old call reply new = (KeepsCost (of old) call × IsStep old call reply new)
+      ⊎ ((KeepsCost (of old) call → ⊥) × (reply ≡ cost_differs) × (new ≡ old))
+
+module _ {K V S H : Type 0} (eq : K → K → Bool) (cost : K → V → ℕ) (account : S → ℕ) where
   -- it is a map, and its account is the sum of the costs, if that of the map first is
   pub record IsSummedFrom (first st : State K V S H) : Type 0 where
     pub map : IsMap eq st
@@ -63,7 +70,6 @@ module _ {K V S H : Type 0} (rules : Rules K V S) (offers : Offers K V S K) (eq 
   CallStep = StepIfMemory (Step rules offers eq hash_of)
 
   module _ (cost : K → V → ℕ) (account : S → ℕ) where
-    -- a step that keeps the cost, or one that would not is told so, and nothing changes
+    -- a step of a map that keeps the cost, or one that would not is told so
     abbrev pub SummingStep : State K V S H → Call K V S → Reply K V → State K V S H → Type 0
-    SummingStep old call reply new = (KeepsCost eq cost account old call × CallStep old call reply new)
-        ⊎ ((KeepsCost eq cost account old call → ⊥) × (reply ≡ cost_differs) × (new ≡ old))
+    SummingStep = StepIfKept eq cost account contents CallStep
