@@ -248,7 +248,8 @@ module _ {K V S H : Type 0} (rules : Rules K V S) (offers : Offers K V S K) (eq 
     pub call_alike : (old other new last : State K V S H) → LookAlike old other → buckets old ≤ 16 → buckets new ≤ 16
         → buckets last ≤ 16 → (reply answer : Reply K V) → wants_memory reply ≡ wants_memory answer
         → (call : Call K V S) → HasPlainSearch (hash_of old.hasher) call
-        → CallStep rules offers eq hash_of old call reply new → CallStep rules offers eq hash_of other call answer last → (reply ≡ answer) × LookAlike new last
+        → CallStep rules offers eq hash_of old call reply new
+        → CallStep rules offers eq hash_of other call answer last → (reply ≡ answer) × LookAlike new last
     call_alike old other new last alike small after too reply answer wants call plain (inl s) (inl t) =
         step_alike old other new last alike small after too reply answer wants call plain s t
     call_alike old other new last alike small after too reply answer wants call plain (inl s) (inr (stores, is, e)) =
@@ -265,7 +266,8 @@ module _ {K V S H : Type 0} (rules : Rules K V S) (offers : Offers K V S K) (eq 
         → buckets old ≤ 16 → buckets new ≤ 16 → buckets last ≤ 16 → (reply answer : Reply K V)
         → wants_memory reply ≡ wants_memory answer → (call : Call K V S) → HasPlainSearch (hash_of old.hasher) call
         → SummingStep rules offers eq hash_of cost account old call reply new
-        → SummingStep rules offers eq hash_of cost account other call answer last → (reply ≡ answer) × LookAlike new last
+        → SummingStep rules offers eq hash_of cost account other call answer last
+        → (reply ≡ answer) × LookAlike new last
     summing_alike cost account old other new last alike small after too reply answer wants call plain (inl s) (inl t) =
         call_alike old other new last alike small after too reply answer wants call plain s.1 t.1
     summing_alike cost account old other new last alike small after too reply answer wants call plain (inl s) (inr t) =
@@ -287,7 +289,8 @@ module _ {K V S H : Type 0} {rules : Rules K V S} {offers : Offers K V S K} {eq 
     → (reply ≡ answer) × LookAlike new last) where
   pub runs_alike : (hasher : H) (calls : List (Call K V S)) (old other new last : State K V S H)
       (replies answers : List (Reply K V)) → old.hasher ≡ hasher → LookAlike old other → buckets old ≤ 16
-      → AllByRecursion (HasPlainSearch (hash_of hasher)) calls → IsRun IsStep (λ st. buckets st ≤ 16) old calls replies new
+      → AllByRecursion (HasPlainSearch (hash_of hasher)) calls
+      → IsRun IsStep (λ st. buckets st ≤ 16) old calls replies new
       → IsRun IsStep (λ st. buckets st ≤ 16) other calls answers last → map wants_memory replies
       ≡ map wants_memory answers → (replies ≡ answers) × LookAlike new last
   runs_alike hasher [] old other new last [] [] built alike small plain same too wants =

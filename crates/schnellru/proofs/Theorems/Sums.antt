@@ -1,6 +1,6 @@
 -- The account stays the sum of the costs.
-use Rattle.std.proofs.Common.{◌≡◌, ℕ, ◌+◌, ◌≤◌, ◌++◌, Bool, true, false, cond, List, [], ◌∷◌, length, Option, Some, None}
-use Rattle.std.proofs.Common.{refl, sym, ap, ◌∙◌, subst, arith, sum_by, MatchOption}
+use Rattle.std.proofs.Common.{◌≡◌, ℕ, ◌+◌, ◌≤◌, ◌++◌, Bool, true, false, cond, List, [], ◌∷◌, length, Option, Some}
+use Rattle.std.proofs.Common.{None, refl, sym, ap, ◌∙◌, subst, arith, sum_by, MatchOption}
 use Rattle.std.specs.Map.{set_value}
 use Rattle.std.proofs.lemmas.List.Recursion.{is_sum_by}
 use Rattle.lru_limits.specs.Rules.{Rules, Offers}

@@ -29,6 +29,6 @@ pub returns-clause-run : goal.returns-clause-run
 returns-clause-run g c =
     let h = c.loop-call.invariant in
     let hash_of = hash_by g.K.Hash.hash_input g.S.BuildHasher g.S.Hasher.Hasher in
-    whole_run (CallStep g.L.Limiter.rules g.L.Insertion.offers g.K.PartialEq.eq hash_of) (IsMap g.K.PartialEq.eq) c.args.map.now c.args.calls.items
-    c.loop-call.yielded (into_iter_items c.loop-call.call-iterator) _ c.loop-call.map
+    whole_run (CallStep g.L.Limiter.rules g.L.Insertion.offers g.K.PartialEq.eq hash_of) (IsMap g.K.PartialEq.eq)
+    c.args.map.now c.args.calls.items c.loop-call.yielded (into_iter_items c.loop-call.call-iterator) _ c.loop-call.map
     (sym h.left ∙ c.in-None.ensures.steps.0) h.items h.run

@@ -24,8 +24,8 @@ loop-call-preserved g c =
           (into_iter_items c.loop-call.call-iterator) (into_iter_items c.next.new.self) c.in-Some.call first h.items;
       left = omega (arith, c.in-Some.ensures.steps.1, h.left, ap length first);
       run = next_run IsStep Holds c.args.map.now c.args.calls.items c.loop-call.yielded c.loop-call.answers.items
-          c.push_reserved.new.self.items c.loop-call.map c.in-Some.call c.carry_out_summing.result c.carry_out_summing.new.map
-          c.push_reserved.ensures.items h.run c.carry_out_summing.ensures.step (record {
+          c.push_reserved.new.self.items c.loop-call.map c.in-Some.call c.carry_out_summing.result
+          c.carry_out_summing.new.map c.push_reserved.ensures.items h.run c.carry_out_summing.ensures.step (record {
             map = c.carry_out_summing.ensures.map;
             sum = sum;
           });
@@ -39,6 +39,6 @@ returns-clause-run g c =
     let h = c.loop-call.invariant in
     let hash_of = hash_by g.K.Hash.hash_input g.S.BuildHasher g.S.Hasher.Hasher in
     whole_run (SummingStep g.L.Limiter.rules g.L.Insertion.offers g.K.PartialEq.eq hash_of g.L.Summing.cost_of
-    g.L.Summing.account) (IsSummedFrom g.K.PartialEq.eq g.L.Summing.cost_of g.L.Summing.account c.args.map.now) c.args.map.now c.args.calls.items
-    c.loop-call.yielded (into_iter_items c.loop-call.call-iterator) _ c.loop-call.map
+    g.L.Summing.account) (IsSummedFrom g.K.PartialEq.eq g.L.Summing.cost_of g.L.Summing.account c.args.map.now)
+    c.args.map.now c.args.calls.items c.loop-call.yielded (into_iter_items c.loop-call.call-iterator) _ c.loop-call.map
     (sym h.left ∙ c.in-None.ensures.steps.0) h.items h.run
