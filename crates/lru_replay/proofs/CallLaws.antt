@@ -4,7 +4,7 @@ use Rattle.std.specs.List.{AllByRecursion}
 use Rattle.lru_limits.specs.Rules.{Rules, Offers}
 use Rattle.schnellru.specs.Calls.{written}
 use Rattle.schnellru.specs.Runs.{Step, AnyStep, Run, ends, goes_on}
-use Rattle.schnellru.specs.State.{State, IsSized, IsMap}
+use Rattle.schnellru.specs.State.{State, contents, IsSized, IsMap}
 use Rattle.lru_replay.specs.CallRuns.{IsRun, CallStep, SummingStep, KeepsCost, SetsNoLimiter}
 use Rattle.lru_replay.specs.Replies.{Reply}
 use Rattle.lru_replay.specs.declared.call.Call.{Call}
@@ -76,6 +76,17 @@ module _ {K V S H N : Type 0} (rules : Rules K V S) (offers : Offers K V S K) (e
 
 module _ {K V S H : Type 0} {rules : Rules K V S} {offers : Offers K V S K} {eq : K → K → Bool}
     {hash_of : H → K → ℕ} where
+  -- a call of either run is a step of the map, or changes nothing
+  pub call_moves : (old new : State K V S H) (call : Call K V S) (reply : Reply K V)
+      → CallStep rules offers eq hash_of old call reply new → AnyStep rules offers eq hash_of old new ⊎ (new ≡ old)
+  call_moves old new call reply step = any_step call (kind_of call reply step)
+
+  pub summing_moves : (cost : K → V → ℕ) (account : S → ℕ) (old new : State K V S H) (call : Call K V S)
+      (reply : Reply K V) → SummingStep rules offers eq hash_of cost account old call reply new
+      → AnyStep rules offers eq hash_of old new ⊎ (new ≡ old)
+  summing_moves cost account old new call reply (inl (keeps, step)) = call_moves old new call reply step
+  summing_moves cost account old new call reply (inr (differs, is, same)) = inr same
+
   -- of each call that is carried out nothing else is known,
   pub call_kinds : (old new : State K V S H) (call : Call K V S) (reply : Reply K V)
       → CallStep rules offers eq hash_of old call reply new
@@ -85,6 +96,6 @@ module _ {K V S H : Type 0} {rules : Rules K V S} {offers : Offers K V S K} {eq 
   -- or, under a summing limiter, that it keeps the cost
   pub summing_kinds : (cost : K → V → ℕ) (account : S → ℕ) (old new : State K V S H) (call : Call K V S)
       (reply : Reply K V) → SummingStep rules offers eq hash_of cost account old call reply new
-      → (KeepsCost eq cost account old call × Kind rules offers eq hash_of old new call) ⊎ (new ≡ old)
+      → (KeepsCost eq cost account (contents old) call × Kind rules offers eq hash_of old new call) ⊎ (new ≡ old)
   summing_kinds cost account old new call reply (inl (keeps, step)) = inl (keeps, kind_of call reply step)
   summing_kinds cost account old new call reply (inr (differs, is, same)) = inr same

@@ -17,3 +17,5 @@ pub mod Made
 pub mod CallKinds
 pub mod SummedCalls
 pub mod CallLaws
+pub mod ListRuns
+pub mod AlikeRuns

@@ -1,45 +1,14 @@
 -- Calls that keep the cost keep the account the sum of the costs.
-use Rattle.std.proofs.Common.{◌≡◌, ℕ, ◌+◌, Bool, true, false, cond, List, [], ◌∷◌, Some, refl, sym, ap, ◌∙◌, subst}
-use Rattle.std.proofs.Common.{sum_by, MatchOption}
-use Rattle.std.specs.Map.{set_value}
-use Rattle.std.proofs.lemmas.List.Recursion.{is_sum_by}
+use Rattle.std.proofs.Common.{ℕ, Bool, sym, ◌∙◌, subst}
 use Rattle.lru_limits.specs.Rules.{Rules, Offers}
-use Rattle.schnellru.specs.Lists.{lookup_entry}
+use Rattle.schnellru.proofs.CallerLemmas.{sum-set}
 use Rattle.schnellru.specs.Runs.{Step, Run, ends, goes_on}
-use Rattle.schnellru.specs.State.{State, IsSized}
+use Rattle.schnellru.specs.State.{State, contents, IsSized}
 use Rattle.schnellru.specs.Theorems.{IsSummed}
 use Rattle.lru_replay.specs.CallRuns.{CallStep, KeepsCost}
 use Rattle.lru_replay.specs.Replies.{Reply}
 use Rattle.lru_replay.specs.declared.call.Call.{Call}
 use Rattle.lru_replay.proofs.CallKinds.{Kind, calls_map, stays, writes_value, sets_limiter, kind_of}
-
-module _ {K V : Type 0} (cost : K × V → ℕ) (names : K → Bool) (v : V) where
-  -- the sum over the pairs, by recursion
-  abbrev total : List (K × V) → ℕ
-  total [] = 0
-  total (x ∷ xs) = cost x + total xs
-
-  total-set : (xs : List (K × V))
-      → MatchOption (lookup_entry names xs) (Unit {0}) (λ p. cost (p.0, v) ≡ cost (p.0, p.1))
-      → total (set_value names xs v) ≡ total xs
-  total-set [] keeps = refl
-  total-set (x ∷ xs) keeps = go (names x.0) keeps (total-set xs)
-    where
-      go : (b : Bool) → MatchOption (cond b (Some x) (lookup_entry names xs)) (Unit {0})
-          (λ p. cost (p.0, v) ≡ cost (p.0, p.1))
-          → (MatchOption (lookup_entry names xs) (Unit {0}) (λ p. cost (p.0, v) ≡ cost (p.0, p.1))
-          → total (set_value names xs v) ≡ total xs)
-          → total (cond b ((x.0, v) ∷ xs) (x ∷ set_value names xs v)) ≡ cost x + total xs
-      go true keeps later = ap (λ n. n + total xs) keeps
-      go false keeps later = ap (λ n. cost x + n) (later keeps)
-
-  -- a write that keeps the cost of its pair keeps the sum
-  pub sum-set : (xs : List (K × V))
-      → MatchOption (lookup_entry names xs) (Unit {0}) (λ p. cost (p.0, v) ≡ cost (p.0, p.1))
-      → sum_by cost (set_value names xs v) ≡ sum_by cost xs
-  sum-set xs keeps =
-      let is = is_sum_by total cost refl (λ _ _. refl) in
-      sym (is (set_value names xs v)) ∙ total-set xs keeps ∙ is xs
 
 module _ {K V S H : Type 0} (rules : Rules K V S) (offers : Offers K V S K) (eq : K → K → Bool)
     (hash_of : H → K → ℕ) (cost : K → V → ℕ) (account : S → ℕ) where
@@ -49,17 +18,17 @@ module _ {K V S H : Type 0} (rules : Rules K V S) (offers : Offers K V S K) (eq 
       → IsSummed cost account old → IsSummed cost account new
 
   module _ (law : RunsKeepSums) (old new : State K V S H) (sized : IsSized new) where
-    kind_summed : (call : Call K V S) → KeepsCost eq cost account old call
+    kind_summed : (call : Call K V S) → KeepsCost eq cost account (contents old) call
         → Kind rules offers eq hash_of old new call → IsSummed cost account old → IsSummed cost account new
     kind_summed call keeps (calls_map step) = law old new (goes_on new step sized ends)
     kind_summed call keeps (stays e) = λ h. subst (IsSummed cost account) (sym e) h
     kind_summed call keeps (writes_value k v is e) =
-        let kept = subst (KeepsCost eq cost account old) is keeps in
+        let kept = subst (KeepsCost eq cost account (contents old)) is keeps in
         λ h. subst (IsSummed cost account) (sym e) (h ∙ sym (sum-set (λ p. cost p.0 p.1) (eq k) v old.pairs kept))
     kind_summed call keeps (sets_limiter s is e) =
-        let kept = subst (KeepsCost eq cost account old) is keeps in
+        let kept = subst (KeepsCost eq cost account (contents old)) is keeps in
         λ h. subst (IsSummed cost account) (sym e) (kept ∙ h)
 
-    pub call_summed : (call : Call K V S) (reply : Reply K V) → KeepsCost eq cost account old call
+    pub call_summed : (call : Call K V S) (reply : Reply K V) → KeepsCost eq cost account (contents old) call
         → CallStep rules offers eq hash_of old call reply new → IsSummed cost account old → IsSummed cost account new
     call_summed call reply keeps step = kind_summed call keeps (kind_of call reply step)

@@ -1,8 +1,9 @@
 -- Runs of calls: a step for each call, each from the state that the one before left.
 use Rattle.std.specs.Prelude.{◌≡◌, ℕ, Bool, List, [], ◌∷◌, ◌⊎◌, MatchOption}
+use Rattle.group_table.specs.Probe.{hash_tag}
 use Rattle.lru_limits.specs.Rules.{Rules, Offers}
 use Rattle.schnellru.specs.Lists.{lookup_entry}
-use Rattle.schnellru.specs.State.{State, IsMap}
+use Rattle.schnellru.specs.State.{State, Contents, contents, IsMap}
 use Rattle.schnellru.specs.Theorems.{IsSummed}
 use Rattle.lru_replay.specs.declared.call.Call.{Call}
 use Rattle.lru_replay.specs.declared.call.Call.TheVariants as calls
@@ -25,19 +26,38 @@ module _ {K V S : Type 0} where
   StoresPairs (calls.Drain front back) = Unit {0}
   StoresPairs call = ⊥
 
+  -- a step, or no memory is found to store pairs, and nothing changes
+  abbrev pub StepIfMemory : {A : Type 0} → (A → Call K V S → Reply K V → A → Type 0) → A → Call K V S → Reply K V → A
+      → Type 0
+  StepIfMemory IsStep old call reply new = IsStep old call reply new
+      ⊎ (StoresPairs call × (reply ≡ no_memory) × (new ≡ old))
+
+  -- a search by a hash is by that of its key, or by one of another tag
+  abbrev pub HasPlainSearch : (K → ℕ) → Call K V S → Type 0
+  HasPlainSearch hash_of (calls.GetByHash hash key) = hash_tag (hash_of key) ≡ hash_tag hash → hash_of key ≡ hash
+  HasPlainSearch hash_of (calls.PeekByHash hash key) = hash_tag (hash_of key) ≡ hash_tag hash → hash_of key ≡ hash
+  HasPlainSearch hash_of call = Unit {0}
+
   -- the call sets no other limiter
   abbrev pub SetsNoLimiter : Call K V S → Type 0
   SetsNoLimiter (calls.SetLimiter s) = ⊥
   SetsNoLimiter call = Unit {0}
 
-module _ {K V S H : Type 0} (eq : K → K → Bool) (cost : K → V → ℕ) (account : S → ℕ) where
+module _ {K V S : Type 0} (eq : K → K → Bool) (cost : K → V → ℕ) (account : S → ℕ) where
   -- a write keeps the cost of its pair, and another limiter has the same account
-  abbrev pub KeepsCost : State K V S H → Call K V S → Type 0
+  abbrev pub KeepsCost : Contents K V S → Call K V S → Type 0
   KeepsCost old (calls.Write key v) =
       MatchOption (lookup_entry (eq key) old.pairs) (Unit {0}) (λ there. cost there.0 v ≡ cost there.0 there.1)
   KeepsCost old (calls.SetLimiter s) = account s ≡ account old.limiter
   KeepsCost old call = Unit {0}
 
+  -- a step that keeps the cost, or one that would not is told so, and nothing changes
+  abbrev pub StepIfKept : {A : Type 0} → (A → Contents K V S) → (A → Call K V S → Reply K V → A → Type 0) → A
+      → Call K V S → Reply K V → A → Type 0
+  StepIfKept of IsStep old call reply new = (KeepsCost (of old) call × IsStep old call reply new)
+      ⊎ ((KeepsCost (of old) call → ⊥) × (reply ≡ cost_differs) × (new ≡ old))
+
+module _ {K V S H : Type 0} (eq : K → K → Bool) (cost : K → V → ℕ) (account : S → ℕ) where
   -- it is a map, and its account is the sum of the costs, if that of the map first is
   pub record IsSummedFrom (first st : State K V S H) : Type 0 where
     pub map : IsMap eq st
@@ -45,13 +65,11 @@ module _ {K V S H : Type 0} (eq : K → K → Bool) (cost : K → V → ℕ) (ac
 
 module _ {K V S H : Type 0} (rules : Rules K V S) (offers : Offers K V S K) (eq : K → K → Bool)
     (hash_of : H → K → ℕ) where
-  -- a step, or no memory is found to store pairs, and nothing changes
+  -- a step of a map, or no memory is found to store pairs
   abbrev pub CallStep : State K V S H → Call K V S → Reply K V → State K V S H → Type 0
-  CallStep old call reply new = Step rules offers eq hash_of old call reply new
-      ⊎ (StoresPairs call × (reply ≡ no_memory) × (new ≡ old))
+  CallStep = StepIfMemory (Step rules offers eq hash_of)
 
   module _ (cost : K → V → ℕ) (account : S → ℕ) where
-    -- a step that keeps the cost, or one that would not is told so, and nothing changes
+    -- a step of a map that keeps the cost, or one that would not is told so
     abbrev pub SummingStep : State K V S H → Call K V S → Reply K V → State K V S H → Type 0
-    SummingStep old call reply new = (KeepsCost eq cost account old call × CallStep old call reply new)
-        ⊎ ((KeepsCost eq cost account old call → ⊥) × (reply ≡ cost_differs) × (new ≡ old))
+    SummingStep = StepIfKept eq cost account contents CallStep

@@ -4,6 +4,7 @@ pub mod Figures
 pub mod Replies
 pub mod Steps
 pub mod CallRuns
+pub mod ListRuns
 pub mod Grammar
 pub mod Commands
 pub mod Lines

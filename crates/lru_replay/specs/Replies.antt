@@ -3,6 +3,7 @@ use Rattle.std.specs.Prelude.{Bool, true, false, List, [], ◌∷◌, Option, No
 use Rattle.std.specs.declared.alloc.AllocError.{AllocError}
 use Rattle.schnellru.specs.Lists.{newest_value}
 use Rattle.schnellru.specs.declared.map.reserve.ReserveError.{ReserveError}
+use Rattle.schnellru.specs.declared.map.reserve.ReserveError.TheVariants.{Memory}
 use Rattle.lru_replay.specs.declared.call.Answer.{Answer}
 use Rattle.lru_replay.specs.declared.call.Answer.TheVariants as answers
 use Rattle.lru_replay.specs.declared.figures.Figures.{Figures}
@@ -27,6 +28,12 @@ pub data Reply (K V : Type 0) : Type 0 where
   cost_differs : Reply K V
 
 module _ {K V : Type 0} where
+  -- whether no memory was found
+  abbrev pub wants_memory : Reply K V → Bool
+  wants_memory no_memory = true
+  wants_memory (reserved (Err Memory)) = true
+  wants_memory reply = false
+
   -- what an answer says
   abbrev pub said : Answer K V → Reply K V
   said (answers.Flag b) = flag b

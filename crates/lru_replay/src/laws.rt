@@ -1,13 +1,16 @@
 //! What is proved of runs of calls, beside what `run_calls` and `run_summing` say of each. The functions do nothing:
 //! their contracts are the theorems.
-ghost use Rattle.std.specs.Prelude.{◌≤◌, length, List};
-ghost use Rattle.std.specs.List.{AllByRecursion};
+ghost use Rattle.std.specs.Prelude.{◌≡◌, ◌≤◌, ◌+◌, ◌*◌, length, List, map};
+ghost use Rattle.std.specs.List.{AllByRecursion, IsDistinct};
 ghost use Rattle.lru_limits.specs.Hashing.{hash_by};
-ghost use Rattle.schnellru.specs.State.{State, IsSized, IsMap};
+ghost use Rattle.schnellru.specs.Exact.{AlwaysGrants, HasTables, HasTableFor, IsDetermined, NeverLacks, LookAlike};
+ghost use Rattle.schnellru.specs.Lists.{keys_of};
+ghost use Rattle.schnellru.specs.State.{State, contents, buckets, IsSized, IsMap};
 ghost use Rattle.schnellru.specs.Theorems.{PaysForMoves, UsesAtMost, IsSummed};
 ghost use Rattle.lru_replay.specs.declared.call.Call.{Call};
-ghost use Rattle.lru_replay.specs.CallRuns.{IsRun, CallStep, SummingStep, SetsNoLimiter};
-ghost use Rattle.lru_replay.specs.Replies.{Reply};
+ghost use Rattle.lru_replay.specs.CallRuns.{IsRun, CallStep, SummingStep, SetsNoLimiter, HasPlainSearch};
+ghost use Rattle.lru_replay.specs.ListRuns.{ListCallStep, ListSummingStep};
+ghost use Rattle.lru_replay.specs.Replies.{Reply, wants_memory};
 
 use schnellru::{ByCost, ByLength, ByMemoryUsage, Costed, Insertion, Limiter, Summing, laws};
 use std::hash::{BuildHasher, Hash};
@@ -67,4 +70,81 @@ pub fn calls_keep_the_cost<K: Eq + Hash + Drop, V: Costed + Drop, S: BuildHasher
 {
     laws::runs_keep_the_cost::<K, V, S>();
     laws::runs_keep_sums::<K, V, K, ByCost, S>();
+}
+
+/// Where the limiter permits every growth, as `ByLength`, `ByCost` and the unlimited ones do, and links and bytes reach
+/// the tables that the pairs may need, a run is one on a list of pairs with distinct keys that has no table. So each
+/// answer and each state is as the list and the limiter have it. They reach those tables, if they reach one for eight
+/// times as many pairs as there are and calls.
+pub fn granted_calls_are_exact<K: Eq + Hash, V, L: Insertion<K, V, K>, S: BuildHasher>()
+    ensures exact { (old new : State K V L S) (calls : List (Call K V L)) (replies : List (Reply K V)) →
+        AlwaysGrants L.rules → HasTables old →
+        IsRun (CallStep L.rules L.offers K.eq (hash_by K.hash_input S.BuildHasher S.Hasher.Hasher))
+        (λ st. IsMap K.eq st × HasTables st) old calls replies new →
+        IsRun (ListCallStep L.rules L.offers K.eq (hash_by K.hash_input S.BuildHasher S.Hasher.Hasher old.hasher))
+        (λ list. IsDistinct K.eq (keys_of list.pairs)) (contents old) calls replies (contents new) }
+    ensures reached { (old new : State K V L S) (calls : List (Call K V L)) (replies : List (Reply K V)) →
+        HasTableFor (8 * (length old.pairs + length calls + 1)) old → IsMap K.eq old →
+        IsRun (CallStep L.rules L.offers K.eq (hash_by K.hash_input S.BuildHasher S.Hasher.Hasher)) (IsMap K.eq)
+        old calls replies new →
+        HasTables old × IsRun (CallStep L.rules L.offers K.eq (hash_by K.hash_input S.BuildHasher S.Hasher.Hasher))
+        (λ st. IsMap K.eq st × HasTables st) old calls replies new }
+{
+    laws::granted_inserts_are_exact::<K, V, K, L, S>();
+    laws::calls_add_one_pair::<K, V, K, L, S>();
+}
+
+/// So is a run under a summing limiter: a call that keeps the cost is one on the list, and any other changes nothing.
+pub fn granted_summing_is_exact<K: Eq + Hash, V, L: Summing<K, V, K>, S: BuildHasher>()
+    ensures exact { (old new : State K V L S) (calls : List (Call K V L)) (replies : List (Reply K V)) →
+        AlwaysGrants L.rules → HasTables old →
+        IsRun (SummingStep L.rules L.offers K.eq (hash_by K.hash_input S.BuildHasher S.Hasher.Hasher)
+        L.cost_of L.account) (λ st. IsMap K.eq st × HasTables st) old calls replies new →
+        IsRun (ListSummingStep L.rules L.offers K.eq
+        (hash_by K.hash_input S.BuildHasher S.Hasher.Hasher old.hasher) L.cost_of L.account)
+        (λ list. IsDistinct K.eq (keys_of list.pairs)) (contents old) calls replies (contents new) }
+    ensures reached { (old new : State K V L S) (calls : List (Call K V L)) (replies : List (Reply K V)) →
+        HasTableFor (8 * (length old.pairs + length calls + 1)) old → IsMap K.eq old →
+        IsRun (SummingStep L.rules L.offers K.eq (hash_by K.hash_input S.BuildHasher S.Hasher.Hasher)
+        L.cost_of L.account) (IsMap K.eq) old calls replies new →
+        HasTables old × IsRun (SummingStep L.rules L.offers K.eq
+        (hash_by K.hash_input S.BuildHasher S.Hasher.Hasher) L.cost_of L.account)
+        (λ st. IsMap K.eq st × HasTables st) old calls replies new }
+{
+    laws::granted_inserts_are_exact::<K, V, K, L, S>();
+    laws::calls_add_one_pair::<K, V, K, L, S>();
+}
+
+/// Two runs of the same calls give the same answers, under a limiter that leaves nothing open, if they find the same
+/// wants of memory, no table of theirs has more than 16 buckets, and the two maps before them differ at most in which
+/// buckets are full. So do the two maps after them.
+pub fn small_calls_are_alike<K: Eq + Hash, V, L: Insertion<K, V, K>, S: BuildHasher>()
+    ensures alike { (old other new last : State K V L S) (calls : List (Call K V L))
+        (replies answers : List (Reply K V)) →
+        IsDetermined L.offers → NeverLacks L.offers → LookAlike old other → buckets old ≤ 16 →
+        AllByRecursion (HasPlainSearch (hash_by K.hash_input S.BuildHasher S.Hasher.Hasher old.hasher)) calls →
+        IsRun (CallStep L.rules L.offers K.eq (hash_by K.hash_input S.BuildHasher S.Hasher.Hasher))
+        (λ st. buckets st ≤ 16) old calls replies new →
+        IsRun (CallStep L.rules L.offers K.eq (hash_by K.hash_input S.BuildHasher S.Hasher.Hasher))
+        (λ st. buckets st ≤ 16) other calls answers last →
+        map wants_memory replies ≡ map wants_memory answers →
+        (replies ≡ answers) × LookAlike new last }
+{
+    laws::small_inserts_look_alike::<K, V, K, L, S>();
+}
+
+/// So do two runs under a summing limiter.
+pub fn small_summing_is_alike<K: Eq + Hash, V, L: Summing<K, V, K>, S: BuildHasher>()
+    ensures alike { (old other new last : State K V L S) (calls : List (Call K V L))
+        (replies answers : List (Reply K V)) →
+        IsDetermined L.offers → NeverLacks L.offers → LookAlike old other → buckets old ≤ 16 →
+        AllByRecursion (HasPlainSearch (hash_by K.hash_input S.BuildHasher S.Hasher.Hasher old.hasher)) calls →
+        IsRun (SummingStep L.rules L.offers K.eq (hash_by K.hash_input S.BuildHasher S.Hasher.Hasher)
+        L.cost_of L.account) (λ st. buckets st ≤ 16) old calls replies new →
+        IsRun (SummingStep L.rules L.offers K.eq (hash_by K.hash_input S.BuildHasher S.Hasher.Hasher)
+        L.cost_of L.account) (λ st. buckets st ≤ 16) other calls answers last →
+        map wants_memory replies ≡ map wants_memory answers →
+        (replies ≡ answers) × LookAlike new last }
+{
+    laws::small_inserts_look_alike::<K, V, K, L, S>();
 }

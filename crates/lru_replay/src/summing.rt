@@ -2,7 +2,7 @@
 ghost use Rattle.std.specs.Prelude.{◌≡◌, IfOk, true, false};
 ghost use Rattle.std.specs.Result.{OnErr};
 ghost use Rattle.lru_limits.specs.Hashing.{hash_by};
-ghost use Rattle.schnellru.specs.State.{IsMap};
+ghost use Rattle.schnellru.specs.State.{contents, IsMap};
 ghost use Rattle.schnellru.specs.Theorems.{IsSummed};
 ghost use Rattle.lru_replay.specs.CallRuns.{IsRun, IsSummedFrom, SummingStep, KeepsCost};
 ghost use Rattle.lru_replay.specs.Replies.{said, all_said};
@@ -89,8 +89,8 @@ where
     L: Summing<K, V, K>,
     S: BuildHasher,
     ensures map { IsMap K.eq map.now }
-    ensures yes { result ≡ true → KeepsCost K.eq L.cost_of L.account map.now call.now }
-    ensures no { result ≡ false → KeepsCost K.eq L.cost_of L.account map.now call.now → ⊥ }
+    ensures yes { result ≡ true → KeepsCost K.eq L.cost_of L.account (contents map.now) call.now }
+    ensures no { result ≡ false → KeepsCost K.eq L.cost_of L.account (contents map.now) call.now → ⊥ }
 {
     // Nothing at run time: it tells the proof that what holds of every map holds.
     let _len = map.len();

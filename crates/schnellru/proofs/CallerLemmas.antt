@@ -6,6 +6,9 @@
 --     written-found        after a value was written through a get, a look-up finds it
 --     read-all             what holds of each pair holds of each after a get through which nothing is written
 --     hands_over-keeps     a limiter that stores pairs as they come keeps their values
+--     hands_over-determined, charges-determined      it leaves nothing open, nor does the limiter by a cost
+--     hands_over-finds, charges-finds                and both find the memory that they ask for
+--     plain-grants, by_cost-grants                   where a limiter permits every growth
 --     inserted-found       under such a limiter, after an insert that answered true, a look-up finds the value
 --     inserted-only        whatever it answered, a look-up finds no other one
 --     inserted-all         what holds of each pair holds of each after an insert, if it holds of the inserted one
@@ -13,12 +16,23 @@
 --     given-tag            and only one whose hash has the tag of the hash
 --     given-promoted       one through which nothing is written brings that pair to the front, and no more
 --     none-found           where it gives none, no pair of that key has the hash
+--     sum-set              a write that keeps the cost of its pair keeps the sum of the costs
+--     has_tables           there are tables for the pairs of a map, where links and bytes reach one for many more
+--     Shape, shape         a map, but for which of its buckets are full; `same_shape` and `look_alike` say so
+--     left_shape, cleared_shape, reserve_is      what calls make of it in tables of up to 16 buckets
+--     any_step_same        no call changes what builds the hashers, how far links reach, and what a bucket takes
 pub use Rattle.schnellru.proofs.Theorems.KeySearches.{given-found, given-tag, none-found}
 pub use Rattle.schnellru.proofs.Maps.LeavingPairs.{leaves_trans, length-without_first, length-without_last}
 pub use Rattle.schnellru.proofs.Maps.Promotions.{promoted_sized, promoted_is_map}
 pub use Rattle.schnellru.proofs.Maps.SomeInsert.{some_insert, some_leave}
 pub use Rattle.schnellru.proofs.Maps.SomeReservation.{cleared_sized, some_reservation}
+pub use Rattle.schnellru.proofs.Theorems.Fronts.{found_named}
 pub use Rattle.schnellru.proofs.Theorems.Limits.{length-without}
+pub use Rattle.schnellru.proofs.TableSizes.Reached.{has_tables}
+pub use Rattle.schnellru.proofs.Theorems.Runs.{any_step_same}
+pub use Rattle.schnellru.proofs.Theorems.Sums.{sum-set}
+pub use Rattle.schnellru.proofs.Theorems.SmallTables.{Shape, shape, same_shape, look_alike, with_left, left_shape}
+pub use Rattle.schnellru.proofs.Theorems.SmallCalls.{clears, cleared_shape, is_memory, reserve_in, reserve_is}
 use Rattle.std.proofs.Common.{◌≡◌, ℕ, Bool, true, false, cond, List, [], ◌∷◌, ◌++◌, refl, sym, ap, ◌∙◌, subst}
 use Rattle.std.proofs.Common.{Option, Some, None, Result, Ok, Err}
 use Rattle.std.specs.Prelude.{IfSome, option_map, unwrap_or}
@@ -30,12 +44,15 @@ use Rattle.std.proofs.lemmas.Map.Steps.{set_value_same}
 use Rattle.std.proofs.lemmas.Option.{none-some}
 use Rattle.std.specs.declared.alloc.AllocError.{AllocError}
 use Rattle.lru_limits.specs.Rules.{Rules, Offers}
-use Rattle.lru_limits.specs.Stores.{hands_over, given-is}
+use Rattle.lru_limits.specs.Budget.{by_cost, charges}
+use Rattle.lru_limits.specs.Stores.{plain, hands_over, given-is}
 use Rattle.schnellru.specs.Lists.{first, without_first, lookup, lookup_entry, without, after, front}
 use Rattle.schnellru.specs.Lists.{place_of, other_places, front_places}
 use Rattle.schnellru.specs.State.{State}
 use Rattle.schnellru.specs.Calls.{promoted, written}
-use Rattle.schnellru.specs.Theorems.{SaysWhether, Stores, KeepsValues, IsSummed, GivesUp, behind, with_none, without_one}
+use Rattle.schnellru.specs.Exact.{IsDetermined, NeverLacks, AlwaysGrants}
+use Rattle.schnellru.specs.Theorems.{SaysWhether, Stores, KeepsValues, IsSummed, GivesUp, behind, with_none}
+use Rattle.schnellru.specs.Theorems.{without_one}
 use Rattle.schnellru.proofs.Theorems.Fronts.{found_named, without_none}
 use Rattle.schnellru.proofs.PairLists.NamedPairs.{lookup-entry}
 use Rattle.schnellru.proofs.Theorems.InsertAnswers.{insert_found}
@@ -160,6 +177,28 @@ hands_over-keeps admits = record {
   given = λ s n i v t k w h. ap (λ p. p.1) (given-is (admits s i v) s i v t (k, w) h);
   replaced = λ s n k i v w. refl;
 }
+
+-- it leaves nothing open, and finds the memory that it asks for
+pub hands_over-determined : {K V S : Type 0} (admits : S → K → V → Bool) → IsDetermined (hands_over admits)
+hands_over-determined admits = λ s n i v t u given other h k. (h.limiter ∙ sym k.limiter, h.pair ∙ sym k.pair)
+
+pub hands_over-finds : {K V S : Type 0} (admits : S → K → V → Bool) → NeverLacks (hands_over admits)
+hands_over-finds admits = λ s n i v lacks. lacks
+
+-- and so does the limiter by a cost
+pub charges-determined : {K V : Type 0} (cost : V → ℕ) → IsDetermined (charges {K = K} cost)
+charges-determined cost = λ s n i v t u given other h k. (h.limiter ∙ sym k.limiter, h.pair ∙ sym k.pair)
+
+pub charges-finds : {K V : Type 0} (cost : V → ℕ) → NeverLacks (charges {K = K} cost)
+charges-finds cost = λ s n i v lacks. lacks
+
+-- those permit every growth that answer true
+pub plain-grants : (K V : Type 0) {S : Type 0} (over : S → ℕ → Bool)
+    → AlwaysGrants (plain {K = K} {V = V} over (λ _ _. true))
+plain-grants K V over = λ s bytes. (refl, refl)
+
+pub by_cost-grants : (K : Type 0) {V : Type 0} (cost : V → ℕ) → AlwaysGrants (by_cost {K = K} cost)
+by_cost-grants K cost = λ s bytes. (refl, refl)
 
 module _ {K V S H I : Type 0} {offers : Offers K V S I} {v : V} (keeps : KeepsValues offers)
     (rules : Rules K V S) (names : I → K → Bool) (i : I) (old new : State K V S H) where

@@ -14,7 +14,10 @@ pub mod Sums
 pub mod Limits
 pub mod CountedMoves
 pub mod Runs
+pub mod AddedPairs
 pub mod RunLimits
+pub mod SmallTables
+pub mod SmallCalls
 pub mod Removals
 pub mod GetOrInserts
 pub mod KeySearches

@@ -1,10 +1,10 @@
 -- Inserts that leave nothing open but where memory is short: into tables of up to 16 buckets, or where the limiter
 -- permits every growth.
-use Rattle.std.specs.Prelude.{◌≡◌, ◌≢◌, ℕ, ◌+◌, ◌-◌, ◌/◌, ◌==◌, nat_lt, nat_le, Bool, true, false, not, if◌then◌else◌}
-use Rattle.std.specs.Prelude.{◌∷◌, length, Option, Some, None, Result, Ok}
+use Rattle.std.specs.Prelude.{◌≡◌, ◌≢◌, ℕ, ◌+◌, ◌-◌, ◌/◌, ◌==◌, ◌<◌, ◌≤◌, nat_lt, nat_le, Bool, true, false, not}
+use Rattle.std.specs.Prelude.{if◌then◌else◌, ◌∷◌, length, Option, Some, None, Result, Ok, IsErr}
 use Rattle.std.specs.declared.alloc.AllocError.{AllocError}
 use Rattle.lru_limits.specs.Rules.{Rules, Offers}
-use Rattle.group_table.specs.Sizes.{full_capacity}
+use Rattle.group_table.specs.Sizes.{IsPowerFromFour, full_capacity}
 use Rattle.schnellru.specs.Sizes.{usage, Target, target, no_table, same_table, new_table}
 use Rattle.schnellru.specs.Lists.{is_empty, lookup_entry}
 use Rattle.schnellru.specs.State.{State, buckets, room, Contents, contents, pops, trim}
@@ -62,6 +62,11 @@ module _ {K V S : Type 0} (rules : Rules K V S) (pair : K × V) where
       else grows (target max entry_bytes count (length c.pairs + 1)) c))
 
 module _ {K V S : Type 0} (rules : Rules K V S) where
+  -- what it does in the table of a map, after some pairs of this left
+  abbrev pub lands_in : {H : Type 0} → State K V S H → K × V → Contents K V S → Landing K V S
+  lands_in st pair c =
+      landing rules pair (buckets st) (room st + length st.pairs - length c.pairs) st.entry_bytes st.max c
+
   -- the oldest leave, as long as the limiter is over
   abbrev pub trimmed : Contents K V S → Ending K V S
   trimmed c = record { flag = not (is_empty (trim rules c).pairs); left = trim rules c }
@@ -70,9 +75,14 @@ module _ {K V S : Type 0} (rules : Rules K V S) where
   abbrev pub settled : Landing K V S → Ending K V S
   settled l = if l.there then trimmed l.left else record { flag = false; left = l.left }
 
-module _ {K V S H I : Type 0} (rules : Rules K V S) (offers : Offers K V S I) (names : I → K → Bool)
-    (i : I) (v : V) (old : State K V S H) where
-  -- what an insert leaves, where the key is there
+-- an insert answers Ok, with this flag, and leaves these contents
+abbrev pub IsEnding : {K V S : Type 0} → Ending K V S → Result Bool AllocError → Contents K V S → Type 0
+IsEnding e result new = (result ≡ Ok e.flag) × (new ≡ e.left)
+
+-- How an insert ends where a pair that the limiter gave lands as `land` says.
+module _ {K V S I : Type 0} (rules : Rules K V S) (offers : Offers K V S I) (names : I → K → Bool)
+    (land : K × V → Contents K V S → Landing K V S) (i : I) (v : V) (old : Contents K V S) where
+  -- what it leaves, where the key is there
   abbrev pub ending_there : K × V → Ending K V S
   ending_there pair = if (replacement rules offers names pair i v old).taken
       then trimmed rules (with_replaced rules offers names pair i v old)
@@ -81,39 +91,76 @@ module _ {K V S H I : Type 0} (rules : Rules K V S) (offers : Offers K V S I) (n
   -- what it leaves, where the key is new, of which the limiter gave this and is s
   abbrev pub ending_new : S → Option (K × V) → Ending K V S
   ending_new s None = record { flag = false; left = record { pairs = old.pairs; limiter = s } }
-  ending_new s (Some pair) = let c = make_way rules (record { pairs = old.pairs; limiter = s }) in
-      let spare = room old + length old.pairs - length c.pairs in
-      settled rules (landing rules pair (buckets old) spare old.entry_bytes old.max c)
-
-  -- an insert answers Ok, with this flag, and leaves these contents
-  abbrev pub IsEnding : Ending K V S → Result Bool AllocError → State K V S H → Type 0
-  IsEnding e result new = (result ≡ Ok e.flag) × (contents new ≡ e.left)
+  ending_new s (Some pair) =
+      settled rules (land pair (make_way rules (record { pairs = old.pairs; limiter = s })))
 
   -- by the pair whose key is there, if there is one, and else by what the limiter may give
-  abbrev pub EndsBy : Option (K × V) → Result Bool AllocError → State K V S H → Type 0
+  abbrev pub EndsBy : Option (K × V) → Result Bool AllocError → Contents K V S → Type 0
   EndsBy (Some pair) result new = IsEnding (ending_there pair) result new
   EndsBy None result new = (s : S) × (given : Option (K × V)) × MayGive rules offers names i v old s given
       × IsEnding (ending_new s given) result new
 
-  -- an insert ends as the pairs and the limiter have it
-  abbrev pub EndsExactly : Result Bool AllocError → State K V S H → Type 0
-  EndsExactly result new = EndsBy (lookup_entry (names i) old.pairs) result new
+  -- an insert answers Ok, and ends so
+  abbrev pub EndsIfLanded : Result Bool AllocError → Contents K V S → Type 0
+  EndsIfLanded result new = EndsBy (lookup_entry (names i) old.pairs) result new
+
+module _ {K V S I : Type 0} (rules : Rules K V S) (offers : Offers K V S I) (names : I → K → Bool)
+    (i : I) (v : V) where
+  -- an insert ends as the pairs and the limiter have it, in the table of this map, up to 16 buckets
+  abbrev pub EndsExactly : {H : Type 0} → State K V S H → Result Bool AllocError → State K V S H → Type 0
+  EndsExactly old result new = EndsIfLanded rules offers names (lands_in rules old) i v (contents old) result
+      (contents new)
+
+  -- An insert into a list of pairs that has no table: each pair that the limiter gives is placed.
+  -- Or no memory is found,
+  pub data InsertsInList (old : Contents K V S) (result : Result Bool AllocError) (new : Contents K V S) : Type 0 where
+    ends : EndsIfLanded rules offers names (lands rules) i v old result new →
+        InsertsInList old result new
+    -- by the limiter, and nothing changes,
+    not_offered : lookup_entry (names i) old.pairs ≡ None →
+        offers.may_lack old.limiter (length old.pairs) i v →
+        IsErr result → new ≡ old →
+        InsertsInList old result new
+    -- or for the pair, after way was made for it, and the limiter is told that it leaves.
+    not_placed : lookup_entry (names i) old.pairs ≡ None →
+        (s : S) (pair : K × V) → MayGive rules offers names i v old s (Some pair) →
+        IsErr result → new ≡ (turns_away rules pair (make_way rules (record { pairs = old.pairs; limiter = s }))).left →
+        InsertsInList old result new
 
 -- two inserts ended alike
-pub record EndsAlike {K V S H : Type 0} (result other : Result Bool AllocError)
-    (new others : State K V S H) : Type 0 where
+pub record EndsAlike {K V S : Type 0} (result other : Result Bool AllocError)
+    (new others : Contents K V S) : Type 0 where
   pub answers : result ≡ other
-  pub contents : contents new ≡ contents others
+  pub contents : new ≡ others
 
 -- an offer leaves nothing open
 abbrev pub IsDetermined : {K V S I : Type 0} → Offers K V S I → Type 0
 IsDetermined {K} {V} {S} {I} offers = (s : S) (n : ℕ) (i : I) (v : V) (t u : S) (given other : Option (K × V)) →
     offers.on_insert s n i v t given → offers.on_insert s n i v u other → (t ≡ u) × (given ≡ other)
 
+-- an offer finds the memory that it asks for
+abbrev pub NeverLacks : {K V S I : Type 0} → Offers K V S I → Type 0
+NeverLacks {V = V} {S = S} {I = I} offers = (s : S) (n : ℕ) (i : I) (v : V) → offers.may_lack s n i v → ⊥
+
+-- two maps differ at most in which of their buckets are full
+pub record LookAlike {K V S H : Type 0} (st other : State K V S H) : Type 0 where
+  pub table : buckets other ≡ buckets st
+  pub room : room other ≡ room st
+  pub state : other ≡ record st { marks = other.marks; places = other.places }
+
 -- the limiter permits every growth, and stays as it is
 abbrev pub AlwaysGrants : {K V S : Type 0} → Rules K V S → Type 0
 AlwaysGrants {K} {V} {S} rules = (s : S) (bytes : ℕ) →
     ((rules.on_grow s bytes).allowed ≡ true) × ((rules.on_grow s bytes).limiter ≡ s)
+
+-- links and bytes reach a table that takes so many pairs
+pub record HasTableFor {K V S H : Type 0} (n : ℕ) (st : State K V S H) : Type 0 where
+  pub count : ℕ
+  pub bytes : ℕ
+  pub power : IsPowerFromFour count
+  pub reached : count < st.max
+  pub usable : usage st.entry_bytes count ≡ Some bytes
+  pub takes : n ≤ full_capacity count
 
 -- there is a table for one pair more, and for as many as there are
 abbrev pub HasTables : {K V S H : Type 0} → State K V S H → Type 0

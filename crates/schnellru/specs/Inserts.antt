@@ -28,37 +28,37 @@ module _ {K V S H : Type 0} (rules : Rules K V S) where
       × (outcome : Outcome) × (landed : State K V S H) × Place rules hash_of pair ready outcome landed
       × Settles outcome landed result new
 
-module _ {K V S H I : Type 0} (rules : Rules K V S) (offers : Offers K V S I) (names : I → K → Bool) where
+module _ {K V S I : Type 0} (rules : Rules K V S) (offers : Offers K V S I) (names : I → K → Bool) where
   -- what the limiter says of a new value for this pair
-  abbrev pub replacement : K × V → I → V → State K V S H → Replaced K V S
-  replacement pair i v st = offers.on_replace st.limiter (length st.pairs) pair.0 i pair.1 v
+  abbrev pub replacement : K × V → I → V → Contents K V S → Replaced K V S
+  replacement pair i v c = offers.on_replace c.limiter (length c.pairs) pair.0 i pair.1 v
 
   -- after the new value was taken for the pair, which comes first
-  abbrev pub with_replaced : K × V → I → V → State K V S H → Contents K V S
-  with_replaced pair i v st = let r = replacement pair i v st in
-      record { pairs = (r.key, r.new_value) ∷ without (names i) st.pairs; limiter = r.limiter }
+  abbrev pub with_replaced : K × V → I → V → Contents K V S → Contents K V S
+  with_replaced pair i v c = let r = replacement pair i v c in
+      record { pairs = (r.key, r.new_value) ∷ without (names i) c.pairs; limiter = r.limiter }
 
   -- after the new value was refused and the pair left, of which the limiter is told
-  abbrev pub with_given_up : K × V → I → V → State K V S H → Contents K V S
-  with_given_up pair i v st = let r = replacement pair i v st in
-      record { pairs = without (names i) st.pairs; limiter = (rules.on_removed r.limiter r.key r.old_value).limiter }
+  abbrev pub with_given_up : K × V → I → V → Contents K V S → Contents K V S
+  with_given_up pair i v c = let r = replacement pair i v c in
+      record { pairs = without (names i) c.pairs; limiter = (rules.on_removed r.limiter r.key r.old_value).limiter }
 
   -- of a new key the limiter may give this, and be s then
-  abbrev pub MayGive : I → V → State K V S H → S → Option (K × V) → Type 0
-  MayGive i v st s given = offers.on_insert st.limiter (length st.pairs) i v s given
+  abbrev pub MayGive : I → V → Contents K V S → S → Option (K × V) → Type 0
+  MayGive i v c s given = offers.on_insert c.limiter (length c.pairs) i v s given
 
-  module _ (hash_of : H → K → ℕ) where
+  module _ {H : Type 0} (hash_of : H → K → ℕ) where
     -- what an insert may answer and leave
     pub data Insert (i : I) (v : V) (old : State K V S H) (result : Result Bool AllocError)
         (new : State K V S H) : Type 0 where
       -- The key is there: the pair as left comes first, or it goes.
       replaced : (pair : K × V) → lookup_entry (names i) old.pairs ≡ Some pair →
-          (replacement pair i v old).taken ≡ true →
-          result ≡ Ok (not (is_empty new.pairs)) → Leaves old (trim rules (with_replaced pair i v old)) new →
+          (replacement pair i v (contents old)).taken ≡ true →
+          result ≡ Ok (not (is_empty new.pairs)) → Leaves old (trim rules (with_replaced pair i v (contents old))) new →
           Insert i v old result new
       given_up : (pair : K × V) → lookup_entry (names i) old.pairs ≡ Some pair →
-          (replacement pair i v old).taken ≡ false →
-          result ≡ Ok false → Leaves old (with_given_up pair i v old) new →
+          (replacement pair i v (contents old)).taken ≡ false →
+          result ≡ Ok false → Leaves old (with_given_up pair i v (contents old)) new →
           Insert i v old result new
       -- The key is new: the limiter finds no memory, or gives no pair,
       no_memory_to_admit : lookup_entry (names i) old.pairs ≡ None →
@@ -66,12 +66,12 @@ module _ {K V S H I : Type 0} (rules : Rules K V S) (offers : Offers K V S I) (n
           IsErr result → new ≡ old →
           Insert i v old result new
       not_admitted : lookup_entry (names i) old.pairs ≡ None →
-          (s : S) → MayGive i v old s None →
+          (s : S) → MayGive i v (contents old) s None →
           result ≡ Ok false → new ≡ record old { limiter = s } →
           Insert i v old result new
       -- or the pair that it gives is placed, with all that this takes.
       admitted : lookup_entry (names i) old.pairs ≡ None →
-          (s : S) (pair : K × V) → MayGive i v old s (Some pair) →
+          (s : S) (pair : K × V) → MayGive i v (contents old) s (Some pair) →
           PlacesNew rules hash_of pair (record old { limiter = s }) result new →
           Insert i v old result new
 
@@ -81,7 +81,7 @@ module _ {K V S H I : Type 0} (rules : Rules K V S) (offers : Offers K V S I) (n
       pub no_room : room old ≡ 0
       pub s : S
       pub pair : K × V
-      pub given : MayGive i v old s (Some pair)
+      pub given : MayGive i v (contents old) s (Some pair)
       pub beside : (buckets old ≡ 0) ⊎ (0 < length (make_way rules (record { pairs = old.pairs; limiter = s })).pairs)
 
     -- why an insert finds no memory: the key is new, and the limiter found none for it, so that nothing has changed, or

@@ -6,7 +6,7 @@ use Rattle.group_table.specs.Sizes.{full_capacity}
 use Rattle.lru_limits.specs.Rules.{Rules, Offers}
 use Rattle.schnellru.specs.Sizes.{usage}
 use Rattle.schnellru.specs.Lists.{IsFront, lookup_entry, without}
-use Rattle.schnellru.specs.State.{State, buckets, potential}
+use Rattle.schnellru.specs.State.{State, buckets, contents, potential}
 use Rattle.schnellru.specs.Place.{LacksRoom, CannotGrow}
 use Rattle.schnellru.specs.Inserts.{replacement, MayGive}
 
@@ -69,13 +69,14 @@ module _ {K V S H I : Type 0} (rules : Rules K V S) (offers : Offers K V S I) (n
   -- the pair that an insert stores: what a replacement left of the one that was there, or what the limiter gave
   pub data Stores (i : I) (v : V) (old : State K V S H) (pair : K × V) : Type 0 where
     left : (was : K × V) → lookup_entry (names i) old.pairs ≡ Some was
-        → (replacement rules offers names was i v old).taken ≡ true →
+        → (replacement rules offers names was i v (contents old)).taken ≡ true →
         pair ≡ (
-          (replacement rules offers names was i v old).key,
-          (replacement rules offers names was i v old).new_value,
+          (replacement rules offers names was i v (contents old)).key,
+          (replacement rules offers names was i v (contents old)).new_value,
         ) →
         Stores i v old pair
-    given : lookup_entry (names i) old.pairs ≡ None → (s : S) → MayGive rules offers names i v old s (Some pair) →
+    given : lookup_entry (names i) old.pairs ≡ None →
+        (s : S) → MayGive rules offers names i v (contents old) s (Some pair) →
         Stores i v old pair
 
 -- the limiter stores each value as it was inserted

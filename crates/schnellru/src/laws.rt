@@ -2,7 +2,7 @@
 //! Each theorem is the contract of a function that does nothing.
 
 ghost use Rattle.std.specs.Prelude.{◌≡◌, ◌≢◌, ℕ, ◌≤◌, ◌<◌, ◌+◌, ◌*◌, ◌/◌, ◌⊎◌, ◌∷◌, Bool, false, Option, Some, None};
-ghost use Rattle.std.specs.Prelude.{IfSome, Result, Ok, true, IsOk, IsErr, length};
+ghost use Rattle.std.specs.Prelude.{IfSome, Result, Ok, true, IsOk, IsErr, is_err, length};
 ghost use Rattle.std.specs.List.{IsDistinct};
 ghost use Rattle.std.specs.declared.alloc.AllocError.{AllocError};
 ghost use Rattle.group_table.specs.Bucket.{deleted};
@@ -10,13 +10,14 @@ ghost use Rattle.group_table.specs.Sizes.{full_capacity};
 ghost use Rattle.lru_limits.specs.Hashing.{hash_by};
 ghost use Rattle.schnellru.specs.Lists.{first, without_last, keys_of, lookup, lookup_entry, IsFront};
 ghost use Rattle.schnellru.specs.Sizes.{usage, IsGreatestUsage};
-ghost use Rattle.schnellru.specs.State.{State, buckets, room, FirstFreeIs, IsSized, IsPaid, IsMap};
+ghost use Rattle.schnellru.specs.State.{State, Contents, contents, buckets, room, FirstFreeIs, IsSized, IsPaid, IsMap};
 ghost use Rattle.schnellru.specs.Place.{Place, Outcome, placed, no_memory, IsPlaced, LacksRoom};
 ghost use Rattle.schnellru.specs.Calls.{Get, promoted, Remove, PopOldest, PopNewest, cleared};
 ghost use Rattle.schnellru.specs.Reservations.{Reserve};
 ghost use Rattle.schnellru.specs.declared.map.reserve.ReserveError.{ReserveError};
 ghost use Rattle.schnellru.specs.Inserts.{Insert, replacement, LacksMemory};
-ghost use Rattle.schnellru.specs.Exact.{IsDetermined, EndsExactly, EndsAlike, AlwaysGrants, HasTables};
+ghost use Rattle.schnellru.specs.Exact.{IsDetermined, NeverLacks, EndsExactly, EndsIfLanded, InsertsInList};
+ghost use Rattle.schnellru.specs.Exact.{Landing, EndsAlike, LookAlike, AlwaysGrants, HasTables};
 ghost use Rattle.schnellru.specs.Theorems.{PaysForMoves, CountsPlacings, Stores, KeepsValues, IsRefusedGrowth};
 ghost use Rattle.schnellru.specs.Theorems.{UsesAtMost, GivesUp, IsSummed, SaysWhether};
 
@@ -26,8 +27,8 @@ use std::hash::{BuildHasher, Hash};
 mod runs;
 
 pub use runs::{
-    runs_begin_with_maps, runs_keep_maps, runs_keep_sums, runs_keep_the_cost, runs_keep_the_length,
-    runs_keep_the_memory_usage, runs_pay_for_moves,
+    calls_add_one_pair, runs_begin_with_maps, runs_keep_maps, runs_keep_sums, runs_keep_the_cost,
+    runs_keep_the_length, runs_keep_the_memory_usage, runs_pay_for_moves,
 };
 
 /// An insert gives up pairs from the old end alone, save one whose replacement is refused.
@@ -40,8 +41,9 @@ pub fn inserts_give_up_the_oldest<
 >()
     ensures { (key : I) (value : V) (old : State K V L S) (result : Result Bool AllocError) (new : State K V L S) →
         Insert L.rules L.offers I.names (hash_by K.hash_input S.BuildHasher S.Hasher.Hasher) key value old result new →
-        GivesUp (I.names key) (λ pair. (replacement L.rules L.offers I.names pair key value old).taken ≡ false)
-        old.pairs new.pairs }
+        GivesUp (I.names key)
+        (λ pair. (replacement L.rules L.offers I.names pair key value (contents old)).taken ≡ false) old.pairs
+        new.pairs }
 {}
 
 /// An insert answers true exactly where its key is there afterwards.
@@ -101,7 +103,8 @@ pub fn inserts_lack_memory_at_no_room<
 {}
 
 /// An insert into a table of up to 16 buckets leaves nothing open but where memory is short: not what it answers, nor
-/// the pairs, nor the limiter. Where the limiter's offers leave nothing open, two inserts of the same end alike.
+/// the pairs, nor the limiter. Where the limiter's offers leave nothing open, two inserts of the same end alike,
+/// however a pair lands that the limiter gives.
 pub fn small_inserts_are_exact<
     K: Eq + Hash,
     V,
@@ -114,15 +117,36 @@ pub fn small_inserts_are_exact<
         buckets old ≤ 16 → IsOk result →
         Insert L.rules L.offers I.names (hash_by K.hash_input S.BuildHasher S.Hasher.Hasher) key value old result new →
         EndsExactly L.rules L.offers I.names key value old result new }
-    ensures alike { (key : I) (value : V) (old : State K V L S) (result other : Result Bool AllocError)
-        (new others : State K V L S) → IsDetermined L.offers →
-        EndsExactly L.rules L.offers I.names key value old result new →
-        EndsExactly L.rules L.offers I.names key value old other others →
+    ensures alike { (land : K × V → Contents K V L → Landing K V L) (key : I) (value : V) (old : Contents K V L)
+        (result other : Result Bool AllocError) (new others : Contents K V L) → IsDetermined L.offers →
+        EndsIfLanded L.rules L.offers I.names land key value old result new →
+        EndsIfLanded L.rules L.offers I.names land key value old other others →
         EndsAlike result other new others }
 {}
 
-/// So it does in a table of any size, where the limiter permits every growth, as `ByLength` does and the unlimited
-/// ones, and links and bytes reach the tables that it may need.
+/// Two maps that differ at most in which buckets are full, in tables of up to 16, do so after inserts of the same, if
+/// offers leave nothing open and find their memory, and both inserts find memory or neither does. Both answer the same.
+pub fn small_inserts_look_alike<
+    K: Eq + Hash,
+    V,
+    I: LookupKey<K>,
+    L: Insertion<K, V, I>,
+    S: BuildHasher,
+>()
+    ensures { (key : I) (value : V) (old : State K V L S) (result : Result Bool AllocError) (new other : State K V L S)
+        (answer : Result Bool AllocError) (last : State K V L S) →
+        IsDetermined L.offers → NeverLacks L.offers →
+        buckets old ≤ 16 → buckets new ≤ 16 → buckets last ≤ 16 →
+        LookAlike old other → is_err result ≡ is_err answer →
+        Insert L.rules L.offers I.names (hash_by K.hash_input S.BuildHasher S.Hasher.Hasher) key value old result new →
+        Insert L.rules L.offers I.names (hash_by K.hash_input S.BuildHasher S.Hasher.Hasher) key value other answer
+        last →
+        (result ≡ answer) × LookAlike new last }
+{}
+
+/// Where the limiter permits every growth, as `ByLength` does and the unlimited ones, and links and bytes reach the
+/// tables that it may need, an insert is one into a list of pairs that has no table. It leaves nothing open but where
+/// memory is short.
 pub fn granted_inserts_are_exact<
     K: Eq + Hash,
     V,
@@ -131,9 +155,9 @@ pub fn granted_inserts_are_exact<
     S: BuildHasher,
 >()
     ensures { (key : I) (value : V) (old : State K V L S) (result : Result Bool AllocError) (new : State K V L S) →
-        AlwaysGrants L.rules → HasTables old → IsOk result →
+        AlwaysGrants L.rules → HasTables old →
         Insert L.rules L.offers I.names (hash_by K.hash_input S.BuildHasher S.Hasher.Hasher) key value old result new →
-        EndsExactly L.rules L.offers I.names key value old result new }
+        InsertsInList L.rules L.offers I.names key value (contents old) result (contents new) }
 {}
 
 /// An insert that grows the table makes one that takes fewer than four times the pairs.

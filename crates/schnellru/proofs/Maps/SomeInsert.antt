@@ -352,9 +352,9 @@ module _ {K V S H I : Type 0} (rules : Rules K V S) (offers : Offers K V S I) (n
       × Insert rules offers names hash_of i v old result new × IsSized new
 
   there : (pair : K × V) → lookup_entry (names i) old.pairs ≡ Some pair → (taken : Bool)
-      → (replacement rules offers names pair i v old).taken ≡ taken → Inserts
+      → (replacement rules offers names pair i v (contents old)).taken ≡ taken → Inserts
   there pair found true y =
-      let c = with_replaced rules offers names pair i v old in
+      let c = with_replaced rules offers names pair i v (contents old) in
       let (new, left, after, freed) = some_leave old (trim rules c) ok
       (omega (
         arith,
@@ -364,7 +364,7 @@ module _ {K V S H I : Type 0} (rules : Rules K V S) (offers : Offers K V S I) (n
       )) in
       (Ok (not (is_empty new.pairs)), new, replaced pair found y refl left, after)
   there pair found false y =
-      let (new, left, after, freed) = some_leave old (with_given_up rules offers names pair i v old) ok
+      let (new, left, after, freed) = some_leave old (with_given_up rules offers names pair i v (contents old)) ok
       (omega (arith, length-without_found (names i) old.pairs pair found)) in
       (Ok false, new, given_up pair found y refl left, after)
 
@@ -414,5 +414,5 @@ module _ {K V S H I : Type 0} (rules : Rules K V S) (offers : Offers K V S I) (n
       absent e s (Some pair) admits = given_pair e s pair admits
 
       go : (found : Option (K × V)) → lookup_entry (names i) old.pairs ≡ found → Inserts
-      go (Some pair) e = there pair e (replacement rules offers names pair i v old).taken refl
+      go (Some pair) e = there pair e (replacement rules offers names pair i v (contents old)).taken refl
       go None e = let (s, given, admits) = offered old.limiter (length old.pairs) i v in absent e s given admits

@@ -10,7 +10,7 @@ use Rattle.schnellru.specs.State.{State, buckets, IsSized}
 use Rattle.schnellru.proofs.TableSizes.Growth.{usage_bytes, usage_addressable}
 
 -- more buckets use more
-bytes_mono : (e m n : ℕ) → m ≤ n → bytes_of e m ≤ bytes_of e n
+pub bytes_mono : (e m n : ℕ) → m ≤ n → bytes_of e m ≤ bytes_of e n
 bytes_mono e m n h = let less : e * m ≤ e * n = mul-le-mul_left e h in omega (arith, less, h)
 
 usage_mono : (e m n a b : ℕ) → 0 < m → m ≤ n → usage e m ≡ Some a → usage e n ≡ Some b → a ≤ b

@@ -133,7 +133,7 @@ target_small k max e b c n bytes size f = from (buckets_for max c) refl
         split false false h = double_small k b c max n size f (table_with_is e n bytes _ h).0
 
 -- at most half of what a table takes needs no larger one
-half_needs : (k max b c : ℕ) → b ≡ 4 * 2 ^ k → b < max → b < 2 ^ 63 → c ≤ full_capacity b / 2 → (need : ℕ)
+pub half_needs : (k max b c : ℕ) → b ≡ 4 * 2 ^ k → b < max → b < 2 ^ 63 → c ≤ full_capacity b / 2 → (need : ℕ)
     × (buckets_for max c ≡ Some need) × (need ≤ b)
 unfolding buckets_for
 half_needs k max b c size reached addressable half =

@@ -11,7 +11,8 @@ use Rattle.std.proofs.lemmas.Option.{cond_some, same_Some}
 use Rattle.group_table.specs.Sizes.{IsPowerFromFour, IsBucketCount, full_capacity, least_power, below, buckets_for}
 use Rattle.group_table.proofs.PowerLemmas.{doubled, first_power_least, first_power_shape, power_gap}
 use Rattle.group_table.proofs.SizeLemmas.{full_capacity-large, power_pos}
-use Rattle.schnellru.specs.Sizes.{bytes_of, usage, same_table, new_table, table_of, table_with, target_from, target}
+use Rattle.schnellru.specs.Sizes.{bytes_of, usage, no_table, same_table, new_table, table_of, table_with, target_from}
+use Rattle.schnellru.specs.Sizes.{target}
 
 -- 4, 8, or at least 16
 pub sizes_of : (k b : ℕ) → b ≡ 4 * 2 ^ k → (b ≡ 4) ⊎ ((b ≡ 8) ⊎ (16 ≤ b))
@@ -303,6 +304,15 @@ target_new max e b c n bytes (inl none) some h =
       buckets_below max need.0 n need.1 (omega (arith, least)),
       omega (arith, none, full_capacity-at_most b),
     )
+
+-- the first table for a pair has 4 buckets
+pub first_target-none : (max e : ℕ) → usage e 4 ≡ None → target max e 0 1 ≡ no_table
+unfolding target buckets_for
+first_target-none max e u = go (nat_lt 4 max)
+  where
+    go : (b : Bool) → target_from max e 0 1 (cond b (Some 4) None) ≡ no_table
+    go true = rw u refl
+    go false = refl
 
 -- a table of the same size is kept where at most half of it is needed
 pub target-same : (max e b c : ℕ) → target max e b c ≡ same_table → c ≤ full_capacity b / 2

@@ -57,6 +57,8 @@ module _ {K V S H : Type 0} (rules : Rules K V S) (old : State K V S H) where
   pairs_calm : (pairs : List (K × V)) (places : List ℕ) → length pairs ≡ length old.pairs
       → Calm old (record old { pairs = pairs; places = places })
   pairs_calm pairs places same = record {
+    hasher = refl;
+    max = refl;
     entry_bytes = refl;
     placings = refl;
     moved = refl;
@@ -69,6 +71,8 @@ module _ {K V S H : Type 0} (rules : Rules K V S) (old : State K V S H) where
 
   pub cleared_calm : Calm old (cleared rules old)
   cleared_calm = record {
+    hasher = refl;
+    max = refl;
     entry_bytes = refl;
     placings = refl;
     moved = refl;
@@ -138,6 +142,8 @@ module _ {K V S H : Type 0} {rules : Rules K V S} {R : Contents K V S → Conten
   reserves s new count m r next large = record {
     moves = subst (R (contents old)) (sym (ap contents m.state)) r;
     tables = record {
+      hasher = ap (λ x. x.hasher) m.state;
+      max = ap (λ x. x.max) m.state;
       entry_bytes = ap (λ x. x.entry_bytes) m.state;
       count = rw m.table next;
       moved = λ bound. omega (arith, ap (λ x. x.moved) m.state, bound);

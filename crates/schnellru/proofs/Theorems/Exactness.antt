@@ -19,8 +19,9 @@ use Rattle.schnellru.specs.Inserts.{with_replaced, Settles}
 use Rattle.schnellru.proofs.Maps.LeavingPairs.{oldest_leaves}
 use Rattle.schnellru.proofs.Maps.Outcomes.{ok-not_err}
 use Rattle.schnellru.proofs.Theorems.Moves.{left_are}
-use Rattle.schnellru.specs.Exact.{Landing, Ending, lands, evicts, grows, landing, trimmed, settled, ending_there}
-use Rattle.schnellru.specs.Exact.{ending_new, IsEnding, EndsBy, EndsExactly, EndsAlike, IsDetermined}
+use Rattle.schnellru.specs.Exact.{Landing, Ending, lands, evicts, grows, landing, trimmed, settled, lands_in}
+use Rattle.schnellru.specs.Exact.{ending_there, ending_new, IsEnding, EndsBy, EndsIfLanded, EndsExactly, EndsAlike}
+use Rattle.schnellru.specs.Exact.{IsDetermined}
 
 module _ {K V S H : Type 0} (rules : Rules K V S) (pair : K × V) where
   -- The pair, the pairs and the limiter are as they are to be, where memory is not short.
@@ -96,17 +97,11 @@ module _ {K V S H : Type 0} (rules : Rules K V S) (hash_of : H → K → ℕ) (p
       (one_left n mid left (one small) gone) (if_memory rules pair left _ _ _ outcome new m))
 
 module _ {K V S H : Type 0} (rules : Rules K V S) (hash_of : H → K → ℕ) (old : State K V S H) where
-  -- a pair that the limiter gave lands as it is to, after way was made for it
-  abbrev pub PlacesExactly : Type 0
-  PlacesExactly = (s : S) (pair : K × V) (ready : State K V S H) →
+  -- up to 16 buckets a pair that the limiter gave lands as it is to, after way was made for it
+  small_places : buckets old ≤ 16 → (s : S) (pair : K × V) (ready : State K V S H) →
       let c = make_way rules (record { pairs = old.pairs; limiter = s }) in
       Leaves (record old { limiter = s }) c ready → (outcome : Outcome) (landed : State K V S H)
-      → Place rules hash_of pair ready outcome landed →
-      LandsAs rules pair (landing rules pair (buckets old)
-      (room old + length old.pairs - length c.pairs) old.entry_bytes old.max c) outcome landed
-
-  -- up to 16 buckets each placing lands so
-  pub small_places : buckets old ≤ 16 → PlacesExactly
+      → Place rules hash_of pair ready outcome landed → LandsAs rules pair (lands_in rules old pair c) outcome landed
   small_places small s pair ready l outcome landed p =
       let c = make_way rules (record { pairs = old.pairs; limiter = s }) in
       let tiny : buckets ready ≤ 16 = omega (arith, l.room.table, small) in
@@ -118,12 +113,11 @@ module _ {K V S H : Type 0} (rules : Rules K V S) (hash_of : H → K → ℕ) (o
       (λ j. landing rules pair (l.room.table j) (spare j) (l.is j).entry_bytes (l.is j).max (same j)) in
       subst (λ x. LandsAs rules pair x outcome landed) is (place_lands rules hash_of pair ready tiny outcome landed p)
 
--- an insert ends as the pairs and the limiter have it, where each placing does
-module _ {K V S H I : Type 0} (rules : Rules K V S) (offers : Offers K V S I) (names : I → K → Bool) (i : I) (v : V)
-    (old : State K V S H) where
-  trimmed_ends : (mid : State K V S H) (c : Contents K V S) (result : Result Bool AllocError) (new : State K V S H)
-      → result ≡ Ok (not (is_empty new.pairs)) → Leaves mid (trim rules c) new → IsEnding rules offers names i v old
-      (trimmed rules c) result new
+-- an insert ends as the pairs and the limiter have it
+module _ {K V S H : Type 0} (rules : Rules K V S) where
+  pub trimmed_ends : (mid : State K V S H) (c : Contents K V S) (result : Result Bool AllocError) (new : State K V S H)
+      → result ≡ Ok (not (is_empty new.pairs)) → Leaves mid (trim rules c) new
+      → IsEnding (trimmed rules c) result (contents new)
   trimmed_ends mid c result new r l = (
     r ∙ ap (λ x. Ok (not (is_empty x.pairs))) (left_are mid (trim rules c) new l),
     left_are mid (trim rules c) new l,
@@ -131,45 +125,44 @@ module _ {K V S H I : Type 0} (rules : Rules K V S) (offers : Offers K V S I) (n
 
   settled_ends : (l : Landing K V S) (pair : K × V) (outcome : Outcome) (landed : State K V S H)
       (result : Result Bool AllocError) (new : State K V S H) → IsOk result → LandsAs rules pair l outcome landed
-      → Settles rules outcome landed result new → IsEnding rules offers names i v old (settled rules l) result new
+      → Settles rules outcome landed result new → IsEnding (settled rules l) result (contents new)
   settled_ends l pair placed landed result new ok h s = rw h (trimmed_ends landed (contents landed) result new s.0 s.1)
   settled_ends l pair refused landed result new ok h s = rw h (s.0, ap contents s.1)
   settled_ends l pair no_memory landed result new ok h s = ok-not_err result ok s.0
 
 module _ {K V S H I : Type 0} {rules : Rules K V S} {offers : Offers K V S I} {names : I → K → Bool}
     {hash_of : H → K → ℕ} {i : I} {v : V} {old : State K V S H} where
-  pub insert_ends : PlacesExactly rules hash_of old → {result : Result Bool AllocError} {new : State K V S H}
+  pub insert_ends : buckets old ≤ 16 → {result : Result Bool AllocError} {new : State K V S H}
       → IsOk result → Insert rules offers names hash_of i v old result new
       → EndsExactly rules offers names i v old result new
-  insert_ends places {result} {new} ok (replaced pair found y r l) = rw (found, y)
-      (trimmed_ends rules offers names i v old old (with_replaced rules offers names pair i v old) result new r l)
-  insert_ends places {new = new} ok (given_up pair found y r l) = rw (found, y) (r, left_are old _ new l)
-  insert_ends places {result} ok (no_memory_to_admit a k r e) = ok-not_err result ok r
-  insert_ends places ok (not_admitted a s n r e) = rw a (s, None, n, (r, ap contents e))
-  insert_ends places {result} {new} ok (admitted a s pair n (ready, l, outcome, landed, p, t)) =
+  insert_ends small {result} {new} ok (replaced pair found y r l) = rw (found, y)
+      (trimmed_ends rules old (with_replaced rules offers names pair i v (contents old)) result new r l)
+  insert_ends small {new = new} ok (given_up pair found y r l) = rw (found, y) (r, left_are old _ new l)
+  insert_ends small {result} ok (no_memory_to_admit a k r e) = ok-not_err result ok r
+  insert_ends small ok (not_admitted a s n r e) = rw a (s, None, n, (r, ap contents e))
+  insert_ends small {result} {new} ok (admitted a s pair n (ready, l, outcome, landed, p, t)) =
       rw a (
         s,
         Some pair,
         n,
-        settled_ends rules offers names i v old _ pair outcome landed result new ok
-            (places s pair ready l outcome landed p) t,
+        settled_ends rules _ pair outcome landed result new ok
+            (small_places rules hash_of old small s pair ready l outcome landed p) t,
       )
 
-module _ {K V S H I : Type 0} (rules : Rules K V S) (offers : Offers K V S I) (names : I → K → Bool) (i : I) (v : V)
-    (old : State K V S H)
-    (determined : IsDetermined offers) (result other : Result Bool AllocError) (new others : State K V S H) where
-  alike : (e : Ending K V S) → IsEnding rules offers names i v old e result new
-      → IsEnding rules offers names i v old e other others → EndsAlike result other new others
+module _ {K V S I : Type 0} (rules : Rules K V S) (offers : Offers K V S I) (names : I → K → Bool)
+    (land : K × V → Contents K V S → Landing K V S) (i : I) (v : V) (old : Contents K V S)
+    (determined : IsDetermined offers) (result other : Result Bool AllocError) (new others : Contents K V S) where
+  alike : (e : Ending K V S) → IsEnding e result new → IsEnding e other others → EndsAlike result other new others
   alike e h k = record { answers = h.0 ∙ sym k.0; contents = h.1 ∙ sym k.1 }
 
-  ends_alike : (o : Option (K × V)) → EndsBy rules offers names i v old o result new
-      → EndsBy rules offers names i v old o other others → EndsAlike result other new others
-  ends_alike (Some pair) h k = alike (ending_there rules offers names i v old pair) h k
+  ends_alike : (o : Option (K × V)) → EndsBy rules offers names land i v old o result new
+      → EndsBy rules offers names land i v old o other others → EndsAlike result other new others
+  ends_alike (Some pair) h k = alike (ending_there rules offers names land i v old pair) h k
   ends_alike None h k =
       let d = determined old.limiter (length old.pairs) i v h.0 k.0 h.1 k.1 h.2 k.2 in
-      alike (ending_new rules offers names i v old k.0 k.1) (rw (← d.0, ← d.1) h.3) k.3
+      alike (ending_new rules offers names land i v old k.0 k.1) (rw (← d.0, ← d.1) h.3) k.3
 
-  -- Two inserts of the same that end exactly end alike.
-  pub inserts_alike : EndsExactly rules offers names i v old result new
-      → EndsExactly rules offers names i v old other others → EndsAlike result other new others
+  -- Two inserts of the same, where each pair lands alike, end alike.
+  pub inserts_alike : EndsIfLanded rules offers names land i v old result new
+      → EndsIfLanded rules offers names land i v old other others → EndsAlike result other new others
   inserts_alike h k = ends_alike (lookup_entry (names i) old.pairs) h k

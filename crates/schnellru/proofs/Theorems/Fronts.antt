@@ -6,7 +6,7 @@ use Rattle.schnellru.specs.Lists.{is_empty, first, IsFront, without_last, lookup
 use Rattle.std.specs.declared.alloc.AllocError.{AllocError}
 use Rattle.lru_limits.specs.Rules.{Rules, Offers}
 use Rattle.lru_limits.specs.Laws.{IsLookup, IsInsertion}
-use Rattle.schnellru.specs.State.{State, Contents, pops, trim}
+use Rattle.schnellru.specs.State.{State, Contents, contents, pops, trim}
 use Rattle.schnellru.specs.Place.{Place, Outcome, placed, refused, no_memory}
 use Rattle.schnellru.specs.Inserts.{Insert, replaced, given_up, no_memory_to_admit, not_admitted, admitted, make_way}
 use Rattle.schnellru.specs.Inserts.{MayGive, replacement, with_replaced}
@@ -123,15 +123,16 @@ module _ {K V S H I : Type 0} (rules : Rules K V S) (offers : Offers K V S I) (n
     (looks_up : IsLookup names eq query_input key_input)
     (laws : IsInsertion names eq offers) (i : I) (v : V) (old : State K V S H) where
   -- the pair that was given has a key that i names
-  pub given_named : (s : S) (pair : K × V) → MayGive rules offers names i v old s (Some pair) → names i pair.0 ≡ true
+  pub given_named : (s : S) (pair : K × V) → MayGive rules offers names i v (contents old) s (Some pair)
+      → names i pair.0 ≡ true
   given_named s pair n = laws.names_given old.limiter (length old.pairs) i v s pair.0 pair.1 n
 
   -- and so has the pair that was replaced
   pub replaced_named : (pair : K × V) → lookup_entry (names i) old.pairs ≡ Some pair
-      → names i (replacement rules offers names pair i v old).key ≡ true
+      → names i (replacement rules offers names pair i v (contents old)).key ≡ true
   replaced_named pair found =
       let n = found_named (names i) old.pairs pair found in
-      looks_up.one i pair.0 (replacement rules offers names pair i v old).key n
+      looks_up.one i pair.0 (replacement rules offers names pair i v (contents old)).key n
       ∙ laws.keeps_key old.limiter (length old.pairs) pair.0 i pair.1 v n
 
 module _ {K V S H I : Type 0} {rules : Rules K V S} {offers : Offers K V S I} {names : I → K → Bool}
@@ -141,11 +142,12 @@ module _ {K V S H I : Type 0} {rules : Rules K V S} {offers : Offers K V S I} {n
   -- Inserts give up pairs from the old end alone, save one whose replacement is refused.
   pub insert_gives_up : (result : Result Bool AllocError) (new : State K V S H)
       → Insert rules offers names hash_of i v old result new
-      → GivesUp (names i) (λ pair. (replacement rules offers names pair i v old).taken ≡ false) old.pairs new.pairs
+      → GivesUp (names i) (λ pair. (replacement rules offers names pair i v (contents old)).taken ≡ false) old.pairs
+      new.pairs
   insert_gives_up result new (replaced pair found y r l) =
       behind _ (replaced_named rules offers names looks_up laws i v old pair found)
       (front_trans _ (front_same (ap (λ st. st.pairs) l.is))
-      (front_trim rules (with_replaced rules offers names pair i v old)))
+      (front_trim rules (with_replaced rules offers names pair i v (contents old))))
   insert_gives_up result new (given_up pair found y r l) = without_one pair found y (ap (λ st. st.pairs) l.is)
   insert_gives_up result new (no_memory_to_admit a k r e) = with_none a (front_same (ap (λ st. st.pairs) e))
   insert_gives_up result new (not_admitted a s n r e) = with_none a (front_same (ap (λ st. st.pairs) e))
@@ -159,8 +161,9 @@ module _ {K V S H I : Type 0} {rules : Rules K V S} {offers : Offers K V S I} {n
       others : IsFront ready.pairs (without (names i) old.pairs)
       others = subst (IsFront ready.pairs) (sym (without_none (names i) old.pairs a)) ready_front
 
-      go : Ends rules pair ready landed → GivesUp (names i) (λ pair. (replacement rules offers names pair i v old).taken
-          ≡ false) old.pairs new.pairs
+      go : Ends rules pair ready landed
+          → GivesUp (names i) (λ pair. (replacement rules offers names pair i v (contents old)).taken ≡ false) old.pairs
+          new.pairs
       go (inl f) = behind pair (given_named rules offers names looks_up laws i v old s pair n)
           (front_trans _ (settles_keep rules _ (front_way rules) outcome landed result new t)
           (front_trans _ f (front_more pair _ _ others)))

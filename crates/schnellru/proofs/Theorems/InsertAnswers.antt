@@ -127,10 +127,10 @@ module _ {K V S H I : Type 0} {rules : Rules K V S} {offers : Offers K V S I} {n
   pub insert_says : {result : Result Bool AllocError} {new : State K V S H} → AreDistinct eq old.pairs
       → Insert rules offers names hash_of i v old result new → SaysWhether rules (names i) result new
   insert_says {result} {new} d (replaced pair found y r l) = trimmed_says rules (names i) old
-      (with_replaced rules offers names pair i v old) result new l r (record {
+      (with_replaced rules offers names pair i v (contents old)) result new l r (record {
         pair = (
-          (replacement rules offers names pair i v old).key,
-          (replacement rules offers names pair i v old).new_value,
+          (replacement rules offers names pair i v (contents old)).key,
+          (replacement rules offers names pair i v (contents old)).new_value,
         );
         rest = without (names i) old.pairs;
         first = refl;
@@ -167,7 +167,7 @@ module _ {K V S H I : Type 0} {rules : Rules K V S} {offers : Offers K V S I} {n
       → Insert rules offers names hash_of i v old result new
       → IfSome (first new.pairs) (Stores rules offers names i v old)
   insert_stores {new = new} q (replaced pair found y r l) = stored
-      (with_replaced rules offers names pair i v old) old new l (sym q ∙ r) _ _ refl (left pair found y refl)
+      (with_replaced rules offers names pair i v (contents old)) old new l (sym q ∙ r) _ _ refl (left pair found y refl)
   insert_stores q (given_up pair found y r l) = absurd (false≢true (same_kept false true (sym r ∙ q)))
   insert_stores {result = result} q (no_memory_to_admit a k r e) = ok-not_err result (rw q refl) r
   insert_stores q (not_admitted a s n r e) = absurd (false≢true (same_kept false true (sym r ∙ q)))

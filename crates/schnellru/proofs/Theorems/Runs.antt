@@ -1,5 +1,5 @@
 -- What each move keeps, every step keeps, and so does every run.
-use Rattle.std.proofs.Common.{ℕ, Bool, List, subst}
+use Rattle.std.proofs.Common.{◌≡◌, ℕ, Bool, List, subst}
 use Rattle.std.specs.List.{IsDistinct}
 use Rattle.std.specs.Map.{set_value}
 use Rattle.std.proofs.lemmas.Map.{keys-set_value}
@@ -52,6 +52,13 @@ module _ {K V S H I : Type 0} {rules : Rules K V S} {offers : Offers K V S I} {n
         → R (contents old) (contents new)
     run_keeps new old ends = k.keeps.way.self (contents new)
     run_keeps new old (goes_on mid s sized r) = k.keeps.way.trans (step_changes old mid s).1.moves (run_keeps new mid r)
+
+  -- no call changes what builds the hashers, how far links reach, and what a bucket takes
+  pub any_step_same : (old new : State K V S H) → AnyStep rules offers names hash_of old new
+      → (new.hasher ≡ old.hasher) × (new.max ≡ old.max) × (new.entry_bytes ≡ old.entry_bytes)
+  any_step_same old new s =
+      let tables = (any_changes keeps_nothing (λ c test value. tt) (λ c s. tt) old new s).1.tables in
+      (tables.hasher, tables.max, tables.entry_bytes)
 
   pub run_pays : (new old : State K V S H) → IsSized old → Run (AnyStep rules offers names hash_of) new old
       → PaysForMoves old new

@@ -1,6 +1,7 @@
 -- The account stays the sum of the costs.
-use Rattle.std.proofs.Common.{◌≡◌, ℕ, ◌+◌, ◌≤◌, ◌++◌, Bool, true, false, cond, List, [], ◌∷◌, length, Option, Some, None}
-use Rattle.std.proofs.Common.{refl, sym, ap, ◌∙◌, subst, arith, sum_by}
+use Rattle.std.proofs.Common.{◌≡◌, ℕ, ◌+◌, ◌≤◌, ◌++◌, Bool, true, false, cond, List, [], ◌∷◌, length, Option, Some}
+use Rattle.std.proofs.Common.{None, refl, sym, ap, ◌∙◌, subst, arith, sum_by, MatchOption}
+use Rattle.std.specs.Map.{set_value}
 use Rattle.std.proofs.lemmas.List.Recursion.{is_sum_by}
 use Rattle.lru_limits.specs.Rules.{Rules, Offers}
 use Rattle.lru_limits.specs.Laws.{IsAccount}
@@ -66,6 +67,26 @@ module _ {K V : Type 0} (cost : K × V → ℕ) (names : K → Bool) where
       go : (o : Option (K × V)) (ys : List (K × V)) → IsSplit cost xs o ys → total cost (after o ys) ≡ total cost xs
       go None ys h = ap (total cost) h
       go (Some x) ys h = omega (arith, h)
+
+module _ {K V : Type 0} (cost : K × V → ℕ) (names : K → Bool) (v : V) where
+  -- the value v in place of that of the named pair keeps its cost
+  abbrev KeepsPair : List (K × V) → Type 0
+  KeepsPair xs = MatchOption (lookup_entry names xs) (Unit {0}) (λ p. cost (p.0, v) ≡ cost (p.0, p.1))
+
+  total-set : (xs : List (K × V)) → KeepsPair xs → total cost (set_value names xs v) ≡ total cost xs
+  total-set [] keeps = refl
+  total-set (x ∷ xs) keeps = go (names x.0) keeps (total-set xs)
+    where
+      go : (b : Bool) → MatchOption (cond b (Some x) (lookup_entry names xs)) (Unit {0})
+          (λ p. cost (p.0, v) ≡ cost (p.0, p.1))
+          → (KeepsPair xs → total cost (set_value names xs v) ≡ total cost xs)
+          → total cost (cond b ((x.0, v) ∷ xs) (x ∷ set_value names xs v)) ≡ cost x + total cost xs
+      go true keeps later = ap (λ n. n + total cost xs) keeps
+      go false keeps later = ap (λ n. cost x + n) (later keeps)
+
+  -- then it keeps the sum
+  pub sum-set : (xs : List (K × V)) → KeepsPair xs → sum_by cost (set_value names xs v) ≡ sum_by cost xs
+  sum-set xs keeps = sym (total-is cost (set_value names xs v)) ∙ total-set xs keeps ∙ total-is cost xs
 
 module _ {K V S I : Type 0} {rules : Rules K V S} {offers : Offers K V S I} {cost : K → V → ℕ}
     {account : S → ℕ} (laws : IsAccount rules offers cost account) where

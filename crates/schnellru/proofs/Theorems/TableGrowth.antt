@@ -15,6 +15,8 @@ use Rattle.schnellru.proofs.Theorems.Potential.{IsBounded, pays_trans, pays_calm
 module _ {K V S H : Type 0} where
   -- nothing is placed, and the table has as many buckets, with as much room or more, and no more pairs
   pub record Calm (old new : State K V S H) : Type 0 where
+    pub hasher : new.hasher ≡ old.hasher
+    pub max : new.max ≡ old.max
     pub entry_bytes : new.entry_bytes ≡ old.entry_bytes
     pub placings : new.placings ≡ old.placings
     pub moved : new.moved ≡ old.moved
@@ -28,6 +30,8 @@ module _ {K V S H : Type 0} where
   -- another limiter
   pub limiter_calm : (st : State K V S H) (s : S) → Calm st (record st { limiter = s })
   limiter_calm st s = record {
+    hasher = refl;
+    max = refl;
     entry_bytes = refl;
     placings = refl;
     moved = refl;
@@ -43,6 +47,8 @@ module _ {K V S H : Type 0} where
 
   pub calm_trans : (old mid new : State K V S H) → Calm old mid → Calm mid new → Calm old new
   calm_trans old mid new f g = record {
+    hasher = g.hasher ∙ f.hasher;
+    max = g.max ∙ f.max;
     entry_bytes = g.entry_bytes ∙ f.entry_bytes;
     placings = g.placings ∙ f.placings;
     moved = g.moved ∙ f.moved;
@@ -56,6 +62,8 @@ module _ {K V S H : Type 0} where
   pub leaves_calm : (old : State K V S H) (left : Contents K V S) (new : State K V S H) → Leaves old left new
       → Calm old new
   leaves_calm old left new l = record {
+    hasher = ap (λ st. st.hasher) l.is;
+    max = ap (λ st. st.max) l.is;
     entry_bytes = ap (λ st. st.entry_bytes) l.is;
     placings = ap (λ st. st.placings) l.is;
     moved = ap (λ st. st.moved) l.is;
@@ -102,6 +110,8 @@ module _ {K V S H : Type 0} (rules : Rules K V S) (P : S → Type 0) where
 
   -- what a call makes of the table, for so many pairs more
   pub record Tables (more : ℕ) (old new : State K V S H) : Type 0 where
+    pub hasher : new.hasher ≡ old.hasher
+    pub max : new.max ≡ old.max
     pub entry_bytes : new.entry_bytes ≡ old.entry_bytes
     pub count : IsNextCount old (buckets new)
     pub moved : old.moved < 2 ^ 64 → new.moved < 2 ^ 64
@@ -110,6 +120,8 @@ module _ {K V S H : Type 0} (rules : Rules K V S) (P : S → Type 0) where
 
   pub calm_tables : (more : ℕ) (old new : State K V S H) → Calm old new → Tables more old new
   calm_tables more old new f = record {
+    hasher = f.hasher;
+    max = f.max;
     entry_bytes = f.entry_bytes;
     count = inl f.table;
     moved = λ bound. omega (arith, f.moved, bound);
@@ -119,6 +131,8 @@ module _ {K V S H : Type 0} (rules : Rules K V S) (P : S → Type 0) where
 
   pub calm_then : (more : ℕ) (old mid new : State K V S H) → Calm old mid → Tables more mid new → Tables more old new
   calm_then more old mid new f t = record {
+    hasher = t.hasher ∙ f.hasher;
+    max = t.max ∙ f.max;
     entry_bytes = t.entry_bytes ∙ f.entry_bytes;
     count = elim t.count [
       | inl e ↦ inl (e ∙ f.table)
@@ -132,6 +146,8 @@ module _ {K V S H : Type 0} (rules : Rules K V S) (P : S → Type 0) where
 
   pub then_calm : (more : ℕ) (old mid new : State K V S H) → Tables more old mid → Calm mid new → Tables more old new
   then_calm more old mid new t f = record {
+    hasher = f.hasher ∙ t.hasher;
+    max = f.max ∙ t.max;
     entry_bytes = f.entry_bytes ∙ t.entry_bytes;
     count = rw f.table t.count;
     moved = λ bound. omega (arith, f.moved, t.moved bound);

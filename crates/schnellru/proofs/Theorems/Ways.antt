@@ -52,6 +52,8 @@ module _ {K V S H : Type 0} (rules : Rules K V S) (P : S → Type 0) (pair : K �
   lands_tables : (outcome : Outcome) (mid new : State K V S H) → Calm old mid → Lands outcome mid new
       → Tables rules P 1 old new
   lands_tables placed mid new f l = record {
+    hasher = ap (λ x. x.hasher) l.is.state ∙ f.hasher;
+    max = ap (λ x. x.max) l.is.state ∙ f.max;
     entry_bytes = ap (λ x. x.entry_bytes) l.is.state ∙ f.entry_bytes;
     count = rw l.is.table l.next;
     moved = λ bound. omega (arith, ap (λ x. x.moved) l.is.state);
@@ -197,17 +199,17 @@ module _ {K V S H I : Type 0} {rules : Rules K V S} {offers : Offers K V S I} {n
     {R : Contents K V S → Contents K V S → Type 0} (k : KeepsOffers rules offers names R) (i : I) (v : V)
     (old : State K V S H) where
   -- what a replacement leaves, where this value of the two stays
-  exchanges : (pair : K × V) (w : V) → kept_value (replacement rules offers names pair i v old) ≡ w
+  exchanges : (pair : K × V) (w : V) → kept_value (replacement rules offers names pair i v (contents old)) ≡ w
       → R (contents old) (exchange rules offers names pair i v (contents old))
       → R (contents old) (record {
-        pairs = ((replacement rules offers names pair i v old).key, w) ∷ without (names i) old.pairs;
-        limiter = (replacement rules offers names pair i v old).limiter;
+        pairs = ((replacement rules offers names pair i v (contents old)).key, w) ∷ without (names i) old.pairs;
+        limiter = (replacement rules offers names pair i v (contents old)).limiter;
       })
   exchanges pair w e r = subst
       (λ x. R (contents old)
       (record {
-        pairs = ((replacement rules offers names pair i v old).key, x) ∷ without (names i) old.pairs;
-        limiter = (replacement rules offers names pair i v old).limiter;
+        pairs = ((replacement rules offers names pair i v (contents old)).key, x) ∷ without (names i) old.pairs;
+        limiter = (replacement rules offers names pair i v (contents old)).limiter;
       })) e r
 
   -- what each move keeps, an insert keeps

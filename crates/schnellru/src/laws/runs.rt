@@ -1,6 +1,6 @@
 //! What is proved of all calls, one after another. A step is what one call makes of a map (`specs/Runs`).
 
-ghost use Rattle.std.specs.Prelude.{◌≡◌, ℕ, ◌≤◌, length};
+ghost use Rattle.std.specs.Prelude.{◌≡◌, ℕ, ◌+◌, ◌≤◌, length};
 ghost use Rattle.lru_limits.specs.Hashing.{hash_by};
 ghost use Rattle.schnellru.specs.State.{State, IsSized, IsMap, empty_map};
 ghost use Rattle.schnellru.specs.Runs.{Step, AnyStep, Run};
@@ -73,4 +73,11 @@ pub fn runs_keep_the_cost<K: Eq + Hash + Drop, V: Costed + Drop, S: BuildHasher>
 pub fn runs_begin_with_maps<K: Eq + Hash, V, L: Limiter<K, V>, S: BuildHasher>()
     ensures empty { (limiter : L) (hasher : S) (entry_bytes : ℕ) →
         IsMap K.eq (empty_map {K = K} {V = V} limiter hasher entry_bytes (L.LinkType.number L.LinkType.MAX)) }
+{}
+
+/// No call adds more than one pair.
+pub fn calls_add_one_pair<K: Eq + Hash, V, I: LookupKey<K>, L: Insertion<K, V, I>, S: BuildHasher>()
+    ensures { (old new : State K V L S) →
+        AnyStep L.rules L.offers I.names (hash_by K.hash_input S.BuildHasher S.Hasher.Hasher) old new →
+        length new.pairs ≤ length old.pairs + 1 }
 {}

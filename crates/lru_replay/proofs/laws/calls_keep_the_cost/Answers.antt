@@ -1,8 +1,9 @@
 use Rattle.std.proofs.Common.{◌≤◌, refl, sym, ◌∙◌}
+use Rattle.schnellru.proofs.CallerLemmas.{sum-set}
+use Rattle.schnellru.specs.State.{contents}
 use Rattle.schnellru.specs.Theorems.{IsSummed}
 use Rattle.lru_replay.proofs.CallLaws.{run_within, summing_kinds}
 use Rattle.lru_replay.proofs.CallRuns.{run-follows}
-use Rattle.lru_replay.proofs.SummedCalls.{sum-set}
 use Rattle.lru_replay.specs.CallRuns.{KeepsCost}
 use Rattle.lru_replay.proofs.laws.calls_keep_the_cost.Goals as goal
 
@@ -17,7 +18,8 @@ returns g c = record {
         c.runs_keep_sums.ensures.sum old new run h.0,
         c.runs_keep_the_cost.ensures.cost old new run h.0 h.1,
       ))
-      c.runs_keep_the_cost.ensures.limit _ (KeepsCost eq (λ k v. g.V.Costed.cost v) (λ b. b.cost))
+      c.runs_keep_the_cost.ensures.limit _
+      (λ st call. KeepsCost eq (λ k v. g.V.Costed.cost v) (λ b. b.cost) (contents st) call)
       (summing_kinds (λ k v. g.V.Costed.cost v) (λ b. b.cost))
       (λ n st key v keeps h. (h.0 ∙ sym (sum-set (λ p. g.V.Costed.cost p.1) (eq key) v st.pairs keeps), h.1))
       (λ st map. map.sized) old.limiter.limit old calls replies new run none refl (summed, within));

@@ -8,6 +8,6 @@ returns g c = record {
   usage = λ old new calls replies run none uses.
       run_within _ _ g.K.PartialEq.eq _ (λ most. most) (λ most st. UsesAtMost most st)
       c.runs_keep_the_memory_usage.ensures.usage c.runs_keep_the_memory_usage.ensures.limiter _
-      (λ st call. Unit {0}) call_kinds (λ most st key v known h. h) (λ st map. map.sized) old.limiter old calls replies new run none refl
-      uses;
+      (λ st call. Unit {0}) call_kinds (λ most st key v known h. h) (λ st map. map.sized) old.limiter old calls
+      replies new run none refl uses;
 }

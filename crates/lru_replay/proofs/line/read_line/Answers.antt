@@ -12,12 +12,14 @@ take_piece-requires g c = let (bytes, part, kept) = c.loop.invariant in rw kept 
 pub returns-in-Ok-Last-clause-ok : goal.returns-in-Ok-Last-clause-ok
 returns-in-Ok-Last-clause-ok g c =
     let (bytes, part, kept) = c.loop.invariant in
+    let from = g.R.Read.remaining c.args.reader.now in
+    let at = g.R.Read.remaining c.loop.reader in
     let (more, taken, now) = rw c.in-Ok-Last.field-0-is at c.in-Ok-Last.ensures.ok in (
       bytes ++ more,
       (
         Lacks-append 10 bytes more part.0 taken.0,
         subst (Consumes _ _) (sym (append_assoc bytes more (10 ∷ [])))
-            (Consumes-trans _ _ _ _ _ part.1 taken.1),
+            (Consumes-trans from at _ bytes _ part.1 taken.1),
       ),
       now ∙ ap (λ l. take HELD (l ++ more)) kept ∙ kept_again HELD bytes more,
     )
@@ -25,14 +27,16 @@ returns-in-Ok-Last-clause-ok g c =
 pub returns-then-is_empty-clause-ok : goal.returns-then-is_empty-clause-ok
 returns-then-is_empty-clause-ok g c =
     let (bytes, part, kept) = c.loop.invariant in
+    let from = g.R.Read.remaining c.args.reader.now in
+    let at = g.R.Read.remaining c.loop.reader in
     let (more, taken, now) = rw c.in-Ok-End.field-0-is at c.in-Ok-End.ensures.ok in
     let held = now ∙ ap (λ l. take HELD (l ++ more)) kept ∙ kept_again HELD bytes more in (
       bytes ++ more,
       (
         (
           Lacks-append 10 bytes more part.0 taken.0,
-          Consumes-trans _ _ _ _ _ part.1 taken.1,
-          Consumes_end _ _ _ _ part.1 taken.2,
+          Consumes-trans from at _ bytes _ part.1 taken.1,
+          Consumes_end from at _ bytes part.1 taken.2,
         ),
         nothing_held 48 _ (sym held ∙ c.if-is_empty.ensures),
       ),
@@ -42,14 +46,16 @@ returns-then-is_empty-clause-ok g c =
 pub returns-else-is_empty-clause-ok : goal.returns-else-is_empty-clause-ok
 returns-else-is_empty-clause-ok g c =
     let (bytes, part, kept) = c.loop.invariant in
+    let from = g.R.Read.remaining c.args.reader.now in
+    let at = g.R.Read.remaining c.loop.reader in
     let (more, taken, now) = rw c.in-Ok-End.field-0-is at c.in-Ok-End.ensures.ok in
     let held = now ∙ ap (λ l. take HELD (l ++ more)) kept ∙ kept_again HELD bytes more in (
       bytes ++ more,
       (
         (
           Lacks-append 10 bytes more part.0 taken.0,
-          Consumes-trans _ _ _ _ _ part.1 taken.1,
-          Consumes_end _ _ _ _ part.1 taken.2,
+          Consumes-trans from at _ bytes _ part.1 taken.1,
+          Consumes_end from at _ bytes part.1 taken.2,
         ),
         some_held HELD _ (subst (λ l. 0 < length l) held (c.if-is_empty.ensures)),
       ),
@@ -59,8 +65,10 @@ returns-else-is_empty-clause-ok g c =
 pub loop-preserved : goal.loop-preserved
 loop-preserved g c =
     let (bytes, part, kept) = c.loop.invariant in
+    let from = g.R.Read.remaining c.args.reader.now in
+    let at = g.R.Read.remaining c.loop.reader in
     let (more, taken, now) = rw c.in-Ok-Part.field-0-is at c.in-Ok-Part.ensures.ok in (
       bytes ++ more,
-      (Lacks-append 10 bytes more part.0 taken.0, Consumes-trans _ _ _ _ _ part.1 taken.1),
+      (Lacks-append 10 bytes more part.0 taken.0, Consumes-trans from at _ bytes _ part.1 taken.1),
       now ∙ ap (λ l. take HELD (l ++ more)) kept ∙ kept_again HELD bytes more,
     )

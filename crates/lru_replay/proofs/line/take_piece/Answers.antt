@@ -22,7 +22,8 @@ returns-then-len-eq0-clause-ok g c =
     let rested = c.fill_buf.follows.lender-at-none in
     let filled = subst (FillKeeps _ (g.R.Read.remaining rested) (g.R.BufRead.consumable_len rested)) c.in-Ok.is
     c.fill_buf.follows.holds-at-none in
-    let moved = Consumes_shown _ _ _ _ shown 0 zero-le c.in-Ok.ensures.front c.in-Ok.ensures.end filled.0 filled.1
+    let moved = Consumes_shown (g.R.Read.remaining c.args.reader.now) (g.R.Read.remaining rested) _
+    (g.R.BufRead.consumable_len rested) shown 0 zero-le c.in-Ok.ensures.front c.in-Ok.ensures.end filled.0 filled.1
     c.consume.ensures.bytes in
     let none : shown ≡ [] = nil_from_length shown c.if-len-eq0.true in (
       [],
@@ -39,7 +40,8 @@ returns-clause-ok g c =
     let rested = c.fill_buf.follows.lender-at-none in
     let filled = subst (FillKeeps _ (g.R.Read.remaining rested) (g.R.BufRead.consumable_len rested)) c.in-Ok.is
     c.fill_buf.follows.holds-at-none in
-    let moved = Consumes_shown _ _ _ _ shown (at.result + 1)
+    let moved = Consumes_shown (g.R.Read.remaining c.args.reader.now) (g.R.Read.remaining rested) _
+    (g.R.BufRead.consumable_len rested) shown (at.result + 1)
     (omega (arith, more)) c.in-Ok.ensures.front c.in-Ok.ensures.end filled.0 filled.1 c.consume-2.ensures.bytes in (
       take at.result shown,
       (at.ensures.before, subst (Consumes _ _) (at.ensures.through more) moved.0),

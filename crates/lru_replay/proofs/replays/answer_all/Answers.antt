@@ -22,7 +22,8 @@ returns-in_err-write_bytes g c =
     (held_limit bytes limit spells)) in
     let p = err_from_is_err_and c.from_residual-in_err-write_bytes.result c.from_residual-in_err-write_bytes.ensures.1
     in
-    rw (p.1, p.2) (no_limiter_cut _ _ _ _ c.in_ok-ending.ending bytes none taken c.in_err-write_bytes.field-0.0
+    rw (p.1, p.2) (no_limiter_cut (g.R.Read.remaining c.args.reader.now) (g.R.Read.remaining c.read_line.new.reader)
+    (g.W.Write.contents c.args.writer.now) _ c.in_ok-ending.ending bytes none taken c.in_err-write_bytes.field-0.0
     c.in_err-write_bytes.ensures)
 
 pub returns-in_default : goal.returns-in_default
@@ -31,7 +32,8 @@ returns-in_default g c =
     let none : (limit : Limit) → SpellsLimit bytes limit → ⊥ =
     λ limit spells. c.in_default.ensures.none limit (subst (λ l. SpellsLimit l limit) (sym (c.as_slice.ensures ∙ held))
     (held_limit bytes limit spells)) in
-    no_limiter _ _ _ _ c.in_ok-ending.ending bytes none taken c.in_ok-write_bytes.ensures
+    no_limiter (g.R.Read.remaining c.args.reader.now) (g.R.Read.remaining c.read_line.new.reader)
+    (g.W.Write.contents c.args.writer.now) _ c.in_ok-ending.ending bytes none taken c.in_ok-write_bytes.ensures
 
 pub returns-in_default-ending : goal.returns-in_default-ending
 returns-in_default-ending g c =

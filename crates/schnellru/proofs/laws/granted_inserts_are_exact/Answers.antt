@@ -1,7 +1,7 @@
-use Rattle.schnellru.proofs.Theorems.Exactness.{insert_ends}
-use Rattle.schnellru.proofs.Theorems.GrantedGrowth.{granted_places}
+use Rattle.schnellru.proofs.Theorems.GrantedGrowth.{insert_granted}
 use Rattle.schnellru.proofs.laws.granted_inserts_are_exact.Goals as goal
 
 pub returns : goal.returns
-returns g c = λ key value old result new grants tables ok step.
-    insert_ends (granted_places _ grants _ old tables) ok step
+returns g c = λ key value old result new grants tables step.
+    insert_granted g.L.Limiter.rules g.L.Insertion.offers g.I.LookupKey.names key value old new result grants tables
+    step

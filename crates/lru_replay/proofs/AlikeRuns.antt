@@ -1,0 +1,308 @@
+-- In tables of up to 16 buckets two runs of the same calls are alike.
+use Rattle.std.proofs.Common.{◌≡◌, ℕ, ◌≤◌, Bool, true, false, List, [], ◌∷◌, ◌++◌, Option, Some, None, Result, Ok, Err}
+use Rattle.std.proofs.Common.{refl, sym, ap, ◌∙◌, subst, inl, inr, ◌⊎◌, map, length, arith, option_map}
+use Rattle.std.specs.Prelude.{is_err, is_some, IsTrue}
+use Rattle.std.specs.List.{AllByRecursion}
+use Rattle.std.proofs.lemmas.Bool.{true≢false}
+use Rattle.std.specs.Map.{set_value}
+use Rattle.std.specs.declared.alloc.AllocError.{AllocError}
+use Rattle.group_table.specs.Probe.{hash_tag}
+use Rattle.lru_limits.specs.Rules.{Rules, Offers}
+use Rattle.schnellru.proofs.CallerLemmas.{Shape, shape, same_shape, look_alike, with_left, left_shape}
+use Rattle.schnellru.proofs.CallerLemmas.{clears, cleared_shape, is_memory, reserve_in, reserve_is, found_named}
+use Rattle.schnellru.specs.Calls.{left_of, removal, pop_first}
+use Rattle.schnellru.specs.Drains.{pops_first, newest_given, oldest_given}
+use Rattle.schnellru.specs.Exact.{IsDetermined, NeverLacks, LookAlike}
+use Rattle.schnellru.specs.GetOrInserts.{MakesNewest, got, inserted}
+use Rattle.schnellru.specs.Inserts.{Insert}
+use Rattle.schnellru.specs.Lists.{first, last as last_of, front, lookup, lookup_entry, newest_value}
+use Rattle.schnellru.specs.Reservations.{Reserve}
+use Rattle.schnellru.specs.Runs.{AnyStep}
+use Rattle.schnellru.specs.Sizes.{usage}
+use Rattle.schnellru.specs.State.{State, buckets, contents, pop, pops}
+use Rattle.schnellru.specs.declared.map.reserve.ReserveError.{ReserveError}
+use Rattle.schnellru.specs.declared.map.reserve.ReserveError.TheVariants.{TooLarge, Refused, Memory}
+use Rattle.lru_replay.specs.CallRuns.{IsRun, CallStep, SummingStep, KeepsCost, HasPlainSearch, StoresPairs}
+use Rattle.lru_replay.specs.Figures.{IsFigures}
+use Rattle.lru_replay.specs.Replies.{Reply, flag, value, pair, listed, reserved, stats, done, no_memory, insert_reply}
+use Rattle.lru_replay.specs.Replies.{made_reply, wants_memory, cost_differs}
+use Rattle.lru_replay.specs.Steps.{Step, FindsByHash, found, not_found, promoted_if}
+use Rattle.lru_replay.specs.declared.call.Call.{Call}
+use Rattle.lru_replay.specs.declared.call.Call.TheVariants as calls
+use Rattle.lru_replay.specs.declared.figures.Figures.{Figures}
+use Rattle.lru_replay.proofs.ListRuns.{same_hasher}
+
+head_same : {x y : Bool} {xs ys : List Bool} → x ∷ xs ≡ y ∷ ys → x ≡ y
+head_same e = cc
+
+tail_same : {x y : Bool} {xs ys : List Bool} → x ∷ xs ≡ y ∷ ys → xs ≡ ys
+tail_same e = cc
+
+insert_wants : (K V : Type 0) (result : Result Bool AllocError) → wants_memory {K = K} {V = V} (insert_reply result)
+    ≡ is_err result
+insert_wants K V (Ok b) = refl
+insert_wants K V (Err e) = refl
+
+made_wants : {K V : Type 0} (result : Result Bool AllocError) (pairs : List (K × V))
+    → wants_memory (made_reply result pairs) ≡ is_err result
+made_wants (Ok true) pairs = refl
+made_wants (Ok false) pairs = refl
+made_wants (Err e) pairs = refl
+
+reserved_wants : (K V : Type 0) (result : Result (Unit {0}) ReserveError)
+    → wants_memory {K = K} {V = V} (reserved result) ≡ is_memory result
+reserved_wants K V (Ok u) = refl
+reserved_wants K V (Err TooLarge) = refl
+reserved_wants K V (Err Refused) = refl
+reserved_wants K V (Err Memory) = refl
+
+-- a plain search finds the same in the same pairs
+found_alike : {K V : Type 0} (eq : K → K → Bool) (hash_of : K → ℕ)
+    → ((k l : K) → IsTrue (eq k l) → hash_of k ≡ hash_of l) → (hash : ℕ) (key : K) (pairs : List (K × V))
+    → (hash_tag (hash_of key) ≡ hash_tag hash → hash_of key ≡ hash) → (result other : Option V)
+    → FindsByHash eq hash_of hash key pairs result → FindsByHash eq hash_of hash key pairs other → result ≡ other
+found_alike eq hash_of respects hash key pairs plain result other (found p e t r) (found q f u s) =
+    let same : Some p ≡ Some q = sym e ∙ f in r ∙ ap (option_map (λ p. p.1)) same ∙ sym s
+found_alike eq hash_of respects hash key pairs plain result other (found p e t r) (not_found n s) =
+    let own = respects key p.0 (found_named (eq key) pairs p e) in
+    absurd (n p e (sym own ∙ plain (ap hash_tag own ∙ t)))
+found_alike eq hash_of respects hash key pairs plain result other (not_found n r) (found q f u s) =
+    let own = respects key q.0 (found_named (eq key) pairs q f) in
+    absurd (n q f (sym own ∙ plain (ap hash_tag own ∙ u)))
+found_alike eq hash_of respects hash key pairs plain result other (not_found n r) (not_found m s) = r ∙ sym s
+
+-- two maps of one shape have the same figures
+figures_alike : {K V S H : Type 0} (old other : State K V S H) (a b : Figures) → LookAlike old other
+    → IsFigures old a → IsFigures other b → a ≡ b
+figures_alike old other a b alike f g =
+    let same = same_shape alike in
+    let len = f.len ∙ ap (λ sh. length sh.bare.pairs) (sym same) ∙ sym g.len in
+    let capacity : a.capacity ≡ b.capacity = omega
+    (arith, f.capacity, g.capacity, alike.room, ap (λ sh. length sh.bare.pairs) same) in
+    let memory : Some a.memory ≡ Some b.memory =
+    sym f.memory ∙ ap (λ sh. usage sh.bare.entry_bytes sh.count) (sym same) ∙ g.memory in
+    let memory_is : a.memory ≡ b.memory = cc in
+    let moved = f.moved ∙ ap (λ sh. sh.bare.moved) (sym same) ∙ sym g.moved in
+    let placed = f.placed ∙ ap (λ sh. sh.bare.placed) (sym same) ∙ sym g.placed in
+    (λ j. record { len = len j; capacity = capacity j; memory = memory_is j; moved = moved j; placed = placed j })
+
+module _ {K V S H : Type 0} (rules : Rules K V S) (offers : Offers K V S K) (eq : K → K → Bool)
+    (hash_of : H → K → ℕ) where
+  -- what is proved of two inserts of the same
+  abbrev pub InsertsAlike : Type 0
+  InsertsAlike = (key : K) (v : V) (old : State K V S H) (result : Result Bool AllocError) (new other : State K V S H)
+      (answer : Result Bool AllocError) (last : State K V S H) → IsDetermined offers → NeverLacks offers
+      → buckets old ≤ 16 → buckets new ≤ 16 → buckets last ≤ 16 → LookAlike old other → is_err result ≡ is_err answer
+      → Insert rules offers eq hash_of key v old result new → Insert rules offers eq hash_of key v other answer last
+      → (result ≡ answer) × LookAlike new last
+
+  module _ (law : InsertsAlike) (determined : IsDetermined offers) (never : NeverLacks offers)
+      (respects : (h : H) (k l : K) → IsTrue (eq k l) → hash_of h k ≡ hash_of h l) where
+    module _ (old other new last : State K V S H) (alike : LookAlike old other) (small : buckets old ≤ 16)
+        (after : buckets new ≤ 16) (too : buckets last ≤ 16) (reply answer : Reply K V) where
+      abbrev AreAlike : Type 0
+      AreAlike = (reply ≡ answer) × LookAlike new last
+
+      small_other : buckets other ≤ 16
+      small_other = omega (arith, small, alike.table)
+
+      same_pairs : other.pairs ≡ old.pairs
+      same_pairs = ap (λ st. st.pairs) alike.state
+
+      -- a call of which the shape tells all
+      told_by : (R : Shape K V S H → Reply K V) (F : Shape K V S H → Shape K V S H) → reply ≡ R (shape old)
+          → shape new ≡ F (shape old) → answer ≡ R (shape other) → shape last ≡ F (shape other) → AreAlike
+      told_by R F r n a l =
+          let same = same_shape alike in
+          (r ∙ ap R (sym same) ∙ sym a, look_alike new last (l ∙ ap F same ∙ sym n))
+
+      module _ (wants : wants_memory reply ≡ wants_memory answer) where
+        insert_alike : (k : K) (v : V) → Step rules offers eq hash_of old (calls.Insert k v) reply new
+            → Step rules offers eq hash_of other (calls.Insert k v) answer last → AreAlike
+        insert_alike k v (result, h, is) (result', h', is') =
+            let errs = sym (insert_wants K V result) ∙ ap wants_memory (sym is) ∙ wants
+            ∙ ap wants_memory is' ∙ insert_wants K V result' in
+            let both = law k v old result new other result' last determined never small after too alike errs h h' in
+            (is ∙ ap insert_reply both.0 ∙ sym is', both.1)
+
+        made_alike : (k : K) (v : V) (result result' : Result Bool AllocError)
+            → MakesNewest rules offers eq hash_of (λ made. made ≡ v) k old result new
+            → MakesNewest rules offers eq hash_of (λ made. made ≡ v) k other result' last
+            → reply ≡ made_reply result new.pairs → answer ≡ made_reply result' last.pairs → AreAlike
+        made_alike k v result result' (got w f r e) (got w' f' r' e') is is' = told_by
+            (λ sh. value (newest_value (front (eq k) sh.bare.pairs)))
+            (λ sh. record sh { bare = record sh.bare { pairs = front (eq k) sh.bare.pairs } })
+            (is ∙ (λ j. made_reply (r j) (e j).pairs)) (ap shape e)
+            (is' ∙ (λ j. made_reply (r' j) (e' j).pairs)) (ap shape e')
+        made_alike k v result result' (got w f r e) (inserted n u m s) is is' =
+            let both : Some w ≡ None = sym f ∙ ap (lookup (eq k)) (sym same_pairs) ∙ n in absurd (grind (arith, both))
+        made_alike k v result result' (inserted n u m s) (got w f r e) is is' =
+            let both : Some w ≡ None = sym f ∙ ap (lookup (eq k)) same_pairs ∙ n in absurd (grind (arith, both))
+        made_alike k v result result' (inserted n u m s) (inserted n' u' m' s') is is' =
+            let errs = sym (made_wants result new.pairs) ∙ ap wants_memory (sym is) ∙ wants
+            ∙ ap wants_memory is' ∙ made_wants result' last.pairs in
+            let both = law k v old result new other result' last determined never small after too alike errs
+            (subst (λ x. Insert rules offers eq hash_of k x old result new) m s)
+            (subst (λ x. Insert rules offers eq hash_of k x other result' last) m' s') in
+            let pairs = sym (ap (λ st. st.pairs) both.1.state) in
+            (is ∙ (λ j. made_reply (both.0 j) (pairs j)) ∙ sym is', both.1)
+
+        reserve_alike : (n : ℕ) (result result' : Result (Unit {0}) ReserveError) → Reserve rules n old result new
+            → Reserve rules n other result' last → reply ≡ reserved result → answer ≡ reserved result' → AreAlike
+        reserve_alike n result result' h h' is is' =
+            let lacks = sym (reserved_wants K V result) ∙ ap wants_memory (sym is) ∙ wants
+            ∙ ap wants_memory is' ∙ reserved_wants K V result' in
+            let one = reserve_is rules n old result new h in
+            let two = reserve_is rules n other result' last h' in
+            let both = sym one ∙ (λ j. reserve_in rules n (lacks j) (sym (same_shape alike) j)) ∙ two in
+            (is ∙ ap (λ x. reserved x.0) both ∙ sym is', look_alike new last (sym (ap (λ x. x.1) both)))
+
+      search_alike : (hash : ℕ) (k : K) (result result' : Option V)
+          → (hash_tag (hash_of old.hasher k) ≡ hash_tag hash → hash_of old.hasher k ≡ hash)
+          → FindsByHash eq (hash_of old.hasher) hash k old.pairs result
+          → FindsByHash eq (hash_of other.hasher) hash k other.pairs result' → result ≡ result'
+      search_alike hash k result result' plain f g =
+          let hashers = ap (λ st. st.hasher) alike.state in
+          let moved = subst (λ h. FindsByHash eq (hash_of h) hash k old.pairs result') hashers
+          (subst (λ pairs. FindsByHash eq (hash_of other.hasher) hash k pairs result') same_pairs g) in
+          found_alike eq (hash_of old.hasher) (respects old.hasher) hash k old.pairs plain result result' f moved
+
+      get_alike : (k : K) (result result' : Option V) → result ≡ result' → reply ≡ value result → answer ≡ value result'
+          → new ≡ promoted_if eq result k old → last ≡ promoted_if eq result' k other → AreAlike
+      get_alike k None result' same is is' e e' = told_by (λ sh. value None) (λ sh. sh) is (ap shape e)
+          (is' ∙ ap value (sym same))
+          (ap shape (e' ∙ ap (λ r. promoted_if eq r k other) (sym same)))
+      get_alike k (Some w) result' same is is' e e' = told_by (λ sh. value (Some w))
+          (λ sh. record sh { bare = record sh.bare { pairs = front (eq k) sh.bare.pairs } }) is (ap shape e)
+          (is' ∙ ap value (sym same))
+          (ap shape (e' ∙ ap (λ r. promoted_if eq r k other) (sym same)))
+
+      step_alike : wants_memory reply ≡ wants_memory answer → (call : Call K V S)
+          → HasPlainSearch (hash_of old.hasher) call → Step rules offers eq hash_of old call reply new
+          → Step rules offers eq hash_of other call answer last → AreAlike
+      step_alike wants (calls.Insert k v) plain h h' = insert_alike wants k v h h'
+      step_alike wants (calls.GetOrInsert k v) plain (result, h, is) (result', h', is') =
+          made_alike wants k v result result' h h' is is'
+      step_alike wants (calls.Get k) plain (is, e) (is', e') = told_by (λ sh. value (lookup (eq k) sh.bare.pairs))
+          (λ sh. record sh { bare = record sh.bare { pairs = front (eq k) sh.bare.pairs } }) is (ap shape e) is'
+          (ap shape e')
+      step_alike wants (calls.Peek k) plain (is, e) (is', e') = told_by (λ sh. value (lookup (eq k) sh.bare.pairs))
+          (λ sh. sh) is (ap shape e) is' (ap shape e')
+      step_alike wants (calls.GetByHash hash k) plain (result, h, is, e) (result', h', is', e') =
+          get_alike k result result' (search_alike hash k result result' plain h h') is is' e e'
+      step_alike wants (calls.PeekByHash hash k) plain (result, h, is, e) (result', h', is', e') =
+          told_by (λ sh. value result) (λ sh. sh) is (ap shape e)
+          (is' ∙ ap value (sym (search_alike hash k result result' plain h h'))) (ap shape e')
+      step_alike wants (calls.Write k v) plain (is, e) (is', e') =
+          told_by (λ sh. flag (is_some (lookup (eq k) sh.bare.pairs)))
+          (λ sh. record sh { bare = record sh.bare { pairs = set_value (eq k) sh.bare.pairs v } }) is (ap shape e) is'
+          (ap shape e')
+      step_alike wants (calls.Remove k) plain (result, h, is) (result', h', is') = told_by
+          (λ sh. value (option_map (λ p. p.1) (left_of rules sh.bare.limiter (lookup_entry (eq k) sh.bare.pairs))))
+          (λ sh. with_left (removal rules (eq k) (contents sh.bare)) sh)
+          (is ∙ ap value h.value) (left_shape old _ new small h.state)
+          (is' ∙ ap value h'.value) (left_shape other _ last small_other h'.state)
+      step_alike wants calls.PopOldest plain (result, h, is) (result', h', is') = told_by
+          (λ sh. pair (left_of rules sh.bare.limiter (last_of sh.bare.pairs)))
+          (λ sh. with_left (pop rules (contents sh.bare)) sh)
+          (is ∙ ap pair h.pair) (left_shape old _ new small h.state)
+          (is' ∙ ap pair h'.pair) (left_shape other _ last small_other h'.state)
+      step_alike wants calls.PopNewest plain (result, h, is) (result', h', is') = told_by
+          (λ sh. pair (left_of rules sh.bare.limiter (first sh.bare.pairs)))
+          (λ sh. with_left (pop_first rules (contents sh.bare)) sh)
+          (is ∙ ap pair h.pair) (left_shape old _ new small h.state)
+          (is' ∙ ap pair h'.pair) (left_shape other _ last small_other h'.state)
+      step_alike wants calls.PeekOldest plain (is, e) (is', e') = told_by (λ sh. pair (last_of sh.bare.pairs))
+          (λ sh. sh) is (ap shape e) is' (ap shape e')
+      step_alike wants calls.PeekNewest plain (is, e) (is', e') = told_by (λ sh. pair (first sh.bare.pairs))
+          (λ sh. sh) is (ap shape e) is' (ap shape e')
+      step_alike wants (calls.Reserve n) plain (result, h, is) (result', h', is') =
+          reserve_alike wants n result result' h h' is is'
+      step_alike wants calls.Clear plain (is, e) (is', e') = told_by (λ sh. done) (clears rules) is
+          (ap shape e ∙ cleared_shape rules old) is' (ap shape e' ∙ cleared_shape rules other)
+      step_alike wants (calls.Drain front back) plain (pairs, h, is) (pairs', h', is') = told_by
+          (λ sh. listed (newest_given rules front (contents sh.bare)
+          ++ oldest_given rules back (pops_first rules front (contents sh.bare))))
+          (λ sh. clears rules (with_left (pops rules back (pops_first rules front (contents sh.bare))) sh))
+          (is ∙ ap listed h.pairs)
+          (ap shape h.state.2 ∙ cleared_shape rules h.state.0
+          ∙ ap (clears rules) (left_shape old _ h.state.0 small h.state.1))
+          (is' ∙ ap listed h'.pairs)
+          (ap shape h'.state.2 ∙ cleared_shape rules h'.state.0
+          ∙ ap (clears rules) (left_shape other _ h'.state.0 small_other h'.state.1))
+      step_alike wants calls.List plain (is, e) (is', e') = told_by (λ sh. listed sh.bare.pairs) (λ sh. sh) is
+          (ap shape e) is' (ap shape e')
+      step_alike wants calls.Stats plain (figures, h, is, e) (figures', h', is', e') = told_by (λ sh. stats figures)
+          (λ sh. sh) is (ap shape e)
+          (is' ∙ ap stats (sym (figures_alike old other figures figures' alike h h'))) (ap shape e')
+      step_alike wants (calls.SetLimiter s) plain (is, e) (is', e') = told_by (λ sh. done)
+          (λ sh. record sh { bare = record sh.bare { limiter = s } }) is (ap shape e) is' (ap shape e')
+
+    -- what stores pairs and finds memory does not want it
+    stored_wants : (old new : State K V S H) (call : Call K V S) (reply : Reply K V) → StoresPairs call
+        → Step rules offers eq hash_of old call reply new → wants_memory reply ≡ false
+    stored_wants old new calls.List reply stores (is, e) = ap wants_memory is
+    stored_wants old new (calls.Drain front back) reply stores (pairs, h, is) = ap wants_memory is
+    stored_wants old new call reply stores step = absurd stores
+
+    pub call_alike : (old other new last : State K V S H) → LookAlike old other → buckets old ≤ 16 → buckets new ≤ 16
+        → buckets last ≤ 16 → (reply answer : Reply K V) → wants_memory reply ≡ wants_memory answer
+        → (call : Call K V S) → HasPlainSearch (hash_of old.hasher) call
+        → CallStep rules offers eq hash_of old call reply new
+        → CallStep rules offers eq hash_of other call answer last → (reply ≡ answer) × LookAlike new last
+    call_alike old other new last alike small after too reply answer wants call plain (inl s) (inl t) =
+        step_alike old other new last alike small after too reply answer wants call plain s t
+    call_alike old other new last alike small after too reply answer wants call plain (inl s) (inr (stores, is, e)) =
+        let both : true ≡ false = ap wants_memory (sym is) ∙ sym wants ∙ stored_wants old new call reply stores s in
+        absurd (true≢false both)
+    call_alike old other new last alike small after too reply answer wants call plain (inr (stores, is, e)) (inl t) =
+        let both : true ≡ false = ap wants_memory (sym is) ∙ wants ∙ stored_wants other last call answer stores t in
+        absurd (true≢false both)
+    call_alike old other new last alike small after too reply answer wants call plain (inr h) (inr k) =
+        told_by old other new last alike small after too reply answer (λ sh. no_memory) (λ sh. sh)
+        h.1 (ap shape h.2) k.1 (ap shape k.2)
+
+    pub summing_alike : (cost : K → V → ℕ) (account : S → ℕ) (old other new last : State K V S H) → LookAlike old other
+        → buckets old ≤ 16 → buckets new ≤ 16 → buckets last ≤ 16 → (reply answer : Reply K V)
+        → wants_memory reply ≡ wants_memory answer → (call : Call K V S) → HasPlainSearch (hash_of old.hasher) call
+        → SummingStep rules offers eq hash_of cost account old call reply new
+        → SummingStep rules offers eq hash_of cost account other call answer last
+        → (reply ≡ answer) × LookAlike new last
+    summing_alike cost account old other new last alike small after too reply answer wants call plain (inl s) (inl t) =
+        call_alike old other new last alike small after too reply answer wants call plain s.1 t.1
+    summing_alike cost account old other new last alike small after too reply answer wants call plain (inl s) (inr t) =
+        absurd (t.0 (subst (λ c. KeepsCost eq cost account c call) (sym (ap contents alike.state)) s.0))
+    summing_alike cost account old other new last alike small after too reply answer wants call plain (inr s) (inl t) =
+        absurd (s.0 (subst (λ c. KeepsCost eq cost account c call) (ap contents alike.state) t.0))
+    summing_alike cost account old other new last alike small after too reply answer wants call plain (inr s) (inr t) =
+        told_by old other new last alike small after too reply answer (λ sh. cost_differs) (λ sh. sh)
+        s.1 (ap shape s.2) t.1 (ap shape t.2)
+
+-- Where two steps of the same call are alike, so are two runs of the same calls.
+module _ {K V S H : Type 0} {rules : Rules K V S} {offers : Offers K V S K} {eq : K → K → Bool} {hash_of : H → K → ℕ}
+    {IsStep : State K V S H → Call K V S → Reply K V → State K V S H → Type 0}
+    (moves : (old new : State K V S H) (call : Call K V S) (reply : Reply K V) → IsStep old call reply new
+    → AnyStep rules offers eq hash_of old new ⊎ (new ≡ old))
+    (one_alike : (old other new last : State K V S H) → LookAlike old other → buckets old ≤ 16 → buckets new ≤ 16
+    → buckets last ≤ 16 → (reply answer : Reply K V) → wants_memory reply ≡ wants_memory answer → (call : Call K V S)
+    → HasPlainSearch (hash_of old.hasher) call → IsStep old call reply new → IsStep other call answer last
+    → (reply ≡ answer) × LookAlike new last) where
+  pub runs_alike : (hasher : H) (calls : List (Call K V S)) (old other new last : State K V S H)
+      (replies answers : List (Reply K V)) → old.hasher ≡ hasher → LookAlike old other → buckets old ≤ 16
+      → AllByRecursion (HasPlainSearch (hash_of hasher)) calls
+      → IsRun IsStep (λ st. buckets st ≤ 16) old calls replies new
+      → IsRun IsStep (λ st. buckets st ≤ 16) other calls answers last → map wants_memory replies
+      ≡ map wants_memory answers → (replies ≡ answers) × LookAlike new last
+  runs_alike hasher [] old other new last [] [] built alike small plain same too wants =
+      (refl, subst (λ st. LookAlike st last) (sym same) (subst (LookAlike old) (sym too) alike))
+  runs_alike hasher [] old other new last (r ∷ rs) answers built alike small plain p q wants = absurd p
+  runs_alike hasher [] old other new last [] (a ∷ others) built alike small plain p q wants = absurd q
+  runs_alike hasher (call ∷ calls) old other new last [] answers built alike small plain p q wants = absurd p
+  runs_alike hasher (call ∷ calls) old other new last (r ∷ rs) [] built alike small plain p q wants = absurd q
+  runs_alike hasher (call ∷ calls) old other new last (r ∷ rs) (a ∷ others) built alike small (plain, more)
+      (mid, step, few, run) (middle, stepped, little, ran) wants =
+      let own = subst (λ h. HasPlainSearch (hash_of h) call) (sym built) plain in
+      let one = one_alike old other mid middle alike small few little r a (head_same wants) call own step stepped in
+      let rest = runs_alike hasher calls mid middle new last rs others
+      (same_hasher moves old mid call r step ∙ built) one.1 few more run ran (tail_same wants) in
+      ((λ j. one.0 j ∷ rest.0 j), rest.1)

@@ -1,0 +1,80 @@
+-- Calls on a list of pairs under a limiter, newest first: what each says and leaves where there is no table.
+--     rules, offers, eq   as in `Steps`
+--     hash_of k           the hash of the key k
+use Rattle.std.specs.Prelude.{◌≡◌, ℕ, ◌++◌, Bool, [], Option, Some, None, Result, MatchOption, is_some, length}
+use Rattle.std.specs.Prelude.{option_map}
+use Rattle.std.specs.Map.{set_value}
+use Rattle.std.specs.declared.alloc.AllocError.{AllocError}
+use Rattle.lru_limits.specs.Rules.{Rules, Offers}
+use Rattle.schnellru.specs.Calls.{left_of, removal, pop_first}
+use Rattle.schnellru.specs.Drains.{pops_first, newest_given, oldest_given}
+use Rattle.schnellru.specs.Exact.{InsertsInList}
+use Rattle.schnellru.specs.Lists.{first, last, front, lookup, lookup_entry}
+use Rattle.schnellru.specs.State.{Contents, pop, pops}
+use Rattle.schnellru.specs.declared.map.reserve.ReserveError.{ReserveError}
+use Rattle.lru_replay.specs.declared.call.Call.{Call}
+use Rattle.lru_replay.specs.declared.call.Call.TheVariants as calls
+use Rattle.lru_replay.specs.declared.figures.Figures.{Figures}
+use Rattle.lru_replay.specs.CallRuns.{StepIfMemory, StepIfKept}
+use Rattle.lru_replay.specs.Replies.{Reply, flag, value, pair, listed, reserved, stats, done, insert_reply, made_reply}
+use Rattle.lru_replay.specs.Steps.{FindsByHash}
+
+module _ {K V S : Type 0} (eq : K → K → Bool) where
+  -- the pair of the key comes first
+  abbrev pub fronted : K → Contents K V S → Contents K V S
+  fronted key c = record c { pairs = front (eq key) c.pairs }
+
+  -- so it does where its value was found
+  abbrev pub fronted_if : Option V → K → Contents K V S → Contents K V S
+  fronted_if (Some v) key c = fronted key c
+  fronted_if None key c = c
+
+-- without pairs, and the limiter is told of the clear
+abbrev pub emptied : {K V S : Type 0} → Rules K V S → Contents K V S → Contents K V S
+emptied rules c = record { pairs = []; limiter = rules.on_cleared c.limiter }
+
+module _ {K V S : Type 0} (rules : Rules K V S) (offers : Offers K V S K) (eq : K → K → Bool) (hash_of : K → ℕ) where
+  -- From the list c, the call may say this and leave d. A table alone tells what room is reserved and all figures but
+  -- the number of pairs, so of these nothing is said.
+  abbrev pub ListStep : Contents K V S → Call K V S → Reply K V → Contents K V S → Type 0
+  ListStep c (calls.Insert key v) reply d = (result : Result Bool AllocError)
+      × InsertsInList rules offers eq key v c result d × (reply ≡ insert_reply result)
+  ListStep c (calls.GetOrInsert key v) reply d = MatchOption (lookup (eq key) c.pairs)
+      ((result : Result Bool AllocError) × InsertsInList rules offers eq key v c result d
+      × (reply ≡ made_reply result d.pairs))
+      (λ there. (reply ≡ value (Some there)) × (d ≡ fronted eq key c))
+  ListStep c (calls.Get key) reply d = (reply ≡ value (lookup (eq key) c.pairs)) × (d ≡ fronted eq key c)
+  ListStep c (calls.Peek key) reply d = (reply ≡ value (lookup (eq key) c.pairs)) × (d ≡ c)
+  ListStep c (calls.GetByHash hash key) reply d = (result : Option V)
+      × FindsByHash eq hash_of hash key c.pairs result × (reply ≡ value result) × (d ≡ fronted_if eq result key c)
+  ListStep c (calls.PeekByHash hash key) reply d = (result : Option V)
+      × FindsByHash eq hash_of hash key c.pairs result × (reply ≡ value result) × (d ≡ c)
+  ListStep c (calls.Write key v) reply d = (reply ≡ flag (is_some (lookup (eq key) c.pairs)))
+      × (d ≡ record c { pairs = set_value (eq key) c.pairs v })
+  ListStep c (calls.Remove key) reply d =
+      (reply ≡ value (option_map (λ p. p.1) (left_of rules c.limiter (lookup_entry (eq key) c.pairs))))
+      × (d ≡ removal rules (eq key) c)
+  ListStep c calls.PopOldest reply d = (reply ≡ pair (left_of rules c.limiter (last c.pairs))) × (d ≡ pop rules c)
+  ListStep c calls.PopNewest reply d =
+      (reply ≡ pair (left_of rules c.limiter (first c.pairs))) × (d ≡ pop_first rules c)
+  ListStep c calls.PeekOldest reply d = (reply ≡ pair (last c.pairs)) × (d ≡ c)
+  ListStep c calls.PeekNewest reply d = (reply ≡ pair (first c.pairs)) × (d ≡ c)
+  ListStep c (calls.Reserve n) reply d =
+      (result : Result (Unit {0}) ReserveError) × (reply ≡ reserved result) × (d ≡ c)
+  ListStep c calls.Clear reply d = (reply ≡ done) × (d ≡ emptied rules c)
+  ListStep c (calls.Drain front back) reply d =
+      (reply ≡ listed (newest_given rules front c ++ oldest_given rules back (pops_first rules front c)))
+      × (d ≡ emptied rules (pops rules back (pops_first rules front c)))
+  ListStep c calls.List reply d = (reply ≡ listed c.pairs) × (d ≡ c)
+  ListStep c calls.Stats reply d =
+      (figures : Figures) × (figures.len ≡ length c.pairs) × (reply ≡ stats figures) × (d ≡ c)
+  ListStep c (calls.SetLimiter s) reply d = (reply ≡ done) × (d ≡ record c { limiter = s })
+
+  -- so it does, or no memory is found to store pairs, and nothing changes
+  abbrev pub ListCallStep : Contents K V S → Call K V S → Reply K V → Contents K V S → Type 0
+  ListCallStep = StepIfMemory ListStep
+
+  module _ (cost : K → V → ℕ) (account : S → ℕ) where
+    -- and so it does under a summing limiter, if the cost is kept
+    abbrev pub ListSummingStep : Contents K V S → Call K V S → Reply K V → Contents K V S → Type 0
+    ListSummingStep = StepIfKept eq cost account (λ c. c) ListCallStep

@@ -1,0 +1,93 @@
+-- What clears and reservations make of a map, but for which of its buckets are full.
+use Rattle.std.proofs.Common.{◌≡◌, ℕ, ◌+◌, ◌-◌, ◌^◌, Bool, true, false, cond, [], length, Result, Ok, Err, refl}
+use Rattle.std.proofs.Common.{sym, ap, ◌∙◌, arith}
+use Rattle.std.specs.Prelude.{nat_lt, nat_le, if◌then◌else◌}
+use Rattle.std.proofs.lemmas.Bool.{lt-ltb, le-ltb, le-leb, lt-leb}
+use Rattle.std.proofs.lemmas.List.{length-replicate}
+use Rattle.group_table.specs.Bucket.{Mark, empty}
+use Rattle.group_table.specs.Change.{count_up}
+use Rattle.group_table.specs.Sizes.{full_capacity}
+use Rattle.lru_limits.specs.Rules.{Rules}
+use Rattle.schnellru.specs.Calls.{cleared}
+use Rattle.schnellru.specs.Place.{asked, table_for}
+use Rattle.schnellru.specs.Reservations.{Reserve, too_many, enough_room, no_such_table, remade, no_memory_to_remake}
+use Rattle.schnellru.specs.Reservations.{denied_room, reserved, no_memory_to_grow, LacksRoomFor}
+use Rattle.schnellru.specs.Sizes.{Target, target, no_table, same_table, new_table}
+use Rattle.schnellru.specs.State.{State, buckets, room, MovesTo}
+use Rattle.schnellru.specs.declared.map.reserve.ReserveError.{ReserveError}
+use Rattle.schnellru.specs.declared.map.reserve.ReserveError.TheVariants.{TooLarge, Refused, Memory}
+use Rattle.schnellru.proofs.Theorems.CountedMoves.{room_cleared}
+use Rattle.schnellru.proofs.Theorems.SmallTables.{Shape, shape, relimited}
+
+module _ {K V S H : Type 0} (rules : Rules K V S) where
+  abbrev pub clears : Shape K V S H → Shape K V S H
+  clears sh = record {
+    count = sh.count;
+    spare = full_capacity sh.count;
+    bare = record sh.bare { pairs = []; limiter = rules.on_cleared sh.bare.limiter };
+  }
+
+  pub cleared_shape : (st : State K V S H) → shape (cleared rules st) ≡ clears (shape st)
+  cleared_shape st =
+      let count = length-replicate {A = Mark} (buckets st) empty in
+      let spare = room_cleared (buckets st) in
+      (λ j. record { count = count j; spare = spare j; bare = (clears (shape st)).bare })
+
+-- all pairs moved into a table of so many buckets
+abbrev moved_to : {K V S H : Type 0} → ℕ → Shape K V S H → Shape K V S H
+moved_to count sh = record {
+  count = count;
+  spare = full_capacity count - length sh.bare.pairs;
+  bare = record sh.bare { placings = count_up sh.bare.placings (length sh.bare.pairs) };
+}
+
+moved_shape : {K V S H : Type 0} (count : ℕ) (old new : State K V S H) → MovesTo count old new
+    → shape new ≡ moved_to count (shape old)
+moved_shape count old new m =
+    let spare : room new ≡ full_capacity count - length old.pairs = omega (arith, m.exact) in
+    (λ j. record { count = m.table j; spare = spare j; bare = record (m.state j) { marks = []; places = [] } })
+
+-- whether no memory was found
+abbrev pub is_memory : Result (Unit {0}) ReserveError → Bool
+is_memory (Err Memory) = true
+is_memory result = false
+
+module _ {K V S H : Type 0} (rules : Rules K V S) (n : ℕ) (lacks : Bool) where
+  abbrev reserve_to : Target → Shape K V S H → Result (Unit {0}) ReserveError × Shape K V S H
+  reserve_to no_table sh = (Err TooLarge, sh)
+  reserve_to same_table sh = cond lacks (Err Memory, sh) (Ok tt, moved_to sh.count sh)
+  reserve_to (new_table count bytes) sh = let g = rules.on_grow sh.bare.limiter bytes in
+      cond g.allowed (cond lacks (Err Memory, relimited g.limiter sh) (Ok tt, moved_to count (relimited g.limiter sh)))
+      (Err Refused, relimited g.limiter sh)
+
+  -- what a reservation answers and makes of a shape, where memory is short or not
+  abbrev pub reserve_in : Shape K V S H → Result (Unit {0}) ReserveError × Shape K V S H
+  reserve_in sh =
+      if nat_lt (length sh.bare.pairs + n) (2 ^ 64) then
+      (if nat_le n sh.spare then (Ok tt, sh)
+      else reserve_to (target sh.bare.max sh.bare.entry_bytes sh.count (length sh.bare.pairs + n)) sh)
+      else (Err TooLarge, sh)
+
+module _ {K V S H : Type 0} (rules : Rules K V S) (n : ℕ) (old : State K V S H) where
+  lacks_room : (lacks : Bool) → LacksRoomFor n old
+      → reserve_in rules n lacks (shape old) ≡ reserve_to rules n lacks (table_for n old) (shape old)
+  lacks_room lacks l = rw (lt-ltb (length old.pairs + n) (2 ^ 64) l.1, lt-leb n (room old) l.0) refl
+
+  pub reserve_is : (result : Result (Unit {0}) ReserveError) (new : State K V S H) → Reserve rules n old result new
+      → reserve_in rules n (is_memory result) (shape old) ≡ (result, shape new)
+  reserve_is result new (enough_room s l r e) =
+      rw (r, lt-ltb (length old.pairs + n) (2 ^ 64) l, le-leb n (room old) s) (ap (λ st. (Ok tt, shape st)) (sym e))
+  reserve_is result new (too_many l r e) =
+      rw (r, le-ltb (length old.pairs + n) (2 ^ 64) l) (ap (λ st. (Err TooLarge, shape st)) (sym e))
+  reserve_is result new (no_such_table l t r e) = lacks_room (is_memory result) l
+      ∙ rw (t, r) (ap (λ st. (Err TooLarge, shape st)) (sym e))
+  reserve_is result new (remade l t r m) = lacks_room (is_memory result) l
+      ∙ rw (t, r) (ap (λ sh. (Ok tt, sh)) (sym (moved_shape _ old new m)))
+  reserve_is result new (no_memory_to_remake l t p r e) = lacks_room (is_memory result) l
+      ∙ rw (t, r) (ap (λ st. (Err Memory, shape st)) (sym e))
+  reserve_is result new (reserved l count bytes t g r m) = lacks_room (is_memory result) l
+      ∙ rw (t, g, r) (ap (λ sh. (Ok tt, sh)) (sym (moved_shape count (asked rules bytes old) new m)))
+  reserve_is result new (no_memory_to_grow l count bytes t g r e) = lacks_room (is_memory result) l
+      ∙ rw (t, g, r) (ap (λ st. (Err Memory, shape st)) (sym e))
+  reserve_is result new (denied_room l count bytes t d r e) = lacks_room (is_memory result) l
+      ∙ rw (t, d, r) (ap (λ st. (Err Refused, shape st)) (sym e))
