@@ -25,13 +25,13 @@ returns-then-f-clause-asked g c =
     let tagged = lane_tag _ _ c.requires.laid_out _ c.requires.start g.F.FnMut _ c.requires.tag _ _ _ l _ _ low.set
     low.first here in
     let slot = bucket_at-read c.args.control.now c.args.entries.now c.requires.laid_out c.wrap-b.result within
-    c.args.tag _ c.in-Some.entry tagged c.index-entries-b.is c.in-Some.is in
+    c.args.tag _ c.entry_ref-entry.result.now tagged c.index-entries-b.is c.entry_ref-entry.ensures in
     AcceptsIn-lane _ _ c.requires.laid_out _ c.requires.start g.F.FnMut _ c.requires.tag _ _ _ l _ _ low.set low.first
-    here c.in-Some.entry slot _
-    (Answers-from_call g.F.FnMut _ c.in-Some.entry slot refl c.f.ensures c.if-f.true)
+    here c.entry_ref-entry.result.now slot _
+    (Answers-from_call g.F.FnMut _ c.entry_ref-entry.result.now slot refl c.f.ensures c.if-f.true)
 
-pub unreachable-requires : goal.unreachable-requires
-unreachable-requires g c =
+pub entry_ref-entry-requires : goal.entry_ref-entry-requires
+entry_ref-entry-requires g c =
     let l = c.lanes.invariant.asked in
     let are = buckets_are _ _ c.requires.laid_out in
     let here = rw are at c.wrap-b.ensures.value in
@@ -40,7 +40,7 @@ unreachable-requires g c =
     let tagged = lane_tag _ _ c.requires.laid_out _ c.requires.start g.F.FnMut _ c.requires.tag _ _ _ l _ _ low.set
     low.first here in
     read_some _ _ c.requires.laid_out _ c.requires.start _ within
-    (omega (arith, tagged, c.requires.tag)) _ c.index-entries-b.is c.in-None.is
+    (omega (arith, tagged, c.requires.tag)) _ c.index-entries-b.is
 
 pub lanes-preserved : goal.lanes-preserved
 lanes-preserved g c =
@@ -52,13 +52,13 @@ lanes-preserved g c =
     let tagged = lane_tag _ _ c.requires.laid_out _ c.requires.start g.F.FnMut _ c.requires.tag _ _ _ l _ _ low.set
     low.first here in
     let slot = bucket_at-read c.args.control.now c.args.entries.now c.requires.laid_out c.wrap-b.result within
-    c.args.tag _ c.in-Some.entry tagged c.index-entries-b.is c.in-Some.is in
+    c.args.tag _ c.entry_ref-entry.result.now tagged c.index-entries-b.is c.entry_ref-entry.ensures in
     record {
       callable = search of_calls;
       asked = AsksLanes-next _ _ c.requires.laid_out _ c.requires.start g.F.FnMut _ c.requires.tag _ _ _ l _ _ low.set
-          low.first here c.in-Some.entry slot _ _
+          low.first here c.entry_ref-entry.result.now slot _ _
           (rw (← low.value) at c.without_lowest-mask.ensures.rest)
-          (Answers-from_call g.F.FnMut _ c.in-Some.entry slot refl c.f.ensures c.if-f.false);
+          (Answers-from_call g.F.FnMut _ c.entry_ref-entry.result.now slot refl c.f.ensures c.if-f.false);
     }
 
 pub returns-then-match_empty-ne0-clause-asked : goal.returns-then-match_empty-ne0-clause-asked
