@@ -78,7 +78,7 @@ fn ask_group<T, F: FnMut(&T) -> bool>(
     let group = control.group(start);
     let mut mask = group.match_tag(tag);
     'lanes: while mask != 0 {
-        let b = control.wrap(start + lowest_lane(mask));
+        let b = wrap(start + lowest_lane(mask), entries.len());
         let entry = entry_ref(&entries[b]);
         if f(entry) {
             return Asked::Accepted(b);

@@ -32,12 +32,13 @@ pub(crate) struct Pair<K, V> {
     pub(crate) value: V,
 }
 
-// A pair with its neighbours in the order; `MAX` at the ends.
+// A pair with its neighbours in the order; `MAX` at the ends. The key and the value stand side by side at the end, so
+// that a look at a pair as a rule reads one line of memory.
 #[derive(Drop)]
 pub(crate) struct Entry<K, V, N> {
-    pair: Pair<K, V>,
     newer: N,
     older: N,
+    pair: Pair<K, V>,
 }
 
 #[derive(Drop)]
