@@ -16,7 +16,7 @@ ghost use Rattle.schnellru.specs.ByHash.{Asks};
 ghost use Rattle.schnellru.specs.Inside.Searches.{Finds, FindsNone};
 ghost use Rattle.schnellru.specs.Inside.Chain.{first_bucket, last_bucket, bucket_after, bucket_before, pair_slots};
 
-use crate::link::chain::{link_newest, rewrite, unlink};
+use crate::link::chain::{link_newest, link_placed, rewrite, unlink};
 use group_table::{LinkType, Table};
 use lru_limits::LookupKey;
 use std::alloc::{AllocError, Global};
@@ -240,13 +240,13 @@ impl<K: Drop, V: Drop, N: LinkType> Linked<K, V, N> {
     {
         let (key, value) = pair;
         let entry = Entry {
-            pair: Pair { key, value },
             newer: N::MAX,
-            older: N::MAX,
+            older: self.newest,
+            pair: Pair { key, value },
         };
         match self.table.try_place(hash, entry) {
             Ok(b) => {
-                link_newest(&mut self.table, &mut self.newest, &mut self.oldest, b);
+                link_placed(&mut self.table, &mut self.newest, &mut self.oldest, b);
                 Ok(())
             }
             Err(entry) => Err((entry.pair.key, entry.pair.value)),
