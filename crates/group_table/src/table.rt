@@ -132,7 +132,7 @@ impl<T> Table<T> {
         find_bucket(&self.control, self.entries.as_slice(), hash, f)
     }
 
-    /// The entry in a full bucket. It looks at the entry's place once, and at nothing else.
+    /// The entry in a full bucket. Nothing of the table is read but where its entries lie.
     #[inline]
     pub fn get(&self, b: usize) -> &T
         requires { IsFull self.now.slots b }
