@@ -246,3 +246,58 @@ fn get_or_insert_all(alloc: Global, length: u32, keys: &[u64]) -> Result<u64, Al
 pub extern "C" fn rattle_map_gets(alloc: Global, length: u32, keys: &[u64]) -> u64 {
     get_or_insert_all(alloc, length, keys).unwrap_or(0)
 }
+
+/// Carries out a call of a load on a key: an insert, a get, a peek, a removal, or a get that inserts what is not there.
+#[inline]
+fn step_of_load(
+    map: &mut LruMap<u64, u64>,
+    kind: u8,
+    key: u64,
+    sum: u64,
+) -> Result<u64, AllocError> {
+    match kind {
+        0 => {
+            map.insert(key, key ^ 7)?;
+            Ok(sum)
+        }
+        1 => Ok(
+            sum.wrapping_mul(31).wrapping_add(match map.get(&key) {
+                Some(value) => *value,
+                None => 1,
+            }),
+        ),
+        2 => Ok(
+            sum.wrapping_mul(31).wrapping_add(match map.peek(&key) {
+                Some(value) => *value,
+                None => 1,
+            }),
+        ),
+        3 => Ok(sum ^ map.remove(&key).unwrap_or(1)),
+        _ => {
+            if let Some(value) = map.get(&key) {
+                return Ok(sum.wrapping_add(*value));
+            }
+            map.insert(key, key ^ 7)?;
+            Ok(sum)
+        }
+    }
+}
+
+/// Carries out a load on a map of at most so many pairs, and goes over the pairs that are left.
+fn run_load(alloc: Global, length: u32, kinds: &[u8], keys: &[u64]) -> Result<u64, AllocError> {
+    let mut map = LruMap::new(alloc, ByLength::new(length), [1, 2, 3, 4], 32);
+    let mut sum = 0u64;
+    for (kind, key) in kinds.iter().zip(keys.iter()) {
+        sum = step_of_load(&mut map, *kind, *key, sum)?;
+    }
+    for (key, value) in map.iter() {
+        sum = sum.wrapping_mul(31).wrapping_add(*key ^ *value);
+    }
+    Ok(sum)
+}
+
+/// The sum of what a load gave, or 0 for want of memory.
+#[unsafe(no_mangle)]
+pub extern "C" fn rattle_load(alloc: Global, length: u32, kinds: &[u8], keys: &[u64]) -> u64 {
+    run_load(alloc, length, kinds, keys).unwrap_or(0)
+}

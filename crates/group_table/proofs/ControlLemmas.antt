@@ -1,7 +1,13 @@
 -- The control bytes of a table, beside the entries, and with one bucket written.
 use Rattle.std.proofs.Common.{◌≡◌, ◌≢◌, ℕ, ◌+◌, ◌-◌, ◌<◌, ◌≤◌, max, List, length, set, get_or, Option}
 use Rattle.std.proofs.Common.{ap, sym, ◌∙◌, arith, inl, inr, length-set, get_or-set_same, get_or-set_other}
+use Rattle.std.proofs.Common.{◌*◌, ◌%◌, ◌^◌, pow_pos, pow_mono}
+use Rattle.std.proofs.Math.Nat.{add-mul-mod_self_left, mod-eq_of_lt}
+use Rattle.std.proofs.lemmas.Nat.{pow-add}
+use native.Mathlib.Decide.{dec_lt}
 use Rattle.std.proofs.lemmas.Bool.{cases_eq}
+use Rattle.group_table.specs.Sizes.{IsPowerFromFour}
+use Rattle.group_table.proofs.SizeLemmas.{power_is}
 use Rattle.group_table.specs.Control.{buckets_of, IsCircle, IsControl}
 use Rattle.group_table.specs.Layout.{IsLaidOut}
 
@@ -65,3 +71,54 @@ module _ (control : List ℕ) (b byte : ℕ) (circle : IsCircle control) (within
           ∙ circle.repeated.between p past low;
     });
   }
+
+-- sixteen places back on a circle, counted by words that wrap
+module _ (n b : ℕ) (power : IsPowerFromFour n) (fits : n < 2 ^ 64) (word : b < 2 ^ 64) where
+  -- a word's range is a number of turns
+  turns : (q : ℕ) × (2 ^ 64 ≡ n * q) × (0 < q)
+  turns = elim (dec_lt 62 power.0) [
+    | yes p ↦ absurd (let m : 2 ^ 63 ≤ 2 ^ power.0 = pow_mono p in omega (arith, m, power.1, fits))
+    | no p ↦
+        let whole : 2 ^ (2 + power.0 + (62 - power.0)) ≡ 2 ^ (2 + power.0) * 2 ^ (62 - power.0) =
+        pow-add 2 (2 + power.0) (62 - power.0) in
+        let same : 2 + power.0 + (62 - power.0) ≡ 64 = omega (arith, p) in (
+          2 ^ (62 - power.0),
+          ap (λ k. 2 ^ k) (sym same) ∙ whole ∙ ap (λ k. k * 2 ^ (62 - power.0)) (sym (power_is n power)),
+          pow_pos (62 - power.0),
+        )
+  ]
+
+  -- of 4 or 8 buckets sixteen are whole turns
+  small_turns : n < 16 → (c : ℕ) × (16 ≡ n * c)
+  small_turns p = elim (dec_lt power.0 1) [
+    | yes q ↦ let e : power.0 ≡ 0 = omega (arith, q) in (4, omega (arith, power.1 ∙ ap (λ k. 4 * 2 ^ k) e))
+    | no q ↦ elim (dec_lt 1 power.0) [
+      | yes r ↦ absurd (let m : 2 ^ 2 ≤ 2 ^ power.0 = pow_mono r in omega (arith, m, power.1, p))
+      | no r ↦ let e : power.0 ≡ 1 = omega (arith, q, r) in (2, omega (arith, power.1 ∙ ap (λ k. 4 * 2 ^ k) e))
+    ]
+  ]
+
+  -- going back is going on by the rest of a turn
+  around : (w c : ℕ) → w + 16 ≡ b + n * c → w % n ≡ (b + (n - 16)) % n
+  around w c e = elim (dec_lt n 16) [
+    | yes p ↦
+        let s = small_turns p in
+        let on : w + n * s.0 ≡ b + (n - 16) + n * c = omega (arith, e, s.1, p) in
+        sym (add-mul-mod_self_left w n s.0) ∙ ap (λ k. k % n) on ∙ add-mul-mod_self_left (b + (n - 16)) n c
+    | no p ↦
+        let on : w + n * 1 ≡ b + (n - 16) + n * c = omega (arith, e, p) in
+        sym (add-mul-mod_self_left w n 1) ∙ ap (λ k. k % n) on ∙ add-mul-mod_self_left (b + (n - 16)) n c
+  ]
+
+  pub back_sixteen : ((b + (2 ^ 64 - 16)) % 2 ^ 64) % n ≡ (b + (n - 16)) % n
+  back_sixteen = elim (dec_lt b 16) [
+    | yes p ↦
+        let t = turns in
+        ap (λ k. k % n) (mod-eq_of_lt (omega (arith, p)))
+        ∙ around (b + (2 ^ 64 - 16)) t.0 (omega (arith, t.1))
+    | no p ↦
+        let on : b + (2 ^ 64 - 16) ≡ b - 16 + 2 ^ 64 * 1 = omega (arith, p) in
+        ap (λ k. k % n) (ap (λ k. k % 2 ^ 64) on ∙ add-mul-mod_self_left (b - 16) (2 ^ 64) 1
+        ∙ mod-eq_of_lt (omega (arith, word)))
+        ∙ around (b - 16) 0 (omega (arith, p))
+  ]

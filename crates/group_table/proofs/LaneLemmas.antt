@@ -1,6 +1,6 @@
 -- What the lanes of a group say of the buckets from its first one on.
 use Rattle.std.proofs.Common.{◌≡◌, ◌≢◌, ℕ, zero, suc, ◌+◌, ◌-◌, ◌*◌, ◌%◌, ◌^◌, ◌<◌, ◌≤◌, ◌⊎◌, ◌↔◌, min, max, Bool, true}
-use Rattle.std.proofs.Common.{false, List, length, get_or, Option, None}
+use Rattle.std.proofs.Common.{false, List, length, get_or, Option, None, Some, IsSome}
 use Rattle.std.proofs.Common.{refl, ap, sym, ◌∙◌, subst, arith, pow-suc, pow_mono, inl, inr}
 use Rattle.std.proofs.Math.Nat.{add-mul-mod_self_left, mod-eq_of_lt, mod-lt}
 use Rattle.std.proofs.lemmas.List.{get_or_read}
@@ -214,11 +214,12 @@ module _ {T : Type 0} (control : List ℕ) (entries : List (Option T)) (laid_out
 
   -- a byte of a tag tells of an entry
   pub read_some : (b : ℕ) → b < length entries → get_or control b 0 < 128 → (r : Option T) → r ≡ get_or entries b r
-      → r ≡ None → ⊥
-  read_some b within tagged r e none =
-      let found : get_or entries b None ≡ None = sym (get_or_read entries b r within e None) ∙ none in
-      elim (rw found at (laid_out.agrees b within))
-      [ inl h ↦ omega (arith, h, tagged) | inr h ↦ omega (arith, h, tagged) ]
+      → IsSome r
+  read_some b within tagged None e =
+      let found : get_or entries b None ≡ None = sym (get_or_read entries b None within e None) in
+      absurd (elim (rw found at (laid_out.agrees b within))
+      [ inl h ↦ omega (arith, h, tagged) | inr h ↦ omega (arith, h, tagged) ])
+  read_some b within tagged (Some entry) e = refl
 
   -- an empty lane ends the search: up to 16 buckets some bucket of the group is empty
   pub ended_lane : (e : ℕ) → e < length entries → bucket_at (marks_by control entries) e ≡ empty → (lane : ℕ)

@@ -125,11 +125,3 @@ module _ {T : Type 0} (control : List ℕ) (entries : List (Option T)) (laid_out
         → entry_at (slots_of control entries) b ≡ Some entry
     entry_at-full entry e =
         ap entry_of (bucket_at-laid_out b full_within) ∙ ap (λ o. entry_of (slot_of (get_or control b 0) o)) e
-
--- what was read is not None where there is an entry
-pub not_read_none : {T : Type 0} (entries : List (Option T)) (b : ℕ) (r : Option T) (entry : T) → b < length entries
-    → get_or entries b None ≡ Some entry → r ≡ get_or entries b r → r ≡ None → ⊥
-not_read_none entries b r entry within some e h =
-    let found : r ≡ get_or entries b None = get_or_read entries b r within e None in
-    let wrong : Some entry ≡ None = sym some ∙ sym found ∙ h in
-    cc

@@ -117,7 +117,7 @@ impl Control {
         let buckets = self.bytes.len() - 16;
         self.bytes[b] = byte;
         // That of one of the first 16 buckets; else it is the same byte again, so that nothing has to be asked.
-        self.bytes[wrap(b + buckets.saturating_sub(16), buckets) + 16] = byte;
+        self.bytes[sixteen_before(b, buckets) + 16] = byte;
     }
 
     // Makes each that of an empty bucket.
@@ -153,4 +153,14 @@ pub(crate) fn wrap(place: usize, buckets: usize) -> usize
     ensures bound { result < buckets }
 {
     place & (buckets - 1)
+}
+
+// The bucket sixteen places before a bucket on the circle; of 4 or 8 that is the bucket itself.
+#[inline]
+pub(crate) fn sixteen_before(b: usize, buckets: usize) -> usize
+    requires { IsPowerFromFour buckets }
+    ensures value { result ≡ (b + (buckets - 16)) % buckets }
+    ensures bound { result < buckets }
+{
+    wrap(b.wrapping_sub(16), buckets)
 }

@@ -11,6 +11,18 @@ use crate::link::LinkType;
 use std::alloc::{AllocError, Global};
 use std::mem;
 
+// Where control never comes. Unlike that of `unreachable!()` it has no code, so what leads here is not tested: what is
+// matched on is read from where there is nothing.
+macro_rules! nowhere {
+    () => {{
+        let none: [Option<()>; 0] = [];
+        match none[0] {
+            Some(_) => unreachable!(),
+            None => unreachable!(),
+        }
+    }};
+}
+
 // So many places with no entry.
 pub(crate) fn no_entries<T>(alloc: Global, count: usize) -> Result<Vec<Option<T>>, AllocError>
     ensures { IfOk result (λ v. v.items ≡ replicate count None) }
@@ -103,11 +115,23 @@ pub(crate) fn empty_bucket<T>(
     control.set(b, byte);
     match mem::replace(&mut entries[b], None) {
         Some(entry) => entry,
-        None => unreachable!(),
+        None => nowhere!(),
     }
 }
 
 // The entry in a full place.
+#[inline]
+pub(crate) fn entry_ref<T>(place: &Option<T>) -> &T
+    requires { IsSome place.now }
+    ensures { place.now ≡ Some result.now }
+{
+    match place {
+        Some(entry) => entry,
+        None => nowhere!(),
+    }
+}
+
+// The same for writing.
 #[inline]
 pub(crate) fn entry_mut<T>(place: &mut Option<T>) -> &mut T
     requires { IsSome place.old }
@@ -116,6 +140,6 @@ pub(crate) fn entry_mut<T>(place: &mut Option<T>) -> &mut T
 {
     match place {
         Some(entry) => entry,
-        None => unreachable!(),
+        None => nowhere!(),
     }
 }

@@ -10,6 +10,7 @@ ghost use Rattle.group_table.specs.Control.{buckets_of, HasFreeByte};
 ghost use Rattle.group_table.specs.Layout.{IsLaidOut, slots_of, marks_by};
 
 use crate::control::{Control, DELETED, tag_of, wrap};
+use crate::fields::entry_ref;
 use crate::group::{lowest_lane, without_lowest};
 
 // The row of groups of a search: the bucket at which the next one begins, and how many buckets those before it have.
@@ -77,14 +78,10 @@ fn ask_group<T, F: FnMut(&T) -> bool>(
     let group = control.group(start);
     let mut mask = group.match_tag(tag);
     'lanes: while mask != 0 {
-        let b = control.wrap(start + lowest_lane(mask));
-        match &entries[b] {
-            Some(entry) => {
-                if f(entry) {
-                    return Asked::Accepted(b);
-                }
-            }
-            None => unreachable!(),
+        let b = wrap(start + lowest_lane(mask), entries.len());
+        let entry = entry_ref(&entries[b]);
+        if f(entry) {
+            return Asked::Accepted(b);
         }
         mask = without_lowest(mask);
     }

@@ -10,7 +10,7 @@ ghost use Rattle.group_table.specs.Search.{Finds, FindsNone};
 ghost use Rattle.group_table.specs.Change.{Places, MayFill, HasNoPlace, Removes};
 
 use crate::control::{Control, EMPTY, emptied_byte, tag_of};
-use crate::fields::{drop_entries, empty_bucket, entry_mut, fill_bucket, no_entries};
+use crate::fields::{drop_entries, empty_bucket, entry_mut, entry_ref, fill_bucket, no_entries};
 use crate::neighbours::has_empty_neighbours;
 use crate::probe::{find_bucket, first_free};
 use crate::sizes::full_capacity;
@@ -132,17 +132,14 @@ impl<T> Table<T> {
         find_bucket(&self.control, self.entries.as_slice(), hash, f)
     }
 
-    /// The entry in a full bucket. It looks at the entry's place once, and at nothing else.
+    /// The entry in a full bucket. Nothing of the table is read but where its entries lie.
     #[inline]
     pub fn get(&self, b: usize) -> &T
         requires { IsFull self.now.slots b }
         ensures entry { entry_at self.now.slots b ≡ Some result.now }
         ensures table { IsTable (marks_of self.now.slots) }
     {
-        match &self.entries[b] {
-            Some(entry) => entry,
-            None => unreachable!(),
-        }
+        entry_ref(&self.entries[b])
     }
 
     /// The entry in a full bucket for writing, at the cost of `get`. What is written there keeps the hash of the entry

@@ -16,7 +16,7 @@ ghost use Rattle.schnellru.specs.ByHash.{Asks};
 ghost use Rattle.schnellru.specs.Inside.Searches.{Finds, FindsNone};
 ghost use Rattle.schnellru.specs.Inside.Chain.{first_bucket, last_bucket, bucket_after, bucket_before, pair_slots};
 
-use crate::link::chain::{link_newest, rewrite, unlink};
+use crate::link::chain::{link_newest, link_placed, rewrite, unlink};
 use group_table::{LinkType, Table};
 use lru_limits::LookupKey;
 use std::alloc::{AllocError, Global};
@@ -32,12 +32,13 @@ pub(crate) struct Pair<K, V> {
     pub(crate) value: V,
 }
 
-// A pair with its neighbours in the order; `MAX` at the ends.
+// A pair with its neighbours in the order; `MAX` at the ends. The key and the value stand side by side at the end, so
+// that a look at a pair as a rule reads one line of memory.
 #[derive(Drop)]
 pub(crate) struct Entry<K, V, N> {
-    pair: Pair<K, V>,
     newer: N,
     older: N,
+    pair: Pair<K, V>,
 }
 
 #[derive(Drop)]
@@ -239,13 +240,13 @@ impl<K: Drop, V: Drop, N: LinkType> Linked<K, V, N> {
     {
         let (key, value) = pair;
         let entry = Entry {
-            pair: Pair { key, value },
             newer: N::MAX,
-            older: N::MAX,
+            older: self.newest,
+            pair: Pair { key, value },
         };
         match self.table.try_place(hash, entry) {
             Ok(b) => {
-                link_newest(&mut self.table, &mut self.newest, &mut self.oldest, b);
+                link_placed(&mut self.table, &mut self.newest, &mut self.oldest, b);
                 Ok(())
             }
             Err(entry) => Err((entry.pair.key, entry.pair.value)),

@@ -205,13 +205,39 @@ module _ {N : Type 0} {number : N → ℕ} {link : ℕ → N} {none : N} {eq : N
         older = λ x w. let v = without_in b x order w in left_older x v.0 v.1;
       }
 
-    -- a bucket comes as the newest
-    module _ {s0 s1 s2 : List (Slot (Entry K V N))} {newest oldest oldest' : N} (b : ℕ) {order : List ℕ}
+    -- both links of a bucket outside of the chain are written
+    pub IsChain-beside : {s0 s1 : List (Slot (Entry K V N))} {newest oldest newer older : N} (b : ℕ) {order : List ℕ}
+        → IsChain number link none s0 newest oldest order → (Contains order b → ⊥) → SetsLinks s0 s1 b newer older
+        → IsChain number link none s1 newest oldest order
+    IsChain-beside {s0} {s1} b {order} chain absent sets = record {
+      reached = omega (arith, same_length s0 s1 sets.pairs, chain.reached);
+      distinct = chain.distinct;
+      only = λ x w. same_full s0 s1 sets.pairs x ∙ chain.only x w;
+      newest_first = chain.newest_first;
+      oldest_last = chain.oldest_last;
+      newer = λ x w. ap (option_map (λ y. y.newer)) (sets.others x (other_than b order absent x w)) ∙ chain.newer x w;
+      older = λ x w. ap (option_map (λ y. y.older)) (sets.others x (other_than b order absent x w)) ∙ chain.older x w;
+    }
+
+    -- a bucket with the links of a newest one comes as the newest
+    module _ {s0 s1 : List (Slot (Entry K V N))} {newest oldest oldest' : N} (b : ℕ) {order : List ℕ}
         (chain : IsChain number link none s0 newest oldest order) (absent : Contains order b → ⊥) (full : IsFull s0 b)
-        (first : SetsNewer number s0 s1 newest (link b)) (oldest_is : SetsEnd none oldest oldest' newest (link b))
-        (second : SetsLinks s1 s2 b none newest) where
+        (newer : newer_at s0 b ≡ Some none) (older : older_at s0 b ≡ Some newest)
+        (first : SetsNewer number s0 s1 newest (link b)) (oldest_is : SetsEnd none oldest oldest' newest (link b)) where
       first_below : (y : ℕ) → first_bucket order ≡ Some y → y < number none
       first_below y e = chained_below chain y (first_in order y e)
+
+      apart : (o : Option ℕ) → first_bucket order ≡ o → b ≢ number newest
+      apart None e h = omega (
+        arith,
+        h ∙ ap number (chain.newest_first ∙ ap (link_to link none) e),
+        full_lt s0 b full,
+        chain.reached,
+      )
+      apart (Some y) e h =
+          let is : b ≡ y = h ∙ ap number chain.newest_first
+          ∙ number-link_to (first_bucket order) y e (first_below y e) in
+          absent (subst (Contains order) (sym is) (first_in order y e))
 
       come_last : (rest : List ℕ) → rest ≡ order → oldest' ≡ link_to link none (last_bucket (b ∷ rest))
       come_last [] e = oldest_is.ends (chain.newest_first ∙ ap (λ xs. link_to link none (first_bucket xs)) (sym e))
@@ -220,27 +246,26 @@ module _ {N : Type 0} {number : N → ℕ} {link : ℕ → N} {none : N} {eq : N
           oldest_is.stays (λ k. inner_link (first_bucket order) c is (first_below c is) (sym chain.newest_first ∙ k))
           ∙ chain.oldest_last ∙ ap (λ xs. link_to link none (last_bucket xs)) (sym e)
 
-      come_newer : (x : ℕ) → Contains order x → newer_at s2 x ≡ Some (link_to link none (bucket_before x (b ∷ order)))
-      come_newer x there = ap (option_map (λ y. y.newer)) (second.others x (other_than b order absent x there))
-          ∙ elim (cases_eq x (number newest)) [
-            | inl h ↦
-                let is : first_bucket order ≡ Some x = bucket_by_link (first_bucket order) x first_below
-                (chained_below chain x there) (h ∙ ap number chain.newest_first) in
-                subst (λ k. newer_at s1 k ≡ Some (link b)) (sym h)
-                (first.there (subst (IsFull s0) h (chain.only x there)))
-                ∙ ap (λ o. Some (link_to link none o)) (sym (before-first b order absent chain.distinct x there is))
-            | inr h ↦
-                let later = before-later b order absent chain.distinct x there
-                (λ e. h (sym (ap number chain.newest_first ∙ number-link_to (first_bucket order) x e
-                (chained_below chain x there)))) in
-                first.others x h ∙ chain.newer x there ∙ ap (λ o. Some (link_to link none o)) (sym later)
-          ]
+      come_newer : (x : ℕ) → Contains order x → newer_at s1 x ≡ Some (link_to link none (bucket_before x (b ∷ order)))
+      come_newer x there = elim (cases_eq x (number newest)) [
+        | inl h ↦
+            let is : first_bucket order ≡ Some x = bucket_by_link (first_bucket order) x first_below
+            (chained_below chain x there) (h ∙ ap number chain.newest_first) in
+            subst (λ k. newer_at s1 k ≡ Some (link b)) (sym h)
+            (first.there (subst (IsFull s0) h (chain.only x there)))
+            ∙ ap (λ o. Some (link_to link none o)) (sym (before-first b order absent chain.distinct x there is))
+        | inr h ↦
+            let later = before-later b order absent chain.distinct x there
+            (λ e. h (sym (ap number chain.newest_first ∙ number-link_to (first_bucket order) x e
+            (chained_below chain x there)))) in
+            first.others x h ∙ chain.newer x there ∙ ap (λ o. Some (link_to link none o)) (sym later)
+      ]
 
-      pub IsChain-linked : IsChain number link none s2 (link b) oldest' (b ∷ order)
+      pub IsChain-linked : IsChain number link none s1 (link b) oldest' (b ∷ order)
       IsChain-linked = record {
-        reached = omega (arith, same_length s1 s2 second.pairs, same_length s0 s1 first.pairs, chain.reached);
+        reached = omega (arith, same_length s0 s1 first.pairs, chain.reached);
         distinct = distinct_cons b order absent chain.distinct;
-        only = λ x w. same_full s1 s2 second.pairs x ∙ same_full s0 s1 first.pairs x
+        only = λ x w. same_full s0 s1 first.pairs x
             ∙ elim (Contains-cases b x order w) [
               | inl h ↦ subst (IsFull s0) h full
               | inr there ↦ chain.only x there
@@ -248,18 +273,16 @@ module _ {N : Type 0} {number : N → ℕ} {link : ℕ → N} {none : N} {eq : N
         newest_first = refl;
         oldest_last = come_last order refl;
         newer = λ x w. elim (Contains-cases b x order w) [
-          | inl h ↦ subst (λ k. newer_at s2 k ≡ Some (link_to link none (bucket_before k (b ∷ order)))) h
-              (second.newer_there ∙ ap (λ o. Some (link_to link none o))
+          | inl h ↦ subst (λ k. newer_at s1 k ≡ Some (link_to link none (bucket_before k (b ∷ order)))) h
+              (first.others b (apart (first_bucket order) refl) ∙ newer ∙ ap (λ o. Some (link_to link none o))
               (sym (before-itself b order absent chain.distinct)))
           | inr there ↦ come_newer x there
         ];
         older = λ x w. elim (Contains-cases b x order w) [
-          | inl h ↦ subst (λ k. older_at s2 k ≡ Some (link_to link none (bucket_after k (b ∷ order)))) h
-              (second.older_there ∙ ap Some chain.newest_first ∙ ap (λ o. Some (link_to link none o))
+          | inl h ↦ subst (λ k. older_at s1 k ≡ Some (link_to link none (bucket_after k (b ∷ order)))) h
+              (first.older b ∙ older ∙ ap Some chain.newest_first ∙ ap (λ o. Some (link_to link none o))
               (sym (after-itself b order absent chain.distinct)))
-          | inr there ↦
-              ap (option_map (λ y. y.older)) (second.others x (other_than b order absent x there)) ∙ first.older x
-              ∙ chain.older x there
+          | inr there ↦ first.older x ∙ chain.older x there
               ∙ ap (λ o. Some (link_to link none o)) (sym (after-later b order absent chain.distinct x there))
         ];
       }

@@ -48,9 +48,29 @@ pub(crate) fn link_newest<K, V, N: LinkType>(
         → (Contains order b → ⊥) →
         IsChain N.number N.link N.MAX table.new.slots newest.new oldest.new (b ∷ order) }
 {
+    set_links(table, b, N::MAX, *newest);
+    link_placed(table, newest, oldest, b);
+}
+
+// The same of a bucket whose entry came with the links of a newest one.
+pub(crate) fn link_placed<K, V, N: LinkType>(
+    table: &mut Table<Entry<K, V, N>>,
+    newest: &mut N,
+    oldest: &mut N,
+    b: usize,
+)
+    requires full { IsFull table.old.slots b }
+    requires newer { newer_at table.old.slots b ≡ Some N.MAX }
+    requires older { older_at table.old.slots b ≡ Some newest.old }
+    requires chained { OutOfChain N.number N.link N.MAX table.old.slots newest.old oldest.old b }
+    ensures pairs { pair_slots table.new.slots ≡ pair_slots table.old.slots }
+    ensures placings { table.new.placings ≡ table.old.placings }
+    ensures chain { (order : List ℕ) → IsChain N.number N.link N.MAX table.old.slots newest.old oldest.old order
+        → (Contains order b → ⊥) →
+        IsChain N.number N.link N.MAX table.new.slots newest.new oldest.new (b ∷ order) }
+{
     let link = N::from_usize(b);
     set_newer(table, oldest, *newest, link);
-    set_links(table, b, N::MAX, *newest);
     *newest = link;
 }
 

@@ -1,4 +1,4 @@
-use Rattle.std.proofs.Common.{◌≡◌, ◌+◌, ◌-◌, ◌%◌, ◌∙◌, ap, arith}
+use Rattle.std.proofs.Common.{◌≡◌, ◌+◌, ◌-◌, ◌%◌, ◌∙◌, ap}
 use Rattle.group_table.specs.Control.{buckets_of}
 use Rattle.group_table.proofs.Masks.{mask_at}
 use Rattle.group_table.proofs.RunLanes.{run_before_lanes, run_before_small}
@@ -8,24 +8,20 @@ pub returns-clause-wide : goal.returns-clause-wide
 returns-clause-wide c =
     let circle = c.group.ensures.circle in
     let n = buckets_of c.args.control.now in
-    let empties = mask_at (λ byte. byte ≡ 255) _ c.args.control.now c.wrap-start.result _ c.group.ensures.bytes
+    let empties = mask_at (λ byte. byte ≡ 255) _ c.args.control.now c.sixteen_before-start.result _ c.group.ensures.bytes
     c.match_empty.ensures in
     let r = c.lanes_above.ensures in
-    let less : c.saturating_sub.result ≡ n - 16 =
-    omega (arith, c.saturating_sub.ensures, c.buckets-buckets.ensures.value) in
-    let is : c.wrap-start.result ≡ (c.args.b + (n - 16)) % n =
-    c.wrap-start.ensures.value ∙ ap (λ k. (c.args.b + k) % n) less in
+    let is : c.sixteen_before-start.result ≡ (c.args.b + (n - 16)) % n =
+    c.sixteen_before-start.ensures.value ∙ ap (λ k. (c.args.b + (k - 16)) % k) c.buckets.ensures.value in
     run_before_lanes _ _ circle.power circle.repeated _ c.requires _ _ r.bound _ is empties r.none r.ends
 
 pub returns-clause-small : goal.returns-clause-small
 returns-clause-small c =
     let circle = c.group.ensures.circle in
     let n = buckets_of c.args.control.now in
-    let empties = mask_at (λ byte. byte ≡ 255) _ c.args.control.now c.wrap-start.result _ c.group.ensures.bytes
+    let empties = mask_at (λ byte. byte ≡ 255) _ c.args.control.now c.sixteen_before-start.result _ c.group.ensures.bytes
     c.match_empty.ensures in
     let r = c.lanes_above.ensures in
-    let less : c.saturating_sub.result ≡ n - 16 =
-    omega (arith, c.saturating_sub.ensures, c.buckets-buckets.ensures.value) in
-    let is : c.wrap-start.result ≡ (c.args.b + (n - 16)) % n =
-    c.wrap-start.ensures.value ∙ ap (λ k. (c.args.b + k) % n) less in
+    let is : c.sixteen_before-start.result ≡ (c.args.b + (n - 16)) % n =
+    c.sixteen_before-start.ensures.value ∙ ap (λ k. (c.args.b + (k - 16)) % k) c.buckets.ensures.value in
     run_before_small _ _ circle.power circle.repeated _ c.requires _ _ r.bound _ is empties r.none

@@ -24,13 +24,11 @@ written_again control n b byte long bound = elim (dec_lt (b + (n - 16)) n) [
 ]
 
 -- the same at the places that the code has
-written_at : (control : List ℕ) (m b place less byte : ℕ) → m ≡ buckets_of control
-    → length control ≡ buckets_of control + 16 → b < buckets_of control → less ≡ m - 16
-    → place ≡ (b + less) % m → set (set control b byte) (place + 16) byte
-    ≡ set (set control b byte) (b + max 16 (buckets_of control)) byte
-written_at control m b place less byte is long within fewer there =
-    let at : place ≡ (b + (buckets_of control - 16)) % buckets_of control =
-    there ∙ ap (λ k. (b + k) % m) fewer ∙ ap (λ k. (b + (k - 16)) % k) is in
+written_at : (control : List ℕ) (m b place byte : ℕ) → m ≡ buckets_of control
+    → length control ≡ buckets_of control + 16 → b < buckets_of control → place ≡ (b + (m - 16)) % m
+    → set (set control b byte) (place + 16) byte ≡ set (set control b byte) (b + max 16 (buckets_of control)) byte
+written_at control m b place byte is long within there =
+    let at : place ≡ (b + (buckets_of control - 16)) % buckets_of control = there ∙ ap (λ k. (b + (k - 16)) % k) is in
     ap (λ k. set (set control b byte) (k + 16) byte) at ∙ written_again control (buckets_of control) b byte long within
 
 pub invariant_of-self : goal.invariant_of-self
@@ -39,8 +37,8 @@ invariant_of-self c =
     let within : c.args.b < buckets_of bytes = rw (sym c.self.view_is) at c.requires in
     let circle = circle_of bytes c.self.invariant (omega (arith, within)) in
     let n : c.len-buckets.result - 16 ≡ buckets_of bytes = omega arith in
-    rw (written_at bytes _ _ c.wrap.result _ c.args.byte n circle.long within c.saturating_sub.ensures
-    c.wrap.ensures.value) (inr (IsCircle-set bytes c.args.b c.args.byte circle within))
+    rw (written_at bytes _ _ c.sixteen_before.result c.args.byte n circle.long within
+    c.sixteen_before.ensures.value) (inr (IsCircle-set bytes c.args.b c.args.byte circle within))
 
 pub returns : goal.returns
 returns c =
@@ -49,5 +47,5 @@ returns c =
     let circle = circle_of bytes c.self.invariant (omega (arith, within)) in
     let n : c.len-buckets.result - 16 ≡ buckets_of bytes = omega arith in
     rw (← c.self.view_is)
-    (written_at bytes _ _ c.wrap.result _ c.args.byte n circle.long within c.saturating_sub.ensures
-    c.wrap.ensures.value)
+    (written_at bytes _ _ c.sixteen_before.result c.args.byte n circle.long within
+    c.sixteen_before.ensures.value)
