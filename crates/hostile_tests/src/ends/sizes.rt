@@ -1,4 +1,5 @@
-//! Keys and values of no bytes, and of 4 KiB.
+//! Keys and values of no bytes, and of 4 KiB. The clauses hold for every type; that such values are laid out and copied
+//! well is shown by these tests alone.
 use super::*;
 
 // There is one key, and each insert of it replaces the value.

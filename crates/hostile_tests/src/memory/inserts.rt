@@ -22,7 +22,7 @@ const THIRTEEN: [(u64, u64); 13] = [
     (16, 160),
 ];
 
-// The limiter permits the first table each time, and is told of the pair that was not placed.
+// `Place`, by `first_table`: the limiter is asked each time, and told of the pair that was not placed.
 #[test]
 fn the_first_table(rt: HostRuntime) -> Result<(), Fail> {
     for call in INSERTS {
@@ -41,6 +41,7 @@ fn the_first_table(rt: HostRuntime) -> Result<(), Fail> {
     Ok(())
 }
 
+// `Place`, by `grown`.
 #[test]
 fn a_growth(rt: HostRuntime) -> Result<(), Fail> {
     for call in INSERTS {
@@ -60,7 +61,7 @@ fn a_growth(rt: HostRuntime) -> Result<(), Fail> {
     Ok(())
 }
 
-// Without a limit.
+// The same without a limit.
 #[test]
 fn a_growth_without_a_limit(rt: HostRuntime) -> Result<(), Fail> {
     let mut map = map_of(rt.alloc(), UnlimitedCompact);
