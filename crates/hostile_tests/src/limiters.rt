@@ -10,4 +10,3 @@ mod erasing;
 mod fickle;
 mod growth;
 mod one_hash;
-pub(crate) mod watching;

@@ -2,14 +2,13 @@
 //!
 //! What the refused calls may leave is said by `Place` (`IsPlacedIfMemory`), by `LacksMemory` and by `Reserve`: the
 //! list as it stood at the placing, and a limiter that was told of the new pair.
-use crate::limiters::watching::Watching;
 use schnellru::{
     ByCost, GetOrInsertError, Insertion, LruMap, RandomState, ReserveError, UnlimitedCompact,
 };
 use std::alloc::{AllocError, Global};
 use std::hash::BuildHasher;
 use std::test::Fail;
-use test_helpers::{Hog, figures, insert_all, is_list, map_of, report};
+use test_helpers::{Hog, Within, figures, insert_all, is_list, map_of, report};
 
 mod copies;
 mod inserts;
@@ -92,7 +91,7 @@ trait Tells {
     fn told(&self) -> Told;
 }
 
-impl Tells for Watching {
+impl Tells for Within {
     fn told(&self) -> Told {
         (0, self.told, self.last, self.askings)
     }

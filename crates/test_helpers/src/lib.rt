@@ -6,8 +6,8 @@
 //! - [`Weighed`]: a value with a cost of its own.
 //! - [`LastByte`], [`Sum`], [`Counted`]: hashers.
 //! - [`Slow`], [`Repeated`], [`Narrow`]: readers and writers of few bytes a call, which fail as [`Failure`] says.
-//! - [`map_of`], [`insert`], [`insert_all`], [`is_list`], [`figures`], [`report`]: a map of numbers, and what a test looks
-//!   at in it.
+//! - [`map_of`], [`insert`], [`insert_all`], [`is_list`], [`figures`], [`report`]: a map of numbers, and what a test
+//!   looks at in it.
 #![tactic(auto)]
 
 mod hashers;

@@ -127,13 +127,11 @@ fn rows_of_few_bytes(rt: HostRuntime) -> Result<(), Fail> {
 }
 
 // The greatest number, and lines that are bad: with a space or a carriage return after them, or of 1,000,000 bytes.
-const BEFORE: &[u8] =
-    b"compact\ninsert 18446744073709551615 18446744073709551615\ninsert 18446744073709551615 18446744073709551615 \nlist\r\n";
-
 #[test]
 fn a_row_with_a_line_of_a_million_bytes(rt: HostRuntime) -> Result<(), Fail> {
     let mut input = Vec::new(rt.alloc());
-    input.extend_from_slice(BEFORE)?;
+    input.extend_from_slice(b"compact\ninsert 18446744073709551615 18446744073709551615\n")?;
+    input.extend_from_slice(b"insert 18446744073709551615 18446744073709551615 \nlist\r\n")?;
     for _ in 0..1_000_000u32 {
         input.push(b'1')?;
     }

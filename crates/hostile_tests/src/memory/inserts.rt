@@ -26,7 +26,7 @@ const THIRTEEN: [(u64, u64); 13] = [
 #[test]
 fn the_first_table(rt: HostRuntime) -> Result<(), Fail> {
     for call in INSERTS {
-        let mut map = map_of(rt.alloc(), Watching::new(84));
+        let mut map = map_of(rt.alloc(), Within::new(84));
         let what = (call, (1, 10));
         if let Some(all) = refuse_each(rt.alloc(), &mut map, what, &[], &FIRST_TABLE)? {
             let wanted = [
@@ -45,7 +45,7 @@ fn the_first_table(rt: HostRuntime) -> Result<(), Fail> {
 #[test]
 fn a_growth(rt: HostRuntime) -> Result<(), Fail> {
     for call in INSERTS {
-        let mut map = map_of(rt.alloc(), Watching::new(288));
+        let mut map = map_of(rt.alloc(), Within::new(288));
         assert_eq!(rt; insert_all(&mut map, 1..=7)?, 7);
         let what = (call, (8, 80));
         if let Some(all) = refuse_each(rt.alloc(), &mut map, what, &SEVEN, &GROWTH)? {
@@ -102,7 +102,7 @@ fn an_account_in_a_growth(rt: HostRuntime) -> Result<(), Fail> {
 // The same pairs under a limiter that keeps what it was told: of the new one alone.
 #[test]
 fn what_the_limiter_is_told_in_a_growth(rt: HostRuntime) -> Result<(), Fail> {
-    let mut map = map_of(rt.alloc(), Watching::new(152));
+    let mut map = map_of(rt.alloc(), Within::new(152));
     for n in 1..=3u64 {
         assert!(rt; map.insert(n, n)?);
     }
@@ -120,15 +120,15 @@ fn what_the_limiter_is_told_in_a_growth(rt: HostRuntime) -> Result<(), Fail> {
     Ok(())
 }
 
-// `Evicts`, by `made_anew`: the limiter refuses the growth, the oldest 15 leave, and then there is no memory to make the
-// table anew. With memory no more leave, and the limiter is not asked again.
+// `Evicts`, by `made_anew`: the limiter refuses the growth, the oldest 15 leave, and then there is no memory to make
+// the table anew. With memory no more leave, and the limiter is not asked again.
 #[test]
 fn a_table_made_anew_after_a_refused_growth(rt: HostRuntime) -> Result<(), Fail> {
     let new = (OF_HASH_28, OF_HASH_28.wrapping_mul(10));
     for call in INSERTS {
-        let mut map: LruMap<u64, u64, Watching, LastByte> = LruMap::with_hasher(
+        let mut map: LruMap<u64, u64, Within, LastByte> = LruMap::with_hasher(
             rt.alloc(),
-            Watching::new(560),
+            Within::new(560),
             LastByte(0),
             16,
         );

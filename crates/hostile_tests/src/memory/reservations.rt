@@ -5,7 +5,7 @@ use test_helpers::LastByte;
 
 #[test]
 fn of_the_first_table(rt: HostRuntime) -> Result<(), Fail> {
-    let mut map = map_of(rt.alloc(), Watching::new(84));
+    let mut map = map_of(rt.alloc(), Within::new(84));
     let what = (Taking::Reserve(3), (0, 0));
     if let Some(all) = refuse_each(rt.alloc(), &mut map, what, &[], &FIRST_TABLE)? {
         let wanted = [
@@ -20,7 +20,7 @@ fn of_the_first_table(rt: HostRuntime) -> Result<(), Fail> {
 
 #[test]
 fn of_a_larger_table(rt: HostRuntime) -> Result<(), Fail> {
-    let mut map = map_of(rt.alloc(), Watching::new(288));
+    let mut map = map_of(rt.alloc(), Within::new(288));
     assert_eq!(rt; insert_all(&mut map, 1..=7)?, 7);
     let what = (Taking::Reserve(1), (0, 0));
     if let Some(all) = refuse_each(rt.alloc(), &mut map, what, &SEVEN, &GROWTH)? {
@@ -37,8 +37,8 @@ fn of_a_larger_table(rt: HostRuntime) -> Result<(), Fail> {
 }
 
 // A map of hash 0 with 28 pairs, of which all but the oldest so many were removed.
-fn thinned(alloc: Global, left: u64) -> Result<LruMap<u64, u64, Watching, LastByte>, AllocError> {
-    let mut map = LruMap::with_hasher(alloc, Watching::new(560), LastByte(0), 16);
+fn thinned(alloc: Global, left: u64) -> Result<LruMap<u64, u64, Within, LastByte>, AllocError> {
+    let mut map = LruMap::with_hasher(alloc, Within::new(560), LastByte(0), 16);
     insert_all(&mut map, 1..=28)?;
     for n in left.saturating_add(1)..=28 {
         map.remove(&n);
@@ -79,7 +79,7 @@ fn of_an_emptied_table(rt: HostRuntime) -> Result<(), Fail> {
 // What is no want of memory is answered without any.
 #[test]
 fn that_no_memory_would_help(rt: HostRuntime) -> Result<(), Fail> {
-    let mut map = map_of(rt.alloc(), Watching::new(84));
+    let mut map = map_of(rt.alloc(), Within::new(84));
     assert_eq!(rt; insert_all(&mut map, 1..=1)?, 1);
     let hog = Hog::new(rt.alloc(), &[])?;
     let answers = (
