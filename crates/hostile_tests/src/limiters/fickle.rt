@@ -1,5 +1,5 @@
 //! A limiter that changes its mind in every callback.
-ghost use Rattle.std.specs.Prelude.{◌≡◌, true, not, Some, nat_eq};
+ghost use Rattle.std.specs.Prelude.{true, not, nat_eq};
 ghost use Rattle.std.specs.Cmp.{nat_eq_equiv};
 ghost use Rattle.lru_limits.specs.Stores.{answers, HandsOver, given-names};
 
