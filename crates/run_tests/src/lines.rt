@@ -1,4 +1,3 @@
 //! Replays of lines: worked examples, and readers and writers that fail.
 mod failures;
 mod rows;
-mod streams;

@@ -152,7 +152,8 @@ impl Insertion<u64, u64, u64> for Telling {
     ghost laws = { hands_over-lawful nat_eq nat_eq_equiv (λ _ _ _. true) };
 }
 
-/// Permits tables of at most so many bytes, and keeps how many pairs it was told of, and the last one.
+/// Permits tables of at most so many bytes, and keeps how many pairs it was told of, the last one, and how often it was
+/// asked.
 #[derive(Clone, Copy)]
 pub struct Within {
     /// How many bytes the greatest table has that it permits.
@@ -161,17 +162,20 @@ pub struct Within {
     pub told: u32,
     /// The last one.
     pub last: (u64, u64),
+    /// How often it was asked whether the table may grow.
+    pub askings: u32,
 }
 
 impl Within {
-    /// Told of no pair as yet.
+    /// Told of no pair and never asked as yet.
     pub fn new(most: usize) -> Within
-        ensures { result ≡ record { most = most; told = 0; last = (0, 0) } }
+        ensures { result ≡ record { most = most; told = 0; last = (0, 0); askings = 0 } }
     {
         Within {
             most,
             told: 0,
             last: (0, 0),
+            askings: 0,
         }
     }
 }
@@ -187,7 +191,8 @@ impl Limiter<u64, u64> for Within {
         value = v;
       };
       on_cleared = λ s. s;
-      on_grow = λ s bytes. answers s (nat_le bytes s.most);
+      on_grow = λ s bytes.
+          answers (record s { askings = min (s.askings + 1) 4294967295 }) (nat_le bytes s.most);
     } };
 
     fn is_over_the_limit(&self, _length: usize) -> bool {
@@ -202,6 +207,7 @@ impl Limiter<u64, u64> for Within {
     fn on_cleared(&mut self) {}
 
     fn on_grow(&mut self, new_memory_usage: usize) -> bool {
+        self.askings = self.askings.saturating_add(1);
         new_memory_usage <= self.most
     }
 }

@@ -1,10 +1,10 @@
 //! Reads and writes that are cut, interrupted, or fail.
 use super::rows::{EXAMPLE, EXAMPLE_TEXT};
-use super::streams::{Failure, Narrow, Slow};
 use lru_replay::{ReplayEnd, ReplayError, replay};
 use std::io::BufReader;
 use std::process::Abort;
 use std::test::Fail;
+use test_helpers::{Failure, Narrow, Slow};
 
 /// The front of the text up to its line feed of a number.
 fn front_lines(text: &[u8], lines: usize) -> &[u8] {

@@ -1,10 +1,10 @@
 //! Inputs, with the text and the status that each must give.
-use super::streams::Repeated;
 use lru_replay::{ReplayEnd, ReplayError, replay, status};
 use std::io::BufReader;
 use std::ops::Range;
 use std::process::Abort;
 use std::test::Fail;
+use test_helpers::Repeated;
 
 /// The example of the README.
 pub const EXAMPLE: &[u8] =

@@ -1,0 +1,9 @@
+//! Ends of the widths of links, of walks, and of the sizes of keys and values.
+use schnellru::{ByCost, LinkType, LruMap, ReserveError, Unlimited, UnlimitedCompact};
+use std::alloc::{AllocError, Global};
+use std::test::Fail;
+use test_helpers::{LinkedBy, figures, insert, insert_all, is_list, map_of, report};
+
+mod sizes;
+mod walks;
+mod widths;

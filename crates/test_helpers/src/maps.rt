@@ -1,0 +1,62 @@
+//! Maps from numbers to numbers, and what a test looks at in them.
+use schnellru::{Insertion, Limiter, LruMap, MoveReport, RandomState};
+use std::alloc::{AllocError, Global};
+use std::hash::{BuildHasher, Hash};
+use std::ops::RangeInclusive;
+
+/// A map of numbers with entries of 16 bytes.
+pub fn map_of<L: Limiter<u64, u64>>(alloc: Global, limiter: L) -> LruMap<u64, u64, L, RandomState> {
+    LruMap::new(alloc, limiter, [1, 2, 3, 4], 16)
+}
+
+/// Inserts the pair of a number and ten times the number.
+pub fn insert<L: Insertion<u64, u64, u64>, S: BuildHasher>(
+    map: &mut LruMap<u64, u64, L, S>,
+    n: u64,
+) -> Result<bool, AllocError> {
+    map.insert(n, n.wrapping_mul(10))
+}
+
+/// Inserts the pairs of these numbers, and answers how many inserts answered true.
+pub fn insert_all<L: Insertion<u64, u64, u64>, S: BuildHasher>(
+    map: &mut LruMap<u64, u64, L, S>,
+    numbers: RangeInclusive<u64>,
+) -> Result<u64, AllocError> {
+    let mut taken = 0u64;
+    for n in numbers {
+        if insert(map, n)? {
+            taken = taken.saturating_add(1);
+        }
+    }
+    Ok(taken)
+}
+
+/// Whether these are the pairs, newest first. It takes no memory.
+pub fn is_list<L: Limiter<u64, u64>, S: BuildHasher>(
+    map: &LruMap<u64, u64, L, S>,
+    pairs: &[(u64, u64)],
+) -> bool {
+    let mut at = 0usize;
+    for (key, value) in map.iter() {
+        if pairs.get(at) != Some(&(*key, *value)) {
+            return false;
+        }
+        at = at.saturating_add(1);
+    }
+    at == pairs.len()
+}
+
+/// The number of pairs, the guaranteed capacity, and the bytes of the table.
+pub fn figures<K: Eq + Hash, V, L: Limiter<K, V>, S: BuildHasher>(
+    map: &LruMap<K, V, L, S>,
+) -> (usize, usize, usize) {
+    (map.len(), map.guaranteed_capacity(), map.memory_usage())
+}
+
+/// How many entries inserts moved and placed.
+pub fn report<K: Eq + Hash, V, L: Limiter<K, V>, S: BuildHasher>(
+    map: &LruMap<K, V, L, S>,
+) -> (u64, u64) {
+    let MoveReport { moved, placed } = map.move_report();
+    (moved, placed)
+}
