@@ -1,5 +1,6 @@
 -- What a call leaves of the tenant that it names is what it leaves of the cache.
-use Rattle.std.proofs.Common.{◌≡◌, ℕ, Bool, true, false, cond, nat_eq, List, Option, Some, None, is_some, Err, sym, ap, refl}
+use Rattle.std.proofs.Common.{◌≡◌, ℕ, Bool, true, false, cond, nat_eq, List, Option, Some, None, is_some, Err, sym, ap}
+use Rattle.std.proofs.Common.{refl}
 use Rattle.std.proofs.Common.{subst}
 use Rattle.std.proofs.lemmas.Bool.{eqb-true, true≢false}
 use Rattle.std.specs.HashMap.{HashMap, UpdatesBy, values, get_by}

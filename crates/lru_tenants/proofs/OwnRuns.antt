@@ -31,7 +31,8 @@ module _ {K V : Type 0} (eq : K → K → Bool) (cost : V → ℕ) (hash_of : Mi
 
   -- a call on the cache is one of the tenant, or leaves it as it is
   pub own-step : (old new : Cache K V) (call : TenantCall K V) (answer : TenantAnswer V)
-      → On (named call) (TenantStep eq cost hash_of fresh call) old answer new → IfSome (tenant name new) (IsTenant eq cost)
+      → On (named call) (TenantStep eq cost hash_of fresh call) old answer new
+      → IfSome (tenant name new) (IsTenant eq cost)
       → Own (tenant name old) (call ∷ []) (answer ∷ []) (tenant name new)
   own-step old new call answer (left, step, leaves) holds = go (nat_eq (named call) name) refl (leaves.tenants name)
     where

@@ -76,7 +76,8 @@ module _ {K V : Type 0} where
   -- what a call does to the tenant of a name it does to the cache, in which the others stay
   abbrev pub On : {R : Type 0} → ℕ → (Option (Tenant K V) → R → Option (Tenant K V) → Type 0)
       → Cache K V → R → Cache K V → Type 0
-  On name Does old answer new = (left : Option (Tenant K V)) × Does (tenant name old) answer left × Leaves name left old new
+  On name Does old answer new =
+      (left : Option (Tenant K V)) × Does (tenant name old) answer left × Leaves name left old new
 
 module _ {K V : Type 0} (eq : K → K → Bool) (cost : V → ℕ) (hash_of : Mixer → K → ℕ)
     (fresh : ℕ → Tenant K V) where
