@@ -23,6 +23,6 @@ for i in "${!crates[@]}"; do
     flags+=(--cfg "$name" --extern "$name=$out/$name/release/lib$name.rlib" -L "dependency=$out/$name/release/deps")
 done
 rustc --edition 2024 -C opt-level=3 -C target-cpu=x86-64-v2 -C codegen-units=1 --check-cfg 'cfg(schnellru, lru)' \
-    rust/loads.rs -o "$out/loads" -L ../crates/bench_layers/out -l static=bench_layers -C link-arg="$kit/c/liblibc_c.a" \
-    "${flags[@]}"
+    rust/loads.rs -o "$out/loads" "${flags[@]}" \
+    -L ../crates/bench_layers/out -l static=bench_layers -C link-arg="$kit/c/liblibc_c.a"
 "$out/loads" "${words[@]}"

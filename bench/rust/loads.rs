@@ -89,6 +89,9 @@ fn loads(n: u64) -> Vec<(&'static str, u32, bool, Vec<(u8, u64)>)> {
     let many = if n > 100_000 { 4 * count } else { count };
     let mut draw = Draw(88172645463325252);
     let full = n as u32;
+    let mut other = Draw(88172645463325252);
+    let removals = (0..count).map(|i| (if i % 2 == 0 { REMOVE } else { INSERT }, spread(other.below(n)))).collect();
+    let skewed = (0..count).map(|_| (GET_OR_INSERT, spread(other.skewed(n)))).collect();
     vec![
         ("fill", u32::MAX - 1, false, (0..n).map(|i| (INSERT, spread(i))).collect()),
         ("get hit", full, true, (0..count).map(|_| (GET, spread(draw.below(n)))).collect()),
@@ -96,8 +99,8 @@ fn loads(n: u64) -> Vec<(&'static str, u32, bool, Vec<(u8, u64)>)> {
         ("peek hit", full, true, (0..many).map(|_| (PEEK, spread(draw.below(n)))).collect()),
         ("replace", full, true, (0..count).map(|_| (INSERT, spread(draw.below(n)))).collect()),
         ("evict", full, true, (0..count).map(|i| (INSERT, spread(n + i as u64))).collect()),
-        ("remove and insert", full, true, (0..count).map(|i| (if i % 2 == 0 { REMOVE } else { INSERT }, spread(draw.below(n)))).collect()),
-        ("skewed get or insert", full / 4, false, (0..count).map(|_| (GET_OR_INSERT, spread(draw.skewed(n)))).collect()),
+        ("remove and insert", full, true, removals),
+        ("skewed get or insert", full / 4, false, skewed),
     ]
 }
 
@@ -127,7 +130,8 @@ fn measure(engines: &[Engine], rounds: usize) {
                 }
             }
             let ns = |b: &(f64, f64)| (b.1 - if filled { b.0 } else { 0.0 }).max(1e-9) * 1e9 / calls.len() as f64;
-            println!("{:<28}{}", format!("{name}, {n}"), best.iter().map(|b| format!("{:8.1} {:6.2}x", ns(b), ns(b) / ns(&best[0]))).collect::<String>());
+            let row = best.iter().map(|b| format!("{:8.1} {:6.2}x", ns(b), ns(b) / ns(&best[0])));
+            println!("{:<28}{}", format!("{name}, {n}"), row.collect::<String>());
             logs.iter_mut().zip(&best).for_each(|(log, b)| *log += (ns(b) / ns(&best[0])).ln() / 24.0);
         }
     }

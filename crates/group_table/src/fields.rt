@@ -11,8 +11,8 @@ use crate::link::LinkType;
 use std::alloc::{AllocError, Global};
 use std::mem;
 
-// Where control never comes. Unlike that of `unreachable!()` it has no code, so what leads here is not tested: what is
-// matched on is read from where there is nothing.
+// Where control never comes. `unreachable!()` is compiled to a trap, and to a test before it. This has no code and no
+// test: it matches on what would be read from an array of nothing.
 macro_rules! nowhere {
     () => {{
         let none: [Option<()>; 0] = [];
