@@ -31,8 +31,16 @@ macro_rules! run {
             for (kind, &key) in kinds.iter().zip(keys) {
                 match *kind {
                     INSERT => drop(map.$insert(key, key ^ 7)),
-                    GET => sum = sum.wrapping_mul(31).wrapping_add(map.get(&key).map_or(1, |value| *value)),
-                    PEEK => sum = sum.wrapping_mul(31).wrapping_add(map.peek(&key).map_or(1, |value| *value)),
+                    GET => {
+                        sum = sum
+                            .wrapping_mul(31)
+                            .wrapping_add(map.get(&key).map_or(1, |value| *value))
+                    }
+                    PEEK => {
+                        sum = sum
+                            .wrapping_mul(31)
+                            .wrapping_add(map.peek(&key).map_or(1, |value| *value))
+                    }
                     REMOVE => sum ^= map.$remove(&key).unwrap_or(1),
                     _ => match map.get(&key) {
                         Some(value) => sum = sum.wrapping_add(*value),
@@ -40,7 +48,9 @@ macro_rules! run {
                     },
                 }
             }
-            map.iter().fold(sum, |sum, (key, value)| sum.wrapping_mul(31).wrapping_add(key ^ value))
+            map.iter().fold(sum, |sum, (key, value)| {
+                sum.wrapping_mul(31).wrapping_add(key ^ value)
+            })
         }
     };
 }
@@ -53,7 +63,11 @@ run!(upstream, by_length, insert, remove);
 
 #[cfg(lru)]
 fn cache(length: u32) -> lru::LruCache<u64, u64> {
-    if length == u32::MAX - 1 { lru::LruCache::unbounded() } else { lru::LruCache::new(length as usize) }
+    if length == u32::MAX - 1 {
+        lru::LruCache::unbounded()
+    } else {
+        lru::LruCache::new(length as usize)
+    }
 }
 
 #[cfg(lru)]
@@ -90,15 +104,49 @@ fn loads(n: u64) -> Vec<(&'static str, u32, bool, Vec<(u8, u64)>)> {
     let mut draw = Draw(88172645463325252);
     let full = n as u32;
     let mut other = Draw(88172645463325252);
-    let removals = (0..count).map(|i| (if i % 2 == 0 { REMOVE } else { INSERT }, spread(other.below(n)))).collect();
-    let skewed = (0..count).map(|_| (GET_OR_INSERT, spread(other.skewed(n)))).collect();
+    let removals = (0..count)
+        .map(|i| (if i % 2 == 0 { REMOVE } else { INSERT }, spread(other.below(n))))
+        .collect();
+    let skewed = (0..count)
+        .map(|_| (GET_OR_INSERT, spread(other.skewed(n))))
+        .collect();
     vec![
-        ("fill", u32::MAX - 1, false, (0..n).map(|i| (INSERT, spread(i))).collect()),
-        ("get hit", full, true, (0..count).map(|_| (GET, spread(draw.below(n)))).collect()),
-        ("get miss", full, true, (0..many).map(|_| (GET, spread(n + draw.below(n)))).collect()),
-        ("peek hit", full, true, (0..many).map(|_| (PEEK, spread(draw.below(n)))).collect()),
-        ("replace", full, true, (0..count).map(|_| (INSERT, spread(draw.below(n)))).collect()),
-        ("evict", full, true, (0..count).map(|i| (INSERT, spread(n + i as u64))).collect()),
+        (
+            "fill",
+            u32::MAX - 1,
+            false,
+            (0..n).map(|i| (INSERT, spread(i))).collect(),
+        ),
+        (
+            "get hit",
+            full,
+            true,
+            (0..count).map(|_| (GET, spread(draw.below(n)))).collect(),
+        ),
+        (
+            "get miss",
+            full,
+            true,
+            (0..many).map(|_| (GET, spread(n + draw.below(n)))).collect(),
+        ),
+        (
+            "peek hit",
+            full,
+            true,
+            (0..many).map(|_| (PEEK, spread(draw.below(n)))).collect(),
+        ),
+        (
+            "replace",
+            full,
+            true,
+            (0..count).map(|_| (INSERT, spread(draw.below(n)))).collect(),
+        ),
+        (
+            "evict",
+            full,
+            true,
+            (0..count).map(|i| (INSERT, spread(n + i as u64))).collect(),
+        ),
         ("remove and insert", full, true, removals),
         ("skewed get or insert", full / 4, false, skewed),
     ]
@@ -111,31 +159,57 @@ fn seconds(run: impl FnOnce() -> u64) -> (f64, u64) {
 }
 
 fn measure(engines: &[Engine], rounds: usize) {
-    println!("{:<28}{}", "ns a call", engines.iter().map(|e| format!("{:>16}", e.0)).collect::<String>());
+    println!(
+        "{:<28}{}",
+        "ns a call",
+        engines.iter().map(|e| format!("{:>16}", e.0)).collect::<String>()
+    );
     let mut logs = vec![0.0f64; engines.len()];
     for n in [1_000u64, 50_000, 1_000_000] {
         let fill: Vec<u64> = (0..n).map(spread).collect();
         for (name, length, filled, calls) in loads(n) {
             let before: &[u64] = if filled { &fill } else { &[] };
-            let kinds: Vec<u8> = before.iter().map(|_| INSERT).chain(calls.iter().map(|c| c.0)).collect();
+            let kinds: Vec<u8> = before
+                .iter()
+                .map(|_| INSERT)
+                .chain(calls.iter().map(|c| c.0))
+                .collect();
             let keys: Vec<u64> = before.iter().copied().chain(calls.iter().map(|c| c.1)).collect();
             let mut best = vec![(f64::INFINITY, f64::INFINITY); engines.len()];
             let mut expected = None;
             for _ in 0..rounds {
                 for (engine, best) in engines.iter().zip(&mut best) {
-                    best.0 = best.0.min(seconds(|| engine.1(length, &kinds[..before.len()], &keys[..before.len()])).0);
+                    best.0 = best
+                        .0
+                        .min(seconds(|| engine.1(length, &kinds[..before.len()], &keys[..before.len()])).0);
                     let (whole, answer) = seconds(|| engine.1(length, &kinds, &keys));
                     best.1 = best.1.min(whole);
-                    assert_eq!(*expected.get_or_insert(answer), answer, "{name}: {} answers otherwise", engine.0);
+                    assert_eq!(
+                        *expected.get_or_insert(answer),
+                        answer,
+                        "{name}: {} answers otherwise",
+                        engine.0
+                    );
                 }
             }
-            let ns = |b: &(f64, f64)| (b.1 - if filled { b.0 } else { 0.0 }).max(1e-9) * 1e9 / calls.len() as f64;
-            let row = best.iter().map(|b| format!("{:8.1} {:6.2}x", ns(b), ns(b) / ns(&best[0])));
+            let ns =
+                |b: &(f64, f64)| (b.1 - if filled { b.0 } else { 0.0 }).max(1e-9) * 1e9 / calls.len() as f64;
+            let row = best
+                .iter()
+                .map(|b| format!("{:8.1} {:6.2}x", ns(b), ns(b) / ns(&best[0])));
             println!("{:<28}{}", format!("{name}, {n}"), row.collect::<String>());
-            logs.iter_mut().zip(&best).for_each(|(log, b)| *log += (ns(b) / ns(&best[0])).ln() / 24.0);
+            logs.iter_mut()
+                .zip(&best)
+                .for_each(|(log, b)| *log += (ns(b) / ns(&best[0])).ln() / 24.0);
         }
     }
-    println!("{:<28}{}", "geometric mean", logs.iter().map(|log| format!("{:>15.2}x", log.exp())).collect::<String>());
+    println!(
+        "{:<28}{}",
+        "geometric mean",
+        logs.iter()
+            .map(|log| format!("{:>15.2}x", log.exp()))
+            .collect::<String>()
+    );
 }
 
 /// The resident bytes of this process.
@@ -167,7 +241,11 @@ fn memory(engines: &[Engine]) {
         });
         // The fill, and the walk at the end, are a small part of the time.
         let during = samples[samples.len() / 2];
-        println!("{:<16}{:>6.1} MiB", engine.0, during.saturating_sub(before) as f64 / (1 << 20) as f64);
+        println!(
+            "{:<16}{:>6.1} MiB",
+            engine.0,
+            during.saturating_sub(before) as f64 / (1 << 20) as f64
+        );
     }
 }
 

@@ -97,8 +97,8 @@ fn wrong_step(
     Ok(None)
 }
 
-// `Insert`, by its cases. Without a table the growth is refused; then it is permitted, and the pair leaves at once. From
-// then on each callback turns what the next one answers.
+// `Insert`, by its cases. Without a table the growth is refused; then it is permitted, and the pair leaves at once.
+// From then on each callback turns what the next one answers.
 #[test]
 fn a_mind_that_changes_in_every_callback(rt: HostRuntime) -> Result<(), Fail> {
     let mut map = map_of(rt.alloc(), Fickle { over: false });

@@ -8,7 +8,8 @@ pub returns-clause-wide : goal.returns-clause-wide
 returns-clause-wide c =
     let circle = c.group.ensures.circle in
     let n = buckets_of c.args.control.now in
-    let empties = mask_at (λ byte. byte ≡ 255) _ c.args.control.now c.sixteen_before-start.result _ c.group.ensures.bytes
+    let empties = mask_at (λ byte. byte ≡ 255) _ c.args.control.now c.sixteen_before-start.result _
+        c.group.ensures.bytes
     c.match_empty.ensures in
     let r = c.lanes_above.ensures in
     let is : c.sixteen_before-start.result ≡ (c.args.b + (n - 16)) % n =
@@ -19,7 +20,8 @@ pub returns-clause-small : goal.returns-clause-small
 returns-clause-small c =
     let circle = c.group.ensures.circle in
     let n = buckets_of c.args.control.now in
-    let empties = mask_at (λ byte. byte ≡ 255) _ c.args.control.now c.sixteen_before-start.result _ c.group.ensures.bytes
+    let empties = mask_at (λ byte. byte ≡ 255) _ c.args.control.now c.sixteen_before-start.result _
+        c.group.ensures.bytes
     c.match_empty.ensures in
     let r = c.lanes_above.ensures in
     let is : c.sixteen_before-start.result ≡ (c.args.b + (n - 16)) % n =
