@@ -96,9 +96,7 @@ fn named(call: &TenantCall<u64, u64>) -> u64 {
 }
 
 // Drawn calls, and what maps of their own answer to them.
-fn draw(
-    alloc: Global,
-) -> Result<(Vec<TenantCall<u64, u64>>, Vec<TenantAnswer<u64>>), AllocError> {
+fn draw(alloc: Global) -> Result<(Vec<TenantCall<u64, u64>>, Vec<TenantAnswer<u64>>), AllocError> {
     let mut maps: Vec<Option<Map>> = Vec::new(alloc);
     for _ in 0..TENANTS {
         maps.push(None)?;
@@ -125,7 +123,10 @@ fn a_thousand_tenants_beside_maps_of_their_own(rt: HostRuntime) -> Result<(), Fa
     assert_eq!(rt; (answers.len(), wanted.len()), (CALLS, CALLS));
     let mut n = 0u64;
     for (given, wanted) in answers.iter().zip(wanted.iter()) {
-        assert!(rt; *given == *wanted, "call {n}: {given:?} in place of {wanted:?}");
+        assert!(rt;
+            *given == *wanted,
+            "call {n}: {given:?} in place of {wanted:?}"
+        );
         n = n.wrapping_add(1);
     }
     Ok(())

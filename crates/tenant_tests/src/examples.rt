@@ -17,9 +17,18 @@ fn of_the_cache(rt: HostRuntime) -> Result<(), Fail> {
 #[test]
 fn of_the_errors(rt: HostRuntime) -> Result<(), Fail> {
     let alloc = rt.alloc();
-    assert_eq!(rt; format!(in alloc; "{}", TenantError::AlreadyOpen)?.as_str(), "already open");
-    assert_eq!(rt; format!(in alloc; "{}", TenantError::NotOpen)?.as_str(), "not open");
-    assert_eq!(rt; format!(in alloc; "{}", TenantError::Memory)?.as_str(), "no memory");
+    assert_eq!(rt;
+        format!(in alloc; "{}", TenantError::AlreadyOpen)?.as_str(),
+        "already open"
+    );
+    assert_eq!(rt;
+        format!(in alloc; "{}", TenantError::NotOpen)?.as_str(),
+        "not open"
+    );
+    assert_eq!(rt;
+        format!(in alloc; "{}", TenantError::Memory)?.as_str(),
+        "no memory"
+    );
     assert_eq!(rt; TenantError::AlreadyOpen as u8, 1);
     assert_eq!(rt; TenantError::NotOpen as u8, 2);
     assert_eq!(rt; TenantError::Memory as u8, 3);
@@ -45,8 +54,11 @@ fn of_keys_that_are_texts(rt: HostRuntime) -> Result<(), Fail> {
 fn of_runs(rt: HostRuntime) -> Result<(), Fail> {
     let alloc = rt.alloc();
     let mut cache: TenantCache<u64, u64> = TenantCache::new(alloc, [1, 2, 3, 4], 16);
-    let calls =
-        vec![in alloc; TenantCall::Open(1, 3), TenantCall::Put(1, 7, 1), TenantCall::Get(2, 7)]?;
+    let calls = vec![in alloc;
+        TenantCall::Open(1, 3),
+        TenantCall::Put(1, 7, 1),
+        TenantCall::Get(2, 7),
+    ]?;
     let answers = run_tenants(alloc, &mut cache, calls)?;
     assert!(rt; answers.get(1) == Some(&TenantAnswer::Put(Ok(true))));
     assert!(rt; answers.get(2) == Some(&TenantAnswer::Got(Err(TenantError::NotOpen))));

@@ -4,11 +4,7 @@ use std::process::Abort;
 use std::test::Fail;
 
 // The value of the tenant's key, for comparison.
-fn got(
-    cache: &mut TenantCache<u64, u64>,
-    name: u64,
-    key: u64,
-) -> Result<Option<u64>, TenantError> {
+fn got(cache: &mut TenantCache<u64, u64>, name: u64, key: u64) -> Result<Option<u64>, TenantError> {
     match cache.get(name, &key) {
         Ok(value) => Ok(value.copied()),
         Err(error) => Err(error),
