@@ -9,7 +9,7 @@ returns-clause-wide c =
     let circle = c.group.ensures.circle in
     let n = buckets_of c.args.control.now in
     let empties = mask_at (λ byte. byte ≡ 255) _ c.args.control.now c.sixteen_before-start.result _
-        c.group.ensures.bytes
+    c.group.ensures.bytes
     c.match_empty.ensures in
     let r = c.lanes_above.ensures in
     let is : c.sixteen_before-start.result ≡ (c.args.b + (n - 16)) % n =
@@ -21,7 +21,7 @@ returns-clause-small c =
     let circle = c.group.ensures.circle in
     let n = buckets_of c.args.control.now in
     let empties = mask_at (λ byte. byte ≡ 255) _ c.args.control.now c.sixteen_before-start.result _
-        c.group.ensures.bytes
+    c.group.ensures.bytes
     c.match_empty.ensures in
     let r = c.lanes_above.ensures in
     let is : c.sixteen_before-start.result ≡ (c.args.b + (n - 16)) % n =
