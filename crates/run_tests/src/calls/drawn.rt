@@ -1,4 +1,5 @@
 //! Long lists of drawn calls of every kind, whose answers are those of a plain list of pairs.
+use super::holding::Holding;
 use super::orders::pairs;
 use lru_replay::{Answer, Call, run_calls};
 use schnellru::{ByLength, Insertion, LruMap, MoveReport, UnlimitedCompact};
@@ -212,19 +213,21 @@ fn agree(given: &Answer<u64, u64>, wanted: &Answer<u64, u64>) -> bool {
     }
 }
 
-/// Calls, and the answers that are wanted to them.
+/// Calls, the answers that are wanted to them, and the pairs that are left.
 #[derive(Drop)]
 struct Drawn<L> {
     calls: Vec<Call<u64, u64, L>>,
     wanted: Vec<Answer<u64, u64>>,
+    left: Vec<(u64, u64)>,
 }
 
 // Draws calls, with the answers of a plain list. The limiter is set to one of these two, each with how many pairs an
-// insertion leaves under it, and is the first at the beginning.
+// insertion leaves under it, and is the first at the beginning. With one limiter, which may not be set, a call that
+// would set it is a look instead.
 fn draw<L: Copy>(
     alloc: Global,
     first: (L, usize),
-    second: (L, usize),
+    second: Option<(L, usize)>,
 ) -> Result<Drawn<L>, AllocError> {
     let mut plain = Plain {
         pairs: Vec::new(alloc),
@@ -234,30 +237,45 @@ fn draw<L: Copy>(
     let mut calls = Vec::new(alloc);
     let mut wanted = Vec::new(alloc);
     for n in 0..CALLS {
-        let (limiter, most) = if n % 2 == 0 { first } else { second };
-        let call = row.call(n as u64, limiter);
+        let (limiter, most) = if n % 2 == 0 {
+            first
+        } else {
+            second.unwrap_or(first)
+        };
+        let mut call = row.call(n as u64, limiter);
         if matches!(&call, Call::SetLimiter(_)) {
             plain.most = most;
+            if second.is_none() {
+                call = Call::List;
+            }
         }
         wanted.push(plain.answer(alloc, &call)?)?;
         calls.push(call)?;
     }
-    Ok(Drawn { calls, wanted })
+    Ok(Drawn {
+        calls,
+        wanted,
+        left: plain.pairs,
+    })
 }
 
-// Compares the answers of a map with those of a plain list.
+// Compares the answers of a map with those of a plain list. It gives the pairs that are left, and the map's limiter.
 fn compare<L: Insertion<u64, u64, u64> + Copy>(
     rt: &(impl Abort + AllocGlobal),
     first: (L, usize),
-    second: (L, usize),
-) -> Result<(), Fail> {
+    second: Option<(L, usize)>,
+) -> Result<(Vec<(u64, u64)>, L), Fail> {
     let alloc = rt.alloc();
-    let Drawn { calls, wanted } = draw(alloc, first, second)?;
+    let Drawn {
+        calls,
+        wanted,
+        left,
+    } = draw(alloc, first, second)?;
     let mut map = LruMap::with_hasher(alloc, first.0, Sum(0), 16);
     let answers = run_calls(alloc, &mut map, calls)?;
     assert_eq!(rt; (answers.len(), wanted.len()), (CALLS, CALLS));
     agree_all(rt, answers.as_slice(), wanted.as_slice());
-    Ok(())
+    Ok((left, *map.limiter()))
 }
 
 // Compares the answers one by one.
@@ -274,11 +292,31 @@ fn agree_all(rt: &impl Abort, answers: &[Answer<u64, u64>], wanted: &[Answer<u64
 
 #[test]
 fn drawn_calls_within_a_length(rt: HostRuntime) -> Result<(), Fail> {
-    compare(&rt, (ByLength::new(20), 20), (ByLength::new(12), 12))
+    compare(&rt, (ByLength::new(20), 20), Some((ByLength::new(12), 12)))?;
+    Ok(())
 }
 
 #[test]
 fn drawn_calls_without_a_limit(rt: HostRuntime) -> Result<(), Fail> {
     let unlimited = (UnlimitedCompact, usize::MAX);
-    compare(&rt, unlimited, unlimited)
+    compare(&rt, unlimited, Some(unlimited))?;
+    Ok(())
+}
+
+#[test]
+fn drawn_calls_under_a_limiter_that_holds_a_model(rt: HostRuntime) -> Result<(), Fail> {
+    let empty = Holding {
+        most: 20,
+        pairs: 0,
+        keys: 0,
+    };
+    let (left, limiter) = compare(&rt, (empty, 20), None)?;
+    let mut held = empty;
+    for (key, _) in left.iter() {
+        held.pairs = held.pairs.saturating_add(1);
+        held.keys = held.keys.saturating_add(*key);
+    }
+    assert!(rt; held.pairs > 0);
+    assert_eq!(rt; limiter, held);
+    Ok(())
 }
