@@ -41,6 +41,7 @@ const SEVEN: [(u64, u64); 7] = [
 #[derive(Clone, Copy)]
 enum Taking {
     Insert,
+    InsertWith,
     GetOrInsert,
     GetOrInsertFallible,
     EnsureNewest,
@@ -49,8 +50,9 @@ enum Taking {
 }
 
 // The calls that insert.
-const INSERTS: [Taking; 5] = [
+const INSERTS: [Taking; 6] = [
     Taking::Insert,
+    Taking::InsertWith,
     Taking::GetOrInsert,
     Taking::GetOrInsertFallible,
     Taking::EnsureNewest,
@@ -65,6 +67,11 @@ fn is_refused<L: Insertion<u64, u64, u64>, S: BuildHasher>(
 ) -> bool {
     match call {
         Taking::Insert => map.insert(key, value).is_err(),
+        Taking::InsertWith => {
+            let mut handed = None;
+            let answer = map.insert_with(key, value, &mut |key, value| handed = Some((key, value)));
+            answer.is_err() && handed == Some((key, value))
+        }
         Taking::GetOrInsert => map.get_or_insert(key, || value).is_err(),
         Taking::GetOrInsertFallible => {
             is_memory(&map.get_or_insert_fallible(key, || Ok(value)).err())

@@ -13,6 +13,7 @@ mod drains;
 mod drops;
 mod examples;
 mod forms;
+mod handed_over;
 mod hashes;
 mod lending;
 mod limits;

@@ -3,6 +3,7 @@ pub mod Outcomes
 pub mod Evictions
 pub mod Promotions
 pub mod Fields
+pub mod NotedStates
 pub mod HeldMaps
 pub mod Reservations
 pub mod ClearedMaps

@@ -7,6 +7,8 @@ pub mod PaidMoves
 pub mod CountedPlacings
 pub mod Fronts
 pub mod InsertAnswers
+pub mod PlainInserts
+pub mod HandedPairs
 pub mod LackOfMemory
 pub mod Exactness
 pub mod GrantedGrowth

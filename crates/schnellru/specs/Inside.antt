@@ -6,3 +6,4 @@ pub mod Steps
 pub mod Rest
 pub mod Searches
 pub mod Copies
+pub mod Handing

@@ -4,6 +4,7 @@ pub mod State
 pub mod Place
 pub mod Calls
 pub mod Inserts
+pub mod HandedOver
 pub mod Reservations
 pub mod Theorems
 pub mod GetOrInserts

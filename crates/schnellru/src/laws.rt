@@ -2,7 +2,7 @@
 //! Each theorem is the contract of a function that does nothing.
 
 ghost use Rattle.std.specs.Prelude.{◌≡◌, ◌≢◌, ℕ, ◌≤◌, ◌<◌, ◌+◌, ◌*◌, ◌/◌, ◌⊎◌, ◌∷◌, Bool, false, Option, Some, None};
-ghost use Rattle.std.specs.Prelude.{IfSome, Result, Ok, true, IsOk, IsErr, is_err, length};
+ghost use Rattle.std.specs.Prelude.{IfSome, Result, Ok, true, IsOk, IsErr, is_err, length, List};
 ghost use Rattle.std.specs.List.{IsDistinct};
 ghost use Rattle.std.specs.declared.alloc.AllocError.{AllocError};
 ghost use Rattle.group_table.specs.Bucket.{deleted};
@@ -15,6 +15,7 @@ ghost use Rattle.schnellru.specs.Place.{Place, Outcome, placed, no_memory, IsPla
 ghost use Rattle.schnellru.specs.Calls.{Get, promoted, Remove, PopOldest, PopNewest, cleared};
 ghost use Rattle.schnellru.specs.Reservations.{Reserve};
 ghost use Rattle.schnellru.specs.declared.map.reserve.ReserveError.{ReserveError};
+ghost use Rattle.schnellru.specs.HandedOver.{InsertHands};
 ghost use Rattle.schnellru.specs.Inserts.{Insert, replacement, LacksMemory};
 ghost use Rattle.schnellru.specs.Exact.{IsDetermined, NeverLacks, EndsExactly, EndsIfLanded, InsertsInList};
 ghost use Rattle.schnellru.specs.Exact.{Landing, EndsAlike, LookAlike, AlwaysGrants, HasTables};
@@ -59,6 +60,26 @@ pub fn inserts_say_whether<
         IsDistinct K.eq (keys_of old.pairs) →
         Insert L.rules L.offers I.names (hash_by K.hash_input S.BuildHasher S.Hasher.Hasher) key value old result new →
         SaysWhether L.rules (I.names key) result new }
+{}
+
+/// What an insert hands over is a list of pairs which, with those that are left, are at most one more than there were.
+/// So a sink that keeps them needs room for one pair more than the map has. It is an insert as any other.
+pub fn inserts_hand_over_few<
+    K: Eq + Hash,
+    V,
+    I: LookupKey<K>,
+    L: Insertion<K, V, I>,
+    S: BuildHasher,
+>()
+    ensures few { (key : I) (value : V) (old : State K V L S) (result : Result Bool AllocError)
+        (handed : List (K × V)) (new : State K V L S) →
+        InsertHands L.rules L.offers I.names (hash_by K.hash_input S.BuildHasher S.Hasher.Hasher) key value old result
+        handed new → length handed + length new.pairs ≤ length old.pairs + 1 }
+    ensures step { (key : I) (value : V) (old : State K V L S) (result : Result Bool AllocError)
+        (handed : List (K × V)) (new : State K V L S) →
+        InsertHands L.rules L.offers I.names (hash_by K.hash_input S.BuildHasher S.Hasher.Hasher) key value old result
+        handed new →
+        Insert L.rules L.offers I.names (hash_by K.hash_input S.BuildHasher S.Hasher.Hasher) key value old result new }
 {}
 
 /// Where an insert answers true, the newest pair is the one that the limiter gave of a new key, or left of the pair

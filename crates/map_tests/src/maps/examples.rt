@@ -67,6 +67,15 @@ fn of_inserts_and_the_limiter(rt: HostRuntime) -> Result<(), Fail> {
 }
 
 #[test]
+fn of_inserts_that_hand_over(rt: HostRuntime) -> Result<(), Fail> {
+    let mut map = three(rt.alloc())?;
+    let mut left = None;
+    map.insert_with(4, 40, &mut |key, value| left = Some((key, value)))?;
+    assert_eq!(rt; left, Some((1, 10)));
+    Ok(())
+}
+
+#[test]
 fn of_look_ups_and_removals(rt: HostRuntime) -> Result<(), Fail> {
     let mut map = three(rt.alloc())?;
     assert_eq!(rt; map.remove(&1), Some(10));

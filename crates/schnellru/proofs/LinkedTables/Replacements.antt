@@ -25,6 +25,13 @@ module _ {K V S : Type 0} (rules : Rules K V S) (by : Replaced K V S) (old new :
     (k : K) (v : V) (key_is : k ≡ by.key) (value_is : v ≡ by.old_value) (s : S) (told : s ≡ by.limiter)
     (result : K × V) (l : S)
     (out : IsTakenOut rules b (with_pair old b (k, v)) new s result l) where
+  pair_is : ◌≡◌ {A = K × V} (k, v) (by.key, by.old_value)
+  pair_is = λ i. (key_is i, value_is i)
+
+  taken_is : out.pair ≡ (k, v)
+  taken_is = same_Some out.pair (k, v)
+      (sym out.there ∙ entry_at-refilled old.slots b (k, v) (full_by_entry (bucket_at old.slots b) was there))
+
   -- a replacement was refused, and the pair taken out
   pub gives_up : IsGivenUp rules by b old new l
   gives_up = record {
@@ -34,13 +41,15 @@ module _ {K V S : Type 0} (rules : Rules K V S) (by : Replaced K V S) (old new :
     room = out.room ∙ ap (λ m. room m + room_at (marks_of new.slots) b) (marks_of-refilled old.slots b (k, v));
     told = out.told ∙ (λ i. (rules.on_removed (told i) ((taken_is ∙ pair_is) i).0 ((taken_is ∙ pair_is) i).1).limiter);
   }
-    where
-      pair_is : ◌≡◌ {A = K × V} (k, v) (by.key, by.old_value)
-      pair_is = λ i. (key_is i, value_is i)
 
-      taken_is : out.pair ≡ (k, v)
-      taken_is = same_Some out.pair (k, v)
-          (sym out.there ∙ entry_at-refilled old.slots b (k, v) (full_by_entry (bucket_at old.slots b) was there))
+  -- and it is as the limiter left it
+  pub left_as_told : let left = rules.on_removed by.limiter by.key by.old_value in
+      ◌≡◌ {A = K × V} result (left.key, left.value)
+  left_as_told =
+      let was_left = rules.on_removed s out.pair.0 out.pair.1 in
+      same_Some result (was_left.key, was_left.value) out.left
+      ∙ (λ i. let left = rules.on_removed (told i) ((taken_is ∙ pair_is) i).0 ((taken_is ∙ pair_is) i).1 in
+      (left.key, left.value))
 
 module _ {K V S H : Type 0} (by : Replaced K V S) (old new : Linked K V) (b : ℕ) (l : S) (first : IsLinked old)
     (next : IsLinked new)

@@ -8,6 +8,8 @@ ghost use Rattle.schnellru.specs.State.{buckets, contents, trim, Leaves};
 ghost use Rattle.schnellru.specs.Place.{Evicts, LacksRoom, outcome_of};
 ghost use Rattle.schnellru.specs.Calls.{PopOldest};
 ghost use Rattle.schnellru.specs.Inserts.{make_way};
+ghost use Rattle.schnellru.specs.HandedOver.{noting, noted};
+ghost use Rattle.schnellru.specs.Inside.Handing.{Hands};
 
 use crate::map::LruMap;
 use crate::map::remove::take_out;
@@ -29,41 +31,58 @@ impl<K: Eq + Hash, V, L: Limiter<K, V>, S: BuildHasher> LruMap<K, V, L, S> {
 }
 
 impl<K: Eq + Hash + Drop, V: Drop, L: Limiter<K, V>, S: BuildHasher> LruMap<K, V, L, S> {
-    // Removes the oldest pair, if the limiter would be over with one more.
+    // Hands over the oldest pair, if the limiter would be over with one more.
     #[inline]
-    pub(super) fn make_way(&mut self)
-        ensures { Leaves self.old (make_way L.rules (contents self.old)) self.new }
+    pub(super) fn make_way<F: FnMut(K, V)>(&mut self, sink: &mut F)
+        requires callable { F.IsAlwaysCallable sink.old }
+        ensures handed { Hands F.FnMut sink.old sink.new (λ before after. Leaves (noted before self.old)
+            (make_way (noting L.rules) (contents (noted before self.old))) (noted after self.new)) }
+        ensures callable { F.IsAlwaysCallable sink.new }
     {
         if !self.is_empty() && self.limiter.is_over_the_limit(self.entries.len() + 1) {
-            self.take_oldest();
+            let (key, value) = self.take_oldest();
+            sink(key, value);
         }
     }
 
-    // Removes the oldest pairs while the limiter is over.
+    // Hands over the oldest pairs while the limiter is over.
     #[inline]
-    pub(super) fn trim(&mut self)
-        ensures { Leaves self.old (trim L.rules (contents self.old)) self.new }
+    pub(super) fn trim<F: FnMut(K, V)>(&mut self, sink: &mut F)
+        requires callable { F.IsAlwaysCallable sink.old }
+        ensures handed { Hands F.FnMut sink.old sink.new (λ before after. Leaves (noted before self.old)
+            (trim (noting L.rules) (contents (noted before self.old))) (noted after self.new)) }
+        ensures callable { F.IsAlwaysCallable sink.new }
     {
         while !self.is_empty() && self.limiter.is_over_the_limit(self.entries.len()) {
-            self.take_oldest();
+            let (key, value) = self.take_oldest();
+            sink(key, value);
         }
     }
 
-    // Places the pair after the oldest left, at least one.
-    pub(super) fn place_evicting(&mut self, hash: u64, mut pair: (K, V)) -> Result<bool, AllocError>
+    // Places the pair after the oldest left, at least one, which are handed over.
+    pub(super) fn place_evicting<F: FnMut(K, V)>(
+        &mut self,
+        hash: u64,
+        mut pair: (K, V),
+        sink: &mut F,
+    ) -> Result<bool, AllocError>
+        requires callable { F.IsAlwaysCallable sink.old }
         requires hash { hash ≡ hash_by K.hash_input S.BuildHasher S.Hasher.Hasher self.old.hasher pair.0 }
         requires absent { lookup_entry (K.eq pair.0) self.old.pairs ≡ None }
         requires lacks_room { LacksRoom self.old }
         requires no_place { HasNoPlace self.old.marks hash }
         requires half { full_capacity (buckets self.old) / 2 < length self.old.pairs + 1 }
-        ensures { Evicts L.rules hash pair self.old self.old (outcome_of result) self.new }
+        ensures handed { Hands F.FnMut sink.old sink.new (λ before after. Evicts (noting L.rules) hash pair
+            (noted before self.old) (noted before self.old) (outcome_of result) (noted after self.new)) }
+        ensures callable { F.IsAlwaysCallable sink.new }
     {
         let buckets = self.entries.buckets();
         let half = full_capacity(buckets) / 2;
         'evictions: loop {
-            self.take_oldest();
+            let (key, value) = self.take_oldest();
+            sink(key, value);
             if self.entries.len() < half {
-                return self.place_after_move(buckets, hash, pair);
+                return self.place_after_move(buckets, hash, pair, sink);
             }
             match self.place_in_bucket(hash, pair) {
                 Ok(()) => return Ok(true),

@@ -118,7 +118,7 @@ impl<K: Eq + Hash + Drop, V: Drop, L: Limiter<K, V>, S: BuildHasher> LruMap<K, V
                 self.entries.promote(b);
                 Ok(true)
             }
-            None => self.insert_new(hash, key, make()),
+            None => self.insert_new(hash, key, make(), &mut |_, _| {}),
         }
     }
 
@@ -232,7 +232,7 @@ impl<K: Eq + Hash + Drop, V: Drop, L: Limiter<K, V>, S: BuildHasher> LruMap<K, V
                     Ok(value) => value,
                     Err(error) => return Err(GetOrInsertError::Caller(error)),
                 };
-                match self.insert_new(hash, key, value) {
+                match self.insert_new(hash, key, value, &mut |_, _| {}) {
                     Ok(kept) => Ok(kept),
                     Err(_refused) => Err(GetOrInsertError::Memory),
                 }

@@ -1,11 +1,13 @@
-//! `insert`.
-ghost use Rattle.std.specs.Prelude.{◌≡◌, ◌⊎◌, ℕ, ◌+◌, true, false, not, length, None, Some, IfSome, Ok, OnErr};
+//! `insert` and `insert_with`.
+ghost use Rattle.std.specs.Prelude.{◌≡◌, ◌⊎◌, ℕ, ◌+◌, true, false, not, length, None, Some, IfSome, Ok, OnErr, List};
 ghost use Rattle.std.specs.Prelude.{if◌then◌else◌};
 ghost use Rattle.lru_limits.specs.Hashing.{hash_by};
 ghost use Rattle.schnellru.specs.Lists.{first, lookup_entry, is_empty, IsFront};
 ghost use Rattle.schnellru.specs.State.{contents, trim, Leaves, IsMap};
 ghost use Rattle.schnellru.specs.Inserts.{Insert, PlacesNew, LacksMemory, make_way};
 ghost use Rattle.schnellru.specs.Theorems.{SaysWhether, Stores};
+ghost use Rattle.schnellru.specs.HandedOver.{noting, noting_offers, noted, Takes, InsertHands};
+ghost use Rattle.schnellru.specs.Inside.Handing.{Hands};
 
 use crate::map::LruMap;
 use crate::map::replace::replace;
@@ -56,8 +58,55 @@ impl<K: Eq + Hash + Drop, V: Drop, L: Limiter<K, V>, S: BuildHasher> LruMap<K, V
         ensures keeps { OnErr result (IsFront self.new.pairs self.old.pairs) }
         ensures map { IsMap K.eq self.new }
     {
+        self.insert_with(key, value, &mut |_, _| {})
+    }
+
+    /// The same as `insert`, and each pair of which the limiter is told that it left is handed to the sink, as the
+    /// limiter leaves it.
+    ///
+    /// These are the pairs that are evicted, oldest first, the pair whose replacement is refused, and the new pair
+    /// where it finds no place, also where the answer is an `Err`. Each is handed over once, before the limiter is
+    /// asked or told anything more. A value that is replaced is not handed over, nor is an element of which the limiter
+    /// gives no pair.
+    ///
+    /// ```
+    /// let mut left = None;
+    /// map.insert_with(4, 40, &mut |key, value| left = Some((key, value)))?;
+    /// assert_eq!(rt; left, Some((1, 10)));
+    /// ```
+    ///
+    /// Cost: that of `insert`, with one call of the sink for each pair that is handed over.
+    ///
+    /// # Errors
+    ///
+    /// `Err` comes as it comes from `insert`. The new pair was handed over then, unless `on_insert` found no memory.
+    #[inline(always)]
+    pub fn insert_with<I: LookupKey<K>, F: FnMut(K, V)>(
+        &mut self,
+        key: I,
+        value: V,
+        sink: &mut F,
+    ) -> Result<bool, AllocError>
+    where
+        L: Insertion<K, V, I>,
+        requires callable { F.IsAlwaysCallable sink.old }
+        ensures step { Insert L.rules L.offers I.names
+            (hash_by K.hash_input S.BuildHasher S.Hasher.Hasher) key value self.old result self.new }
+        ensures handed { (handed : List (K × V)) × Takes F.FnMut sink.old handed sink.new
+            × InsertHands L.rules L.offers I.names (hash_by K.hash_input S.BuildHasher S.Hasher.Hasher) key value
+            self.old result handed self.new }
+        ensures callable { F.IsAlwaysCallable sink.new }
+        ensures says { SaysWhether L.rules (I.names key) result self.new }
+        ensures stores { result ≡ Ok true
+            → IfSome (first self.new.pairs) (Stores L.rules L.offers I.names key value self.old) }
+        ensures lacks { OnErr result
+            (LacksMemory L.rules L.offers I.names
+            (hash_by K.hash_input S.BuildHasher S.Hasher.Hasher) key value self.old self.new) }
+        ensures keeps { OnErr result (IsFront self.new.pairs self.old.pairs) }
+        ensures map { IsMap K.eq self.new }
+    {
         let hash = self.hasher.hash_one(&key);
-        let answer = self.insert_hashed(hash, key, value);
+        let answer = self.insert_hashed(hash, key, value, sink);
         // Nothing at run time: it opens the map, whose invariant is the clause `map`.
         let _ = &self.entries;
         answer
@@ -65,65 +114,82 @@ impl<K: Eq + Hash + Drop, V: Drop, L: Limiter<K, V>, S: BuildHasher> LruMap<K, V
 
     // Inserts under a key that has this hash.
     #[inline(always)]
-    fn insert_hashed<I: LookupKey<K>>(
+    fn insert_hashed<I: LookupKey<K>, F: FnMut(K, V)>(
         &mut self,
         hash: u64,
         key: I,
         value: V,
+        sink: &mut F,
     ) -> Result<bool, AllocError>
     where
         L: Insertion<K, V, I>,
+        requires callable { F.IsAlwaysCallable sink.old }
         requires hash { hash ≡ hash_by I.hash_input S.BuildHasher S.Hasher.Hasher self.old.hasher key }
-        ensures { Insert L.rules L.offers I.names
-            (hash_by K.hash_input S.BuildHasher S.Hasher.Hasher) key value self.old result self.new }
+        ensures handed { Hands F.FnMut sink.old sink.new (λ before after. Insert (noting L.rules)
+            (noting_offers L.offers) I.names (hash_by K.hash_input S.BuildHasher S.Hasher.Hasher) key value
+            (noted before self.old) result (noted after self.new)) }
+        ensures callable { F.IsAlwaysCallable sink.new }
     {
         match self.entries.find(hash, &key) {
             Some(b) => {
-                if !replace(&mut self.entries, &mut self.limiter, b, key, value) {
+                if !replace(&mut self.entries, &mut self.limiter, b, key, value, sink) {
                     return Ok(false);
                 }
-                self.trim();
+                self.trim(sink);
                 Ok(!self.is_empty())
             }
-            None => self.insert_new(hash, key, value),
+            None => self.insert_new(hash, key, value, sink),
         }
     }
 
     // Inserts under a key that is not there.
     #[inline(never)]
-    pub(crate) fn insert_new<I: LookupKey<K>>(
+    pub(crate) fn insert_new<I: LookupKey<K>, F: FnMut(K, V)>(
         &mut self,
         hash: u64,
         key: I,
         value: V,
+        sink: &mut F,
     ) -> Result<bool, AllocError>
     where
         L: Insertion<K, V, I>,
+        requires callable { F.IsAlwaysCallable sink.old }
         requires hash { hash ≡ hash_by I.hash_input S.BuildHasher S.Hasher.Hasher self.old.hasher key }
         requires absent { lookup_entry (I.names key) self.old.pairs ≡ None }
-        ensures { Insert L.rules L.offers I.names
-            (hash_by K.hash_input S.BuildHasher S.Hasher.Hasher) key value self.old result self.new }
+        ensures handed { Hands F.FnMut sink.old sink.new (λ before after. Insert (noting L.rules)
+            (noting_offers L.offers) I.names (hash_by K.hash_input S.BuildHasher S.Hasher.Hasher) key value
+            (noted before self.old) result (noted after self.new)) }
+        ensures callable { F.IsAlwaysCallable sink.new }
     {
         match self
             .limiter
             .on_insert(self.alloc, self.entries.len(), key, value)?
         {
-            Some(pair) => self.place_new(hash, pair),
+            Some(pair) => self.place_new(hash, pair, sink),
             None => Ok(false),
         }
     }
 
     // Places a pair that the limiter gave, whose key is new, after it made way and before it trims.
-    fn place_new(&mut self, hash: u64, pair: (K, V)) -> Result<bool, AllocError>
+    fn place_new<F: FnMut(K, V)>(
+        &mut self,
+        hash: u64,
+        pair: (K, V),
+        sink: &mut F,
+    ) -> Result<bool, AllocError>
+        requires callable { F.IsAlwaysCallable sink.old }
         requires hash { hash ≡ hash_by K.hash_input S.BuildHasher S.Hasher.Hasher self.old.hasher pair.0 }
         requires absent { lookup_entry (K.eq pair.0) self.old.pairs ≡ None }
-        ensures { PlacesNew L.rules (hash_by K.hash_input S.BuildHasher S.Hasher.Hasher) pair self.old result self.new }
+        ensures handed { Hands F.FnMut sink.old sink.new (λ before after. PlacesNew (noting L.rules)
+            (hash_by K.hash_input S.BuildHasher S.Hasher.Hasher) pair (noted before self.old) result
+            (noted after self.new)) }
+        ensures callable { F.IsAlwaysCallable sink.new }
     {
-        self.make_way();
-        if !self.place(hash, pair)? {
+        self.make_way(sink);
+        if !self.place(hash, pair, sink)? {
             return Ok(false);
         }
-        self.trim();
+        self.trim(sink);
         Ok(!self.is_empty())
     }
 }

@@ -10,6 +10,8 @@ ghost use Rattle.schnellru.specs.Sizes.{usage};
 ghost use Rattle.schnellru.specs.State.{buckets, room, FirstFreeIs};
 ghost use Rattle.schnellru.specs.Place.{Place, IsPlaced, IsPlacedIfMemory, FillsBucket, LacksRoom, outcome_of};
 ghost use Rattle.schnellru.specs.Place.{turned_away};
+ghost use Rattle.schnellru.specs.HandedOver.{noting, noted};
+ghost use Rattle.schnellru.specs.Inside.Handing.{Hands};
 
 use crate::map::LruMap;
 use crate::map::remove::tell;
@@ -22,18 +24,26 @@ use std::hash::{BuildHasher, Hash};
 impl<K: Eq + Hash + Drop, V: Drop, L: Limiter<K, V>, S: BuildHasher> LruMap<K, V, L, S> {
     // Places a pair whose key is new and has this hash, as the newest. The answer is whether it is placed.
     #[inline]
-    pub(crate) fn place(&mut self, hash: u64, pair: (K, V)) -> Result<bool, AllocError>
+    pub(crate) fn place<F: FnMut(K, V)>(
+        &mut self,
+        hash: u64,
+        pair: (K, V),
+        sink: &mut F,
+    ) -> Result<bool, AllocError>
+        requires callable { F.IsAlwaysCallable sink.old }
         requires hash { hash ≡ hash_by K.hash_input S.BuildHasher S.Hasher.Hasher self.old.hasher pair.0 }
         requires absent { lookup_entry (K.eq pair.0) self.old.pairs ≡ None }
-        ensures { Place L.rules (hash_by K.hash_input S.BuildHasher S.Hasher.Hasher) pair self.old
-            (outcome_of result) self.new }
+        ensures handed { Hands F.FnMut sink.old sink.new (λ before after. Place (noting L.rules)
+            (hash_by K.hash_input S.BuildHasher S.Hasher.Hasher) pair (noted before self.old) (outcome_of result)
+            (noted after self.new)) }
+        ensures callable { F.IsAlwaysCallable sink.new }
     {
         if self.entries.room() == 0 && self.entries.len() == 0 {
-            return self.place_without_room(hash, pair);
+            return self.place_without_room(hash, pair, sink);
         }
         match self.place_in_bucket(hash, pair) {
             Ok(()) => Ok(true),
-            Err(pair) => self.place_without_room(hash, pair),
+            Err(pair) => self.place_without_room(hash, pair, sink),
         }
     }
 
@@ -58,80 +68,106 @@ impl<K: Eq + Hash + Drop, V: Drop, L: Limiter<K, V>, S: BuildHasher> LruMap<K, V
     // Places a pair that no bucket took, or the first pair of a table without room. Under a limit on memory each new
     // pair may come here.
     #[inline(never)]
-    fn place_without_room(&mut self, hash: u64, pair: (K, V)) -> Result<bool, AllocError>
+    fn place_without_room<F: FnMut(K, V)>(
+        &mut self,
+        hash: u64,
+        pair: (K, V),
+        sink: &mut F,
+    ) -> Result<bool, AllocError>
+        requires callable { F.IsAlwaysCallable sink.old }
         requires hash { hash ≡ hash_by K.hash_input S.BuildHasher S.Hasher.Hasher self.old.hasher pair.0 }
         requires absent { lookup_entry (K.eq pair.0) self.old.pairs ≡ None }
         requires no_room { room self.old ≡ 0 }
         requires empty { 0 < length self.old.pairs → FirstFreeIs empty hash self.old }
-        ensures { Place L.rules (hash_by K.hash_input S.BuildHasher S.Hasher.Hasher) pair self.old
-            (outcome_of result) self.new }
+        ensures handed { Hands F.FnMut sink.old sink.new (λ before after. Place (noting L.rules)
+            (hash_by K.hash_input S.BuildHasher S.Hasher.Hasher) pair (noted before self.old) (outcome_of result)
+            (noted after self.new)) }
+        ensures callable { F.IsAlwaysCallable sink.new }
     {
         let buckets = self.entries.buckets();
         let len = self.entries.len();
         if buckets == 0 {
-            self.place_first(hash, pair)
+            self.place_first(hash, pair, sink)
         } else if len < full_capacity(buckets) / 2 {
-            self.place_after_move(buckets, hash, pair)
+            self.place_after_move(buckets, hash, pair, sink)
         } else {
-            self.place_in_larger(hash, pair)
+            self.place_in_larger(hash, pair, sink)
         }
     }
 
     // Places the first pair of a map without buckets.
     #[cold]
-    fn place_first(&mut self, hash: u64, pair: (K, V)) -> Result<bool, AllocError>
+    fn place_first<F: FnMut(K, V)>(
+        &mut self,
+        hash: u64,
+        pair: (K, V),
+        sink: &mut F,
+    ) -> Result<bool, AllocError>
+        requires callable { F.IsAlwaysCallable sink.old }
         requires hash { hash ≡ hash_by K.hash_input S.BuildHasher S.Hasher.Hasher self.old.hasher pair.0 }
         requires none { buckets self.old ≡ 0 }
-        ensures { Place L.rules (hash_by K.hash_input S.BuildHasher S.Hasher.Hasher) pair self.old
-            (outcome_of result) self.new }
+        ensures handed { Hands F.FnMut sink.old sink.new (λ before after. Place (noting L.rules)
+            (hash_by K.hash_input S.BuildHasher S.Hasher.Hasher) pair (noted before self.old) (outcome_of result)
+            (noted after self.new)) }
+        ensures callable { F.IsAlwaysCallable sink.new }
     {
         match usage(self.entry_bytes, 4) {
             Some(bytes) => {
                 if self.limiter.on_grow(bytes) {
-                    self.place_after_move(4, hash, pair)
+                    self.place_after_move(4, hash, pair, sink)
                 } else {
-                    self.turn_away(pair);
+                    self.turn_away(pair, sink);
                     Ok(false)
                 }
             }
             None => {
-                self.turn_away(pair);
+                self.turn_away(pair, sink);
                 Ok(false)
             }
         }
     }
 
     // Places a pair for which the table has to grow, or the oldest to leave.
-    fn place_in_larger(&mut self, hash: u64, pair: (K, V)) -> Result<bool, AllocError>
+    fn place_in_larger<F: FnMut(K, V)>(
+        &mut self,
+        hash: u64,
+        pair: (K, V),
+        sink: &mut F,
+    ) -> Result<bool, AllocError>
+        requires callable { F.IsAlwaysCallable sink.old }
         requires hash { hash ≡ hash_by K.hash_input S.BuildHasher S.Hasher.Hasher self.old.hasher pair.0 }
         requires absent { lookup_entry (K.eq pair.0) self.old.pairs ≡ None }
         requires lacks_room { LacksRoom self.old }
         requires empty { FirstFreeIs empty hash self.old }
         requires half { full_capacity (buckets self.old) / 2 < length self.old.pairs + 1 }
-        ensures { Place L.rules (hash_by K.hash_input S.BuildHasher S.Hasher.Hasher) pair self.old
-            (outcome_of result) self.new }
+        ensures handed { Hands F.FnMut sink.old sink.new (λ before after. Place (noting L.rules)
+            (hash_by K.hash_input S.BuildHasher S.Hasher.Hasher) pair (noted before self.old) (outcome_of result)
+            (noted after self.new)) }
+        ensures callable { F.IsAlwaysCallable sink.new }
     {
         match self.larger_table(1) {
             Some((count, bytes)) => {
                 if self.limiter.on_grow(bytes) {
-                    self.place_after_move(count, hash, pair)
+                    self.place_after_move(count, hash, pair, sink)
                 } else {
-                    self.place_evicting(hash, pair)
+                    self.place_evicting(hash, pair, sink)
                 }
             }
-            None => self.place_evicting(hash, pair),
+            None => self.place_evicting(hash, pair, sink),
         }
     }
 
     // Places the pair in a table of so many buckets, to which all pairs move, which is counted. Among as many buckets
     // as now that needs no memory without pairs.
     #[cold]
-    pub(super) fn place_after_move(
+    pub(super) fn place_after_move<F: FnMut(K, V)>(
         &mut self,
         count: usize,
         hash: u64,
         pair: (K, V),
+        sink: &mut F,
     ) -> Result<bool, AllocError>
+        requires callable { F.IsAlwaysCallable sink.old }
         requires hash { hash ≡ hash_by K.hash_input S.BuildHasher S.Hasher.Hasher self.old.hasher pair.0 }
         requires absent { lookup_entry (K.eq pair.0) self.old.pairs ≡ None }
         requires count { IsPowerFromFour count }
@@ -139,9 +175,11 @@ impl<K: Eq + Hash + Drop, V: Drop, L: Limiter<K, V>, S: BuildHasher> LruMap<K, V
         requires usable { (bytes : ℕ) × (usage self.old.entry_bytes count ≡ Some bytes) }
         requires half { 2 * length self.old.pairs ≤ full_capacity count }
         requires paid { self.old.moved + length self.old.pairs ≤ 2 * self.old.placed }
-        ensures placed { IsPlacedIfMemory L.rules pair count (full_capacity count - length self.old.pairs - 1)
-            (length self.old.pairs) self.old (outcome_of result) self.new }
+        ensures handed { Hands F.FnMut sink.old sink.new (λ before after. IsPlacedIfMemory (noting L.rules) pair count
+            (full_capacity count - length self.old.pairs - 1) (length self.old.pairs) (noted before self.old)
+            (outcome_of result) (noted after self.new)) }
         ensures succeeds { self.old.pairs ≡ [] → count ≡ buckets self.old → IsOk result }
+        ensures callable { F.IsAlwaysCallable sink.new }
     {
         match self.move_to(count) {
             Ok(()) => {
@@ -150,7 +188,7 @@ impl<K: Eq + Hash + Drop, V: Drop, L: Limiter<K, V>, S: BuildHasher> LruMap<K, V
                 Ok(true)
             }
             Err(error) => {
-                self.turn_away(pair);
+                self.turn_away(pair, sink);
                 Err(error)
             }
         }
@@ -170,10 +208,14 @@ impl<K: Eq + Hash + Drop, V: Drop, L: Limiter<K, V>, S: BuildHasher> LruMap<K, V
         }
     }
 
-    // Tells the limiter of a pair that was not placed.
-    fn turn_away(&mut self, pair: (K, V))
-        ensures { self.new ≡ turned_away L.rules pair self.old }
+    // Tells the limiter of a pair that was not placed, and hands over what it left of the pair.
+    fn turn_away<F: FnMut(K, V)>(&mut self, pair: (K, V), sink: &mut F)
+        requires callable { F.IsAlwaysCallable sink.old }
+        ensures handed { Hands F.FnMut sink.old sink.new (λ before after. noted after self.new ≡ turned_away
+            (noting L.rules) pair (noted before self.old)) }
+        ensures callable { F.IsAlwaysCallable sink.new }
     {
-        tell(&mut self.limiter, pair);
+        let (key, value) = tell(&mut self.limiter, pair);
+        sink(key, value);
     }
 }

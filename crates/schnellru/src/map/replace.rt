@@ -3,6 +3,7 @@ ghost use Rattle.std.specs.Prelude.{◌≡◌, ℕ, true, false, length, Some, I
 ghost use Rattle.group_table.specs.Bucket.{entry_at};
 ghost use Rattle.schnellru.specs.Inside.Linked.{IsLinked, KeysFit};
 ghost use Rattle.schnellru.specs.Inside.Steps.{IsReplaced, IsGivenUp};
+ghost use Rattle.schnellru.specs.Inside.Handing.{HandsGivenUp};
 
 use crate::link::Linked;
 use crate::map::remove::take_out;
@@ -10,14 +11,22 @@ use lru_limits::{Insertion, Limiter, LookupKey};
 use std::hash::Hash;
 
 // Has the limiter replace the value in a bucket: it takes the new one, and the pair is the newest then, or the pair
-// leaves. The answer is whether it took it.
-pub(super) fn replace<K: Eq + Hash + Drop, V: Drop, I: LookupKey<K>, L: Insertion<K, V, I>>(
+// leaves and is handed over. The answer is whether it took it.
+pub(super) fn replace<
+    K: Eq + Hash + Drop,
+    V: Drop,
+    I: LookupKey<K>,
+    L: Insertion<K, V, I>,
+    F: FnMut(K, V),
+>(
     entries: &mut Linked<K, V, L::LinkType>,
     limiter: &mut L,
     b: usize,
     key: I,
     mut value: V,
+    sink: &mut F,
 ) -> bool
+    requires callable { F.IsAlwaysCallable sink.old }
     requires there { (pair : K × V) × (entry_at entries.old.slots b ≡ Some pair) × IsTrue (I.names key pair.0) }
     ensures taken { (pair : K × V) → entry_at entries.old.slots b ≡ Some pair →
         result ≡ (L.offers.on_replace limiter.old (length entries.old.order) pair.0 key pair.1 value).taken }
@@ -27,6 +36,11 @@ pub(super) fn replace<K: Eq + Hash + Drop, V: Drop, I: LookupKey<K>, L: Insertio
     ensures given_up { result ≡ false → (pair : K × V) → entry_at entries.old.slots b ≡ Some pair →
         IsGivenUp L.rules (L.offers.on_replace limiter.old (length entries.old.order) pair.0 key pair.1 value) b
         entries.old entries.new limiter.new }
+    ensures kept { result ≡ true → sink.new ≡ sink.old }
+    ensures handed { result ≡ false → (pair : K × V) → entry_at entries.old.slots b ≡ Some pair →
+        HandsGivenUp F.FnMut L.rules (L.offers.on_replace limiter.old (length entries.old.order) pair.0 key pair.1 value)
+        sink.old sink.new }
+    ensures callable { F.IsAlwaysCallable sink.new }
     ensures linked { IsLinked entries.new }
     ensures fits { (hash_of : K → ℕ) → ((x y : K) → IsTrue (K.eq x y) → hash_of x ≡ hash_of y) →
         KeysFit hash_of entries.old.slots → KeysFit hash_of entries.new.slots }
@@ -38,7 +52,8 @@ pub(super) fn replace<K: Eq + Hash + Drop, V: Drop, I: LookupKey<K>, L: Insertio
         pair.value = value;
         entries.promote(b);
     } else {
-        take_out(entries, limiter, b);
+        let (key, value) = take_out(entries, limiter, b);
+        sink(key, value);
     }
     taken
 }

@@ -1,4 +1,4 @@
-use Rattle.std.proofs.Common.{◌≡◌, ℕ, true, false, not, Ok, length, refl, ap, sym, ◌∙◌, subst}
+use Rattle.std.proofs.Common.{◌≡◌, ℕ, true, false, not, Ok, [], ◌∷◌, ◌++◌, length, refl, ap, sym, ◌∙◌, subst}
 use Rattle.std.specs.Prelude.{fold}
 use Rattle.lru_limits.specs.Hashing.{hash_by, hash_by-named}
 use Rattle.schnellru.proofs.Maps.Fields.{beside}
@@ -10,6 +10,9 @@ use Rattle.schnellru.specs.Inside.Linked.{pairs_of}
 use Rattle.schnellru.specs.Inside.Holds.{state_of}
 use Rattle.schnellru.specs.Inside.Steps.{IsReplaced, IsGivenUp}
 use Rattle.schnellru.specs.Inserts.{replaced, given_up}
+use Rattle.schnellru.specs.HandedOver.{noting, noted, Takes}
+use Rattle.schnellru.specs.Inside.Handing.{HandsGivenUp}
+use Rattle.schnellru.proofs.Maps.NotedStates.{takes_more, noted_by, noted_replaced, noted_given_up}
 use Rattle.schnellru.proofs.map.LruMap.insert_hashed.Goals as goal
 
 pub insert_new-requires-clause-absent : goal.insert_new-requires-clause-absent
@@ -65,28 +68,38 @@ invariant_of-self-in-Some g c =
     (one was.0 by.key found.2 ∙ g.met.L.Insertion.laws.keeps_key m.limiter
     (length t.order) was.0 c.args.key was.1 c.args.value found.2) holds fits
 
-pub returns-then-not-replace : goal.returns-then-not-replace
-returns-then-not-replace g c =
+pub returns-then-not-replace-clause-handed : goal.returns-then-not-replace-clause-handed
+returns-then-not-replace-clause-handed g c =
     let m = c.self.inside in
-    let rest = beside m.limiter m.hasher m.moved m.placed m.entry_bytes
-    (g.L.LinkType.LinkType.number g.L.LinkType.LinkType.MAX) in
     let t = m.entries in let u = c.replace.new.entries in let l = c.replace.new.limiter in
     let holds = c.self.invariant in
     let b = c.in-Some.b in let found = c.in-Some.ensures.found in let was = found.0 in
     let names = g.I.LookupKey.names c.args.key in let one = g.met.I.LookupKey.laws.one c.args.key in
     let rules = g.L.Limiter.rules in let same = sym (pairs-length t holds.linked) in
     let by = λ (n : ℕ). g.L.Insertion.offers.on_replace m.limiter n was.0 c.args.key was.1 c.args.value in
-    rw (← c.self.view_is)
-    (given_up was (pair_found t holds.linked b was found.1 names g.met.K.Eq.laws one holds.map.distinct found.2)
-    (subst (λ n. (by n).taken ≡ false) same (sym (c.replace.ensures.taken was found.1) ∙ c.if-not-replace.true)) refl
-    (given_up_leaves (by (length (pairs_of t))) t u b l holds.linked c.replace.ensures.linked was found.1 names
-    g.met.K.Eq.laws one holds.map.distinct found.2
-    rest
-    rules (subst (λ n. IsGivenUp rules (by n) b t u l) same
-    (c.replace.ensures.given_up c.if-not-replace.true was found.1))))
+    let replacement = by (length (pairs_of t)) in
+    let told = rules.on_removed replacement.limiter replacement.key replacement.old_value in
+    let called = subst (λ n. HandsGivenUp g.F.FnMut rules (by n) c.args.sink.now c.replace.new.sink) same
+    (c.replace.ensures.handed c.if-not-replace.true was found.1) in
+    let given = subst (λ n. IsGivenUp rules (by n) b t u l) same
+    (c.replace.ensures.given_up c.if-not-replace.true was found.1) in
+    let untaken = subst (λ n. (by n).taken ≡ false) same (sym (c.replace.ensures.taken was found.1)
+    ∙ c.if-not-replace.true) in
+    let there = pair_found t holds.linked b was found.1 names g.met.K.Eq.laws one holds.map.distinct found.2 in
+    λ first before taken.
+    let after = before ++ (told.key, told.value) ∷ [] in (
+      after,
+      takes_more g.F.FnMut first before c.args.sink.now (told.key, told.value) c.replace.new.sink taken called,
+      rw (← c.self.view_is) (given_up was there untaken refl
+          (given_up_leaves (noted_by before replacement b t u l) t u b (l, after) holds.linked c.replace.ensures.linked
+          was found.1 names g.met.K.Eq.laws one holds.map.distinct found.2
+          (beside (m.limiter, before) m.hasher m.moved m.placed m.entry_bytes
+          (g.L.LinkType.LinkType.number g.L.LinkType.LinkType.MAX))
+          (noting rules) (noted_given_up before replacement b t u l rules given))),
+    )
 
-pub returns-else-not-replace : goal.returns-else-not-replace
-returns-else-not-replace g c =
+pub returns-else-not-replace-clause-handed : goal.returns-else-not-replace-clause-handed
+returns-else-not-replace-clause-handed g c =
     let m = c.self.inside in
     let rest = beside m.limiter m.hasher m.moved m.placed m.entry_bytes
     (g.L.LinkType.LinkType.number g.L.LinkType.LinkType.MAX) in
@@ -95,15 +108,24 @@ returns-else-not-replace g c =
     let b = c.in-Some.b in let found = c.in-Some.ensures.found in let was = found.0 in
     let names = g.I.LookupKey.names c.args.key in let one = g.met.I.LookupKey.laws.one c.args.key in
     let rules = g.L.Limiter.rules in let same = sym (pairs-length t holds.linked) in
-    let max = g.L.LinkType.LinkType.number g.L.LinkType.LinkType.MAX in
     let by = λ (n : ℕ). g.L.Insertion.offers.on_replace m.limiter n was.0 c.args.key was.1 c.args.value in
+    let replacement = by (length (pairs_of t)) in
     let old = state_of t rest in let mid = state_of u (record rest { limiter = l }) in
-    let leaves = replaced_leaves (by (length (pairs_of t))) t u b l holds.linked c.replace.ensures.linked was found.1
-    names g.met.K.Eq.laws one holds.map.distinct found.2
-    rest
-    (subst (λ n. IsReplaced (by n) b t u l) same (c.replace.ensures.replaced c.if-not-replace.false was found.1)) in
-    rw (← c.self.view_is)
-    (replaced was (pair_found t holds.linked b was found.1 names g.met.K.Eq.laws one holds.map.distinct found.2)
-    (subst (λ n. (by n).taken ≡ true) same (sym (c.replace.ensures.taken was found.1) ∙ c.if-not-replace.false))
-    (ap (λ y. Ok (not y)) c.is_empty.ensures)
-    (leaves_trimmed rules old mid c.trim.new.self _ leaves c.trim.ensures))
+    let is = subst (λ n. IsReplaced (by n) b t u l) same (c.replace.ensures.replaced c.if-not-replace.false was found.1)
+    in
+    let taken_it = subst (λ n. (by n).taken ≡ true) same (sym (c.replace.ensures.taken was found.1)
+    ∙ c.if-not-replace.false) in
+    let there = pair_found t holds.linked b was found.1 names g.met.K.Eq.laws one holds.map.distinct found.2 in
+    λ first before taken.
+    let leaves = replaced_leaves (noted_by before replacement b t u l) t u b (l, before) holds.linked
+    c.replace.ensures.linked was found.1 names g.met.K.Eq.laws one holds.map.distinct found.2
+    (beside (m.limiter, before) m.hasher m.moved m.placed m.entry_bytes
+    (g.L.LinkType.LinkType.number g.L.LinkType.LinkType.MAX)) (noted_replaced before replacement b t u l is) in
+    let (after, had, trimmed) = c.trim.ensures.handed first before
+    (subst (λ s. Takes g.F.FnMut first before s) (sym (c.replace.ensures.kept c.if-not-replace.false)) taken) in (
+      after,
+      had,
+      rw (← c.self.view_is) (replaced was there taken_it (ap (λ y. Ok (not y)) c.is_empty.ensures)
+          (leaves_trimmed (noting rules) (noted before old) (noted before mid) (noted after c.trim.new.self) _ leaves
+          trimmed)),
+    )

@@ -3,21 +3,27 @@ use Rattle.lru_limits.specs.Hashing.{hash_by-named}
 use Rattle.schnellru.specs.Inside.Linked.{pairs_of}
 use Rattle.schnellru.specs.Inside.Holds.{state_of}
 use Rattle.schnellru.specs.Inserts.{no_memory_to_admit, not_admitted, admitted}
+use Rattle.schnellru.specs.HandedOver.{noted}
 use Rattle.schnellru.proofs.Maps.Fields.{beside}
 use Rattle.schnellru.proofs.LinkedTables.BucketPairs.{pairs-length}
 use Rattle.schnellru.proofs.LinkedTables.Searches.{lookup_alike}
 use Rattle.schnellru.proofs.map.LruMap.insert_new.Goals as goal
 
-pub returns-in_err-pair : goal.returns-in_err-pair
-returns-in_err-pair g c =
+pub returns-in_err-pair-clause-handed : goal.returns-in_err-pair-clause-handed
+returns-in_err-pair-clause-handed g c =
     let m = c.self.inside in
     let rest = beside m.limiter m.hasher m.moved m.placed m.entry_bytes
     (g.L.LinkType.LinkType.number g.L.LinkType.LinkType.MAX) in
     let len = c.len.ensures.len ∙ sym (pairs-length m.entries c.self.invariant.linked) in
-    rw (← c.self.view_is) (no_memory_to_admit (rw (← c.self.view_is) at c.requires.absent)
-    (subst (λ n. g.L.Insertion.offers.may_lack m.limiter n c.args.key c.args.value) len c.in_err-pair.ensures.lacks)
-    c.from_residual.ensures.0
-    (ap (λ l. state_of m.entries (record rest { limiter = l })) c.in_err-pair.ensures.unchanged))
+    let absent = rw (← c.self.view_is) at c.requires.absent in
+    let lacks = subst (λ n. g.L.Insertion.offers.may_lack m.limiter n c.args.key c.args.value) len
+    c.in_err-pair.ensures.lacks in
+    λ first before taken. (
+      before,
+      taken,
+      rw (← c.self.view_is) (no_memory_to_admit absent lacks c.from_residual.ensures.0
+          (ap (λ l. noted before (state_of m.entries (record rest { limiter = l }))) c.in_err-pair.ensures.unchanged)),
+    )
 
 pub place_new-requires-clause-hash : goal.place_new-requires-clause-hash
 place_new-requires-clause-hash g c =
@@ -40,19 +46,27 @@ place_new-requires-clause-absent g c =
     (λ k. g.met.I.LookupKey.laws.one c.args.key pair.0 k named) (pairs_of m.entries))
     ∙ (rw (← c.self.view_is) at c.requires.absent)
 
-pub returns-in-Some : goal.returns-in-Some
-returns-in-Some g c =
+pub returns-in-Some-clause-handed : goal.returns-in-Some-clause-handed
+returns-in-Some-clause-handed g c =
     let m = c.self.inside in let len = c.len.ensures.len ∙ sym (pairs-length m.entries c.self.invariant.linked) in
-    let step = c.place_new.ensures in
-    rw (← c.self.view_is) (admitted (rw (← c.self.view_is) at c.requires.absent) c.on_insert.new.self c.in-Some.pair
-    (subst (λ n. g.L.Insertion.offers.on_insert m.limiter n c.args.key c.args.value c.on_insert.new.self
-    (Some c.in-Some.pair)) len (rw c.in-Some.is at c.in_ok-pair.ensures.offered))
-    step)
+    let absent = rw (← c.self.view_is) at c.requires.absent in
+    let given = subst (λ n. g.L.Insertion.offers.on_insert m.limiter n c.args.key c.args.value c.on_insert.new.self
+    (Some c.in-Some.pair)) len (rw c.in-Some.is at c.in_ok-pair.ensures.offered) in
+    λ first before taken.
+    let (after, had, step) = c.place_new.ensures.handed first before taken in (
+      after,
+      had,
+      rw (← c.self.view_is) (admitted absent (c.on_insert.new.self, before) c.in-Some.pair (given, refl) step),
+    )
 
-pub returns-in-None : goal.returns-in-None
-returns-in-None g c =
+pub returns-in-None-clause-handed : goal.returns-in-None-clause-handed
+returns-in-None-clause-handed g c =
     let m = c.self.inside in let len = c.len.ensures.len ∙ sym (pairs-length m.entries c.self.invariant.linked) in
-    rw (← c.self.view_is) (not_admitted (rw (← c.self.view_is) at c.requires.absent) c.on_insert.new.self
-    (subst (λ n. g.L.Insertion.offers.on_insert m.limiter n c.args.key c.args.value c.on_insert.new.self None) len
-    (rw c.in-None.is at c.in_ok-pair.ensures.offered))
-    refl refl)
+    let absent = rw (← c.self.view_is) at c.requires.absent in
+    let given = subst (λ n. g.L.Insertion.offers.on_insert m.limiter n c.args.key c.args.value c.on_insert.new.self
+    None) len (rw c.in-None.is at c.in_ok-pair.ensures.offered) in
+    λ first before taken. (
+      before,
+      taken,
+      rw (← c.self.view_is) (not_admitted absent (c.on_insert.new.self, before) (given, refl) refl refl),
+    )

@@ -1,4 +1,4 @@
-use Rattle.std.proofs.Common.{refl, ◌∙◌, ◌≡◌, None}
+use Rattle.std.proofs.Common.{[], refl, ◌∙◌, ◌≡◌, None}
 use Rattle.lru_limits.specs.Hashing.{hash_by, hash_by-named}
 use Rattle.schnellru.specs.Lists.{lookup}
 use Rattle.schnellru.specs.GetOrInserts.{got, inserted}
@@ -6,6 +6,7 @@ use Rattle.schnellru.proofs.Maps.Fields.{beside}
 use Rattle.schnellru.proofs.LinkedTables.Searches.{not_found, no_value}
 use Rattle.schnellru.proofs.LinkedTables.BucketPairs.{value_found}
 use Rattle.schnellru.proofs.LinkedTables.NewestPair.{promoted_state, promoted_holds}
+use Rattle.schnellru.proofs.Theorems.PlainInserts.{plain_insert}
 use Rattle.schnellru.proofs.map.LruMap.make_newest.Goals as goal
 
 pub invariant_of-self : goal.invariant_of-self
@@ -64,4 +65,4 @@ returns-in-None g c =
     ∙ hash_by-named g.met.I.LookupKey.laws g.S.BuildHasher g.S.Hasher.Hasher m.hasher c.args.key k named)
     (c.in-None.ensures.none hash_of holds.fits) in
     let absent : lookup (g.I.LookupKey.names c.args.key) c.args.self.now.pairs ≡ None = rw (← c.self.view_is) none in
-    inserted absent c.make.result c.make.ensures c.insert_new.ensures
+    inserted absent c.make.result c.make.ensures (plain_insert (c.insert_new.ensures.handed _ [] refl).2)

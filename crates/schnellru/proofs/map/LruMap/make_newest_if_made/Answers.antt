@@ -1,4 +1,4 @@
-use Rattle.std.proofs.Common.{refl, sym, ap, ◌∙◌, ◌≡◌, None}
+use Rattle.std.proofs.Common.{[], refl, sym, ap, ◌∙◌, ◌≡◌, None}
 use Rattle.lru_limits.specs.Hashing.{hash_by, hash_by-named}
 use Rattle.schnellru.specs.Lists.{lookup}
 use Rattle.schnellru.specs.IfMade.{got, failed, inserted}
@@ -7,6 +7,7 @@ use Rattle.schnellru.proofs.LinkedTables.Searches.{not_found, no_value}
 use Rattle.schnellru.proofs.LinkedTables.BucketPairs.{value_found}
 use Rattle.schnellru.proofs.LinkedTables.NewestPair.{promoted_state, promoted_holds}
 use Rattle.schnellru.specs.IfMade.{or_memory}
+use Rattle.schnellru.proofs.Theorems.PlainInserts.{plain_insert}
 use Rattle.schnellru.proofs.map.LruMap.make_newest_if_made.Goals as goal
 
 pub invariant_of-self : goal.invariant_of-self
@@ -76,7 +77,8 @@ returns-in-Ok-insert_new g c =
     ∙ hash_by-named g.met.I.LookupKey.laws g.S.BuildHasher g.S.Hasher.Hasher m.hasher c.args.key k named)
     (c.in-None.ensures.none hash_of holds.fits) in
     let absent : lookup (g.I.LookupKey.names c.args.key) c.args.self.now.pairs ≡ None = rw (← c.self.view_is) none in
-    inserted absent c.in-Ok.value c.in-Ok.ensures c.insert_new.result c.insert_new.ensures
+    inserted absent c.in-Ok.value c.in-Ok.ensures c.insert_new.result
+    (plain_insert (c.insert_new.ensures.handed _ [] refl).2)
     (ap or_memory (sym c.in-Ok-insert_new.is))
 
 pub returns-in-Err-insert_new : goal.returns-in-Err-insert_new
@@ -88,5 +90,6 @@ returns-in-Err-insert_new g c =
     ∙ hash_by-named g.met.I.LookupKey.laws g.S.BuildHasher g.S.Hasher.Hasher m.hasher c.args.key k named)
     (c.in-None.ensures.none hash_of holds.fits) in
     let absent : lookup (g.I.LookupKey.names c.args.key) c.args.self.now.pairs ≡ None = rw (← c.self.view_is) none in
-    inserted absent c.in-Ok.value c.in-Ok.ensures c.insert_new.result c.insert_new.ensures
+    inserted absent c.in-Ok.value c.in-Ok.ensures c.insert_new.result
+    (plain_insert (c.insert_new.ensures.handed _ [] refl).2)
     (ap or_memory (sym c.in-Err-insert_new.is))

@@ -4,6 +4,8 @@ use Rattle.group_table.specs.Bucket.{empty, marks_of}
 use Rattle.group_table.proofs.BucketLemmas.{length-marks_of}
 use Rattle.schnellru.specs.State.{IsSized, FirstFreeIs, buckets}
 use Rattle.schnellru.specs.Inside.Linked.{pairs_of}
+use Rattle.schnellru.specs.HandedOver.{noting, noted}
+use Rattle.schnellru.proofs.Maps.NotedStates.{noted_sized}
 use Rattle.schnellru.proofs.LinkedTables.BucketPairs.{pairs-length}
 use Rattle.schnellru.proofs.TableSizes.SizedMarks.{own_count}
 use Rattle.schnellru.proofs.Maps.Placements.{rehash_place, some_of_half}
@@ -80,17 +82,23 @@ place_in_larger-requires-clause-half g c =
       pairs-length t c.self.invariant.linked,
     ))
 
-pub returns-then-len-full_capacity : goal.returns-then-len-full_capacity
-returns-then-len-full_capacity g c =
-    let t = c.self.inside.entries in let e = c.place_after_move.ensures in
-    let same : buckets c.args.self.now ≡ c.buckets-buckets.result = rw (← c.self.view_is) (length-marks_of t.slots
+pub returns-then-len-full_capacity-clause-handed : goal.returns-then-len-full_capacity-clause-handed
+returns-then-len-full_capacity-clause-handed g c =
+    let t = c.self.inside.entries in let e = c.place_after_move.ensures in let old = c.args.self.now in
+    let same : buckets old ≡ c.buckets-buckets.result = rw (← c.self.view_is) (length-marks_of t.slots
     ∙ sym c.buckets-buckets.ensures.buckets) in
     let takes = c.full_capacity.ensures
     ∙ ap full_capacity (c.buckets-buckets.ensures.buckets ∙ sym (length-marks_of t.slots)) in
     let few : length (pairs_of t) < full_capacity (length (marks_of t.slots)) / 2 =
     omega (arith, takes, c.if-len-full_capacity.true, c.len-len.ensures.len, pairs-length t c.self.invariant.linked) in
-    rehash_place g.L.Limiter.rules _ c.args.pair c.args.self.now c.place_after_move.new.self
-    (subst IsSized c.self.view_is c.self.invariant.map.sized)
-    c.place_after_move.result c.requires.no_room
-    (λ some. subst (λ h. FirstFreeIs empty h c.args.self.now) c.requires.hash (c.requires.empty some))
-    (rw (← c.self.view_is) few) (rw same e.placed) (λ none. e.succeeds none (sym same))
+    let fewer : length old.pairs < full_capacity (buckets old) / 2 = rw (← c.self.view_is) few in
+    let sized = subst IsSized c.self.view_is c.self.invariant.map.sized in
+    λ first before taken.
+    let (after, had, step) = e.handed first before taken in (
+      after,
+      had,
+      rehash_place (noting g.L.Limiter.rules) _ c.args.pair (noted before old)
+          (noted after c.place_after_move.new.self) (noted_sized before old sized) c.place_after_move.result
+          c.requires.no_room (λ some. subst (λ h. FirstFreeIs empty h old) c.requires.hash (c.requires.empty some))
+          fewer (rw same step) (λ none. e.succeeds none (sym same)),
+    )

@@ -1,0 +1,188 @@
+-- An insert under a limiter beside a list is one under the limiter alone.
+use Rattle.std.proofs.Common.{◌≡◌, ℕ, zero, suc, ◌+◌, Bool, true, false, List, length, Option, Some, None, Result, refl}
+use Rattle.std.proofs.Common.{ap, ◌∙◌, subst}
+use Rattle.std.specs.Prelude.{if◌then◌else◌}
+use Rattle.std.specs.declared.alloc.AllocError.{AllocError}
+use Rattle.lru_limits.specs.Rules.{Rules, Offers}
+use Rattle.schnellru.specs.Lists.{last}
+use Rattle.schnellru.specs.State.{State, Contents, contents, FreesRoom, Leaves, told_of, pop, trim, trim_from}
+use Rattle.schnellru.specs.Place.{Place, first_table, first_denied, first_too_large, empty_with_room}
+use Rattle.schnellru.specs.Place.{empty_without_room, with_room, deleted_bucket, rehashed, grown, evicting}
+use Rattle.schnellru.specs.Place.{Evicts, finds_bucket, made_anew, CannotGrow, no_target, denied, OldestLeave}
+use Rattle.schnellru.specs.Place.{Outcome, placed, refused, no_memory, IsPlaced, IsPlacedIfMemory}
+use Rattle.schnellru.specs.Inserts.{Insert, replaced, given_up, no_memory_to_admit, not_admitted, admitted, make_way}
+use Rattle.schnellru.specs.Inserts.{Settles, PlacesNew}
+use Rattle.schnellru.specs.HandedOver.{noting, noting_offers, noted}
+
+module _ {K V S : Type 0} where
+  -- without the list
+  abbrev pub plain : {H : Type 0} → State K V (S × List (K × V)) H → State K V S H
+  plain st = record {
+    pairs = st.pairs;
+    limiter = st.limiter.0;
+    hasher = st.hasher;
+    marks = st.marks;
+    places = st.places;
+    placings = st.placings;
+    moved = st.moved;
+    placed = st.placed;
+    entry_bytes = st.entry_bytes;
+    max = st.max;
+  }
+
+  abbrev plain_contents : Contents K V (S × List (K × V)) → Contents K V S
+  plain_contents c = record { pairs = c.pairs; limiter = c.limiter.0 }
+
+module _ {K V S : Type 0} (rules : Rules K V S) where
+  plain_told : (was : Option (K × V)) (s : S × List (K × V)) → (told_of (noting rules) was s).0 ≡ told_of rules was s.0
+  plain_told None s = refl
+  plain_told (Some pair) s = refl
+
+  plain_pop : (c : Contents K V (S × List (K × V))) → plain_contents (pop (noting rules) c) ≡ pop rules (plain_contents c)
+  plain_pop c = ap {A = S} {B = Contents K V S} (λ s. record { pairs = (pop (noting rules) c).pairs; limiter = s })
+      (plain_told (last c.pairs) c.limiter)
+
+  plain_if : (b : Bool) (c d : Contents K V (S × List (K × V))) (p q : Contents K V S) → plain_contents c ≡ p
+      → plain_contents d ≡ q → plain_contents (if b then c else d) ≡ (if b then p else q)
+  plain_if true c d p q e f = e
+  plain_if false c d p q e f = f
+
+  plain_make_way : (c : Contents K V (S × List (K × V)))
+      → plain_contents (make_way (noting rules) c) ≡ make_way rules (plain_contents c)
+  plain_make_way c = plain_if (rules.is_over_the_limit c.limiter.0 (length c.pairs + 1)) (pop (noting rules) c) c
+      (pop rules (plain_contents c)) (plain_contents c) (plain_pop c) refl
+
+  plain_trim_from : (n : ℕ) (c : Contents K V (S × List (K × V)))
+      → plain_contents (trim_from (noting rules) n c) ≡ trim_from rules n (plain_contents c)
+  plain_trim_from zero c = refl
+  plain_trim_from (suc n) c = plain_if (rules.is_over_the_limit c.limiter.0 (suc n))
+      (trim_from (noting rules) n (pop (noting rules) c)) c
+      (trim_from rules n (pop rules (plain_contents c))) (plain_contents c)
+      (plain_trim_from n (pop (noting rules) c) ∙ ap (trim_from rules n) (plain_pop c)) refl
+
+  plain_trim : (c : Contents K V (S × List (K × V))) → plain_contents (trim (noting rules) c)
+      ≡ trim rules (plain_contents c)
+  unfolding trim
+  plain_trim c = plain_trim_from (length c.pairs) c
+
+module _ {K V S H : Type 0} where
+  plain_room : (old new : State K V (S × List (K × V)) H) → FreesRoom old new → FreesRoom (plain old) (plain new)
+  plain_room old new frees = record {
+    table = frees.table;
+    keeps = frees.keeps;
+    at_most = frees.at_most;
+    exact = frees.exact;
+    untouched = frees.untouched;
+  }
+
+  plain_leaves : (old new : State K V (S × List (K × V)) H) (left : Contents K V (S × List (K × V)))
+      (c : Contents K V S) → plain_contents left ≡ c → Leaves old left new → Leaves (plain old) c (plain new)
+  plain_leaves old new left c e leaves = subst (λ c. Leaves (plain old) c (plain new)) e
+      (record { is = ap plain leaves.is; room = plain_room old new leaves.room })
+
+  plain_placed : (pair : K × V) (count spare moves : ℕ) (old new : State K V (S × List (K × V)) H)
+      → IsPlaced pair count spare moves old new → IsPlaced pair count spare moves (plain old) (plain new)
+  plain_placed pair count spare moves old new is = record {
+    table = is.table;
+    room_left = is.room_left;
+    state = ap plain is.state;
+  }
+
+module _ {K V S H : Type 0} (rules : Rules K V S) where
+  plain_if_memory : (pair : K × V) (count spare moves : ℕ) (old : State K V (S × List (K × V)) H) (outcome : Outcome)
+      (new : State K V (S × List (K × V)) H) → IsPlacedIfMemory (noting rules) pair count spare moves old outcome new
+      → IsPlacedIfMemory rules pair count spare moves (plain old) outcome (plain new)
+  plain_if_memory pair count spare moves old placed new h = plain_placed pair count spare moves old new h
+  plain_if_memory pair count spare moves old no_memory new h = ap plain h
+  plain_if_memory pair count spare moves old refused new h = h
+
+  plain_gone : (hash n : ℕ) (old new : State K V (S × List (K × V)) H) → OldestLeave (noting rules) hash n old new
+      → OldestLeave rules hash n (plain old) (plain new)
+  plain_gone hash zero old new h = ap plain h
+  plain_gone hash (suc n) old new (before, gone, no_place, leaves) = (
+    plain before,
+    plain_gone hash n old before gone,
+    no_place,
+    plain_leaves before new (pop (noting rules) (contents before)) (pop rules (contents (plain before)))
+        (plain_pop rules (contents before)) leaves,
+  )
+
+  plain_cannot : (old mid : State K V (S × List (K × V)) H) → CannotGrow (noting rules) old mid
+      → CannotGrow rules (plain old) (plain mid)
+  plain_cannot old mid (no_target t e) = no_target t (ap plain e)
+  plain_cannot old mid (denied count bytes t d e) = denied count bytes t d (ap plain e)
+
+  plain_evicts : (hash : ℕ) (pair : K × V) (old mid : State K V (S × List (K × V)) H) (outcome : Outcome)
+      (new : State K V (S × List (K × V)) H) → Evicts (noting rules) hash pair old mid outcome new
+      → Evicts rules hash pair (plain old) (plain mid) outcome (plain new)
+  plain_evicts hash pair old mid outcome new (finds_bucket n pos one half left gone fills o p) =
+      finds_bucket n pos one half (plain left) (plain_gone hash n mid left gone) fills o
+      (plain_placed pair _ _ _ left new p)
+  plain_evicts hash pair old mid outcome new (made_anew n pos one half left gone m) =
+      made_anew n pos one half (plain left) (plain_gone hash n mid left gone)
+      (plain_if_memory pair _ _ _ left outcome new m)
+
+  module _ (hash_of : H → K → ℕ) where
+    plain_place : (pair : K × V) (old : State K V (S × List (K × V)) H) (outcome : Outcome)
+        (new : State K V (S × List (K × V)) H) → Place (noting rules) hash_of pair old outcome new
+        → Place rules hash_of pair (plain old) outcome (plain new)
+    plain_place pair old outcome new (first_table e b bytes u g m) =
+        first_table e b bytes u g (plain_if_memory pair _ _ _ _ outcome new m)
+    plain_place pair old outcome new (first_denied e b bytes u d o n) = first_denied e b bytes u d o (ap plain n)
+    plain_place pair old outcome new (first_too_large e b u o n) = first_too_large e b u o (ap plain n)
+    plain_place pair old outcome new (empty_with_room e b r f o p) =
+        empty_with_room e b r f o (plain_placed pair _ _ _ old new p)
+    plain_place pair old outcome new (empty_without_room e b r o p) =
+        empty_without_room e b r o (plain_placed pair _ _ _ old new p)
+    plain_place pair old outcome new (with_room s r f o p) = with_room s r f o (plain_placed pair _ _ _ old new p)
+    plain_place pair old outcome new (deleted_bucket l f b s o p) =
+        deleted_bucket l f b s o (plain_placed pair _ _ _ old new p)
+    plain_place pair old outcome new (rehashed l f h m) =
+        rehashed l f h (plain_if_memory pair _ _ _ old outcome new m)
+    plain_place pair old outcome new (grown l f h count bytes t g m) =
+        grown l f h count bytes t g (plain_if_memory pair _ _ _ _ outcome new m)
+    plain_place pair old outcome new (evicting l f h mid cannot e) =
+        evicting l f h (plain mid) (plain_cannot old mid cannot) (plain_evicts _ pair old mid outcome new e)
+
+    plain_settles : (outcome : Outcome) (landed : State K V (S × List (K × V)) H) (result : Result Bool AllocError)
+        (new : State K V (S × List (K × V)) H) → Settles (noting rules) outcome landed result new
+        → Settles rules outcome (plain landed) result (plain new)
+    plain_settles placed landed result new (r, leaves) = (
+      r,
+      plain_leaves landed new (trim (noting rules) (contents landed)) (trim rules (contents (plain landed)))
+          (plain_trim rules (contents landed)) leaves,
+    )
+    plain_settles refused landed result new (r, e) = (r, ap plain e)
+    plain_settles no_memory landed result new (r, e) = (r, ap plain e)
+
+    plain_places : (pair : K × V) (old : State K V (S × List (K × V)) H) (result : Result Bool AllocError)
+        (new : State K V (S × List (K × V)) H) → PlacesNew (noting rules) hash_of pair old result new
+        → PlacesNew rules hash_of pair (plain old) result (plain new)
+    plain_places pair old result new (ready, way, outcome, landed, place, settles) = (
+      plain ready,
+      plain_leaves old ready (make_way (noting rules) (contents old)) (make_way rules (contents (plain old)))
+          (plain_make_way rules (contents old)) way,
+      outcome,
+      plain landed,
+      plain_place pair ready outcome landed place,
+      plain_settles outcome landed result new settles,
+    )
+
+module _ {K V S H I : Type 0} {rules : Rules K V S} {offers : Offers K V S I} {names : I → K → Bool}
+    {hash_of : H → K → ℕ} {i : I} {v : V} {result : Result Bool AllocError} where
+  plain_insert_of : (old new : State K V (S × List (K × V)) H)
+      → Insert (noting rules) (noting_offers offers) names hash_of i v old result new
+      → Insert rules offers names hash_of i v (plain old) result (plain new)
+  plain_insert_of old new (replaced pair there taken r leaves) =
+      replaced pair there taken r (plain_leaves old new _ _ (plain_trim rules _) leaves)
+  plain_insert_of old new (given_up pair there untaken r leaves) =
+      given_up pair there untaken r (plain_leaves old new _ _ refl leaves)
+  plain_insert_of old new (no_memory_to_admit absent lacks r e) = no_memory_to_admit absent lacks r (ap plain e)
+  plain_insert_of old new (not_admitted absent s given r e) = not_admitted absent s.0 given.0 r (ap plain e)
+  plain_insert_of old new (admitted absent s pair given places) =
+      admitted absent s.0 pair given.0 (plain_places rules hash_of pair _ result new places)
+
+  pub plain_insert : {before after : List (K × V)} {old new : State K V S H}
+      → Insert (noting rules) (noting_offers offers) names hash_of i v (noted before old) result (noted after new)
+      → Insert rules offers names hash_of i v old result new
+  plain_insert {before} {after} {old} {new} step = plain_insert_of (noted before old) (noted after new) step

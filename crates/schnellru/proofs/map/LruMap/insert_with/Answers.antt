@@ -1,0 +1,30 @@
+use Rattle.std.proofs.Common.{[], refl, subst}
+use Rattle.schnellru.specs.State.{IsMap}
+use Rattle.schnellru.proofs.Theorems.InsertAnswers.{insert_says, insert_stores}
+use Rattle.schnellru.proofs.Theorems.LackOfMemory.{err_is, err_keeps, on_err}
+use Rattle.schnellru.proofs.Theorems.PlainInserts.{plain_insert}
+use Rattle.schnellru.proofs.map.LruMap.insert_with.Goals as goal
+
+pub returns-clause-step : goal.returns-clause-step
+returns-clause-step g c = plain_insert (c.insert_hashed-answer.ensures.handed c.args.sink.now [] refl).2
+
+pub returns-clause-handed : goal.returns-clause-handed
+returns-clause-handed g c = c.insert_hashed-answer.ensures.handed c.args.sink.now [] refl
+
+pub returns-clause-says : goal.returns-clause-says
+returns-clause-says g c =
+    let old : IsMap g.K.PartialEq.eq c.args.self.now = subst
+    (IsMap g.K.PartialEq.eq) c.self.view_is c.self.invariant.map in
+    insert_says g.met.I.LookupKey.laws g.met.L.Insertion.laws old.distinct (returns-clause-step g c)
+
+pub returns-clause-lacks : goal.returns-clause-lacks
+returns-clause-lacks g c = on_err _ (λ failed. err_is failed (returns-clause-step g c))
+
+pub returns-clause-keeps : goal.returns-clause-keeps
+returns-clause-keeps g c = on_err _ (λ failed. err_keeps failed (returns-clause-step g c))
+
+pub returns-clause-map : goal.returns-clause-map
+returns-clause-map g c = subst (IsMap g.K.PartialEq.eq) c.self-2.view_is c.self-2.invariant.map
+
+pub returns-clause-stores : goal.returns-clause-stores
+returns-clause-stores g c = λ yes. insert_stores yes (returns-clause-step g c)

@@ -1,0 +1,70 @@
+-- Which pairs a call hands over: those of which it tells the limiter that they left, each as that left it, in order.
+--     rules, offers       what the limiter says (`Rules`, `Offers` of `lru_limits`)
+--     names i k           the inserted key i names the key k
+--     hash_of h k         the hash of the key k, by the hasher h
+--     closure             how the sink may be called
+--     f, g                the sink before and after
+use Rattle.std.specs.Prelude.{◌≡◌, ℕ, Bool, List, [], ◌∷◌, ◌++◌, Result}
+use Rattle.std.specs.List.{FoldsTo}
+use Rattle.std.specs.Fn.{Mut, Called}
+use Rattle.std.specs.declared.alloc.AllocError.{AllocError}
+use Rattle.lru_limits.specs.Rules.{Rules, Offers}
+use Rattle.schnellru.specs.State.{State}
+use Rattle.schnellru.specs.Inserts.{Insert}
+
+module _ {K V S : Type 0} where
+  -- the limiter beside a list, to which each pair goes of which it is told that it left
+  abbrev pub noting : Rules K V S → Rules K V (S × List (K × V))
+  noting rules = record {
+    is_over_the_limit = λ s n. rules.is_over_the_limit s.0 n;
+    on_removed = λ s k v. let told = rules.on_removed s.0 k v in record {
+      limiter = (told.limiter, s.1 ++ (told.key, told.value) ∷ []);
+      key = told.key;
+      value = told.value;
+    };
+    on_cleared = λ s. (rules.on_cleared s.0, s.1);
+    on_grow = λ s bytes. let answer = rules.on_grow s.0 bytes in record {
+      limiter = (answer.limiter, s.1);
+      allowed = answer.allowed;
+    };
+  }
+
+  -- to which no other callback adds
+  abbrev pub noting_offers : {I : Type 0} → Offers K V S I → Offers K V (S × List (K × V)) I
+  noting_offers offers = record {
+    on_insert = λ s n i v t given. offers.on_insert s.0 n i v t.0 given × (t.1 ≡ s.1);
+    may_lack = λ s n i v. offers.may_lack s.0 n i v;
+    on_replace = λ s n k i v w. let left = offers.on_replace s.0 n k i v w in record {
+      limiter = (left.limiter, s.1);
+      taken = left.taken;
+      key = left.key;
+      old_value = left.old_value;
+      new_value = left.new_value;
+    };
+  }
+
+  -- the map, whose limiter is beside this list
+  abbrev pub noted : {H : Type 0} → List (K × V) → State K V S H → State K V (S × List (K × V)) H
+  noted list st = record {
+    pairs = st.pairs;
+    limiter = (st.limiter, list);
+    hasher = st.hasher;
+    marks = st.marks;
+    places = st.places;
+    placings = st.placings;
+    moved = st.moved;
+    placed = st.placed;
+    entry_bytes = st.entry_bytes;
+    max = st.max;
+  }
+
+-- f was called with these pairs, one after another, and is then g
+abbrev pub Takes : {K V F : Type 0} → Mut F (K × (V × Unit {0})) (Unit {0}) → F → List (K × V) → F → Type 0
+Takes closure f pairs g = FoldsTo (λ p pair q. Called closure p (pair.0, (pair.1, tt)) tt q) f pairs g
+
+module _ {K V S H I : Type 0} (rules : Rules K V S) (offers : Offers K V S I) (names : I → K → Bool)
+    (hash_of : H → K → ℕ) where
+  -- an insert that hands over these pairs: the list that began empty has them at its end
+  abbrev pub InsertHands : I → V → State K V S H → Result Bool AllocError → List (K × V) → State K V S H → Type 0
+  InsertHands i v old result handed new = Insert (noting rules) (noting_offers offers) names hash_of i v (noted [] old)
+      result (noted handed new)

@@ -1,0 +1,17 @@
+-- What is handed over by a part of a call. No public clause cites this module.
+use Rattle.std.specs.Prelude.{List}
+use Rattle.std.specs.Fn.{Mut, Called}
+use Rattle.lru_limits.specs.Rules.{Rules, Replaced}
+use Rattle.schnellru.specs.HandedOver.{Takes}
+
+module _ {K V F : Type 0} (closure : Mut F (K × (V × Unit {0})) (Unit {0})) where
+  -- After what was handed over before, the sink, as f, was handed more, and is then g: what is stated of the lists of
+  -- all that was handed over before and after.
+  abbrev pub Hands : F → F → (List (K × V) → List (K × V) → Type 0) → Type 0
+  Hands f g step = (first : F) (before : List (K × V)) → Takes closure first before f → (after : List (K × V))
+      × Takes closure first after g × step before after
+
+  -- of a pair whose replacement is refused, what the limiter leaves is handed over
+  abbrev pub HandsGivenUp : {S : Type 0} → Rules K V S → Replaced K V S → F → F → Type 0
+  HandsGivenUp rules by f g = let told = rules.on_removed by.limiter by.key by.old_value in
+      Called closure f (told.key, (told.value, tt)) tt g
