@@ -5,6 +5,7 @@ pub mod Place
 pub mod Calls
 pub mod Inserts
 pub mod Reservations
+pub mod Shrinks
 pub mod Theorems
 pub mod GetOrInserts
 pub mod IfMade

@@ -24,7 +24,7 @@ insert_new-requires-clause-absent g c =
 pub invariant_of-self : goal.invariant_of-self
 invariant_of-self g c =
     let m = c.self.inside in
-    let rest = beside m.limiter m.hasher m.moved m.placed m.entry_bytes
+    let rest = beside m.limiter m.hasher m.moved m.placed m.shrunk m.entry_bytes
     (g.L.LinkType.LinkType.number g.L.LinkType.LinkType.MAX) in
     let t = m.entries in let u = c.replace.new.entries in let l = c.replace.new.limiter in
     let holds = c.self.invariant in
@@ -45,7 +45,7 @@ invariant_of-self g c =
 pub invariant_of-self-in-Some : goal.invariant_of-self-in-Some
 invariant_of-self-in-Some g c =
     let m = c.self.inside in
-    let rest = beside m.limiter m.hasher m.moved m.placed m.entry_bytes
+    let rest = beside m.limiter m.hasher m.moved m.placed m.shrunk m.entry_bytes
     (g.L.LinkType.LinkType.number g.L.LinkType.LinkType.MAX) in
     let t = m.entries in let u = c.replace.new.entries in let l = c.replace.new.limiter in
     let holds = c.self.invariant in
@@ -68,7 +68,7 @@ invariant_of-self-in-Some g c =
 pub returns-then-not-replace : goal.returns-then-not-replace
 returns-then-not-replace g c =
     let m = c.self.inside in
-    let rest = beside m.limiter m.hasher m.moved m.placed m.entry_bytes
+    let rest = beside m.limiter m.hasher m.moved m.placed m.shrunk m.entry_bytes
     (g.L.LinkType.LinkType.number g.L.LinkType.LinkType.MAX) in
     let t = m.entries in let u = c.replace.new.entries in let l = c.replace.new.limiter in
     let holds = c.self.invariant in
@@ -88,7 +88,7 @@ returns-then-not-replace g c =
 pub returns-else-not-replace : goal.returns-else-not-replace
 returns-else-not-replace g c =
     let m = c.self.inside in
-    let rest = beside m.limiter m.hasher m.moved m.placed m.entry_bytes
+    let rest = beside m.limiter m.hasher m.moved m.placed m.shrunk m.entry_bytes
     (g.L.LinkType.LinkType.number g.L.LinkType.LinkType.MAX) in
     let t = m.entries in let u = c.replace.new.entries in let l = c.replace.new.limiter in
     let holds = c.self.invariant in

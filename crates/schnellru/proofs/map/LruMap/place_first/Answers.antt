@@ -7,7 +7,7 @@ use Rattle.schnellru.proofs.map.LruMap.place_first.Goals as goal
 pub returns-then-on_grow : goal.returns-then-on_grow
 returns-then-on_grow g c =
     let m = c.self.inside in
-    let rest = beside m.limiter m.hasher m.moved m.placed m.entry_bytes
+    let rest = beside m.limiter m.hasher m.moved m.placed m.shrunk m.entry_bytes
     (g.L.LinkType.LinkType.number g.L.LinkType.LinkType.MAX) in
     rw (← c.self.view_is) (first_granted g.L.Limiter.rules _ c.args.pair
     (state_of m.entries rest) c.place_after_move.new.self
@@ -18,7 +18,7 @@ returns-then-on_grow g c =
 pub returns-else-on_grow : goal.returns-else-on_grow
 returns-else-on_grow g c =
     let m = c.self.inside in
-    let rest = beside m.limiter m.hasher m.moved m.placed m.entry_bytes
+    let rest = beside m.limiter m.hasher m.moved m.placed m.shrunk m.entry_bytes
     (g.L.LinkType.LinkType.number g.L.LinkType.LinkType.MAX) in
     rw (← c.self.view_is) (first_refused g.L.Limiter.rules _ c.args.pair
     (state_of m.entries rest) c.turn_away.new.self

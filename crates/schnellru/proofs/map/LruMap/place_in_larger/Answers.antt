@@ -9,7 +9,7 @@ use Rattle.schnellru.proofs.map.LruMap.place_in_larger.Goals as goal
 pub returns-then-on_grow : goal.returns-then-on_grow
 returns-then-on_grow g c =
     let m = c.self.inside in
-    let rest = beside m.limiter m.hasher m.moved m.placed m.entry_bytes
+    let rest = beside m.limiter m.hasher m.moved m.placed m.shrunk m.entry_bytes
     (g.L.LinkType.LinkType.number g.L.LinkType.LinkType.MAX) in
     let first = subst (λ h. FirstFreeIs empty h c.args.self.now) c.requires.hash c.requires.empty in
     rw (← c.self.view_is)
@@ -24,7 +24,7 @@ returns-then-on_grow g c =
 pub returns-else-on_grow : goal.returns-else-on_grow
 returns-else-on_grow g c =
     let m = c.self.inside in
-    let rest = beside m.limiter m.hasher m.moved m.placed m.entry_bytes
+    let rest = beside m.limiter m.hasher m.moved m.placed m.shrunk m.entry_bytes
     (g.L.LinkType.LinkType.number g.L.LinkType.LinkType.MAX) in
     let first = subst (λ h. FirstFreeIs empty h c.args.self.now) c.requires.hash c.requires.empty in
     rw (← c.self.view_is)
