@@ -1,7 +1,7 @@
 //! Each request for memory is refused in turn, until a call is met. After each refusal the same call is made again.
 //!
-//! What the refused calls may leave is said by `Place` (`IsPlacedIfMemory`), by `LacksMemory` and by `Reserve`: the
-//! list as it stood at the placing, and a limiter that was told of the new pair.
+//! What the refused calls may leave is said by `Place` (`IsPlacedIfMemory`), by `LacksMemory`, by `Reserve` and by
+//! `Shrink`: the list as it stood at the placing, and a limiter that was told of the new pair.
 use schnellru::{
     ByCost, GetOrInsertError, Insertion, LruMap, RandomState, ReserveError, UnlimitedCompact,
 };
@@ -15,6 +15,7 @@ mod inserts;
 mod keys;
 mod reservations;
 mod runs;
+mod shrinks;
 mod tables;
 
 // The bytes of 4 buckets of 32 bytes: of control with the 16 repeated, and of the entries.
@@ -47,6 +48,7 @@ enum Taking {
     EnsureNewest,
     EnsureNewestFallible,
     Reserve(usize),
+    Shrink,
 }
 
 // The calls that insert.
@@ -81,6 +83,7 @@ fn is_refused<L: Insertion<u64, u64, u64>, S: BuildHasher>(
             is_memory(&map.ensure_newest_fallible(key, || Ok(value)).err())
         }
         Taking::Reserve(n) => map.try_reserve(n) == Err(ReserveError::Memory),
+        Taking::Shrink => map.shrink_to_fit().is_err(),
     }
 }
 

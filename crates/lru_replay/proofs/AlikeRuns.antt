@@ -10,6 +10,7 @@ use Rattle.group_table.specs.Probe.{hash_tag}
 use Rattle.lru_limits.specs.Rules.{Rules, Offers}
 use Rattle.schnellru.proofs.CallerLemmas.{Shape, shape, same_shape, look_alike, with_left, left_shape}
 use Rattle.schnellru.proofs.CallerLemmas.{clears, cleared_shape, is_memory, reserve_in, reserve_is, found_named}
+use Rattle.schnellru.proofs.CallerLemmas.{shrinks_look_alike}
 use Rattle.schnellru.specs.Calls.{left_of, removal, pop_first}
 use Rattle.schnellru.specs.Drains.{pops_first, newest_given, oldest_given}
 use Rattle.schnellru.specs.Exact.{IsDetermined, NeverLacks, LookAlike}
@@ -18,14 +19,15 @@ use Rattle.schnellru.specs.Inserts.{Insert}
 use Rattle.schnellru.specs.Lists.{first, last as last_of, front, lookup, lookup_entry, newest_value}
 use Rattle.schnellru.specs.Reservations.{Reserve}
 use Rattle.schnellru.specs.Runs.{AnyStep}
+use Rattle.schnellru.specs.Shrinks.{Shrink}
 use Rattle.schnellru.specs.Sizes.{usage}
 use Rattle.schnellru.specs.State.{State, buckets, contents, pop, pops}
 use Rattle.schnellru.specs.declared.map.reserve.ReserveError.{ReserveError}
 use Rattle.schnellru.specs.declared.map.reserve.ReserveError.TheVariants.{TooLarge, Refused, Memory}
 use Rattle.lru_replay.specs.CallRuns.{IsRun, CallStep, SummingStep, KeepsCost, HasPlainSearch, StoresPairs}
 use Rattle.lru_replay.specs.Figures.{IsFigures}
-use Rattle.lru_replay.specs.Replies.{Reply, flag, value, pair, listed, reserved, stats, done, no_memory, insert_reply}
-use Rattle.lru_replay.specs.Replies.{made_reply, wants_memory, cost_differs}
+use Rattle.lru_replay.specs.Replies.{Reply, flag, value, pair, listed, reserved, shrunk, stats, done, no_memory}
+use Rattle.lru_replay.specs.Replies.{insert_reply, made_reply, wants_memory, cost_differs}
 use Rattle.lru_replay.specs.Steps.{Step, FindsByHash, found, not_found, promoted_if}
 use Rattle.lru_replay.specs.declared.call.Call.{Call}
 use Rattle.lru_replay.specs.declared.call.Call.TheVariants as calls
@@ -56,6 +58,11 @@ reserved_wants K V (Err TooLarge) = refl
 reserved_wants K V (Err Refused) = refl
 reserved_wants K V (Err Memory) = refl
 
+shrunk_wants : (K V : Type 0) (result : Result Bool AllocError)
+    → wants_memory {K = K} {V = V} (shrunk result) ≡ is_err result
+shrunk_wants K V (Ok b) = refl
+shrunk_wants K V (Err e) = refl
+
 -- a plain search finds the same in the same pairs
 found_alike : {K V : Type 0} (eq : K → K → Bool) (hash_of : K → ℕ)
     → ((k l : K) → IsTrue (eq k l) → hash_of k ≡ hash_of l) → (hash : ℕ) (key : K) (pairs : List (K × V))
@@ -84,7 +91,15 @@ figures_alike old other a b alike f g =
     let memory_is : a.memory ≡ b.memory = cc in
     let moved = f.moved ∙ ap (λ sh. sh.bare.moved) (sym same) ∙ sym g.moved in
     let placed = f.placed ∙ ap (λ sh. sh.bare.placed) (sym same) ∙ sym g.placed in
-    (λ j. record { len = len j; capacity = capacity j; memory = memory_is j; moved = moved j; placed = placed j })
+    let shrunk = f.shrunk ∙ ap (λ sh. sh.bare.shrunk) (sym same) ∙ sym g.shrunk in
+    (λ j. record {
+      len = len j;
+      capacity = capacity j;
+      memory = memory_is j;
+      moved = moved j;
+      placed = placed j;
+      shrunk = shrunk j;
+    })
 
 module _ {K V S H : Type 0} (rules : Rules K V S) (offers : Offers K V S K) (eq : K → K → Bool)
     (hash_of : H → K → ℕ) where
@@ -157,6 +172,14 @@ module _ {K V S H : Type 0} (rules : Rules K V S) (offers : Offers K V S K) (eq 
             let both = sym one ∙ (λ j. reserve_in rules n (lacks j) (sym (same_shape alike) j)) ∙ two in
             (is ∙ ap (λ x. reserved x.0) both ∙ sym is', look_alike new last (sym (ap (λ x. x.1) both)))
 
+        shrink_alike : (result result' : Result Bool AllocError) → Shrink old result new → Shrink other result' last
+            → reply ≡ shrunk result → answer ≡ shrunk result' → AreAlike
+        shrink_alike result result' h h' is is' =
+            let errs = sym (shrunk_wants K V result) ∙ ap wants_memory (sym is) ∙ wants
+            ∙ ap wants_memory is' ∙ shrunk_wants K V result' in
+            let both = shrinks_look_alike old other new last alike result result' errs h h' in
+            (is ∙ ap shrunk both.0 ∙ sym is', both.1)
+
       search_alike : (hash : ℕ) (k : K) (result result' : Option V)
           → (hash_tag (hash_of old.hasher k) ≡ hash_tag hash → hash_of old.hasher k ≡ hash)
           → FindsByHash eq (hash_of old.hasher) hash k old.pairs result
@@ -218,6 +241,8 @@ module _ {K V S H : Type 0} (rules : Rules K V S) (offers : Offers K V S K) (eq 
           (λ sh. sh) is (ap shape e) is' (ap shape e')
       step_alike wants (calls.Reserve n) plain (result, h, is) (result', h', is') =
           reserve_alike wants n result result' h h' is is'
+      step_alike wants calls.Shrink plain (result, h, is) (result', h', is') =
+          shrink_alike wants result result' h h' is is'
       step_alike wants calls.Clear plain (is, e) (is', e') = told_by (λ sh. done) (clears rules) is
           (ap shape e ∙ cleared_shape rules old) is' (ap shape e' ∙ cleared_shape rules other)
       step_alike wants (calls.Drain front back) plain (pairs, h, is) (pairs', h', is') = told_by

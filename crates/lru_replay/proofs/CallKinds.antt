@@ -3,7 +3,7 @@ use Rattle.std.proofs.Common.{◌≡◌, ℕ, Bool, Some, None, refl, inl, inr, 
 use Rattle.lru_limits.specs.Rules.{Rules, Offers}
 use Rattle.schnellru.specs.Calls.{written}
 use Rattle.schnellru.specs.Runs.{Step, inserts, makes_newest, gets, removes, pops_oldest, pops_newest, drains, clears}
-use Rattle.schnellru.specs.Runs.{reserves, AnyStep, calls as any_call, writes, sets_limiter as sets}
+use Rattle.schnellru.specs.Runs.{reserves, shrinks, AnyStep, calls as any_call, writes, sets_limiter as sets}
 use Rattle.schnellru.specs.State.{State}
 use Rattle.lru_replay.specs.CallRuns.{CallStep}
 use Rattle.lru_replay.specs.Replies.{Reply}
@@ -37,6 +37,7 @@ module _ {K V S H : Type 0} {rules : Rules K V S} {offers : Offers K V S K} {eq 
   step_kind calls.PeekOldest reply (is, e) = stays e
   step_kind calls.PeekNewest reply (is, e) = stays e
   step_kind (calls.Reserve n) reply (result, h, is) = calls_map (reserves n result h)
+  step_kind calls.Shrink reply (result, h, is) = calls_map (shrinks result h)
   step_kind calls.Clear reply (is, e) = calls_map (clears e)
   step_kind (calls.Drain front back) reply (pairs, h, is) = calls_map (drains front back pairs h)
   step_kind calls.List reply (is, e) = stays e

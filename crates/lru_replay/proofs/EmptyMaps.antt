@@ -22,6 +22,7 @@ empty_is_sized limiter entry_bytes max = record {
   usable = (0, refl);
   moved = omega arith;
   placed = omega arith;
+  shrunk = omega arith;
 }
 
 pub length_always : AlwaysOffers length_offers

@@ -38,6 +38,7 @@ short_command commands.PopOldest h = omega arith
 short_command commands.PopNewest h = omega arith
 short_command commands.Clear h = omega arith
 short_command commands.Stats h = omega arith
+short_command commands.Shrink h = omega arith
 short_command commands.List h = omega arith
 
 short_limit : (limit : Limit) → FitsLimit limit → length (limit_spelling limit) ≤ LONGEST

@@ -4,7 +4,7 @@ use Rattle.std.proofs.Common.{◌∙◌, ◌⊎◌, subst, inl, inr, arith, ◌+
 use Rattle.std.specs.List.{IsDistinct}
 use Rattle.std.specs.declared.alloc.AllocError.{AllocError}
 use Rattle.lru_limits.specs.Rules.{Rules, Offers}
-use Rattle.schnellru.proofs.CallerLemmas.{any_step_same, has_tables}
+use Rattle.schnellru.proofs.CallerLemmas.{any_step_same, has_tables, shrink_contents}
 use Rattle.schnellru.specs.Exact.{AlwaysGrants, HasTables, HasTableFor, InsertsInList}
 use Rattle.schnellru.specs.GetOrInserts.{MakesNewest, got, inserted}
 use Rattle.schnellru.specs.Inserts.{Insert}
@@ -92,6 +92,7 @@ module _ {K V S H : Type 0} (rules : Rules K V S) (offers : Offers K V S K) (eq 
       in_list calls.PeekOldest reply (is, e) = (is, ap contents e)
       in_list calls.PeekNewest reply (is, e) = (is, ap contents e)
       in_list (calls.Reserve n) reply (result, h, is) = (result, is, reserve_same old new n result h)
+      in_list calls.Shrink reply (result, h, is) = (result, is, shrink_contents old result new h)
       in_list calls.Clear reply (is, e) = (is, ap contents e)
       in_list (calls.Drain front back) reply (pairs, h, is) =
           (is ∙ ap listed h.pairs, ap contents h.state.2 ∙ ap (λ st. emptied rules (contents st)) h.state.1.is)

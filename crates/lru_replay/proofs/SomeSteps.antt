@@ -9,14 +9,14 @@ use Rattle.schnellru.specs.Calls.{promoted, removal, pop_first, cleared, left_of
 use Rattle.schnellru.specs.State.{Contents, room, contents, IsSized, pop}
 use Rattle.schnellru.specs.Drains.{pops_first, newest_given}
 use Rattle.schnellru.proofs.CallerLemmas.{promoted_sized, cleared_sized, some_insert, some_leave, some_reservation}
-use Rattle.schnellru.proofs.CallerLemmas.{length-without, length-without_first, length-without_last}
+use Rattle.schnellru.proofs.CallerLemmas.{some_shrink, length-without, length-without_first, length-without_last}
 use Rattle.lru_replay.specs.declared.command.Command.{Command}
 use Rattle.lru_replay.specs.declared.command.Command.TheVariants as commands
 use Rattle.lru_replay.specs.declared.figures.Figures.{Figures}
 use Rattle.lru_replay.specs.Commands.{call_of}
 use Rattle.lru_replay.specs.Limits.{AlwaysOffers}
 use Rattle.lru_replay.specs.Maps.{Map, hash_of}
-use Rattle.lru_replay.specs.Replies.{Reply, value, pair, listed, reserved, stats, done, insert_reply}
+use Rattle.lru_replay.specs.Replies.{Reply, value, pair, listed, reserved, shrunk, stats, done, insert_reply}
 use Rattle.lru_replay.specs.Steps.{Step}
 
 module _ {S : Type 0} (rules : Rules ℕ ℕ S) (offers : Offers ℕ ℕ S ℕ) (offered : AlwaysOffers offers) (old : Map S)
@@ -76,6 +76,8 @@ module _ {S : Type 0} (rules : Rules ℕ ℕ S) (offers : Offers ℕ ℕ S ℕ) 
   some_step (commands.Remove k) = some_removal k
   some_step (commands.Reserve n) = let (result, new, is, after) = some_reservation rules n old ok in
       (reserved result, new, (result, is, refl), after)
+  some_step commands.Shrink = let (result, new, is, after) = some_shrink old ok in
+      (shrunk result, new, (result, is, refl), after)
   some_step (commands.Drain n) = some_drain n
   some_step commands.PopOldest = some_pop_oldest
   some_step commands.PopNewest = some_pop_newest
@@ -88,6 +90,7 @@ module _ {S : Type 0} (rules : Rules ℕ ℕ S) (offers : Offers ℕ ℕ S ℕ) 
         memory = ok.usable.0;
         moved = old.moved;
         placed = old.placed;
+        shrunk = old.shrunk;
       } in (
         stats figures,
         old,
@@ -99,6 +102,7 @@ module _ {S : Type 0} (rules : Rules ℕ ℕ S) (offers : Offers ℕ ℕ S ℕ) 
             memory = ok.usable.1;
             moved = refl;
             placed = refl;
+            shrunk = refl;
           },
           refl,
           refl,

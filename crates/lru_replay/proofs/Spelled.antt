@@ -46,7 +46,7 @@ guesses line = commands.Insert (digits_value 10 (front_word (drop 7 line))) (dig
     ∷ commands.Get (digits_value 10 (drop 4 line)) ∷ commands.Peek (digits_value 10 (drop 5 line))
     ∷ commands.Remove (digits_value 10 (drop 7 line)) ∷ commands.Reserve (digits_value 10 (drop 8 line))
     ∷ commands.Drain (digits_value 10 (drop 6 line)) ∷ commands.PopOldest ∷ commands.PopNewest ∷ commands.Clear
-    ∷ commands.List ∷ commands.Stats ∷ []
+    ∷ commands.List ∷ commands.Stats ∷ commands.Shrink ∷ []
 
 abbrev pub Spelled : List ℕ → Type 0
 Spelled line = (command : Command) × SpellsCommand line command
@@ -76,6 +76,7 @@ fits_command commands.PopOldest = inl tt
 fits_command commands.PopNewest = inl tt
 fits_command commands.Clear = inl tt
 fits_command commands.Stats = inl tt
+fits_command commands.Shrink = inl tt
 fits_command commands.List = inl tt
 
 fits_limit : (limit : Limit) → FitsLimit limit ⊎ (FitsLimit limit → ⊥)
@@ -126,6 +127,7 @@ guessed line P all commands.PopNewest s = all.1.1.1.1.1.1.1.0
 guessed line P all commands.Clear s = all.1.1.1.1.1.1.1.1.0
 guessed line P all commands.List s = all.1.1.1.1.1.1.1.1.1.0
 guessed line P all commands.Stats s = all.1.1.1.1.1.1.1.1.1.1.0
+guessed line P all commands.Shrink s = all.1.1.1.1.1.1.1.1.1.1.1.0
 
 -- something of a list has a property that can be told, or nothing has
 any_of : {X : Type 0} (P : X → Type 0) → ((x : X) → P x ⊎ (P x → ⊥)) → (xs : List X) → ((x : X) × P x)

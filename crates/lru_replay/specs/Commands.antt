@@ -12,6 +12,7 @@ call_of (commands.Get k) = calls.Get k
 call_of (commands.Peek k) = calls.Peek k
 call_of (commands.Remove k) = calls.Remove k
 call_of (commands.Reserve n) = calls.Reserve n
+call_of commands.Shrink = calls.Shrink
 call_of (commands.Drain n) = calls.Drain n 0
 call_of commands.PopOldest = calls.PopOldest
 call_of commands.PopNewest = calls.PopNewest

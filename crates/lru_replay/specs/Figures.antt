@@ -11,3 +11,4 @@ pub record IsFigures {K V S H : Type 0} (st : State K V S H) (figures : Figures)
   pub memory : usage st.entry_bytes (buckets st) ≡ Some figures.memory
   pub moved : figures.moved ≡ st.moved
   pub placed : figures.placed ≡ st.placed
+  pub shrunk : figures.shrunk ≡ st.shrunk

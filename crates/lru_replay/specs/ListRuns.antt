@@ -16,7 +16,8 @@ use Rattle.lru_replay.specs.declared.call.Call.{Call}
 use Rattle.lru_replay.specs.declared.call.Call.TheVariants as calls
 use Rattle.lru_replay.specs.declared.figures.Figures.{Figures}
 use Rattle.lru_replay.specs.CallRuns.{StepIfMemory, StepIfKept}
-use Rattle.lru_replay.specs.Replies.{Reply, flag, value, pair, listed, reserved, stats, done, insert_reply, made_reply}
+use Rattle.lru_replay.specs.Replies.{Reply, flag, value, pair, listed, reserved, shrunk, stats, done, insert_reply}
+use Rattle.lru_replay.specs.Replies.{made_reply}
 use Rattle.lru_replay.specs.Steps.{FindsByHash}
 
 module _ {K V S : Type 0} (eq : K → K → Bool) where
@@ -34,8 +35,8 @@ abbrev pub emptied : {K V S : Type 0} → Rules K V S → Contents K V S → Con
 emptied rules c = record { pairs = []; limiter = rules.on_cleared c.limiter }
 
 module _ {K V S : Type 0} (rules : Rules K V S) (offers : Offers K V S K) (eq : K → K → Bool) (hash_of : K → ℕ) where
-  -- From the list c, the call may say this and leave d. A table alone tells what room is reserved and all figures but
-  -- the number of pairs, so of these nothing is said.
+  -- From the list c, the call may say this and leave d. A table alone tells what room is reserved, whether it shrinks,
+  -- and all figures but the number of pairs, so of these nothing is said.
   abbrev pub ListStep : Contents K V S → Call K V S → Reply K V → Contents K V S → Type 0
   ListStep c (calls.Insert key v) reply d = (result : Result Bool AllocError)
       × InsertsInList rules offers eq key v c result d × (reply ≡ insert_reply result)
@@ -61,6 +62,7 @@ module _ {K V S : Type 0} (rules : Rules K V S) (offers : Offers K V S K) (eq : 
   ListStep c calls.PeekNewest reply d = (reply ≡ pair (first c.pairs)) × (d ≡ c)
   ListStep c (calls.Reserve n) reply d =
       (result : Result (Unit {0}) ReserveError) × (reply ≡ reserved result) × (d ≡ c)
+  ListStep c calls.Shrink reply d = (result : Result Bool AllocError) × (reply ≡ shrunk result) × (d ≡ c)
   ListStep c calls.Clear reply d = (reply ≡ done) × (d ≡ emptied rules c)
   ListStep c (calls.Drain front back) reply d =
       (reply ≡ listed (newest_given rules front c ++ oldest_given rules back (pops_first rules front c)))

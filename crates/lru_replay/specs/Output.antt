@@ -1,6 +1,7 @@
 -- What is written: the text of a reply, or a beginning of it where a write fails.
 use Rattle.std.specs.Prelude.{◌≡◌, ℕ, Bool, true, false, List, [], ◌∷◌, ◌++◌, Option, Some, None, Result, Ok, Err}
-use Rattle.std.specs.Prelude.{decimal, codes}
+use Rattle.std.specs.Prelude.{decimal, codes, ◌==◌, if◌then◌else◌}
+use Rattle.std.specs.declared.alloc.AllocError.{AllocError}
 use Rattle.std.specs.Io.KnownBytes.{Appends}
 use Rattle.schnellru.specs.Lists.{IsFront}
 use Rattle.schnellru.specs.declared.map.reserve.ReserveError.{ReserveError}
@@ -8,7 +9,8 @@ use Rattle.schnellru.specs.declared.map.reserve.ReserveError.TheVariants.{TooLar
 use Rattle.lru_replay.specs.declared.figures.Figures.{Figures}
 use Rattle.lru_replay.specs.declared.outcome.ReplayError.{ReplayError}
 use Rattle.lru_replay.specs.declared.outcome.ReplayError.TheVariants as errors
-use Rattle.lru_replay.specs.Replies.{Reply, flag, value, pair, listed, reserved, stats, done, no_memory, cost_differs}
+use Rattle.lru_replay.specs.Replies.{Reply, flag, value, pair, listed, reserved, shrunk, stats, done, no_memory}
+use Rattle.lru_replay.specs.Replies.{cost_differs}
 
 -- a write failed, and a beginning of the text was written
 abbrev pub Fails : ReplayError → Option (List ℕ) → Option (List ℕ) → List ℕ → Type 0
@@ -58,6 +60,11 @@ reservation_text (Err TooLarge) = codes "too large"
 reservation_text (Err Refused) = codes "refused"
 reservation_text (Err Memory) = codes "no memory"
 
+abbrev pub shrink_text : Result Bool AllocError → List ℕ
+shrink_text (Ok true) = codes "ok"
+shrink_text (Ok false) = codes "kept"
+shrink_text (Err e) = codes "no memory"
+
 -- a name and its number
 abbrev pub named_text : List ℕ → ℕ → List ℕ
 named_text name n = name ++ decimal n
@@ -67,11 +74,16 @@ abbrev pub cost_text : Option ℕ → List ℕ
 cost_text None = []
 cost_text (Some cost) = named_text (codes " cost ") cost
 
+-- as ` placed 15 shrunk 5`, and ` placed 15` where no shrink placed an entry anew
+abbrev pub placed_text : ℕ → ℕ → List ℕ
+placed_text placed anew =
+    named_text (codes " placed ") placed ++ (if anew == 0 then [] else named_text (codes " shrunk ") anew)
+
 -- as `len 1 capacity 3 memory 148 moved 0 placed 3`
 abbrev pub figures_text : Figures → List ℕ
 figures_text figures = named_text (codes "len ") figures.len ++ (named_text (codes " capacity ") figures.capacity
     ++ (named_text (codes " memory ") figures.memory ++ (named_text (codes " moved ") figures.moved
-    ++ named_text (codes " placed ") figures.placed)))
+    ++ placed_text figures.placed figures.shrunk)))
 
 -- A reply, where the limiter keeps this cost, if any. No line is told that a cost differs.
 abbrev pub reply_text : Option ℕ → Reply ℕ ℕ → List ℕ
@@ -80,6 +92,7 @@ reply_text cost (value v) = value_text v
 reply_text cost (pair left) = left_text left
 reply_text cost (listed pairs) = pairs_text pairs
 reply_text cost (reserved result) = reservation_text result
+reply_text cost (shrunk result) = shrink_text result
 reply_text cost (stats figures) = figures_text figures ++ cost_text cost
 reply_text cost done = codes "ok"
 reply_text cost no_memory = codes "no memory"

@@ -19,6 +19,8 @@ pub data Reply (K V : Type 0) : Type 0 where
   listed : List (K × V) → Reply K V
   -- whether room is reserved
   reserved : Result (Unit {0}) ReserveError → Reply K V
+  -- whether the table has fewer buckets
+  shrunk : Result Bool AllocError → Reply K V
   -- the figures of the map
   stats : Figures → Reply K V
   -- it is done, and there is nothing to say of it
@@ -32,6 +34,7 @@ module _ {K V : Type 0} where
   abbrev pub wants_memory : Reply K V → Bool
   wants_memory no_memory = true
   wants_memory (reserved (Err Memory)) = true
+  wants_memory (shrunk (Err e)) = true
   wants_memory reply = false
 
   -- what an answer says
@@ -42,12 +45,14 @@ module _ {K V : Type 0} where
   said (answers.Pairs ps) = listed ps.items
   said answers.Done = done
   said (answers.Reserved result) = reserved result
+  said (answers.Shrunk result) = shrunk result
   said (answers.Stats len capacity memory report) = stats (record {
     len = len;
     capacity = capacity;
     memory = memory;
     moved = report.moved;
     placed = report.placed;
+    shrunk = report.shrunk;
   })
   said answers.Memory = no_memory
   said answers.CostDiffers = cost_differs

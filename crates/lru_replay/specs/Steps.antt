@@ -12,13 +12,15 @@ use Rattle.schnellru.specs.GetOrInserts.{MakesNewest}
 use Rattle.schnellru.specs.Inserts.{Insert}
 use Rattle.schnellru.specs.Lists.{first, last, lookup, lookup_entry}
 use Rattle.schnellru.specs.Reservations.{Reserve}
+use Rattle.schnellru.specs.Shrinks.{Shrink}
 use Rattle.schnellru.specs.State.{State}
 use Rattle.schnellru.specs.declared.map.reserve.ReserveError.{ReserveError}
 use Rattle.lru_replay.specs.declared.call.Call.{Call}
 use Rattle.lru_replay.specs.declared.call.Call.TheVariants as calls
 use Rattle.lru_replay.specs.declared.figures.Figures.{Figures}
 use Rattle.lru_replay.specs.Figures.{IsFigures}
-use Rattle.lru_replay.specs.Replies.{Reply, flag, value, pair, listed, reserved, stats, done, insert_reply, made_reply}
+use Rattle.lru_replay.specs.Replies.{Reply, flag, value, pair, listed, reserved, shrunk, stats, done, insert_reply}
+use Rattle.lru_replay.specs.Replies.{made_reply}
 
 module _ {K V : Type 0} (eq : K → K → Bool) (hash_of : K → ℕ) where
   -- What a search by a hash finds of a key: its pair, whose hash has the tag of the hash, or nothing, where the key is
@@ -64,6 +66,8 @@ module _ {K V S H : Type 0} (rules : Rules K V S) (offers : Offers K V S K) (eq 
   Step old calls.PeekNewest reply new = (reply ≡ pair (first old.pairs)) × (new ≡ old)
   Step old (calls.Reserve n) reply new =
       (result : Result (Unit {0}) ReserveError) × Reserve rules n old result new × (reply ≡ reserved result)
+  Step old calls.Shrink reply new =
+      (result : Result Bool AllocError) × Shrink old result new × (reply ≡ shrunk result)
   Step old calls.Clear reply new = (reply ≡ done) × (new ≡ cleared rules old)
   Step old (calls.Drain front back) reply new =
       (pairs : List (K × V)) × Drained rules front back old pairs new × (reply ≡ listed pairs)

@@ -1,5 +1,6 @@
 //! The calls of a run, and their answers.
 use schnellru::{MoveReport, ReserveError};
+use std::alloc::AllocError;
 
 /// A call of a run. `docs/RUNS.md` tells what each answers.
 ///
@@ -34,6 +35,8 @@ pub enum Call<K, V, L> {
     PeekNewest,
     /// `try_reserve`: makes room for so many pairs more.
     Reserve(usize),
+    /// `shrink_to_fit`: moves the pairs into as few buckets as hold them.
+    Shrink,
     /// `clear`: drops all pairs.
     Clear,
     /// `drain`: gives so many pairs from the newest end, then so many from the oldest, and drops the others.
@@ -66,6 +69,8 @@ pub enum Answer<K, V> {
     Done,
     /// To `Reserve`: whether there is room, or why not.
     Reserved(Result<(), ReserveError>),
+    /// To `Shrink`: whether the table has fewer buckets now, or that no memory was found, and nothing has changed.
+    Shrunk(Result<bool, AllocError>),
     /// To `Stats`: the figures of the map.
     Stats {
         /// The number of pairs.
@@ -74,11 +79,11 @@ pub enum Answer<K, V> {
         capacity: usize,
         /// The bytes of the table.
         memory: usize,
-        /// What inserts have moved and placed.
+        /// What inserts have moved and placed, and what shrinks have placed anew.
         report: MoveReport,
     },
     /// To `Insert` and `GetOrInsert`: no memory was found. To `List` and `Drain`: none was found for the pairs, and
-    /// nothing has changed. A reservation tells it in `Reserved`.
+    /// nothing has changed. A reservation tells it in `Reserved`, a shrink in `Shrunk`.
     Memory,
     /// To `Write` and `SetLimiter`, under a summing limiter: the sum would be another, and nothing has changed.
     CostDiffers,

@@ -22,6 +22,8 @@ pub enum Command {
     PopNewest,
     /// `reserve N`: makes room for so many pairs more.
     Reserve(u64),
+    /// `shrink`: moves the pairs into as few buckets as hold them.
+    Shrink,
     /// `drain N`: gives the newest pairs, at most so many, and drops all.
     Drain(u64),
     /// `clear`: drops all pairs.
@@ -141,6 +143,9 @@ fn plain_command_of(line: &[u8]) -> Option<Command>
     }
     if line == b"stats".as_slice() {
         return Some(Command::Stats);
+    }
+    if line == b"shrink".as_slice() {
+        return Some(Command::Shrink);
     }
     None
 }

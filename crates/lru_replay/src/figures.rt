@@ -60,6 +60,8 @@ pub struct Figures {
     pub moved: u64,
     /// How many new entries inserts have placed.
     pub placed: u64,
+    /// How many entries shrinks have placed anew.
+    pub shrunk: u64,
 }
 
 /// The figures of the map.
@@ -75,5 +77,6 @@ pub fn figures_of<K: Eq + Hash, V, L: Limiter<K, V>, S: BuildHasher>(
         memory: map.memory_usage(),
         moved: report.moved,
         placed: report.placed,
+        shrunk: report.shrunk,
     }
 }

@@ -1,6 +1,6 @@
 //! What is proved of runs of calls, beside what `run_calls` and `run_summing` say of each. The functions do nothing:
 //! their contracts are the theorems.
-ghost use Rattle.std.specs.Prelude.{◌≡◌, ◌≤◌, ◌+◌, ◌*◌, length, List, map};
+ghost use Rattle.std.specs.Prelude.{◌≡◌, ℕ, ◌≤◌, ◌+◌, ◌*◌, length, List, map};
 ghost use Rattle.std.specs.List.{AllByRecursion, IsDistinct};
 ghost use Rattle.lru_limits.specs.Hashing.{hash_by};
 ghost use Rattle.schnellru.specs.Exact.{AlwaysGrants, HasTables, HasTableFor, IsDetermined, NeverLacks, LookAlike};
@@ -16,11 +16,11 @@ use schnellru::{ByCost, ByLength, ByMemoryUsage, Costed, Insertion, Limiter, Sum
 use std::hash::{BuildHasher, Hash};
 
 /// Over any stretch of calls moved and potential together rise by at most two for each element that is placed, while
-/// the count of these goes on.
+/// the count of these goes on, and by one for each that shrinks place anew.
 pub fn calls_pay_for_moves<K: Eq + Hash, V, L: Insertion<K, V, K>, S: BuildHasher>()
     ensures rise { (old new : State K V L S) (calls : List (Call K V L)) (replies : List (Reply K V)) →
         IsRun (CallStep L.rules L.offers K.eq (hash_by K.hash_input S.BuildHasher S.Hasher.Hasher)) (IsMap K.eq)
-        old calls replies new → IsSized old → PaysForMoves old new }
+        old calls replies new → IsSized old → (anew : ℕ) × PaysForMoves anew old new }
 {
     laws::runs_pay_for_moves::<K, V, K, L, S>();
 }

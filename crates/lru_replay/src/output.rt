@@ -1,11 +1,13 @@
 //! The texts of replies, written piece by piece.
 ghost use Rattle.std.specs.Prelude.{◌≡◌, ℕ, Bool, Option, [], ◌∷◌, decimal};
 ghost use Rattle.lru_replay.specs.Output.{Writes, flag_text, value_text, left_text, pair_text, rest_text, pairs_text};
-ghost use Rattle.lru_replay.specs.Output.{reservation_text, figures_text, cost_text, named_text, taken_text};
+ghost use Rattle.lru_replay.specs.Output.{reservation_text, shrink_text, figures_text, placed_text, cost_text};
+ghost use Rattle.lru_replay.specs.Output.{named_text, taken_text};
 
 use crate::figures::Figures;
 use crate::outcome::ReplayError;
 use schnellru::{LinkType, ReserveError, Walk};
+use std::alloc::AllocError;
 use std::io::{ErrorKind, Write};
 
 /// Writes all the bytes. A write that was interrupted is tried again.
@@ -76,6 +78,20 @@ pub fn write_reservation<W: Write>(
     }
 }
 
+/// Writes whether the table has fewer buckets now, as `ok` or `kept`, or that no memory was found.
+pub fn write_shrink<W: Write>(
+    writer: &mut W,
+    shrunk: Result<bool, AllocError>,
+) -> Result<(), ReplayError>
+    ensures { Writes (W.contents writer.old) (W.contents writer.new) result (shrink_text shrunk) }
+{
+    match shrunk {
+        Ok(true) => write_bytes(writer, b"ok"),
+        Ok(false) => write_bytes(writer, b"kept"),
+        Err(_) => write_bytes(writer, b"no memory"),
+    }
+}
+
 /// Writes the pairs with one space between them, or `-` for none.
 pub fn write_pairs<N: LinkType, W: Write>(
     writer: &mut W,
@@ -112,7 +128,19 @@ pub fn write_figures<W: Write>(writer: &mut W, figures: Figures) -> Result<(), R
     write_named(writer, b" capacity ", figures.capacity as u64)?;
     write_named(writer, b" memory ", figures.memory as u64)?;
     write_named(writer, b" moved ", figures.moved)?;
-    write_named(writer, b" placed ", figures.placed)
+    write_placed(writer, figures.placed, figures.shrunk)
+}
+
+/// Writes how many entries were placed, and after it how many shrinks placed anew, where there are any.
+fn write_placed<W: Write>(writer: &mut W, placed: u64, shrunk: u64) -> Result<(), ReplayError>
+    ensures { Writes (W.contents writer.old) (W.contents writer.new) result (placed_text placed shrunk) }
+{
+    write_named(writer, b" placed ", placed)?;
+    if shrunk == 0 {
+        write_bytes(writer, b"")
+    } else {
+        write_named(writer, b" shrunk ", shrunk)
+    }
 }
 
 /// Writes the cost after the figures, where one is kept.

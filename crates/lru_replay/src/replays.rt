@@ -19,7 +19,7 @@ use crate::line::{Ending, Line, read_line};
 use crate::outcome::{ReplayEnd, ReplayError};
 use crate::output::{
     write_bytes, write_cost, write_figures, write_flag, write_left, write_pairs, write_reservation,
-    write_value,
+    write_shrink, write_value,
 };
 use crate::steps::get;
 use schnellru::{
@@ -51,6 +51,7 @@ fn carry_out<L: Insertion<u64, u64, u64> + TellsCost, W: Write>(
         Some(Command::PopOldest) => write_left(writer, map.pop_oldest()),
         Some(Command::PopNewest) => write_left(writer, map.pop_newest()),
         Some(Command::Reserve(n)) => write_reservation(writer, map.try_reserve(n as usize)),
+        Some(Command::Shrink) => write_shrink(writer, map.shrink_to_fit()),
         Some(Command::Drain(n)) => drain(map, n, writer),
         Some(Command::Clear) => {
             map.clear();

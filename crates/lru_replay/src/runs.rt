@@ -106,6 +106,7 @@ where
         Call::PeekOldest => Answer::Pair(peek_oldest(map)),
         Call::PeekNewest => Answer::Pair(peek_newest(map)),
         Call::Reserve(n) => Answer::Reserved(map.try_reserve(n)),
+        Call::Shrink => Answer::Shrunk(map.shrink_to_fit()),
         Call::Clear => {
             map.clear();
             Answer::Done

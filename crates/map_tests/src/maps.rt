@@ -23,6 +23,7 @@ mod readme;
 mod refusals;
 mod removals;
 mod reports;
+mod shrinks;
 mod sizes;
 mod texts;
 mod walks;

@@ -20,19 +20,24 @@
 --     has_tables           there are tables for the pairs of a map, where links and bytes reach one for many more
 --     Shape, shape         a map, but for which of its buckets are full; `same_shape` and `look_alike` say so
 --     left_shape, cleared_shape, reserve_is      what calls make of it in tables of up to 16 buckets
+--     shrinks_look_alike   two shrinks of maps of one shape answer alike, and leave such maps
+--     shrink_contents      a shrink leaves the pairs and the limiter
 --     any_step_same        no call changes what builds the hashers, how far links reach, and what a bucket takes
 pub use Rattle.schnellru.proofs.Theorems.KeySearches.{given-found, given-tag, none-found}
 pub use Rattle.schnellru.proofs.Maps.LeavingPairs.{leaves_trans, length-without_first, length-without_last}
 pub use Rattle.schnellru.proofs.Maps.Promotions.{promoted_sized, promoted_is_map}
 pub use Rattle.schnellru.proofs.Maps.SomeInsert.{some_insert, some_leave}
 pub use Rattle.schnellru.proofs.Maps.SomeReservation.{cleared_sized, some_reservation}
+pub use Rattle.schnellru.proofs.Maps.SomeShrink.{some_shrink}
 pub use Rattle.schnellru.proofs.Theorems.Fronts.{found_named}
 pub use Rattle.schnellru.proofs.Theorems.Limits.{length-without}
 pub use Rattle.schnellru.proofs.TableSizes.Reached.{has_tables}
 pub use Rattle.schnellru.proofs.Theorems.Runs.{any_step_same}
 pub use Rattle.schnellru.proofs.Theorems.Sums.{sum-set}
 pub use Rattle.schnellru.proofs.Theorems.SmallTables.{Shape, shape, same_shape, look_alike, with_left, left_shape}
+pub use Rattle.schnellru.proofs.Theorems.Shrinks.{shrink_contents}
 pub use Rattle.schnellru.proofs.Theorems.SmallCalls.{clears, cleared_shape, is_memory, reserve_in, reserve_is}
+pub use Rattle.schnellru.proofs.Theorems.SmallCalls.{shrinks_look_alike}
 use Rattle.std.proofs.Common.{◌≡◌, ℕ, Bool, true, false, cond, List, [], ◌∷◌, ◌++◌, refl, sym, ap, ◌∙◌, subst}
 use Rattle.std.proofs.Common.{Option, Some, None, Result, Ok, Err}
 use Rattle.std.specs.Prelude.{IfSome, option_map, unwrap_or}

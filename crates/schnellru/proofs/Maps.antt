@@ -8,7 +8,9 @@ pub mod HeldMaps
 pub mod Reservations
 pub mod ClearedMaps
 pub mod MovedPairs
+pub mod ShrunkMaps
 pub mod Placements
 pub mod SomeInsert
 pub mod SomeReservation
+pub mod SomeShrink
 pub mod EmptyMaps

@@ -15,6 +15,7 @@ pub mod GrantedGrowth
 pub mod Sums
 pub mod Limits
 pub mod CountedMoves
+pub mod Shrinks
 pub mod Runs
 pub mod AddedPairs
 pub mod RunLimits

@@ -54,6 +54,7 @@ module _ {K V S : Type 0} where
     placings = st.placings;
     moved = st.moved;
     placed = st.placed;
+    shrunk = st.shrunk;
     entry_bytes = st.entry_bytes;
     max = st.max;
   }

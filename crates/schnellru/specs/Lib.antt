@@ -6,6 +6,7 @@ pub mod Calls
 pub mod Inserts
 pub mod HandedOver
 pub mod Reservations
+pub mod Shrinks
 pub mod Theorems
 pub mod GetOrInserts
 pub mod IfMade

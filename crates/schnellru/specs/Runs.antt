@@ -11,6 +11,7 @@ use Rattle.schnellru.specs.Drains.{Drained}
 use Rattle.schnellru.specs.GetOrInserts.{MakesNewest}
 use Rattle.schnellru.specs.Inserts.{Insert}
 use Rattle.schnellru.specs.Reservations.{Reserve}
+use Rattle.schnellru.specs.Shrinks.{Shrink}
 use Rattle.schnellru.specs.declared.map.reserve.ReserveError.{ReserveError}
 
 module _ {K V S H I : Type 0} (rules : Rules K V S) (offers : Offers K V S I) (names : I → K → Bool)
@@ -29,6 +30,7 @@ module _ {K V S H I : Type 0} (rules : Rules K V S) (offers : Offers K V S I) (n
     drains : (newest oldest : ℕ) (result : List (K × V)) → Drained rules newest oldest old result new → Step old new
     clears : new ≡ cleared rules old → Step old new
     reserves : (n : ℕ) (result : Result (Unit {0}) ReserveError) → Reserve rules n old result new → Step old new
+    shrinks : (result : Result Bool AllocError) → Shrink old result new → Step old new
 
   -- the same, or a value is written through a reference, or another limiter is
   pub data AnyStep (old new : State K V S H) : Type 0 where

@@ -32,6 +32,8 @@ pub record State (K V S H : Type 0) : Type 0 where
   -- how many entries inserts placed anew, and how many new ones they placed
   pub moved : ℕ
   pub placed : ℕ
+  -- how many entries shrinks placed anew
+  pub shrunk : ℕ
   -- what a bucket takes, and the number from which on links reach no bucket
   pub entry_bytes : ℕ
   pub max : ℕ
@@ -48,6 +50,7 @@ module _ {K V S H : Type 0} where
     placings = 0;
     moved = 0;
     placed = 0;
+    shrunk = 0;
     entry_bytes = entry_bytes;
     max = max;
   }
@@ -80,14 +83,17 @@ module _ {K V S H : Type 0} where
     -- the counts fit 64 bits
     pub moved : st.moved < 2 ^ 64
     pub placed : st.placed < 2 ^ 64
+    pub shrunk : st.shrunk < 2 ^ 64
 
   -- twice what is used of the table, beyond half of it
   abbrev pub potential : State K V S H → ℕ
   potential st = full_capacity (buckets st) - 2 * room st
 
-  -- moved and potential together are at most twice what was placed, and so is moved alone
-  abbrev pub IsPaid : State K V S H → Type 0
-  IsPaid st = st.moved + potential st ≤ 2 * st.placed
+  -- what inserts moved is paid for by what they placed, two for each, and by what shrinks placed anew
+  pub record IsPaid (st : State K V S H) : Type 0 where
+    pub moved : st.moved ≤ 2 * st.placed + st.shrunk
+    -- and the potential with it, while the count of shrinks goes on
+    pub ahead : st.shrunk < 2 ^ 64 - 1 → st.moved + potential st ≤ 2 * st.placed + st.shrunk
 
   -- what holds of every map
   pub record IsMap (eq : K → K → Bool) (st : State K V S H) : Type 0 where

@@ -3,6 +3,7 @@ use Rattle.std.specs.Prelude.{◌≡◌, ℕ, ◌+◌, ◌-◌, ◌*◌, ◌/◌
 use Rattle.std.specs.Prelude.{Some, None, Result, Ok, Err}
 use Rattle.std.specs.declared.alloc.AllocError.{AllocError}
 use Rattle.group_table.specs.Sizes.{full_capacity}
+use Rattle.group_table.specs.Change.{count_up}
 use Rattle.lru_limits.specs.Rules.{Rules, Offers}
 use Rattle.schnellru.specs.Sizes.{usage}
 use Rattle.schnellru.specs.Lists.{IsFront, lookup_entry, without}
@@ -11,12 +12,13 @@ use Rattle.schnellru.specs.Place.{LacksRoom, CannotGrow}
 use Rattle.schnellru.specs.Inserts.{replacement, MayGive}
 
 module _ {K V S H : Type 0} where
-  -- from old to new, moved and potential together rise by at most 2 for each element placed,
-  -- while the count of these goes on
-  pub record PaysForMoves (old new : State K V S H) : Type 0 where
+  -- from old to new, in which shrinks place so many entries anew, moved and potential together rise by at most 1 for
+  -- each of these and 2 for each element placed, while the count of elements placed goes on
+  pub record PaysForMoves (anew : ℕ) (old new : State K V S H) : Type 0 where
     pub placed : old.placed ≤ new.placed
+    pub shrunk : new.shrunk ≡ count_up old.shrunk anew
     pub moved : new.placed < 2 ^ 64 - 1 →
-        new.moved + potential new + 2 * old.placed ≤ old.moved + potential old + 2 * new.placed
+        new.moved + potential new + 2 * old.placed ≤ old.moved + potential old + 2 * new.placed + anew
 
   -- the placings of the table rise by what moved and placed rise by, while no count has stopped
   abbrev pub CountsPlacings : State K V S H → State K V S H → Type 0

@@ -26,10 +26,14 @@ use lru_limits::{ByLength, ByMemoryUsage, Insertion, Limiter, LookupKey, Summing
 use std::hash::{BuildHasher, Hash};
 
 mod runs;
+mod shrinks;
 
 pub use runs::{
     calls_add_one_pair, runs_begin_with_maps, runs_keep_maps, runs_keep_sums, runs_keep_the_cost,
     runs_keep_the_length, runs_keep_the_memory_usage, runs_pay_for_moves,
+};
+pub use shrinks::{
+    shrinks_keep_maps, shrinks_keep_sums, shrinks_leave_a_tight_table, shrinks_pay_for_moves,
 };
 
 /// An insert gives up pairs from the old end alone, save one whose replacement is refused.
@@ -232,7 +236,8 @@ pub fn inserts_keep_sums<K: Eq + Hash, V, I: LookupKey<K>, L: Summing<K, V, I>, 
 {}
 
 /// An insert pays for the entries that it moves: moved and potential together rise by at most 2 for the one that it
-/// places, and so moved stays at most twice what was placed. It moves and places no entry that it does not count.
+/// places, and so moved stays at most twice what was placed, and what shrinks placed anew. It moves and places no entry
+/// that it does not count.
 pub fn inserts_pay_for_moves<
     K: Eq + Hash,
     V,
@@ -243,11 +248,11 @@ pub fn inserts_pay_for_moves<
     ensures rise { (key : I) (value : V) (old : State K V L S) (result : Result Bool AllocError) (new : State K V L S) →
         IsSized old →
         Insert L.rules L.offers I.names (hash_by K.hash_input S.BuildHasher S.Hasher.Hasher) key value old result new →
-        PaysForMoves old new }
+        PaysForMoves 0 old new }
     ensures paid { (key : I) (value : V) (old : State K V L S) (result : Result Bool AllocError) (new : State K V L S) →
         IsSized old → IsPaid old →
         Insert L.rules L.offers I.names (hash_by K.hash_input S.BuildHasher S.Hasher.Hasher) key value old result new →
-        IsPaid new × (new.moved ≤ 2 * new.placed) }
+        IsPaid new }
     ensures counted { (key : I) (value : V) (old : State K V L S) (result : Result Bool AllocError)
         (new : State K V L S) →
         Insert L.rules L.offers I.names (hash_by K.hash_input S.BuildHasher S.Hasher.Hasher) key value old result new →
@@ -359,13 +364,13 @@ pub fn removals_keep_sums<K: Eq + Hash, V, I: LookupKey<K>, L: Summing<K, V, I>,
 /// Removals, pops and clears move nothing: moved and potential together do not rise.
 pub fn removals_pay_for_moves<K: Eq + Hash, V, L: Limiter<K, V>, S: BuildHasher>()
     ensures removed { (names : K → Bool) (old : State K V L S) (result : Option V) (new : State K V L S) →
-        IsSized old → Remove L.rules names old result new → PaysForMoves old new }
+        IsSized old → Remove L.rules names old result new → PaysForMoves 0 old new }
     ensures oldest { (old : State K V L S) (result : Option (K × V)) (new : State K V L S) →
-        IsSized old → PopOldest L.rules old result new → PaysForMoves old new }
+        IsSized old → PopOldest L.rules old result new → PaysForMoves 0 old new }
     ensures newest { (old : State K V L S) (result : Option (K × V)) (new : State K V L S) →
-        IsSized old → PopNewest L.rules old result new → PaysForMoves old new }
+        IsSized old → PopNewest L.rules old result new → PaysForMoves 0 old new }
     ensures cleared { (old : State K V L S) →
-        IsSized old → PaysForMoves old (cleared L.rules old) }
+        IsSized old → PaysForMoves 0 old (cleared L.rules old) }
 {}
 
 /// A key that was removed is not there.
@@ -381,7 +386,8 @@ pub fn reservations_keep_maps<K: Eq + Hash, V, L: Limiter<K, V>, S: BuildHasher>
         IsMap K.eq old → IsSized new → Reserve L.rules n old result new → IsMap K.eq new }
     ensures list { (n : ℕ) (old : State K V L S) (result : Result (Unit {0}) ReserveError) (new : State K V L S) →
         Reserve L.rules n old result new →
-        (new.pairs ≡ old.pairs) × (new.moved ≡ old.moved) × (new.placed ≡ old.placed) }
+        (new.pairs ≡ old.pairs) × (new.moved ≡ old.moved) × (new.placed ≡ old.placed)
+        × (new.shrunk ≡ old.shrunk) }
 {}
 
 /// A summing limiter that held the sum of the costs holds it after a reservation.
@@ -399,7 +405,7 @@ pub fn reservations_keep_sums<
 /// A reservation does not count its moves, and the potential does not rise.
 pub fn reservations_pay_for_moves<K: Eq + Hash, V, L: Limiter<K, V>, S: BuildHasher>()
     ensures { (n : ℕ) (old : State K V L S) (result : Result (Unit {0}) ReserveError) (new : State K V L S) →
-        IsSized old → Reserve L.rules n old result new → PaysForMoves old new }
+        IsSized old → Reserve L.rules n old result new → PaysForMoves 0 old new }
 {}
 
 /// Where room is reserved, there is room.

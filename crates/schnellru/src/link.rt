@@ -5,7 +5,7 @@
 ghost use Rattle.std.specs.Prelude.{◌≡◌, ◌≢◌, ℕ, ◌+◌, ◌^◌, ◌<◌, ◌≤◌, false, [], ◌∷◌, length, Some, None, IfSome};
 ghost use Rattle.std.specs.Prelude.{IfNone, IfOk, IfErr, OnOk, OnErr, IsOk, IsTrue, replicate, slice_set};
 ghost use Rattle.std.specs.Borrow.{sem};
-ghost use Rattle.group_table.specs.Sizes.{IsPowerFromFour, full_capacity};
+ghost use Rattle.group_table.specs.Sizes.{IsBucketCount, full_capacity};
 ghost use Rattle.group_table.specs.Bucket.{empty, marks_of, IsFull, entry_at, entry_count, room, room_at};
 ghost use Rattle.group_table.specs.Change.{HasNoPlace, Removes, count_up};
 ghost use Rattle.group_table.specs.Relocation.{Renumbers, KeepsHashes};
@@ -284,13 +284,13 @@ impl<K: Eq + Hash, V, N: LinkType> Linked<K, V, N> {
 
 impl<K: Eq + Hash + Drop, V: Drop, N: LinkType> Linked<K, V, N> {
     // Moves all pairs into a table of so many buckets, in the same order. Among as many buckets as now they stay in
-    // this table, and without pairs that needs no memory.
+    // this table, and without pairs that needs no memory. Nor do no buckets.
     pub(crate) fn move_to<S: BuildHasher>(
         &mut self,
         buckets: usize,
         hasher: &S,
     ) -> Result<(), AllocError>
-        requires count { IsPowerFromFour buckets }
+        requires count { IsBucketCount buckets }
         requires addressable { buckets + 16 < 2 ^ 63 }
         requires below { buckets < N.number N.MAX }
         requires within { entry_count self.old.slots ≤ full_capacity buckets }
@@ -303,6 +303,7 @@ impl<K: Eq + Hash + Drop, V: Drop, N: LinkType> Linked<K, V, N> {
         ensures linked { IsLinked self.new }
         ensures unchanged { OnErr result (self.new ≡ self.old) }
         ensures succeeds { length self.old.order ≡ 0 → length self.old.slots ≡ buckets → IsOk result }
+        ensures gives_back { buckets ≡ 0 → IsOk result }
     {
         let links = move_entries(&mut self.table, buckets, hasher)?;
         rewrite(
@@ -322,7 +323,7 @@ fn move_entries<K: Eq + Hash + Drop, V: Drop, N: LinkType, S: BuildHasher>(
     buckets: usize,
     hasher: &S,
 ) -> Result<Vec<N>, AllocError>
-    requires count { IsPowerFromFour buckets }
+    requires count { IsBucketCount buckets }
     requires addressable { buckets + 16 < 2 ^ 63 }
     requires below { buckets < N.number N.MAX }
     requires within { entry_count table.old.slots ≤ full_capacity buckets }
@@ -336,6 +337,7 @@ fn move_entries<K: Eq + Hash + Drop, V: Drop, N: LinkType, S: BuildHasher>(
     ensures table { IsTable (marks_of table.new.slots) }
     ensures unchanged { OnErr result (table.new ≡ table.old) }
     ensures succeeds { entry_count table.old.slots ≡ 0 → length table.old.slots ≡ buckets → IsOk result }
+    ensures gives_back { buckets ≡ 0 → IsOk result }
 {
     if buckets == table.buckets() {
         table.rehash(|entry| hasher.hash_one(&entry.pair.key))

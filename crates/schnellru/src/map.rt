@@ -24,6 +24,7 @@ mod remove;
 mod replace;
 pub(crate) mod report;
 pub(crate) mod reserve;
+mod shrink;
 
 /// The bytes of an entry of a map that `LruMap::default` makes.
 pub const DEFAULT_ENTRY_BYTES: usize = 32;
@@ -69,6 +70,7 @@ pub struct LruMap<K: Eq + Hash, V, L: Limiter<K, V> = ByLength, S: BuildHasher =
     entry_bytes: usize,
     moved: u64,
     placed: u64,
+    shrunk: u64,
     alloc: Global,
 }
 
@@ -85,6 +87,7 @@ impl<K: Eq + Hash, V, L: Limiter<K, V>, S: BuildHasher> Model for LruMap<K, V, L
       hasher = m.hasher;
       moved = m.moved;
       placed = m.placed;
+      shrunk = m.shrunk;
       entry_bytes = m.entry_bytes;
       max = L.LinkType.number L.LinkType.MAX;
     }) };
@@ -95,6 +98,7 @@ impl<K: Eq + Hash, V, L: Limiter<K, V>, S: BuildHasher> Model for LruMap<K, V, L
           hasher = m.hasher;
           moved = m.moved;
           placed = m.placed;
+          shrunk = m.shrunk;
           entry_bytes = m.entry_bytes;
           max = L.LinkType.number L.LinkType.MAX;
         }) };
@@ -121,6 +125,7 @@ impl<K: Eq + Hash, V, L: Limiter<K, V>, S: BuildHasher> LruMap<K, V, L, S> {
             entry_bytes,
             moved: 0,
             placed: 0,
+            shrunk: 0,
             alloc,
         }
     }

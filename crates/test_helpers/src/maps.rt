@@ -1,5 +1,5 @@
 //! Maps from numbers to numbers, and what a test looks at in them.
-use schnellru::{Insertion, Limiter, LruMap, MoveReport, RandomState};
+use schnellru::{Insertion, Limiter, LruMap, RandomState};
 use std::alloc::{AllocError, Global};
 use std::hash::{BuildHasher, Hash};
 use std::ops::RangeInclusive;
@@ -57,6 +57,6 @@ pub fn figures<K: Eq + Hash, V, L: Limiter<K, V>, S: BuildHasher>(
 pub fn report<K: Eq + Hash, V, L: Limiter<K, V>, S: BuildHasher>(
     map: &LruMap<K, V, L, S>,
 ) -> (u64, u64) {
-    let MoveReport { moved, placed } = map.move_report();
-    (moved, placed)
+    let report = map.move_report();
+    (report.moved, report.placed)
 }

@@ -1,6 +1,6 @@
 //! The calls of `Table` that move every entry.
 ghost use Rattle.std.specs.Prelude.{◌≡◌, ℕ, ◌+◌, ◌^◌, ◌<◌, ◌≤◌, [], length, count_by, IfOk, OnErr, OnOk, IsOk};
-ghost use Rattle.group_table.specs.Sizes.{IsPowerFromFour, full_capacity};
+ghost use Rattle.group_table.specs.Sizes.{IsBucketCount, full_capacity};
 ghost use Rattle.group_table.specs.Bucket.{marks_of, entry_count, is_deleted, room};
 ghost use Rattle.group_table.specs.Table.{IsTable};
 ghost use Rattle.group_table.specs.Change.{count_up};
@@ -18,6 +18,8 @@ use std::mem;
 impl<T: Drop> Table<T> {
     /// Moves all entries, in rising order of their buckets, into a fresh table of so many buckets.
     ///
+    /// A table without entries may go to no buckets, which gives its memory back.
+    ///
     /// The answer has a link for each old bucket: the number of the bucket where its entry stands now, or `MAX` where
     /// it was free. It is empty for a table without entries. `hash_of` is asked once for each entry, and for nothing
     /// else. The placings rise by the entries, and no bucket is deleted afterwards. It takes time by the old buckets
@@ -26,13 +28,13 @@ impl<T: Drop> Table<T> {
     /// # Errors
     ///
     /// Want of memory, which changes nothing: all memory is taken before the first entry moves, in two requests for the
-    /// table and, where there is an entry, one for the links.
+    /// table and, where there is an entry, one for the links. No buckets take none, and are never refused.
     pub fn relocate<N: LinkType, H: Fn(&T) -> u64>(
         &mut self,
         buckets: usize,
         hash_of: H,
     ) -> Result<Vec<N>, AllocError>
-        requires count { IsPowerFromFour buckets }
+        requires count { IsBucketCount buckets }
         requires addressable { buckets + 16 < 2 ^ 63 }
         requires below { buckets < N.number N.MAX }
         requires within { entry_count self.old.slots ≤ full_capacity buckets }
@@ -49,6 +51,7 @@ impl<T: Drop> Table<T> {
             KeepsHashes N.number N.MAX self.old.slots self.new.slots links.items hash_at) }
         ensures table { IsTable (marks_of self.new.slots) }
         ensures unchanged { OnErr result (self.new ≡ self.old) }
+        ensures succeeds { buckets ≡ 0 → IsOk result }
     {
         let alloc = *self.entries.allocator();
         let mut fresh = Table::with_buckets(alloc, buckets)?;

@@ -40,7 +40,11 @@ fn answers(
         len,
         capacity,
         memory,
-        report: MoveReport { moved, placed },
+        report: MoveReport {
+            moved,
+            placed,
+            shrunk: 0,
+        },
     };
     let first = if inserted {
         Answer::Flag(true)

@@ -97,7 +97,8 @@ fn a_copy_is_the_map_again(rt: HostRuntime) -> Result<(), Fail> {
         copy.move_report(),
         MoveReport {
             moved: 24,
-            placed: 15
+            placed: 15,
+            shrunk: 0
         }
     );
     for n in 1..=15u64 {

@@ -128,7 +128,8 @@ fn of_both_ends(rt: HostRuntime) -> Result<(), Fail> {
         map.move_report(),
         MoveReport {
             moved: 0,
-            placed: 3
+            placed: 3,
+            shrunk: 0
         }
     );
     assert!(rt; map.peek_key_value(&1) == Some((&1, &10)));

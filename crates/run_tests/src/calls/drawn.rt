@@ -142,6 +142,7 @@ impl Plain {
                 report: MoveReport {
                     moved: 0,
                     placed: 0,
+                    shrunk: 0,
                 },
             },
             Call::Clear => {

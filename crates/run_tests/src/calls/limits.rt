@@ -7,13 +7,17 @@ use std::test::Fail;
 // The answer of these figures.
 fn figures(
     (len, capacity, memory): (usize, usize, usize),
-    (moved, placed): (u64, u64),
+    (moved, placed, shrunk): (u64, u64, u64),
 ) -> Answer<u64, u64> {
     Answer::Stats {
         len,
         capacity,
         memory,
-        report: MoveReport { moved, placed },
+        report: MoveReport {
+            moved,
+            placed,
+            shrunk,
+        },
     }
 }
 
@@ -33,7 +37,7 @@ fn the_oldest_leave_for_a_cost(rt: HostRuntime) -> Result<(), Fail> {
         Answer::Flag(true),
         Answer::Flag(true),
         pairs(alloc, &[(3, 3)])?,
-        figures((1, 3, 84), (0, 3)),
+        figures((1, 3, 84), (0, 3, 0)),
     ]?;
     expect(&rt, &mut map, calls, wanted)?;
     let mut map = map_of(alloc, ByCost::new(3));
@@ -83,9 +87,41 @@ fn figures_after_growth_and_a_reservation(rt: HostRuntime) -> Result<(), Fail> {
     insert_all(&rt, &mut map, 1..=15)?;
     let calls = vec![in alloc; Call::Stats, Call::Reserve(100), Call::Stats]?;
     let wanted = vec![in alloc;
-        figures((15, 28, 560), (24, 15)),
+        figures((15, 28, 560), (24, 15, 0)),
         Answer::Reserved(Ok(())),
-        figures((15, 224, 4368), (24, 15)),
+        figures((15, 224, 4368), (24, 15, 0)),
+    ]?;
+    expect(&rt, &mut map, calls, wanted)
+}
+
+// What a shrink places anew is counted apart. Inserts move it once more when the table grows again: 38 is more than
+// twice 16, and no more than 14 above that.
+#[test]
+fn figures_after_a_shrink(rt: HostRuntime) -> Result<(), Fail> {
+    let alloc = rt.alloc();
+    let mut map = map_of(alloc, UnlimitedCompact);
+    insert_all(&rt, &mut map, 1..=15)?;
+    let calls = vec![in alloc;
+        Call::Shrink,
+        Call::Remove(3),
+        Call::Shrink,
+        Call::Stats,
+        Call::Insert(16, 160),
+        Call::Stats,
+        Call::Clear,
+        Call::Shrink,
+        Call::Stats,
+    ]?;
+    let wanted = vec![in alloc;
+        Answer::Shrunk(Ok(false)),
+        Answer::Value(Some(30)),
+        Answer::Shrunk(Ok(true)),
+        figures((14, 14, 288), (24, 15, 14)),
+        Answer::Flag(true),
+        figures((15, 28, 560), (38, 16, 14)),
+        Answer::Done,
+        Answer::Shrunk(Ok(true)),
+        figures((0, 0, 0), (38, 16, 14)),
     ]?;
     expect(&rt, &mut map, calls, wanted)
 }
@@ -103,10 +139,10 @@ fn reservations_within_a_memory(rt: HostRuntime) -> Result<(), Fail> {
     ]?;
     let wanted = vec![in alloc;
         Answer::Reserved(Ok(())),
-        figures((0, 7, 152), (0, 0)),
+        figures((0, 7, 152), (0, 0, 0)),
         Answer::Reserved(Err(ReserveError::Refused)),
         Answer::Reserved(Err(ReserveError::TooLarge)),
-        figures((0, 7, 152), (0, 0)),
+        figures((0, 7, 152), (0, 0, 0)),
     ]?;
     expect(&rt, &mut map, calls, wanted)
 }

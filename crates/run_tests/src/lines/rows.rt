@@ -136,17 +136,57 @@ fn tells_figures(rt: HostRuntime) -> Result<(), Fail> {
         0,
     );
     // The table grows from 4 to 8 to 16 to 32 buckets, which moves 3, 7 and 14 pairs.
+    expect_after(
+        &rt,
+        15,
+        "stats\n",
+        "len 15 capacity 28 memory 560 moved 24 placed 15\n",
+    )
+}
+
+// Inserts the keys from 1 up to this one, which answers `true` for each, and then carries the lines out.
+fn expect_after(
+    rt: &(impl Abort + AllocGlobal),
+    last: u64,
+    lines: &str,
+    answers: &str,
+) -> Result<(), Fail> {
     let mut input = String::new(rt.alloc());
     let mut want = String::new(rt.alloc());
     input.push_str("memory 100000 16\n")?;
-    for key in 0..15 {
+    for key in 1..=last {
         let line = format!(in rt.alloc(); "insert {key} {key}\n")?;
         input.push_str(line.as_str())?;
         want.push_str("true\n")?;
     }
-    input.push_str("stats\n")?;
-    want.push_str("len 15 capacity 28 memory 560 moved 24 placed 15\n")?;
-    expect(&rt, input.as_bytes(), want.as_bytes(), 0);
+    input.push_str(lines)?;
+    want.push_str(answers)?;
+    expect(rt, input.as_bytes(), want.as_bytes(), 0);
+    Ok(())
+}
+
+#[test]
+fn shrinks(rt: HostRuntime) -> Result<(), Fail> {
+    expect_after(
+        &rt,
+        15,
+        "remove 1\nremove 3\nremove 5\nremove 7\nremove 9\nremove 11\nremove 12\nremove 13\nremove 14\nremove 15\nshrink\nlist\nstats\nshrink\nstats\nclear\nshrink\nstats\nshrink\n",
+        "1\n3\n5\n7\n9\n11\n12\n13\n14\n15\nok\n10:10 8:8 6:6 4:4 2:2\nlen 5 capacity 7 memory 152 moved 24 placed 15 shrunk 5\nkept\nlen 5 capacity 7 memory 152 moved 24 placed 15 shrunk 5\nok\nok\nlen 0 capacity 0 memory 0 moved 24 placed 15 shrunk 5\nkept\n",
+    )?;
+    // Entries that a shrink placed anew move once more when the table grows again.
+    expect_after(
+        &rt,
+        15,
+        "remove 8\nshrink\nstats\ninsert 16 16\nstats\n",
+        "8\nok\nlen 14 capacity 14 memory 288 moved 24 placed 15 shrunk 14\ntrue\nlen 15 capacity 28 memory 560 moved 38 placed 16 shrunk 14\n",
+    )?;
+    // The cost stands behind all counts.
+    expect(
+        &rt,
+        b"cost 9\ninsert 1 1\ninsert 2 2\ninsert 3 3\ninsert 4 3\nremove 1\nshrink\nstats\nshrink 1\nshrink \n",
+        b"true\ntrue\ntrue\ntrue\n1\nok\nlen 3 capacity 3 memory 148 moved 3 placed 4 shrunk 3 cost 8\nbad\nbad\n",
+        0,
+    );
     Ok(())
 }
 

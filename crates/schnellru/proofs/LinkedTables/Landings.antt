@@ -91,11 +91,12 @@ module _ {K V : Type 0} (t u : Linked K V) (hash : ℕ) (pair : K × V) (b : ℕ
       usable = same.usable;
       moved = sized.moved;
       placed = grind arith;
+      shrunk = sized.shrunk;
     }
 
     pub lands_paid : IsPaid (state_of t beside) → IsPaid (state_of u counted)
     lands_paid paid = paid_after (state_of t beside) (state_of u counted)
-        (pays_placing (state_of t beside) (state_of u counted) 0 sized.placed kept refl
+        (pays_placing (state_of t beside) (state_of u counted) 0 sized.placed sized.shrunk kept refl refl
         (omega (arith, lands.room, room_at-most (marks_of t.slots) b, ap full_capacity lands_placed.table)))
         sized.moved (omega (arith, sized.table.addressable, lands_placed.table)) paid
 

@@ -46,13 +46,16 @@ module _ {K V S H : Type 0} (rules : Rules K V S) (t u : Linked K V)
       paid =
           let as_many : length (marks_of u.slots) ≡ buckets (state_of t beside) = ap length marks
           ∙ length-replicate {A = Mark} (buckets (state_of t beside)) empty in
-          omega (
-            arith,
-            holds.map.paid,
-            ap room marks,
-            room_cleared (buckets (state_of t beside)),
-            as_many,
-            ap full_capacity as_many,
-          );
+          record {
+            moved = holds.map.paid.moved;
+            ahead = λ below. omega (
+              arith,
+              holds.map.paid.ahead below,
+              ap room marks,
+              room_cleared (buckets (state_of t beside)),
+              as_many,
+              ap full_capacity as_many,
+            );
+          };
     };
   }

@@ -21,6 +21,7 @@ module _ {K V S H : Type 0} (limiter : S) (hasher : H) (entry_bytes max : ℕ) w
     usable = (0, refl);
     moved = omega arith;
     placed = omega arith;
+    shrunk = omega arith;
   }
 
   pub empty_is_map : (eq : K → K → Bool) → IsMap eq (empty_map {K = K} {V = V} limiter hasher entry_bytes max)
@@ -28,5 +29,5 @@ module _ {K V S H : Type 0} (limiter : S) (hasher : H) (entry_bytes max : ℕ) w
   empty_is_map eq = record {
     distinct = none_distinct eq;
     sized = empty_is_sized;
-    paid = omega arith;
+    paid = record { moved = omega arith; ahead = λ below. omega arith };
   }

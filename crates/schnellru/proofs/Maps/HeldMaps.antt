@@ -15,8 +15,8 @@ use Rattle.schnellru.proofs.LinkedTables.BucketPairs.{pairs-length}
 module _ {K V S H : Type 0} (beside : Beside S H) where
   pub sized_by : (t : Linked K V) → IsLinked t → (length t.slots ≡ 0) ⊎ (length t.slots < beside.max)
       → ((bytes : ℕ) × (usage beside.entry_bytes (length t.slots) ≡ Some bytes)) → beside.moved < 2 ^ 64
-      → beside.placed < 2 ^ 64 → IsSized (state_of t beside)
-  sized_by t linked reached usable m p = record {
+      → beside.placed < 2 ^ 64 → beside.shrunk < 2 ^ 64 → IsSized (state_of t beside)
+  sized_by t linked reached usable m p s = record {
     table = linked.table;
     taken = entry_count-marks_of t.slots ∙ linked.count ∙ sym (pairs-length t linked);
     reachable = subst (λ n. (n ≡ 0) ⊎ (n < beside.max)) (sym (length-marks_of t.slots)) reached;
@@ -24,6 +24,7 @@ module _ {K V S H : Type 0} (beside : Beside S H) where
         (sym (length-marks_of t.slots)) usable;
     moved = m;
     placed = p;
+    shrunk = s;
   }
 
 -- a bucket counts one in the room, or none
@@ -77,6 +78,7 @@ module _ {K V S H : Type 0} (beside : Beside S H) where
       let e : length (marks_of t.slots) ≡ length u.slots = length-marks_of t.slots ∙ sym same in
       sized_by (record beside { limiter = l }) u linked (subst (λ n. (n ≡ 0) ⊎ (n < beside.max)) e sized.reachable)
       (subst (λ n. (bytes : ℕ) × (usage beside.entry_bytes n ≡ Some bytes)) e sized.usable) sized.moved sized.placed
+      sized.shrunk
 
   -- what holds of a map holds after some pairs left
   pub leaves_holds : (eq : K → K → Bool) (hash_of : H → K → ℕ) (t u : Linked K V) (left : Contents K V S) (l : S)
@@ -111,9 +113,13 @@ module _ {K V S H : Type 0} (eq : K → K → Bool) (hash_of : H → K → ℕ) 
           sized = sized_by (record beside { limiter = limiter; hasher = hasher }) u linked
               (subst (λ n. (n ≡ 0) ⊎ (n < beside.max)) same sized.reachable)
               (subst (λ n. (bytes : ℕ) × (usage beside.entry_bytes n ≡ Some bytes)) same sized.usable) sized.moved
-              sized.placed;
-          paid = subst (λ m. beside.moved + (full_capacity (length m) - 2 * room m) ≤ 2 * beside.placed)
-              (sym marks) holds.map.paid;
+              sized.placed sized.shrunk;
+          paid = record {
+            moved = holds.map.paid.moved;
+            ahead = λ below. subst (λ m. beside.moved + (full_capacity (length m) - 2 * room m)
+                ≤ 2 * beside.placed + beside.shrunk)
+                (sym marks) (holds.map.paid.ahead below);
+          };
         };
       }
 

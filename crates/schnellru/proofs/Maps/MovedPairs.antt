@@ -38,7 +38,11 @@ module _ {K V S H : Type 0} (t u : Linked K V) (count : ℕ) (linked : IsLinked 
       distinct = subst (AreDistinct eq) (sym pairs) holds.map.distinct;
       sized = sized_by beside u next (inr (subst (λ n. n < beside.max) (sym table) reached))
           (subst (λ n. (bytes : ℕ) × (usage beside.entry_bytes n ≡ Some bytes)) (sym table) usable)
-          holds.map.sized.moved holds.map.sized.placed;
-      paid = omega (arith, moves_to.exact, ap full_capacity moves_to.table, half, holds.map.paid);
+          holds.map.sized.moved holds.map.sized.placed holds.map.sized.shrunk;
+      paid = record {
+        moved = holds.map.paid.moved;
+        ahead = λ below. omega
+            (arith, moves_to.exact, ap full_capacity moves_to.table, half, holds.map.paid.ahead below);
+      };
     };
   }

@@ -73,6 +73,7 @@ module _ {K V S H : Type 0} (rules : Rules K V S) (before : List (K × V)) (old 
           placings = old.placings;
           moved = old.moved;
           placed = old.placed;
+          shrunk = old.shrunk;
           entry_bytes = old.entry_bytes;
           max = old.max;
         }) (noted_told rules before old.limiter pair (last old.pairs) step.pair);

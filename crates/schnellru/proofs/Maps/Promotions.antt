@@ -29,6 +29,7 @@ module _ {K V S H : Type 0} (st : State K V S H) where
     usable = ok.usable;
     moved = ok.moved;
     placed = ok.placed;
+    shrunk = ok.shrunk;
   }
 
   pub promoted_sized : (names : K → Bool) → IsSized st → IsSized (promoted names st)
@@ -39,7 +40,7 @@ module _ {K V S H : Type 0} (st : State K V S H) where
   written_is_map names value {eq} ok = record {
     distinct = subst (IsDistinct eq) (sym (keys-set_value names st.pairs value)) ok.distinct;
     sized = sized_with _ _ (length-set_value names st.pairs value) ok.sized;
-    paid = ok.paid;
+    paid = record { moved = ok.paid.moved; ahead = ok.paid.ahead };
   }
 
 module _ {K V S H Q : Type 0} {names : Q → K → Bool} {eq : K → K → Bool} {query_input : Q → List (List ℕ)}
@@ -49,7 +50,7 @@ module _ {K V S H Q : Type 0} {names : Q → K → Bool} {eq : K → K → Bool}
   promoted_is_map ok = record {
     distinct = distinct_first eq (names q) (looks_up.one q) old.pairs ok.distinct;
     sized = promoted_sized old (names q) ok.sized;
-    paid = ok.paid;
+    paid = record { moved = ok.paid.moved; ahead = ok.paid.ahead };
   }
 
   pub get_is_map : (result : Option V) (new : State K V S H) → Get (names q) old result new → IsMap eq old

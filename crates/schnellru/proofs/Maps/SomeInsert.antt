@@ -59,6 +59,7 @@ module _ {K V S H : Type 0} where
         usable = ok.usable;
         moved = ok.moved;
         placed = ok.placed;
+        shrunk = ok.shrunk;
       },
       omega (arith, same),
     )

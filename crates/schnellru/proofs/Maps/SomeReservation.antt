@@ -34,6 +34,7 @@ cleared_sized {K = K} {V = V} rules old ok =
       usable = sized.usable;
       moved = ok.moved;
       placed = ok.placed;
+      shrunk = ok.shrunk;
     }
 
 module _ {K V S H : Type 0} (rules : Rules K V S) (n : ℕ) (old : State K V S H) (ok : IsSized old) where
@@ -51,6 +52,7 @@ module _ {K V S H : Type 0} (rules : Rules K V S) (n : ℕ) (old : State K V S H
     usable = ok.usable;
     moved = ok.moved;
     placed = ok.placed;
+    shrunk = ok.shrunk;
   }
 
   -- the table is made anew at its size

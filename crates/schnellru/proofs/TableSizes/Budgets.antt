@@ -1,6 +1,9 @@
 -- The greatest usage within a budget, found among the tables one after another.
-use Rattle.std.proofs.Common.{◌≡◌, ℕ, ◌+◌, ◌*◌, ◌^◌, ◌<◌, ◌≤◌, ◌⊎◌, inl, inr, Some, refl, sym, ◌∙◌, arith, pow_pos}
+use Rattle.std.proofs.Common.{◌≡◌, ℕ, ◌+◌, ◌-◌, ◌*◌, ◌^◌, ◌<◌, ◌≤◌, ◌⊎◌, inl, inr, Some, None, refl, sym, ◌∙◌, arith}
+use Rattle.std.proofs.Common.{Bool, true, false, cond, pow_pos}
 use native.Mathlib.Decide.{dec_lt}
+use Rattle.std.specs.Prelude.{nat_le, ◌==◌}
+use Rattle.std.proofs.lemmas.Bool.Decides.{nat_tests}
 use Rattle.std.proofs.Math.Nat.{mul-le-mul_left}
 use Rattle.std.proofs.Math.Pow.{pow_mono}
 use Rattle.std.proofs.lemmas.Option.{same_Some}
@@ -9,6 +12,11 @@ use Rattle.schnellru.specs.Sizes.{bytes_of, usage, IsGreatestUsage}
 use Rattle.schnellru.specs.State.{State, buckets, IsSized}
 use Rattle.schnellru.proofs.TableSizes.Growth.{usage_bytes, usage_addressable}
 
+-- no buckets use nothing
+no_usage : (e n : ℕ) → n ≡ 0 → usage e n ≡ Some 0
+unfolding usage
+no_usage e n z = rw z refl
+
 -- more buckets use more
 pub bytes_mono : (e m n : ℕ) → m ≤ n → bytes_of e m ≤ bytes_of e n
 bytes_mono e m n h = let less : e * m ≤ e * n = mul-le-mul_left e h in omega (arith, less, h)
@@ -16,6 +24,28 @@ bytes_mono e m n h = let less : e * m ≤ e * n = mul-le-mul_left e h in omega (
 usage_mono : (e m n a b : ℕ) → 0 < m → m ≤ n → usage e m ≡ Some a → usage e n ≡ Some b → a ≤ b
 usage_mono e m n a b some h p q = omega
     (arith, (usage_bytes e m a some p).0, (usage_bytes e n b (omega (arith, some, h)) q).0, bytes_mono e m n h)
+
+-- bytes that are a number of bytes are the usage
+usage_is : (e n : ℕ) → 0 < n → bytes_of e n ≤ 2 ^ 63 - 16 → usage e n ≡ Some (bytes_of e n)
+unfolding usage
+usage_is e n some fits = go (n == 0) (nat_le (bytes_of e n) (2 ^ 63 - 16)) (λ z. grind (arith, nat_tests))
+    (λ z. grind (arith, nat_tests))
+  where
+    go : (b c : Bool) → (b ≡ true → n ≡ 0) → (c ≡ false → 2 ^ 63 - 16 < bytes_of e n)
+        → cond b (Some 0) (cond c (Some (bytes_of e n)) None) ≡ Some (bytes_of e n)
+    go true c z l = absurd (omega (arith, z refl, some))
+    go false true z l = refl
+    go false false z l = absurd (omega (arith, l refl, fits))
+
+-- fewer buckets can be, and use no more
+pub usage_fewer : (e m n bytes : ℕ) → m ≤ n → usage e n ≡ Some bytes
+    → (less : ℕ) × (usage e m ≡ Some less) × (less ≤ bytes)
+usage_fewer e m n bytes fewer is = elim (dec_lt 0 m) [
+  | no none ↦ (0, no_usage e m (omega (arith, none)), omega arith)
+  | yes some ↦ let all = usage_bytes e n bytes (omega (arith, some, fewer)) is in
+      let less = bytes_mono e m n fewer in
+      (bytes_of e m, usage_is e m some (omega (arith, less, all.1)), omega (arith, less, all.0))
+]
 
 module _ (max e budget : ℕ) where
   -- the greatest usage of the tables below 4 * 2 ^ k
@@ -62,10 +92,8 @@ module _ (max e budget : ℕ) where
     ];
   }
 
--- no buckets use nothing
 usage_none : (e n bytes : ℕ) → n ≡ 0 → usage e n ≡ Some bytes → bytes ≡ 0
-unfolding usage
-usage_none e n bytes z h = same_Some bytes 0 (sym h ∙ rw z refl)
+usage_none e n bytes z h = same_Some bytes 0 (sym h ∙ no_usage e n z)
 
 -- the usage of a map's table is the greatest within itself
 pub usage_is_budget : {K V S H : Type 0} (st : State K V S H) (bytes best : ℕ) → IsSized st

@@ -97,4 +97,5 @@ module _ {K V S H : Type 0} (old : State K V S H) (ok : IsSized old) (pairs : Li
       usable = subst (λ n. (bytes : ℕ) × (usage old.entry_bytes n ≡ Some bytes)) (sym length-marked) ok.usable;
       moved = m;
       placed = p;
+      shrunk = ok.shrunk;
     }

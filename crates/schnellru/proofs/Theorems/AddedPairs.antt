@@ -8,7 +8,7 @@ use Rattle.schnellru.specs.Lists.{without}
 use Rattle.schnellru.specs.Reservations.{Reserve, too_many, enough_room, no_such_table, remade, no_memory_to_remake}
 use Rattle.schnellru.specs.Reservations.{denied_room, reserved, no_memory_to_grow}
 use Rattle.schnellru.specs.Runs.{Step, inserts, makes_newest, gets, removes, pops_oldest, pops_newest, drains, clears}
-use Rattle.schnellru.specs.Runs.{reserves, AnyStep, calls, writes, sets_limiter}
+use Rattle.schnellru.specs.Runs.{reserves, shrinks, AnyStep, calls, writes, sets_limiter}
 use Rattle.schnellru.specs.State.{State}
 use Rattle.schnellru.specs.Theorems.{GivesUp, behind, with_none, without_one}
 use Rattle.schnellru.specs.declared.map.reserve.ReserveError.{ReserveError}
@@ -16,6 +16,7 @@ use Rattle.schnellru.proofs.Maps.LeavingPairs.{length-without_first, length-with
 use Rattle.schnellru.proofs.Maps.Promotions.{length-front_pairs}
 use Rattle.schnellru.proofs.Theorems.Fronts.{insert_gives_up, length-front}
 use Rattle.schnellru.proofs.Theorems.Limits.{length-without}
+use Rattle.schnellru.proofs.Theorems.Shrinks.{shrunk_list}
 
 gives_up_adds : {K V : Type 0} (names : K → Bool) (refuses : K × V → Type 0) (xs ys : List (K × V))
     → GivesUp names refuses xs ys → length ys ≤ length xs + 1
@@ -56,6 +57,7 @@ module _ {K V S H I : Type 0} {rules : Rules K V S} {offers : Offers K V S I} {n
   step_adds (drains newest oldest result h) = omega (arith, ap (λ st. length st.pairs) h.state.2)
   step_adds (clears e) = omega (arith, ap (λ st. length st.pairs) e)
   step_adds (reserves n result h) = omega (arith, ap length (reserve_stays rules n old new result h))
+  step_adds (shrinks result h) = omega (arith, ap length (shrunk_list old result new h).0)
 
   pub any_adds : AnyStep rules offers names hash_of old new → length new.pairs ≤ length old.pairs + 1
   any_adds (calls step) = step_adds step

@@ -8,13 +8,14 @@ use Rattle.schnellru.specs.GetOrInserts.{got, inserted}
 use Rattle.schnellru.specs.Lists.{is_empty, last, without_first, without_last, lookup_entry}
 use Rattle.schnellru.specs.State.{State, contents, told_of}
 use Rattle.schnellru.specs.Runs.{Step, inserts, makes_newest, gets, removes, pops_oldest, pops_newest, drains, clears}
-use Rattle.schnellru.specs.Runs.{reserves, Run, ends, goes_on}
+use Rattle.schnellru.specs.Runs.{reserves, shrinks, Run, ends, goes_on}
 use Rattle.schnellru.specs.Theorems.{IsSummed}
 use Rattle.schnellru.proofs.Theorems.InsertAnswers.{IsWithin}
 use Rattle.schnellru.proofs.Theorems.Limits.{insert_within, total-without}
 use Rattle.schnellru.proofs.Theorems.Moves.{KeepsOffers}
 use Rattle.schnellru.proofs.Theorems.Removals.{reserved_list}
 use Rattle.schnellru.proofs.Theorems.Runs.{run_keeps, run_summed}
+use Rattle.schnellru.proofs.Theorems.Shrinks.{shrunk_list}
 use Rattle.schnellru.proofs.Theorems.Sums.{total, total-is, total-front, split-least, split_last}
 
 told_limit : {K V : Type 0} (cost : V → ℕ) (pair : Option (K × V)) (b : Budget)
@@ -100,6 +101,7 @@ module _ {K V H : Type 0} (cost : V → ℕ) (names : K → K → Bool) (hash_of
     step_within (clears e) = less (omega (arith, ap (λ st. total value_cost st.pairs) e))
     step_within (reserves n result h) = less
         (omega (arith, ap (total value_cost) (reserved_list _ n old result new h).0))
+    step_within (shrinks result h) = less (omega (arith, ap (total value_cost) (shrunk_list old result new h).0))
 
   pub run_within_cost : (new old : State K V Budget H) → Run (Step (by_cost cost) (charges cost) names hash_of) new old
       → IsSummed (λ k v. cost v) (λ b. b.cost) old → old.limiter.cost ≤ old.limiter.limit

@@ -63,6 +63,7 @@ module _ {K V S H : Type 0} (rules : Rules K V S) (old : State K V S H) where
     placings = refl;
     moved = refl;
     placed = refl;
+    shrunk = refl;
     table = refl;
     keeps = omega arith;
     few = omega (arith, same);
@@ -77,6 +78,7 @@ module _ {K V S H : Type 0} (rules : Rules K V S) (old : State K V S H) where
     placings = refl;
     moved = refl;
     placed = refl;
+    shrunk = refl;
     table = length-replicate {A = Mark} (buckets old) empty;
     keeps = omega (arith, room_cleared (buckets old), room_within old.marks);
     few = omega arith;
@@ -85,27 +87,27 @@ module _ {K V S H : Type 0} (rules : Rules K V S) (old : State K V S H) where
 
 module _ {K V S H Q : Type 0} {rules : Rules K V S} {names : Q → K → Bool}
     {R : Contents K V S → Contents K V S → Type 0} (k : Keeps rules names R) (old : State K V S H) where
-  pub promoted_changes : (q : Q) → Changes rules R 0 old (promoted (names q) old)
+  pub promoted_changes : (q : Q) → Changes rules R 0 0 old (promoted (names q) old)
   promoted_changes q = calm_changes rules R 0 old _ (pairs_calm rules old _ _ (length-front_pairs (names q) old.pairs))
       (k.first q (contents old))
 
   pub remove_changes : (test : K → Bool) (result : Option V) (new : State K V S H) → Remove rules test old result new
-      → Changes rules R 0 old new
+      → Changes rules R 0 0 old new
   remove_changes test result new h = leaves_changes rules R 0 old _ new h.state (k.left test (contents old))
 
   pub pop_oldest_changes : (result : Option (K × V)) (new : State K V S H) → PopOldest rules old result new
-      → Changes rules R 0 old new
+      → Changes rules R 0 0 old new
   pop_oldest_changes result new h = leaves_changes rules R 0 old _ new h.state (k.way.popped (contents old))
 
   pub pop_newest_changes : (result : Option (K × V)) (new : State K V S H) → PopNewest rules old result new
-      → Changes rules R 0 old new
+      → Changes rules R 0 0 old new
   pop_newest_changes result new h = leaves_changes rules R 0 old _ new h.state (pop_first_keeps k (contents old))
 
-  pub cleared_changes : Changes rules R 0 old (cleared rules old)
+  pub cleared_changes : Changes rules R 0 0 old (cleared rules old)
   cleared_changes = calm_changes rules R 0 old _ (cleared_calm rules old) (k.cleared (contents old))
 
   pub drain_changes : (newest oldest : ℕ) (result : List (K × V)) (new : State K V S H)
-      → Drained rules newest oldest old result new → Changes rules R 0 old new
+      → Drained rules newest oldest old result new → Changes rules R 0 0 old new
   drain_changes newest oldest result new h = let (mid, l, e) = h.state in
       let r = k.way.trans (pops_first_keep k newest (contents old)) (pops_keep rules R k.way oldest _) in
       rw e (calm_changes rules R 0 old _ (calm_trans old mid _ (leaves_calm old _ mid l) (cleared_calm rules mid))
@@ -115,19 +117,19 @@ module _ {K V S H : Type 0} (rules : Rules K V S) (R : Contents K V S → Conten
     (old : State K V S H) where
   -- what a value that is written or a limiter that is set keeps is for the law to say
   pub written_changes : (test : K → Bool) (value : V) → R (contents old) (contents (written test value old))
-      → Changes rules R 0 old (written test value old)
+      → Changes rules R 0 0 old (written test value old)
   written_changes test value r = calm_changes rules R 0 old _
       (pairs_calm rules old _ _ (length-set_value test old.pairs value)) r
 
   pub set_changes : (s : S) → R (contents old) (record { pairs = old.pairs; limiter = s })
-      → Changes rules R 0 old (record old { limiter = s })
+      → Changes rules R 0 0 old (record old { limiter = s })
   set_changes s r = calm_changes rules R 0 old _ (limiter_calm old s) r
 
 module _ {K V S H : Type 0} {rules : Rules K V S} {R : Contents K V S → Contents K V S → Type 0} (k : KeepsWay rules R)
     (n : ℕ) (old : State K V S H) where
   -- how far the table grows is left open
   abbrev pub Grows : State K V S H → Type 0
-  Grows new = Changes rules R (suc (full_capacity (buckets new))) old new
+  Grows new = Changes rules R (suc (full_capacity (buckets new))) 0 old new
 
   remains : (new : State K V S H) → new ≡ old → Grows new
   remains new e = rw e (calm_changes rules R _ old old (self_calm old) (k.self (contents old)))
@@ -147,7 +149,8 @@ module _ {K V S H : Type 0} {rules : Rules K V S} {R : Contents K V S → Conten
       entry_bytes = ap (λ x. x.entry_bytes) m.state;
       count = rw m.table next;
       moved = λ bound. omega (arith, ap (λ x. x.moved) m.state, bound);
-      pays = λ ok. pays_calm old new (ap (λ x. x.placed) m.state) (ap (λ x. x.moved) m.state)
+      pays = λ ok. pays_calm old new ok.shrunk (ap (λ x. x.placed) m.state) (ap (λ x. x.moved) m.state)
+          (ap (λ x. x.shrunk) m.state)
           (omega (arith, ap full_capacity m.table, m.exact, large ok, ok.fits));
       little = λ ok h. omega arith;
     };
@@ -158,7 +161,7 @@ module _ {K V S H : Type 0} {rules : Rules K V S} {R : Contents K V S → Conten
   reserve_changes result new (enough_room s l r e) = remains new e
   reserve_changes result new (too_many l r e) = remains new e
   reserve_changes result new (no_such_table l t r e) = remains new e
-  reserve_changes result new (remade l t r m) = reserves old.limiter new _ m (k.self (contents old)) (inl refl)
+  reserve_changes result new (remade l t r m) = reserves old.limiter new _ m (k.self (contents old)) (inl (omega arith))
       (λ ok. omega arith)
   reserve_changes result new (no_memory_to_remake l t p r e) = remains new e
   reserve_changes result new (reserved l count bytes t g r m) = reserves _ new count m (k.asked bytes (contents old))
@@ -184,7 +187,7 @@ module _ {K V S H : Type 0} {rules : Rules K V S} {R : Contents K V S → Conten
 module _ {K V S H I : Type 0} {rules : Rules K V S} {offers : Offers K V S I} {names : I → K → Bool}
     {R : Contents K V S → Contents K V S → Type 0} (k : KeepsOffers rules offers names R) {hash_of : H → K → ℕ}
     {makes : V → Type 0} {i : I} {old : State K V S H} {result : Result Bool AllocError} {new : State K V S H} where
-  pub makes_newest_changes : MakesNewest rules offers names hash_of makes i old result new → Changes rules R 1 old new
+  pub makes_newest_changes : MakesNewest rules offers names hash_of makes i old result new → Changes rules R 1 0 old new
   makes_newest_changes (got w e r step) = calm_changes rules R 1 old new
       (rw step (pairs_calm rules old _ _ (length-front_pairs (names i) old.pairs)))
       (rw step (k.keeps.first i (contents old)))

@@ -13,6 +13,7 @@ use Rattle.schnellru.specs.State.{State, buckets, contents, told_of}
 use Rattle.schnellru.specs.Place.{Outcome, placed, refused, no_memory}
 use Rattle.schnellru.specs.Inserts.{Insert, replaced, given_up, no_memory_to_admit, not_admitted, admitted, Settles}
 use Rattle.schnellru.specs.Theorems.{UsesAtMost}
+use Rattle.schnellru.proofs.TableSizes.Budgets.{usage_fewer}
 use Rattle.schnellru.proofs.Theorems.Moves.{KeepsOffers, left_are}
 use Rattle.schnellru.proofs.Theorems.TableGrowth.{Tables, IsNextCount}
 use Rattle.schnellru.proofs.Theorems.Ways.{insert_changes}
@@ -108,18 +109,18 @@ length_at_most rules old new within same (inr e) few =
     omega (arith, e, few, length-total old.pairs, length-total new.pairs)
 
 -- where it grants no more bytes than its number, a table uses no more
-pub uses_at_most : {K V H : Type 0} (rules : Rules K V ℕ) (P : ℕ → Type 0) (more : ℕ) (old new : State K V ℕ H)
+pub uses_at_most : {K V H : Type 0} (rules : Rules K V ℕ) (P : ℕ → Type 0) (more anew : ℕ) (old new : State K V ℕ H)
     → ((bytes : ℕ) → (rules.on_grow old.limiter bytes).allowed ≡ true → bytes ≤ old.limiter)
-    → ((s : ℕ) → P s → s ≡ old.limiter) → Tables rules P more old new → UsesAtMost old.limiter old
+    → ((s : ℕ) → P s → s ≡ old.limiter) → Tables rules P more anew old new → UsesAtMost old.limiter old
     → UsesAtMost old.limiter new
-uses_at_most rules P more old new within same t uses = go t.count
+uses_at_most rules P more anew old new within same t uses = go t.count
   where
     go : IsNextCount rules P old (buckets new) → UsesAtMost old.limiter new
-    go (inl e) = (
-      uses.0,
-      ap (λ bytes. usage bytes (buckets new)) t.entry_bytes ∙ ap (usage old.entry_bytes) e
-          ∙ uses.1,
-      uses.2,
+    go (inl few) = let fewer = usage_fewer old.entry_bytes (buckets new) (buckets old) uses.0 few uses.1 in (
+      fewer.0,
+      ap (λ bytes. usage bytes (buckets new)) t.entry_bytes
+          ∙ fewer.1,
+      omega (arith, fewer.2, uses.2),
     )
     go (inr p) = (
       p.bytes,
@@ -146,7 +147,7 @@ pub by_memory_usage_stays : {K V H : Type 0} (names : K → K → Bool) (hash_of
     (hands_over (λ _ _ _. true)) names hash_of k v old result new → UsesAtMost old.limiter old
     → UsesAtMost old.limiter new
 by_memory_usage_stays names hash_of k v old result new step uses =
-    uses_at_most (plain (λ _ _. false) (λ most bytes. nat_le bytes most)) _ 1 old new
+    uses_at_most (plain (λ _ _. false) (λ most bytes. nat_le bytes most)) _ 1 0 old new
     (λ bytes e. grind (arith, nat_tests)) (λ s p. p.1)
     (insert_changes keeps_limiter k v old result new step).tables uses
 

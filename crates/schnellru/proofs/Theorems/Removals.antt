@@ -83,21 +83,25 @@ target_takes max e b c n bytes larger = from (buckets_for max c) refl
 module _ {K V S H : Type 0} (rules : Rules K V S) (n : ℕ) (old : State K V S H) where
   -- the pairs stay, and the counts
   pub reserved_list : (result : Result (Unit {0}) ReserveError) (new : State K V S H) → Reserve rules n old result new
-      → (new.pairs ≡ old.pairs) × (new.moved ≡ old.moved) × (new.placed ≡ old.placed)
-  reserved_list result new (enough_room s l r e) = rw e (refl, refl, refl)
-  reserved_list result new (too_many l r e) = rw e (refl, refl, refl)
-  reserved_list result new (no_such_table l t r e) = rw e (refl, refl, refl)
+      → (new.pairs ≡ old.pairs) × (new.moved ≡ old.moved) × (new.placed ≡ old.placed) × (new.shrunk ≡ old.shrunk)
+  reserved_list result new (enough_room s l r e) = rw e (refl, refl, refl, refl)
+  reserved_list result new (too_many l r e) = rw e (refl, refl, refl, refl)
+  reserved_list result new (no_such_table l t r e) = rw e (refl, refl, refl, refl)
   reserved_list result new (remade l t r m) = (
     ap (λ st. st.pairs) m.state,
     ap (λ st. st.moved) m.state,
-    ap
-        (λ st. st.placed) m.state,
+    ap (λ st. st.placed) m.state,
+    ap (λ st. st.shrunk) m.state,
   )
-  reserved_list result new (no_memory_to_remake l t p r e) = rw e (refl, refl, refl)
-  reserved_list result new (reserved l count bytes t g r m) =
-      (ap (λ st. st.pairs) m.state, ap (λ st. st.moved) m.state, ap (λ st. st.placed) m.state)
-  reserved_list result new (no_memory_to_grow l count bytes t g r e) = rw e (refl, refl, refl)
-  reserved_list result new (denied_room l count bytes t d r e) = rw e (refl, refl, refl)
+  reserved_list result new (no_memory_to_remake l t p r e) = rw e (refl, refl, refl, refl)
+  reserved_list result new (reserved l count bytes t g r m) = (
+    ap (λ st. st.pairs) m.state,
+    ap (λ st. st.moved) m.state,
+    ap (λ st. st.placed) m.state,
+    ap (λ st. st.shrunk) m.state,
+  )
+  reserved_list result new (no_memory_to_grow l count bytes t g r e) = rw e (refl, refl, refl, refl)
+  reserved_list result new (denied_room l count bytes t d r e) = rw e (refl, refl, refl, refl)
 
   -- room is there after an `Ok`
   pub makes_room : (new : State K V S H) → IsSized old → Reserve rules n old (Ok tt) new → n ≤ room new

@@ -7,7 +7,7 @@ use Rattle.schnellru.specs.State.{State}
 use Rattle.schnellru.specs.GetOrInserts.{got, inserted}
 use Rattle.schnellru.specs.Reservations.{Reserve}
 use Rattle.schnellru.specs.Runs.{Step, inserts, makes_newest, gets, removes, pops_oldest, pops_newest, drains, clears}
-use Rattle.schnellru.specs.Runs.{reserves, Run, ends, goes_on}
+use Rattle.schnellru.specs.Runs.{reserves, shrinks, Run, ends, goes_on}
 use Rattle.schnellru.specs.Theorems.{UsesAtMost}
 use Rattle.schnellru.specs.declared.map.reserve.ReserveError.{ReserveError}
 use Rattle.schnellru.proofs.Maps.LeavingPairs.{length-without_first, length-without_last}
@@ -16,13 +16,14 @@ use Rattle.schnellru.proofs.Theorems.CountedMoves.{reserve_changes}
 use Rattle.schnellru.proofs.Theorems.Limits.{keeps_limiter, uses_at_most, length-without, by_length_stays}
 use Rattle.schnellru.proofs.Theorems.Removals.{reserved_list}
 use Rattle.schnellru.proofs.Theorems.Runs.{step_changes}
+use Rattle.schnellru.proofs.Theorems.Shrinks.{shrunk_list}
 
 pub reserve_uses_at_most : {K V H : Type 0} (names : K → K → Bool) (n : ℕ) (old : State K V ℕ H)
     (result : Result (Unit {0}) ReserveError) (new : State K V ℕ H)
     → Reserve (plain (λ _ _. false) (λ most bytes. nat_le bytes most)) n old result new → UsesAtMost old.limiter old
     → UsesAtMost old.limiter new
 reserve_uses_at_most names n old result new h = uses_at_most
-    (plain (λ _ _. false) (λ most bytes. nat_le bytes most)) _ _ old new (λ bytes e. grind (arith, nat_tests))
+    (plain (λ _ _. false) (λ most bytes. nat_le bytes most)) _ _ _ old new (λ bytes e. grind (arith, nat_tests))
     (λ s p. p.1)
     (reserve_changes (keeps_limiter {admits = λ _ _ _. true} {names = names}).keeps.way n old result new h).tables
 
@@ -51,6 +52,7 @@ module _ {K V H : Type 0} (names : K → K → Bool) (hash_of : H → K → ℕ)
     step_stays_short (drains newest oldest result h) = fewer (omega (arith, ap (λ st. length st.pairs) h.state.2))
     step_stays_short (clears e) = fewer (omega (arith, ap (λ st. length st.pairs) e))
     step_stays_short (reserves n result h) = fewer (omega (arith, ap length (reserved_list _ n old result new h).0))
+    step_stays_short (shrinks result h) = fewer (omega (arith, ap length (shrunk_list old result new h).0))
 
   pub run_stays_short : (new old : State K V ℕ H)
       → Run (Step (plain (λ most n. nat_lt most n) (λ _ _. true))
@@ -58,7 +60,7 @@ module _ {K V H : Type 0} (names : K → K → Bool) (hash_of : H → K → ℕ)
       → length old.pairs ≤ old.limiter → length new.pairs ≤ old.limiter
   run_stays_short new old ends few = few
   run_stays_short new old (goes_on mid s sized r) few =
-      let same = (step_changes keeps_limiter old mid s).1.moves in
+      let same = (step_changes keeps_limiter old mid s).2.moves in
       subst (λ most. length new.pairs ≤ most) same
       (run_stays_short new mid r
       (subst (λ most. length mid.pairs ≤ most) (sym same) (step_stays_short old mid s few)))
@@ -67,8 +69,8 @@ module _ {K V H : Type 0} (names : K → K → Bool) (hash_of : H → K → ℕ)
   step_uses_at_most : (old new : State K V ℕ H) → Step (plain (λ _ _. false) (λ most bytes. nat_le bytes most))
       (hands_over (λ _ _ _. true)) names hash_of old new
       → UsesAtMost old.limiter old → UsesAtMost old.limiter new
-  step_uses_at_most old new s = uses_at_most (plain (λ _ _. false) (λ most bytes. nat_le bytes most)) _ _ old new
-      (λ bytes e. grind (arith, nat_tests)) (λ s p. p.1) (step_changes keeps_limiter old new s).1.tables
+  step_uses_at_most old new s = uses_at_most (plain (λ _ _. false) (λ most bytes. nat_le bytes most)) _ _ _ old new
+      (λ bytes e. grind (arith, nat_tests)) (λ s p. p.1) (step_changes keeps_limiter old new s).2.tables
 
   pub run_uses_at_most : (new old : State K V ℕ H)
       → Run (Step (plain (λ _ _. false) (λ most bytes. nat_le bytes most)) (hands_over (λ _ _ _. true)) names hash_of)
@@ -76,7 +78,7 @@ module _ {K V H : Type 0} (names : K → K → Bool) (hash_of : H → K → ℕ)
       → UsesAtMost old.limiter old → UsesAtMost old.limiter new
   run_uses_at_most new old ends uses = uses
   run_uses_at_most new old (goes_on mid s sized r) uses =
-      let same = (step_changes keeps_limiter old mid s).1.moves in
+      let same = (step_changes keeps_limiter old mid s).2.moves in
       subst (λ most. UsesAtMost most new) same
       (run_uses_at_most new mid r
       (subst (λ most. UsesAtMost most mid) (sym same) (step_uses_at_most old mid s uses)))

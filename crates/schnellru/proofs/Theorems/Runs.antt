@@ -8,7 +8,7 @@ use Rattle.lru_limits.specs.Rules.{Rules, Offers}
 use Rattle.lru_limits.specs.Laws.{IsLookup, IsInsertion, IsAccount}
 use Rattle.schnellru.specs.State.{State, Contents, contents, IsSized, IsMap}
 use Rattle.schnellru.specs.Runs.{Step, inserts, makes_newest, gets, removes, pops_oldest, pops_newest, drains, clears}
-use Rattle.schnellru.specs.Runs.{reserves}
+use Rattle.schnellru.specs.Runs.{reserves, shrinks}
 use Rattle.schnellru.specs.Runs.{AnyStep, calls, writes, sets_limiter, Run, ends, goes_on}
 use Rattle.schnellru.specs.Theorems.{PaysForMoves, IsSummed}
 use Rattle.schnellru.proofs.PairLists.DistinctKeys.{offers_distinct}
@@ -21,51 +21,55 @@ use Rattle.schnellru.proofs.Theorems.Sums.{keeps_sums, stays_summed}
 use Rattle.schnellru.proofs.Theorems.CountedMoves.{promoted_changes, remove_changes, pop_oldest_changes}
 use Rattle.schnellru.proofs.Theorems.CountedMoves.{pop_newest_changes, cleared_changes, drain_changes}
 use Rattle.schnellru.proofs.Theorems.CountedMoves.{reserve_changes, makes_newest_changes, written_changes, set_changes}
+use Rattle.schnellru.proofs.Theorems.Shrinks.{shrink_changes}
 
 module _ {K V S H I : Type 0} {rules : Rules K V S} {offers : Offers K V S I} {names : I → K → Bool}
     {hash_of : H → K → ℕ} where
   module _ {R : Contents K V S → Contents K V S → Type 0} (k : KeepsOffers rules offers names R) where
     pub step_changes : (old new : State K V S H) → Step rules offers names hash_of old new → (more : ℕ)
-        × Changes rules R more old new
-    step_changes old new (inserts key value result h) = (_, insert_changes k key value old result new h)
-    step_changes old new (makes_newest value key result h) = (_, makes_newest_changes k h)
-    step_changes old new (gets key e) = rw e (_, promoted_changes k.keeps old key)
-    step_changes old new (removes test result h) = (_, remove_changes k.keeps old test result new h)
-    step_changes old new (pops_oldest result h) = (_, pop_oldest_changes k.keeps old result new h)
-    step_changes old new (pops_newest result h) = (_, pop_newest_changes k.keeps old result new h)
-    step_changes old new (drains newest oldest result h) = (_, drain_changes k.keeps old newest oldest result new h)
-    step_changes old new (clears e) = rw e (_, cleared_changes k.keeps old)
-    step_changes old new (reserves n result h) = (_, reserve_changes k.keeps.way n old result new h)
+        × (anew : ℕ) × Changes rules R more anew old new
+    step_changes old new (inserts key value result h) = (_, _, insert_changes k key value old result new h)
+    step_changes old new (makes_newest value key result h) = (_, _, makes_newest_changes k h)
+    step_changes old new (gets key e) = rw e (_, _, promoted_changes k.keeps old key)
+    step_changes old new (removes test result h) = (_, _, remove_changes k.keeps old test result new h)
+    step_changes old new (pops_oldest result h) = (_, _, pop_oldest_changes k.keeps old result new h)
+    step_changes old new (pops_newest result h) = (_, _, pop_newest_changes k.keeps old result new h)
+    step_changes old new (drains newest oldest result h) = (_, _, drain_changes k.keeps old newest oldest result new h)
+    step_changes old new (clears e) = rw e (_, _, cleared_changes k.keeps old)
+    step_changes old new (reserves n result h) = (_, _, reserve_changes k.keeps.way n old result new h)
+    step_changes old new (shrinks result h) = let c = shrink_changes rules R k.keeps.way old result new h in (0, c.0, c.1)
 
     -- and what is written, where that keeps what is to be kept
     pub any_changes : ((c : Contents K V S) (test : K → Bool) (value : V)
         → R c (record { pairs = set_value test c.pairs value; limiter = c.limiter }))
         → ((c : Contents K V S) (s : S) → R c (record { pairs = c.pairs; limiter = s }))
         → (old new : State K V S H) → AnyStep rules offers names hash_of old new → (more : ℕ)
-        × Changes rules R more old new
+        × (anew : ℕ) × Changes rules R more anew old new
     any_changes write set old new (calls h) = step_changes old new h
     any_changes write set old new (writes test value e) = rw e
-        (_, written_changes rules R old test value (write (contents old) test value))
-    any_changes write set old new (sets_limiter s e) = rw e (_, set_changes rules R old s (set (contents old) s))
+        (_, _, written_changes rules R old test value (write (contents old) test value))
+    any_changes write set old new (sets_limiter s e) = rw e (_, _, set_changes rules R old s (set (contents old) s))
 
     pub run_keeps : (new old : State K V S H) → Run (Step rules offers names hash_of) new old
         → R (contents old) (contents new)
     run_keeps new old ends = k.keeps.way.self (contents new)
-    run_keeps new old (goes_on mid s sized r) = k.keeps.way.trans (step_changes old mid s).1.moves (run_keeps new mid r)
+    run_keeps new old (goes_on mid s sized r) = k.keeps.way.trans (step_changes old mid s).2.moves (run_keeps new mid r)
 
   -- no call changes what builds the hashers, how far links reach, and what a bucket takes
   pub any_step_same : (old new : State K V S H) → AnyStep rules offers names hash_of old new
       → (new.hasher ≡ old.hasher) × (new.max ≡ old.max) × (new.entry_bytes ≡ old.entry_bytes)
   any_step_same old new s =
-      let tables = (any_changes keeps_nothing (λ c test value. tt) (λ c s. tt) old new s).1.tables in
+      let tables = (any_changes keeps_nothing (λ c test value. tt) (λ c s. tt) old new s).2.tables in
       (tables.hasher, tables.max, tables.entry_bytes)
 
   pub run_pays : (new old : State K V S H) → IsSized old → Run (AnyStep rules offers names hash_of) new old
-      → PaysForMoves old new
-  run_pays new old ok ends = pays_self new
+      → (anew : ℕ) × PaysForMoves anew old new
+  run_pays new old ok ends = (0, pays_self new ok.shrunk)
   run_pays new old ok (goes_on mid s sized r) =
-      pays_trans ((any_changes keeps_nothing (λ c test value. tt)
-      (λ c s. tt) old mid s).1.tables.pays (bounded_of old ok)) (run_pays new mid sized r)
+      let first = (any_changes keeps_nothing (λ c test value. tt) (λ c s. tt) old mid s).2.tables.pays
+      (bounded_of old ok) in
+      let rest = run_pays new mid sized r in
+      (_, pays_trans first rest.1)
 
   pub run_summed : {cost : K → V → ℕ} {account : S → ℕ} → IsAccount rules offers cost account
       → (new old : State K V S H)
@@ -81,7 +85,7 @@ module _ {K V S H I : Type 0} {rules : Rules K V S} {offers : Offers K V S I} {n
         let changed = any_changes (offers_distinct looks_up laws)
         (λ c test value d. subst (IsDistinct eq) (sym (keys-set_value test c.pairs value)) d)
         (λ c s d. d) old new s in
-        stays_map rules changed.0 old new changed.1
+        stays_map rules changed.0 changed.1 old new changed.2
 
     pub run_is_map : (new old : State K V S H) → Run (AnyStep rules offers names hash_of) new old → IsMap eq old
         → IsMap eq new

@@ -1,23 +1,27 @@
--- What clears and reservations make of a map, but for which of its buckets are full.
-use Rattle.std.proofs.Common.{◌≡◌, ℕ, ◌+◌, ◌-◌, ◌^◌, Bool, true, false, cond, [], length, Result, Ok, Err, refl}
-use Rattle.std.proofs.Common.{sym, ap, ◌∙◌, arith}
-use Rattle.std.specs.Prelude.{nat_lt, nat_le, if◌then◌else◌}
+-- What clears, reservations and shrinks make of a map, but for which of its buckets are full.
+use Rattle.std.proofs.Common.{◌≡◌, ℕ, ◌+◌, ◌-◌, ◌^◌, ◌≤◌, Bool, true, false, cond, [], length, Result, Ok, Err, refl}
+use Rattle.std.proofs.Common.{Option, Some, None, sym, ap, ◌∙◌, arith}
+use Rattle.std.specs.Prelude.{nat_lt, nat_le, is_err, IfSome, if◌then◌else◌}
+use Rattle.std.specs.declared.alloc.AllocError.{AllocError}
 use Rattle.std.proofs.lemmas.Bool.{lt-ltb, le-ltb, le-leb, lt-leb}
 use Rattle.std.proofs.lemmas.List.{length-replicate}
 use Rattle.group_table.specs.Bucket.{Mark, empty}
 use Rattle.group_table.specs.Change.{count_up}
-use Rattle.group_table.specs.Sizes.{full_capacity}
+use Rattle.group_table.specs.Sizes.{full_capacity, buckets_for}
 use Rattle.lru_limits.specs.Rules.{Rules}
 use Rattle.schnellru.specs.Calls.{cleared}
 use Rattle.schnellru.specs.Place.{asked, table_for}
 use Rattle.schnellru.specs.Reservations.{Reserve, too_many, enough_room, no_such_table, remade, no_memory_to_remake}
 use Rattle.schnellru.specs.Reservations.{denied_room, reserved, no_memory_to_grow, LacksRoomFor}
+use Rattle.schnellru.specs.Exact.{LookAlike}
+use Rattle.schnellru.specs.Shrinks.{Shrink, shrink_counted, kept, shrunk, no_memory_to_shrink}
 use Rattle.schnellru.specs.Sizes.{Target, target, no_table, same_table, new_table}
 use Rattle.schnellru.specs.State.{State, buckets, room, MovesTo}
 use Rattle.schnellru.specs.declared.map.reserve.ReserveError.{ReserveError}
 use Rattle.schnellru.specs.declared.map.reserve.ReserveError.TheVariants.{TooLarge, Refused, Memory}
 use Rattle.schnellru.proofs.Theorems.CountedMoves.{room_cleared}
-use Rattle.schnellru.proofs.Theorems.SmallTables.{Shape, shape, relimited}
+use Rattle.schnellru.proofs.Theorems.SmallTables.{Shape, shape, same_shape, look_alike, relimited, told, told_same}
+use Rattle.schnellru.proofs.Theorems.SmallTables.{told_err}
 
 module _ {K V S H : Type 0} (rules : Rules K V S) where
   abbrev pub clears : Shape K V S H → Shape K V S H
@@ -91,3 +95,38 @@ module _ {K V S H : Type 0} (rules : Rules K V S) (n : ℕ) (old : State K V S H
       ∙ rw (t, g, r) (ap (λ st. (Err Memory, shape st)) (sym e))
   reserve_is result new (denied_room l count bytes t d r e) = lacks_room (is_memory result) l
       ∙ rw (t, d, r) (ap (λ st. (Err Refused, shape st)) (sym e))
+
+module _ {K V S H : Type 0} where
+  -- what a shrink into so many buckets, if the pairs need so many, tells and makes of a shape, where memory is short or
+  -- not
+  abbrev shrink_to : Option ℕ → Bool → Shape K V S H → Option Bool × Shape K V S H
+  shrink_to None lacks sh = (Some false, sh)
+  shrink_to (Some count) lacks sh =
+      if nat_lt count sh.count then
+      cond lacks (None, sh) (Some true, moved_to count (record sh { bare = shrink_counted sh.bare }))
+      else (Some false, sh)
+
+  abbrev shrink_in : Bool → Shape K V S H → Option Bool × Shape K V S H
+  shrink_in lacks sh = shrink_to (buckets_for sh.bare.max (length sh.bare.pairs)) lacks sh
+
+  shrink_is : (old : State K V S H) (result : Result Bool AllocError) (new : State K V S H) → Shrink old result new
+      → shrink_in (is_err result) (shape old) ≡ (told result, shape new)
+  shrink_is old result new (kept t r e) = go (buckets_for old.max (length old.pairs)) t
+    where
+      go : (need : Option ℕ) → IfSome need (λ count. buckets old ≤ count)
+          → shrink_to need (is_err result) (shape old) ≡ (told result, shape new)
+      go None t = rw r (ap (λ st. (Some false, shape st)) (sym e))
+      go (Some count) t = rw (r, le-ltb count (buckets old) t) (ap (λ st. (Some false, shape st)) (sym e))
+  shrink_is old result new (shrunk count l r m) = rw (l.0, r, lt-ltb count (buckets old) l.1)
+      (ap (λ sh. (Some true, sh)) (sym (moved_shape count (shrink_counted old) new m)))
+  shrink_is old result new (no_memory_to_shrink count l some r e) =
+      rw (l.0, lt-ltb count (buckets old) l.1, r, told_err result r) (ap (λ st. (None, shape st)) (sym e))
+
+  -- two shrinks of maps that look alike, where both find memory or neither does
+  pub shrinks_look_alike : (old other new last : State K V S H) → LookAlike old other
+      → (result answer : Result Bool AllocError) → is_err result ≡ is_err answer → Shrink old result new
+      → Shrink other answer last → (result ≡ answer) × LookAlike new last
+  shrinks_look_alike old other new last alike result answer errs h h' =
+      let both = sym (shrink_is old result new h) ∙ (λ j. shrink_in (errs j) (sym (same_shape alike) j))
+      ∙ shrink_is other answer last h' in
+      (told_same result answer (ap (λ x. x.0) both), look_alike new last (sym (ap (λ x. x.1) both)))

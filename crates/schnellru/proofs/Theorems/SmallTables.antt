@@ -245,17 +245,17 @@ module _ {K V S H : Type 0} (rules : Rules K V S) (hash_of : H → K → ℕ) (p
         ∙ anew_is old mid small c n left new outcome (one small) half gone m
 
 -- the flag of an answer, if it has one
-abbrev told : Result Bool AllocError → Option Bool
+abbrev pub told : Result Bool AllocError → Option Bool
 told (Ok flag) = Some flag
 told (Err e) = None
 
-told_same : (result other : Result Bool AllocError) → told result ≡ told other → result ≡ other
+pub told_same : (result other : Result Bool AllocError) → told result ≡ told other → result ≡ other
 told_same (Ok a) (Ok b) e = cc
 told_same (Ok a) (Err f) e = absurd (grind (arith, e))
 told_same (Err d) (Ok b) e = absurd (grind (arith, e))
 told_same (Err d) (Err f) e = refl
 
-told_err : (result : Result Bool AllocError) → is_err result ≡ true → told result ≡ None
+pub told_err : (result : Result Bool AllocError) → is_err result ≡ true → told result ≡ None
 told_err (Ok a) e = absurd (grind (arith, e))
 told_err (Err d) e = refl
 

@@ -21,6 +21,7 @@ module _ {K V S H : Type 0} where
     pub placings : new.placings ≡ old.placings
     pub moved : new.moved ≡ old.moved
     pub placed : new.placed ≡ old.placed
+    pub shrunk : new.shrunk ≡ old.shrunk
     pub table : buckets new ≡ buckets old
     pub keeps : room old ≤ room new
     pub few : length new.pairs ≤ length old.pairs
@@ -36,6 +37,7 @@ module _ {K V S H : Type 0} where
     placings = refl;
     moved = refl;
     placed = refl;
+    shrunk = refl;
     table = refl;
     keeps = omega arith;
     few = omega arith;
@@ -53,6 +55,7 @@ module _ {K V S H : Type 0} where
     placings = g.placings ∙ f.placings;
     moved = g.moved ∙ f.moved;
     placed = g.placed ∙ f.placed;
+    shrunk = g.shrunk ∙ f.shrunk;
     table = g.table ∙ f.table;
     keeps = omega (arith, f.keeps, g.keeps);
     few = omega (arith, f.few, g.few);
@@ -68,6 +71,7 @@ module _ {K V S H : Type 0} where
     placings = ap (λ st. st.placings) l.is;
     moved = ap (λ st. st.moved) l.is;
     placed = ap (λ st. st.placed) l.is;
+    shrunk = ap (λ st. st.shrunk) l.is;
     table = l.room.table;
     keeps = l.room.keeps;
     few = omega (arith, l.room.keeps, l.room.at_most);
@@ -82,8 +86,9 @@ module _ {K V S H : Type 0} where
   settles_calm rules refused landed result new h = rw h.1 (self_calm landed)
   settles_calm rules no_memory landed result new h = rw h.1 (self_calm landed)
 
-  pub calm_pays : (old new : State K V S H) → Calm old new → PaysForMoves old new
-  calm_pays old new f = pays_calm old new f.placed f.moved (omega (arith, f.keeps, ap full_capacity f.table))
+  pub calm_pays : (old new : State K V S H) → old.shrunk < 2 ^ 64 → Calm old new → PaysForMoves 0 old new
+  calm_pays old new bound f = pays_calm old new bound f.placed f.moved f.shrunk
+      (omega (arith, f.keeps, ap full_capacity f.table))
 
   pub calm_bounded : (old new : State K V S H) → Calm old new → IsBounded old → IsBounded new
   calm_bounded old new f ok = record {
@@ -92,6 +97,7 @@ module _ {K V S H : Type 0} where
     fits = omega (arith, f.fits ok.fits, ap full_capacity f.table);
     moved = rw f.moved ok.moved;
     placed = rw f.placed ok.placed;
+    shrunk = rw f.shrunk ok.shrunk;
   }
 
 module _ {K V S : Type 0} (rules : Rules K V S) (P : S → Type 0) where
@@ -104,54 +110,56 @@ module _ {K V S : Type 0} (rules : Rules K V S) (P : S → Type 0) where
     pub granted : (rules.on_grow limiter bytes).allowed ≡ true
 
 module _ {K V S H : Type 0} (rules : Rules K V S) (P : S → Type 0) where
-  -- the table has as many buckets as before, or as many as such a limiter permits
+  -- the table has no more buckets than before, or as many as such a limiter permits
   abbrev pub IsNextCount : State K V S H → ℕ → Type 0
-  IsNextCount old count = (count ≡ buckets old) ⊎ IsPermitted rules P old.entry_bytes count
+  IsNextCount old count = (count ≤ buckets old) ⊎ IsPermitted rules P old.entry_bytes count
 
-  -- what a call makes of the table, for so many pairs more
-  pub record Tables (more : ℕ) (old new : State K V S H) : Type 0 where
+  -- what a call makes of the table, for so many pairs more, where shrinks place so many anew
+  pub record Tables (more anew : ℕ) (old new : State K V S H) : Type 0 where
     pub hasher : new.hasher ≡ old.hasher
     pub max : new.max ≡ old.max
     pub entry_bytes : new.entry_bytes ≡ old.entry_bytes
     pub count : IsNextCount old (buckets new)
     pub moved : old.moved < 2 ^ 64 → new.moved < 2 ^ 64
-    pub pays : IsBounded old → PaysForMoves old new
+    pub pays : IsBounded old → PaysForMoves anew old new
     pub little : IsBounded old → buckets old < buckets new → full_capacity (buckets new) < 4 * (length old.pairs + more)
 
-  pub calm_tables : (more : ℕ) (old new : State K V S H) → Calm old new → Tables more old new
+  pub calm_tables : (more : ℕ) (old new : State K V S H) → Calm old new → Tables more 0 old new
   calm_tables more old new f = record {
     hasher = f.hasher;
     max = f.max;
     entry_bytes = f.entry_bytes;
-    count = inl f.table;
+    count = inl (omega (arith, f.table));
     moved = λ bound. omega (arith, f.moved, bound);
-    pays = λ ok. calm_pays old new f;
+    pays = λ ok. calm_pays old new ok.shrunk f;
     little = λ ok h. absurd (omega (arith, f.table, h));
   }
 
-  pub calm_then : (more : ℕ) (old mid new : State K V S H) → Calm old mid → Tables more mid new → Tables more old new
+  pub calm_then : (more : ℕ) (old mid new : State K V S H) → Calm old mid → Tables more 0 mid new
+      → Tables more 0 old new
   calm_then more old mid new f t = record {
     hasher = t.hasher ∙ f.hasher;
     max = t.max ∙ f.max;
     entry_bytes = t.entry_bytes ∙ f.entry_bytes;
     count = elim t.count [
-      | inl e ↦ inl (e ∙ f.table)
+      | inl few ↦ inl (omega (arith, few, f.table))
       | inr p ↦ inr
           (subst (λ bytes. IsPermitted rules P bytes (buckets new)) f.entry_bytes p)
     ];
     moved = λ bound. t.moved (omega (arith, f.moved, bound));
-    pays = λ ok. pays_trans (calm_pays old mid f) (t.pays (calm_bounded old mid f ok));
+    pays = λ ok. pays_trans (calm_pays old mid ok.shrunk f) (t.pays (calm_bounded old mid f ok));
     little = λ ok h. omega (arith, f.few, t.little (calm_bounded old mid f ok) (omega (arith, f.table, h)));
   }
 
-  pub then_calm : (more : ℕ) (old mid new : State K V S H) → Tables more old mid → Calm mid new → Tables more old new
+  pub then_calm : (more : ℕ) (old mid new : State K V S H) → Tables more 0 old mid → Calm mid new
+      → Tables more 0 old new
   then_calm more old mid new t f = record {
     hasher = f.hasher ∙ t.hasher;
     max = f.max ∙ t.max;
     entry_bytes = f.entry_bytes ∙ t.entry_bytes;
     count = rw f.table t.count;
     moved = λ bound. omega (arith, f.moved, t.moved bound);
-    pays = λ ok. pays_trans (t.pays ok) (calm_pays mid new f);
+    pays = λ ok. pays_trans (t.pays ok) (calm_pays mid new (omega (arith, (t.pays ok).shrunk)) f);
     little = λ ok h. omega (arith, ap full_capacity f.table, t.little ok (omega (arith, f.table, h)));
   }
 
@@ -161,15 +169,15 @@ module _ {K V S H : Type 0} (rules : Rules K V S) (R : Contents K V S → Conten
   Reaches old s = (pairs : List (K × V)) × R (contents old) (record { pairs = pairs; limiter = s })
 
   -- what a call makes of the pairs, the limiter and the table
-  pub record Changes (more : ℕ) (old new : State K V S H) : Type 0 where
+  pub record Changes (more anew : ℕ) (old new : State K V S H) : Type 0 where
     pub moves : R (contents old) (contents new)
-    pub tables : Tables rules (Reaches old) more old new
+    pub tables : Tables rules (Reaches old) more anew old new
 
   pub calm_changes : (more : ℕ) (old new : State K V S H) → Calm old new → R (contents old) (contents new)
-      → Changes more old new
+      → Changes more 0 old new
   calm_changes more old new f r = record { moves = r; tables = calm_tables rules _ more old new f }
 
   pub leaves_changes : (more : ℕ) (old : State K V S H) (left : Contents K V S) (new : State K V S H)
-      → Leaves old left new → R (contents old) left → Changes more old new
+      → Leaves old left new → R (contents old) left → Changes more 0 old new
   leaves_changes more old left new l r = calm_changes more old new (leaves_calm old left new l)
       (leaves_keep R old left new l r)

@@ -50,16 +50,17 @@ module _ {K V S H : Type 0} (rules : Rules K V S) (P : S → Type 0) (pair : K �
     pub lands : Lands outcome mid new
 
   lands_tables : (outcome : Outcome) (mid new : State K V S H) → Calm old mid → Lands outcome mid new
-      → Tables rules P 1 old new
+      → Tables rules P 1 0 old new
   lands_tables placed mid new f l = record {
     hasher = ap (λ x. x.hasher) l.is.state ∙ f.hasher;
     max = ap (λ x. x.max) l.is.state ∙ f.max;
     entry_bytes = ap (λ x. x.entry_bytes) l.is.state ∙ f.entry_bytes;
     count = rw l.is.table l.next;
     moved = λ bound. omega (arith, ap (λ x. x.moved) l.is.state);
-    pays = λ ok. pays_placing old new l.moves ok.placed (ap (λ x. x.moved) l.is.state
+    pays = λ ok. pays_placing old new l.moves ok.placed ok.shrunk (ap (λ x. x.moved) l.is.state
         ∙ ap (λ x. count_up x l.moves) f.moved)
-        (ap (λ x. x.placed) l.is.state ∙ ap (λ x. count_up x 1) f.placed) (rw (l.is.table, l.is.room_left) (l.paid ok));
+        (ap (λ x. x.placed) l.is.state ∙ ap (λ x. count_up x 1) f.placed) (ap (λ x. x.shrunk) l.is.state ∙ f.shrunk)
+        (rw (l.is.table, l.is.room_left) (l.paid ok));
     little = λ ok h. rw l.is.table (l.little ok (omega (arith, l.is.table, h)));
   }
   lands_tables refused mid new f l = calm_tables rules P 1 old new
@@ -106,7 +107,7 @@ module _ {K V S H : Type 0} (rules : Rules K V S) (R : Contents K V S → Conten
   fills : (outcome : Outcome) (new : State K V S H) (spare : ℕ) → outcome ≡ placed
       → IsPlaced pair (buckets old) spare 0 old new
       → (IsBounded old → full_capacity (buckets old) - 2 * spare ≤ potential old + 2) → Ends outcome new
-  fills outcome new spare o p paid = rw o (if_memory old _ spare 0 placed new p self (self_calm old) (inl refl)
+  fills outcome new spare o p paid = rw o (if_memory old _ spare 0 placed new p self (self_calm old) (inl (omega arith))
       (λ ok. omega (arith, paid ok)) same_little)
 
   known : (mid : State K V S H) → CannotGrow rules old mid → R (contents old) (contents mid) × Calm old mid
@@ -133,7 +134,7 @@ module _ {K V S H : Type 0} (rules : Rules K V S) (R : Contents K V S → Conten
   place_lands outcome new (empty_without_room e b r o n) = fills outcome new _ o n (λ ok. omega arith)
   place_lands outcome new (with_room e r s o n) = fills outcome new _ o n (λ ok. omega (arith, s))
   place_lands outcome new (deleted_bucket f i b l o n) = fills outcome new _ o n (λ ok. omega (arith, f.1))
-  place_lands outcome new (rehashed f i l m) = if_memory old _ _ _ outcome new m self (self_calm old) (inl refl)
+  place_lands outcome new (rehashed f i l m) = if_memory old _ _ _ outcome new m self (self_calm old) (inl (omega arith))
       (λ ok. omega (arith, f.1, ok.fits)) same_little
   place_lands outcome new (grown f i l count bytes t g m) = if_memory (asked rules bytes old) count _ _ outcome new m
       (k.asked bytes (contents old)) (limiter_calm old _)
@@ -160,18 +161,18 @@ module _ {K V S H : Type 0} (rules : Rules K V S) (R : Contents K V S → Conten
       let lv = oldest_leaves rules _ n mid left gone in
       rw o (if_memory left _ _ 0 placed new p
       (k.trans r (leaves_keep R mid _ left lv (pops_keep rules R k n (contents mid))))
-      (calm_trans old mid left s (leaves_calm mid _ left lv)) (inl refl)
+      (calm_trans old mid left s (leaves_calm mid _ left lv)) (inl (omega arith))
       (λ ok. omega (arith, f.1)) same_little)
   place_lands outcome new (evicting f i l mid c (made_anew n pos one half left gone m)) = let (r, s) = known mid c in
       let lv = oldest_leaves rules _ n mid left gone in
       if_memory left _ _ _ outcome new m
       (k.trans r (leaves_keep R mid _ left lv (pops_keep rules R k n (contents mid))))
-      (calm_trans old mid left s (leaves_calm mid _ left lv)) (inl refl)
+      (calm_trans old mid left s (leaves_calm mid _ left lv)) (inl (omega arith))
       (λ ok. omega (arith, f.1, half, s.few, ap (λ st. length st.pairs) lv.is, length-pops rules n (contents mid)))
       same_little
 
   pub place_tables : (outcome : Outcome) (new : State K V S H) → Place rules hash_of pair old outcome new
-      → Tables rules P 1 old new
+      → Tables rules P 1 0 old new
   place_tables outcome new p = let m = place_lands outcome new p in
       lands_tables rules P pair old outcome m.mid new m.calm m.lands
 
@@ -214,7 +215,7 @@ module _ {K V S H I : Type 0} {rules : Rules K V S} {offers : Offers K V S I} {n
 
   -- what each move keeps, an insert keeps
   pub insert_changes : {hash_of : H → K → ℕ} (result : Result Bool AllocError) (new : State K V S H)
-      → Insert rules offers names hash_of i v old result new → Changes rules R 1 old new
+      → Insert rules offers names hash_of i v old result new → Changes rules R 1 0 old new
   insert_changes result new (replaced pair found y r l) =
       leaves_changes rules R 1 old _ new l
       (k.keeps.way.trans (exchanges pair _ (rw y refl) (k.exchanged i v (contents old) pair found))

@@ -10,6 +10,7 @@ pub record Beside (S H : Type 0) : Type 0 where
   pub hasher : H
   pub moved : ℕ
   pub placed : ℕ
+  pub shrunk : ℕ
   pub entry_bytes : ℕ
   pub max : ℕ
 
@@ -25,6 +26,7 @@ module _ {K V S H : Type 0} where
     placings = entries.placings;
     moved = beside.moved;
     placed = beside.placed;
+    shrunk = beside.shrunk;
     entry_bytes = beside.entry_bytes;
     max = beside.max;
   }

@@ -10,7 +10,7 @@ use lru_limits::{ByCost, ByLength, ByMemoryUsage, Costed, Insertion, Limiter, Lo
 use std::hash::{BuildHasher, Hash};
 
 /// What holds of every map holds after any calls, whatever is written through what they lend: no two keys are equal,
-/// each pair has a bucket, and what was moved is at most twice what was placed.
+/// each pair has a bucket, and what inserts moved is at most twice what they placed, and what shrinks placed anew.
 pub fn runs_keep_maps<K: Eq + Hash, V, I: LookupKey<K>, L: Insertion<K, V, I>, S: BuildHasher>()
     ensures map { (old new : State K V L S) →
         Run (AnyStep L.rules L.offers I.names (hash_by K.hash_input S.BuildHasher S.Hasher.Hasher)) new old →
@@ -24,12 +24,12 @@ pub fn runs_keep_sums<K: Eq + Hash, V, I: LookupKey<K>, L: Summing<K, V, I>, S: 
         IsSummed L.cost_of L.account old → IsSummed L.cost_of L.account new }
 {}
 
-/// Over any calls moved and potential together rise by at most two for each element that is placed,
-/// while the count of these goes on.
+/// Over any calls moved and potential together rise by at most two for each element that is placed, while the count of
+/// these goes on, and by one for each that shrinks place anew.
 pub fn runs_pay_for_moves<K: Eq + Hash, V, I: LookupKey<K>, L: Insertion<K, V, I>, S: BuildHasher>()
     ensures rise { (old new : State K V L S) →
         Run (AnyStep L.rules L.offers I.names (hash_by K.hash_input S.BuildHasher S.Hasher.Hasher)) new old →
-        IsSized old → PaysForMoves old new }
+        IsSized old → (anew : ℕ) × PaysForMoves anew old new }
 {}
 
 /// With `ByLength` there are at most `max_length` pairs after any calls, if there were no more before. The limiter

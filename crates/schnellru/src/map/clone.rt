@@ -51,6 +51,7 @@ impl<
             entry_bytes: self.entry_bytes,
             moved: self.moved,
             placed: self.placed,
+            shrunk: self.shrunk,
             alloc: self.alloc,
         })
     }

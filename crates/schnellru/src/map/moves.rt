@@ -1,5 +1,6 @@
 //! Moving all pairs: where a table goes that is to take more, and the move.
-ghost use Rattle.std.specs.Prelude.{◌≡◌, ℕ, ◌+◌, ◌*◌, ◌/◌, ◌^◌, ◌<◌, ◌≤◌, [], length, Some, IfSome, OnOk, OnErr, IsOk};
+ghost use Rattle.std.specs.Prelude.{◌≡◌, ℕ, ◌+◌, ◌-◌, ◌*◌, ◌/◌, ◌^◌, ◌<◌, ◌≤◌, [], length, Some, IfSome, OnOk, OnErr};
+ghost use Rattle.std.specs.Prelude.{IsOk};
 ghost use Rattle.group_table.specs.Sizes.{IsPowerFromFour, full_capacity};
 ghost use Rattle.group_table.specs.Change.{count_up};
 ghost use Rattle.schnellru.specs.Sizes.{usage, larger};
@@ -49,7 +50,8 @@ impl<K: Eq + Hash + Drop, V: Drop, L: Limiter<K, V>, S: BuildHasher> LruMap<K, V
 
     // Counts all pairs as moved.
     pub(super) fn count_moves(&mut self)
-        requires paid { self.old.moved + length self.old.pairs + potential self.old ≤ 2 * self.old.placed }
+        requires paid { self.old.shrunk < 2 ^ 64 - 1 →
+            self.old.moved + length self.old.pairs + potential self.old ≤ 2 * self.old.placed + self.old.shrunk }
         ensures { self.new ≡ record self.old { moved = count_up self.old.moved (length self.old.pairs) } }
     {
         self.moved = self.moved.saturating_add(self.entries.len() as u64);

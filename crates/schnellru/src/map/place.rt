@@ -174,7 +174,8 @@ impl<K: Eq + Hash + Drop, V: Drop, L: Limiter<K, V>, S: BuildHasher> LruMap<K, V
         requires reached { count < L.LinkType.number L.LinkType.MAX }
         requires usable { (bytes : ℕ) × (usage self.old.entry_bytes count ≡ Some bytes) }
         requires half { 2 * length self.old.pairs ≤ full_capacity count }
-        requires paid { self.old.moved + length self.old.pairs ≤ 2 * self.old.placed }
+        requires paid { self.old.shrunk < 2 ^ 64 - 1 →
+            self.old.moved + length self.old.pairs ≤ 2 * self.old.placed + self.old.shrunk }
         ensures handed { Hands F.FnMut sink.old sink.new (λ before after. IsPlacedIfMemory (noting L.rules) pair count
             (full_capacity count - length self.old.pairs - 1) (length self.old.pairs) (noted before self.old)
             (outcome_of result) (noted after self.new)) }

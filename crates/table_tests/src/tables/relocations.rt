@@ -90,7 +90,7 @@ pub(super) fn moved<T: Drop, N: LinkType, H: Fn(&T) -> u64>(
     if count == table.buckets() && count < most {
         return table.rehash(hash);
     }
-    if count > 0 && table.len() <= full_capacity(count) {
+    if count < most && table.len() <= full_capacity(count) {
         return table.relocate(count, hash);
     }
     Err(AllocError)
@@ -255,6 +255,16 @@ fn without_entries(rt: HostRuntime) -> Result<(), Fail> {
         (table.buckets(), table.room(), table.placings()),
         (16, 14, 28)
     );
+    // And with all memory taken it goes to no buckets.
+    let hog = Hog::new(rt.alloc(), &[])?;
+    let links: Result<Vec<u32>, AllocError> = moved(&mut table, 0, |_| 0);
+    drop(hog);
+    assert_eq!(rt; links?.len(), 0);
+    assert_eq!(rt;
+        (table.buckets(), table.room(), table.placings()),
+        (0, 0, 28)
+    );
+    assert_eq!(rt; table.try_place(3, 30), Err(30));
     Ok(())
 }
 

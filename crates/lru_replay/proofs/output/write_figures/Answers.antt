@@ -3,7 +3,7 @@ use Rattle.std.proofs.lemmas.Result.{err_from_is_err_and}
 use Rattle.std.specs.Io.KnownBytes.{Appends}
 use Rattle.lru_replay.specs.declared.figures.Figures.{Figures}
 use Rattle.lru_replay.specs.declared.outcome.ReplayError.{ReplayError}
-use Rattle.lru_replay.specs.Output.{Fails, named_text}
+use Rattle.lru_replay.specs.Output.{Fails, named_text, placed_text}
 use Rattle.lru_replay.proofs.Written.{writes_after, failed_front}
 use Rattle.lru_replay.proofs.output.write_figures.Goals as goal
 
@@ -25,11 +25,11 @@ memory_text figures = named_text (codes " memory ") figures.memory
 abbrev pub moved_text : Figures → List ℕ
 moved_text figures = named_text (codes " moved ") figures.moved
 
-abbrev pub placed_text : Figures → List ℕ
-placed_text figures = named_text (codes " placed ") figures.placed
+abbrev pub from_placed : Figures → List ℕ
+from_placed figures = placed_text figures.placed figures.shrunk
 
 abbrev pub from_moved : Figures → List ℕ
-from_moved figures = moved_text figures ++ placed_text figures
+from_moved figures = moved_text figures ++ from_placed figures
 
 abbrev pub from_memory : Figures → List ℕ
 from_memory figures = memory_text figures ++ from_moved figures
@@ -73,14 +73,14 @@ returns-in_err-write_named-4 g c =
     (from_capacity f) c.in_err-write_named-4.field-0.0 c.in_ok-write_named.ensures
     (later _ _ _ (capacity_text f) (from_memory f) c.in_err-write_named-4.field-0.0 c.in_ok-write_named-2.ensures
     (later _ _ _ (memory_text f) (from_moved f) c.in_err-write_named-4.field-0.0 c.in_ok-write_named-3.ensures
-    (failed_front _ _ (moved_text f) (placed_text f) c.in_err-write_named-4.field-0.0 c.in_err-write_named-4.ensures))))
+    (failed_front _ _ (moved_text f) (from_placed f) c.in_err-write_named-4.field-0.0 c.in_err-write_named-4.ensures))))
 
 pub returns : goal.returns
 returns g c =
     let f = c.args.figures in
-    let result = c.write_named-5.result in
+    let result = c.write_placed.result in
     writes_after _ _ _ (len_text f) (from_capacity f) result c.in_ok-write_named.ensures
     (writes_after _ _ _ (capacity_text f) (from_memory f) result c.in_ok-write_named-2.ensures
     (writes_after _ _ _ (memory_text f) (from_moved f) result c.in_ok-write_named-3.ensures
-    (writes_after _ _ _ (moved_text f) (placed_text f) result c.in_ok-write_named-4.ensures
-    c.write_named-5.ensures)))
+    (writes_after _ _ _ (moved_text f) (from_placed f) result c.in_ok-write_named-4.ensures
+    c.write_placed.ensures)))

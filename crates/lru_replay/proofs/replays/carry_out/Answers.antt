@@ -5,8 +5,8 @@ use Rattle.schnellru.specs.Lists.{lookup}
 use Rattle.lru_replay.specs.declared.command.Command.TheVariants as commands
 use Rattle.lru_replay.specs.Grammar.{SpellsCommand}
 use Rattle.lru_replay.specs.Output.{Writes, bad_text, cost_text, figures_text, flag_text, left_text, pairs_text}
-use Rattle.lru_replay.specs.Output.{reply_text, reservation_text, value_text}
-use Rattle.lru_replay.specs.Replies.{flag, value, pair, listed, reserved, stats, done, no_memory}
+use Rattle.lru_replay.specs.Output.{reply_text, reservation_text, shrink_text, value_text}
+use Rattle.lru_replay.specs.Replies.{flag, value, pair, listed, reserved, shrunk, stats, done, no_memory}
 use Rattle.lru_replay.proofs.Written.{writes_after, failed_front}
 use Rattle.lru_replay.proofs.replays.carry_out.Goals as goal
 
@@ -79,6 +79,15 @@ returns-in-Some-Reserve g c =
       reservation_text result,
       inl (command, spells, (reserved result, (_, c.try_reserve.ensures.step, refl), refl)),
       c.write_reservation.ensures,
+    )
+
+pub returns-in-Some-Shrink : goal.returns-in-Some-Shrink
+returns-in-Some-Shrink g c =
+    let spells = subst (SpellsCommand c.args.line.now) c.in-Some-Shrink.field-0-is c.in-Some-Shrink.ensures.some in
+    let result = c.shrink_to_fit.result in (
+      shrink_text result,
+      inl (commands.Shrink, spells, (shrunk result, (_, c.shrink_to_fit.ensures.step, refl), refl)),
+      c.write_shrink.ensures,
     )
 
 pub returns-in-Some-Drain : goal.returns-in-Some-Drain

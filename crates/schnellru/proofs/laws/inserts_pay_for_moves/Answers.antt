@@ -1,4 +1,3 @@
-use Rattle.std.proofs.Common.{arith}
 use Rattle.schnellru.proofs.Theorems.Moves.{keeps_nothing}
 use Rattle.schnellru.proofs.Theorems.Ways.{insert_changes}
 use Rattle.schnellru.proofs.Theorems.Potential.{bounded_of}
@@ -12,8 +11,7 @@ returns-clause-rise g c = λ key value old result new ok step.
 
 pub returns-clause-paid : goal.returns-clause-paid
 returns-clause-paid g c = λ key value old result new ok paid step.
-    let after = stays_paid _ _ 1 old new (insert_changes keeps_nothing key value old result new step).tables ok paid in
-    (after, omega arith)
+    stays_paid _ _ 1 0 old new (insert_changes keeps_nothing key value old result new step).tables ok paid
 
 pub returns-clause-counted : goal.returns-clause-counted
 returns-clause-counted g c = λ key value old result new step. insert_counts step

@@ -1,7 +1,9 @@
 use Rattle.std.proofs.Common.{◌≡◌, length, replicate, inr, ap, sym, ◌∙◌, arith}
 use Rattle.std.proofs.lemmas.List.{length-replicate}
 use Rattle.group_table.specs.Bucket.{empty, entry_count}
+use Rattle.group_table.specs.Sizes.{full_capacity}
 use Rattle.group_table.specs.Layout.{slots_of}
+use Rattle.group_table.proofs.SizeLemmas.{full_capacity-small}
 use Rattle.group_table.proofs.TableLemmas.{IsTable-by}
 use Rattle.group_table.proofs.FreshLemmas.{Fits-fresh, room-fresh}
 use Rattle.group_table.proofs.RelocationLemmas.{room-none_deleted, entry_count-laid_out, IsRenumbering-moves}
@@ -27,6 +29,20 @@ returns-then-self-eq0-clause-hashes g c hash_at gives moved_hash_of moved =
 
 pub returns-in_err-links-clause-table : goal.returns-in_err-links-clause-table
 returns-in_err-links-clause-table g c = rw (← c.self.view_is) (IsTable-by _ _ _ c.self.invariant.0)
+
+-- entries need buckets
+pub returns-in_err-links-clause-succeeds : goal.returns-in_err-links-clause-succeeds
+returns-in_err-links-clause-succeeds g c = λ none.
+    let some = c.self.invariant.1 in
+    let within = rw (← c.self.view_is) at c.requires.within in
+    absurd (omega (
+      arith,
+      c.if-self-eq0.false,
+      some,
+      within,
+      ap full_capacity none,
+      full_capacity-small 0 (omega arith),
+    ))
 
 pub move_entries-requires-clause-within : goal.move_entries-requires-clause-within
 move_entries-requires-clause-within g c =

@@ -5,7 +5,7 @@ use Rattle.schnellru.proofs.map.LruMap.clear.Goals as goal
 pub invariant_of-self : goal.invariant_of-self
 invariant_of-self g c =
     let m = c.self.inside in let e = c.clear.ensures in
-    let rest = beside m.limiter m.hasher m.moved m.placed m.entry_bytes
+    let rest = beside m.limiter m.hasher m.moved m.placed m.shrunk m.entry_bytes
     (g.L.LinkType.LinkType.number g.L.LinkType.LinkType.MAX) in
     cleared_holds g.L.Limiter.rules m.entries c.clear.new.self e.slots e.order e.placings rest c.on_cleared.new.self
     c.on_cleared.ensures
@@ -14,7 +14,7 @@ invariant_of-self g c =
 pub returns : goal.returns
 returns g c =
     let m = c.self.inside in let e = c.clear.ensures in
-    let rest = beside m.limiter m.hasher m.moved m.placed m.entry_bytes
+    let rest = beside m.limiter m.hasher m.moved m.placed m.shrunk m.entry_bytes
     (g.L.LinkType.LinkType.number g.L.LinkType.LinkType.MAX) in
     rw (← c.self.view_is) (record {
       step = cleared_is g.L.Limiter.rules m.entries c.clear.new.self e.slots e.order e.placings rest

@@ -11,7 +11,7 @@ use Rattle.schnellru.proofs.map.LruMap.clone.Goals as goal
 pub invariant_of-result : goal.invariant_of-result
 invariant_of-result g c =
     let m = c.self.inside in let holds = c.self.invariant in let done = c.in_ok-entries.ensures in
-    let rest = beside m.limiter m.hasher m.moved m.placed m.entry_bytes
+    let rest = beside m.limiter m.hasher m.moved m.placed m.shrunk m.entry_bytes
     (g.L.LinkType.LinkType.number g.L.LinkType.LinkType.MAX) in
     let hash_of = hash_by g.K.Hash.hash_input g.S.BuildHasher g.S.Hasher.Hasher in
     copied_holds g.K.PartialEq.eq hash_of rest m.entries c.in_ok-entries.entries c.in_ok-limiter.limiter
@@ -29,7 +29,7 @@ invariant_of-result g c =
 pub returns-clause-clone : goal.returns-clause-clone
 returns-clause-clone g c =
     let m = c.self.inside in let done = c.in_ok-entries.ensures in
-    let rest = beside c.in_ok-limiter.limiter c.in_ok-hasher.hasher m.moved m.placed m.entry_bytes
+    let rest = beside c.in_ok-limiter.limiter c.in_ok-hasher.hasher m.moved m.placed m.shrunk m.entry_bytes
     (g.L.LinkType.LinkType.number g.L.LinkType.LinkType.MAX) in
     rw (← c.self.view_is) (record {
       pairs = done.pairs;

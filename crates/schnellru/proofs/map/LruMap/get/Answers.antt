@@ -29,7 +29,7 @@ returns-in_err-b g c =
 pub invariant_of-self-lent : goal.invariant_of-self-lent
 invariant_of-self-lent g c = λ w.
     let m = c.self.inside in
-    let rest = beside m.limiter m.hasher m.moved m.placed m.entry_bytes
+    let rest = beside m.limiter m.hasher m.moved m.placed m.shrunk m.entry_bytes
     (g.L.LinkType.LinkType.number g.L.LinkType.LinkType.MAX) in
     let t = m.entries in let v = c.promote.new.self in let holds = c.self.invariant in
     let found = c.in_ok-b.ensures.found in
@@ -51,7 +51,7 @@ invariant_of-self-lent g c = λ w.
 pub returns : goal.returns
 returns g c =
     let m = c.self.inside in
-    let rest = beside m.limiter m.hasher m.moved m.placed m.entry_bytes
+    let rest = beside m.limiter m.hasher m.moved m.placed m.shrunk m.entry_bytes
     (g.L.LinkType.LinkType.number g.L.LinkType.LinkType.MAX) in
     let t = m.entries in let v = c.promote.new.self in let holds = c.self.invariant in
     let found = c.in_ok-b.ensures.found in

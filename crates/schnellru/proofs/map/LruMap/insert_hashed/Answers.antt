@@ -27,7 +27,7 @@ insert_new-requires-clause-absent g c =
 pub invariant_of-self : goal.invariant_of-self
 invariant_of-self g c =
     let m = c.self.inside in
-    let rest = beside m.limiter m.hasher m.moved m.placed m.entry_bytes
+    let rest = beside m.limiter m.hasher m.moved m.placed m.shrunk m.entry_bytes
     (g.L.LinkType.LinkType.number g.L.LinkType.LinkType.MAX) in
     let t = m.entries in let u = c.replace.new.entries in let l = c.replace.new.limiter in
     let holds = c.self.invariant in
@@ -48,7 +48,7 @@ invariant_of-self g c =
 pub invariant_of-self-in-Some : goal.invariant_of-self-in-Some
 invariant_of-self-in-Some g c =
     let m = c.self.inside in
-    let rest = beside m.limiter m.hasher m.moved m.placed m.entry_bytes
+    let rest = beside m.limiter m.hasher m.moved m.placed m.shrunk m.entry_bytes
     (g.L.LinkType.LinkType.number g.L.LinkType.LinkType.MAX) in
     let t = m.entries in let u = c.replace.new.entries in let l = c.replace.new.limiter in
     let holds = c.self.invariant in
@@ -93,7 +93,7 @@ returns-then-not-replace-clause-handed g c =
       rw (← c.self.view_is) (given_up was there untaken refl
           (given_up_leaves (noted_by before replacement b t u l) t u b (l, after) holds.linked c.replace.ensures.linked
           was found.1 names g.met.K.Eq.laws one holds.map.distinct found.2
-          (beside (m.limiter, before) m.hasher m.moved m.placed m.entry_bytes
+          (beside (m.limiter, before) m.hasher m.moved m.placed m.shrunk m.entry_bytes
           (g.L.LinkType.LinkType.number g.L.LinkType.LinkType.MAX))
           (noting rules) (noted_given_up before replacement b t u l rules given))),
     )
@@ -101,7 +101,7 @@ returns-then-not-replace-clause-handed g c =
 pub returns-else-not-replace-clause-handed : goal.returns-else-not-replace-clause-handed
 returns-else-not-replace-clause-handed g c =
     let m = c.self.inside in
-    let rest = beside m.limiter m.hasher m.moved m.placed m.entry_bytes
+    let rest = beside m.limiter m.hasher m.moved m.placed m.shrunk m.entry_bytes
     (g.L.LinkType.LinkType.number g.L.LinkType.LinkType.MAX) in
     let t = m.entries in let u = c.replace.new.entries in let l = c.replace.new.limiter in
     let holds = c.self.invariant in
@@ -119,7 +119,7 @@ returns-else-not-replace-clause-handed g c =
     λ first before taken.
     let leaves = replaced_leaves (noted_by before replacement b t u l) t u b (l, before) holds.linked
     c.replace.ensures.linked was found.1 names g.met.K.Eq.laws one holds.map.distinct found.2
-    (beside (m.limiter, before) m.hasher m.moved m.placed m.entry_bytes
+    (beside (m.limiter, before) m.hasher m.moved m.placed m.shrunk m.entry_bytes
     (g.L.LinkType.LinkType.number g.L.LinkType.LinkType.MAX)) (noted_replaced before replacement b t u l is) in
     let (after, had, trimmed) = c.trim.ensures.handed first before
     (subst (λ s. Takes g.F.FnMut first before s) (sym (c.replace.ensures.kept c.if-not-replace.false)) taken) in (

@@ -12,7 +12,7 @@ use Rattle.schnellru.proofs.map.LruMap.insert_new.Goals as goal
 pub returns-in_err-pair-clause-handed : goal.returns-in_err-pair-clause-handed
 returns-in_err-pair-clause-handed g c =
     let m = c.self.inside in
-    let rest = beside m.limiter m.hasher m.moved m.placed m.entry_bytes
+    let rest = beside m.limiter m.hasher m.moved m.placed m.shrunk m.entry_bytes
     (g.L.LinkType.LinkType.number g.L.LinkType.LinkType.MAX) in
     let len = c.len.ensures.len ∙ sym (pairs-length m.entries c.self.invariant.linked) in
     let absent = rw (← c.self.view_is) at c.requires.absent in

@@ -23,7 +23,7 @@ larger_table-requires-clause-half g c =
 pub returns-clause-next : goal.returns-clause-next
 returns-clause-next g c =
     let m = c.self.inside in
-    let rest = beside m.limiter m.hasher m.moved m.placed m.entry_bytes
+    let rest = beside m.limiter m.hasher m.moved m.placed m.shrunk m.entry_bytes
     (g.L.LinkType.LinkType.number g.L.LinkType.LinkType.MAX) in
     rw (← c.self.view_is) (sym (goes_to rest m.entries c.self.invariant.linked c.args.more
     (c.into_usize-max.ensures ∙ ap g.L.LinkType.LinkType.number c.MAX.ensures) c.buckets.ensures.buckets

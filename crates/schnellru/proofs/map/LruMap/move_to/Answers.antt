@@ -25,7 +25,7 @@ returns-in_err-move_to-clause-succeeds g c = λ none same.
 pub invariant_of-self-2 : goal.invariant_of-self-2
 invariant_of-self-2 g c =
     let m = c.self.inside in let e = c.in_ok-move_to.ensures in let holds = c.self.invariant in
-    let rest = beside m.limiter m.hasher m.moved m.placed m.entry_bytes
+    let rest = beside m.limiter m.hasher m.moved m.placed m.shrunk m.entry_bytes
     (g.L.LinkType.LinkType.number g.L.LinkType.LinkType.MAX) in
     moves_holds m.entries c.move_to.new.self c.args.count holds.linked e.linked e.buckets e.pairs e.room e.placings
     rest _ _ holds e.fits
@@ -34,7 +34,7 @@ invariant_of-self-2 g c =
 pub returns-clause-moved : goal.returns-clause-moved
 returns-clause-moved g c =
     let m = c.self.inside in let e = c.in_ok-move_to.ensures in
-    let rest = beside m.limiter m.hasher m.moved m.placed m.entry_bytes
+    let rest = beside m.limiter m.hasher m.moved m.placed m.shrunk m.entry_bytes
     (g.L.LinkType.LinkType.number g.L.LinkType.LinkType.MAX) in
     rw (← c.self.view_is)
     (moves_to m.entries c.move_to.new.self c.args.count c.self.invariant.linked e.linked e.buckets e.pairs e.room

@@ -9,7 +9,7 @@ use Rattle.schnellru.proofs.map.LruMap.place_first.Goals as goal
 pub returns-then-on_grow-clause-handed : goal.returns-then-on_grow-clause-handed
 returns-then-on_grow-clause-handed g c =
     let m = c.self.inside in
-    let rest = beside m.limiter m.hasher m.moved m.placed m.entry_bytes
+    let rest = beside m.limiter m.hasher m.moved m.placed m.shrunk m.entry_bytes
     (g.L.LinkType.LinkType.number g.L.LinkType.LinkType.MAX) in
     let old = state_of m.entries rest in
     let none = rw (← c.self.view_is) at c.requires.none in
@@ -27,7 +27,7 @@ returns-then-on_grow-clause-handed g c =
 pub returns-else-on_grow-clause-handed : goal.returns-else-on_grow-clause-handed
 returns-else-on_grow-clause-handed g c =
     let m = c.self.inside in
-    let rest = beside m.limiter m.hasher m.moved m.placed m.entry_bytes
+    let rest = beside m.limiter m.hasher m.moved m.placed m.shrunk m.entry_bytes
     (g.L.LinkType.LinkType.number g.L.LinkType.LinkType.MAX) in
     let old = state_of m.entries rest in
     let none = rw (← c.self.view_is) at c.requires.none in

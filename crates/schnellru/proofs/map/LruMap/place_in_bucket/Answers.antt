@@ -10,7 +10,7 @@ use Rattle.schnellru.proofs.map.LruMap.place_in_bucket.Goals as goal
 pub invariant_of-self-2 : goal.invariant_of-self-2
 invariant_of-self-2 g c =
     let m = c.self.inside in let e = c.in_ok-place.ensures in let holds = c.self.invariant in
-    let rest = beside m.limiter m.hasher m.moved m.placed m.entry_bytes
+    let rest = beside m.limiter m.hasher m.moved m.placed m.shrunk m.entry_bytes
     (g.L.LinkType.LinkType.number g.L.LinkType.LinkType.MAX) in
     rw c.saturating_add-self-inside.ensures
     (lands_holds m.entries c.place.new.self c.args.hash c.args.pair e.placed.0 holds.linked e.placed.1 rest
@@ -21,7 +21,7 @@ invariant_of-self-2 g c =
 pub returns-clause-placed : goal.returns-clause-placed
 returns-clause-placed g c =
     let m = c.self.inside in let e = c.in_ok-place.ensures in let holds = c.self.invariant in
-    let rest = beside m.limiter m.hasher m.moved m.placed m.entry_bytes
+    let rest = beside m.limiter m.hasher m.moved m.placed m.shrunk m.entry_bytes
     (g.L.LinkType.LinkType.number g.L.LinkType.LinkType.MAX) in
     rw (← c.self.view_is, c.saturating_add-self-inside.ensures)
     (lands_placed m.entries c.place.new.self c.args.hash c.args.pair e.placed.0 holds.linked e.placed.1 rest
@@ -30,7 +30,7 @@ returns-clause-placed g c =
 pub returns-clause-fills : goal.returns-clause-fills
 returns-clause-fills g c =
     let m = c.self.inside in let e = c.in_ok-place.ensures in let holds = c.self.invariant in
-    let rest = beside m.limiter m.hasher m.moved m.placed m.entry_bytes
+    let rest = beside m.limiter m.hasher m.moved m.placed m.shrunk m.entry_bytes
     (g.L.LinkType.LinkType.number g.L.LinkType.LinkType.MAX) in
     rw (← c.self.view_is)
     (lands_fills m.entries c.place.new.self c.args.hash c.args.pair e.placed.0 holds.linked e.placed.1 rest
@@ -39,7 +39,7 @@ returns-clause-fills g c =
 pub returns-clause-spends : goal.returns-clause-spends
 returns-clause-spends g c =
     let m = c.self.inside in
-    let rest = beside m.limiter m.hasher m.moved m.placed m.entry_bytes
+    let rest = beside m.limiter m.hasher m.moved m.placed m.shrunk m.entry_bytes
     (g.L.LinkType.LinkType.number g.L.LinkType.LinkType.MAX) in
     let old = state_of m.entries rest in
     subst (λ st. length st.pairs + room st ≡ full_capacity (buckets st) → room (state_of c.place.new.self rest) + 1

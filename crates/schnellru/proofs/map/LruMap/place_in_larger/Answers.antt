@@ -11,7 +11,7 @@ use Rattle.schnellru.proofs.map.LruMap.place_in_larger.Goals as goal
 pub returns-then-on_grow-clause-handed : goal.returns-then-on_grow-clause-handed
 returns-then-on_grow-clause-handed g c =
     let m = c.self.inside in
-    let rest = beside m.limiter m.hasher m.moved m.placed m.entry_bytes
+    let rest = beside m.limiter m.hasher m.moved m.placed m.shrunk m.entry_bytes
     (g.L.LinkType.LinkType.number g.L.LinkType.LinkType.MAX) in
     let old = state_of m.entries rest in
     let free = subst (λ h. FirstFreeIs empty h c.args.self.now) c.requires.hash c.requires.empty in
@@ -31,7 +31,7 @@ returns-then-on_grow-clause-handed g c =
 pub returns-else-on_grow-clause-handed : goal.returns-else-on_grow-clause-handed
 returns-else-on_grow-clause-handed g c =
     let m = c.self.inside in
-    let rest = beside m.limiter m.hasher m.moved m.placed m.entry_bytes
+    let rest = beside m.limiter m.hasher m.moved m.placed m.shrunk m.entry_bytes
     (g.L.LinkType.LinkType.number g.L.LinkType.LinkType.MAX) in
     let old = state_of m.entries rest in
     let free = subst (λ h. FirstFreeIs empty h c.args.self.now) c.requires.hash c.requires.empty in

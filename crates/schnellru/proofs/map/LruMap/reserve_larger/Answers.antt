@@ -8,7 +8,7 @@ use Rattle.schnellru.proofs.map.LruMap.reserve_larger.Goals as goal
 pub returns-then-not-on_grow : goal.returns-then-not-on_grow
 returns-then-not-on_grow g c =
     let m = c.self.inside in
-    let rest = beside m.limiter m.hasher m.moved m.placed m.entry_bytes
+    let rest = beside m.limiter m.hasher m.moved m.placed m.shrunk m.entry_bytes
     (g.L.LinkType.LinkType.number g.L.LinkType.LinkType.MAX) in
     rw (← c.self.view_is) (is_denied g.L.Limiter.rules c.args.n (state_of m.entries rest) _
     (rw (← c.self.view_is) at c.requires.lacks) c.in-Some.count c.in-Some.bytes
@@ -18,7 +18,7 @@ returns-then-not-on_grow g c =
 pub returns-in-Ok : goal.returns-in-Ok
 returns-in-Ok g c =
     let m = c.self.inside in
-    let rest = beside m.limiter m.hasher m.moved m.placed m.entry_bytes
+    let rest = beside m.limiter m.hasher m.moved m.placed m.shrunk m.entry_bytes
     (g.L.LinkType.LinkType.number g.L.LinkType.LinkType.MAX) in
     rw (← c.self.view_is) (is_reserved g.L.Limiter.rules c.args.n (state_of m.entries rest) c.move_to.new.self
     (rw (← c.self.view_is) at c.requires.lacks)
@@ -29,7 +29,7 @@ returns-in-Ok g c =
 pub returns-in-Err : goal.returns-in-Err
 returns-in-Err g c =
     let m = c.self.inside in
-    let rest = beside m.limiter m.hasher m.moved m.placed m.entry_bytes
+    let rest = beside m.limiter m.hasher m.moved m.placed m.shrunk m.entry_bytes
     (g.L.LinkType.LinkType.number g.L.LinkType.LinkType.MAX) in
     rw (← c.self.view_is) (lacks_memory g.L.Limiter.rules c.args.n (state_of m.entries rest) c.move_to.new.self
     (rw (← c.self.view_is) at c.requires.lacks)

@@ -51,7 +51,7 @@ move_to-requires-clause-half g c =
 pub returns-in-Ok : goal.returns-in-Ok
 returns-in-Ok g c =
     let m = c.self.inside in
-    let rest = beside m.limiter m.hasher m.moved m.placed m.entry_bytes
+    let rest = beside m.limiter m.hasher m.moved m.placed m.shrunk m.entry_bytes
     (g.L.LinkType.LinkType.number g.L.LinkType.LinkType.MAX) in
     let t = m.entries in let holds = c.self.invariant in
     let len = c.len.ensures.len ∙ sym (pairs-length t holds.linked) in
@@ -75,7 +75,7 @@ returns-in-Ok g c =
 pub returns-in-Err : goal.returns-in-Err
 returns-in-Err g c =
     let m = c.self.inside in
-    let rest = beside m.limiter m.hasher m.moved m.placed m.entry_bytes
+    let rest = beside m.limiter m.hasher m.moved m.placed m.shrunk m.entry_bytes
     (g.L.LinkType.LinkType.number g.L.LinkType.LinkType.MAX) in
     let t = m.entries in let holds = c.self.invariant in
     let len = c.len.ensures.len ∙ sym (pairs-length t holds.linked) in

@@ -7,7 +7,7 @@ use Rattle.schnellru.proofs.map.LruMap.turn_away.Goals as goal
 pub returns-clause-handed : goal.returns-clause-handed
 returns-clause-handed g c =
     let m = c.self.inside in
-    let rest = beside m.limiter m.hasher m.moved m.placed m.entry_bytes
+    let rest = beside m.limiter m.hasher m.moved m.placed m.shrunk m.entry_bytes
     (g.L.LinkType.LinkType.number g.L.LinkType.LinkType.MAX) in
     let left = c.tell-key.result in
     λ first before taken. (

@@ -18,10 +18,13 @@ invariant_of-result g c =
       map = record {
         distinct = subst (λ o. AreDistinct g.K.PartialEq.eq (entries_in c.new.result.slots o))
             (sym c.new.ensures.order) tt;
-        sized = sized_by (beside c.args.limiter c.args.hasher 0 0 c.args.entry_bytes
+        sized = sized_by (beside c.args.limiter c.args.hasher 0 0 0 c.args.entry_bytes
             (g.L.LinkType.LinkType.number g.L.LinkType.LinkType.MAX)) c.new.result c.new.ensures.linked (inl none)
-            (0, ap (usage c.args.entry_bytes) none) (omega arith) (omega arith);
-        paid = subst (λ s. 0 + (full_capacity (length (marks_of s)) - 2 * room (marks_of s)) ≤ 0)
-            (sym c.new.ensures.slots) (omega arith);
+            (0, ap (usage c.args.entry_bytes) none) (omega arith) (omega arith) (omega arith);
+        paid = record {
+          moved = omega arith;
+          ahead = λ below. subst (λ s. 0 + (full_capacity (length (marks_of s)) - 2 * room (marks_of s)) ≤ 0)
+              (sym c.new.ensures.slots) (omega arith);
+        };
       };
     }

@@ -1,0 +1,73 @@
+-- A map keeps its pairs and their order when all of them move into fewer buckets, which is counted.
+use Rattle.std.proofs.Common.{◌≡◌, ℕ, ◌+◌, ◌<◌, ◌≤◌, ◌⊎◌, inl, inr, Bool, length, Option, Some, sym, ap, ◌∙◌, subst, arith}
+use Rattle.std.proofs.lemmas.Option.{same_Some}
+use Rattle.group_table.specs.Sizes.{full_capacity, buckets_for}
+use Rattle.group_table.specs.Bucket.{marks_of, room}
+use Rattle.group_table.specs.Change.{count_up}
+use Rattle.group_table.proofs.BucketLemmas.{length-marks_of}
+use Rattle.schnellru.specs.Sizes.{usage}
+use Rattle.schnellru.specs.State.{MovesTo, IsSized, buckets}
+use Rattle.schnellru.specs.Shrinks.{shrink_counted}
+use Rattle.schnellru.specs.Inside.Linked.{Linked, IsLinked, KeysFit, pairs_of}
+use Rattle.schnellru.specs.Inside.Holds.{Beside, state_of, Holds}
+use Rattle.schnellru.proofs.PairLists.DistinctKeys.{AreDistinct}
+use Rattle.schnellru.proofs.TableSizes.Budgets.{usage_fewer}
+use Rattle.schnellru.proofs.LinkedTables.BucketPairs.{pairs-length}
+use Rattle.schnellru.proofs.Maps.HeldMaps.{sized_by}
+use Rattle.schnellru.proofs.Maps.MovedPairs.{moves_to}
+use Rattle.schnellru.proofs.Theorems.PaidMoves.{paid_after}
+use Rattle.schnellru.proofs.Theorems.Shrinks.{moved_pays}
+
+-- no pairs need no buckets
+pub none_needed : (max count : ℕ) → buckets_for max 0 ≡ Some count → count ≡ 0
+unfolding buckets_for
+none_needed max count is = sym (same_Some 0 count is)
+
+module _ {K V S H : Type 0} (beside : Beside S H) (t : Linked K V) (linked : IsLinked t) where
+  -- so many buckets are needed for the pairs of a map, from the figures of its linked table
+  pub needs : {most pairs : ℕ} {need : Option ℕ} → most ≡ beside.max → pairs ≡ length t.order
+      → need ≡ buckets_for most pairs → buckets_for beside.max (length (pairs_of t)) ≡ need
+  needs {most} {pairs} is_max is_pairs is =
+      let pairs_are : pairs ≡ length (pairs_of t) = is_pairs ∙ sym (pairs-length t linked) in
+      (λ i. buckets_for (sym is_max i) (sym pairs_are i)) ∙ sym is
+
+module _ {K V S H : Type 0} (t u : Linked K V) (count : ℕ) (linked : IsLinked t) (next : IsLinked u)
+    (table : length u.slots ≡ count)
+    (pairs : pairs_of u ≡ pairs_of t) (left : room (marks_of u.slots) + length t.order ≡ full_capacity count)
+    (placings : u.placings ≡ count_up t.placings (length t.order)) (beside : Beside S H) where
+  -- with the pairs counted
+  abbrev pub counted : Beside S H
+  counted = record beside { shrunk = count_up beside.shrunk (length (pairs_of t)) }
+
+  pub shrinks_to : MovesTo count (shrink_counted (state_of t beside)) (state_of u counted)
+  shrinks_to = moves_to t u count linked next table pairs left placings counted
+
+  pub shrinks_holds : (eq : K → K → Bool) (hash_of : H → K → ℕ) → Holds eq hash_of t beside
+      → KeysFit (hash_of beside.hasher) u.slots → count < length t.slots → Holds eq hash_of u counted
+  shrinks_holds eq hash_of holds fits fewer = record {
+    linked = next;
+    fits = fits;
+    map = record {
+      distinct = subst (AreDistinct eq) (sym pairs) holds.map.distinct;
+      sized = sized_by counted u next (reached sized.reachable) (usable.0, ap (usage beside.entry_bytes) table ∙ usable.1)
+          sized.moved sized.placed (omega arith);
+      paid = paid_after (state_of t beside) (state_of u counted)
+          (moved_pays (state_of t beside) count (state_of u counted) shrinks_to) sized.moved
+          (omega (arith, shrinks_to.table, few, sized.table.addressable)) holds.map.paid;
+    };
+  }
+    where
+      sized : IsSized (state_of t beside)
+      sized = holds.map.sized
+
+      few : count < buckets (state_of t beside)
+      few = omega (arith, fewer, length-marks_of t.slots)
+
+      usable : (less : ℕ) × (usage beside.entry_bytes count ≡ Some less) × (less ≤ sized.usable.0)
+      usable = usage_fewer beside.entry_bytes count (buckets (state_of t beside)) sized.usable.0 (omega (arith, few))
+          sized.usable.1
+
+      reached : (buckets (state_of t beside) ≡ 0) ⊎ (buckets (state_of t beside) < beside.max)
+          → (length u.slots ≡ 0) ⊎ (length u.slots < beside.max)
+      reached (inl none) = absurd (omega (arith, few, none))
+      reached (inr below) = inr (omega (arith, table, few, below))
