@@ -30,6 +30,7 @@ module _ {K V S H : Type 0} where
     usable = ok.usable;
     moved = ok.moved;
     placed = ok.placed;
+    shrunk = ok.shrunk;
   }
 
   pub noted_placed : (list : List (K × V)) (pair : K × V) (count spare moves : ℕ) (old new : State K V S H)
