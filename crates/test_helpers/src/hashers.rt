@@ -10,6 +10,9 @@ use std::hash::{BuildHasher, Hasher};
 #[derive(Clone, Copy)]
 pub struct LastByte(pub u64);
 
+/// A key whose last byte, and so its hash under `LastByte`, is 28.
+pub const OF_HASH_28: u64 = 28 << 56;
+
 impl Hasher for LastByte {
     ghost write = { λ s bytes. record { 0 = fold (λ _ b. b) s.0 bytes } };
 

@@ -4,10 +4,10 @@
 //! - [`LinkedBy`], [`Telling`], [`Within`], [`Blanking`]: limiters of maps from numbers to numbers.
 //! - [`InsertKey`] and [`Counting`]: texts that become a `String` when they are stored, and a limiter that takes them.
 //! - [`Weighed`]: a value with a cost of its own.
-//! - [`LastByte`], [`Sum`], [`Counted`]: hashers.
+//! - [`LastByte`] with [`OF_HASH_28`], [`Sum`], [`Counted`]: hashers.
 //! - [`Slow`], [`Repeated`], [`Narrow`]: readers and writers of few bytes a call, which fail as [`Failure`] says.
-//! - [`map_of`], [`insert`], [`insert_all`], [`is_list`], [`figures`], [`report`]: a map of numbers, and what a test
-//!   looks at in it.
+//! - [`map_of`], [`insert`], [`insert_all`], [`get`], [`pairs`], [`ends`], [`counts_down`], [`is_list`], [`figures`],
+//!   [`report`]: a map of numbers, and what a test looks at in it.
 #![tactic(auto)]
 
 mod hashers;
@@ -18,10 +18,12 @@ mod maps;
 mod streams;
 mod weighed;
 
-pub use hashers::{Counted, LastByte, Sum};
+pub use hashers::{Counted, LastByte, OF_HASH_28, Sum};
 pub use hog::Hog;
 pub use insert_key::{Counting, InsertKey};
 pub use limiters::{Blanking, LinkedBy, Telling, Within};
-pub use maps::{figures, insert, insert_all, is_list, map_of, report};
+pub use maps::{
+    counts_down, ends, figures, get, insert, insert_all, is_list, map_of, pairs, report,
+};
 pub use streams::{Failure, Narrow, Repeated, Slow};
 pub use weighed::Weighed;

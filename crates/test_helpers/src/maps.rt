@@ -31,6 +31,57 @@ pub fn insert_all<L: Insertion<u64, u64, u64>, S: BuildHasher>(
     Ok(taken)
 }
 
+/// The value of a key, whose pair becomes the newest.
+pub fn get<L: Limiter<u64, u64>, S: BuildHasher>(
+    map: &mut LruMap<u64, u64, L, S>,
+    key: u64,
+) -> Option<u64> {
+    map.get(&key).copied()
+}
+
+/// The pairs, newest first.
+pub fn pairs<L: Limiter<u64, u64>, S: BuildHasher>(
+    alloc: Global,
+    map: &LruMap<u64, u64, L, S>,
+) -> Result<Vec<(u64, u64)>, AllocError> {
+    let mut pairs = Vec::new(alloc);
+    for (key, value) in map.iter() {
+        pairs.push((*key, *value))?;
+    }
+    Ok(pairs)
+}
+
+/// The keys of the newest and of the oldest pair.
+pub fn ends<L: Limiter<u64, u64>, S: BuildHasher>(
+    map: &LruMap<u64, u64, L, S>,
+) -> (Option<u64>, Option<u64>) {
+    let mut newest = None;
+    let mut oldest = None;
+    for (key, _) in map.iter() {
+        if newest.is_none() {
+            newest = Some(*key);
+        }
+        oldest = Some(*key);
+    }
+    (newest, oldest)
+}
+
+/// Whether the pairs are those of the numbers from the newest down to the oldest one.
+pub fn counts_down<L: Limiter<u64, u64>, S: BuildHasher>(
+    map: &LruMap<u64, u64, L, S>,
+    newest: u64,
+    oldest: u64,
+) -> bool {
+    let mut next = newest;
+    for (key, value) in map.iter() {
+        if *key != next || *value != next.wrapping_mul(10) {
+            return false;
+        }
+        next = next.wrapping_sub(1);
+    }
+    next == oldest.wrapping_sub(1)
+}
+
 /// Whether these are the pairs, newest first. It takes no memory.
 pub fn is_list<L: Limiter<u64, u64>, S: BuildHasher>(
     map: &LruMap<u64, u64, L, S>,

@@ -1,9 +1,8 @@
 //! Removals, pops and reservations.
-use super::capacities::OF_HASH_28;
 use super::*;
 use schnellru::{ByCost, ByMemoryUsage, ReserveError, UnlimitedCompact};
 use std::test::Fail;
-use test_helpers::{Blanking, LastByte};
+use test_helpers::{Blanking, LastByte, OF_HASH_28};
 
 // A map in which all keys below 2 to the 56th have the hash 0.
 fn of_one_hash(alloc: Global) -> LruMap<u64, u64, UnlimitedCompact, LastByte> {

@@ -2,10 +2,7 @@
 use super::*;
 use schnellru::{ByMemoryUsage, UnlimitedCompact};
 use std::test::Fail;
-use test_helpers::LastByte;
-
-// A key whose last byte, and so its hash under `LastByte`, is 28.
-pub(super) const OF_HASH_28: u64 = 28 << 56;
+use test_helpers::{LastByte, OF_HASH_28};
 
 #[test]
 fn fifteen_pairs(rt: HostRuntime) -> Result<(), Fail> {

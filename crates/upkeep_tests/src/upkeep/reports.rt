@@ -1,15 +1,8 @@
 //! How many entries inserts moved and placed.
-use super::capacities::OF_HASH_28;
 use super::*;
 use schnellru::{ByMemoryUsage, UnlimitedCompact};
 use std::test::Fail;
-use test_helpers::LastByte;
-
-// The counts of moves.
-fn report<L: Limiter<u64, u64>, S: BuildHasher>(map: &LruMap<u64, u64, L, S>) -> (u64, u64) {
-    let report = map.move_report();
-    (report.moved, report.placed)
-}
+use test_helpers::{LastByte, OF_HASH_28};
 
 // 3, 7 and 14 pairs move while 15 are placed. A reservation moves more, which is not counted.
 #[test]

@@ -1,10 +1,9 @@
 //! Requests for memory that are refused.
-use super::capacities::OF_HASH_28;
 use super::texts::{Texts, has_keys, insert_text};
 use super::*;
 use schnellru::ReserveError;
 use std::test::Fail;
-use test_helpers::{Counting, Hog, LastByte, Within};
+use test_helpers::{Counting, Hog, LastByte, OF_HASH_28, Within};
 
 // The bytes of 4 control bytes with 16 more, and of 4 buckets.
 const FIRST_TABLE: [usize; 2] = [20, 128];
