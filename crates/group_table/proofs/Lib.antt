@@ -32,3 +32,4 @@ pub mod ChangeLemmas
 pub mod CallerLemmas
 pub mod CountedMarks
 pub mod TableLemmas
+pub mod CellSharing

@@ -18,3 +18,6 @@ pub mod Group
 pub mod Bytes
 pub mod Lanes
 pub mod Control
+pub mod Cells
+pub mod CellOwners
+pub mod CellLends

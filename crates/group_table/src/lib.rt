@@ -1,6 +1,7 @@
 //! The bucket table of the LRU map, and the widths of its links.
 #![tactic(auto)]
 
+mod cells;
 mod control;
 mod fields;
 mod group;
