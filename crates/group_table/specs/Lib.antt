@@ -21,3 +21,5 @@ pub mod Control
 pub mod Cells
 pub mod CellOwners
 pub mod CellLends
+pub mod Entries
+pub mod EntryLends

@@ -85,7 +85,7 @@ pub(crate) fn fits_in_block<T>(count: usize) -> bool
     ensures { result ≡ true → FitsInBlock T.row count }
 {
     match count.checked_mul(bytes_of::<T>()) {
-        Some(bytes) => bytes < 1 << 63,
+        Some(bytes) => count < 1 << 63 && bytes < 1 << 63,
         None => false,
     }
 }

@@ -11,18 +11,6 @@ use crate::link::LinkType;
 use std::alloc::{AllocError, Global};
 use std::mem;
 
-// Where control never comes. `unreachable!()` is compiled to a trap, and to a test before it. This has no code and no
-// test: it matches on what would be read from an array of nothing.
-macro_rules! nowhere {
-    () => {{
-        let none: [Option<()>; 0] = [];
-        match none[0] {
-            Some(_) => unreachable!(),
-            None => unreachable!(),
-        }
-    }};
-}
-
 // So many places with no entry.
 pub(crate) fn no_entries<T>(alloc: Global, count: usize) -> Result<Vec<Option<T>>, AllocError>
     ensures { IfOk result (λ v. v.items ≡ replicate count None) }

@@ -1,8 +1,21 @@
 //! The bucket table of the LRU map, and the widths of its links.
 #![tactic(auto)]
 
+// Where control never comes. `unreachable!()` is compiled to a trap, and to a test before it. This has no code and no
+// test: it matches on what would be read from an array of nothing.
+macro_rules! nowhere {
+    () => {{
+        let none: [Option<()>; 0] = [];
+        match none[0] {
+            Some(_) => unreachable!(),
+            None => unreachable!(),
+        }
+    }};
+}
+
 mod cells;
 mod control;
+mod entries;
 mod fields;
 mod group;
 mod link;

@@ -1,0 +1,154 @@
+//! The entries of a table: a place for each bucket, in one block of memory.
+ghost use Rattle.std.specs.Prelude.{◌≡◌, ◌<◌, List, Option, Some, None, [], length, replicate, slice_index_or, slice_set};
+ghost use Rattle.std.specs.Prelude.{IfOk, nat_eq};
+ghost use Rattle.std.specs.Borrow.{sem};
+ghost use Rattle.group_table.specs.Cells.{Holds};
+
+use crate::cells::{Block, Cells, Deed, allocate, deallocate, fits_in_block};
+use std::alloc::{AllocError, Global};
+use std::marker::Model;
+
+// One block of places, with the right to give it back.
+struct Row<T> {
+    block: Block<T>,
+    cells: Cells<T>,
+    deed: Deed<T, Global>,
+}
+
+// So many places; there is no block where there are none.
+//
+// A place has no tag: the control byte of a bucket tells whether it holds an entry. So whoever lets go of the entries
+// says that no place holds one.
+pub(crate) struct Entries<T> {
+    row: Option<Row<T>>,
+    count: usize,
+    alloc: Global,
+}
+
+impl<T> Model for Entries<T> {
+    ghost use Rattle.std.specs.Prelude.{List, Option};
+    ghost use Rattle.group_table.specs.Entries.{places_of, IsRow};
+
+    ghost Value = { List (Option T) };
+
+    ghost view = { λ e. places_of e.row };
+
+    ghost invariant = { λ e. IsRow e.row e.count e.alloc };
+}
+
+impl<T> Entries<T> {
+    ghost use Rattle.group_table.specs.EntryLends.{lends_held};
+
+    // No places, which take no memory.
+    pub(crate) fn new(alloc: Global) -> Entries<T>
+        ensures { result ≡ [] }
+    {
+        Entries {
+            row: None,
+            count: 0,
+            alloc,
+        }
+    }
+
+    // So many places with no entry, in one request.
+    pub(crate) fn with_places(alloc: Global, count: usize) -> Result<Entries<T>, AllocError>
+        requires { 0 < count }
+        ensures { IfOk result (λ e. e ≡ replicate count None) }
+    {
+        if !fits_in_block::<T>(count) {
+            return Err(AllocError);
+        }
+        let (block, cells, deed) = allocate(&alloc, count)?;
+        Ok(Entries {
+            row: Some(Row { block, cells, deed }),
+            count,
+            alloc,
+        })
+    }
+
+    // How many places there are.
+    #[inline]
+    pub(crate) fn len(&self) -> usize
+        ensures { result ≡ length self.now }
+    {
+        self.count
+    }
+
+    // Whether there are none.
+    #[inline]
+    pub(crate) fn is_empty(&self) -> bool
+        ensures { result ≡ nat_eq (length self.now) 0 }
+    {
+        self.count == 0
+    }
+
+    // Where their memory comes from.
+    pub(crate) fn allocator(&self) -> Global {
+        self.alloc
+    }
+
+    // The entry in a place.
+    #[inline]
+    pub(crate) fn get(&self, b: usize) -> &T
+        requires { Holds self.now b }
+        ensures { slice_index_or self.now b None ≡ Some result.now }
+    {
+        match &self.row {
+            Some(row) => row.cells.get(row.block, b),
+            None => nowhere!(),
+        }
+    }
+
+    // The same for writing.
+    #[inline]
+    pub(crate) fn get_mut(&mut self, b: usize) -> &mut T
+        requires { Holds self.old b }
+        ensures* writes_back { sem 𝓛 (lends_held T.row self.entry b result) }
+        ensures value { slice_index_or self.old b None ≡ Some result.now }
+    {
+        match &mut self.row {
+            Some(row) => {
+                let block = row.block;
+                row.cells.get_mut(block, b)
+            }
+            None => nowhere!(),
+        }
+    }
+
+    // Puts an entry into a place that holds none.
+    #[inline]
+    pub(crate) fn write(&mut self, b: usize, entry: T)
+        requires place { b < length self.old }
+        requires free { slice_index_or self.old b None ≡ None }
+        ensures { self.new ≡ slice_set self.old b (Some entry) }
+    {
+        match &mut self.row {
+            Some(row) => row.cells.write(row.block, b, entry),
+            None => nowhere!(),
+        }
+    }
+
+    // Takes the entry out of a place.
+    #[inline]
+    pub(crate) fn read(&mut self, b: usize) -> T
+        requires { Holds self.old b }
+        ensures entry { slice_index_or self.old b None ≡ Some result }
+        ensures places { self.new ≡ slice_set self.old b None }
+    {
+        match &mut self.row {
+            Some(row) => row.cells.read(row.block, b),
+            None => nowhere!(),
+        }
+    }
+
+    // Gives the memory back. No place holds an entry.
+    pub(crate) fn free(self)
+        requires { self ≡ replicate (length self) None }
+    {
+        let Entries { row, count, alloc } = self;
+        match row {
+            Some(Row { block, cells, deed }) => deallocate(&alloc, block, count, cells, deed),
+            None => {}
+        }
+    }
+}
