@@ -1,5 +1,5 @@
 -- A copy of a table has the marks, the counts and the fitting hashes of the table.
-use Rattle.std.proofs.Common.{◌≡◌, ℕ, zero, suc, List, [], ◌∷◌, length, Option, Some, None, Result, refl, ap, sym, ◌∙◌}
+use Rattle.std.proofs.Common.{◌≡◌, ℕ, zero, suc, ◌<◌, List, [], ◌∷◌, length, get_or, Option, Some, None, Result, refl, ap, sym, ◌∙◌}
 use Rattle.std.proofs.Common.{arith, count_by, cond, nat_eq, true, false, Bool}
 use Rattle.std.specs.List.{AllZip}
 use Rattle.std.proofs.lemmas.List.Elements.{length_all_zip, AllZip-get_or}
@@ -25,6 +25,16 @@ module _ {T F : Type 0} (closure : Shared F (Bor T × Unit {0}) (Result T AllocE
       → IsCopyOf closure f (slot_of byte x) (slot_of byte y)
   slot_copy byte None y h = rw h (free_copy (nat_eq byte 128))
   slot_copy byte (Some entry) y h = (h.0, h.1, ap (slot_of byte) h.2)
+
+  -- place by place
+  pub place_copies : (xs ys : List (Option T)) → length ys ≡ length xs
+      → ((b : ℕ) → b < length xs → IsPlaceCopy closure f (get_or xs b None) (get_or ys b None))
+      → AllZip (IsPlaceCopy closure f) xs ys
+  place_copies [] [] same each = tt
+  place_copies [] (y ∷ ys) same each = absurd (omega arith)
+  place_copies (x ∷ xs) [] same each = absurd (omega arith)
+  place_copies (x ∷ xs) (y ∷ ys) same each =
+      (each 0 (omega arith), place_copies xs ys (omega arith) (λ b within. each (suc b) (omega arith)))
 
   -- copies of the entries beside the same bytes are a copy of the table
   pub Copies-places : (bytes : List ℕ) (xs ys : List (Option T)) → AllZip (IsPlaceCopy closure f) xs ys

@@ -212,15 +212,6 @@ module _ {T : Type 0} (control : List ℕ) (entries : List (Option T)) (laid_out
   pos : 0 < length entries
   pos = omega arith
 
-  -- a byte of a tag tells of an entry
-  pub read_some : (b : ℕ) → b < length entries → get_or control b 0 < 128 → (r : Option T) → r ≡ get_or entries b r
-      → IsSome r
-  read_some b within tagged None e =
-      let found : get_or entries b None ≡ None = sym (get_or_read entries b None within e None) in
-      absurd (elim (rw found at (laid_out.agrees b within))
-      [ inl h ↦ omega (arith, h, tagged) | inr h ↦ omega (arith, h, tagged) ])
-  read_some b within tagged (Some entry) e = refl
-
   -- an empty lane ends the search: up to 16 buckets some bucket of the group is empty
   pub ended_lane : (e : ℕ) → e < length entries → bucket_at (marks_by control entries) e ≡ empty → (lane : ℕ)
       → lane < 16 → get_or control (start + lane) 0 ≡ 255

@@ -35,7 +35,16 @@ module _ {T : Type 0} where
   slots_of-set (y ∷ bytes) (x ∷ entries) (suc b) byte e =
       ap (λ s. slot_of y x ∷ s) (slots_of-set bytes entries b byte e)
 
-  -- a byte below 128 tells of an entry
+  -- a byte below 128 tells of an entry, and one from there on of none
+  pub some_by : (byte : ℕ) (place : Option T) → Agrees byte place → byte < 128 → IsSome place
+  some_by byte (Some entry) a below = refl
+  some_by byte None (inl e) below = absurd (omega arith)
+  some_by byte None (inr e) below = absurd (omega arith)
+
+  pub none_by : (byte : ℕ) (place : Option T) → Agrees byte place → 128 ≤ byte → place ≡ None
+  none_by byte (Some entry) a from = absurd (omega arith)
+  none_by byte None a from = refl
+
   is_full-slot_of : (byte : ℕ) (e : Option T) → Agrees byte e → is_full (slot_of byte e) ≡ nat_lt byte 128
   is_full-slot_of byte (Some entry) p = sym (lt-ltb byte 128 p)
   is_full-slot_of byte None (inl e) = rw e
@@ -98,11 +107,9 @@ module _ {T : Type 0} (control : List ℕ) (entries : List (Option T)) (laid_out
         empty_byte _ _ (laid_out.agrees b within) (sym bucket_at-laid_out ∙ empty_mark (slots_of control entries) b e)
 
     -- what the code reads of a bucket with a tag
-    pub bucket_at-read : (tag : ℕ) (r : Option T) (entry : T) → get_or control b 0 ≡ tag → r ≡ get_or entries b r
-        → r ≡ Some entry
+    pub bucket_at-read : (tag : ℕ) (entry : T) → get_or control b 0 ≡ tag → get_or entries b None ≡ Some entry
         → bucket_at (slots_of control entries) b ≡ full (record { tag = tag; entry = entry })
-    bucket_at-read tag r entry e f h =
-        let found : get_or entries b None ≡ Some entry = sym (get_or_read entries b r within f None) ∙ h in
+    bucket_at-read tag entry e found =
         bucket_at-laid_out ∙ ap (λ o. slot_of (get_or control b 0) o) found
         ∙ ap (λ t. full (record { tag = t; entry = entry })) e
 

@@ -1,13 +1,13 @@
 -- Entries that move one by one into a fresh table.
 use Rattle.std.proofs.Common.{◌≡◌, ◌≢◌, ℕ, ◌+◌, ◌<◌, Bool, List, [], ◌∷◌, ◌++◌, length, get_or, set, Option, Some, None}
+use Rattle.std.proofs.Common.{take, drop}
 use Rattle.std.proofs.Common.{ap, sym}
 use Rattle.std.proofs.Common.{◌∙◌, subst, arith, count_by, cond, is_some, true, get_or-set_same, get_or-set_other, inl}
 use Rattle.std.proofs.Common.{inr}
 use Rattle.std.proofs.lemmas.Bool.{cases_eq}
 use Rattle.std.proofs.lemmas.Option.{none-some, same_Some}
-use Rattle.std.proofs.lemmas.List.{get_or_past, get_or_push, get_or_append_left, length-append}
-use Rattle.std.proofs.lemmas.List.Sums.{sum_by-append, sum_by-cons}
-use Rattle.std.proofs.Math.Seq.{get_or-append_seam}
+use Rattle.std.proofs.lemmas.List.{get_or_past, get_or-take, length-take, take_more, take-append-drop}
+use Rattle.std.proofs.lemmas.List.Sums.{sum_by-append}
 use native.Mathlib.Decide.{dec_lt}
 use Rattle.group_table.specs.Link.{IsLinkType}
 use Rattle.group_table.specs.Bucket.{Slot, empty, bucket_at, is_full, entry_at, entry_of}
@@ -122,53 +122,53 @@ module _ {T N : Type 0} (number : N → ℕ) (none : N) where
           | inr h ↦ with_hash-elsewhere moved_hash_of c hash k h
         ]) (Fits-reached new moved_hash_of hash c entry joins.within joins.reached before))
 
--- the entries that have come so far, and one place more
-module _ {T : Type 0} (places : List (Option T)) (b : ℕ) (b_is : b ≡ length places) where
-  pub come_before : get_or places b None ≡ None
-  come_before = get_or_past places b None (omega arith)
+-- the entries in the first b places, and one place more
+module _ {T : Type 0} (places : List (Option T)) (b : ℕ) (within : b < length places) where
+  next_place : take (b + 1) places ≡ take b places ++ get_or places b None ∷ []
+  next_place = take_more places b None within
 
-  pub come_there : (place : Option T) → get_or (places ++ place ∷ []) b None ≡ place
-  come_there place = get_or_push places place None b (sym b_is)
+  pub none_yet : get_or (take b places) b None ≡ None
+  none_yet = get_or_past (take b places) b None (omega (arith, length-take b places))
 
-  pub come_elsewhere : (place : Option T) (k : ℕ) → k ≢ b → get_or (places ++ place ∷ []) k None ≡ get_or places k None
-  come_elsewhere place k other = elim (dec_lt k b) [
-    | yes p ↦ get_or_append_left places (place ∷ []) None k (omega arith)
-    | no p ↦ get_or_past (places ++ place ∷ []) k None (omega (arith, length-append places (place ∷ [])))
-        ∙ sym (get_or_past places k None (omega arith))
+  pub come_there : get_or (take (b + 1) places) b None ≡ get_or places b None
+  come_there = get_or-take (b + 1) places b None (omega arith)
+
+  pub come_elsewhere : (k : ℕ) → k ≢ b → get_or (take (b + 1) places) k None ≡ get_or (take b places) k None
+  come_elsewhere k other = elim (dec_lt k b) [
+    | yes p ↦ get_or-take (b + 1) places k None (omega arith) ∙ sym (get_or-take b places k None p)
+    | no p ↦ get_or_past (take (b + 1) places) k None (omega (arith, length-take (b + 1) places))
+        ∙ sym (get_or_past (take b places) k None (omega (arith, length-take b places)))
   ]
 
-  pub come_none : (place : Option T) → place ≡ None → (k : ℕ)
-      → get_or (places ++ place ∷ []) k None ≡ get_or places k None
-  come_none place gone k = elim (cases_eq k b) [
-    | inl h ↦ rw h (come_there place ∙ gone ∙ sym come_before)
-    | inr h ↦ come_elsewhere place k h
+  pub come_none : get_or places b None ≡ None → (k : ℕ)
+      → get_or (take (b + 1) places) k None ≡ get_or (take b places) k None
+  come_none gone k = elim (cases_eq k b) [
+    | inl h ↦ rw h (come_there ∙ gone ∙ sym none_yet)
+    | inr h ↦ come_elsewhere k h
   ]
 
--- what a place counts
-pub one_more : {T : Type 0} (place : Option T) → is_some place ≡ true → ◌≡◌ {A = ℕ} (cond (is_some place) 1 0) 1
-one_more place some = ap (λ t. cond {A = ℕ} t 1 0) some
+  counted : count_by is_some (take (b + 1) places)
+      ≡ count_by is_some (take b places) + cond (is_some (get_or places b None)) 1 0
+  counted = ap (count_by is_some) next_place
+      ∙ sum_by-append (λ o. cond {A = ℕ} (is_some o) 1 0) (take b places) (get_or places b None ∷ []) ∙ omega arith
 
-pub none_more : {T : Type 0} (place : Option T) → place ≡ None → ◌≡◌ {A = ℕ} (cond (is_some place) 1 0) 0
-none_more place gone = ap (λ o. cond {A = ℕ} (is_some o) 1 0) gone
+  -- what the next place counts
+  pub count_one : is_some (get_or places b None) ≡ true
+      → count_by is_some (take (b + 1) places) ≡ count_by is_some (take b places) + 1
+  count_one some =
+      let one : ◌≡◌ {A = ℕ} (cond (is_some (get_or places b None)) 1 0) 1 = ap (λ t. cond {A = ℕ} t 1 0) some in
+      omega (arith, counted, one)
 
-module _ {T : Type 0} (places : List (Option T)) where
-  pub count_by-push : (place : Option T) → count_by is_some (places ++ place ∷ [])
-      ≡ count_by is_some places + cond (is_some place) 1 0
-  count_by-push place = sum_by-append (λ o. cond {A = ℕ} (is_some o) 1 0) places (place ∷ []) ∙ omega arith
-
--- of all places, those that have come, the next one and the rest
-module _ {T : Type 0} (places : List (Option T)) (place : Option T) (rest all : List (Option T))
-    (order : places ++ place ∷ rest ≡ all) where
-  pub come_within : length places < length all
-  come_within = omega (arith, ap length order, length-append places (place ∷ rest))
-
-  pub come_next : get_or all (length places) None ≡ place
-  come_next = ap (λ xs. get_or xs (length places) None) (sym order) ∙ get_or-append_seam places place rest None
+  pub count_none : get_or places b None ≡ None
+      → count_by is_some (take (b + 1) places) ≡ count_by is_some (take b places)
+  count_none gone =
+      let none : ◌≡◌ {A = ℕ} (cond (is_some (get_or places b None)) 1 0) 0 =
+      ap (λ o. cond {A = ℕ} (is_some o) 1 0) gone in
+      omega (arith, counted, none)
 
   -- an entry that is still to come is not counted among those that have
-  pub come_fewer : is_some place ≡ true → count_by is_some places < count_by is_some all
+  pub come_fewer : is_some (get_or places b None) ≡ true → count_by is_some (take b places) < count_by is_some places
   come_fewer some =
-      let one : ◌≡◌ {A = ℕ} (cond (is_some place) 1 0) 1 = ap (λ t. cond {A = ℕ} t 1 0) some in
-      let counted = sum_by-append (λ o. cond {A = ℕ} (is_some o) 1 0) places (place ∷ rest) in
-      let first = sum_by-cons (λ o. cond {A = ℕ} (is_some o) 1 0) place rest in
-      omega (arith, one, counted, first, ap (count_by is_some) order)
+      let all = ap (count_by is_some) (sym (take-append-drop (b + 1) places)) in
+      let parts = sum_by-append (λ o. cond {A = ℕ} (is_some o) 1 0) (take (b + 1) places) (drop (b + 1) places) in
+      omega (arith, all, parts, count_one some)

@@ -1,8 +1,14 @@
 -- Entries take new places in the table where they stand. No public clause cites this module.
-use Rattle.std.specs.Prelude.{◌≡◌, ℕ, ◌<◌, ◌⊎◌, List, length, count_by, slice_set, Option, Some, None, is_some}
+use Rattle.std.specs.Prelude.{◌≡◌, ℕ, ◌<◌, ◌≤◌, ◌⊎◌, List, length, count_by, slice_set, slice_index, Option, Some, None}
+use Rattle.std.specs.Prelude.{is_some}
 use Rattle.group_table.specs.Bucket.{is_deleted}
 use Rattle.group_table.specs.Layout.{slots_of, IsValid}
 use Rattle.group_table.specs.Moves.{place_at, Moves, KeepsMovedHashes}
+
+-- of the places that are not passed, each whose bucket is free holds what it held before
+abbrev pub StaysWhereFree : {T : Type 0} → List (Option T) → List (Option T) → List ℕ → ℕ → Type 0
+StaysWhereFree old now control passed = (b : ℕ) → passed ≤ b → b < length old → 128 ≤ slice_index control b
+    → place_at now b ≡ place_at old b
 
 -- one place, by what stood there, what of that has gone to its place, what is placed there, and what stands there now
 module _ {T : Type 0} (old gone placed now : List (Option T)) (b : ℕ) where

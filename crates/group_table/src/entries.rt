@@ -1,8 +1,7 @@
 //! The entries of a table: a place for each bucket, in one block of memory.
 ghost use Rattle.std.specs.Prelude.{◌≡◌, ◌<◌, List, Option, Some, None, [], length, replicate, slice_index_or, slice_set};
-ghost use Rattle.std.specs.Prelude.{IfOk, nat_eq};
+ghost use Rattle.std.specs.Prelude.{IsSome, IfOk, nat_eq};
 ghost use Rattle.std.specs.Borrow.{sem};
-ghost use Rattle.group_table.specs.Cells.{Holds};
 
 use crate::cells::{Block, Cells, Deed, allocate, deallocate, fits_in_block};
 use std::alloc::{AllocError, Global};
@@ -90,7 +89,7 @@ impl<T> Entries<T> {
     // The entry in a place.
     #[inline]
     pub(crate) fn get(&self, b: usize) -> &T
-        requires { Holds self.now b }
+        requires { IsSome (slice_index_or self.now b None) }
         ensures { slice_index_or self.now b None ≡ Some result.now }
     {
         match &self.row {
@@ -102,7 +101,7 @@ impl<T> Entries<T> {
     // The same for writing.
     #[inline]
     pub(crate) fn get_mut(&mut self, b: usize) -> &mut T
-        requires { Holds self.old b }
+        requires { IsSome (slice_index_or self.old b None) }
         ensures* writes_back { sem 𝓛 (lends_held T.row self.entry b result) }
         ensures value { slice_index_or self.old b None ≡ Some result.now }
     {
@@ -131,7 +130,7 @@ impl<T> Entries<T> {
     // Takes the entry out of a place.
     #[inline]
     pub(crate) fn read(&mut self, b: usize) -> T
-        requires { Holds self.old b }
+        requires { IsSome (slice_index_or self.old b None) }
         ensures entry { slice_index_or self.old b None ≡ Some result }
         ensures places { self.new ≡ slice_set self.old b None }
     {

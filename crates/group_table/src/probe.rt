@@ -1,4 +1,4 @@
-//! Searches for a hash, group by group, over the control bytes and the entries as two slices.
+//! Searches for a hash, group by group, over the control bytes and the entries.
 ghost use Rattle.std.specs.Prelude.{◌≡◌, ◌↔◌, ℕ, ◌+◌, ◌%◌, ◌^◌, ◌<◌, ◌≤◌, length, slice_index, IfSome, IfNone, IsTrue};
 ghost use Rattle.group_table.specs.Sizes.{IsPowerFromFour};
 ghost use Rattle.group_table.specs.Bucket.{bucket_at, empty};
@@ -10,7 +10,7 @@ ghost use Rattle.group_table.specs.Control.{buckets_of, HasFreeByte};
 ghost use Rattle.group_table.specs.Layout.{IsLaidOut, slots_of, marks_by};
 
 use crate::control::{Control, DELETED, tag_of, wrap};
-use crate::fields::entry_ref;
+use crate::entries::Entries;
 use crate::group::{lowest_lane, without_lowest};
 
 // The row of groups of a search: the bucket at which the next one begins, and how many buckets those before it have.
@@ -61,7 +61,7 @@ enum Asked {
 #[inline]
 fn ask_group<T, F: FnMut(&T) -> bool>(
     control: &Control,
-    entries: &[Option<T>],
+    entries: &Entries<T>,
     start: usize,
     tag: u8,
     f: &mut F,
@@ -79,8 +79,7 @@ fn ask_group<T, F: FnMut(&T) -> bool>(
     let mut mask = group.match_tag(tag);
     'lanes: while mask != 0 {
         let b = wrap(start + lowest_lane(mask), entries.len());
-        let entry = entry_ref(&entries[b]);
-        if f(entry) {
+        if f(entries.get(b)) {
             return Asked::Accepted(b);
         }
         mask = without_lowest(mask);
@@ -95,7 +94,7 @@ fn ask_group<T, F: FnMut(&T) -> bool>(
 // Asks about the entries with the tag of the hash, group by group, until one is accepted.
 pub(crate) fn find_bucket<T, F: FnMut(&T) -> bool>(
     control: &Control,
-    entries: &[Option<T>],
+    entries: &Entries<T>,
     hash: u64,
     mut f: F,
 ) -> Option<usize>

@@ -6,11 +6,13 @@ ghost use Rattle.group_table.specs.Sizes.{IsBucketCount};
 ghost use Rattle.group_table.specs.Bucket.{empty, marks_of, IsFull, entry_at, entry_count, room, room_at};
 ghost use Rattle.group_table.specs.Table.{IsTable, with_entry};
 ghost use Rattle.group_table.specs.Fits.{Fits, with_hash};
+ghost use Rattle.group_table.specs.Layout.{IsLaidOut, slots_of};
 ghost use Rattle.group_table.specs.Search.{Finds, FindsNone};
 ghost use Rattle.group_table.specs.Change.{Places, MayFill, HasNoPlace, Removes};
 
 use crate::control::{Control, EMPTY, emptied_byte, tag_of};
-use crate::fields::{drop_entries, empty_bucket, entry_mut, entry_ref, fill_bucket, no_entries};
+use crate::entries::Entries;
+use crate::fields::{drop_entries, empty_bucket, fill_bucket};
 use crate::neighbours::has_empty_neighbours;
 use crate::probe::{find_bucket, first_free};
 use crate::sizes::full_capacity;
@@ -38,10 +40,9 @@ mod relocation;
 /// let b = table.try_place(hash_of(&"a"), "a").ok().ok_or("no room")?;
 /// assert_eq!(rt; table.find(hash_of(&"a"), |entry| *entry == "a"), Some(b));
 /// ```
-#[derive(Drop)]
 pub struct Table<T> {
     control: Control,
-    entries: Vec<Option<T>>,
+    entries: Entries<T>,
     room: usize,
     len: usize,
     placings: u64,
@@ -56,10 +57,10 @@ impl<T> Model for Table<T> {
     ghost use Rattle.group_table.specs.Bucket.{entry_count};
     ghost use Rattle.group_table.specs.Layout.{slots_of, IsValid};
 
-    ghost view = { λ t. record { slots = slots_of t.control t.entries.items; placings = t.placings } };
+    ghost view = { λ t. record { slots = slots_of t.control t.entries; placings = t.placings } };
 
-    ghost invariant = { λ t. IsValid t.control t.entries.items t.room
-        × (t.len ≡ entry_count (slots_of t.control t.entries.items)) };
+    ghost invariant = { λ t. IsValid t.control t.entries t.room
+        × (t.len ≡ entry_count (slots_of t.control t.entries)) };
 }
 
 impl<T> Table<T> {
@@ -74,7 +75,7 @@ impl<T> Table<T> {
     {
         Table {
             control: Control::new(alloc),
-            entries: Vec::new(alloc),
+            entries: Entries::new(alloc),
             room: 0,
             len: 0,
             placings: 0,
@@ -83,7 +84,7 @@ impl<T> Table<T> {
 
     /// A table of so many buckets, all empty: none, or a power of two from 4 on, and with 16 more at most `isize::MAX`.
     ///
-    /// It takes a byte a bucket and 16 more for the control bytes, and an `Option<T>` a bucket for the entries, each in
+    /// It takes a byte a bucket and 16 more for the control bytes, and room for a `T` a bucket for the entries, each in
     /// one request, and time by the buckets. No buckets take no memory.
     ///
     /// # Errors
@@ -102,7 +103,7 @@ impl<T> Table<T> {
             return Ok(Table::new(alloc));
         }
         let control = Control::with_buckets(alloc, buckets)?;
-        let entries = no_entries(alloc, buckets)?;
+        let entries = Entries::with_places(alloc, buckets)?;
         Ok(Table {
             control,
             entries,
@@ -129,7 +130,7 @@ impl<T> Table<T> {
         if self.entries.is_empty() {
             return None;
         }
-        find_bucket(&self.control, self.entries.as_slice(), hash, f)
+        find_bucket(&self.control, &self.entries, hash, f)
     }
 
     /// The entry in a full bucket. Nothing of the table is read but where its entries lie.
@@ -139,7 +140,7 @@ impl<T> Table<T> {
         ensures entry { entry_at self.now.slots b ≡ Some result.now }
         ensures table { IsTable (marks_of self.now.slots) }
     {
-        entry_ref(&self.entries[b])
+        self.entries.get(b)
     }
 
     /// The entry in a full bucket for writing, at the cost of `get`. What is written there keeps the hash of the entry
@@ -153,7 +154,7 @@ impl<T> Table<T> {
         ensures fits { (hash_of : ℕ → ℕ) → Fits self.old.slots hash_of →
             (last : T) → Fits (with_entry self.old b last).slots hash_of }
     {
-        entry_mut(&mut self.entries[b])
+        self.entries.get_mut(b)
     }
 
     /// Takes the entry out of a full bucket.
@@ -178,6 +179,30 @@ impl<T> Table<T> {
         self.len -= 1;
         let byte = emptied_byte(gives_room);
         empty_bucket(&mut self.control, &mut self.entries, b, byte)
+    }
+
+    // The control bytes, and the entries of which they tell.
+    fn into_parts(self) -> (Control, Entries<T>)
+        ensures laid_out { IsLaidOut result.0 result.1 }
+        ensures slots { slots_of result.0 result.1 ≡ self.slots }
+    {
+        let Table {
+            control,
+            entries,
+            room: _,
+            len: _,
+            placings: _,
+        } = self;
+        (control, entries)
+    }
+}
+
+impl<T: Drop> Drop for Table<T> {
+    fn drop(self) {
+        let len = self.len;
+        let (control, mut entries) = self.into_parts();
+        drop_entries(&control, &mut entries, len);
+        entries.free();
     }
 }
 
@@ -230,8 +255,8 @@ impl<T: Drop> Table<T> {
         ensures table { IsTable (marks_of self.new.slots) }
         ensures fits { (hash_of : ℕ → ℕ) → Fits self.new.slots hash_of }
     {
+        drop_entries(&self.control, &mut self.entries, self.len);
         self.control.clear();
-        drop_entries(&mut self.entries, self.len);
         self.room = full_capacity(self.entries.len());
         self.len = 0;
     }

@@ -1,13 +1,17 @@
 //! `clone_with`: a table of the same buckets with entries of their own.
-ghost use Rattle.std.specs.Prelude.{◌≡◌, ℕ, length, IfOk, IsOk};
+ghost use Rattle.std.specs.Prelude.{◌≡◌, ℕ, ◌<◌, ◌≤◌, length, slice_index, slice_index_or, None, IfOk, IsOk};
 ghost use Rattle.std.specs.List.{AllZip};
 ghost use Rattle.group_table.specs.Bucket.{marks_of};
+ghost use Rattle.group_table.specs.Control.{buckets_of};
+ghost use Rattle.group_table.specs.Layout.{Agrees, IsLaidOut};
 ghost use Rattle.group_table.specs.Table.{IsTable};
 ghost use Rattle.group_table.specs.Fits.{Fits};
 ghost use Rattle.group_table.specs.Copies.{Copies, IsPlaceCopy};
 
+use crate::control::{Control, DELETED};
+use crate::entries::Entries;
 use crate::table::Table;
-use std::alloc::{AllocError, Global};
+use std::alloc::AllocError;
 
 impl<T: Drop> Table<T> {
     /// A table of the same buckets, with what `f` answers of each entry.
@@ -29,14 +33,14 @@ impl<T: Drop> Table<T> {
         ensures table { IfOk result (λ t. IsTable (marks_of t.slots)) }
         ensures succeeds { length self.now.slots ≡ 0 → IsOk result }
     {
-        let alloc = *self.entries.allocator();
+        let alloc = self.entries.allocator();
         if self.entries.is_empty() {
             let mut none = Table::new(alloc);
             none.placings = self.placings;
             return Ok(none);
         }
         let control = self.control.copied(alloc)?;
-        let entries = copy_entries(alloc, self.entries.as_slice(), &f)?;
+        let entries = copy_entries(&control, &self.entries, &f)?;
         Ok(Table {
             control,
             entries,
@@ -47,32 +51,44 @@ impl<T: Drop> Table<T> {
     }
 }
 
-// What the closure answers of each entry, in the place of the entry.
+// What the closure answers of each entry, in the place of the entry. The control bytes tell which places hold one.
 fn copy_entries<T: Drop, F: Fn(&T) -> Result<T, AllocError>>(
-    alloc: Global,
-    entries: &[Option<T>],
+    control: &Control,
+    entries: &Entries<T>,
     f: &F,
-) -> Result<Vec<Option<T>>, AllocError>
-    requires { F.IsAlwaysCallable f.now }
-    ensures { IfOk result (λ v. AllZip (IsPlaceCopy F.Fn f.now) entries.now v.items) }
+) -> Result<Entries<T>, AllocError>
+    requires callable { F.IsAlwaysCallable f.now }
+    requires laid_out { IsLaidOut control.now entries.now }
+    requires some { 0 < length entries.now }
+    ensures { IfOk result (λ copies. AllZip (IsPlaceCopy F.Fn f.now) entries.now copies) }
 {
-    let mut copies = Vec::with_capacity(alloc, entries.len())?;
-    for place in entries {
-        copies.push_reserved(copy_place(place, f)?);
+    let count = entries.len();
+    let mut copies = Entries::with_places(entries.allocator(), count)?;
+    for b in 0..count {
+        if control.byte(b) < DELETED {
+            match f(entries.get(b)) {
+                Ok(copy) => copies.write(b, copy),
+                Err(error) => {
+                    drop_first(control, copies, b);
+                    return Err(error);
+                }
+            }
+        }
     }
     Ok(copies)
 }
 
-// What the closure answers of the entry, if there is one.
-fn copy_place<T, F: Fn(&T) -> Result<T, AllocError>>(
-    place: &Option<T>,
-    f: &F,
-) -> Result<Option<T>, AllocError>
-    requires { F.IsAlwaysCallable f.now }
-    ensures { IfOk result (IsPlaceCopy F.Fn f.now place.now) }
+// Drops the copies in the first places, and gives the memory back.
+fn drop_first<T: Drop>(control: &Control, mut copies: Entries<T>, count: usize)
+    requires buckets { length copies ≤ buckets_of control.now }
+    requires within { count ≤ length copies }
+    requires first { (b : ℕ) → b < count → Agrees (slice_index control.now b) (slice_index_or copies b None) }
+    requires others { (b : ℕ) → count ≤ b → slice_index_or copies b None ≡ None }
 {
-    match place {
-        Some(entry) => Ok(Some(f(entry)?)),
-        None => Ok(None),
+    for b in 0..count {
+        if control.byte(b) < DELETED {
+            drop(copies.read(b));
+        }
     }
+    copies.free();
 }

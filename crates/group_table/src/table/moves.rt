@@ -1,10 +1,13 @@
 //! How entries come into a fresh table, one after another.
-ghost use Rattle.std.specs.Prelude.{◌≡◌, ℕ, ◌<◌, ◌≤◌, length, count_by, is_some, slice_index_or};
+ghost use Rattle.std.specs.Prelude.{◌≡◌, ℕ, ◌<◌, ◌≤◌, length, replicate, count_by, is_some, slice_index_or};
+ghost use Rattle.std.specs.Prelude.{None};
 ghost use Rattle.group_table.specs.Sizes.{full_capacity};
 ghost use Rattle.group_table.specs.Bucket.{empty, bucket_at, is_deleted, entry_count};
+ghost use Rattle.group_table.specs.Layout.{IsLaidOut};
 ghost use Rattle.group_table.specs.Moves.{place_at, Joins, Moves, KeepsMovedHashes, GivesMovedHashes};
 
-use crate::control::tag_of;
+use crate::control::{Control, DELETED, tag_of};
+use crate::entries::Entries;
 use crate::fields::fill_bucket;
 use crate::link::LinkType;
 use crate::probe::first_free;
@@ -27,34 +30,37 @@ impl<T: Drop> Table<T> {
     }
 }
 
-// Moves entries, in rising order of their old buckets, into an empty table, and writes where each stands now.
+// Moves entries, in rising order of their old buckets, into an empty table, and writes where each stands now. The old
+// control bytes tell which places hold one; afterwards none does.
 pub(crate) fn move_entries<T: Drop, N: LinkType, H: Fn(&T) -> u64>(
-    old: Vec<Option<T>>,
+    control: &Control,
+    old: &mut Entries<T>,
     fresh: &mut Table<T>,
     links: &mut Vec<N>,
     hash_of: &H,
 )
     requires callable { H.IsAlwaysCallable hash_of.now }
+    requires laid_out { IsLaidOut control.now old.old }
     requires all_empty { (b : ℕ) → bucket_at fresh.old.slots b ≡ empty }
-    requires within { count_by is_some old.items ≤ full_capacity (length fresh.old.slots) }
+    requires within { count_by is_some old.old ≤ full_capacity (length fresh.old.slots) }
     requires below { length fresh.old.slots ≤ N.number N.MAX }
-    requires one_each { length links.old.items ≡ length old.items }
+    requires one_each { length links.old.items ≡ length old.old }
     requires none_linked { (b : ℕ) → slice_index_or links.old.items b N.MAX ≡ N.MAX }
     ensures buckets { length fresh.new.slots ≡ length fresh.old.slots }
     ensures placings { fresh.new.placings ≡ fresh.old.placings }
-    ensures one_each { length links.new.items ≡ length old.items }
+    ensures one_each { length links.new.items ≡ length old.old }
+    ensures none_left { old.new ≡ replicate (length old.old) None }
     ensures none_deleted { count_by is_deleted fresh.new.slots ≡ 0 }
-    ensures entries { entry_count fresh.new.slots ≡ count_by is_some old.items }
-    ensures moves { Moves N.number N.MAX (place_at old.items) fresh.new.slots links.new.items }
-    ensures hashes { (hash_at : ℕ → ℕ) → GivesMovedHashes H.Fn hash_of.now old.items hash_at →
-        KeepsMovedHashes N.number N.MAX (place_at old.items) fresh.new.slots links.new.items hash_at }
+    ensures entries { entry_count fresh.new.slots ≡ count_by is_some old.old }
+    ensures moves { Moves N.number N.MAX (place_at old.old) fresh.new.slots links.new.items }
+    ensures hashes { (hash_at : ℕ → ℕ) → GivesMovedHashes H.Fn hash_of.now old.old hash_at →
+        KeepsMovedHashes N.number N.MAX (place_at old.old) fresh.new.slots links.new.items hash_at }
 {
-    let mut b = 0;
-    for place in old {
-        if let Some(entry) = place {
+    for b in 0..old.len() {
+        if control.byte(b) < DELETED {
+            let entry = old.read(b);
             let hash = hash_of(&entry);
             links[b] = N::from_usize(fresh.place_fresh(hash, entry));
         }
-        b += 1;
     }
 }

@@ -6,6 +6,7 @@ ghost use Rattle.group_table.specs.Table.{IsTable};
 ghost use Rattle.group_table.specs.Change.{count_up};
 ghost use Rattle.group_table.specs.Relocation.{Renumbers, KeepsHashes, GivesHashes};
 
+use crate::control::Control;
 use crate::fields::no_links;
 use crate::link::LinkType;
 use crate::sizes::full_capacity;
@@ -53,7 +54,7 @@ impl<T: Drop> Table<T> {
         ensures unchanged { OnErr result (self.new ≡ self.old) }
         ensures succeeds { buckets ≡ 0 → IsOk result }
     {
-        let alloc = *self.entries.allocator();
+        let alloc = self.entries.allocator();
         let mut fresh = Table::with_buckets(alloc, buckets)?;
         if self.len == 0 {
             fresh.placings = self.placings;
@@ -61,10 +62,11 @@ impl<T: Drop> Table<T> {
             return Ok(Vec::new(alloc));
         }
         let mut links = no_links(alloc, self.entries.len())?;
-        let entries = mem::replace(&mut self.entries, Vec::new(alloc));
-        move_entries(entries, &mut fresh, &mut links, &hash_of);
-        fresh.placings = self.placings.saturating_add(self.len as u64);
-        *self = fresh;
+        let placings = self.placings.saturating_add(self.len as u64);
+        let (control, mut entries) = mem::replace(self, fresh).into_parts();
+        move_entries(&control, &mut entries, self, &mut links, &hash_of);
+        self.placings = placings;
+        entries.free();
         Ok(links)
     }
 
@@ -75,8 +77,9 @@ impl<T: Drop> Table<T> {
     ///
     /// # Errors
     ///
-    /// Want of memory for the links, the one request, which changes nothing. A table without entries makes none and is
-    /// never refused: its buckets are emptied where they lie.
+    /// Want of memory, which changes nothing: there are two requests, one for the links and one for fresh control
+    /// bytes, before the first entry moves. A table without entries makes none and is never refused: its buckets are
+    /// emptied where they lie.
     pub fn rehash<N: LinkType, H: Fn(&T) -> u64>(
         &mut self,
         hash_of: H,
@@ -97,15 +100,22 @@ impl<T: Drop> Table<T> {
         ensures unchanged { OnErr result (self.new ≡ self.old) }
         ensures succeeds { entry_count self.old.slots ≡ 0 → IsOk result }
     {
-        let alloc = *self.entries.allocator();
+        let alloc = self.entries.allocator();
         if self.len == 0 {
             self.clear();
             return Ok(Vec::new(alloc));
         }
         let buckets = self.entries.len();
         let mut links = no_links(alloc, buckets)?;
-        self.control.clear();
-        place_again(&mut self.control, &mut self.entries, &mut links, &hash_of);
+        let fresh = Control::with_buckets(alloc, buckets)?;
+        let before = mem::replace(&mut self.control, fresh);
+        place_again(
+            &before,
+            &mut self.control,
+            &mut self.entries,
+            &mut links,
+            &hash_of,
+        );
         self.room = full_capacity(buckets) - self.len;
         self.placings = self.placings.saturating_add(self.len as u64);
         Ok(links)

@@ -1,8 +1,9 @@
-use Rattle.std.proofs.Common.{◌≡◌, ℕ, ◌<◌, length, get_or, None}
+use Rattle.std.proofs.Common.{◌≡◌, ℕ, ◌<◌, ◌≤◌, length, get_or, None}
 use Rattle.group_table.proofs.fields.drop_entries.Given as goal
 
 abbrev pub invariant-loop-b : goal.invariant-loop-b
 invariant-loop-b g l = record {
-  same : length l.entries.items ≡ length l.initial.entries.items;
-  freed : (k : ℕ) → k < l.b → get_or l.entries.items k None ≡ None;
+  same : length l.entries ≡ length l.initial.entries;
+  freed : (k : ℕ) → k < l.b → get_or l.entries k None ≡ None;
+  rest : (k : ℕ) → l.b ≤ k → get_or l.entries k None ≡ get_or l.initial.entries k None;
 }

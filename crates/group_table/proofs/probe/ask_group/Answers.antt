@@ -1,9 +1,9 @@
 use Rattle.std.proofs.Common.{◌≡◌, of_calls, refl, arith}
-use Rattle.group_table.proofs.LayoutLemmas.{bucket_at-read, power_of}
+use Rattle.group_table.proofs.LayoutLemmas.{some_by, bucket_at-read, power_of}
 use Rattle.group_table.proofs.SearchLemmas.{Answers-from_call}
 use Rattle.group_table.proofs.Masks.{mask_at, none_of_zero, some_lane}
 use Rattle.group_table.proofs.LaneLemmas.{AsksLanes-first, AsksLanes-next, AcceptsIn-lane, RefusesGroup-from, lane_tag}
-use Rattle.group_table.proofs.LaneLemmas.{read_some, ended_lane, none_ended}
+use Rattle.group_table.proofs.LaneLemmas.{ended_lane, none_ended}
 use Rattle.group_table.proofs.probe.ask_group.Goals as goal
 
 pub lanes-init : goal.lanes-init
@@ -17,47 +17,46 @@ lanes-init g c = record {
 pub returns-then-f-clause-asked : goal.returns-then-f-clause-asked
 returns-then-f-clause-asked g c =
     let l = c.lanes.invariant.asked in
-    let here = c.wrap-b.ensures.value in
-    let within = c.wrap-b.ensures.bound in
+    let here = rw c.len.ensures at c.wrap-b.ensures.value in
+    let within = rw c.len.ensures at c.wrap-b.ensures.bound in
     let low = c.lowest_lane.ensures in
     let tagged = lane_tag _ _ c.requires.laid_out _ c.requires.start g.F.FnMut _ c.requires.tag _ _ _ l _ _ low.set
     low.first here in
     let slot = bucket_at-read c.args.control.now c.args.entries.now c.requires.laid_out c.wrap-b.result within
-    c.args.tag _ c.entry_ref-entry.result.now tagged c.index-entries-b.is c.entry_ref-entry.ensures in
+    c.args.tag c.get.result.now tagged c.get.ensures in
     AcceptsIn-lane _ _ c.requires.laid_out _ c.requires.start g.F.FnMut _ c.requires.tag _ _ _ l _ _ low.set low.first
-    here c.entry_ref-entry.result.now slot _
-    (Answers-from_call g.F.FnMut _ c.entry_ref-entry.result.now slot refl c.f.ensures c.if-f.true)
+    here c.get.result.now slot _
+    (Answers-from_call g.F.FnMut _ c.get.result.now slot refl c.f.ensures c.if-f.true)
 
 pub wrap-b-requires : goal.wrap-b-requires
-wrap-b-requires g c = power_of _ _ c.requires.laid_out (omega (arith, c.requires.start))
+wrap-b-requires g c = rw c.len.ensures (power_of _ _ c.requires.laid_out (omega (arith, c.requires.start)))
 
-pub entry_ref-entry-requires : goal.entry_ref-entry-requires
-entry_ref-entry-requires g c =
+pub get-requires : goal.get-requires
+get-requires g c =
     let l = c.lanes.invariant.asked in
-    let here = c.wrap-b.ensures.value in
-    let within = c.wrap-b.ensures.bound in
+    let here = rw c.len.ensures at c.wrap-b.ensures.value in
+    let within = rw c.len.ensures at c.wrap-b.ensures.bound in
     let low = c.lowest_lane.ensures in
     let tagged = lane_tag _ _ c.requires.laid_out _ c.requires.start g.F.FnMut _ c.requires.tag _ _ _ l _ _ low.set
     low.first here in
-    read_some _ _ c.requires.laid_out _ c.requires.start _ within
-    (omega (arith, tagged, c.requires.tag)) _ c.index-entries-b.is
+    some_by _ _ (c.requires.laid_out.agrees c.wrap-b.result within) (omega (arith, tagged, c.requires.tag))
 
 pub lanes-preserved : goal.lanes-preserved
 lanes-preserved g c =
     let l = c.lanes.invariant.asked in
-    let here = c.wrap-b.ensures.value in
-    let within = c.wrap-b.ensures.bound in
+    let here = rw c.len.ensures at c.wrap-b.ensures.value in
+    let within = rw c.len.ensures at c.wrap-b.ensures.bound in
     let low = c.lowest_lane.ensures in
     let tagged = lane_tag _ _ c.requires.laid_out _ c.requires.start g.F.FnMut _ c.requires.tag _ _ _ l _ _ low.set
     low.first here in
     let slot = bucket_at-read c.args.control.now c.args.entries.now c.requires.laid_out c.wrap-b.result within
-    c.args.tag _ c.entry_ref-entry.result.now tagged c.index-entries-b.is c.entry_ref-entry.ensures in
+    c.args.tag c.get.result.now tagged c.get.ensures in
     record {
       callable = search of_calls;
       asked = AsksLanes-next _ _ c.requires.laid_out _ c.requires.start g.F.FnMut _ c.requires.tag _ _ _ l _ _ low.set
-          low.first here c.entry_ref-entry.result.now slot _ _
+          low.first here c.get.result.now slot _ _
           (rw (← low.value) at c.without_lowest-mask.ensures.rest)
-          (Answers-from_call g.F.FnMut _ c.entry_ref-entry.result.now slot refl c.f.ensures c.if-f.false);
+          (Answers-from_call g.F.FnMut _ c.get.result.now slot refl c.f.ensures c.if-f.false);
     }
 
 pub returns-then-match_empty-ne0-clause-asked : goal.returns-then-match_empty-ne0-clause-asked

@@ -5,14 +5,14 @@ use Rattle.group_table.proofs.TableLemmas.{IsTable-by}
 use Rattle.group_table.proofs.FreshLemmas.{none_left, IsValid-fresh, entry_count-fresh, slots_of-fresh, Fits-fresh}
 use Rattle.group_table.proofs.table.Table.clear.Goals as goal
 
-pub drop_entries-requires : goal.drop_entries-requires
-drop_entries-requires g c none = none_left _ _ c.self.invariant.0.laid_out (sym c.self.invariant.1 ∙ none)
+pub drop_entries-requires-clause-none_left : goal.drop_entries-requires-clause-none_left
+drop_entries-requires-clause-none_left g c none = none_left _ _ c.self.invariant.0.laid_out (sym c.self.invariant.1 ∙ none)
 
 pub invariant_of-self : goal.invariant_of-self
 invariant_of-self g c =
     let laid_out = c.self.invariant.0.laid_out in
-    let after : c.len.result ≡ length c.drop_entries.new.entries.items = omega arith in
-    let n : c.len.result ≡ length c.self.inside.entries.items =
+    let after : c.len.result ≡ length c.drop_entries.new.entries = omega arith in
+    let n : c.len.result ≡ length c.self.inside.entries =
     after ∙ ap length c.drop_entries.ensures ∙ length-replicate _ _ in
     rw (c.clear.ensures, c.drop_entries.ensures, c.full_capacity-self-inside.ensures, n) (
       IsValid-fresh g.row.T.Denot _ _ laid_out.counts laid_out.fits,

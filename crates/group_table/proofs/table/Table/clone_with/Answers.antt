@@ -9,7 +9,7 @@ use Rattle.group_table.proofs.table.Table.clone_with.Goals as goal
 pub invariant_of-result : goal.invariant_of-result
 invariant_of-result g c =
     let valid = c.self.invariant.0 in
-    let copied = rw c.as_slice.ensures.value at c.in_ok-entries.ensures in
+    let copied = c.in_ok-entries.ensures in
     rw (c.in_ok-control.ensures) (
       IsValid-copied g.F.Fn c.args.f _ valid copied,
       c.self.invariant.1 ∙ sym (entry_count-copied g.F.Fn c.args.f _ valid copied),
@@ -17,7 +17,7 @@ invariant_of-result g c =
 
 pub returns-clause-copies : goal.returns-clause-copies
 returns-clause-copies g c =
-    let copied = rw c.as_slice.ensures.value at c.in_ok-entries.ensures in
+    let copied = c.in_ok-entries.ensures in
     rw (← c.self.view_is, c.in_ok-control.ensures) (Copies-places g.F.Fn c.args.f _ _ _ copied)
 
 pub returns-clause-marks : goal.returns-clause-marks
@@ -28,7 +28,7 @@ returns-clause-fits g c hash_of fits = Fits-copies g.F.Fn c.args.f _ _ hash_of (
 
 pub returns-clause-table : goal.returns-clause-table
 returns-clause-table g c =
-    let copied = rw c.as_slice.ensures.value at c.in_ok-entries.ensures in
+    let copied = c.in_ok-entries.ensures in
     rw (c.in_ok-control.ensures) (IsTable-by _ _ _ (IsValid-copied g.F.Fn c.args.f _ c.self.invariant.0 copied))
 
 pub returns-in_err-control-clause-succeeds : goal.returns-in_err-control-clause-succeeds

@@ -22,11 +22,11 @@ find_bucket-requires-clause-some_empty g c =
     let valid = c.self.invariant.0 in
     let none_is_empty = eqb-false _ _ (sym c.is_empty.ensures ∙ c.if-is_empty.false) in
     let w = empty_there _ _ _ valid (omega (arith, none_is_empty)) in
-    rw c.as_slice.ensures.value (w.0, omega (arith, w.1, length-marks_by _ _ valid.laid_out), w.2)
+    (w.0, omega (arith, w.1, length-marks_by _ _ valid.laid_out), w.2)
 
 pub returns-clause-full : goal.returns-clause-full
 returns-clause-full g c =
-    rw (← c.self.view_is) (IfSome_then c.find_bucket.result (rw c.as_slice.ensures.value at c.find_bucket.ensures.found)
+    rw (← c.self.view_is) (IfSome_then c.find_bucket.result c.find_bucket.ensures.found
     (λ b found. full_by_entry _ found.accepted.entry found.accepted.there))
 
 pub returns-clause-table : goal.returns-clause-table

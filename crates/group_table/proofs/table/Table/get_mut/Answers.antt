@@ -1,20 +1,11 @@
-use Rattle.std.proofs.Common.{refl, sym, ◌∙◌, arith, None}
-use Rattle.std.proofs.lemmas.List.{get_or_read}
-use Rattle.group_table.proofs.LayoutLemmas.{full_within, is_some_entry, entry_at-full}
+use Rattle.std.proofs.Common.{refl, sym, ◌∙◌}
+use Rattle.group_table.proofs.LayoutLemmas.{is_some_entry, entry_at-full}
 use Rattle.group_table.proofs.RefillLemmas.{IsValid-refilled, entry_count-refilled, slots_of-refilled, Fits-refilled}
 use Rattle.group_table.proofs.TableLemmas.{IsTable-by}
 use Rattle.group_table.proofs.table.Table.get_mut.Goals as goal
 
-pub index_mut-requires : goal.index_mut-requires
-index_mut-requires g c =
-    omega (arith, full_within _ _ c.self.invariant.0.laid_out c.args.b (rw (← c.self.view_is) at c.requires))
-
-pub entry_mut-requires : goal.entry_mut-requires
-entry_mut-requires g c =
-    let there = rw (← c.self.view_is) at c.requires in
-    let within = full_within _ _ c.self.invariant.0.laid_out c.args.b there in
-    rw (get_or_read c.self.inside.entries.items c.args.b _ within c.index_mut.ensures.value None)
-    (is_some_entry _ _ c.self.invariant.0.laid_out c.args.b there)
+pub get_mut-requires : goal.get_mut-requires
+get_mut-requires g c = is_some_entry _ _ c.self.invariant.0.laid_out c.args.b (rw (← c.self.view_is) at c.requires)
 
 pub invariant_of-self-lent : goal.invariant_of-self-lent
 invariant_of-self-lent g c w =
@@ -26,15 +17,13 @@ invariant_of-self-lent g c w =
 
 pub returns : goal.returns
 returns g c =
-    let there = rw (← c.self.view_is) at c.requires in
-    let within = full_within _ _ c.self.invariant.0.laid_out c.args.b there in (
+    let there = rw (← c.self.view_is) at c.requires in (
       (refl, λ w. rw (← c.self.view_is, slots_of-refilled _ _ _ c.self.invariant.0 c.args.b there w)),
       record {
         writes_back = tt;
         entry =
-            rw (← c.self.view_is) (entry_at-full _ _ c.self.invariant.0.laid_out c.args.b there _
-            (sym (get_or_read c.self.inside.entries.items c.args.b _ within c.index_mut.ensures.value None)
-            ∙ c.entry_mut.ensures.value));
+            rw (← c.self.view_is)
+            (entry_at-full _ _ c.self.invariant.0.laid_out c.args.b there _ c.get_mut.ensures.value);
         table = rw (← c.self.view_is) (IsTable-by _ _ _ c.self.invariant.0);
         fits = λ hash_of fits last. Fits-refilled _ c.args.b last hash_of c.requires fits;
       },

@@ -42,7 +42,7 @@ overflow_add-self g c =
     let valid = c.self.invariant.0 in
     omega (
       arith,
-      count_by-le-length is_full (slots_of c.self.inside.control c.self.inside.entries.items),
+      count_by-le-length is_full (slots_of c.self.inside.control c.self.inside.entries),
       c.self.invariant.1,
       length-laid_out _ _ valid.laid_out,
       entries_within _ _ valid.laid_out,

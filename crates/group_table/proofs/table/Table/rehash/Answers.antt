@@ -19,6 +19,9 @@ returns-then-self-eq0-clause-room g c =
 pub returns-in_err-links-clause-table : goal.returns-in_err-links-clause-table
 returns-in_err-links-clause-table g c = rw (← c.self.view_is) (IsTable-by _ _ _ c.self.invariant.0)
 
+pub returns-in_err-fresh-clause-table : goal.returns-in_err-fresh-clause-table
+returns-in_err-fresh-clause-table g c = rw (← c.self.view_is) (IsTable-by _ _ _ c.self.invariant.0)
+
 pub place_again-requires-clause-within : goal.place_again-requires-clause-within
 place_again-requires-clause-within g c =
     let valid = c.self.invariant.0 in
@@ -27,20 +30,20 @@ place_again-requires-clause-within g c =
       entry_count-laid_out _ _ valid.laid_out,
       valid.room_left,
       used_count-split
-          (slots_of c.self.inside.control c.self.inside.entries.items),
+          (slots_of c.self.inside.control c.self.inside.entries),
     )
 
 pub place_again-requires-clause-below : goal.place_again-requires-clause-below
 place_again-requires-clause-below g c =
-    let same : length c.self.inside.entries.items ≡ length c.args.self.now.slots =
+    let same : length c.self.inside.entries ≡ length c.args.self.now.slots =
     rw (← c.self.view_is) (sym (length-laid_out _ _ c.self.invariant.0.laid_out)) in
     omega (arith, same, c.requires.below)
 
 pub overflow_sub-self : goal.overflow_sub-self
 overflow_sub-self g c =
     let valid = c.self.invariant.0 in
-    let n : c.len-buckets.result ≡ length c.self.inside.entries.items = omega arith in
-    let capacity : c.full_capacity.result ≡ full_capacity (length c.self.inside.entries.items) =
+    let n : c.len-buckets.result ≡ length c.self.inside.entries = omega arith in
+    let capacity : c.full_capacity.result ≡ full_capacity (length c.self.inside.entries) =
     c.full_capacity.ensures ∙ ap full_capacity n in
     omega (
       arith,
@@ -48,7 +51,7 @@ overflow_sub-self g c =
       c.self.invariant.1,
       valid.room_left,
       used_count-split
-          (slots_of c.self.inside.control c.self.inside.entries.items),
+          (slots_of c.self.inside.control c.self.inside.entries),
     )
 
 pub returns-clause-entries : goal.returns-clause-entries
@@ -69,13 +72,13 @@ pub invariant_of-self : goal.invariant_of-self
 invariant_of-self g c =
     let again = c.place_again.ensures in
     let counted = entry_count-laid_out _ _ c.self.invariant.0.laid_out in
-    let n : c.len-buckets.result ≡ length c.self.inside.entries.items = omega arith in
-    let capacity : c.full_capacity.result ≡ full_capacity (length c.self.inside.entries.items) =
+    let n : c.len-buckets.result ≡ length c.self.inside.entries = omega arith in
+    let capacity : c.full_capacity.result ≡ full_capacity (length c.self.inside.entries) =
     c.full_capacity.ensures ∙ ap full_capacity n in
-    let left : full_capacity (length c.self.inside.entries.items) - count_by is_some c.self.inside.entries.items
+    let left : full_capacity (length c.self.inside.entries) - count_by is_some c.self.inside.entries
     ≡ c.full_capacity.result - c.self.inside.len =
     omega (arith, capacity, counted, c.self.invariant.1) in (
-      subst (IsValid c.place_again.new.control c.place_again.new.entries.items) left again.valid,
+      subst (IsValid c.place_again.new.control c.place_again.new.entries) left again.valid,
       c.self.invariant.1 ∙ counted ∙ sym again.entries ∙ sym (entry_count-laid_out _ _ again.valid.laid_out),
     )
 
@@ -90,9 +93,9 @@ pub returns-clause-room : goal.returns-clause-room
 returns-clause-room g c =
     let again = c.place_again.ensures in
     let moved = returns-clause-entries g c in
-    let slots = slots_of c.place_again.new.control c.place_again.new.entries.items in
+    let slots = slots_of c.place_again.new.control c.place_again.new.entries in
     let same = length-laid_out _ _ again.valid.laid_out in
-    let capacity : full_capacity (length slots) ≡ full_capacity (length c.place_again.new.entries.items) =
+    let capacity : full_capacity (length slots) ≡ full_capacity (length c.place_again.new.entries) =
     ap full_capacity same in
     let within : entry_count slots ≤ full_capacity (length slots) =
     omega (arith, capacity, again.valid.room_left, used_count-split slots) in

@@ -3,6 +3,7 @@ use Rattle.std.proofs.lemmas.List.{length-replicate}
 use Rattle.group_table.specs.Bucket.{empty, entry_count}
 use Rattle.group_table.specs.Sizes.{full_capacity}
 use Rattle.group_table.specs.Layout.{slots_of}
+use Rattle.group_table.proofs.LayoutLemmas.{length-laid_out}
 use Rattle.group_table.proofs.SizeLemmas.{full_capacity-small}
 use Rattle.group_table.proofs.TableLemmas.{IsTable-by}
 use Rattle.group_table.proofs.FreshLemmas.{Fits-fresh, room-fresh}
@@ -15,7 +16,7 @@ returns-in_err-fresh-clause-table g c = rw (← c.self.view_is) (IsTable-by _ _ 
 
 pub returns-then-self-eq0-clause-room : goal.returns-then-self-eq0-clause-room
 returns-then-self-eq0-clause-room g c =
-    let is : slots_of c.fresh.inside.control c.fresh.inside.entries.items ≡ replicate c.args.buckets empty =
+    let is : slots_of c.fresh.inside.control c.fresh.inside.entries ≡ replicate c.args.buckets empty =
     ap (λ v. v.slots) c.fresh.view_is ∙ c.in_ok-fresh.ensures.slots in
     let none : entry_count c.args.self.now.slots ≡ 0 = rw (← c.self.view_is) (omega (arith, c.self.invariant.1)) in
     let room = room-fresh g.row.T.Denot c.args.buckets in
@@ -23,7 +24,7 @@ returns-then-self-eq0-clause-room g c =
 
 pub returns-then-self-eq0-clause-hashes : goal.returns-then-self-eq0-clause-hashes
 returns-then-self-eq0-clause-hashes g c hash_at gives moved_hash_of moved =
-    let is : slots_of c.fresh.inside.control c.fresh.inside.entries.items ≡ replicate c.args.buckets empty =
+    let is : slots_of c.fresh.inside.control c.fresh.inside.entries ≡ replicate c.args.buckets empty =
     ap (λ v. v.slots) c.fresh.view_is ∙ c.in_ok-fresh.ensures.slots in
     rw is (Fits-fresh g.row.T.Denot c.args.buckets moved_hash_of)
 
@@ -46,47 +47,58 @@ returns-in_err-links-clause-succeeds g c = λ none.
 
 pub move_entries-requires-clause-within : goal.move_entries-requires-clause-within
 move_entries-requires-clause-within g c =
-    let length_is : length c.in_ok-fresh.fresh.slots ≡ c.args.buckets =
-    ap length c.in_ok-fresh.ensures.slots ∙ length-replicate _ _ in
-    let counted = entry_count-laid_out _ _ c.self.invariant.0.laid_out in
-    rw (c.replace-entries.ensures.value, length_is, ← counted) (rw (← c.self.view_is) at c.requires.within)
+    let parts = c.into_parts-control.ensures in
+    let was = parts.slots ∙ ap (λ t. t.slots) c.replace.ensures.value in
+    let counted = sym (entry_count-laid_out _ _ parts.laid_out) ∙ ap entry_count was in
+    let long : length c.replace.new.dest.slots ≡ c.args.buckets =
+    ap (λ t. length t.slots) c.replace.ensures.after ∙ ap length c.in_ok-fresh.ensures.slots ∙ length-replicate _ _ in
+    rw (counted, long) c.requires.within
+
+pub move_entries-requires-clause-one_each : goal.move_entries-requires-clause-one_each
+move_entries-requires-clause-one_each g c =
+    let parts = c.into_parts-control.ensures in
+    let was = parts.slots ∙ ap (λ t. t.slots) c.replace.ensures.value in
+    let links : length c.in_ok-links.links.items ≡ c.len.result = ap length c.in_ok-links.ensures ∙ length-replicate _ _ in
+    links ∙ c.len.ensures ∙ sym (length-laid_out _ _ c.self.invariant.0.laid_out) ∙ ap (λ t. length t.slots) c.self.view_is
+    ∙ sym (ap length was) ∙ length-laid_out _ _ parts.laid_out
 
 pub returns-clause-renumbered : goal.returns-clause-renumbered
 returns-clause-renumbered g c =
-    let is : slots_of c.fresh-2.inside.control c.fresh-2.inside.entries.items ≡ c.move_entries.new.fresh.slots =
-    ap (λ v. v.slots) c.fresh-2.view_is in
-    rw (← c.self.view_is, is)
-    (inr (IsRenumbering-moves _ _ c.self.invariant.0.laid_out g.N.LinkType.number g.N.LinkType.MAX _ _
-    (c.move_entries.ensures.one_each ∙ ap (λ v. length v.items) c.replace-entries.ensures.value)
-    (rw c.replace-entries.ensures.value at c.move_entries.ensures.moves)))
+    let parts = c.into_parts-control.ensures in
+    let was = parts.slots ∙ ap (λ t. t.slots) c.replace.ensures.value in
+    let is = ap (λ t. t.slots) c.self-2.view_is in
+    rw (← was, is)
+    (inr (IsRenumbering-moves _ _ parts.laid_out g.N.LinkType.number g.N.LinkType.MAX _ _
+    c.move_entries.ensures.one_each c.move_entries.ensures.moves))
 
 pub returns-clause-entries : goal.returns-clause-entries
 returns-clause-entries g c =
-    let is : slots_of c.fresh-2.inside.control c.fresh-2.inside.entries.items ≡ c.move_entries.new.fresh.slots =
-    ap (λ v. v.slots) c.fresh-2.view_is in
-    rw (← c.self.view_is, is, entry_count-laid_out _ _ c.self.invariant.0.laid_out)
-    (rw c.replace-entries.ensures.value at c.move_entries.ensures.entries)
+    let parts = c.into_parts-control.ensures in
+    let was = parts.slots ∙ ap (λ t. t.slots) c.replace.ensures.value in
+    let is = ap (λ t. t.slots) c.self-2.view_is in
+    ap entry_count is ∙ c.move_entries.ensures.entries ∙ sym (entry_count-laid_out _ _ parts.laid_out)
+    ∙ ap entry_count was
 
 pub returns-clause-room : goal.returns-clause-room
 returns-clause-room g c =
-    let is : slots_of c.fresh-2.inside.control c.fresh-2.inside.entries.items ≡ c.move_entries.new.fresh.slots =
-    ap (λ v. v.slots) c.fresh-2.view_is in
+    let is = ap (λ t. t.slots) c.self-2.view_is in
     let moved : entry_count c.move_entries.new.fresh.slots ≡ entry_count c.args.self.now.slots =
     sym (ap entry_count is) ∙ returns-clause-entries g c in
-    let length_is : length c.move_entries.new.fresh.slots ≡ c.args.buckets =
-    c.move_entries.ensures.buckets ∙ ap length c.in_ok-fresh.ensures.slots ∙ length-replicate _ _ in
+    let long : length c.move_entries.new.fresh.slots ≡ c.args.buckets =
+    c.move_entries.ensures.buckets ∙ ap (λ t. length t.slots) c.replace.ensures.after
+    ∙ ap length c.in_ok-fresh.ensures.slots ∙ length-replicate _ _ in
     rw (is, ← moved)
     (room-none_deleted c.move_entries.new.fresh.slots c.move_entries.ensures.none_deleted
-    (rw (moved, length_is) c.requires.within))
+    (rw (moved, long) c.requires.within))
 
 pub returns-clause-hashes : goal.returns-clause-hashes
 returns-clause-hashes g c hash_at gives =
-    let is : slots_of c.fresh-2.inside.control c.fresh-2.inside.entries.items ≡ c.move_entries.new.fresh.slots =
-    ap (λ v. v.slots) c.fresh-2.view_is in
-    let laid_out = c.self.invariant.0.laid_out in
-    let keeps = rw c.replace-entries.ensures.value at c.move_entries.ensures.hashes in
-    rw (← c.self.view_is, is) (KeepsHashes-moves _ _ laid_out g.N.LinkType.number g.N.LinkType.MAX _ _ hash_at
-    (keeps hash_at (GivesMovedHashes-from _ _ laid_out g.H.Fn c.args.hash_of hash_at (rw (← c.self.view_is) at gives))))
+    let parts = c.into_parts-control.ensures in
+    let was = parts.slots ∙ ap (λ t. t.slots) c.replace.ensures.value in
+    let is = ap (λ t. t.slots) c.self-2.view_is in
+    rw (← was, is) (KeepsHashes-moves _ _ parts.laid_out g.N.LinkType.number g.N.LinkType.MAX _ _ hash_at
+    (c.move_entries.ensures.hashes hash_at
+    (GivesMovedHashes-from _ _ parts.laid_out g.H.Fn c.args.hash_of hash_at (rw (← was) at gives))))
 
 pub returns-clause-table : goal.returns-clause-table
-returns-clause-table g c = IsTable-by _ _ _ c.fresh-2.invariant.0
+returns-clause-table g c = IsTable-by _ _ _ c.self-2.invariant.0

@@ -88,7 +88,7 @@ returns-clause-room g c =
 pub returns-clause-fits : goal.returns-clause-fits
 returns-clause-fits g c hash_of fits =
     let within = full_within _ _ c.self.invariant.0.laid_out c.args.b (rw (← c.self.view_is) at c.requires) in
-    let in_slots : c.args.b < length (slots_of c.self.inside.control c.self.inside.entries.items) =
+    let in_slots : c.args.b < length (slots_of c.self.inside.control c.self.inside.entries) =
     omega (arith, within, length-laid_out _ _ c.self.invariant.0.laid_out) in
     Fits-removed _ _ hash_of c.args.b (rw (← c.self.view_is) in_slots) (returns-clause-removed g c) fits
 

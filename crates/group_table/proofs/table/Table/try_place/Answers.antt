@@ -20,7 +20,7 @@ returns-then-is_empty-clause-table g c = rw (← c.self.view_is) (IsTable-by _ _
 pub first_free-b-requires : goal.first_free-b-requires
 first_free-b-requires g c =
     let valid = c.self.invariant.0 in
-    let some : 0 < length c.self.inside.entries.items =
+    let some : 0 < length c.self.inside.entries =
     omega (arith, eqb-false _ _ (sym c.is_empty.ensures ∙ c.if-is_empty.false)) in
     let w = some_free_byte _ _ _ valid some in
     (w.0, omega (arith, w.1, buckets_are _ _ valid.laid_out), w.2)
@@ -33,7 +33,7 @@ returns-then-self-spent-clause-no_place g c =
     let valid = c.self.invariant.0 in
     let first = c.first_free-b.ensures in
     let are = buckets_are _ _ valid.laid_out in
-    let some : 0 < length c.self.inside.entries.items =
+    let some : 0 < length c.self.inside.entries =
     omega (arith, eqb-false _ _ (sym c.is_empty.ensures ∙ c.if-is_empty.false)) in
     let none = no_place_left _ _ _ valid c.args.hash c.first_free-b.result _ are
     (omega (arith, some, are)) first _ c.byte.ensures (omega arith) in
@@ -49,7 +49,7 @@ fill_bucket-requires-clause-free_there g c =
     let valid = c.self.invariant.0 in
     let first = c.first_free-b.ensures in
     let are = buckets_are _ _ valid.laid_out in
-    let some : 0 < length c.self.inside.entries.items =
+    let some : 0 < length c.self.inside.entries =
     omega (arith, eqb-false _ _ (sym c.is_empty.ensures ∙ c.if-is_empty.false)) in
     place_none _ _ _ valid c.args.hash c.first_free-b.result _ are (omega (arith, some, are)) first
 
@@ -58,7 +58,7 @@ overflow_add-self g c =
     let valid = c.self.invariant.0 in
     omega (
       arith,
-      count_by-le-length is_full (slots_of c.self.inside.control c.self.inside.entries.items),
+      count_by-le-length is_full (slots_of c.self.inside.control c.self.inside.entries),
       c.self.invariant.1,
       length-laid_out _ _ valid.laid_out,
       entries_within _ _ valid.laid_out,
@@ -70,7 +70,7 @@ invariant_of-self g c =
     let valid = c.self.invariant.0 in
     let first = c.first_free-b.ensures in
     let are = buckets_are _ _ valid.laid_out in
-    let some : 0 < length c.self.inside.entries.items =
+    let some : 0 < length c.self.inside.entries =
     omega (arith, eqb-false _ _ (sym c.is_empty.ensures ∙ c.if-is_empty.false)) in
     let within = place_within _ _ _ valid c.args.hash c.first_free-b.result _ are (omega (arith, some, are)) first in
     let spends = place_spends _ _ _ valid c.args.hash c.first_free-b.result _ are
@@ -88,7 +88,7 @@ returns-clause-placed g c =
     let valid = c.self.invariant.0 in
     let first = c.first_free-b.ensures in
     let are = buckets_are _ _ valid.laid_out in
-    let some : 0 < length c.self.inside.entries.items =
+    let some : 0 < length c.self.inside.entries =
     omega (arith, eqb-false _ _ (sym c.is_empty.ensures ∙ c.if-is_empty.false)) in
     rw (← c.self.view_is) record {
       first = place_first _ _ _ valid c.args.hash c.first_free-b.result _ are (omega (arith, some, are)) first;
@@ -102,7 +102,7 @@ returns-clause-may_fill g c =
     let valid = c.self.invariant.0 in
     let first = c.first_free-b.ensures in
     let are = buckets_are _ _ valid.laid_out in
-    let some : 0 < length c.self.inside.entries.items =
+    let some : 0 < length c.self.inside.entries =
     omega (arith, eqb-false _ _ (sym c.is_empty.ensures ∙ c.if-is_empty.false)) in
     rw (← c.self.view_is) (MayFill-from valid c.first_free-b.result
     (place_spends _ _ _ valid c.args.hash c.first_free-b.result _ are (omega (arith, some, are)) first _ c.byte.ensures
@@ -113,16 +113,16 @@ returns-clause-fits g c hash_of fits =
     let valid = c.self.invariant.0 in
     let first = c.first_free-b.ensures in
     let are = buckets_are _ _ valid.laid_out in
-    let some : 0 < length c.self.inside.entries.items =
+    let some : 0 < length c.self.inside.entries =
     omega (arith, eqb-false _ _ (sym c.is_empty.ensures ∙ c.if-is_empty.false)) in
     let within = place_within _ _ _ valid c.args.hash c.first_free-b.result _ are (omega (arith, some, are)) first in
-    let in_slots : c.first_free-b.result < length (slots_of c.self.inside.control c.self.inside.entries.items) =
+    let in_slots : c.first_free-b.result < length (slots_of c.self.inside.control c.self.inside.entries) =
     omega (arith, within, length-laid_out _ _ valid.laid_out) in
     rw (
       c.fill_bucket.ensures.control,
       c.fill_bucket.ensures.entries,
       c.tag_of.ensures.value,
-      slots_of-written c.self.inside.control c.self.inside.entries.items c.first_free-b.result (hash_tag c.args.hash)
+      slots_of-written c.self.inside.control c.self.inside.entries c.first_free-b.result (hash_tag c.args.hash)
           (Some c.args.entry),
     )
     (Fits-placed _ hash_of c.args.hash c.first_free-b.result c.args.entry in_slots
@@ -134,7 +134,7 @@ returns-clause-table g c =
     let valid = c.self.invariant.0 in
     let first = c.first_free-b.ensures in
     let are = buckets_are _ _ valid.laid_out in
-    let some : 0 < length c.self.inside.entries.items =
+    let some : 0 < length c.self.inside.entries =
     omega (arith, eqb-false _ _ (sym c.is_empty.ensures ∙ c.if-is_empty.false)) in
     let within = place_within _ _ _ valid c.args.hash c.first_free-b.result _ are (omega (arith, some, are)) first in
     let spends = place_spends _ _ _ valid c.args.hash c.first_free-b.result _ are
@@ -148,7 +148,7 @@ returns-clause-room g c =
     let valid = c.self.invariant.0 in
     let first = c.first_free-b.ensures in
     let are = buckets_are _ _ valid.laid_out in
-    let some : 0 < length c.self.inside.entries.items =
+    let some : 0 < length c.self.inside.entries =
     omega (arith, eqb-false _ _ (sym c.is_empty.ensures ∙ c.if-is_empty.false)) in
     let within = place_within _ _ _ valid c.args.hash c.first_free-b.result _ are (omega (arith, some, are)) first in
     let spends = place_spends _ _ _ valid c.args.hash c.first_free-b.result _ are

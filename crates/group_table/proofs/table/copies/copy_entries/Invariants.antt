@@ -1,11 +1,10 @@
-use Rattle.std.proofs.Common.{◌≡◌, ◌≤◌, length, take, vec_len, vec_capacity}
-use Rattle.std.specs.List.{AllZip}
+use Rattle.std.proofs.Common.{◌≡◌, ℕ, ◌<◌, ◌≤◌, length, get_or, None}
 use Rattle.group_table.specs.Copies.{IsPlaceCopy}
 use Rattle.group_table.proofs.table.copies.copy_entries.Given as goal
 
-abbrev pub invariant-loop-place : goal.invariant-loop-place
-invariant-loop-place g l = record {
-  copies : AllZip (IsPlaceCopy g.F.Fn l.f) (take l.place-index l.entries) l.copies.items;
-  len : vec_len l.copies ≡ l.place-index;
-  capacity : length l.entries ≤ vec_capacity l.copies;
+abbrev pub invariant-loop-b : goal.invariant-loop-b
+invariant-loop-b g l = record {
+  same : length l.copies ≡ length l.entries;
+  copied : (k : ℕ) → k < l.b → IsPlaceCopy g.F.Fn l.f (get_or l.entries k None) (get_or l.copies k None);
+  others : (k : ℕ) → l.b ≤ k → get_or l.copies k None ≡ None;
 }

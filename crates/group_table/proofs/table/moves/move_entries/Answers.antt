@@ -1,179 +1,110 @@
-use Rattle.std.proofs.Common.{◌+◌, ◌≡◌, ◌∷◌, ◌++◌, [], ◌<◌, length, is_some, refl, ap, sym, ◌∙◌, arith, append_assoc}
-use Rattle.std.proofs.Common.{append-nil, length-set}
-use Rattle.std.specs.Vec.Iter.{into_iter_items, into_iter_len}
-use Rattle.group_table.specs.Moves.{place_at}
+use Rattle.std.proofs.Common.{◌≡◌, ◌+◌, ◌<◌, Some, None, get_or, set, length, take, replicate, is_some, refl, ap, sym, ◌∙◌, arith}
+use Rattle.std.proofs.Common.{length-set}
+use Rattle.std.proofs.lemmas.List.{take_all, get_or-set_same, get_or-set_other}
+use native.Mathlib.Decide.{dec_lt}
 use Rattle.group_table.proofs.BucketLemmas.{empty_not_deleted, deleted_count-none}
-use Rattle.std.proofs.lemmas.List.{length-append, nil_from_length}
+use Rattle.group_table.proofs.CopyLemmas.{replicate-from}
 use Rattle.group_table.proofs.FreshLemmas.{entry_count-none}
 use Rattle.group_table.proofs.FitsLemmas.{Fits-none}
 use Rattle.group_table.proofs.JoinLemmas.{length-joined, entry_count-joined, deleted_count-joined}
+use Rattle.group_table.proofs.LayoutLemmas.{none_by}
 use Rattle.group_table.proofs.MoveLemmas.{Moves-none, Moves-same, Moves-more, KeepsMovedHashes-same}
-use Rattle.group_table.proofs.MoveLemmas.{KeepsMovedHashes-more, come_before, come_there}
-use Rattle.group_table.proofs.MoveLemmas.{come_elsewhere, come_none, come_within, come_next, come_fewer, count_by-push}
-use Rattle.group_table.proofs.MoveLemmas.{one_more, none_more}
-use Rattle.group_table.proofs.table.moves.move_entries.Goals.{in-Some-place, in_default}
+use Rattle.group_table.proofs.MoveLemmas.{KeepsMovedHashes-more, none_yet, come_there, come_elsewhere, come_none}
+use Rattle.group_table.proofs.MoveLemmas.{count_one, count_none, come_fewer}
+use Rattle.group_table.proofs.table.moves.move_entries.Goals.{then-byte-lt-DELETED, else-byte-lt-DELETED}
 use Rattle.group_table.proofs.table.moves.move_entries.Goals as goal
 
-pub loop-place-init : goal.loop-place-init
-loop-place-init g c =
-    let given = c.into_iter-place-iterator.ensures.into_iter_gives in
-    record {
-      order = refl;
-      rest = omega (arith, given.1, ap length given.0);
-      bucket = refl;
-      same = refl;
-      buckets = refl;
-      placings = refl;
-      none_deleted = deleted_count-none c.args.fresh.now.slots (λ b e. empty_not_deleted _ (c.requires.all_empty b) e);
-      entries = entry_count-none c.args.fresh.now.slots c.requires.all_empty;
-      moves = Moves-none g.N.LinkType.number g.N.LinkType.MAX _ c.args.fresh.now.slots c.args.links.now.items
-          (λ b. refl) c.requires.all_empty c.requires.none_linked;
-      hashes = λ hash_at gives moved_hash_of same. Fits-none c.args.fresh.now.slots moved_hash_of c.requires.all_empty;
-    }
+pub loop-b-init : goal.loop-b-init
+loop-b-init g c = record {
+  old_length = refl;
+  freed = λ k p. absurd (omega arith);
+  rest = λ k p. refl;
+  same = refl;
+  buckets = refl;
+  placings = refl;
+  none_deleted = deleted_count-none c.args.fresh.now.slots (λ b e. empty_not_deleted _ (c.requires.all_empty b) e);
+  entries = entry_count-none c.args.fresh.now.slots c.requires.all_empty;
+  moves = Moves-none g.N.LinkType.number g.N.LinkType.MAX _ c.args.fresh.now.slots c.args.links.now.items
+      (λ b. refl) c.requires.all_empty c.requires.none_linked;
+  hashes = λ hash_at gives moved_hash_of same. Fits-none c.args.fresh.now.slots moved_hash_of c.requires.all_empty;
+}
 
 pub place_fresh-requires-clause-room : goal.place_fresh-requires-clause-room
 place_fresh-requires-clause-room g c =
-    let at = c.loop-place in
-    let order : at.yielded ++ c.in-Some.place ∷ into_iter_items c.next.new.self ≡ c.args.old.items =
-    rw (← c.in-Some.ensures.steps.0) at.invariant.order ∙ c.into_iter-place-iterator.ensures.into_iter_gives.0 in
-    let fewer = come_fewer at.yielded c.in-Some.place _ _ order (ap is_some c.in-Some-place.is) in
-    rw at.invariant.buckets (omega (arith, fewer, at.invariant.entries, c.requires.within))
+    let l = c.loop-b.invariant in
+    let whole = c.args.old.now in
+    let within : c.loop-b.b < length whole = omega arith in
+    let there = sym (l.rest c.loop-b.b (omega arith)) ∙ c.read-entry.ensures.entry in
+    let fewer = come_fewer whole c.loop-b.b within (ap is_some there) in
+    rw l.buckets (omega (arith, fewer, l.entries, c.requires.within))
 
-pub place_fresh-requires-clause-none_deleted : goal.place_fresh-requires-clause-none_deleted
-place_fresh-requires-clause-none_deleted g c = c.loop-place.invariant.none_deleted
-
-pub from_usize-requires : goal.from_usize-requires
-from_usize-requires g c =
-    omega (arith, c.place_fresh.ensures.joins.within, c.loop-place.invariant.buckets, c.requires.below)
-
-pub index_mut-requires : goal.index_mut-requires
-index_mut-requires g c =
-    let at = c.loop-place in
-    let order : at.yielded ++ c.in-Some.place ∷ into_iter_items c.next.new.self ≡ c.args.old.items =
-    rw (← c.in-Some.ensures.steps.0) at.invariant.order ∙ c.into_iter-place-iterator.ensures.into_iter_gives.0 in
-    omega (
-      arith,
-      come_within at.yielded c.in-Some.place _ _ order,
-      at.invariant.bucket,
-      at.invariant.same,
-      c.requires.one_each,
-    )
-
-pub overflow_add-b : goal.overflow_add-b
-overflow_add-b g c =
-    let at = c.loop-place in
-    let order : at.yielded ++ c.in-Some.place ∷ into_iter_items c.next.new.self ≡ c.args.old.items =
-    rw (← c.in-Some.ensures.steps.0) at.invariant.order ∙ c.into_iter-place-iterator.ensures.into_iter_gives.0 in
-    omega (arith, come_within at.yielded c.in-Some.place _ _ order, at.invariant.bucket, c.requires.one_each)
-
-pub loop-place-preserved : goal.loop-place-preserved
-loop-place-preserved g c =
-    let at = c.loop-place in
-    let order : at.yielded ++ c.in-Some.place ∷ into_iter_items c.next.new.self ≡ c.args.old.items =
-    rw (← c.in-Some.ensures.steps.0) at.invariant.order ∙ c.into_iter-place-iterator.ensures.into_iter_gives.0 in
+pub loop-b-preserved : goal.loop-b-preserved
+loop-b-preserved g c =
+    let at = c.loop-b in
     let l = at.invariant in
-    let total = c.into_iter-place-iterator.ensures.into_iter_gives.0 in
-    let steps = c.in-Some.ensures.steps in
-    let goes : (at.yielded ++ c.in-Some.place ∷ []) ++ into_iter_items c.next.new.self
-    ≡ into_iter_items c.into_iter-place-iterator.result =
-    append_assoc at.yielded (c.in-Some.place ∷ []) _ ∙ rw (← steps.0) l.order in
-    let rest_is : into_iter_len c.next.new.self ≡ length (into_iter_items c.next.new.self) =
-    omega (arith, steps.1, l.rest, ap length steps.0) in
-    let next : at.b + 1 ≡ length (at.yielded ++ c.in-Some.place ∷ []) =
-    omega (arith, l.bucket, length-append at.yielded (c.in-Some.place ∷ [])) in
-    elim c.match-place.branch [
-      | in-Some-place w ↦
-          let place_is = w.in-Some-place.is in
+    let whole = c.args.old.now in
+    let within : at.b < length whole = omega arith in
+    elim c.if-byte-lt-DELETED.branch [
+      | then-byte-lt-DELETED w ↦
+          let there = sym (l.rest at.b (omega arith)) ∙ w.read-entry.ensures.entry in
           let joins = w.place_fresh.ensures.joins in
           let below : w.place_fresh.result < g.N.LinkType.number g.N.LinkType.MAX =
           omega (arith, joins.within, l.buckets, c.requires.below) in
-          let bound : at.b < length at.links.items =
-          omega (arith, come_within at.yielded c.in-Some.place _ _ order, l.bucket, l.same, c.requires.one_each) in
-          let before = come_before at.yielded at.b l.bucket in
-          let there = come_there at.yielded at.b l.bucket c.in-Some.place ∙ place_is in
-          let elsewhere = come_elsewhere at.yielded at.b l.bucket c.in-Some.place in
-          rw (w.fresh-is, w.links-is, w.from_usize.ensures) record {
-            order = goes;
-            rest = rest_is;
-            bucket = next;
+          let bound : at.b < length at.links.items = omega (arith, l.same, c.requires.one_each) in
+          let come = come_there whole at.b within ∙ there in
+          rw (w.old-is, w.fresh-is, w.links-is, w.from_usize.ensures, w.read-entry.ensures.places) record {
+            old_length = length-set _ _ _ ∙ l.old_length;
+            freed = λ k p. elim (dec_lt k at.b) [
+              | yes q ↦ get_or-set_other _ _ k None None (omega arith) ∙ l.freed k q
+              | no q ↦ let here : k ≡ at.b = omega arith in
+                  ap (λ n. get_or (set at.old at.b None) n None) here
+                  ∙ get_or-set_same at.old at.b None None (omega arith)
+            ];
+            rest = λ k p. get_or-set_other _ _ k None None (omega arith) ∙ l.rest k (omega arith);
             same = length-set _ _ _ ∙ l.same;
             buckets = length-joined joins ∙ l.buckets;
             placings = w.place_fresh.ensures.placings ∙ l.placings;
             none_deleted = deleted_count-joined joins ∙ l.none_deleted;
-            entries = entry_count-joined joins ∙ omega (
-              arith,
-              l.entries,
-              count_by-push at.yielded c.in-Some.place,
-              one_more c.in-Some.place
-                  (ap is_some place_is),
-            );
+            entries = entry_count-joined joins
+                ∙ omega (arith, l.entries, count_one whole at.b within (ap is_some there));
             moves = Moves-more g.N.LinkType.number g.N.LinkType.MAX g.N.LinkType.link _ g.met.N.LinkType.laws _ _ at.b
-                before there elsewhere bound below joins l.moves;
+                (none_yet whole at.b within) come (come_elsewhere whole at.b within) bound below joins l.moves;
             hashes =
                 λ hash_at gives. KeepsMovedHashes-more g.N.LinkType.number g.N.LinkType.MAX g.N.LinkType.link _
                 g.met.N.LinkType.laws _ _ at.b
-                before there elsewhere bound below joins l.moves hash_at
-                (gives at.b _ _
-                (ap (λ xs. place_at xs at.b) total ∙ ap (place_at _) l.bucket
-                ∙ come_next at.yielded c.in-Some.place _ _ order ∙ place_is)
-                (record { shown = _; shows = refl; says = record { met = w.hash_of-hash.ensures } }))
+                (none_yet whole at.b within) come (come_elsewhere whole at.b within) bound below joins l.moves hash_at
+                (gives at.b _ _ there (record { shown = _; shows = refl; says = record { met = w.hash_of-hash.ensures } }))
                 (l.hashes hash_at gives);
           }
-      | in_default w ↦
-          rw (w.fresh-is, w.links-is) record {
-            order = goes;
-            rest = rest_is;
-            bucket = next;
+      | else-byte-lt-DELETED w ↦
+          let gone = none_by _ _ (c.requires.laid_out.agrees at.b within) (omega arith) in
+          let same = come_none whole at.b within gone in
+          rw (w.old-is, w.fresh-is, w.links-is) record {
+            old_length = l.old_length;
+            freed = λ k p. elim (dec_lt k at.b) [
+              | yes q ↦ l.freed k q
+              | no q ↦ let here : k ≡ at.b = omega arith in
+                  ap (λ n. get_or at.old n None) here ∙ l.rest at.b (omega arith) ∙ gone
+            ];
+            rest = λ k p. l.rest k (omega arith);
             same = l.same;
             buckets = l.buckets;
             placings = l.placings;
             none_deleted = l.none_deleted;
-            entries = l.entries ∙ sym
-                (count_by-push at.yielded c.in-Some.place ∙ omega (arith, none_more c.in-Some.place w.in_default.is));
-            moves = Moves-same g.N.LinkType.number g.N.LinkType.MAX _ _ _
-                (come_none at.yielded at.b l.bucket c.in-Some.place w.in_default.is) l.moves;
+            entries = l.entries ∙ sym (count_none whole at.b within gone);
+            moves = Moves-same g.N.LinkType.number g.N.LinkType.MAX _ _ _ same l.moves;
             hashes =
-                λ hash_at gives. KeepsMovedHashes-same g.N.LinkType.number g.N.LinkType.MAX _ _ _
-                (come_none at.yielded at.b l.bucket c.in-Some.place w.in_default.is) hash_at
+                λ hash_at gives. KeepsMovedHashes-same g.N.LinkType.number g.N.LinkType.MAX _ _ _ same hash_at
                 (l.hashes hash_at gives);
           }
     ]
 
-pub returns-clause-buckets : goal.returns-clause-buckets
-returns-clause-buckets g c = c.loop-place.invariant.buckets
-
-pub returns-clause-placings : goal.returns-clause-placings
-returns-clause-placings g c = c.loop-place.invariant.placings
-
-pub returns-clause-one_each : goal.returns-clause-one_each
-returns-clause-one_each g c = c.loop-place.invariant.same ∙ c.requires.one_each
-
-pub returns-clause-none_deleted : goal.returns-clause-none_deleted
-returns-clause-none_deleted g c = c.loop-place.invariant.none_deleted
-
-pub returns-clause-entries : goal.returns-clause-entries
-returns-clause-entries g c =
-    let at = c.loop-place in
-    let none = nil_from_length _ (sym at.invariant.rest ∙ c.in-None.ensures.steps.0) in
-    let all : at.yielded ≡ c.args.old.items =
-    sym (append-nil at.yielded) ∙ rw none at at.invariant.order
-    ∙ c.into_iter-place-iterator.ensures.into_iter_gives.0 in
-    rw (← all) at.invariant.entries
-
-pub returns-clause-moves : goal.returns-clause-moves
-returns-clause-moves g c =
-    let at = c.loop-place in
-    let none = nil_from_length _ (sym at.invariant.rest ∙ c.in-None.ensures.steps.0) in
-    let all : at.yielded ≡ c.args.old.items =
-    sym (append-nil at.yielded) ∙ rw none at at.invariant.order
-    ∙ c.into_iter-place-iterator.ensures.into_iter_gives.0 in
-    rw (← all) at.invariant.moves
+pub returns-clause-none_left : goal.returns-clause-none_left
+returns-clause-none_left g c =
+    let l = c.loop-b.invariant in
+    replicate-from c.loop-b.old None None (λ k p. l.freed k (omega arith)) ∙ ap (λ n. replicate n None) l.old_length
 
 pub returns-clause-hashes : goal.returns-clause-hashes
-returns-clause-hashes g c hash_at gives =
-    let at = c.loop-place in
-    let none = nil_from_length _ (sym at.invariant.rest ∙ c.in-None.ensures.steps.0) in
-    let all : at.yielded ≡ c.args.old.items =
-    sym (append-nil at.yielded) ∙ rw none at at.invariant.order
-    ∙ c.into_iter-place-iterator.ensures.into_iter_gives.0 in
-    rw (← all) (at.invariant.hashes hash_at (rw c.into_iter-place-iterator.ensures.into_iter_gives.0 gives))
+returns-clause-hashes g c =
+    let all : take c.loop-b.b c.args.old.now ≡ c.args.old.now = take_all _ _ (omega arith) in
+    rw all at c.loop-b.invariant.hashes
