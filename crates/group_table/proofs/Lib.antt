@@ -33,3 +33,5 @@ pub mod CallerLemmas
 pub mod CountedMarks
 pub mod TableLemmas
 pub mod CellSharing
+pub mod CellRows
+pub mod CellBlocks
