@@ -1,27 +1,28 @@
 -- `allocate` takes a block of bare places, and keeps the right to give it back.
-use Rattle.std.proofs.Common.{◌≡◌, ℕ, ◌*◌, ◌^◌, ◌<◌, T, List, [], ◌∷◌, length, replicate, refl, sym, subst, ap, ◌∙◌, arith, lit<, w64}
+use Rattle.std.proofs.Common.{◌≡◌, ℕ, ◌*◌, ◌^◌, ◌<◌, List, [], ◌∷◌, length, replicate, refl, sym, subst, ap, arith}
+use Rattle.std.proofs.Common.{lit<, w64}
 use Rattle.std.proofs.lemmas.List.{length-replicate}
-use Rattle.std.specs.Prelude.{Option, None}
+use Rattle.std.specs.Prelude.{None}
 use Rattle.std.specs.Mem.{type_size}
 use Rattle.std.specs.Vec.Ownership.{FitsInBlock}
 use Rattle.std.specs.Prelude.{Ok, Err, true, false}
 use Rattle.std.specs.contracts.result.Result as outcome
 use Rattle.std.specs.contracts.alloc.AllocError as refusal
-use mir.Syntax.{Ty, Body, a_type, dcons, dnil, named, ty_array, ty_unit}
-use mir.Val.{Val, vint, vptr, vstruct, vcons, vnil, has_ty, WT}
+use mir.Syntax.{Ty, Body, a_type, dcons, dnil, named, ty_array}
+use mir.Val.{Val, vint, vptr, vstruct, vcons, vnil, WT}
 use mir.MapTy.{inst_fn}
 use base.Logic.{SProp, emp}
-use base.Fml.{Lft, Share, Fml, Incl-trans, ftrue, fsep, flft, froom}
+use base.Fml.{Fml, Incl-trans, ftrue, fsep, flft, froom}
 use contract.BorrowLft.{◌⊑◌}
 use contract.Running.{tables}
 use contract.Monad.{fact, fact_i}
 use denote.Builtin.{RefOf, usize}
-use denote.Exit.{no, yes}
+use denote.Exit.{yes}
 use denote.Memory.{lone}
 use denote.Param.{param, bounded}
 use denote.Plain.{uint_vals, uint_Tells}
 use denote.RattleType.{RattleType, owns}
-use denote.RawPtr.{Ptr, block_ptr, in_a_block}
+use denote.RawPtr.{Ptr, block_ptr}
 use denote.Ref.{shr_vals, shr_Tells}
 use denote.Signature.{types_at, plain}
 use denote.Steps.{nothing, heard}
@@ -32,23 +33,27 @@ use denote.Triple.Walked.{Stays, stay_dropped, walk_of, Goes-dropped}
 use prog.Capped.{capped_fits}
 use prog.Memory.{align, capped}
 use prog.Wp.{Wp, after_seq, at_return}
-use types.Kit.{‵, raw, ◌⊛◌, given, later, at_ret, ◌$◌, ◌∵◌, !, qed, by, move, keep, use0, use1, use2, use3, any_q, await, group, split, join, fsplit, fsplit3, fjoin, flt_i, feq_i, rewrite, suffices}
-use types.Run.{stop, fld, lit, size_word, align_word, switches_on, of_opd, bin, no_more, and_then, first, blocks, exec, returns, enter}
+use types.Kit.{‵, raw, ◌⊛◌, later, at_ret, ◌$◌, ◌∵◌, !, qed, by, move, keep, use0, use1, use2, use3, any_q, await}
+use types.Kit.{split, join, fsplit, fjoin, flt_i}
+use types.Run.{stop, fld, lit, size_word, align_word, switches_on, of_opd, bin, no_more, and_then, first, exec, returns}
+use types.Run.{enter}
 use types.ByLocal.{alloc_all, pass_all, free_all, look_at, get, get_in, sets, lands_as, get_tag, sets_last, is, env}
 use types.Part.{agg, whole}
 use types.Match.{live, vrt, in_variant}
 use Rattle.std.proofs.ResultValues.{ok_of, err_of}
 use Rattle.std.proofs.VecSteps.Shapes.{after, head, arm_body}
-use Rattle.std.proofs.alloc.Calls.{Al as Handle, Answer-typed, Takes, at_takes, Answered, Takes-goes, Takes-gives, answers}
+use Rattle.std.proofs.alloc.Calls.{Al as Handle, Answer-typed, Takes, at_takes, Answered, Takes-goes, Takes-gives}
+use Rattle.std.proofs.alloc.Calls.{answers}
 use Rattle.std.proofs.raw_atomic.Calls.{fm}
 use Rattle.std.proofs.raw_atomic.Walks.{proved, leaves}
-use Rattle.group_table.specs.CellOwners.{places, owns_cells, owns_block}
+use Rattle.group_table.specs.CellOwners.{places}
 use Rattle.group_table.specs.contracts.cells.Block as block
 use Rattle.group_table.specs.contracts.cells.Cells as cells
 use Rattle.group_table.specs.contracts.cells.Deed as deed
 use Rattle.group_table.specs.contracts.cells.allocate.{ended, clauses}
 use Rattle.group_table.specs.contracts.cells.allocate.Key.{name as #self}
-use Rattle.group_table.proofs.CellBlocks.{Mark, block_val, none_val, three_val, block_good, block_made, none_made, three_made, block_ty, block_size, block_align, uncapped}
+use Rattle.group_table.proofs.CellBlocks.{Mark, block_val, none_val, three_val, block_good, block_made, none_made}
+use Rattle.group_table.proofs.CellBlocks.{three_made, block_ty, block_size, block_align, uncapped}
 use Rattle.group_table.proofs.CellRows.{of_room}
 use Rattle.group_table.proofs.cells.allocate.Statement.{statement}
 use Rattle.group_table.proofs.cells.allocate.Code as code
@@ -69,7 +74,8 @@ allocate_spec 𝓤 𝓛 𝓜 𝓡 wired X W L LW g d drops met _ =
     let 𝓣 = tables 𝓤 𝓛.H 𝓜 𝓡 𝓡.env in
     let handle : Handle = record { row = W; laws = LW; g = g; d = d; drops = drops } in
     let lent = RefOf (0 ∷ []) tt (plain (λ _. Heap)) (λ _. tt) in
-    let stays : Stays End.signature.params End.kept = (stay_dropped lent yes, (stay_dropped (plain (λ _. usize)) yes, tt)) in
+    let stays : Stays End.signature.params End.kept =
+        (stay_dropped lent yes, (stay_dropped (plain (λ _. usize)) yes, tt)) in
     proved 𝓛 End stays said 𝓜 𝓡
     (Goes-dropped 𝓛 3 lent yes (λ κs x f. refl), (Goes-dropped 𝓛 3 (plain (λ _. usize)) yes (λ κs x f. refl), tt))
     (#self types) fn (code.unfolded 𝓤 𝓛.H 𝓜 𝓡 wired (X, (W, tt)) d drops)
@@ -96,11 +102,14 @@ allocate_spec 𝓤 𝓛 𝓜 𝓡 wired X W L LW g d drops met _ =
     enter ! 𝓣.C 𝓣.Λ fn us Post $ alloc_all ! (λ l. pass_all ! refl ((tt, tt), ((tt, record { fits = are.1.0.1 }), tt)) $
     let Ev = env fn.locals l in
     let arms : Body = head (after 2 fn.body) in
-    let Then = any_q (after_seq 𝓤 𝓛.H (Wp 𝓤 𝓛.H 𝓣.C 𝓣.Λ Ev (after 3 fn.body) (at_return 𝓤 𝓛.H Ev Post)) (at_return 𝓤 𝓛.H Ev Post)) in
-    sets ! (is ! (bin ! (get ! refl) (size_word !) (record { fits = subst (λ k. k < 2 ^ 64) (sym (uncapped n size small)) small }))
-        (ap (vint w64) (uncapped n size small))) refl (tt, record { fits = small }) $
+    let Leave = at_return 𝓤 𝓛.H Ev Post in
+    let Then = any_q (after_seq 𝓤 𝓛.H (Wp 𝓤 𝓛.H 𝓣.C 𝓣.Λ Ev (after 3 fn.body) Leave) Leave) in
+    let room : n * capped size ≡ n * size = uncapped n size small in
+    sets ! (is ! (bin ! (get ! refl) (size_word !) (record { fits = subst (λ k. k < 2 ^ 64) (sym room) small }))
+        (ap (vint w64) room)) refl (tt, record { fits = small }) $
     use2 𝓛 (raw (Asks.pre w)) (Takes-goes handle 𝓛 𝓜.mem 𝓡.returns κs.0 qs.0 (rb, ro) heap (Incl-trans bounds.0 inside)
-        (n * size) word τ (block_size Entry n small) (block_align Entry n) small (capped_fits (align (lone Entry.mir)))) $
+        (n * size) word τ (block_size Entry n small) (block_align Entry n) small
+        (capped_fits (align (lone Entry.mir)))) $
     calls_at ! (fm 𝓛 𝓜 𝓡) Asks (met.allocate drops) w
         (and_then ! (get ! refl) (and_then ! (get ! refl) (and_then ! (align_word !) (no_more !)))) (λ answer.
     use1 𝓛 (later (raw (Answered handle 𝓛 𝓜.mem 𝓡.returns heap τ answer) ⊛ ‵ (flft κs.0 qs.0)))
@@ -118,23 +127,31 @@ allocate_spec 𝓤 𝓛 𝓜 𝓡 wired X W L LW g d drops met _ =
     let Told : Type 0 = (begins ≡ begins) × (bare.places ≡ bare.places) × (begins ≡ begins) × (n ≡ n) × (heap ≡ heap) in
     lands_as ! e refl (Answer-typed true b o) $ first ! $
     switches_on ! (get_tag ! (vrt ! refl (fld ! refl (stop !))) (whole !)) $ exec ! 𝓣.C 𝓣.Λ Ev (arm_body 0 arms) Then $
-    sets ! (of_opd ! (get_in ! (vrt ! refl (fld ! refl (stop !))) (in_variant ! 0 0 refl refl (whole !)))) refl (tt, tt) $
+    sets ! (of_opd ! (get_in ! (vrt ! refl (fld ! refl (stop !))) (in_variant ! 0 0 refl refl (whole !))))
+        refl (tt, tt) $
     sets ! (of_opd ! (get ! refl)) refl (tt, tt) $
     sets ! (agg ! (and_then ! (get ! refl) (no_more !))) refl (block_good Entry begins) $
-    sets ! (agg ! (no_more !)) refl (tt, tt) $ sets ! (agg ! (and_then ! (get ! refl) (no_more !))) refl (tt, (tt, tt)) $
-    sets ! (agg ! (no_more !)) refl (tt, tt) $ sets ! (agg ! (and_then ! (get ! refl) (no_more !))) refl (tt, (tt, tt)) $
-    sets ! (agg ! (and_then ! (get ! refl) (and_then ! (get ! refl) (and_then ! (get ! refl) (no_more !))))) refl (tt, good.1.0) $
+    sets ! (agg ! (no_more !)) refl (tt, tt) $
+    sets ! (agg ! (and_then ! (get ! refl) (no_more !))) refl (tt, (tt, tt)) $
+    sets ! (agg ! (no_more !)) refl (tt, tt) $
+    sets ! (agg ! (and_then ! (get ! refl) (no_more !))) refl (tt, (tt, tt)) $
+    sets ! (agg ! (and_then ! (get ! refl) (and_then ! (get ! refl) (and_then ! (get ! refl) (no_more !)))))
+        refl (tt, good.1.0) $
     sets_last ! (agg ! (and_then ! (lit ! tt) (and_then ! (get ! refl) (no_more !)))) refl (tt, good) $
     exec ! 𝓣.C 𝓣.Λ Ev (after 3 fn.body) (at_ret Ev Post) $ sets ! (of_opd ! (get ! refl)) refl (tt, good) $
-    move ! (1 ∷ []) $ use0 𝓛 (‵ ((Mark Entry).own_val (tt, tt) (none_val ∷ []))) (none_made Entry 𝓛) $ fjoin ! $ move ! (1 ∷ []) $
+    move ! (1 ∷ []) $ use0 𝓛 (‵ ((Mark Entry).own_val (tt, tt) (none_val ∷ []))) (none_made Entry 𝓛) $ fjoin ! $
+    move ! (1 ∷ []) $
     use1 𝓛 (‵ (froom (ty_array (lone Entry.mir) n) b o)) (𝓛.laws.raw-room (ty_array (lone Entry.mir) n) b o) $
     use1 𝓛 (‵ (places Entry b o bare.places)) (of_room Entry 𝓛 b n o) $
-    flt_i ! (length bare.places * size) (2 ^ 63) (subst (λ k. k * size < 2 ^ 63) (sym (length-replicate n None)) below) $ fjoin ! $
+    flt_i ! (length bare.places * size) (2 ^ 63)
+        (subst (λ k. k * size < 2 ^ 63) (sym (length-replicate n None)) below) $
+    fjoin ! $
     use0 𝓛 (‵ ((Mark Entry).own_val (tt, tt) (none_val ∷ []))) (none_made Entry 𝓛) $ fjoin ! $
     use0 𝓛 (‵ (Start.own_val base (block_val begins ∷ []))) (block_made Entry 𝓛 begins) $
     use3 𝓛 (‵ (Three.own_val (base, bare, right) (made ∷ [])))
         (three_made 𝓛 Start Owner Right base bare right (block_val begins) none_val none_val) $
-    use1 𝓛 (‵ (Out.own_val (Ok (base, bare, right)) (v ∷ []))) (ok_of 𝓛 Three refusal.the_row (base, bare, right) made) $
+    use1 𝓛 (‵ (Out.own_val (Ok (base, bare, right)) (v ∷ [])))
+        (ok_of 𝓛 Three refusal.the_row (base, bare, right) made) $
     use0 𝓛 (raw (fact 𝓤 Told)) (fact_i 𝓤 Told (emp 𝓤) (refl, refl, refl, refl, refl)) $
     nothing ! $ nothing ! $ fjoin ! $ nothing ! $ fjoin ! $
     returns ! (look_at ! 0 refl) $ free_all ! refl $ keep ! (3 ∷ 0 ∷ 2 ∷ 1 ∷ []) $
@@ -145,7 +162,8 @@ allocate_spec 𝓤 𝓛 𝓜 𝓡 wired X W L LW g d drops met _ =
     let refused : Fml = refusal.the_row.own_val (record {}) (vstruct vnil ∷ []) in
     lands_as ! e refl (Answer-typed false 0 0) $ first ! $
     switches_on ! (get_tag ! (vrt ! refl (fld ! refl (stop !))) (whole !)) $ exec ! 𝓣.C 𝓣.Λ Ev (arm_body 1 arms) Then $
-    sets ! (of_opd ! (get_in ! (vrt ! refl (fld ! refl (stop !))) (in_variant ! 1 0 refl refl (whole !)))) refl (tt, tt) $
+    sets ! (of_opd ! (get_in ! (vrt ! refl (fld ! refl (stop !))) (in_variant ! 1 0 refl refl (whole !))))
+        refl (tt, tt) $
     sets_last ! (agg ! (and_then ! (lit ! tt) (and_then ! (get ! refl) (no_more !)))) refl (tt, good) $
     exec ! 𝓣.C 𝓣.Λ Ev (after 3 fn.body) (at_ret Ev Post) $ sets ! (of_opd ! (get ! refl)) refl (tt, good) $
     use0 𝓛 (‵ refused) (makes_shadow 𝓛 refused (λ vss. (tt, tt)) (tt, (refl, tt))) $

@@ -1,30 +1,27 @@
 -- `get` shows one of the entries that a `&` to the places reaches.
-use Rattle.std.proofs.Common.{◌≡◌, ℕ, ◌+◌, ◌*◌, ◌<◌, List, [], ◌∷◌, ◌++◌, length, refl, sym, subst, ap, ◌∙◌, w64}
-use Rattle.std.specs.Prelude.{Option, Some, None, get_or, slice_set}
+use Rattle.std.proofs.Common.{◌≡◌, ℕ, ◌+◌, ◌*◌, List, [], ◌∷◌, refl, sym, ◌∙◌, w64}
+use Rattle.std.specs.Prelude.{Option, Some, None, get_or}
 use mir.Syntax.{a_type, named}
 use mir.Val.{Val, vint, vptr}
 use mir.MapTy.{inst_fn}
-use mir.Raw.{raw as bare}
 use base.Fraction.{full_share}
-use base.Logic.{SProp, ent, emp, all, id⊢}
-use base.Fml.{Fml, ftrue, fsep, flft, fat, froom}
+use base.Logic.{SProp, emp}
+use base.Fml.{ftrue, fsep, flft, fat}
 use contract.Running.{tables}
 use contract.Monad.{fact, fact_i}
 use denote.Builtin.{RefOf, usize}
 use denote.Opens.{hide, unhide}
 use denote.Exit.{no, yes}
 use denote.Param.{param, layout, layouts}
-use denote.Param.Laws.{param_laws}
 use denote.Plain.{uint_vals, uint_Tells}
 use denote.RattleType.{RattleType, owns}
 use denote.Ref.{shr_vals, shr_Tells}
-use denote.RawPtr.{Ptr, block_ptr}
+use denote.RawPtr.{Ptr}
 use denote.Signature.{types_at, plain}
-use denote.Steps.{nothing, heard, opens, closes}
-use denote.Struct.Members.{Member}
-use denote.Triple.Walked.{Stays, stay_dropped, stay_ref, walk_of, Goes-dropped, Goes-ref}
-use prog.Wp.{WpFn}
-use types.Kit.{‵, raw, ◌⊛◌, some, given, at_ret, ◌$◌, ◌∵◌, !, qed, by, move, keep, drop as skip, use0, use1, use2, pick, learn, split, join, fsplit, fsplit3, fjoin, fjoin3, feq_i, rewrite, suffices}
+use denote.Steps.{nothing, heard}
+use denote.Triple.Walked.{Stays, stay_dropped, walk_of, Goes-dropped}
+use types.Kit.{‵, raw, ◌⊛◌, at_ret, ◌$◌, ◌∵◌, !, qed, by, move, keep, drop as skip, use0, split, fsplit, fjoin, feq_i}
+use types.Kit.{rewrite}
 use types.Run.{stop, fld, addr, size_lit, of_opd, bin, first, blocks, exec, returns, enter}
 use types.ByLocal.{alloc_all, pass_all, free_all, look_at, take_at, give_at, get, get_in, through, sets, sets_last, env}
 use types.Part.{sub, whole}
@@ -37,7 +34,7 @@ use Rattle.group_table.specs.contracts.cells.Cells as cells
 use Rattle.group_table.specs.contracts.cells.Cells.get.{ended, clauses}
 use Rattle.group_table.specs.contracts.cells.Cells.get.Key.{name as #self}
 use Rattle.group_table.proofs.CellBlocks.{block_val, block_good, block_told}
-use Rattle.group_table.proofs.CellRows.{size, held_below, Lies, cell_seen}
+use Rattle.group_table.proofs.CellRows.{size, held_below, looks_at}
 use Rattle.group_table.proofs.cells.Cells.get.Statement.{statement}
 use Rattle.group_table.proofs.cells.Cells.get.Code as code
 
@@ -68,22 +65,27 @@ get_spec 𝓤 𝓛 𝓜 𝓡 wired T L =
         ((κs, qs, bounds, args, (vptr rb ro ∷ [], (block_val start ∷ [], (vint w64 b ∷ [], tt)))), gh) in
     let Post : Val → SProp 𝓤 = (walk_of 𝓛 End stays said).post y in
     let Asked : Type 0 = (c.start ≡ start) × Holds c.places b in
-    qed 𝓛 (((‵ (flft κs.0 qs.0) ⊛ ‵ (fsep (flft κs.1.0 qs.1.0) ftrue)) ⊛ ‵ (owns (types_at End.signature.params κs) args y.0.4)) ∷ raw (fact 𝓤 _) ∷ raw (fact 𝓤 Asked) ∷ []) ∵
-    keep ! (2 ∷ 0 ∷ []) $ heard ! Asked (λ asked. split ! $ move ! (1 ∷ []) $ fsplit ! $ fsplit ! $ keep ! (1 ∷ 3 ∷ []) $
+    qed 𝓛 (((‵ (flft κs.0 qs.0) ⊛ ‵ (fsep (flft κs.1.0 qs.1.0) ftrue)) 
+        ⊛ ‵ (owns (types_at End.signature.params κs) args y.0.4)) ∷ raw (fact 𝓤 _) ∷ raw (fact 𝓤 Asked) ∷ []) ∵
+    keep ! (2 ∷ 0 ∷ []) $ heard ! Asked (λ asked. split ! $ move ! (1 ∷ []) $ fsplit ! $ fsplit ! $
+    keep ! (1 ∷ 3 ∷ []) $
     let entry : T.Denot = asked.1.0 in
     let us : List Val = vptr rb ro ∷ block_val start ∷ vint w64 b ∷ [] in
-    enter ! 𝓣.C 𝓣.Λ fn us Post $ alloc_all ! (λ l. pass_all ! refl ((tt, tt), (block_good Entry start, ((tt, record { fits = are.1.1.0.1 }), tt))) $
+    enter ! 𝓣.C 𝓣.Λ fn us Post $
+    alloc_all ! (λ l. pass_all ! refl ((tt, tt), (block_good Entry start, ((tt, record { fits = are.1.1.0.1 }), tt))) $
     let Ev = env fn.locals l in
     unhide ! $ fsplit ! $ skip ! $
-    use1 𝓛 (some (λ (at : ℕ × ℕ). given (Lies Entry c.start b at) (‵ (place_lent Entry at.0 (b * size Entry + at.1) (get_or c.places b None) κs.0))))
-        (cell_seen Entry 𝓛 κs.0 c.start c.places b (held_below c.places b entry asked.1.1)) $
-    pick ! (λ at. learn ! (λ lies. let far : ℕ = b * size Entry + at.1 in
+    looks_at Entry ! κs.0 c.start c.places b (held_below c.places b entry asked.1.1) (λ at lies.
+    let far : ℕ = b * size Entry + at.1 in
     rewrite ! 0 (λ (p : Option T.Denot). ‵ (place_lent Entry at.0 far p κs.0)) asked.1.1 refl $ hide ! $
-    take_at ! 2 $ rewrite ! 0 (λ (p : Ptr). ‵ (fat full_share (layout Start) (l 2) 0 (block_val p))) (sym asked.0 ∙ lies.0) refl $ give_at ! 2 $
+    take_at ! 2 $
+    rewrite ! 0 (λ (p : Ptr). ‵ (fat full_share (layout Start) (l 2) 0 (block_val p))) (sym asked.0 ∙ lies.0) refl $
+    give_at ! 2 $
     let Got : Type 0 = get_or c.places b None ≡ Some entry in
     let v : Val = vptr at.0 far in
     first ! $ blocks ! $
-    sets ! (bin ! (get ! refl) (size_lit ! (record { fits = lies.1 })) (record { fits = lies.2 })) refl (tt, record { fits = lies.2 }) $
+    sets ! (bin ! (get ! refl) (size_lit ! (record { fits = lies.1 })) (record { fits = lies.2 }))
+        refl (tt, record { fits = lies.2 }) $
     sets ! (bin ! (get_in ! (fld ! refl (stop !)) (sub ! 0 refl (whole !))) (get ! refl) tt) refl (tt, tt) $
     sets_last ! (addr ! (through ! refl (stop !))) refl (tt, tt) $
     exec ! 𝓣.C 𝓣.Λ Ev (after 1 fn.body) (at_ret Ev Post) $ sets ! (of_opd ! (get ! refl)) refl (tt, tt) $
@@ -91,4 +93,5 @@ get_spec 𝓤 𝓛 𝓜 𝓡 wired T L =
     use0 𝓛 (raw (fact 𝓤 Got)) (fact_i 𝓤 Got (emp 𝓤) asked.1.1) $
     nothing ! $ nothing ! $ fjoin ! $ nothing ! $ fjoin ! $ nothing ! $ fjoin ! $
     returns ! (look_at ! 0 refl) $ free_all ! refl $ keep ! (3 ∷ 0 ∷ 2 ∷ 1 ∷ []) $
-    by ! (leaves 𝓛 End stays said y v (record { ref_ptr = (at.0, far); now = entry }) (tt, (tt, (tt, tt))) (tt, (tt, (tt, tt)))))))))
+    by ! (leaves 𝓛 End stays said y v (record { ref_ptr = (at.0, far); now = entry })
+        (tt, (tt, (tt, tt))) (tt, (tt, (tt, tt))))))))

@@ -1,13 +1,12 @@
 -- `get_mut` lends one of the entries, and the owner of the places follows it.
-use Rattle.std.proofs.Common.{◌≡◌, ℕ, ◌+◌, ◌*◌, ◌<◌, List, [], ◌∷◌, ◌++◌, length, refl, sym, subst, ap, ◌∙◌, w64}
+use Rattle.std.proofs.Common.{◌≡◌, ℕ, ◌+◌, ◌*◌, List, [], ◌∷◌, refl, sym, ◌∙◌, w64}
 use Rattle.std.specs.Prelude.{Option, Some, None, get_or, slice_set}
 use mir.Syntax.{a_type, named}
 use mir.Val.{Val, vint, vptr}
 use mir.MapTy.{inst_fn}
-use mir.Raw.{raw as bare}
 use base.Fraction.{full_share}
-use base.Logic.{SProp, ent, sep, emp, all, id⊢}
-use base.Fml.{GName, Fml, ftrue, fsep, flft, fat, froom}
+use base.Logic.{SProp, ent, sep, emp, all}
+use base.Fml.{GName, Fml, ftrue, fsep, flft, fat}
 use seplogic.Ra.Ura.{Ura}
 use types.Logic.{Logic, sem}
 use denote.Follow.{follows, lends_Part}
@@ -20,17 +19,15 @@ use contract.Monad.{fact, fact_i}
 use denote.Builtin.{usize}
 use denote.Exit.{no, yes}
 use denote.Param.{param, layout, layouts}
-use denote.Param.Laws.{param_laws}
 use denote.Plain.{uint_vals, uint_Tells}
 use denote.RattleType.{RattleType, owns}
 use denote.Ref.{MutBor, MutRef, mut_vals, mut_Tells}
-use denote.RawPtr.{Ptr, block_ptr}
+use denote.RawPtr.{Ptr}
 use denote.Signature.{types_at, plain, mut_ref_to}
-use denote.Steps.{nothing, heard, opens, closes}
-use denote.Struct.Members.{Member}
-use denote.Triple.Walked.{Stays, stay_dropped, stay_ref, walk_of, Goes-dropped, Goes-spent_ref}
-use prog.Wp.{WpFn}
-use types.Kit.{‵, raw, ◌⊛◌, some, given, at_ret, ◌$◌, ◌∵◌, !, qed, by, move, keep, use0, use1, use2, pick, learn, split, split3, join, group, later, await, fpack, done, fsplit, fsplit3, fjoin, fjoin3, feq_i, rewrite, suffices}
+use denote.Steps.{nothing, heard, opens}
+use denote.Triple.Walked.{Stays, stay_dropped, walk_of, Goes-dropped, Goes-spent_ref}
+use types.Kit.{‵, raw, ◌⊛◌, some, at_ret, ◌$◌, ◌∵◌, !, qed, by, move, keep, use0, use1, use2, pick, split, split3, join}
+use types.Kit.{group, later, await, fpack, done, fsplit, fsplit3, fjoin, rewrite}
 use types.Run.{stop, fld, addr, size_lit, of_opd, bin, first, blocks, exec, returns, enter}
 use types.ByLocal.{alloc_all, pass_all, free_all, look_at, take_at, give_at, get, get_in, through, sets, sets_last, env}
 use types.Part.{sub, whole}
@@ -43,29 +40,35 @@ use Rattle.group_table.specs.contracts.cells.Cells as cells
 use Rattle.group_table.specs.contracts.cells.Cells.get_mut.{ended, clauses}
 use Rattle.group_table.specs.contracts.cells.Cells.get_mut.Key.{name as #self}
 use Rattle.group_table.proofs.CellBlocks.{block_val, block_good, block_told}
-use Rattle.group_table.proofs.CellRows.{size, held_below, Lies, Back, cell_out, cell_in}
+use Rattle.group_table.proofs.CellRows.{size, held_below, Back, cell_in, takes_out}
 use Rattle.group_table.proofs.cells.Cells.get_mut.Statement.{statement}
 use Rattle.group_table.proofs.cells.Cells.get_mut.Code as code
 
-module _ (R : RattleType) {M : Type 1} {𝓤 : Ura M} (𝓛 : Logic 𝓤) (c : (cells.the_row R).Denot) (b : ℕ) (at : ℕ × ℕ) (vs : List Val) (rb ro : ℕ) where
+module _ (R : RattleType) {M : Type 1} {𝓤 : Ura M} (𝓛 : Logic 𝓤) (c : (cells.the_row R).Denot) (b : ℕ) (at : ℕ × ℕ)
+    (vs : List Val) (rb ro : ℕ) where
   abbrev Owner : RattleType
   Owner = cells.the_row R
 
   abbrev mark_owned : Fml
   mark_owned = (Struct (shape (cells.the_type R))).own_val (tt, tt) vs
 
+  abbrev mark_lies : Fml
+  mark_lies = cell_at full_share Owner.mir vs rb ro
+
   -- all that the owner has but the entry
   abbrev Rest : SProp 𝓤
-  Rest = sep 𝓤 (all 𝓤 (Back R 𝓛 c.start c.places b at)) (sep 𝓤 (sem 𝓛 mark_owned) (sem 𝓛 (cell_at full_share Owner.mir vs rb ro)))
+  Rest = sep 𝓤 (all 𝓤 (Back R 𝓛 c.start c.places b at)) (sep 𝓤 (sem 𝓛 mark_owned) (sem 𝓛 mark_lies))
 
   abbrev Last : R.Denot → Owner.Denot
   Last w = with_places c (slice_set c.places b (Some w))
 
   -- with any entry in its place the owner is whole
-  rejoins : (w : R.Denot) → ent 𝓤 (sep 𝓤 (sem 𝓛 ((mem R).own_at w at.0 (b * size R + at.1))) Rest) (sem 𝓛 ((mem Owner).own_at (Last w) rb ro))
+  rejoins : (w : R.Denot) → ent 𝓤 (sep 𝓤 (sem 𝓛 ((mem R).own_at w at.0 (b * size R + at.1))) Rest)
+      (sem 𝓛 ((mem Owner).own_at (Last w) rb ro))
   unfolding part_of
   rejoins w =
-      qed 𝓛 (‵ (place R at.0 (b * size R + at.1) (Some w)) ∷ (raw (all 𝓤 (Back R 𝓛 c.start c.places b at)) ⊛ ‵ mark_owned ⊛ ‵ (cell_at full_share Owner.mir vs rb ro)) ∷ []) ∵
+      qed 𝓛 (‵ (place R at.0 (b * size R + at.1) (Some w))
+          ∷ (raw (all 𝓤 (Back R 𝓛 c.start c.places b at)) ⊛ ‵ mark_owned ⊛ ‵ mark_lies) ∷ []) ∵
       move ! (1 ∷ []) $ split3 ! $ move ! (3 ∷ 0 ∷ []) $
       use2 𝓛 (‵ (owns_cells R c.start (Last w).places)) (cell_in R 𝓛 c.start c.places b at (Some w)) $
       move ! (1 ∷ 0 ∷ []) $ fjoin ! $ move ! (1 ∷ 0 ∷ []) $ fjoin ! $
@@ -97,25 +100,29 @@ get_mut_spec 𝓤 𝓛 𝓜 𝓡 wired T L =
         ((κs, qs, bounds, args, (vptr rb ro ∷ [], (block_val start ∷ [], (vint w64 b ∷ [], tt)))), gh) in
     let Post : Val → SProp 𝓤 = (walk_of 𝓛 End stays said).post y in
     let Asked : Type 0 = (c.start ≡ start) × Holds c.places b in
-    qed 𝓛 (((‵ (flft κs.0 qs.0) ⊛ ‵ (fsep (flft κs.1.0 qs.1.0) ftrue)) ⊛ ‵ (owns (types_at End.signature.params κs) args y.0.4)) ∷ raw (fact 𝓤 _) ∷ raw (fact 𝓤 Asked) ∷ []) ∵
+    qed 𝓛 (((‵ (flft κs.0 qs.0) ⊛ ‵ (fsep (flft κs.1.0 qs.1.0) ftrue)) 
+        ⊛ ‵ (owns (types_at End.signature.params κs) args y.0.4)) ∷ raw (fact 𝓤 _) ∷ raw (fact 𝓤 Asked) ∷ []) ∵
     keep ! (2 ∷ 0 ∷ []) $ heard ! Asked (λ asked. split ! $ split ! $ move ! (2 ∷ []) $ fsplit ! $ fsplit3 ! $
     keep ! (1 ∷ 2 ∷ 4 ∷ 5 ∷ []) $
     let entry : T.Denot = asked.1.0 in
     let us : List Val = vptr rb ro ∷ block_val start ∷ vint w64 b ∷ [] in
-    enter ! 𝓣.C 𝓣.Λ fn us Post $ alloc_all ! (λ l. pass_all ! refl ((tt, tt), (block_good Entry start, ((tt, record { fits = are.1.1.0.1 }), tt))) $
+    enter ! 𝓣.C 𝓣.Λ fn us Post $
+    alloc_all ! (λ l. pass_all ! refl ((tt, tt), (block_good Entry start, ((tt, record { fits = are.1.1.0.1 }), tt))) $
     let Ev = env fn.locals l in
     opens ! tt Whole rb ro (λ vs. move ! (1 ∷ []) $ fsplit ! $ move ! (1 ∷ []) $
-    use1 𝓛 (some (λ (at : ℕ × ℕ). given (Lies Entry c.start b at) (‵ (place Entry at.0 (b * size Entry + at.1) (get_or c.places b None))
-        ⊛ raw (all 𝓤 (Back Entry 𝓛 c.start c.places b at))))) (cell_out Entry 𝓛 c.start c.places b (held_below c.places b entry asked.1.1)) $
-    pick ! (λ at. learn ! (λ lies. split ! $ let far : ℕ = b * size Entry + at.1 in
+    takes_out Entry ! c.start c.places b (held_below c.places b entry asked.1.1) (λ at lies.
+    let far : ℕ = b * size Entry + at.1 in
     rewrite ! 0 (λ (p : Option T.Denot). ‵ (place Entry at.0 far p)) asked.1.1 refl $
-    take_at ! 2 $ rewrite ! 0 (λ (p : Ptr). ‵ (fat full_share (layout Start) (l 2) 0 (block_val p))) (sym asked.0 ∙ lies.0) refl $ give_at ! 2 $
+    take_at ! 2 $
+    rewrite ! 0 (λ (p : Ptr). ‵ (fat full_share (layout Start) (l 2) 0 (block_val p))) (sym asked.0 ∙ lies.0) refl $
+    give_at ! 2 $
     let Got : Type 0 = get_or c.places b None ≡ Some entry in
     let v : Val = vptr at.0 far in
     let lent : GName → MutBor T.Denot = λ δ. record { ref_ptr = (at.0, far); ghost_name = δ; now = entry } in
     let last : T.Denot → Whole.Denot = Last Entry 𝓛 c b at vs rb ro in
     first ! $ blocks ! $
-    sets ! (bin ! (get ! refl) (size_lit ! (record { fits = lies.1 })) (record { fits = lies.2 })) refl (tt, record { fits = lies.2 }) $
+    sets ! (bin ! (get ! refl) (size_lit ! (record { fits = lies.1 })) (record { fits = lies.2 }))
+        refl (tt, record { fits = lies.2 }) $
     sets ! (bin ! (get_in ! (fld ! refl (stop !)) (sub ! 0 refl (whole !))) (get ! refl) tt) refl (tt, tt) $
     sets_last ! (addr ! (through ! refl (stop !))) refl (tt, tt) $
     exec ! 𝓣.C 𝓣.Λ Ev (after 1 fn.body) (at_ret Ev Post) $ sets ! (of_opd ! (get ! refl)) refl (tt, tt) $
@@ -128,4 +135,4 @@ get_mut_spec 𝓤 𝓛 𝓜 𝓡 wired T L =
     use0 𝓛 (raw (fact 𝓤 Got)) (fact_i 𝓤 Got (emp 𝓤) asked.1.1) $ move ! (3 ∷ 0 ∷ []) $ join ! $
     nothing ! $ nothing ! $ fjoin ! $ nothing ! $ fjoin ! $ nothing ! $ fjoin ! $
     returns ! (look_at ! 0 refl) $ free_all ! refl $ keep ! (2 ∷ 0 ∷ 3 ∷ 1 ∷ []) $
-    by ! (leaves 𝓛 End stays said y v (lent δ) (tt, (tt, (tt, tt))) (tt, (tt, (tt, tt)))))))))))
+    by ! (leaves 𝓛 End stays said y v (lent δ) (tt, (tt, (tt, tt))) (tt, (tt, (tt, tt))))))))))

@@ -1,13 +1,13 @@
 -- `read` takes an entry out, and its place is bare.
-use Rattle.std.proofs.Common.{◌≡◌, ℕ, ◌+◌, ◌*◌, ◌<◌, List, [], ◌∷◌, ◌++◌, length, refl, sym, subst, ap, ◌∙◌, w64}
+use Rattle.std.proofs.Common.{◌≡◌, ℕ, ◌+◌, ◌*◌, List, [], ◌∷◌, refl, sym, ◌∙◌, w64}
 use Rattle.std.specs.Prelude.{Option, Some, None, get_or, slice_set}
 use mir.Syntax.{a_type, named}
 use mir.Val.{Val, vint, vptr}
 use mir.MapTy.{inst_fn}
 use mir.Raw.{raw as bare}
 use base.Fraction.{full_share}
-use base.Logic.{SProp, ent, emp, all, id⊢}
-use base.Fml.{Fml, ftrue, fsep, flft, fat, froom}
+use base.Logic.{SProp, emp}
+use base.Fml.{ftrue, fsep, flft, fat}
 use contract.Running.{tables}
 use contract.Monad.{fact, fact_i}
 use denote.Builtin.{usize}
@@ -17,13 +17,13 @@ use denote.Param.Laws.{param_laws}
 use denote.Plain.{uint_vals, uint_Tells}
 use denote.RattleType.{RattleType, owns}
 use denote.Ref.{mut_vals, mut_Tells}
-use denote.RawPtr.{Ptr, block_ptr}
+use denote.RawPtr.{Ptr}
 use denote.Signature.{types_at, plain}
 use denote.Steps.{nothing, heard, opens, closes}
 use denote.Struct.Members.{Member}
 use denote.Triple.Walked.{Stays, stay_dropped, stay_ref, walk_of, Goes-dropped, Goes-ref}
-use prog.Wp.{WpFn}
-use types.Kit.{‵, raw, ◌⊛◌, some, given, at_ret, ◌$◌, ◌∵◌, !, qed, by, move, keep, use0, use1, use2, pick, learn, split, join, fsplit, fsplit3, fjoin, fjoin3, feq_i, rewrite, suffices}
+use types.Kit.{‵, raw, ◌⊛◌, at_ret, ◌$◌, ◌∵◌, !, qed, by, move, keep, use0, use1, use2, split, join, fsplit, fsplit3}
+use types.Kit.{fjoin, fjoin3, feq_i, rewrite}
 use types.Run.{stop, fld, load, look_raw, size_lit, of_opd, bin, first, blocks, exec, returns, enter}
 use types.ByLocal.{alloc_all, pass_all, free_all, look_at, take_at, give_at, get, get_in, through, sets, sets_last, env}
 use types.Part.{sub, whole}
@@ -37,7 +37,7 @@ use Rattle.group_table.specs.contracts.cells.Cells as cells
 use Rattle.group_table.specs.contracts.cells.Cells.read.{ended, clauses}
 use Rattle.group_table.specs.contracts.cells.Cells.read.Key.{name as #self}
 use Rattle.group_table.proofs.CellBlocks.{block_val, block_good, block_told}
-use Rattle.group_table.proofs.CellRows.{size, held_below, Lies, Back, cell_out, cell_in}
+use Rattle.group_table.proofs.CellRows.{size, held_below, cell_in, takes_out}
 use Rattle.group_table.proofs.cells.Cells.read.Statement.{statement}
 use Rattle.group_table.proofs.cells.Cells.read.Code as code
 
@@ -67,27 +67,31 @@ read_spec 𝓤 𝓛 𝓜 𝓡 wired T L =
         ((κs, qs, bounds, args, (vptr rb ro ∷ [], (block_val start ∷ [], (vint w64 b ∷ [], tt)))), gh) in
     let Post : Val → SProp 𝓤 = (walk_of 𝓛 End stays said).post y in
     let Asked : Type 0 = (c.start ≡ start) × Holds c.places b in
-    qed 𝓛 (((‵ (flft κs.0 qs.0) ⊛ ‵ (fsep (flft κs.1.0 qs.1.0) ftrue)) ⊛ ‵ (owns (types_at End.signature.params κs) args y.0.4)) ∷ raw (fact 𝓤 _) ∷ raw (fact 𝓤 Asked) ∷ []) ∵
+    qed 𝓛 (((‵ (flft κs.0 qs.0) ⊛ ‵ (fsep (flft κs.1.0 qs.1.0) ftrue)) 
+        ⊛ ‵ (owns (types_at End.signature.params κs) args y.0.4)) ∷ raw (fact 𝓤 _) ∷ raw (fact 𝓤 Asked) ∷ []) ∵
     keep ! (2 ∷ 0 ∷ []) $ heard ! Asked (λ asked. split ! $ split ! $ move ! (2 ∷ []) $ fsplit ! $ fsplit3 ! $
     keep ! (1 ∷ 2 ∷ 4 ∷ 5 ∷ []) $
     let entry : T.Denot = asked.1.0 in
     let m : Member = record { row = Entry; ty = layout T } in
     let us : List Val = vptr rb ro ∷ block_val start ∷ vint w64 b ∷ [] in
-    enter ! 𝓣.C 𝓣.Λ fn us Post $ alloc_all ! (λ l. pass_all ! refl ((tt, tt), (block_good Entry start, ((tt, record { fits = are.1.1.0.1 }), tt))) $
+    enter ! 𝓣.C 𝓣.Λ fn us Post $
+    alloc_all ! (λ l. pass_all ! refl ((tt, tt), (block_good Entry start, ((tt, record { fits = are.1.1.0.1 }), tt))) $
     let Ev = env fn.locals l in
     opens ! tt Owner rb ro (λ vs. move ! (1 ∷ []) $ fsplit ! $ move ! (1 ∷ []) $
-    use1 𝓛 (some (λ (at : ℕ × ℕ). given (Lies Entry c.start b at) (‵ (place Entry at.0 (b * size Entry + at.1) (get_or c.places b None))
-        ⊛ raw (all 𝓤 (Back Entry 𝓛 c.start c.places b at))))) (cell_out Entry 𝓛 c.start c.places b (held_below c.places b entry asked.1.1)) $
-    pick ! (λ at. learn ! (λ lies. split ! $ let far : ℕ = b * size Entry + at.1 in
+    takes_out Entry ! c.start c.places b (held_below c.places b entry asked.1.1) (λ at lies.
+    let far : ℕ = b * size Entry + at.1 in
     rewrite ! 0 (λ (p : Option T.Denot). ‵ (place Entry at.0 far p)) asked.1.1 refl $
     spread m ! ((param_laws 0 T L).lawful 𝓛) entry at.0 far (λ v good.
-    take_at ! 2 $ rewrite ! 0 (λ (p : Ptr). ‵ (fat full_share (layout Start) (l 2) 0 (block_val p))) (sym asked.0 ∙ lies.0) refl $ give_at ! 2 $
+    take_at ! 2 $
+    rewrite ! 0 (λ (p : Ptr). ‵ (fat full_share (layout Start) (l 2) 0 (block_val p))) (sym asked.0 ∙ lies.0) refl $
+    give_at ! 2 $
     let held : List (Option T.Denot) = slice_set c.places b None in
     let new : Owner.Denot = record { mark = c.mark; start = c.start; places = held } in
     let Got : Type 0 = get_or c.places b None ≡ Some entry in
     let Told : Type 0 = (c.start ≡ c.start) × (held ≡ held) in
     first ! $ blocks ! $
-    sets ! (bin ! (get ! refl) (size_lit ! (record { fits = lies.1 })) (record { fits = lies.2 })) refl (tt, record { fits = lies.2 }) $
+    sets ! (bin ! (get ! refl) (size_lit ! (record { fits = lies.1 })) (record { fits = lies.2 }))
+        refl (tt, record { fits = lies.2 }) $
     sets ! (bin ! (get_in ! (fld ! refl (stop !)) (sub ! 0 refl (whole !))) (get ! refl) tt) refl (tt, tt) $
     sets_last ! (of_opd ! (load ! (through ! refl (stop !)) (look_raw ! 0 refl))) refl good $
     exec ! 𝓣.C 𝓣.Λ Ev (after 1 fn.body) (at_ret Ev Post) $ sets ! (of_opd ! (get ! refl)) refl good $
@@ -100,4 +104,4 @@ read_spec 𝓤 𝓛 𝓜 𝓡 wired T L =
     move ! (1 ∷ 3 ∷ []) $ join ! $ use0 𝓛 (raw (fact 𝓤 Told)) (fact_i 𝓤 Told (emp 𝓤) (refl, refl)) $
     use0 𝓛 (raw (fact 𝓤 Got)) (fact_i 𝓤 Got (emp 𝓤) asked.1.1) $ join ! $
     returns ! (look_at ! 0 refl) $ free_all ! refl $ keep ! (1 ∷ 2 ∷ 3 ∷ 0 ∷ []) $
-    by ! (leaves 𝓛 End stays said y v entry (new, (tt, (tt, tt))) (tt, (tt, (tt, tt)))))))))))
+    by ! (leaves 𝓛 End stays said y v entry (new, (tt, (tt, tt))) (tt, (tt, (tt, tt))))))))))
