@@ -91,4 +91,4 @@ three_made 𝓛 A B C a b c u v w = let all : List Val = three_val u v w ∷ [] 
     nothing ! $ move ! (3 ∷ 0 ∷ []) $ fjoin ! $ move ! (2 ∷ 0 ∷ []) $ fjoin ! $ move ! (1 ∷ 0 ∷ []) $ fjoin ! $
     feq_i ! (List Val) all all refl $ fjoin ! $
     fpack ! (Valss (A ∷ B ∷ C ∷ [])) (within (declared.shape (tuple_type (A ∷ B ∷ C ∷ []))) (a, (b, (c, tt))) all)
-        (u ∷ [], (v ∷ [], (w ∷ [], tt))) $ done !
+    (u ∷ [], (v ∷ [], (w ∷ [], tt))) $ done !

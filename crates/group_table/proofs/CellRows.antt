@@ -37,8 +37,11 @@ module _ (R : RattleType) where
 
   lies : (start : Ptr) (b n : ℕ) (at : ℕ × ℕ) → start ≡ block_ptr at.0 at.1 → b < n → n * size < 2 ^ 63
       → Lies start b at
-  lies start b n at e near few = (e, omega (arith, one_below n size (2 ^ 63) (omega arith) few),
-      omega (arith, times_below b n size (2 ^ 63) (omega arith) few))
+  lies start b n at e near few = (
+    e,
+    omega (arith, one_below n size (2 ^ 63) (omega arith) few),
+    omega (arith, times_below b n size (2 ^ 63) (omega arith) few),
+  )
 
   module _ {M : Type 1} {𝓤 : Ura M} (𝓛 : Logic 𝓤) where
     open 𝓛 use {H}
@@ -49,7 +52,7 @@ module _ (R : RattleType) where
 
     place_out : (block o : ℕ) (held : List Held) (b far : ℕ) → far ≡ b * size + o → b < length held
         → ent 𝓤 (sem 𝓛 (places R block o held))
-            (sep 𝓤 (sem 𝓛 (place R block far (get_or held b None))) (all 𝓤 (Row block o held b far)))
+        (sep 𝓤 (sem 𝓛 (place R block far (get_or held b None))) (all 𝓤 (Row block o held b far)))
     place_out block o [] b far is near = absurd (omega arith)
     place_out block o (first ∷ more) zero far is near =
         let same : o ≡ far = omega (arith, is, zero-mul size) in
@@ -60,12 +63,12 @@ module _ (R : RattleType) where
     place_out block o (first ∷ more) (suc b) far is near =
         qed 𝓛 (‵ (place R block o first) ∷ ‵ (places R block (o + size) more) ∷ []) ∵ move ! (1 ∷ []) $
         use1 𝓛 (‵ (place R block far (get_or more b None)) ⊛ raw (all 𝓤 (Row block (o + size) more b far)))
-            (place_out block (o + size) more b far (omega (arith, is, suc-mul b size)) (omega (arith, near))) $
+        (place_out block (o + size) more b far (omega (arith, is, suc-mul b size)) (omega (arith, near))) $
         split ! $ frame ! $ each ! (Row block o (first ∷ more) (suc b) far) (λ p.
         use1 𝓛 (raw (Row block (o + size) more b far p)) (all_e 𝓤 (Row block (o + size) more b far) p) $
         assume ! (‵ (place R block far p)) $
         use2 𝓛 (‵ (places R block (o + size) (slice_set more b p)))
-            (apply∗ 𝓤 (sem 𝓛 (place R block far p)) (sem 𝓛 (places R block (o + size) (slice_set more b p)))) $
+        (apply∗ 𝓤 (sem 𝓛 (place R block far p)) (sem 𝓛 (places R block (o + size) (slice_set more b p)))) $
         move ! (1 ∷ 0 ∷ []) $ done !)
 
     -- what the owner is, once the place b holds p
@@ -83,7 +86,7 @@ module _ (R : RattleType) where
         in_a_block ! start (λ p. owns_cells R p held) (id⊢ 𝓤 (never 𝓤)) (λ block o e. fsplit ! $ flt_l ! (λ few.
         let far = b * size + o in
         use1 𝓛 (‵ (place R block far (get_or held b None)) ⊛ raw (all 𝓤 (Row block o held b far)))
-            (place_out block o held b far refl near) $
+        (place_out block o held b far refl near) $
         split ! $ show ! (Taken start held b) (block, o) $ check ! (lies start b (length held) (block, o) e near few) $
         frame ! $
         each ! (Back start held b (block, o)) (λ p.
@@ -97,7 +100,7 @@ module _ (R : RattleType) where
     -- a place is put back, whatever it holds
     pub cell_in : (start : Ptr) (held : List Held) (b : ℕ) (at : ℕ × ℕ) (p : Held)
         → ent 𝓤 (sep 𝓤 (sem 𝓛 (place R at.0 (b * size + at.1) p)) (all 𝓤 (Back start held b at)))
-            (sem 𝓛 (owns_cells R start (slice_set held b p)))
+        (sem 𝓛 (owns_cells R start (slice_set held b p)))
     cell_in start held b at p =
         qed 𝓛 (‵ (place R at.0 (b * size + at.1) p) ∷ raw (all 𝓤 (Back start held b at)) ∷ []) ∵ move ! (1 ∷ []) $
         use1 𝓛 (raw (Back start held b at p)) (all_e 𝓤 (Back start held b at) p) $ move ! (1 ∷ 0 ∷ []) $
@@ -124,7 +127,7 @@ module _ (R : RattleType) where
       cell_seen start held b near = qed 𝓛 (‵ (lends_cells R start held κ) ∷ []) ∵
           in_a_block ! start (λ p. lends_cells R p held κ) (id⊢ 𝓤 (never 𝓤)) (λ block o e. fsplit ! $ flt_l ! (λ few.
           use1 𝓛 (‵ (place_lent R block (b * size + o) (get_or held b None) κ))
-              (place_seen block o held b (b * size + o) refl near) $
+          (place_seen block o held b (b * size + o) refl near) $
           show ! (Seen start held b) (block, o) $ check ! (lies start b (length held) (block, o) e near few) $ done !))
 
     -- room for so many entries is a row of places that hold none
@@ -133,7 +136,7 @@ module _ (R : RattleType) where
     of_room block zero o = qed 𝓛 (‵ (froom (ty_array τ 0) block o) ∷ []) ∵ keep ! [] $ done !
     of_room block (suc n) o = qed 𝓛 (‵ (froom (ty_array τ (suc n)) block o) ∷ []) ∵
         use1 𝓛 (‵ (froom τ block o) ⊛ ‵ (froom (ty_array τ n) block (o + size)))
-            (𝓛.laws.room_uncons τ n block o) $
+        (𝓛.laws.room_uncons τ n block o) $
         split ! $
         use1 𝓛 (‵ (place R block o None)) (𝓛.laws.room-raw τ block o) $ frame ! $
         by ! (of_room block n (o + size))
@@ -150,19 +153,19 @@ module _ (R : RattleType) where
     -- a place is taken out of the row
     pub takes_out : K → (start : Ptr) (held : List Held) (b : ℕ) → b < length held
         → ((at : ℕ × ℕ) → Lies start b at → Seq K 𝓛 (‵ (place R at.0 (b * size + at.1) (get_or held b None))
-            ∷ raw (all 𝓤 (Back 𝓛 start held b at)) ∷ Γ) G)
+        ∷ raw (all 𝓤 (Back 𝓛 start held b at)) ∷ Γ) G)
         → Seq K 𝓛 (‵ (owns_cells R start held) ∷ Γ) G
     takes_out t start held b near then =
         use1 𝓛 (some (λ (at : ℕ × ℕ). given (Lies start b at) (‵ (place R at.0 (b * size + at.1) (get_or held b None))
-            ⊛ raw (all 𝓤 (Back 𝓛 start held b at))))) (cell_out 𝓛 start held b near) $
+        ⊛ raw (all 𝓤 (Back 𝓛 start held b at))))) (cell_out 𝓛 start held b near) $
         pick t (λ at. learn t (λ lies. split t $ then at lies))
 
     -- a `&` to the row shows one place
     pub looks_at : K → (κ : Lft) (start : Ptr) (held : List Held) (b : ℕ) → b < length held
         → ((at : ℕ × ℕ) → Lies start b at
-            → Seq K 𝓛 (‵ (place_lent R at.0 (b * size + at.1) (get_or held b None) κ) ∷ Γ) G)
+        → Seq K 𝓛 (‵ (place_lent R at.0 (b * size + at.1) (get_or held b None) κ) ∷ Γ) G)
         → Seq K 𝓛 (‵ (lends_cells R start held κ) ∷ Γ) G
     looks_at t κ start held b near then =
         use1 𝓛 (some (λ (at : ℕ × ℕ). given (Lies start b at)
-            (‵ (place_lent R at.0 (b * size + at.1) (get_or held b None) κ)))) (cell_seen 𝓛 κ start held b near) $
+        (‵ (place_lent R at.0 (b * size + at.1) (get_or held b None) κ)))) (cell_seen 𝓛 κ start held b near) $
         pick t (λ at. learn t (λ lies. then at lies))

@@ -50,10 +50,14 @@ get_spec 𝓤 𝓛 𝓜 𝓡 wired T L =
     let 𝓣 = tables 𝓤 𝓛.H 𝓜 𝓡 𝓡.env in
     let lent = RefOf (0 ∷ []) tt (plain (λ _. Owner)) (λ _. tt) in
     let stays : Stays End.signature.params End.kept =
-        (stay_dropped lent yes, (stay_dropped (plain (λ _. Start)) no, (stay_dropped (plain (λ _. usize)) yes, tt))) in
-    proved 𝓛 End stays said 𝓜 𝓡 (Goes-dropped 𝓛 2 lent yes (λ κs x f. refl),
-        (Goes-dropped 𝓛 2 (plain (λ _. Start)) no (λ κs x f. refl),
-        (Goes-dropped 𝓛 2 (plain (λ _. usize)) yes (λ κs x f. refl), tt)))
+    (stay_dropped lent yes, (stay_dropped (plain (λ _. Start)) no, (stay_dropped (plain (λ _. usize)) yes, tt))) in
+    proved 𝓛 End stays said 𝓜 𝓡 (
+      Goes-dropped 𝓛 2 lent yes (λ κs x f. refl),
+      (
+        Goes-dropped 𝓛 2 (plain (λ _. Start)) no (λ κs x f. refl),
+        (Goes-dropped 𝓛 2 (plain (λ _. usize)) yes (λ κs x f. refl), tt),
+      ),
+    )
     (#self types) fn (code.unfolded 𝓤 𝓛.H 𝓜 𝓡 wired (T, tt))
     (λ κs. (shr_vals, ((λ x. block_val x.start ∷ []), (uint_vals w64, tt))))
     (λ κs. (shr_Tells (named 0) κs.0 Owner, (block_told Entry, (uint_Tells w64, tt)))) (λ κs qs bounds args gh are.
@@ -62,11 +66,11 @@ get_spec 𝓤 𝓛 𝓜 𝓡 wired T L =
     let b : ℕ = args.1.1.0 in
     let rb : ℕ = args.0.ref_ptr.0 in let ro : ℕ = args.0.ref_ptr.1 in
     let y : (walk_of 𝓛 End stays said).Ghost =
-        ((κs, qs, bounds, args, (vptr rb ro ∷ [], (block_val start ∷ [], (vint w64 b ∷ [], tt)))), gh) in
+    ((κs, qs, bounds, args, (vptr rb ro ∷ [], (block_val start ∷ [], (vint w64 b ∷ [], tt)))), gh) in
     let Post : Val → SProp 𝓤 = (walk_of 𝓛 End stays said).post y in
     let Asked : Type 0 = (c.start ≡ start) × Holds c.places b in
-    qed 𝓛 (((‵ (flft κs.0 qs.0) ⊛ ‵ (fsep (flft κs.1.0 qs.1.0) ftrue)) 
-        ⊛ ‵ (owns (types_at End.signature.params κs) args y.0.4)) ∷ raw (fact 𝓤 _) ∷ raw (fact 𝓤 Asked) ∷ []) ∵
+    qed 𝓛 (((‵ (flft κs.0 qs.0) ⊛ ‵ (fsep (flft κs.1.0 qs.1.0) ftrue))
+    ⊛ ‵ (owns (types_at End.signature.params κs) args y.0.4)) ∷ raw (fact 𝓤 _) ∷ raw (fact 𝓤 Asked) ∷ []) ∵
     keep ! (2 ∷ 0 ∷ []) $ heard ! Asked (λ asked. split ! $ move ! (1 ∷ []) $ fsplit ! $ fsplit ! $
     keep ! (1 ∷ 3 ∷ []) $
     let entry : T.Denot = asked.1.0 in
@@ -85,7 +89,7 @@ get_spec 𝓤 𝓛 𝓜 𝓡 wired T L =
     let v : Val = vptr at.0 far in
     first ! $ blocks ! $
     sets ! (bin ! (get ! refl) (size_lit ! (record { fits = lies.1 })) (record { fits = lies.2 }))
-        refl (tt, record { fits = lies.2 }) $
+    refl (tt, record { fits = lies.2 }) $
     sets ! (bin ! (get_in ! (fld ! refl (stop !)) (sub ! 0 refl (whole !))) (get ! refl) tt) refl (tt, tt) $
     sets_last ! (addr ! (through ! refl (stop !))) refl (tt, tt) $
     exec ! 𝓣.C 𝓣.Λ Ev (after 1 fn.body) (at_ret Ev Post) $ sets ! (of_opd ! (get ! refl)) refl (tt, tt) $
@@ -94,4 +98,4 @@ get_spec 𝓤 𝓛 𝓜 𝓡 wired T L =
     nothing ! $ nothing ! $ fjoin ! $ nothing ! $ fjoin ! $ nothing ! $ fjoin ! $
     returns ! (look_at ! 0 refl) $ free_all ! refl $ keep ! (3 ∷ 0 ∷ 2 ∷ 1 ∷ []) $
     by ! (leaves 𝓛 End stays said y v (record { ref_ptr = (at.0, far); now = entry })
-        (tt, (tt, (tt, tt))) (tt, (tt, (tt, tt))))))))
+    (tt, (tt, (tt, tt))) (tt, (tt, (tt, tt))))))))

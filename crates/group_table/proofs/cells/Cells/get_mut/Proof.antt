@@ -68,7 +68,7 @@ module _ (R : RattleType) {M : Type 1} {𝓤 : Ura M} (𝓛 : Logic 𝓤) (c : (
   unfolding part_of
   rejoins w =
       qed 𝓛 (‵ (place R at.0 (b * size R + at.1) (Some w))
-          ∷ (raw (all 𝓤 (Back R 𝓛 c.start c.places b at)) ⊛ ‵ mark_owned ⊛ ‵ mark_lies) ∷ []) ∵
+      ∷ (raw (all 𝓤 (Back R 𝓛 c.start c.places b at)) ⊛ ‵ mark_owned ⊛ ‵ mark_lies) ∷ []) ∵
       move ! (1 ∷ []) $ split3 ! $ move ! (3 ∷ 0 ∷ []) $
       use2 𝓛 (‵ (owns_cells R c.start (Last w).places)) (cell_in R 𝓛 c.start c.places b at (Some w)) $
       move ! (1 ∷ 0 ∷ []) $ fjoin ! $ move ! (1 ∷ 0 ∷ []) $ fjoin ! $
@@ -84,11 +84,17 @@ get_mut_spec 𝓤 𝓛 𝓜 𝓡 wired T L =
     let types = layouts (a_type ∷ []) (T, tt) in
     let fn = inst_fn types code.function in
     let 𝓣 = tables 𝓤 𝓛.H 𝓜 𝓡 𝓡.env in
-    let stays : Stays End.signature.params End.kept = (stay_dropped (mut_ref_to (0 ∷ []) tt (plain (λ _. Whole))) no,
-        (stay_dropped (plain (λ _. Start)) no, (stay_dropped (plain (λ _. usize)) yes, tt))) in
-    proved 𝓛 End stays said 𝓜 𝓡 (Goes-spent_ref 𝓛 2 (0 ∷ []) tt (plain (λ _. Whole)),
-        (Goes-dropped 𝓛 2 (plain (λ _. Start)) no (λ κs x f. refl),
-        (Goes-dropped 𝓛 2 (plain (λ _. usize)) yes (λ κs x f. refl), tt)))
+    let stays : Stays End.signature.params End.kept = (
+      stay_dropped (mut_ref_to (0 ∷ []) tt (plain (λ _. Whole))) no,
+      (stay_dropped (plain (λ _. Start)) no, (stay_dropped (plain (λ _. usize)) yes, tt)),
+    ) in
+    proved 𝓛 End stays said 𝓜 𝓡 (
+      Goes-spent_ref 𝓛 2 (0 ∷ []) tt (plain (λ _. Whole)),
+      (
+        Goes-dropped 𝓛 2 (plain (λ _. Start)) no (λ κs x f. refl),
+        (Goes-dropped 𝓛 2 (plain (λ _. usize)) yes (λ κs x f. refl), tt),
+      ),
+    )
     (#self types) fn (code.unfolded 𝓤 𝓛.H 𝓜 𝓡 wired (T, tt))
     (λ κs. (mut_vals, ((λ x. block_val x.start ∷ []), (uint_vals w64, tt))))
     (λ κs. (mut_Tells (named 0) κs.0 Whole, (block_told Entry, (uint_Tells w64, tt)))) (λ κs qs bounds args gh are.
@@ -97,11 +103,11 @@ get_mut_spec 𝓤 𝓛 𝓜 𝓡 wired T L =
     let b : ℕ = args.1.1.0 in
     let rb : ℕ = args.0.ref_ptr.0 in let ro : ℕ = args.0.ref_ptr.1 in let γ : GName = args.0.ghost_name in
     let y : (walk_of 𝓛 End stays said).Ghost =
-        ((κs, qs, bounds, args, (vptr rb ro ∷ [], (block_val start ∷ [], (vint w64 b ∷ [], tt)))), gh) in
+    ((κs, qs, bounds, args, (vptr rb ro ∷ [], (block_val start ∷ [], (vint w64 b ∷ [], tt)))), gh) in
     let Post : Val → SProp 𝓤 = (walk_of 𝓛 End stays said).post y in
     let Asked : Type 0 = (c.start ≡ start) × Holds c.places b in
-    qed 𝓛 (((‵ (flft κs.0 qs.0) ⊛ ‵ (fsep (flft κs.1.0 qs.1.0) ftrue)) 
-        ⊛ ‵ (owns (types_at End.signature.params κs) args y.0.4)) ∷ raw (fact 𝓤 _) ∷ raw (fact 𝓤 Asked) ∷ []) ∵
+    qed 𝓛 (((‵ (flft κs.0 qs.0) ⊛ ‵ (fsep (flft κs.1.0 qs.1.0) ftrue))
+    ⊛ ‵ (owns (types_at End.signature.params κs) args y.0.4)) ∷ raw (fact 𝓤 _) ∷ raw (fact 𝓤 Asked) ∷ []) ∵
     keep ! (2 ∷ 0 ∷ []) $ heard ! Asked (λ asked. split ! $ split ! $ move ! (2 ∷ []) $ fsplit ! $ fsplit3 ! $
     keep ! (1 ∷ 2 ∷ 4 ∷ 5 ∷ []) $
     let entry : T.Denot = asked.1.0 in
@@ -122,15 +128,15 @@ get_mut_spec 𝓤 𝓛 𝓜 𝓡 wired T L =
     let last : T.Denot → Whole.Denot = Last Entry 𝓛 c b at vs rb ro in
     first ! $ blocks ! $
     sets ! (bin ! (get ! refl) (size_lit ! (record { fits = lies.1 })) (record { fits = lies.2 }))
-        refl (tt, record { fits = lies.2 }) $
+    refl (tt, record { fits = lies.2 }) $
     sets ! (bin ! (get_in ! (fld ! refl (stop !)) (sub ! 0 refl (whole !))) (get ! refl) tt) refl (tt, tt) $
     sets_last ! (addr ! (through ! refl (stop !))) refl (tt, tt) $
     exec ! 𝓣.C 𝓣.Λ Ev (after 1 fn.body) (at_ret Ev Post) $ sets ! (of_opd ! (get ! refl)) refl (tt, tt) $
     move ! (1 ∷ 2 ∷ 3 ∷ []) $ group ! 3 $ move ! (2 ∷ 3 ∷ 4 ∷ 1 ∷ 0 ∷ []) $ group ! 5 $
     use1 𝓛 (later (some (λ (δ : GName). ‵ ((MutRef (named 0) κs.0 Entry).own_val (lent δ) (v ∷ [])) ⊛ ‵ (flft κs.0 qs.0)
-        ⊛ ‵ (follows Whole Entry γ δ last))))
-        (lends_Part 𝓛 Whole Entry last (named 0) κs.0 qs.0 rb ro at.0 far γ (Rest Entry 𝓛 c b at vs rb ro)
-        (rejoins Entry 𝓛 c b at vs rb ro) (Whole.coded.code c) (Whole.coded.code c) entry) $
+    ⊛ ‵ (follows Whole Entry γ δ last))))
+    (lends_Part 𝓛 Whole Entry last (named 0) κs.0 qs.0 rb ro at.0 far γ (Rest Entry 𝓛 c b at vs rb ro)
+    (rejoins Entry 𝓛 c b at vs rb ro) (Whole.coded.code c) (Whole.coded.code c) entry) $
     await ! tt $ pick ! (λ δ. split3 ! $ move ! (1 ∷ 3 ∷ []) $ join ! $
     use0 𝓛 (raw (fact 𝓤 Got)) (fact_i 𝓤 Got (emp 𝓤) asked.1.1) $ move ! (3 ∷ 0 ∷ []) $ join ! $
     nothing ! $ nothing ! $ fjoin ! $ nothing ! $ fjoin ! $ nothing ! $ fjoin ! $

@@ -51,11 +51,17 @@ read_spec 𝓤 𝓛 𝓜 𝓡 wired T L =
     let types = layouts (a_type ∷ []) (T, tt) in
     let fn = inst_fn types code.function in
     let 𝓣 = tables 𝓤 𝓛.H 𝓜 𝓡 𝓡.env in
-    let stays : Stays End.signature.params End.kept = (stay_ref (0 ∷ []) tt (plain (λ _. Owner)),
-        (stay_dropped (plain (λ _. Start)) no, (stay_dropped (plain (λ _. usize)) yes, tt))) in
-    proved 𝓛 End stays said 𝓜 𝓡 (Goes-ref 𝓛 2 0 tt (plain (λ _. Owner)),
-        (Goes-dropped 𝓛 2 (plain (λ _. Start)) no (λ κs x f. refl),
-        (Goes-dropped 𝓛 2 (plain (λ _. usize)) yes (λ κs x f. refl), tt)))
+    let stays : Stays End.signature.params End.kept = (
+      stay_ref (0 ∷ []) tt (plain (λ _. Owner)),
+      (stay_dropped (plain (λ _. Start)) no, (stay_dropped (plain (λ _. usize)) yes, tt)),
+    ) in
+    proved 𝓛 End stays said 𝓜 𝓡 (
+      Goes-ref 𝓛 2 0 tt (plain (λ _. Owner)),
+      (
+        Goes-dropped 𝓛 2 (plain (λ _. Start)) no (λ κs x f. refl),
+        (Goes-dropped 𝓛 2 (plain (λ _. usize)) yes (λ κs x f. refl), tt),
+      ),
+    )
     (#self types) fn (code.unfolded 𝓤 𝓛.H 𝓜 𝓡 wired (T, tt))
     (λ κs. (mut_vals, ((λ x. block_val x.start ∷ []), (uint_vals w64, tt))))
     (λ κs. (mut_Tells (named 0) κs.0 Owner, (block_told Entry, (uint_Tells w64, tt)))) (λ κs qs bounds args gh are.
@@ -64,11 +70,11 @@ read_spec 𝓤 𝓛 𝓜 𝓡 wired T L =
     let b : ℕ = args.1.1.0 in
     let rb : ℕ = args.0.ref_ptr.0 in let ro : ℕ = args.0.ref_ptr.1 in
     let y : (walk_of 𝓛 End stays said).Ghost =
-        ((κs, qs, bounds, args, (vptr rb ro ∷ [], (block_val start ∷ [], (vint w64 b ∷ [], tt)))), gh) in
+    ((κs, qs, bounds, args, (vptr rb ro ∷ [], (block_val start ∷ [], (vint w64 b ∷ [], tt)))), gh) in
     let Post : Val → SProp 𝓤 = (walk_of 𝓛 End stays said).post y in
     let Asked : Type 0 = (c.start ≡ start) × Holds c.places b in
-    qed 𝓛 (((‵ (flft κs.0 qs.0) ⊛ ‵ (fsep (flft κs.1.0 qs.1.0) ftrue)) 
-        ⊛ ‵ (owns (types_at End.signature.params κs) args y.0.4)) ∷ raw (fact 𝓤 _) ∷ raw (fact 𝓤 Asked) ∷ []) ∵
+    qed 𝓛 (((‵ (flft κs.0 qs.0) ⊛ ‵ (fsep (flft κs.1.0 qs.1.0) ftrue))
+    ⊛ ‵ (owns (types_at End.signature.params κs) args y.0.4)) ∷ raw (fact 𝓤 _) ∷ raw (fact 𝓤 Asked) ∷ []) ∵
     keep ! (2 ∷ 0 ∷ []) $ heard ! Asked (λ asked. split ! $ split ! $ move ! (2 ∷ []) $ fsplit ! $ fsplit3 ! $
     keep ! (1 ∷ 2 ∷ 4 ∷ 5 ∷ []) $
     let entry : T.Denot = asked.1.0 in
@@ -91,7 +97,7 @@ read_spec 𝓤 𝓛 𝓜 𝓡 wired T L =
     let Told : Type 0 = (c.start ≡ c.start) × (held ≡ held) in
     first ! $ blocks ! $
     sets ! (bin ! (get ! refl) (size_lit ! (record { fits = lies.1 })) (record { fits = lies.2 }))
-        refl (tt, record { fits = lies.2 }) $
+    refl (tt, record { fits = lies.2 }) $
     sets ! (bin ! (get_in ! (fld ! refl (stop !)) (sub ! 0 refl (whole !))) (get ! refl) tt) refl (tt, tt) $
     sets_last ! (of_opd ! (load ! (through ! refl (stop !)) (look_raw ! 0 refl))) refl good $
     exec ! 𝓣.C 𝓣.Λ Ev (after 1 fn.body) (at_ret Ev Post) $ sets ! (of_opd ! (get ! refl)) refl good $
