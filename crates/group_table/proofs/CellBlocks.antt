@@ -34,7 +34,8 @@ module _ (R : RattleType) where
   block_good (block_ptr b o) = (tt, (tt, tt))
   block_good null_ptr = (tt, (record { fits = lit< tt }, tt))
 
-  pub block_told : (x : (block.the_row R).Denot) (vs : List Val) → Is (block.the_row R) x vs → vs ≡ block_val x.start ∷ []
+  pub block_told : (x : (block.the_row R).Denot) (vs : List Val) → Is (block.the_row R) x vs
+      → vs ≡ block_val x.start ∷ []
   block_told x vs is = is.1.0 ∙ ap (λ (ws : List Val). vstruct (of_list (ws ++ [])) ∷ []) is.1.1.0
 
 -- what has no bytes
@@ -54,9 +55,10 @@ module _ (R : RattleType) where
     none_made = makes_shadow 𝓛 (Mark.own_val (tt, tt) (none_val ∷ [])) (λ vss. (tt, ((λ uss. (tt, tt)), tt)))
         ((vstruct vnil ∷ [], tt), (refl, ((tt, (refl, tt)), tt)))
 
-    pub block_made : (p : Ptr) → ent 𝓤 (emp 𝓤) (sem 𝓛 ((block.the_row R).own_val (record { start = p }) (block_val p ∷ [])))
-    block_made p = makes_shadow 𝓛 ((block.the_row R).own_val (record { start = p }) (block_val p ∷ [])) (λ vss. (tt, (tt, tt)))
-        ((ptr_val p ∷ [], tt), (refl, (refl, tt)))
+    pub block_made : (p : Ptr)
+        → ent 𝓤 (emp 𝓤) (sem 𝓛 ((block.the_row R).own_val (record { start = p }) (block_val p ∷ [])))
+    block_made p = makes_shadow 𝓛 ((block.the_row R).own_val (record { start = p }) (block_val p ∷ []))
+        (λ vss. (tt, (tt, tt))) ((ptr_val p ∷ [], tt), (refl, (refl, tt)))
 
   abbrev pub size_of : ℕ
   size_of = type_size R
@@ -80,7 +82,8 @@ abbrev pub three_val : Val → Val → Val → Val
 three_val u v w = vstruct (vcons u (vcons v (vcons w vnil)))
 
 -- a tuple of three
-pub three_made : {M : Type 1} {𝓤 : Ura M} (𝓛 : Logic 𝓤) (A B C : RattleType) (a : A.Denot) (b : B.Denot) (c : C.Denot) (u v w : Val)
+pub three_made : {M : Type 1} {𝓤 : Ura M} (𝓛 : Logic 𝓤) (A B C : RattleType)
+    (a : A.Denot) (b : B.Denot) (c : C.Denot) (u v w : Val)
     → ent 𝓤 (sep 𝓤 (sem 𝓛 (A.own_val a (u ∷ []))) (sep 𝓤 (sem 𝓛 (B.own_val b (v ∷ []))) (sem 𝓛 (C.own_val c (w ∷ [])))))
     (sem 𝓛 ((Tuple (A ∷ B ∷ C ∷ [])).own_val (a, b, c) (three_val u v w ∷ [])))
 three_made 𝓛 A B C a b c u v w = let all : List Val = three_val u v w ∷ [] in
@@ -88,4 +91,4 @@ three_made 𝓛 A B C a b c u v w = let all : List Val = three_val u v w ∷ [] 
     nothing ! $ move ! (3 ∷ 0 ∷ []) $ fjoin ! $ move ! (2 ∷ 0 ∷ []) $ fjoin ! $ move ! (1 ∷ 0 ∷ []) $ fjoin ! $
     feq_i ! (List Val) all all refl $ fjoin ! $
     fpack ! (Valss (A ∷ B ∷ C ∷ [])) (within (declared.shape (tuple_type (A ∷ B ∷ C ∷ []))) (a, (b, (c, tt))) all)
-        (u ∷ [], (v ∷ [], (w ∷ [], tt))) $ done !
+    (u ∷ [], (v ∷ [], (w ∷ [], tt))) $ done !

@@ -33,7 +33,5 @@ pub mod CallerLemmas
 pub mod CountedMarks
 pub mod TableLemmas
 pub mod CellSharing
-pub mod EntryLemmas
 pub mod CellRows
 pub mod CellBlocks
-pub mod WaitLemmas

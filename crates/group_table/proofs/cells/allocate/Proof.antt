@@ -74,7 +74,8 @@ allocate_spec 𝓤 𝓛 𝓜 𝓡 wired X W L LW g d drops met _ =
     let 𝓣 = tables 𝓤 𝓛.H 𝓜 𝓡 𝓡.env in
     let handle : Handle = record { row = W; laws = LW; g = g; d = d; drops = drops } in
     let lent = RefOf (0 ∷ []) tt (plain (λ _. Heap)) (λ _. tt) in
-    let stays : Stays End.signature.params End.kept = (stay_dropped lent yes, (stay_dropped (plain (λ _. usize)) yes, tt)) in
+    let stays : Stays End.signature.params End.kept =
+    (stay_dropped lent yes, (stay_dropped (plain (λ _. usize)) yes, tt)) in
     proved 𝓛 End stays said 𝓜 𝓡
     (Goes-dropped 𝓛 3 lent yes (λ κs x f. refl), (Goes-dropped 𝓛 3 (plain (λ _. usize)) yes (λ κs x f. refl), tt))
     (#self types) fn (code.unfolded 𝓤 𝓛.H 𝓜 𝓡 wired (X, (W, tt)) d drops)
@@ -87,7 +88,7 @@ allocate_spec 𝓤 𝓛 𝓜 𝓡 wired X W L LW g d drops met _ =
     let Post : Val → SProp 𝓤 = (walk_of 𝓛 End stays said).post y in
     let others : Fml = fsep (flft κs.1.0 qs.1.0) (fsep (flft κs.1.1.0 qs.1.1.0) ftrue) in
     qed 𝓛 (((‵ (flft κs.0 qs.0) ⊛ ‵ others) ⊛ ‵ (owns (types_at End.signature.params κs) args y.0.4))
-        ∷ raw (fact 𝓤 _) ∷ raw (fact 𝓤 (κs.1.1.0 ⊑ W.lives)) ∷ raw (fact 𝓤 (FitsInBlock Entry n)) ∷ []) ∵
+    ∷ raw (fact 𝓤 _) ∷ raw (fact 𝓤 (κs.1.1.0 ⊑ W.lives)) ∷ raw (fact 𝓤 (FitsInBlock Entry n)) ∷ []) ∵
     keep ! (2 ∷ 3 ∷ 0 ∷ []) $ heard ! (κs.1.1.0 ⊑ W.lives) (λ inside. heard ! (FitsInBlock Entry n) (λ asked.
     split ! $ split ! $ move ! (2 ∷ []) $ fsplit ! $ fsplit ! $ keep ! (1 ∷ 3 ∷ 4 ∷ []) $
     let size : ℕ = type_size Entry in
@@ -101,15 +102,18 @@ allocate_spec 𝓤 𝓛 𝓜 𝓡 wired X W L LW g d drops met _ =
     enter ! 𝓣.C 𝓣.Λ fn us Post $ alloc_all ! (λ l. pass_all ! refl ((tt, tt), ((tt, record { fits = are.1.0.1 }), tt)) $
     let Ev = env fn.locals l in
     let arms : Body = head (after 2 fn.body) in
-    let Then = any_q (after_seq 𝓤 𝓛.H (Wp 𝓤 𝓛.H 𝓣.C 𝓣.Λ Ev (after 3 fn.body) (at_return 𝓤 𝓛.H Ev Post)) (at_return 𝓤 𝓛.H Ev Post)) in
-    sets ! (is ! (bin ! (get ! refl) (size_word !) (record { fits = subst (λ k. k < 2 ^ 64) (sym (uncapped n size small)) small }))
-        (ap (vint w64) (uncapped n size small))) refl (tt, record { fits = small }) $
+    let Leave = at_return 𝓤 𝓛.H Ev Post in
+    let Then = any_q (after_seq 𝓤 𝓛.H (Wp 𝓤 𝓛.H 𝓣.C 𝓣.Λ Ev (after 3 fn.body) Leave) Leave) in
+    let room : n * capped size ≡ n * size = uncapped n size small in
+    sets ! (is ! (bin ! (get ! refl) (size_word !) (record { fits = subst (λ k. k < 2 ^ 64) (sym room) small }))
+    (ap (vint w64) room)) refl (tt, record { fits = small }) $
     use2 𝓛 (raw (Asks.pre w)) (Takes-goes handle 𝓛 𝓜.mem 𝓡.returns κs.0 qs.0 (rb, ro) heap (Incl-trans bounds.0 inside)
-        (n * size) word τ (block_size Entry n small) (block_align Entry n) small (capped_fits (align (lone Entry.mir)))) $
+    (n * size) word τ (block_size Entry n small) (block_align Entry n) small
+    (capped_fits (align (lone Entry.mir)))) $
     calls_at ! (fm 𝓛 𝓜 𝓡) Asks (met.allocate drops) w
-        (and_then ! (get ! refl) (and_then ! (get ! refl) (and_then ! (align_word !) (no_more !)))) (λ answer.
+    (and_then ! (get ! refl) (and_then ! (get ! refl) (and_then ! (align_word !) (no_more !)))) (λ answer.
     use1 𝓛 (later (raw (Answered handle 𝓛 𝓜.mem 𝓡.returns heap τ answer) ⊛ ‵ (flft κs.0 qs.0)))
-        (Takes-gives handle 𝓛 𝓜.mem 𝓡.returns κs.0 qs.0 (rb, ro) heap (n * size) word τ answer) $
+    (Takes-gives handle 𝓛 𝓜.mem 𝓡.returns κs.0 qs.0 (rb, ro) heap (n * size) word τ answer) $
     await ! tt $ split ! $ move ! (1 ∷ 2 ∷ []) $ join ! $ move ! (1 ∷ []) $
     answers handle ! 𝓜.mem 𝓡.returns heap τ answer
     (λ b o e.
@@ -123,27 +127,31 @@ allocate_spec 𝓤 𝓛 𝓜 𝓡 wired X W L LW g d drops met _ =
     let Told : Type 0 = (begins ≡ begins) × (bare.places ≡ bare.places) × (begins ≡ begins) × (n ≡ n) × (heap ≡ heap) in
     lands_as ! e refl (Answer-typed true b o) $ first ! $
     switches_on ! (get_tag ! (vrt ! refl (fld ! refl (stop !))) (whole !)) $ exec ! 𝓣.C 𝓣.Λ Ev (arm_body 0 arms) Then $
-    sets ! (of_opd ! (get_in ! (vrt ! refl (fld ! refl (stop !))) (in_variant ! 0 0 refl refl (whole !)))) refl (tt, tt) $
+    sets ! (of_opd ! (get_in ! (vrt ! refl (fld ! refl (stop !))) (in_variant ! 0 0 refl refl (whole !))))
+    refl (tt, tt) $
     sets ! (of_opd ! (get ! refl)) refl (tt, tt) $
     sets ! (agg ! (and_then ! (get ! refl) (no_more !))) refl (block_good Entry begins) $
     sets ! (agg ! (no_more !)) refl (tt, tt) $
     sets ! (agg ! (and_then ! (get ! refl) (no_more !))) refl (tt, (tt, tt)) $
     sets ! (agg ! (no_more !)) refl (tt, tt) $
     sets ! (agg ! (and_then ! (get ! refl) (no_more !))) refl (tt, (tt, tt)) $
-    sets ! (agg ! (and_then ! (get ! refl) (and_then ! (get ! refl) (and_then ! (get ! refl) (no_more !))))) refl (tt, good.1.0) $
+    sets ! (agg ! (and_then ! (get ! refl) (and_then ! (get ! refl) (and_then ! (get ! refl) (no_more !)))))
+    refl (tt, good.1.0) $
     sets_last ! (agg ! (and_then ! (lit ! tt) (and_then ! (get ! refl) (no_more !)))) refl (tt, good) $
     exec ! 𝓣.C 𝓣.Λ Ev (after 3 fn.body) (at_ret Ev Post) $ sets ! (of_opd ! (get ! refl)) refl (tt, good) $
     move ! (1 ∷ []) $ use0 𝓛 (‵ ((Mark Entry).own_val (tt, tt) (none_val ∷ []))) (none_made Entry 𝓛) $ fjoin ! $
     move ! (1 ∷ []) $
     use1 𝓛 (‵ (froom (ty_array (lone Entry.mir) n) b o)) (𝓛.laws.raw-room (ty_array (lone Entry.mir) n) b o) $
     use1 𝓛 (‵ (places Entry b o bare.places)) (of_room Entry 𝓛 b n o) $
-    flt_i ! (length bare.places * size) (2 ^ 63) (subst (λ k. k * size < 2 ^ 63) (sym (length-replicate n None)) below) $
+    flt_i ! (length bare.places * size) (2 ^ 63)
+    (subst (λ k. k * size < 2 ^ 63) (sym (length-replicate n None)) below) $
     fjoin ! $
     use0 𝓛 (‵ ((Mark Entry).own_val (tt, tt) (none_val ∷ []))) (none_made Entry 𝓛) $ fjoin ! $
     use0 𝓛 (‵ (Start.own_val base (block_val begins ∷ []))) (block_made Entry 𝓛 begins) $
     use3 𝓛 (‵ (Three.own_val (base, bare, right) (made ∷ [])))
-        (three_made 𝓛 Start Owner Right base bare right (block_val begins) none_val none_val) $
-    use1 𝓛 (‵ (Out.own_val (Ok (base, bare, right)) (v ∷ []))) (ok_of 𝓛 Three refusal.the_row (base, bare, right) made) $
+    (three_made 𝓛 Start Owner Right base bare right (block_val begins) none_val none_val) $
+    use1 𝓛 (‵ (Out.own_val (Ok (base, bare, right)) (v ∷ [])))
+    (ok_of 𝓛 Three refusal.the_row (base, bare, right) made) $
     use0 𝓛 (raw (fact 𝓤 Told)) (fact_i 𝓤 Told (emp 𝓤) (refl, refl, refl, refl, refl)) $
     nothing ! $ nothing ! $ fjoin ! $ nothing ! $ fjoin ! $
     returns ! (look_at ! 0 refl) $ free_all ! refl $ keep ! (3 ∷ 0 ∷ 2 ∷ 1 ∷ []) $
@@ -154,7 +162,8 @@ allocate_spec 𝓤 𝓛 𝓜 𝓡 wired X W L LW g d drops met _ =
     let refused : Fml = refusal.the_row.own_val (record {}) (vstruct vnil ∷ []) in
     lands_as ! e refl (Answer-typed false 0 0) $ first ! $
     switches_on ! (get_tag ! (vrt ! refl (fld ! refl (stop !))) (whole !)) $ exec ! 𝓣.C 𝓣.Λ Ev (arm_body 1 arms) Then $
-    sets ! (of_opd ! (get_in ! (vrt ! refl (fld ! refl (stop !))) (in_variant ! 1 0 refl refl (whole !)))) refl (tt, tt) $
+    sets ! (of_opd ! (get_in ! (vrt ! refl (fld ! refl (stop !))) (in_variant ! 1 0 refl refl (whole !))))
+    refl (tt, tt) $
     sets_last ! (agg ! (and_then ! (lit ! tt) (and_then ! (get ! refl) (no_more !)))) refl (tt, good) $
     exec ! 𝓣.C 𝓣.Λ Ev (after 3 fn.body) (at_ret Ev Post) $ sets ! (of_opd ! (get ! refl)) refl (tt, good) $
     use0 𝓛 (‵ refused) (makes_shadow 𝓛 refused (λ vss. (tt, tt)) (tt, (refl, tt))) $

@@ -62,14 +62,53 @@ deallocate_spec 𝓤 𝓛 𝓜 𝓡 wired X W L LW g d drops met _ =
     let 𝓣 = tables 𝓤 𝓛.H 𝓜 𝓡 𝓡.env in
     let handle : Handle = record { row = W; laws = LW; g = g; d = d; drops = drops } in
     let lent = RefOf (0 ∷ []) tt (plain (λ _. Heap)) (λ _. tt) in
-    let stays : Stays End.signature.params End.kept = (stay_dropped lent yes, (stay_dropped (plain (λ _. Start)) no,
-        (stay_dropped (plain (λ _. usize)) yes, (stay_dropped (plain (λ _. Owner)) no, (stay_dropped (plain (λ _. Right)) no, tt))))) in
-    proved 𝓛 End stays said 𝓜 𝓡 (Goes-dropped 𝓛 3 lent yes (λ κs x f. refl), (Goes-dropped 𝓛 3 (plain (λ _. Start)) no (λ κs x f. refl),
-        (Goes-dropped 𝓛 3 (plain (λ _. usize)) yes (λ κs x f. refl), (Goes-blank 𝓛 3 (plain (λ _. Owner)) no (λ κs x f. tt),
-        (Goes-blank 𝓛 3 (plain (λ _. Right)) no (λ κs x f. tt), tt)))))
+    let stays : Stays End.signature.params End.kept = (
+      stay_dropped lent yes,
+      (
+        stay_dropped (plain (λ _. Start)) no,
+        (
+          stay_dropped (plain (λ _. usize)) yes,
+          (
+            stay_dropped (plain (λ _. Owner)) no,
+            (stay_dropped (plain (λ _. Right)) no, tt),
+          ),
+        ),
+      ),
+    ) in
+    proved 𝓛 End stays said 𝓜 𝓡 (
+      Goes-dropped 𝓛 3 lent yes (λ κs x f. refl),
+      (
+        Goes-dropped 𝓛 3 (plain (λ _. Start)) no (λ κs x f. refl),
+        (
+          Goes-dropped 𝓛 3 (plain (λ _. usize)) yes (λ κs x f. refl),
+          (
+            Goes-blank 𝓛 3 (plain (λ _. Owner)) no (λ κs x f. tt),
+            (Goes-blank 𝓛 3 (plain (λ _. Right)) no (λ κs x f. tt), tt),
+          ),
+        ),
+      ),
+    )
     (#self types) fn (code.unfolded 𝓤 𝓛.H 𝓜 𝓡 wired (X, (W, tt)) d drops)
-    (λ κs. (shr_vals, ((λ x. block_val x.start ∷ []), (uint_vals w64, ((λ _. none_val ∷ []), ((λ _. none_val ∷ []), tt))))))
-    (λ κs. (shr_Tells (named 0) κs.0 Heap, (block_told Entry, (uint_Tells w64, ((λ x vs is. none_told Entry vs is.0), ((λ x vs is. none_told Entry vs is.0), tt))))))
+    (λ κs. (
+      shr_vals,
+      (
+        (λ x. block_val x.start ∷ []),
+        (
+          uint_vals w64,
+          ((λ _. none_val ∷ []), ((λ _. none_val ∷ []), tt)),
+        ),
+      ),
+    ))
+    (λ κs. (
+      shr_Tells (named 0) κs.0 Heap,
+      (
+        block_told Entry,
+        (
+          uint_Tells w64,
+          ((λ x vs is. none_told Entry vs is.0), ((λ x vs is. none_told Entry vs is.0), tt)),
+        ),
+      ),
+    ))
     (λ κs qs bounds args gh are.
     let rb : ℕ = args.0.ref_ptr.0 in let ro : ℕ = args.0.ref_ptr.1 in
     let heap : W.Denot = args.0.now in
@@ -77,13 +116,22 @@ deallocate_spec 𝓤 𝓛 𝓜 𝓡 wired X W L LW g d drops met _ =
     let n : ℕ = args.1.1.0 in
     let c : Owner.Denot = args.1.1.1.0 in
     let right : Right.Denot = args.1.1.1.1.0 in
-    let y : (walk_of 𝓛 End stays said).Ghost = ((κs, qs, bounds, args,
-        (vptr rb ro ∷ [], (block_val start ∷ [], (vint w64 n ∷ [], (none_val ∷ [], (none_val ∷ [], tt)))))), gh) in
+    let y : (walk_of 𝓛 End stays said).Ghost = (
+      (
+        κs,
+        qs,
+        bounds,
+        args,
+        (vptr rb ro ∷ [], (block_val start ∷ [], (vint w64 n ∷ [], (none_val ∷ [], (none_val ∷ [], tt))))),
+      ),
+      gh,
+    ) in
     let Post : Val → SProp 𝓤 = (walk_of 𝓛 End stays said).post y in
-    let Asked : Type 0 = (c.start ≡ start) × (c.places ≡ replicate n None) × (right.start ≡ start) × (right.count ≡ n) × (right.alloc ≡ heap) in
+    let Asked : Type 0 = (c.start ≡ start) × (c.places ≡ replicate n None)
+    × (right.start ≡ start) × (right.count ≡ n) × (right.alloc ≡ heap) in
     let others : Fml = fsep (flft κs.1.0 qs.1.0) (fsep (flft κs.1.1.0 qs.1.1.0) ftrue) in
     qed 𝓛 (((‵ (flft κs.0 qs.0) ⊛ ‵ others) ⊛ ‵ (owns (types_at End.signature.params κs) args y.0.4))
-        ∷ raw (fact 𝓤 _) ∷ raw (fact 𝓤 (κs.1.1.0 ⊑ W.lives)) ∷ raw (fact 𝓤 Asked) ∷ []) ∵
+    ∷ raw (fact 𝓤 _) ∷ raw (fact 𝓤 (κs.1.1.0 ⊑ W.lives)) ∷ raw (fact 𝓤 Asked) ∷ []) ∵
     keep ! (2 ∷ 3 ∷ 0 ∷ []) $ heard ! (κs.1.1.0 ⊑ W.lives) (λ inside. heard ! Asked (λ asked. split ! $ split ! $
     move ! (2 ∷ []) $
     fsplit3 ! $ fsplit ! $ move ! (3 ∷ []) $ fsplit3 ! $ move ! (1 ∷ []) $ fsplit ! $ move ! (3 ∷ []) $ fsplit ! $
@@ -103,24 +151,32 @@ deallocate_spec 𝓤 𝓛 𝓜 𝓡 wired X W L LW g d drops met _ =
     let Asks = Gives handle 𝓛 𝓜.mem 𝓡.returns in
     let w : Asks.Ghost = at_gives handle 𝓛 𝓜.mem 𝓡.returns κs.0 qs.0 (rb, ro) heap b o (n * size) word τ in
     rewrite ! 1 (λ (u : W.Denot × Ptr × ℕ). ‵ (owns_block Entry (g.dealloc_token u.0) u.1 u.2))
-        (λ i. (asked.4 i, (asked.2 ∙ e) i, asked.3 i)) refl $
+    (λ i. (asked.4 i, (asked.2 ∙ e) i, asked.3 i)) refl $
     use1 𝓛 (‵ (froom (ty_array (lone Entry.mir) n) b o)) (to_room Entry 𝓛 b n o) $
     use1 𝓛 (‵ (froom τ b o)) (𝓛.laws.room-raw (ty_array (lone Entry.mir) n) b o) $
     suffices ! (Run begins) (subst (λ (p : Ptr). ent 𝓤 (Run begins) (Run p)) (sym e) (id⊢ 𝓤 (Run begins))) $
-    enter ! 𝓣.C 𝓣.Λ fn (us begins) Post $ alloc_all ! (λ l. pass_all ! refl ((tt, tt), (block_good Entry begins,
-        ((tt, record { fits = are.1.1.0.1 }), ((tt, (tt, tt)), ((tt, (tt, tt)), tt))))) $
+    enter ! 𝓣.C 𝓣.Λ fn (us begins) Post $ alloc_all ! (λ l. pass_all ! refl (
+      (tt, tt),
+      (
+        block_good Entry begins,
+        ((tt, record { fits = are.1.1.0.1 }), ((tt, (tt, tt)), ((tt, (tt, tt)), tt))),
+      ),
+    ) $
     let Ev = env fn.locals l in
     first ! $ blocks ! $ sets ! (of_opd ! (get_in ! (fld ! refl (stop !)) (sub ! 0 refl (whole !)))) refl (tt, tt) $
-    sets ! (is ! (bin ! (get ! refl) (size_word !) (record { fits = subst (λ k. k < 2 ^ 64) (sym (uncapped n size small)) small }))
-        (ap (vint w64) (uncapped n size small))) refl (tt, record { fits = small }) $
+    let room : n * capped size ≡ n * size = uncapped n size small in
+    sets ! (is ! (bin ! (get ! refl) (size_word !) (record { fits = subst (λ k. k < 2 ^ 64) (sym room) small }))
+    (ap (vint w64) room)) refl (tt, record { fits = small }) $
     group ! 4 $
     use1 𝓛 (raw (Asks.pre w)) (Gives-goes handle 𝓛 𝓜.mem 𝓡.returns κs.0 qs.0 (rb, ro) heap (Incl-trans bounds.0 inside)
-        b o (n * size) word τ (block_size Entry n small) (block_align Entry n) small (capped_fits (align (lone Entry.mir)))) $
+    b o (n * size) word τ (block_size Entry n small) (block_align Entry n) small
+    (capped_fits (align (lone Entry.mir)))) $
     calls_at_last ! (fm 𝓛 𝓜 𝓡) Asks (met.deallocate drops) w
-        (and_then ! (get ! refl) (and_then ! (get ! refl) (and_then ! (get ! refl) (and_then ! (align_word !) (no_more !))))) (λ v.
+    (and_then ! (get ! refl) (and_then ! (get ! refl) (and_then ! (get ! refl)
+    (and_then ! (align_word !) (no_more !))))) (λ v.
     use1 𝓛 (later (given (v ≡ vunit) (‵ (flft κs.0 qs.0))))
-        (Gives-Gives handle 𝓛 𝓜.mem 𝓡.returns κs.0 qs.0 (rb, ro) heap b o (n * size) word τ v) $ await ! tt $
-        learn ! (λ ended_so.
+    (Gives-Gives handle 𝓛 𝓜.mem 𝓡.returns κs.0 qs.0 (rb, ro) heap b o (n * size) word τ v) $ await ! tt $
+    learn ! (λ ended_so.
     lands_last ! refl (subst (λ (z : Val). T (has_ty ty_unit z) × WT z) (sym ended_so) (tt, tt)) $
     exec ! 𝓣.C 𝓣.Λ Ev (after 1 fn.body) (at_ret Ev Post) $ sets ! (of_opd ! (unit_lit !)) refl (tt, tt) $
     join ! $ nothing ! $ feq_i ! (List Val) (vunit ∷ []) (vunit ∷ []) refl $

@@ -6,7 +6,7 @@ use mir.Val.{Val, vint, vptr}
 use mir.MapTy.{inst_fn}
 use mir.Raw.{raw as bare}
 use base.Fraction.{full_share}
-use base.Logic.{SProp, emp, all}
+use base.Logic.{SProp, emp}
 use base.Fml.{ftrue, fsep, flft, fat}
 use contract.Running.{tables}
 use contract.Monad.{fact, fact_i}
@@ -22,8 +22,8 @@ use denote.Signature.{types_at, plain}
 use denote.Steps.{nothing, heard, opens, closes}
 use denote.Struct.Members.{Member}
 use denote.Triple.Walked.{Stays, stay_dropped, stay_ref, walk_of, Goes-dropped, Goes-ref}
-use types.Kit.{‵, raw, ◌⊛◌, some, given, at_ret, ◌$◌, ◌∵◌, !, qed, by, move, keep, use0, use1, use2, pick, learn, split}
-use types.Kit.{join, fsplit, fsplit3, fjoin, fjoin3, feq_i, rewrite}
+use types.Kit.{‵, raw, ◌⊛◌, at_ret, ◌$◌, ◌∵◌, !, qed, by, move, keep, use0, use1, use2, split, join, fsplit, fsplit3}
+use types.Kit.{fjoin, fjoin3, feq_i, rewrite}
 use types.Run.{stop, fld, load, look_raw, size_lit, of_opd, bin, first, blocks, exec, returns, enter}
 use types.ByLocal.{alloc_all, pass_all, free_all, look_at, take_at, give_at, get, get_in, through, sets, sets_last, env}
 use types.Part.{sub, whole}
@@ -37,7 +37,7 @@ use Rattle.group_table.specs.contracts.cells.Cells as cells
 use Rattle.group_table.specs.contracts.cells.Cells.read.{ended, clauses}
 use Rattle.group_table.specs.contracts.cells.Cells.read.Key.{name as #self}
 use Rattle.group_table.proofs.CellBlocks.{block_val, block_good, block_told}
-use Rattle.group_table.proofs.CellRows.{size, held_below, Lies, Back, cell_out, cell_in}
+use Rattle.group_table.proofs.CellRows.{size, held_below, cell_in, takes_out}
 use Rattle.group_table.proofs.cells.Cells.read.Statement.{statement}
 use Rattle.group_table.proofs.cells.Cells.read.Code as code
 
@@ -51,11 +51,17 @@ read_spec 𝓤 𝓛 𝓜 𝓡 wired T L =
     let types = layouts (a_type ∷ []) (T, tt) in
     let fn = inst_fn types code.function in
     let 𝓣 = tables 𝓤 𝓛.H 𝓜 𝓡 𝓡.env in
-    let stays : Stays End.signature.params End.kept = (stay_ref (0 ∷ []) tt (plain (λ _. Owner)),
-        (stay_dropped (plain (λ _. Start)) no, (stay_dropped (plain (λ _. usize)) yes, tt))) in
-    proved 𝓛 End stays said 𝓜 𝓡 (Goes-ref 𝓛 2 0 tt (plain (λ _. Owner)),
-        (Goes-dropped 𝓛 2 (plain (λ _. Start)) no (λ κs x f. refl),
-        (Goes-dropped 𝓛 2 (plain (λ _. usize)) yes (λ κs x f. refl), tt)))
+    let stays : Stays End.signature.params End.kept = (
+      stay_ref (0 ∷ []) tt (plain (λ _. Owner)),
+      (stay_dropped (plain (λ _. Start)) no, (stay_dropped (plain (λ _. usize)) yes, tt)),
+    ) in
+    proved 𝓛 End stays said 𝓜 𝓡 (
+      Goes-ref 𝓛 2 0 tt (plain (λ _. Owner)),
+      (
+        Goes-dropped 𝓛 2 (plain (λ _. Start)) no (λ κs x f. refl),
+        (Goes-dropped 𝓛 2 (plain (λ _. usize)) yes (λ κs x f. refl), tt),
+      ),
+    )
     (#self types) fn (code.unfolded 𝓤 𝓛.H 𝓜 𝓡 wired (T, tt))
     (λ κs. (mut_vals, ((λ x. block_val x.start ∷ []), (uint_vals w64, tt))))
     (λ κs. (mut_Tells (named 0) κs.0 Owner, (block_told Entry, (uint_Tells w64, tt)))) (λ κs qs bounds args gh are.
@@ -64,10 +70,11 @@ read_spec 𝓤 𝓛 𝓜 𝓡 wired T L =
     let b : ℕ = args.1.1.0 in
     let rb : ℕ = args.0.ref_ptr.0 in let ro : ℕ = args.0.ref_ptr.1 in
     let y : (walk_of 𝓛 End stays said).Ghost =
-        ((κs, qs, bounds, args, (vptr rb ro ∷ [], (block_val start ∷ [], (vint w64 b ∷ [], tt)))), gh) in
+    ((κs, qs, bounds, args, (vptr rb ro ∷ [], (block_val start ∷ [], (vint w64 b ∷ [], tt)))), gh) in
     let Post : Val → SProp 𝓤 = (walk_of 𝓛 End stays said).post y in
     let Asked : Type 0 = (c.start ≡ start) × Holds c.places b in
-    qed 𝓛 (((‵ (flft κs.0 qs.0) ⊛ ‵ (fsep (flft κs.1.0 qs.1.0) ftrue)) ⊛ ‵ (owns (types_at End.signature.params κs) args y.0.4)) ∷ raw (fact 𝓤 _) ∷ raw (fact 𝓤 Asked) ∷ []) ∵
+    qed 𝓛 (((‵ (flft κs.0 qs.0) ⊛ ‵ (fsep (flft κs.1.0 qs.1.0) ftrue))
+    ⊛ ‵ (owns (types_at End.signature.params κs) args y.0.4)) ∷ raw (fact 𝓤 _) ∷ raw (fact 𝓤 Asked) ∷ []) ∵
     keep ! (2 ∷ 0 ∷ []) $ heard ! Asked (λ asked. split ! $ split ! $ move ! (2 ∷ []) $ fsplit ! $ fsplit3 ! $
     keep ! (1 ∷ 2 ∷ 4 ∷ 5 ∷ []) $
     let entry : T.Denot = asked.1.0 in
@@ -77,9 +84,8 @@ read_spec 𝓤 𝓛 𝓜 𝓡 wired T L =
     alloc_all ! (λ l. pass_all ! refl ((tt, tt), (block_good Entry start, ((tt, record { fits = are.1.1.0.1 }), tt))) $
     let Ev = env fn.locals l in
     opens ! tt Owner rb ro (λ vs. move ! (1 ∷ []) $ fsplit ! $ move ! (1 ∷ []) $
-    use1 𝓛 (some (λ (at : ℕ × ℕ). given (Lies Entry c.start b at) (‵ (place Entry at.0 (b * size Entry + at.1) (get_or c.places b None))
-        ⊛ raw (all 𝓤 (Back Entry 𝓛 c.start c.places b at))))) (cell_out Entry 𝓛 c.start c.places b (held_below c.places b entry asked.1.1)) $
-    pick ! (λ at. learn ! (λ lies. split ! $ let far : ℕ = b * size Entry + at.1 in
+    takes_out Entry ! c.start c.places b (held_below c.places b entry asked.1.1) (λ at lies.
+    let far : ℕ = b * size Entry + at.1 in
     rewrite ! 0 (λ (p : Option T.Denot). ‵ (place Entry at.0 far p)) asked.1.1 refl $
     spread m ! ((param_laws 0 T L).lawful 𝓛) entry at.0 far (λ v good.
     take_at ! 2 $
@@ -90,7 +96,8 @@ read_spec 𝓤 𝓛 𝓜 𝓡 wired T L =
     let Got : Type 0 = get_or c.places b None ≡ Some entry in
     let Told : Type 0 = (c.start ≡ c.start) × (held ≡ held) in
     first ! $ blocks ! $
-    sets ! (bin ! (get ! refl) (size_lit ! (record { fits = lies.1 })) (record { fits = lies.2 })) refl (tt, record { fits = lies.2 }) $
+    sets ! (bin ! (get ! refl) (size_lit ! (record { fits = lies.1 })) (record { fits = lies.2 }))
+    refl (tt, record { fits = lies.2 }) $
     sets ! (bin ! (get_in ! (fld ! refl (stop !)) (sub ! 0 refl (whole !))) (get ! refl) tt) refl (tt, tt) $
     sets_last ! (of_opd ! (load ! (through ! refl (stop !)) (look_raw ! 0 refl))) refl good $
     exec ! 𝓣.C 𝓣.Λ Ev (after 1 fn.body) (at_ret Ev Post) $ sets ! (of_opd ! (get ! refl)) refl good $
@@ -103,4 +110,4 @@ read_spec 𝓤 𝓛 𝓜 𝓡 wired T L =
     move ! (1 ∷ 3 ∷ []) $ join ! $ use0 𝓛 (raw (fact 𝓤 Told)) (fact_i 𝓤 Told (emp 𝓤) (refl, refl)) $
     use0 𝓛 (raw (fact 𝓤 Got)) (fact_i 𝓤 Got (emp 𝓤) asked.1.1) $ join ! $
     returns ! (look_at ! 0 refl) $ free_all ! refl $ keep ! (1 ∷ 2 ∷ 3 ∷ 0 ∷ []) $
-    by ! (leaves 𝓛 End stays said y v entry (new, (tt, (tt, tt))) (tt, (tt, (tt, tt)))))))))))
+    by ! (leaves 𝓛 End stays said y v entry (new, (tt, (tt, tt))) (tt, (tt, (tt, tt))))))))))
