@@ -1,9 +1,8 @@
 -- What the lanes of a group say of the buckets from its first one on.
 use Rattle.std.proofs.Common.{◌≡◌, ◌≢◌, ℕ, zero, suc, ◌+◌, ◌-◌, ◌*◌, ◌%◌, ◌^◌, ◌<◌, ◌≤◌, ◌⊎◌, ◌↔◌, min, max, Bool, true}
-use Rattle.std.proofs.Common.{false, List, length, get_or, Option, None, Some, IsSome}
+use Rattle.std.proofs.Common.{false, List, length, get_or, Option}
 use Rattle.std.proofs.Common.{refl, ap, sym, ◌∙◌, subst, arith, pow-suc, pow_mono, inl, inr}
 use Rattle.std.proofs.Math.Nat.{add-mul-mod_self_left, mod-eq_of_lt, mod-lt}
-use Rattle.std.proofs.lemmas.List.{get_or_read}
 use Rattle.std.specs.Borrow.{Bor}
 use Rattle.std.specs.Fn.{Mut}
 use native.Mathlib.Decide.{dec_lt}

@@ -2,7 +2,6 @@
 use Rattle.std.proofs.Common.{◌≡◌, ℕ, zero, suc, ◌<◌, ◌≤◌, List, [], ◌∷◌, length, get_or, set, Option, Some, None, refl}
 use Rattle.std.proofs.Common.{ap, arith, inl, inr, nat_lt, nat_eq, cond, sym, ◌∙◌, Bool, true, false, IsSome}
 use Rattle.std.proofs.lemmas.Bool.{lt-ltb, false≢true}
-use Rattle.std.proofs.lemmas.List.{get_or_read}
 use Rattle.group_table.specs.Bucket.{Tagged, empty, deleted, full, bucket_at, is_full, IsFull, entry_of, entry_at}
 use Rattle.group_table.specs.Bucket.{mark_of}
 use Rattle.group_table.specs.Sizes.{IsPowerFromFour}

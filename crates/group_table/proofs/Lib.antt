@@ -7,6 +7,10 @@ pub mod ProbeLemmas
 pub mod BucketLemmas
 pub mod FirstFree
 pub mod SearchLemmas
+pub mod CellRows
+pub mod CellSharing
+pub mod CellBlocks
+pub mod EntryLemmas
 pub mod LayoutLemmas
 pub mod FindLemmas
 pub mod ControlLemmas
@@ -28,10 +32,8 @@ pub mod PlaceCounts
 pub mod FreeBytes
 pub mod HalfwayLemmas
 pub mod TurnLemmas
+pub mod WaitLemmas
 pub mod ChangeLemmas
 pub mod CallerLemmas
 pub mod CountedMarks
 pub mod TableLemmas
-pub mod CellSharing
-pub mod CellRows
-pub mod CellBlocks

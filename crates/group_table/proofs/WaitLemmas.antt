@@ -1,6 +1,6 @@
 -- Which places hold an entry that waits, while entries take new places in the table where they stand.
 use Rattle.std.proofs.Common.{◌≡◌, ◌≢◌, ℕ, ◌+◌, ◌<◌, ◌≤◌, List, length, get_or, set, Option, None}
-use Rattle.std.proofs.Common.{sym, ◌∙◌, arith, inl, inr, get_or-set_same, get_or-set_other}
+use Rattle.std.proofs.Common.{◌∙◌, arith, inl, inr, get_or-set_same, get_or-set_other}
 use Rattle.std.proofs.lemmas.Bool.{cases_eq}
 use Rattle.group_table.specs.Layout.{Agrees, IsLaidOut, written}
 use Rattle.group_table.specs.Moves.{place_at}
@@ -39,8 +39,8 @@ module _ {T : Type 0} (whole now : List (Option T)) (control : List ℕ) (passed
     stays_put place in_control in_now tag_fits k from within free = elim (cases_eq k b) [
       | inl e ↦
           let here : get_or (written control now b tag) k 0 ≡ tag = rw e
-              (get_or-set_other (set control b tag) _ b tag 0 (omega arith)
-              ∙ get_or-set_same control b tag 0 in_control) in
+          (get_or-set_other (set control b tag) _ b tag 0 (omega arith)
+          ∙ get_or-set_same control b tag 0 in_control) in
           absurd (omega (arith, here, free))
       | inr other ↦
           get_or-set_other now b k place None other ∙ stays k from within (rw (other_byte k within other) at free)

@@ -12,7 +12,6 @@ pub mod Moves
 pub mod InPlace
 pub mod Copies
 pub mod Lends
-pub mod LendsSome
 pub mod Layout
 pub mod Group
 pub mod Bytes

@@ -1,4 +1,4 @@
-use Rattle.std.proofs.Common.{None, Some, ◌∙◌, ap}
+use Rattle.std.proofs.Common.{None, Some, ◌∙◌}
 use Rattle.std.proofs.lemmas.List.{set-set}
 use Rattle.group_table.proofs.fields.put.Goals as goal
 

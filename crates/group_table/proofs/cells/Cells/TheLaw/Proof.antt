@@ -19,4 +19,4 @@ shares R L =
     (cells.the_lent R) (λ c p. cells_lent_laws R L.shr_laws c.start c.places)
     (copy_shared (mark.the_field RawPtr) (field_copy (mark.the_type RawPtr) tt), tt)
     (λ M 𝓤 𝓛 c p. lends_all 𝓛 (cells.the_row R).lives R L
-        (Incl-trans (meet_⊑_left (R.lives ++ []) _) (meet_⊑_left R.lives [])) c.start c.places)
+    (Incl-trans (meet_⊑_left (R.lives ++ []) _) (meet_⊑_left R.lives [])) c.start c.places)

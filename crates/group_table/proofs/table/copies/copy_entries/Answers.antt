@@ -1,7 +1,6 @@
-use Rattle.std.proofs.Common.{◌≡◌, ◌+◌, Some, None, get_or, set, refl, ap, ◌∙◌, arith, length-set}
+use Rattle.std.proofs.Common.{◌≡◌, Some, None, refl, ◌∙◌, arith, length-set}
 use Rattle.std.proofs.lemmas.List.{get_or-set_same, get_or-set_other}
 use native.Mathlib.Decide.{dec_lt}
-use Rattle.group_table.specs.Copies.{IsPlaceCopy}
 use Rattle.group_table.proofs.CloneLemmas.{place_copies}
 use Rattle.group_table.proofs.LayoutLemmas.{none_by}
 use Rattle.group_table.proofs.table.copies.copy_entries.Goals.{then-byte-lt-DELETED+in-Ok, else-byte-lt-DELETED}

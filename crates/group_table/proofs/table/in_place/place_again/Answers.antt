@@ -1,4 +1,4 @@
-use Rattle.std.proofs.Common.{◌≡◌, ◌+◌, ◌<◌, ◌≤◌, length, get_or, Some, None, refl, sym, ap, ◌∙◌, inr, arith, length-set}
+use Rattle.std.proofs.Common.{◌≡◌, ◌+◌, ◌<◌, ◌≤◌, length, get_or, None, refl, sym, ap, ◌∙◌, inr, arith, length-set}
 use Rattle.std.proofs.lemmas.List.{length-replicate}
 use Rattle.group_table.proofs.LayoutLemmas.{entries_within, some_by, none_by}
 use Rattle.group_table.specs.Control.{buckets_of}
