@@ -18,14 +18,14 @@ mod runs;
 mod shrinks;
 mod tables;
 
-// The bytes of 4 buckets of 32 bytes: of control with the 16 repeated, and of the entries.
-const FIRST_TABLE: [usize; 2] = [20, 128];
+// The bytes of 4 buckets with entries of 24 bytes: of control with the 16 repeated, and of the entries.
+const FIRST_TABLE: [usize; 2] = [20, 96];
 
 // Of 16 buckets, and of the links of 8.
-const GROWTH: [usize; 3] = [32, 512, 32];
+const GROWTH: [usize; 3] = [32, 384, 32];
 
-// The links of 32 buckets.
-const SAME_TABLE: [usize; 1] = [128];
+// The links of 32 buckets, and fresh control bytes.
+const SAME_TABLE: [usize; 2] = [128, 48];
 
 // Seven pairs, the newest first.
 const SEVEN: [(u64, u64); 7] = [

@@ -3,7 +3,7 @@ use super::keys::{Texts, has_texts, texts_of};
 use super::*;
 
 // The bytes of control of 16 buckets, and their entries.
-const OF_SIXTEEN: [usize; 2] = [32, 512];
+const OF_SIXTEEN: [usize; 2] = [32, 384];
 
 // Whether a copy was refused and the pairs stand, where so many of the requests are met.
 fn refused_copy(
@@ -35,7 +35,7 @@ fn of_numbers(rt: HostRuntime) -> Result<(), Fail> {
 }
 
 // The bytes of control of 4 buckets, their entries, and the byte of each of three texts.
-const OF_TEXTS: [usize; 5] = [20, 192, 1, 1, 1];
+const OF_TEXTS: [usize; 5] = [20, 160, 1, 1, 1];
 
 // The same for a map of texts: whether a copy was refused, or, where it was not, whether it has the texts.
 fn copy_texts(alloc: Global, map: &Texts, met: usize) -> Result<Option<(bool, bool)>, AllocError> {

@@ -82,7 +82,7 @@ fn a_growth_without_a_limit(rt: HostRuntime) -> Result<(), Fail> {
 }
 
 // The account is charged by the offer and taken off where the pair was not placed (`turned_away`). The links have 8
-// bytes: 40 an entry.
+// bytes: 32 an entry.
 #[test]
 fn an_account_in_a_growth(rt: HostRuntime) -> Result<(), Fail> {
     let mut map: LruMap<u64, u64, ByCost> = map_of(rt.alloc(), ByCost::new(100));
@@ -91,7 +91,7 @@ fn an_account_in_a_growth(rt: HostRuntime) -> Result<(), Fail> {
     }
     let what = (Taking::Insert, (4, 4));
     let stay = [(3, 3), (2, 2), (1, 1)];
-    if let Some(all) = refuse_each(rt.alloc(), &mut map, what, &stay, &[24, 320, 32])? {
+    if let Some(all) = refuse_each(rt.alloc(), &mut map, what, &stay, &[24, 256, 32])? {
         let refused = (true, (3, 3, 84), (0, 3), (6, 0, (0, 0), 0));
         let met = (false, (4, 7, 152), (3, 4), (10, 0, (0, 0), 0));
         assert_eq!(rt; all.as_slice(), [refused, refused, refused, met].as_slice());
@@ -108,7 +108,7 @@ fn what_the_limiter_is_told_in_a_growth(rt: HostRuntime) -> Result<(), Fail> {
     }
     let what = (Taking::Insert, (4, 4));
     let stay = [(3, 3), (2, 2), (1, 1)];
-    if let Some(all) = refuse_each(rt.alloc(), &mut map, what, &stay, &[24, 256, 16])? {
+    if let Some(all) = refuse_each(rt.alloc(), &mut map, what, &stay, &[24, 192, 16])? {
         let wanted = [
             (true, (3, 3, 84), (0, 3), (0, 1, (4, 4), 2)),
             (true, (3, 3, 84), (0, 3), (0, 2, (4, 4), 3)),
@@ -136,7 +136,8 @@ fn a_table_made_anew_after_a_refused_growth(rt: HostRuntime) -> Result<(), Fail>
         if let Some(all) = refuse_each(rt.alloc(), &mut map, (call, new), &THIRTEEN, &SAME_TABLE)? {
             let wanted = [
                 (true, (13, 13, 560), (24, 28), (0, 16, new, 5)),
-                (false, (14, 28, 560), (37, 29), (0, 16, new, 5)),
+                (true, (13, 13, 560), (24, 28), (0, 17, new, 5)),
+                (false, (14, 28, 560), (37, 29), (0, 17, new, 5)),
             ];
             assert_eq!(rt; all.as_slice(), wanted.as_slice());
         }

@@ -80,4 +80,4 @@ fn a_text_for_which_the_table_grows(rt: HostRuntime) -> Result<(), Fail> {
 }
 
 // The entries of 8 buckets of texts.
-const TEXT_ENTRIES: usize = 8 * 48;
+const TEXT_ENTRIES: usize = 8 * 40;

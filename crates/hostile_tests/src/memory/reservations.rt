@@ -56,6 +56,7 @@ fn of_the_same_table(rt: HostRuntime) -> Result<(), Fail> {
         let told = (0, 25, (28, 280), 4);
         let wanted = [
             (true, (3, 3, 560), (24, 28), told),
+            (true, (3, 3, 560), (24, 28), told),
             (false, (3, 28, 560), (24, 28), told),
         ];
         assert_eq!(rt; all.as_slice(), wanted.as_slice());

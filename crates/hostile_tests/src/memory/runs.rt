@@ -85,7 +85,7 @@ fn run_with(rt: &(impl Abort + AllocGlobal), met: usize) -> Result<(), Fail> {
     assert_eq!(rt; insert_all(&mut map, 1..=7)?, 7);
     let calls = calls(alloc)?;
     let wanted = wanted(alloc, met)?;
-    let mut hog = Hog::new(alloc, &[ANSWERS, 32, 512, 32, LIST])?;
+    let mut hog = Hog::new(alloc, &[ANSWERS, 32, 384, 32, LIST])?;
     for _ in 0..met {
         hog.release();
     }
@@ -107,14 +107,14 @@ fn a_list_of_calls(rt: HostRuntime) -> Result<(), Fail> {
     Ok(())
 }
 
-// `run_summing`, by `unmade`, `run` and `account`. The links have 8 bytes: 40 an entry.
+// `run_summing`, by `unmade`, `run` and `account`. The links have 8 bytes: 32 an entry.
 fn sum_with(rt: &(impl Abort + AllocGlobal), met: usize) -> Result<(), Fail> {
     let alloc = rt.alloc();
     let mut map: LruMap<u64, u64, ByCost> = map_of(alloc, ByCost::new(1000));
     assert_eq!(rt; insert_all(&mut map, 1..=7)?, 7);
     let calls = calls(alloc)?;
     let wanted = wanted(alloc, met)?;
-    let mut hog = Hog::new(alloc, &[ANSWERS, 32, 640, 64, LIST])?;
+    let mut hog = Hog::new(alloc, &[ANSWERS, 32, 512, 64, LIST])?;
     for _ in 0..met {
         hog.release();
     }
@@ -137,7 +137,7 @@ fn a_summing_list_of_calls(rt: HostRuntime) -> Result<(), Fail> {
 }
 
 // The requests of the table of 4 buckets, and of that of 8.
-const LINES: [usize; 5] = [20, 128, 24, 256, 16];
+const LINES: [usize; 5] = [20, 96, 24, 192, 16];
 
 const INPUT: &[u8] =
     b"compact\ninsert 1 10\ninsert 2 20\ninsert 3 30\ninsert 4 40\nlist\nreserve 1\nstats\n";

@@ -2,7 +2,7 @@
 use super::*;
 
 // The control bytes and the entries of 8 buckets, and the links of 32.
-const SHRINK: [usize; 3] = [24, 256, 128];
+const SHRINK: [usize; 3] = [24, 192, 128];
 
 // Five pairs, the newest first.
 const FIVE: [(u64, u64); 5] = [(15, 150), (14, 140), (13, 130), (12, 120), (11, 110)];

@@ -1,5 +1,5 @@
-//! A table that is rehashed where its entries stand. It takes one vector of links and no second table: no clause counts
-//! requests.
+//! A table that is rehashed where its entries stand. It takes one vector of links and fresh control bytes, and no second
+//! table: no clause counts requests.
 use super::*;
 use group_table::{Table, buckets_for_capacity, full_capacity};
 
@@ -49,10 +49,19 @@ fn a_rehash_where_the_entries_stand(rt: HostRuntime) -> Result<(), Fail> {
         table.room(),
         table.placings(),
     );
+    hog.release();
+    let third = (
+        rehash_is_refused(&mut table),
+        table.room(),
+        table.placings(),
+    );
     let all = hog.took_all();
     drop(hog);
     if all {
-        assert_eq!(rt; (first, second), ((true, 0, 28), (false, 14, 42)));
+        assert_eq!(rt;
+            (first, second, third),
+            ((true, 0, 28), (true, 0, 28), (false, 14, 42))
+        );
     }
     for n in 1..=14u64 {
         assert!(rt; table.find(0, |entry| *entry == n).is_some(), "{n}");

@@ -70,7 +70,7 @@ fn a_pair_that_finds_no_place(rt: HostRuntime) -> Result<(), Fail> {
 #[test]
 fn a_pair_for_which_there_is_no_memory(rt: HostRuntime) -> Result<(), Fail> {
     let mut map = map_of(rt.alloc(), Within::new(84));
-    let mut hog = Hog::new(rt.alloc(), &[20, 128])?;
+    let mut hog = Hog::new(rt.alloc(), &[20, 96])?;
     let mut answers = [(Ok(false), 0); 3];
     for n in 0..3usize {
         answers[n] = put(&mut map, 1, 10);

@@ -271,7 +271,7 @@ fn without_entries(rt: HostRuntime) -> Result<(), Fail> {
 #[test]
 fn each_request_is_refused(rt: HostRuntime) -> Result<(), Fail> {
     // The control bytes, the entries, and the links of 8 old buckets. Memory that has no end refuses nothing.
-    for (buckets, requests) in [(16, [32, 256, 32]), (8, [24, 128, 32usize])] {
+    for (buckets, requests) in [(16, [32, 128, 32]), (8, [24, 64, 32usize])] {
         let mut table = table_of(rt.alloc(), 8)?;
         let mut next = 0;
         fill(&mut table, &mut next, Hashes::Scattered);
@@ -312,7 +312,7 @@ fn no_links_are_requested_without_entries(rt: HostRuntime) -> Result<(), Fail> {
     assert!(rt; table.try_place(5, 50).is_ok());
     thin(&mut table, 1, 0);
     let mut met = [false; 3];
-    let mut hog = Hog::new(rt.alloc(), &[32, 256])?;
+    let mut hog = Hog::new(rt.alloc(), &[32, 128])?;
     for run in 0..3usize {
         let links: Result<Vec<u32>, AllocError> = moved(&mut table, 16, |key| *key);
         met[run] = links.is_ok();

@@ -6,13 +6,13 @@ use std::test::Fail;
 use test_helpers::{Counting, Hog, LastByte, OF_HASH_28, Within};
 
 // The bytes of 4 control bytes with 16 more, and of 4 buckets.
-const FIRST_TABLE: [usize; 2] = [20, 128];
+const FIRST_TABLE: [usize; 2] = [20, 96];
 
 // The bytes of 16 control bytes with their repetition, of 16 buckets, and of the links of 8 buckets.
-const GROWTH: [usize; 3] = [32, 512, 32];
+const GROWTH: [usize; 3] = [32, 384, 32];
 
-// The bytes of the links of 32 buckets.
-const SAME_TABLE: [usize; 1] = [128];
+// The bytes of the links of 32 buckets, and of fresh control bytes.
+const SAME_TABLE: [usize; 2] = [128, 48];
 
 // The byte of a key of one digit.
 const TEXT: [usize; 1] = [1];
@@ -86,7 +86,8 @@ fn same_table_without_memory(rt: HostRuntime) -> Result<(), Fail> {
         let last = (OF_HASH_28, OF_HASH_28.wrapping_mul(10));
         let wanted = [
             (true, (13, 13, 560), (16, last)),
-            (false, (14, 28, 560), (16, last)),
+            (true, (13, 13, 560), (17, last)),
+            (false, (14, 28, 560), (17, last)),
         ];
         assert_eq!(rt; all.as_slice(), wanted.as_slice());
         assert_eq!(rt; ends(&map), (Some(OF_HASH_28), Some(16)));
@@ -141,6 +142,7 @@ fn same_table_reserved_without_memory(rt: HostRuntime) -> Result<(), Fail> {
     }
     if let Some(all) = refuse_each_reservation(rt.alloc(), &mut map, 6, (8, 1), &SAME_TABLE)? {
         let wanted = [
+            (true, (8, 8, 560), (20, (28, 280))),
             (true, (8, 8, 560), (20, (28, 280))),
             (false, (8, 28, 560), (20, (28, 280))),
         ];
