@@ -287,8 +287,12 @@ fn step_of_load(
 fn run_load(alloc: Global, length: u32, kinds: &[u8], keys: &[u64]) -> Result<u64, AllocError> {
     let mut map = LruMap::new(alloc, ByLength::new(length), [1, 2, 3, 4], 32);
     let mut sum = 0u64;
-    for (kind, key) in kinds.iter().zip(keys.iter()) {
-        sum = step_of_load(&mut map, *kind, *key, sum)?;
+    if kinds.len() != keys.len() {
+        return Ok(sum);
+    }
+    // One counter, as the loop over the crate is compiled to. A zip of the two slices would count twice here.
+    for i in 0..kinds.len() {
+        sum = step_of_load(&mut map, kinds[i], keys[i], sum)?;
     }
     for (key, value) in map.iter() {
         sum = sum.wrapping_mul(31).wrapping_add(*key ^ *value);

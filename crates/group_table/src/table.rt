@@ -44,8 +44,9 @@ pub struct Table<T> {
     control: Control,
     entries: Entries<T>,
     room: usize,
-    len: usize,
+    // Between the two counts that a placing and a removal change, which are then not read and written as one.
     placings: u64,
+    len: usize,
 }
 
 impl<T> Model for Table<T> {
