@@ -11,8 +11,7 @@ use Rattle.lru_limits.specs.Rules.{Rules, Offers}
 use Rattle.schnellru.proofs.CallerLemmas.{Shape, shape, same_shape, look_alike, with_left, left_shape}
 use Rattle.schnellru.proofs.CallerLemmas.{clears, cleared_shape, is_memory, reserve_in, reserve_is, found_named}
 use Rattle.schnellru.proofs.CallerLemmas.{shrinks_look_alike}
-use Rattle.schnellru.proofs.Theorems.PlainInserts.{plain}
-use Rattle.schnellru.proofs.Theorems.SmallTables.{small_inserts_alike}
+use Rattle.schnellru.proofs.HandingLemmas.{plain, small_inserts_alike}
 use Rattle.schnellru.specs.Calls.{left_of, removal, pop_first}
 use Rattle.schnellru.specs.Drains.{pops_first, newest_given, oldest_given}
 use Rattle.schnellru.specs.Exact.{IsDetermined, NeverLacks, LookAlike}

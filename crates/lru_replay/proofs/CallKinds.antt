@@ -1,7 +1,7 @@
 -- What a call of a run is to the map: a step of it, a write, another limiter, or a look that changes nothing.
 use Rattle.std.proofs.Common.{◌≡◌, ℕ, Bool, Some, None, refl, inl, inr, ◌⊎◌}
 use Rattle.lru_limits.specs.Rules.{Rules, Offers}
-use Rattle.schnellru.proofs.Theorems.PlainInserts.{plain_insert}
+use Rattle.schnellru.proofs.HandingLemmas.{plain_insert}
 use Rattle.schnellru.specs.Calls.{written}
 use Rattle.schnellru.specs.Runs.{Step, inserts, makes_newest, gets, removes, pops_oldest, pops_newest, drains, clears}
 use Rattle.schnellru.specs.Runs.{reserves, shrinks, AnyStep, calls as any_call, writes, sets_limiter as sets}

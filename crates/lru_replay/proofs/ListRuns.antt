@@ -5,7 +5,7 @@ use Rattle.std.specs.List.{IsDistinct}
 use Rattle.std.specs.declared.alloc.AllocError.{AllocError}
 use Rattle.lru_limits.specs.Rules.{Rules, Offers}
 use Rattle.schnellru.proofs.CallerLemmas.{any_step_same, has_tables, shrink_contents}
-use Rattle.schnellru.proofs.Theorems.GrantedGrowth.{insert_granted}
+use Rattle.schnellru.proofs.HandingLemmas.{insert_granted}
 use Rattle.schnellru.specs.Exact.{AlwaysGrants, HasTables, HasTableFor, InsertsInList}
 use Rattle.schnellru.specs.GetOrInserts.{MakesNewest, got, inserted}
 use Rattle.schnellru.specs.HandedOver.{noting, noting_offers, noted, InsertHands}

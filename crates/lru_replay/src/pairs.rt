@@ -60,7 +60,7 @@ pub fn insert_and_keep<K: Eq + Hash + Drop, V: Drop, L: Insertion<K, V, K>, S: B
         (hash_by K.hash_input S.BuildHasher S.Hasher.Hasher) key value map.old answer.0 answer.1.items map.new) }
     ensures unchanged { OnErr result (map.new ≡ map.old) }
 {
-    // It does nothing: by it there is room for all that is handed over.
+    // Nothing at run time: it tells the proof that there is room for all that is handed over.
     inserts_hand_over_few::<K, V, K, L, S>();
     let mut out = Vec::with_capacity(alloc, map.len() + 1)?;
     let done = map.insert_with(key, value, &mut |key, value| keep(&mut out, (key, value)));
