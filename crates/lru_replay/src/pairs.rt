@@ -34,12 +34,12 @@ pub fn list<K: Copy + Eq + Hash, V: Copy, L: Insertion<K, V, K>, S: BuildHasher>
 }
 
 /// The answer to an insert that hands pairs over.
-pub fn insert_with<
-    K: Copy + Eq + Hash + Drop,
-    V: Copy + Drop,
-    L: Insertion<K, V, K>,
-    S: BuildHasher,
->(alloc: Global, map: &mut LruMap<K, V, L, S>, key: K, value: V) -> Answer<K, V>
+pub fn insert_with<K: Eq + Hash + Drop, V: Drop, L: Insertion<K, V, K>, S: BuildHasher>(
+    alloc: Global,
+    map: &mut LruMap<K, V, L, S>,
+    key: K,
+    value: V,
+) -> Answer<K, V>
     ensures { CallStep L.rules L.offers K.eq (hash_by K.hash_input S.BuildHasher S.Hasher.Hasher)
         map.old (calls.InsertWith key value) (said result) map.new }
 {
