@@ -63,7 +63,7 @@ pub enum Answer<K, V> {
     Flag(bool),
     /// To `InsertWith`: what the insert answered, and what it handed over.
     Given {
-        /// Whether the key is in the map, or that no memory was found for the pair.
+        /// Whether the key is in the map, or that no memory was found.
         done: Result<bool, AllocError>,
         /// The pairs that were handed over, in that order.
         out: Vec<(K, V)>,
