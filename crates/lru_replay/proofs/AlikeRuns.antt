@@ -11,10 +11,12 @@ use Rattle.lru_limits.specs.Rules.{Rules, Offers}
 use Rattle.schnellru.proofs.CallerLemmas.{Shape, shape, same_shape, look_alike, with_left, left_shape}
 use Rattle.schnellru.proofs.CallerLemmas.{clears, cleared_shape, is_memory, reserve_in, reserve_is, found_named}
 use Rattle.schnellru.proofs.CallerLemmas.{shrinks_look_alike}
+use Rattle.schnellru.proofs.HandingLemmas.{plain, small_inserts_alike}
 use Rattle.schnellru.specs.Calls.{left_of, removal, pop_first}
 use Rattle.schnellru.specs.Drains.{pops_first, newest_given, oldest_given}
 use Rattle.schnellru.specs.Exact.{IsDetermined, NeverLacks, LookAlike}
 use Rattle.schnellru.specs.GetOrInserts.{MakesNewest, got, inserted}
+use Rattle.schnellru.specs.HandedOver.{noting, noting_offers, noted}
 use Rattle.schnellru.specs.Inserts.{Insert}
 use Rattle.schnellru.specs.Lists.{first, last as last_of, front, lookup, lookup_entry, newest_value}
 use Rattle.schnellru.specs.Reservations.{Reserve}
@@ -26,19 +28,44 @@ use Rattle.schnellru.specs.declared.map.reserve.ReserveError.{ReserveError}
 use Rattle.schnellru.specs.declared.map.reserve.ReserveError.TheVariants.{TooLarge, Refused, Memory}
 use Rattle.lru_replay.specs.CallRuns.{IsRun, CallStep, SummingStep, KeepsCost, HasPlainSearch, StoresPairs}
 use Rattle.lru_replay.specs.Figures.{IsFigures}
-use Rattle.lru_replay.specs.Replies.{Reply, flag, value, pair, listed, reserved, shrunk, stats, done, no_memory}
-use Rattle.lru_replay.specs.Replies.{insert_reply, made_reply, wants_memory, cost_differs}
+use Rattle.lru_replay.specs.Replies.{Reply, flag, given, value, pair, listed, reserved, shrunk, stats, done, no_memory}
+use Rattle.lru_replay.specs.Replies.{insert_reply, made_reply, cost_differs, Want, found_all, lacks, lacks_beside, want_of}
 use Rattle.lru_replay.specs.Steps.{Step, FindsByHash, found, not_found, promoted_if}
 use Rattle.lru_replay.specs.declared.call.Call.{Call}
 use Rattle.lru_replay.specs.declared.call.Call.TheVariants as calls
 use Rattle.lru_replay.specs.declared.figures.Figures.{Figures}
 use Rattle.lru_replay.proofs.ListRuns.{same_hasher}
 
-head_same : {x y : Bool} {xs ys : List Bool} → x ∷ xs ≡ y ∷ ys → x ≡ y
+head_same : {x y : Want} {xs ys : List Want} → x ∷ xs ≡ y ∷ ys → x ≡ y
 head_same e = cc
 
-tail_same : {x y : Bool} {xs ys : List Bool} → x ∷ xs ≡ y ∷ ys → xs ≡ ys
+tail_same : {x y : Want} {xs ys : List Want} → x ∷ xs ≡ y ∷ ys → xs ≡ ys
 tail_same e = cc
+
+-- whether not all memory was found
+abbrev is_short : Want → Bool
+is_short found_all = false
+is_short lacks = true
+is_short lacks_beside = true
+
+-- whether the answer tells nothing else
+abbrev is_alone : Want → Bool
+is_alone found_all = false
+is_alone lacks = true
+is_alone lacks_beside = false
+
+abbrev wants_memory : {K V : Type 0} → Reply K V → Bool
+wants_memory reply = is_short (want_of reply)
+
+given_wants : {K V : Type 0} (result : Result Bool AllocError) (out : List (K × V))
+    → wants_memory (given result out) ≡ is_err result
+given_wants (Ok b) out = refl
+given_wants (Err e) out = refl
+
+given_tells : {K V : Type 0} (result : Result Bool AllocError) (out : List (K × V))
+    → is_alone (want_of (given result out)) ≡ false
+given_tells (Ok b) out = refl
+given_tells (Err e) out = refl
 
 insert_wants : (K V : Type 0) (result : Result Bool AllocError) → wants_memory {K = K} {V = V} (insert_reply result)
     ≡ is_err result
@@ -113,6 +140,24 @@ module _ {K V S H : Type 0} (rules : Rules K V S) (offers : Offers K V S K) (eq 
 
   module _ (law : InsertsAlike) (determined : IsDetermined offers) (never : NeverLacks offers)
       (respects : (h : H) (k l : K) → IsTrue (eq k l) → hash_of h k ≡ hash_of h l) where
+    -- beside a list the offers leave as little open
+    noting_determined : IsDetermined (noting_offers offers)
+    noting_determined s n i v t u x y h k =
+        let same = determined s.0 n i v t.0 u.0 x y h.0 k.0 in
+        let list = h.1 ∙ sym k.1 in
+        ((λ j. (same.0 j, list j)), same.1)
+
+    -- maps look alike whose limiters are beside the same list, and do without it
+    noted_alike : (list : List (K × V)) (st st' : State K V S H) → LookAlike st st'
+        → LookAlike (noted list st) (noted list st')
+    noted_alike list st st' alike =
+        record { table = alike.table; room = alike.room; state = ap (noted list) alike.state }
+
+    plain_alike : (list list' : List (K × V)) (st st' : State K V S H) → LookAlike (noted list st) (noted list' st')
+        → LookAlike st st'
+    plain_alike list list' st st' alike =
+        record { table = alike.table; room = alike.room; state = ap plain alike.state }
+
     module _ (old other new last : State K V S H) (alike : LookAlike old other) (small : buckets old ≤ 16)
         (after : buckets new ≤ 16) (too : buckets last ≤ 16) (reply answer : Reply K V) where
       abbrev AreAlike : Type 0
@@ -131,14 +176,28 @@ module _ {K V S H : Type 0} (rules : Rules K V S) (offers : Offers K V S K) (eq 
           let same = same_shape alike in
           (r ∙ ap R (sym same) ∙ sym a, look_alike new last (l ∙ ap F same ∙ sym n))
 
-      module _ (wants : wants_memory reply ≡ wants_memory answer) where
+      module _ (same_wants : want_of reply ≡ want_of answer) where
+        both_short : wants_memory reply ≡ wants_memory answer
+        both_short = ap is_short same_wants
+
         insert_alike : (k : K) (v : V) → Step rules offers eq hash_of old (calls.Insert k v) reply new
             → Step rules offers eq hash_of other (calls.Insert k v) answer last → AreAlike
         insert_alike k v (result, h, is) (result', h', is') =
-            let errs = sym (insert_wants K V result) ∙ ap wants_memory (sym is) ∙ wants
+            let errs = sym (insert_wants K V result) ∙ ap wants_memory (sym is) ∙ both_short
             ∙ ap wants_memory is' ∙ insert_wants K V result' in
             let both = law k v old result new other result' last determined never small after too alike errs h h' in
             (is ∙ ap insert_reply both.0 ∙ sym is', both.1)
+
+        handed_alike : (k : K) (v : V) → Step rules offers eq hash_of old (calls.InsertWith k v) reply new
+            → Step rules offers eq hash_of other (calls.InsertWith k v) answer last → AreAlike
+        handed_alike k v (result, out, h, is) (result', out', h', is') =
+            let errs = sym (given_wants result out) ∙ ap wants_memory (sym is) ∙ both_short
+            ∙ ap wants_memory is' ∙ given_wants result' out' in
+            let both = small_inserts_alike (noting rules) (noting_offers offers) eq k v noting_determined
+            (λ s n i w. never s.0 n i w) (noted [] old) result (noted out new) (noted [] other) result' (noted out' last)
+            small after too (noted_alike [] old other alike) errs h h' in
+            let pairs : out ≡ out' = sym (ap (λ st. st.limiter.1) both.1.state) in
+            (is ∙ (λ j. given (both.0 j) (pairs j)) ∙ sym is', plain_alike out out' new last both.1)
 
         made_alike : (k : K) (v : V) (result result' : Result Bool AllocError)
             → MakesNewest rules offers eq hash_of (λ made. made ≡ v) k old result new
@@ -154,7 +213,7 @@ module _ {K V S H : Type 0} (rules : Rules K V S) (offers : Offers K V S K) (eq 
         made_alike k v result result' (inserted n u m s) (got w f r e) is is' =
             let both : Some w ≡ None = sym f ∙ ap (lookup (eq k)) same_pairs ∙ n in absurd (grind (arith, both))
         made_alike k v result result' (inserted n u m s) (inserted n' u' m' s') is is' =
-            let errs = sym (made_wants result new.pairs) ∙ ap wants_memory (sym is) ∙ wants
+            let errs = sym (made_wants result new.pairs) ∙ ap wants_memory (sym is) ∙ both_short
             ∙ ap wants_memory is' ∙ made_wants result' last.pairs in
             let both = law k v old result new other result' last determined never small after too alike errs
             (subst (λ x. Insert rules offers eq hash_of k x old result new) m s)
@@ -165,17 +224,17 @@ module _ {K V S H : Type 0} (rules : Rules K V S) (offers : Offers K V S K) (eq 
         reserve_alike : (n : ℕ) (result result' : Result (Unit {0}) ReserveError) → Reserve rules n old result new
             → Reserve rules n other result' last → reply ≡ reserved result → answer ≡ reserved result' → AreAlike
         reserve_alike n result result' h h' is is' =
-            let lacks = sym (reserved_wants K V result) ∙ ap wants_memory (sym is) ∙ wants
+            let short = sym (reserved_wants K V result) ∙ ap wants_memory (sym is) ∙ both_short
             ∙ ap wants_memory is' ∙ reserved_wants K V result' in
             let one = reserve_is rules n old result new h in
             let two = reserve_is rules n other result' last h' in
-            let both = sym one ∙ (λ j. reserve_in rules n (lacks j) (sym (same_shape alike) j)) ∙ two in
+            let both = sym one ∙ (λ j. reserve_in rules n (short j) (sym (same_shape alike) j)) ∙ two in
             (is ∙ ap (λ x. reserved x.0) both ∙ sym is', look_alike new last (sym (ap (λ x. x.1) both)))
 
         shrink_alike : (result result' : Result Bool AllocError) → Shrink old result new → Shrink other result' last
             → reply ≡ shrunk result → answer ≡ shrunk result' → AreAlike
         shrink_alike result result' h h' is is' =
-            let errs = sym (shrunk_wants K V result) ∙ ap wants_memory (sym is) ∙ wants
+            let errs = sym (shrunk_wants K V result) ∙ ap wants_memory (sym is) ∙ both_short
             ∙ ap wants_memory is' ∙ shrunk_wants K V result' in
             let both = shrinks_look_alike old other new last alike result result' errs h h' in
             (is ∙ ap shrunk both.0 ∙ sym is', both.1)
@@ -200,10 +259,11 @@ module _ {K V S H : Type 0} (rules : Rules K V S) (offers : Offers K V S K) (eq 
           (is' ∙ ap value (sym same))
           (ap shape (e' ∙ ap (λ r. promoted_if eq r k other) (sym same)))
 
-      step_alike : wants_memory reply ≡ wants_memory answer → (call : Call K V S)
+      step_alike : want_of reply ≡ want_of answer → (call : Call K V S)
           → HasPlainSearch (hash_of old.hasher) call → Step rules offers eq hash_of old call reply new
           → Step rules offers eq hash_of other call answer last → AreAlike
       step_alike wants (calls.Insert k v) plain h h' = insert_alike wants k v h h'
+      step_alike wants (calls.InsertWith k v) plain h h' = handed_alike wants k v h h'
       step_alike wants (calls.GetOrInsert k v) plain (result, h, is) (result', h', is') =
           made_alike wants k v result result' h h' is is'
       step_alike wants (calls.Get k) plain (is, e) (is', e') = told_by (λ sh. value (lookup (eq k) sh.bare.pairs))
@@ -263,25 +323,29 @@ module _ {K V S H : Type 0} (rules : Rules K V S) (offers : Offers K V S K) (eq 
       step_alike wants (calls.SetLimiter s) plain (is, e) (is', e') = told_by (λ sh. done)
           (λ sh. record sh { bare = record sh.bare { limiter = s } }) is (ap shape e) is' (ap shape e')
 
-    -- what stores pairs and finds memory does not want it
-    stored_wants : (old new : State K V S H) (call : Call K V S) (reply : Reply K V) → StoresPairs call
-        → Step rules offers eq hash_of old call reply new → wants_memory reply ≡ false
-    stored_wants old new calls.List reply stores (is, e) = ap wants_memory is
-    stored_wants old new (calls.Drain front back) reply stores (pairs, h, is) = ap wants_memory is
-    stored_wants old new call reply stores step = absurd stores
+    -- what stores pairs and finds memory for them tells more than a want
+    stored_tells : (old new : State K V S H) (call : Call K V S) (reply : Reply K V) → StoresPairs call
+        → Step rules offers eq hash_of old call reply new → is_alone (want_of reply) ≡ false
+    stored_tells old new (calls.InsertWith k v) reply stores (result, out, h, is) =
+        ap (λ r. is_alone (want_of r)) is ∙ given_tells result out
+    stored_tells old new calls.List reply stores (is, e) = ap (λ r. is_alone (want_of r)) is
+    stored_tells old new (calls.Drain front back) reply stores (pairs, h, is) = ap (λ r. is_alone (want_of r)) is
+    stored_tells old new call reply stores step = absurd stores
 
     pub call_alike : (old other new last : State K V S H) → LookAlike old other → buckets old ≤ 16 → buckets new ≤ 16
-        → buckets last ≤ 16 → (reply answer : Reply K V) → wants_memory reply ≡ wants_memory answer
+        → buckets last ≤ 16 → (reply answer : Reply K V) → want_of reply ≡ want_of answer
         → (call : Call K V S) → HasPlainSearch (hash_of old.hasher) call
         → CallStep rules offers eq hash_of old call reply new
         → CallStep rules offers eq hash_of other call answer last → (reply ≡ answer) × LookAlike new last
     call_alike old other new last alike small after too reply answer wants call plain (inl s) (inl t) =
         step_alike old other new last alike small after too reply answer wants call plain s t
     call_alike old other new last alike small after too reply answer wants call plain (inl s) (inr (stores, is, e)) =
-        let both : true ≡ false = ap wants_memory (sym is) ∙ sym wants ∙ stored_wants old new call reply stores s in
+        let both : true ≡ false = ap (λ r. is_alone (want_of r)) (sym is) ∙ ap is_alone (sym wants)
+        ∙ stored_tells old new call reply stores s in
         absurd (true≢false both)
     call_alike old other new last alike small after too reply answer wants call plain (inr (stores, is, e)) (inl t) =
-        let both : true ≡ false = ap wants_memory (sym is) ∙ wants ∙ stored_wants other last call answer stores t in
+        let both : true ≡ false = ap (λ r. is_alone (want_of r)) (sym is) ∙ ap is_alone wants
+        ∙ stored_tells other last call answer stores t in
         absurd (true≢false both)
     call_alike old other new last alike small after too reply answer wants call plain (inr h) (inr k) =
         told_by old other new last alike small after too reply answer (λ sh. no_memory) (λ sh. sh)
@@ -289,7 +353,7 @@ module _ {K V S H : Type 0} (rules : Rules K V S) (offers : Offers K V S K) (eq 
 
     pub summing_alike : (cost : K → V → ℕ) (account : S → ℕ) (old other new last : State K V S H) → LookAlike old other
         → buckets old ≤ 16 → buckets new ≤ 16 → buckets last ≤ 16 → (reply answer : Reply K V)
-        → wants_memory reply ≡ wants_memory answer → (call : Call K V S) → HasPlainSearch (hash_of old.hasher) call
+        → want_of reply ≡ want_of answer → (call : Call K V S) → HasPlainSearch (hash_of old.hasher) call
         → SummingStep rules offers eq hash_of cost account old call reply new
         → SummingStep rules offers eq hash_of cost account other call answer last
         → (reply ≡ answer) × LookAlike new last
@@ -309,15 +373,15 @@ module _ {K V S H : Type 0} {rules : Rules K V S} {offers : Offers K V S K} {eq 
     (moves : (old new : State K V S H) (call : Call K V S) (reply : Reply K V) → IsStep old call reply new
     → AnyStep rules offers eq hash_of old new ⊎ (new ≡ old))
     (one_alike : (old other new last : State K V S H) → LookAlike old other → buckets old ≤ 16 → buckets new ≤ 16
-    → buckets last ≤ 16 → (reply answer : Reply K V) → wants_memory reply ≡ wants_memory answer → (call : Call K V S)
+    → buckets last ≤ 16 → (reply answer : Reply K V) → want_of reply ≡ want_of answer → (call : Call K V S)
     → HasPlainSearch (hash_of old.hasher) call → IsStep old call reply new → IsStep other call answer last
     → (reply ≡ answer) × LookAlike new last) where
   pub runs_alike : (hasher : H) (calls : List (Call K V S)) (old other new last : State K V S H)
       (replies answers : List (Reply K V)) → old.hasher ≡ hasher → LookAlike old other → buckets old ≤ 16
       → AllByRecursion (HasPlainSearch (hash_of hasher)) calls
       → IsRun IsStep (λ st. buckets st ≤ 16) old calls replies new
-      → IsRun IsStep (λ st. buckets st ≤ 16) other calls answers last → map wants_memory replies
-      ≡ map wants_memory answers → (replies ≡ answers) × LookAlike new last
+      → IsRun IsStep (λ st. buckets st ≤ 16) other calls answers last → map want_of replies
+      ≡ map want_of answers → (replies ≡ answers) × LookAlike new last
   runs_alike hasher [] old other new last [] [] built alike small plain same too wants =
       (refl, subst (λ st. LookAlike st last) (sym same) (subst (LookAlike old) (sym too) alike))
   runs_alike hasher [] old other new last (r ∷ rs) answers built alike small plain p q wants = absurd p

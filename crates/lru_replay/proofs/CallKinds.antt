@@ -1,6 +1,7 @@
 -- What a call of a run is to the map: a step of it, a write, another limiter, or a look that changes nothing.
 use Rattle.std.proofs.Common.{◌≡◌, ℕ, Bool, Some, None, refl, inl, inr, ◌⊎◌}
 use Rattle.lru_limits.specs.Rules.{Rules, Offers}
+use Rattle.schnellru.proofs.HandingLemmas.{plain_insert}
 use Rattle.schnellru.specs.Calls.{written}
 use Rattle.schnellru.specs.Runs.{Step, inserts, makes_newest, gets, removes, pops_oldest, pops_newest, drains, clears}
 use Rattle.schnellru.specs.Runs.{reserves, shrinks, AnyStep, calls as any_call, writes, sets_limiter as sets}
@@ -24,6 +25,7 @@ module _ {K V S H : Type 0} {rules : Rules K V S} {offers : Offers K V S K} {eq 
   step_kind : (call : Call K V S) (reply : Reply K V) → StepOf rules offers eq hash_of old call reply new
       → Kind rules offers eq hash_of old new call
   step_kind (calls.Insert k v) reply (result, h, is) = calls_map (inserts k v result h)
+  step_kind (calls.InsertWith k v) reply (result, out, h, is) = calls_map (inserts k v result (plain_insert h))
   step_kind (calls.GetOrInsert k v) reply (result, h, is) = calls_map (makes_newest v k result h)
   step_kind (calls.Get k) reply (is, e) = calls_map (gets k e)
   step_kind (calls.Peek k) reply (is, e) = stays e

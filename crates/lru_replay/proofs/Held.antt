@@ -29,6 +29,12 @@ short_command (commands.Insert k v) h = omega (
   length-append (decimal k)
       (32 ∷ decimal v),
 )
+short_command (commands.Put k v) h = omega (
+  arith,
+  short_number k h.0,
+  short_number v h.1,
+  length-append (decimal k) (32 ∷ decimal v),
+)
 short_command (commands.Get k) h = omega (arith, short_number k h)
 short_command (commands.Peek k) h = omega (arith, short_number k h)
 short_command (commands.Remove k) h = omega (arith, short_number k h)

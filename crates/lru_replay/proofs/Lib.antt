@@ -7,6 +7,7 @@ pub mod Spelled
 pub mod Held
 pub mod EmptyMaps
 pub mod Pops
+pub mod KeptPairs
 pub mod DrainedPairs
 pub mod SomeSteps
 pub mod CallRuns

@@ -5,8 +5,10 @@ use Rattle.std.specs.List.{IsDistinct}
 use Rattle.std.specs.declared.alloc.AllocError.{AllocError}
 use Rattle.lru_limits.specs.Rules.{Rules, Offers}
 use Rattle.schnellru.proofs.CallerLemmas.{any_step_same, has_tables, shrink_contents}
+use Rattle.schnellru.proofs.HandingLemmas.{insert_granted}
 use Rattle.schnellru.specs.Exact.{AlwaysGrants, HasTables, HasTableFor, InsertsInList}
 use Rattle.schnellru.specs.GetOrInserts.{MakesNewest, got, inserted}
+use Rattle.schnellru.specs.HandedOver.{noting, noting_offers, noted, InsertHands}
 use Rattle.schnellru.specs.Inserts.{Insert}
 use Rattle.schnellru.specs.Lists.{lookup, lookup_entry, after, newest_value, keys_of}
 use Rattle.schnellru.specs.Place.{asked}
@@ -17,7 +19,7 @@ use Rattle.schnellru.specs.Sizes.{usage}
 use Rattle.schnellru.specs.State.{State, Contents, contents, IsMap}
 use Rattle.schnellru.specs.declared.map.reserve.ReserveError.{ReserveError}
 use Rattle.lru_replay.specs.CallRuns.{IsRun, CallStep, SummingStep}
-use Rattle.lru_replay.specs.ListRuns.{ListStep, ListCallStep, ListSummingStep, emptied}
+use Rattle.lru_replay.specs.ListRuns.{ListStep, ListCallStep, ListSummingStep, beside, emptied}
 use Rattle.lru_replay.specs.Replies.{Reply, value, pair, listed, made_reply}
 use Rattle.lru_replay.specs.Steps.{Step}
 use Rattle.lru_replay.specs.declared.call.Call.{Call}
@@ -59,7 +61,18 @@ module _ {K V S H : Type 0} (rules : Rules K V S) (offers : Offers K V S K) (eq 
       reserve_same n result (no_memory_to_grow l count bytes t g r e) = ap contents e ∙ asked_same bytes
       reserve_same n result (denied_room l count bytes t d r e) = ap contents e ∙ asked_same bytes
 
+    -- beside a list the limiter permits as much
+    noting_grants : AlwaysGrants (noting rules)
+    noting_grants s bytes = ((grants s.0 bytes).0, ap (λ t. (t, s.1)) (grants s.0 bytes).1)
+
     module _ (old new : State K V S H) (tables : HasTables old) where
+      handed_in_list : (key : K) (v : V) (result : Result Bool AllocError) (out : List (K × V))
+          → InsertHands rules offers eq hash_of key v old result out new
+          → InsertsInList (noting rules) (noting_offers offers) eq key v (beside [] (contents old)) result
+          (beside out (contents new))
+      handed_in_list key v result out step = insert_granted (noting rules) (noting_offers offers) eq key v
+          (noted [] old) (noted out new) result noting_grants tables step
+
       made_in_list : (key : K) (v : V) (result : Result Bool AllocError) (reply : Reply K V)
           → MakesNewest rules offers eq hash_of (λ made. made ≡ v) key old result new
           → reply ≡ made_reply result new.pairs
@@ -79,6 +92,7 @@ module _ {K V S H : Type 0} (rules : Rules K V S) (offers : Offers K V S K) (eq 
       in_list : (call : Call K V S) (reply : Reply K V) → Step rules offers eq hash_of old call reply new
           → ListStep rules offers eq (hash_of old.hasher) (contents old) call reply (contents new)
       in_list (calls.Insert k v) reply (result, h, is) = (result, law k v old result new grants tables h, is)
+      in_list (calls.InsertWith k v) reply (result, out, h, is) = (result, out, handed_in_list k v result out h, is)
       in_list (calls.GetOrInsert k v) reply (result, h, is) = made_in_list k v result reply h is
       in_list (calls.Get k) reply (is, e) = (is, ap contents e)
       in_list (calls.Peek k) reply (is, e) = (is, ap contents e)

@@ -1,7 +1,7 @@
 -- From every map with a sound table the call of each command can end: there is a reply that it may give, and a map that
 -- it may leave.
 use Rattle.std.proofs.Common.{ℕ, zero, suc, ◌+◌, ◌≤◌}
-use Rattle.std.proofs.Common.{[], ◌++◌, length, option_map, refl, arith}
+use Rattle.std.proofs.Common.{[], ◌++◌, length, option_map, inl, inr, refl, arith}
 use Rattle.std.specs.Prelude.{nat_eq}
 use Rattle.lru_limits.specs.Rules.{Rules, Offers}
 use Rattle.schnellru.specs.Lists.{lookup, lookup_entry, first, last}
@@ -13,39 +13,39 @@ use Rattle.schnellru.proofs.CallerLemmas.{some_shrink, length-without, length-wi
 use Rattle.lru_replay.specs.declared.command.Command.{Command}
 use Rattle.lru_replay.specs.declared.command.Command.TheVariants as commands
 use Rattle.lru_replay.specs.declared.figures.Figures.{Figures}
-use Rattle.lru_replay.specs.Commands.{call_of}
 use Rattle.lru_replay.specs.Limits.{AlwaysOffers}
+use Rattle.lru_replay.specs.LineRuns.{AnswersCommand}
 use Rattle.lru_replay.specs.Maps.{Map, hash_of}
-use Rattle.lru_replay.specs.Replies.{Reply, value, pair, listed, reserved, shrunk, stats, done, insert_reply}
-use Rattle.lru_replay.specs.Steps.{Step}
+use Rattle.lru_replay.specs.Replies.{Reply, value, pair, listed, reserved, shrunk, stats, done, no_memory}
+use Rattle.lru_replay.specs.Replies.{insert_reply}
 
 module _ {S : Type 0} (rules : Rules ℕ ℕ S) (offers : Offers ℕ ℕ S ℕ) (offered : AlwaysOffers offers) (old : Map S)
     (ok : IsSized old) where
   -- the call of the command can end
   abbrev pub CanEnd : Command → Type 0
   CanEnd command = (reply : Reply ℕ ℕ) × (new : Map S)
-      × Step rules offers nat_eq hash_of old (call_of command) reply new × IsSized new
+      × AnswersCommand rules offers old command reply new × IsSized new
 
   some_removal : (key : ℕ) → CanEnd (commands.Remove key)
   some_removal key =
       let result = option_map (λ p. p.1) (left_of rules old.limiter (lookup_entry (nat_eq key) old.pairs)) in
       let (new, leaves, sized, freed) = some_leave old (removal rules (nat_eq key) (contents old)) ok
       (length-without (nat_eq key) old.pairs) in
-      (value result, new, (result, record { value = refl; state = leaves }, refl), sized)
+      (value result, new, inl (result, record { value = refl; state = leaves }, refl), sized)
 
   some_pop_oldest : CanEnd commands.PopOldest
   some_pop_oldest =
       let result = left_of rules old.limiter (last old.pairs) in
       let (new, leaves, sized, freed) = some_leave old (pop rules (contents old)) ok
       (omega (arith, length-without_last old.pairs)) in
-      (pair result, new, (result, record { pair = refl; state = leaves }, refl), sized)
+      (pair result, new, inl (result, record { pair = refl; state = leaves }, refl), sized)
 
   some_pop_newest : CanEnd commands.PopNewest
   some_pop_newest =
       let result = left_of rules old.limiter (first old.pairs) in
       let (new, leaves, sized, freed) = some_leave old (pop_first rules (contents old)) ok
       (length-without_first old.pairs) in
-      (pair result, new, (result, record { pair = refl; state = leaves }, refl), sized)
+      (pair result, new, inl (result, record { pair = refl; state = leaves }, refl), sized)
 
   fewer_left : (n : ℕ) (c : Contents ℕ ℕ S) → length (pops_first rules n c).pairs ≤ length c.pairs
   fewer_left zero c = omega arith
@@ -58,31 +58,32 @@ module _ {S : Type 0} (rules : Rules ℕ ℕ S) (offers : Offers ℕ ℕ S ℕ) 
       (fewer_left n (contents old)) in (
         listed pairs,
         cleared rules mid,
-        (pairs, record { pairs = refl; state = (mid, leaves, refl) }, refl),
+        inl (pairs, record { pairs = refl; state = (mid, leaves, refl) }, refl),
         cleared_sized rules mid sized,
       )
 
   pub some_step : (command : Command) → CanEnd command
   some_step (commands.Insert k v) =
       let (result, new, is, after) = some_insert rules offers nat_eq hash_of k v old ok offered in
-      (insert_reply result, new, (result, is, refl), after)
+      (insert_reply result, new, inl (result, is, refl), after)
+  some_step (commands.Put k v) = (no_memory, old, inr (tt, refl, refl), ok)
   some_step (commands.Get k) = (
     value (lookup (nat_eq k) old.pairs),
     promoted (nat_eq k) old,
-    (refl, refl),
+    inl (refl, refl),
     promoted_sized old (nat_eq k) ok,
   )
-  some_step (commands.Peek k) = (value (lookup (nat_eq k) old.pairs), old, (refl, refl), ok)
+  some_step (commands.Peek k) = (value (lookup (nat_eq k) old.pairs), old, inl (refl, refl), ok)
   some_step (commands.Remove k) = some_removal k
   some_step (commands.Reserve n) = let (result, new, is, after) = some_reservation rules n old ok in
-      (reserved result, new, (result, is, refl), after)
+      (reserved result, new, inl (result, is, refl), after)
   some_step commands.Shrink = let (result, new, is, after) = some_shrink old ok in
-      (shrunk result, new, (result, is, refl), after)
+      (shrunk result, new, inl (result, is, refl), after)
   some_step (commands.Drain n) = some_drain n
   some_step commands.PopOldest = some_pop_oldest
   some_step commands.PopNewest = some_pop_newest
-  some_step commands.Clear = (done, cleared rules old, (refl, refl), cleared_sized rules old ok)
-  some_step commands.List = (listed old.pairs, old, (refl, refl), ok)
+  some_step commands.Clear = (done, cleared rules old, inl (refl, refl), cleared_sized rules old ok)
+  some_step commands.List = (listed old.pairs, old, inl (refl, refl), ok)
   some_step commands.Stats =
       let figures : Figures = record {
         len = length old.pairs;
@@ -94,7 +95,7 @@ module _ {S : Type 0} (rules : Rules ℕ ℕ S) (offers : Offers ℕ ℕ S ℕ) 
       } in (
         stats figures,
         old,
-        (
+        inl (
           figures,
           record {
             len = refl;

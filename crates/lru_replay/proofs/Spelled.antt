@@ -46,7 +46,8 @@ guesses line = commands.Insert (digits_value 10 (front_word (drop 7 line))) (dig
     ∷ commands.Get (digits_value 10 (drop 4 line)) ∷ commands.Peek (digits_value 10 (drop 5 line))
     ∷ commands.Remove (digits_value 10 (drop 7 line)) ∷ commands.Reserve (digits_value 10 (drop 8 line))
     ∷ commands.Drain (digits_value 10 (drop 6 line)) ∷ commands.PopOldest ∷ commands.PopNewest ∷ commands.Clear
-    ∷ commands.List ∷ commands.Stats ∷ commands.Shrink ∷ []
+    ∷ commands.List ∷ commands.Stats ∷ commands.Shrink
+    ∷ commands.Put (digits_value 10 (front_word (drop 4 line))) (digits_value 10 (after_word (drop 4 line))) ∷ []
 
 abbrev pub Spelled : List ℕ → Type 0
 Spelled line = (command : Command) × SpellsCommand line command
@@ -67,6 +68,7 @@ lt_or n limit = told (nat_lt n limit) (Decides-ltb n limit)
 
 fits_command : (command : Command) → FitsCommand command ⊎ (FitsCommand command → ⊥)
 fits_command (commands.Insert k v) = both_or (lt_or k (2 ^ 64)) (lt_or v (2 ^ 64))
+fits_command (commands.Put k v) = both_or (lt_or k (2 ^ 64)) (lt_or v (2 ^ 64))
 fits_command (commands.Get k) = lt_or k (2 ^ 64)
 fits_command (commands.Peek k) = lt_or k (2 ^ 64)
 fits_command (commands.Remove k) = lt_or k (2 ^ 64)
@@ -112,6 +114,12 @@ guessed line P all (commands.Insert k v) (fits, is) =
     let value = second_number (drop 7 line) k v fits.0 fits.1 rest in
     subst (λ n. P (commands.Insert k n)) value
     (subst (λ n. P (commands.Insert n (digits_value 10 (after_word (drop 7 line))))) key all.0)
+guessed line P all (commands.Put k v) (fits, is) =
+    let rest : drop 4 line ≡ pair_spelling k v = ap (drop 4) is in
+    let key = first_number (drop 4 line) k v fits.0 fits.1 rest in
+    let value = second_number (drop 4 line) k v fits.0 fits.1 rest in
+    subst (λ n. P (commands.Put k n)) value
+    (subst (λ n. P (commands.Put n (digits_value 10 (after_word (drop 4 line))))) key all.1.1.1.1.1.1.1.1.1.1.1.1.0)
 guessed line P all (commands.Get k) (fits, is) = subst (λ n. P (commands.Get n))
     (ap (λ l. digits_value 10 (drop 4 l)) is ∙ value_of_decimal k fits) all.1.0
 guessed line P all (commands.Peek k) (fits, is) = subst (λ n. P (commands.Peek n))

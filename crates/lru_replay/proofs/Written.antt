@@ -1,12 +1,14 @@
 -- Writing one text after another.
-use Rattle.std.proofs.Common.{◌≡◌, ℕ, ◌+◌, ◌-◌, ◌/◌, ◌%◌, ◌<◌, ◌≤◌, ◌^◌, List, [], ◌∷◌, ◌++◌, length, set, take, drop}
+use Rattle.std.proofs.Common.{◌≡◌, ℕ, Bool, ◌+◌, ◌-◌, ◌/◌, ◌%◌, ◌<◌, ◌≤◌, ◌^◌, List, [], ◌∷◌, ◌++◌, length, set, take, drop}
 use Rattle.std.proofs.Common.{refl, sym, ap, ◌∙◌, arith, Option, Result, Ok, Err, decimal, append_assoc}
 use Rattle.std.proofs.lemmas.List.{drop-set, length-append, take-append-drop, take_rest}
 use Rattle.std.proofs.lemmas.Fmt.{decimal_step}
+use Rattle.std.specs.declared.alloc.AllocError.{AllocError}
 use Rattle.std.specs.Io.KnownBytes.{Appends}
 use Rattle.std.proofs.KnownBytes.{Appends-trans}
 use Rattle.lru_replay.specs.declared.outcome.ReplayError.{ReplayError}
-use Rattle.lru_replay.specs.Output.{Writes, Fails, rest_text, pair_text}
+use Rattle.lru_replay.specs.Output.{Writes, Fails, rest_text, pair_text, insert_text, reply_text}
+use Rattle.lru_replay.specs.Replies.{insert_reply}
 
 -- the next text, after one that was written
 pub writes_after : {A : Type 0} (a b c : Option (List ℕ)) (t u : List ℕ) (r : Result A ReplayError) → Appends a b t
@@ -33,6 +35,12 @@ failed a b c t u v all e p (same, part, (rest, is), q) whole = (
 pub failed_front : (a b : Option (List ℕ)) (t u : List ℕ) (e : ReplayError) → Fails e a b t → Fails e a b (t ++ u)
 failed_front a b t u e (same, part, (rest, is), p) =
     (same, part, (rest ++ u, ap (λ l. l ++ u) is ∙ append_assoc part rest u), p)
+
+-- the text of an insert is that of its reply
+pub inserted_text : (cost : Option ℕ) (result : Result Bool AllocError)
+    → insert_text result ≡ reply_text cost (insert_reply result)
+inserted_text cost (Ok there) = refl
+inserted_text cost (Err e) = refl
 
 pub rest_text-append : (xs ys : List (ℕ × ℕ)) → rest_text (xs ++ ys) ≡ rest_text xs ++ rest_text ys
 rest_text-append [] ys = refl

@@ -22,6 +22,7 @@ module _ {S C R : Type 0} (IsStep : S → C → R → S → Type 0) (Holds : S �
 module _ {K V S : Type 0} where
   -- the pairs that the call gives are stored, which takes memory
   abbrev pub StoresPairs : Call K V S → Type 0
+  StoresPairs (calls.InsertWith key v) = Unit {0}
   StoresPairs calls.List = Unit {0}
   StoresPairs (calls.Drain front back) = Unit {0}
   StoresPairs call = ⊥

@@ -8,6 +8,7 @@ use Rattle.lru_replay.specs.declared.command.Command.TheVariants as commands
 -- The call of the same name. A drain takes pairs from the newest end alone.
 abbrev pub call_of : {S : Type 0} → Command → Call ℕ ℕ S
 call_of (commands.Insert k v) = calls.Insert k v
+call_of (commands.Put k v) = calls.InsertWith k v
 call_of (commands.Get k) = calls.Get k
 call_of (commands.Peek k) = calls.Peek k
 call_of (commands.Remove k) = calls.Remove k

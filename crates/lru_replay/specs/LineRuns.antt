@@ -5,6 +5,7 @@ use Rattle.lru_limits.specs.Rules.{Rules, Offers}
 use Rattle.schnellru.specs.Lists.{IsFront}
 use Rattle.schnellru.specs.State.{IsSized}
 use Rattle.lru_replay.specs.declared.command.Command.{Command}
+use Rattle.lru_replay.specs.declared.command.Command.TheVariants as commands
 use Rattle.lru_replay.specs.declared.outcome.ReplayError.{ReplayError}
 use Rattle.lru_replay.specs.declared.outcome.ReplayError.TheVariants as errors
 use Rattle.lru_replay.specs.CallRuns.{IsRun}
@@ -13,14 +14,25 @@ use Rattle.lru_replay.specs.Grammar.{SpellsCommand}
 use Rattle.lru_replay.specs.Lines.{lines_of, fed, TakesLines, TakesWhole}
 use Rattle.lru_replay.specs.Maps.{Map, hash_of}
 use Rattle.lru_replay.specs.Output.{reply_text, bad_text, Writes}
-use Rattle.lru_replay.specs.Replies.{Reply}
+use Rattle.lru_replay.specs.Replies.{Reply, no_memory}
 use Rattle.lru_replay.specs.Steps.{Step}
 
+-- The pairs are stored before they are written, which takes memory: those of an insert stand behind its answer.
+abbrev pub StoresFirst : Command → Type 0
+StoresFirst (commands.Put k v) = Unit {0}
+StoresFirst command = ⊥
+
+module _ {S : Type 0} (rules : Rules ℕ ℕ S) (offers : Offers ℕ ℕ S ℕ) where
+  -- the call of the command is carried out, or no memory is found to store pairs, and nothing changes
+  abbrev pub AnswersCommand : Map S → Command → Reply ℕ ℕ → Map S → Type 0
+  AnswersCommand old command reply new = Step rules offers nat_eq hash_of old (call_of command) reply new
+      ⊎ (StoresFirst command × (reply ≡ no_memory) × (new ≡ old))
+
 module _ {S : Type 0} (rules : Rules ℕ ℕ S) (offers : Offers ℕ ℕ S ℕ) (told : S → Option ℕ) where
-  -- the call of the command is carried out, and the text is that of the reply
+  -- the command is carried out, and the text is that of the reply
   abbrev pub CommandStep : Map S → Command → List ℕ → Map S → Type 0
   CommandStep old command text new = (reply : Reply ℕ ℕ)
-      × Step rules offers nat_eq hash_of old (call_of command) reply new
+      × AnswersCommand rules offers old command reply new
       × (text ≡ reply_text (told old.limiter) reply)
 
   -- The line spells a command, which is carried out, or it spells none, is bad, and changes nothing.

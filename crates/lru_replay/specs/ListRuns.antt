@@ -1,7 +1,7 @@
 -- Calls on a list of pairs under a limiter, newest first: what each says and leaves where there is no table.
 --     rules, offers, eq   as in `Steps`
 --     hash_of k           the hash of the key k
-use Rattle.std.specs.Prelude.{◌≡◌, ℕ, ◌++◌, Bool, [], Option, Some, None, Result, MatchOption, is_some, length}
+use Rattle.std.specs.Prelude.{◌≡◌, ℕ, ◌++◌, Bool, List, [], Option, Some, None, Result, MatchOption, is_some, length}
 use Rattle.std.specs.Prelude.{option_map}
 use Rattle.std.specs.Map.{set_value}
 use Rattle.std.specs.declared.alloc.AllocError.{AllocError}
@@ -9,6 +9,7 @@ use Rattle.lru_limits.specs.Rules.{Rules, Offers}
 use Rattle.schnellru.specs.Calls.{left_of, removal, pop_first}
 use Rattle.schnellru.specs.Drains.{pops_first, newest_given, oldest_given}
 use Rattle.schnellru.specs.Exact.{InsertsInList}
+use Rattle.schnellru.specs.HandedOver.{noting, noting_offers}
 use Rattle.schnellru.specs.Lists.{first, last, front, lookup, lookup_entry}
 use Rattle.schnellru.specs.State.{Contents, pop, pops}
 use Rattle.schnellru.specs.declared.map.reserve.ReserveError.{ReserveError}
@@ -16,8 +17,8 @@ use Rattle.lru_replay.specs.declared.call.Call.{Call}
 use Rattle.lru_replay.specs.declared.call.Call.TheVariants as calls
 use Rattle.lru_replay.specs.declared.figures.Figures.{Figures}
 use Rattle.lru_replay.specs.CallRuns.{StepIfMemory, StepIfKept}
-use Rattle.lru_replay.specs.Replies.{Reply, flag, value, pair, listed, reserved, shrunk, stats, done, insert_reply}
-use Rattle.lru_replay.specs.Replies.{made_reply}
+use Rattle.lru_replay.specs.Replies.{Reply, flag, given, value, pair, listed, reserved, shrunk, stats, done}
+use Rattle.lru_replay.specs.Replies.{insert_reply, made_reply}
 use Rattle.lru_replay.specs.Steps.{FindsByHash}
 
 module _ {K V S : Type 0} (eq : K → K → Bool) where
@@ -34,12 +35,19 @@ module _ {K V S : Type 0} (eq : K → K → Bool) where
 abbrev pub emptied : {K V S : Type 0} → Rules K V S → Contents K V S → Contents K V S
 emptied rules c = record { pairs = []; limiter = rules.on_cleared c.limiter }
 
+-- the same pairs, with the limiter beside a list
+abbrev pub beside : {K V S : Type 0} → List (K × V) → Contents K V S → Contents K V (S × List (K × V))
+beside list c = record { pairs = c.pairs; limiter = (c.limiter, list) }
+
 module _ {K V S : Type 0} (rules : Rules K V S) (offers : Offers K V S K) (eq : K → K → Bool) (hash_of : K → ℕ) where
   -- From the list c, the call may say this and leave d. A table alone tells what room is reserved, whether it shrinks,
   -- and all figures but the number of pairs, so of these nothing is said.
   abbrev pub ListStep : Contents K V S → Call K V S → Reply K V → Contents K V S → Type 0
   ListStep c (calls.Insert key v) reply d = (result : Result Bool AllocError)
       × InsertsInList rules offers eq key v c result d × (reply ≡ insert_reply result)
+  ListStep c (calls.InsertWith key v) reply d = (result : Result Bool AllocError) × (out : List (K × V))
+      × InsertsInList (noting rules) (noting_offers offers) eq key v (beside [] c) result (beside out d)
+      × (reply ≡ given result out)
   ListStep c (calls.GetOrInsert key v) reply d = MatchOption (lookup (eq key) c.pairs)
       ((result : Result Bool AllocError) × InsertsInList rules offers eq key v c result d
       × (reply ≡ made_reply result d.pairs))

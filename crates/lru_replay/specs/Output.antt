@@ -9,8 +9,8 @@ use Rattle.schnellru.specs.declared.map.reserve.ReserveError.TheVariants.{TooLar
 use Rattle.lru_replay.specs.declared.figures.Figures.{Figures}
 use Rattle.lru_replay.specs.declared.outcome.ReplayError.{ReplayError}
 use Rattle.lru_replay.specs.declared.outcome.ReplayError.TheVariants as errors
-use Rattle.lru_replay.specs.Replies.{Reply, flag, value, pair, listed, reserved, shrunk, stats, done, no_memory}
-use Rattle.lru_replay.specs.Replies.{cost_differs}
+use Rattle.lru_replay.specs.Replies.{Reply, flag, given, value, pair, listed, reserved, shrunk, stats, done}
+use Rattle.lru_replay.specs.Replies.{no_memory, cost_differs}
 
 -- a write failed, and a beginning of the text was written
 abbrev pub Fails : ReplayError → Option (List ℕ) → Option (List ℕ) → List ℕ → Type 0
@@ -54,6 +54,11 @@ abbrev pub flag_text : Bool → List ℕ
 flag_text true = codes "true"
 flag_text false = codes "false"
 
+-- whether the key is there, or that no memory was found
+abbrev pub insert_text : Result Bool AllocError → List ℕ
+insert_text (Ok there) = flag_text there
+insert_text (Err e) = codes "no memory"
+
 abbrev pub reservation_text : Result (Unit {0}) ReserveError → List ℕ
 reservation_text (Ok _) = codes "ok"
 reservation_text (Err TooLarge) = codes "too large"
@@ -88,6 +93,7 @@ figures_text figures = named_text (codes "len ") figures.len ++ (named_text (cod
 -- A reply, where the limiter keeps this cost, if any. No line is told that a cost differs.
 abbrev pub reply_text : Option ℕ → Reply ℕ ℕ → List ℕ
 reply_text cost (flag there) = flag_text there
+reply_text cost (given result out) = insert_text result ++ rest_text out
 reply_text cost (value v) = value_text v
 reply_text cost (pair left) = left_text left
 reply_text cost (listed pairs) = pairs_text pairs

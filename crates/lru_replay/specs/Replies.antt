@@ -11,6 +11,8 @@ use Rattle.lru_replay.specs.declared.figures.Figures.{Figures}
 pub data Reply (K V : Type 0) : Type 0 where
   -- whether the key of an insertion or of a write is there now
   flag : Bool → Reply K V
+  -- how an insert ended, and what it handed over, in that order
+  given : Result Bool AllocError → List (K × V) → Reply K V
   -- the value of a key, if it is there
   value : Option V → Reply K V
   -- a pair, if there is one
@@ -29,17 +31,28 @@ pub data Reply (K V : Type 0) : Type 0 where
   -- a sum would change by it, so it is not done
   cost_differs : Reply K V
 
+-- what a reply tells of memory
+pub data Want : Type 0 where
+  -- that all was found
+  found_all : Want
+  -- that some was not, and no more
+  lacks : Want
+  -- that some was not, and the pairs that were handed over
+  lacks_beside : Want
+
 module _ {K V : Type 0} where
-  -- whether no memory was found
-  abbrev pub wants_memory : Reply K V → Bool
-  wants_memory no_memory = true
-  wants_memory (reserved (Err Memory)) = true
-  wants_memory (shrunk (Err e)) = true
-  wants_memory reply = false
+  -- what it tells of memory
+  abbrev pub want_of : Reply K V → Want
+  want_of no_memory = lacks
+  want_of (reserved (Err Memory)) = lacks
+  want_of (shrunk (Err e)) = lacks
+  want_of (given (Err e) out) = lacks_beside
+  want_of reply = found_all
 
   -- what an answer says
   abbrev pub said : Answer K V → Reply K V
   said (answers.Flag b) = flag b
+  said (answers.Given result out) = given result out.items
   said (answers.Value v) = value v
   said (answers.Pair p) = pair p
   said (answers.Pairs ps) = listed ps.items

@@ -9,6 +9,7 @@ use Rattle.lru_limits.specs.Rules.{Rules, Offers}
 use Rattle.schnellru.specs.Calls.{promoted, written, Remove, PopOldest, PopNewest, cleared}
 use Rattle.schnellru.specs.Drains.{Drained}
 use Rattle.schnellru.specs.GetOrInserts.{MakesNewest}
+use Rattle.schnellru.specs.HandedOver.{InsertHands}
 use Rattle.schnellru.specs.Inserts.{Insert}
 use Rattle.schnellru.specs.Lists.{first, last, lookup, lookup_entry}
 use Rattle.schnellru.specs.Reservations.{Reserve}
@@ -19,8 +20,8 @@ use Rattle.lru_replay.specs.declared.call.Call.{Call}
 use Rattle.lru_replay.specs.declared.call.Call.TheVariants as calls
 use Rattle.lru_replay.specs.declared.figures.Figures.{Figures}
 use Rattle.lru_replay.specs.Figures.{IsFigures}
-use Rattle.lru_replay.specs.Replies.{Reply, flag, value, pair, listed, reserved, shrunk, stats, done, insert_reply}
-use Rattle.lru_replay.specs.Replies.{made_reply}
+use Rattle.lru_replay.specs.Replies.{Reply, flag, given, value, pair, listed, reserved, shrunk, stats, done}
+use Rattle.lru_replay.specs.Replies.{insert_reply, made_reply}
 
 module _ {K V : Type 0} (eq : K → K → Bool) (hash_of : K → ℕ) where
   -- What a search by a hash finds of a key: its pair, whose hash has the tag of the hash, or nothing, where the key is
@@ -43,6 +44,8 @@ module _ {K V S H : Type 0} (rules : Rules K V S) (offers : Offers K V S K) (eq 
   abbrev pub Step : State K V S H → Call K V S → Reply K V → State K V S H → Type 0
   Step old (calls.Insert key v) reply new = (result : Result Bool AllocError)
       × Insert rules offers eq hash_of key v old result new × (reply ≡ insert_reply result)
+  Step old (calls.InsertWith key v) reply new = (result : Result Bool AllocError) × (out : List (K × V))
+      × InsertHands rules offers eq hash_of key v old result out new × (reply ≡ given result out)
   Step old (calls.GetOrInsert key v) reply new = (result : Result Bool AllocError)
       × MakesNewest rules offers eq hash_of (λ made. made ≡ v) key old result new
       × (reply ≡ made_reply result new.pairs)

@@ -11,6 +11,8 @@ use std::alloc::AllocError;
 pub enum Call<K, V, L> {
     /// `insert`: makes the pair of this key and value the newest.
     Insert(K, V),
+    /// `insert_with`: the same as `Insert`, and gives the pairs that leave.
+    InsertWith(K, V),
     /// `get_or_insert`: gives the value of the key, which is inserted with this value where it is not there.
     GetOrInsert(K, V),
     /// `get`: gives the value of the key, and makes its pair the newest.
@@ -59,6 +61,13 @@ pub enum Call<K, V, L> {
 pub enum Answer<K, V> {
     /// To `Insert` and `Write`: whether the key is in the map.
     Flag(bool),
+    /// To `InsertWith`: what the insert answered, and what it handed over.
+    Given {
+        /// Whether the key is in the map, or that no memory was found.
+        done: Result<bool, AllocError>,
+        /// The pairs that were handed over, in that order.
+        out: Vec<(K, V)>,
+    },
     /// To `GetOrInsert`, `Get`, `Peek`, `Remove` and the searches by a hash: the value, if there is one.
     Value(Option<V>),
     /// To the pops and the peeks at an end: the pair, if there is one.
@@ -82,8 +91,8 @@ pub enum Answer<K, V> {
         /// What inserts have moved and placed, and what shrinks have placed anew.
         report: MoveReport,
     },
-    /// To `Insert` and `GetOrInsert`: no memory was found. To `List` and `Drain`: none was found for the pairs, and
-    /// nothing has changed. A reservation tells it in `Reserved`, a shrink in `Shrunk`.
+    /// To `Insert` and `GetOrInsert`: no memory was found. To `InsertWith`, `List` and `Drain`: none was found for the
+    /// pairs to give, and nothing has changed. A reservation tells it in `Reserved`, a shrink in `Shrunk`.
     Memory,
     /// To `Write` and `SetLimiter`, under a summing limiter: the sum would be another, and nothing has changed.
     CostDiffers,

@@ -10,6 +10,8 @@ use crate::bytes::index_of;
 pub enum Command {
     /// `insert K V`: makes the pair of this key and value the newest.
     Insert(u64, u64),
+    /// `put K V`: the same as `insert`, and gives the pairs that leave.
+    Put(u64, u64),
     /// `get K`: gives the value of the key, and makes its pair the newest.
     Get(u64),
     /// `peek K`: gives the value of the key.
@@ -100,6 +102,10 @@ pub fn command_of(line: &[u8]) -> Option<Command>
     if let Some(rest) = after(line, b"insert ") {
         let (key, value) = number_pair(rest)?;
         return Some(Command::Insert(key, value));
+    }
+    if let Some(rest) = after(line, b"put ") {
+        let (key, value) = number_pair(rest)?;
+        return Some(Command::Put(key, value));
     }
     if let Some(rest) = after(line, b"get ") {
         let key = number(rest)?;

@@ -10,7 +10,7 @@ ghost use Rattle.schnellru.specs.Theorems.{PaysForMoves, UsesAtMost, IsSummed};
 ghost use Rattle.lru_replay.specs.declared.call.Call.{Call};
 ghost use Rattle.lru_replay.specs.CallRuns.{IsRun, CallStep, SummingStep, SetsNoLimiter, HasPlainSearch};
 ghost use Rattle.lru_replay.specs.ListRuns.{ListCallStep, ListSummingStep};
-ghost use Rattle.lru_replay.specs.Replies.{Reply, wants_memory};
+ghost use Rattle.lru_replay.specs.Replies.{Reply, want_of};
 
 use schnellru::{ByCost, ByLength, ByMemoryUsage, Costed, Insertion, Limiter, Summing, laws};
 use std::hash::{BuildHasher, Hash};
@@ -127,7 +127,7 @@ pub fn small_calls_are_alike<K: Eq + Hash, V, L: Insertion<K, V, K>, S: BuildHas
         (λ st. buckets st ≤ 16) old calls replies new →
         IsRun (CallStep L.rules L.offers K.eq (hash_by K.hash_input S.BuildHasher S.Hasher.Hasher))
         (λ st. buckets st ≤ 16) other calls answers last →
-        map wants_memory replies ≡ map wants_memory answers →
+        map want_of replies ≡ map want_of answers →
         (replies ≡ answers) × LookAlike new last }
 {
     laws::small_inserts_look_alike::<K, V, K, L, S>();
@@ -143,7 +143,7 @@ pub fn small_summing_is_alike<K: Eq + Hash, V, L: Summing<K, V, K>, S: BuildHash
         L.cost_of L.account) (λ st. buckets st ≤ 16) old calls replies new →
         IsRun (SummingStep L.rules L.offers K.eq (hash_by K.hash_input S.BuildHasher S.Hasher.Hasher)
         L.cost_of L.account) (λ st. buckets st ≤ 16) other calls answers last →
-        map wants_memory replies ≡ map wants_memory answers →
+        map want_of replies ≡ map want_of answers →
         (replies ≡ answers) × LookAlike new last }
 {
     laws::small_inserts_look_alike::<K, V, K, L, S>();

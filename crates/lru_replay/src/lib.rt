@@ -16,6 +16,7 @@ mod line;
 mod outcome;
 mod output;
 mod pairs;
+mod put;
 mod replays;
 mod runs;
 mod steps;

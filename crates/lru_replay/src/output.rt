@@ -1,8 +1,8 @@
 //! The texts of replies, written piece by piece.
-ghost use Rattle.std.specs.Prelude.{◌≡◌, ℕ, Bool, Option, [], ◌∷◌, decimal};
+ghost use Rattle.std.specs.Prelude.{◌≡◌, ℕ, Bool, Option, [], ◌∷◌, ◌++◌, decimal};
 ghost use Rattle.lru_replay.specs.Output.{Writes, flag_text, value_text, left_text, pair_text, rest_text, pairs_text};
 ghost use Rattle.lru_replay.specs.Output.{reservation_text, shrink_text, figures_text, placed_text, cost_text};
-ghost use Rattle.lru_replay.specs.Output.{named_text, taken_text};
+ghost use Rattle.lru_replay.specs.Output.{named_text, taken_text, insert_text};
 
 use crate::figures::Figures;
 use crate::outcome::ReplayError;
@@ -41,6 +41,42 @@ pub fn write_flag<W: Write>(writer: &mut W, flag: bool) -> Result<(), ReplayErro
     } else {
         write_bytes(writer, b"false")
     }
+}
+
+/// Writes what an insert answered, and after it the pairs that it handed over.
+pub fn write_given<W: Write>(
+    writer: &mut W,
+    done: Result<bool, AllocError>,
+    out: &[(u64, u64)],
+) -> Result<(), ReplayError>
+    ensures { Writes (W.contents writer.old) (W.contents writer.new) result (insert_text done ++ rest_text out.now) }
+{
+    write_insert(writer, done)?;
+    write_handed(writer, out)
+}
+
+/// Writes whether the key is there, or that no memory was found.
+pub fn write_insert<W: Write>(
+    writer: &mut W,
+    done: Result<bool, AllocError>,
+) -> Result<(), ReplayError>
+    ensures { Writes (W.contents writer.old) (W.contents writer.new) result (insert_text done) }
+{
+    match done {
+        Ok(there) => write_flag(writer, there),
+        Err(_) => write_bytes(writer, b"no memory"),
+    }
+}
+
+/// Writes each pair with a space before it.
+fn write_handed<W: Write>(writer: &mut W, pairs: &[(u64, u64)]) -> Result<(), ReplayError>
+    ensures { Writes (W.contents writer.old) (W.contents writer.new) result (rest_text pairs.now) }
+{
+    for pair in pairs {
+        write_bytes(writer, b" ")?;
+        write_pair(writer, pair.0, pair.1)?;
+    }
+    Ok(())
 }
 
 /// Writes the value, or `none`.

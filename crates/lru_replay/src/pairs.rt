@@ -1,16 +1,19 @@
 //! The calls of a run that answer pairs, whose memory is taken first.
-ghost use Rattle.std.specs.Prelude.{◌≡◌, ◌++◌, ◌+◌, ◌≤◌, ◌<◌, option_to_list};
+ghost use Rattle.std.specs.Prelude.{◌≡◌, [], ◌∷◌, ◌++◌, ◌+◌, ◌≤◌, ◌<◌, option_to_list, IfOk};
+ghost use Rattle.std.specs.Result.{OnErr};
 ghost use Rattle.std.specs.Vec.{vec_len, vec_capacity};
 ghost use Rattle.lru_limits.specs.Hashing.{hash_by};
 ghost use Rattle.schnellru.specs.Drains.{newest_given, oldest_given, pops_first};
+ghost use Rattle.schnellru.specs.HandedOver.{InsertHands};
 ghost use Rattle.schnellru.specs.State.{contents, Leaves, pops};
 ghost use Rattle.lru_replay.specs.declared.call.Call.TheVariants as calls;
 ghost use Rattle.lru_replay.specs.CallRuns.{CallStep};
 ghost use Rattle.lru_replay.specs.Replies.{said};
 
 use crate::call::Answer;
+use schnellru::laws::inserts_hand_over_few;
 use schnellru::{Insertion, Limiter, LruMap};
-use std::alloc::Global;
+use std::alloc::{AllocError, Global};
 use std::hash::{BuildHasher, Hash};
 
 /// All pairs, newest first.
@@ -28,6 +31,51 @@ pub fn list<K: Copy + Eq + Hash, V: Copy, L: Insertion<K, V, K>, S: BuildHasher>
         pairs.push_reserved((*key, *value));
     }
     Answer::Pairs(pairs)
+}
+
+/// The answer to an insert that hands pairs over.
+pub fn insert_with<K: Eq + Hash + Drop, V: Drop, L: Insertion<K, V, K>, S: BuildHasher>(
+    alloc: Global,
+    map: &mut LruMap<K, V, L, S>,
+    key: K,
+    value: V,
+) -> Answer<K, V>
+    ensures { CallStep L.rules L.offers K.eq (hash_by K.hash_input S.BuildHasher S.Hasher.Hasher)
+        map.old (calls.InsertWith key value) (said result) map.new }
+{
+    match insert_and_keep(alloc, map, key, value) {
+        Ok((done, out)) => Answer::Given { done, out },
+        Err(_) => Answer::Memory,
+    }
+}
+
+/// An insert, and the pairs that it hands over, for which memory is taken first.
+pub fn insert_and_keep<K: Eq + Hash + Drop, V: Drop, L: Insertion<K, V, K>, S: BuildHasher>(
+    alloc: Global,
+    map: &mut LruMap<K, V, L, S>,
+    key: K,
+    value: V,
+) -> Result<(Result<bool, AllocError>, Vec<(K, V)>), AllocError>
+    ensures handed { IfOk result (λ answer. InsertHands L.rules L.offers K.eq
+        (hash_by K.hash_input S.BuildHasher S.Hasher.Hasher) key value map.old answer.0 answer.1.items map.new) }
+    ensures unchanged { OnErr result (map.new ≡ map.old) }
+{
+    // Nothing at run time: it tells the proof that there is room for all that is handed over.
+    inserts_hand_over_few::<K, V, K, L, S>();
+    let mut out = Vec::with_capacity(alloc, map.len() + 1)?;
+    let done = map.insert_with(key, value, &mut |key, value| keep(&mut out, (key, value)));
+    Ok((done, out))
+}
+
+/// Adds the pair where there is room.
+fn keep<K: Drop, V: Drop>(pairs: &mut Vec<(K, V)>, pair: (K, V))
+    ensures items { vec_len pairs.old < vec_capacity pairs.old → pairs.new.items ≡ pairs.old.items ++ pair ∷ [] }
+    ensures len { vec_len pairs.old < vec_capacity pairs.old → vec_len pairs.new ≡ vec_len pairs.old + 1 }
+    ensures capacity { vec_capacity pairs.new ≡ vec_capacity pairs.old }
+{
+    if pairs.len() < pairs.capacity() {
+        pairs.push_reserved(pair);
+    }
 }
 
 /// So many of the newest pairs, then so many of the oldest. The others are dropped.

@@ -18,9 +18,10 @@ use crate::figures::{TellsCost, figures_of};
 use crate::line::{Ending, Line, read_line};
 use crate::outcome::{ReplayEnd, ReplayError};
 use crate::output::{
-    write_bytes, write_cost, write_figures, write_flag, write_left, write_pairs, write_reservation,
-    write_shrink, write_value,
+    write_bytes, write_cost, write_figures, write_insert, write_left, write_pairs,
+    write_reservation, write_shrink, write_value,
 };
+use crate::put::put;
 use crate::steps::get;
 use schnellru::{
     ByCost, ByLength, ByMemoryUsage, Insertion, LruMap, RandomState, UnlimitedCompact,
@@ -33,6 +34,7 @@ const ENTRY_BYTES: usize = 32;
 
 /// Carries out what a line says, and writes the answer.
 fn carry_out<L: Insertion<u64, u64, u64> + TellsCost, W: Write>(
+    alloc: Global,
     map: &mut LruMap<u64, u64, L>,
     line: &[u8],
     writer: &mut W,
@@ -41,10 +43,8 @@ fn carry_out<L: Insertion<u64, u64, u64> + TellsCost, W: Write>(
         × Writes (W.contents writer.old) (W.contents writer.new) result text }
 {
     match command_of(line) {
-        Some(Command::Insert(key, value)) => match map.insert(key, value) {
-            Ok(there) => write_flag(writer, there),
-            Err(_) => write_bytes(writer, b"no memory"),
-        },
+        Some(Command::Insert(key, value)) => write_insert(writer, map.insert(key, value)),
+        Some(Command::Put(key, value)) => put(alloc, map, key, value, writer),
         Some(Command::Get(key)) => write_value(writer, get(map, &key)),
         Some(Command::Peek(key)) => write_value(writer, map.peek(&key).copied()),
         Some(Command::Remove(key)) => write_value(writer, map.remove(&key)),
@@ -68,6 +68,7 @@ fn carry_out<L: Insertion<u64, u64, u64> + TellsCost, W: Write>(
 
 /// Carries out what a line says, and writes the answer line.
 fn answer_line<L: Insertion<u64, u64, u64> + TellsCost, W: Write>(
+    alloc: Global,
     map: &mut LruMap<u64, u64, L>,
     line: &[u8],
     writer: &mut W,
@@ -76,7 +77,7 @@ fn answer_line<L: Insertion<u64, u64, u64> + TellsCost, W: Write>(
         (W.contents writer.old) (W.contents writer.new) result }
     ensures sized { IsSized map.new }
 {
-    let carried_out = carry_out(map, line, writer);
+    let carried_out = carry_out(alloc, map, line, writer);
     learn(map);
     carried_out?;
     write_bytes(writer, b"\n")
@@ -91,6 +92,7 @@ fn learn<L: Insertion<u64, u64, u64>>(map: &LruMap<u64, u64, L>)
 
 /// Answers the lines up to the reader's end.
 fn answer_lines<L: Insertion<u64, u64, u64> + TellsCost, R: BufRead, W: Write>(
+    alloc: Global,
     map: &mut LruMap<u64, u64, L>,
     reader: &mut R,
     writer: &mut W,
@@ -101,8 +103,8 @@ fn answer_lines<L: Insertion<u64, u64, u64> + TellsCost, R: BufRead, W: Write>(
     let mut line = Line::new();
     for _ in 0..u64::MAX {
         match read_line(reader, &mut line)? {
-            Ending::Feed => answer_line(map, line.as_slice(), writer)?,
-            Ending::InputEnd => return answer_line(map, line.as_slice(), writer),
+            Ending::Feed => answer_line(alloc, map, line.as_slice(), writer)?,
+            Ending::InputEnd => return answer_line(alloc, map, line.as_slice(), writer),
             Ending::Nothing => return Ok(()),
         }
     }
@@ -121,7 +123,7 @@ fn answer_with<L: Insertion<u64, u64, u64> + TellsCost + Drop, R: BufRead, W: Wr
         (R.remaining reader.old) (R.remaining reader.new) (W.contents writer.old) (W.contents writer.new) result }
 {
     let mut map = LruMap::with_hasher(alloc, limiter, RandomState::default(), entry_bytes);
-    answer_lines(&mut map, reader, writer)
+    answer_lines(alloc, &mut map, reader, writer)
 }
 
 /// Answers the lines on an empty map under the limit.

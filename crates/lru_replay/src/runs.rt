@@ -9,7 +9,7 @@ ghost use Rattle.lru_replay.specs.Replies.{said, all_said};
 ghost use Rattle.lru_replay.specs.Steps.{Step};
 
 use crate::call::{Answer, Call};
-use crate::pairs::{drain, list};
+use crate::pairs::{drain, insert_with, list};
 use crate::steps::{
     get, get_by_hash, get_or_insert, insert, peek_by_hash, peek_newest, peek_oldest, stats, write,
 };
@@ -29,7 +29,8 @@ use std::hash::{BuildHasher, Hash};
 /// assert!(rt; answers.get(2) == Some(&Answer::Value(None)));
 /// ```
 ///
-/// Cost: that of the calls, and one request for memory for the answers. `List` and `Drain` each take one more.
+/// Cost: that of the calls, and one request for memory for the answers. `InsertWith`, `List` and `Drain` each take one
+/// more.
 ///
 /// # Errors
 ///
@@ -94,6 +95,7 @@ where
 {
     match call {
         Call::Insert(key, value) => insert(map, key, value),
+        Call::InsertWith(key, value) => insert_with(alloc, map, key, value),
         Call::GetOrInsert(key, value) => get_or_insert(map, key, value),
         Call::Get(key) => Answer::Value(get(map, &key)),
         Call::Peek(key) => Answer::Value(map.peek(&key).copied()),

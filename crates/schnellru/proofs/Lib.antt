@@ -7,3 +7,4 @@ pub mod Theorems
 mod SameWalks
 mod LentPairs
 pub mod CallerLemmas
+pub mod HandingLemmas

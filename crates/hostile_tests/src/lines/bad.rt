@@ -123,8 +123,9 @@ fn drawn_letters(rt: HostRuntime) -> Result<(), Fail> {
 }
 
 // Valid lines, each with the length of its front that has no valid front: its last word, if a number, is left out.
-const VALID: [(&[u8], usize); 11] = [
+const VALID: [(&[u8], usize); 12] = [
     (b"insert 3 30", 9),
+    (b"put 3 30", 6),
     (b"get 1", 4),
     (b"peek 1", 5),
     (b"remove 1", 7),

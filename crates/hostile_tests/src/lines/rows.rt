@@ -4,7 +4,7 @@
 pub type Row = (&'static [u8], &'static [u8], u8);
 
 /// The worked rows of the program.
-pub const ROWS: [Row; 16] = [
+pub const ROWS: [Row; 20] = [
     (
         b"length 3\ninsert 1 10\ninsert 2 20\ninsert 3 30\nlist\nget 1\nlist\ninsert 4 40\npeek 2\nlist\n",
         b"true\ntrue\ntrue\n3:30 2:20 1:10\n10\n1:10 3:30 2:20\ntrue\nnone\n4:40 1:10 3:30\n",
@@ -64,5 +64,17 @@ pub const ROWS: [Row; 16] = [
         b"true\ntrue\ntrue\n10\n1:10 3:30\n-\nlen 0 capacity 3 memory 148 moved 0 placed 3\n",
         0,
     ),
+    (
+        b"length 2\nput 1 10\nput 2 20\nput 3 30\nput 2 21\nlist\n",
+        b"true\ntrue\ntrue 1:10\ntrue\n2:21 3:30\n",
+        0,
+    ),
+    (
+        b"cost 3\nput 1 1\nput 2 2\nput 3 3\nput 3 4\nlist\n",
+        b"true\ntrue\ntrue 1:1 2:2\nfalse 3:3\n-\n",
+        0,
+    ),
+    (b"memory 83 16\nput 1 10\n", b"false 1:10\n", 0),
+    (b"length 0\nput 1 10\n", b"false\n", 0),
     (b"compact", b"", 0),
 ];

@@ -155,24 +155,59 @@ fn text_of(met: usize) -> &'static [u8] {
     }
 }
 
-// `replay`, by `done`: what is written is the text of a run in which want of memory is an answer.
+// `replay`, by `done`, with so many of the requests met: what is written is the text of a run in which want of memory is
+// an answer.
+fn lines_with(
+    rt: &(impl Abort + AllocGlobal),
+    input: &[u8],
+    requests: &[usize],
+    met: usize,
+    text: &[u8],
+) -> Result<(), Fail> {
+    let alloc = rt.alloc();
+    let mut reader = input;
+    let mut writer: Vec<u8> = Vec::with_capacity(alloc, 1000)?;
+    let mut hog = Hog::new(alloc, requests)?;
+    for _ in 0..met {
+        hog.release();
+    }
+    let end = replay(alloc, &mut reader, &mut writer);
+    let all = hog.took_all();
+    drop(hog);
+    assert_eq!(rt; end, Ok(ReplayEnd::Done));
+    if all {
+        assert!(rt; writer.as_slice() == text, "{met} met");
+    }
+    Ok(())
+}
+
 #[test]
 fn lines(rt: HostRuntime) -> Result<(), Fail> {
-    let alloc = rt.alloc();
     for met in 0..=5usize {
-        let mut reader = INPUT;
-        let mut writer: Vec<u8> = Vec::with_capacity(alloc, 1000)?;
-        let mut hog = Hog::new(alloc, &LINES)?;
-        for _ in 0..met {
-            hog.release();
-        }
-        let end = replay(alloc, &mut reader, &mut writer);
-        let all = hog.took_all();
-        drop(hog);
-        assert_eq!(rt; end, Ok(ReplayEnd::Done));
-        if all {
-            assert!(rt; writer.as_slice() == text_of(met), "{met} met");
-        }
+        lines_with(&rt, INPUT, &LINES, met, text_of(met))?;
+    }
+    Ok(())
+}
+
+// The requests of an insert into an empty map that gives what leaves: for one pair, and for the table of 4 buckets.
+const PUT: [usize; 3] = [16, 20, 128];
+
+const PUTS: &[u8] = b"compact\nput 1 10\nput 2 20\nlist\n";
+
+// The answer lines where so many of them are met. With no room for the pairs nothing is given, and with no table the
+// new pair is. The room for one pair serves again for the second line, unless two are needed.
+fn text_of_puts(met: usize) -> &'static [u8] {
+    match met {
+        0 => b"no memory\nno memory\n-\n",
+        1..=2 => b"no memory 1:10\nno memory 2:20\n-\n",
+        _ => b"true\nno memory\n1:10\n",
+    }
+}
+
+#[test]
+fn lines_that_give_what_leaves(rt: HostRuntime) -> Result<(), Fail> {
+    for met in 0..=3usize {
+        lines_with(&rt, PUTS, &PUT, met, text_of_puts(met))?;
     }
     Ok(())
 }

@@ -53,6 +53,25 @@ impl Plain {
         Ok(self.value(key).is_some())
     }
 
+    // Inserts, and gives what leaves, the oldest first.
+    fn insert_with(
+        &mut self,
+        alloc: Global,
+        key: u64,
+        value: u64,
+    ) -> Result<Answer<u64, u64>, AllocError> {
+        self.remove(key);
+        self.pairs.insert(0, (key, value))?;
+        let mut out = Vec::new(alloc);
+        for _ in self.most..self.pairs.len() {
+            if let Some(pair) = self.pairs.pop() {
+                out.push(pair)?;
+            }
+        }
+        let done = Ok(self.value(key).is_some());
+        Ok(Answer::Given { done, out })
+    }
+
     fn get_or_insert(&mut self, key: u64, value: u64) -> Result<Option<u64>, AllocError> {
         if self.value(key).is_none() {
             self.insert(key, value)?;
@@ -118,7 +137,7 @@ impl Plain {
         Ok(Some(answer))
     }
 
-    // The answer to any call. Of figures only the number of pairs is told.
+    // The answer to any call. Of figures only the number of pairs is told, and of a shrink only that it was done.
     fn answer<L>(
         &mut self,
         alloc: Global,
@@ -128,11 +147,13 @@ impl Plain {
             return Ok(answer);
         }
         Ok(match call {
+            Call::InsertWith(key, value) => self.insert_with(alloc, *key, *value)?,
             Call::PopOldest => Answer::Pair(self.pairs.pop()),
             Call::PopNewest => Answer::Pair(self.pop_newest()),
             Call::PeekOldest => Answer::Pair(self.pairs.last().copied()),
             Call::PeekNewest => Answer::Pair(self.pairs.first().copied()),
             Call::Reserve(_) => Answer::Reserved(Ok(())),
+            Call::Shrink => Answer::Shrunk(Ok(true)),
             Call::Drain { front, back } => Answer::Pairs(self.drain(alloc, *front, *back)?),
             Call::List => pairs(alloc, self.pairs.as_slice())?,
             Call::Stats => Answer::Stats {
@@ -187,7 +208,8 @@ impl Row {
                 back: self.below(30) as usize,
             },
             2..=4 => Call::List,
-            5..=7 => Call::Stats,
+            5..=6 => Call::Stats,
+            7 => Call::Shrink,
             8..=9 => Call::SetLimiter(limiter),
             10..=12 => Call::Reserve(self.below(KEYS) as usize),
             13..=16 => Call::PopOldest,
@@ -201,15 +223,17 @@ impl Row {
             55..=60 => Call::Get(key),
             61..=66 => Call::Peek(key),
             67..=82 => Call::GetOrInsert(key, value),
+            83..=98 => Call::InsertWith(key, value),
             _ => Call::Insert(key, value),
         }
     }
 }
 
-// Whether the answers are the same, but for the figures of the table.
+// Whether the answers are the same, but for the figures of the table, and for whether it shrank.
 fn agree(given: &Answer<u64, u64>, wanted: &Answer<u64, u64>) -> bool {
     match (given, wanted) {
         (Answer::Stats { len: given, .. }, Answer::Stats { len: wanted, .. }) => *given == *wanted,
+        (Answer::Shrunk(Ok(_)), Answer::Shrunk(Ok(_))) => true,
         _ => *given == *wanted,
     }
 }

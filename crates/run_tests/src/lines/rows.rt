@@ -70,6 +70,27 @@ fn takes_pairs_out(rt: HostRuntime) {
 }
 
 #[test]
+fn gives_what_leaves(rt: HostRuntime) {
+    // The oldest leaves, and a value that is replaced does not.
+    expect(
+        &rt,
+        b"length 2\nput 1 10\nput 2 20\nput 3 30\nput 2 21\nlist\n",
+        b"true\ntrue\ntrue 1:10\ntrue\n2:21 3:30\n",
+        0,
+    );
+    // A pair whose replacement is refused leaves.
+    expect(
+        &rt,
+        b"cost 3\nput 1 1\nput 2 2\nput 3 3\nput 3 4\nlist\n",
+        b"true\ntrue\ntrue 1:1 2:2\nfalse 3:3\n-\n",
+        0,
+    );
+    // There is no table for the new pair, and it is not let in.
+    expect(&rt, b"memory 83 16\nput 1 10\n", b"false 1:10\n", 0);
+    expect(&rt, b"length 0\nput 1 10\n", b"false\n", 0);
+}
+
+#[test]
 fn writes_the_greatest_number(rt: HostRuntime) {
     expect(
         &rt,
@@ -301,6 +322,10 @@ fn answers_bad_lines(rt: HostRuntime) {
         b"insert 1\n",
         b"insert \n",
         b"insert 1 00\n",
+        b"put\n",
+        b"put 1\n",
+        b"put 1 01\n",
+        b"put 1 1 \n",
         b"insert 1 -1\n",
         b"insert 0x1 1\n",
         b"INSERT 1 1\n",

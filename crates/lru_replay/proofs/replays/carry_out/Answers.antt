@@ -4,24 +4,30 @@ use Rattle.std.specs.Prelude.{nat_eq}
 use Rattle.schnellru.specs.Lists.{lookup}
 use Rattle.lru_replay.specs.declared.command.Command.TheVariants as commands
 use Rattle.lru_replay.specs.Grammar.{SpellsCommand}
-use Rattle.lru_replay.specs.Output.{Writes, bad_text, cost_text, figures_text, flag_text, left_text, pairs_text}
+use Rattle.lru_replay.specs.Output.{Writes, bad_text, cost_text, figures_text, insert_text, left_text, pairs_text}
 use Rattle.lru_replay.specs.Output.{reply_text, reservation_text, shrink_text, value_text}
-use Rattle.lru_replay.specs.Replies.{flag, value, pair, listed, reserved, shrunk, stats, done, no_memory}
-use Rattle.lru_replay.proofs.Written.{writes_after, failed_front}
+use Rattle.lru_replay.specs.Replies.{value, pair, listed, reserved, shrunk, stats, done, insert_reply}
+use Rattle.lru_replay.proofs.Written.{writes_after, failed_front, inserted_text}
 use Rattle.lru_replay.proofs.replays.carry_out.Goals as goal
 
-pub returns-in-Ok : goal.returns-in-Ok
-returns-in-Ok g c =
+pub returns-in-Some-Insert : goal.returns-in-Some-Insert
+returns-in-Some-Insert g c =
     let spells = subst (SpellsCommand c.args.line.now) c.in-Some-Insert.field-0-is c.in-Some-Insert.ensures.some in
     let command = commands.Insert c.in-Some-Insert.key c.in-Some-Insert.value in
-    let there = c.in-Ok.there in
-    (flag_text there, inl (command, spells, (flag there, (_, c.in-Ok.ensures.step, refl), refl)), c.write_flag.ensures)
+    let result = c.insert.result in
+    let step = inl (result, c.insert.ensures.step, refl) in (
+      insert_text result,
+      inl (command, spells, (insert_reply result, step, inserted_text _ result)),
+      c.write_insert.ensures,
+    )
 
-pub returns-in-Err : goal.returns-in-Err
-returns-in-Err g c =
-    let spells = subst (SpellsCommand c.args.line.now) c.in-Some-Insert.field-0-is c.in-Some-Insert.ensures.some in
-    let command = commands.Insert c.in-Some-Insert.key c.in-Some-Insert.value in
-    (_, inl (command, spells, (no_memory, (_, c.in-Err.ensures.step, refl), refl)), c.write_bytes.ensures)
+pub returns-in-Some-Put : goal.returns-in-Some-Put
+returns-in-Some-Put g c =
+    let spells = subst (SpellsCommand c.args.line.now) c.in-Some-Put.field-0-is c.in-Some-Put.ensures.some in
+    let command = commands.Put c.in-Some-Put.key c.in-Some-Put.value in
+    let cost = g.L.TellsCost.told c.args.map.now.limiter in
+    let (reply, answers, wrote) = c.put.ensures cost in
+    (reply_text cost reply, inl (command, spells, (reply, answers, refl)), wrote)
 
 pub returns-in-Some-Get : goal.returns-in-Some-Get
 returns-in-Some-Get g c =
@@ -29,7 +35,7 @@ returns-in-Some-Get g c =
     let result = c.get.result in
     let is = ap value c.get.ensures.value in (
       value_text result,
-      inl (commands.Get c.in-Some-Get.key, spells, (value result, (is, c.get.ensures.promoted), refl)),
+      inl (commands.Get c.in-Some-Get.key, spells, (value result, inl (is, c.get.ensures.promoted), refl)),
       c.write_value.ensures,
     )
 
@@ -38,7 +44,7 @@ returns-in-Some-Peek g c =
     let spells = subst (SpellsCommand c.args.line.now) c.in-Some-Peek.field-0-is c.in-Some-Peek.ensures.some in
     let found = lookup (nat_eq c.in-Some-Peek.key) c.args.map.now.pairs in (
       value_text found,
-      inl (commands.Peek c.in-Some-Peek.key, spells, (value found, (refl, refl), refl)),
+      inl (commands.Peek c.in-Some-Peek.key, spells, (value found, inl (refl, refl), refl)),
       rw (← c.peek.ensures, ← c.copied.ensures) c.write_value-in-Some-Peek.ensures,
     )
 
@@ -47,7 +53,7 @@ returns-in-Some-Remove g c =
     let spells = subst (SpellsCommand c.args.line.now) c.in-Some-Remove.field-0-is c.in-Some-Remove.ensures.some in
     let result = c.remove.result in (
       value_text result,
-      inl (commands.Remove c.in-Some-Remove.key, spells, (value result, (_, c.remove.ensures.step, refl), refl)),
+      inl (commands.Remove c.in-Some-Remove.key, spells, (value result, inl (_, c.remove.ensures.step, refl), refl)),
       c.write_value-in-Some-Remove.ensures,
     )
 
@@ -57,7 +63,7 @@ returns-in-Some-PopOldest g c =
     in
     let result = c.pop_oldest.result in (
       left_text result,
-      inl (commands.PopOldest, spells, (pair result, (_, c.pop_oldest.ensures.step, refl), refl)),
+      inl (commands.PopOldest, spells, (pair result, inl (_, c.pop_oldest.ensures.step, refl), refl)),
       c.write_left.ensures,
     )
 
@@ -67,7 +73,7 @@ returns-in-Some-PopNewest g c =
     in
     let result = c.pop_newest.result in (
       left_text result,
-      inl (commands.PopNewest, spells, (pair result, (_, c.pop_newest.ensures.step, refl), refl)),
+      inl (commands.PopNewest, spells, (pair result, inl (_, c.pop_newest.ensures.step, refl), refl)),
       c.write_left-in-Some-PopNewest.ensures,
     )
 
@@ -77,7 +83,7 @@ returns-in-Some-Reserve g c =
     let command = commands.Reserve c.in-Some-Reserve.n in
     let result = c.try_reserve.result in (
       reservation_text result,
-      inl (command, spells, (reserved result, (_, c.try_reserve.ensures.step, refl), refl)),
+      inl (command, spells, (reserved result, inl (_, c.try_reserve.ensures.step, refl), refl)),
       c.write_reservation.ensures,
     )
 
@@ -86,7 +92,7 @@ returns-in-Some-Shrink g c =
     let spells = subst (SpellsCommand c.args.line.now) c.in-Some-Shrink.field-0-is c.in-Some-Shrink.ensures.some in
     let result = c.shrink_to_fit.result in (
       shrink_text result,
-      inl (commands.Shrink, spells, (shrunk result, (_, c.shrink_to_fit.ensures.step, refl), refl)),
+      inl (commands.Shrink, spells, (shrunk result, inl (_, c.shrink_to_fit.ensures.step, refl), refl)),
       c.write_shrink.ensures,
     )
 
@@ -95,19 +101,19 @@ returns-in-Some-Drain g c =
     let spells = subst (SpellsCommand c.args.line.now) c.in-Some-Drain.field-0-is c.in-Some-Drain.ensures.some in
     let (pairs, drained, wrote) = c.drain.ensures in
     let command = commands.Drain c.in-Some-Drain.n in
-    (pairs_text pairs, inl (command, spells, (listed pairs, (pairs, drained, refl), refl)), wrote)
+    (pairs_text pairs, inl (command, spells, (listed pairs, inl (pairs, drained, refl), refl)), wrote)
 
 pub returns-in-Some-Clear : goal.returns-in-Some-Clear
 returns-in-Some-Clear g c =
     let spells = subst (SpellsCommand c.args.line.now) c.in-Some-Clear.field-0-is c.in-Some-Clear.ensures.some in
-    (_, inl (commands.Clear, spells, (done, (refl, c.clear.ensures.step), refl)), c.write_bytes-in-Some-Clear.ensures)
+    (_, inl (commands.Clear, spells, (done, inl (refl, c.clear.ensures.step), refl)), c.write_bytes.ensures)
 
 pub returns-in-Some-List : goal.returns-in-Some-List
 returns-in-Some-List g c =
     let spells = subst (SpellsCommand c.args.line.now) c.in-Some-List.field-0-is c.in-Some-List.ensures.some in
     let pairs = c.args.map.now.pairs in (
       pairs_text pairs,
-      inl (commands.List, spells, (listed pairs, (refl, refl), refl)),
+      inl (commands.List, spells, (listed pairs, inl (refl, refl), refl)),
       subst (λ pairs. Writes (g.W.Write.contents c.args.writer.now)
           (g.W.Write.contents c.write_pairs.new.writer) c.write_pairs.result (pairs_text pairs)) c.iter.ensures.rest
           c.write_pairs.ensures,
@@ -120,7 +126,7 @@ returns-in_err-write_figures-in-Some-Stats g c =
     let cost = cost_text (g.L.TellsCost.told c.args.map.now.limiter) in
     let p = err_from_is_err_and c.from_residual.result c.from_residual.ensures.1 in (
       figures_text figures ++ cost,
-      inl (commands.Stats, spells, (stats figures, (_, c.figures_of.ensures, refl, refl), refl)),
+      inl (commands.Stats, spells, (stats figures, inl (_, c.figures_of.ensures, refl, refl), refl)),
       rw (p.1, p.2)
           (failed_front _ _ (figures_text figures) cost _ c.in_err-write_figures-in-Some-Stats.ensures),
     )
@@ -138,7 +144,7 @@ returns-in_ok-write_figures-in-Some-Stats g c =
         spells,
         (
           stats figures,
-          (_, c.figures_of.ensures, refl, refl),
+          inl (_, c.figures_of.ensures, refl, refl),
           ap (λ cost. reply_text cost (stats figures)) told,
         ),
       ),
