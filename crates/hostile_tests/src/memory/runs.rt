@@ -190,7 +190,7 @@ fn lines(rt: HostRuntime) -> Result<(), Fail> {
 }
 
 // The requests of an insert into an empty map that gives what leaves: for one pair, and for the table of 4 buckets.
-const PUT: [usize; 3] = [16, 20, 128];
+const PUT: [usize; 3] = [16, 20, 96];
 
 const PUTS: &[u8] = b"compact\nput 1 10\nput 2 20\nlist\n";
 

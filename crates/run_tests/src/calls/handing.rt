@@ -92,7 +92,7 @@ fn asked(alloc: Global, met: usize) -> Result<Option<String>, AllocError> {
     }
     let calls = vec![in alloc; Call::InsertWith(8, 80), Call::PeekNewest, Call::Stats]?;
     let answers_size = 3 * size_of::<Answer<u64, u64>>();
-    let mut hog = Hog::new(alloc, &[answers_size, 128, 32, 512, 32])?;
+    let mut hog = Hog::new(alloc, &[answers_size, 128, 32, 384, 32])?;
     for _ in 0..met {
         hog.release();
     }
