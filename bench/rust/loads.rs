@@ -4,6 +4,7 @@
 //! with the engines taken in turn. All engines must give the same answers. With the word `memory` it tells instead what
 //! a map of 1,000,000 pairs takes.
 use std::hint::black_box;
+use std::process::Command;
 use std::sync::atomic::{AtomicBool, Ordering};
 use std::time::{Duration, Instant};
 
@@ -218,34 +219,42 @@ fn resident() -> u64 {
     text.split(' ').nth(1).unwrap().parse::<u64>().unwrap() * 4096
 }
 
-/// What each engine adds to the resident bytes while it looks into a map of 1,000,000 pairs.
-fn memory(engines: &[Engine]) {
+/// What the engine adds to the resident bytes while it looks into a map of 1,000,000 pairs.
+fn memory(engine: &Engine) {
     let n = 1_000_000u64;
     let peeks = 20_000_000;
     let kinds: Vec<u8> = (0..n).map(|_| INSERT).chain((0..peeks).map(|_| PEEK)).collect();
     let keys: Vec<u64> = (0..n).chain((0..peeks).map(|i| i * 7 % n)).map(spread).collect();
-    for engine in engines {
-        let (done, before) = (AtomicBool::new(false), resident());
-        let samples = std::thread::scope(|scope| {
-            let watch = scope.spawn(|| {
-                let mut samples = Vec::new();
-                while !done.load(Ordering::SeqCst) {
-                    samples.push(resident());
-                    std::thread::sleep(Duration::from_millis(5));
-                }
-                samples
-            });
-            black_box(engine.1(u32::MAX - 1, &kinds, &keys));
-            done.store(true, Ordering::SeqCst);
-            watch.join().unwrap()
+    let (done, before) = (AtomicBool::new(false), resident());
+    let samples = std::thread::scope(|scope| {
+        let watch = scope.spawn(|| {
+            let mut samples = Vec::new();
+            while !done.load(Ordering::SeqCst) {
+                samples.push(resident());
+                std::thread::sleep(Duration::from_millis(5));
+            }
+            samples
         });
-        // The fill, and the walk at the end, are a small part of the time.
-        let during = samples[samples.len() / 2];
-        println!(
-            "{:<16}{:>6.1} MiB",
-            engine.0,
-            during.saturating_sub(before) as f64 / (1 << 20) as f64
-        );
+        black_box(engine.1(u32::MAX - 1, &kinds, &keys));
+        done.store(true, Ordering::SeqCst);
+        watch.join().unwrap()
+    });
+    // The fill, and the walk at the end, are a small part of the time.
+    let during = samples[samples.len() / 2];
+    println!(
+        "{:<16}{:>6.1} MiB",
+        engine.0,
+        during.saturating_sub(before) as f64 / (1 << 20) as f64
+    );
+}
+
+/// The same of each engine, in a process of its own: what one gave back may stay with its process.
+fn memory_of_each(engines: &[Engine]) {
+    for engine in engines {
+        let done = Command::new(std::env::current_exe().unwrap())
+            .args(["memory", engine.0])
+            .status();
+        assert!(done.unwrap().success());
     }
 }
 
@@ -256,8 +265,12 @@ fn main() {
         ("lru", lru_crate),
         ("here", here),
     ];
-    match std::env::args().nth(1).as_deref() {
-        Some("memory") => memory(&engines),
+    let mut words = std::env::args().skip(1);
+    match words.next().as_deref() {
+        Some("memory") => match words.next() {
+            Some(name) => engines.iter().filter(|e| e.0 == name).for_each(memory),
+            None => memory_of_each(&engines),
+        },
         rounds => measure(&engines, rounds.and_then(|r| r.parse().ok()).unwrap_or(5)),
     }
 }
