@@ -1,5 +1,6 @@
 #!/usr/bin/env bash
-# Times the program on a million lines, on maps of 3, 100 and 100,000 pairs, and on one line of 100 MB.
+# Times the program on a million lines, on maps of 3, 100 and 100,000 pairs, on one line of 100 MB, and on lists and
+# drains of 100,000 pairs.
 # It builds the program first, which proves it.
 set -euo pipefail
 cd "$(dirname "$0")/../crates/replay"
@@ -23,6 +24,16 @@ long_line() {
     printf '\nlist\n'
 }
 
+pairs() { # how often all are inserted, then the line that is given, and how often
+    awk -v fills="$1" -v line="$2" -v times="$3" 'BEGIN {
+        print "compact"
+        for (i = 0; i < fills; i++) {
+            for (k = 0; k < 100000; k++) print "insert " k " " k * 7
+            for (n = 0; n < times; n++) print line
+        }
+    }'
+}
+
 measure() { # a name, and the file of the input
     local start end
     start=$(date +%s%N)
@@ -35,3 +46,5 @@ lines 3 6 >"$input" && measure "a million lines, 3 pairs" "$input"
 lines 100 150 >"$input" && measure "a million lines, 100 pairs" "$input"
 lines 100000 150000 >"$input" && measure "a million lines, 100,000 pairs" "$input"
 long_line >"$input" && measure "a line of 100 MB" "$input"
+pairs 1 list 20 >"$input" && measure "20 lists of 100,000 pairs" "$input"
+pairs 10 "drain 100000" 1 >"$input" && measure "10 drains of 100,000 pairs" "$input"
