@@ -12,7 +12,7 @@ use denote.Sharing.{ShrLaws, said}
 use denote.SharingLaws.{beside_shr_laws, nothing_shr_laws, said_shr_laws}
 use denote.Shares.{Shares-less}
 use denote.Struct.Lending.{Lends, Lends-both, Lends-nothing, Lends-said, Lends-false}
-use Rattle.group_table.specs.CellOwners.{place, places, place_lent, places_lent, few, owns_cells, lends_cells}
+use Rattle.group_table.specs.CellOwners.{place, places, place_lent, places_lent, addressable, owns_cells, lends_cells}
 
 module _ (R : RattleType) (laws : RowLaws R) where
   of_place : (block o : ℕ) (held : Option R.Denot) → ShrLaws (place_lent R block o held)
@@ -28,7 +28,7 @@ module _ (R : RattleType) (laws : RowLaws R) where
   pub cells_lent_laws : (start : Ptr) (held : List (Option R.Denot)) → ShrLaws (lends_cells R start held)
   cells_lent_laws null_ptr held = said_shr_laws ffalse tt
   cells_lent_laws (block_ptr block o) held =
-      beside_shr_laws _ _ (said_shr_laws (few R held) tt) (of_places block o held)
+      beside_shr_laws _ _ (said_shr_laws (addressable R held) tt) (of_places block o held)
 
 module _ {M : Type 1} {𝓤 : Ura M} (𝓛 : Logic 𝓤) (l : Lft) (R : RattleType) (laws : Laws R)
     (outlives : Incl l R.lives) where
@@ -48,5 +48,5 @@ module _ {M : Type 1} {𝓤 : Ura M} (𝓛 : Logic 𝓤) (l : Lft) (R : RattleTy
   pub lends_all : (start : Ptr) (held : List (Option R.Denot))
       → Lends 𝓛 (owns_cells R start held) (lends_cells R start held) l
   lends_all null_ptr held = Lends-false 𝓛 (said ffalse) l
-  lends_all (block_ptr block o) held = Lends-both 𝓛 (few R held) (places R block o held) (said (few R held))
-      (places_lent R block o held) l (Lends-said 𝓛 (few R held) tt l) (lends_each block o held)
+  lends_all (block_ptr block o) held = Lends-both 𝓛 (addressable R held) (places R block o held) (said (addressable R held))
+      (places_lent R block o held) l (Lends-said 𝓛 (addressable R held) tt l) (lends_each block o held)

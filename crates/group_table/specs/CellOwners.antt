@@ -1,4 +1,4 @@
--- What the parts of a row of places own and lend, at entries of the row R.
+-- What the parts of a block of places own and lend, where an entry is of type R.
 use Rattle.std.specs.Prelude.{ℕ, ◌+◌, ◌*◌, ◌^◌, List, [], ◌∷◌, length, Option, Some, None}
 use Rattle.std.specs.Mem.{type_size}
 use base.Fraction.{full_share}
@@ -26,21 +26,23 @@ module _ (R : RattleType) where
   place_lent block o (Some entry) = shared_of R entry block o
   place_lent block o None = nothing
 
-  -- what a `&` to them all reaches
+  -- what a `&` to places one behind the other reaches
   abbrev pub places_lent : ℕ → ℕ → List (Option R.Denot) → Lft → Fml
   places_lent block o [] = nothing
   places_lent block o (held ∷ more) = beside (place_lent block o held) (places_lent block (o + type_size R) more)
 
   -- they have fewer than 2 ^ 63 bytes
-  abbrev pub few : List (Option R.Denot) → Fml
-  few held = flt (length held * type_size R) (2 ^ 63)
+  abbrev pub addressable : List (Option R.Denot) → Fml
+  addressable held = flt (length held * type_size R) (2 ^ 63)
 
+  -- all places of a block that begins there
   abbrev pub owns_cells : Ptr → List (Option R.Denot) → Fml
-  owns_cells (block_ptr block o) held = fsep (few held) (places block o held)
+  owns_cells (block_ptr block o) held = fsep (addressable held) (places block o held)
   owns_cells null_ptr held = ffalse
 
+  -- what a `&` to them reaches
   abbrev pub lends_cells : Ptr → List (Option R.Denot) → Lft → Fml
-  lends_cells (block_ptr block o) held = beside (said (few held)) (places_lent block o held)
+  lends_cells (block_ptr block o) held = beside (said (addressable held)) (places_lent block o held)
   lends_cells null_ptr held = said ffalse
 
   -- the allocator's token for a block of so many places

@@ -1,4 +1,4 @@
--- Places for entries.
+-- When a place holds an entry.
 use Rattle.std.specs.Prelude.{◌≡◌, ℕ, List, Option, Some, None, get_or}
 
 -- the place holds an entry

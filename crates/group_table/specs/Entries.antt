@@ -4,11 +4,12 @@ use Rattle.std.specs.declared.alloc.Global.{Global}
 use Rattle.group_table.specs.declared.entries.Row.{Row}
 
 module _ {T : Type 0} where
+  -- the places, or none without a block
   abbrev pub places_of : Option (Row T) → List (Option T)
   places_of None = []
   places_of (Some row) = row.cells.places
 
-  -- the pointer, the places and the deed are of one block of that allocator, of so many places
+  -- the pointer, the places and the deed are of one block of that allocator, of so many places, and of one at least
   pub record IsOneBlock (row : Row T) (count : ℕ) (alloc : Global) : Type 0 where
     pub places_start : row.cells.start ≡ row.block.start
     pub deed_start : row.deed.start ≡ row.block.start

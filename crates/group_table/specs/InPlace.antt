@@ -2,12 +2,13 @@
 use Rattle.std.specs.Prelude.{◌≡◌, ℕ, ◌<◌, ◌≤◌, ◌⊎◌, List, length, count_by, slice_set, slice_index, Option, Some, None}
 use Rattle.std.specs.Prelude.{is_some}
 use Rattle.group_table.specs.Bucket.{is_deleted}
+use Rattle.group_table.specs.Bytes.{IsFreeByte}
 use Rattle.group_table.specs.Layout.{slots_of, IsValid}
 use Rattle.group_table.specs.Moves.{place_at, Moves, KeepsMovedHashes}
 
 -- of the places that are not passed, each whose bucket is free holds what it held before
 abbrev pub StaysWhereFree : {T : Type 0} → List (Option T) → List (Option T) → List ℕ → ℕ → Type 0
-StaysWhereFree old now control passed = (b : ℕ) → passed ≤ b → b < length old → 128 ≤ slice_index control b
+StaysWhereFree old now control passed = (b : ℕ) → passed ≤ b → b < length old → IsFreeByte (slice_index control b)
     → place_at now b ≡ place_at old b
 
 -- one place, by what stood there, what of that has gone to its place, what is placed there, and what stands there now
@@ -43,7 +44,7 @@ module _ {T N : Type 0} (number : N → ℕ) (none : N) (IsGiven : (ℕ → ℕ)
     pub hashes : (hash_at : ℕ → ℕ) → IsGiven hash_at
         → KeepsMovedHashes number none (place_at gone) (slots_of control placed) links hash_at
 
-  -- with the next one in hand, taken out of its old place, which is then as if it had been free; or with none
+  -- between two turns: with an entry in hand, whose old place counts as free; or with no entry in hand
   abbrev pub IsInTurn : List (Option T) → List (Option T) → List ℕ → List N → ℕ → ℕ → Option T → Type 0
   IsInTurn old now control links passed b None = IsHalfway old now control links passed
   IsInTurn old now control links passed b (Some entry) =

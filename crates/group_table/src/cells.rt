@@ -31,6 +31,7 @@ impl<T> Clone for Block<T> {
 
 impl<T> Copy for Block<T> {}
 
+// It is a number that nothing can be done with alone.
 unsafe impl<T> Send for Block<T> {}
 
 unsafe impl<T> Sync for Block<T> {}
@@ -48,6 +49,7 @@ impl<T> Model for Cells<T> {
     ghost also_shares = { λ c _ κ. lends_cells T.row c.start c.places κ };
 }
 
+// It goes where its entries may go, as a `Box<T>` does.
 unsafe impl<T: Send> Send for Cells<T> {}
 
 unsafe impl<T: Sync> Sync for Cells<T> {}
@@ -66,6 +68,7 @@ impl<T, A: Allocator> Model for Deed<T, A> {
     ghost also_shares = { λ _ _ _. ftrue };
 }
 
+// It is used with its allocator, and goes where that may go.
 unsafe impl<T, A: Allocator + Send> Send for Deed<T, A> {}
 
 // A `&` to it can do nothing.
@@ -114,7 +117,7 @@ pub(crate) fn allocate<T, A: Allocator>(
     }
 }
 
-// Gives a block back, none of whose places holds an entry.
+// Gives a block back. No place holds an entry.
 pub(crate) fn deallocate<T, A: Allocator>(
     alloc: &A,
     block: Block<T>,

@@ -16,8 +16,8 @@ struct Row<T> {
 
 // So many places; there is no block where there are none.
 //
-// A place has no tag: the control byte of a bucket tells whether it holds an entry. So whoever lets go of the entries
-// says that no place holds one.
+// A place has no tag: the control byte of a bucket tells whether it holds an entry. So a caller of `free` must show
+// that no place holds one.
 pub(crate) struct Entries<T> {
     row: Option<Row<T>>,
     count: usize,

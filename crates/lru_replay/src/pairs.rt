@@ -1,4 +1,4 @@
-//! The calls of a run that answer pairs, whose memory is taken first.
+//! The calls of a run that answer pairs. The memory for these is taken before the map changes.
 ghost use Rattle.std.specs.Prelude.{◌≡◌, [], ◌∷◌, ◌++◌, ◌+◌, ◌≤◌, ◌<◌, option_to_list, IfOk};
 ghost use Rattle.std.specs.Result.{OnErr};
 ghost use Rattle.std.specs.Vec.{vec_len, vec_capacity};
@@ -67,7 +67,7 @@ pub fn insert_and_keep<K: Eq + Hash + Drop, V: Drop, L: Insertion<K, V, K>, S: B
     Ok((done, out))
 }
 
-/// Adds the pair where there is room.
+/// Adds the pair. Without room it is dropped, which `insert_and_keep` never comes to.
 fn keep<K: Drop, V: Drop>(pairs: &mut Vec<(K, V)>, pair: (K, V))
     ensures items { vec_len pairs.old < vec_capacity pairs.old → pairs.new.items ≡ pairs.old.items ++ pair ∷ [] }
     ensures len { vec_len pairs.old < vec_capacity pairs.old → vec_len pairs.new ≡ vec_len pairs.old + 1 }
