@@ -48,5 +48,6 @@ module _ {M : Type 1} {𝓤 : Ura M} (𝓛 : Logic 𝓤) (l : Lft) (R : RattleTy
   pub lends_all : (start : Ptr) (held : List (Option R.Denot))
       → Lends 𝓛 (owns_cells R start held) (lends_cells R start held) l
   lends_all null_ptr held = Lends-false 𝓛 (said ffalse) l
-  lends_all (block_ptr block o) held = Lends-both 𝓛 (addressable R held) (places R block o held) (said (addressable R held))
-      (places_lent R block o held) l (Lends-said 𝓛 (addressable R held) tt l) (lends_each block o held)
+  lends_all (block_ptr block o) held = Lends-both 𝓛 (addressable R held) (places R block o held)
+      (said (addressable R held)) (places_lent R block o held) l (Lends-said 𝓛 (addressable R held) tt l)
+      (lends_each block o held)
