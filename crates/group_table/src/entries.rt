@@ -1,6 +1,6 @@
 //! The entries of a table: a place for each bucket, in one block of memory.
-ghost use Rattle.std.specs.Prelude.{◌≡◌, ◌<◌, List, Option, Some, None, [], length, replicate, slice_index_or, slice_set};
-ghost use Rattle.std.specs.Prelude.{IsSome, IfOk, nat_eq};
+ghost use Rattle.std.specs.Prelude.{◌≡◌, ◌<◌, List, Option, Some, None, [], length, replicate, slice_index_or};
+ghost use Rattle.std.specs.Prelude.{slice_set, IsSome, IfOk, nat_eq};
 ghost use Rattle.std.specs.Borrow.{sem};
 
 use crate::cells::{Block, Cells, Deed, allocate, deallocate, fits_in_block};

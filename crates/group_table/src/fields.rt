@@ -1,6 +1,6 @@
 //! The fields of a table: the control bytes and the entries, written together.
-ghost use Rattle.std.specs.Prelude.{◌≡◌, ◌<◌, ◌≤◌, length, replicate, slice_set, slice_index, slice_index_or, None, Some};
-ghost use Rattle.std.specs.Prelude.{IsSome, IfOk};
+ghost use Rattle.std.specs.Prelude.{◌≡◌, ◌<◌, length, replicate, slice_set, slice_index_or};
+ghost use Rattle.std.specs.Prelude.{None, Some, IsSome, IfOk};
 ghost use Rattle.group_table.specs.Control.{buckets_of};
 ghost use Rattle.group_table.specs.Layout.{Agrees, IsLaidOut, written};
 
