@@ -1,6 +1,6 @@
 #!/usr/bin/env bash
 # Times the map on 24 loads beside the crate schnellru, and beside lru where that is given too. It needs cargo, and
-# proves the library first.
+# proves the library first. Memory is read by `ps`.
 #   loads.sh SCHNELLRU [LRU] [-- rounds | memory]
 # SCHNELLRU and LRU are folders of checkouts of the crates, which cargo builds there.
 set -euo pipefail

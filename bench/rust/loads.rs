@@ -213,10 +213,11 @@ fn measure(engines: &[Engine], rounds: usize) {
     );
 }
 
-/// The resident bytes of this process.
+/// The resident bytes of this process, as `ps` tells them.
 fn resident() -> u64 {
-    let text = std::fs::read_to_string("/proc/self/statm").unwrap();
-    text.split(' ').nth(1).unwrap().parse::<u64>().unwrap() * 4096
+    let id = std::process::id().to_string();
+    let told = Command::new("ps").args(["-o", "rss=", "-p", &id]).output().unwrap();
+    String::from_utf8(told.stdout).unwrap().trim().parse::<u64>().unwrap() * 1024
 }
 
 /// What the engine adds to the resident bytes while it looks into a map of 1,000,000 pairs.
@@ -231,7 +232,7 @@ fn memory(engine: &Engine) {
             let mut samples = Vec::new();
             while !done.load(Ordering::SeqCst) {
                 samples.push(resident());
-                std::thread::sleep(Duration::from_millis(5));
+                std::thread::sleep(Duration::from_millis(50));
             }
             samples
         });
