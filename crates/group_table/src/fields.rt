@@ -1,5 +1,5 @@
 //! The fields of a table: the control bytes and the entries, written together.
-ghost use Rattle.std.specs.Prelude.{◌≡◌, ◌<◌, length, replicate, slice_set, slice_index_or};
+ghost use Rattle.std.specs.Prelude.{◌≡◌, ℕ, ◌<◌, ◌≤◌, length, replicate, slice_set, slice_index, slice_index_or};
 ghost use Rattle.std.specs.Prelude.{None, Some, IsSome, IfOk};
 ghost use Rattle.group_table.specs.Control.{buckets_of};
 ghost use Rattle.group_table.specs.Layout.{Agrees, IsLaidOut, written};
@@ -20,19 +20,30 @@ pub(crate) fn no_links<N: LinkType>(alloc: Global, count: usize) -> Result<Vec<N
     Ok(links)
 }
 
+// Drops the entries in the first places, so many. The others hold none.
+pub(crate) fn drop_first<T: Drop>(control: &Control, entries: &mut Entries<T>, count: usize)
+    requires buckets { length entries.old ≤ buckets_of control.now }
+    requires within { count ≤ length entries.old }
+    requires told { (b : ℕ) → b < count → Agrees (slice_index control.now b) (slice_index_or entries.old b None) }
+    requires others { (b : ℕ) → count ≤ b → slice_index_or entries.old b None ≡ None }
+    ensures { entries.new ≡ replicate (length entries.old) None }
+{
+    for b in 0..count {
+        if control.byte(b) < DELETED {
+            drop(entries.read(b));
+        }
+    }
+}
+
 // Drops every entry, of which there are so many.
 pub(crate) fn drop_entries<T: Drop>(control: &Control, entries: &mut Entries<T>, len: usize)
     requires laid_out { IsLaidOut control.now entries.old }
     requires none_left { len ≡ 0 → entries.old ≡ replicate (length entries.old) None }
     ensures { entries.new ≡ replicate (length entries.old) None }
 {
-    if len == 0 {
-        return;
-    }
-    for b in 0..entries.len() {
-        if control.byte(b) < DELETED {
-            drop(entries.read(b));
-        }
+    if len > 0 {
+        let count = entries.len();
+        drop_first(control, entries, count);
     }
 }
 

@@ -1,15 +1,15 @@
 //! `clone_with`: a table of the same buckets with entries of their own.
-ghost use Rattle.std.specs.Prelude.{◌≡◌, ℕ, ◌<◌, ◌≤◌, length, slice_index, slice_index_or, None, IfOk, IsOk};
+ghost use Rattle.std.specs.Prelude.{◌≡◌, ℕ, ◌<◌, length, IfOk, IsOk};
 ghost use Rattle.std.specs.List.{AllZip};
 ghost use Rattle.group_table.specs.Bucket.{marks_of};
-ghost use Rattle.group_table.specs.Control.{buckets_of};
-ghost use Rattle.group_table.specs.Layout.{Agrees, IsLaidOut};
+ghost use Rattle.group_table.specs.Layout.{IsLaidOut};
 ghost use Rattle.group_table.specs.Table.{IsTable};
 ghost use Rattle.group_table.specs.Fits.{Fits};
 ghost use Rattle.group_table.specs.Copies.{Copies, IsPlaceCopy};
 
 use crate::control::{Control, DELETED};
 use crate::entries::Entries;
+use crate::fields::drop_first;
 use crate::table::Table;
 use std::alloc::AllocError;
 
@@ -69,26 +69,12 @@ fn copy_entries<T: Drop, F: Fn(&T) -> Result<T, AllocError>>(
             match f(entries.get(b)) {
                 Ok(copy) => copies.write(b, copy),
                 Err(error) => {
-                    drop_first(control, copies, b);
+                    drop_first(control, &mut copies, b);
+                    copies.free();
                     return Err(error);
                 }
             }
         }
     }
     Ok(copies)
-}
-
-// Drops the copies in the first places, and gives the memory back.
-fn drop_first<T: Drop>(control: &Control, mut copies: Entries<T>, count: usize)
-    requires buckets { length copies ≤ buckets_of control.now }
-    requires within { count ≤ length copies }
-    requires first { (b : ℕ) → b < count → Agrees (slice_index control.now b) (slice_index_or copies b None) }
-    requires others { (b : ℕ) → count ≤ b → slice_index_or copies b None ≡ None }
-{
-    for b in 0..count {
-        if control.byte(b) < DELETED {
-            drop(copies.read(b));
-        }
-    }
-    copies.free();
 }

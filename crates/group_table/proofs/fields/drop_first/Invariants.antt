@@ -1,5 +1,5 @@
 use Rattle.std.proofs.Common.{◌≡◌, ℕ, ◌<◌, ◌≤◌, length, get_or, None}
-use Rattle.group_table.proofs.fields.drop_entries.Given as goal
+use Rattle.group_table.proofs.fields.drop_first.Given as goal
 
 abbrev pub invariant-loop-b : goal.invariant-loop-b
 invariant-loop-b g l = record {
