@@ -7,21 +7,21 @@ use std::alloc::{AllocError, Global};
 use std::hash::{BuildHasher, Hash};
 
 // The number of the links of a map under this limiter that stands for no bucket.
-pub fn number_of_no_link<L: Limiter<u64, u64>>() -> usize
+pub(super) fn number_of_no_link<L: Limiter<u64, u64>>() -> usize
     ensures { result ≡ L.LinkType.number L.LinkType.MAX }
 {
     L::LinkType::MAX.into_usize()
 }
 
 // The cost of both.
-pub fn cost_of_both<V: Costed>(a: &V, b: &V) -> u64
+pub(super) fn cost_of_both<V: Costed>(a: &V, b: &V) -> u64
     ensures { result ≡ min (V.cost a.now + V.cost b.now) (2 ^ 64 - 1) }
 {
     a.cost().saturating_add(b.cost())
 }
 
 // Tells the limiter of a pair that left.
-pub fn tell_removed<K, V, L: Limiter<K, V>>(limiter: &mut L, key: &mut K, value: &mut V)
+pub(super) fn tell_removed<K, V, L: Limiter<K, V>>(limiter: &mut L, key: &mut K, value: &mut V)
     ensures limiter { limiter.new ≡ (L.rules.on_removed limiter.old key.old value.old).limiter }
     ensures value { value.new ≡ (L.rules.on_removed limiter.old key.old value.old).value }
 {
@@ -29,12 +29,12 @@ pub fn tell_removed<K, V, L: Limiter<K, V>>(limiter: &mut L, key: &mut K, value:
 }
 
 // The key to store is one that the offered key names.
-pub fn key_to_store<K: Eq + Hash + Drop, V: Drop, I: LookupKey<K> + Copy, L: Insertion<K, V, I>>(
-    limiter: &mut L,
-    alloc: Global,
-    key: I,
-    value: V,
-) -> Result<Option<K>, AllocError>
+pub(super) fn key_to_store<
+    K: Eq + Hash + Drop,
+    V: Drop,
+    I: LookupKey<K> + Copy,
+    L: Insertion<K, V, I>,
+>(limiter: &mut L, alloc: Global, key: I, value: V) -> Result<Option<K>, AllocError>
     ensures named { IfOk result (λ given. IfSome given (λ k. IsTrue (I.names key k))) }
     ensures err { OnErr result (limiter.new ≡ limiter.old) }
 {
@@ -45,7 +45,7 @@ pub fn key_to_store<K: Eq + Hash + Drop, V: Drop, I: LookupKey<K> + Copy, L: Ins
 }
 
 // A replacement leaves a stored key that writes to a hasher what it wrote before.
-pub fn ask_to_replace<K: Eq + Hash, V, I: LookupKey<K>, L: Insertion<K, V, I>>(
+pub(super) fn ask_to_replace<K: Eq + Hash, V, I: LookupKey<K>, L: Insertion<K, V, I>>(
     limiter: &mut L,
     key: &mut K,
     new_key: I,
@@ -60,7 +60,7 @@ pub fn ask_to_replace<K: Eq + Hash, V, I: LookupKey<K>, L: Insertion<K, V, I>>(
 }
 
 // An element that is offered, and told of as removed if it is given, leaves the account as it was.
-pub fn offer_and_remove<K: Eq + Hash + Drop, V: Drop, I: LookupKey<K>, L: Summing<K, V, I>>(
+pub(super) fn offer_and_remove<K: Eq + Hash + Drop, V: Drop, I: LookupKey<K>, L: Summing<K, V, I>>(
     limiter: &mut L,
     alloc: Global,
     key: I,
@@ -75,7 +75,7 @@ pub fn offer_and_remove<K: Eq + Hash + Drop, V: Drop, I: LookupKey<K>, L: Summin
 }
 
 // What names a key has the hash of the key, by every builder.
-pub fn has_hash_of_key<S: BuildHasher, K: Eq + Hash, Q: LookupKey<K>>(
+pub(super) fn has_hash_of_key<S: BuildHasher, K: Eq + Hash, Q: LookupKey<K>>(
     builder: &S,
     query: &Q,
     key: &K,
@@ -87,7 +87,7 @@ pub fn has_hash_of_key<S: BuildHasher, K: Eq + Hash, Q: LookupKey<K>>(
 }
 
 // Hashers of equal words give equal hashes after equal writes.
-pub fn has_equal_hash<A: Hash, B: Hash>(words: [u64; 4], a: &A, b: &B) -> bool
+pub(super) fn has_equal_hash<A: Hash, B: Hash>(words: [u64; 4], a: &A, b: &B) -> bool
     requires { A.hash_input a.now ≡ B.hash_input b.now }
     ensures { IsTrue result }
 {
@@ -95,7 +95,7 @@ pub fn has_equal_hash<A: Hash, B: Hash>(words: [u64; 4], a: &A, b: &B) -> bool
 }
 
 // A copy, where the clones of a type equal their sources.
-pub fn copy_of<T: Clone>(value: &T) -> Result<T, AllocError>
+pub(super) fn copy_of<T: Clone>(value: &T) -> Result<T, AllocError>
     requires { (a b : T) → T.is_clone a b → b ≡ a }
     ensures { IfOk result (λ copy. copy ≡ value.now) }
 {

@@ -10,9 +10,9 @@ use std::test::Fail;
 
 const MOST: usize = 3;
 
-/// Keeps the keys of the first three pairs that left. A clause sees it as these keys.
+// Keeps the keys of the first three pairs that left. A clause sees it as these keys.
 #[derive(Drop)]
-pub struct RemovedKeys {
+struct RemovedKeys {
     keys: Vec<u64>,
 }
 
@@ -27,7 +27,7 @@ impl Model for RemovedKeys {
 }
 
 impl RemovedKeys {
-    pub fn new(alloc: Global) -> Result<RemovedKeys, AllocError>
+    fn new(alloc: Global) -> Result<RemovedKeys, AllocError>
         ensures { IfOk result (λ r. r ≡ []) }
     {
         Ok(RemovedKeys {
@@ -35,7 +35,7 @@ impl RemovedKeys {
         })
     }
 
-    pub fn keys(&self) -> &[u64]
+    fn keys(&self) -> &[u64]
         ensures { result.now ≡ self.now }
     {
         self.keys.as_slice()

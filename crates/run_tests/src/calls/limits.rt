@@ -1,8 +1,9 @@
 //! Lists of calls under limiters that take, refuse and give up pairs, and the figures that they leave.
-use super::orders::{expect, insert_all, map_of, pairs};
+use super::orders::{expect, insert_all, pairs};
 use lru_replay::{Answer, Call};
 use schnellru::{ByCost, ByMemoryUsage, MoveReport, ReserveError, UnlimitedCompact};
 use std::test::Fail;
+use test_helpers::map_of;
 
 // The answer of these figures.
 fn figures(

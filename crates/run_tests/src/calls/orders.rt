@@ -1,27 +1,22 @@
 //! Lists of calls, with the answers that each must give. A pair is that of a number and ten times the number, where
 //! nothing else is said.
 use lru_replay::{Answer, Call, run_calls};
-use schnellru::{ByLength, Insertion, Limiter, LruMap, UnlimitedCompact};
+use schnellru::{ByLength, Insertion, LruMap, UnlimitedCompact};
 use std::alloc::{AllocError, Global};
 use std::hash::BuildHasher;
 use std::ops::RangeInclusive;
 use std::process::Abort;
 use std::test::Fail;
-use test_helpers::{LastByte, Sum};
+use test_helpers::{LastByte, Sum, map_of};
 
-/// A map of numbers with entries of 16 bytes.
-pub fn map_of<L: Limiter<u64, u64>>(alloc: Global, limiter: L) -> LruMap<u64, u64, L> {
-    LruMap::new(alloc, limiter, [1, 2, 3, 4], 16)
-}
-
-/// The answer of these pairs.
-pub fn pairs(alloc: Global, pairs: &[(u64, u64)]) -> Result<Answer<u64, u64>, AllocError> {
+// The answer of these pairs.
+pub(super) fn pairs(alloc: Global, pairs: &[(u64, u64)]) -> Result<Answer<u64, u64>, AllocError> {
     let pairs = Vec::from_slice(alloc, pairs)?;
     Ok(Answer::Pairs(pairs))
 }
 
-/// Runs the calls, and compares their answers with those that are wanted.
-pub fn expect<L: Insertion<u64, u64, u64> + Drop, S: BuildHasher>(
+// Runs the calls, and compares their answers with those that are wanted.
+pub(super) fn expect<L: Insertion<u64, u64, u64> + Drop, S: BuildHasher>(
     rt: &(impl Abort + AllocGlobal),
     map: &mut LruMap<u64, u64, L, S>,
     calls: Vec<Call<u64, u64, L>>,
@@ -32,8 +27,8 @@ pub fn expect<L: Insertion<u64, u64, u64> + Drop, S: BuildHasher>(
     Ok(())
 }
 
-/// Inserts the pairs of these numbers, which are all kept.
-pub fn insert_all<L: Insertion<u64, u64, u64> + Drop, S: BuildHasher>(
+// Inserts the pairs of these numbers, which are all kept.
+pub(super) fn insert_all<L: Insertion<u64, u64, u64> + Drop, S: BuildHasher>(
     rt: &(impl Abort + AllocGlobal),
     map: &mut LruMap<u64, u64, L, S>,
     numbers: RangeInclusive<u64>,

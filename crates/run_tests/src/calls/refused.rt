@@ -1,9 +1,9 @@
 //! Lists of calls where requests for memory are refused.
-use super::orders::{expect, insert_all, map_of, pairs};
+use super::orders::{expect, insert_all, pairs};
 use lru_replay::{Answer, Call, run_calls, run_summing};
 use schnellru::{ByCost, ReserveError, UnlimitedCompact};
 use std::test::Fail;
-use test_helpers::Hog;
+use test_helpers::{Hog, map_of};
 
 // As many pairs as fill a table. Their list takes 14,336 bytes, and a larger table more.
 const PAIRS: u64 = 896;

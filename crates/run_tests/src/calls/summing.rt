@@ -1,10 +1,11 @@
 //! Lists of calls under a limiter that keeps a sum.
-use super::orders::{expect, insert_all, map_of, pairs};
+use super::orders::{expect, insert_all, pairs};
 use lru_replay::{Answer, Call, run_summing};
 use schnellru::{ByCost, LruMap, Summing};
 use std::alloc::{AllocError, Global};
 use std::process::Abort;
 use std::test::Fail;
+use test_helpers::map_of;
 
 // Runs the calls under the limiter's sum, and compares their answers with those that are wanted.
 fn expect_summing<L: Summing<u64, u64, u64> + Drop>(

@@ -1,8 +1,9 @@
 //! Lists of calls that look at the ends of a map, take pairs out there, or set its limiter.
-use super::orders::{expect, insert_all, map_of, pairs};
+use super::orders::{expect, insert_all, pairs};
 use lru_replay::{Answer, Call};
 use schnellru::{ByCost, ByLength, UnlimitedCompact};
 use std::test::Fail;
+use test_helpers::map_of;
 
 #[test]
 fn pairs_at_the_ends(rt: HostRuntime) -> Result<(), Fail> {
