@@ -8,7 +8,7 @@ ghost use Rattle.group_table.specs.Table.{IsTable, with_entry};
 ghost use Rattle.group_table.specs.Fits.{Fits, with_hash};
 ghost use Rattle.group_table.specs.Layout.{IsLaidOut, slots_of};
 ghost use Rattle.group_table.specs.Search.{Finds, FindsNone};
-ghost use Rattle.group_table.specs.Change.{Places, MayFill, HasNoPlace, Removes};
+ghost use Rattle.group_table.specs.Change.{Places, MayFill, HasNoPlace, Removes, count_up};
 
 use crate::control::{Control, EMPTY, emptied_byte, tag_of};
 use crate::entries::Entries;
@@ -243,7 +243,7 @@ impl<T: Drop> Table<T> {
         fill_bucket(&mut self.control, &mut self.entries, b, tag_of(hash), entry);
         self.room -= spent;
         self.len += 1;
-        self.placings = self.placings.saturating_add(1);
+        count_one(&mut self.placings);
         Ok(b)
     }
 
@@ -260,6 +260,16 @@ impl<T: Drop> Table<T> {
         self.control.clear();
         self.room = full_capacity(self.entries.len());
         self.len = 0;
+    }
+}
+
+// Counts one more, up to the greatest number: with a branch, which takes fewer instructions than the saturating sum.
+#[inline]
+fn count_one(count: &mut u64)
+    ensures { count.new ≡ count_up count.old 1 }
+{
+    if *count < u64::MAX {
+        *count += 1;
     }
 }
 

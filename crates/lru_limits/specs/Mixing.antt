@@ -1,5 +1,5 @@
 -- The hasher as functions.
---     Mixer                   the state, and the keys of a word, of the bytes that are left of a write, and of the end
+--     Mixer                   the state, and the keys of a word and of the bytes that are left of a write
 --     folded a b              the 128 bits of a * b, their two halves joined by xor
 --     joined key state word   the state after a word
 --     rest_word bytes         fewer than eight bytes as a word, with their count as its top byte
@@ -15,7 +15,6 @@ pub record Mixer : Type 0 where
   pub state : ℕ
   pub word_key : ℕ
   pub rest_key : ℕ
-  pub end_key : ℕ
 
 abbrev pub folded : ℕ → ℕ → ℕ
 folded a b = bit_xor (a * b % 2 ^ 64) (a * b / 2 ^ 64)
@@ -35,13 +34,13 @@ written h bytes =
     record h { state = if length rest == 0 then state else joined h.rest_key state (rest_word rest) }
 
 abbrev pub closed : Mixer → ℕ
-closed h = joined h.end_key h.state h.rest_key
+closed h = h.state
 
--- each word of the seed is joined to a constant of its own
+-- each word of the seed is joined to a constant of its own, and two of them make one key
 abbrev pub seeded : List ℕ → Mixer
 seeded words = record {
   state = bit_xor (slice_index words 0) 0x6a09_e667_f3bc_c908;
   word_key = bit_xor (slice_index words 1) 0xbb67_ae85_84ca_a73b;
-  rest_key = bit_xor (slice_index words 2) 0x3c6e_f372_fe94_f82b;
-  end_key = bit_xor (slice_index words 3) 0xa54f_f53a_5f1d_36f1;
+  rest_key = folded
+      (bit_xor (slice_index words 2) 0x3c6e_f372_fe94_f82b) (bit_xor (slice_index words 3) 0xa54f_f53a_5f1d_36f1);
 }

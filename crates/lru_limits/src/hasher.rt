@@ -14,7 +14,7 @@ const WORD_KEY: u64 = 0xbb67_ae85_84ca_a73b;
 
 const REST_KEY: u64 = 0x3c6e_f372_fe94_f82b;
 
-const END_KEY: u64 = 0xa54f_f53a_5f1d_36f1;
+const REST_FACTOR: u64 = 0xa54f_f53a_5f1d_36f1;
 
 /// Makes hashers that are seeded by four words. A clause sees it as the hasher before the first write.
 ///
@@ -31,7 +31,6 @@ pub struct RandomState {
     state: u64,
     word_key: u64,
     rest_key: u64,
-    end_key: u64,
 }
 
 impl Model for RandomState {
@@ -39,15 +38,9 @@ impl Model for RandomState {
 
     ghost Value = { Mixer };
 
-    ghost view = { λ s. record { state = s.state; word_key = s.word_key; rest_key = s.rest_key; end_key = s.end_key } };
+    ghost view = { λ s. record { state = s.state; word_key = s.word_key; rest_key = s.rest_key } };
 
-    ghost inverse = { λ s. record {
-      state = s.state;
-      word_key = s.word_key;
-      rest_key = s.rest_key;
-      end_key =
-          s.end_key;
-    } };
+    ghost inverse = { λ s. record { state = s.state; word_key = s.word_key; rest_key = s.rest_key } };
 }
 
 impl RandomState {
@@ -58,8 +51,7 @@ impl RandomState {
         RandomState {
             state: words[0] ^ STATE,
             word_key: words[1] ^ WORD_KEY,
-            rest_key: words[2] ^ REST_KEY,
-            end_key: words[3] ^ END_KEY,
+            rest_key: folded(words[2] ^ REST_KEY, words[3] ^ REST_FACTOR),
         }
     }
 }
@@ -93,7 +85,6 @@ impl BuildHasher for RandomState {
             state: self.state,
             word_key: self.word_key,
             rest_key: self.rest_key,
-            end_key: self.end_key,
         }
     }
 }
@@ -107,7 +98,6 @@ pub struct DefaultHasher {
     state: u64,
     word_key: u64,
     rest_key: u64,
-    end_key: u64,
 }
 
 impl Model for DefaultHasher {
@@ -115,7 +105,7 @@ impl Model for DefaultHasher {
 
     ghost Value = { Mixer };
 
-    ghost view = { λ h. record { state = h.state; word_key = h.word_key; rest_key = h.rest_key; end_key = h.end_key } };
+    ghost view = { λ h. record { state = h.state; word_key = h.word_key; rest_key = h.rest_key } };
 }
 
 // The 128 bits of the product, their halves joined by xor.
@@ -231,6 +221,6 @@ impl Hasher for DefaultHasher {
 
     #[inline]
     fn finish(&self) -> u64 {
-        folded(self.state ^ self.rest_key, self.end_key)
+        self.state
     }
 }

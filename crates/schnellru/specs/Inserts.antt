@@ -22,11 +22,15 @@ module _ {K V S H : Type 0} (rules : Rules K V S) where
   Settles refused landed result new = (result ≡ Ok false) × (new ≡ landed)
   Settles no_memory landed result new = IsErr result × (new ≡ landed)
 
-  -- a pair of a new key, which the limiter gave, is placed, after way was made for it and before what follows
+  -- a pair of a new key is placed, and what follows
+  abbrev pub PlacesAndTrims : (H → K → ℕ) → K × V → State K V S H → Result Bool AllocError → State K V S H → Type 0
+  PlacesAndTrims hash_of pair old result new = (outcome : Outcome) × (landed : State K V S H)
+      × Place rules hash_of pair old outcome landed × Settles outcome landed result new
+
+  -- a pair of a new key, which the limiter gave, is placed so, after way was made for it
   abbrev pub PlacesNew : (H → K → ℕ) → K × V → State K V S H → Result Bool AllocError → State K V S H → Type 0
   PlacesNew hash_of pair old result new = (ready : State K V S H) × Leaves old (make_way rules (contents old)) ready
-      × (outcome : Outcome) × (landed : State K V S H) × Place rules hash_of pair ready outcome landed
-      × Settles outcome landed result new
+      × PlacesAndTrims hash_of pair ready result new
 
 module _ {K V S I : Type 0} (rules : Rules K V S) (offers : Offers K V S I) (names : I → K → Bool) where
   -- what the limiter says of a new value for this pair

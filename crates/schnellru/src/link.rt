@@ -204,7 +204,7 @@ impl<K, V, N: LinkType> Linked<K, V, N> {
             return;
         }
         unlink(&mut self.table, &mut self.newest, &mut self.oldest, b);
-        link_newest(&mut self.table, &mut self.newest, &mut self.oldest, b);
+        link_newest(&mut self.table, &mut self.newest, b);
     }
 
     // Takes the pair out of a full bucket.

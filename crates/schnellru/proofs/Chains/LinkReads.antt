@@ -9,8 +9,8 @@ use Rattle.group_table.specs.Bucket.{Slot, IsFull, entry_at}
 use Rattle.schnellru.specs.declared.link.Entry.{Entry}
 use Rattle.schnellru.specs.Inside.Linked.{without_bucket}
 use Rattle.schnellru.specs.Inside.Chain.{first_bucket, last_bucket, bucket_after, bucket_before, link_to, pair_slots}
-use Rattle.schnellru.specs.Inside.Chain.{IsWhole}
-use Rattle.schnellru.proofs.Chains.Orders.{after_in, before_in, first_in, last_in}
+use Rattle.schnellru.specs.Inside.Chain.{IsChain, IsWhole}
+use Rattle.schnellru.proofs.Chains.Orders.{after_in, before_in, first_in, last_in, before-alone}
 use Rattle.schnellru.proofs.Chains.Neighbours.{newest_again}
 use Rattle.schnellru.proofs.LinkedTables.PairSlots.{is_full-pair_slots}
 use Rattle.schnellru.proofs.Chains.LinkWrites.{end_by_link, chained_below, newer_link, older_link}
@@ -28,9 +28,12 @@ module _ {N : Type 0} {number : N → ℕ} {link : ℕ → N} {none : N} {eq : N
   pub equal_by_test : {a b : N} → not (eq a b) ≡ false → a ≡ b
   equal_by_test {a} {b} e = equal_links (not-false (eq a b) e)
 
+  pub unequal_links : {a b : N} → eq a b ≡ false → a ≢ b
+  unequal_links {a} {b} e same =
+      eqb-false (number a) (number b) (sym (laws.eq_by_number a b) ∙ e) (ap number same)
+
   pub other_by_test : {a b : N} → not (eq a b) ≡ true → a ≢ b
-  other_by_test {a} {b} e same = eqb-false (number a) (number b) (sym (laws.eq_by_number a b) ∙ not-true (eq a b) e)
-      (ap number same)
+  other_by_test {a} {b} e = unequal_links (not-true (eq a b) e)
 
   -- the bucket that a link leads to
   leads_to : (o : Option ℕ) (l : N) → l ≡ link_to link none o → ((y : ℕ) → o ≡ Some y → y < number none)
@@ -85,3 +88,12 @@ module _ {N : Type 0} {number : N → ℕ} {link : ℕ → N} {none : N} {eq : N
         newest_already e = newest_again b order whole.chain.distinct inside (end_by_link laws (bucket_before b order)
             (λ y k. chained_below whole.chain y (before_in b y order whole.chain.distinct k))
             (sym (newer_link laws whole.chain b inside entry is) ∙ e))
+
+        -- after a bucket with a newer one left, there is a newest one
+        pub newest_left : {slots' : List (Slot (Entry K V N))} {newest' oldest' : N} → entry.newer ≢ none
+            → IsChain number link none slots' newest' oldest' (without_bucket b order) → newest' ≢ none
+        newest_left newer left e =
+            let alone = end_by_link laws (first_bucket (without_bucket b order))
+            (λ y k. chained_below left y (first_in (without_bucket b order) y k)) (sym left.newest_first ∙ e) in
+            newer (newer_link laws whole.chain b inside entry is
+            ∙ ap (link_to link none) (before-alone b order whole.chain.distinct inside alone))

@@ -202,3 +202,11 @@ length-without b (c ∷ cs) d there = elim (cases_eq c b) [
     | inr k ↦ let ih = length-without b cs (distinct_tail c cs d) k in rw (ne_eqb c b h) (omega (arith, ih))
   ]
 ]
+
+-- a bucket that is alone has none before it
+pub before-alone : (b : ℕ) (order : List ℕ) → AllPairs ◌≢◌ order → Contains order b
+    → first_bucket (without_bucket b order) ≡ None → bucket_before b order ≡ None
+before-alone b [] d there e = refl
+before-alone b (c ∷ []) d there e = refl
+before-alone b (c ∷ x ∷ xs) d there e = absurd
+    (omega (arith, length-without b (c ∷ x ∷ xs) d there, ap length (no_first (without_bucket b (c ∷ x ∷ xs)) e)))

@@ -389,15 +389,15 @@ module _ {K V S H I : Type 0} (rules : Rules K V S) (offers : Offers K V S I) (n
             Ok (not (is_empty new.pairs)),
             new,
             admitted absent s pair admits
-                (way, left, placed, landed, place, (refl, leaves)),
+                (way, left, (placed, landed, place, (refl, leaves))),
             end,
           )
       settle way left refused landed place after =
-          (Ok false, landed, admitted absent s pair admits (way, left, refused, landed, place, (refl, refl)), after)
+          (Ok false, landed, admitted absent s pair admits (way, left, (refused, landed, place, (refl, refl))), after)
       settle way left no_memory landed place after = (
         Err (record {}),
         landed,
-        admitted absent s pair admits (way, left, no_memory, landed, place, (refl, refl)),
+        admitted absent s pair admits (way, left, (no_memory, landed, place, (refl, refl))),
         after,
       )
 

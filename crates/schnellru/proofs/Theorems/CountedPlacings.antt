@@ -52,7 +52,7 @@ module _ {K V S H I : Type 0} {rules : Rules K V S} {offers : Offers K V S I} {n
   insert_counts (given_up pair found y r l) = calm_counts old new (leaves_calm old _ new l)
   insert_counts (no_memory_to_admit a l r e) = rw e (calm_counts old old (self_calm old))
   insert_counts (not_admitted a s n r e) = rw e (calm_counts old _ (limiter_calm old s))
-  insert_counts (admitted a s pair n (ready, l, outcome, landed, step, rest)) =
+  insert_counts (admitted a s pair n (ready, l, (outcome, landed, step, rest))) =
       around_counts old ready landed new (calm_trans old (record old { limiter = s }) ready (limiter_calm old s)
       (leaves_calm _ _ ready l))
       (settles_calm rules outcome landed result new rest)

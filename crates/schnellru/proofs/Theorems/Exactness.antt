@@ -140,7 +140,7 @@ module _ {K V S H I : Type 0} {rules : Rules K V S} {offers : Offers K V S I} {n
   insert_ends small {new = new} ok (given_up pair found y r l) = rw (found, y) (r, left_are old _ new l)
   insert_ends small {result} ok (no_memory_to_admit a k r e) = ok-not_err result ok r
   insert_ends small ok (not_admitted a s n r e) = rw a (s, None, n, (r, ap contents e))
-  insert_ends small {result} {new} ok (admitted a s pair n (ready, l, outcome, landed, p, t)) =
+  insert_ends small {result} {new} ok (admitted a s pair n (ready, l, (outcome, landed, p, t))) =
       rw a (
         s,
         Some pair,

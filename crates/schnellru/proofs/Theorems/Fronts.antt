@@ -151,7 +151,7 @@ module _ {K V S H I : Type 0} {rules : Rules K V S} {offers : Offers K V S I} {n
   insert_gives_up result new (given_up pair found y r l) = without_one pair found y (ap (λ st. st.pairs) l.is)
   insert_gives_up result new (no_memory_to_admit a k r e) = with_none a (front_same (ap (λ st. st.pairs) e))
   insert_gives_up result new (not_admitted a s n r e) = with_none a (front_same (ap (λ st. st.pairs) e))
-  insert_gives_up result new (admitted a s pair n (ready, l, outcome, landed, p, t)) = go
+  insert_gives_up result new (admitted a s pair n (ready, l, (outcome, landed, p, t))) = go
       (place_ends rules hash_of pair ready outcome landed p)
     where
       ready_front : IsFront ready.pairs old.pairs

@@ -129,7 +129,7 @@ module _ {K V S H I : Type 0} (rules : Rules K V S) (offers : Offers K V S I) (n
   insert_granted grants tables (given_up pair found y r l) = ends (rw (found, y) (r, left_are old _ new l))
   insert_granted grants tables (no_memory_to_admit a k r e) = not_offered a k r (ap contents e)
   insert_granted grants tables (not_admitted a s n r e) = ends (rw a (s, None, n, (r, ap contents e)))
-  insert_granted {hash_of} grants tables (admitted a s pair n (ready, l, outcome, landed, p, t)) =
+  insert_granted {hash_of} grants tables (admitted a s pair n (ready, l, (outcome, landed, p, t))) =
       let some = way_tables rules old tables s ready l in
       settles a s pair n ready (ap contents l.is) some grants hash_of outcome landed
       (place_granted rules grants hash_of pair ready some outcome landed p) t

@@ -126,7 +126,7 @@ module _ {K V S H : Type 0} (rules : Rules K V S) where
     places_adds : (pair : K × V) (old : State K V (S × List (K × V)) H) (result : Result Bool AllocError)
         (new : State K V (S × List (K × V)) H) → PlacesNew (noting rules) hash_of pair old result new
         → in_map new ≡ in_map old + 1
-    places_adds pair old result new (ready, way, outcome, landed, place, settles) =
+    places_adds pair old result new (ready, way, (outcome, landed, place, settles)) =
         settles_keeps outcome landed result new settles ∙ place_adds pair ready outcome landed place
         ∙ ap (λ n. n + 1) (left_is old ready (make_way (noting rules) (contents old)) way
         ∙ way_keeps rules (contents old))

@@ -141,7 +141,7 @@ module _ {K V S H I : Type 0} {rules : Rules K V S} {offers : Offers K V S I} {n
   insert_says {result} {new} d (no_memory_to_admit a k r e) = err_says rules (names i) result new r
       (ap (λ st. lookup_entry (names i) st.pairs) e ∙ a)
   insert_says {result} {new} d (not_admitted a s n r e) = rw r (ap (λ st. lookup_entry (names i) st.pairs) e ∙ a)
-  insert_says {result} {new} d (admitted a s pair n (ready, l, outcome, landed, p, t)) =
+  insert_says {result} {new} d (admitted a s pair n (ready, l, (outcome, landed, p, t))) =
       settled_says rules (names i) hash_of pair ready outcome landed result new
       (given_named rules offers names looks_up laws i v old s pair n)
       (front_absent (names i) ready.pairs old.pairs (front_trans _ (front_same (ap (λ st. st.pairs) l.is))
@@ -171,7 +171,7 @@ module _ {K V S H I : Type 0} {rules : Rules K V S} {offers : Offers K V S I} {n
   insert_stores q (given_up pair found y r l) = absurd (false≢true (same_kept false true (sym r ∙ q)))
   insert_stores {result = result} q (no_memory_to_admit a k r e) = ok-not_err result (rw q refl) r
   insert_stores q (not_admitted a s n r e) = absurd (false≢true (same_kept false true (sym r ∙ q)))
-  insert_stores {hash_of} {result} {new} q (admitted a s pair n (ready, l, outcome, landed, p, t)) = go outcome
+  insert_stores {hash_of} {result} {new} q (admitted a s pair n (ready, l, (outcome, landed, p, t))) = go outcome
       (place_comes rules hash_of pair ready outcome landed p) t
     where
       go : (outcome : Outcome) → Comes rules hash_of pair ready outcome landed

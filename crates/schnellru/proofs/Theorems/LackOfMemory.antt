@@ -52,7 +52,7 @@ module _ {K V S H I : Type 0} {rules : Rules K V S} {offers : Offers K V S I} {n
   err_is h (given_up pair found y r l) = ok-not_err result (rw r refl) h
   err_is h (no_memory_to_admit a k r e) = (a, inl (k, e))
   err_is h (not_admitted a s n r e) = ok-not_err result (rw r refl) h
-  err_is h (admitted a s pair n (ready, l, outcome, landed, p, t)) = (a, inr (go outcome p t))
+  err_is h (admitted a s pair n (ready, l, (outcome, landed, p, t))) = (a, inr (go outcome p t))
     where
       short : LacksTable rules hash_of pair ready → IsShort rules offers names hash_of i v old
       short k = record {
@@ -80,7 +80,7 @@ module _ {K V S H I : Type 0} {rules : Rules K V S} {offers : Offers K V S I} {n
   err_keeps h (given_up pair found y r l) = ok-not_err result (rw r refl) h
   err_keeps h (no_memory_to_admit a k r e) = front_same (ap (λ st. st.pairs) e)
   err_keeps h (not_admitted a s n r e) = ok-not_err result (rw r refl) h
-  err_keeps h (admitted a s pair n (ready, l, outcome, landed, p, t)) = go outcome p t
+  err_keeps h (admitted a s pair n (ready, l, (outcome, landed, p, t))) = go outcome p t
     where
       go : (outcome : Outcome) → Place rules hash_of pair ready outcome landed
           → Settles rules outcome landed result new → IsFront new.pairs old.pairs

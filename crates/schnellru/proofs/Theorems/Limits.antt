@@ -73,7 +73,7 @@ module _ {K V : Type 0} (f : K × V → ℕ) where
         (omega (arith, ap (λ st. total f st.pairs) l.is, total-without (names i) old.pairs))
     insert_within (no_memory_to_admit a k r e) = inr (omega (arith, ap (λ st. total f st.pairs) e))
     insert_within (not_admitted a s n r e) = inr (omega (arith, ap (λ st. total f st.pairs) e))
-    insert_within {result} {new} (admitted a s pair n (ready, l, outcome, landed, p, t)) = settled outcome
+    insert_within {result} {new} (admitted a s pair n (ready, l, (outcome, landed, p, t))) = settled outcome
         (place_comes rules hash_of pair ready outcome landed p) t
       where
         fewer : total f ready.pairs ≤ total f old.pairs

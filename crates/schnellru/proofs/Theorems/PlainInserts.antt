@@ -159,14 +159,16 @@ module _ {K V S H : Type 0} (rules : Rules K V S) where
     plain_places : (pair : K × V) (old : State K V (S × List (K × V)) H) (result : Result Bool AllocError)
         (new : State K V (S × List (K × V)) H) → PlacesNew (noting rules) hash_of pair old result new
         → PlacesNew rules hash_of pair (plain old) result (plain new)
-    plain_places pair old result new (ready, way, outcome, landed, place, settles) = (
+    plain_places pair old result new (ready, way, (outcome, landed, place, settles)) = (
       plain ready,
       plain_leaves old ready (make_way (noting rules) (contents old)) (make_way rules (contents (plain old)))
           (plain_make_way rules (contents old)) way,
-      outcome,
-      plain landed,
-      plain_place pair ready outcome landed place,
-      plain_settles outcome landed result new settles,
+      (
+        outcome,
+        plain landed,
+        plain_place pair ready outcome landed place,
+        plain_settles outcome landed result new settles,
+      ),
     )
 
 module _ {K V S H I : Type 0} {rules : Rules K V S} {offers : Offers K V S I} {names : I → K → Bool}

@@ -328,7 +328,7 @@ module _ {K V S H I : Type 0} (rules : Rules K V S) (offers : Offers K V S I) (n
           (ap (λ sh. (Some false, sh)) (sym (left_shape old _ new small l)))
       insert_is (no_memory_to_admit a k r e) = absurd (never old.limiter (length old.pairs) i v k)
       insert_is (not_admitted a s n r e) = rw (a, r) (s, None, n, ap (λ st. (Some false, shape st)) (sym e))
-      insert_is (admitted a s pair n (ready, l, outcome, mid, p, t)) =
+      insert_is (admitted a s pair n (ready, l, (outcome, mid, p, t))) =
           let start : State K V S H = record old { limiter = s } in
           let is = left_shape start (make_way rules (contents start)) ready small l in
           let tiny : buckets ready ≤ 16 = omega (arith, small, l.room.table) in

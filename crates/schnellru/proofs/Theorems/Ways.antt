@@ -228,7 +228,7 @@ module _ {K V S H I : Type 0} {rules : Rules K V S} {offers : Offers K V S I} {n
       (calm_changes rules R 1 old old (self_calm old) (k.keeps.way.self (contents old)))
   insert_changes result new (not_admitted a s n r e) = rw e
       (calm_changes rules R 1 old _ (limiter_calm old s) (k.turned_down i v (contents old) s n))
-  insert_changes {hash_of} result new (admitted a s pair n (ready, l, outcome, landed, p, t)) =
+  insert_changes {hash_of} result new (admitted a s pair n (ready, l, (outcome, landed, p, t))) =
       let start : State K V S H = record old { limiter = s } in
       let hand = way_behind rules names R k.keeps pair in
       let reached = k.keeps.way.trans (k.came i v (contents old) s pair a n)

@@ -1,7 +1,7 @@
 //! The links between the entries of a table: each change of the order as a change of a few entries.
 //!
 //! `newest` and `oldest` are the ends of the chain. The order of the buckets is known to the clauses alone.
-ghost use Rattle.std.specs.Prelude.{◌≡◌, ◌⊎◌, ◌<◌, ◌≤◌, ℕ, ◌∷◌, List, Some, Contains, map, length};
+ghost use Rattle.std.specs.Prelude.{◌≡◌, ◌≢◌, ◌⊎◌, ◌<◌, ◌≤◌, ℕ, ◌∷◌, List, Some, Contains, map, length};
 ghost use Rattle.group_table.specs.Bucket.{Slot, IsFull};
 ghost use Rattle.group_table.specs.Relocation.{Renumbers, moved_to};
 ghost use Rattle.schnellru.specs.Inside.Linked.{without_bucket};
@@ -33,26 +33,29 @@ pub(crate) fn unlink<K, V, N: LinkType>(
     set_newer(table, oldest, older, newer);
 }
 
-// Puts a bucket that is in no chain in front of this one.
+// Puts a bucket that is in no chain in front of this one, which is not empty.
 pub(crate) fn link_newest<K, V, N: LinkType>(
     table: &mut Table<Entry<K, V, N>>,
     newest: &mut N,
-    oldest: &mut N,
     b: usize,
 )
     requires full { IsFull table.old.slots b }
-    requires chained { OutOfChain N.number N.link N.MAX table.old.slots newest.old oldest.old b }
+    requires some { newest.old ≢ N.MAX }
+    requires chained { (oldest : N) × OutOfChain N.number N.link N.MAX table.old.slots newest.old oldest b }
     ensures pairs { pair_slots table.new.slots ≡ pair_slots table.old.slots }
     ensures placings { table.new.placings ≡ table.old.placings }
-    ensures chain { (order : List ℕ) → IsChain N.number N.link N.MAX table.old.slots newest.old oldest.old order
-        → (Contains order b → ⊥) →
-        IsChain N.number N.link N.MAX table.new.slots newest.new oldest.new (b ∷ order) }
+    ensures chain { (oldest : N) (order : List ℕ) →
+        IsChain N.number N.link N.MAX table.old.slots newest.old oldest order → (Contains order b → ⊥) →
+        IsChain N.number N.link N.MAX table.new.slots newest.new oldest (b ∷ order) }
 {
-    set_links(table, b, N::MAX, *newest);
-    link_placed(table, newest, oldest, b);
+    let first = *newest;
+    let link = N::from_usize(b);
+    set_links(table, b, N::MAX, first);
+    write_newer(table, first, link);
+    *newest = link;
 }
 
-// The same of a bucket whose entry came with the links of a newest one.
+// Puts a bucket whose entry came with the links of a newest one in front of the chain, or makes it the only one.
 pub(crate) fn link_placed<K, V, N: LinkType>(
     table: &mut Table<Entry<K, V, N>>,
     newest: &mut N,
@@ -86,8 +89,18 @@ fn set_newer<K, V, N: LinkType>(table: &mut Table<Entry<K, V, N>>, oldest: &mut 
     if at == N::MAX {
         *oldest = to;
     } else {
-        table.get_mut(at.into_usize()).newer = to;
+        write_newer(table, at, to);
     }
+}
+
+// Writes the newer link of the entry at a link that leads to a full bucket.
+#[inline]
+fn write_newer<K, V, N: LinkType>(table: &mut Table<Entry<K, V, N>>, at: N, to: N)
+    requires { IsFull table.old.slots (N.number at) }
+    ensures slots { SetsNewer N.number table.old.slots table.new.slots at to }
+    ensures placings { table.new.placings ≡ table.old.placings }
+{
+    table.get_mut(at.into_usize()).newer = to;
 }
 
 // Sets the older link of the entry at a link, or the newest end, where the link is `MAX`.

@@ -170,7 +170,7 @@ impl<K: Eq + Hash + Drop, V: Drop, L: Limiter<K, V>, S: BuildHasher> LruMap<K, V
         }
     }
 
-    // Places a pair that the limiter gave, whose key is new, after it made way and before it trims.
+    // Makes way for a pair that the limiter gave, whose key is new, and places it.
     fn place_new<F: FnMut(K, V)>(
         &mut self,
         hash: u64,
@@ -186,10 +186,6 @@ impl<K: Eq + Hash + Drop, V: Drop, L: Limiter<K, V>, S: BuildHasher> LruMap<K, V
         ensures callable { F.IsAlwaysCallable sink.new }
     {
         self.make_way(sink);
-        if !self.place(hash, pair, sink)? {
-            return Ok(false);
-        }
-        self.trim(sink);
-        Ok(!self.is_empty())
+        self.place(hash, pair, sink)
     }
 }

@@ -10,6 +10,7 @@ ghost use Rattle.schnellru.specs.Sizes.{usage};
 ghost use Rattle.schnellru.specs.State.{buckets, room, FirstFreeIs};
 ghost use Rattle.schnellru.specs.Place.{Place, IsPlaced, IsPlacedIfMemory, FillsBucket, LacksRoom, outcome_of};
 ghost use Rattle.schnellru.specs.Place.{turned_away};
+ghost use Rattle.schnellru.specs.Inserts.{PlacesAndTrims};
 ghost use Rattle.schnellru.specs.HandedOver.{noting, noted};
 ghost use Rattle.schnellru.specs.Inside.Handing.{Hands};
 
@@ -22,7 +23,7 @@ use std::alloc::AllocError;
 use std::hash::{BuildHasher, Hash};
 
 impl<K: Eq + Hash + Drop, V: Drop, L: Limiter<K, V>, S: BuildHasher> LruMap<K, V, L, S> {
-    // Places a pair whose key is new and has this hash, as the newest. The answer is whether it is placed.
+    // Places a pair whose key is new and has this hash, as the newest, and trims. The answer is whether pairs are left.
     #[inline]
     pub(crate) fn place<F: FnMut(K, V)>(
         &mut self,
@@ -33,17 +34,20 @@ impl<K: Eq + Hash + Drop, V: Drop, L: Limiter<K, V>, S: BuildHasher> LruMap<K, V
         requires callable { F.IsAlwaysCallable sink.old }
         requires hash { hash ≡ hash_by K.hash_input S.BuildHasher S.Hasher.Hasher self.old.hasher pair.0 }
         requires absent { lookup_entry (K.eq pair.0) self.old.pairs ≡ None }
-        ensures handed { Hands F.FnMut sink.old sink.new (λ before after. Place (noting L.rules)
-            (hash_by K.hash_input S.BuildHasher S.Hasher.Hasher) pair (noted before self.old) (outcome_of result)
+        ensures handed { Hands F.FnMut sink.old sink.new (λ before after. PlacesAndTrims (noting L.rules)
+            (hash_by K.hash_input S.BuildHasher S.Hasher.Hasher) pair (noted before self.old) result
             (noted after self.new)) }
         ensures callable { F.IsAlwaysCallable sink.new }
     {
         if self.entries.room() == 0 && self.entries.len() == 0 {
-            return self.place_without_room(hash, pair, sink);
+            return self.place_late(hash, pair, sink);
         }
         match self.place_in_bucket(hash, pair) {
-            Ok(()) => Ok(true),
-            Err(pair) => self.place_without_room(hash, pair, sink),
+            Ok(()) => {
+                self.trim(sink);
+                Ok(!self.is_empty())
+            }
+            Err(pair) => self.place_late(hash, pair, sink),
         }
     }
 
@@ -65,9 +69,33 @@ impl<K: Eq + Hash + Drop, V: Drop, L: Limiter<K, V>, S: BuildHasher> LruMap<K, V
         Ok(())
     }
 
-    // Places a pair that no bucket took, or the first pair of a table without room. Under a limit on memory each new
-    // pair may come here.
+    // Places and trims likewise a pair that no bucket took, or the first pair of a table without room. Under a limit on
+    // memory each new pair may come here.
     #[inline(never)]
+    fn place_late<F: FnMut(K, V)>(
+        &mut self,
+        hash: u64,
+        pair: (K, V),
+        sink: &mut F,
+    ) -> Result<bool, AllocError>
+        requires callable { F.IsAlwaysCallable sink.old }
+        requires hash { hash ≡ hash_by K.hash_input S.BuildHasher S.Hasher.Hasher self.old.hasher pair.0 }
+        requires absent { lookup_entry (K.eq pair.0) self.old.pairs ≡ None }
+        requires no_room { room self.old ≡ 0 }
+        requires empty { 0 < length self.old.pairs → FirstFreeIs empty hash self.old }
+        ensures handed { Hands F.FnMut sink.old sink.new (λ before after. PlacesAndTrims (noting L.rules)
+            (hash_by K.hash_input S.BuildHasher S.Hasher.Hasher) pair (noted before self.old) result
+            (noted after self.new)) }
+        ensures callable { F.IsAlwaysCallable sink.new }
+    {
+        if !self.place_without_room(hash, pair, sink)? {
+            return Ok(false);
+        }
+        self.trim(sink);
+        Ok(!self.is_empty())
+    }
+
+    // Places such a pair. The answer is whether it is placed.
     fn place_without_room<F: FnMut(K, V)>(
         &mut self,
         hash: u64,

@@ -94,7 +94,7 @@ returns-clause-placed g c =
       first = place_first _ _ _ valid c.args.hash c.first_free-b.result _ are (omega (arith, some, are)) first;
       slots = rw (c.fill_bucket.ensures.control, c.fill_bucket.ensures.entries, c.tag_of.ensures.value)
           (slots_of-written _ _ c.first_free-b.result _ _);
-      placings = c.saturating_add-self-inside.ensures;
+      placings = c.count_one.ensures;
     }
 
 pub returns-clause-may_fill : goal.returns-clause-may_fill

@@ -2,7 +2,8 @@ use Rattle.std.proofs.Common.{refl, sym, ◌∙◌}
 use Rattle.schnellru.proofs.Chains.Orders.{without_in}
 use Rattle.schnellru.proofs.LinkedTables.PairSlots.{same_marks}
 use Rattle.schnellru.proofs.Chains.WholeChains.{whole_order, IsWhole-shown, IsLinked-view, IsWhole-promoted}
-use Rattle.schnellru.proofs.Chains.LinkReads.{equal_links, full_entry, inside, newest_already}
+use Rattle.schnellru.proofs.Chains.LinkReads.{equal_links, unequal_links, full_entry, inside}
+use Rattle.schnellru.proofs.Chains.LinkReads.{newest_already, newest_left}
 use Rattle.schnellru.proofs.link.Linked.promote.Goals as goal
 
 pub returns-then-eq-clause-order : goal.returns-then-eq-clause-order
@@ -16,18 +17,26 @@ pub returns-then-eq-clause-linked : goal.returns-then-eq-clause-linked
 returns-then-eq-clause-linked g c = rw (← c.self.view_is)
     (IsLinked-view g.met.N.LinkType.laws c.self.invariant c.get.ensures.table)
 
+pub link_newest-requires-clause-some : goal.link_newest-requires-clause-some
+link_newest-requires-clause-some g c =
+    let full = rw (← c.self.view_is) at c.requires in
+    let there = inside g.met.N.LinkType.laws c.self.invariant c.args.b full in
+    let newer = unequal_links g.met.N.LinkType.laws (sym c.eq.ensures ∙ c.if-eq.false) in
+    newest_left g.met.N.LinkType.laws c.self.invariant c.args.b full c.get.result.now c.get.ensures.entry
+    (λ e. newer (e ∙ sym c.MAX.ensures)) (c.unlink.ensures.chain _ c.self.invariant.chain there)
+
 pub link_newest-requires-clause-chained : goal.link_newest-requires-clause-chained
 link_newest-requires-clause-chained g c =
     let full = rw (← c.self.view_is) at c.requires in
     let there = inside g.met.N.LinkType.laws c.self.invariant c.args.b full in
-    (_, c.unlink.ensures.chain _ c.self.invariant.chain there, λ w. (without_in c.args.b c.args.b _ w).1 refl)
+    (_, (_, c.unlink.ensures.chain _ c.self.invariant.chain there, λ w. (without_in c.args.b c.args.b _ w).1 refl))
 
 pub invariant_of-self : goal.invariant_of-self
 invariant_of-self g c =
     let full = rw (← c.self.view_is) at c.requires in
     let there = inside g.met.N.LinkType.laws c.self.invariant c.args.b full in
     let left = c.unlink.ensures.chain _ c.self.invariant.chain there in
-    let chain = c.link_newest.ensures.chain _ left (λ w. (without_in c.args.b c.args.b _ w).1 refl) in
+    let chain = c.link_newest.ensures.chain _ _ left (λ w. (without_in c.args.b c.args.b _ w).1 refl) in
     IsWhole-shown g.met.N.LinkType.laws (IsWhole-promoted g.met.N.LinkType.laws c.self.invariant c.args.b
     (full_entry g.met.N.LinkType.laws c.self.invariant c.args.b full) (c.link_newest.ensures.pairs
     ∙ c.unlink.ensures.pairs) chain)
@@ -37,7 +46,7 @@ returns-clause-order g c =
     let full = rw (← c.self.view_is) at c.requires in
     let there = inside g.met.N.LinkType.laws c.self.invariant c.args.b full in
     let left = c.unlink.ensures.chain _ c.self.invariant.chain there in
-    let chain = c.link_newest.ensures.chain _ left (λ w. (without_in c.args.b c.args.b _ w).1 refl) in
+    let chain = c.link_newest.ensures.chain _ _ left (λ w. (without_in c.args.b c.args.b _ w).1 refl) in
     rw (← c.self.view_is) (whole_order g.met.N.LinkType.laws
     (IsWhole-promoted g.met.N.LinkType.laws c.self.invariant c.args.b
     (full_entry g.met.N.LinkType.laws c.self.invariant c.args.b full) (c.link_newest.ensures.pairs

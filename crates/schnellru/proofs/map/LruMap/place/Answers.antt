@@ -1,9 +1,9 @@
-use Rattle.std.proofs.Common.{◌≡◌, ◌<◌, ◌⊎◌, inl, inr, length, sym, subst, arith}
+use Rattle.std.proofs.Common.{◌≡◌, ◌<◌, ◌⊎◌, inl, inr, length, ap, sym, subst, arith, Ok, not}
 use Rattle.group_table.specs.Bucket.{empty, marks_of, room as room_of}
 use Rattle.schnellru.specs.State.{IsSized, FirstFreeIs, buckets, room}
 use Rattle.schnellru.specs.HandedOver.{noting, noted}
 use Rattle.schnellru.proofs.Maps.NotedStates.{noted_sized, noted_placed}
-use Rattle.schnellru.specs.Place.{FillsBucket}
+use Rattle.schnellru.specs.Place.{FillsBucket, placed}
 use Rattle.schnellru.specs.Inside.Linked.{pairs_of}
 use Rattle.schnellru.proofs.LinkedTables.BucketPairs.{pairs-length}
 use Rattle.schnellru.proofs.Maps.Placements.{bucket_place, no_place_room, no_place_empty}
@@ -11,13 +11,13 @@ use Rattle.schnellru.proofs.map.LruMap.place.Goals as goal
 use Rattle.schnellru.proofs.map.LruMap.place.Goals.{else-room-eq0-via-then-room-eq0+else-len-eq0}
 use Rattle.schnellru.proofs.map.LruMap.place.Goals.{else-room-eq0-via-else-room-eq0}
 
-pub place_without_room-requires-in-Err-clause-no_room : goal.place_without_room-requires-in-Err-clause-no_room
-place_without_room-requires-in-Err-clause-no_room g c = subst (λ st. room st ≡ 0) (sym c.in-Err.ensures.unchanged)
+pub place_late-requires-in-Err-clause-no_room : goal.place_late-requires-in-Err-clause-no_room
+place_late-requires-in-Err-clause-no_room g c = subst (λ st. room st ≡ 0) (sym c.in-Err.ensures.unchanged)
     (no_place_room c.args.self.now
     (subst IsSized c.self.view_is c.self.invariant.map.sized) c.args.hash c.in-Err.ensures.no_place)
 
-pub place_without_room-requires-in-Err-clause-empty : goal.place_without_room-requires-in-Err-clause-empty
-place_without_room-requires-in-Err-clause-empty g c = subst (λ st. 0 < length st.pairs
+pub place_late-requires-in-Err-clause-empty : goal.place_late-requires-in-Err-clause-empty
+place_late-requires-in-Err-clause-empty g c = subst (λ st. 0 < length st.pairs
     → FirstFreeIs empty c.args.hash st) (sym c.in-Err.ensures.unchanged)
     (no_place_empty c.args.self.now
     (subst IsSized c.self.view_is c.self.invariant.map.sized) c.args.hash c.in-Err.ensures.no_place)
@@ -34,15 +34,21 @@ returns-in-Ok-clause-handed g c =
     let either : (0 < room old) ⊎ (0 < length old.pairs) = rw (← c.self.view_is) some in
     let sized = subst IsSized c.self.view_is c.self.invariant.map.sized in
     let fills = subst (λ h. FillsBucket h old new) c.requires.hash step.fills in
-    λ first before taken. (
-      before,
-      taken,
-      bucket_place (noting g.L.Limiter.rules) _ c.args.pair (noted before old) (noted before new)
-          (noted_sized before old sized) either
-          (noted_placed before c.args.pair (buckets old) (room new) 0 old new step.placed) fills,
+    λ first before taken.
+    let (after, in_all, trimmed) = c.trim.ensures.handed first before taken in (
+      after,
+      in_all,
+      (
+        placed,
+        noted before new,
+        bucket_place (noting g.L.Limiter.rules) _ c.args.pair (noted before old) (noted before new)
+            (noted_sized before old sized) either
+            (noted_placed before c.args.pair (buckets old) (room new) 0 old new step.placed) fills,
+        (ap (λ b. Ok (not b)) c.is_empty.ensures, trimmed),
+      ),
     )
 
 pub returns-in-Err-clause-handed : goal.returns-in-Err-clause-handed
 returns-in-Err-clause-handed g c =
     λ first before taken. rw (← c.in-Err.ensures.returned, ← c.in-Err.ensures.unchanged)
-    (c.place_without_room-in-Err.ensures.handed first before taken)
+    (c.place_late-in-Err.ensures.handed first before taken)

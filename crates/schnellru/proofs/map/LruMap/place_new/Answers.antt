@@ -1,8 +1,7 @@
-use Rattle.std.proofs.Common.{Ok, not, [], refl, ap, sym, ◌∙◌, subst}
+use Rattle.std.proofs.Common.{[], refl, ap, sym, ◌∙◌, subst}
 use Rattle.lru_limits.specs.Hashing.{hash_by}
 use Rattle.schnellru.specs.Lists.{IsFront}
 use Rattle.schnellru.specs.State.{contents}
-use Rattle.schnellru.specs.Place.{placed, refused, no_memory}
 use Rattle.schnellru.specs.HandedOver.{noting, noted}
 use Rattle.schnellru.proofs.Theorems.Fronts.{front_make_way, front_absent}
 use Rattle.schnellru.proofs.map.LruMap.place_new.Goals as goal
@@ -22,54 +21,9 @@ place-requires-clause-hash g c =
     ∙ ap (λ hasher. hash_by g.K.Hash.hash_input g.S.BuildHasher g.S.Hasher.Hasher hasher c.args.pair.0)
     (sym (ap (λ st. st.hasher) way.is))
 
-pub returns-in_err-place-clause-handed : goal.returns-in_err-place-clause-handed
-returns-in_err-place-clause-handed g c =
-    λ first before taken.
-    let (mid, had, way) = c.make_way.ensures.handed first before taken in
-    let (after, has, step) = c.in_err-place.ensures.handed first mid had in (
-      after,
-      has,
-      (
-        noted mid c.make_way.new.self,
-        way,
-        no_memory,
-        noted after c.place.new.self,
-        step,
-        (c.from_residual.ensures.0, refl),
-      ),
-    )
-
-pub returns-then-not-branch-clause-handed : goal.returns-then-not-branch-clause-handed
-returns-then-not-branch-clause-handed g c =
-    λ first before taken.
-    let (mid, had, way) = c.make_way.ensures.handed first before taken in
-    let (after, has, step) = c.in_ok-place.ensures.handed first mid had in (
-      after,
-      has,
-      (
-        noted mid c.make_way.new.self,
-        way,
-        refused,
-        noted after c.place.new.self,
-        rw c.if-not-branch.true at step,
-        (refl, refl),
-      ),
-    )
-
 pub returns-clause-handed : goal.returns-clause-handed
 returns-clause-handed g c =
     λ first before taken.
     let (mid, had, way) = c.make_way.ensures.handed first before taken in
-    let (landed, has, step) = c.in_ok-place.ensures.handed first mid had in
-    let (after, in_all, trimmed) = c.trim.ensures.handed first landed has in (
-      after,
-      in_all,
-      (
-        noted mid c.make_way.new.self,
-        way,
-        placed,
-        noted landed c.place.new.self,
-        rw c.if-not-branch.false at step,
-        (ap (λ b. Ok (not b)) c.is_empty.ensures, trimmed),
-      ),
-    )
+    let (after, has, step) = c.place.ensures.handed first mid had in
+    (after, has, (noted mid c.make_way.new.self, way, step))
