@@ -16,12 +16,15 @@ fn costs(alloc: Global) -> Result<LruMap<u64, u64, ByCost>, AllocError> {
 fn a_drain_that_is_forgotten(rt: HostRuntime) -> Result<(), Fail> {
     let mut map = costs(rt.alloc())?;
     let mut drain = map.drain();
-    assert_eq!(rt; drain.next(), Some((3, 3)));
+    let first = drain.next();
     forget(drain);
-    assert!(rt; is_list(&map, &[(2, 2), (1, 1)]));
-    assert_eq!(rt; map.limiter().cost(), 3);
-    assert!(rt; map.insert(4, 4)?);
-    assert!(rt; is_list(&map, &[(4, 4), (2, 2), (1, 1)]));
+    let left = (is_list(&map, &[(2, 2), (1, 1)]), map.limiter().cost());
+    let taken = map.insert(4, 4)?;
+    let stands = is_list(&map, &[(4, 4), (2, 2), (1, 1)]);
+    assert_eq!(rt;
+        (first, left, taken, stands),
+        (Some((3, 3)), (true, 3), true, true)
+    );
     Ok(())
 }
 
@@ -47,11 +50,15 @@ fn walks_that_are_forgotten(rt: HostRuntime) -> Result<(), Fail> {
     }
     forget(walk);
     let mut walk = map.iter();
-    assert!(rt; walk.next().is_some());
+    let has_next = walk.next().is_some();
     forget(walk);
-    assert!(rt; is_list(&map, &[(3, 3), (2, 2), (1, 10)]));
-    assert_eq!(rt; map.pop_oldest(), Some((1, 10)));
-    assert_eq!(rt; map.drain().len(), 2);
-    assert!(rt; map.is_empty());
+    let stands = is_list(&map, &[(3, 3), (2, 2), (1, 10)]);
+    let oldest = map.pop_oldest();
+    let len = map.drain().len();
+    let taken = (oldest, len, map.is_empty());
+    assert_eq!(rt;
+        (has_next, stands, taken),
+        (true, true, (Some((1, 10)), 2, true))
+    );
     Ok(())
 }

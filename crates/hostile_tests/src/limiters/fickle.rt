@@ -115,9 +115,12 @@ fn a_mind_that_changes_in_every_callback(rt: HostRuntime) -> Result<(), Fail> {
         // It is refused, and the pair leaves.
         (true, 6, false, &[], true),
     ];
-    assert_eq!(rt; wrong_step(&mut map, steps.as_slice())?, None);
-    assert_eq!(rt; (figures(&map), report(&map)), ((0, 3, 84), (0, 6)));
+    let wrong = wrong_step(&mut map, steps.as_slice())?;
+    let told = (figures(&map), report(&map));
     map.clear();
-    assert!(rt; !map.limiter().over);
+    assert_eq!(rt;
+        (wrong, told, map.limiter().over),
+        (None, ((0, 3, 84), (0, 6)), false)
+    );
     Ok(())
 }
