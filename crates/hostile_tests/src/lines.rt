@@ -1,5 +1,5 @@
 //! Lines that come in pieces, end in the middle, or say nothing.
-use lru_replay::{ReplayEnd, ReplayError, replay};
+use lru_replay::{ReplayEnd, ReplayError, replay, status};
 use std::alloc::{AllocError, Global};
 use std::io::BufReader;
 use std::process::Abort;

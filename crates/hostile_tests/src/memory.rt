@@ -7,7 +7,6 @@ use schnellru::{
 };
 use std::alloc::{AllocError, Global};
 use std::hash::BuildHasher;
-use std::process::Abort;
 use std::test::Fail;
 use test_helpers::{Hog, Within, figures, insert_all, is_list, map_of, report};
 
@@ -28,20 +27,8 @@ const GROWTH: [usize; 3] = [32, 384, 32];
 // The links of 32 buckets, and fresh control bytes.
 const SAME_TABLE: [usize; 2] = [128, 48];
 
-// Eight pairs, the newest first.
-const EIGHT: &[(u64, u64)] = &[
-    (8, 80),
-    (7, 70),
-    (6, 60),
-    (5, 50),
-    (4, 40),
-    (3, 30),
-    (2, 20),
-    (1, 10),
-];
-
-// The oldest seven of them.
-const SEVEN: &[(u64, u64)] = &[
+// Seven pairs, the newest first.
+const SEVEN: [(u64, u64); 7] = [
     (7, 70),
     (6, 60),
     (5, 50),
@@ -136,29 +123,20 @@ impl Tells for UnlimitedCompact {
 /// capacity and the bytes of the table, how many entries inserts moved and placed, and what the limiter tells.
 type Left = (bool, (usize, usize, usize), (u64, u64), Told);
 
-/// A call, of this pair where it inserts one, the pairs that stay while it is refused and those that stand at the end,
-/// newest first, and the requests for memory that it makes.
-#[derive(Clone, Copy)]
-struct Trial<'a> {
-    call: Taking,
-    pair: (u64, u64),
-    stay: &'a [(u64, u64)],
-    end: &'a [(u64, u64)],
-    requests: &'a [usize],
-}
-
-// Makes the call while memory is refused at each of the requests in turn, and then once with memory. There is no
+// Makes the call while memory is refused at each of these requests in turn, and then once with memory. There is no
 // answer where memory has no end.
 fn refuse_each<L: Insertion<u64, u64, u64> + Tells, S: BuildHasher>(
     alloc: Global,
     map: &mut LruMap<u64, u64, L, S>,
-    trial: Trial,
+    (call, pair): (Taking, (u64, u64)),
+    stay: &[(u64, u64)],
+    requests: &[usize],
 ) -> Result<Option<Vec<Left>>, AllocError> {
-    let mut all = Vec::with_capacity(alloc, trial.requests.len().saturating_add(1))?;
-    let mut hog = Hog::new(alloc, trial.requests)?;
-    for _ in 0..=trial.requests.len() {
-        let refused = is_refused(map, trial.call, trial.pair);
-        let stands = is_list(map, trial.stay);
+    let mut all = Vec::with_capacity(alloc, requests.len().saturating_add(1))?;
+    let mut hog = Hog::new(alloc, requests)?;
+    for _ in 0..=requests.len() {
+        let refused = is_refused(map, call, pair);
+        let stands = is_list(map, stay);
         all.push((
             refused && stands,
             figures(map),
@@ -168,42 +146,4 @@ fn refuse_each<L: Insertion<u64, u64, u64> + Tells, S: BuildHasher>(
         hog.release();
     }
     Ok(if hog.took_all() { Some(all) } else { None })
-}
-
-// Compares what is left with what is wanted.
-fn expect_each<L: Insertion<u64, u64, u64> + Tells, S: BuildHasher>(
-    rt: &(impl Abort + AllocGlobal),
-    map: &mut LruMap<u64, u64, L, S>,
-    trial: Trial,
-    wanted: &[Left],
-) -> Result<(), Fail> {
-    if let Some(all) = refuse_each(rt.alloc(), map, trial)? {
-        let ends = is_list(map, trial.end);
-        assert_eq!(rt; (all.as_slice(), ends), (wanted, true));
-    }
-    Ok(())
-}
-
-// The same on a new map of the pairs that stay, whose inserts are all taken.
-fn expect_of<L: Insertion<u64, u64, u64> + Tells + Drop>(
-    rt: &(impl Abort + AllocGlobal),
-    limiter: L,
-    trial: Trial,
-    wanted: &[Left],
-) -> Result<(), Fail> {
-    let mut map = map_of(rt.alloc(), limiter);
-    for (key, value) in trial.stay.iter().rev() {
-        assert!(rt; map.insert(*key, *value)?);
-    }
-    expect_each(rt, &mut map, trial, wanted)
-}
-
-// The same within so many bytes.
-fn expect_within(
-    rt: &(impl Abort + AllocGlobal),
-    most: usize,
-    trial: Trial,
-    wanted: &[Left],
-) -> Result<(), Fail> {
-    expect_of(rt, Within::new(most), trial, wanted)
 }

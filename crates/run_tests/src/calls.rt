@@ -8,4 +8,3 @@ mod orders;
 mod refused;
 mod summing;
 mod taking;
-mod wanted;

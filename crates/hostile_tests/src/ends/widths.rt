@@ -12,25 +12,24 @@ fn fill_to_the_end<N: LinkType>(
 ) -> Result<(), Fail> {
     let mut map = map_of(rt.alloc(), LinkedBy::<N>(PhantomData));
     let room = most as usize;
-    let too_large = Err(ReserveError::TooLarge);
-    let refused = map.try_reserve(room.saturating_add(1));
-    let empty = figures(&map);
-    let reserved = map.try_reserve(room);
-    assert_eq!(rt; (refused, empty, reserved), (too_large, (0, 0, 0), Ok(())));
-    let taken = insert_all(&mut map, 1..=most)?;
-    let full = (figures(&map), report(&map), map.try_reserve(1));
     assert_eq!(rt;
-        (taken, full),
-        (most, ((room, room, bytes), (0, most), too_large))
+        map.try_reserve(room.saturating_add(1)),
+        Err(ReserveError::TooLarge)
     );
+    assert_eq!(rt; figures(&map), (0, 0, 0));
+    assert_eq!(rt; map.try_reserve(room), Ok(()));
+    assert_eq!(rt; insert_all(&mut map, 1..=most)?, most);
+    assert_eq!(rt;
+        (figures(&map), report(&map)),
+        ((room, room, bytes), (0, most))
+    );
+    assert_eq!(rt; map.try_reserve(1), Err(ReserveError::TooLarge));
     let next = most.saturating_add(1);
-    let taken = insert(&mut map, next)?;
-    let is_newest = map.peek_newest() == Some((&next, &next.wrapping_mul(10)));
-    let is_half = map.len() >= room / 2 && map.len() <= room;
-    assert_eq!(rt;
-        (taken, is_newest, map.peek(&1), is_half, map.memory_usage()),
-        (true, true, None, true, bytes)
-    );
+    assert!(rt; insert(&mut map, next)?);
+    assert!(rt; map.peek_newest() == Some((&next, &next.wrapping_mul(10))));
+    assert_eq!(rt; map.peek(&1), None);
+    assert!(rt; map.len() >= room / 2 && map.len() <= room);
+    assert_eq!(rt; map.memory_usage(), bytes);
     Ok(())
 }
 
@@ -49,18 +48,13 @@ fn links_of_16_bits(rt: HostRuntime) -> Result<(), Fail> {
 #[test]
 fn numbers_that_no_table_reaches(rt: HostRuntime) -> Result<(), Fail> {
     let mut map = map_of(rt.alloc(), Unlimited);
-    let too_large = Err(ReserveError::TooLarge);
-    let none = map.try_reserve(0);
-    let mut refused = true;
+    assert_eq!(rt; map.try_reserve(0), Ok(()));
     for n in [1 << 60, 1 << 61, usize::MAX / 8, usize::MAX] {
-        refused = refused && map.try_reserve(n) == too_large;
+        assert_eq!(rt; map.try_reserve(n), Err(ReserveError::TooLarge), "{n}");
     }
-    let empty = figures(&map);
-    let taken = insert(&mut map, 1)?;
-    let most = map.try_reserve(usize::MAX);
-    assert_eq!(rt;
-        (none, refused, empty, taken, most, figures(&map)),
-        (Ok(()), true, (0, 0, 0), true, too_large, (1, 3, 84))
-    );
+    assert_eq!(rt; figures(&map), (0, 0, 0));
+    assert!(rt; insert(&mut map, 1)?);
+    assert_eq!(rt; map.try_reserve(usize::MAX), Err(ReserveError::TooLarge));
+    assert_eq!(rt; figures(&map), (1, 3, 84));
     Ok(())
 }

@@ -145,22 +145,16 @@ impl Summing<u64, u64, u64> for Erasing {
 #[test]
 fn values_that_are_erased_as_they_leave(rt: HostRuntime) -> Result<(), Fail> {
     let mut map = map_of(rt.alloc(), Erasing { most: 100, sum: 0 });
-    let inserted = (insert_all(&mut map, 1..=5)?, map.limiter().sum);
-    let removed = (map.remove(&2), map.limiter().sum);
-    let oldest = (map.pop_oldest(), map.limiter().sum);
-    let newest = (map.pop_newest(), map.limiter().sum);
-    let drained = map.drain().next();
-    let drained = (drained, map.len(), map.limiter().sum);
-    assert_eq!(rt;
-        (inserted, removed, oldest, newest, drained),
-        (
-            (5, 150),
-            (Some(0), 130),
-            (Some((1, 0)), 120),
-            (Some((5, 0)), 70),
-            (Some((4, 0)), 0, 0)
-        )
-    );
+    assert_eq!(rt; insert_all(&mut map, 1..=5)?, 5);
+    assert_eq!(rt; map.limiter().sum, 150);
+    assert_eq!(rt; map.remove(&2), Some(0));
+    assert_eq!(rt; map.limiter().sum, 130);
+    assert_eq!(rt; map.pop_oldest(), Some((1, 0)));
+    assert_eq!(rt; map.limiter().sum, 120);
+    assert_eq!(rt; map.pop_newest(), Some((5, 0)));
+    assert_eq!(rt; map.limiter().sum, 70);
+    assert_eq!(rt; map.drain().next(), Some((4, 0)));
+    assert_eq!(rt; (map.len(), map.limiter().sum), (0, 0));
     Ok(())
 }
 
@@ -169,7 +163,7 @@ fn values_that_are_erased_as_they_leave(rt: HostRuntime) -> Result<(), Fail> {
 fn erased_values_in_a_list_of_calls(rt: HostRuntime) -> Result<(), Fail> {
     let alloc = rt.alloc();
     let mut map = map_of(alloc, Erasing { most: 100, sum: 0 });
-    let taken = insert_all(&mut map, 1..=3)?;
+    assert_eq!(rt; insert_all(&mut map, 1..=3)?, 3);
     let calls = vec![in alloc;
         Call::Remove(2),
         Call::PopOldest,
@@ -177,16 +171,14 @@ fn erased_values_in_a_list_of_calls(rt: HostRuntime) -> Result<(), Fail> {
         Call::Insert(4, 5),
     ]?;
     let answers = run_summing(alloc, &mut map, calls)?;
-    let wanted = [
+    let wanted = vec![in alloc;
         Answer::Value(Some(0)),
         Answer::Pair(Some((1, 0))),
         Answer::Flag(false),
         Answer::Flag(true),
-    ];
-    let left = (taken, is_list(&map, &[(4, 5)]), map.limiter().sum);
-    assert_eq!(rt;
-        (answers.as_slice(), left),
-        (wanted.as_slice(), (3, true, 5))
-    );
+    ]?;
+    assert_eq!(rt; answers.as_slice(), wanted.as_slice());
+    assert!(rt; is_list(&map, &[(4, 5)]));
+    assert_eq!(rt; map.limiter().sum, 5);
     Ok(())
 }

@@ -15,20 +15,16 @@ fn each_second_growth_is_refused(rt: HostRuntime) -> Result<(), Fail> {
         (4, true, 152, 2),
         (5, true, 152, 2),
     ] {
-        let given = insert(&mut map, n)?;
-        let limiter = *map.limiter();
+        assert_eq!(rt; insert(&mut map, n)?, done, "{n}");
         assert_eq!(rt;
-            (n, given, limiter.asked, limiter.told),
-            (n, done, asked, told)
+            (map.limiter().asked, map.limiter().told),
+            (asked, told),
+            "{n}"
         );
     }
-    let stands = is_list(&map, &[(5, 50), (4, 40), (3, 30), (2, 20)]);
-    let told = (
-        map.limiter().askings,
-        map.guaranteed_capacity(),
-        report(&map),
-    );
-    assert_eq!(rt; (stands, told), (true, (4, 7, (3, 5))));
+    assert!(rt; is_list(&map, &[(5, 50), (4, 40), (3, 30), (2, 20)]));
+    assert_eq!(rt; map.limiter().askings, 4);
+    assert_eq!(rt; (map.guaranteed_capacity(), report(&map)), (7, (3, 5)));
     Ok(())
 }
 
@@ -37,23 +33,15 @@ fn each_second_growth_is_refused(rt: HostRuntime) -> Result<(), Fail> {
 #[test]
 fn over_at_every_length(rt: HostRuntime) -> Result<(), Fail> {
     let mut map = map_of(rt.alloc(), Telling::new(true, true));
-    let inserted = insert(&mut map, 1)?;
-    let first = (inserted, figures(&map), map.limiter().told);
-    let got = map.get_or_insert(2, || 20)?.copied();
-    let made = map.ensure_newest(3, || 30)?;
-    let second = (got, made, figures(&map), map.limiter().told);
-    let reserved = [map.try_reserve(4), map.try_reserve(4)];
-    let inserted = insert(&mut map, 4)?;
-    let third = (inserted, figures(&map), map.limiter().told);
-    assert_eq!(rt;
-        (first, second, reserved, third),
-        (
-            (false, (0, 3, 84), 1),
-            (None, false, (0, 3, 84), 3),
-            [Err(ReserveError::Refused), Ok(())],
-            (false, (0, 7, 152), 4)
-        )
-    );
+    assert!(rt; !insert(&mut map, 1)?);
+    assert_eq!(rt; (figures(&map), map.limiter().told), ((0, 3, 84), 1));
+    assert_eq!(rt; map.get_or_insert(2, || 20)?.copied(), None);
+    assert!(rt; !map.ensure_newest(3, || 30)?);
+    assert_eq!(rt; (figures(&map), map.limiter().told), ((0, 3, 84), 3));
+    assert_eq!(rt; map.try_reserve(4), Err(ReserveError::Refused));
+    assert_eq!(rt; map.try_reserve(4), Ok(()));
+    assert!(rt; !insert(&mut map, 4)?);
+    assert_eq!(rt; (figures(&map), map.limiter().told), ((0, 7, 152), 4));
     Ok(())
 }
 
@@ -61,16 +49,12 @@ fn over_at_every_length(rt: HostRuntime) -> Result<(), Fail> {
 #[test]
 fn over_from_now_on(rt: HostRuntime) -> Result<(), Fail> {
     let mut map = map_of(rt.alloc(), Telling::new(false, true));
-    let taken = insert_all(&mut map, 1..=3)?;
+    assert_eq!(rt; insert_all(&mut map, 1..=3)?, 3);
     map.limiter_mut().over = true;
-    let got = map.get(&1).copied();
-    let stands = is_list(&map, &[(1, 10), (3, 30), (2, 20)]);
-    let inserted = insert(&mut map, 2)?;
-    let limiter = *map.limiter();
-    assert_eq!(rt; (taken, got, stands, inserted), (3, Some(10), true, false));
-    assert_eq!(rt;
-        (figures(&map), limiter.told, limiter.last),
-        ((0, 3, 84), 3, 2)
-    );
+    assert_eq!(rt; map.get(&1).copied(), Some(10));
+    assert!(rt; is_list(&map, &[(1, 10), (3, 30), (2, 20)]));
+    assert!(rt; !insert(&mut map, 2)?);
+    assert_eq!(rt; (figures(&map), map.limiter().told), ((0, 3, 84), 3));
+    assert_eq!(rt; map.limiter().last, 2);
     Ok(())
 }

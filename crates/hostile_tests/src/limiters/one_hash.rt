@@ -1,6 +1,7 @@
 //! Many keys of one hash, looked up and removed in both orders.
 use super::*;
-use test_helpers::{LastByte, get};
+use std::process::Abort;
+use test_helpers::LastByte;
 
 type Map = LruMap<u64, u64, UnlimitedCompact, LastByte>;
 
@@ -20,53 +21,34 @@ fn key_at(step: u64, most: u64, down: bool) -> u64 {
     }
 }
 
-// `get` finds each pair and makes it the newest. The first key of which that is not so, or the last one if it is not the
-// newest.
-fn wrong_look_up(map: &mut Map, most: u64, down: bool) -> Option<u64> {
+// `get` finds each pair and makes it the newest.
+fn look_up(rt: &impl Abort, map: &mut Map, most: u64, down: bool) {
     for step in 1..=most {
         let key = key_at(step, most, down);
-        if get(map, key) != Some(key.wrapping_mul(10)) {
-            return Some(key);
-        }
+        assert_eq!(rt; map.get(&key).copied(), Some(key.wrapping_mul(10)));
     }
     let last = key_at(most, most, down);
-    if map.peek_newest() == Some((&last, &last.wrapping_mul(10))) {
-        None
-    } else {
-        Some(last)
-    }
+    assert!(rt; map.peek_newest() == Some((&last, &last.wrapping_mul(10))));
 }
 
-// `remove` takes each pair out, and none is left. The first key of which that is not so.
-fn wrong_removal(map: &mut Map, most: u64, down: bool) -> Option<u64> {
+// `remove` takes each pair out, and none is left.
+fn remove_all(rt: &impl Abort, map: &mut Map, most: u64, down: bool) {
     for step in 1..=most {
         let key = key_at(step, most, down);
-        let removed = map.remove(&key) == Some(key.wrapping_mul(10));
-        if !removed || map.len() as u64 != most.saturating_sub(step) {
-            return Some(key);
-        }
+        assert_eq!(rt; map.remove(&key), Some(key.wrapping_mul(10)));
+        assert_eq!(rt; map.len() as u64, most.saturating_sub(step));
     }
-    if map.is_empty() { None } else { Some(most) }
-}
-
-// What is wrong of so many keys, looked up in either order and then removed.
-fn wrong_keys(alloc: Global, most: u64, down: bool) -> Result<[Option<u64>; 4], AllocError> {
-    let mut map = of_one_hash(alloc, most)?;
-    Ok([
-        wrong_look_up(&mut map, most, down),
-        wrong_look_up(&mut map, most, !down),
-        get(&mut map, most.saturating_add(1)),
-        wrong_removal(&mut map, most, down),
-    ])
+    assert!(rt; map.is_empty());
 }
 
 #[test]
 fn a_thousand_keys_of_one_hash(rt: HostRuntime) -> Result<(), Fail> {
     for down in [false, true] {
-        assert_eq!(rt;
-            wrong_keys(rt.alloc(), 1000, down)?,
-            [None, None, None, None]
-        );
+        let mut map = of_one_hash(rt.alloc(), 1000)?;
+        look_up(&rt, &mut map, 1000, down);
+        look_up(&rt, &mut map, 1000, !down);
+        assert_eq!(rt; map.get(&1001), None);
+        remove_all(&rt, &mut map, 1000, down);
     }
     Ok(())
 }
@@ -74,10 +56,10 @@ fn a_thousand_keys_of_one_hash(rt: HostRuntime) -> Result<(), Fail> {
 #[test]
 fn ten_thousand_keys_of_one_hash(rt: HostRuntime) -> Result<(), Fail> {
     for down in [false, true] {
-        assert_eq!(rt;
-            wrong_keys(rt.alloc(), 10_000, down)?,
-            [None, None, None, None]
-        );
+        let mut map = of_one_hash(rt.alloc(), 10_000)?;
+        look_up(&rt, &mut map, 10_000, down);
+        look_up(&rt, &mut map, 10_000, !down);
+        remove_all(&rt, &mut map, 10_000, down);
     }
     Ok(())
 }

@@ -26,37 +26,27 @@ fn front_lines(text: &[u8], lines: usize) -> &[u8] {
     text
 }
 
-/// How a replay ends, the text that it writes, and how often it flushes.
-type Wanted<'a> = (Result<ReplayEnd, ReplayError>, &'a [u8], usize);
-
-// Replays what the reader gives onto the writer, and compares what comes of it.
-fn expect(
-    rt: &(impl Abort + AllocGlobal),
-    reader: Slow,
-    mut writer: Narrow,
-    (wanted, text, flushes): Wanted,
-) -> Result<(), Fail> {
-    let mut reader = BufReader::new(rt.alloc(), reader)?;
+// `replay`, by `done`, `no_limiter` and `no_limiter_text`, however the input is cut. What is written is flushed once.
+fn in_pieces(rt: &(impl Abort + AllocGlobal), trial: Trial) -> Result<(), Fail> {
+    let mut reader = BufReader::new(rt.alloc(), Slow::new(trial.input, trial.most))?;
+    let mut writer = Narrow::new(rt.alloc(), 1);
     let end = replay(rt.alloc(), &mut reader, &mut writer);
-    let written = writer.bytes.as_slice() == text;
-    assert_eq!(rt; (end, written, writer.flushes), (wanted, true, flushes));
+    assert_eq!(rt; status(&end), trial.code);
+    assert!(rt; writer.bytes.as_slice() == trial.text);
+    assert_eq!(rt; writer.flushes, 1);
     Ok(())
 }
 
-// `replay`, by `done`, `no_limiter` and `no_limiter_text`, however the input is cut. What is written is flushed once.
-// Where the flush fails, that is told as `Write`, after the whole text.
-fn with_a_flush(rt: &(impl Abort + AllocGlobal), trial: Trial, fails: bool) -> Result<(), Fail> {
+// A flush that fails is told as `Write`, after the whole text.
+fn with_a_failing_flush(rt: &(impl Abort + AllocGlobal), trial: Trial) -> Result<(), Fail> {
+    let mut reader = BufReader::new(rt.alloc(), Slow::new(trial.input, trial.most))?;
     let mut writer = Narrow::new(rt.alloc(), 1);
-    writer.flush_fails = fails;
-    let end = if fails {
-        Err(ReplayError::Write)
-    } else if trial.code == 1 {
-        Ok(ReplayEnd::NoLimiter)
-    } else {
-        Ok(ReplayEnd::Done)
-    };
-    let reader = Slow::new(trial.input, trial.most);
-    expect(rt, reader, writer, (end, trial.text, 1))
+    writer.flush_fails = true;
+    let end = replay(rt.alloc(), &mut reader, &mut writer);
+    assert_eq!(rt; end, Err(ReplayError::Write));
+    assert!(rt; writer.bytes.as_slice() == trial.text);
+    assert_eq!(rt; writer.flushes, 1);
+    Ok(())
 }
 
 // `read_failed`: what is written is the text of the lines that were read whole. Where the first of them names no limit,
@@ -66,8 +56,11 @@ fn with_a_failing_read(
     trial: Trial,
     at: usize,
 ) -> Result<(), Fail> {
-    let mut reader = Slow::new(trial.input, trial.most);
-    reader.fails_at = at;
+    let mut slow = Slow::new(trial.input, trial.most);
+    slow.fails_at = at;
+    let mut reader = BufReader::new(rt.alloc(), slow)?;
+    let mut writer = Narrow::new(rt.alloc(), 100);
+    let end = replay(rt.alloc(), &mut reader, &mut writer);
     let given = at.saturating_mul(trial.most).min(trial.input.len());
     let lines = trial.input[..given].iter().filter(|b| **b == b'\n').count();
     let (wanted, text) = if lines > 0 && trial.code == 1 {
@@ -77,8 +70,10 @@ fn with_a_failing_read(
     } else {
         (Err(ReplayError::Read), b"".as_slice())
     };
-    let writer = Narrow::new(rt.alloc(), 100);
-    expect(rt, reader, writer, (wanted, text, 1))
+    assert_eq!(rt; end, wanted, "at read {at}");
+    assert!(rt; writer.bytes.as_slice() == text, "at read {at}");
+    assert_eq!(rt; writer.flushes, 1);
+    Ok(())
 }
 
 // `write_failed`: what is written is a beginning of the text. Nothing is flushed then.
@@ -88,26 +83,27 @@ fn with_a_failing_write(
     at: usize,
     failure: Failure,
 ) -> Result<(), Fail> {
+    let mut reader = BufReader::new(rt.alloc(), Slow::new(trial.input, trial.most))?;
     let mut writer = Narrow::new(rt.alloc(), 1);
     writer.failure = failure;
     writer.fails_at = at;
-    let text = &trial.text[..at.min(trial.text.len())];
-    let reader = Slow::new(trial.input, trial.most);
-    expect(rt, reader, writer, (Err(ReplayError::Write), text, 0))
+    let end = replay(rt.alloc(), &mut reader, &mut writer);
+    assert_eq!(rt; end, Err(ReplayError::Write), "at write {at}");
+    assert!(rt; writer.bytes.as_slice() == &trial.text[..at.min(trial.text.len())]);
+    assert_eq!(rt; writer.flushes, 0);
+    Ok(())
 }
 
 // Each of these, for each read and each write. The last read that can fail is the one that shows the end.
 fn try_all(rt: &(impl Abort + AllocGlobal), trial: Trial) -> Result<(), Fail> {
-    for fails in [false, true] {
-        with_a_flush(rt, trial, fails)?;
-    }
+    in_pieces(rt, trial)?;
+    with_a_failing_flush(rt, trial)?;
     for at in 0..=trial.input.len().div_ceil(trial.most.max(1)) {
         with_a_failing_read(rt, trial, at)?;
     }
     for at in 0..trial.text.len() {
-        for failure in [Failure::Broken, Failure::Full] {
-            with_a_failing_write(rt, trial, at, failure)?;
-        }
+        with_a_failing_write(rt, trial, at, Failure::Broken)?;
+        with_a_failing_write(rt, trial, at, Failure::Full)?;
     }
     Ok(())
 }

@@ -17,10 +17,10 @@ pub(super) fn has_texts(map: &Texts, texts: &[&str]) -> bool {
     at == texts.len()
 }
 
-// A map with these texts, the first one newest.
+// A map with these texts, the last one newest.
 pub(super) fn texts_of(alloc: Global, texts: &[&str]) -> Result<Texts, AllocError> {
     let mut map: Texts = LruMap::new(alloc, Counting::default(), [1, 2, 3, 4], 16);
-    for text in texts.iter().rev() {
+    for text in texts {
         map.insert(InsertKey(text), 1)?;
     }
     Ok(map)
@@ -48,39 +48,35 @@ fn refuse_each_text(
     Ok(if hog.took_all() { Some(all) } else { None })
 }
 
-// Compares what they leave on a map of the texts that stay with what is wanted. At the end these texts stand.
-fn expect_each_text(
-    rt: &(impl Abort + AllocGlobal),
-    (stay, end): (&[&str], &[&str]),
-    requests: &[usize],
-    wanted: &[LeftTexts],
-) -> Result<(), Fail> {
-    let mut map = texts_of(rt.alloc(), stay)?;
-    if let Some(all) = refuse_each_text(rt.alloc(), &mut map, stay, requests)? {
-        let ends = has_texts(&map, end);
-        assert_eq!(rt; (all.as_slice(), ends), (wanted, true));
-    }
-    Ok(())
-}
-
 #[test]
 fn a_second_text(rt: HostRuntime) -> Result<(), Fail> {
-    let wanted = [(true, (1, 3, 84), 1), (false, (2, 3, 84), 2)];
-    expect_each_text(&rt, (&["1"], &["9", "1"]), &[1], &wanted)
+    let mut map = texts_of(rt.alloc(), &["1"])?;
+    if let Some(all) = refuse_each_text(rt.alloc(), &mut map, &["1"], &[1])? {
+        let wanted = [(true, (1, 3, 84), 1), (false, (2, 3, 84), 2)];
+        assert_eq!(rt; all.as_slice(), wanted.as_slice());
+        assert!(rt; has_texts(&map, &["9", "1"]));
+    }
+    Ok(())
 }
 
 // The text becomes a key, and then there is no memory for the growth. The next insert makes it anew.
 #[test]
 fn a_text_for_which_the_table_grows(rt: HostRuntime) -> Result<(), Fail> {
-    let wanted = [
-        (true, (3, 3, 84), 3),
-        (true, (3, 3, 84), 4),
-        (true, (3, 3, 84), 5),
-        (true, (3, 3, 84), 6),
-        (false, (4, 7, 152), 7),
-    ];
-    let texts = (["3", "2", "1"].as_slice(), ["9", "3", "2", "1"].as_slice());
-    expect_each_text(&rt, texts, &[1, 24, TEXT_ENTRIES, 16], &wanted)
+    let stay = ["3", "2", "1"];
+    let mut map = texts_of(rt.alloc(), &["1", "2", "3"])?;
+    let requests = [1, 24, TEXT_ENTRIES, 16];
+    if let Some(all) = refuse_each_text(rt.alloc(), &mut map, &stay, &requests)? {
+        let wanted = [
+            (true, (3, 3, 84), 3),
+            (true, (3, 3, 84), 4),
+            (true, (3, 3, 84), 5),
+            (true, (3, 3, 84), 6),
+            (false, (4, 7, 152), 7),
+        ];
+        assert_eq!(rt; all.as_slice(), wanted.as_slice());
+        assert!(rt; has_texts(&map, &["9", "3", "2", "1"]));
+    }
+    Ok(())
 }
 
 // The entries of 8 buckets of texts.

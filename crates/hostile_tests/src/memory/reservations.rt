@@ -1,38 +1,39 @@
 //! Reservations. `Reserve`, by `no_memory_to_grow` and `no_memory_to_remake`: the pairs and the table stay, and what
 //! the limiter did when it was asked.
 use super::*;
-use test_helpers::{LastByte, insert};
-
-// Reserves room for so many pairs more.
-fn reserve<'a>(n: usize, stay: &'a [(u64, u64)], requests: &'a [usize]) -> Trial<'a> {
-    Trial {
-        call: Taking::Reserve(n),
-        pair: (0, 0),
-        stay,
-        end: stay,
-        requests,
-    }
-}
+use test_helpers::LastByte;
 
 #[test]
 fn of_the_first_table(rt: HostRuntime) -> Result<(), Fail> {
-    let wanted = [
-        (true, (0, 0, 0), (0, 0), (0, 0, (0, 0), 1)),
-        (true, (0, 0, 0), (0, 0), (0, 0, (0, 0), 2)),
-        (false, (0, 3, 84), (0, 0), (0, 0, (0, 0), 3)),
-    ];
-    expect_within(&rt, 84, reserve(3, &[], &FIRST_TABLE), &wanted)
+    let mut map = map_of(rt.alloc(), Within::new(84));
+    let what = (Taking::Reserve(3), (0, 0));
+    if let Some(all) = refuse_each(rt.alloc(), &mut map, what, &[], &FIRST_TABLE)? {
+        let wanted = [
+            (true, (0, 0, 0), (0, 0), (0, 0, (0, 0), 1)),
+            (true, (0, 0, 0), (0, 0), (0, 0, (0, 0), 2)),
+            (false, (0, 3, 84), (0, 0), (0, 0, (0, 0), 3)),
+        ];
+        assert_eq!(rt; all.as_slice(), wanted.as_slice());
+    }
+    Ok(())
 }
 
 #[test]
 fn of_a_larger_table(rt: HostRuntime) -> Result<(), Fail> {
-    let wanted = [
-        (true, (7, 7, 152), (3, 7), (0, 0, (0, 0), 3)),
-        (true, (7, 7, 152), (3, 7), (0, 0, (0, 0), 4)),
-        (true, (7, 7, 152), (3, 7), (0, 0, (0, 0), 5)),
-        (false, (7, 14, 288), (3, 7), (0, 0, (0, 0), 6)),
-    ];
-    expect_within(&rt, 288, reserve(1, SEVEN, &GROWTH), &wanted)
+    let mut map = map_of(rt.alloc(), Within::new(288));
+    assert_eq!(rt; insert_all(&mut map, 1..=7)?, 7);
+    let what = (Taking::Reserve(1), (0, 0));
+    if let Some(all) = refuse_each(rt.alloc(), &mut map, what, &SEVEN, &GROWTH)? {
+        let wanted = [
+            (true, (7, 7, 152), (3, 7), (0, 0, (0, 0), 3)),
+            (true, (7, 7, 152), (3, 7), (0, 0, (0, 0), 4)),
+            (true, (7, 7, 152), (3, 7), (0, 0, (0, 0), 5)),
+            (false, (7, 14, 288), (3, 7), (0, 0, (0, 0), 6)),
+        ];
+        assert_eq!(rt; all.as_slice(), wanted.as_slice());
+        assert!(rt; is_list(&map, &SEVEN));
+    }
+    Ok(())
 }
 
 // A map of hash 0 with 28 pairs, of which all but the oldest so many were removed.
@@ -49,14 +50,19 @@ fn thinned(alloc: Global, left: u64) -> Result<LruMap<u64, u64, Within, LastByte
 #[test]
 fn of_the_same_table(rt: HostRuntime) -> Result<(), Fail> {
     let mut map = thinned(rt.alloc(), 3)?;
-    let told = (0, 25, (28, 280), 4);
-    let wanted = [
-        (true, (3, 3, 560), (24, 28), told),
-        (true, (3, 3, 560), (24, 28), told),
-        (false, (3, 28, 560), (24, 28), told),
-    ];
-    let trial = reserve(6, &[(3, 30), (2, 20), (1, 10)], &SAME_TABLE);
-    expect_each(&rt, &mut map, trial, &wanted)
+    let what = (Taking::Reserve(6), (0, 0));
+    let stay = [(3, 30), (2, 20), (1, 10)];
+    if let Some(all) = refuse_each(rt.alloc(), &mut map, what, &stay, &SAME_TABLE)? {
+        let told = (0, 25, (28, 280), 4);
+        let wanted = [
+            (true, (3, 3, 560), (24, 28), told),
+            (true, (3, 3, 560), (24, 28), told),
+            (false, (3, 28, 560), (24, 28), told),
+        ];
+        assert_eq!(rt; all.as_slice(), wanted.as_slice());
+        assert!(rt; is_list(&map, &stay));
+    }
+    Ok(())
 }
 
 // A table without pairs is made anew without memory.
@@ -66,10 +72,8 @@ fn of_an_emptied_table(rt: HostRuntime) -> Result<(), Fail> {
     let hog = Hog::new(rt.alloc(), &[])?;
     let answer = map.try_reserve(14);
     drop(hog);
-    assert_eq!(rt;
-        (answer, figures(&map), report(&map)),
-        (Ok(()), (0, 28, 560), (24, 28))
-    );
+    assert_eq!(rt; answer, Ok(()));
+    assert_eq!(rt; (figures(&map), report(&map)), ((0, 28, 560), (24, 28)));
     Ok(())
 }
 
@@ -77,19 +81,22 @@ fn of_an_emptied_table(rt: HostRuntime) -> Result<(), Fail> {
 #[test]
 fn that_no_memory_would_help(rt: HostRuntime) -> Result<(), Fail> {
     let mut map = map_of(rt.alloc(), Within::new(84));
-    let taken = insert(&mut map, 1)?;
+    assert_eq!(rt; insert_all(&mut map, 1..=1)?, 1);
     let hog = Hog::new(rt.alloc(), &[])?;
-    let small = (map.try_reserve(2), map.try_reserve(3));
-    let large = (map.try_reserve(usize::MAX), map.try_reserve(usize::MAX - 1));
+    let answers = (
+        map.try_reserve(2),
+        map.try_reserve(3),
+        map.try_reserve(usize::MAX),
+        map.try_reserve(usize::MAX - 1),
+    );
     drop(hog);
-    let too_large = Err(ReserveError::TooLarge);
     assert_eq!(rt;
-        (taken, small, large),
-        (
-            true,
-            (Ok(()), Err(ReserveError::Refused)),
-            (too_large, too_large)
-        )
+        (answers.0, answers.1),
+        (Ok(()), Err(ReserveError::Refused))
+    );
+    assert_eq!(rt;
+        (answers.2, answers.3),
+        (Err(ReserveError::TooLarge), Err(ReserveError::TooLarge))
     );
     Ok(())
 }

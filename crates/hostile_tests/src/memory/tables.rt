@@ -22,39 +22,39 @@ fn half_taken(alloc: Global) -> Result<Table<u64>, AllocError> {
     Ok(table)
 }
 
-// Rehashes the table, if its links reach its buckets, and answers whether it was refused, and the room and the placings
-// after it.
-fn rehash(table: &mut Table<u64>) -> (bool, usize, u64) {
-    let refused = if table.buckets() < 1000 {
+// Rehashes the table, if its links reach its buckets, and answers whether it was refused.
+fn rehash_is_refused(table: &mut Table<u64>) -> bool {
+    if table.buckets() < 1000 {
         let links: Result<Vec<u32>, AllocError> = table.rehash(|_| 0);
         links.is_err()
     } else {
         true
-    };
-    (refused, table.room(), table.placings())
-}
-
-// Whether the table has the numbers from 1 to 14, and none above.
-fn has_fourteen(table: &Table<u64>) -> bool {
-    for n in 1..=14u64 {
-        if table.find(0, |entry| *entry == n).is_none() {
-            return false;
-        }
     }
-    table.find(0, |entry| *entry > 14).is_none()
 }
 
 // `rehash`, by `unchanged` where memory is refused, and by `entries` and `room`.
 #[test]
 fn a_rehash_where_the_entries_stand(rt: HostRuntime) -> Result<(), Fail> {
     let mut table = half_taken(rt.alloc())?;
-    let sizes = (table.buckets(), table.len(), table.room());
+    assert_eq!(rt; (table.buckets(), table.len(), table.room()), (32, 14, 0));
     let mut hog = Hog::new(rt.alloc(), &SAME_TABLE)?;
-    let first = rehash(&mut table);
+    let first = (
+        rehash_is_refused(&mut table),
+        table.room(),
+        table.placings(),
+    );
     hog.release();
-    let second = rehash(&mut table);
+    let second = (
+        rehash_is_refused(&mut table),
+        table.room(),
+        table.placings(),
+    );
     hog.release();
-    let third = rehash(&mut table);
+    let third = (
+        rehash_is_refused(&mut table),
+        table.room(),
+        table.placings(),
+    );
     let all = hog.took_all();
     drop(hog);
     if all {
@@ -63,9 +63,10 @@ fn a_rehash_where_the_entries_stand(rt: HostRuntime) -> Result<(), Fail> {
             ((true, 0, 28), (true, 0, 28), (false, 14, 42))
         );
     }
-    assert_eq!(rt;
-        (sizes, has_fourteen(&table), full_capacity(table.buckets())),
-        ((32, 14, 0), true, 28)
-    );
+    for n in 1..=14u64 {
+        assert!(rt; table.find(0, |entry| *entry == n).is_some(), "{n}");
+    }
+    assert!(rt; table.find(0, |entry| *entry > 14).is_none());
+    assert_eq!(rt; full_capacity(table.buckets()), 28);
     Ok(())
 }

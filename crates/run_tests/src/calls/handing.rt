@@ -1,10 +1,11 @@
 //! Lists of calls that insert and give what leaves.
+use super::orders::map_of;
 use lru_replay::{Answer, Call, run_calls, run_summing};
 use schnellru::{ByCost, ByLength, ByMemoryUsage, Insertion, UnlimitedCompact};
 use std::alloc::{AllocError, Global};
 use std::mem::size_of;
 use std::test::Fail;
-use test_helpers::{Hog, map_of};
+use test_helpers::Hog;
 
 // Inserts of these pairs, and a list after them.
 fn inserts<L: Drop>(

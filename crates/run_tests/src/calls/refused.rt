@@ -1,9 +1,9 @@
 //! Lists of calls where requests for memory are refused.
-use super::wanted::{Want, compare, expect, insert_all};
-use lru_replay::{Call, run_calls, run_summing};
+use super::orders::{expect, insert_all, map_of, pairs};
+use lru_replay::{Answer, Call, run_calls, run_summing};
 use schnellru::{ByCost, ReserveError, UnlimitedCompact};
 use std::test::Fail;
-use test_helpers::{Hog, map_of};
+use test_helpers::Hog;
 
 // As many pairs as fill a table. Their list takes 14,336 bytes, and a larger table more.
 const PAIRS: u64 = 896;
@@ -11,14 +11,11 @@ const PAIRS: u64 = 896;
 // Enough for the answers to a few calls, and then for a few pairs.
 const SPARE: [usize; 1] = [4096];
 
-// What is left of the numbers from 1 to 3.
-const THREE: Want = Want::Pairs(&[(3, 30), (2, 20), (1, 10)]);
-
 #[test]
 fn no_call_is_made_without_memory_for_the_answers(rt: HostRuntime) -> Result<(), Fail> {
     let alloc = rt.alloc();
     let mut map = map_of(alloc, UnlimitedCompact);
-    insert_all(&rt, &mut map, 3)?;
+    insert_all(&rt, &mut map, 1..=3)?;
     let calls = vec![in alloc; Call::PopOldest, Call::Clear]?;
     let hog = Hog::new(alloc, &[])?;
     let refused = run_calls(alloc, &mut map, calls).is_err();
@@ -26,7 +23,13 @@ fn no_call_is_made_without_memory_for_the_answers(rt: HostRuntime) -> Result<(),
     drop(hog);
     if all {
         assert!(rt; refused);
-        expect(&rt, &mut map, vec![in alloc; Call::List]?, &[THREE])?;
+        let left = pairs(alloc, &[(3, 30), (2, 20), (1, 10)])?;
+        expect(
+            &rt,
+            &mut map,
+            vec![in alloc; Call::List]?,
+            vec![in alloc; left]?,
+        )?;
     }
     Ok(())
 }
@@ -35,15 +38,22 @@ fn no_call_is_made_without_memory_for_the_answers(rt: HostRuntime) -> Result<(),
 fn no_summing_call_is_made_without_memory_for_the_answers(rt: HostRuntime) -> Result<(), Fail> {
     let alloc = rt.alloc();
     let mut map = map_of(alloc, ByCost::new(60));
-    insert_all(&rt, &mut map, 3)?;
+    insert_all(&rt, &mut map, 1..=3)?;
     let calls = vec![in alloc; Call::PopOldest, Call::Clear]?;
     let hog = Hog::new(alloc, &[])?;
     let refused = run_summing(alloc, &mut map, calls).is_err();
     let all = hog.took_all();
     drop(hog);
     if all {
-        assert_eq!(rt; (refused, map.limiter().cost()), (true, 60));
-        expect(&rt, &mut map, vec![in alloc; Call::List]?, &[THREE])?;
+        assert!(rt; refused);
+        assert_eq!(rt; map.limiter().cost(), 60);
+        let left = pairs(alloc, &[(3, 30), (2, 20), (1, 10)])?;
+        expect(
+            &rt,
+            &mut map,
+            vec![in alloc; Call::List]?,
+            vec![in alloc; left]?,
+        )?;
     }
     Ok(())
 }
@@ -53,7 +63,7 @@ fn no_summing_call_is_made_without_memory_for_the_answers(rt: HostRuntime) -> Re
 fn calls_after_one_without_memory_are_made(rt: HostRuntime) -> Result<(), Fail> {
     let alloc = rt.alloc();
     let mut map = map_of(alloc, UnlimitedCompact);
-    insert_all(&rt, &mut map, PAIRS)?;
+    insert_all(&rt, &mut map, 1..=PAIRS)?;
     let calls = vec![in alloc;
         Call::List,
         Call::Drain {
@@ -68,24 +78,24 @@ fn calls_after_one_without_memory_are_made(rt: HostRuntime) -> Result<(), Fail> 
         Call::Drain { front: 1, back: 1 },
         Call::List,
     ]?;
-    let wanted = [
-        Want::Memory,
-        Want::Memory,
-        Want::Memory,
-        Want::Memory,
-        Want::Reserved(Err(ReserveError::Memory)),
-        Want::Pair(Some((PAIRS, PAIRS * 10))),
-        Want::Value(Some(10)),
-        Want::Pairs(&[(1, 10), (2, 20)]),
-        Want::Pairs(&[]),
-    ];
+    let wanted = vec![in alloc;
+        Answer::Memory,
+        Answer::Memory,
+        Answer::Memory,
+        Answer::Memory,
+        Answer::Reserved(Err(ReserveError::Memory)),
+        Answer::Pair(Some((PAIRS, PAIRS * 10))),
+        Answer::Value(Some(10)),
+        pairs(alloc, &[(1, 10), (2, 20)])?,
+        pairs(alloc, &[])?,
+    ]?;
     let mut hog = Hog::new(alloc, &SPARE)?;
     hog.release();
     let answers = run_calls(alloc, &mut map, calls);
     let all = hog.took_all();
     drop(hog);
     if all {
-        compare(&rt, answers?.as_slice(), &wanted)?;
+        assert_eq!(rt; answers?.as_slice(), wanted.as_slice());
         assert!(rt; map.is_empty());
     }
     Ok(())

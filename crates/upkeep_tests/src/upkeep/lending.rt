@@ -1,9 +1,10 @@
 //! `get_or_insert`, with closures that count their calls.
-use super::texts::{counts, has_keys, texts};
+use super::texts::{Texts, has_keys};
 use super::*;
-use schnellru::ByLength;
+use schnellru::{ByLength, UnlimitedCompact};
 use std::cell::Cell;
-use test_helpers::{InsertKey, Telling};
+use std::test::Fail;
+use test_helpers::{Counting, InsertKey, Telling};
 
 // The value that is lent under a number, where the closure answers ten times the number and counts that it was called.
 fn ten_times<L: Insertion<u64, u64, u64>, S: BuildHasher>(
@@ -38,112 +39,113 @@ fn ten_times_or<L: Insertion<u64, u64, u64>, S: BuildHasher>(
 }
 
 #[test]
-fn get_or_insert_with_limiter_works(rt: HostRuntime) {
+fn get_or_insert_with_limiter_works(rt: HostRuntime) -> Result<(), Fail> {
+    let alloc = rt.alloc();
     let calls = Cell::new(0u64);
-    let mut map = map_of(rt.alloc(), ByLength::new(3));
+    let mut map = map_of(alloc, ByLength::new(3));
     for n in 1..=5u64 {
-        assert_eq!(rt;
-            (ten_times(&mut map, n, &calls), calls.get()),
-            (Ok(Some(n.wrapping_mul(10))), n)
-        );
+        assert_eq!(rt; ten_times(&mut map, n, &calls)?, Some(n.wrapping_mul(10)));
+        assert_eq!(rt; calls.get(), n);
     }
-    let found = (
-        ten_times(&mut map, 3, &calls),
-        ten_times(&mut map, 5, &calls),
-    );
+    assert_eq!(rt; ten_times(&mut map, 3, &calls)?, Some(30));
+    assert_eq!(rt; ten_times(&mut map, 5, &calls)?, Some(50));
+    assert_eq!(rt; calls.get(), 5);
     assert_eq!(rt;
-        (
-            found,
-            calls.get(),
-            is_list(&map, &[(5, 50), (3, 30), (4, 40)])
-        ),
-        ((Ok(Some(30)), Ok(Some(50))), 5, true)
+        pairs(alloc, &map)?.as_slice(),
+        [(5, 50), (3, 30), (4, 40)].as_slice()
     );
+    Ok(())
 }
 
 #[test]
-fn a_closure_that_fails_changes_nothing(rt: HostRuntime) {
-    let mut map = map_of(rt.alloc(), ByLength::new(2));
-    for (n, fails, lent, list) in [
-        (1, false, Some(Some(10)), [(1, 10)].as_slice()),
-        (2, false, Some(Some(20)), &[(2, 20), (1, 10)]),
-        (3, false, Some(Some(30)), &[(3, 30), (2, 20)]),
-        (4, true, None, &[(3, 30), (2, 20)]),
-        (2, true, Some(Some(20)), &[(2, 20), (3, 30)]),
-    ] {
+fn a_closure_that_fails_changes_nothing(rt: HostRuntime) -> Result<(), Fail> {
+    let alloc = rt.alloc();
+    let mut map = map_of(alloc, ByLength::new(2));
+    for n in 1..=3u64 {
         assert_eq!(rt;
-            (n, ten_times_or(&mut map, n, fails), is_list(&map, list)),
-            (n, lent, true)
+            ten_times_or(&mut map, n, false),
+            Some(Some(n.wrapping_mul(10)))
         );
     }
+    assert_eq!(rt;
+        pairs(alloc, &map)?.as_slice(),
+        [(3, 30), (2, 20)].as_slice()
+    );
+    assert_eq!(rt; ten_times_or(&mut map, 4, true), None);
+    assert_eq!(rt;
+        pairs(alloc, &map)?.as_slice(),
+        [(3, 30), (2, 20)].as_slice()
+    );
+    assert_eq!(rt; ten_times_or(&mut map, 2, true), Some(Some(20)));
+    assert_eq!(rt;
+        pairs(alloc, &map)?.as_slice(),
+        [(2, 20), (3, 30)].as_slice()
+    );
+    Ok(())
 }
 
 #[test]
-fn both_forms_grow_the_table(rt: HostRuntime) {
+fn both_forms_grow_the_table(rt: HostRuntime) -> Result<(), Fail> {
     let calls = Cell::new(0u64);
     let mut map = map_of(rt.alloc(), UnlimitedCompact);
     let mut other = map_of(rt.alloc(), UnlimitedCompact);
     for n in 1..=4u64 {
-        let value = Some(n.wrapping_mul(10));
+        assert_eq!(rt; ten_times(&mut map, n, &calls)?, Some(n.wrapping_mul(10)));
         assert_eq!(rt;
-            (
-                ten_times(&mut map, n, &calls),
-                ten_times_or(&mut other, n, false)
-            ),
-            (Ok(value), Some(value))
+            ten_times_or(&mut other, n, false),
+            Some(Some(n.wrapping_mul(10)))
         );
     }
     assert_eq!(rt;
         (map.guaranteed_capacity(), other.guaranteed_capacity()),
         (7, 7)
     );
+    Ok(())
 }
 
 // Both old pairs leave, and then the new one.
 #[test]
-fn nothing_is_lent_of_a_pair_that_left(rt: HostRuntime) {
+fn nothing_is_lent_of_a_pair_that_left(rt: HostRuntime) -> Result<(), Fail> {
     let calls = Cell::new(0u64);
     let mut map = map_of(rt.alloc(), Telling::new(false, true));
-    let taken = insert_all(&mut map, 1..=2);
+    assert_eq!(rt; insert_all(&mut map, 1..=2)?, 2);
     map.limiter_mut().over = true;
-    let lent = ten_times(&mut map, 3, &calls);
-    let limiter = *map.limiter();
+    assert_eq!(rt; ten_times(&mut map, 3, &calls)?, None);
+    assert!(rt; map.is_empty());
     assert_eq!(rt;
-        (
-            (taken, lent, map.is_empty()),
-            (calls.get(), limiter.told, limiter.last)
-        ),
-        ((Ok(2), Ok(None), true), (1, 3, 3))
+        (calls.get(), map.limiter().told, map.limiter().last),
+        (1, 3, 3)
     );
+    Ok(())
 }
 
 #[test]
-fn what_is_written_where_it_is_lent_stays(rt: HostRuntime) {
-    let mut map = map_of(rt.alloc(), UnlimitedCompact);
-    let taken = insert_all(&mut map, 1..=2);
+fn what_is_written_where_it_is_lent_stays(rt: HostRuntime) -> Result<(), Fail> {
+    let alloc = rt.alloc();
+    let mut map = map_of(alloc, UnlimitedCompact);
+    assert_eq!(rt; insert_all(&mut map, 1..=2)?, 2);
     for (n, written) in [(1, 100), (3, 300)] {
-        if let Ok(Some(value)) = map.get_or_insert(n, || 0) {
+        if let Some(value) = map.get_or_insert(n, || 0)? {
             *value = written;
         }
     }
     assert_eq!(rt;
-        (taken, is_list(&map, &[(3, 300), (1, 100), (2, 20)])),
-        (Ok(2), true)
+        pairs(alloc, &map)?.as_slice(),
+        [(3, 300), (1, 100), (2, 20)].as_slice()
     );
+    Ok(())
 }
 
 #[test]
-fn a_text_is_got_or_made_a_key(rt: HostRuntime) {
-    let mut map = texts(rt.alloc());
+fn a_text_is_got_or_made_a_key(rt: HostRuntime) -> Result<(), Fail> {
+    let mut map: Texts = LruMap::new(rt.alloc(), Counting::default(), [1, 2, 3, 4], 16);
     for (key, value, lent) in [("2", 2, 2), ("3", 3, 3), ("2", 20, 2), ("4", 40, 40)] {
-        let found = match map.get_or_insert(InsertKey(key), || value) {
-            Ok(given) => given.copied(),
-            Err(_) => None,
-        };
-        assert_eq!(rt; found, Some(lent));
+        assert_eq!(rt;
+            map.get_or_insert(InsertKey(key), || value)?.copied(),
+            Some(lent)
+        );
     }
-    assert_eq!(rt;
-        (has_keys(&map, &["4", "2", "3"]), counts(&map)),
-        (true, (3, 0))
-    );
+    assert!(rt; has_keys(&map, &["4", "2", "3"]));
+    assert_eq!(rt; (map.limiter().inserts, map.limiter().replacements), (3, 0));
+    Ok(())
 }

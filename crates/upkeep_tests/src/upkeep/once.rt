@@ -4,7 +4,9 @@ ghost use Rattle.std.specs.Cmp.{nat_eq_equiv};
 ghost use Rattle.lru_limits.specs.Stores.{plain, hands_over, hands_over-lawful};
 
 use super::*;
-use schnellru::{ByCost, ByLength, Costed, DefaultHasher, GetOrInsertError};
+use schnellru::{
+    ByCost, ByLength, ByMemoryUsage, Costed, DefaultHasher, GetOrInsertError, Insertion, Limiter,
+};
 use std::cell::Cell;
 use std::rc::Rc;
 use std::test::Fail;
@@ -15,27 +17,18 @@ const WORDS: [u64; 4] = [1, 2, 3, 4];
 #[test]
 fn a_key_that_is_not_kept_is_dropped(rt: HostRuntime) -> Result<(), Fail> {
     let key = Rc::new(rt.alloc(), 1u64)?;
-    let (first, second) = (key.clone()?, key.clone()?);
     let mut map: LruMap<Rc<u64>, u64> = LruMap::new(rt.alloc(), ByLength::new(2), WORDS, 16);
-    let stored = (
-        map.ensure_newest(first, || 10),
-        map.ensure_newest(second, || 20),
-        Rc::strong_count(&key),
-    );
-    let removed = (map.remove(&key), Rc::strong_count(&key));
+    assert!(rt; map.ensure_newest(key.clone()?, || 10)?);
+    assert!(rt; map.ensure_newest(key.clone()?, || 20)?);
+    assert_eq!(rt; Rc::strong_count(&key), 2);
+    assert_eq!(rt; map.remove(&key), Some(10));
+    assert_eq!(rt; Rc::strong_count(&key), 1);
     let failed: Result<bool, GetOrInsertError<u64>> = map.ensure_newest_fallible(
         key.clone()?,
         || Err(7),
     );
-    assert_eq!(rt;
-        (stored, removed, failed, Rc::strong_count(&key)),
-        (
-            (Ok(true), Ok(true), 2),
-            (Some(10), 1),
-            Err(GetOrInsertError::Caller(7)),
-            1
-        )
-    );
+    assert_eq!(rt; failed, Err(GetOrInsertError::Caller(7)));
+    assert_eq!(rt; Rc::strong_count(&key), 1);
     Ok(())
 }
 
@@ -46,23 +39,10 @@ fn a_closure_that_is_not_called_is_dropped(rt: HostRuntime) -> Result<(), Fail> 
     let mut map: LruMap<u64, Rc<u64>> = LruMap::new(rt.alloc(), ByLength::new(2), WORDS, 16);
     for _ in 1..=2u32 {
         let value = held.clone()?;
-        let answer = map.ensure_newest(1, move || value);
-        assert_eq!(rt; (answer, Rc::strong_count(&held)), (Ok(true), 2));
+        assert!(rt; map.ensure_newest(1, move || value)?);
+        assert_eq!(rt; Rc::strong_count(&held), 2);
     }
     Ok(())
-}
-
-// Inserts the value under each of these numbers, and answers whether each is in the map then.
-fn hold<L: Insertion<u64, Rc<u64>, u64>, S: BuildHasher>(
-    map: &mut LruMap<u64, Rc<u64>, L, S>,
-    numbers: RangeInclusive<u64>,
-    value: &Rc<u64>,
-) -> Result<bool, AllocError> {
-    let mut all = true;
-    for n in numbers {
-        all = map.insert(n, value.clone()?)? && all;
-    }
-    Ok(all)
 }
 
 // By a limit that was lowered, and where the table may not grow.
@@ -70,10 +50,12 @@ fn hold<L: Insertion<u64, Rc<u64>, u64>, S: BuildHasher>(
 fn each_pair_that_gives_way_is_dropped(rt: HostRuntime) -> Result<(), Fail> {
     let value = Rc::new(rt.alloc(), 0u64)?;
     let mut map: LruMap<u64, Rc<u64>> = LruMap::new(rt.alloc(), ByLength::new(3), WORDS, 16);
-    let first = hold(&mut map, 1..=3, &value);
+    for n in 1..=3u64 {
+        assert!(rt; map.insert(n, value.clone()?)?);
+    }
     *map.limiter_mut() = ByLength::new(1);
-    let fourth = hold(&mut map, 4..=4, &value);
-    let by_length = (first, fourth, map.len(), Rc::strong_count(&value));
+    assert!(rt; map.insert(4, value.clone()?)?);
+    assert_eq!(rt; (map.len(), Rc::strong_count(&value)), (1, 2));
     drop(map);
     let mut map: LruMap<u64, Rc<u64>, ByMemoryUsage> = LruMap::with_memory_budget(
         rt.alloc(),
@@ -81,11 +63,10 @@ fn each_pair_that_gives_way_is_dropped(rt: HostRuntime) -> Result<(), Fail> {
         WORDS,
         16,
     );
-    let five = hold(&mut map, 1..=5, &value);
-    assert_eq!(rt;
-        (by_length, five, map.len(), Rc::strong_count(&value)),
-        ((Ok(true), Ok(true), 1, 2), Ok(true), 3, 4)
-    );
+    for n in 1..=5u64 {
+        assert!(rt; map.insert(n, value.clone()?)?);
+    }
+    assert_eq!(rt; (map.len(), Rc::strong_count(&value)), (3, 4));
     Ok(())
 }
 
@@ -105,13 +86,10 @@ impl Costed for Dear {
 #[test]
 fn a_refused_replacement_drops_both_values(rt: HostRuntime) -> Result<(), Fail> {
     let (old, new) = (Rc::new(rt.alloc(), 0u64)?, Rc::new(rt.alloc(), 0u64)?);
-    let (first, second) = (Dear(1, old.clone()?), Dear(2, new.clone()?));
     let mut map: LruMap<u64, Dear, ByCost> = LruMap::new(rt.alloc(), ByCost::new(1), WORDS, 16);
-    let stored = (map.insert(1, first), map.insert(1, second));
-    assert_eq!(rt;
-        (stored, Rc::strong_count(&old), Rc::strong_count(&new)),
-        ((Ok(true), Ok(false)), 1, 1)
-    );
+    assert!(rt; map.insert(1, Dear(1, old.clone()?))?);
+    assert!(rt; !map.insert(1, Dear(2, new.clone()?))?);
+    assert_eq!(rt; (Rc::strong_count(&old), Rc::strong_count(&new)), (1, 1));
     Ok(())
 }
 
@@ -134,26 +112,20 @@ impl Clone for Refusing<'_> {
 fn a_copy_that_is_refused_is_not_tried_again(rt: HostRuntime) -> Result<(), Fail> {
     let key = Rc::new(rt.alloc(), 1u64)?;
     let tries = Cell::new(0u64);
-    let other = key.clone()?;
     let mut map: LruMap<Rc<u64>, Refusing> = LruMap::new(rt.alloc(), ByLength::new(2), WORDS, 16);
-    let stored = map.insert(other, Refusing(&tries));
-    let is_refused = map.clone().is_err();
-    let left = (tries.get(), Rc::strong_count(&key));
-    let is_copied = map.clone().is_ok();
-    assert_eq!(rt;
-        (stored, is_refused, left, is_copied),
-        (Ok(true), true, (1, 2), true)
-    );
+    assert!(rt; map.insert(key.clone()?, Refusing(&tries))?);
+    assert!(rt; map.clone().is_err());
+    assert_eq!(rt; (tries.get(), Rc::strong_count(&key)), (1, 2));
+    assert!(rt; map.clone().is_ok());
     Ok(())
 }
 
 // A copy of a map of a hundred pairs and one more, which nothing refuses.
 #[test]
 fn a_copy_of_many_pairs(rt: HostRuntime) -> Result<(), Fail> {
-    let mut map = map_of(rt.alloc(), UnlimitedCompact);
-    let taken = insert_all(&mut map, 1..=101);
-    let copy = map.clone()?;
-    assert_eq!(rt; (taken, counts_down(&copy, 101, 1)), (Ok(101), true));
+    let mut map = map_of(rt.alloc(), schnellru::UnlimitedCompact);
+    assert_eq!(rt; insert_all(&mut map, 1..=101)?, 101);
+    assert!(rt; counts_down(&map.clone()?, 101, 1));
     Ok(())
 }
 
@@ -277,20 +249,17 @@ fn each_callback_is_called_once(rt: HostRuntime) -> Result<(), Fail> {
         copies: &hashers,
     };
     let mut map = LruMap::with_hasher(rt.alloc(), limiter, hasher, 16);
-    let stored = (hold(&mut map, 1..=3, &value), asked.get(), builds.get());
+    for n in 1..=3u64 {
+        assert!(rt; map.insert(n, value.clone()?)?);
+    }
+    assert_eq!(rt; (asked.get(), builds.get()), (5, 3));
     drop(map.clone()?);
-    let copied = (copies.get(), hashers.get(), builds.get());
-    let is_removed = map.remove(&2).is_some();
+    assert_eq!(rt; (copies.get(), hashers.get(), builds.get()), (1, 1, 3));
+    assert!(rt; map.remove(&2).is_some());
     let other = value.clone()?;
-    let found = (
-        is_removed,
-        map.ensure_newest(1, move || other),
-        builds.get(),
-    );
+    assert!(rt; map.ensure_newest(1, move || other)?);
+    assert_eq!(rt; builds.get(), 5);
     map.clear();
-    assert_eq!(rt;
-        (stored, copied, found, held.get()),
-        ((Ok(true), 5, 3), (1, 1, 3), (true, Ok(true), 5), 1)
-    );
+    assert_eq!(rt; held.get(), 1);
     Ok(())
 }

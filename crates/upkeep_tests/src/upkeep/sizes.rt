@@ -1,7 +1,8 @@
 //! The bytes of tables, and the greatest ones.
 use super::*;
-use schnellru::{LinkType, ReserveError, Unlimited};
+use schnellru::{LinkType, ReserveError, Unlimited, UnlimitedCompact};
 use std::marker::PhantomData;
+use std::test::Fail;
 use test_helpers::LinkedBy;
 
 // The capacity and the bytes of a new map with entries of so many bytes, after room for so many pairs was reserved.
@@ -33,10 +34,8 @@ fn bytes_of_tables(rt: HostRuntime) {
         (113, 224, 4368, 8464usize),
     ] {
         for n in [least, most] {
-            assert_eq!(rt;
-                (n, reserved(alloc, 16, n), reserved(alloc, 32, n)),
-                (n, Some((most, of_16)), Some((most, of_32)))
-            );
+            assert_eq!(rt; reserved(alloc, 16, n), Some((most, of_16)), "{n} of 16");
+            assert_eq!(rt; reserved(alloc, 32, n), Some((most, of_32)), "{n} of 32");
         }
     }
 }
@@ -44,10 +43,8 @@ fn bytes_of_tables(rt: HostRuntime) {
 // 20 bytes are rounded up to 32, and none stay none.
 #[test]
 fn bytes_are_rounded_up(rt: HostRuntime) {
-    assert_eq!(rt;
-        (reserved(rt.alloc(), 5, 1), reserved(rt.alloc(), 0, 1)),
-        (Some((3, 52)), Some((3, 20)))
-    );
+    assert_eq!(rt; reserved(rt.alloc(), 5, 1), Some((3, 52)));
+    assert_eq!(rt; reserved(rt.alloc(), 0, 1), Some((3, 20)));
 }
 
 // The capacity after room for so many pairs was reserved, and whether one more is too many for the links.
@@ -60,13 +57,8 @@ fn ends_at<N: LinkType>(alloc: Global, most: usize) -> (bool, bool, usize) {
 
 #[test]
 fn reservations_to_the_end_of_the_links(rt: HostRuntime) {
-    assert_eq!(rt;
-        (
-            ends_at::<u8>(rt.alloc(), 112),
-            ends_at::<u16>(rt.alloc(), 28_672)
-        ),
-        ((true, true, 112), (true, true, 28_672))
-    );
+    assert_eq!(rt; ends_at::<u8>(rt.alloc(), 112), (true, true, 112));
+    assert_eq!(rt; ends_at::<u16>(rt.alloc(), 28_672), (true, true, 28_672));
 }
 
 // The greatest table of `usize` links at 16 bytes takes 252,201,579,132,747,776 pairs.
@@ -74,9 +66,7 @@ fn reservations_to_the_end_of_the_links(rt: HostRuntime) {
 fn reservations_beyond_the_bytes(rt: HostRuntime) {
     for n in [1 << 60, 1 << 61, usize::MAX, 252_201_579_132_747_777] {
         let mut map = map_of(rt.alloc(), Unlimited);
-        assert_eq!(rt;
-            (n, map.try_reserve(n), figures(&map)),
-            (n, Err(ReserveError::TooLarge), (0, 0, 0))
-        );
+        assert_eq!(rt; map.try_reserve(n), Err(ReserveError::TooLarge), "{n}");
+        assert_eq!(rt; figures(&map), (0, 0, 0));
     }
 }

@@ -1,6 +1,7 @@
 //! `String` keys, looked up by texts, and stored from texts that become a `String` only then.
 use schnellru::LruMap;
 use std::alloc::{AllocError, Global};
+use std::test::Fail;
 use test_helpers::{Counting, InsertKey};
 
 pub(super) type Texts = LruMap<String, u32, Counting>;
@@ -32,42 +33,31 @@ pub(super) fn has_keys(map: &Texts, keys: &[&str]) -> bool {
     at == keys.len()
 }
 
-// A map without keys.
-pub(super) fn texts(alloc: Global) -> Texts {
-    LruMap::new(alloc, Counting::default(), [1, 2, 3, 4], 16)
-}
-
-// How many texts became a key, and how many came for a key that was there.
-pub(super) fn counts(map: &Texts) -> (u32, u32) {
-    (map.limiter().inserts, map.limiter().replacements)
-}
-
 #[test]
-fn a_text_is_made_a_key_once(rt: HostRuntime) {
-    let mut map = texts(rt.alloc());
+fn a_text_is_made_a_key_once(rt: HostRuntime) -> Result<(), Fail> {
+    let mut map: Texts = LruMap::new(rt.alloc(), Counting::default(), [1, 2, 3, 4], 16);
     for key in ["1", "2", "1"] {
-        assert_eq!(rt; insert_text(&mut map, key, 1), Ok(true));
+        assert!(rt; insert_text(&mut map, key, 1)?);
     }
-    assert_eq!(rt; (has_keys(&map, &["1", "2"]), counts(&map)), (true, (2, 1)));
+    assert!(rt; has_keys(&map, &["1", "2"]));
+    assert_eq!(rt; (map.limiter().inserts, map.limiter().replacements), (2, 1));
+    Ok(())
 }
 
 #[test]
-fn lru_with_a_string_key_works(rt: HostRuntime) {
-    let mut map = texts(rt.alloc());
+fn lru_with_a_string_key_works(rt: HostRuntime) -> Result<(), Fail> {
+    let alloc = rt.alloc();
+    let mut map: Texts = LruMap::new(alloc, Counting::default(), [1, 2, 3, 4], 16);
     for (key, value) in [("1", 1), ("2", 2), ("3", 3)] {
-        assert_eq!(rt; insert_string(rt.alloc(), &mut map, key, value), Ok(true));
+        assert!(rt; insert_string(alloc, &mut map, key, value)?);
     }
-    let found = (map.peek(&"2").copied(), map.get(&"2").copied());
-    assert_eq!(rt;
-        (found, has_keys(&map, &["2", "3", "1"])),
-        ((Some(2), Some(2)), true)
-    );
+    assert_eq!(rt; map.peek(&"2").copied(), Some(2));
+    assert_eq!(rt; map.get(&"2").copied(), Some(2));
+    assert!(rt; has_keys(&map, &["2", "3", "1"]));
     for (key, value) in [("2", 200), ("6", 6)] {
-        let inserted = insert_text(&mut map, key, value);
-        assert_eq!(rt;
-            (inserted, map.peek(&key).copied()),
-            (Ok(true), Some(value))
-        );
+        assert!(rt; insert_text(&mut map, key, value)?);
+        assert_eq!(rt; map.peek(&key).copied(), Some(value));
     }
     assert!(rt; has_keys(&map, &["6", "2", "3", "1"]));
+    Ok(())
 }
