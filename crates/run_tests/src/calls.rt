@@ -8,3 +8,4 @@ mod orders;
 mod refused;
 mod summing;
 mod taking;
+mod wanted;

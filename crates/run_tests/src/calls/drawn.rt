@@ -1,6 +1,5 @@
 //! Long lists of drawn calls of every kind, whose answers are those of a plain list of pairs.
 use super::holding::Holding;
-use super::orders::pairs;
 use lru_replay::{Answer, Call, run_calls};
 use schnellru::{ByLength, Insertion, LruMap, MoveReport, UnlimitedCompact};
 use std::alloc::{AllocError, Global};
@@ -155,7 +154,7 @@ impl Plain {
             Call::Reserve(_) => Answer::Reserved(Ok(())),
             Call::Shrink => Answer::Shrunk(Ok(true)),
             Call::Drain { front, back } => Answer::Pairs(self.drain(alloc, *front, *back)?),
-            Call::List => pairs(alloc, self.pairs.as_slice())?,
+            Call::List => Answer::Pairs(Vec::from_slice(alloc, self.pairs.as_slice())?),
             Call::Stats => Answer::Stats {
                 len: self.pairs.len(),
                 capacity: 0,

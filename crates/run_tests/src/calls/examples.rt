@@ -9,8 +9,8 @@ fn of_lists_of_calls(rt: HostRuntime) -> Result<(), Fail> {
     let mut map: LruMap<u64, u64> = LruMap::new(alloc, ByLength::new(3), [1, 2, 3, 4], 16);
     let calls = vec![in alloc; Call::Insert(1, 10), Call::Get(1), Call::Peek(2)]?;
     let answers = run_calls(alloc, &mut map, calls)?;
-    assert!(rt; answers.get(1) == Some(&Answer::Value(Some(10))));
-    assert!(rt; answers.get(2) == Some(&Answer::Value(None)));
+    let gives = answers.get(1) == Some(&Answer::Value(Some(10)));
+    assert!(rt; gives && answers.get(2) == Some(&Answer::Value(None)));
     Ok(())
 }
 
@@ -20,7 +20,7 @@ fn of_summing_lists(rt: HostRuntime) -> Result<(), Fail> {
     let mut costs: LruMap<u64, u64, ByCost> = LruMap::new(alloc, ByCost::new(10), [1, 2, 3, 4], 16);
     let calls = vec![in alloc; Call::Insert(1, 2), Call::Write(1, 3), Call::Peek(1)]?;
     let answers = run_summing(alloc, &mut costs, calls)?;
-    assert!(rt; answers.get(1) == Some(&Answer::CostDiffers));
-    assert!(rt; answers.get(2) == Some(&Answer::Value(Some(2))));
+    let refuses = answers.get(1) == Some(&Answer::CostDiffers);
+    assert!(rt; refuses && answers.get(2) == Some(&Answer::Value(Some(2))));
     Ok(())
 }

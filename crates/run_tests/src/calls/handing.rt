@@ -1,11 +1,11 @@
 //! Lists of calls that insert and give what leaves.
-use super::orders::map_of;
 use lru_replay::{Answer, Call, run_calls, run_summing};
-use schnellru::{ByCost, ByLength, ByMemoryUsage, Insertion, UnlimitedCompact};
+use schnellru::{ByCost, ByLength, ByMemoryUsage, Insertion, LruMap, UnlimitedCompact};
 use std::alloc::{AllocError, Global};
 use std::mem::size_of;
+use std::process::Abort;
 use std::test::Fail;
-use test_helpers::Hog;
+use test_helpers::{Hog, insert_all, map_of};
 
 // Inserts of these pairs, and a list after them.
 fn inserts<L: Drop>(
@@ -28,6 +28,18 @@ fn answers<L: Insertion<u64, u64, u64> + Drop>(
 ) -> Result<String, AllocError> {
     let answers = run_calls(alloc, &mut map_of(alloc, limiter), inserts(alloc, pairs)?)?;
     format!(in alloc; "{answers:?}")
+}
+
+// Compares them with this text.
+fn expect<L: Insertion<u64, u64, u64> + Drop>(
+    rt: &(impl Abort + AllocGlobal),
+    limiter: L,
+    pairs: &[(u64, u64)],
+    text: &str,
+) -> Result<(), Fail> {
+    let answers = answers(rt.alloc(), limiter, pairs)?;
+    assert_eq!(rt; answers.as_str(), text);
+    Ok(())
 }
 
 // The answers of `run_summing` to them.
@@ -56,53 +68,58 @@ fn a_pair_that_leaves_is_given_by_either_run(rt: HostRuntime) -> Result<(), Fail
 // that is not let in. A value that is replaced is not given.
 #[test]
 fn pairs_that_leave(rt: HostRuntime) -> Result<(), Fail> {
-    let alloc = rt.alloc();
-    let by_length = answers(
-        alloc,
+    expect(
+        &rt,
         ByLength::new(2),
         &[(1, 10), (2, 20), (3, 30), (2, 21)],
+        "[Given { done: Ok(true), out: [] }, Given { done: Ok(true), out: [] }, Given { done: Ok(true), out: [(1, 10)] }, Given { done: Ok(true), out: [] }, Pairs([(2, 21), (3, 30)])]",
     )?;
-    let by_cost = answers(alloc, ByCost::new(3), &[(1, 1), (2, 2), (3, 3), (3, 4)])?;
-    let by_memory = answers(alloc, ByMemoryUsage::new(83), &[(1, 10)])?;
-    let by_none = answers(alloc, ByLength::new(0), &[(1, 10)])?;
-    assert_eq!(rt;
-        (
-            by_length.as_str(),
-            by_cost.as_str(),
-            by_memory.as_str(),
-            by_none.as_str()
-        ),
-        (
-            "[Given { done: Ok(true), out: [] }, Given { done: Ok(true), out: [] }, Given { done: Ok(true), out: [(1, 10)] }, Given { done: Ok(true), out: [] }, Pairs([(2, 21), (3, 30)])]",
-            "[Given { done: Ok(true), out: [] }, Given { done: Ok(true), out: [] }, Given { done: Ok(true), out: [(1, 1), (2, 2)] }, Given { done: Ok(false), out: [(3, 3)] }, Pairs([])]",
-            "[Given { done: Ok(false), out: [(1, 10)] }, Pairs([])]",
-            "[Given { done: Ok(false), out: [] }, Pairs([])]"
-        )
-    );
-    Ok(())
+    expect(
+        &rt,
+        ByCost::new(3),
+        &[(1, 1), (2, 2), (3, 3), (3, 4)],
+        "[Given { done: Ok(true), out: [] }, Given { done: Ok(true), out: [] }, Given { done: Ok(true), out: [(1, 1), (2, 2)] }, Given { done: Ok(false), out: [(3, 3)] }, Pairs([])]",
+    )?;
+    expect(
+        &rt,
+        ByMemoryUsage::new(83),
+        &[(1, 10)],
+        "[Given { done: Ok(false), out: [(1, 10)] }, Pairs([])]",
+    )?;
+    expect(
+        &rt,
+        ByLength::new(0),
+        &[(1, 10)],
+        "[Given { done: Ok(false), out: [] }, Pairs([])]",
+    )
 }
 
-// What a full table of 8 buckets answers to an insert, to a look at the newest pair and to one at the figures, where so
-// many requests for memory are met: that for the answers, that for eight pairs to give, and those of a table of 16
-// buckets with its links. It is `None` where memory was left.
-fn asked(alloc: Global, met: usize) -> Result<Option<String>, AllocError> {
-    let mut map = map_of(alloc, UnlimitedCompact);
-    for n in 1..=7u64 {
-        map.insert(n, n.wrapping_mul(10))?;
-    }
-    let calls = vec![in alloc; Call::InsertWith(8, 80), Call::PeekNewest, Call::Stats]?;
+// The answers to calls where so many requests for memory are met: that for the answers to three calls, that for eight
+// pairs to give, and those of a table of 16 buckets with its links. It is `None` where memory was left.
+fn answers_where(
+    alloc: Global,
+    map: &mut LruMap<u64, u64, UnlimitedCompact>,
+    calls: Vec<Call<u64, u64, UnlimitedCompact>>,
+    met: usize,
+) -> Result<Option<Vec<Answer<u64, u64>>>, AllocError> {
     let answers_size = 3 * size_of::<Answer<u64, u64>>();
     let mut hog = Hog::new(alloc, &[answers_size, 128, 32, 384, 32])?;
     for _ in 0..met {
         hog.release();
     }
-    let answers = run_calls(alloc, &mut map, calls)?;
-    let all = hog.took_all();
-    drop(hog);
-    if !all {
-        return Ok(None);
-    }
-    Ok(Some(format!(in alloc; "{answers:?}")?))
+    let answers = run_calls(alloc, map, calls)?;
+    Ok(if hog.took_all() { Some(answers) } else { None })
+}
+
+// What a full table of 8 buckets answers then to an insert, to a look at the newest pair and to one at the figures.
+fn asked(alloc: Global, met: usize) -> Result<Option<String>, AllocError> {
+    let mut map = map_of(alloc, UnlimitedCompact);
+    insert_all(&mut map, 1..=7)?;
+    let calls = vec![in alloc; Call::InsertWith(8, 80), Call::PeekNewest, Call::Stats]?;
+    Ok(match answers_where(alloc, &mut map, calls, met)? {
+        Some(answers) => Some(format!(in alloc; "{answers:?}")?),
+        None => None,
+    })
 }
 
 // What they are then.

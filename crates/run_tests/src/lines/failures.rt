@@ -1,5 +1,5 @@
 //! Reads and writes that are cut, interrupted, or fail.
-use super::rows::{EXAMPLE, EXAMPLE_TEXT};
+use super::rows::{EXAMPLE, EXAMPLE_TEXT, expect};
 use lru_replay::{ReplayEnd, ReplayError, replay};
 use std::io::BufReader;
 use std::process::Abort;
@@ -20,50 +20,71 @@ fn front_lines(text: &[u8], lines: usize) -> &[u8] {
     text
 }
 
-#[test]
-fn cuts_do_not_matter(rt: HostRuntime) -> Result<(), Fail> {
-    for most in [1, 2, 3, 7, 10, 11, 12, 100] {
-        let mut reader = BufReader::new(rt.alloc(), Slow::new(EXAMPLE, most))?;
-        let mut writer = Narrow::new(rt.alloc(), most);
-        let end = replay(rt.alloc(), &mut reader, &mut writer);
-        assert_eq!(rt; end, Ok(ReplayEnd::Done));
-        assert!(rt; writer.bytes.as_slice() == EXAMPLE_TEXT);
-        assert_eq!(rt; writer.flushes, 1);
-    }
+/// How a replay ends, the text that it writes, and how often it flushes.
+type Wanted<'a> = (Result<ReplayEnd, ReplayError>, &'a [u8], usize);
+
+/// Replays what the reader gives onto the writer, and compares what comes of it.
+fn expect_of(
+    rt: &(impl Abort + AllocGlobal),
+    reader: Slow,
+    mut writer: Narrow,
+    (wanted, text, flushes): Wanted,
+) -> Result<(), Fail> {
+    let mut reader = BufReader::new(rt.alloc(), reader)?;
+    let end = replay(rt.alloc(), &mut reader, &mut writer);
+    let written = writer.bytes.as_slice() == text;
+    assert_eq!(rt; (end, written, writer.flushes), (wanted, true, flushes));
     Ok(())
 }
 
 #[test]
-fn lines_of_many_pieces_and_many_lines(rt: HostRuntime) -> Result<(), Fail> {
-    // A line of 1,500 bytes, which come one by one.
+fn cuts_do_not_matter(rt: HostRuntime) -> Result<(), Fail> {
+    for most in [1, 2, 3, 7, 10, 11, 12, 100] {
+        expect_of(
+            &rt,
+            Slow::new(EXAMPLE, most),
+            Narrow::new(rt.alloc(), most),
+            (Ok(ReplayEnd::Done), EXAMPLE_TEXT, 1),
+        )?;
+    }
+    Ok(())
+}
+
+// A line of 1,500 bytes, which come one by one.
+fn expect_many_pieces(rt: &(impl Abort + AllocGlobal)) -> Result<(), Fail> {
     let mut input = Vec::new(rt.alloc());
     input.extend_from_slice(b"compact\n")?;
     for _ in 0..1500 {
         input.push(b'1')?;
     }
     input.extend_from_slice(b"\ninsert 1 10\nlist")?;
-    let mut reader = BufReader::new(rt.alloc(), Slow::new(input.as_slice(), 1))?;
-    let mut writer = Vec::new(rt.alloc());
-    let end = replay(rt.alloc(), &mut reader, &mut writer);
-    assert_eq!(rt; end, Ok(ReplayEnd::Done));
-    assert!(rt; writer.as_slice() == b"bad\ntrue\n1:10\n".as_slice());
-    // 1,500 lines.
-    let mut input = Vec::new(rt.alloc());
-    input.extend_from_slice(b"length 3\n")?;
-    let mut want = Vec::new(rt.alloc());
+    expect_of(
+        rt,
+        Slow::new(input.as_slice(), 1),
+        Narrow::new(rt.alloc(), 100),
+        (Ok(ReplayEnd::Done), b"bad\ntrue\n1:10\n", 1),
+    )
+}
+
+// 1,500 lines.
+fn expect_many_lines(rt: &(impl Abort + AllocGlobal)) -> Result<(), Fail> {
+    let mut input = String::from_str(rt.alloc(), "length 3\n")?;
+    let mut want = String::new(rt.alloc());
     for key in 0..1500 {
         let line = format!(in rt.alloc(); "insert {key} {key}\n")?;
-        input.extend_from_slice(line.as_bytes())?;
-        want.extend_from_slice(b"true\n")?;
+        input.push_str(line.as_str())?;
+        want.push_str("true\n")?;
     }
-    input.extend_from_slice(b"list\n")?;
-    want.extend_from_slice(b"1499:1499 1498:1498 1497:1497\n")?;
-    let mut reader = input.as_slice();
-    let mut writer = Vec::new(rt.alloc());
-    let end = replay(rt.alloc(), &mut reader, &mut writer);
-    assert_eq!(rt; end, Ok(ReplayEnd::Done));
-    assert!(rt; writer.as_slice() == want.as_slice());
+    input.push_str("list\n")?;
+    want.push_str("1499:1499 1498:1498 1497:1497\n")?;
+    expect(rt, input.as_bytes(), want.as_bytes(), 0);
     Ok(())
+}
+
+#[test]
+fn lines_of_many_pieces_and_many_lines(rt: HostRuntime) -> Result<(), Fail> {
+    expect_many_pieces(&rt)?;
+    expect_many_lines(&rt)
 }
 
 #[test]
@@ -72,13 +93,10 @@ fn interrupted_calls_are_tried_again(rt: HostRuntime) -> Result<(), Fail> {
         let mut slow = Slow::new(EXAMPLE, 5);
         slow.failure = Failure::Interrupted;
         slow.fails_at = at;
-        let mut reader = BufReader::new(rt.alloc(), slow)?;
         let mut writer = Narrow::new(rt.alloc(), 3);
         writer.failure = Failure::Interrupted;
         writer.fails_at = at;
-        let end = replay(rt.alloc(), &mut reader, &mut writer);
-        assert_eq!(rt; end, Ok(ReplayEnd::Done));
-        assert!(rt; writer.bytes.as_slice() == EXAMPLE_TEXT);
+        expect_of(&rt, slow, writer, (Ok(ReplayEnd::Done), EXAMPLE_TEXT, 1))?;
     }
     Ok(())
 }
@@ -90,15 +108,11 @@ fn each_read_fails(rt: HostRuntime) -> Result<(), Fail> {
         for at in 0..=EXAMPLE.len().div_ceil(most) {
             let mut slow = Slow::new(EXAMPLE, most);
             slow.fails_at = at;
-            let mut reader = BufReader::new(rt.alloc(), slow)?;
-            let mut writer = Narrow::new(rt.alloc(), 100);
-            let end = replay(rt.alloc(), &mut reader, &mut writer);
-            assert_eq!(rt; end, Err(ReplayError::Read), "at read {at}");
             let given = at.saturating_mul(most).min(EXAMPLE.len());
             let feeds = EXAMPLE[..given].iter().filter(|b| **b == b'\n').count();
             let want = front_lines(EXAMPLE_TEXT, feeds.saturating_sub(1));
-            assert!(rt; writer.bytes.as_slice() == want, "at read {at}");
-            assert_eq!(rt; writer.flushes, 1);
+            let writer = Narrow::new(rt.alloc(), 100);
+            expect_of(&rt, slow, writer, (Err(ReplayError::Read), want, 1))?;
         }
     }
     Ok(())
@@ -111,59 +125,52 @@ fn fail_write(
     text: &[u8],
     at: usize,
     failure: Failure,
-) {
-    let mut reader = input;
+) -> Result<(), Fail> {
     let mut writer = Narrow::new(rt.alloc(), 1);
     writer.failure = failure;
     writer.fails_at = at;
-    let end = replay(rt.alloc(), &mut reader, &mut writer);
-    assert_eq!(rt; end, Err(ReplayError::Write), "at write {at}");
     let want = &text[..at.min(text.len())];
-    assert!(rt; writer.bytes.as_slice() == want, "at write {at}");
-    assert_eq!(rt; writer.flushes, 0);
+    expect_of(
+        rt,
+        Slow::new(input, 100),
+        writer,
+        (Err(ReplayError::Write), want, 0),
+    )
 }
 
+// The second is a drain that is cut short.
 #[test]
-fn each_write_fails(rt: HostRuntime) {
-    for at in 0..EXAMPLE_TEXT.len() {
-        fail_write(&rt, EXAMPLE, EXAMPLE_TEXT, at, Failure::Broken);
-        fail_write(&rt, EXAMPLE, EXAMPLE_TEXT, at, Failure::Full);
-    }
-    // A drain that is cut short.
-    let input = b"compact\ninsert 1 10\ninsert 2 20\ninsert 3 30\ndrain 2\nlist\n".as_slice();
-    let text = b"true\ntrue\ntrue\n3:30 2:20\n-\n".as_slice();
-    for at in 0..text.len() {
-        fail_write(&rt, input, text, at, Failure::Broken);
-    }
-    let text = b"no limiter\n".as_slice();
-    for at in 0..text.len() {
-        fail_write(&rt, b"list\n", text, at, Failure::Broken);
-        fail_write(&rt, b"list\n", text, at, Failure::Full);
-    }
-}
-
-#[test]
-fn the_flush_fails(rt: HostRuntime) -> Result<(), Fail> {
+fn each_write_fails(rt: HostRuntime) -> Result<(), Fail> {
     for (input, text) in [
         (EXAMPLE, EXAMPLE_TEXT),
-        (b"".as_slice(), b"no limiter\n".as_slice()),
+        (
+            b"compact\ninsert 1 10\ninsert 2 20\ninsert 3 30\ndrain 2\nlist\n".as_slice(),
+            b"true\ntrue\ntrue\n3:30 2:20\n-\n".as_slice(),
+        ),
+        (b"list\n", b"no limiter\n"),
     ] {
-        let mut reader = input;
+        for at in 0..text.len() {
+            for failure in [Failure::Broken, Failure::Full] {
+                fail_write(&rt, input, text, at, failure)?;
+            }
+        }
+    }
+    Ok(())
+}
+
+// The last is after a read that failed too.
+#[test]
+fn the_flush_fails(rt: HostRuntime) -> Result<(), Fail> {
+    for (input, text, fails_at) in [
+        (EXAMPLE, EXAMPLE_TEXT, usize::MAX),
+        (b"".as_slice(), b"no limiter\n".as_slice(), usize::MAX),
+        (EXAMPLE, EXAMPLE_TEXT, 1),
+    ] {
+        let mut slow = Slow::new(input, 100);
+        slow.fails_at = fails_at;
         let mut writer = Narrow::new(rt.alloc(), 100);
         writer.flush_fails = true;
-        let end = replay(rt.alloc(), &mut reader, &mut writer);
-        assert_eq!(rt; end, Err(ReplayError::Write));
-        assert!(rt; writer.bytes.as_slice() == text);
-        assert_eq!(rt; writer.flushes, 1);
+        expect_of(&rt, slow, writer, (Err(ReplayError::Write), text, 1))?;
     }
-    // After a read that failed too.
-    let mut slow = Slow::new(EXAMPLE, 100);
-    slow.fails_at = 1;
-    let mut reader = BufReader::new(rt.alloc(), slow)?;
-    let mut writer = Narrow::new(rt.alloc(), 100);
-    writer.flush_fails = true;
-    let end = replay(rt.alloc(), &mut reader, &mut writer);
-    assert_eq!(rt; end, Err(ReplayError::Write));
-    assert_eq!(rt; writer.flushes, 1);
     Ok(())
 }

@@ -15,12 +15,12 @@ pub const EXAMPLE_TEXT: &[u8] =
     b"true\ntrue\ntrue\n3:30 2:20 1:10\n10\n1:10 3:30 2:20\ntrue\nnone\n4:40 1:10 3:30\n";
 
 /// Replays the input, and compares what is written and the status.
-fn expect(rt: &(impl Abort + AllocGlobal), input: &[u8], want: &[u8], code: u8) {
+pub fn expect(rt: &(impl Abort + AllocGlobal), input: &[u8], want: &[u8], code: u8) {
     let mut reader = input;
     let mut writer = Vec::new(rt.alloc());
     let end = replay(rt.alloc(), &mut reader, &mut writer);
-    assert_eq!(rt; status(&end), code);
-    assert!(rt; writer.as_slice() == want);
+    let written = writer.as_slice() == want;
+    assert_eq!(rt; (status(&end), written), (code, true));
 }
 
 #[test]
@@ -106,14 +106,22 @@ fn writes_the_greatest_number(rt: HostRuntime) {
     );
 }
 
+// A carriage return belongs to its line, a byte-order mark to the first.
 #[test]
 fn lines_of_other_systems(rt: HostRuntime) {
-    // A carriage return belongs to its line, a byte-order mark to the first.
-    expect(&rt, b"length 3\r\ninsert 1 10\r\n", b"no limiter\n", 1);
-    expect(&rt, b"length 3\ninsert 1 10\r\nlist\r\n", b"bad\nbad\n", 0);
-    expect(&rt, b"\xef\xbb\xbflength 3\nlist\n", b"no limiter\n", 1);
-    expect(&rt, b"\nlength 3\nlist\n", b"no limiter\n", 1);
-    expect(&rt, b"length 3\n\nlist\n\n", b"bad\n-\nbad\n", 0);
+    for (input, text, code) in [
+        (
+            b"length 3\r\ninsert 1 10\r\n".as_slice(),
+            b"no limiter\n".as_slice(),
+            1,
+        ),
+        (b"length 3\ninsert 1 10\r\nlist\r\n", b"bad\nbad\n", 0),
+        (b"\xef\xbb\xbflength 3\nlist\n", b"no limiter\n", 1),
+        (b"\nlength 3\nlist\n", b"no limiter\n", 1),
+        (b"length 3\n\nlist\n\n", b"bad\n-\nbad\n", 0),
+    ] {
+        expect(&rt, input, text, code);
+    }
 }
 
 #[test]
@@ -287,17 +295,21 @@ fn lists_the_newest(rt: HostRuntime) -> Result<(), Fail> {
 
 #[test]
 fn refuses_first_lines(rt: HostRuntime) {
-    expect(&rt, b"", b"no limiter\n", 1);
-    expect(&rt, b"length 4294967296\nlist\n", b"no limiter\n", 1);
-    expect(&rt, b"\ncompact\nlist\n", b"no limiter\n", 1);
-    expect(&rt, b" compact\n", b"no limiter\n", 1);
-    expect(&rt, b"length\n", b"no limiter\n", 1);
-    expect(&rt, b"length 03\n", b"no limiter\n", 1);
-    expect(&rt, b"list\n", b"no limiter\n", 1);
-    expect(&rt, b"memory 152\n", b"no limiter\n", 1);
-    expect(&rt, b"memory 152 016\n", b"no limiter\n", 1);
-    expect(&rt, b"cost 18446744073709551616\n", b"no limiter\n", 1);
-    expect(&rt, b"cost 3 3\n", b"no limiter\n", 1);
+    for input in [
+        b"".as_slice(),
+        b"length 4294967296\nlist\n",
+        b"\ncompact\nlist\n",
+        b" compact\n",
+        b"length\n",
+        b"length 03\n",
+        b"list\n",
+        b"memory 152\n",
+        b"memory 152 016\n",
+        b"cost 18446744073709551616\n",
+        b"cost 3 3\n",
+    ] {
+        expect(&rt, input, b"no limiter\n", 1);
+    }
 }
 
 #[test]
@@ -365,44 +377,46 @@ fn expect_bad(rt: &(impl Abort + AllocGlobal), line: &[u8]) {
     expect(rt, input.as_slice(), b"true\nbad\n1:10\n", 0);
 }
 
-#[test]
-fn reads_long_lines_through(rt: HostRuntime) -> Result<(), Fail> {
+/// Replays this input with a line of 1,000,000 bytes and a list after it, and compares what comes of it.
+fn expect_long(
+    rt: &(impl Abort + AllocGlobal),
+    front: &[u8],
+    end: ReplayEnd,
+    text: &[u8],
+) -> Result<(), Fail> {
     let long = Repeated {
         byte: b'1',
         left: 1_000_000,
         others: b"\nlist\n",
     };
-    let mut before = BufReader::new(rt.alloc(), long)?;
+    let mut reader = BufReader::new(rt.alloc(), std::io::Read::chain(front, long))?;
     let mut writer = Vec::new(rt.alloc());
-    let end = replay(rt.alloc(), &mut before, &mut writer);
-    assert_eq!(rt; end, Ok(ReplayEnd::NoLimiter));
-    assert!(rt; writer.as_slice() == b"no limiter\n".as_slice());
-
-    let long = Repeated {
-        byte: b'1',
-        left: 1_000_000,
-        others: b"\nlist\n",
-    };
-    let after = std::io::Read::chain(b"compact\ninsert 1 10\n".as_slice(), long);
-    let mut reader = BufReader::new(rt.alloc(), after)?;
-    let mut writer = Vec::new(rt.alloc());
-    let end = replay(rt.alloc(), &mut reader, &mut writer);
-    assert_eq!(rt; end, Ok(ReplayEnd::Done));
-    assert!(rt; writer.as_slice() == b"true\nbad\n1:10\n".as_slice());
+    let done = replay(rt.alloc(), &mut reader, &mut writer);
+    let written = writer.as_slice() == text;
+    assert_eq!(rt; (done, written), (Ok(end), true));
     Ok(())
 }
 
 #[test]
+fn reads_long_lines_through(rt: HostRuntime) -> Result<(), Fail> {
+    expect_long(&rt, b"", ReplayEnd::NoLimiter, b"no limiter\n")?;
+    let front = b"compact\ninsert 1 10\n";
+    expect_long(&rt, front, ReplayEnd::Done, b"true\nbad\n1:10\n")
+}
+
+#[test]
 fn prints_errors(rt: HostRuntime) -> Result<(), Fail> {
-    let read = format!(in rt.alloc(); "{}", ReplayError::Read)?;
-    assert_eq!(rt; read.as_str(), "read failed");
-    let write = format!(in rt.alloc(); "{}", ReplayError::Write)?;
-    assert_eq!(rt; write.as_str(), "write failed");
-    assert_eq!(rt; ReplayError::Read as u8, 1);
-    assert_eq!(rt; ReplayError::Write as u8, 2);
-    assert_eq!(rt; status(&Ok(ReplayEnd::Done)), 0);
-    assert_eq!(rt; status(&Ok(ReplayEnd::NoLimiter)), 1);
-    assert_eq!(rt; status(&Err(ReplayError::Read)), 2);
-    assert_eq!(rt; status(&Err(ReplayError::Write)), 2);
+    let (read, write) = (ReplayError::Read, ReplayError::Write);
+    let text = format!(in rt.alloc(); "{read}, {write}")?;
+    assert_eq!(rt; text.as_str(), "read failed, write failed");
+    let codes = [
+        read as u8,
+        write as u8,
+        status(&Ok(ReplayEnd::Done)),
+        status(&Ok(ReplayEnd::NoLimiter)),
+        status(&Err(read)),
+        status(&Err(write)),
+    ];
+    assert_eq!(rt; codes, [1, 2, 0, 1, 2, 2]);
     Ok(())
 }
