@@ -2,7 +2,6 @@
 use Rattle.std.proofs.Common.{◌≡◌, ◌≢◌, ℕ, ◌+◌, ◌-◌, ◌<◌, ◌≤◌, cond, List, length, get_or, set, ◌⊎◌, Option, Some, None}
 use Rattle.std.proofs.Common.{false, refl, ap, sym, ◌∙◌, subst, arith, inl, inr, nat_eq, eq-eqb}
 use Rattle.std.proofs.lemmas.Bool.{lt-ltb, le-ltb, cases_eq, ne_eqb}
-use mir.Val.{bool_byte}
 use Rattle.group_table.specs.Bucket.{Slot, Tagged, empty, deleted, full, bucket_at, is_full, is_used, entry_count}
 use Rattle.group_table.specs.Bucket.{mark_of, room, room_at}
 use Rattle.group_table.specs.Probe.{IsFirstFree}
@@ -89,6 +88,10 @@ module _ {T : Type 0} (control : List ℕ) (entries : List (Option T)) (r : ℕ)
   pub place_none : get_or entries b None ≡ None
   place_none = place_free.1
 
+  -- its byte says which of the two it is
+  pub place_byte : Agrees {T = T} (get_or control b 0) None
+  place_byte = subst (λ e. Agrees (get_or control b 0) e) place_none (valid.laid_out.agrees b place_within)
+
   module _ (read : ℕ) (read_is : read ≡ get_or control b 0) where
     pub place_empty : read ≡ 255 → (bucket_at (slots_of control entries) b ≡ empty) × (get_or entries b None ≡ None)
     place_empty h =
@@ -100,24 +103,24 @@ module _ {T : Type 0} (control : List ℕ) (entries : List (Option T)) (r : ℕ)
         let w = free_deleted _ _ (valid.laid_out.agrees b place_within) byte_first.free_there (λ e. h (read_is ∙ e)) in
         (bucket_at-laid_out control entries valid.laid_out b place_within ∙ w.0, w.1)
 
-    pub place_spends : bool_byte (nat_eq read 255) ≤ r
-        → Spends (bucket_at (slots_of control entries) b) r (bool_byte (nat_eq read 255))
-    place_spends enough =
-        elim (cases_eq read 255) [
-          | inl h ↦ let one : bool_byte (nat_eq read 255) ≡ 1 = ap bool_byte (eq-eqb read 255 h) in
-              inl ((place_empty h).0, omega (arith, one, enough), one)
-          | inr h ↦ inr ((place_deleted h).0, ap bool_byte (ne_eqb read 255 h))
-        ]
+    module _ (spent : ℕ) (spent_is : spent ≡ cond (nat_eq read 255) 1 0) where
+      pub place_spends : spent ≤ r → Spends (bucket_at (slots_of control entries) b) r spent
+      place_spends enough =
+          elim (cases_eq read 255) [
+            | inl h ↦ let one : spent ≡ 1 = spent_is ∙ ap (λ t. cond {A = ℕ} t 1 0) (eq-eqb read 255 h) in
+                inl ((place_empty h).0, omega (arith, one, enough), one)
+            | inr h ↦ inr ((place_deleted h).0, spent_is ∙ ap (λ t. cond {A = ℕ} t 1 0) (ne_eqb read 255 h))
+          ]
 
-    -- where the room is less than that, there is none, and the bucket is empty
-    pub no_place_left : r < bool_byte (nat_eq read 255) → (r ≡ 0) × (bucket_at (slots_of control entries) b ≡ empty)
-    no_place_left less =
-        elim (cases_eq read 255) [
-          | inl h ↦ let one : bool_byte (nat_eq read 255) ≡ 1 = ap bool_byte (eq-eqb read 255 h) in
-              (omega (arith, one, less), (place_empty h).0)
-          | inr h ↦ let none : bool_byte (nat_eq read 255) ≡ 0 = ap bool_byte (ne_eqb read 255 h) in
-              absurd (omega (arith, none, less))
-        ]
+      -- where the room is less than that, there is none, and the bucket is empty
+      pub no_place_left : r < spent → (r ≡ 0) × (bucket_at (slots_of control entries) b ≡ empty)
+      no_place_left less =
+          elim (cases_eq read 255) [
+            | inl h ↦ let one : spent ≡ 1 = spent_is ∙ ap (λ t. cond {A = ℕ} t 1 0) (eq-eqb read 255 h) in
+                (omega (arith, one, less), (place_empty h).0)
+            | inr h ↦ let none : spent ≡ 0 = spent_is ∙ ap (λ t. cond {A = ℕ} t 1 0) (ne_eqb read 255 h) in
+                absurd (omega (arith, none, less))
+          ]
 
 module _ {T : Type 0} {control : List ℕ} {entries : List (Option T)} {r spent : ℕ} (valid : IsValid control entries r)
     (b : ℕ)

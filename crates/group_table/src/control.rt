@@ -1,6 +1,6 @@
 //! Control bytes: one a bucket, and 16 more, which repeat the first buckets so that a group can be read in one piece.
 ghost use Rattle.std.specs.Prelude.{◌≡◌, ℕ, ◌+◌, ◌-◌, ◌%◌, ◌^◌, ◌<◌, ◌≤◌, [], length, max, replicate, slice_index};
-ghost use Rattle.std.specs.Prelude.{slice_set, if◌then◌else◌, IfOk};
+ghost use Rattle.std.specs.Prelude.{slice_set, if◌then◌else◌, nat_eq, ◌⊎◌, IfOk};
 ghost use Rattle.group_table.specs.Sizes.{IsPowerFromFour};
 ghost use Rattle.group_table.specs.Probe.{hash_tag};
 ghost use Rattle.group_table.specs.Bytes.{empty_byte, deleted_byte, IsTag};
@@ -114,10 +114,7 @@ impl Control {
         requires { b < buckets_of self.old }
         ensures { self.new ≡ slice_set (slice_set self.old b byte) (b + max 16 (buckets_of self.old)) byte }
     {
-        let buckets = self.bytes.len() - 16;
-        self.bytes[b] = byte;
-        // That of one of the first 16 buckets; else it is the same byte again, so that nothing has to be asked.
-        self.bytes[sixteen_before(b, buckets) + 16] = byte;
+        set_both(self.bytes.as_mut_slice(), b, byte);
     }
 
     // Makes each that of an empty bucket.
@@ -143,6 +140,28 @@ pub(crate) fn emptied_byte(gives_room: bool) -> u8
     ensures { result ≡ (if gives_room then empty_byte else deleted_byte) }
 {
     if gives_room { EMPTY } else { DELETED }
+}
+
+// How much room an entry takes in a free bucket with this byte: an empty one had room for it, a deleted one takes none.
+#[inline]
+pub(crate) fn room_taken(byte: u8) -> usize
+    requires { (byte ≡ deleted_byte) ⊎ (byte ≡ empty_byte) }
+    ensures { result ≡ (if nat_eq byte empty_byte then 1 else 0) }
+{
+    (byte & 1) as usize
+}
+
+// Writes the byte of a bucket, and its repetition, among all bytes.
+#[inline]
+fn set_both(bytes: &mut [u8], b: usize, byte: u8)
+    requires circle { IsCircle bytes.old }
+    requires within { b < buckets_of bytes.old }
+    ensures { bytes.new ≡ slice_set (slice_set bytes.old b byte) (b + max 16 (buckets_of bytes.old)) byte }
+{
+    let buckets = bytes.len() - 16;
+    bytes[b] = byte;
+    // That of one of the first 16 buckets; else it is the same byte again, so that nothing has to be asked.
+    bytes[sixteen_before(b, buckets) + 16] = byte;
 }
 
 // The bucket at a place on the circle.

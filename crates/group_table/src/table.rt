@@ -1,6 +1,6 @@
 //! `Table`. A clause sees a table as its `slots`, one a bucket, and its `placings`.
 ghost use Rattle.std.specs.Prelude.{◌≡◌, ◌↔◌, ℕ, ◌+◌, ◌^◌, ◌<◌, [], length, replicate, Some, IfSome, IfNone, IfOk};
-ghost use Rattle.std.specs.Prelude.{IfErr, OnErr, IsOk, IsTrue};
+ghost use Rattle.std.specs.Prelude.{IfErr, OnErr, IsOk, IsTrue, nat_eq};
 ghost use Rattle.std.specs.Borrow.{sem};
 ghost use Rattle.group_table.specs.Sizes.{IsBucketCount};
 ghost use Rattle.group_table.specs.Bucket.{empty, marks_of, IsFull, entry_at, entry_count, room, room_at};
@@ -10,7 +10,7 @@ ghost use Rattle.group_table.specs.Layout.{IsLaidOut, slots_of};
 ghost use Rattle.group_table.specs.Search.{Finds, FindsNone};
 ghost use Rattle.group_table.specs.Change.{Places, MayFill, HasNoPlace, Removes, count_up};
 
-use crate::control::{Control, EMPTY, emptied_byte, tag_of};
+use crate::control::{Control, emptied_byte, room_taken, tag_of};
 use crate::entries::Entries;
 use crate::fields::{drop_entries, empty_bucket, fill_bucket};
 use crate::neighbours::has_empty_neighbours;
@@ -232,11 +232,11 @@ impl<T: Drop> Table<T> {
         ensures unchanged { OnErr result (self.new ≡ self.old) }
         ensures no_place { OnErr result (HasNoPlace (marks_of self.old.slots) hash) }
     {
-        if self.entries.is_empty() {
+        if is_without_buckets(&self.entries, self.room) {
             return Err(entry);
         }
         let b = first_free(&self.control, hash);
-        let spent = (self.control.byte(b) == EMPTY) as usize;
+        let spent = room_taken(self.control.byte(b));
         if self.room < spent {
             return Err(entry);
         }
@@ -261,6 +261,15 @@ impl<T: Drop> Table<T> {
         self.room = full_capacity(self.entries.len());
         self.len = 0;
     }
+}
+
+// Whether there are no buckets. Where there is room there are some, and the entries are not asked.
+#[inline]
+fn is_without_buckets<T>(entries: &Entries<T>, room: usize) -> bool
+    requires { length entries.now ≡ 0 → room ≡ 0 }
+    ensures { result ≡ nat_eq (length entries.now) 0 }
+{
+    room == 0 && entries.is_empty()
 }
 
 // Counts one more, up to the greatest number: with a branch, which takes fewer instructions than the saturating sum.

@@ -132,7 +132,12 @@ impl<K, V, N: LinkType> Linked<K, V, N> {
         requires { 0 < length self.now.order }
         ensures oldest { last_bucket self.now.order ≡ Some result }
     {
-        self.oldest.into_usize()
+        let b = self.oldest.into_usize();
+        // Nothing at run time: the compiler learns that none is older, and does not ask when the bucket is unlinked.
+        if self.table.get(b).older != N::MAX {
+            nowhere!();
+        }
+        b
     }
 
     // The same, if there is one.
@@ -239,14 +244,15 @@ impl<K: Drop, V: Drop, N: LinkType> Linked<K, V, N> {
         ensures no_place { OnErr result (HasNoPlace (marks_of self.old.slots) hash) }
     {
         let (key, value) = pair;
+        let first = self.newest;
         let entry = Entry {
             newer: N::MAX,
-            older: self.newest,
+            older: first,
             pair: Pair { key, value },
         };
         match self.table.try_place(hash, entry) {
             Ok(b) => {
-                link_placed(&mut self.table, &mut self.newest, &mut self.oldest, b);
+                self.newest = link_placed(&mut self.table, first, &mut self.oldest, b);
                 Ok(())
             }
             Err(entry) => Err((entry.pair.key, entry.pair.value)),

@@ -10,7 +10,7 @@ use Rattle.schnellru.specs.declared.link.Entry.{Entry}
 use Rattle.schnellru.specs.Inside.Linked.{without_bucket}
 use Rattle.schnellru.specs.Inside.Chain.{first_bucket, last_bucket, bucket_after, bucket_before, link_to, pair_slots}
 use Rattle.schnellru.specs.Inside.Chain.{IsChain, IsWhole}
-use Rattle.schnellru.proofs.Chains.Orders.{after_in, before_in, first_in, last_in, before-alone}
+use Rattle.schnellru.proofs.Chains.Orders.{after_in, before_in, first_in, last_in, before-alone, after-last}
 use Rattle.schnellru.proofs.Chains.Neighbours.{newest_again}
 use Rattle.schnellru.proofs.LinkedTables.PairSlots.{is_full-pair_slots}
 use Rattle.schnellru.proofs.Chains.LinkWrites.{end_by_link, chained_below, newer_link, older_link}
@@ -62,6 +62,18 @@ module _ {N : Type 0} {number : N → ℕ} {link : ℕ → N} {none : N} {eq : N
     pub oldest_shown : 0 < length order → last_bucket order ≡ Some (number oldest)
     oldest_shown p = leads_to (last_bucket order) oldest whole.chain.oldest_last
         (λ y e. chained_below whole.chain y (last_in order y e)) (last_some order p)
+
+    -- the bucket of the oldest end is full, and its entry has no older one
+    module _ (some : 0 < length order) where
+      oldest_there : Contains order (number oldest)
+      oldest_there = last_in order (number oldest) (oldest_shown some)
+
+      pub oldest_stands : IsFull slots (number oldest)
+      oldest_stands = whole.chain.only (number oldest) oldest_there
+
+      pub none_older : (entry : Entry K V N) → entry_at slots (number oldest) ≡ Some entry → entry.older ≡ none
+      none_older entry is = older_link laws whole.chain (number oldest) oldest_there entry is
+          ∙ ap (link_to link none) (after-last (number oldest) order whole.chain.distinct (oldest_shown some))
 
     module _ (b : ℕ) (full : IsFull (pair_slots slots) b) where
       pub full_entry : IsFull slots b

@@ -203,6 +203,16 @@ length-without b (c ∷ cs) d there = elim (cases_eq c b) [
   ]
 ]
 
+-- the last bucket has none after it
+pub after-last : (b : ℕ) (order : List ℕ) → AllPairs ◌≢◌ order → last_bucket order ≡ Some b
+    → bucket_after b order ≡ None
+after-last b [] d e = refl
+after-last b (c ∷ []) d e = rw (eq-eqb c b (same_Some c b e)) refl
+after-last b (c ∷ x ∷ xs) d e =
+    let other : c ≢ b = λ same. distinct_head c (x ∷ xs) d
+    (subst (Contains (x ∷ xs)) (sym same) (last_in (x ∷ xs) b e)) in
+    rw (ne_eqb c b other) (after-last b (x ∷ xs) (distinct_tail c (x ∷ xs) d) e)
+
 -- a bucket that is alone has none before it
 pub before-alone : (b : ℕ) (order : List ℕ) → AllPairs ◌≢◌ order → Contains order b
     → first_bucket (without_bucket b order) ≡ None → bucket_before b order ≡ None

@@ -55,26 +55,27 @@ pub(crate) fn link_newest<K, V, N: LinkType>(
     *newest = link;
 }
 
-// Puts a bucket whose entry came with the links of a newest one in front of the chain, or makes it the only one.
+// Puts a bucket whose entry came with the links of a newest one in front of the chain that begins with `first`, or
+// makes it the only one. It answers the link to it, with which the chain begins then.
 pub(crate) fn link_placed<K, V, N: LinkType>(
     table: &mut Table<Entry<K, V, N>>,
-    newest: &mut N,
+    first: N,
     oldest: &mut N,
     b: usize,
-)
+) -> N
     requires full { IsFull table.old.slots b }
     requires newer { newer_at table.old.slots b ≡ Some N.MAX }
-    requires older { older_at table.old.slots b ≡ Some newest.old }
-    requires chained { OutOfChain N.number N.link N.MAX table.old.slots newest.old oldest.old b }
+    requires older { older_at table.old.slots b ≡ Some first }
+    requires chained { OutOfChain N.number N.link N.MAX table.old.slots first oldest.old b }
     ensures pairs { pair_slots table.new.slots ≡ pair_slots table.old.slots }
     ensures placings { table.new.placings ≡ table.old.placings }
-    ensures chain { (order : List ℕ) → IsChain N.number N.link N.MAX table.old.slots newest.old oldest.old order
+    ensures chain { (order : List ℕ) → IsChain N.number N.link N.MAX table.old.slots first oldest.old order
         → (Contains order b → ⊥) →
-        IsChain N.number N.link N.MAX table.new.slots newest.new oldest.new (b ∷ order) }
+        IsChain N.number N.link N.MAX table.new.slots result oldest.new (b ∷ order) }
 {
     let link = N::from_usize(b);
-    set_newer(table, oldest, *newest, link);
-    *newest = link;
+    set_newer(table, oldest, first, link);
+    link
 }
 
 // Sets the newer link of the entry at a link, or the oldest end, where the link is `MAX`.

@@ -1,51 +1,31 @@
-use Rattle.std.proofs.Common.{◌≡◌, ℕ, ◌+◌, ◌-◌, ◌*◌, ◌%◌, ◌<◌, max, List, length, set, inr, ap, sym, ◌∙◌, arith}
-use Rattle.std.proofs.Common.{length-set}
-use Rattle.std.proofs.Math.Nat.{add-mul-mod_self_left, mod-eq_of_lt}
-use Rattle.std.proofs.lemmas.List.{set-set, set_past}
-use native.Mathlib.Decide.{dec_lt}
+use Rattle.std.proofs.Common.{◌≡◌, ◌<◌, length, length-set, refl, inr, ap, sym, ◌∙◌, arith}
+use Rattle.std.proofs.lemmas.List.{with_items_is}
 use Rattle.group_table.specs.Control.{buckets_of}
 use Rattle.group_table.proofs.ControlLemmas.{circle_of, IsCircle-set}
 use Rattle.group_table.proofs.control.Control.set.Goals as goal
 
--- the place of the repetition, or that of the byte itself, which is written again
-written_again : (control : List ℕ) (n b byte : ℕ) → length control ≡ n + 16 → b < n
-    → set (set control b byte) ((b + (n - 16)) % n + 16) byte ≡ set (set control b byte) (b + max 16 n) byte
-written_again control n b byte long bound = elim (dec_lt (b + (n - 16)) n) [
-  | yes p ↦ let e : b + (n - 16) + 16 ≡ b + max 16 n = omega arith in
-      ap (λ k. set (set control b byte) (k + 16) byte) (mod-eq_of_lt p) ∙ ap (λ k. set (set control b byte) k byte) e
-  | no p ↦
-      let round : b + (n - 16) ≡ b - 16 + n * 1 = omega arith in
-      let same : (b + (n - 16)) % n + 16 ≡ b =
-      ap (λ k. k % n + 16) round ∙ ap (λ k. k + 16)
-      (add-mul-mod_self_left (b - 16) n 1 ∙ mod-eq_of_lt (omega arith)) ∙ omega arith in
-      let past : length (set control b byte) ≡ n + 16 = length-set control b byte ∙ long in
-      ap (λ k. set (set control b byte) k byte) same ∙ set-set control b byte byte
-      ∙ sym (set_past (set control b byte) (b + max 16 n) byte (omega (arith, past)))
-]
+pub set_both-requires-clause-circle : goal.set_both-requires-clause-circle
+set_both-requires-clause-circle c =
+    let within : c.args.b < buckets_of c.self.inside.bytes.items = rw (sym c.self.view_is) at c.requires in
+    rw c.as_mut_slice.ensures.value (circle_of c.self.inside.bytes.items c.self.invariant (omega (arith, within)))
 
--- the same at the places that the code has
-written_at : (control : List ℕ) (m b place byte : ℕ) → m ≡ buckets_of control
-    → length control ≡ buckets_of control + 16 → b < buckets_of control → place ≡ (b + (m - 16)) % m
-    → set (set control b byte) (place + 16) byte ≡ set (set control b byte) (b + max 16 (buckets_of control)) byte
-written_at control m b place byte is long within there =
-    let at : place ≡ (b + (buckets_of control - 16)) % buckets_of control = there ∙ ap (λ k. (b + (k - 16)) % k) is in
-    ap (λ k. set (set control b byte) (k + 16) byte) at ∙ written_again control (buckets_of control) b byte long within
+pub set_both-requires-clause-within : goal.set_both-requires-clause-within
+set_both-requires-clause-within c = rw (c.as_mut_slice.ensures.value, c.self.view_is) c.requires
 
 pub invariant_of-self : goal.invariant_of-self
 invariant_of-self c =
     let bytes = c.self.inside.bytes.items in
     let within : c.args.b < buckets_of bytes = rw (sym c.self.view_is) at c.requires in
     let circle = circle_of bytes c.self.invariant (omega (arith, within)) in
-    let n : c.len-buckets.result - 16 ≡ buckets_of bytes = omega arith in
-    rw (written_at bytes _ _ c.sixteen_before.result c.args.byte n circle.long within
-    c.sixteen_before.ensures.value) (inr (IsCircle-set bytes c.args.b c.args.byte circle within))
+    let same : length c.set_both.new.bytes ≡ c.self.inside.bytes.len =
+    ap length c.set_both.ensures ∙ length-set _ _ _ ∙ length-set _ _ _ ∙ c.as_mut_slice.ensures.len in
+    rw (with_items_is c.self.inside.bytes c.set_both.new.bytes same, c.set_both.ensures, c.as_mut_slice.ensures.value)
+    (inr (IsCircle-set bytes c.args.b c.args.byte circle within))
 
 pub returns : goal.returns
 returns c =
     let bytes = c.self.inside.bytes.items in
-    let within : c.args.b < buckets_of bytes = rw (sym c.self.view_is) at c.requires in
-    let circle = circle_of bytes c.self.invariant (omega (arith, within)) in
-    let n : c.len-buckets.result - 16 ≡ buckets_of bytes = omega arith in
-    rw (← c.self.view_is)
-    (written_at bytes _ _ c.sixteen_before.result c.args.byte n circle.long within
-    c.sixteen_before.ensures.value)
+    let same : length c.set_both.new.bytes ≡ c.self.inside.bytes.len =
+    ap length c.set_both.ensures ∙ length-set _ _ _ ∙ length-set _ _ _ ∙ c.as_mut_slice.ensures.len in
+    rw (with_items_is c.self.inside.bytes c.set_both.new.bytes same, c.set_both.ensures, c.as_mut_slice.ensures.value)
+    (rw c.self.view_is refl)

@@ -1,6 +1,7 @@
-use Rattle.std.proofs.Common.{◌+◌, ◌<◌, length, arith, sym, ap, ◌∙◌, inr, Some}
+use Rattle.std.proofs.Common.{◌≡◌, ◌+◌, ◌<◌, length, arith, sym, ap, ◌∙◌, inr, Some}
 use Rattle.std.proofs.lemmas.List.Sums.{count_by-le-length}
 use Rattle.std.proofs.lemmas.Bool.{eqb-false}
+use Rattle.group_table.specs.Sizes.{full_capacity}
 use Rattle.group_table.specs.Bucket.{is_full, mark_of}
 use Rattle.group_table.specs.Probe.{hash_tag}
 use Rattle.group_table.specs.Layout.{slots_of}
@@ -8,20 +9,35 @@ use Rattle.group_table.proofs.BucketLemmas.{bucket_at-marks_of}
 use Rattle.group_table.proofs.LayoutLemmas.{length-laid_out, entries_within}
 use Rattle.group_table.proofs.TableLemmas.{IsTable-by, room_by}
 use Rattle.group_table.proofs.WriteLemmas.{slots_of-written}
-use Rattle.group_table.proofs.PlaceLemmas.{some_free_byte, place_first, place_within, no_place_left, place_none}
+use Rattle.group_table.proofs.PlaceLemmas.{some_free_byte, place_first, place_within, no_place_left, place_none, place_byte}
 use Rattle.group_table.proofs.PlaceLemmas.{place_spends, MayFill-from, IsValid-placed, entry_count-placed, room-placed}
 use Rattle.group_table.proofs.ControlLemmas.{buckets_are}
 use Rattle.group_table.proofs.FitsLemmas.{Fits-placed}
 use Rattle.group_table.proofs.table.Table.try_place.Goals as goal
 
-pub returns-then-is_empty-clause-table : goal.returns-then-is_empty-clause-table
-returns-then-is_empty-clause-table g c = rw (← c.self.view_is) (IsTable-by _ _ _ c.self.invariant.0)
+pub returns-then-is_without_buckets-clause-table : goal.returns-then-is_without_buckets-clause-table
+returns-then-is_without_buckets-clause-table g c = rw (← c.self.view_is) (IsTable-by _ _ _ c.self.invariant.0)
+
+pub is_without_buckets-requires : goal.is_without_buckets-requires
+unfolding full_capacity
+is_without_buckets-requires g c none =
+    let full : full_capacity (length c.self.inside.entries) ≡ 0 = ap full_capacity none in
+    omega (arith, c.self.invariant.0.room_left, full)
+
+pub room_taken-spent-requires : goal.room_taken-spent-requires
+room_taken-spent-requires g c =
+    let valid = c.self.invariant.0 in
+    let first = c.first_free-b.ensures in
+    let are = buckets_are _ _ valid.laid_out in
+    let some : 0 < length c.self.inside.entries =
+    omega (arith, eqb-false _ _ (sym c.is_without_buckets.ensures ∙ c.if-is_without_buckets.false)) in
+    rw c.byte.ensures (place_byte _ _ _ valid c.args.hash c.first_free-b.result _ are (omega (arith, some, are)) first)
 
 pub first_free-b-requires : goal.first_free-b-requires
 first_free-b-requires g c =
     let valid = c.self.invariant.0 in
     let some : 0 < length c.self.inside.entries =
-    omega (arith, eqb-false _ _ (sym c.is_empty.ensures ∙ c.if-is_empty.false)) in
+    omega (arith, eqb-false _ _ (sym c.is_without_buckets.ensures ∙ c.if-is_without_buckets.false)) in
     let w = some_free_byte _ _ _ valid some in
     (w.0, omega (arith, w.1, buckets_are _ _ valid.laid_out), w.2)
 
@@ -34,9 +50,9 @@ returns-then-self-spent-clause-no_place g c =
     let first = c.first_free-b.ensures in
     let are = buckets_are _ _ valid.laid_out in
     let some : 0 < length c.self.inside.entries =
-    omega (arith, eqb-false _ _ (sym c.is_empty.ensures ∙ c.if-is_empty.false)) in
+    omega (arith, eqb-false _ _ (sym c.is_without_buckets.ensures ∙ c.if-is_without_buckets.false)) in
     let none = no_place_left _ _ _ valid c.args.hash c.first_free-b.result _ are
-    (omega (arith, some, are)) first _ c.byte.ensures (omega arith) in
+    (omega (arith, some, are)) first _ c.byte.ensures _ c.room_taken-spent.ensures (omega arith) in
     rw (← c.self.view_is) (inr (
       sym (room_by _ _ _ valid) ∙ none.0,
       c.first_free-b.result,
@@ -50,7 +66,7 @@ fill_bucket-requires-clause-free_there g c =
     let first = c.first_free-b.ensures in
     let are = buckets_are _ _ valid.laid_out in
     let some : 0 < length c.self.inside.entries =
-    omega (arith, eqb-false _ _ (sym c.is_empty.ensures ∙ c.if-is_empty.false)) in
+    omega (arith, eqb-false _ _ (sym c.is_without_buckets.ensures ∙ c.if-is_without_buckets.false)) in
     place_none _ _ _ valid c.args.hash c.first_free-b.result _ are (omega (arith, some, are)) first
 
 pub overflow_add-self : goal.overflow_add-self
@@ -71,10 +87,10 @@ invariant_of-self g c =
     let first = c.first_free-b.ensures in
     let are = buckets_are _ _ valid.laid_out in
     let some : 0 < length c.self.inside.entries =
-    omega (arith, eqb-false _ _ (sym c.is_empty.ensures ∙ c.if-is_empty.false)) in
+    omega (arith, eqb-false _ _ (sym c.is_without_buckets.ensures ∙ c.if-is_without_buckets.false)) in
     let within = place_within _ _ _ valid c.args.hash c.first_free-b.result _ are (omega (arith, some, are)) first in
     let spends = place_spends _ _ _ valid c.args.hash c.first_free-b.result _ are
-    (omega (arith, some, are)) first _ c.byte.ensures (omega arith) in
+    (omega (arith, some, are)) first _ c.byte.ensures _ c.room_taken-spent.ensures (omega arith) in
     let counted = entry_count-placed valid c.first_free-b.result spends c.tag_of.result c.args.entry within
     c.tag_of.ensures.tag in
     rw (c.fill_bucket.ensures.control, c.fill_bucket.ensures.entries) (
@@ -89,7 +105,7 @@ returns-clause-placed g c =
     let first = c.first_free-b.ensures in
     let are = buckets_are _ _ valid.laid_out in
     let some : 0 < length c.self.inside.entries =
-    omega (arith, eqb-false _ _ (sym c.is_empty.ensures ∙ c.if-is_empty.false)) in
+    omega (arith, eqb-false _ _ (sym c.is_without_buckets.ensures ∙ c.if-is_without_buckets.false)) in
     rw (← c.self.view_is) record {
       first = place_first _ _ _ valid c.args.hash c.first_free-b.result _ are (omega (arith, some, are)) first;
       slots = rw (c.fill_bucket.ensures.control, c.fill_bucket.ensures.entries, c.tag_of.ensures.value)
@@ -103,10 +119,10 @@ returns-clause-may_fill g c =
     let first = c.first_free-b.ensures in
     let are = buckets_are _ _ valid.laid_out in
     let some : 0 < length c.self.inside.entries =
-    omega (arith, eqb-false _ _ (sym c.is_empty.ensures ∙ c.if-is_empty.false)) in
+    omega (arith, eqb-false _ _ (sym c.is_without_buckets.ensures ∙ c.if-is_without_buckets.false)) in
     rw (← c.self.view_is) (MayFill-from valid c.first_free-b.result
-    (place_spends _ _ _ valid c.args.hash c.first_free-b.result _ are (omega (arith, some, are)) first _ c.byte.ensures
-    (omega arith)))
+    (place_spends _ _ _ valid c.args.hash c.first_free-b.result _ are (omega (arith, some, are)) first _ c.byte.ensures _
+    c.room_taken-spent.ensures (omega arith)))
 
 pub returns-clause-fits : goal.returns-clause-fits
 returns-clause-fits g c hash_of fits =
@@ -114,7 +130,7 @@ returns-clause-fits g c hash_of fits =
     let first = c.first_free-b.ensures in
     let are = buckets_are _ _ valid.laid_out in
     let some : 0 < length c.self.inside.entries =
-    omega (arith, eqb-false _ _ (sym c.is_empty.ensures ∙ c.if-is_empty.false)) in
+    omega (arith, eqb-false _ _ (sym c.is_without_buckets.ensures ∙ c.if-is_without_buckets.false)) in
     let within = place_within _ _ _ valid c.args.hash c.first_free-b.result _ are (omega (arith, some, are)) first in
     let in_slots : c.first_free-b.result < length (slots_of c.self.inside.control c.self.inside.entries) =
     omega (arith, within, length-laid_out _ _ valid.laid_out) in
@@ -135,10 +151,10 @@ returns-clause-table g c =
     let first = c.first_free-b.ensures in
     let are = buckets_are _ _ valid.laid_out in
     let some : 0 < length c.self.inside.entries =
-    omega (arith, eqb-false _ _ (sym c.is_empty.ensures ∙ c.if-is_empty.false)) in
+    omega (arith, eqb-false _ _ (sym c.is_without_buckets.ensures ∙ c.if-is_without_buckets.false)) in
     let within = place_within _ _ _ valid c.args.hash c.first_free-b.result _ are (omega (arith, some, are)) first in
     let spends = place_spends _ _ _ valid c.args.hash c.first_free-b.result _ are
-    (omega (arith, some, are)) first _ c.byte.ensures (omega arith) in
+    (omega (arith, some, are)) first _ c.byte.ensures _ c.room_taken-spent.ensures (omega arith) in
     rw (c.fill_bucket.ensures.control, c.fill_bucket.ensures.entries)
     (IsTable-by _ _ _
     (IsValid-placed valid c.first_free-b.result spends c.tag_of.result c.args.entry within c.tag_of.ensures.tag))
@@ -149,9 +165,9 @@ returns-clause-room g c =
     let first = c.first_free-b.ensures in
     let are = buckets_are _ _ valid.laid_out in
     let some : 0 < length c.self.inside.entries =
-    omega (arith, eqb-false _ _ (sym c.is_empty.ensures ∙ c.if-is_empty.false)) in
+    omega (arith, eqb-false _ _ (sym c.is_without_buckets.ensures ∙ c.if-is_without_buckets.false)) in
     let within = place_within _ _ _ valid c.args.hash c.first_free-b.result _ are (omega (arith, some, are)) first in
     let spends = place_spends _ _ _ valid c.args.hash c.first_free-b.result _ are
-    (omega (arith, some, are)) first _ c.byte.ensures (omega arith) in
+    (omega (arith, some, are)) first _ c.byte.ensures _ c.room_taken-spent.ensures (omega arith) in
     rw (← c.self.view_is, c.fill_bucket.ensures.control, c.fill_bucket.ensures.entries)
     (room-placed valid c.first_free-b.result spends c.tag_of.result c.args.entry within c.tag_of.ensures.tag)
