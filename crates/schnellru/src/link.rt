@@ -132,12 +132,7 @@ impl<K, V, N: LinkType> Linked<K, V, N> {
         requires { 0 < length self.now.order }
         ensures oldest { last_bucket self.now.order ≡ Some result }
     {
-        let b = self.oldest.into_usize();
-        // Nothing at run time: the compiler learns that none is older, and does not ask when the bucket is unlinked.
-        if self.table.get(b).older != N::MAX {
-            nowhere!();
-        }
-        b
+        self.oldest.into_usize()
     }
 
     // The same, if there is one.
@@ -252,7 +247,8 @@ impl<K: Drop, V: Drop, N: LinkType> Linked<K, V, N> {
         };
         match self.table.try_place(hash, entry) {
             Ok(b) => {
-                self.newest = link_placed(&mut self.table, first, &mut self.oldest, b);
+                let link = link_placed(&mut self.table, first, &mut self.oldest, b);
+                self.newest = link;
                 Ok(())
             }
             Err(entry) => Err((entry.pair.key, entry.pair.value)),
