@@ -4,6 +4,7 @@ pub mod Evictions
 pub mod Promotions
 pub mod Fields
 pub mod NotedStates
+pub mod Trimmed
 pub mod HeldMaps
 pub mod Reservations
 pub mod ClearedMaps

@@ -176,6 +176,15 @@ module _ {K V S H : Type 0} (rules : Rules K V S) (R : Contents K V S → Conten
   place_tables outcome new p = let m = place_lands outcome new p in
       lands_tables rules P pair old outcome m.mid new m.calm m.lands
 
+-- where the pair is placed, there are pairs
+pub placed_some : {K V S H : Type 0} (rules : Rules K V S) (hash_of : H → K → ℕ) (pair : K × V) (old new : State K V S H)
+    → Place rules hash_of pair old placed new → 0 < length new.pairs
+placed_some rules hash_of pair old new p =
+    let any : KeepsWay rules (λ _ _. Unit {0}) =
+    record { self = λ _. tt; trans = λ _ _. tt; asked = λ _ _. tt; popped = λ _. tt } in
+    let lands = place_lands rules _ any (λ _. Unit {0}) hash_of pair old tt placed new p in
+    omega (arith, ap (λ st. length st.pairs) lands.lands.is.state)
+
 module _ {K V S Q : Type 0} (rules : Rules K V S) (names : Q → K → Bool) (R : Contents K V S → Contents K V S → Type 0)
     (k : Keeps rules names R) where
   place_keeps : {H : Type 0} (hash_of : H → K → ℕ) (pair : K × V) (old : State K V S H) (outcome : Outcome)

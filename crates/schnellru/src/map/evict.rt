@@ -1,9 +1,9 @@
 //! Eviction: the oldest pairs leave.
-ghost use Rattle.std.specs.Prelude.{◌≡◌, ℕ, ◌+◌, ◌/◌, ◌<◌, length, None, Some};
+ghost use Rattle.std.specs.Prelude.{◌≡◌, ℕ, ◌+◌, ◌/◌, ◌<◌, not, length, None, Some};
 ghost use Rattle.group_table.specs.Sizes.{full_capacity};
 ghost use Rattle.group_table.specs.Change.{HasNoPlace};
 ghost use Rattle.lru_limits.specs.Hashing.{hash_by};
-ghost use Rattle.schnellru.specs.Lists.{lookup_entry};
+ghost use Rattle.schnellru.specs.Lists.{lookup_entry, is_empty};
 ghost use Rattle.schnellru.specs.State.{buckets, contents, trim, Leaves};
 ghost use Rattle.schnellru.specs.Place.{Evicts, LacksRoom, outcome_of};
 ghost use Rattle.schnellru.specs.Calls.{PopOldest};
@@ -45,17 +45,25 @@ impl<K: Eq + Hash + Drop, V: Drop, L: Limiter<K, V>, S: BuildHasher> LruMap<K, V
         }
     }
 
-    // Hands over the oldest pairs while the limiter is over.
+    // Hands over the oldest pairs while the limiter is over, of a map with pairs. The answer is whether some are left.
     #[inline]
-    pub(super) fn trim<F: FnMut(K, V)>(&mut self, sink: &mut F)
+    pub(super) fn trim<F: FnMut(K, V)>(&mut self, sink: &mut F) -> bool
+        requires some { 0 < length self.old.pairs }
         requires callable { F.IsAlwaysCallable sink.old }
+        ensures left { result ≡ not (is_empty self.new.pairs) }
         ensures handed { Hands F.FnMut sink.old sink.new (λ before after. Leaves (noted before self.old)
             (trim (noting L.rules) (contents (noted before self.old))) (noted after self.new)) }
         ensures callable { F.IsAlwaysCallable sink.new }
     {
-        while !self.is_empty() && self.limiter.is_over_the_limit(self.entries.len()) {
+        'evictions: loop {
+            if !self.limiter.is_over_the_limit(self.entries.len()) {
+                return true;
+            }
             let (key, value) = self.take_oldest();
             sink(key, value);
+            if self.is_empty() {
+                return false;
+            }
         }
     }
 

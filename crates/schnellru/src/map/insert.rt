@@ -135,8 +135,7 @@ impl<K: Eq + Hash + Drop, V: Drop, L: Limiter<K, V>, S: BuildHasher> LruMap<K, V
                 if !replace(&mut self.entries, &mut self.limiter, b, key, value, sink) {
                     return Ok(false);
                 }
-                self.trim(sink);
-                Ok(!self.is_empty())
+                Ok(self.trim(sink))
             }
             None => self.insert_new(hash, key, value, sink),
         }

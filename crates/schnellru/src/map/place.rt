@@ -43,10 +43,7 @@ impl<K: Eq + Hash + Drop, V: Drop, L: Limiter<K, V>, S: BuildHasher> LruMap<K, V
             return self.place_late(hash, pair, sink);
         }
         match self.place_in_bucket(hash, pair) {
-            Ok(()) => {
-                self.trim(sink);
-                Ok(!self.is_empty())
-            }
+            Ok(()) => Ok(self.trim(sink)),
             Err(pair) => self.place_late(hash, pair, sink),
         }
     }
@@ -91,8 +88,7 @@ impl<K: Eq + Hash + Drop, V: Drop, L: Limiter<K, V>, S: BuildHasher> LruMap<K, V
         if !self.place_without_room(hash, pair, sink)? {
             return Ok(false);
         }
-        self.trim(sink);
-        Ok(!self.is_empty())
+        Ok(self.trim(sink))
     }
 
     // Places such a pair. The answer is whether it is placed.

@@ -1,4 +1,4 @@
-use Rattle.std.proofs.Common.{◌≡◌, ℕ, true, false, not, Ok, [], ◌∷◌, ◌++◌, length, refl, ap, sym, ◌∙◌, subst}
+use Rattle.std.proofs.Common.{◌≡◌, ℕ, true, false, Ok, [], ◌∷◌, ◌++◌, length, refl, ap, sym, ◌∙◌, subst, arith}
 use Rattle.std.specs.Prelude.{fold}
 use Rattle.lru_limits.specs.Hashing.{hash_by, hash_by-named}
 use Rattle.schnellru.proofs.Maps.Fields.{beside}
@@ -68,6 +68,15 @@ invariant_of-self-in-Some g c =
     (one was.0 by.key found.2 ∙ g.met.L.Insertion.laws.keeps_key m.limiter
     (length t.order) was.0 c.args.key was.1 c.args.value found.2) holds fits
 
+pub trim-requires-clause-some : goal.trim-requires-clause-some
+trim-requires-clause-some g c =
+    let was = c.in-Some.ensures.found in
+    omega (
+      arith,
+      pairs-length c.replace.new.entries c.replace.ensures.linked,
+      ap length (c.replace.ensures.replaced c.if-not-replace.false was.0 was.1).order,
+    )
+
 pub returns-then-not-replace-clause-handed : goal.returns-then-not-replace-clause-handed
 returns-then-not-replace-clause-handed g c =
     let m = c.self.inside in
@@ -125,7 +134,7 @@ returns-else-not-replace-clause-handed g c =
     (subst (λ s. Takes g.F.FnMut first before s) (sym (c.replace.ensures.kept c.if-not-replace.false)) taken) in (
       after,
       had,
-      rw (← c.self.view_is) (replaced was there taken_it (ap (λ y. Ok (not y)) c.is_empty.ensures)
+      rw (← c.self.view_is) (replaced was there taken_it (ap Ok c.trim.ensures.left)
           (leaves_trimmed (noting rules) (noted before old) (noted before mid) (noted after c.trim.new.self) _ leaves
           trimmed)),
     )

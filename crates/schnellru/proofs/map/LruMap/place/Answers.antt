@@ -1,4 +1,4 @@
-use Rattle.std.proofs.Common.{◌≡◌, ◌<◌, ◌⊎◌, inl, inr, length, ap, sym, subst, arith, Ok, not}
+use Rattle.std.proofs.Common.{◌≡◌, ◌<◌, ◌⊎◌, inl, inr, length, ap, sym, subst, arith, Ok}
 use Rattle.group_table.specs.Bucket.{empty, marks_of, room as room_of}
 use Rattle.schnellru.specs.State.{IsSized, FirstFreeIs, buckets, room}
 use Rattle.schnellru.specs.HandedOver.{noting, noted}
@@ -22,6 +22,9 @@ place_late-requires-in-Err-clause-empty g c = subst (λ st. 0 < length st.pairs
     (no_place_empty c.args.self.now
     (subst IsSized c.self.view_is c.self.invariant.map.sized) c.args.hash c.in-Err.ensures.no_place)
 
+pub trim-requires-clause-some : goal.trim-requires-clause-some
+trim-requires-clause-some g c = omega (arith, ap (λ st. length st.pairs) c.in-Ok.ensures.placed.state)
+
 pub returns-in-Ok-clause-handed : goal.returns-in-Ok-clause-handed
 returns-in-Ok-clause-handed g c =
     let m = c.self.inside in let t = m.entries in let step = c.in-Ok.ensures in let old = c.args.self.now in
@@ -44,7 +47,7 @@ returns-in-Ok-clause-handed g c =
         bucket_place (noting g.L.Limiter.rules) _ c.args.pair (noted before old) (noted before new)
             (noted_sized before old sized) either
             (noted_placed before c.args.pair (buckets old) (room new) 0 old new step.placed) fills,
-        (ap (λ b. Ok (not b)) c.is_empty.ensures, trimmed),
+        (ap Ok c.trim.ensures.left, trimmed),
       ),
     )
 

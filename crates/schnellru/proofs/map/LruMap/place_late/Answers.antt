@@ -1,6 +1,7 @@
-use Rattle.std.proofs.Common.{Ok, not, refl, ap}
+use Rattle.std.proofs.Common.{[], Ok, refl, ap}
 use Rattle.schnellru.specs.Place.{placed, refused, no_memory}
-use Rattle.schnellru.specs.HandedOver.{noted}
+use Rattle.schnellru.specs.HandedOver.{noting, noted}
+use Rattle.schnellru.proofs.Theorems.Ways.{placed_some}
 use Rattle.schnellru.proofs.map.LruMap.place_late.Goals as goal
 
 pub returns-in_err-place_without_room-clause-handed : goal.returns-in_err-place_without_room-clause-handed
@@ -23,6 +24,12 @@ returns-then-not-branch-clause-handed g c =
       ),
     )
 
+pub trim-requires-clause-some : goal.trim-requires-clause-some
+trim-requires-clause-some g c =
+    let (list, _, step) = c.in_ok-place_without_room.ensures.handed c.args.sink.now [] refl in
+    placed_some (noting g.L.Limiter.rules) _ c.args.pair (noted [] c.args.self.now)
+    (noted list c.place_without_room.new.self) (rw c.if-not-branch.false at step)
+
 pub returns-clause-handed : goal.returns-clause-handed
 returns-clause-handed g c =
     λ first before taken.
@@ -34,6 +41,6 @@ returns-clause-handed g c =
         placed,
         noted landed c.place_without_room.new.self,
         rw c.if-not-branch.false at step,
-        (ap (λ b. Ok (not b)) c.is_empty.ensures, trimmed),
+        (ap Ok c.trim.ensures.left, trimmed),
       ),
     )
