@@ -9,8 +9,8 @@ use Rattle.schnellru.specs.Inside.Handing.{Hands}
 use Rattle.schnellru.proofs.Maps.LeavingPairs.{leaves_trans, trim-over}
 use Rattle.schnellru.proofs.Maps.NotedStates.{takes_more, noted_pop}
 
-module _ {K V S H F : Type 0} (rules : Rules K V S) (closure : Mut F (K × (V × Unit {0})) (Unit {0})) (old : State K V S H)
-    (sink : F) where
+module _ {K V S H F : Type 0} (rules : Rules K V S) (closure : Mut F (K × (V × Unit {0})) (Unit {0}))
+    (old : State K V S H) (sink : F) where
   -- what left was handed over, and as much as was to leave of the old map is still to leave
   abbrev pub IsTrimmedTo : State K V S H → F → Type 0
   IsTrimmedTo st f = Hands closure sink f (λ before after.

@@ -134,7 +134,8 @@ module _ {K V S H : Type 0} (rules : Rules K V S) (R : Contents K V S → Conten
   place_lands outcome new (empty_without_room e b r o n) = fills outcome new _ o n (λ ok. omega arith)
   place_lands outcome new (with_room e r s o n) = fills outcome new _ o n (λ ok. omega (arith, s))
   place_lands outcome new (deleted_bucket f i b l o n) = fills outcome new _ o n (λ ok. omega (arith, f.1))
-  place_lands outcome new (rehashed f i l m) = if_memory old _ _ _ outcome new m self (self_calm old) (inl (omega arith))
+  place_lands outcome new (rehashed f i l m) =
+      if_memory old _ _ _ outcome new m self (self_calm old) (inl (omega arith))
       (λ ok. omega (arith, f.1, ok.fits)) same_little
   place_lands outcome new (grown f i l count bytes t g m) = if_memory (asked rules bytes old) count _ _ outcome new m
       (k.asked bytes (contents old)) (limiter_calm old _)
@@ -177,8 +178,8 @@ module _ {K V S H : Type 0} (rules : Rules K V S) (R : Contents K V S → Conten
       lands_tables rules P pair old outcome m.mid new m.calm m.lands
 
 -- where the pair is placed, there are pairs
-pub placed_some : {K V S H : Type 0} (rules : Rules K V S) (hash_of : H → K → ℕ) (pair : K × V) (old new : State K V S H)
-    → Place rules hash_of pair old placed new → 0 < length new.pairs
+pub placed_some : {K V S H : Type 0} (rules : Rules K V S) (hash_of : H → K → ℕ) (pair : K × V)
+    (old new : State K V S H) → Place rules hash_of pair old placed new → 0 < length new.pairs
 placed_some rules hash_of pair old new p =
     let any : KeepsWay rules (λ _ _. Unit {0}) =
     record { self = λ _. tt; trans = λ _ _. tt; asked = λ _ _. tt; popped = λ _. tt } in

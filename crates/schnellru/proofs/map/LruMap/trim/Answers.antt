@@ -33,8 +33,8 @@ evictions-preserved g c =
       some = some-length u.pairs (sym c.is_empty.ensures ∙ c.if-is_empty.false);
       callable = mut_next g.F.FnMut c.evictions.sink (pair.0, (pair.1, tt)) tt c.sink.new.self c.sink.new.self
           c.sink.ensures refl i.callable;
-      handed = trims_more rules g.F.FnMut c.args.self.now c.args.sink.now st u c.evictions.sink c.sink.new.self pair i.some
-          over c.take_oldest-key.ensures c.sink.ensures i.handed;
+      handed = trims_more rules g.F.FnMut c.args.self.now c.args.sink.now st u c.evictions.sink c.sink.new.self pair
+          i.some over c.take_oldest-key.ensures c.sink.ensures i.handed;
     }
 
 pub returns-then-not-is_over_the_limit-clause-handed : goal.returns-then-not-is_over_the_limit-clause-handed
