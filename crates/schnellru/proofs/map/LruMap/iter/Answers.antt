@@ -1,13 +1,14 @@
-use Rattle.std.specs.Map.Iter.{deref_pair}
-use Rattle.std_collections.proofs.IterRuns.{shows_in_order, shows_in_reverse}
+use Rattle.std.proofs.Common.{ap, length}
+use Rattle.std.proofs.iter.runs.Sources.{from_front, from_back}
+use Rattle.std.specs.Map.Iter.{deref_pair, TakesFirst, TakesLast}
 use Rattle.schnellru.proofs.LinkedTables.WalkRests.{rest-whole}
 use Rattle.schnellru.proofs.map.LruMap.iter.Goals as goal
 
 pub returns-clause-runs : goal.returns-clause-runs
-returns-clause-runs g c = shows_in_order deref_pair
+returns-clause-runs g c = from_front (TakesFirst deref_pair) deref_pair (λ s. s) (λ s t h. ap length h.0) (λ s x t h. h)
 
 pub returns-clause-runs_back : goal.returns-clause-runs_back
-returns-clause-runs_back g c = shows_in_reverse deref_pair
+returns-clause-runs_back g c = from_back (TakesLast deref_pair) deref_pair (λ s. s) (λ s t h. ap length h.0) (λ s x t h. h)
 
 pub invariant_of-result : goal.invariant_of-result
 invariant_of-result g c =
