@@ -1,12 +1,20 @@
 #!/usr/bin/env bash
-# Times the program on a million lines, on maps of 3, 100 and 100,000 pairs, on one line of 100 MB, and on lists and
-# drains of 100,000 pairs.
-# It builds the program first, which proves it.
+# Times the program on a million lines, on maps of 3, 100 and 100,000 pairs, on lines of all kinds, on one line of
+# 100 MB, and on lists and drains of 100,000 pairs: the best of three runs.
+# It builds the program first, which proves it. With the folder of a checkout of schnellru it times the program of
+# compare/ over that crate beside it, which cargo builds there, and compares the answers.
 set -euo pipefail
+checkout=${1:+$(realpath "$1")}
 cd "$(dirname "$0")/../crates/replay"
-input=$(mktemp)
-trap 'rm -f "$input"' EXIT
-rt run <stdin >"$input" 2>&1 || { cat "$input"; exit 1; }
+work=$(mktemp -d)
+trap 'rm -rf "$work"' EXIT
+rt run <stdin >"$work/log" 2>&1 || { cat "$work/log"; exit 1; }
+if [ -n "$checkout" ]; then
+    (cd "$checkout" && RUSTFLAGS="-C target-cpu=x86-64-v2" cargo build --release --lib) >"$work/log" 2>&1 ||
+        { cat "$work/log"; exit 1; }
+    rustc --edition 2024 -C opt-level=3 -C target-cpu=x86-64-v2 ../../compare/rust/main.rs -o "$work/crate" \
+        --extern "schnellru=$checkout/target/release/libschnellru.rlib" -L "dependency=$checkout/target/release/deps"
+fi
 
 lines() { # the greatest length, and how many keys
     awk -v most="$1" -v keys="$2" 'BEGIN {
@@ -15,6 +23,27 @@ lines() { # the greatest length, and how many keys
             r = rand(); k = int(rand() * keys)
             if (r < 0.5) print "insert " k " " i; else if (r < 0.8) print "get " k; else print "peek " k
         }
+    }'
+}
+
+all_kinds() { # each line but `put` and `shrink`, which the crate has not
+    awk 'BEGIN {
+        srand(2); print "length 1000"
+        for (i = 0; i < 1000000; i++) {
+            r = rand(); k = int(rand() * 1500)
+            if (r < 0.4) print "insert " k " " i
+            else if (r < 0.6) print "get " k
+            else if (r < 0.7) print "peek " k
+            else if (r < 0.8) print "remove " k
+            else if (r < 0.87) print "pop-oldest"
+            else if (r < 0.93) print "pop-newest"
+            else if (r < 0.96) print "reserve " k
+            else if (r < 0.9998) print "bad line"
+            else if (r < 0.9999) print "list"
+            else if (r < 0.99995) print "drain 500"
+            else print "clear"
+        }
+        print "stats"
     }'
 }
 
@@ -34,17 +63,31 @@ pairs() { # how often all are inserted, then the line that is given, and how oft
     }'
 }
 
-measure() { # a name, and the file of the input
-    local start end
-    start=$(date +%s%N)
-    out/replay <"$2" >/dev/null
-    end=$(date +%s%N)
-    printf '%-32s %5d ms\n' "$1" $(((end - start) / 1000000))
+best() { # a file for the answers, and a command: the milliseconds of the best of three runs
+    local answers=$1 start end least=
+    shift
+    for _ in 1 2 3; do
+        start=$(date +%s%N)
+        "$@" <"$work/input" >"$answers"
+        end=$(date +%s%N)
+        if [ -z "$least" ] || [ $((end - start)) -lt "$least" ]; then least=$((end - start)); fi
+    done
+    echo $((least / 1000000))
 }
 
-lines 3 6 >"$input" && measure "a million lines, 3 pairs" "$input"
-lines 100 150 >"$input" && measure "a million lines, 100 pairs" "$input"
-lines 100000 150000 >"$input" && measure "a million lines, 100,000 pairs" "$input"
-long_line >"$input" && measure "a line of 100 MB" "$input"
-pairs 1 list 20 >"$input" && measure "20 lists of 100,000 pairs" "$input"
-pairs 10 "drain 100000" 1 >"$input" && measure "10 drains of 100,000 pairs" "$input"
+measure() { # a name
+    printf '%-32s %5d ms' "$1" "$(best "$work/here" out/replay)"
+    if [ -n "$checkout" ]; then
+        printf ' %6d ms' "$(best "$work/there" "$work/crate" answers)"
+        cmp -s "$work/here" "$work/there" || printf '   other answers'
+    fi
+    echo
+}
+
+lines 3 6 >"$work/input" && measure "a million lines, 3 pairs"
+lines 100 150 >"$work/input" && measure "a million lines, 100 pairs"
+lines 100000 150000 >"$work/input" && measure "a million lines, 100,000 pairs"
+all_kinds >"$work/input" && measure "a million lines of all kinds"
+long_line >"$work/input" && measure "a line of 100 MB"
+pairs 1 list 20 >"$work/input" && measure "20 lists of 100,000 pairs"
+pairs 10 "drain 100000" 1 >"$work/input" && measure "10 drains of 100,000 pairs"

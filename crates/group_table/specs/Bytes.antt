@@ -1,4 +1,4 @@
--- The values of control bytes. No public clause cites this module.
+-- The values of control bytes. Of the public clauses, those of module `group` alone cite this module.
 use Rattle.std.specs.Prelude.{ℕ, ◌<◌, ◌≤◌}
 
 -- that of an empty bucket

@@ -1,4 +1,4 @@
--- Masks of the sixteen lanes of a group. No public clause cites this module.
+-- Masks of the sixteen lanes of a group. Of the public clauses, those of module `group` alone cite this module.
 use Rattle.std.specs.Prelude.{ℕ, ◌≡◌, ◌+◌, ◌-◌, ◌<◌, ◌≤◌, ◌↔◌, max, List, slice_index}
 use Rattle.group_table.specs.Bytes.{empty_byte}
 use Rattle.std.specs.Int.{w16, bit_at, trailing_zeros}

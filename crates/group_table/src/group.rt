@@ -6,6 +6,56 @@ ghost use Rattle.group_table.specs.Lanes.{IsMaskOf, IsMaskAt, HasLane, lowest};
 use crate::control::{DELETED, EMPTY};
 use std::simd::prelude::*;
 
+/// The lanes that hold the tag, of the control bytes of sixteen neighbouring buckets.
+///
+/// Bit i of the answer is set exactly if byte i is the tag. The bytes are compared at once.
+/// `docs/TABLE.md` has a table of masks.
+///
+/// ```
+/// let bytes: [u8; 16] = [0, 255, 128, 5, 255, 255, 255, 255, 255, 255, 255, 255, 255, 255, 255, 255];
+/// assert_eq!(rt; match_tag(&bytes, 0), 0x0001);
+/// ```
+#[inline]
+pub fn match_tag(bytes: &[u8; 16], tag: u8) -> u16
+    ensures { IsMaskOf (λ byte. byte ≡ tag) bytes.now result }
+{
+    u8x16::from_array(*bytes)
+        .simd_eq(u8x16::splat(tag))
+        .to_bitmask() as u16
+}
+
+/// The lanes of empty buckets, whose byte is 255.
+///
+/// Bit i of the answer is set exactly if bucket i is empty. The bytes are compared at once.
+///
+/// ```
+/// let bytes: [u8; 16] = [0, 255, 128, 5, 255, 255, 255, 255, 255, 255, 255, 255, 255, 255, 255, 255];
+/// assert_eq!(rt; match_empty(&bytes), 0xfff2);
+/// ```
+#[inline]
+pub fn match_empty(bytes: &[u8; 16]) -> u16
+    ensures { IsMaskOf (λ byte. byte ≡ empty_byte) bytes.now result }
+{
+    match_tag(bytes, EMPTY)
+}
+
+/// The lanes of free buckets, whose byte has the top bit: it is 255 for an empty one and 128 for a deleted one.
+///
+/// Bit i of the answer is set exactly if bucket i is free. The bytes are compared at once.
+///
+/// ```
+/// let bytes: [u8; 16] = [0, 255, 128, 5, 255, 255, 255, 255, 255, 255, 255, 255, 255, 255, 255, 255];
+/// assert_eq!(rt; match_free(&bytes), 0xfff6);
+/// ```
+#[inline]
+pub fn match_free(bytes: &[u8; 16]) -> u16
+    ensures { IsMaskOf IsFreeByte bytes.now result }
+{
+    u8x16::from_array(*bytes)
+        .simd_ge(u8x16::splat(DELETED))
+        .to_bitmask() as u16
+}
+
 // The sixteen control bytes from a bucket on, a lane each.
 #[derive(Drop)]
 pub(crate) struct Group {
@@ -29,9 +79,7 @@ impl Group {
     pub(crate) fn match_tag(&self, tag: u8) -> u16
         ensures { IsMaskOf (λ byte. byte ≡ tag) self.now.lanes result }
     {
-        u8x16::from_array(self.lanes)
-            .simd_eq(u8x16::splat(tag))
-            .to_bitmask() as u16
+        match_tag(&self.lanes, tag)
     }
 
     // The lanes of empty buckets.
@@ -39,7 +87,7 @@ impl Group {
     pub(crate) fn match_empty(&self) -> u16
         ensures { IsMaskOf (λ byte. byte ≡ empty_byte) self.now.lanes result }
     {
-        self.match_tag(EMPTY)
+        match_empty(&self.lanes)
     }
 
     // The lanes of empty and deleted buckets.
@@ -47,9 +95,7 @@ impl Group {
     pub(crate) fn match_free(&self) -> u16
         ensures { IsMaskOf IsFreeByte self.now.lanes result }
     {
-        u8x16::from_array(self.lanes)
-            .simd_ge(u8x16::splat(DELETED))
-            .to_bitmask() as u16
+        match_free(&self.lanes)
     }
 }
 

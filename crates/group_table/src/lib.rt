@@ -17,7 +17,7 @@ mod cells;
 mod control;
 mod entries;
 mod fields;
-mod group;
+pub mod group;
 mod link;
 mod neighbours;
 mod probe;

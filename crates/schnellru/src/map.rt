@@ -46,9 +46,9 @@ pub const DEFAULT_ENTRY_BYTES: usize = 32;
 /// # The bytes of an entry
 ///
 /// Each constructor is told how many bytes a bucket takes, as `entry_bytes`. `memory_usage` counts by this number, and
-/// so do the sizes of which a limiter is asked. To compute it, add the bytes of a key, a value and two links, round up
-/// to the greatest alignment among them, and add that alignment once more. For `u64` keys, `u32` values and links of 32
-/// bits these are 8 + 4 + 4 + 4 = 20, rounded up to 24, and 8 more: 32.
+/// so do the sizes of which a limiter is asked. To compute it, add the bytes of a key, a value and two links, and round
+/// up to the greatest alignment among them. For `u64` keys, `u32` values and links of 32 bits these are
+/// 8 + 4 + 4 + 4 = 20, rounded up to 24. For `u64` keys and values and links of 64 bits they are 32.
 ///
 /// The memory that the map takes is that of its buckets, whatever it was told. A number that is too small has
 /// `ByMemoryUsage` permit tables that take more than its bytes; one that is too great has it refuse tables that would

@@ -5,6 +5,7 @@ use std::process::Abort;
 use std::test::Fail;
 
 mod drops;
+mod groups;
 mod orders;
 mod relocations;
 

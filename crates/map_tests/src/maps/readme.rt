@@ -15,7 +15,7 @@ fn ones_of(map: &mut LruMap<u64, u32>, number: u64) -> Result<u32, AllocError> {
 
 /// Asks for 1, 2, 3, 1 and 4: then 2 is the one that left.
 fn keeps_the_last_asked(alloc: Global) -> Result<bool, AllocError> {
-    let mut map = LruMap::new(alloc, ByLength::new(3), [1, 2, 3, 4], 32);
+    let mut map = LruMap::new(alloc, ByLength::new(3), [1, 2, 3, 4], 24);
     for number in [1, 2, 3, 1, 4] {
         ones_of(&mut map, number)?;
     }

@@ -1,5 +1,4 @@
-//! Relocations into another number of buckets, compared with a plain list in which each entry is placed anew, and
-//! rehashes where the entries stand.
+//! Relocations into another number of buckets, and rehashes where the entries stand, each compared with a plain list.
 use super::orders::{Hashes, hash_of};
 use super::*;
 use group_table::LinkType;
@@ -21,21 +20,23 @@ fn contents(alloc: Global, table: &Table<u64>) -> Result<Vec<Option<u64>>, Alloc
     Ok(keys)
 }
 
-// Puts a key into the first place that is free, in the order of a search.
-fn put(keys: &mut [Option<u64>], hash: u64, key: u64) {
+// Puts a key into the first place that is free, in the order of a search, and tells which.
+fn put(keys: &mut [Option<u64>], hash: u64, key: u64) -> Option<usize> {
     let mask = keys.len().wrapping_sub(1);
     let mut start = hash as usize;
     for group in 1..=keys.len() {
         for lane in 0..16usize {
-            if let Some(place) = keys.get_mut(start.wrapping_add(lane) & mask) {
+            let at = start.wrapping_add(lane) & mask;
+            if let Some(place) = keys.get_mut(at) {
                 if place.is_none() {
                     *place = Some(key);
-                    return;
+                    return Some(at);
                 }
             }
         }
         start = start.wrapping_add(group.wrapping_mul(16));
     }
+    None
 }
 
 // The keys, in the order of their places, each put into a list of so many.
@@ -49,6 +50,46 @@ fn put_anew(
     for place in old {
         if let Some(key) = place {
             put(keys.as_mut_slice(), hash_of(hashes, *key), *key);
+        }
+    }
+    Ok(keys)
+}
+
+// Takes what waits at a place.
+fn taken(waiting: &mut [Option<u64>], at: usize) -> Option<u64> {
+    match waiting.get_mut(at) {
+        Some(place) => place.take(),
+        None => None,
+    }
+}
+
+// The keys after a rehash, turn by turn. A key whose turn it is stays if its place is among the 16 that are read
+// first. Else it goes where no key has come, and one that waits there comes next.
+fn put_again(
+    alloc: Global,
+    old: &[Option<u64>],
+    hashes: Hashes,
+) -> Result<Vec<Option<u64>>, AllocError> {
+    let mut waiting = Vec::from_slice(alloc, old)?;
+    let mut keys = vec![in alloc; None; old.len()]?;
+    let mask = old.len().wrapping_sub(1);
+    for at in 0..old.len() {
+        let mut in_hand = taken(waiting.as_mut_slice(), at);
+        if let Some(key) = in_hand {
+            let from_start = at.wrapping_sub(hash_of(hashes, key) as usize) & mask;
+            if let Some(place) = keys.get_mut(at) {
+                if from_start < 16 {
+                    *place = in_hand.take();
+                }
+            }
+        }
+        for _ in 0..old.len() {
+            if let Some(key) = in_hand {
+                in_hand = match put(keys.as_mut_slice(), hash_of(hashes, key), key) {
+                    Some(place) => taken(waiting.as_mut_slice(), place),
+                    None => None,
+                };
+            }
         }
     }
     Ok(keys)
@@ -113,12 +154,12 @@ fn relocate_to(
     })?;
     assert_eq!(rt; asked.get(), entries);
     follows(rt, table, old.as_slice(), links.as_slice(), hashes);
-    if old.len() != buckets {
-        assert_eq!(rt;
-            contents(alloc, table)?,
-            put_anew(alloc, old.as_slice(), buckets, hashes)?
-        );
-    }
+    let wanted = if old.len() == buckets {
+        put_again(alloc, old.as_slice(), hashes)?
+    } else {
+        put_anew(alloc, old.as_slice(), buckets, hashes)?
+    };
+    assert_eq!(rt; contents(alloc, table)?, wanted);
     assert_eq!(rt; (table.buckets(), table.len()), (buckets, entries));
     assert_eq!(rt; table.room(), full_capacity(buckets).wrapping_sub(entries));
     assert_eq!(rt; table.placings(), placings.wrapping_add(entries as u64));
@@ -268,41 +309,60 @@ fn without_entries(rt: HostRuntime) -> Result<(), Fail> {
     Ok(())
 }
 
-#[test]
-fn each_request_is_refused(rt: HostRuntime) -> Result<(), Fail> {
-    // The control bytes, the entries, and the links of 8 old buckets. Memory that has no end refuses nothing.
-    for (buckets, requests) in [(16, [32, 128, 32]), (8, [24, 64, 32usize])] {
-        let mut table = table_of(rt.alloc(), 8)?;
-        let mut next = 0;
-        fill(&mut table, &mut next, Hashes::Scattered);
-        let old = contents(rt.alloc(), &table)?;
-        let mut met = [false; 4];
-        let mut stayed = [false; 4];
-        let mut hog = Hog::new(rt.alloc(), requests.as_slice())?;
-        for run in 0..4usize {
+// Moves 7 entries of 8 buckets into so many, at first with no memory, and then with one more of these requests granted
+// each time. Memory that has no end refuses nothing, and shows nothing.
+fn refused_each(rt: &HostRuntime, buckets: usize, requests: &[usize]) -> Result<(), Fail> {
+    let mut table = table_of(rt.alloc(), 8)?;
+    let mut next = 0;
+    fill(&mut table, &mut next, Hashes::Scattered);
+    let old = contents(rt.alloc(), &table)?;
+    let mut refused = 0usize;
+    let mut met = false;
+    let mut stayed = true;
+    let mut hog = Hog::new(rt.alloc(), requests)?;
+    for _ in 0..=requests.len() {
+        if !met {
             let links: Result<Vec<u32>, AllocError> = moved(
                 &mut table,
                 buckets,
                 |key| hash_of(Hashes::Scattered, *key),
             );
-            met[run] = links.is_ok();
-            stayed[run] = table.buckets() == 8 && table.placings() == 7;
-            hog.release();
+            if links.is_ok() {
+                met = true;
+            } else {
+                refused = refused.wrapping_add(1);
+                stayed = stayed && table.buckets() == 8 && table.placings() == 7;
+            }
         }
-        let (blocks, all) = (hog.blocks(), hog.took_all());
-        drop(hog);
-        if !all {
-            return Ok(());
-        }
-        assert_eq!(rt; met, [false, false, false, true], "beside {blocks} blocks");
-        assert_eq!(rt; stayed, [true, true, true, false]);
-        assert_eq!(rt; (table.buckets(), table.placings()), (buckets, 14));
-        assert_eq!(rt;
-            contents(rt.alloc(), &table)?,
-            put_anew(rt.alloc(), old.as_slice(), buckets, Hashes::Scattered)?
-        );
+        hog.release();
     }
+    let (blocks, all) = (hog.blocks(), hog.took_all());
+    drop(hog);
+    if !all {
+        return Ok(());
+    }
+    assert_eq!(rt;
+        (met, refused),
+        (true, requests.len()),
+        "beside {blocks} blocks"
+    );
+    assert!(rt; stayed);
+    assert_eq!(rt; (table.buckets(), table.placings()), (buckets, 14));
+    let wanted = if buckets == 8 {
+        put_again(rt.alloc(), old.as_slice(), Hashes::Scattered)?
+    } else {
+        put_anew(rt.alloc(), old.as_slice(), buckets, Hashes::Scattered)?
+    };
+    assert_eq!(rt; contents(rt.alloc(), &table)?, wanted);
     Ok(())
+}
+
+#[test]
+fn each_request_is_refused(rt: HostRuntime) -> Result<(), Fail> {
+    // The control bytes and the entries of 16 buckets, and the links of 8 old ones.
+    refused_each(&rt, 16, &[32, 128, 32])?;
+    // A rehash of 8 buckets: their links, and fresh control bytes.
+    refused_each(&rt, 8, &[32, 24])
 }
 
 #[test]
