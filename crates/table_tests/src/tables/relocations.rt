@@ -311,15 +311,20 @@ fn without_entries(rt: HostRuntime) -> Result<(), Fail> {
 
 // Moves 7 entries of 8 buckets into so many, at first with no memory, and then with one more of these requests granted
 // each time. Memory that has no end refuses nothing, and shows nothing.
-fn refused_each(rt: &HostRuntime, buckets: usize, requests: &[usize]) -> Result<(), Fail> {
-    let mut table = table_of(rt.alloc(), 8)?;
+fn refused_each(
+    rt: &impl Abort,
+    alloc: Global,
+    buckets: usize,
+    requests: &[usize],
+) -> Result<(), Fail> {
+    let mut table = table_of(alloc, 8)?;
     let mut next = 0;
     fill(&mut table, &mut next, Hashes::Scattered);
-    let old = contents(rt.alloc(), &table)?;
+    let old = contents(alloc, &table)?;
     let mut refused = 0usize;
     let mut met = false;
     let mut stayed = true;
-    let mut hog = Hog::new(rt.alloc(), requests)?;
+    let mut hog = Hog::new(alloc, requests)?;
     for _ in 0..=requests.len() {
         if !met {
             let links: Result<Vec<u32>, AllocError> = moved(
@@ -349,20 +354,20 @@ fn refused_each(rt: &HostRuntime, buckets: usize, requests: &[usize]) -> Result<
     assert!(rt; stayed);
     assert_eq!(rt; (table.buckets(), table.placings()), (buckets, 14));
     let wanted = if buckets == 8 {
-        put_again(rt.alloc(), old.as_slice(), Hashes::Scattered)?
+        put_again(alloc, old.as_slice(), Hashes::Scattered)?
     } else {
-        put_anew(rt.alloc(), old.as_slice(), buckets, Hashes::Scattered)?
+        put_anew(alloc, old.as_slice(), buckets, Hashes::Scattered)?
     };
-    assert_eq!(rt; contents(rt.alloc(), &table)?, wanted);
+    assert_eq!(rt; contents(alloc, &table)?, wanted);
     Ok(())
 }
 
 #[test]
 fn each_request_is_refused(rt: HostRuntime) -> Result<(), Fail> {
     // The control bytes and the entries of 16 buckets, and the links of 8 old ones.
-    refused_each(&rt, 16, &[32, 128, 32])?;
+    refused_each(&rt, rt.alloc(), 16, &[32, 128, 32])?;
     // A rehash of 8 buckets: their links, and fresh control bytes.
-    refused_each(&rt, 8, &[32, 24])
+    refused_each(&rt, rt.alloc(), 8, &[32, 24])
 }
 
 #[test]
