@@ -10,7 +10,7 @@ use Rattle.schnellru.specs.Shrinks.{shrink_counted, kept, shrunk, no_memory_to_s
 use Rattle.schnellru.specs.Inside.Linked.{pairs_of}
 use Rattle.schnellru.specs.Inside.Holds.{state_of, Holds}
 use Rattle.schnellru.proofs.LinkedTables.BucketPairs.{pairs-length}
-use Rattle.schnellru.proofs.Maps.Fields.{beside}
+use Rattle.schnellru.proofs.Maps.Fields.{beside_of}
 use Rattle.schnellru.proofs.Maps.Reservations.{some_there}
 use Rattle.schnellru.proofs.Maps.ShrunkMaps.{needs, none_needed, shrinks_to, shrinks_holds}
 use Rattle.schnellru.proofs.map.LruMap.shrink_to_fit.Goals as goal
@@ -18,8 +18,7 @@ use Rattle.schnellru.proofs.map.LruMap.shrink_to_fit.Goals as goal
 pub returns-in-None : goal.returns-in-None
 returns-in-None g c =
     let m = c.self.inside in
-    let rest = beside m.limiter m.hasher m.moved m.placed m.shrunk m.entry_bytes
-    (g.L.LinkType.LinkType.number g.L.LinkType.LinkType.MAX) in
+    let rest = beside_of m (g.L.LinkType.LinkType.number g.L.LinkType.LinkType.MAX) in
     let st = state_of m.entries rest in
     let is = needs rest m.entries c.self.invariant.linked (c.into_usize.ensures ∙ ap g.L.LinkType.LinkType.number c.MAX.ensures)
     c.len-len.ensures.len c.in-None.ensures.value in
@@ -29,8 +28,7 @@ returns-in-None g c =
 pub returns-then-buckets-count : goal.returns-then-buckets-count
 returns-then-buckets-count g c =
     let m = c.self.inside in
-    let rest = beside m.limiter m.hasher m.moved m.placed m.shrunk m.entry_bytes
-    (g.L.LinkType.LinkType.number g.L.LinkType.LinkType.MAX) in
+    let rest = beside_of m (g.L.LinkType.LinkType.number g.L.LinkType.LinkType.MAX) in
     let st = state_of m.entries rest in
     let is = needs rest m.entries c.self.invariant.linked (c.into_usize.ensures ∙ ap g.L.LinkType.LinkType.number c.MAX.ensures)
     c.len-len.ensures.len c.in-Some.ensures.value in
@@ -42,8 +40,7 @@ returns-then-buckets-count g c =
 pub returns-in_err-move_to : goal.returns-in_err-move_to
 returns-in_err-move_to g c =
     let m = c.self.inside in
-    let rest = beside m.limiter m.hasher m.moved m.placed m.shrunk m.entry_bytes
-    (g.L.LinkType.LinkType.number g.L.LinkType.LinkType.MAX) in
+    let rest = beside_of m (g.L.LinkType.LinkType.number g.L.LinkType.LinkType.MAX) in
     let st = state_of m.entries rest in
     let is = needs rest m.entries c.self.invariant.linked (c.into_usize.ensures ∙ ap g.L.LinkType.LinkType.number c.MAX.ensures)
     c.len-len.ensures.len c.in-Some.ensures.value in
@@ -61,8 +58,7 @@ returns-in_err-move_to g c =
 pub invariant_of-self-2 : goal.invariant_of-self-2
 invariant_of-self-2 g c =
     let m = c.self.inside in let e = c.in_ok-move_to.ensures in let holds = c.self.invariant in
-    let rest = beside m.limiter m.hasher m.moved m.placed m.shrunk m.entry_bytes
-    (g.L.LinkType.LinkType.number g.L.LinkType.LinkType.MAX) in
+    let rest = beside_of m (g.L.LinkType.LinkType.number g.L.LinkType.LinkType.MAX) in
     let rises : c.saturating_add-self-inside.result ≡ count_up m.shrunk (length (pairs_of m.entries)) =
     c.saturating_add-self-inside.ensures ∙ ap (λ n. min (m.shrunk + n) (2 ^ 64 - 1))
     (c.len-len.ensures.len ∙ sym (pairs-length m.entries holds.linked)) in
@@ -74,8 +70,7 @@ invariant_of-self-2 g c =
 pub returns : goal.returns
 returns g c =
     let m = c.self.inside in let e = c.in_ok-move_to.ensures in let holds = c.self.invariant in
-    let rest = beside m.limiter m.hasher m.moved m.placed m.shrunk m.entry_bytes
-    (g.L.LinkType.LinkType.number g.L.LinkType.LinkType.MAX) in
+    let rest = beside_of m (g.L.LinkType.LinkType.number g.L.LinkType.LinkType.MAX) in
     let st = state_of m.entries rest in
     let is = needs rest m.entries holds.linked (c.into_usize.ensures ∙ ap g.L.LinkType.LinkType.number c.MAX.ensures)
     c.len-len.ensures.len c.in-Some.ensures.value in
