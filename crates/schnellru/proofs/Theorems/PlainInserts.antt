@@ -39,7 +39,8 @@ module _ {K V S : Type 0} (rules : Rules K V S) where
   plain_told None s = refl
   plain_told (Some pair) s = refl
 
-  plain_pop : (c : Contents K V (S × List (K × V))) → plain_contents (pop (noting rules) c) ≡ pop rules (plain_contents c)
+  plain_pop : (c : Contents K V (S × List (K × V)))
+      → plain_contents (pop (noting rules) c) ≡ pop rules (plain_contents c)
   plain_pop c = ap {A = S} {B = Contents K V S} (λ s. record { pairs = (pop (noting rules) c).pairs; limiter = s })
       (plain_told (last c.pairs) c.limiter)
 

@@ -80,7 +80,8 @@ returns-in-Ok-clause-fits g c hash_of fits same =
 
 pub returns-in-Ok-clause-linked : goal.returns-in-Ok-clause-linked
 returns-in-Ok-clause-linked g c =
-    let marks = same_marks c.try_place.new.self.slots c.link_placed-link.new.table.slots c.link_placed-link.ensures.pairs in
+    let marks = same_marks c.try_place.new.self.slots c.link_placed-link.new.table.slots
+    c.link_placed-link.ensures.pairs in
     IsLinked-view g.met.N.LinkType.laws (invariant_of-self g c) (rw marks c.try_place.ensures.table)
 
 pub returns-in-Err-clause-linked : goal.returns-in-Err-clause-linked

@@ -20,8 +20,9 @@ returns-in-None g c =
     let m = c.self.inside in
     let rest = beside_of m (g.L.LinkType.LinkType.number g.L.LinkType.LinkType.MAX) in
     let st = state_of m.entries rest in
-    let is = needs rest m.entries c.self.invariant.linked (c.into_usize.ensures ∙ ap g.L.LinkType.LinkType.number c.MAX.ensures)
-    c.len-len.ensures.len c.in-None.ensures.value in
+    let is = needs rest m.entries c.self.invariant.linked
+    (c.into_usize.ensures ∙ ap g.L.LinkType.LinkType.number c.MAX.ensures) c.len-len.ensures.len
+    c.in-None.ensures.value in
     rw (← c.self.view_is)
     (record { step = kept (subst (λ need. IfSome need (λ count. buckets st ≤ count)) (sym is) tt) refl refl })
 
@@ -30,8 +31,9 @@ returns-then-buckets-count g c =
     let m = c.self.inside in
     let rest = beside_of m (g.L.LinkType.LinkType.number g.L.LinkType.LinkType.MAX) in
     let st = state_of m.entries rest in
-    let is = needs rest m.entries c.self.invariant.linked (c.into_usize.ensures ∙ ap g.L.LinkType.LinkType.number c.MAX.ensures)
-    c.len-len.ensures.len c.in-Some.ensures.value in
+    let is = needs rest m.entries c.self.invariant.linked
+    (c.into_usize.ensures ∙ ap g.L.LinkType.LinkType.number c.MAX.ensures) c.len-len.ensures.len
+    c.in-Some.ensures.value in
     let few : buckets st ≤ c.in-Some.count = omega
     (arith, c.if-buckets-count.true, c.buckets.ensures.buckets, length-marks_of m.entries.slots) in
     rw (← c.self.view_is)
@@ -42,8 +44,9 @@ returns-in_err-move_to g c =
     let m = c.self.inside in
     let rest = beside_of m (g.L.LinkType.LinkType.number g.L.LinkType.LinkType.MAX) in
     let st = state_of m.entries rest in
-    let is = needs rest m.entries c.self.invariant.linked (c.into_usize.ensures ∙ ap g.L.LinkType.LinkType.number c.MAX.ensures)
-    c.len-len.ensures.len c.in-Some.ensures.value in
+    let is = needs rest m.entries c.self.invariant.linked
+    (c.into_usize.ensures ∙ ap g.L.LinkType.LinkType.number c.MAX.ensures) c.len-len.ensures.len
+    c.in-Some.ensures.value in
     let fewer : c.in-Some.count < buckets st = omega
     (arith, c.if-buckets-count.false, c.buckets.ensures.buckets, length-marks_of m.entries.slots) in
     let some = some_there st.pairs
@@ -65,7 +68,8 @@ invariant_of-self-2 g c =
     let hash_of = hash_by g.K.Hash.hash_input g.S.BuildHasher g.S.Hasher.Hasher in
     subst (λ n. Holds g.K.PartialEq.eq hash_of c.move_to.new.self (record rest { shrunk = n })) (sym rises)
     (shrinks_holds m.entries c.move_to.new.self c.in-Some.count holds.linked e.linked e.buckets e.pairs e.room
-    e.placings rest g.K.PartialEq.eq hash_of holds e.fits (omega (arith, c.if-buckets-count.false, c.buckets.ensures.buckets)))
+    e.placings rest g.K.PartialEq.eq hash_of holds e.fits
+    (omega (arith, c.if-buckets-count.false, c.buckets.ensures.buckets)))
 
 pub returns : goal.returns
 returns g c =
