@@ -1,4 +1,5 @@
--- What a table takes in bytes, and where a table goes that is to take more pairs. Quotients are rounded down.
+-- Numbers of entries and of links, what a table takes in bytes, and where a table goes that is to take more pairs.
+-- Quotients are rounded down.
 use Rattle.std.specs.Prelude.{◌≡◌, ◌⊎◌, ℕ, ◌+◌, ◌-◌, ◌*◌, ◌/◌, ◌^◌, ◌<◌, ◌≤◌, ◌==◌, nat_lt, nat_le, if◌then◌else◌}
 use Rattle.std.specs.Prelude.{Option, Some, None}
 use Rattle.group_table.specs.Sizes.{IsPowerFromFour, full_capacity, buckets_for}
