@@ -31,7 +31,7 @@ pub use Rattle.schnellru.proofs.Maps.SomeReservation.{cleared_sized, some_reserv
 pub use Rattle.schnellru.proofs.Maps.SomeShrink.{some_shrink}
 pub use Rattle.schnellru.proofs.Theorems.Fronts.{found_named}
 pub use Rattle.schnellru.proofs.Theorems.Limits.{length-without}
-pub use Rattle.schnellru.proofs.TableSizes.Reached.{has_tables}
+pub use Rattle.schnellru.proofs.TableSizes.ReachedTables.{has_tables}
 pub use Rattle.schnellru.proofs.Theorems.Runs.{any_step_same}
 pub use Rattle.schnellru.proofs.Theorems.Sums.{sum-set}
 pub use Rattle.schnellru.proofs.Theorems.SmallTables.{Shape, shape, same_shape, look_alike, with_left, left_shape}

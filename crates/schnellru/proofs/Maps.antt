@@ -1,10 +1,9 @@
 pub mod LeavingPairs
 pub mod Outcomes
-pub mod Evictions
 pub mod Promotions
 pub mod Fields
 pub mod NotedStates
-pub mod Trimmed
+pub mod Trims
 pub mod HeldMaps
 pub mod Reservations
 pub mod ClearedMaps

@@ -5,4 +5,4 @@ pub mod SizedMarks
 pub mod FilledBuckets
 pub mod NextTable
 pub mod SomeMarks
-pub mod Reached
+pub mod ReachedTables

@@ -14,6 +14,8 @@ pub mod Exactness
 pub mod GrantedGrowth
 pub mod Sums
 pub mod Limits
+pub mod RefusedGrowth
+pub mod CallChanges
 pub mod CountedMoves
 pub mod Shrinks
 pub mod Runs
@@ -21,6 +23,7 @@ pub mod AddedPairs
 pub mod RunLimits
 pub mod SmallTables
 pub mod SmallCalls
+pub mod Reservations
 pub mod Removals
 pub mod GetOrInserts
 pub mod KeySearches

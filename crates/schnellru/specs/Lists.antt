@@ -71,7 +71,7 @@ module _ {K V : Type 0} where
   newest_value [] = None
   newest_value (pair ∷ pairs) = Some pair.1
 
-  -- with this value in the pair at a place, counted from 0
+  -- with this value in the pair at this position, counted from 0
   abbrev pub set_value_at : List (K × V) → ℕ → V → List (K × V)
   set_value_at [] i w = []
   set_value_at (pair ∷ pairs) zero w = (pair.0, w) ∷ pairs

@@ -1,7 +1,16 @@
--- What a table takes in bytes, and where a table goes that is to take more pairs. Quotients are rounded down.
+-- Numbers of entries and of links, what a table takes in bytes, and where a table goes that is to take more pairs.
+-- Quotients are rounded down.
 use Rattle.std.specs.Prelude.{◌≡◌, ◌⊎◌, ℕ, ◌+◌, ◌-◌, ◌*◌, ◌/◌, ◌^◌, ◌<◌, ◌≤◌, ◌==◌, nat_lt, nat_le, if◌then◌else◌}
 use Rattle.std.specs.Prelude.{Option, Some, None}
 use Rattle.group_table.specs.Sizes.{IsPowerFromFour, full_capacity, buckets_for}
+
+-- the bytes of an entry of a default map
+abbrev pub default_entry_bytes : ℕ
+default_entry_bytes = 32
+
+-- numbers below this are links of 32 bits
+abbrev pub links_of_32_bits : ℕ
+links_of_32_bits = 4294967295
 
 -- the bytes of a table: its entries, rounded up to a multiple of 16, a byte for each bucket, and 16 more
 abbrev pub bytes_of : ℕ → ℕ → ℕ

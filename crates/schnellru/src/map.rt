@@ -2,6 +2,7 @@
 //! table's buckets, and its counts.
 ghost use Rattle.std.specs.Prelude.{◌≡◌, ◌∷◌, []};
 ghost use Rattle.lru_limits.specs.Mixing.{seeded};
+ghost use Rattle.schnellru.specs.Sizes.{default_entry_bytes, links_of_32_bits};
 ghost use Rattle.schnellru.specs.State.{State, empty_map};
 
 use crate::link::Linked;
@@ -140,7 +141,7 @@ impl<K: Eq + Hash, V, L: Limiter<K, V>, S: BuildHasher> LruMap<K, V, L, S> {
         L: Default,
         S: Default,
         ensures { (limiter : L) × (hasher : S) × L.is_default limiter × S.is_default hasher
-            × (result ≡ empty_map limiter hasher 32 (L.LinkType.number L.LinkType.MAX)) }
+            × (result ≡ empty_map limiter hasher default_entry_bytes (L.LinkType.number L.LinkType.MAX)) }
     {
         LruMap::with_hasher(alloc, L::default(), S::default(), DEFAULT_ENTRY_BYTES)
     }
@@ -189,7 +190,7 @@ impl<K: Eq + Hash, V, S: BuildHasher> LruMap<K, V, ByMemoryUsage, S> {
         hasher: S,
         entry_bytes: usize,
     ) -> Self
-        ensures { result ≡ empty_map budget hasher entry_bytes 4294967295 }
+        ensures { result ≡ empty_map budget hasher entry_bytes links_of_32_bits }
     {
         LruMap::with_hasher(alloc, ByMemoryUsage::new(budget), hasher, entry_bytes)
     }
@@ -216,7 +217,7 @@ impl<K: Eq + Hash, V> LruMap<K, V, ByMemoryUsage, RandomState> {
         words: [u64; 4],
         entry_bytes: usize,
     ) -> Self
-        ensures { result ≡ empty_map budget (seeded words) entry_bytes 4294967295 }
+        ensures { result ≡ empty_map budget (seeded words) entry_bytes links_of_32_bits }
     {
         LruMap::with_memory_budget_and_hasher(
             alloc,

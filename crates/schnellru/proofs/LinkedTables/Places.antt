@@ -30,7 +30,7 @@ last_at [] = refl
 last_at (x ∷ []) = refl
 last_at (x ∷ y ∷ ys) = last_at (y ∷ ys)
 
--- the bucket after the one at a place is that at the next
+-- the bucket after the one at a position is that at the next
 pub after_at : (order : List ℕ) (i b : ℕ) → AllPairs ◌≢◌ order → slice_get order i ≡ Some b → bucket_after b order
     ≡ slice_get order (suc i)
 after_at [] i b d e = absurd (none-some b e)
@@ -63,7 +63,7 @@ before_at (c ∷ x ∷ xs) (suc (suc i)) b d e =
     (subst (Contains xs) (sym same) (got_in xs i b e))))
     (before_at (x ∷ xs) (suc i) b (distinct_tail c (x ∷ xs) d) e)
 
--- the pair of the bucket at a place is at that place of the pairs
+-- the pair of the bucket at a position is at that position of the pairs
 pub pair_at : {T : Type 0} (slots : List (Slot T)) (order : List ℕ) (i b : ℕ) (x : T) → AreFull slots order
     → slice_get order i ≡ Some b → entry_at slots b ≡ Some x
     → slice_get (entries_in slots order) i ≡ Some x

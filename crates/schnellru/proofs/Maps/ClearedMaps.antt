@@ -12,7 +12,7 @@ use Rattle.schnellru.specs.Inside.Holds.{Beside, state_of, Holds}
 use Rattle.schnellru.proofs.LinkedTables.Clears.{marks_of-cleared}
 use Rattle.schnellru.proofs.PairLists.DistinctKeys.{none_distinct, AreDistinct}
 use Rattle.schnellru.proofs.Maps.HeldMaps.{sized_same}
-use Rattle.schnellru.proofs.Theorems.CountedMoves.{room_cleared}
+use Rattle.schnellru.proofs.Theorems.CallChanges.{room_cleared}
 
 module _ {K V S H : Type 0} (rules : Rules K V S) (t u : Linked K V)
     (slots : u.slots ≡ replicate (length t.slots) empty) (order : u.order ≡ [])

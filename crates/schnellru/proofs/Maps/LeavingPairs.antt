@@ -3,7 +3,8 @@ use Rattle.std.proofs.Common.{◌≡◌, ℕ, zero, suc, ◌-◌, ◌<◌, ◌�
 use Rattle.std.proofs.Common.{subst, arith}
 use Rattle.schnellru.specs.Lists.{without_first, without_last}
 use Rattle.lru_limits.specs.Rules.{Rules}
-use Rattle.schnellru.specs.State.{State, Contents, contents, FreesRoom, Leaves, pop, pops, trim, trim_from}
+use Rattle.schnellru.specs.State.{State, buckets, room, Contents, contents, FreesRoom, Leaves, pop, pops, trim}
+use Rattle.schnellru.specs.State.{trim_from}
 use Rattle.schnellru.specs.Place.{CannotGrow, no_target, denied, OldestLeave}
 
 pub length-without_first : {X : Type 0} (xs : List X) → length (without_first xs) ≤ length xs
@@ -113,3 +114,19 @@ pub leaves_trimmed : {K V S H : Type 0} (rules : Rules K V S) (old mid new : Sta
     Leaves mid (trim rules (contents mid)) new → Leaves old (trim rules left) new
 leaves_trimmed rules old mid new left some rest = leaves_trans old mid new left (trim rules left) some
     (subst (λ c. Leaves mid (trim rules c) new) (ap contents some.is) rest)
+
+-- in a table of up to 16 buckets, one that leaves makes room
+pub room_after : {K V S H : Type 0} (rules : Rules K V S) (n : ℕ) (mid left : State K V S H)
+    → Leaves mid (pops rules n (contents mid)) left
+    → buckets mid ≤ 16 → n ≤ length mid.pairs → room mid ≡ 0 → room left ≡ 0 → n ≡ 0
+room_after rules n mid left step small enough none still =
+    omega (
+      arith,
+      step.room.exact small,
+      none,
+      still,
+      ap (λ st. length st.pairs) step.is,
+      length-pops rules n
+          (contents mid),
+      enough,
+    )

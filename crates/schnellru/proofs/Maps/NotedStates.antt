@@ -93,7 +93,8 @@ pub noted_turned_away : {K V S H : Type 0} (rules : Rules K V S) (before : List 
     noted (before ++ left ∷ []) new ≡ turned_away (noting rules) pair (noted before old)
 noted_turned_away {K} {V} {S} {H} rules before old new pair left s is told e =
     ap (noted (before ++ left ∷ [])) is
-    ∙ ap {A = S} {B = State K V (S × List (K × V)) H} (λ t. noted (before ++ left ∷ []) (record old { limiter = t })) told
+    ∙ ap {A = S} {B = State K V (S × List (K × V)) H}
+    (λ t. noted (before ++ left ∷ []) (record old { limiter = t })) told
     ∙ ap {A = S × List (K × V)} {B = State K V (S × List (K × V)) H} (λ t. record (noted before old) { limiter = t })
     (noted_told rules before old.limiter left (Some pair) e)
 

@@ -24,8 +24,8 @@ use Rattle.schnellru.proofs.TableSizes.Growth.{full_capacity-4, full_capacity-at
 use Rattle.schnellru.proofs.TableSizes.Growth.{full_capacity-even}
 use Rattle.schnellru.proofs.Theorems.LackOfMemory.{no_room}
 use Rattle.schnellru.proofs.Maps.LeavingPairs.{length-without_last, length-pops, known_is, leaves_more, oldest_leaves}
+use Rattle.schnellru.proofs.Maps.LeavingPairs.{room_after}
 use Rattle.schnellru.proofs.TableSizes.FilledBuckets.{deleted_first_large}
-use Rattle.schnellru.proofs.Maps.Evictions.{room_after}
 use Rattle.schnellru.proofs.Theorems.Fronts.{front_pops, front_absent}
 use Rattle.schnellru.specs.Lists.{lookup_entry, IsFront}
 
@@ -42,7 +42,6 @@ module _ {K V S H : Type 0} (st : State K V S H) (ok : IsSized st) where
       go : (buckets st ≡ 0) ⊎ IsPowerFromFour (buckets st) → IsPowerFromFour (buckets st)
       go (inl none) = absurd (omega (arith, ap length (none_without_buckets none), some))
       go (inr power) = power
-      -- without room, as many entries can move as there are pairs
 
 module _ {K V S H : Type 0} (rules : Rules K V S) (hash_of : H → K → ℕ) (pair : K × V) (old new : State K V S H)
     (ok : IsSized old) where

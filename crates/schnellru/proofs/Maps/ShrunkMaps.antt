@@ -1,5 +1,6 @@
 -- A map keeps its pairs and their order when all of them move into fewer buckets, which is counted.
-use Rattle.std.proofs.Common.{◌≡◌, ℕ, ◌+◌, ◌<◌, ◌≤◌, ◌⊎◌, inl, inr, Bool, length, Option, Some, sym, ap, ◌∙◌, subst, arith}
+use Rattle.std.proofs.Common.{◌≡◌, ℕ, ◌+◌, ◌<◌, ◌≤◌, ◌⊎◌, inl, inr, Bool, length, Option, Some, sym, ap, ◌∙◌}
+use Rattle.std.proofs.Common.{subst, arith}
 use Rattle.std.proofs.lemmas.Option.{same_Some}
 use Rattle.group_table.specs.Sizes.{full_capacity, buckets_for}
 use Rattle.group_table.specs.Bucket.{marks_of, room}
@@ -49,8 +50,8 @@ module _ {K V S H : Type 0} (t u : Linked K V) (count : ℕ) (linked : IsLinked 
     fits = fits;
     map = record {
       distinct = subst (AreDistinct eq) (sym pairs) holds.map.distinct;
-      sized = sized_by counted u next (reached sized.reachable) (usable.0, ap (usage beside.entry_bytes) table ∙ usable.1)
-          sized.moved sized.placed (omega arith);
+      sized = sized_by counted u next (reached sized.reachable)
+          (usable.0, ap (usage beside.entry_bytes) table ∙ usable.1) sized.moved sized.placed (omega arith);
       paid = paid_after (state_of t beside) (state_of u counted)
           (moved_pays (state_of t beside) count (state_of u counted) shrinks_to) sized.moved
           (omega (arith, shrinks_to.table, few, sized.table.addressable)) holds.map.paid;

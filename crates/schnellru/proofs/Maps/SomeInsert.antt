@@ -371,7 +371,7 @@ module _ {K V S H I : Type 0} (rules : Rules K V S) (offers : Offers K V S I) (n
 
   given_pair : lookup_entry (names i) old.pairs ≡ None → (s : S) (pair : K × V)
       → offers.on_insert old.limiter (length old.pairs) i v s (Some pair) → Inserts
-  given_pair absent s pair admits =
+  given_pair absent s pair may_give =
       let told : State K V S H = record old { limiter = s } in
       let c : Contents K V S = record { pairs = old.pairs; limiter = s } in
       let (way, left, goes_on, freed) = some_leave told (make_way rules c) (sized_with_limiter old s ok)
@@ -388,16 +388,16 @@ module _ {K V S H I : Type 0} (rules : Rules K V S) (offers : Offers K V S I) (n
           (length-front _ landed.pairs (front_trim rules (contents landed))) in (
             Ok (not (is_empty new.pairs)),
             new,
-            admitted absent s pair admits
+            admitted absent s pair may_give
                 (way, left, (placed, landed, place, (refl, leaves))),
             end,
           )
       settle way left refused landed place after =
-          (Ok false, landed, admitted absent s pair admits (way, left, (refused, landed, place, (refl, refl))), after)
+          (Ok false, landed, admitted absent s pair may_give (way, left, (refused, landed, place, (refl, refl))), after)
       settle way left no_memory landed place after = (
         Err (record {}),
         landed,
-        admitted absent s pair admits (way, left, (no_memory, landed, place, (refl, refl))),
+        admitted absent s pair may_give (way, left, (no_memory, landed, place, (refl, refl))),
         after,
       )
 
@@ -406,14 +406,14 @@ module _ {K V S H I : Type 0} (rules : Rules K V S) (offers : Offers K V S I) (n
     where
       absent : lookup_entry (names i) old.pairs ≡ None → (s : S) (given : Option (K × V))
           → offers.on_insert old.limiter (length old.pairs) i v s given → Inserts
-      absent e s None admits = (
+      absent e s None may_give = (
         Ok false,
         record old { limiter = s },
-        not_admitted e s admits refl refl,
+        not_admitted e s may_give refl refl,
         sized_with_limiter old s ok,
       )
-      absent e s (Some pair) admits = given_pair e s pair admits
+      absent e s (Some pair) may_give = given_pair e s pair may_give
 
       go : (found : Option (K × V)) → lookup_entry (names i) old.pairs ≡ found → Inserts
       go (Some pair) e = there pair e (replacement rules offers names pair i v (contents old)).taken refl
-      go None e = let (s, given, admits) = offered old.limiter (length old.pairs) i v in absent e s given admits
+      go None e = let (s, given, may_give) = offered old.limiter (length old.pairs) i v in absent e s given may_give

@@ -13,7 +13,7 @@ use Rattle.schnellru.specs.Theorems.{IsSummed}
 use Rattle.schnellru.proofs.Theorems.InsertAnswers.{IsWithin}
 use Rattle.schnellru.proofs.Theorems.Limits.{insert_within, total-without}
 use Rattle.schnellru.proofs.Theorems.Moves.{KeepsOffers}
-use Rattle.schnellru.proofs.Theorems.Removals.{reserved_list}
+use Rattle.schnellru.proofs.Theorems.Reservations.{reserved_list}
 use Rattle.schnellru.proofs.Theorems.Runs.{run_keeps, run_summed}
 use Rattle.schnellru.proofs.Theorems.Shrinks.{shrunk_list}
 use Rattle.schnellru.proofs.Theorems.Sums.{total, total-is, total-front, split-least, split_last}

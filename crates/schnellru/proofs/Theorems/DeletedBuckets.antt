@@ -9,7 +9,7 @@ use Rattle.schnellru.specs.State.{State, buckets, room, FirstFreeIs}
 use Rattle.schnellru.specs.Place.{Place, first_table, first_denied, first_too_large, empty_with_room}
 use Rattle.schnellru.specs.Place.{empty_without_room, with_room, deleted_bucket, rehashed, grown, evicting}
 use Rattle.schnellru.specs.Place.{finds_bucket, made_anew, Outcome, placed, IsPlaced, asked}
-use Rattle.schnellru.proofs.Maps.Evictions.{left_length, placed_if}
+use Rattle.schnellru.proofs.Theorems.RefusedGrowth.{left_length, placed_if}
 use Rattle.schnellru.proofs.TableSizes.Growth.{full_capacity-at_most, target_doubles}
 use Rattle.schnellru.proofs.Theorems.Potential.{IsBounded}
 

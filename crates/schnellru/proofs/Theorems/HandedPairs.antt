@@ -147,7 +147,8 @@ module _ {K V S H I : Type 0} (rules : Rules K V S) (offers : Offers K V S I) (n
       let by = offers.on_replace old.limiter.0 (length old.pairs) pair.0 i pair.1 v in
       let told = rules.on_removed by.limiter by.key by.old_value in omega (
         arith,
-        left_is rules old new (with_given_up (noting rules) (noting_offers offers) names pair i v (contents old)) leaves,
+        left_is rules old new (with_given_up (noting rules) (noting_offers offers) names pair i v (contents old))
+            leaves,
         one_noted rules old.limiter.1 (told.key, told.value),
         length-without (names i) old.pairs,
       )

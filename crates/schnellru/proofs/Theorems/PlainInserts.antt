@@ -39,7 +39,8 @@ module _ {K V S : Type 0} (rules : Rules K V S) where
   plain_told None s = refl
   plain_told (Some pair) s = refl
 
-  plain_pop : (c : Contents K V (S × List (K × V))) → plain_contents (pop (noting rules) c) ≡ pop rules (plain_contents c)
+  plain_pop : (c : Contents K V (S × List (K × V)))
+      → plain_contents (pop (noting rules) c) ≡ pop rules (plain_contents c)
   plain_pop c = ap {A = S} {B = Contents K V S} (λ s. record { pairs = (pop (noting rules) c).pairs; limiter = s })
       (plain_told (last c.pairs) c.limiter)
 
@@ -128,7 +129,7 @@ module _ {K V S H : Type 0} (rules : Rules K V S) where
         (new : State K V (S × List (K × V)) H) → Place (noting rules) hash_of pair old outcome new
         → Place rules hash_of pair (plain old) outcome (plain new)
     plain_place pair old outcome new (first_table e b bytes u g m) =
-        first_table e b bytes u g (plain_if_memory pair _ _ _ _ outcome new m)
+        first_table e b bytes u g (plain_if_memory pair 4 2 0 _ outcome new m)
     plain_place pair old outcome new (first_denied e b bytes u d o n) = first_denied e b bytes u d o (ap plain n)
     plain_place pair old outcome new (first_too_large e b u o n) = first_too_large e b u o (ap plain n)
     plain_place pair old outcome new (empty_with_room e b r f o p) =
@@ -141,7 +142,7 @@ module _ {K V S H : Type 0} (rules : Rules K V S) where
     plain_place pair old outcome new (rehashed l f h m) =
         rehashed l f h (plain_if_memory pair _ _ _ old outcome new m)
     plain_place pair old outcome new (grown l f h count bytes t g m) =
-        grown l f h count bytes t g (plain_if_memory pair _ _ _ _ outcome new m)
+        grown l f h count bytes t g (plain_if_memory pair count _ _ _ outcome new m)
     plain_place pair old outcome new (evicting l f h mid cannot e) =
         evicting l f h (plain mid) (plain_cannot old mid cannot) (plain_evicts _ pair old mid outcome new e)
 

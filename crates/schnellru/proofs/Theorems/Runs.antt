@@ -18,9 +18,9 @@ use Rattle.schnellru.proofs.Theorems.Potential.{pays_self, pays_trans, bounded_o
 use Rattle.schnellru.proofs.Theorems.Ways.{insert_changes}
 use Rattle.schnellru.proofs.Theorems.PaidMoves.{stays_map}
 use Rattle.schnellru.proofs.Theorems.Sums.{keeps_sums, stays_summed}
-use Rattle.schnellru.proofs.Theorems.CountedMoves.{promoted_changes, remove_changes, pop_oldest_changes}
-use Rattle.schnellru.proofs.Theorems.CountedMoves.{pop_newest_changes, cleared_changes, drain_changes}
-use Rattle.schnellru.proofs.Theorems.CountedMoves.{reserve_changes, makes_newest_changes, written_changes, set_changes}
+use Rattle.schnellru.proofs.Theorems.CallChanges.{promoted_changes, remove_changes, pop_oldest_changes}
+use Rattle.schnellru.proofs.Theorems.CallChanges.{pop_newest_changes, cleared_changes, drain_changes}
+use Rattle.schnellru.proofs.Theorems.CallChanges.{reserve_changes, makes_newest_changes, written_changes, set_changes}
 use Rattle.schnellru.proofs.Theorems.Shrinks.{shrink_changes}
 
 module _ {K V S H I : Type 0} {rules : Rules K V S} {offers : Offers K V S I} {names : I → K → Bool}
@@ -37,7 +37,8 @@ module _ {K V S H I : Type 0} {rules : Rules K V S} {offers : Offers K V S I} {n
     step_changes old new (drains newest oldest result h) = (_, _, drain_changes k.keeps old newest oldest result new h)
     step_changes old new (clears e) = rw e (_, _, cleared_changes k.keeps old)
     step_changes old new (reserves n result h) = (_, _, reserve_changes k.keeps.way n old result new h)
-    step_changes old new (shrinks result h) = let c = shrink_changes rules R k.keeps.way old result new h in (0, c.0, c.1)
+    step_changes old new (shrinks result h) =
+        let c = shrink_changes rules R k.keeps.way old result new h in (0, c.0, c.1)
 
     -- and what is written, where that keeps what is to be kept
     pub any_changes : ((c : Contents K V S) (test : K → Bool) (value : V)

@@ -89,12 +89,14 @@ module _ {K V S H : Type 0} (old : State K V S H) where
   shrink_again mid result new (no_memory_to_shrink count l some r e) step = absurd (false≢true r)
   shrink_again mid result new (shrunk count l r m) (kept t s e) = s
   shrink_again mid result new (shrunk count l r m) (shrunk other k s e) =
-      let same : count ≡ other = same_Some count other (sym l.0 ∙ needs ∙ k.0) in absurd (omega (arith, same, k.1, m.table))
+      let same : count ≡ other = same_Some count other (sym l.0 ∙ needs ∙ k.0) in
+      absurd (omega (arith, same, k.1, m.table))
     where
       needs : buckets_for old.max (length old.pairs) ≡ buckets_for mid.max (length mid.pairs)
       needs = ap (λ st. buckets_for st.max (length st.pairs)) (sym m.state)
   shrink_again mid result new (shrunk count l r m) (no_memory_to_shrink other k some s e) =
-      let same : count ≡ other = same_Some count other (sym l.0 ∙ needs ∙ k.0) in absurd (omega (arith, same, k.1, m.table))
+      let same : count ≡ other = same_Some count other (sym l.0 ∙ needs ∙ k.0) in
+      absurd (omega (arith, same, k.1, m.table))
     where
       needs : buckets_for old.max (length old.pairs) ≡ buckets_for mid.max (length mid.pairs)
       needs = ap (λ st. buckets_for st.max (length st.pairs)) (sym m.state)

@@ -19,7 +19,7 @@ use Rattle.schnellru.specs.Sizes.{Target, target, no_table, same_table, new_tabl
 use Rattle.schnellru.specs.State.{State, buckets, room, MovesTo}
 use Rattle.schnellru.specs.declared.map.reserve.ReserveError.{ReserveError}
 use Rattle.schnellru.specs.declared.map.reserve.ReserveError.TheVariants.{TooLarge, Refused, Memory}
-use Rattle.schnellru.proofs.Theorems.CountedMoves.{room_cleared}
+use Rattle.schnellru.proofs.Theorems.CallChanges.{room_cleared}
 use Rattle.schnellru.proofs.Theorems.SmallTables.{Shape, shape, same_shape, look_alike, relimited, told, told_same}
 use Rattle.schnellru.proofs.Theorems.SmallTables.{told_err}
 

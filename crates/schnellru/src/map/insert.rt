@@ -18,11 +18,11 @@ use std::hash::{BuildHasher, Hash};
 impl<K: Eq + Hash + Drop, V: Drop, L: Limiter<K, V>, S: BuildHasher> LruMap<K, V, L, S> {
     /// Puts a value under a key, as the newest pair, and answers whether the key is in the map then.
     ///
-    /// A key that is there stays as it is stored, and the limiter is asked whether the new value takes the place of the
-    /// old one; where it says no, the pair leaves and the answer is false. A new key is handed to the limiter, which
-    /// gives the pair to store, or none. The oldest pair leaves first where the limiter would be over with one more.
-    /// The table grows where it has to and the limiter permits it; where it may not, the oldest pairs leave until there
-    /// is a place. At the end the oldest leave as long as the limiter is over.
+    /// A key that is there stays as it is stored, and the limiter is asked whether the new value replaces the old one;
+    /// where it says no, the pair leaves and the answer is false. A new key is handed to the limiter, which gives the
+    /// pair to store, or none. The oldest pair leaves first where the limiter would be over with one more. The table
+    /// grows where it has to and the limiter permits it; where it may not, the oldest pairs leave until there is a
+    /// place. At the end the oldest leave as long as the limiter is over.
     ///
     /// ```
     /// assert!(rt; map.insert(1, 10)?);

@@ -8,7 +8,7 @@ ghost use Rattle.lru_limits.specs.Hashing.{hash_by};
 ghost use Rattle.schnellru.specs.Lists.{lookup_entry};
 ghost use Rattle.schnellru.specs.Sizes.{usage};
 ghost use Rattle.schnellru.specs.State.{buckets, room, FirstFreeIs};
-ghost use Rattle.schnellru.specs.Place.{Place, IsPlaced, IsPlacedIfMemory, FillsBucket, LacksRoom, outcome_of};
+ghost use Rattle.schnellru.specs.Place.{Place, Evicts, IsPlaced, IsPlacedIfMemory, FillsBucket, LacksRoom, outcome_of};
 ghost use Rattle.schnellru.specs.Place.{turned_away};
 ghost use Rattle.schnellru.specs.Inserts.{PlacesAndTrims};
 ghost use Rattle.schnellru.specs.HandedOver.{noting, noted};
@@ -50,7 +50,7 @@ impl<K: Eq + Hash + Drop, V: Drop, L: Limiter<K, V>, S: BuildHasher> LruMap<K, V
 
     // Places the pair in the first free bucket, where the table may fill that.
     #[inline(always)]
-    pub(super) fn place_in_bucket(&mut self, hash: u64, pair: (K, V)) -> Result<(), (K, V)>
+    fn place_in_bucket(&mut self, hash: u64, pair: (K, V)) -> Result<(), (K, V)>
         requires hash { hash ≡ hash_by K.hash_input S.BuildHasher S.Hasher.Hasher self.old.hasher pair.0 }
         requires absent { lookup_entry (K.eq pair.0) self.old.pairs ≡ None }
         ensures placed { OnOk result (IsPlaced pair (buckets self.old) (room self.new) 0 self.old self.new) }
@@ -181,10 +181,42 @@ impl<K: Eq + Hash + Drop, V: Drop, L: Limiter<K, V>, S: BuildHasher> LruMap<K, V
         }
     }
 
+    // Places the pair after the oldest left, at least one, which are handed over.
+    fn place_evicting<F: FnMut(K, V)>(
+        &mut self,
+        hash: u64,
+        mut pair: (K, V),
+        sink: &mut F,
+    ) -> Result<bool, AllocError>
+        requires callable { F.IsAlwaysCallable sink.old }
+        requires hash { hash ≡ hash_by K.hash_input S.BuildHasher S.Hasher.Hasher self.old.hasher pair.0 }
+        requires absent { lookup_entry (K.eq pair.0) self.old.pairs ≡ None }
+        requires lacks_room { LacksRoom self.old }
+        requires no_place { HasNoPlace self.old.marks hash }
+        requires half { full_capacity (buckets self.old) / 2 < length self.old.pairs + 1 }
+        ensures handed { Hands F.FnMut sink.old sink.new (λ before after. Evicts (noting L.rules) hash pair
+            (noted before self.old) (noted before self.old) (outcome_of result) (noted after self.new)) }
+        ensures callable { F.IsAlwaysCallable sink.new }
+    {
+        let buckets = self.entries.buckets();
+        let half = full_capacity(buckets) / 2;
+        'evictions: loop {
+            let (key, value) = self.take_oldest();
+            sink(key, value);
+            if self.entries.len() < half {
+                return self.place_after_move(buckets, hash, pair, sink);
+            }
+            match self.place_in_bucket(hash, pair) {
+                Ok(()) => return Ok(true),
+                Err(back) => pair = back,
+            }
+        }
+    }
+
     // Places the pair in a table of so many buckets, to which all pairs move, which is counted. Among as many buckets
     // as now that needs no memory without pairs.
     #[cold]
-    pub(super) fn place_after_move<F: FnMut(K, V)>(
+    fn place_after_move<F: FnMut(K, V)>(
         &mut self,
         count: usize,
         hash: u64,

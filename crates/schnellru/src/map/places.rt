@@ -1,4 +1,4 @@
-// A map by the places of its pairs, counted from the newest on, for walks.
+// A map by its places, the bucket of each pair, newest first, for walks.
 ghost use Rattle.std.specs.Prelude.{◌≡◌, ℕ, ◌+◌, length, slice_get, Some, Contains};
 ghost use Rattle.std.specs.Borrow.{sem};
 ghost use Rattle.std.specs.Map.Iter.{deref_pair_mut};
@@ -39,7 +39,7 @@ impl<K: Eq + Hash, V, L: Limiter<K, V>, S: BuildHasher> LruMap<K, V, L, S> {
         self.entries.newer(b)
     }
 
-    // The pair at a place, whose bucket this is, with its value to be changed.
+    // The pair at a position, counted from the newest on, whose bucket this is, with its value to be changed.
     #[inline]
     pub(crate) fn pair_at_mut(&mut self, at: usize, b: usize) -> (&K, &mut V)
         requires { slice_get self.old.places at ≡ Some b }

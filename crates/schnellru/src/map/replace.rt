@@ -38,8 +38,8 @@ pub(super) fn replace<
         entries.old entries.new limiter.new }
     ensures kept { result ≡ true → sink.new ≡ sink.old }
     ensures handed { result ≡ false → (pair : K × V) → entry_at entries.old.slots b ≡ Some pair →
-        HandsGivenUp F.FnMut L.rules (L.offers.on_replace limiter.old (length entries.old.order) pair.0 key pair.1 value)
-        sink.old sink.new }
+        HandsGivenUp F.FnMut L.rules
+        (L.offers.on_replace limiter.old (length entries.old.order) pair.0 key pair.1 value) sink.old sink.new }
     ensures callable { F.IsAlwaysCallable sink.new }
     ensures linked { IsLinked entries.new }
     ensures fits { (hash_of : K → ℕ) → ((x y : K) → IsTrue (K.eq x y) → hash_of x ≡ hash_of y) →

@@ -1,5 +1,5 @@
 use Rattle.schnellru.specs.Calls.{promoted}
-use Rattle.schnellru.proofs.Theorems.CountedMoves.{promoted_changes}
+use Rattle.schnellru.proofs.Theorems.CallChanges.{promoted_changes}
 use Rattle.schnellru.proofs.Theorems.Sums.{keeps_sums, stays_summed}
 use Rattle.schnellru.proofs.laws.gets_keep_sums.Goals as goal
 

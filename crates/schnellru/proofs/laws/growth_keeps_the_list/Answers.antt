@@ -1,5 +1,5 @@
 use Rattle.std.proofs.Common.{refl}
-use Rattle.schnellru.proofs.Maps.Evictions.{grown_keeps, made_anew_keeps, keeps_or_refused, place_lacks_keeps}
+use Rattle.schnellru.proofs.Theorems.RefusedGrowth.{grown_keeps, made_anew_keeps, keeps_or_refused, place_lacks_keeps}
 use Rattle.schnellru.proofs.laws.growth_keeps_the_list.Goals as goal
 
 pub returns-clause-grown : goal.returns-clause-grown

@@ -10,5 +10,6 @@ returns-clause-keys g c = λ key value old result new d step.
 
 pub returns-clause-map : goal.returns-clause-map
 returns-clause-map g c = λ key value old result new ok sized step.
-    stays_map _ 1 0 old new (insert_changes (offers_distinct g.met.I.LookupKey.laws g.met.L.Insertion.laws) key value old
-    result new step) ok sized
+    stays_map _ 1 0 old new
+    (insert_changes (offers_distinct g.met.I.LookupKey.laws g.met.L.Insertion.laws) key value old result new step)
+    ok sized

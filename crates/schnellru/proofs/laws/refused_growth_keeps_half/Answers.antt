@@ -1,5 +1,5 @@
 use Rattle.std.proofs.Common.{refl}
-use Rattle.schnellru.proofs.Maps.Evictions.{place_lacks_half, refused_half, refused_one}
+use Rattle.schnellru.proofs.Theorems.RefusedGrowth.{place_lacks_half, refused_half, refused_one}
 use Rattle.schnellru.proofs.laws.refused_growth_keeps_half.Goals as goal
 
 pub returns-clause-half : goal.returns-clause-half

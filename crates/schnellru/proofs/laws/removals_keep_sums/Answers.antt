@@ -1,7 +1,7 @@
 use Rattle.schnellru.proofs.Theorems.Sums.{keeps_sums, stays_summed}
 use Rattle.schnellru.specs.Calls.{cleared}
-use Rattle.schnellru.proofs.Theorems.CountedMoves.{remove_changes, pop_oldest_changes, pop_newest_changes}
-use Rattle.schnellru.proofs.Theorems.CountedMoves.{cleared_changes}
+use Rattle.schnellru.proofs.Theorems.CallChanges.{remove_changes, pop_oldest_changes, pop_newest_changes}
+use Rattle.schnellru.proofs.Theorems.CallChanges.{cleared_changes}
 use Rattle.schnellru.proofs.laws.removals_keep_sums.Goals as goal
 
 pub returns-clause-removed : goal.returns-clause-removed

@@ -1,6 +1,6 @@
 use Rattle.schnellru.proofs.Theorems.Potential.{bounded_of}
-use Rattle.schnellru.proofs.Theorems.CountedMoves.{remove_changes, pop_oldest_changes, pop_newest_changes}
-use Rattle.schnellru.proofs.Theorems.CountedMoves.{cleared_changes}
+use Rattle.schnellru.proofs.Theorems.CallChanges.{remove_changes, pop_oldest_changes, pop_newest_changes}
+use Rattle.schnellru.proofs.Theorems.CallChanges.{cleared_changes}
 use Rattle.schnellru.proofs.Theorems.Removals.{stay_any}
 use Rattle.schnellru.proofs.laws.removals_pay_for_moves.Goals as goal
 

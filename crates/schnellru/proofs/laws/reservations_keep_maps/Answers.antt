@@ -1,6 +1,7 @@
 use Rattle.schnellru.proofs.Theorems.PaidMoves.{stays_map}
-use Rattle.schnellru.proofs.Theorems.CountedMoves.{reserve_changes}
-use Rattle.schnellru.proofs.Theorems.Removals.{stay_distinct, reserved_list}
+use Rattle.schnellru.proofs.Theorems.CallChanges.{reserve_changes}
+use Rattle.schnellru.proofs.Theorems.Removals.{stay_distinct}
+use Rattle.schnellru.proofs.Theorems.Reservations.{reserved_list}
 use Rattle.schnellru.proofs.laws.reservations_keep_maps.Goals as goal
 
 pub returns-clause-map : goal.returns-clause-map

@@ -1,5 +1,5 @@
 use Rattle.schnellru.proofs.Theorems.Sums.{keeps_sums, stays_summed}
-use Rattle.schnellru.proofs.Theorems.CountedMoves.{reserve_changes}
+use Rattle.schnellru.proofs.Theorems.CallChanges.{reserve_changes}
 use Rattle.schnellru.proofs.laws.reservations_keep_sums.Goals as goal
 
 pub returns : goal.returns

@@ -1,4 +1,4 @@
-use Rattle.schnellru.proofs.Theorems.Removals.{makes_room}
+use Rattle.schnellru.proofs.Theorems.Reservations.{makes_room}
 use Rattle.schnellru.proofs.laws.reservations_make_room.Goals as goal
 
 pub returns : goal.returns

@@ -1,5 +1,5 @@
 use Rattle.schnellru.proofs.Theorems.Potential.{bounded_of}
-use Rattle.schnellru.proofs.Theorems.CountedMoves.{reserve_changes}
+use Rattle.schnellru.proofs.Theorems.CallChanges.{reserve_changes}
 use Rattle.schnellru.proofs.Theorems.Removals.{stay_any}
 use Rattle.schnellru.proofs.laws.reservations_pay_for_moves.Goals as goal
 

@@ -23,13 +23,15 @@ pub link_placed-link-requires-clause-newer : goal.link_placed-link-requires-clau
 link_placed-link-requires-clause-newer g c =
     let placed = c.in-Ok.ensures.placed in
     let within = fills_within c.self.inside.table.slots c.args.hash c.in-Ok.b placed.first c.in-Ok.ensures.may_fill in
-    ap (option_map (λ x. x.newer)) (entry_at-placed _ _ _ _ _ placed within) ∙ ap Some c.MAX.ensures
+    let there = entry_at-placed c.self.inside.table c.try_place.new.self c.args.hash _ c.in-Ok.b placed within in
+    ap (option_map (λ x. x.newer)) there ∙ ap Some c.MAX.ensures
 
 pub link_placed-link-requires-clause-older : goal.link_placed-link-requires-clause-older
 link_placed-link-requires-clause-older g c =
     let placed = c.in-Ok.ensures.placed in
     let within = fills_within c.self.inside.table.slots c.args.hash c.in-Ok.b placed.first c.in-Ok.ensures.may_fill in
-    ap (option_map (λ x. x.older)) (entry_at-placed _ _ _ _ _ placed within)
+    let there = entry_at-placed c.self.inside.table c.try_place.new.self c.args.hash _ c.in-Ok.b placed within in
+    ap (option_map (λ x. x.older)) there
 
 pub invariant_of-self : goal.invariant_of-self
 invariant_of-self g c =
@@ -80,7 +82,8 @@ returns-in-Ok-clause-fits g c hash_of fits same =
 
 pub returns-in-Ok-clause-linked : goal.returns-in-Ok-clause-linked
 returns-in-Ok-clause-linked g c =
-    let marks = same_marks c.try_place.new.self.slots c.link_placed-link.new.table.slots c.link_placed-link.ensures.pairs in
+    let marks = same_marks c.try_place.new.self.slots c.link_placed-link.new.table.slots
+    c.link_placed-link.ensures.pairs in
     IsLinked-view g.met.N.LinkType.laws (invariant_of-self g c) (rw marks c.try_place.ensures.table)
 
 pub returns-in-Err-clause-linked : goal.returns-in-Err-clause-linked

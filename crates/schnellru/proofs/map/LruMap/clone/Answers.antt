@@ -3,7 +3,7 @@ use Rattle.lru_limits.specs.Hashing.{hash_by, hash_by-named}
 use Rattle.schnellru.specs.Clones.{IsPairClone}
 use Rattle.schnellru.specs.Inside.Holds.{state_of}
 use Rattle.schnellru.specs.Inside.Linked.{pairs_of}
-use Rattle.schnellru.proofs.Maps.Fields.{beside}
+use Rattle.schnellru.proofs.Maps.Fields.{beside, beside_of}
 use Rattle.schnellru.proofs.Maps.HeldMaps.{copied_holds}
 use Rattle.schnellru.proofs.PairLists.DistinctKeys.{distinct_same}
 use Rattle.schnellru.proofs.map.LruMap.clone.Goals as goal
@@ -11,8 +11,7 @@ use Rattle.schnellru.proofs.map.LruMap.clone.Goals as goal
 pub invariant_of-result : goal.invariant_of-result
 invariant_of-result g c =
     let m = c.self.inside in let holds = c.self.invariant in let done = c.in_ok-entries.ensures in
-    let rest = beside m.limiter m.hasher m.moved m.placed m.shrunk m.entry_bytes
-    (g.L.LinkType.LinkType.number g.L.LinkType.LinkType.MAX) in
+    let rest = beside_of m (g.L.LinkType.LinkType.number g.L.LinkType.LinkType.MAX) in
     let hash_of = hash_by g.K.Hash.hash_input g.S.BuildHasher g.S.Hasher.Hasher in
     copied_holds g.K.PartialEq.eq hash_of rest m.entries c.in_ok-entries.entries c.in_ok-limiter.limiter
     c.in_ok-hasher.hasher holds done.linked

@@ -1,6 +1,6 @@
 use Rattle.std.proofs.Common.{◌+◌, ◌-◌, ◌^◌, min, sym, ap, ◌∙◌, arith}
 use Rattle.schnellru.specs.Inside.Holds.{state_of}
-use Rattle.schnellru.proofs.Maps.Fields.{beside}
+use Rattle.schnellru.proofs.Maps.Fields.{beside_of}
 use Rattle.schnellru.proofs.LinkedTables.BucketPairs.{pairs-length}
 use Rattle.schnellru.proofs.Theorems.PaidMoves.{paid_ahead}
 use Rattle.schnellru.proofs.map.LruMap.count_moves.Goals as goal
@@ -33,6 +33,5 @@ returns g c =
     let m = c.self.inside in let rises = c.saturating_add-self-inside.ensures
     ∙ ap (λ n. min (m.moved + n) (2 ^ 64 - 1))
     (c.len.ensures.len ∙ sym (pairs-length m.entries c.self.invariant.linked)) in
-    let rest = beside m.limiter m.hasher m.moved m.placed m.shrunk m.entry_bytes
-    (g.L.LinkType.LinkType.number g.L.LinkType.LinkType.MAX) in
+    let rest = beside_of m (g.L.LinkType.LinkType.number g.L.LinkType.LinkType.MAX) in
     rw (← c.self.view_is) (λ i. record (state_of m.entries rest) { moved = rises i })

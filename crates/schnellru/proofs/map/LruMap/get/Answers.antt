@@ -2,7 +2,7 @@ use Rattle.std.proofs.Common.{Some, None, refl, sym, ap, ◌∙◌, subst, unwra
 use Rattle.group_table.specs.Bucket.{entry_at}
 use Rattle.lru_limits.specs.Hashing.{hash_by, hash_by-named}
 use Rattle.schnellru.specs.Inside.Linked.{KeysFit}
-use Rattle.schnellru.proofs.Maps.Fields.{beside}
+use Rattle.schnellru.proofs.Maps.Fields.{beside_of}
 use Rattle.schnellru.proofs.LinkedTables.BucketPairs.{value_found}
 use Rattle.schnellru.proofs.LinkedTables.Searches.{no_value}
 use Rattle.schnellru.proofs.Maps.Promotions.{get_is_map}
@@ -29,8 +29,7 @@ returns-in_err-b g c =
 pub invariant_of-self-lent : goal.invariant_of-self-lent
 invariant_of-self-lent g c = λ w.
     let m = c.self.inside in
-    let rest = beside m.limiter m.hasher m.moved m.placed m.shrunk m.entry_bytes
-    (g.L.LinkType.LinkType.number g.L.LinkType.LinkType.MAX) in
+    let rest = beside_of m (g.L.LinkType.LinkType.number g.L.LinkType.LinkType.MAX) in
     let t = m.entries in let v = c.promote.new.self in let holds = c.self.invariant in
     let found = c.in_ok-b.ensures.found in
     let there = ap (λ s. entry_at s c.in_ok-b.b) (sym c.promote.ensures.slots) ∙ c.pair_mut.ensures.pair in
@@ -51,8 +50,7 @@ invariant_of-self-lent g c = λ w.
 pub returns : goal.returns
 returns g c =
     let m = c.self.inside in
-    let rest = beside m.limiter m.hasher m.moved m.placed m.shrunk m.entry_bytes
-    (g.L.LinkType.LinkType.number g.L.LinkType.LinkType.MAX) in
+    let rest = beside_of m (g.L.LinkType.LinkType.number g.L.LinkType.LinkType.MAX) in
     let t = m.entries in let v = c.promote.new.self in let holds = c.self.invariant in
     let found = c.in_ok-b.ensures.found in
     let names = g.Q.LookupKey.names c.args.key.now in let one = g.met.Q.LookupKey.laws.one c.args.key.now in

@@ -4,7 +4,7 @@ use Rattle.lru_limits.specs.Hashing.{hash_by}
 use Rattle.schnellru.specs.ByHash.{GivesByHash}
 use Rattle.schnellru.specs.Inside.Linked.{KeysFit, pairs_of}
 use Rattle.schnellru.proofs.LinkedTables.ByHash.{gives_by_hash, gives_none_by_hash}
-use Rattle.schnellru.proofs.Maps.Fields.{beside}
+use Rattle.schnellru.proofs.Maps.Fields.{beside_of}
 use Rattle.schnellru.proofs.Maps.Promotions.{equal_is_map, written_is_map}
 use Rattle.schnellru.proofs.LinkedTables.Writes.{first_holds, first_state}
 use Rattle.schnellru.proofs.map.LruMap.get_by_hash.Goals as goal
@@ -26,8 +26,7 @@ returns-in_err-b g c =
 pub invariant_of-self-lent : goal.invariant_of-self-lent
 invariant_of-self-lent g c = λ w.
     let m = c.self.inside in
-    let rest = beside m.limiter m.hasher m.moved m.placed m.shrunk m.entry_bytes
-    (g.L.LinkType.LinkType.number g.L.LinkType.LinkType.MAX) in
+    let rest = beside_of m (g.L.LinkType.LinkType.number g.L.LinkType.LinkType.MAX) in
     let t = m.entries in let v = c.promote.new.self in let holds = c.self.invariant in
     let now = c.pair_mut.result.now in
     let there = ap (λ s. entry_at s c.in_ok-b.b) (sym c.promote.ensures.slots) ∙ c.pair_mut.ensures.pair in
@@ -43,8 +42,7 @@ invariant_of-self-lent g c = λ w.
 pub returns : goal.returns
 returns g c =
     let m = c.self.inside in
-    let rest = beside m.limiter m.hasher m.moved m.placed m.shrunk m.entry_bytes
-    (g.L.LinkType.LinkType.number g.L.LinkType.LinkType.MAX) in
+    let rest = beside_of m (g.L.LinkType.LinkType.number g.L.LinkType.LinkType.MAX) in
     let t = m.entries in let v = c.promote.new.self in let holds = c.self.invariant in
     let now = c.pair_mut.result.now in
     let there = ap (λ s. entry_at s c.in_ok-b.b) (sym c.promote.ensures.slots) ∙ c.pair_mut.ensures.pair in

@@ -1,7 +1,7 @@
 use Rattle.std.proofs.Common.{◌≡◌, ℕ, true, false, Ok, [], ◌∷◌, ◌++◌, length, refl, ap, sym, ◌∙◌, subst, arith}
 use Rattle.std.specs.Prelude.{fold}
 use Rattle.lru_limits.specs.Hashing.{hash_by, hash_by-named}
-use Rattle.schnellru.proofs.Maps.Fields.{beside}
+use Rattle.schnellru.proofs.Maps.Fields.{beside, beside_of}
 use Rattle.schnellru.proofs.LinkedTables.Searches.{not_found}
 use Rattle.schnellru.proofs.LinkedTables.Replacements.{replaced_leaves, replaced_holds, given_up_leaves, given_up_holds}
 use Rattle.schnellru.proofs.Maps.LeavingPairs.{leaves_trimmed}
@@ -27,8 +27,7 @@ insert_new-requires-clause-absent g c =
 pub invariant_of-self : goal.invariant_of-self
 invariant_of-self g c =
     let m = c.self.inside in
-    let rest = beside m.limiter m.hasher m.moved m.placed m.shrunk m.entry_bytes
-    (g.L.LinkType.LinkType.number g.L.LinkType.LinkType.MAX) in
+    let rest = beside_of m (g.L.LinkType.LinkType.number g.L.LinkType.LinkType.MAX) in
     let t = m.entries in let u = c.replace.new.entries in let l = c.replace.new.limiter in
     let holds = c.self.invariant in
     let b = c.in-Some.b in let found = c.in-Some.ensures.found in let was = found.0 in
@@ -48,8 +47,7 @@ invariant_of-self g c =
 pub invariant_of-self-in-Some : goal.invariant_of-self-in-Some
 invariant_of-self-in-Some g c =
     let m = c.self.inside in
-    let rest = beside m.limiter m.hasher m.moved m.placed m.shrunk m.entry_bytes
-    (g.L.LinkType.LinkType.number g.L.LinkType.LinkType.MAX) in
+    let rest = beside_of m (g.L.LinkType.LinkType.number g.L.LinkType.LinkType.MAX) in
     let t = m.entries in let u = c.replace.new.entries in let l = c.replace.new.limiter in
     let holds = c.self.invariant in
     let b = c.in-Some.b in let found = c.in-Some.ensures.found in let was = found.0 in
@@ -110,8 +108,7 @@ returns-then-not-replace-clause-handed g c =
 pub returns-else-not-replace-clause-handed : goal.returns-else-not-replace-clause-handed
 returns-else-not-replace-clause-handed g c =
     let m = c.self.inside in
-    let rest = beside m.limiter m.hasher m.moved m.placed m.shrunk m.entry_bytes
-    (g.L.LinkType.LinkType.number g.L.LinkType.LinkType.MAX) in
+    let rest = beside_of m (g.L.LinkType.LinkType.number g.L.LinkType.LinkType.MAX) in
     let t = m.entries in let u = c.replace.new.entries in let l = c.replace.new.limiter in
     let holds = c.self.invariant in
     let b = c.in-Some.b in let found = c.in-Some.ensures.found in let was = found.0 in

@@ -4,7 +4,7 @@ use Rattle.schnellru.specs.Inside.Linked.{pairs_of}
 use Rattle.schnellru.specs.Inside.Holds.{state_of}
 use Rattle.schnellru.specs.Inserts.{no_memory_to_admit, not_admitted, admitted}
 use Rattle.schnellru.specs.HandedOver.{noted}
-use Rattle.schnellru.proofs.Maps.Fields.{beside}
+use Rattle.schnellru.proofs.Maps.Fields.{beside_of}
 use Rattle.schnellru.proofs.LinkedTables.BucketPairs.{pairs-length}
 use Rattle.schnellru.proofs.LinkedTables.Searches.{lookup_alike}
 use Rattle.schnellru.proofs.map.LruMap.insert_new.Goals as goal
@@ -12,8 +12,7 @@ use Rattle.schnellru.proofs.map.LruMap.insert_new.Goals as goal
 pub returns-in_err-pair-clause-handed : goal.returns-in_err-pair-clause-handed
 returns-in_err-pair-clause-handed g c =
     let m = c.self.inside in
-    let rest = beside m.limiter m.hasher m.moved m.placed m.shrunk m.entry_bytes
-    (g.L.LinkType.LinkType.number g.L.LinkType.LinkType.MAX) in
+    let rest = beside_of m (g.L.LinkType.LinkType.number g.L.LinkType.LinkType.MAX) in
     let len = c.len.ensures.len ∙ sym (pairs-length m.entries c.self.invariant.linked) in
     let absent = rw (← c.self.view_is) at c.requires.absent in
     let lacks = subst (λ n. g.L.Insertion.offers.may_lack m.limiter n c.args.key c.args.value) len

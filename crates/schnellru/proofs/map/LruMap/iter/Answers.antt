@@ -8,7 +8,8 @@ pub returns-clause-runs : goal.returns-clause-runs
 returns-clause-runs g c = from_front (TakesFirst deref_pair) deref_pair (λ s. s) (λ s t h. ap length h.0) (λ s x t h. h)
 
 pub returns-clause-runs_back : goal.returns-clause-runs_back
-returns-clause-runs_back g c = from_back (TakesLast deref_pair) deref_pair (λ s. s) (λ s t h. ap length h.0) (λ s x t h. h)
+returns-clause-runs_back g c =
+    from_back (TakesLast deref_pair) deref_pair (λ s. s) (λ s t h. ap length h.0) (λ s x t h. h)
 
 pub invariant_of-result : goal.invariant_of-result
 invariant_of-result g c =

@@ -2,7 +2,7 @@ use Rattle.std.proofs.Common.{◌<◌, ◌+◌, length, ap, ◌∙◌, sym, subs
 use Rattle.group_table.specs.Sizes.{full_capacity}
 use Rattle.group_table.proofs.BucketLemmas.{length-marks_of}
 use Rattle.schnellru.specs.State.{IsSized}
-use Rattle.schnellru.proofs.Maps.Fields.{beside}
+use Rattle.schnellru.proofs.Maps.Fields.{beside_of}
 use Rattle.schnellru.proofs.LinkedTables.BucketPairs.{pairs-length}
 use Rattle.schnellru.proofs.TableSizes.NextTable.{goes_to, if_larger, larger_count, larger_reached, larger_usable}
 use Rattle.schnellru.proofs.TableSizes.NextTable.{larger_half}
@@ -23,8 +23,7 @@ larger_table-requires-clause-half g c =
 pub returns-clause-next : goal.returns-clause-next
 returns-clause-next g c =
     let m = c.self.inside in
-    let rest = beside m.limiter m.hasher m.moved m.placed m.shrunk m.entry_bytes
-    (g.L.LinkType.LinkType.number g.L.LinkType.LinkType.MAX) in
+    let rest = beside_of m (g.L.LinkType.LinkType.number g.L.LinkType.LinkType.MAX) in
     rw (← c.self.view_is) (sym (goes_to rest m.entries c.self.invariant.linked c.args.more
     (c.into_usize-max.ensures ∙ ap g.L.LinkType.LinkType.number c.MAX.ensures) c.buckets.ensures.buckets
     c.len-len.ensures.len (sym c.larger_table.ensures)))

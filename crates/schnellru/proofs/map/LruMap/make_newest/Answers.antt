@@ -2,7 +2,7 @@ use Rattle.std.proofs.Common.{[], refl, ◌∙◌, ◌≡◌, None}
 use Rattle.lru_limits.specs.Hashing.{hash_by, hash_by-named}
 use Rattle.schnellru.specs.Lists.{lookup}
 use Rattle.schnellru.specs.GetOrInserts.{got, inserted}
-use Rattle.schnellru.proofs.Maps.Fields.{beside}
+use Rattle.schnellru.proofs.Maps.Fields.{beside_of}
 use Rattle.schnellru.proofs.LinkedTables.Searches.{not_found, no_value}
 use Rattle.schnellru.proofs.LinkedTables.BucketPairs.{value_found}
 use Rattle.schnellru.proofs.LinkedTables.NewestPair.{promoted_state, promoted_holds}
@@ -12,8 +12,7 @@ use Rattle.schnellru.proofs.map.LruMap.make_newest.Goals as goal
 pub invariant_of-self : goal.invariant_of-self
 invariant_of-self g c =
     let m = c.self.inside in
-    let rest = beside m.limiter m.hasher m.moved m.placed m.shrunk m.entry_bytes
-    (g.L.LinkType.LinkType.number g.L.LinkType.LinkType.MAX) in
+    let rest = beside_of m (g.L.LinkType.LinkType.number g.L.LinkType.LinkType.MAX) in
     let t = m.entries in let holds = c.self.invariant in let found = c.in-Some.ensures.found in
     promoted_holds t c.promote.new.self holds.linked c.in-Some.b found.0 found.1 c.promote.ensures.slots
     c.promote.ensures.order c.promote.ensures.placings
@@ -45,8 +44,7 @@ insert_new-requires-clause-absent g c =
 pub returns-in-Some : goal.returns-in-Some
 returns-in-Some g c =
     let m = c.self.inside in
-    let rest = beside m.limiter m.hasher m.moved m.placed m.shrunk m.entry_bytes
-    (g.L.LinkType.LinkType.number g.L.LinkType.LinkType.MAX) in
+    let rest = beside_of m (g.L.LinkType.LinkType.number g.L.LinkType.LinkType.MAX) in
     let t = m.entries in let holds = c.self.invariant in let found = c.in-Some.ensures.found in
     let names = g.I.LookupKey.names c.args.key in let one = g.met.I.LookupKey.laws.one c.args.key in
     let value = value_found t holds.linked c.in-Some.b found.0 found.1 names g.met.K.Eq.laws one holds.map.distinct

@@ -3,7 +3,7 @@ use Rattle.lru_limits.specs.Hashing.{hash_by}
 use Rattle.schnellru.specs.ByHash.{GivesByHash}
 use Rattle.schnellru.specs.Inside.Linked.{pairs_of}
 use Rattle.schnellru.proofs.LinkedTables.ByHash.{gives_by_hash, gives_none_by_hash}
-use Rattle.schnellru.proofs.Maps.Fields.{beside}
+use Rattle.schnellru.proofs.Maps.Fields.{beside_of}
 use Rattle.schnellru.proofs.Maps.Promotions.{written_is_map}
 use Rattle.schnellru.proofs.LinkedTables.Writes.{kept_holds, kept_state}
 use Rattle.schnellru.proofs.map.LruMap.peek_by_hash_mut.Goals as goal
@@ -25,8 +25,7 @@ returns-in_err-b g c =
 pub invariant_of-self-lent : goal.invariant_of-self-lent
 invariant_of-self-lent g c = λ w.
     let m = c.self.inside in
-    let rest = beside m.limiter m.hasher m.moved m.placed m.shrunk m.entry_bytes
-    (g.L.LinkType.LinkType.number g.L.LinkType.LinkType.MAX) in
+    let rest = beside_of m (g.L.LinkType.LinkType.number g.L.LinkType.LinkType.MAX) in
     let holds = c.self.invariant in let now = c.pair_mut.result.now in let laws = g.met.K.Eq.laws in
     let hash_of = hash_by g.K.Hash.hash_input g.S.BuildHasher g.S.Hasher.Hasher in
     kept_holds m.entries holds.linked c.in_ok-b.b (now.key, now.value) c.pair_mut.ensures.pair
@@ -37,8 +36,7 @@ invariant_of-self-lent g c = λ w.
 pub returns : goal.returns
 returns g c =
     let m = c.self.inside in
-    let rest = beside m.limiter m.hasher m.moved m.placed m.shrunk m.entry_bytes
-    (g.L.LinkType.LinkType.number g.L.LinkType.LinkType.MAX) in
+    let rest = beside_of m (g.L.LinkType.LinkType.number g.L.LinkType.LinkType.MAX) in
     let t = m.entries in let holds = c.self.invariant in let now = c.pair_mut.result.now in
     let hash_of = hash_by g.K.Hash.hash_input g.S.BuildHasher g.S.Hasher.Hasher m.hasher in
     let eq = g.K.PartialEq.eq in let laws = g.met.K.Eq.laws in let found = c.in_ok-b.ensures.found in

@@ -127,8 +127,8 @@ evictions-preserved g c =
       callable = mut_next g.F.FnMut c.evictions.sink (pair.0, (pair.1, tt)) tt c.sink.new.self c.sink.new.self
           c.sink.ensures refl i.callable;
       n = suc i.n;
-      gone = one_more g.L.Limiter.rules c.args.hash c.args.pair c.args.self.now c.evictions.self c.take_oldest-key.new.self
-          sized c.requires.lacks_room
+      gone = one_more g.L.Limiter.rules c.args.hash c.args.pair c.args.self.now c.evictions.self
+          c.take_oldest-key.new.self sized c.requires.lacks_room
           i.n i.gone i.some i.half i.no_place i.no_room c.take_oldest-key.ensures.state;
       handed = λ first before taken.
           let (mid, had, gone) = i.handed first before taken in (

@@ -1,4 +1,5 @@
--- Some of the oldest have left and were handed over, at least half of what the table takes is left, and the pair has no place yet.
+-- Some of the oldest have left and were handed over. At least half of what the table takes is left, and the pair has no
+-- place yet.
 use Rattle.std.proofs.Common.{◌≡◌, ℕ, ◌/◌, ◌<◌, ◌≤◌, length}
 use denote.Param.Always.{always_mut}
 use Rattle.group_table.specs.Sizes.{full_capacity}

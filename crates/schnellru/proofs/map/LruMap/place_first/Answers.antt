@@ -1,7 +1,7 @@
 use Rattle.std.proofs.Common.{ap, sym, ◌∙◌}
 use Rattle.schnellru.specs.Inside.Holds.{state_of}
 use Rattle.schnellru.specs.HandedOver.{noting, noted}
-use Rattle.schnellru.proofs.Maps.Fields.{beside}
+use Rattle.schnellru.proofs.Maps.Fields.{beside_of}
 use Rattle.schnellru.proofs.Maps.NotedStates.{noted_sized}
 use Rattle.schnellru.proofs.Maps.Placements.{first_granted, first_refused}
 use Rattle.schnellru.proofs.map.LruMap.place_first.Goals as goal
@@ -9,8 +9,7 @@ use Rattle.schnellru.proofs.map.LruMap.place_first.Goals as goal
 pub returns-then-on_grow-clause-handed : goal.returns-then-on_grow-clause-handed
 returns-then-on_grow-clause-handed g c =
     let m = c.self.inside in
-    let rest = beside m.limiter m.hasher m.moved m.placed m.shrunk m.entry_bytes
-    (g.L.LinkType.LinkType.number g.L.LinkType.LinkType.MAX) in
+    let rest = beside_of m (g.L.LinkType.LinkType.number g.L.LinkType.LinkType.MAX) in
     let old = state_of m.entries rest in
     let none = rw (← c.self.view_is) at c.requires.none in
     let rules = noting g.L.Limiter.rules in
@@ -27,8 +26,7 @@ returns-then-on_grow-clause-handed g c =
 pub returns-else-on_grow-clause-handed : goal.returns-else-on_grow-clause-handed
 returns-else-on_grow-clause-handed g c =
     let m = c.self.inside in
-    let rest = beside m.limiter m.hasher m.moved m.placed m.shrunk m.entry_bytes
-    (g.L.LinkType.LinkType.number g.L.LinkType.LinkType.MAX) in
+    let rest = beside_of m (g.L.LinkType.LinkType.number g.L.LinkType.LinkType.MAX) in
     let old = state_of m.entries rest in
     let none = rw (← c.self.view_is) at c.requires.none in
     let rules = noting g.L.Limiter.rules in

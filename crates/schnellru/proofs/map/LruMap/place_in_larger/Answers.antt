@@ -4,15 +4,14 @@ use Rattle.schnellru.specs.State.{FirstFreeIs, IsSized}
 use Rattle.schnellru.specs.Inside.Holds.{state_of}
 use Rattle.schnellru.specs.HandedOver.{noting, noted}
 use Rattle.schnellru.proofs.Maps.NotedStates.{noted_sized}
-use Rattle.schnellru.proofs.Maps.Fields.{beside}
+use Rattle.schnellru.proofs.Maps.Fields.{beside_of}
 use Rattle.schnellru.proofs.Maps.Placements.{grown_place, denied_place, untold_place}
 use Rattle.schnellru.proofs.map.LruMap.place_in_larger.Goals as goal
 
 pub returns-then-on_grow-clause-handed : goal.returns-then-on_grow-clause-handed
 returns-then-on_grow-clause-handed g c =
     let m = c.self.inside in
-    let rest = beside m.limiter m.hasher m.moved m.placed m.shrunk m.entry_bytes
-    (g.L.LinkType.LinkType.number g.L.LinkType.LinkType.MAX) in
+    let rest = beside_of m (g.L.LinkType.LinkType.number g.L.LinkType.LinkType.MAX) in
     let old = state_of m.entries rest in
     let free = subst (λ h. FirstFreeIs empty h c.args.self.now) c.requires.hash c.requires.empty in
     let lacks = rw (← c.self.view_is) at c.requires.lacks_room in let is_free = rw (← c.self.view_is) at free in
@@ -31,8 +30,7 @@ returns-then-on_grow-clause-handed g c =
 pub returns-else-on_grow-clause-handed : goal.returns-else-on_grow-clause-handed
 returns-else-on_grow-clause-handed g c =
     let m = c.self.inside in
-    let rest = beside m.limiter m.hasher m.moved m.placed m.shrunk m.entry_bytes
-    (g.L.LinkType.LinkType.number g.L.LinkType.LinkType.MAX) in
+    let rest = beside_of m (g.L.LinkType.LinkType.number g.L.LinkType.LinkType.MAX) in
     let old = state_of m.entries rest in
     let free = subst (λ h. FirstFreeIs empty h c.args.self.now) c.requires.hash c.requires.empty in
     let lacks = rw (← c.self.view_is) at c.requires.lacks_room in let is_free = rw (← c.self.view_is) at free in

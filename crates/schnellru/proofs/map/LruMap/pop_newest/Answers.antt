@@ -1,5 +1,5 @@
 use Rattle.std.proofs.Common.{sym, ◌∙◌}
-use Rattle.schnellru.proofs.Maps.Fields.{beside}
+use Rattle.schnellru.proofs.Maps.Fields.{beside_of}
 use Rattle.schnellru.proofs.LinkedTables.BucketPairs.{newest_full, newest_is, others_newest}
 use Rattle.schnellru.proofs.LinkedTables.TakenPairs.{taken_pairs, taken_left, taken_told, taken_leaves, taken_holds}
 use Rattle.schnellru.proofs.map.LruMap.pop_newest.Goals as goal
@@ -11,8 +11,7 @@ take_out-requires g c = newest_full c.self.inside.entries c.self.invariant.linke
 pub invariant_of-self : goal.invariant_of-self
 invariant_of-self g c =
     let m = c.self.inside in
-    let rest = beside m.limiter m.hasher m.moved m.placed m.shrunk m.entry_bytes
-    (g.L.LinkType.LinkType.number g.L.LinkType.LinkType.MAX) in
+    let rest = beside_of m (g.L.LinkType.LinkType.number g.L.LinkType.LinkType.MAX) in
     let holds = c.self.invariant in
     taken_holds g.L.Limiter.rules m.entries c.take_out.new.entries c.in_ok-b.b m.limiter c.take_out.new.limiter
     c.take_out.result c.take_out.ensures.taken holds.linked c.take_out.ensures.linked
@@ -21,8 +20,7 @@ invariant_of-self g c =
 pub returns : goal.returns
 returns g c =
     let m = c.self.inside in
-    let rest = beside m.limiter m.hasher m.moved m.placed m.shrunk m.entry_bytes
-    (g.L.LinkType.LinkType.number g.L.LinkType.LinkType.MAX) in
+    let rest = beside_of m (g.L.LinkType.LinkType.number g.L.LinkType.LinkType.MAX) in
     let holds = c.self.invariant in let out = c.take_out.ensures.taken in
     let rules = g.L.Limiter.rules in let t = m.entries in let u = c.take_out.new.entries in
     let l = c.take_out.new.limiter in

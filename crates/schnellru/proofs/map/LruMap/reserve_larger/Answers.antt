@@ -1,15 +1,14 @@
 use Rattle.std.proofs.Common.{refl, sym, ◌∙◌}
 use Rattle.schnellru.specs.Inside.Holds.{state_of}
 use Rattle.schnellru.specs.Reservations.{no_such_table}
-use Rattle.schnellru.proofs.Maps.Fields.{beside}
+use Rattle.schnellru.proofs.Maps.Fields.{beside_of}
 use Rattle.schnellru.proofs.Maps.Reservations.{is_reserved, lacks_memory, is_denied}
 use Rattle.schnellru.proofs.map.LruMap.reserve_larger.Goals as goal
 
 pub returns-then-not-on_grow : goal.returns-then-not-on_grow
 returns-then-not-on_grow g c =
     let m = c.self.inside in
-    let rest = beside m.limiter m.hasher m.moved m.placed m.shrunk m.entry_bytes
-    (g.L.LinkType.LinkType.number g.L.LinkType.LinkType.MAX) in
+    let rest = beside_of m (g.L.LinkType.LinkType.number g.L.LinkType.LinkType.MAX) in
     rw (← c.self.view_is) (is_denied g.L.Limiter.rules c.args.n (state_of m.entries rest) _
     (rw (← c.self.view_is) at c.requires.lacks) c.in-Some.count c.in-Some.bytes
     (rw (← c.self.view_is) at (sym c.in-Some.ensures.next)) c.on_grow.new.self c.on_grow.ensures.limiter
@@ -18,8 +17,7 @@ returns-then-not-on_grow g c =
 pub returns-in-Ok : goal.returns-in-Ok
 returns-in-Ok g c =
     let m = c.self.inside in
-    let rest = beside m.limiter m.hasher m.moved m.placed m.shrunk m.entry_bytes
-    (g.L.LinkType.LinkType.number g.L.LinkType.LinkType.MAX) in
+    let rest = beside_of m (g.L.LinkType.LinkType.number g.L.LinkType.LinkType.MAX) in
     rw (← c.self.view_is) (is_reserved g.L.Limiter.rules c.args.n (state_of m.entries rest) c.move_to.new.self
     (rw (← c.self.view_is) at c.requires.lacks)
     c.in-Some.count c.in-Some.bytes (rw (← c.self.view_is) at (sym c.in-Some.ensures.next)) c.on_grow.new.self
@@ -29,8 +27,7 @@ returns-in-Ok g c =
 pub returns-in-Err : goal.returns-in-Err
 returns-in-Err g c =
     let m = c.self.inside in
-    let rest = beside m.limiter m.hasher m.moved m.placed m.shrunk m.entry_bytes
-    (g.L.LinkType.LinkType.number g.L.LinkType.LinkType.MAX) in
+    let rest = beside_of m (g.L.LinkType.LinkType.number g.L.LinkType.LinkType.MAX) in
     rw (← c.self.view_is) (lacks_memory g.L.Limiter.rules c.args.n (state_of m.entries rest) c.move_to.new.self
     (rw (← c.self.view_is) at c.requires.lacks)
     c.in-Some.count c.in-Some.bytes (rw (← c.self.view_is) at (sym c.in-Some.ensures.next)) c.on_grow.new.self

@@ -10,7 +10,7 @@ use Rattle.schnellru.specs.Shrinks.{shrink_counted, kept, shrunk, no_memory_to_s
 use Rattle.schnellru.specs.Inside.Linked.{pairs_of}
 use Rattle.schnellru.specs.Inside.Holds.{state_of, Holds}
 use Rattle.schnellru.proofs.LinkedTables.BucketPairs.{pairs-length}
-use Rattle.schnellru.proofs.Maps.Fields.{beside}
+use Rattle.schnellru.proofs.Maps.Fields.{beside_of}
 use Rattle.schnellru.proofs.Maps.Reservations.{some_there}
 use Rattle.schnellru.proofs.Maps.ShrunkMaps.{needs, none_needed, shrinks_to, shrinks_holds}
 use Rattle.schnellru.proofs.map.LruMap.shrink_to_fit.Goals as goal
@@ -18,22 +18,22 @@ use Rattle.schnellru.proofs.map.LruMap.shrink_to_fit.Goals as goal
 pub returns-in-None : goal.returns-in-None
 returns-in-None g c =
     let m = c.self.inside in
-    let rest = beside m.limiter m.hasher m.moved m.placed m.shrunk m.entry_bytes
-    (g.L.LinkType.LinkType.number g.L.LinkType.LinkType.MAX) in
+    let rest = beside_of m (g.L.LinkType.LinkType.number g.L.LinkType.LinkType.MAX) in
     let st = state_of m.entries rest in
-    let is = needs rest m.entries c.self.invariant.linked (c.into_usize.ensures ∙ ap g.L.LinkType.LinkType.number c.MAX.ensures)
-    c.len-len.ensures.len c.in-None.ensures.value in
+    let is = needs rest m.entries c.self.invariant.linked
+    (c.into_usize.ensures ∙ ap g.L.LinkType.LinkType.number c.MAX.ensures) c.len-len.ensures.len
+    c.in-None.ensures.value in
     rw (← c.self.view_is)
     (record { step = kept (subst (λ need. IfSome need (λ count. buckets st ≤ count)) (sym is) tt) refl refl })
 
 pub returns-then-buckets-count : goal.returns-then-buckets-count
 returns-then-buckets-count g c =
     let m = c.self.inside in
-    let rest = beside m.limiter m.hasher m.moved m.placed m.shrunk m.entry_bytes
-    (g.L.LinkType.LinkType.number g.L.LinkType.LinkType.MAX) in
+    let rest = beside_of m (g.L.LinkType.LinkType.number g.L.LinkType.LinkType.MAX) in
     let st = state_of m.entries rest in
-    let is = needs rest m.entries c.self.invariant.linked (c.into_usize.ensures ∙ ap g.L.LinkType.LinkType.number c.MAX.ensures)
-    c.len-len.ensures.len c.in-Some.ensures.value in
+    let is = needs rest m.entries c.self.invariant.linked
+    (c.into_usize.ensures ∙ ap g.L.LinkType.LinkType.number c.MAX.ensures) c.len-len.ensures.len
+    c.in-Some.ensures.value in
     let few : buckets st ≤ c.in-Some.count = omega
     (arith, c.if-buckets-count.true, c.buckets.ensures.buckets, length-marks_of m.entries.slots) in
     rw (← c.self.view_is)
@@ -42,11 +42,11 @@ returns-then-buckets-count g c =
 pub returns-in_err-move_to : goal.returns-in_err-move_to
 returns-in_err-move_to g c =
     let m = c.self.inside in
-    let rest = beside m.limiter m.hasher m.moved m.placed m.shrunk m.entry_bytes
-    (g.L.LinkType.LinkType.number g.L.LinkType.LinkType.MAX) in
+    let rest = beside_of m (g.L.LinkType.LinkType.number g.L.LinkType.LinkType.MAX) in
     let st = state_of m.entries rest in
-    let is = needs rest m.entries c.self.invariant.linked (c.into_usize.ensures ∙ ap g.L.LinkType.LinkType.number c.MAX.ensures)
-    c.len-len.ensures.len c.in-Some.ensures.value in
+    let is = needs rest m.entries c.self.invariant.linked
+    (c.into_usize.ensures ∙ ap g.L.LinkType.LinkType.number c.MAX.ensures) c.len-len.ensures.len
+    c.in-Some.ensures.value in
     let fewer : c.in-Some.count < buckets st = omega
     (arith, c.if-buckets-count.false, c.buckets.ensures.buckets, length-marks_of m.entries.slots) in
     let some = some_there st.pairs
@@ -61,21 +61,20 @@ returns-in_err-move_to g c =
 pub invariant_of-self-2 : goal.invariant_of-self-2
 invariant_of-self-2 g c =
     let m = c.self.inside in let e = c.in_ok-move_to.ensures in let holds = c.self.invariant in
-    let rest = beside m.limiter m.hasher m.moved m.placed m.shrunk m.entry_bytes
-    (g.L.LinkType.LinkType.number g.L.LinkType.LinkType.MAX) in
+    let rest = beside_of m (g.L.LinkType.LinkType.number g.L.LinkType.LinkType.MAX) in
     let rises : c.saturating_add-self-inside.result ≡ count_up m.shrunk (length (pairs_of m.entries)) =
     c.saturating_add-self-inside.ensures ∙ ap (λ n. min (m.shrunk + n) (2 ^ 64 - 1))
     (c.len-len.ensures.len ∙ sym (pairs-length m.entries holds.linked)) in
     let hash_of = hash_by g.K.Hash.hash_input g.S.BuildHasher g.S.Hasher.Hasher in
     subst (λ n. Holds g.K.PartialEq.eq hash_of c.move_to.new.self (record rest { shrunk = n })) (sym rises)
     (shrinks_holds m.entries c.move_to.new.self c.in-Some.count holds.linked e.linked e.buckets e.pairs e.room
-    e.placings rest g.K.PartialEq.eq hash_of holds e.fits (omega (arith, c.if-buckets-count.false, c.buckets.ensures.buckets)))
+    e.placings rest g.K.PartialEq.eq hash_of holds e.fits
+    (omega (arith, c.if-buckets-count.false, c.buckets.ensures.buckets)))
 
 pub returns : goal.returns
 returns g c =
     let m = c.self.inside in let e = c.in_ok-move_to.ensures in let holds = c.self.invariant in
-    let rest = beside m.limiter m.hasher m.moved m.placed m.shrunk m.entry_bytes
-    (g.L.LinkType.LinkType.number g.L.LinkType.LinkType.MAX) in
+    let rest = beside_of m (g.L.LinkType.LinkType.number g.L.LinkType.LinkType.MAX) in
     let st = state_of m.entries rest in
     let is = needs rest m.entries holds.linked (c.into_usize.ensures ∙ ap g.L.LinkType.LinkType.number c.MAX.ensures)
     c.len-len.ensures.len c.in-Some.ensures.value in

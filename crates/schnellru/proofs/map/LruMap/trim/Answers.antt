@@ -5,7 +5,7 @@ use Rattle.schnellru.specs.HandedOver.{noting, noted}
 use Rattle.schnellru.proofs.PairLists.Emptiness.{empty-length, some-length}
 use Rattle.schnellru.proofs.LinkedTables.BucketPairs.{pairs-length}
 use Rattle.schnellru.proofs.Maps.LeavingPairs.{length-without_last, leaves_self, trim-within, trim-empty}
-use Rattle.schnellru.proofs.Maps.Trimmed.{trims_more}
+use Rattle.schnellru.proofs.Maps.Trims.{trims_more}
 use Rattle.schnellru.proofs.map.LruMap.trim.Goals as goal
 
 pub evictions-init : goal.evictions-init

@@ -1,7 +1,7 @@
 -- There are pairs. What the limiter was not over of was handed over, and as much as was to leave is still to leave.
 use Rattle.std.proofs.Common.{◌<◌, length}
 use denote.Param.Always.{always_mut}
-use Rattle.schnellru.proofs.Maps.Trimmed.{IsTrimmedTo}
+use Rattle.schnellru.proofs.Maps.Trims.{IsTrimmedTo}
 use Rattle.schnellru.proofs.map.LruMap.trim.Given as goal
 
 abbrev pub invariant-evictions : goal.invariant-evictions

@@ -1,11 +1,11 @@
--- Which pairs a placing gives up.
+-- Which pairs a placing keeps where growth is refused, and where it is not.
 use Rattle.std.proofs.Common.{◌≡◌, ◌≢◌, ℕ, suc, ◌+◌, ◌-◌, ◌/◌, ◌<◌, ◌≤◌, ◌⊎◌, inl, inr, [], ◌∷◌, length}
 use Rattle.std.proofs.Common.{refl, sym, ap, ◌∙◌, arith}
 use Rattle.std.proofs.lemmas.Bool.{true≢false}
 use Rattle.group_table.specs.Sizes.{full_capacity}
 use Rattle.lru_limits.specs.Rules.{Rules}
 use Rattle.schnellru.specs.Lists.{without_last}
-use Rattle.schnellru.specs.State.{State, buckets, room, contents, Leaves, pops}
+use Rattle.schnellru.specs.State.{State, buckets, contents, pops}
 use Rattle.schnellru.specs.Sizes.{no_table, new_table}
 use Rattle.schnellru.specs.Place.{Place, first_table, first_denied, first_too_large, empty_with_room}
 use Rattle.schnellru.specs.Place.{empty_without_room, with_room, deleted_bucket, rehashed, grown, evicting}
@@ -190,19 +190,3 @@ module _ {K V S H : Type 0} (rules : Rules K V S) (hash_of : H → K → ℕ) (p
 
     pub keeps_or_refused : (new.pairs ≡ pair ∷ old.pairs) ⊎ IsRefusedGrowth rules old
     keeps_or_refused = elim (place_keeps placed new refl step) [ inl k ↦ inl k.pairs | inr w ↦ inr w.0 ]
-
--- in a table of up to 16 buckets, one that leaves makes room
-pub room_after : {K V S H : Type 0} (rules : Rules K V S) (n : ℕ) (mid left : State K V S H)
-    → Leaves mid (pops rules n (contents mid)) left
-    → buckets mid ≤ 16 → n ≤ length mid.pairs → room mid ≡ 0 → room left ≡ 0 → n ≡ 0
-room_after rules n mid left step small enough none still =
-    omega (
-      arith,
-      step.room.exact small,
-      none,
-      still,
-      ap (λ st. length st.pairs) step.is,
-      length-pops rules n
-          (contents mid),
-      enough,
-    )
