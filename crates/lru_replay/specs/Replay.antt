@@ -53,9 +53,9 @@ abbrev pub IsOutputSoFar : List (List ℕ) → List ℕ → Type 0
 IsOutputSoFar [] text = text ≡ []
 IsOutputSoFar (first ∷ others) text = IsOutput (first ∷ others) text
 
--- What follows says what `LineRuns` says of any texts, of those of a replay. The arguments are what the reader had
--- left, where it is known, what it has left now, unless the word does not speak of it, and the writer's bytes before
--- and after.
+-- Below, `WritesText` and `WritesTextSoFar` of `LineRuns` are used with the texts of a replay. The arguments are what
+-- the reader had left, where it is known, what it has left now, unless the word does not speak of it, and the writer's
+-- bytes before and after.
 
 -- A replay of all the lines was written.
 abbrev pub WritesReplay : Option (List ℕ) → Option (List ℕ) → Option (List ℕ) → Type 0
