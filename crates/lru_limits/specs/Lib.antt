@@ -1,6 +1,7 @@
 pub mod Rules
 pub mod Laws
 pub mod Stores
+pub mod Limiters
 pub mod Texts
 pub mod Keys
 pub mod Budget

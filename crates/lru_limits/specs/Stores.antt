@@ -56,9 +56,9 @@ pub given-names : {S K V : Type 0} {accepts : Bool} {s t : S} {i k : K} {v w : V
 given-names {accepts} {s} {t} {i} {k} {v} {w} E reflexive h =
     subst (λ x. IsTrue (E i x)) (sym (ap (λ p. p.0) (given-is accepts s i v t (k, w) h))) (reflexive i)
 
-pub hands_over-lawful : {K V S : Type 0} (eq : K → K → Bool) → IsEquivalence eq → (admits : S → K → V → Bool)
+pub hands_over-lawful : {K V S : Type 0} {admits : S → K → V → Bool} (eq : K → K → Bool) → IsEquivalence eq
     → IsInsertion eq eq (hands_over admits)
-hands_over-lawful eq e admits = record {
+hands_over-lawful eq e = record {
   names_given = λ s n i v t k w given. given-names eq e.refl given;
   keeps_key = λ s n k i v w named. e.refl k;
 }

@@ -16,7 +16,8 @@ use std::hash::Hash;
 /// Each callback accepts every state, length, key and value. What it says or leaves is a function of these: the impl
 /// gives the four functions as `rules`, and the check proves that the code computes them. So whoever knows the `rules`
 /// of a limiter knows what a map does under it. For a limiter that never changes, the helper `plain` of
-/// `specs/Stores.antt` gives them in one line.
+/// `specs/Stores.antt` gives them in one line. Those of this crate stand in `specs/Limiters.antt` and
+/// `specs/Budget.antt`.
 pub trait Limiter<K, V> {
     /// The type of the links of the map, which limits how many pairs it can have.
     type LinkType: LinkType;

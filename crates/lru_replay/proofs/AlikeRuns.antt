@@ -29,7 +29,8 @@ use Rattle.schnellru.specs.declared.map.reserve.ReserveError.TheVariants.{TooLar
 use Rattle.lru_replay.specs.CallRuns.{IsRun, CallStep, SummingStep, KeepsCost, HasPlainSearch, StoresPairs}
 use Rattle.lru_replay.specs.Figures.{IsFigures}
 use Rattle.lru_replay.specs.Replies.{Reply, flag, given, value, pair, listed, reserved, shrunk, stats, done, no_memory}
-use Rattle.lru_replay.specs.Replies.{insert_reply, made_reply, cost_differs, Want, found_all, lacks, lacks_beside, want_of}
+use Rattle.lru_replay.specs.Replies.{insert_reply, made_reply, cost_differs, Want, found_all, lacks, lacks_beside}
+use Rattle.lru_replay.specs.Replies.{want_of}
 use Rattle.lru_replay.specs.Steps.{Step, FindsByHash, found, not_found, promoted_if}
 use Rattle.lru_replay.specs.declared.call.Call.{Call}
 use Rattle.lru_replay.specs.declared.call.Call.TheVariants as calls
@@ -194,7 +195,8 @@ module _ {K V S H : Type 0} (rules : Rules K V S) (offers : Offers K V S K) (eq 
             let errs = sym (given_wants result out) ∙ ap wants_memory (sym is) ∙ both_short
             ∙ ap wants_memory is' ∙ given_wants result' out' in
             let both = small_inserts_alike (noting rules) (noting_offers offers) eq k v noting_determined
-            (λ s n i w. never s.0 n i w) (noted [] old) result (noted out new) (noted [] other) result' (noted out' last)
+            (λ s n i w. never s.0 n i w) (noted [] old) result (noted out new)
+            (noted [] other) result' (noted out' last)
             small after too (noted_alike [] old other alike) errs h h' in
             let pairs : out ≡ out' = sym (ap (λ st. st.limiter.1) both.1.state) in
             (is ∙ (λ j. given (both.0 j) (pairs j)) ∙ sym is', plain_alike out out' new last both.1)

@@ -5,7 +5,7 @@ use Rattle.std.specs.Prelude.{◌||◌, is_some, if◌then◌else◌}
 use Rattle.std.proofs.lemmas.List.{append-nil}
 use Rattle.schnellru.specs.Lists.{is_empty}
 use Rattle.lru_replay.specs.Output.{pair_text, rest_text, pairs_text, taken_text}
-use Rattle.lru_replay.proofs.Written.{rest_text-append}
+use Rattle.lru_replay.proofs.WrittenTexts.{rest_text-append}
 
 -- the pairs with one space between them, and nothing for none
 abbrev pub spaced : List (ℕ × ℕ) → List ℕ

@@ -5,7 +5,8 @@ use Rattle.group_table.specs.Table.{IsTable}
 use Rattle.group_table.proofs.CountedMarks.{IsTable-counted}
 use Rattle.schnellru.specs.Sizes.{usage}
 use Rattle.schnellru.specs.State.{IsSized}
-use Rattle.lru_replay.specs.Limits.{length_offers, cost_offers, all_offers, AlwaysOffers}
+use Rattle.lru_limits.specs.Limiters.{length_offers, all_offers}
+use Rattle.lru_replay.specs.Limits.{cost_offers, AlwaysOffers}
 use Rattle.lru_replay.specs.Maps.{empty}
 
 no_table : IsTable []

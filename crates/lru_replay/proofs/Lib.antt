@@ -1,10 +1,10 @@
 pub mod ByteLists
 pub mod Numbers
 pub mod Options
-pub mod Written
+pub mod WrittenTexts
 pub mod LineLists
-pub mod Spelled
-pub mod Held
+pub mod SpelledLines
+pub mod HeldBytes
 pub mod EmptyMaps
 pub mod Pops
 pub mod KeptPairs
@@ -14,7 +14,7 @@ pub mod CallRuns
 pub mod LineRuns
 pub mod AnsweredLines
 pub mod EndedReplays
-pub mod Made
+pub mod MadeValues
 pub mod CallKinds
 pub mod SummedCalls
 pub mod CallLaws

@@ -13,7 +13,7 @@ use Rattle.lru_replay.specs.Output.{reply_text, bad_text}
 use Rattle.lru_replay.specs.LineRuns.{LineStep, IsLineRun}
 use Rattle.lru_replay.proofs.CallRuns.{run-append, run_holds, some_run}
 use Rattle.lru_replay.proofs.SomeSteps.{some_step}
-use Rattle.lru_replay.proofs.Spelled.{spelled_or, Spelled}
+use Rattle.lru_replay.proofs.SpelledLines.{spelled_or, Spelled}
 
 module _ {S : Type 0} (rules : Rules ℕ ℕ S) (offers : Offers ℕ ℕ S ℕ) (told : S → Option ℕ) where
   pub line_run-append : (a : Map S) (lines : List (List ℕ)) (t : List ℕ) (b : Map S) (more : List (List ℕ))

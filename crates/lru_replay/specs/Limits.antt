@@ -1,21 +1,8 @@
--- What the limiter of each limit says: `ByLength` for a length, `ByMemoryUsage` for memory, `ByCost` for a cost, and
--- `UnlimitedCompact` for none.
-use Rattle.std.specs.Prelude.{ℕ, Option, Some, None, true, false, nat_lt, nat_le}
+-- What the limiter of a limit by cost says, which is `ByCost`, and which cost a limiter keeps. `Limiters` has what the
+-- limiters of the other limits say.
+use Rattle.std.specs.Prelude.{ℕ, Option, Some, None}
 use Rattle.lru_limits.specs.Rules.{Rules, Offers}
 use Rattle.lru_limits.specs.Budget.{Budget, by_cost, charges}
-use Rattle.lru_limits.specs.Stores.{plain, hands_over}
-
--- more pairs than the length are over the limit, and any growth is permitted
-abbrev pub length_rules : Rules ℕ ℕ ℕ
-length_rules = plain (λ most count. nat_lt most count) (λ _ _. true)
-
--- pairs are stored as they come, unless the length is 0
-abbrev pub length_offers : Offers ℕ ℕ ℕ ℕ
-length_offers = hands_over (λ most _ _. nat_lt 0 most)
-
--- nothing is over the limit, and a table of more bytes than it is refused
-abbrev pub memory_rules : Rules ℕ ℕ ℕ
-memory_rules = plain (λ _ _. false) (λ most bytes. nat_le bytes most)
 
 -- more costs than the limit are over it, where a value's cost is itself, and any growth is permitted
 abbrev pub cost_rules : Rules ℕ ℕ Budget
@@ -33,14 +20,6 @@ module _ {S : Type 0} where
   -- no cost is kept
   abbrev pub no_cost : S → Option ℕ
   no_cost s = None
-
-  -- nothing is over the limit, and any growth is permitted
-  abbrev pub no_rules : Rules ℕ ℕ S
-  no_rules = plain (λ _ _. false) (λ _ _. true)
-
-  -- pairs are stored as they come
-  abbrev pub all_offers : Offers ℕ ℕ S ℕ
-  all_offers = hands_over (λ _ _ _. true)
 
   -- the limiter has an answer to each pair that is offered
   abbrev pub AlwaysOffers : Offers ℕ ℕ S ℕ → Type 0

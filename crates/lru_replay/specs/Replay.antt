@@ -1,6 +1,7 @@
 -- A whole replay: what is written of an input, at its end and where a read or a write fails.
 use Rattle.std.specs.Prelude.{◌≡◌, ℕ, List, [], ◌∷◌, ◌⊎◌, Option, OnSome, IfSome, Result, Ok, Err}
 use Rattle.std.specs.Io.KnownBytes.{Appends, IsAtEnd}
+use Rattle.lru_limits.specs.Limiters.{length_rules, length_offers, memory_rules, no_rules, all_offers}
 use Rattle.lru_limits.specs.declared.limiters.unlimited_compact.UnlimitedCompact.{UnlimitedCompact}
 use Rattle.lru_replay.specs.declared.command.Limit.{Limit}
 use Rattle.lru_replay.specs.declared.command.Limit.TheVariants as limits
@@ -10,22 +11,23 @@ use Rattle.lru_replay.specs.declared.outcome.ReplayError.{ReplayError}
 use Rattle.lru_replay.specs.declared.outcome.ReplayError.TheVariants as errors
 use Rattle.schnellru.specs.Lists.{IsFront}
 use Rattle.lru_replay.specs.Grammar.{SpellsLimit}
-use Rattle.lru_replay.specs.Limits.{length_rules, length_offers, memory_rules, cost_rules, cost_offers, no_rules}
-use Rattle.lru_replay.specs.Limits.{all_offers, no_cost, cost_told}
+use Rattle.lru_replay.specs.Limits.{cost_rules, cost_offers, no_cost, cost_told}
 use Rattle.lru_replay.specs.Lines.{lines_of, TakesFirst, TakesLines, TakesAll}
-use Rattle.lru_replay.specs.Maps.{empty, links_of_32_bits, links_of_64_bits}
+use Rattle.lru_replay.specs.Maps.{empty, usual_entry_bytes, links_of_32_bits, links_of_64_bits}
 use Rattle.lru_replay.specs.Output.{no_limiter_text}
 use Rattle.lru_replay.specs.LineRuns.{IsTextOf, WritesText, WritesTextSoFar}
 
 -- The lines are answered by this text, from the empty map under the limit.
 abbrev pub IsTextUnder : Limit → List (List ℕ) → List ℕ → Type 0
-IsTextUnder (limits.Length most) = IsTextOf length_rules length_offers no_cost (empty most 32 links_of_32_bits)
+IsTextUnder (limits.Length most) =
+    IsTextOf length_rules length_offers no_cost (empty most usual_entry_bytes links_of_32_bits)
 IsTextUnder (limits.Memory budget entry_bytes) =
     IsTextOf memory_rules all_offers no_cost (empty budget entry_bytes links_of_32_bits)
 IsTextUnder (limits.Cost most) =
-    IsTextOf cost_rules cost_offers cost_told (empty (record { limit = most; cost = 0 }) 32 links_of_64_bits)
+    IsTextOf cost_rules cost_offers cost_told
+    (empty (record { limit = most; cost = 0 }) usual_entry_bytes links_of_64_bits)
 IsTextUnder limits.Compact =
-    IsTextOf {S = UnlimitedCompact} no_rules all_offers no_cost (empty (record {}) 32 links_of_32_bits)
+    IsTextOf {S = UnlimitedCompact} no_rules all_offers no_cost (empty (record {}) usual_entry_bytes links_of_32_bits)
 
 -- The first line names a limit, and the others are answered by this text, from the empty map under that limit.
 abbrev pub IsReplay : List (List ℕ) → List ℕ → Type 0
@@ -51,8 +53,9 @@ abbrev pub IsOutputSoFar : List (List ℕ) → List ℕ → Type 0
 IsOutputSoFar [] text = text ≡ []
 IsOutputSoFar (first ∷ others) text = IsOutput (first ∷ others) text
 
--- The arguments below are, as in `Runs`, what the reader had left, where it is known, what it has left now, unless the
--- word does not speak of it, and the writer's bytes before and after.
+-- Below, `WritesText` and `WritesTextSoFar` of `LineRuns` are used with the texts of a replay. The arguments are what
+-- the reader had left, where it is known, what it has left now, unless the word does not speak of it, and the writer's
+-- bytes before and after.
 
 -- A replay of all the lines was written.
 abbrev pub WritesReplay : Option (List ℕ) → Option (List ℕ) → Option (List ℕ) → Type 0

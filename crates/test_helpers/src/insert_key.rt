@@ -1,7 +1,8 @@
 //! Texts that become a `String` only when they are stored, and a limiter that counts them. `docs/LIMITERS.md` explains
 //! both.
-ghost use Rattle.std.specs.Prelude.{◌≡◌, ◌+◌, ⊤, true, false, min, string_bytes};
-ghost use Rattle.lru_limits.specs.Stores.{plain, replaces, HandsOver, given-names};
+ghost use Rattle.std.specs.Prelude.{◌≡◌, ◌+◌, ⊤, true, min, string_bytes};
+ghost use Rattle.lru_limits.specs.Limiters.{no_rules};
+ghost use Rattle.lru_limits.specs.Stores.{replaces, HandsOver, given-names};
 ghost use Rattle.lru_limits.specs.Texts.{names_text, names_text-lawful, GivesText, given-names_text, same_text};
 
 use lru_limits::{Insertion, Limiter, LookupKey};
@@ -33,7 +34,7 @@ pub struct Counting {
 impl Limiter<String, u32> for Counting {
     type LinkType = u32;
 
-    ghost rules = { plain (λ _ _. false) (λ _ _. true) };
+    ghost rules = { no_rules };
 
     fn is_over_the_limit(&self, _length: usize) -> bool {
         false

@@ -1,7 +1,8 @@
 //! Limiters of maps from numbers to numbers, which tell what they were told and asked.
 ghost use Rattle.std.specs.Prelude.{◌≡◌, ◌+◌, true, false, not, if◌then◌else◌, min, nat_eq, nat_le};
 ghost use Rattle.std.specs.Cmp.{nat_eq_equiv};
-ghost use Rattle.lru_limits.specs.Stores.{plain, hands_over, hands_over-lawful, answers};
+ghost use Rattle.lru_limits.specs.Limiters.{no_rules, all_offers};
+ghost use Rattle.lru_limits.specs.Stores.{hands_over-lawful, answers};
 
 use lru_limits::{Insertion, Limiter, LinkType};
 use std::alloc::{AllocError, Global};
@@ -14,7 +15,7 @@ pub struct LinkedBy<N>(pub PhantomData<N>);
 impl<N: LinkType> Limiter<u64, u64> for LinkedBy<N> {
     type LinkType = N;
 
-    ghost rules = { plain (λ _ _. false) (λ _ _. true) };
+    ghost rules = { no_rules };
 
     fn is_over_the_limit(&self, _length: usize) -> bool {
         false
@@ -30,7 +31,7 @@ impl<N: LinkType> Limiter<u64, u64> for LinkedBy<N> {
 }
 
 impl<N: LinkType> Insertion<u64, u64, u64> for LinkedBy<N> {
-    ghost offers = { hands_over (λ _ _ _. true) };
+    ghost offers = { all_offers };
 
     fn on_insert(
         &mut self,
@@ -53,7 +54,7 @@ impl<N: LinkType> Insertion<u64, u64, u64> for LinkedBy<N> {
         true
     }
 
-    ghost laws = { hands_over-lawful nat_eq nat_eq_equiv (λ _ _ _. true) };
+    ghost laws = { hands_over-lawful nat_eq nat_eq_equiv };
 }
 
 /// Over at every length or at none, permits each second growth, and keeps what it was told and asked.
@@ -126,7 +127,7 @@ impl Limiter<u64, u64> for Telling {
 }
 
 impl Insertion<u64, u64, u64> for Telling {
-    ghost offers = { hands_over (λ _ _ _. true) };
+    ghost offers = { all_offers };
 
     fn on_insert(
         &mut self,
@@ -149,7 +150,7 @@ impl Insertion<u64, u64, u64> for Telling {
         true
     }
 
-    ghost laws = { hands_over-lawful nat_eq nat_eq_equiv (λ _ _ _. true) };
+    ghost laws = { hands_over-lawful nat_eq nat_eq_equiv };
 }
 
 /// Permits tables of at most so many bytes, and keeps how many pairs it was told of, the last one, and how often it was
@@ -213,7 +214,7 @@ impl Limiter<u64, u64> for Within {
 }
 
 impl Insertion<u64, u64, u64> for Within {
-    ghost offers = { hands_over (λ _ _ _. true) };
+    ghost offers = { all_offers };
 
     fn on_insert(
         &mut self,
@@ -236,7 +237,7 @@ impl Insertion<u64, u64, u64> for Within {
         true
     }
 
-    ghost laws = { hands_over-lawful nat_eq nat_eq_equiv (λ _ _ _. true) };
+    ghost laws = { hands_over-lawful nat_eq nat_eq_equiv };
 }
 
 /// Limits nothing, writes a 0 into each value that leaves, and into its key where it is told to, and keeps the last
@@ -279,7 +280,7 @@ impl Limiter<u64, u64> for Blanking {
 }
 
 impl Insertion<u64, u64, u64> for Blanking {
-    ghost offers = { hands_over (λ _ _ _. true) };
+    ghost offers = { all_offers };
 
     fn on_insert(
         &mut self,
@@ -302,5 +303,5 @@ impl Insertion<u64, u64, u64> for Blanking {
         true
     }
 
-    ghost laws = { hands_over-lawful nat_eq nat_eq_equiv (λ _ _ _. true) };
+    ghost laws = { hands_over-lawful nat_eq nat_eq_equiv };
 }

@@ -155,8 +155,8 @@ fn text_of(met: usize) -> &'static [u8] {
     }
 }
 
-// `replay`, by `done`, with so many of the requests met: what is written is the text of a run in which want of memory is
-// an answer.
+// `replay`, by `done`, with so many of the requests met: what is written is the text of a run in which want of memory
+// is an answer.
 fn lines_with(
     rt: &(impl Abort + AllocGlobal),
     input: &[u8],

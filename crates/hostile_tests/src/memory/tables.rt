@@ -1,5 +1,5 @@
-//! A table that is rehashed where its entries stand. It takes one vector of links and fresh control bytes, and no second
-//! table: no clause counts requests.
+//! A table that is rehashed where its entries stand. It takes one vector of links and fresh control bytes, and no
+//! second table: no clause counts requests.
 use super::*;
 use group_table::{Table, buckets_for_capacity, full_capacity};
 

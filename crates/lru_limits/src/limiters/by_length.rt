@@ -1,6 +1,7 @@
 //! The limiter by the number of pairs.
-ghost use Rattle.std.specs.Prelude.{◌≡◌, true, nat_lt};
-ghost use Rattle.lru_limits.specs.Stores.{plain, hands_over, hands_over-lawful};
+ghost use Rattle.std.specs.Prelude.{◌≡◌};
+ghost use Rattle.lru_limits.specs.Limiters.{length_rules, length_offers};
+ghost use Rattle.lru_limits.specs.Stores.{hands_over-lawful};
 
 use crate::keys::LookupKey;
 use crate::limiter::{Insertion, Limiter};
@@ -63,7 +64,7 @@ impl From<u32> for ByLength {
 impl<K, V> Limiter<K, V> for ByLength {
     type LinkType = u32;
 
-    ghost rules = { plain (λ most length. nat_lt most length) (λ _ _. true) };
+    ghost rules = { length_rules };
 
     #[inline]
     fn is_over_the_limit(&self, length: usize) -> bool {
@@ -83,7 +84,7 @@ impl<K, V> Limiter<K, V> for ByLength {
 }
 
 impl<K: Eq + Hash + Drop, V: Drop> Insertion<K, V, K> for ByLength {
-    ghost offers = { hands_over (λ most _ _. nat_lt 0 most) };
+    ghost offers = { length_offers };
 
     #[inline]
     fn on_insert(
@@ -112,5 +113,5 @@ impl<K: Eq + Hash + Drop, V: Drop> Insertion<K, V, K> for ByLength {
         true
     }
 
-    ghost laws = { hands_over-lawful K.eq K.Eq.laws (λ most _ _. nat_lt 0 most) };
+    ghost laws = { hands_over-lawful K.eq K.Eq.laws };
 }

@@ -1,6 +1,7 @@
 //! The limiter by the size of the table.
-ghost use Rattle.std.specs.Prelude.{◌≡◌, true, false, nat_le};
-ghost use Rattle.lru_limits.specs.Stores.{plain, hands_over, hands_over-lawful};
+ghost use Rattle.std.specs.Prelude.{◌≡◌};
+ghost use Rattle.lru_limits.specs.Limiters.{memory_rules, all_offers};
+ghost use Rattle.lru_limits.specs.Stores.{hands_over-lawful};
 
 use crate::keys::LookupKey;
 use crate::limiter::{Insertion, Limiter};
@@ -63,7 +64,7 @@ impl From<usize> for ByMemoryUsage {
 impl<K, V> Limiter<K, V> for ByMemoryUsage {
     type LinkType = u32;
 
-    ghost rules = { plain (λ _ _. false) (λ most bytes. nat_le bytes most) };
+    ghost rules = { memory_rules };
 
     #[inline]
     fn is_over_the_limit(&self, _length: usize) -> bool {
@@ -83,7 +84,7 @@ impl<K, V> Limiter<K, V> for ByMemoryUsage {
 }
 
 impl<K: Eq + Hash + Drop, V: Drop> Insertion<K, V, K> for ByMemoryUsage {
-    ghost offers = { hands_over (λ _ _ _. true) };
+    ghost offers = { all_offers };
 
     #[inline]
     fn on_insert(
@@ -108,5 +109,5 @@ impl<K: Eq + Hash + Drop, V: Drop> Insertion<K, V, K> for ByMemoryUsage {
         true
     }
 
-    ghost laws = { hands_over-lawful K.eq K.Eq.laws (λ _ _ _. true) };
+    ghost laws = { hands_over-lawful K.eq K.Eq.laws };
 }

@@ -1,6 +1,6 @@
 //! The limiter that limits nothing.
-ghost use Rattle.std.specs.Prelude.{true, false};
-ghost use Rattle.lru_limits.specs.Stores.{plain, hands_over, hands_over-lawful};
+ghost use Rattle.lru_limits.specs.Limiters.{no_rules, all_offers};
+ghost use Rattle.lru_limits.specs.Stores.{hands_over-lawful};
 
 use crate::keys::LookupKey;
 use crate::limiter::{Insertion, Limiter};
@@ -18,7 +18,7 @@ pub struct Unlimited;
 impl<K, V> Limiter<K, V> for Unlimited {
     type LinkType = usize;
 
-    ghost rules = { plain (λ _ _. false) (λ _ _. true) };
+    ghost rules = { no_rules };
 
     #[inline]
     fn is_over_the_limit(&self, _length: usize) -> bool {
@@ -38,7 +38,7 @@ impl<K, V> Limiter<K, V> for Unlimited {
 }
 
 impl<K: Eq + Hash + Drop, V: Drop> Insertion<K, V, K> for Unlimited {
-    ghost offers = { hands_over (λ _ _ _. true) };
+    ghost offers = { all_offers };
 
     #[inline]
     fn on_insert(
@@ -63,5 +63,5 @@ impl<K: Eq + Hash + Drop, V: Drop> Insertion<K, V, K> for Unlimited {
         true
     }
 
-    ghost laws = { hands_over-lawful K.eq K.Eq.laws (λ _ _ _. true) };
+    ghost laws = { hands_over-lawful K.eq K.Eq.laws };
 }

@@ -1,7 +1,8 @@
 //! The pairs that `insert_with` hands over: which, in which order, and when.
 ghost use Rattle.std.specs.Prelude.{◌≡◌, true, nat_lt, nat_eq};
 ghost use Rattle.std.specs.Cmp.{nat_eq_equiv};
-ghost use Rattle.lru_limits.specs.Stores.{hands_over, hands_over-lawful, answers};
+ghost use Rattle.lru_limits.specs.Limiters.{all_offers};
+ghost use Rattle.lru_limits.specs.Stores.{hands_over-lawful, answers};
 
 use super::*;
 use schnellru::{ByCost, ByLength, ByMemoryUsage, Insertion, Limiter};
@@ -153,7 +154,7 @@ impl Limiter<u64, u64> for Noting<'_> {
 }
 
 impl Insertion<u64, u64, u64> for Noting<'_> {
-    ghost offers = { hands_over (λ _ _ _. true) };
+    ghost offers = { all_offers };
 
     fn on_insert(
         &mut self,
@@ -177,7 +178,7 @@ impl Insertion<u64, u64, u64> for Noting<'_> {
         true
     }
 
-    ghost laws = { hands_over-lawful nat_eq nat_eq_equiv (λ _ _ _. true) };
+    ghost laws = { hands_over-lawful nat_eq nat_eq_equiv };
 }
 
 // The limiter and the sink note their steps on one cell: each pair is handed over right after the limiter was told of

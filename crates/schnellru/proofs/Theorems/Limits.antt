@@ -2,11 +2,11 @@
 use Rattle.std.proofs.Common.{◌≡◌, ℕ, suc, ◌≤◌, ◌⊎◌, inl, inr, Bool, true, false, cond, List, [], ◌∷◌, length, Option}
 use Rattle.std.proofs.Common.{Some, None, Result, refl, sym, ap, ◌∙◌, subst, arith}
 use Rattle.std.proofs.lemmas.Bool.Decides.{nat_tests}
-use Rattle.std.specs.Prelude.{nat_lt, nat_le}
 use Rattle.std.specs.declared.alloc.AllocError.{AllocError}
 use Rattle.schnellru.proofs.PairLists.Emptiness.{empty-length}
 use Rattle.lru_limits.specs.Rules.{Rules, Offers}
 use Rattle.lru_limits.specs.Stores.{plain, hands_over}
+use Rattle.lru_limits.specs.Limiters.{length_rules, length_offers, memory_rules, all_offers}
 use Rattle.schnellru.specs.Sizes.{usage}
 use Rattle.schnellru.specs.Lists.{last, lookup_entry, without}
 use Rattle.schnellru.specs.State.{State, buckets, contents, told_of}
@@ -133,22 +133,19 @@ uses_at_most rules P more anew old new within same t uses = go t.count
 -- a limit by length
 pub by_length_stays : {K V H : Type 0} (names : K → K → Bool) (hash_of : H → K → ℕ) (k : K) (v : V)
     (old : State K V ℕ H) (result : Result Bool AllocError) (new : State K V ℕ H) →
-    Insert (plain (λ most n. nat_lt most n) (λ _ _. true))
-    (hands_over (λ most _ _. nat_lt 0 most)) names hash_of k v old result new → length old.pairs ≤ old.limiter
+    Insert length_rules length_offers names hash_of k v old result new → length old.pairs ≤ old.limiter
     → length new.pairs ≤ old.limiter
 by_length_stays names hash_of k v old result new step few =
-    length_at_most (plain (λ most n. nat_lt most n) (λ _ _. true)) old new (λ n e. grind (arith, nat_tests))
+    length_at_most length_rules old new (λ n e. grind (arith, nat_tests))
     (insert_changes keeps_limiter k v old result new step).moves (insert_within (λ _. 1) step) few
 
 -- a limit by memory usage
 pub by_memory_usage_stays : {K V H : Type 0} (names : K → K → Bool) (hash_of : H → K → ℕ) (k : K) (v : V)
     (old : State K V ℕ H) (result : Result Bool AllocError) (new : State K V ℕ H) →
-    Insert (plain (λ _ _. false) (λ most bytes. nat_le bytes most))
-    (hands_over (λ _ _ _. true)) names hash_of k v old result new → UsesAtMost old.limiter old
+    Insert memory_rules all_offers names hash_of k v old result new → UsesAtMost old.limiter old
     → UsesAtMost old.limiter new
 by_memory_usage_stays names hash_of k v old result new step uses =
-    uses_at_most (plain (λ _ _. false) (λ most bytes. nat_le bytes most)) _ 1 0 old new
-    (λ bytes e. grind (arith, nat_tests)) (λ s p. p.1)
+    uses_at_most memory_rules _ 1 0 old new (λ bytes e. grind (arith, nat_tests)) (λ s p. p.1)
     (insert_changes keeps_limiter k v old result new step).tables uses
 
 -- neither changes

@@ -1,8 +1,7 @@
 -- A limit by length and one by memory usage, over runs of calls.
-use Rattle.std.proofs.Common.{ℕ, ◌≤◌, Bool, true, false, length, Result, sym, ap, subst, arith}
+use Rattle.std.proofs.Common.{ℕ, ◌≤◌, Bool, true, length, Result, sym, ap, subst, arith}
 use Rattle.std.proofs.lemmas.Bool.Decides.{nat_tests}
-use Rattle.std.specs.Prelude.{nat_lt, nat_le}
-use Rattle.lru_limits.specs.Stores.{plain, hands_over}
+use Rattle.lru_limits.specs.Limiters.{length_rules, length_offers, memory_rules, all_offers}
 use Rattle.schnellru.specs.State.{State}
 use Rattle.schnellru.specs.GetOrInserts.{got, inserted}
 use Rattle.schnellru.specs.Reservations.{Reserve}
@@ -20,11 +19,9 @@ use Rattle.schnellru.proofs.Theorems.Shrinks.{shrunk_list}
 
 pub reserve_uses_at_most : {K V H : Type 0} (names : K → K → Bool) (n : ℕ) (old : State K V ℕ H)
     (result : Result (Unit {0}) ReserveError) (new : State K V ℕ H)
-    → Reserve (plain (λ _ _. false) (λ most bytes. nat_le bytes most)) n old result new → UsesAtMost old.limiter old
-    → UsesAtMost old.limiter new
+    → Reserve memory_rules n old result new → UsesAtMost old.limiter old → UsesAtMost old.limiter new
 reserve_uses_at_most names n old result new h = uses_at_most
-    (plain (λ _ _. false) (λ most bytes. nat_le bytes most)) _ _ _ old new (λ bytes e. grind (arith, nat_tests))
-    (λ s p. p.1)
+    memory_rules _ _ _ old new (λ bytes e. grind (arith, nat_tests)) (λ s p. p.1)
     (reserve_changes (keeps_limiter {admits = λ _ _ _. true} {names = names}).keeps.way n old result new h).tables
 
 module _ {K V H : Type 0} (names : K → K → Bool) (hash_of : H → K → ℕ) where
@@ -33,8 +30,7 @@ module _ {K V H : Type 0} (names : K → K → Bool) (hash_of : H → K → ℕ)
     fewer : length new.pairs ≤ length old.pairs → length old.pairs ≤ old.limiter → length new.pairs ≤ old.limiter
     fewer h few = omega (arith, h, few)
 
-    step_stays_short : Step (plain (λ most n. nat_lt most n) (λ _ _. true))
-        (hands_over (λ most _ _. nat_lt 0 most)) names hash_of old new
+    step_stays_short : Step length_rules length_offers names hash_of old new
         → length old.pairs ≤ old.limiter → length new.pairs ≤ old.limiter
     step_stays_short (inserts k v result h) = by_length_stays names hash_of k v old result new h
     step_stays_short (makes_newest v k result (got w e r step)) = fewer
@@ -55,8 +51,7 @@ module _ {K V H : Type 0} (names : K → K → Bool) (hash_of : H → K → ℕ)
     step_stays_short (shrinks result h) = fewer (omega (arith, ap length (shrunk_list old result new h).0))
 
   pub run_stays_short : (new old : State K V ℕ H)
-      → Run (Step (plain (λ most n. nat_lt most n) (λ _ _. true))
-      (hands_over (λ most _ _. nat_lt 0 most)) names hash_of) new old
+      → Run (Step length_rules length_offers names hash_of) new old
       → length old.pairs ≤ old.limiter → length new.pairs ≤ old.limiter
   run_stays_short new old ends few = few
   run_stays_short new old (goes_on mid s sized r) few =
@@ -66,15 +61,13 @@ module _ {K V H : Type 0} (names : K → K → Bool) (hash_of : H → K → ℕ)
       (subst (λ most. length mid.pairs ≤ most) (sym same) (step_stays_short old mid s few)))
 
   -- a limit by memory usage
-  step_uses_at_most : (old new : State K V ℕ H) → Step (plain (λ _ _. false) (λ most bytes. nat_le bytes most))
-      (hands_over (λ _ _ _. true)) names hash_of old new
+  step_uses_at_most : (old new : State K V ℕ H) → Step memory_rules all_offers names hash_of old new
       → UsesAtMost old.limiter old → UsesAtMost old.limiter new
-  step_uses_at_most old new s = uses_at_most (plain (λ _ _. false) (λ most bytes. nat_le bytes most)) _ _ _ old new
+  step_uses_at_most old new s = uses_at_most memory_rules _ _ _ old new
       (λ bytes e. grind (arith, nat_tests)) (λ s p. p.1) (step_changes keeps_limiter old new s).2.tables
 
   pub run_uses_at_most : (new old : State K V ℕ H)
-      → Run (Step (plain (λ _ _. false) (λ most bytes. nat_le bytes most)) (hands_over (λ _ _ _. true)) names hash_of)
-      new old
+      → Run (Step memory_rules all_offers names hash_of) new old
       → UsesAtMost old.limiter old → UsesAtMost old.limiter new
   run_uses_at_most new old ends uses = uses
   run_uses_at_most new old (goes_on mid s sized r) uses =

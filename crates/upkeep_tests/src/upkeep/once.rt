@@ -1,7 +1,8 @@
 //! What leaves is dropped, and what is asked or copied once is asked or copied once.
-ghost use Rattle.std.specs.Prelude.{◌≡◌, true, false, nat_eq};
+ghost use Rattle.std.specs.Prelude.{◌≡◌, nat_eq};
 ghost use Rattle.std.specs.Cmp.{nat_eq_equiv};
-ghost use Rattle.lru_limits.specs.Stores.{plain, hands_over, hands_over-lawful};
+ghost use Rattle.lru_limits.specs.Limiters.{no_rules, all_offers};
+ghost use Rattle.lru_limits.specs.Stores.{hands_over-lawful};
 
 use super::*;
 use schnellru::{
@@ -153,7 +154,7 @@ impl Clone for Watched<'_> {
 impl Limiter<u64, Rc<u64>> for Watched<'_> {
     type LinkType = u32;
 
-    ghost rules = { plain (λ _ _. false) (λ _ _. true) };
+    ghost rules = { no_rules };
 
     fn is_over_the_limit(&self, _length: usize) -> bool {
         self.asked.set(self.asked.get().saturating_add(1));
@@ -172,7 +173,7 @@ impl Limiter<u64, Rc<u64>> for Watched<'_> {
 }
 
 impl Insertion<u64, Rc<u64>, u64> for Watched<'_> {
-    ghost offers = { hands_over (λ _ _ _. true) };
+    ghost offers = { all_offers };
 
     fn on_insert(
         &mut self,
@@ -195,7 +196,7 @@ impl Insertion<u64, Rc<u64>, u64> for Watched<'_> {
         true
     }
 
-    ghost laws = { hands_over-lawful nat_eq nat_eq_equiv (λ _ _ _. true) };
+    ghost laws = { hands_over-lawful nat_eq nat_eq_equiv };
 }
 
 /// A hasher that counts its copies and the hashers that it makes.

@@ -1,6 +1,6 @@
 use Rattle.std.proofs.Common.{subst}
 use Rattle.lru_replay.specs.Output.{Writes, taken_text}
-use Rattle.lru_replay.proofs.Written.{writes_after}
+use Rattle.lru_replay.proofs.WrittenTexts.{writes_after}
 use Rattle.lru_replay.proofs.drain.write_taken.Goals as goal
 
 pub returns : goal.returns

@@ -2,7 +2,7 @@ use Rattle.std.proofs.Common.{◌<◌, length, [], ◌∷◌, ◌++◌, take, sy
 use Rattle.std.proofs.lemmas.List.{length-take}
 use Rattle.std.specs.Io.KnownBytes.{Consumes}
 use Rattle.std.proofs.KnownBytes.{Consumes-trans}
-use Rattle.lru_replay.specs.declared.line.TheConstants.{HELD}
+use Rattle.lru_replay.specs.declared.line.TheConstants.{HELD, LONGEST}
 use Rattle.lru_replay.proofs.ByteLists.{Lacks-append, kept_again, nothing_held, some_held, Consumes_end}
 use Rattle.lru_replay.proofs.line.read_line.Goals as goal
 
@@ -38,7 +38,7 @@ returns-then-is_empty-clause-ok g c =
           Consumes-trans from at _ bytes _ part.1 taken.1,
           Consumes_end from at _ bytes part.1 taken.2,
         ),
-        nothing_held 48 _ (sym held ∙ c.if-is_empty.ensures),
+        nothing_held LONGEST _ (sym held ∙ c.if-is_empty.ensures),
       ),
       held,
     )

@@ -4,7 +4,7 @@ use Rattle.std.specs.Io.KnownBytes.{Appends}
 use Rattle.lru_replay.specs.declared.figures.Figures.{Figures}
 use Rattle.lru_replay.specs.declared.outcome.ReplayError.{ReplayError}
 use Rattle.lru_replay.specs.Output.{Fails, named_text, placed_text}
-use Rattle.lru_replay.proofs.Written.{writes_after, failed_front}
+use Rattle.lru_replay.proofs.WrittenTexts.{writes_after, failed_front}
 use Rattle.lru_replay.proofs.output.write_figures.Goals as goal
 
 -- a failure after a text that was written

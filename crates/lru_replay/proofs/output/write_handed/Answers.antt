@@ -4,7 +4,7 @@ use Rattle.std.proofs.lemmas.Result.{err_from_is_err_and}
 use Rattle.std.specs.Io.KnownBytes.{Appends}
 use Rattle.std.proofs.KnownBytes.{Appends-trans}
 use Rattle.lru_replay.specs.Output.{rest_text, pair_text}
-use Rattle.lru_replay.proofs.Written.{failed}
+use Rattle.lru_replay.proofs.WrittenTexts.{failed}
 use Rattle.lru_replay.proofs.output.write_handed.Goals as goal
 
 pub returns-in_err-write_bytes : goal.returns-in_err-write_bytes

@@ -7,15 +7,16 @@ use Rattle.lru_replay.proofs.pairs.insert_and_keep.Goals as goal
 pub returns-clause-handed : goal.returns-clause-handed
 returns-clause-handed g c =
     let (handed, took, step) = c.insert_with-done.ensures.handed in
-    let few = c.inserts_hand_over_few.ensures.few _ _ _ _ handed _ step in
+    let before = c.args.map.now in
+    let few = c.inserts_hand_over_few.ensures.few c.args.key c.args.value before c.insert_with-done.result handed
+    c.insert_with-done.new.self step in
     let all = all_kept _ (λ f. f.0) (λ f pair q called. record {
       same = search rules;
       capacity = search rules;
       items = search rules;
       len = search rules;
-    }) _ (length c.args.map.now.pairs + 1) handed _ (search rules) c.in_ok-out.ensures.items c.in_ok-out.ensures.len took
-    in
+    }) _ (length before.pairs + 1) handed _ (search rules) c.in_ok-out.ensures.items c.in_ok-out.ensures.len took in
     let items = all.items (omega (arith, few)) in
     subst (λ out. InsertHands g.L.Limiter.rules g.L.Insertion.offers g.K.PartialEq.eq
-    (hash_by g.K.Hash.hash_input g.S.BuildHasher g.S.Hasher.Hasher) c.args.key c.args.value c.args.map.now
+    (hash_by g.K.Hash.hash_input g.S.BuildHasher g.S.Hasher.Hasher) c.args.key c.args.value before
     c.insert_with-done.result out c.insert_with-done.new.self) (search (rules, all.same, items)) step

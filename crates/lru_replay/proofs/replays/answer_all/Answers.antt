@@ -5,7 +5,7 @@ use Rattle.lru_replay.specs.Grammar.{SpellsLimit}
 use Rattle.lru_replay.specs.Lines.{TakesLine}
 use Rattle.lru_replay.proofs.EndedReplays.{first_failed, no_limiter, no_limiter_cut, done_first, done_others}
 use Rattle.lru_replay.proofs.EndedReplays.{others_failed}
-use Rattle.lru_replay.proofs.Held.{whole_limit, held_limit}
+use Rattle.lru_replay.proofs.HeldBytes.{whole_limit, held_limit}
 use Rattle.lru_replay.proofs.replays.answer_all.Goals as goal
 
 pub returns-in_err-ending : goal.returns-in_err-ending

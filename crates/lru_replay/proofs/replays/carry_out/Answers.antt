@@ -7,7 +7,7 @@ use Rattle.lru_replay.specs.Grammar.{SpellsCommand}
 use Rattle.lru_replay.specs.Output.{Writes, bad_text, cost_text, figures_text, insert_text, left_text, pairs_text}
 use Rattle.lru_replay.specs.Output.{reply_text, reservation_text, shrink_text, value_text}
 use Rattle.lru_replay.specs.Replies.{value, pair, listed, reserved, shrunk, stats, done, insert_reply}
-use Rattle.lru_replay.proofs.Written.{writes_after, failed_front, inserted_text}
+use Rattle.lru_replay.proofs.WrittenTexts.{writes_after, failed_front, inserted_text}
 use Rattle.lru_replay.proofs.replays.carry_out.Goals as goal
 
 pub returns-in-Some-Insert : goal.returns-in-Some-Insert

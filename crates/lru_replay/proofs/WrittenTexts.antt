@@ -1,6 +1,6 @@
 -- Writing one text after another.
-use Rattle.std.proofs.Common.{◌≡◌, ℕ, Bool, ◌+◌, ◌-◌, ◌/◌, ◌%◌, ◌<◌, ◌≤◌, ◌^◌, List, [], ◌∷◌, ◌++◌, length, set, take, drop}
-use Rattle.std.proofs.Common.{refl, sym, ap, ◌∙◌, arith, Option, Result, Ok, Err, decimal, append_assoc}
+use Rattle.std.proofs.Common.{◌≡◌, ℕ, Bool, ◌+◌, ◌-◌, ◌/◌, ◌%◌, ◌<◌, ◌≤◌, ◌^◌, List, [], ◌∷◌, ◌++◌, length, set, take}
+use Rattle.std.proofs.Common.{drop, refl, sym, ap, ◌∙◌, arith, Option, Result, Ok, Err, decimal, append_assoc}
 use Rattle.std.proofs.lemmas.List.{drop-set, length-append, take-append-drop, take_rest}
 use Rattle.std.proofs.lemmas.Fmt.{decimal_step}
 use Rattle.std.specs.declared.alloc.AllocError.{AllocError}
