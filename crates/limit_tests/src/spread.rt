@@ -7,6 +7,7 @@ use lru_limits::RandomState;
 use std::alloc::{AllocError, Global};
 use std::hash::BuildHasher;
 use std::test::Fail;
+use test_helpers::Drawn;
 
 const TAGS: usize = 128;
 
@@ -79,12 +80,9 @@ fn strided_keys(rt: HostRuntime) -> Result<(), Fail> {
 #[test]
 fn drawn_keys(rt: HostRuntime) -> Result<(), Fail> {
     let mut keys = Vec::with_capacity(rt.alloc(), 14_336)?;
-    let mut drawn = 1u64;
+    let mut drawn = Drawn::new(1);
     for _ in 0..14_336 {
-        drawn = drawn
-            .wrapping_mul(6_364_136_223_846_793_005)
-            .wrapping_add(1_442_695_040_888_963_407);
-        keys.push(drawn)?;
+        keys.push(drawn.next())?;
     }
     assert!(rt; is_spread(rt.alloc(), &keys, 1024)?);
     Ok(())

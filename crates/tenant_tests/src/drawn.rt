@@ -3,6 +3,7 @@ use lru_tenants::{TenantAnswer, TenantCache, TenantCall, TenantError, run_tenant
 use schnellru::{ByCost, LruMap, RandomState};
 use std::alloc::{AllocError, Global};
 use std::test::Fail;
+use test_helpers::Drawn;
 
 const CALLS: usize = 50_000;
 
@@ -12,31 +13,16 @@ const KEYS: u64 = 12;
 
 type Map = LruMap<u64, u64, ByCost, RandomState>;
 
-/// A row of drawn numbers.
-#[derive(Drop)]
-struct Row(u64);
-
-impl Row {
-    // The next one, below n.
-    fn below(&mut self, n: u64) -> u64 {
-        self.0 = self
-            .0
-            .wrapping_mul(6_364_136_223_846_793_005)
-            .wrapping_add(1_442_695_040_888_963_407);
-        (self.0 >> 33).checked_rem(n).unwrap_or(0)
-    }
-
-    // The next call. Half of all are puts.
-    fn call(&mut self) -> TenantCall<u64, u64> {
-        let name = self.below(TENANTS);
-        let key = self.below(KEYS);
-        match self.below(32) {
-            0..=7 => TenantCall::Open(name, self.below(20)),
-            8 => TenantCall::Close(name),
-            9..=10 => TenantCall::Cost(name),
-            11..=15 => TenantCall::Get(name, key),
-            _ => TenantCall::Put(name, key, self.below(8)),
-        }
+// The next call. Half of all are puts.
+fn drawn_call(drawn: &mut Drawn) -> TenantCall<u64, u64> {
+    let name = drawn.below(TENANTS);
+    let key = drawn.below(KEYS);
+    match drawn.below(32) {
+        0..=7 => TenantCall::Open(name, drawn.below(20)),
+        8 => TenantCall::Close(name),
+        9..=10 => TenantCall::Cost(name),
+        11..=15 => TenantCall::Get(name, key),
+        _ => TenantCall::Put(name, key, drawn.below(8)),
     }
 }
 
@@ -101,11 +87,11 @@ fn draw(alloc: Global) -> Result<(Vec<TenantCall<u64, u64>>, Vec<TenantAnswer<u6
     for _ in 0..TENANTS {
         maps.push(None)?;
     }
-    let mut row = Row(1);
+    let mut drawn = Drawn::new(1);
     let mut calls = Vec::new(alloc);
     let mut wanted = Vec::new(alloc);
     for _ in 0..CALLS {
-        let call = row.call();
+        let call = drawn_call(&mut drawn);
         if let Some(place) = maps.get_mut(named(&call) as usize) {
             wanted.push(carry_out(alloc, place, &call))?;
         }

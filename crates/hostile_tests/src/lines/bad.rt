@@ -52,47 +52,27 @@ impl Script {
     }
 }
 
-/// A row of drawn numbers.
-#[derive(Drop)]
-struct Row(u64);
+// The next byte that ends no line.
+fn drawn_byte(drawn: &mut Drawn) -> u8 {
+    let byte = drawn.below(256) as u8;
+    if byte == b'\n' { b' ' } else { byte }
+}
 
-impl Row {
-    // The next one, below 2 to the 31st.
-    fn next(&mut self) -> u64 {
-        self.0 = self
-            .0
-            .wrapping_mul(6_364_136_223_846_793_005)
-            .wrapping_add(1_442_695_040_888_963_407);
-        self.0 >> 33
-    }
-
-    // The next one, below n.
-    fn below(&mut self, n: u64) -> u64 {
-        self.next().checked_rem(n).unwrap_or(0)
-    }
-
-    // The next byte that ends no line.
-    fn byte(&mut self) -> u8 {
-        let byte = (self.next() % 256) as u8;
-        if byte == b'\n' { b' ' } else { byte }
-    }
-
-    // The next byte of these.
-    fn byte_of(&mut self, bytes: &[u8]) -> u8 {
-        let at = self.below(bytes.len() as u64) as usize;
-        bytes.get(at).copied().unwrap_or(b' ')
-    }
+// The next byte of these.
+fn drawn_byte_of(drawn: &mut Drawn, bytes: &[u8]) -> u8 {
+    let at = drawn.below(bytes.len() as u64) as usize;
+    bytes.get(at).copied().unwrap_or(b' ')
 }
 
 // Lines of any bytes, of up to 60 of them.
 #[test]
 fn drawn_bytes(rt: HostRuntime) -> Result<(), Fail> {
-    let mut row = Row(1);
+    let mut drawn = Drawn::new(1);
     let mut script = Script::new(rt.alloc())?;
     for n in 0..4000u32 {
         let mut line = Vec::new(rt.alloc());
-        for _ in 0..row.below(60) {
-            line.push(row.byte())?;
+        for _ in 0..drawn.below(60) {
+            line.push(drawn_byte(&mut drawn))?;
         }
         script.bad(line.as_slice())?;
         if n % 500 == 0 {
@@ -107,12 +87,12 @@ const LETTERS: &[u8] = b"insertgpkmovldba- 0123456789";
 
 #[test]
 fn drawn_letters(rt: HostRuntime) -> Result<(), Fail> {
-    let mut row = Row(1);
+    let mut drawn = Drawn::new(1);
     let mut script = Script::new(rt.alloc())?;
     for n in 0..4000u32 {
         let mut line = Vec::new(rt.alloc());
-        for _ in 0..row.below(45).saturating_add(5) {
-            line.push(row.byte_of(LETTERS))?;
+        for _ in 0..drawn.below(45).saturating_add(5) {
+            line.push(drawn_byte_of(&mut drawn, LETTERS))?;
         }
         script.bad(line.as_slice())?;
         if n % 500 == 0 {

@@ -2,7 +2,7 @@
 use super::*;
 use schnellru::{ByCost, ByMemoryUsage, ReserveError, UnlimitedCompact};
 use std::test::Fail;
-use test_helpers::{Blanking, LastByte, OF_HASH_28};
+use test_helpers::{Blanking, Drawn, LastByte, OF_HASH_28};
 
 // A map in which all keys below 2 to the 56th have the hash 0.
 fn of_one_hash(alloc: Global) -> LruMap<u64, u64, UnlimitedCompact, LastByte> {
@@ -143,16 +143,13 @@ fn insert_and_remove_a_lot_of_elements(rt: HostRuntime) -> Result<(), Fail> {
     Ok(())
 }
 
-// Keys below 255 that a generator draws, each inserted and then another removed, within the memory of 16 buckets.
+// Keys below 255 that are drawn, each inserted and then another removed, within the memory of 16 buckets.
 #[test]
 fn randomly_insert_and_remove_elements_in_a_memory_bound_map(rt: HostRuntime) -> Result<(), Fail> {
     let mut map = map_of(rt.alloc(), ByMemoryUsage::new(512));
-    let mut state = 1u64;
+    let mut drawn = Drawn::new(1);
     for n in 0..4096u64 {
-        state = state
-            .wrapping_mul(6_364_136_223_846_793_005)
-            .wrapping_add(1_442_695_040_888_963_407);
-        let (inserted, removed) = ((state >> 32) % 255, (state >> 48) % 255);
+        let (inserted, removed) = (drawn.below(255), drawn.below(255));
         assert!(rt; map.insert(inserted, n % 256)?);
         assert_eq!(rt; map.peek(&inserted).copied(), Some(n % 256));
         map.remove(&removed);

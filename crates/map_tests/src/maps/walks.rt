@@ -4,6 +4,7 @@ ghost use Rattle.std.specs.Prelude.{◌≡◌, length};
 use super::*;
 use schnellru::{ByCost, ByLength, UnlimitedCompact};
 use std::test::Fail;
+use test_helpers::Drawn;
 
 #[test]
 fn a_walk_from_both_ends(rt: HostRuntime) -> Result<(), Fail> {
@@ -79,15 +80,13 @@ fn walks_over_a_hundred_pairs(rt: HostRuntime) -> Result<(), Fail> {
     let mut map = map_of(rt.alloc(), UnlimitedCompact);
     assert_eq!(rt; insert_all(&mut map, 1..=100)?, 100);
     let mut split = 0u128;
-    let mut drawn = 1u128;
+    let mut drawn = Drawn::new(1);
     for _ in 0..=102u32 {
-        for pattern in [split, !split, drawn ^ (drawn >> 64)] {
+        let bits = ((drawn.next() as u128) << 64) | drawn.next() as u128;
+        for pattern in [split, !split, bits] {
             assert!(rt; walks_right(&map, 100, pattern), "{pattern}");
         }
         split = split.wrapping_mul(2).wrapping_add(1);
-        drawn = drawn
-            .wrapping_mul(0x2360_ed05_1fc6_5da4_4385_df64_9fcc_f645)
-            .wrapping_add(1);
     }
     Ok(())
 }

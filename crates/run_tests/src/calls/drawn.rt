@@ -5,7 +5,7 @@ use schnellru::{ByLength, Insertion, LruMap, MoveReport, UnlimitedCompact};
 use std::alloc::{AllocError, Global};
 use std::process::Abort;
 use std::test::Fail;
-use test_helpers::Sum;
+use test_helpers::{Drawn, Sum};
 
 const CALLS: usize = 20_000;
 
@@ -174,57 +174,42 @@ impl Plain {
     }
 }
 
-/// A row of drawn numbers.
-#[derive(Drop)]
-struct Row(u64);
-
-impl Row {
-    // The next one, below n.
-    fn below(&mut self, n: u64) -> u64 {
-        self.0 = self
-            .0
-            .wrapping_mul(6_364_136_223_846_793_005)
-            .wrapping_add(1_442_695_040_888_963_407);
-        (self.0 >> 33).checked_rem(n).unwrap_or(0)
+// The hash of the key, or, one time in four, one of another tag.
+fn drawn_hash(drawn: &mut Drawn, key: u64) -> u64 {
+    if drawn.below(4) == 0 {
+        key.wrapping_add(OTHER_TAG)
+    } else {
+        key
     }
+}
 
-    // The hash of the key, or, one time in four, one of another tag.
-    fn hash(&mut self, key: u64) -> u64 {
-        if self.below(4) == 0 {
-            key.wrapping_add(OTHER_TAG)
-        } else {
-            key
-        }
-    }
-
-    // The next call, which sets this limiter if it sets one. Half of all are insertions.
-    fn call<L: Copy>(&mut self, value: u64, limiter: L) -> Call<u64, u64, L> {
-        let key = self.below(KEYS);
-        match self.below(128) {
-            0 => Call::Clear,
-            1 => Call::Drain {
-                front: self.below(30) as usize,
-                back: self.below(30) as usize,
-            },
-            2..=4 => Call::List,
-            5..=6 => Call::Stats,
-            7 => Call::Shrink,
-            8..=9 => Call::SetLimiter(limiter),
-            10..=12 => Call::Reserve(self.below(KEYS) as usize),
-            13..=16 => Call::PopOldest,
-            17..=20 => Call::PopNewest,
-            21..=24 => Call::PeekOldest,
-            25..=28 => Call::PeekNewest,
-            29..=34 => Call::Remove(key),
-            35..=42 => Call::Write(key, value),
-            43..=48 => Call::GetByHash(self.hash(key), key),
-            49..=54 => Call::PeekByHash(self.hash(key), key),
-            55..=60 => Call::Get(key),
-            61..=66 => Call::Peek(key),
-            67..=82 => Call::GetOrInsert(key, value),
-            83..=98 => Call::InsertWith(key, value),
-            _ => Call::Insert(key, value),
-        }
+// The next call, which sets this limiter if it sets one. Half of all are insertions.
+fn drawn_call<L: Copy>(drawn: &mut Drawn, value: u64, limiter: L) -> Call<u64, u64, L> {
+    let key = drawn.below(KEYS);
+    match drawn.below(128) {
+        0 => Call::Clear,
+        1 => Call::Drain {
+            front: drawn.below(30) as usize,
+            back: drawn.below(30) as usize,
+        },
+        2..=4 => Call::List,
+        5..=6 => Call::Stats,
+        7 => Call::Shrink,
+        8..=9 => Call::SetLimiter(limiter),
+        10..=12 => Call::Reserve(drawn.below(KEYS) as usize),
+        13..=16 => Call::PopOldest,
+        17..=20 => Call::PopNewest,
+        21..=24 => Call::PeekOldest,
+        25..=28 => Call::PeekNewest,
+        29..=34 => Call::Remove(key),
+        35..=42 => Call::Write(key, value),
+        43..=48 => Call::GetByHash(drawn_hash(drawn, key), key),
+        49..=54 => Call::PeekByHash(drawn_hash(drawn, key), key),
+        55..=60 => Call::Get(key),
+        61..=66 => Call::Peek(key),
+        67..=82 => Call::GetOrInsert(key, value),
+        83..=98 => Call::InsertWith(key, value),
+        _ => Call::Insert(key, value),
     }
 }
 
@@ -239,7 +224,7 @@ fn agree(given: &Answer<u64, u64>, wanted: &Answer<u64, u64>) -> bool {
 
 /// Calls, the answers that are wanted to them, and the pairs that are left.
 #[derive(Drop)]
-struct Drawn<L> {
+struct Script<L> {
     calls: Vec<Call<u64, u64, L>>,
     wanted: Vec<Answer<u64, u64>>,
     left: Vec<(u64, u64)>,
@@ -252,12 +237,12 @@ fn draw<L: Copy>(
     alloc: Global,
     first: (L, usize),
     second: Option<(L, usize)>,
-) -> Result<Drawn<L>, AllocError> {
+) -> Result<Script<L>, AllocError> {
     let mut plain = Plain {
         pairs: Vec::new(alloc),
         most: first.1,
     };
-    let mut row = Row(1);
+    let mut drawn = Drawn::new(1);
     let mut calls = Vec::new(alloc);
     let mut wanted = Vec::new(alloc);
     for n in 0..CALLS {
@@ -266,7 +251,7 @@ fn draw<L: Copy>(
         } else {
             second.unwrap_or(first)
         };
-        let mut call = row.call(n as u64, limiter);
+        let mut call = drawn_call(&mut drawn, n as u64, limiter);
         if matches!(&call, Call::SetLimiter(_)) {
             plain.most = most;
             if second.is_none() {
@@ -276,7 +261,7 @@ fn draw<L: Copy>(
         wanted.push(plain.answer(alloc, &call)?)?;
         calls.push(call)?;
     }
-    Ok(Drawn {
+    Ok(Script {
         calls,
         wanted,
         left: plain.pairs,
@@ -290,7 +275,7 @@ fn compare<L: Insertion<u64, u64, u64> + Copy>(
     second: Option<(L, usize)>,
 ) -> Result<(Vec<(u64, u64)>, L), Fail> {
     let alloc = rt.alloc();
-    let Drawn {
+    let Script {
         calls,
         wanted,
         left,
