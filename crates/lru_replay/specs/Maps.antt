@@ -1,5 +1,5 @@
 -- The maps of a replay: numbers under numbers.
-use Rattle.std.specs.Prelude.{ℕ, ◌+◌, ◌-◌, ◌^◌, [], ◌∷◌}
+use Rattle.std.specs.Prelude.{ℕ, [], ◌∷◌}
 use Rattle.std.specs.Hash.{le_bytes}
 use Rattle.lru_limits.specs.Mixing.{Mixer, seeded, written, closed}
 use Rattle.schnellru.specs.State.{State, empty_map}
@@ -11,18 +11,6 @@ Map S = State ℕ ℕ S Mixer
 -- an empty one, with so many bytes an entry, and links below max
 abbrev pub empty : {S : Type 0} → S → ℕ → ℕ → Map S
 empty limiter entry_bytes max = empty_map limiter (seeded (1 ∷ 2 ∷ 3 ∷ 4 ∷ [])) entry_bytes max
-
--- The bytes that an entry counts under each limit but that by memory usage, which names its own number. They are 8 for
--- each of the bucket's tag, the key and the value, and 4 for each of two links.
-abbrev pub usual_entry_bytes : ℕ
-usual_entry_bytes = 8 + 8 + 8 + 4 + 4
-
--- numbers below these are links of 32 bits and of 64 bits
-abbrev pub links_of_32_bits : ℕ
-links_of_32_bits = 2 ^ 32 - 1
-
-abbrev pub links_of_64_bits : ℕ
-links_of_64_bits = 2 ^ 64 - 1
 
 -- the hash of a key
 abbrev pub hash_of : Mixer → ℕ → ℕ

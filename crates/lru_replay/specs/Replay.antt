@@ -10,24 +10,25 @@ use Rattle.lru_replay.specs.declared.outcome.ReplayEnd.TheVariants as ends
 use Rattle.lru_replay.specs.declared.outcome.ReplayError.{ReplayError}
 use Rattle.lru_replay.specs.declared.outcome.ReplayError.TheVariants as errors
 use Rattle.schnellru.specs.Lists.{IsFront}
+use Rattle.schnellru.specs.Sizes.{default_entry_bytes, links_of_32_bits, links_of_64_bits}
 use Rattle.lru_replay.specs.Grammar.{SpellsLimit}
 use Rattle.lru_replay.specs.Limits.{cost_rules, cost_offers, no_cost, cost_told}
 use Rattle.lru_replay.specs.Lines.{lines_of, TakesFirst, TakesLines, TakesAll}
-use Rattle.lru_replay.specs.Maps.{empty, usual_entry_bytes, links_of_32_bits, links_of_64_bits}
+use Rattle.lru_replay.specs.Maps.{empty}
 use Rattle.lru_replay.specs.Output.{no_limiter_text}
 use Rattle.lru_replay.specs.LineRuns.{IsTextOf, WritesText, WritesTextSoFar}
 
 -- The lines are answered by this text, from the empty map under the limit.
 abbrev pub IsTextUnder : Limit → List (List ℕ) → List ℕ → Type 0
 IsTextUnder (limits.Length most) =
-    IsTextOf length_rules length_offers no_cost (empty most usual_entry_bytes links_of_32_bits)
+    IsTextOf length_rules length_offers no_cost (empty most default_entry_bytes links_of_32_bits)
 IsTextUnder (limits.Memory budget entry_bytes) =
     IsTextOf memory_rules all_offers no_cost (empty budget entry_bytes links_of_32_bits)
 IsTextUnder (limits.Cost most) =
     IsTextOf cost_rules cost_offers cost_told
-    (empty (record { limit = most; cost = 0 }) usual_entry_bytes links_of_64_bits)
+    (empty (record { limit = most; cost = 0 }) default_entry_bytes links_of_64_bits)
 IsTextUnder limits.Compact =
-    IsTextOf {S = UnlimitedCompact} no_rules all_offers no_cost (empty (record {}) usual_entry_bytes links_of_32_bits)
+    IsTextOf {S = UnlimitedCompact} no_rules all_offers no_cost (empty (record {}) default_entry_bytes links_of_32_bits)
 
 -- The first line names a limit, and the others are answered by this text, from the empty map under that limit.
 abbrev pub IsReplay : List (List ℕ) → List ℕ → Type 0

@@ -16,7 +16,6 @@ pub mod Sums
 pub mod Limits
 pub mod RefusedGrowth
 pub mod CallChanges
-pub mod CountedMoves
 pub mod Shrinks
 pub mod Runs
 pub mod AddedPairs

@@ -4,13 +4,16 @@ use Rattle.std.specs.Prelude.{◌≡◌, ◌⊎◌, ℕ, ◌+◌, ◌-◌, ◌*�
 use Rattle.std.specs.Prelude.{Option, Some, None}
 use Rattle.group_table.specs.Sizes.{IsPowerFromFour, full_capacity, buckets_for}
 
--- the bytes of an entry of a default map
+-- the bytes that an entry counts where nothing else is said
 abbrev pub default_entry_bytes : ℕ
 default_entry_bytes = 32
 
--- numbers below this are links of 32 bits
+-- numbers below these are links of 32 bits and of 64 bits
 abbrev pub links_of_32_bits : ℕ
-links_of_32_bits = 4294967295
+links_of_32_bits = 2 ^ 32 - 1
+
+abbrev pub links_of_64_bits : ℕ
+links_of_64_bits = 2 ^ 64 - 1
 
 -- the bytes of a table: its entries, rounded up to a multiple of 16, a byte for each bucket, and 16 more
 abbrev pub bytes_of : ℕ → ℕ → ℕ

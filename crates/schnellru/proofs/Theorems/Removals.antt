@@ -3,7 +3,6 @@ use Rattle.std.proofs.Common.{Bool, []}
 use Rattle.lru_limits.specs.Rules.{Rules}
 use Rattle.schnellru.proofs.PairLists.DistinctKeys.{AreDistinct, keeps_distinct}
 use Rattle.schnellru.proofs.Theorems.Moves.{Keeps, keeps_any}
-pub use Rattle.schnellru.proofs.Theorems.Reservations.{reserved_list}
 
 -- no key is looked up
 abbrev pub no_names : {K : Type 0} → ⊥ → K → Bool

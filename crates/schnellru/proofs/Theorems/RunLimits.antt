@@ -11,9 +11,9 @@ use Rattle.schnellru.specs.Theorems.{UsesAtMost}
 use Rattle.schnellru.specs.declared.map.reserve.ReserveError.{ReserveError}
 use Rattle.schnellru.proofs.Maps.LeavingPairs.{length-without_first, length-without_last}
 use Rattle.schnellru.proofs.Maps.Promotions.{length-front_pairs}
-use Rattle.schnellru.proofs.Theorems.CountedMoves.{reserve_changes}
+use Rattle.schnellru.proofs.Theorems.CallChanges.{reserve_changes}
 use Rattle.schnellru.proofs.Theorems.Limits.{keeps_limiter, uses_at_most, length-without, by_length_stays}
-use Rattle.schnellru.proofs.Theorems.Removals.{reserved_list}
+use Rattle.schnellru.proofs.Theorems.Reservations.{reserved_list}
 use Rattle.schnellru.proofs.Theorems.Runs.{step_changes}
 use Rattle.schnellru.proofs.Theorems.Shrinks.{shrunk_list}
 

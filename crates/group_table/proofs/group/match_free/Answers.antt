@@ -7,7 +7,10 @@ use Rattle.group_table.proofs.group.match_free.Goals as goal
 pub overflow_cast-result : goal.overflow_cast-result
 overflow_cast-result c =
     let bytes = c.args.bytes.now in
-    record { fits = subst (λ n. n < 65536) (sym (left_mask leb bytes 128 c.told-bytes)) (mask_fits _ bytes c.told-bytes) }
+    record {
+      fits = subst (λ n. n < 65536) (sym (left_mask leb bytes 128 c.told-bytes))
+          (mask_fits _ bytes c.told-bytes);
+    }
 
 pub returns : goal.returns
 returns c =

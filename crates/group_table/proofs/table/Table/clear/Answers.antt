@@ -6,7 +6,8 @@ use Rattle.group_table.proofs.FreshLemmas.{none_left, IsValid-fresh, entry_count
 use Rattle.group_table.proofs.table.Table.clear.Goals as goal
 
 pub drop_entries-requires-clause-none_left : goal.drop_entries-requires-clause-none_left
-drop_entries-requires-clause-none_left g c none = none_left _ _ c.self.invariant.0.laid_out (sym c.self.invariant.1 ∙ none)
+drop_entries-requires-clause-none_left g c none =
+    none_left _ _ c.self.invariant.0.laid_out (sym c.self.invariant.1 ∙ none)
 
 pub invariant_of-self : goal.invariant_of-self
 invariant_of-self g c =

@@ -9,8 +9,9 @@ use Rattle.group_table.proofs.BucketLemmas.{bucket_at-marks_of}
 use Rattle.group_table.proofs.LayoutLemmas.{length-laid_out, entries_within}
 use Rattle.group_table.proofs.TableLemmas.{IsTable-by, room_by}
 use Rattle.group_table.proofs.WriteLemmas.{slots_of-written}
-use Rattle.group_table.proofs.PlaceLemmas.{some_free_byte, place_first, place_within, no_place_left, place_none, place_byte}
-use Rattle.group_table.proofs.PlaceLemmas.{place_spends, MayFill-from, IsValid-placed, entry_count-placed, room-placed}
+use Rattle.group_table.proofs.PlaceLemmas.{some_free_byte, place_first, place_within, no_place_left, place_none}
+use Rattle.group_table.proofs.PlaceLemmas.{place_byte, place_spends, MayFill-from, IsValid-placed}
+use Rattle.group_table.proofs.PlaceLemmas.{entry_count-placed, room-placed}
 use Rattle.group_table.proofs.ControlLemmas.{buckets_are}
 use Rattle.group_table.proofs.FitsLemmas.{Fits-placed}
 use Rattle.group_table.proofs.table.Table.try_place.Goals as goal
@@ -121,8 +122,8 @@ returns-clause-may_fill g c =
     let some : 0 < length c.self.inside.entries =
     omega (arith, eqb-false _ _ (sym c.is_without_buckets.ensures ∙ c.if-is_without_buckets.false)) in
     rw (← c.self.view_is) (MayFill-from valid c.first_free-b.result
-    (place_spends _ _ _ valid c.args.hash c.first_free-b.result _ are (omega (arith, some, are)) first _ c.byte.ensures _
-    c.room_taken-spent.ensures (omega arith)))
+    (place_spends _ _ _ valid c.args.hash c.first_free-b.result _ are (omega (arith, some, are)) first _
+    c.byte.ensures _ c.room_taken-spent.ensures (omega arith)))
 
 pub returns-clause-fits : goal.returns-clause-fits
 returns-clause-fits g c hash_of fits =

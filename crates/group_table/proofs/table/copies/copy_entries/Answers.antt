@@ -42,4 +42,5 @@ loop-b-preserved g c =
     ]
 
 pub returns : goal.returns
-returns g c = place_copies g.F.Fn c.args.f.now _ _ c.loop-b.invariant.same (λ k p. c.loop-b.invariant.copied k (omega arith))
+returns g c = place_copies g.F.Fn c.args.f.now _ _ c.loop-b.invariant.same
+    (λ k p. c.loop-b.invariant.copied k (omega arith))

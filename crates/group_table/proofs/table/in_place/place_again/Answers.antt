@@ -45,7 +45,8 @@ loop-b-preserved-then-byte-lt-DELETED g c =
             let none : 128 ≤ get_or c.args.before.now c.loop-b.b 0 =
             rw (← w.byte-else-byte-lt-DELETED.ensures) w.if-byte-ge-DELETED.true in
             IsHalfway-none g.N.LinkType.number g.N.LinkType.MAX _ whole _ _ _ c.loop-b.b l.half
-            (none_by _ _ (told_before whole _ _ _ l.stays _ c.requires.before c.loop-b.b (omega arith) within free) none)
+            (none_by _ _
+            (told_before whole _ _ _ l.stays _ c.requires.before c.loop-b.b (omega arith) within free) none)
       ];
       stays = stays_past whole _ _ c.loop-b.b l.stays;
     }
@@ -240,7 +241,8 @@ returns-clause-valid g c =
 pub returns-clause-none_deleted : goal.returns-clause-none_deleted
 returns-clause-none_deleted g c =
     let all : c.loop-b.b ≡ length c.args.entries.now = omega arith in
-    none_deleted_last g.N.LinkType.number g.N.LinkType.MAX _ c.args.entries.now _ _ _ (rw all at c.loop-b.invariant.half)
+    none_deleted_last g.N.LinkType.number g.N.LinkType.MAX _ c.args.entries.now _ _ _
+    (rw all at c.loop-b.invariant.half)
 
 pub returns-clause-moves : goal.returns-clause-moves
 returns-clause-moves g c =

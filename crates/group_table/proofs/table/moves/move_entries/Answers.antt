@@ -73,7 +73,8 @@ loop-b-preserved g c =
                 λ hash_at gives. KeepsMovedHashes-more g.N.LinkType.number g.N.LinkType.MAX g.N.LinkType.link _
                 g.met.N.LinkType.laws _ _ at.b
                 (none_yet whole at.b within) come (come_elsewhere whole at.b within) bound below joins l.moves hash_at
-                (gives at.b _ _ there (record { shown = _; shows = refl; says = record { met = w.hash_of-hash.ensures } }))
+                (gives at.b _ _ there
+                (record { shown = _; shows = refl; says = record { met = w.hash_of-hash.ensures } }))
                 (l.hashes hash_at gives);
           }
       | else-byte-lt-DELETED w ↦
