@@ -66,9 +66,9 @@ pub is_full-test : (T : Type 0) (t : Bool) → is_full {A = Tagged T} (cond t de
 is_full-test T true = refl
 is_full-test T false = refl
 
-filled : {T : Type 0} (byte : ℕ) (o : Option T) → is_full (slot_of byte o) ≡ true → (entry : T) × (o ≡ Some entry)
-filled byte (Some entry) h = (entry, refl)
-filled {T} byte None h = absurd (false≢true (sym (is_full-test T (nat_eq byte 128)) ∙ h))
+some_entry : {T : Type 0} (byte : ℕ) (o : Option T) → is_full (slot_of byte o) ≡ true → (entry : T) × (o ≡ Some entry)
+some_entry byte (Some entry) h = (entry, refl)
+some_entry {T} byte None h = absurd (false≢true (sym (is_full-test T (nat_eq byte 128)) ∙ h))
 
 module _ {T : Type 0} (control : List ℕ) (entries : List (Option T)) (laid_out : IsLaidOut control entries) where
   pub entries_within : length entries ≤ length control
@@ -118,7 +118,7 @@ module _ {T : Type 0} (control : List ℕ) (entries : List (Option T)) (laid_out
 
     -- a full bucket has an entry
     pub full_entry : (entry : T) × (get_or entries b None ≡ Some entry)
-    full_entry = filled (get_or control b 0) (get_or entries b None) (rw (bucket_at-laid_out b full_within) at there)
+    full_entry = some_entry (get_or control b 0) (get_or entries b None) (rw (bucket_at-laid_out b full_within) at there)
 
     -- and a byte below 128
     pub full_byte : get_or control b 0 < 128

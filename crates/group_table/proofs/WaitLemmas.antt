@@ -47,8 +47,8 @@ module _ {T : Type 0} (whole now : List (Option T)) (control : List ℕ) (passed
     ]
 
 -- in a place that is passed no entry waits
-module _ {T N : Type 0} (number : N → ℕ) (none : N) (IsGiven : (ℕ → ℕ) → Type 0) (whole now : List (Option T))
-    (control : List ℕ) (links : List N) (passed : ℕ)
+module _ {T N : Type 0} {number : N → ℕ} {none : N} {IsGiven : (ℕ → ℕ) → Type 0} {whole now : List (Option T)}
+    {control : List ℕ} {links : List N} {passed : ℕ}
     (half : IsHalfway number none IsGiven whole now control links passed) where
   pub none_waits : (b : ℕ) → b < passed → b < length whole → 128 ≤ get_or control b 0 → place_at now b ≡ None
   none_waits b gone within free =

@@ -1,7 +1,7 @@
 -- How a placing and a removal change a table.
 use Rattle.std.specs.Prelude.{◌≡◌, ℕ, ◌+◌, ◌-◌, ◌^◌, ◌<◌, ◌⊎◌, min, List, length, slice_set}
-use Rattle.group_table.specs.Bucket.{Slot, Mark, empty, deleted, full, bucket_at, marks_of, room}
-use Rattle.group_table.specs.Probe.{hash_tag, IsFirstFree}
+use Rattle.group_table.specs.Bucket.{Slot, Mark, empty, deleted, bucket_at, marks_of, room}
+use Rattle.group_table.specs.Probe.{filled, IsFirstFree}
 use Rattle.group_table.specs.Neighbours.{HasEmptyNeighbours, IsHemmedIn}
 use Rattle.group_table.specs.Table.{Table}
 
@@ -19,10 +19,10 @@ HasNoPlace marks hash = (length marks ≡ 0)
     ⊎ ((room marks ≡ 0) × (b : ℕ) × IsFirstFree marks hash b × (bucket_at marks b ≡ empty))
 
 module _ {T : Type 0} where
-  -- the entry went into the first free bucket with the tag of its hash, and each other bucket stays
+  -- the entry filled the first free bucket, and each other bucket stays
   pub record Places (old new : Table T) (hash : ℕ) (entry : T) (b : ℕ) : Type 0 where
     pub first : IsFirstFree (marks_of old.slots) hash b
-    pub slots : new.slots ≡ slice_set old.slots b (full (record { tag = hash_tag hash; entry = entry }))
+    pub slots : new.slots ≡ slice_set old.slots b (filled hash entry)
     pub placings : new.placings ≡ count_up old.placings 1
 
   -- the bucket is emptied where every 16 neighbours hold an empty one, and else it is deleted

@@ -2,8 +2,8 @@
 use Rattle.std.specs.Prelude.{◌≡◌, ℕ, ◌<◌, List, length, slice_set, slice_index_or, Option, Some, None}
 use Rattle.std.specs.Borrow.{Bor}
 use Rattle.std.specs.Fn.{Shared, FnReturnsAt}
-use Rattle.group_table.specs.Bucket.{Slot, empty, full, bucket_at, entry_at, marks_of, IsFull}
-use Rattle.group_table.specs.Probe.{hash_tag, Reaches}
+use Rattle.group_table.specs.Bucket.{Slot, empty, bucket_at, entry_at, marks_of, IsFull}
+use Rattle.group_table.specs.Probe.{filled, Reaches}
 use Rattle.group_table.specs.Fits.{Fits}
 use Rattle.group_table.specs.Relocation.{moved_to}
 
@@ -12,12 +12,12 @@ module _ {T : Type 0} where
   abbrev pub place_at : List (Option T) → ℕ → Option T
   place_at places b = slice_index_or places b None
 
-  -- the entry went into an empty bucket that a search for its hash reaches, with the tag of its hash
+  -- the entry filled an empty bucket that a search for its hash reaches
   pub record Joins (old new : List (Slot T)) (hash : ℕ) (entry : T) (b : ℕ) : Type 0 where
     pub reached : Reaches (marks_of old) hash b
     pub within : b < length old
     pub was_empty : bucket_at old b ≡ empty
-    pub slots : new ≡ slice_set old b (full (record { tag = hash_tag hash; entry = entry }))
+    pub slots : new ≡ slice_set old b (filled hash entry)
 
 module _ {T N : Type 0} (number : N → ℕ) (none : N) (old : ℕ → Option T) (new : List (Slot T)) (links : List N) where
   -- of the entries that stood in these buckets, each stands by its link in one of its own, and no other entry is there

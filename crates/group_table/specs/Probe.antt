@@ -1,10 +1,14 @@
--- In which order a search for a hash visits the buckets.
+-- What the hash of an entry says: the tag in its bucket, and in which order a search visits the buckets.
 use Rattle.std.specs.Prelude.{◌≡◌, ◌≢◌, ℕ, ◌+◌, ◌*◌, ◌/◌, ◌%◌, ◌^◌, ◌<◌, false, List, length}
-use Rattle.group_table.specs.Bucket.{Mark, empty, bucket_at, is_full, IsFull}
+use Rattle.group_table.specs.Bucket.{Slot, Mark, empty, full, bucket_at, is_full, IsFull}
 
 -- the top 7 bits of a hash
 abbrev pub hash_tag : ℕ → ℕ
 hash_tag hash = hash / 2 ^ 57
+
+-- a bucket that is filled by an entry of this hash: it has the tag of the hash
+abbrev pub filled : {T : Type 0} → ℕ → T → Slot T
+filled hash entry = full (record { tag = hash_tag hash; entry = entry })
 
 -- the bucket that a search visits at a step: it goes by groups of 16, the first of which begins at the hash,
 -- and each other one 16, 32, 48, .. buckets after the one before

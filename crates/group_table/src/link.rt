@@ -39,9 +39,9 @@ impl LinkType for u8 {
     const MAX: u8 = u8::MAX;
 
     ghost use Rattle.std.proofs.Common.{lit≤};
-    ghost use Rattle.group_table.specs.Link.{numbers_are_links};
+    ghost use Rattle.group_table.specs.Link.{narrowest_most, numbers_are_links};
 
-    ghost MAX = { 255 };
+    ghost MAX = { narrowest_most };
 
     ghost number = { λ n. n };
 
@@ -57,7 +57,7 @@ impl LinkType for u8 {
         self as usize
     }
 
-    ghost laws = { numbers_are_links 255 (lit≤ tt) };
+    ghost laws = { numbers_are_links narrowest_most (lit≤ tt) };
 }
 
 impl LinkType for u16 {

@@ -1,9 +1,9 @@
 -- A table whose full buckets stand in an order, newest first. No public clause cites this module.
 use Rattle.std.specs.Prelude.{◌≡◌, ◌≢◌, ℕ, ◌+◌, List, [], ◌∷◌, ◌++◌, length, filter, not, nat_eq, slice_set, option_map}
 use Rattle.std.specs.Prelude.{option_to_list, unwrap_or, Contains, AllPairs}
-use Rattle.group_table.specs.Bucket.{Slot, full, IsFull, entry_at, entry_count, bucket_at, refilled, marks_of, room}
+use Rattle.group_table.specs.Bucket.{Slot, IsFull, entry_at, entry_count, bucket_at, refilled, marks_of, room}
 use Rattle.group_table.specs.Bucket.{room_at}
-use Rattle.group_table.specs.Probe.{hash_tag, IsFirstFree}
+use Rattle.group_table.specs.Probe.{filled, IsFirstFree}
 use Rattle.group_table.specs.Change.{MayFill, count_up}
 use Rattle.group_table.specs.Table.{IsTable}
 use Rattle.group_table.specs.Fits.{Fits}
@@ -42,11 +42,11 @@ module _ {K V : Type 0} where
   abbrev pub KeysFit : (K → ℕ) → List (Slot (K × V)) → Type 0
   KeysFit hash_of slots = Fits slots (hash_in hash_of slots)
 
-  -- the pair went into the first free bucket, as the newest
+  -- the pair filled the first free bucket, as the newest
   pub record Lands (old new : Linked K V) (hash : ℕ) (pair : K × V) (b : ℕ) : Type 0 where
     pub first : IsFirstFree (marks_of old.slots) hash b
     pub may : MayFill (marks_of old.slots) b
-    pub slots : new.slots ≡ slice_set old.slots b (full (record { tag = hash_tag hash; entry = pair }))
+    pub slots : new.slots ≡ slice_set old.slots b (filled hash pair)
     pub order : new.order ≡ b ∷ old.order
     pub placings : new.placings ≡ count_up old.placings 1
     pub room : room (marks_of new.slots) + room_at (marks_of old.slots) b ≡ room (marks_of old.slots)
