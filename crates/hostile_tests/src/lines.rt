@@ -4,7 +4,7 @@ use std::alloc::{AllocError, Global};
 use std::io::BufReader;
 use std::process::Abort;
 use std::test::Fail;
-use test_helpers::{Drawn, Failure, Narrow, Repeated, Slow};
+use test_helpers::{Drawn, Failure, Narrow, Repeated, Slow, front_lines};
 
 mod bad;
 mod pieces;

@@ -7,8 +7,9 @@
 //! - [`Drawn`]: numbers that look drawn and are the same in each run.
 //! - [`LastByte`] with [`OF_HASH_28`], [`Sum`], [`Counted`]: hashers.
 //! - [`Slow`], [`Repeated`], [`Narrow`]: readers and writers of few bytes a call, which fail as [`Failure`] says.
-//! - [`map_of`], [`insert`], [`insert_all`], [`get`], [`pairs`], [`ends`], [`counts_down`], [`is_list`], [`figures`],
-//!   [`report`]: a map of numbers, and what a test looks at in it.
+//! - [`front_lines`]: the front of a text.
+//! - [`map_of`], [`three_costs`], [`insert`], [`insert_all`], [`get`], [`pairs`], [`ends`], [`counts_down`],
+//!   [`is_list`], [`figures`], [`report`]: a map of numbers, and what a test looks at in it.
 #![tactic(auto)]
 
 mod drawn;
@@ -27,6 +28,7 @@ pub use insert_key::{Counting, InsertKey};
 pub use limiters::{Blanking, LinkedBy, Telling, Within};
 pub use maps::{
     counts_down, ends, figures, get, insert, insert_all, is_list, map_of, pairs, report,
+    three_costs,
 };
-pub use streams::{Failure, Narrow, Repeated, Slow};
+pub use streams::{Failure, Narrow, Repeated, Slow, front_lines};
 pub use weighed::Weighed;

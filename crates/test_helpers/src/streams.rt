@@ -128,3 +128,17 @@ impl Write for Narrow {
         Ok(())
     }
 }
+
+/// The front of a text, up to its line feed of a number.
+pub fn front_lines(text: &[u8], lines: usize) -> &[u8] {
+    let mut left = lines;
+    for (i, byte) in text.iter().enumerate() {
+        if left == 0 {
+            return &text[..i];
+        }
+        if *byte == b'\n' {
+            left -= 1;
+        }
+    }
+    text
+}

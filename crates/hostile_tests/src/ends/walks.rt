@@ -2,19 +2,10 @@
 use super::*;
 use std::mem::forget;
 
-// The pairs (1, 1), (2, 2) and (3, 3) within a cost of 10.
-fn costs(alloc: Global) -> Result<LruMap<u64, u64, ByCost>, AllocError> {
-    let mut map: LruMap<u64, u64, ByCost> = map_of(alloc, ByCost::new(10));
-    for n in 1..=3u64 {
-        map.insert(n, n)?;
-    }
-    Ok(map)
-}
-
 // The limiter is told of what was given, and not of a clear. No clause speaks of a drain that is not dropped.
 #[test]
 fn a_drain_that_is_forgotten(rt: HostRuntime) -> Result<(), Fail> {
-    let mut map = costs(rt.alloc())?;
+    let mut map = three_costs(rt.alloc())?;
     let mut drain = map.drain();
     assert_eq!(rt; drain.next(), Some((3, 3)));
     forget(drain);
@@ -28,7 +19,7 @@ fn a_drain_that_is_forgotten(rt: HostRuntime) -> Result<(), Fail> {
 // `IterMut`, by `writes_back`: the values are as they were left.
 #[test]
 fn a_walk_that_is_dropped_after_one_write(rt: HostRuntime) -> Result<(), Fail> {
-    let mut map = costs(rt.alloc())?;
+    let mut map = three_costs(rt.alloc())?;
     let mut walk = map.iter_mut();
     if let Some((_, value)) = walk.next() {
         *value = 30;
@@ -40,7 +31,7 @@ fn a_walk_that_is_dropped_after_one_write(rt: HostRuntime) -> Result<(), Fail> {
 
 #[test]
 fn walks_that_are_forgotten(rt: HostRuntime) -> Result<(), Fail> {
-    let mut map = costs(rt.alloc())?;
+    let mut map = three_costs(rt.alloc())?;
     let mut walk = map.iter_mut();
     if let Some((_, value)) = walk.next_back() {
         *value = 10;

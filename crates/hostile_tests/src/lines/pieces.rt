@@ -12,20 +12,6 @@ struct Trial<'a> {
     most: usize,
 }
 
-// The front of the text up to its line feed of a number.
-fn front_lines(text: &[u8], lines: usize) -> &[u8] {
-    let mut left = lines;
-    for (i, byte) in text.iter().enumerate() {
-        if left == 0 {
-            return &text[..i];
-        }
-        if *byte == b'\n' {
-            left -= 1;
-        }
-    }
-    text
-}
-
 // `replay`, by `done`, `no_limiter` and `no_limiter_text`, however the input is cut. What is written is flushed once.
 fn in_pieces(rt: &(impl Abort + AllocGlobal), trial: Trial) -> Result<(), Fail> {
     let mut reader = BufReader::new(rt.alloc(), Slow::new(trial.input, trial.most))?;

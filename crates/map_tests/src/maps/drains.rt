@@ -1,21 +1,13 @@
 //! Drains: whole, from both ends, dropped early, and forgotten.
 use super::*;
-use schnellru::{ByCost, UnlimitedCompact};
+use schnellru::UnlimitedCompact;
 use std::mem::forget;
 use std::test::Fail;
-
-// The pairs (1, 1), (2, 2) and (3, 3) within a cost of 10.
-fn costs(alloc: Global) -> Result<LruMap<u64, u64, ByCost, RandomState>, AllocError> {
-    let mut map = map_of(alloc, ByCost::new(10));
-    for n in 1..=3u64 {
-        map.insert(n, n)?;
-    }
-    Ok(map)
-}
+use test_helpers::three_costs;
 
 #[test]
 fn a_drain_that_is_dropped_early(rt: HostRuntime) -> Result<(), Fail> {
-    let mut map = costs(rt.alloc())?;
+    let mut map = three_costs(rt.alloc())?;
     let mut drain = map.drain();
     assert_eq!(rt; drain.len(), 3);
     assert_eq!(rt; drain.next(), Some((3, 3)));
@@ -27,7 +19,7 @@ fn a_drain_that_is_dropped_early(rt: HostRuntime) -> Result<(), Fail> {
 
 #[test]
 fn a_drain_from_the_back(rt: HostRuntime) -> Result<(), Fail> {
-    let mut map = costs(rt.alloc())?;
+    let mut map = three_costs(rt.alloc())?;
     let mut drain = map.drain();
     for n in 1..=3u64 {
         assert_eq!(rt; drain.next_back(), Some((n, n)));
@@ -44,7 +36,7 @@ fn a_drain_from_the_back(rt: HostRuntime) -> Result<(), Fail> {
 
 #[test]
 fn a_drain_that_is_forgotten_leaves_the_rest(rt: HostRuntime) -> Result<(), Fail> {
-    let mut map = costs(rt.alloc())?;
+    let mut map = three_costs(rt.alloc())?;
     let mut drain = map.drain();
     assert_eq!(rt; drain.next(), Some((3, 3)));
     assert_eq!(rt; drain.next_back(), Some((1, 1)));

@@ -2,9 +2,9 @@
 ghost use Rattle.std.specs.Prelude.{◌≡◌, length};
 
 use super::*;
-use schnellru::{ByCost, ByLength, UnlimitedCompact};
+use schnellru::{ByLength, UnlimitedCompact};
 use std::test::Fail;
-use test_helpers::Drawn;
+use test_helpers::{Drawn, three_costs};
 
 #[test]
 fn a_walk_from_both_ends(rt: HostRuntime) -> Result<(), Fail> {
@@ -89,15 +89,6 @@ fn walks_over_a_hundred_pairs(rt: HostRuntime) -> Result<(), Fail> {
         split = split.wrapping_mul(2).wrapping_add(1);
     }
     Ok(())
-}
-
-// The pairs (1, 1), (2, 2) and (3, 3), which cost their values.
-fn three_costs(alloc: Global) -> Result<LruMap<u64, u64, ByCost, RandomState>, AllocError> {
-    let mut map = map_of(alloc, ByCost::new(10));
-    for n in 1..=3 {
-        map.insert(n, n)?;
-    }
-    Ok(map)
 }
 
 #[test]

@@ -4,21 +4,7 @@ use lru_replay::{ReplayEnd, ReplayError, replay};
 use std::io::BufReader;
 use std::process::Abort;
 use std::test::Fail;
-use test_helpers::{Failure, Narrow, Slow};
-
-/// The front of the text up to its line feed of a number.
-fn front_lines(text: &[u8], lines: usize) -> &[u8] {
-    let mut left = lines;
-    for (i, byte) in text.iter().enumerate() {
-        if left == 0 {
-            return &text[..i];
-        }
-        if *byte == b'\n' {
-            left -= 1;
-        }
-    }
-    text
-}
+use test_helpers::{Failure, Narrow, Slow, front_lines};
 
 /// How a replay ends, the text that it writes, and how often it flushes.
 type Wanted<'a> = (Result<ReplayEnd, ReplayError>, &'a [u8], usize);
