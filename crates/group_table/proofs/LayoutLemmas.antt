@@ -118,7 +118,8 @@ module _ {T : Type 0} (control : List ℕ) (entries : List (Option T)) (laid_out
 
     -- a full bucket has an entry
     pub full_entry : (entry : T) × (get_or entries b None ≡ Some entry)
-    full_entry = some_entry (get_or control b 0) (get_or entries b None) (rw (bucket_at-laid_out b full_within) at there)
+    full_entry =
+        some_entry (get_or control b 0) (get_or entries b None) (rw (bucket_at-laid_out b full_within) at there)
 
     -- and a byte below 128
     pub full_byte : get_or control b 0 < 128

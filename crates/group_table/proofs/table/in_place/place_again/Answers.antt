@@ -120,8 +120,8 @@ put-next-requires-clause-told g c =
     (l.invariant.hashed _ c.in-Some.is) in
     elim c.if-place-b.branch [
       | then-place-b w ↦
-          let none = none_waits {number = g.N.LinkType.number} {none = g.N.LinkType.MAX} turn.1 c.first_free-place.result
-          (omega arith) (omega (arith, within, turn.1.now_length)) free in
+          let none = none_waits {number = g.N.LinkType.number} {none = g.N.LinkType.MAX} turn.1
+          c.first_free-place.result (omega arith) (omega (arith, within, turn.1.now_length)) free in
           rw (w.byte-is, none) (inr refl)
       | else-place-b w ↦
           rw (w.byte-is, w.byte-byte.ensures)
