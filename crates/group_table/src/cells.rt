@@ -85,7 +85,8 @@ fn bytes_of<T>() -> usize
 // Whether a block may have so many places.
 #[inline]
 pub(crate) fn fits_in_block<T>(count: usize) -> bool
-    ensures { result ≡ true → FitsInBlock T.row count }
+    ensures block { result ≡ true → FitsInBlock T.row count }
+    ensures all { FitsInBlock T.row count → result ≡ true }
 {
     match count.checked_mul(bytes_of::<T>()) {
         Some(bytes) => count < 1 << 63 && bytes < 1 << 63,

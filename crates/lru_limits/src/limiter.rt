@@ -28,7 +28,7 @@ pub trait Limiter<K, V> {
     /// Whether the oldest pair of a map of `length` pairs has to go.
     ///
     /// Asked before a new pair is stored in a map that has some, of the length that the map will have, and after each
-    /// insert, of the length that it has.
+    /// insert that placed a pair or replaced a value, of the length that it has.
     fn is_over_the_limit(&self, length: usize) -> bool
         ensures { result ≡ rules.is_over_the_limit self.now length };
 

@@ -22,7 +22,7 @@ impl<K: Eq + Hash + Drop, V: Drop, L: Limiter<K, V>, S: BuildHasher> LruMap<K, V
     /// where it says no, the pair leaves and the answer is false. A new key is handed to the limiter, which gives the
     /// pair to store, or none. The oldest pair leaves first where the limiter would be over with one more. The table
     /// grows where it has to and the limiter permits it; where it may not, the oldest pairs leave until there is a
-    /// place. At the end the oldest leave as long as the limiter is over.
+    /// place. Where the key is there then, the oldest leave as long as the limiter is over.
     ///
     /// ```
     /// assert!(rt; map.insert(1, 10)?);

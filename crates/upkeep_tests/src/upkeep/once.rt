@@ -83,13 +83,14 @@ impl Costed for Dear {
     }
 }
 
-// The old value, which leaves, and the new one, which was refused.
+// The old value, which leaves, and the new ones, which were refused: one as a replacement, and one of a new key.
 #[test]
 fn a_refused_replacement_drops_both_values(rt: HostRuntime) -> Result<(), Fail> {
     let (old, new) = (Rc::new(rt.alloc(), 0u64)?, Rc::new(rt.alloc(), 0u64)?);
     let mut map: LruMap<u64, Dear, ByCost> = LruMap::new(rt.alloc(), ByCost::new(1), WORDS, 16);
     assert!(rt; map.insert(1, Dear(1, old.clone()?))?);
     assert!(rt; !map.insert(1, Dear(2, new.clone()?))?);
+    assert!(rt; !map.insert(2, Dear(2, new.clone()?))?);
     assert_eq!(rt; (Rc::strong_count(&old), Rc::strong_count(&new)), (1, 1));
     Ok(())
 }
@@ -108,13 +109,14 @@ impl Clone for Refusing<'_> {
     }
 }
 
-// It is not tried again, and the clone of the key is dropped.
+// It is not tried again, nor is the other value copied, and the clone of a key is dropped.
 #[test]
 fn a_copy_that_is_refused_is_not_tried_again(rt: HostRuntime) -> Result<(), Fail> {
     let key = Rc::new(rt.alloc(), 1u64)?;
     let tries = Cell::new(0u64);
     let mut map: LruMap<Rc<u64>, Refusing> = LruMap::new(rt.alloc(), ByLength::new(2), WORDS, 16);
     assert!(rt; map.insert(key.clone()?, Refusing(&tries))?);
+    assert!(rt; map.insert(Rc::new(rt.alloc(), 2u64)?, Refusing(&tries))?);
     assert!(rt; map.clone().is_err());
     assert_eq!(rt; (tries.get(), Rc::strong_count(&key)), (1, 2));
     assert!(rt; map.clone().is_ok());
