@@ -1,5 +1,6 @@
 pub mod OrderCuts
 pub mod BucketPairs
+pub mod TakenEntries
 pub mod TakenPairs
 pub mod AskedPairs
 pub mod Clears

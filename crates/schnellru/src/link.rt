@@ -16,7 +16,7 @@ ghost use Rattle.schnellru.specs.ByHash.{Asks};
 ghost use Rattle.schnellru.specs.Inside.Searches.{Finds, FindsNone};
 ghost use Rattle.schnellru.specs.Inside.Chain.{first_bucket, last_bucket, bucket_after, bucket_before, pair_slots};
 
-use crate::link::chain::{link_newest, link_placed, rewrite, unlink};
+use crate::link::chain::{close_gap, link_newest, link_placed, rewrite, unlink};
 use group_table::{LinkType, Table};
 use lru_limits::LookupKey;
 use std::alloc::{AllocError, Global};
@@ -220,9 +220,43 @@ impl<K, V, N: LinkType> Linked<K, V, N> {
         ensures fits { (hash_of : K → ℕ) → KeysFit hash_of self.old.slots → KeysFit hash_of self.new.slots }
         ensures linked { IsLinked self.new }
     {
-        unlink(&mut self.table, &mut self.newest, &mut self.oldest, b);
-        let Pair { key, value } = self.table.take(b).pair;
-        (key, value)
+        let Entry { newer, older, pair } = self.table.take(b);
+        close_gap(
+            &mut self.table,
+            &mut self.newest,
+            &mut self.oldest,
+            newer,
+            older,
+        );
+        (pair.key, pair.value)
+    }
+
+    // Takes out the oldest pair, which is in this bucket. It has no older neighbour, so that link is not read.
+    #[inline(always)]
+    pub(crate) fn take_last(&mut self, b: usize) -> (K, V)
+        requires { last_bucket self.old.order ≡ Some b }
+        ensures pair { entry_at self.old.slots b ≡ Some result }
+        ensures removed { Removes self.old.slots self.new.slots b }
+        ensures order { self.new.order ≡ without_bucket b self.old.order }
+        ensures placings { self.new.placings ≡ self.old.placings }
+        ensures room { room (marks_of self.new.slots) ≡ room (marks_of self.old.slots)
+            + room_at (marks_of self.new.slots) b }
+        ensures fits { (hash_of : K → ℕ) → KeysFit hash_of self.old.slots → KeysFit hash_of self.new.slots }
+        ensures linked { IsLinked self.new }
+    {
+        let Entry {
+            newer,
+            older: _,
+            pair,
+        } = self.table.take(b);
+        close_gap(
+            &mut self.table,
+            &mut self.newest,
+            &mut self.oldest,
+            newer,
+            N::MAX,
+        );
+        (pair.key, pair.value)
     }
 }
 

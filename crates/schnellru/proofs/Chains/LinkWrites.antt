@@ -5,15 +5,19 @@ use Rattle.std.specs.Prelude.{option_map, Contains}
 use Rattle.std.proofs.lemmas.Bool.{cases_eq}
 use Rattle.std.proofs.lemmas.Option.{same_Some}
 use Rattle.group_table.specs.Link.{IsLinkType}
-use Rattle.group_table.specs.Bucket.{Slot, bucket_at, is_full, IsFull, entry_at, refilled}
+use Rattle.group_table.specs.Bucket.{Slot, bucket_at, is_full, IsFull, entry_at, entry_of, refilled}
+use Rattle.group_table.specs.Change.{Removes}
 use Rattle.group_table.proofs.BucketLemmas.{full_lt}
 use Rattle.group_table.proofs.RefillLemmas.{entry_at-refilled, entry_at-refilled_other}
 use Rattle.group_table.proofs.SearchLemmas.{full_by_entry}
+use Rattle.group_table.proofs.ChangeLemmas.{length-removed, bucket_at-removed_other}
 use Rattle.schnellru.specs.declared.link.Entry.{Entry}
 use Rattle.schnellru.specs.Inside.Linked.{without_bucket}
 use Rattle.schnellru.specs.Inside.Chain.{first_bucket, last_bucket, bucket_after, bucket_before, link_to, newer_at}
 use Rattle.schnellru.specs.Inside.Chain.{older_at, SetsLinks, SetsNewer, SetsOlder, SetsEnd, IsChain}
+use Rattle.schnellru.specs.Inside.Chain.{IsGap}
 use Rattle.schnellru.proofs.Chains.Orders.{other_than, Contains-cases, after_in, before_in, first_in, without_in}
+use Rattle.schnellru.proofs.Chains.Orders.{after_other, before_other}
 use Rattle.schnellru.proofs.Chains.Orders.{distinct_without, distinct_cons}
 use Rattle.schnellru.proofs.Chains.Neighbours.{before-next, before-stays, after-previous, after-stays, first-left}
 use Rattle.schnellru.proofs.Chains.Neighbours.{first-left_stays, last-left}
@@ -119,26 +123,73 @@ module _ {N : Type 0} {number : N → ℕ} {link : ℕ → N} {none : N} {eq : N
         pub older_link : entry.older ≡ link_to link none (bucket_after b order)
         older_link = same_Some _ _ (sym (ap (option_map (λ x. x.older)) is) ∙ chain.older b there)
 
-        pub newer_leads : (entry.newer ≡ none) ⊎ IsFull slots (number entry.newer)
-        newer_leads = rw newer_link
-            (leads_to_full slots chain.reached (bucket_before b order)
-            (λ y e. chain.only y (before_in b y order chain.distinct e)))
+        -- to take it out of the chain, whether or not its entry leaves the table first
+        gap : (new : List (Slot (Entry K V N))) → length new ≡ length slots
+            → ((c : ℕ) → c ≢ b → bucket_at new c ≡ bucket_at slots c)
+            → IsGap number link none new newest oldest order b entry.newer entry.older
+        gap new same others = record {
+          before = slots;
+          chain = chain;
+          there = there;
+          newer_is = ap (option_map (λ x. x.newer)) is;
+          older_is = ap (option_map (λ x. x.older)) is;
+          same = same;
+          others = others;
+        }
 
-        pub older_leads : (entry.older ≡ none) ⊎ IsFull slots (number entry.older)
-        older_leads = rw older_link
-            (leads_to_full slots chain.reached (bucket_after b order) (λ y e. chain.only y (after_in b y order e)))
+        pub IsGap-full : IsGap number link none slots newest oldest order b entry.newer entry.older
+        IsGap-full = gap slots refl (λ c other. refl)
+
+        pub IsGap-taken : (new : List (Slot (Entry K V N))) → Removes slots new b
+            → IsGap number link none new newest oldest order b entry.newer entry.older
+        IsGap-taken new removes = gap new (length-removed slots new b removes)
+            (λ c other. bucket_at-removed_other slots new b c other removes)
 
       pub newest_leads : (newest ≡ none) ⊎ IsFull slots (number newest)
       newest_leads = rw chain.newest_first
           (leads_to_full slots chain.reached (first_bucket order) (λ y e. chain.only y (first_in order y e)))
 
+    -- a bucket is to leave the chain
+    module _ {s0 : List (Slot (Entry K V N))} {newest oldest newer older : N} {b : ℕ} {order : List ℕ}
+        (gap : IsGap number link none s0 newest oldest order b newer older) where
+      newer_to : newer ≡ link_to link none (bucket_before b order)
+      newer_to = same_Some _ _ (sym gap.newer_is ∙ gap.chain.newer b gap.there)
+
+      older_to : older ≡ link_to link none (bucket_after b order)
+      older_to = same_Some _ _ (sym gap.older_is ∙ gap.chain.older b gap.there)
+
+      gap_reached : length s0 < number none
+      gap_reached = rw gap.same gap.chain.reached
+
+      others_full : (x : ℕ) → Contains order x → x ≢ b → IsFull s0 x
+      others_full x inside other = ap is_full (gap.others x other) ∙ gap.chain.only x inside
+
+      -- its links are those of no bucket, or lead to full ones
+      pub gap_newer_leads : (newer ≡ none) ⊎ IsFull s0 (number newer)
+      gap_newer_leads = rw newer_to (leads_to_full s0 gap_reached (bucket_before b order) (λ y e.
+          others_full y (before_in b y order gap.chain.distinct e) (before_other b y order gap.chain.distinct e)))
+
+      pub gap_older_leads : (older ≡ none) ⊎ IsFull s0 (number older)
+      gap_older_leads = rw older_to (leads_to_full s0 gap_reached (bucket_after b order) (λ y e.
+          others_full y (after_in b y order e) (after_other b y order gap.chain.distinct e)))
+
     -- a bucket leaves the chain: its neighbours get each other's links
     module _ {s0 s1 s2 : List (Slot (Entry K V N))} {newest oldest newest' oldest' newer older : N} (b : ℕ)
-        {order : List ℕ} (chain : IsChain number link none s0 newest oldest order) (there : Contains order b)
-        (newer_is : newer ≡ link_to link none (bucket_before b order))
-        (older_is : older ≡ link_to link none (bucket_after b order))
+        {order : List ℕ} (gap : IsGap number link none s0 newest oldest order b newer older)
         (first : SetsOlder number s0 s1 newer older) (newest_is : SetsEnd none newest newest' newer older)
         (second : SetsNewer number s1 s2 older newer) (oldest_is : SetsEnd none oldest oldest' older newer) where
+      abbrev chain : IsChain number link none gap.before newest oldest order
+      chain = gap.chain
+
+      abbrev there : Contains order b
+      there = gap.there
+
+      newer_is : newer ≡ link_to link none (bucket_before b order)
+      newer_is = newer_to gap
+
+      older_is : older ≡ link_to link none (bucket_after b order)
+      older_is = older_to gap
+
       abbrev left : List ℕ
       left = without_bucket b order
 
@@ -168,14 +219,15 @@ module _ {N : Type 0} {number : N → ℕ} {link : ℕ → N} {none : N} {eq : N
             let next : bucket_after b order ≡ Some x = bucket_by_link (bucket_after b order) x after_below
             (chained_below chain x inside) (h ∙ ap number older_is) in
             let full : IsFull s1 (number older) = subst (IsFull s1) h (same_full s0 s1 first.pairs x
-            ∙ chain.only x inside) in
+            ∙ others_full gap x inside other) in
             subst (λ k. newer_at s2 k ≡ Some newer) (sym h) (second.there full)
             ∙ ap Some (newer_is ∙ ap (link_to link none) (sym (before-next b x other order chain.distinct next)))
         | inr h ↦
             let stays = before-stays b x other order chain.distinct
             (λ e. h (sym (ap number older_is ∙ number-link_to (bucket_after b order) x e
             (chained_below chain x inside)))) in
-            second.others x h ∙ first.newer x ∙ chain.newer x inside ∙ ap (λ o. Some (link_to link none o)) (sym stays)
+            second.others x h ∙ first.newer x ∙ ap (λ s. option_map (λ y. y.newer) (entry_of s)) (gap.others x other)
+            ∙ chain.newer x inside ∙ ap (λ o. Some (link_to link none o)) (sym stays)
       ]
 
       left_older : (x : ℕ) → Contains order x → x ≢ b → older_at s2 x ≡ Some (link_to link none (bucket_after x left))
@@ -183,22 +235,23 @@ module _ {N : Type 0} {number : N → ℕ} {link : ℕ → N} {none : N} {eq : N
         | inl h ↦
             let previous : bucket_before b order ≡ Some x = bucket_by_link (bucket_before b order) x before_below
             (chained_below chain x inside) (h ∙ ap number newer_is) in
-            let full : IsFull s0 (number newer) = subst (IsFull s0) h (chain.only x inside) in
+            let full : IsFull s0 (number newer) = subst (IsFull s0) h (others_full gap x inside other) in
             second.older x ∙ subst (λ k. older_at s1 k ≡ Some older) (sym h) (first.there full)
             ∙ ap Some (older_is ∙ ap (link_to link none) (sym (after-previous b x other order chain.distinct previous)))
         | inr h ↦
             let stays = after-stays b x other order chain.distinct
             (λ e. h (sym (ap number newer_is ∙ number-link_to (bucket_before b order) x e
             (chained_below chain x inside)))) in
-            second.older x ∙ first.others x h ∙ chain.older x inside ∙ ap (λ o. Some (link_to link none o)) (sym stays)
+            second.older x ∙ first.others x h ∙ ap (λ s. option_map (λ y. y.older) (entry_of s)) (gap.others x other)
+            ∙ chain.older x inside ∙ ap (λ o. Some (link_to link none o)) (sym stays)
       ]
 
       pub IsChain-unlinked : IsChain number link none s2 newest' oldest' (without_bucket b order)
       IsChain-unlinked = record {
-        reached = omega (arith, same_length s1 s2 second.pairs, same_length s0 s1 first.pairs, chain.reached);
+        reached = omega (arith, same_length s1 s2 second.pairs, same_length s0 s1 first.pairs, gap_reached gap);
         distinct = distinct_without b order chain.distinct;
         only = λ x w. same_full s1 s2 second.pairs x ∙ same_full s0 s1 first.pairs x
-            ∙ chain.only x (without_in b x order w).0;
+            ∙ (let v = without_in b x order w in others_full gap x v.0 v.1);
         newest_first = left_first (bucket_before b order) refl;
         oldest_last = left_last (bucket_after b order) refl;
         newer = λ x w. let v = without_in b x order w in left_newer x v.0 v.1;

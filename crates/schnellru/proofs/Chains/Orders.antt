@@ -130,6 +130,31 @@ before_in b x order d e = elim (before_from-in None b x order (sym (before_is b 
   | inr h ↦ h
 ]
 
+-- and it is another bucket
+pub after_other : (b x : ℕ) (order : List ℕ) → AllPairs ◌≢◌ order → bucket_after b order ≡ Some x → x ≢ b
+after_other b x [] d e = absurd (none-some x e)
+after_other b x (c ∷ cs) d e = elim (cases_eq c b) [
+  | inl h ↦
+      let e' : first_bucket cs ≡ Some x = rw (eq-eqb c b h) at e in
+      λ same. distinct_head c cs d (subst (Contains cs) (same ∙ sym h) (first_in cs x e'))
+  | inr h ↦
+      let e' : bucket_after b cs ≡ Some x = rw (ne_eqb c b h) at e in
+      after_other b x cs (distinct_tail c cs d) e'
+]
+
+before_from-other : (prev : Option ℕ) (b x : ℕ) (cs : List ℕ) → (prev ≡ Some b → ⊥) → before_from prev b cs ≡ Some x
+    → x ≢ b
+before_from-other prev b x [] p e = absurd (none-some x e)
+before_from-other prev b x (c ∷ cs) p e = elim (cases_eq c b) [
+  | inl h ↦ let e' : prev ≡ Some x = rw (eq-eqb c b h) at e in λ same. p (e' ∙ ap Some same)
+  | inr h ↦
+      let e' : before_from (Some c) b cs ≡ Some x = rw (ne_eqb c b h) at e in
+      before_from-other (Some c) b x cs (λ k. h (same_Some c b k)) e'
+]
+
+pub before_other : (b x : ℕ) (order : List ℕ) → AllPairs ◌≢◌ order → bucket_before b order ≡ Some x → x ≢ b
+before_other b x order d e = before_from-other None b x order (none-some b) (sym (before_is b order d) ∙ e)
+
 pub before_from-some : (c b : ℕ) (cs : List ℕ) → Contains cs b → before_from (Some c) b cs ≡ None → ⊥
 before_from-some c b [] there e = Contains-nil b there
 before_from-some c b (d ∷ ds) there e = elim (cases_eq d b) [

@@ -125,26 +125,26 @@ module _ {N : Type 0} {number : N → ℕ} {link : ℕ → N} {none : N} {eq : N
       );
     }
 
-    -- a bucket left the chain, and then its entry the table
-    module _ {s1 : List (Slot (Entry K V N))} (there : IsFull s0 b) (same : pair_slots s1 ≡ pair_slots s0)
-        (chain : IsChain number link none s1 newest' oldest' (without_bucket b order)) (removes : Removes s1 s2 b) where
+    -- an entry left the table, and then its bucket the chain
+    module _ {s1 : List (Slot (Entry K V N))} (there : IsFull s0 b) (removes : Removes s0 s1 b)
+        (same : pair_slots s2 ≡ pair_slots s1)
+        (chain : IsChain number link none s2 newest' oldest' (without_bucket b order)) where
       emptied : IsFull s2 b → ⊥
-      emptied h = not_full (bucket_at s2 b) (entry_at-removed s1 s2 b (same_full s0 s1 same b ∙ there) removes) h
+      emptied h = not_full (bucket_at s1 b) (entry_at-removed s0 s1 b there removes) (sym (same_full s1 s2 same b) ∙ h)
 
       pub IsWhole-taken : IsWhole number link none s2 newest' oldest' (without_bucket b order)
       IsWhole-taken = record {
-        chain = IsChain-kept s1 s2 newest' oldest' (without_bucket b order) (length-removed s1 s2 b removes)
-            (λ x w. bucket_at-removed_other s1 s2 b x (without_in b x order w).1 removes) chain;
+        chain = chain;
         all = λ x h.
             let other : x ≢ b = λ e. emptied (subst (IsFull s2) e h) in
             in_without b x order
-            (whole.all x (sym (same_full s0 s1 same x)
-            ∙ sym (ap is_full (bucket_at-removed_other s1 s2 b x other removes)) ∙ h)) other;
+            (whole.all x (sym (ap is_full (bucket_at-removed_other s0 s1 b x other removes))
+            ∙ sym (same_full s1 s2 same x) ∙ h)) other;
         count =
             omega (
               arith,
-              entry_count-removes s1 s2 b (same_full s0 s1 same b ∙ there) removes,
-              same_count s0 s1 same,
+              entry_count-removes s0 s1 b there removes,
+              same_count s1 s2 same,
               whole.count,
               length-without b order whole.chain.distinct (whole.all b there),
             );

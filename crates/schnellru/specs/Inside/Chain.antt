@@ -2,7 +2,7 @@
 -- No public clause cites this module.
 use Rattle.std.specs.Prelude.{◌≡◌, ◌≢◌, ◌⊎◌, ℕ, zero, suc, ◌<◌, slice_index_or, List, [], ◌∷◌, length, map, nat_eq}
 use Rattle.std.specs.Prelude.{if◌then◌else◌, Option, Some, None, option_map, unwrap_or, Contains, AllPairs}
-use Rattle.group_table.specs.Bucket.{empty, deleted, full, Slot, IsFull, entry_at, entry_count}
+use Rattle.group_table.specs.Bucket.{empty, deleted, full, Slot, IsFull, bucket_at, entry_at, entry_count}
 use Rattle.group_table.specs.Relocation.{Renumbers}
 use Rattle.schnellru.specs.declared.link.Entry.{Entry}
 
@@ -115,6 +115,18 @@ module _ {K V N : Type 0} (number : N → ℕ) (link : ℕ → N) (none : N) whe
     pub chain : IsChain slots newest oldest order
     pub all : (b : ℕ) → IsFull slots b → Contains order b
     pub count : entry_count slots ≡ length order
+
+  -- a bucket is to leave the chain of these buckets, and has these links. Its entry may be gone from the slots; all
+  -- others are there.
+  pub record IsGap (slots : List (Slot (Entry K V N))) (newest oldest : N) (order : List ℕ) (b : ℕ) (newer older : N)
+      : Type 0 where
+    pub before : List (Slot (Entry K V N))
+    pub chain : IsChain before newest oldest order
+    pub there : Contains order b
+    pub newer_is : newer_at before b ≡ Some newer
+    pub older_is : older_at before b ≡ Some older
+    pub same : length slots ≡ length before
+    pub others : (c : ℕ) → c ≢ b → bucket_at slots c ≡ bucket_at before c
 
   -- some buckets are chained, this one among them
   abbrev pub InChain : List (Slot (Entry K V N)) → N → N → ℕ → Type 0

@@ -6,9 +6,9 @@ ghost use Rattle.group_table.specs.Bucket.{Slot, IsFull};
 ghost use Rattle.group_table.specs.Relocation.{Renumbers, moved_to};
 ghost use Rattle.schnellru.specs.Inside.Linked.{without_bucket};
 ghost use Rattle.schnellru.specs.declared.link.Entry.{Entry};
-ghost use Rattle.schnellru.specs.Inside.Chain.{IsChain, IsWhole, InChain, OutOfChain, Moved, MovesLinks, HasPlace};
-ghost use Rattle.schnellru.specs.Inside.Chain.{moved_link, SetsNewer, SetsOlder, SetsLinks, SetsEnd, newer_at};
-ghost use Rattle.schnellru.specs.Inside.Chain.{older_at, pair_slots};
+ghost use Rattle.schnellru.specs.Inside.Chain.{IsChain, IsWhole, InChain, OutOfChain, IsGap, Moved, MovesLinks};
+ghost use Rattle.schnellru.specs.Inside.Chain.{HasPlace, moved_link, SetsNewer, SetsOlder, SetsLinks, SetsEnd};
+ghost use Rattle.schnellru.specs.Inside.Chain.{newer_at, older_at, pair_slots};
 
 use crate::link::Entry;
 use group_table::{LinkType, Table};
@@ -29,6 +29,27 @@ pub(crate) fn unlink<K, V, N: LinkType>(
 {
     let entry = table.get(b);
     let (newer, older) = (entry.newer, entry.older);
+    close_gap(table, newest, oldest, newer, older);
+}
+
+// Links the neighbours of a bucket that leaves the chain to each other. Its entry, which had these links, may have left
+// the table before.
+#[inline]
+pub(crate) fn close_gap<K, V, N: LinkType>(
+    table: &mut Table<Entry<K, V, N>>,
+    newest: &mut N,
+    oldest: &mut N,
+    newer: N,
+    older: N,
+)
+    requires { (order : List ℕ) × (b : ℕ)
+        × IsGap N.number N.link N.MAX table.old.slots newest.old oldest.old order b newer older }
+    ensures pairs { pair_slots table.new.slots ≡ pair_slots table.old.slots }
+    ensures placings { table.new.placings ≡ table.old.placings }
+    ensures chain { (order : List ℕ) (b : ℕ) →
+        IsGap N.number N.link N.MAX table.old.slots newest.old oldest.old order b newer older →
+        IsChain N.number N.link N.MAX table.new.slots newest.new oldest.new (without_bucket b order) }
+{
     set_older(table, newest, newer, older);
     set_newer(table, oldest, older, newer);
 }

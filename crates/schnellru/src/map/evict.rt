@@ -8,7 +8,7 @@ ghost use Rattle.schnellru.specs.HandedOver.{noting, noted};
 ghost use Rattle.schnellru.specs.Inside.Handing.{Hands};
 
 use crate::map::LruMap;
-use crate::map::remove::take_out;
+use crate::map::remove::take_out_last;
 use lru_limits::Limiter;
 use std::hash::{BuildHasher, Hash};
 
@@ -20,7 +20,7 @@ impl<K: Eq + Hash, V, L: Limiter<K, V>, S: BuildHasher> LruMap<K, V, L, S> {
         ensures { PopOldest L.rules self.old (Some result) self.new }
     {
         let b = self.entries.oldest();
-        take_out(&mut self.entries, &mut self.limiter, b)
+        take_out_last(&mut self.entries, &mut self.limiter, b)
     }
 }
 

@@ -1,6 +1,7 @@
 //! Removal: a pair leaves the map, or all do, and the limiter is told.
 ghost use Rattle.std.specs.Prelude.{◌≡◌, ℕ, Some};
 ghost use Rattle.group_table.specs.Bucket.{IsFull};
+ghost use Rattle.schnellru.specs.Inside.Chain.{last_bucket};
 ghost use Rattle.schnellru.specs.Inside.Linked.{IsLinked, KeysFit};
 ghost use Rattle.schnellru.specs.State.{told_of};
 ghost use Rattle.schnellru.specs.Calls.{left_of, Remove, PopOldest, PopNewest, cleared};
@@ -100,6 +101,21 @@ pub(super) fn take_out<K: Eq + Hash, V, L: Limiter<K, V>>(
     ensures fits { (hash_of : K → ℕ) → KeysFit hash_of entries.old.slots → KeysFit hash_of entries.new.slots }
 {
     tell(limiter, entries.take(b))
+}
+
+// The same of the oldest pair, which is in this bucket.
+#[inline]
+pub(super) fn take_out_last<K: Eq + Hash, V, L: Limiter<K, V>>(
+    entries: &mut Linked<K, V, L::LinkType>,
+    limiter: &mut L,
+    b: usize,
+) -> (K, V)
+    requires { last_bucket entries.old.order ≡ Some b }
+    ensures taken { IsTakenOut L.rules b entries.old entries.new limiter.old result limiter.new }
+    ensures linked { IsLinked entries.new }
+    ensures fits { (hash_of : K → ℕ) → KeysFit hash_of entries.old.slots → KeysFit hash_of entries.new.slots }
+{
+    tell(limiter, entries.take_last(b))
 }
 
 // Tells the limiter of a pair that left, or was not placed, and gives what it left of the pair.

@@ -1,48 +1,52 @@
-use Rattle.schnellru.proofs.LinkedTables.PairSlots.{marks_of-pair_slots, Removes-pair_slots, Fits-pair_slots}
-use Rattle.schnellru.proofs.LinkedTables.PairSlots.{Fits-entries}
-use Rattle.schnellru.proofs.Chains.WholeChains.{whole_order, IsWhole-shown, IsLinked-view, IsWhole-taken}
-use Rattle.schnellru.proofs.LinkedTables.KeyHashes.{KeysFit-removed}
+use Rattle.schnellru.proofs.LinkedTables.PairSlots.{same_marks}
+use Rattle.schnellru.proofs.LinkedTables.TakenEntries.{taken_removes, taken_room, taken_fits, taken_whole, taken_order}
+use Rattle.schnellru.proofs.Chains.LinkWrites.{IsGap-taken}
+use Rattle.schnellru.proofs.Chains.WholeChains.{IsLinked-view}
 use Rattle.schnellru.proofs.Chains.LinkReads.{full_entry, inside}
 use Rattle.schnellru.proofs.link.Linked.take.Goals as goal
 
+pub close_gap-requires : goal.close_gap-requires
+close_gap-requires g c =
+    let there = inside g.met.N.LinkType.laws c.self.invariant c.args.b (rw (← c.self.view_is) at c.requires) in (
+      _,
+      c.args.b,
+      IsGap-taken g.met.N.LinkType.laws c.self.invariant.chain c.args.b there _ c.take-newer.ensures.entry _
+          c.take-newer.ensures.removed,
+    )
+
 pub invariant_of-self : goal.invariant_of-self
 invariant_of-self g c =
-    let full = rw (← c.self.view_is) at c.requires in
-    let there = inside g.met.N.LinkType.laws c.self.invariant c.args.b full in
-    let left = c.unlink.ensures.chain _ c.self.invariant.chain there in
-    IsWhole-shown g.met.N.LinkType.laws (IsWhole-taken g.met.N.LinkType.laws c.self.invariant c.args.b
-    (full_entry g.met.N.LinkType.laws c.self.invariant c.args.b full) c.unlink.ensures.pairs left
-    c.take-key.ensures.removed)
+    let shown = rw (← c.self.view_is) at c.requires in
+    let there = inside g.met.N.LinkType.laws c.self.invariant c.args.b shown in
+    taken_whole _ _ _ c.args.b c.take-newer.ensures.removed c.close_gap.ensures.pairs g.met.N.LinkType.laws c.self.invariant
+    (full_entry g.met.N.LinkType.laws c.self.invariant c.args.b shown)
+    (c.close_gap.ensures.chain _ c.args.b (IsGap-taken g.met.N.LinkType.laws c.self.invariant.chain c.args.b there _
+    c.take-newer.ensures.entry _ c.take-newer.ensures.removed))
 
 pub returns-clause-removed : goal.returns-clause-removed
-returns-clause-removed g c = rw (← c.self.view_is, ← c.unlink.ensures.pairs)
-    (Removes-pair_slots _ _ c.args.b c.take-key.ensures.removed)
+returns-clause-removed g c = rw (← c.self.view_is)
+    (taken_removes _ _ _ c.args.b c.take-newer.ensures.removed c.close_gap.ensures.pairs)
 
 pub returns-clause-order : goal.returns-clause-order
 returns-clause-order g c =
-    let full = rw (← c.self.view_is) at c.requires in
-    let there = inside g.met.N.LinkType.laws c.self.invariant c.args.b full in
-    let left = c.unlink.ensures.chain _ c.self.invariant.chain there in
-    rw (← c.self.view_is) (whole_order g.met.N.LinkType.laws
-    (IsWhole-taken g.met.N.LinkType.laws c.self.invariant c.args.b
-    (full_entry g.met.N.LinkType.laws c.self.invariant c.args.b full) c.unlink.ensures.pairs left
-    c.take-key.ensures.removed))
+    let shown = rw (← c.self.view_is) at c.requires in
+    let there = inside g.met.N.LinkType.laws c.self.invariant c.args.b shown in
+    rw (← c.self.view_is) (taken_order _ _ _ c.args.b c.take-newer.ensures.removed c.close_gap.ensures.pairs g.met.N.LinkType.laws
+    c.self.invariant (full_entry g.met.N.LinkType.laws c.self.invariant c.args.b shown)
+    (c.close_gap.ensures.chain _ c.args.b (IsGap-taken g.met.N.LinkType.laws c.self.invariant.chain c.args.b there _
+    c.take-newer.ensures.entry _ c.take-newer.ensures.removed)))
 
 pub returns-clause-room : goal.returns-clause-room
-returns-clause-room g c =
-    rw (
-      ← c.self.view_is,
-      ← c.unlink.ensures.pairs,
-      marks_of-pair_slots c.take-key.new.self.slots,
-      marks_of-pair_slots c.unlink.new.table.slots,
-    ) c.take-key.ensures.room
+returns-clause-room g c = rw (← c.self.view_is)
+    (taken_room _ _ _ c.args.b c.take-newer.ensures.removed c.close_gap.ensures.pairs c.take-newer.ensures.room)
 
 pub returns-clause-fits : goal.returns-clause-fits
-returns-clause-fits g c hash_of fits =
-    let before = rw (← c.self.view_is, ← c.unlink.ensures.pairs) at fits in
-    let full = rw (← c.self.view_is, ← c.unlink.ensures.pairs) at c.requires in
-    KeysFit-removed hash_of _ _ c.args.b full (Removes-pair_slots _ _ c.args.b c.take-key.ensures.removed)
-    (Fits-pair_slots _ _ (c.take-key.ensures.fits _ (Fits-entries c.unlink.new.table.slots _ before)))
+returns-clause-fits g c = rw (← c.self.view_is)
+    (taken_fits _ _ _ c.args.b c.take-newer.ensures.removed c.close_gap.ensures.pairs
+    (full_entry g.met.N.LinkType.laws c.self.invariant c.args.b (rw (← c.self.view_is) at c.requires))
+    c.take-newer.ensures.fits)
 
 pub returns-clause-linked : goal.returns-clause-linked
-returns-clause-linked g c = IsLinked-view g.met.N.LinkType.laws (invariant_of-self g c) c.take-key.ensures.table
+returns-clause-linked g c = IsLinked-view g.met.N.LinkType.laws (invariant_of-self g c)
+    (rw (same_marks c.take-newer.new.self.slots c.close_gap.new.table.slots c.close_gap.ensures.pairs)
+    c.take-newer.ensures.table)
