@@ -1,12 +1,14 @@
 -- The control bytes of a table, beside the entries, and with one bucket written.
-use Rattle.std.proofs.Common.{◌≡◌, ◌≢◌, ℕ, ◌+◌, ◌-◌, ◌<◌, ◌≤◌, max, List, length, set, get_or, Option}
+use Rattle.std.proofs.Common.{◌≡◌, ◌≢◌, ℕ, ◌+◌, ◌-◌, ◌<◌, ◌≤◌, max, List, length, replicate, set, get_or, Option}
 use Rattle.std.proofs.Common.{ap, sym, ◌∙◌, arith, inl, inr, length-set, get_or-set_same, get_or-set_other}
 use Rattle.std.proofs.Common.{◌*◌, ◌%◌, ◌^◌, pow_pos, pow_mono}
 use Rattle.std.proofs.Math.Nat.{add-mul-mod_self_left, mod-eq_of_lt}
 use Rattle.std.proofs.lemmas.Nat.{pow-add}
+use Rattle.std.proofs.lemmas.List.{length-replicate, get_or-replicate}
 use native.Mathlib.Decide.{dec_lt}
 use Rattle.std.proofs.lemmas.Bool.{cases_eq}
 use Rattle.group_table.specs.Sizes.{IsPowerFromFour}
+use Rattle.group_table.specs.Bytes.{empty_byte}
 use Rattle.group_table.proofs.SizeLemmas.{power_is}
 use Rattle.group_table.specs.Control.{buckets_of, IsCircle, IsControl}
 use Rattle.group_table.specs.Layout.{IsLaidOut}
@@ -17,10 +19,31 @@ pub buckets_are : {T : Type 0} (control : List ℕ) (entries : List (Option T)) 
 buckets_are control entries laid_out =
     elim laid_out.counts [ inl w ↦ omega (arith, w.0, w.1) | inr w ↦ omega (arith, w.1) ]
 
--- bytes for some bucket have the form
-pub circle_of : (control : List ℕ) → IsControl control → 0 < buckets_of control → IsCircle control
-circle_of control (inl none) some = let e : length control ≡ 0 = ap length none in absurd (omega (arith, e))
-circle_of control (inr circle) some = circle
+-- bytes for some bucket have the form, and the number is that of the last bucket
+pub circle_of : (control : List ℕ) (last : ℕ) → IsControl control last → 0 < buckets_of control → IsCircle control
+circle_of control last (inl none) some = let e : length control ≡ 0 = ap length none.0 in absurd (omega (arith, e))
+circle_of control last (inr w) some = w.0
+
+pub last_of : (control : List ℕ) (last : ℕ) → IsControl control last → 0 < buckets_of control
+    → last + 1 ≡ buckets_of control
+last_of control last (inl none) some = let e : length control ≡ 0 = ap length none.0 in absurd (omega (arith, e))
+last_of control last (inr w) some = w.1
+
+-- those of empty buckets have it
+pub IsCircle-empty : (n : ℕ) → IsPowerFromFour n → n + 16 < 2 ^ 63 → IsCircle (replicate (n + 16) empty_byte)
+IsCircle-empty n power fits =
+    let long : length (replicate (n + 16) empty_byte) ≡ n + 16 = length-replicate (n + 16) empty_byte in
+    let same : buckets_of (replicate (n + 16) empty_byte) ≡ n = omega (arith, long) in
+    let at = λ (k : ℕ) (p : k < n + 16). get_or-replicate (n + 16) k empty_byte 0 p in
+    record {
+      power = rw same power;
+      long = omega (arith, long);
+      fits = rw long fits;
+      repeated = rw same (record {
+        again = λ p past inside. at p inside ∙ sym (at (p - max 16 n) (omega (arith, inside)));
+        between = λ p past low. at p (omega (arith, low));
+      });
+    }
 
 module _ (control : List ℕ) (b byte : ℕ) (circle : IsCircle control) (within : b < buckets_of control) where
   abbrev n : ℕ
@@ -32,7 +55,7 @@ module _ (control : List ℕ) (b byte : ℕ) (circle : IsCircle control) (within
   same_length : length after ≡ length control
   same_length = length-set (set control b byte) (b + max 16 n) byte ∙ length-set control b byte
 
-  same_buckets : buckets_of after ≡ buckets_of control
+  pub same_buckets : buckets_of after ≡ buckets_of control
   same_buckets = ap (λ k. k - 16) same_length
 
   other : (p : ℕ) → p ≢ b → p ≢ b + max 16 n → get_or after p 0 ≡ get_or control p 0

@@ -20,6 +20,8 @@ pub(crate) const DELETED: u8 = 0x80;
 #[derive(Drop)]
 pub(crate) struct Control {
     bytes: Vec<u8>,
+    // The number of the last bucket, by which a place is wrapped; the greatest of all where there are no buckets.
+    last: usize,
 }
 
 impl Model for Control {
@@ -30,7 +32,7 @@ impl Model for Control {
 
     ghost view = { λ c. c.bytes.items };
 
-    ghost invariant = { λ c. IsControl c.bytes.items };
+    ghost invariant = { λ c. IsControl c.bytes.items c.last };
 }
 
 impl Control {
@@ -40,6 +42,7 @@ impl Control {
     {
         Control {
             bytes: Vec::new(alloc),
+            last: usize::MAX,
         }
     }
 
@@ -50,7 +53,10 @@ impl Control {
         ensures { IfOk result (λ c. c ≡ replicate (buckets + 16) empty_byte) }
     {
         let bytes = vec![in alloc; EMPTY; buckets + 16]?;
-        Ok(Control { bytes })
+        Ok(Control {
+            bytes,
+            last: buckets - 1,
+        })
     }
 
     // The same bytes again.
@@ -58,7 +64,18 @@ impl Control {
         ensures { IfOk result (λ c. c ≡ self.now) }
     {
         let bytes = Vec::from_slice(alloc, self.bytes.as_slice())?;
-        Ok(Control { bytes })
+        Ok(Control {
+            bytes,
+            last: self.last,
+        })
+    }
+
+    // Whether they are for no buckets.
+    #[inline]
+    pub(crate) fn is_empty(&self) -> bool
+        ensures { result ≡ nat_eq (buckets_of self.now) 0 }
+    {
+        self.last == usize::MAX
     }
 
     // How many buckets they are for.
@@ -68,7 +85,7 @@ impl Control {
         ensures value { result ≡ buckets_of self.now }
         ensures circle { IsCircle self.now }
     {
-        self.bytes.len() - 16
+        self.last + 1
     }
 
     // The bucket at a place on the circle.
@@ -77,8 +94,19 @@ impl Control {
         requires { 0 < buckets_of self.now }
         ensures value { result ≡ place % buckets_of self.now }
         ensures bound { result < buckets_of self.now }
+        ensures circle { IsCircle self.now }
     {
-        wrap(place, self.buckets())
+        wrap(place, self.last)
+    }
+
+    // The bucket sixteen places before a bucket on the circle; of 4 or 8 that is the bucket itself.
+    #[inline]
+    pub(crate) fn sixteen_before(&self, b: usize) -> usize
+        requires { 0 < buckets_of self.now }
+        ensures value { result ≡ (b + (buckets_of self.now - 16)) % buckets_of self.now }
+        ensures bound { result < buckets_of self.now }
+    {
+        sixteen_before(b, self.last)
     }
 
     // All of them.
@@ -114,7 +142,7 @@ impl Control {
         requires { b < buckets_of self.old }
         ensures { self.new ≡ slice_set (slice_set self.old b byte) (b + max 16 (buckets_of self.old)) byte }
     {
-        set_both(self.bytes.as_mut_slice(), b, byte);
+        set_both(self.bytes.as_mut_slice(), self.last, b, byte);
     }
 
     // Makes each that of an empty bucket.
@@ -153,33 +181,34 @@ pub(crate) fn room_taken(byte: u8) -> usize
 
 // Writes the byte of a bucket, and its repetition, among all bytes.
 #[inline]
-fn set_both(bytes: &mut [u8], b: usize, byte: u8)
+fn set_both(bytes: &mut [u8], last: usize, b: usize, byte: u8)
     requires circle { IsCircle bytes.old }
+    requires last { last + 1 ≡ buckets_of bytes.old }
     requires within { b < buckets_of bytes.old }
     ensures { bytes.new ≡ slice_set (slice_set bytes.old b byte) (b + max 16 (buckets_of bytes.old)) byte }
 {
-    let buckets = bytes.len() - 16;
     bytes[b] = byte;
     // That of one of the first 16 buckets; else it is the same byte again, so that nothing has to be asked.
-    bytes[sixteen_before(b, buckets) + 16] = byte;
+    bytes[sixteen_before(b, last) + 16] = byte;
 }
 
-// The bucket at a place on the circle.
+// The bucket at a place on a circle whose last bucket has this number.
 #[inline]
-pub(crate) fn wrap(place: usize, buckets: usize) -> usize
-    requires { IsPowerFromFour buckets }
-    ensures value { result ≡ place % buckets }
-    ensures bound { result < buckets }
+fn wrap(place: usize, last: usize) -> usize
+    requires { IsPowerFromFour (last + 1) }
+    ensures value { result ≡ place % (last + 1) }
+    ensures bound { result ≤ last }
 {
-    place & (buckets - 1)
+    place & last
 }
 
-// The bucket sixteen places before a bucket on the circle; of 4 or 8 that is the bucket itself.
+// The bucket sixteen places before one on such a circle.
 #[inline]
-pub(crate) fn sixteen_before(b: usize, buckets: usize) -> usize
-    requires { IsPowerFromFour buckets }
-    ensures value { result ≡ (b + (buckets - 16)) % buckets }
-    ensures bound { result < buckets }
+fn sixteen_before(b: usize, last: usize) -> usize
+    requires power { IsPowerFromFour (last + 1) }
+    requires fits { last < 2 ^ 63 }
+    ensures value { result ≡ (b + (last + 1 - 16)) % (last + 1) }
+    ensures bound { result ≤ last }
 {
-    wrap(b.wrapping_sub(16), buckets)
+    wrap(b.wrapping_sub(16), last)
 }

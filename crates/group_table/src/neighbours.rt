@@ -4,7 +4,7 @@ ghost use Rattle.group_table.specs.Bytes.{empty_byte};
 ghost use Rattle.group_table.specs.Control.{buckets_of, HasEmptyByte, IsCircle};
 ghost use Rattle.group_table.specs.Group.{IsRunBefore, IsRunFrom, EmptyNeighbourBytes, HemmedInBytes};
 
-use crate::control::{Control, sixteen_before};
+use crate::control::Control;
 use crate::group::{lanes_above, lanes_below};
 
 // How many used buckets stand directly before this one, at most 16. Of 4 or 8 buckets, it is not more than there are.
@@ -15,7 +15,7 @@ fn run_before(control: &Control, b: usize) -> usize
     ensures small { buckets_of control.now < 16 → result ≤ b }
     ensures circle { IsCircle control.now }
 {
-    let start = sixteen_before(b, control.buckets());
+    let start = control.sixteen_before(b);
     lanes_above(control.group(start).match_empty())
 }
 

@@ -6,10 +6,10 @@ ghost use Rattle.group_table.specs.Probe.{probed};
 ghost use Rattle.group_table.specs.Search.{Finds, FindsNone};
 ghost use Rattle.group_table.specs.Group.{IsProbe, AsksGroup, IsFreeLane, IsFirstFreeByte};
 ghost use Rattle.group_table.specs.Bytes.{IsTag};
-ghost use Rattle.group_table.specs.Control.{buckets_of, HasFreeByte};
+ghost use Rattle.group_table.specs.Control.{buckets_of, HasFreeByte, IsCircle};
 ghost use Rattle.group_table.specs.Layout.{IsLaidOut, slots_of, marks_by};
 
-use crate::control::{Control, DELETED, tag_of, wrap};
+use crate::control::{Control, DELETED, tag_of};
 use crate::entries::Entries;
 use crate::group::{lowest_lane, without_lowest};
 
@@ -23,29 +23,30 @@ pub(crate) struct Probe {
 impl Probe {
     // The row of a search for the hash, which begins there.
     #[inline]
-    fn of(hash: u64, buckets: usize) -> Probe
-        requires { IsPowerFromFour buckets }
-        ensures at { IsProbe buckets hash result }
+    fn of(control: &Control, hash: u64) -> Probe
+        requires { 0 < buckets_of control.now }
+        ensures at { IsProbe (buckets_of control.now) hash result }
         ensures none_passed { result.passed ≡ 0 }
+        ensures circle { IsCircle control.now }
     {
         Probe {
-            start: wrap(hash as usize, buckets),
+            start: control.wrap(hash as usize),
             passed: 0,
         }
     }
 
     // Goes past a group: the next one begins 16, 32, 48, .. buckets later.
     #[inline]
-    fn go_on(&mut self, buckets: usize)
-        requires count { IsPowerFromFour buckets }
-        requires fits { buckets + 16 < 2 ^ 63 }
-        requires start { self.old.start < buckets }
-        requires within { self.old.passed < buckets }
-        ensures at { (hash : ℕ) → IsProbe buckets hash self.old → IsProbe buckets hash self.new }
+    fn go_on(&mut self, control: &Control)
+        requires fits { buckets_of control.now + 16 < 2 ^ 63 }
+        requires start { self.old.start < buckets_of control.now }
+        requires within { self.old.passed < buckets_of control.now }
+        ensures at { (hash : ℕ) → IsProbe (buckets_of control.now) hash self.old
+            → IsProbe (buckets_of control.now) hash self.new }
         ensures passed { self.new.passed ≡ self.old.passed + 16 }
     {
         self.passed += 16;
-        self.start = wrap(self.start + self.passed, buckets);
+        self.start = control.wrap(self.start + self.passed);
     }
 }
 
@@ -78,7 +79,7 @@ fn ask_group<T, F: FnMut(&T) -> bool>(
     let group = control.group(start);
     let mut mask = group.match_tag(tag);
     'lanes: while mask != 0 {
-        let b = wrap(start + lowest_lane(mask), entries.len());
+        let b = control.wrap(start + lowest_lane(mask));
         if f(entries.get(b)) {
             return Asked::Accepted(b);
         }
@@ -105,14 +106,13 @@ pub(crate) fn find_bucket<T, F: FnMut(&T) -> bool>(
     ensures found { IfSome result (Finds F.FnMut (slots_of control.now entries.now) hash f) }
     ensures none { IfNone result (FindsNone F.FnMut (slots_of control.now entries.now) hash f) }
 {
-    let buckets = entries.len();
     let tag = tag_of(hash);
-    let mut probe = Probe::of(hash, buckets);
+    let mut probe = Probe::of(control, hash);
     'groups: loop {
         match ask_group(control, entries, probe.start, tag, &mut f) {
             Asked::Accepted(b) => return Some(b),
             Asked::Ended => return None,
-            Asked::GoesOn => probe.go_on(buckets),
+            Asked::GoesOn => probe.go_on(control),
         }
     }
 }
@@ -143,13 +143,12 @@ pub(crate) fn first_free(control: &Control, hash: u64) -> usize
     requires { HasFreeByte control.now }
     ensures { IsFirstFreeByte control.now (buckets_of control.now) hash result }
 {
-    let buckets = control.buckets();
-    let mut probe = Probe::of(hash, buckets);
+    let mut probe = Probe::of(control, hash);
     'groups: loop {
         if let Some(b) = free_in_group(control, probe.start) {
             return b;
         }
-        probe.go_on(buckets);
+        probe.go_on(control);
     }
 }
 

@@ -1,4 +1,4 @@
-use Rattle.std.proofs.Common.{◌≡◌, ℕ, ◌+◌, ◌-◌, ◌*◌, ◌%◌, ◌<◌, max, List, length, set, refl, ap, sym, ◌∙◌, arith}
+use Rattle.std.proofs.Common.{◌≡◌, ℕ, ◌+◌, ◌-◌, ◌*◌, ◌%◌, ◌<◌, max, List, length, set, ap, sym, ◌∙◌, arith}
 use Rattle.std.proofs.Common.{length-set}
 use Rattle.std.proofs.Math.Nat.{add-mul-mod_self_left, mod-eq_of_lt}
 use Rattle.std.proofs.lemmas.List.{set-set, set_past}
@@ -32,5 +32,8 @@ written_at control m b place byte is long within there =
 
 pub returns : goal.returns
 returns c =
-    written_at c.args.bytes.now (buckets_of c.args.bytes.now) c.args.b c.sixteen_before.result c.args.byte refl
+    written_at c.args.bytes.now (c.args.last + 1) c.args.b c.sixteen_before.result c.args.byte c.requires.last
     c.requires.circle.long c.requires.within c.sixteen_before.ensures.value
+
+pub sixteen_before-requires-clause-power : goal.sixteen_before-requires-clause-power
+sixteen_before-requires-clause-power c = rw c.requires.last c.requires.circle.power

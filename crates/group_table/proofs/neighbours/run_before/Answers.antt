@@ -1,5 +1,4 @@
-use Rattle.std.proofs.Common.{◌≡◌, ◌+◌, ◌-◌, ◌%◌, ◌∙◌, ap}
-use Rattle.group_table.specs.Control.{buckets_of}
+use Rattle.std.proofs.Common.{◌≡◌}
 use Rattle.group_table.proofs.Masks.{mask_at}
 use Rattle.group_table.proofs.RunLanes.{run_before_lanes, run_before_small}
 use Rattle.group_table.proofs.neighbours.run_before.Goals as goal
@@ -7,23 +6,17 @@ use Rattle.group_table.proofs.neighbours.run_before.Goals as goal
 pub returns-clause-wide : goal.returns-clause-wide
 returns-clause-wide c =
     let circle = c.group.ensures.circle in
-    let n = buckets_of c.args.control.now in
     let empties = mask_at (λ byte. byte ≡ 255) _ c.args.control.now c.sixteen_before-start.result _
     c.group.ensures.bytes
     c.match_empty.ensures in
     let r = c.lanes_above.ensures in
-    let is : c.sixteen_before-start.result ≡ (c.args.b + (n - 16)) % n =
-    c.sixteen_before-start.ensures.value ∙ ap (λ k. (c.args.b + (k - 16)) % k) c.buckets.ensures.value in
-    run_before_lanes _ _ circle.power circle.repeated _ c.requires _ _ r.bound _ is empties r.none r.ends
+    run_before_lanes _ _ circle.power circle.repeated _ c.requires _ _ r.bound _ c.sixteen_before-start.ensures.value empties r.none r.ends
 
 pub returns-clause-small : goal.returns-clause-small
 returns-clause-small c =
     let circle = c.group.ensures.circle in
-    let n = buckets_of c.args.control.now in
     let empties = mask_at (λ byte. byte ≡ 255) _ c.args.control.now c.sixteen_before-start.result _
     c.group.ensures.bytes
     c.match_empty.ensures in
     let r = c.lanes_above.ensures in
-    let is : c.sixteen_before-start.result ≡ (c.args.b + (n - 16)) % n =
-    c.sixteen_before-start.ensures.value ∙ ap (λ k. (c.args.b + (k - 16)) % k) c.buckets.ensures.value in
-    run_before_small _ _ circle.power circle.repeated _ c.requires _ _ r.bound _ is empties r.none
+    run_before_small _ _ circle.power circle.repeated _ c.requires _ _ r.bound _ c.sixteen_before-start.ensures.value empties r.none

@@ -1,5 +1,6 @@
 use Rattle.std.proofs.Common.{◌≡◌, of_calls, refl, arith}
-use Rattle.group_table.proofs.LayoutLemmas.{some_by, bucket_at-read, power_of}
+use Rattle.group_table.proofs.ControlLemmas.{buckets_are}
+use Rattle.group_table.proofs.LayoutLemmas.{some_by, bucket_at-read}
 use Rattle.group_table.proofs.SearchLemmas.{Answers-from_call}
 use Rattle.group_table.proofs.Masks.{mask_at, none_of_zero, some_lane}
 use Rattle.group_table.proofs.LaneLemmas.{AsksLanes-first, AsksLanes-next, AcceptsIn-lane, RefusesGroup-from, lane_tag}
@@ -17,8 +18,8 @@ lanes-init g c = record {
 pub returns-then-f-clause-asked : goal.returns-then-f-clause-asked
 returns-then-f-clause-asked g c =
     let l = c.lanes.invariant.asked in
-    let here = rw c.len.ensures at c.wrap-b.ensures.value in
-    let within = rw c.len.ensures at c.wrap-b.ensures.bound in
+    let here = rw (buckets_are _ _ c.requires.laid_out) at c.wrap-b.ensures.value in
+    let within = rw (buckets_are _ _ c.requires.laid_out) at c.wrap-b.ensures.bound in
     let low = c.lowest_lane.ensures in
     let tagged = lane_tag _ _ c.requires.laid_out _ c.requires.start g.F.FnMut _ c.requires.tag _ _ _ l _ _ low.set
     low.first here in
@@ -29,13 +30,13 @@ returns-then-f-clause-asked g c =
     (Answers-from_call g.F.FnMut _ c.get.result.now slot refl c.f.ensures c.if-f.true)
 
 pub wrap-b-requires : goal.wrap-b-requires
-wrap-b-requires g c = rw c.len.ensures (power_of _ _ c.requires.laid_out (omega (arith, c.requires.start)))
+wrap-b-requires g c = omega (arith, buckets_are _ _ c.requires.laid_out, c.requires.start)
 
 pub get-requires : goal.get-requires
 get-requires g c =
     let l = c.lanes.invariant.asked in
-    let here = rw c.len.ensures at c.wrap-b.ensures.value in
-    let within = rw c.len.ensures at c.wrap-b.ensures.bound in
+    let here = rw (buckets_are _ _ c.requires.laid_out) at c.wrap-b.ensures.value in
+    let within = rw (buckets_are _ _ c.requires.laid_out) at c.wrap-b.ensures.bound in
     let low = c.lowest_lane.ensures in
     let tagged = lane_tag _ _ c.requires.laid_out _ c.requires.start g.F.FnMut _ c.requires.tag _ _ _ l _ _ low.set
     low.first here in
@@ -44,8 +45,8 @@ get-requires g c =
 pub lanes-preserved : goal.lanes-preserved
 lanes-preserved g c =
     let l = c.lanes.invariant.asked in
-    let here = rw c.len.ensures at c.wrap-b.ensures.value in
-    let within = rw c.len.ensures at c.wrap-b.ensures.bound in
+    let here = rw (buckets_are _ _ c.requires.laid_out) at c.wrap-b.ensures.value in
+    let within = rw (buckets_are _ _ c.requires.laid_out) at c.wrap-b.ensures.bound in
     let low = c.lowest_lane.ensures in
     let tagged = lane_tag _ _ c.requires.laid_out _ c.requires.start g.F.FnMut _ c.requires.tag _ _ _ l _ _ low.set
     low.first here in

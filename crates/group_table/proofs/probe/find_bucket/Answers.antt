@@ -1,5 +1,6 @@
 use Rattle.std.proofs.Common.{◌≡◌, length, arith, of_calls, refl, ◌+◌, ◌<◌, min}
 use Rattle.group_table.specs.Layout.{slots_of}
+use Rattle.group_table.proofs.ControlLemmas.{buckets_are}
 use Rattle.group_table.proofs.LayoutLemmas.{length-laid_out, power_of}
 use Rattle.group_table.proofs.ProbeLemmas.{probe_within}
 use Rattle.group_table.proofs.FindLemmas.{Finds-from, FindsNone-from, refused_group, not_ended, none_on}
@@ -10,7 +11,7 @@ groups-init g c =
     let same = length-laid_out _ _ c.requires.laid_out in
     record {
       callable = search of_calls;
-      at = rw same (rw c.len-buckets.ensures at c.of-probe.ensures.at);
+      at = rw same (rw (buckets_are _ _ c.requires.laid_out) at c.of-probe.ensures.at);
       within = omega (arith, c.requires.some_empty.1);
       refused = rw c.of-probe.ensures.none_passed refl;
       not_empty = λ before p e. absurd {A = ⊥} (omega arith);
@@ -25,8 +26,8 @@ ask_group-requires-clause-start g c =
 pub go_on-requires-clause-start : goal.go_on-requires-clause-start
 go_on-requires-clause-start g c =
     let same = length-laid_out _ _ c.requires.laid_out in
-    rw c.len-buckets.ensures (rw same at (probe_within _ c.args.hash c.groups.probe c.groups.invariant.at
-    (omega (arith, same, c.requires.some_empty.1))))
+    rw (buckets_are _ _ c.requires.laid_out) (rw same at (probe_within _ c.args.hash c.groups.probe
+    c.groups.invariant.at (omega (arith, same, c.requires.some_empty.1))))
 
 pub returns-in-Accepted-clause-found : goal.returns-in-Accepted-clause-found
 returns-in-Accepted-clause-found g c =
@@ -67,7 +68,8 @@ groups-preserved g c =
     (rw same l.invariant.within) l.invariant.not_empty c.args.f l.f _ l.invariant.refused told.0 in
     record {
       callable = c.in-GoesOn.ensures.callable;
-      at = rw same ((rw c.len-buckets.ensures at c.go_on.ensures.at) c.args.hash (rw same at l.invariant.at));
+      at = rw same ((rw (buckets_are _ _ c.requires.laid_out) at c.go_on.ensures.at) c.args.hash
+          (rw same at l.invariant.at));
       within = rw c.go_on.ensures.passed goes_on;
       refused = rw c.go_on.ensures.passed (rw wide at refused);
       not_empty = rw c.go_on.ensures.passed

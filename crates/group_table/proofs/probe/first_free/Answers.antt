@@ -24,22 +24,24 @@ pub groups-preserved : goal.groups-preserved
 groups-preserved c =
     let l = c.groups in
     let n = buckets_of c.args.control.now in
-    let is = sym c.buckets-buckets.ensures.value in
     let none = subst (λ s. (lane : _) → lane < 16 → slice_index c.args.control.now ((s + lane) % n) < 128)
     l.invariant.at.start c.in_default.ensures.none in
     let all = up_to_lane n c.args.hash l.probe.passed l.invariant.at.whole
     (λ b. slice_index c.args.control.now b < 128) 16 (omega arith) l.invariant.full_before none in
     record {
-      at = rw is (c.go_on.ensures.at c.args.hash (rw is at l.invariant.at));
+      at = c.go_on.ensures.at c.args.hash l.invariant.at;
       within = rw c.go_on.ensures.passed (elim (dec_lt (l.probe.passed + 16) n) [
         | yes p ↦ p
         | no p ↦
             let free_there = c.requires in
             let small =
             up_to_end n c.args.hash l.probe.passed l.invariant.at.whole
-            (λ b. slice_index c.args.control.now b < 128) c.buckets-buckets.ensures.circle.power (omega arith)
+            (λ b. slice_index c.args.control.now b < 128) c.of-probe.ensures.circle.power (omega arith)
             (λ t q. all t (omega arith)) free_there.0 free_there.1 in
             absurd (omega (arith, small, free_there.2))
       ]);
       full_before = rw c.go_on.ensures.passed all;
     }
+
+pub go_on-requires-clause-fits : goal.go_on-requires-clause-fits
+go_on-requires-clause-fits c = omega (arith, c.of-probe.ensures.circle.fits, c.of-probe.ensures.circle.long)
