@@ -13,10 +13,10 @@ module _ {T : Type 0} where
 
   -- where a place holds an entry, the row's parts are of one block, and hold it
   pub held_there : {row : Option (Row T)} {there : Row T} {places : List (Option T)}
-      (count : ℕ) (alloc : Global) (b : ℕ)
-      → row ≡ Some there → IsRow row count alloc → places_of row ≡ places → IsSome (get_or places b None)
+      (alloc : Global) (b : ℕ)
+      → row ≡ Some there → IsRow row alloc → places_of row ≡ places → IsSome (get_or places b None)
       → (there.cells.start ≡ there.block.start) × Holds there.cells.places b
-  held_there {row} {there} {places} count alloc b is whole seen some =
+  held_there {row} {there} {places} alloc b is whole seen some =
       let block = rw is at whole in
       let held = some_held _ some in
       let same : there.cells.places ≡ places = sym (ap places_of is) ∙ seen in

@@ -1,5 +1,5 @@
 -- How the fields of `Entries` hold the places.
-use Rattle.std.specs.Prelude.{◌≡◌, ℕ, ◌<◌, List, [], length, Option, Some, None}
+use Rattle.std.specs.Prelude.{◌≡◌, ◌<◌, List, [], length, Option, Some, None, ⊤}
 use Rattle.std.specs.declared.alloc.Global.{Global}
 use Rattle.group_table.specs.declared.entries.Row.{Row}
 
@@ -9,16 +9,15 @@ module _ {T : Type 0} where
   places_of None = []
   places_of (Some row) = row.cells.places
 
-  -- the pointer, the places and the deed are of one block of that allocator, of so many places, and of one at least
-  pub record IsOneBlock (row : Row T) (count : ℕ) (alloc : Global) : Type 0 where
+  -- the pointer, the places and the deed are of one block of that allocator, of one place at least
+  pub record IsOneBlock (row : Row T) (alloc : Global) : Type 0 where
     pub places_start : row.cells.start ≡ row.block.start
     pub deed_start : row.deed.start ≡ row.block.start
-    pub places_count : length row.cells.places ≡ count
-    pub deed_count : row.deed.count ≡ count
+    pub deed_count : row.deed.count ≡ length row.cells.places
     pub deed_alloc : row.deed.alloc ≡ alloc
-    pub some : 0 < count
+    pub some : 0 < length row.cells.places
 
   -- one block, or none for no places
-  abbrev pub IsRow : Option (Row T) → ℕ → Global → Type 0
-  IsRow None count alloc = count ≡ 0
-  IsRow (Some row) count alloc = IsOneBlock row count alloc
+  abbrev pub IsRow : Option (Row T) → Global → Type 0
+  IsRow None alloc = ⊤
+  IsRow (Some row) alloc = IsOneBlock row alloc

@@ -20,7 +20,7 @@ pub(crate) const DELETED: u8 = 0x80;
 #[derive(Drop)]
 pub(crate) struct Control {
     bytes: Vec<u8>,
-    // The number of the last bucket, by which a place is wrapped; the greatest of all where there are no buckets.
+    // The number of the last bucket, by which a place is wrapped; 0 where there are no buckets.
     last: usize,
 }
 
@@ -42,7 +42,7 @@ impl Control {
     {
         Control {
             bytes: Vec::new(alloc),
-            last: usize::MAX,
+            last: 0,
         }
     }
 
@@ -75,17 +75,15 @@ impl Control {
     pub(crate) fn is_empty(&self) -> bool
         ensures { result ≡ nat_eq (buckets_of self.now) 0 }
     {
-        self.last == usize::MAX
+        self.last == 0
     }
 
     // How many buckets they are for.
     #[inline]
     pub(crate) fn buckets(&self) -> usize
-        requires { 0 < buckets_of self.now }
-        ensures value { result ≡ buckets_of self.now }
-        ensures circle { IsCircle self.now }
+        ensures { result ≡ buckets_of self.now }
     {
-        self.last + 1
+        if self.is_empty() { 0 } else { self.last + 1 }
     }
 
     // The bucket at a place on the circle.

@@ -1,6 +1,6 @@
 //! The entries of a table: a place for each bucket, in one block of memory.
 ghost use Rattle.std.specs.Prelude.{◌≡◌, ◌<◌, List, Option, Some, None, [], length, replicate, slice_index_or};
-ghost use Rattle.std.specs.Prelude.{slice_set, IsSome, IfOk, nat_eq};
+ghost use Rattle.std.specs.Prelude.{slice_set, IsSome, IfOk};
 ghost use Rattle.std.specs.Borrow.{sem};
 
 use crate::cells::{Block, Cells, Deed, allocate, deallocate, fits_in_block};
@@ -14,13 +14,12 @@ struct Row<T> {
     deed: Deed<T, Global>,
 }
 
-// So many places; there is no block where there are none.
+// The places; there is no block where there are none. How many there are only the control bytes tell.
 //
 // A place has no tag: the control byte of a bucket tells whether it holds an entry. So a caller of `free` must show
 // that no place holds one.
 pub(crate) struct Entries<T> {
     row: Option<Row<T>>,
-    count: usize,
     alloc: Global,
 }
 
@@ -32,7 +31,7 @@ impl<T> Model for Entries<T> {
 
     ghost view = { λ e. places_of e.row };
 
-    ghost invariant = { λ e. IsRow e.row e.count e.alloc };
+    ghost invariant = { λ e. IsRow e.row e.alloc };
 }
 
 impl<T> Entries<T> {
@@ -42,11 +41,7 @@ impl<T> Entries<T> {
     pub(crate) fn new(alloc: Global) -> Entries<T>
         ensures { result ≡ [] }
     {
-        Entries {
-            row: None,
-            count: 0,
-            alloc,
-        }
+        Entries { row: None, alloc }
     }
 
     // So many places with no entry, in one request.
@@ -60,25 +55,8 @@ impl<T> Entries<T> {
         let (block, cells, deed) = allocate(&alloc, count)?;
         Ok(Entries {
             row: Some(Row { block, cells, deed }),
-            count,
             alloc,
         })
-    }
-
-    // How many places there are.
-    #[inline]
-    pub(crate) fn len(&self) -> usize
-        ensures { result ≡ length self.now }
-    {
-        self.count
-    }
-
-    // Whether there are none.
-    #[inline]
-    pub(crate) fn is_empty(&self) -> bool
-        ensures { result ≡ nat_eq (length self.now) 0 }
-    {
-        self.count == 0
     }
 
     // Where their memory comes from.
@@ -140,11 +118,11 @@ impl<T> Entries<T> {
         }
     }
 
-    // Gives the memory back. No place holds an entry.
-    pub(crate) fn free(self)
-        requires { self ≡ replicate (length self) None }
+    // Gives the memory of so many places back. None of them holds an entry.
+    pub(crate) fn free(self, count: usize)
+        requires { self ≡ replicate count None }
     {
-        let Entries { row, count, alloc } = self;
+        let Entries { row, alloc } = self;
         match row {
             Some(Row { block, cells, deed }) => deallocate(&alloc, block, count, cells, deed),
             None => {}

@@ -42,8 +42,7 @@ pub(crate) fn drop_entries<T: Drop>(control: &Control, entries: &mut Entries<T>,
     ensures { entries.new ≡ replicate (length entries.old) None }
 {
     if len > 0 {
-        let count = entries.len();
-        drop_first(control, entries, count);
+        drop_first(control, entries, control.buckets());
     }
 }
 

@@ -6,6 +6,7 @@ ghost use Rattle.group_table.specs.Sizes.{IsBucketCount};
 ghost use Rattle.group_table.specs.Bucket.{empty, marks_of, IsFull, entry_at, entry_count, room, room_at};
 ghost use Rattle.group_table.specs.Table.{IsTable, with_entry};
 ghost use Rattle.group_table.specs.Fits.{Fits, with_hash};
+ghost use Rattle.group_table.specs.Control.{buckets_of};
 ghost use Rattle.group_table.specs.Layout.{IsLaidOut, slots_of};
 ghost use Rattle.group_table.specs.Search.{Finds, FindsNone};
 ghost use Rattle.group_table.specs.Change.{Places, MayFill, HasNoPlace, Removes, count_up};
@@ -203,7 +204,7 @@ impl<T: Drop> Drop for Table<T> {
         let len = self.len;
         let (control, mut entries) = self.into_parts();
         drop_entries(&control, &mut entries, len);
-        entries.free();
+        entries.free(control.buckets());
     }
 }
 
@@ -232,7 +233,7 @@ impl<T: Drop> Table<T> {
         ensures unchanged { OnErr result (self.new ≡ self.old) }
         ensures no_place { OnErr result (HasNoPlace (marks_of self.old.slots) hash) }
     {
-        if is_without_buckets(&self.entries, self.room) {
+        if is_without_buckets(&self.control, self.room) {
             return Err(entry);
         }
         let b = first_free(&self.control, hash);
@@ -258,18 +259,18 @@ impl<T: Drop> Table<T> {
     {
         drop_entries(&self.control, &mut self.entries, self.len);
         self.control.clear();
-        self.room = full_capacity(self.entries.len());
+        self.room = full_capacity(self.control.buckets());
         self.len = 0;
     }
 }
 
-// Whether there are no buckets. Where there is room there are some, and the entries are not asked.
+// Whether there are no buckets. Where there is room there are some, and the control bytes are not asked.
 #[inline]
-fn is_without_buckets<T>(entries: &Entries<T>, room: usize) -> bool
-    requires { length entries.now ≡ 0 → room ≡ 0 }
-    ensures { result ≡ nat_eq (length entries.now) 0 }
+fn is_without_buckets(control: &Control, room: usize) -> bool
+    requires { buckets_of control.now ≡ 0 → room ≡ 0 }
+    ensures { result ≡ nat_eq (buckets_of control.now) 0 }
 {
-    room == 0 && entries.is_empty()
+    room == 0 && control.is_empty()
 }
 
 // Counts one more, up to the greatest number: with a branch, which takes fewer instructions than the saturating sum.

@@ -34,7 +34,7 @@ impl<T: Drop> Table<T> {
         ensures succeeds { length self.now.slots ≡ 0 → IsOk result }
     {
         let alloc = self.entries.allocator();
-        if self.entries.is_empty() {
+        if self.control.is_empty() {
             let mut none = Table::new(alloc);
             none.placings = self.placings;
             return Ok(none);
@@ -62,7 +62,7 @@ fn copy_entries<T: Drop, F: Fn(&T) -> Result<T, AllocError>>(
     requires some { 0 < length entries.now }
     ensures { IfOk result (λ copies. AllZip (IsPlaceCopy F.Fn f.now) entries.now copies) }
 {
-    let count = entries.len();
+    let count = control.buckets();
     let mut copies = Entries::with_places(entries.allocator(), count)?;
     for b in 0..count {
         if control.byte(b) < DELETED {
@@ -70,7 +70,7 @@ fn copy_entries<T: Drop, F: Fn(&T) -> Result<T, AllocError>>(
                 Ok(copy) => copies.write(b, copy),
                 Err(error) => {
                     drop_first(control, &mut copies, b);
-                    copies.free();
+                    copies.free(count);
                     return Err(error);
                 }
             }

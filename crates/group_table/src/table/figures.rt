@@ -13,7 +13,7 @@ impl<T> Table<T> {
         ensures value { result ≡ length self.now.slots }
         ensures table { IsTable (marks_of self.now.slots) }
     {
-        self.entries.len()
+        self.control.buckets()
     }
 
     /// The number of entries, which is counted as they come and go.

@@ -46,7 +46,7 @@ pub(crate) fn place_again<T, N: LinkType, H: Fn(&T) -> u64>(
         KeepsMovedHashes N.number N.MAX (place_at entries.old)
         (slots_of control.new entries.new) links.new.items hash_at }
 {
-    for b in 0..entries.len() {
+    for b in 0..before.buckets() {
         // Another entry has come here, or none ever stood here.
         if control.byte(b) < DELETED || before.byte(b) >= DELETED {
             continue;

@@ -56,7 +56,7 @@ pub(crate) fn move_entries<T: Drop, N: LinkType, H: Fn(&T) -> u64>(
     ensures hashes { (hash_at : ℕ → ℕ) → GivesMovedHashes H.Fn hash_of.now old.old hash_at →
         KeepsMovedHashes N.number N.MAX (place_at old.old) fresh.new.slots links.new.items hash_at }
 {
-    for b in 0..old.len() {
+    for b in 0..control.buckets() {
         if control.byte(b) < DELETED {
             let entry = old.read(b);
             let hash = hash_of(&entry);

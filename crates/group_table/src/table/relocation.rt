@@ -61,12 +61,12 @@ impl<T: Drop> Table<T> {
             *self = fresh;
             return Ok(Vec::new(alloc));
         }
-        let mut links = no_links(alloc, self.entries.len())?;
+        let mut links = no_links(alloc, self.buckets())?;
         let placings = self.placings.saturating_add(self.len as u64);
         let (control, mut entries) = mem::replace(self, fresh).into_parts();
         move_entries(&control, &mut entries, self, &mut links, &hash_of);
         self.placings = placings;
-        entries.free();
+        entries.free(control.buckets());
         Ok(links)
     }
 
@@ -105,7 +105,7 @@ impl<T: Drop> Table<T> {
             self.clear();
             return Ok(Vec::new(alloc));
         }
-        let buckets = self.entries.len();
+        let buckets = self.buckets();
         let mut links = no_links(alloc, buckets)?;
         let fresh = Control::with_buckets(alloc, buckets)?;
         let before = mem::replace(&mut self.control, fresh);

@@ -9,7 +9,7 @@ returns c =
     let n = buckets_of c.args.control.now in
     let hash = c.args.hash in
     let back : c.buckets.result - c.wrap.result ≡ n - hash % n =
-    omega (arith, c.buckets.ensures.value, c.wrap.ensures.value) in
+    omega (arith, c.buckets.ensures, c.wrap.ensures.value) in
     let steps : c.wrap-2.result ≡ (c.args.b + (n - hash % n)) % n =
     c.wrap-2.ensures.value ∙ ap (λ k. (c.args.b + k) % n) back in (
       λ first. (

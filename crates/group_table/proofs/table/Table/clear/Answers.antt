@@ -1,5 +1,7 @@
 use Rattle.std.proofs.Common.{◌≡◌, length, sym, ap, ◌∙◌, arith}
 use Rattle.std.proofs.lemmas.List.{length-replicate}
+use Rattle.group_table.specs.Bytes.{empty_byte}
+use Rattle.group_table.proofs.ControlLemmas.{buckets_are}
 use Rattle.group_table.proofs.LayoutLemmas.{entries_within, length-laid_out}
 use Rattle.group_table.proofs.TableLemmas.{IsTable-by}
 use Rattle.group_table.proofs.FreshLemmas.{none_left, IsValid-fresh, entry_count-fresh, slots_of-fresh, Fits-fresh}
@@ -12,9 +14,13 @@ drop_entries-requires-clause-none_left g c none =
 pub invariant_of-self : goal.invariant_of-self
 invariant_of-self g c =
     let laid_out = c.self.invariant.0.laid_out in
-    let after : c.len.result ≡ length c.drop_entries.new.entries = omega arith in
-    let n : c.len.result ≡ length c.self.inside.entries =
-    after ∙ ap length c.drop_entries.ensures ∙ length-replicate _ _ in
+    let n : c.buckets.result ≡ length c.self.inside.entries =
+    omega (
+      arith,
+      ap length c.clear.ensures,
+      length-replicate (length c.self.inside.control) empty_byte,
+      buckets_are _ _ laid_out,
+    ) in
     rw (c.clear.ensures, c.drop_entries.ensures, c.full_capacity-self-inside.ensures, n) (
       IsValid-fresh g.row.T.Denot _ _ laid_out.counts laid_out.fits,
       sym

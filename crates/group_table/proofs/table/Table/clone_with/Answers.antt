@@ -1,5 +1,6 @@
 use Rattle.std.proofs.Common.{sym, ◌∙◌, arith}
 use Rattle.std.proofs.lemmas.Bool.{eqb-false}
+use Rattle.group_table.proofs.ControlLemmas.{buckets_are}
 use Rattle.group_table.proofs.LayoutLemmas.{length-laid_out}
 use Rattle.group_table.proofs.TableLemmas.{IsTable-by}
 use Rattle.group_table.proofs.CloneLemmas.{Copies-places, marks_of-copies, Fits-copies, IsValid-copied}
@@ -34,9 +35,21 @@ returns-clause-table g c =
 pub returns-in_err-control-clause-succeeds : goal.returns-in_err-control-clause-succeeds
 returns-in_err-control-clause-succeeds g c none =
     let some = eqb-false _ _ (sym c.is_empty.ensures ∙ c.if-is_empty.false) in
-    absurd (omega (arith, some, length-laid_out _ _ c.self.invariant.0.laid_out, rw (← c.self.view_is) at none))
+    absurd (omega (
+      arith,
+      some,
+      buckets_are _ _ c.self.invariant.0.laid_out,
+      length-laid_out _ _ c.self.invariant.0.laid_out,
+      rw (← c.self.view_is) at none,
+    ))
 
 pub returns-in_err-entries-clause-succeeds : goal.returns-in_err-entries-clause-succeeds
 returns-in_err-entries-clause-succeeds g c none =
     let some = eqb-false _ _ (sym c.is_empty.ensures ∙ c.if-is_empty.false) in
-    absurd (omega (arith, some, length-laid_out _ _ c.self.invariant.0.laid_out, rw (← c.self.view_is) at none))
+    absurd (omega (
+      arith,
+      some,
+      buckets_are _ _ c.self.invariant.0.laid_out,
+      length-laid_out _ _ c.self.invariant.0.laid_out,
+      rw (← c.self.view_is) at none,
+    ))

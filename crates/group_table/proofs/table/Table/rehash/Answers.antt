@@ -1,5 +1,7 @@
-use Rattle.std.proofs.Common.{◌≡◌, ◌-◌, ◌≤◌, length, count_by, is_some, inr, ap, sym, ◌∙◌, subst, arith}
+use Rattle.std.proofs.Common.{◌≡◌, ◌+◌, ◌-◌, ◌≤◌, length, replicate, count_by, is_some, inr, ap, sym, ◌∙◌, subst, arith}
+use Rattle.std.proofs.lemmas.List.{length-replicate}
 use Rattle.group_table.specs.Sizes.{full_capacity}
+use Rattle.group_table.specs.Bytes.{empty_byte}
 use Rattle.group_table.specs.Bucket.{entry_count}
 use Rattle.group_table.specs.Layout.{slots_of, IsValid}
 use Rattle.group_table.proofs.BucketLemmas.{used_count-split}
@@ -39,10 +41,26 @@ place_again-requires-clause-below g c =
     rw (← c.self.view_is) (sym (length-laid_out _ _ c.self.invariant.0.laid_out)) in
     omega (arith, same, c.requires.below)
 
+pub place_again-requires-clause-cleared : goal.place_again-requires-clause-cleared
+place_again-requires-clause-cleared g c =
+    let same : length c.args.self.now.slots ≡ length c.self.inside.entries =
+    rw (← c.self.view_is) (length-laid_out _ _ c.self.invariant.0.laid_out) in
+    let n : c.buckets-buckets.result ≡ length c.self.inside.entries = c.buckets-buckets.ensures.value ∙ same in
+    c.replace-before.ensures.after ∙ c.in_ok-fresh.ensures ∙ ap (λ k. replicate (k + 16) empty_byte) n
+
+pub place_again-requires-clause-one_each : goal.place_again-requires-clause-one_each
+place_again-requires-clause-one_each g c =
+    let same : length c.args.self.now.slots ≡ length c.self.inside.entries =
+    rw (← c.self.view_is) (length-laid_out _ _ c.self.invariant.0.laid_out) in
+    let n : c.buckets-buckets.result ≡ length c.self.inside.entries = c.buckets-buckets.ensures.value ∙ same in
+    ap length c.in_ok-links.ensures ∙ length-replicate _ _ ∙ n
+
 pub overflow_sub-self : goal.overflow_sub-self
 overflow_sub-self g c =
     let valid = c.self.invariant.0 in
-    let n : c.len-buckets.result ≡ length c.self.inside.entries = omega arith in
+    let same : length c.args.self.now.slots ≡ length c.self.inside.entries =
+    rw (← c.self.view_is) (length-laid_out _ _ c.self.invariant.0.laid_out) in
+    let n : c.buckets-buckets.result ≡ length c.self.inside.entries = c.buckets-buckets.ensures.value ∙ same in
     let capacity : c.full_capacity.result ≡ full_capacity (length c.self.inside.entries) =
     c.full_capacity.ensures ∙ ap full_capacity n in
     omega (
@@ -72,7 +90,9 @@ pub invariant_of-self : goal.invariant_of-self
 invariant_of-self g c =
     let again = c.place_again.ensures in
     let counted = entry_count-laid_out _ _ c.self.invariant.0.laid_out in
-    let n : c.len-buckets.result ≡ length c.self.inside.entries = omega arith in
+    let same : length c.args.self.now.slots ≡ length c.self.inside.entries =
+    rw (← c.self.view_is) (length-laid_out _ _ c.self.invariant.0.laid_out) in
+    let n : c.buckets-buckets.result ≡ length c.self.inside.entries = c.buckets-buckets.ensures.value ∙ same in
     let capacity : c.full_capacity.result ≡ full_capacity (length c.self.inside.entries) =
     c.full_capacity.ensures ∙ ap full_capacity n in
     let left : full_capacity (length c.self.inside.entries) - count_by is_some c.self.inside.entries

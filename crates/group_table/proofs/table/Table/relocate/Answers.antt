@@ -58,10 +58,9 @@ pub move_entries-requires-clause-one_each : goal.move_entries-requires-clause-on
 move_entries-requires-clause-one_each g c =
     let parts = c.into_parts-control.ensures in
     let was = parts.slots ∙ ap (λ t. t.slots) c.replace.ensures.value in
-    let links : length c.in_ok-links.links.items ≡ c.len.result =
+    let links : length c.in_ok-links.links.items ≡ c.buckets.result =
     ap length c.in_ok-links.ensures ∙ length-replicate _ _ in
-    links ∙ c.len.ensures ∙ sym (length-laid_out _ _ c.self.invariant.0.laid_out)
-    ∙ ap (λ t. length t.slots) c.self.view_is ∙ sym (ap length was) ∙ length-laid_out _ _ parts.laid_out
+    links ∙ c.buckets.ensures.value ∙ sym (ap length was) ∙ length-laid_out _ _ parts.laid_out
 
 pub returns-clause-renumbered : goal.returns-clause-renumbered
 returns-clause-renumbered g c =

@@ -22,7 +22,8 @@ returns-then-is_without_buckets-clause-table g c = rw (← c.self.view_is) (IsTa
 pub is_without_buckets-requires : goal.is_without_buckets-requires
 unfolding full_capacity
 is_without_buckets-requires g c none =
-    let full : full_capacity (length c.self.inside.entries) ≡ 0 = ap full_capacity none in
+    let full : full_capacity (length c.self.inside.entries) ≡ 0 =
+    ap full_capacity (sym (buckets_are _ _ c.self.invariant.0.laid_out) ∙ none) in
     omega (arith, c.self.invariant.0.room_left, full)
 
 pub room_taken-spent-requires : goal.room_taken-spent-requires
@@ -31,14 +32,22 @@ room_taken-spent-requires g c =
     let first = c.first_free-b.ensures in
     let are = buckets_are _ _ valid.laid_out in
     let some : 0 < length c.self.inside.entries =
-    omega (arith, eqb-false _ _ (sym c.is_without_buckets.ensures ∙ c.if-is_without_buckets.false)) in
+    omega (
+      arith,
+      buckets_are _ _ c.self.invariant.0.laid_out,
+      eqb-false _ _ (sym c.is_without_buckets.ensures ∙ c.if-is_without_buckets.false),
+    ) in
     rw c.byte.ensures (place_byte _ _ _ valid c.args.hash c.first_free-b.result _ are (omega (arith, some, are)) first)
 
 pub first_free-b-requires : goal.first_free-b-requires
 first_free-b-requires g c =
     let valid = c.self.invariant.0 in
     let some : 0 < length c.self.inside.entries =
-    omega (arith, eqb-false _ _ (sym c.is_without_buckets.ensures ∙ c.if-is_without_buckets.false)) in
+    omega (
+      arith,
+      buckets_are _ _ c.self.invariant.0.laid_out,
+      eqb-false _ _ (sym c.is_without_buckets.ensures ∙ c.if-is_without_buckets.false),
+    ) in
     let w = some_free_byte _ _ _ valid some in
     (w.0, omega (arith, w.1, buckets_are _ _ valid.laid_out), w.2)
 
@@ -51,7 +60,11 @@ returns-then-self-spent-clause-no_place g c =
     let first = c.first_free-b.ensures in
     let are = buckets_are _ _ valid.laid_out in
     let some : 0 < length c.self.inside.entries =
-    omega (arith, eqb-false _ _ (sym c.is_without_buckets.ensures ∙ c.if-is_without_buckets.false)) in
+    omega (
+      arith,
+      buckets_are _ _ c.self.invariant.0.laid_out,
+      eqb-false _ _ (sym c.is_without_buckets.ensures ∙ c.if-is_without_buckets.false),
+    ) in
     let none = no_place_left _ _ _ valid c.args.hash c.first_free-b.result _ are
     (omega (arith, some, are)) first _ c.byte.ensures _ c.room_taken-spent.ensures (omega arith) in
     rw (← c.self.view_is) (inr (
@@ -67,7 +80,11 @@ fill_bucket-requires-clause-free_there g c =
     let first = c.first_free-b.ensures in
     let are = buckets_are _ _ valid.laid_out in
     let some : 0 < length c.self.inside.entries =
-    omega (arith, eqb-false _ _ (sym c.is_without_buckets.ensures ∙ c.if-is_without_buckets.false)) in
+    omega (
+      arith,
+      buckets_are _ _ c.self.invariant.0.laid_out,
+      eqb-false _ _ (sym c.is_without_buckets.ensures ∙ c.if-is_without_buckets.false),
+    ) in
     place_none _ _ _ valid c.args.hash c.first_free-b.result _ are (omega (arith, some, are)) first
 
 pub overflow_add-self : goal.overflow_add-self
@@ -88,7 +105,11 @@ invariant_of-self g c =
     let first = c.first_free-b.ensures in
     let are = buckets_are _ _ valid.laid_out in
     let some : 0 < length c.self.inside.entries =
-    omega (arith, eqb-false _ _ (sym c.is_without_buckets.ensures ∙ c.if-is_without_buckets.false)) in
+    omega (
+      arith,
+      buckets_are _ _ c.self.invariant.0.laid_out,
+      eqb-false _ _ (sym c.is_without_buckets.ensures ∙ c.if-is_without_buckets.false),
+    ) in
     let within = place_within _ _ _ valid c.args.hash c.first_free-b.result _ are (omega (arith, some, are)) first in
     let spends = place_spends _ _ _ valid c.args.hash c.first_free-b.result _ are
     (omega (arith, some, are)) first _ c.byte.ensures _ c.room_taken-spent.ensures (omega arith) in
@@ -106,7 +127,11 @@ returns-clause-placed g c =
     let first = c.first_free-b.ensures in
     let are = buckets_are _ _ valid.laid_out in
     let some : 0 < length c.self.inside.entries =
-    omega (arith, eqb-false _ _ (sym c.is_without_buckets.ensures ∙ c.if-is_without_buckets.false)) in
+    omega (
+      arith,
+      buckets_are _ _ c.self.invariant.0.laid_out,
+      eqb-false _ _ (sym c.is_without_buckets.ensures ∙ c.if-is_without_buckets.false),
+    ) in
     rw (← c.self.view_is) record {
       first = place_first _ _ _ valid c.args.hash c.first_free-b.result _ are (omega (arith, some, are)) first;
       slots = rw (c.fill_bucket.ensures.control, c.fill_bucket.ensures.entries, c.tag_of.ensures.value)
@@ -120,7 +145,11 @@ returns-clause-may_fill g c =
     let first = c.first_free-b.ensures in
     let are = buckets_are _ _ valid.laid_out in
     let some : 0 < length c.self.inside.entries =
-    omega (arith, eqb-false _ _ (sym c.is_without_buckets.ensures ∙ c.if-is_without_buckets.false)) in
+    omega (
+      arith,
+      buckets_are _ _ c.self.invariant.0.laid_out,
+      eqb-false _ _ (sym c.is_without_buckets.ensures ∙ c.if-is_without_buckets.false),
+    ) in
     rw (← c.self.view_is) (MayFill-from valid c.first_free-b.result
     (place_spends _ _ _ valid c.args.hash c.first_free-b.result _ are (omega (arith, some, are)) first _
     c.byte.ensures _ c.room_taken-spent.ensures (omega arith)))
@@ -131,7 +160,11 @@ returns-clause-fits g c hash_of fits =
     let first = c.first_free-b.ensures in
     let are = buckets_are _ _ valid.laid_out in
     let some : 0 < length c.self.inside.entries =
-    omega (arith, eqb-false _ _ (sym c.is_without_buckets.ensures ∙ c.if-is_without_buckets.false)) in
+    omega (
+      arith,
+      buckets_are _ _ c.self.invariant.0.laid_out,
+      eqb-false _ _ (sym c.is_without_buckets.ensures ∙ c.if-is_without_buckets.false),
+    ) in
     let within = place_within _ _ _ valid c.args.hash c.first_free-b.result _ are (omega (arith, some, are)) first in
     let in_slots : c.first_free-b.result < length (slots_of c.self.inside.control c.self.inside.entries) =
     omega (arith, within, length-laid_out _ _ valid.laid_out) in
@@ -152,7 +185,11 @@ returns-clause-table g c =
     let first = c.first_free-b.ensures in
     let are = buckets_are _ _ valid.laid_out in
     let some : 0 < length c.self.inside.entries =
-    omega (arith, eqb-false _ _ (sym c.is_without_buckets.ensures ∙ c.if-is_without_buckets.false)) in
+    omega (
+      arith,
+      buckets_are _ _ c.self.invariant.0.laid_out,
+      eqb-false _ _ (sym c.is_without_buckets.ensures ∙ c.if-is_without_buckets.false),
+    ) in
     let within = place_within _ _ _ valid c.args.hash c.first_free-b.result _ are (omega (arith, some, are)) first in
     let spends = place_spends _ _ _ valid c.args.hash c.first_free-b.result _ are
     (omega (arith, some, are)) first _ c.byte.ensures _ c.room_taken-spent.ensures (omega arith) in
@@ -166,7 +203,11 @@ returns-clause-room g c =
     let first = c.first_free-b.ensures in
     let are = buckets_are _ _ valid.laid_out in
     let some : 0 < length c.self.inside.entries =
-    omega (arith, eqb-false _ _ (sym c.is_without_buckets.ensures ∙ c.if-is_without_buckets.false)) in
+    omega (
+      arith,
+      buckets_are _ _ c.self.invariant.0.laid_out,
+      eqb-false _ _ (sym c.is_without_buckets.ensures ∙ c.if-is_without_buckets.false),
+    ) in
     let within = place_within _ _ _ valid c.args.hash c.first_free-b.result _ are (omega (arith, some, are)) first in
     let spends = place_spends _ _ _ valid c.args.hash c.first_free-b.result _ are
     (omega (arith, some, are)) first _ c.byte.ensures _ c.room_taken-spent.ensures (omega arith) in

@@ -103,6 +103,38 @@ first_free-place-requires g c =
     c.args.entries.now _ turn.1 turn.0 c.requires.within c.requires.below in
     (w.0, omega (arith, w.1, buckets_are _ _ turn.1.valid.laid_out, turn.1.placed_length, turn.1.now_length), w.2)
 
+pub put-next-requires-clause-bucket : goal.put-next-requires-clause-bucket
+put-next-requires-clause-bucket g c =
+    let l = c.turns in
+    let turn = rw c.in-Some.is at l.invariant.turn in
+    let whole = c.args.entries.now in
+    let same : length l.entries ≡ length whole =
+    omega (arith, turn.1.now_length, length-set whole l.old None) in
+    let n : buckets_of l.control ≡ length l.entries =
+    omega (arith, buckets_are _ _ turn.1.valid.laid_out, turn.1.placed_length, turn.1.now_length) in
+    let within = put_within g.N.LinkType.number g.N.LinkType.MAX g.N.LinkType.link _ g.met.N.LinkType.laws _
+    whole _ turn.1 turn.0 c.requires.within c.requires.below
+    l.hash c.first_free-place.result _ c.tag_of-in-Some.result n
+    (reached_first c.first_free-place.ensures) c.tag_of-in-Some.ensures.value c.tag_of-in-Some.ensures.tag
+    (l.invariant.hashed _ c.in-Some.is) in
+    omega (arith, within, turn.1.now_length, turn.1.placed_length, same)
+
+pub from_usize-requires-in-Some : goal.from_usize-requires-in-Some
+from_usize-requires-in-Some g c =
+    let l = c.turns in
+    let turn = rw c.in-Some.is at l.invariant.turn in
+    let whole = c.args.entries.now in
+    let same : length l.entries ≡ length whole =
+    omega (arith, turn.1.now_length, length-set whole l.old None) in
+    let n : buckets_of l.control ≡ length l.entries =
+    omega (arith, buckets_are _ _ turn.1.valid.laid_out, turn.1.placed_length, turn.1.now_length) in
+    let within = put_within g.N.LinkType.number g.N.LinkType.MAX g.N.LinkType.link _ g.met.N.LinkType.laws _
+    whole _ turn.1 turn.0 c.requires.within c.requires.below
+    l.hash c.first_free-place.result _ c.tag_of-in-Some.result n
+    (reached_first c.first_free-place.ensures) c.tag_of-in-Some.ensures.value c.tag_of-in-Some.ensures.tag
+    (l.invariant.hashed _ c.in-Some.is) in
+    omega (arith, within, turn.1.now_length, turn.1.placed_length, same, c.requires.below)
+
 pub put-next-requires-clause-told : goal.put-next-requires-clause-told
 put-next-requires-clause-told g c =
     let l = c.turns in
