@@ -86,7 +86,8 @@ impl<K, V> Limiter<K, V> for ByLength {
 impl<K: Eq + Hash + Drop, V: Drop> Insertion<K, V, K> for ByLength {
     ghost offers = { length_offers };
 
-    #[inline]
+    // In line before its caller is optimised, which then branches here, and takes the pair as it came.
+    #[inline(always)]
     fn on_insert(
         &mut self,
         _alloc: Global,

@@ -1,5 +1,5 @@
 //! Eviction: the oldest pairs leave.
-ghost use Rattle.std.specs.Prelude.{◌≡◌, ℕ, ◌<◌, not, length, Some};
+ghost use Rattle.std.specs.Prelude.{◌≡◌, ℕ, ◌<◌, true, not, length, Some};
 ghost use Rattle.schnellru.specs.Lists.{is_empty};
 ghost use Rattle.schnellru.specs.State.{contents, trim, Leaves};
 ghost use Rattle.schnellru.specs.Calls.{PopOldest};
@@ -49,14 +49,32 @@ impl<K: Eq + Hash + Drop, V: Drop, L: Limiter<K, V>, S: BuildHasher> LruMap<K, V
             (trim (noting L.rules) (contents (noted before self.old))) (noted after self.new)) }
         ensures callable { F.IsAlwaysCallable sink.new }
     {
+        if self.limiter.is_over_the_limit(self.entries.len()) {
+            self.evict_while_over(sink)
+        } else {
+            true
+        }
+    }
+
+    // The same, where the limiter is over. Out of line, so that no caller of an insert has the evictions in its code.
+    #[inline(never)]
+    fn evict_while_over<F: FnMut(K, V)>(&mut self, sink: &mut F) -> bool
+        requires some { 0 < length self.old.pairs }
+        requires over { L.rules.is_over_the_limit self.old.limiter (length self.old.pairs) ≡ true }
+        requires callable { F.IsAlwaysCallable sink.old }
+        ensures left { result ≡ not (is_empty self.new.pairs) }
+        ensures handed { Hands F.FnMut sink.old sink.new (λ before after. Leaves (noted before self.old)
+            (trim (noting L.rules) (contents (noted before self.old))) (noted after self.new)) }
+        ensures callable { F.IsAlwaysCallable sink.new }
+    {
         'evictions: loop {
-            if !self.limiter.is_over_the_limit(self.entries.len()) {
-                return true;
-            }
             let (key, value) = self.take_oldest();
             sink(key, value);
             if self.is_empty() {
                 return false;
+            }
+            if !self.limiter.is_over_the_limit(self.entries.len()) {
+                return true;
             }
         }
     }

@@ -1,70 +1,19 @@
-use Rattle.std.proofs.Common.{◌≡◌, ◌<◌, true, false, length, refl, ap, sym, ◌∙◌, subst, arith}
-use denote.Param.Always.{mut_next}
+use Rattle.std.proofs.Common.{◌≡◌, false, length, ap, sym, ◌∙◌, subst}
 use Rattle.schnellru.specs.State.{contents, Leaves}
 use Rattle.schnellru.specs.HandedOver.{noting, noted}
-use Rattle.schnellru.proofs.PairLists.Emptiness.{empty-length, some-length}
 use Rattle.schnellru.proofs.LinkedTables.BucketPairs.{pairs-length}
-use Rattle.schnellru.proofs.Maps.LeavingPairs.{length-without_last, leaves_self, trim-within, trim-empty}
-use Rattle.schnellru.proofs.Maps.Trims.{trims_more}
+use Rattle.schnellru.proofs.Maps.LeavingPairs.{leaves_self, trim-within}
 use Rattle.schnellru.proofs.map.LruMap.trim.Goals as goal
 
-pub evictions-init : goal.evictions-init
-evictions-init g c = record {
-  some = c.requires.some;
-  callable = c.requires.callable;
-  handed = λ first before taken. (before, taken, (leaves_self (noted before c.args.self.now), refl));
-}
-
-pub evictions-smaller : goal.evictions-smaller
-evictions-smaller g c =
-    let one = ap (λ st. length st.pairs) c.take_oldest-key.ensures.state.is
-    ∙ length-without_last c.evictions.self.pairs in
-    let fewer : length c.take_oldest-key.new.self.pairs < length c.evictions.self.pairs = omega
-    (arith, one, c.evictions.invariant.some) in
-    fewer
-
-pub evictions-preserved : goal.evictions-preserved
-evictions-preserved g c =
-    let i = c.evictions.invariant in let rules = g.L.Limiter.rules in let m = c.self.inside in
-    let st = c.evictions.self in let u = c.take_oldest-key.new.self in let pair = c.take_oldest-key.result in
-    let over : rules.is_over_the_limit st.limiter (length st.pairs) ≡ true = rw (← c.self.view_is)
-    (ap (rules.is_over_the_limit m.limiter) (pairs-length m.entries c.self.invariant.linked ∙ sym c.len.ensures.len)
-    ∙ sym c.is_over_the_limit.ensures ∙ c.if-not-is_over_the_limit.false) in record {
-      some = some-length u.pairs (sym c.is_empty.ensures ∙ c.if-is_empty.false);
-      callable = mut_next g.F.FnMut c.evictions.sink (pair.0, (pair.1, tt)) tt c.sink.new.self c.sink.new.self
-          c.sink.ensures refl i.callable;
-      handed = trims_more rules g.F.FnMut c.args.self.now c.args.sink.now st u c.evictions.sink c.sink.new.self pair
-          i.some over c.take_oldest-key.ensures c.sink.ensures i.handed;
-    }
-
-pub returns-then-not-is_over_the_limit-clause-handed : goal.returns-then-not-is_over_the_limit-clause-handed
-returns-then-not-is_over_the_limit-clause-handed g c =
-    let i = c.evictions.invariant in let rules = g.L.Limiter.rules in let m = c.self.inside in
-    let st = c.evictions.self in
+pub returns-else-is_over_the_limit-clause-handed : goal.returns-else-is_over_the_limit-clause-handed
+returns-else-is_over_the_limit-clause-handed g c =
+    let rules = g.L.Limiter.rules in let m = c.self.inside in let st = c.args.self.now in
     let within : rules.is_over_the_limit st.limiter (length st.pairs) ≡ false = rw (← c.self.view_is)
     (ap (rules.is_over_the_limit m.limiter) (pairs-length m.entries c.self.invariant.linked ∙ sym c.len.ensures.len)
-    ∙ sym c.is_over_the_limit.ensures ∙ c.if-not-is_over_the_limit.true) in
-    λ first before taken.
-    let (mid, had, so_far) = i.handed first before taken in (
-      mid,
-      had,
-      subst (λ left. Leaves (noted before c.args.self.now) left (noted mid st))
-          (sym (so_far.1 ∙ trim-within (noting rules) (contents (noted mid st)) within)) so_far.0,
-    )
-
-pub returns-then-is_empty-clause-handed : goal.returns-then-is_empty-clause-handed
-returns-then-is_empty-clause-handed g c =
-    let i = c.evictions.invariant in let rules = g.L.Limiter.rules in let m = c.self.inside in
-    let st = c.evictions.self in let u = c.take_oldest-key.new.self in let pair = c.take_oldest-key.result in
-    let over : rules.is_over_the_limit st.limiter (length st.pairs) ≡ true = rw (← c.self.view_is)
-    (ap (rules.is_over_the_limit m.limiter) (pairs-length m.entries c.self.invariant.linked ∙ sym c.len.ensures.len)
-    ∙ sym c.is_over_the_limit.ensures ∙ c.if-not-is_over_the_limit.false) in
-    let none = empty-length u.pairs (sym c.is_empty.ensures ∙ c.if-is_empty.true) in
-    λ first before taken.
-    let (after, had, trimmed) = trims_more rules g.F.FnMut c.args.self.now c.args.sink.now st u c.evictions.sink
-    c.sink.new.self pair i.some over c.take_oldest-key.ensures c.sink.ensures i.handed first before taken in (
-      after,
-      had,
-      subst (λ left. Leaves (noted before c.args.self.now) left (noted after u))
-          (sym (trimmed.1 ∙ trim-empty (noting rules) (contents (noted after u)) none)) trimmed.0,
+    ∙ sym c.is_over_the_limit.ensures ∙ c.if-is_over_the_limit.false) in
+    λ first before taken. (
+      before,
+      taken,
+      subst (λ left. Leaves (noted before st) left (noted before st))
+          (sym (trim-within (noting rules) (contents (noted before st)) within)) (leaves_self (noted before st)),
     )

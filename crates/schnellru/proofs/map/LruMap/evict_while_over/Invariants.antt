@@ -1,12 +1,13 @@
--- There are pairs. What the limiter was not over of was handed over, and as much as was to leave is still to leave.
-use Rattle.std.proofs.Common.{◌<◌, length}
+-- The limiter is over, and there are pairs. What left was handed over, and as much as was to leave is still to leave.
+use Rattle.std.proofs.Common.{◌≡◌, ◌<◌, true, length}
 use denote.Param.Always.{always_mut}
 use Rattle.schnellru.proofs.Maps.Trims.{IsTrimmedTo}
-use Rattle.schnellru.proofs.map.LruMap.trim.Given as goal
+use Rattle.schnellru.proofs.map.LruMap.evict_while_over.Given as goal
 
 abbrev pub invariant-evictions : goal.invariant-evictions
 invariant-evictions g l = record {
   some : 0 < length l.self.pairs;
+  over : g.L.Limiter.rules.is_over_the_limit l.self.limiter (length l.self.pairs) ≡ true;
   callable : always_mut g.F.FnMut l.sink;
   handed : IsTrimmedTo g.L.Limiter.rules g.F.FnMut l.fn.self l.fn.sink l.self l.sink;
 }

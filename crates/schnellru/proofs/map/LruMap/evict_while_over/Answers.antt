@@ -1,0 +1,70 @@
+use Rattle.std.proofs.Common.{◌≡◌, ◌<◌, true, false, length, refl, ap, sym, ◌∙◌, subst, arith}
+use denote.Param.Always.{mut_next}
+use Rattle.schnellru.specs.State.{contents, Leaves}
+use Rattle.schnellru.specs.HandedOver.{noting, noted}
+use Rattle.schnellru.proofs.PairLists.Emptiness.{empty-length, some-length}
+use Rattle.schnellru.proofs.LinkedTables.BucketPairs.{pairs-length}
+use Rattle.schnellru.proofs.Maps.LeavingPairs.{length-without_last, leaves_self, trim-within, trim-empty}
+use Rattle.schnellru.proofs.Maps.Trims.{trims_more}
+use Rattle.schnellru.proofs.map.LruMap.evict_while_over.Goals as goal
+
+pub evictions-init : goal.evictions-init
+evictions-init g c = record {
+  some = c.requires.some;
+  over = c.requires.over;
+  callable = c.requires.callable;
+  handed = λ first before taken. (before, taken, (leaves_self (noted before c.args.self.now), refl));
+}
+
+pub evictions-smaller : goal.evictions-smaller
+evictions-smaller g c =
+    let one = ap (λ st. length st.pairs) c.take_oldest-key.ensures.state.is
+    ∙ length-without_last c.evictions.self.pairs in
+    let fewer : length c.take_oldest-key.new.self.pairs < length c.evictions.self.pairs = omega
+    (arith, one, c.evictions.invariant.some) in
+    fewer
+
+pub evictions-preserved : goal.evictions-preserved
+evictions-preserved g c =
+    let i = c.evictions.invariant in let rules = g.L.Limiter.rules in let m = c.self.inside in
+    let st = c.evictions.self in let u = c.take_oldest-key.new.self in let pair = c.take_oldest-key.result in
+    let over : rules.is_over_the_limit u.limiter (length u.pairs) ≡ true = rw (← c.self.view_is)
+    (ap (rules.is_over_the_limit m.limiter) (pairs-length m.entries c.self.invariant.linked ∙ sym c.len.ensures.len)
+    ∙ sym c.is_over_the_limit.ensures ∙ c.if-not-is_over_the_limit.false) in record {
+      some = some-length u.pairs (sym c.is_empty.ensures ∙ c.if-is_empty.false);
+      over = over;
+      callable = mut_next g.F.FnMut c.evictions.sink (pair.0, (pair.1, tt)) tt c.sink.new.self c.sink.new.self
+          c.sink.ensures refl i.callable;
+      handed = trims_more rules g.F.FnMut c.args.self.now c.args.sink.now st u c.evictions.sink c.sink.new.self pair
+          i.some i.over c.take_oldest-key.ensures c.sink.ensures i.handed;
+    }
+
+pub returns-then-not-is_over_the_limit-clause-handed : goal.returns-then-not-is_over_the_limit-clause-handed
+returns-then-not-is_over_the_limit-clause-handed g c =
+    let i = c.evictions.invariant in let rules = g.L.Limiter.rules in let m = c.self.inside in
+    let st = c.evictions.self in let u = c.take_oldest-key.new.self in let pair = c.take_oldest-key.result in
+    let within : rules.is_over_the_limit u.limiter (length u.pairs) ≡ false = rw (← c.self.view_is)
+    (ap (rules.is_over_the_limit m.limiter) (pairs-length m.entries c.self.invariant.linked ∙ sym c.len.ensures.len)
+    ∙ sym c.is_over_the_limit.ensures ∙ c.if-not-is_over_the_limit.true) in
+    λ first before taken.
+    let (after, had, trimmed) = trims_more rules g.F.FnMut c.args.self.now c.args.sink.now st u c.evictions.sink
+    c.sink.new.self pair i.some i.over c.take_oldest-key.ensures c.sink.ensures i.handed first before taken in (
+      after,
+      had,
+      subst (λ left. Leaves (noted before c.args.self.now) left (noted after u))
+          (sym (trimmed.1 ∙ trim-within (noting rules) (contents (noted after u)) within)) trimmed.0,
+    )
+
+pub returns-then-is_empty-clause-handed : goal.returns-then-is_empty-clause-handed
+returns-then-is_empty-clause-handed g c =
+    let i = c.evictions.invariant in let rules = g.L.Limiter.rules in
+    let st = c.evictions.self in let u = c.take_oldest-key.new.self in let pair = c.take_oldest-key.result in
+    let none = empty-length u.pairs (sym c.is_empty.ensures ∙ c.if-is_empty.true) in
+    λ first before taken.
+    let (after, had, trimmed) = trims_more rules g.F.FnMut c.args.self.now c.args.sink.now st u c.evictions.sink
+    c.sink.new.self pair i.some i.over c.take_oldest-key.ensures c.sink.ensures i.handed first before taken in (
+      after,
+      had,
+      subst (λ left. Leaves (noted before c.args.self.now) left (noted after u))
+          (sym (trimmed.1 ∙ trim-empty (noting rules) (contents (noted after u)) none)) trimmed.0,
+    )
