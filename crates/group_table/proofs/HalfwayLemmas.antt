@@ -8,10 +8,12 @@ use Rattle.std.proofs.lemmas.List.{length-replicate, ext_get_or, set-get_or}
 use native.Mathlib.Decide.{dec_lt}
 use Rattle.group_table.specs.Sizes.{IsPowerFromFour, full_capacity}
 use Rattle.group_table.specs.Bucket.{empty, bucket_at, is_deleted}
+use Rattle.group_table.specs.Control.{buckets_of}
 use Rattle.group_table.specs.Layout.{slots_of, IsValid}
 use Rattle.group_table.specs.Moves.{place_at, Moves, KeepsMovedHashes}
 use Rattle.group_table.specs.InPlace.{IsSettled, IsWaiting, IsHalfway, IsInTurn}
 use Rattle.group_table.proofs.BucketLemmas.{empty_not_deleted, deleted_count-none, used_count-split}
+use Rattle.group_table.proofs.ControlLemmas.{buckets_are}
 use Rattle.group_table.proofs.CopyLemmas.{copy_at}
 use Rattle.group_table.proofs.FitsLemmas.{Fits-none}
 use Rattle.group_table.proofs.FreshLemmas.{slots_of-fresh, IsValid-fresh}
@@ -35,6 +37,13 @@ module _ {T : Type 0} (old gone placed now : List (Option T)) (b : ℕ) where
       → IsSettled old gone placed now b ⊎ IsWaiting old gone placed now b → IsWaiting old gone placed now b
   waiting_by_none entry e f (inl s) = absurd (none-some entry (sym e ∙ sym s.stands ∙ f))
   waiting_by_none entry e f (inr w) = w
+
+-- the control bytes tell how many places there are
+module _ {T N : Type 0} {number : N → ℕ} {none : N} {IsGiven : (ℕ → ℕ) → Type 0} {whole now : List (Option T)}
+    {control : List ℕ} {links : List N} {passed : ℕ}
+    (half : IsHalfway number none IsGiven whole now control links passed) where
+  pub buckets_now : buckets_of control ≡ length now
+  buckets_now = buckets_are _ _ half.valid.laid_out ∙ half.placed_length ∙ sym half.now_length
 
 -- nothing has gone, and the control bytes are cleared
 module _ {T N : Type 0} (number : N → ℕ) (none : N) (IsGiven : (ℕ → ℕ) → Type 0) (whole : List (Option T))

@@ -9,27 +9,28 @@ use Rattle.group_table.specs.Link.{IsLinkType}
 use Rattle.group_table.specs.Sizes.{full_capacity}
 use Rattle.group_table.specs.Bucket.{entry_count}
 use Rattle.group_table.specs.Probe.{hash_tag, probed}
+use Rattle.group_table.specs.Control.{buckets_of}
 use Rattle.group_table.specs.Group.{IsReachedFreeByte}
 use Rattle.group_table.specs.Layout.{slots_of, written}
 use Rattle.group_table.specs.Moves.{place_at, Joins, Moves}
 use Rattle.group_table.specs.InPlace.{IsSettled, IsWaiting, IsHalfway, IsInTurn}
-use Rattle.group_table.proofs.LayoutLemmas.{length-laid_out}
+use Rattle.group_table.proofs.ControlLemmas.{buckets_are}
+use Rattle.group_table.proofs.LayoutLemmas.{length-laid_out, entries_within}
 use Rattle.group_table.proofs.PlaceLemmas.{some_free_byte}
 use Rattle.group_table.proofs.JoinLemmas.{some_buckets, join_within, join_none, IsValid-joined, joins_there}
 use Rattle.group_table.proofs.JoinLemmas.{deleted_count-joined}
 use Rattle.group_table.proofs.MoveLemmas.{Moves-more, KeepsMovedHashes-more}
 use Rattle.group_table.proofs.RelocationLemmas.{entry_count-laid_out}
 use Rattle.group_table.proofs.PlaceCounts.{place_within, count-filled, count-changed, count-taken, count-fewer}
-use Rattle.group_table.proofs.HalfwayLemmas.{settled_by_none, waiting_by_none, stood_there, IsHalfway-taken}
+use Rattle.group_table.proofs.HalfwayLemmas.{buckets_now, settled_by_none, waiting_by_none, stood_there}
+use Rattle.group_table.proofs.HalfwayLemmas.{IsHalfway-taken}
 
 -- an entry that was taken out goes into the first free bucket
-module _ {T N : Type 0} (number : N → ℕ) (none : N) (link : ℕ → N) (eq : N → N → Bool)
-    (laws : IsLinkType number link none eq) (IsGiven : (ℕ → ℕ) → Type 0)
-    (whole : List (Option T)) {now : List (Option T)} {control : List ℕ} {links : List N} {passed : ℕ}
-    (old : ℕ) {entry : T}
+module _ {T N : Type 0} {number : N → ℕ} {none : N} {IsGiven : (ℕ → ℕ) → Type 0} (whole : List (Option T))
+    {now : List (Option T)} {control : List ℕ} {links : List N} {passed : ℕ} (old : ℕ) {entry : T}
     (half : IsHalfway number none IsGiven (set whole old None) now control links passed)
     (stood : place_at whole old ≡ Some entry)
-    (within : count_by is_some whole ≤ full_capacity (length whole)) (below : length whole < number none) where
+    (within : count_by is_some whole ≤ full_capacity (length whole)) where
   in_whole : old < length whole
   in_whole = place_within whole old entry stood
 
@@ -38,6 +39,9 @@ module _ {T N : Type 0} (number : N → ℕ) (none : N) (link : ℕ → N) (eq :
 
   same_length : length (set whole old None) ≡ length whole
   same_length = length-set whole old None
+
+  pub now_length : length now ≡ length whole
+  now_length = half.now_length ∙ same_length
 
   one_fewer : count_by is_some now + 1 ≡ count_by is_some whole
   one_fewer = omega (arith, half.counted, count-taken whole old entry stood)
@@ -65,23 +69,29 @@ module _ {T N : Type 0} (number : N → ℕ) (none : N) (link : ℕ → N) (eq :
       let w = some_free_byte control half.placed half.room half.valid pos in
       (w.0, omega (arith, w.1, half.placed_length, half.now_length), w.2)
 
-  module _ (hash b n tag : ℕ) (n_is : n ≡ length now) (reached : IsReachedFreeByte control n hash b)
-      (tag_is : tag ≡ hash_tag hash) (tag_fits : tag < 128)
-      (gives : (hash_at : ℕ → ℕ) → IsGiven hash_at → hash ≡ hash_at old) where
-    n_placed : n ≡ length half.placed
-    n_placed = n_is ∙ half.now_length ∙ sym half.placed_length
+  n_placed : buckets_of control ≡ length half.placed
+  n_placed = buckets_are _ _ half.valid.laid_out
 
+  module _ {hash b : ℕ} (reached : IsReachedFreeByte control (buckets_of control) hash b) where
     in_placed : b < length half.placed
-    in_placed = join_within control half.placed half.room half.valid half.none_deleted less hash b n n_placed reached
+    in_placed = join_within control half.placed half.room half.valid half.none_deleted less hash b _ n_placed reached
 
     pub put_within : b < length now
-    put_within = omega (arith, in_placed, n_is, n_placed)
+    put_within = omega (arith, in_placed, half.placed_length, half.now_length)
 
+    pub put_within_control : b < length control
+    put_within_control = omega (arith, in_placed, entries_within _ _ half.valid.laid_out)
+
+  module _ (link : ℕ → N) (eq : N → N → Bool) (laws : IsLinkType number link none eq)
+      (below : length whole < number none) (hash b tag : ℕ)
+      (reached : IsReachedFreeByte control (buckets_of control) hash b)
+      (tag_is : tag ≡ hash_tag hash) (tag_fits : tag < 128)
+      (gives : (hash_at : ℕ → ℕ) → IsGiven hash_at → hash ≡ hash_at old) where
     free_placed : place_at half.placed b ≡ None
-    free_placed = join_none control half.placed half.room half.valid half.none_deleted less hash b n n_placed reached
+    free_placed = join_none control half.placed half.room half.valid half.none_deleted less hash b _ n_placed reached
 
     same_bytes : written control now b tag ≡ written control half.placed b tag
-    same_bytes = ap (λ k. set (set control b tag) (b + max 16 k) tag) (sym n_is ∙ n_placed)
+    same_bytes = ap (λ k. set (set control b tag) (b + max 16 k) tag) (sym (buckets_now half) ∙ n_placed)
 
     abbrev gone_then : List (Option T)
     gone_then = set half.gone old (Some entry)
@@ -93,7 +103,7 @@ module _ {T N : Type 0} (number : N → ℕ) (none : N) (link : ℕ → N) (eq :
     now_then = set now b (Some entry)
 
     joins : Joins (slots_of control half.placed) (slots_of (written control half.placed b tag) placed_then) hash entry b
-    joins = joins_there control half.placed half.room half.valid half.none_deleted less hash b n n_placed reached tag
+    joins = joins_there control half.placed half.room half.valid half.none_deleted less hash b _ n_placed reached tag
         entry tag_fits tag_is
 
     was_out : place_at half.gone old ≡ None
@@ -112,7 +122,7 @@ module _ {T N : Type 0} (number : N → ℕ) (none : N) (link : ℕ → N) (eq :
         Moves-more number none link eq laws (place_at half.gone)
         (place_at gone_then) old was_out gone_there gone_elsewhere
         (omega (arith, half.links_length, same_length, in_whole))
-        (omega (arith, in_placed, half.placed_length, same_length, below)) joins half.moves
+        (omega (arith, in_placed reached, half.placed_length, same_length, below)) joins half.moves
 
     -- by what stands in each place then
     module _ (next : List (Option T)) (next_length : length next ≡ length whole)
@@ -122,8 +132,8 @@ module _ {T N : Type 0} (number : N → ℕ) (none : N) (link : ℕ → N) (eq :
       here : IsSettled next gone_then placed_then now_then b
       here = record {
         went = there;
-        stands = get_or-set_same now b (Some entry) None put_within
-            ∙ sym (get_or-set_same half.placed b (Some entry) None in_placed);
+        stands = get_or-set_same now b (Some entry) None (put_within reached)
+            ∙ sym (get_or-set_same half.placed b (Some entry) None (in_placed reached));
       }
 
       at_old : old ≢ b → IsSettled next gone_then placed_then now_then old
@@ -175,7 +185,7 @@ module _ {T N : Type 0} (number : N → ℕ) (none : N) (link : ℕ → N) (eq :
         placed_length = length-set half.placed b (Some entry) ∙ half.placed_length ∙ same_length ∙ sym next_length;
         now_length = length-set now b (Some entry) ∙ half.now_length ∙ same_length ∙ sym next_length;
         links_length = length-set links old (link b) ∙ half.links_length ∙ same_length ∙ sym next_length;
-        valid = IsValid-joined control half.placed half.room half.valid half.none_deleted less hash b n n_placed reached
+        valid = IsValid-joined control half.placed half.room half.valid half.none_deleted less hash b _ n_placed reached
             tag entry tag_fits;
         none_deleted = deleted_count-joined joins ∙ half.none_deleted;
         counted = counted;
@@ -189,7 +199,7 @@ module _ {T N : Type 0} (number : N → ℕ) (none : N) (link : ℕ → N) (eq :
         hashes = λ hash_at given. KeepsMovedHashes-more number none link eq laws (place_at half.gone)
             (place_at gone_then) old was_out gone_there gone_elsewhere
             (omega (arith, half.links_length, same_length, in_whole))
-            (omega (arith, in_placed, half.placed_length, same_length, below)) joins half.moves hash_at
+            (omega (arith, in_placed reached, half.placed_length, same_length, below)) joins half.moves hash_at
             (gives hash_at given) (half.hashes hash_at given);
       }
 
@@ -203,7 +213,7 @@ module _ {T N : Type 0} (number : N → ℕ) (none : N) (link : ℕ → N) (eq :
               let s = settled_by_none (set whole old None) half.gone half.placed now b free (half.each b) in
               gone_elsewhere b other ∙ s.went ∙ get_or-set_other whole old b None None other
         ] in
-        rw same_bytes (IsHalfway-then whole refl (count-filled now b entry put_within free ∙ one_fewer)
+        rw same_bytes (IsHalfway-then whole refl (count-filled now b entry (put_within reached) free ∙ one_fewer)
         (λ k other. refl) there)
 
     -- the entry that stood there is taken out
@@ -264,13 +274,13 @@ module _ {T N : Type 0} (number : N → ℕ) (none : N) (link : ℕ → N) (eq :
             ∙ get_or-set_other now b k None None other
       ])
 
-  pub IsHalfway-stays : (hash n tag : ℕ) → n ≡ length now → (step : ℕ) × (step < 16) × (probed n hash step ≡ b)
+  pub IsHalfway-stays : (hash tag : ℕ) → (step : ℕ) × (step < 16) × (probed (buckets_of control) hash step ≡ b)
       → tag ≡ hash_tag hash → tag < 128
       → ((hash_at : ℕ → ℕ) → IsGiven hash_at → hash ≡ hash_at b)
       → IsHalfway number none IsGiven whole now (written control now b tag) (set links b (link b)) (b + 1)
-  IsHalfway-stays hash n tag n_is first tag_is tag_fits gives =
+  IsHalfway-stays hash tag first tag_is tag_fits gives =
       let taken_length = length-set now b None in
-      let reached : IsReachedFreeByte control n hash b = record {
+      let reached : IsReachedFreeByte control (buckets_of control) hash b = record {
         step = first.0;
         there = first.2;
         free_there = byte;
@@ -279,6 +289,6 @@ module _ {T N : Type 0} (number : N → ℕ) (none : N) (link : ℕ → N) (eq :
       let half_taken = IsHalfway-taken number none IsGiven whole now control links b half entry byte there in
       let stood = stood_there number none IsGiven whole now control links b half entry byte there in
       let free = get_or-set_same now b None None (place_within now b entry there) in
-      let last = IsHalfway-last number none link eq laws IsGiven whole b half_taken stood within below
-      hash b n tag (n_is ∙ sym taken_length) reached tag_is tag_fits gives free in
+      let last = IsHalfway-last whole b half_taken stood within link eq laws below
+      hash b tag reached tag_is tag_fits gives free in
       rw (put_back, taken_length) at last

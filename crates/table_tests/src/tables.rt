@@ -6,6 +6,7 @@ use std::test::Fail;
 
 mod drops;
 mod groups;
+mod memory;
 mod orders;
 mod relocations;
 

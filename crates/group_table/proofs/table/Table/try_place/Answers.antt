@@ -4,6 +4,7 @@ use Rattle.std.proofs.lemmas.Bool.{eqb-false}
 use Rattle.group_table.specs.Sizes.{full_capacity}
 use Rattle.group_table.specs.Bucket.{is_full, mark_of}
 use Rattle.group_table.specs.Probe.{hash_tag}
+use Rattle.group_table.specs.Control.{buckets_of}
 use Rattle.group_table.specs.Layout.{slots_of}
 use Rattle.group_table.proofs.BucketLemmas.{bucket_at-marks_of}
 use Rattle.group_table.proofs.LayoutLemmas.{length-laid_out, entries_within}
@@ -31,25 +32,18 @@ room_taken-spent-requires g c =
     let valid = c.self.invariant.0 in
     let first = c.first_free-b.ensures in
     let are = buckets_are _ _ valid.laid_out in
-    let some : 0 < length c.self.inside.entries =
-    omega (
-      arith,
-      buckets_are _ _ c.self.invariant.0.laid_out,
-      eqb-false _ _ (sym c.is_without_buckets.ensures ∙ c.if-is_without_buckets.false),
-    ) in
-    rw c.byte.ensures (place_byte _ _ _ valid c.args.hash c.first_free-b.result _ are (omega (arith, some, are)) first)
+    let some : 0 < buckets_of c.self.inside.control =
+    omega (arith, eqb-false _ _ (sym c.is_without_buckets.ensures ∙ c.if-is_without_buckets.false)) in
+    rw c.byte.ensures (place_byte _ _ _ valid c.args.hash c.first_free-b.result _ are some first)
 
 pub first_free-b-requires : goal.first_free-b-requires
 first_free-b-requires g c =
     let valid = c.self.invariant.0 in
-    let some : 0 < length c.self.inside.entries =
-    omega (
-      arith,
-      buckets_are _ _ c.self.invariant.0.laid_out,
-      eqb-false _ _ (sym c.is_without_buckets.ensures ∙ c.if-is_without_buckets.false),
-    ) in
-    let w = some_free_byte _ _ _ valid some in
-    (w.0, omega (arith, w.1, buckets_are _ _ valid.laid_out), w.2)
+    let some : 0 < buckets_of c.self.inside.control =
+    omega (arith, eqb-false _ _ (sym c.is_without_buckets.ensures ∙ c.if-is_without_buckets.false)) in
+    let are = buckets_are _ _ valid.laid_out in
+    let w = some_free_byte _ _ _ valid (omega (arith, some, are)) in
+    (w.0, omega (arith, w.1, are), w.2)
 
 pub returns-then-self-spent-clause-table : goal.returns-then-self-spent-clause-table
 returns-then-self-spent-clause-table g c = rw (← c.self.view_is) (IsTable-by _ _ _ c.self.invariant.0)
@@ -59,18 +53,14 @@ returns-then-self-spent-clause-no_place g c =
     let valid = c.self.invariant.0 in
     let first = c.first_free-b.ensures in
     let are = buckets_are _ _ valid.laid_out in
-    let some : 0 < length c.self.inside.entries =
-    omega (
-      arith,
-      buckets_are _ _ c.self.invariant.0.laid_out,
-      eqb-false _ _ (sym c.is_without_buckets.ensures ∙ c.if-is_without_buckets.false),
-    ) in
+    let some : 0 < buckets_of c.self.inside.control =
+    omega (arith, eqb-false _ _ (sym c.is_without_buckets.ensures ∙ c.if-is_without_buckets.false)) in
     let none = no_place_left _ _ _ valid c.args.hash c.first_free-b.result _ are
-    (omega (arith, some, are)) first _ c.byte.ensures _ c.room_taken-spent.ensures (omega arith) in
+    some first _ c.byte.ensures _ c.room_taken-spent.ensures (omega arith) in
     rw (← c.self.view_is) (inr (
       sym (room_by _ _ _ valid) ∙ none.0,
       c.first_free-b.result,
-      place_first _ _ _ valid c.args.hash c.first_free-b.result _ are (omega (arith, some, are)) first,
+      place_first _ _ _ valid c.args.hash c.first_free-b.result _ are some first,
       bucket_at-marks_of _ c.first_free-b.result ∙ ap mark_of none.1,
     ))
 
@@ -79,13 +69,9 @@ fill_bucket-requires-clause-free_there g c =
     let valid = c.self.invariant.0 in
     let first = c.first_free-b.ensures in
     let are = buckets_are _ _ valid.laid_out in
-    let some : 0 < length c.self.inside.entries =
-    omega (
-      arith,
-      buckets_are _ _ c.self.invariant.0.laid_out,
-      eqb-false _ _ (sym c.is_without_buckets.ensures ∙ c.if-is_without_buckets.false),
-    ) in
-    place_none _ _ _ valid c.args.hash c.first_free-b.result _ are (omega (arith, some, are)) first
+    let some : 0 < buckets_of c.self.inside.control =
+    omega (arith, eqb-false _ _ (sym c.is_without_buckets.ensures ∙ c.if-is_without_buckets.false)) in
+    place_none _ _ _ valid c.args.hash c.first_free-b.result _ are some first
 
 pub overflow_add-self : goal.overflow_add-self
 overflow_add-self g c =
@@ -104,15 +90,11 @@ invariant_of-self g c =
     let valid = c.self.invariant.0 in
     let first = c.first_free-b.ensures in
     let are = buckets_are _ _ valid.laid_out in
-    let some : 0 < length c.self.inside.entries =
-    omega (
-      arith,
-      buckets_are _ _ c.self.invariant.0.laid_out,
-      eqb-false _ _ (sym c.is_without_buckets.ensures ∙ c.if-is_without_buckets.false),
-    ) in
-    let within = place_within _ _ _ valid c.args.hash c.first_free-b.result _ are (omega (arith, some, are)) first in
+    let some : 0 < buckets_of c.self.inside.control =
+    omega (arith, eqb-false _ _ (sym c.is_without_buckets.ensures ∙ c.if-is_without_buckets.false)) in
+    let within = place_within _ _ _ valid c.args.hash c.first_free-b.result _ are some first in
     let spends = place_spends _ _ _ valid c.args.hash c.first_free-b.result _ are
-    (omega (arith, some, are)) first _ c.byte.ensures _ c.room_taken-spent.ensures (omega arith) in
+    some first _ c.byte.ensures _ c.room_taken-spent.ensures (omega arith) in
     let counted = entry_count-placed valid c.first_free-b.result spends c.tag_of.result c.args.entry within
     c.tag_of.ensures.tag in
     rw (c.fill_bucket.ensures.control, c.fill_bucket.ensures.entries) (
@@ -126,14 +108,10 @@ returns-clause-placed g c =
     let valid = c.self.invariant.0 in
     let first = c.first_free-b.ensures in
     let are = buckets_are _ _ valid.laid_out in
-    let some : 0 < length c.self.inside.entries =
-    omega (
-      arith,
-      buckets_are _ _ c.self.invariant.0.laid_out,
-      eqb-false _ _ (sym c.is_without_buckets.ensures ∙ c.if-is_without_buckets.false),
-    ) in
+    let some : 0 < buckets_of c.self.inside.control =
+    omega (arith, eqb-false _ _ (sym c.is_without_buckets.ensures ∙ c.if-is_without_buckets.false)) in
     rw (← c.self.view_is) record {
-      first = place_first _ _ _ valid c.args.hash c.first_free-b.result _ are (omega (arith, some, are)) first;
+      first = place_first _ _ _ valid c.args.hash c.first_free-b.result _ are some first;
       slots = rw (c.fill_bucket.ensures.control, c.fill_bucket.ensures.entries, c.tag_of.ensures.value)
           (slots_of-written _ _ c.first_free-b.result _ _);
       placings = c.count_one.ensures;
@@ -144,14 +122,10 @@ returns-clause-may_fill g c =
     let valid = c.self.invariant.0 in
     let first = c.first_free-b.ensures in
     let are = buckets_are _ _ valid.laid_out in
-    let some : 0 < length c.self.inside.entries =
-    omega (
-      arith,
-      buckets_are _ _ c.self.invariant.0.laid_out,
-      eqb-false _ _ (sym c.is_without_buckets.ensures ∙ c.if-is_without_buckets.false),
-    ) in
+    let some : 0 < buckets_of c.self.inside.control =
+    omega (arith, eqb-false _ _ (sym c.is_without_buckets.ensures ∙ c.if-is_without_buckets.false)) in
     rw (← c.self.view_is) (MayFill-from valid c.first_free-b.result
-    (place_spends _ _ _ valid c.args.hash c.first_free-b.result _ are (omega (arith, some, are)) first _
+    (place_spends _ _ _ valid c.args.hash c.first_free-b.result _ are some first _
     c.byte.ensures _ c.room_taken-spent.ensures (omega arith)))
 
 pub returns-clause-fits : goal.returns-clause-fits
@@ -159,13 +133,9 @@ returns-clause-fits g c hash_of fits =
     let valid = c.self.invariant.0 in
     let first = c.first_free-b.ensures in
     let are = buckets_are _ _ valid.laid_out in
-    let some : 0 < length c.self.inside.entries =
-    omega (
-      arith,
-      buckets_are _ _ c.self.invariant.0.laid_out,
-      eqb-false _ _ (sym c.is_without_buckets.ensures ∙ c.if-is_without_buckets.false),
-    ) in
-    let within = place_within _ _ _ valid c.args.hash c.first_free-b.result _ are (omega (arith, some, are)) first in
+    let some : 0 < buckets_of c.self.inside.control =
+    omega (arith, eqb-false _ _ (sym c.is_without_buckets.ensures ∙ c.if-is_without_buckets.false)) in
+    let within = place_within _ _ _ valid c.args.hash c.first_free-b.result _ are some first in
     let in_slots : c.first_free-b.result < length (slots_of c.self.inside.control c.self.inside.entries) =
     omega (arith, within, length-laid_out _ _ valid.laid_out) in
     rw (
@@ -176,7 +146,7 @@ returns-clause-fits g c hash_of fits =
           (Some c.args.entry),
     )
     (Fits-placed _ hash_of c.args.hash c.first_free-b.result c.args.entry in_slots
-    (place_first _ _ _ valid c.args.hash c.first_free-b.result _ are (omega (arith, some, are)) first)
+    (place_first _ _ _ valid c.args.hash c.first_free-b.result _ are some first)
     (rw (← c.self.view_is) at fits))
 
 pub returns-clause-table : goal.returns-clause-table
@@ -184,15 +154,11 @@ returns-clause-table g c =
     let valid = c.self.invariant.0 in
     let first = c.first_free-b.ensures in
     let are = buckets_are _ _ valid.laid_out in
-    let some : 0 < length c.self.inside.entries =
-    omega (
-      arith,
-      buckets_are _ _ c.self.invariant.0.laid_out,
-      eqb-false _ _ (sym c.is_without_buckets.ensures ∙ c.if-is_without_buckets.false),
-    ) in
-    let within = place_within _ _ _ valid c.args.hash c.first_free-b.result _ are (omega (arith, some, are)) first in
+    let some : 0 < buckets_of c.self.inside.control =
+    omega (arith, eqb-false _ _ (sym c.is_without_buckets.ensures ∙ c.if-is_without_buckets.false)) in
+    let within = place_within _ _ _ valid c.args.hash c.first_free-b.result _ are some first in
     let spends = place_spends _ _ _ valid c.args.hash c.first_free-b.result _ are
-    (omega (arith, some, are)) first _ c.byte.ensures _ c.room_taken-spent.ensures (omega arith) in
+    some first _ c.byte.ensures _ c.room_taken-spent.ensures (omega arith) in
     rw (c.fill_bucket.ensures.control, c.fill_bucket.ensures.entries)
     (IsTable-by _ _ _
     (IsValid-placed valid c.first_free-b.result spends c.tag_of.result c.args.entry within c.tag_of.ensures.tag))
@@ -202,14 +168,10 @@ returns-clause-room g c =
     let valid = c.self.invariant.0 in
     let first = c.first_free-b.ensures in
     let are = buckets_are _ _ valid.laid_out in
-    let some : 0 < length c.self.inside.entries =
-    omega (
-      arith,
-      buckets_are _ _ c.self.invariant.0.laid_out,
-      eqb-false _ _ (sym c.is_without_buckets.ensures ∙ c.if-is_without_buckets.false),
-    ) in
-    let within = place_within _ _ _ valid c.args.hash c.first_free-b.result _ are (omega (arith, some, are)) first in
+    let some : 0 < buckets_of c.self.inside.control =
+    omega (arith, eqb-false _ _ (sym c.is_without_buckets.ensures ∙ c.if-is_without_buckets.false)) in
+    let within = place_within _ _ _ valid c.args.hash c.first_free-b.result _ are some first in
     let spends = place_spends _ _ _ valid c.args.hash c.first_free-b.result _ are
-    (omega (arith, some, are)) first _ c.byte.ensures _ c.room_taken-spent.ensures (omega arith) in
+    some first _ c.byte.ensures _ c.room_taken-spent.ensures (omega arith) in
     rw (← c.self.view_is, c.fill_bucket.ensures.control, c.fill_bucket.ensures.entries)
     (room-placed valid c.first_free-b.result spends c.tag_of.result c.args.entry within c.tag_of.ensures.tag)

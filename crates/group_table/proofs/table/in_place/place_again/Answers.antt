@@ -1,13 +1,13 @@
-use Rattle.std.proofs.Common.{◌≡◌, ◌+◌, ◌<◌, ◌≤◌, length, get_or, None, refl, sym, ap, ◌∙◌, inr, arith, length-set}
+use Rattle.std.proofs.Common.{◌≡◌, ◌+◌, ◌<◌, ◌≤◌, length, get_or, None, refl, sym, ap, ◌∙◌, inr, arith}
 use Rattle.std.proofs.lemmas.List.{length-replicate}
-use Rattle.group_table.proofs.LayoutLemmas.{entries_within, some_by, none_by}
-use Rattle.group_table.specs.Control.{buckets_of}
-use Rattle.group_table.proofs.ControlLemmas.{buckets_are}
+use Rattle.group_table.proofs.LayoutLemmas.{some_by, none_by}
 use Rattle.group_table.proofs.JoinLemmas.{reached_first}
 use Rattle.group_table.proofs.FreeBytes.{free_bytes-fewer}
-use Rattle.group_table.proofs.HalfwayLemmas.{IsHalfway-start, IsHalfway-placed, IsHalfway-none, stood_there}
-use Rattle.group_table.proofs.HalfwayLemmas.{IsInTurn-taken, IsValid-last, none_deleted_last, Moves-last, hashes_last}
-use Rattle.group_table.proofs.TurnLemmas.{some_free, put_within, IsInTurn-next, IsHalfway-stays}
+use Rattle.group_table.proofs.HalfwayLemmas.{buckets_now, IsHalfway-start, IsHalfway-placed, IsHalfway-none}
+use Rattle.group_table.proofs.HalfwayLemmas.{stood_there, IsInTurn-taken}
+use Rattle.group_table.proofs.HalfwayLemmas.{IsValid-last, none_deleted_last, Moves-last, hashes_last}
+use Rattle.group_table.proofs.TurnLemmas.{now_length, some_free, put_within, put_within_control, IsInTurn-next}
+use Rattle.group_table.proofs.TurnLemmas.{IsHalfway-stays}
 use Rattle.group_table.proofs.WaitLemmas.{told_before, stays_past, stays_taken, stays_tagged, stays_put, none_waits}
 use Rattle.group_table.proofs.table.in_place.place_again.Goals.{
   then-byte-lt-DELETED-via-then-byte-lt-DELETED,
@@ -62,18 +62,16 @@ pub loop-b-preserved-then-is_read_first : goal.loop-b-preserved-then-is_read_fir
 loop-b-preserved-then-is_read_first g c =
     let half = c.loop-b.invariant.half in
     let whole = c.args.entries.now in
-    let n : buckets_of c.loop-b.control ≡ length c.loop-b.entries =
-    omega (arith, buckets_are _ _ half.valid.laid_out, half.placed_length, half.now_length) in
     let byte : 128 ≤ get_or c.loop-b.control c.loop-b.b 0 = rw (← c.byte.ensures) c.if-byte-lt-DELETED.false in
     let stood = stood_there g.N.LinkType.number g.N.LinkType.MAX _ whole _ _ _ c.loop-b.b half c.get.result.now byte
     c.get.ensures in
     let stays = IsHalfway-stays g.N.LinkType.number g.N.LinkType.MAX g.N.LinkType.link _ g.met.N.LinkType.laws _ whole _
     _ _ c.loop-b.b c.get.result.now half c.requires.within c.requires.below byte c.get.ensures
-    c.hash_of-hash.result _ c.tag_of.result n
+    c.hash_of-hash.result c.tag_of.result
     (c.is_read_first.ensures.0 c.if-is_read_first.true) c.tag_of.ensures.value c.tag_of.ensures.tag
     (λ hash_at given. given c.loop-b.b _ _ stood
     (record { shown = _; shows = refl; says = record { met = c.hash_of-hash.ensures } })) in
-    rw (c.set.ensures, c.from_usize.ensures, n) record {
+    rw (c.set.ensures, c.from_usize.ensures, buckets_now half) record {
       half = stays;
       stays = stays_tagged whole _ _ _ (stays_past whole _ _ c.loop-b.b c.loop-b.invariant.stays) c.loop-b.b _
           half.now_length (omega arith);
@@ -99,41 +97,26 @@ pub first_free-place-requires : goal.first_free-place-requires
 first_free-place-requires g c =
     let l = c.turns in
     let turn = rw c.in-Some.is at l.invariant.turn in
-    let w = some_free g.N.LinkType.number g.N.LinkType.MAX g.N.LinkType.link _ g.met.N.LinkType.laws _
-    c.args.entries.now _ turn.1 turn.0 c.requires.within c.requires.below in
-    (w.0, omega (arith, w.1, buckets_are _ _ turn.1.valid.laid_out, turn.1.placed_length, turn.1.now_length), w.2)
+    let w = some_free c.args.entries.now _ turn.1 turn.0 c.requires.within in
+    (w.0, rw (buckets_now turn.1) (w.1), w.2)
 
 pub put-next-requires-clause-bucket : goal.put-next-requires-clause-bucket
 put-next-requires-clause-bucket g c =
     let l = c.turns in
     let turn = rw c.in-Some.is at l.invariant.turn in
     let whole = c.args.entries.now in
-    let same : length l.entries ≡ length whole =
-    omega (arith, turn.1.now_length, length-set whole l.old None) in
-    let n : buckets_of l.control ≡ length l.entries =
-    omega (arith, buckets_are _ _ turn.1.valid.laid_out, turn.1.placed_length, turn.1.now_length) in
-    let within = put_within g.N.LinkType.number g.N.LinkType.MAX g.N.LinkType.link _ g.met.N.LinkType.laws _
-    whole _ turn.1 turn.0 c.requires.within c.requires.below
-    l.hash c.first_free-place.result _ c.tag_of-in-Some.result n
-    (reached_first c.first_free-place.ensures) c.tag_of-in-Some.ensures.value c.tag_of-in-Some.ensures.tag
-    (l.invariant.hashed _ c.in-Some.is) in
-    omega (arith, within, turn.1.now_length, turn.1.placed_length, same)
+    let same = now_length whole _ turn.1 turn.0 c.requires.within in
+    let within = put_within whole _ turn.1 turn.0 c.requires.within (reached_first c.first_free-place.ensures) in
+    omega (arith, within, same)
 
 pub from_usize-requires-in-Some : goal.from_usize-requires-in-Some
 from_usize-requires-in-Some g c =
     let l = c.turns in
     let turn = rw c.in-Some.is at l.invariant.turn in
     let whole = c.args.entries.now in
-    let same : length l.entries ≡ length whole =
-    omega (arith, turn.1.now_length, length-set whole l.old None) in
-    let n : buckets_of l.control ≡ length l.entries =
-    omega (arith, buckets_are _ _ turn.1.valid.laid_out, turn.1.placed_length, turn.1.now_length) in
-    let within = put_within g.N.LinkType.number g.N.LinkType.MAX g.N.LinkType.link _ g.met.N.LinkType.laws _
-    whole _ turn.1 turn.0 c.requires.within c.requires.below
-    l.hash c.first_free-place.result _ c.tag_of-in-Some.result n
-    (reached_first c.first_free-place.ensures) c.tag_of-in-Some.ensures.value c.tag_of-in-Some.ensures.tag
-    (l.invariant.hashed _ c.in-Some.is) in
-    omega (arith, within, turn.1.now_length, turn.1.placed_length, same, c.requires.below)
+    let same = now_length whole _ turn.1 turn.0 c.requires.within in
+    let within = put_within whole _ turn.1 turn.0 c.requires.within (reached_first c.first_free-place.ensures) in
+    omega (arith, within, same, c.requires.below)
 
 pub put-next-requires-clause-told : goal.put-next-requires-clause-told
 put-next-requires-clause-told g c =
@@ -141,19 +124,12 @@ put-next-requires-clause-told g c =
     let turn = rw c.in-Some.is at l.invariant.turn in
     let whole = c.args.entries.now in
     let free = c.first_free-place.ensures.free_there in
-    let same : length l.entries ≡ length whole =
-    omega (arith, turn.1.now_length, length-set whole l.old None) in
-    let n : buckets_of l.control ≡ length l.entries =
-    omega (arith, buckets_are _ _ turn.1.valid.laid_out, turn.1.placed_length, turn.1.now_length) in
-    let within = put_within g.N.LinkType.number g.N.LinkType.MAX g.N.LinkType.link _ g.met.N.LinkType.laws _
-    whole _ turn.1 turn.0 c.requires.within c.requires.below
-    l.hash c.first_free-place.result _ c.tag_of-in-Some.result n
-    (reached_first c.first_free-place.ensures) c.tag_of-in-Some.ensures.value c.tag_of-in-Some.ensures.tag
-    (l.invariant.hashed _ c.in-Some.is) in
+    let same = now_length whole _ turn.1 turn.0 c.requires.within in
+    let within = put_within whole _ turn.1 turn.0 c.requires.within (reached_first c.first_free-place.ensures) in
     elim c.if-place-b.branch [
       | then-place-b w ↦
           let none = none_waits {number = g.N.LinkType.number} {none = g.N.LinkType.MAX} turn.1
-          c.first_free-place.result (omega arith) (omega (arith, within, turn.1.now_length)) free in
+          c.first_free-place.result (omega arith) (omega (arith, within, same)) free in
           rw (w.byte-is, none) (inr refl)
       | else-place-b w ↦
           rw (w.byte-is, w.byte-byte.ensures)
@@ -165,39 +141,23 @@ pub turns-smaller : goal.turns-smaller
 turns-smaller g c =
     let l = c.turns in
     let turn = rw c.in-Some.is at l.invariant.turn in
-    let n : buckets_of l.control ≡ length l.entries =
-    omega (arith, buckets_are _ _ turn.1.valid.laid_out, turn.1.placed_length, turn.1.now_length) in
-    let first = c.first_free-place.ensures in
-    let in_now = put_within g.N.LinkType.number g.N.LinkType.MAX g.N.LinkType.link _ g.met.N.LinkType.laws _
-    c.args.entries.now _ turn.1 turn.0 c.requires.within c.requires.below
-    l.hash c.first_free-place.result _ c.tag_of-in-Some.result n
-    (reached_first first) c.tag_of-in-Some.ensures.value c.tag_of-in-Some.ensures.tag
-    (l.invariant.hashed _ c.in-Some.is) in
+    let reached = reached_first c.first_free-place.ensures in
     rw c.put-next.ensures.control
     (free_bytes-fewer c.tag_of-in-Some.result c.tag_of-in-Some.ensures.tag l.control l.entries
     c.first_free-place.result
-    (omega (arith, in_now, turn.1.now_length, turn.1.placed_length, entries_within _ _ turn.1.valid.laid_out))
-    first.free_there)
+    (put_within_control c.args.entries.now _ turn.1 turn.0 c.requires.within reached)
+    c.first_free-place.ensures.free_there)
 
 pub turns-preserved : goal.turns-preserved
 turns-preserved g c =
     let l = c.turns in
     let turn = rw c.in-Some.is at l.invariant.turn in
-    let n : buckets_of l.control ≡ length l.entries =
-    omega (arith, buckets_are _ _ turn.1.valid.laid_out, turn.1.placed_length, turn.1.now_length) in
-    let first = c.first_free-place.ensures in
-    let in_now = put_within g.N.LinkType.number g.N.LinkType.MAX g.N.LinkType.link _ g.met.N.LinkType.laws _
-    c.args.entries.now _ turn.1 turn.0 c.requires.within c.requires.below
-    l.hash c.first_free-place.result _ c.tag_of-in-Some.result n
-    (reached_first first) c.tag_of-in-Some.ensures.value c.tag_of-in-Some.ensures.tag
+    let reached = reached_first c.first_free-place.ensures in
+    let next = IsInTurn-next c.args.entries.now _ turn.1 turn.0 c.requires.within
+    g.N.LinkType.link _ g.met.N.LinkType.laws c.requires.below l.hash c.first_free-place.result c.tag_of-in-Some.result
+    reached c.tag_of-in-Some.ensures.value c.tag_of-in-Some.ensures.tag
     (l.invariant.hashed _ c.in-Some.is) in
-    let next = IsInTurn-next g.N.LinkType.number g.N.LinkType.MAX g.N.LinkType.link _ g.met.N.LinkType.laws _
-    c.args.entries.now _ turn.1 turn.0 c.requires.within c.requires.below
-    l.hash c.first_free-place.result _ c.tag_of-in-Some.result n
-    (reached_first first) c.tag_of-in-Some.ensures.value c.tag_of-in-Some.ensures.tag
-    (l.invariant.hashed _ c.in-Some.is) in
-    let same : length l.entries ≡ length c.args.entries.now =
-    omega (arith, turn.1.now_length, length-set c.args.entries.now l.old None) in
+    let same = now_length c.args.entries.now _ turn.1 turn.0 c.requires.within in
     record {
       turn = rw (
         c.put-next.ensures.stood,
@@ -208,47 +168,31 @@ turns-preserved g c =
       hashed = λ entry is hash_at given. absurd (c.in_default-next.not-Some entry is);
       stays = rw (c.put-next.ensures.entries, c.put-next.ensures.control)
           (stays_put c.args.entries.now _ _ _ l.invariant.stays c.first_free-place.result c.tag_of-in-Some.result same _
-          (omega (arith, in_now, turn.1.now_length, turn.1.placed_length, entries_within _ _ turn.1.valid.laid_out))
-          in_now c.tag_of-in-Some.ensures.tag);
+          (put_within_control c.args.entries.now _ turn.1 turn.0 c.requires.within reached)
+          (put_within c.args.entries.now _ turn.1 turn.0 c.requires.within reached) c.tag_of-in-Some.ensures.tag);
     }
 
 pub turns-smaller-in-Some-next : goal.turns-smaller-in-Some-next
 turns-smaller-in-Some-next g c =
     let l = c.turns in
     let turn = rw c.in-Some.is at l.invariant.turn in
-    let n : buckets_of l.control ≡ length l.entries =
-    omega (arith, buckets_are _ _ turn.1.valid.laid_out, turn.1.placed_length, turn.1.now_length) in
-    let first = c.first_free-place.ensures in
-    let in_now = put_within g.N.LinkType.number g.N.LinkType.MAX g.N.LinkType.link _ g.met.N.LinkType.laws _
-    c.args.entries.now _ turn.1 turn.0 c.requires.within c.requires.below
-    l.hash c.first_free-place.result _ c.tag_of-in-Some.result n
-    (reached_first first) c.tag_of-in-Some.ensures.value c.tag_of-in-Some.ensures.tag
-    (l.invariant.hashed _ c.in-Some.is) in
+    let reached = reached_first c.first_free-place.ensures in
     rw c.put-next.ensures.control
     (free_bytes-fewer c.tag_of-in-Some.result c.tag_of-in-Some.ensures.tag l.control l.entries
     c.first_free-place.result
-    (omega (arith, in_now, turn.1.now_length, turn.1.placed_length, entries_within _ _ turn.1.valid.laid_out))
-    first.free_there)
+    (put_within_control c.args.entries.now _ turn.1 turn.0 c.requires.within reached)
+    c.first_free-place.ensures.free_there)
 
 pub turns-preserved-in-Some-next : goal.turns-preserved-in-Some-next
 turns-preserved-in-Some-next g c =
     let l = c.turns in
     let turn = rw c.in-Some.is at l.invariant.turn in
-    let n : buckets_of l.control ≡ length l.entries =
-    omega (arith, buckets_are _ _ turn.1.valid.laid_out, turn.1.placed_length, turn.1.now_length) in
-    let first = c.first_free-place.ensures in
-    let in_now = put_within g.N.LinkType.number g.N.LinkType.MAX g.N.LinkType.link _ g.met.N.LinkType.laws _
-    c.args.entries.now _ turn.1 turn.0 c.requires.within c.requires.below
-    l.hash c.first_free-place.result _ c.tag_of-in-Some.result n
-    (reached_first first) c.tag_of-in-Some.ensures.value c.tag_of-in-Some.ensures.tag
+    let reached = reached_first c.first_free-place.ensures in
+    let next = IsInTurn-next c.args.entries.now _ turn.1 turn.0 c.requires.within
+    g.N.LinkType.link _ g.met.N.LinkType.laws c.requires.below l.hash c.first_free-place.result c.tag_of-in-Some.result
+    reached c.tag_of-in-Some.ensures.value c.tag_of-in-Some.ensures.tag
     (l.invariant.hashed _ c.in-Some.is) in
-    let next = IsInTurn-next g.N.LinkType.number g.N.LinkType.MAX g.N.LinkType.link _ g.met.N.LinkType.laws _
-    c.args.entries.now _ turn.1 turn.0 c.requires.within c.requires.below
-    l.hash c.first_free-place.result _ c.tag_of-in-Some.result n
-    (reached_first first) c.tag_of-in-Some.ensures.value c.tag_of-in-Some.ensures.tag
-    (l.invariant.hashed _ c.in-Some.is) in
-    let same : length l.entries ≡ length c.args.entries.now =
-    omega (arith, turn.1.now_length, length-set c.args.entries.now l.old None) in
+    let same = now_length c.args.entries.now _ turn.1 turn.0 c.requires.within in
     let then = rw (sym c.put-next.ensures.stood, c.in-Some-next.is) at next in
     record {
       turn = rw (
@@ -261,8 +205,8 @@ turns-preserved-in-Some-next g c =
           (record { shown = _; shows = refl; says = record { met = c.hash_of-hash-in-Some-next.ensures } });
       stays = rw (c.put-next.ensures.entries, c.put-next.ensures.control)
           (stays_put c.args.entries.now _ _ _ l.invariant.stays c.first_free-place.result c.tag_of-in-Some.result same _
-          (omega (arith, in_now, turn.1.now_length, turn.1.placed_length, entries_within _ _ turn.1.valid.laid_out))
-          in_now c.tag_of-in-Some.ensures.tag);
+          (put_within_control c.args.entries.now _ turn.1 turn.0 c.requires.within reached)
+          (put_within c.args.entries.now _ turn.1 turn.0 c.requires.within reached) c.tag_of-in-Some.ensures.tag);
     }
 
 pub returns-clause-valid : goal.returns-clause-valid
