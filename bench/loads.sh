@@ -25,4 +25,6 @@ done
 rustc --edition 2024 -C opt-level=3 -C target-cpu=x86-64-v2 -C codegen-units=1 --check-cfg 'cfg(schnellru, lru)' \
     rust/loads.rs -o "$out/loads" "${flags[@]}" \
     -L ../crates/bench_layers/out -l static=bench_layers -C link-arg="$kit/c/liblibc_c.a"
+# What is freed stays in the heap of the process, so that no map takes the page faults of the one before it.
+[ "${words[0]:-}" = memory ] || export MALLOC_MMAP_MAX_=0 MALLOC_TRIM_THRESHOLD_=$((1 << 40))
 "$out/loads" "${words[@]}"
