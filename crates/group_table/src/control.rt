@@ -107,14 +107,6 @@ impl Control {
         sixteen_before(b, self.last)
     }
 
-    // All of them.
-    #[cfg(test)]
-    pub(crate) fn as_slice(&self) -> &[u8]
-        ensures { result.now ≡ self.now }
-    {
-        self.bytes.as_slice()
-    }
-
     // That of a bucket.
     #[inline]
     pub(crate) fn byte(&self, b: usize) -> u8

@@ -134,6 +134,3 @@ impl LinkType for usize {
 
     ghost laws = { numbers_are_links 18446744073709551615 (lit≤ tt) };
 }
-
-#[cfg(test)]
-mod tests;

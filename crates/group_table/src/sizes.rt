@@ -38,6 +38,3 @@ pub fn buckets_for_capacity(capacity: usize, max: usize) -> Option<usize>
     let buckets = (capacity.checked_mul(8)? / 7).next_power_of_two();
     if buckets < max { Some(buckets) } else { None }
 }
-
-#[cfg(test)]
-mod tests;

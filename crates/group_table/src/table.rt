@@ -282,6 +282,3 @@ fn count_one(count: &mut u64)
         *count += 1;
     }
 }
-
-#[cfg(test)]
-mod tests;

@@ -1,5 +1,6 @@
 -- Words for limiters that store a pair as it was handed over.
 --     plain over grants                    the rules of a limiter that never changes
+--     rules_at of to rules                 the rules of a limiter that contains another: of and to read and make it
 --     hands_over admits                    its offers: an element is stored where admits says so, a new value always
 --     HandsOver accepts s k v t given      the limiter stays s, which is t, and the pair is given exactly if accepted
 --     unmoved s k v                        a pair that left, and the limiter is now s
@@ -35,6 +36,15 @@ plain over grants = record {
   on_removed = unmoved;
   on_cleared = λ s. s;
   on_grow = λ s bytes. answers s (grants s bytes);
+}
+
+abbrev pub rules_at : {K V S W : Type 0} → (W → S) → (S → W) → Rules K V S → Rules K V W
+rules_at of to rules = record {
+  is_over_the_limit = λ w length. rules.is_over_the_limit (of w) length;
+  on_removed = λ w k v. let told = rules.on_removed (of w) k v in
+      record { limiter = to told.limiter; key = told.key; value = told.value };
+  on_cleared = λ w. to (rules.on_cleared (of w));
+  on_grow = λ w bytes. let asked = rules.on_grow (of w) bytes in answers (to asked.limiter) asked.allowed;
 }
 
 abbrev pub hands_over : {K V S : Type 0} → (S → K → V → Bool) → Offers K V S K

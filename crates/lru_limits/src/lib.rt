@@ -3,6 +3,7 @@
 //! - [`LookupKey`]: a value that a key is looked up by, as `&str` where the keys are `String`s.
 //! - [`Limiter`] and [`Insertion`]: when a map is over its limit, and what happens to an element that is offered to it.
 //! - [`ByLength`], [`ByMemoryUsage`], [`Unlimited`], [`UnlimitedCompact`]: limiters that look at no element.
+//! - [`Storing`]: an adapter for a limiter of your own that stores each pair as it comes.
 //! - [`Costed`], [`Summing`], [`ByCost`]: limiters that keep the sum of the costs of the elements.
 //! - [`RandomState`] and [`DefaultHasher`]: the hasher, seeded by four words.
 //!
@@ -20,4 +21,4 @@ pub use group_table::LinkType;
 pub use hasher::{DefaultHasher, RandomState};
 pub use keys::LookupKey;
 pub use limiter::{Insertion, Limiter};
-pub use limiters::{ByLength, ByMemoryUsage, Unlimited, UnlimitedCompact};
+pub use limiters::{ByLength, ByMemoryUsage, Storing, Unlimited, UnlimitedCompact};

@@ -13,7 +13,7 @@ mod walk;
 
 pub use lru_limits::{
     ByCost, ByLength, ByMemoryUsage, Costed, DefaultHasher, Insertion, Limiter, LinkType,
-    LookupKey, RandomState, Summing, Unlimited, UnlimitedCompact,
+    LookupKey, RandomState, Storing, Summing, Unlimited, UnlimitedCompact,
 };
 pub use map::get_or_insert::GetOrInsertError;
 pub use map::report::MoveReport;

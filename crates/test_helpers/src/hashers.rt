@@ -1,12 +1,11 @@
 //! Hashers whose hashes a test chooses, and one that counts.
 ghost use Rattle.std.specs.Prelude.{◌≡◌, ◌+◌, ◌%◌, ◌^◌, fold};
 
-use lru_limits::{DefaultHasher, RandomState};
 use std::cell::Cell;
 use std::hash::{BuildHasher, Hasher};
 
-/// Hashes to the last byte that was written, which is the highest one of a number.
-/// A `u64` below 2 to the 56th hashes to 0.
+/// Hashes to the last byte that was written, which is the highest byte of a number. So a `u64` below 2 to the 56th
+/// hashes to 0.
 #[derive(Clone, Copy)]
 pub struct LastByte(pub u64);
 
@@ -37,21 +36,21 @@ impl BuildHasher for LastByte {
     }
 }
 
-/// Counts the hashers that it makes.
+/// Counts the hashers that it builds.
 #[derive(Drop)]
-pub struct Counted<'a> {
-    /// What makes them.
-    pub state: RandomState,
-    /// How many it has made.
+pub struct Counted<'a, S> {
+    /// What builds them.
+    pub state: S,
+    /// How many it has built.
     pub builds: &'a Cell<u64>,
 }
 
-impl BuildHasher for Counted<'_> {
-    type Hasher = DefaultHasher;
+impl<S: BuildHasher> BuildHasher for Counted<'_, S> {
+    type Hasher = S::Hasher;
 
-    ghost build_hasher = { λ s. s.state };
+    ghost build_hasher = { λ s. S.build_hasher s.state };
 
-    fn build_hasher(&self) -> DefaultHasher {
+    fn build_hasher(&self) -> S::Hasher {
         self.builds.set(self.builds.get().saturating_add(1));
         self.state.build_hasher()
     }

@@ -9,7 +9,7 @@ pub fn map_of<L: Limiter<u64, u64>>(alloc: Global, limiter: L) -> LruMap<u64, u6
     LruMap::new(alloc, limiter, [1, 2, 3, 4], 16)
 }
 
-/// The pairs (1, 1), (2, 2) and (3, 3) within a cost of 10.
+/// A map of the pairs (1, 1), (2, 2) and (3, 3), with a cost of at most 10.
 pub fn three_costs(alloc: Global) -> Result<LruMap<u64, u64, ByCost, RandomState>, AllocError> {
     let mut map = map_of(alloc, ByCost::new(10));
     for n in 1..=3u64 {
@@ -26,7 +26,7 @@ pub fn insert<L: Insertion<u64, u64, u64>, S: BuildHasher>(
     map.insert(n, n.wrapping_mul(10))
 }
 
-/// Inserts the pairs of these numbers, and answers how many inserts answered true.
+/// Inserts the pairs of these numbers, and returns how many inserts returned true.
 pub fn insert_all<L: Insertion<u64, u64, u64>, S: BuildHasher>(
     map: &mut LruMap<u64, u64, L, S>,
     numbers: RangeInclusive<u64>,
@@ -119,4 +119,14 @@ pub fn report<K: Eq + Hash, V, L: Limiter<K, V>, S: BuildHasher>(
 ) -> (u64, u64) {
     let report = map.move_report();
     (report.moved, report.placed)
+}
+
+/// Removes the pairs of these numbers.
+pub fn remove_all<L: Limiter<u64, u64>, S: BuildHasher>(
+    map: &mut LruMap<u64, u64, L, S>,
+    numbers: RangeInclusive<u64>,
+) {
+    for n in numbers {
+        map.remove(&n);
+    }
 }

@@ -1,0 +1,15 @@
+//! Tests of what no clause of `group_table` says, through its public calls.
+#![tactic(auto)]
+
+#[cfg(test)]
+mod drops;
+#[cfg(test)]
+mod memory;
+#[cfg(test)]
+mod placings;
+#[cfg(test)]
+mod relocations;
+#[cfg(test)]
+mod sizes;
+#[cfg(test)]
+mod tables;

@@ -1,0 +1,75 @@
+//! An adapter for limiters that store each pair as it comes.
+ghost use Rattle.lru_limits.specs.Limiters.{all_offers};
+ghost use Rattle.lru_limits.specs.Stores.{rules_at, hands_over-lawful};
+
+use crate::keys::LookupKey;
+use crate::limiter::{Insertion, Limiter};
+use std::alloc::{AllocError, Global};
+use std::hash::Hash;
+
+/// Turns a limiter into one that stores each pair as it comes, and accepts every new value of a stored key.
+///
+/// Implement [`Limiter`] for your own type, and put it into a map as `Storing(limiter)`: `Storing` implements
+/// [`Insertion`] for it. `map.limiter().0` is your limiter.
+///
+/// ```
+/// let limiter = Storing(ByLength::new(3));
+/// assert!(rt; Limiter::<u64, u64>::is_over_the_limit(&limiter, 4));
+/// ```
+#[derive(Clone, Copy, Debug, Default)]
+pub struct Storing<L>(pub L);
+
+impl<K, V, L: Limiter<K, V>> Limiter<K, V> for Storing<L> {
+    type LinkType = L::LinkType;
+
+    ghost rules = { rules_at (λ s. s.0) (λ limiter. record { 0 = limiter }) L.rules };
+
+    #[inline]
+    fn is_over_the_limit(&self, length: usize) -> bool {
+        self.0.is_over_the_limit(length)
+    }
+
+    #[inline]
+    fn on_removed(&mut self, key: &mut K, value: &mut V) {
+        self.0.on_removed(key, value);
+    }
+
+    #[inline]
+    fn on_cleared(&mut self) {
+        self.0.on_cleared();
+    }
+
+    #[inline]
+    fn on_grow(&mut self, new_memory_usage: usize) -> bool {
+        self.0.on_grow(new_memory_usage)
+    }
+}
+
+impl<K: Eq + Hash + Drop, V: Drop, L: Limiter<K, V>> Insertion<K, V, K> for Storing<L> {
+    ghost offers = { all_offers };
+
+    #[inline]
+    fn on_insert(
+        &mut self,
+        _alloc: Global,
+        _length: usize,
+        key: K,
+        value: V,
+    ) -> Result<Option<(K, V)>, AllocError> {
+        Ok(Some((key, value)))
+    }
+
+    #[inline]
+    fn on_replace(
+        &mut self,
+        _length: usize,
+        _old_key: &mut K,
+        _new_key: K,
+        _old_value: &mut V,
+        _new_value: &mut V,
+    ) -> bool {
+        true
+    }
+
+    ghost laws = { hands_over-lawful K.eq K.Eq.laws };
+}

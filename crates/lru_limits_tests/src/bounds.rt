@@ -1,0 +1,40 @@
+//! Generic callers, which know a trait by its bound alone.
+ghost use Rattle.std.specs.Prelude.{◌≡◌, ◌+◌, ◌-◌, ◌^◌, IfOk, min};
+
+use lru_limits::{Costed, Limiter, LinkType, LookupKey, RandomState, Summing};
+use std::alloc::{AllocError, Global};
+use std::hash::{BuildHasher, Hash};
+
+/// Returns the number of the link that stands for no bucket.
+pub(super) fn number_of_no_link<L: Limiter<u64, u64>>() -> usize
+    ensures { result ≡ L.LinkType.number L.LinkType.MAX }
+{
+    L::LinkType::MAX.into_usize()
+}
+
+pub(super) fn cost_of_both<V: Costed>(a: &V, b: &V) -> u64
+    ensures { result ≡ min (V.cost a.now + V.cost b.now) (2 ^ 64 - 1) }
+{
+    a.cost().saturating_add(b.cost())
+}
+
+/// Whether the value names the key and hashes as it does.
+pub(super) fn names<K: Eq + Hash, Q: LookupKey<K>>(query: &Q, key: &K) -> bool {
+    let state = RandomState::default();
+    query.is_key(key) && state.hash_one(query) == state.hash_one(key)
+}
+
+/// Offers a pair, and removes it if it is stored, which leaves the running total as it was.
+pub(super) fn offer_and_remove<K: Eq + Hash + Drop, V: Drop, I: LookupKey<K>, L: Summing<K, V, I>>(
+    limiter: &mut L,
+    alloc: Global,
+    key: I,
+    value: V,
+) -> Result<u64, AllocError>
+    ensures { IfOk result (λ total. total ≡ L.account limiter.old) }
+{
+    if let Some((mut key, mut value)) = limiter.on_insert(alloc, 0, key, value)? {
+        limiter.on_removed(&mut key, &mut value);
+    }
+    Ok(limiter.account())
+}

@@ -1,0 +1,19 @@
+//! Tests of what no clause of `lru_limits` says, through its public calls.
+#![tactic(auto)]
+
+#[cfg(test)]
+mod bounds;
+#[cfg(test)]
+mod by_text_length;
+#[cfg(test)]
+mod costs;
+#[cfg(test)]
+mod examples;
+#[cfg(test)]
+mod limiters;
+#[cfg(test)]
+mod removed_keys;
+#[cfg(test)]
+mod spread;
+#[cfg(test)]
+mod two_fields;

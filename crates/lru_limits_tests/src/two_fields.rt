@@ -1,0 +1,48 @@
+//! A look-up key of two fields. `docs/LIMITERS.md` explains it.
+ghost use Rattle.std.specs.Prelude.{◌≡◌, ◌&&◌, nat_eq};
+ghost use Rattle.std.specs.Hash as fed;
+ghost use Rattle.lru_limits.specs.Keys.{number-lawful, field-lawful, both-lawful};
+ghost use Rattle.lru_limits.specs.Texts.{names_text, names_text-lawful};
+
+use super::bounds::names;
+use lru_limits::LookupKey;
+use std::test::Fail;
+
+/// A name that belongs to a tenant.
+#[derive(Drop, PartialEq, Eq, Hash)]
+pub struct Name {
+    pub tenant: u64,
+    pub text: String,
+}
+
+/// What names it, without a `String`.
+#[derive(Clone, Copy, PartialEq, Eq, Hash)]
+pub struct Naming<'a> {
+    pub tenant: u64,
+    pub text: &'a str,
+}
+
+impl LookupKey<Name> for Naming<'_> {
+    ghost names = { λ q k. nat_eq q.tenant k.tenant && names_text q.text.now k.text };
+
+    ghost laws = { both-lawful
+        (field-lawful (λ q. q.tenant) (λ k. k.tenant) (number-lawful fed.u64))
+        (field-lawful (λ q. q.text.now) (λ k. k.text) (names_text-lawful (λ bytes. bytes))) };
+
+    fn is_key(&self, key: &Name) -> bool {
+        self.tenant == key.tenant && self.text == key.text.as_str()
+    }
+}
+
+#[test]
+fn both_fields_name_the_key(rt: HostRuntime) -> Result<(), Fail> {
+    let text = "a longer text of the map";
+    let name = Name {
+        tenant: 7,
+        text: String::from_str(rt.alloc(), text)?,
+    };
+    for (tenant, text, is_named) in [(7, text, true), (8, text, false), (7, "other", false)] {
+        assert_eq!(rt; names(&Naming { tenant, text }, &name), is_named);
+    }
+    Ok(())
+}

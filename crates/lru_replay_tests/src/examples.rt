@@ -1,0 +1,41 @@
+//! The examples of the documents of `lru_replay`, and the texts and numbers of its errors.
+use lru_replay::{Answer, Call, ReplayEnd, ReplayError, run_calls, run_summing, status};
+use schnellru::{ByCost, ByLength, LruMap};
+use std::test::Fail;
+
+#[test]
+fn of_lists_of_calls(rt: HostRuntime) -> Result<(), Fail> {
+    let alloc = rt.alloc();
+    let mut map: LruMap<u64, u64> = LruMap::new(alloc, ByLength::new(3), [1, 2, 3, 4], 16);
+    let calls = vec![in alloc; Call::Insert(1, 10), Call::Get(1), Call::Peek(2)]?;
+    let answers = run_calls(alloc, &mut map, calls)?;
+    let gives = answers.get(1) == Some(&Answer::Value(Some(10)));
+    assert!(rt; gives && answers.get(2) == Some(&Answer::Value(None)));
+    Ok(())
+}
+
+#[test]
+fn of_summing_lists(rt: HostRuntime) -> Result<(), Fail> {
+    let alloc = rt.alloc();
+    let mut costs: LruMap<u64, u64, ByCost> = LruMap::new(alloc, ByCost::new(10), [1, 2, 3, 4], 16);
+    let calls = vec![in alloc; Call::Insert(1, 2), Call::Write(1, 3), Call::Peek(1)]?;
+    let answers = run_summing(alloc, &mut costs, calls)?;
+    let refuses = answers.get(1) == Some(&Answer::CostDiffers);
+    assert!(rt; refuses && answers.get(2) == Some(&Answer::Value(Some(2))));
+    Ok(())
+}
+
+#[test]
+fn of_errors(rt: HostRuntime) -> Result<(), Fail> {
+    let (read, write) = (ReplayError::Read, ReplayError::Write);
+    let text = format!(in rt.alloc(); "{read}, {write}")?;
+    assert_eq!(rt; text.as_str(), "read failed, write failed");
+    let statuses = [
+        status(&Ok(ReplayEnd::Done)),
+        status(&Ok(ReplayEnd::NoLimiter)),
+        status(&Err(read)),
+        status(&Err(write)),
+    ];
+    assert_eq!(rt; (statuses, read as u8, write as u8), ([0, 1, 2, 2], 1, 2));
+    Ok(())
+}

@@ -1,0 +1,169 @@
+//! Runs of calls, as lists and as lines, in which the first requests for memory are met and the next one is refused.
+use lru_replay::{Answer, Call, ReplayEnd, replay, run_calls, run_summing};
+use schnellru::{ByCost, Insertion, LruMap, UnlimitedCompact};
+use std::alloc::{AllocError, Global};
+use std::mem::size_of;
+use std::process::Abort;
+use std::test::Fail;
+use test_helpers::{Hog, insert_all, map_of};
+
+/// The bytes of the answers to four calls.
+const ANSWERS: usize = 4 * size_of::<Answer<u64, u64>>();
+
+/// The bytes of a list of eight pairs.
+const LIST: usize = 128;
+
+/// An insert for which a table of 8 buckets grows, a list, a drain, and a look-up.
+fn calls<L: Drop>(alloc: Global) -> Result<Vec<Call<u64, u64, L>>, AllocError> {
+    let mut calls = Vec::new(alloc);
+    calls.push(Call::Insert(8, 80))?;
+    calls.push(Call::List)?;
+    calls.push(Call::Drain { front: 8, back: 0 })?;
+    calls.push(Call::Get(1))?;
+    Ok(calls)
+}
+
+/// Whether the calls were made, the pair was inserted, the pairs were listed, and then drained, and whether a key is
+/// found afterwards.
+type Facts = (bool, bool, bool, bool, bool);
+
+fn facts_of(answers: Option<Vec<Answer<u64, u64>>>) -> Facts {
+    match answers.as_ref().map(|answers| answers.as_slice()) {
+        Some([inserted, listed, drained, found]) => (
+            true,
+            *inserted == Answer::Flag(true),
+            matches!(listed, Answer::Pairs(_)),
+            matches!(drained, Answer::Pairs(_)),
+            *found == Answer::Value(Some(10)),
+        ),
+        _ => (false, false, false, false, false),
+    }
+}
+
+/// What is expected if this many requests are met: for the answers, for the growth, for the list, and for the drain. A
+/// call that ran out of memory changed nothing.
+fn expected(met: usize) -> Facts {
+    match met {
+        0 => (false, false, false, false, false),
+        1..=3 => (true, false, false, false, true),
+        4 => (true, true, false, false, true),
+        5 => (true, true, true, false, true),
+        _ => (true, true, true, true, false),
+    }
+}
+
+/// A map of seven pairs.
+fn seven<L: Insertion<u64, u64, u64> + Drop>(
+    alloc: Global,
+    limiter: L,
+) -> Result<LruMap<u64, u64, L>, AllocError> {
+    let mut map = map_of(alloc, limiter);
+    insert_all(&mut map, 1..=7)?;
+    Ok(map)
+}
+
+/// Takes all memory but that of the first requests.
+fn hog_that_meets(alloc: Global, requests: &[usize], met: usize) -> Result<Hog, AllocError> {
+    let mut hog = Hog::new(alloc, requests)?;
+    for _ in 0..met {
+        hog.release();
+    }
+    Ok(hog)
+}
+
+#[test]
+fn lists_of_calls(rt: HostRuntime) -> Result<(), Fail> {
+    let alloc = rt.alloc();
+    for met in 0..=6usize {
+        let mut map = seven(alloc, UnlimitedCompact)?;
+        let calls = calls(alloc)?;
+        let hog = hog_that_meets(alloc, &[ANSWERS, 32, 384, 32, LIST, LIST], met)?;
+        let answers = run_calls(alloc, &mut map, calls).ok();
+        let all = hog.took_all();
+        drop(hog);
+        assert!(rt; !all || facts_of(answers) == expected(met), "{met} met");
+    }
+    Ok(())
+}
+
+/// The links have 8 bytes, so an entry has 32. The cost is that of the pairs that are left.
+#[test]
+fn lists_of_calls_under_a_sum(rt: HostRuntime) -> Result<(), Fail> {
+    let alloc = rt.alloc();
+    for met in 0..=6usize {
+        let mut map = seven(alloc, ByCost::new(1000))?;
+        let calls = calls(alloc)?;
+        let hog = hog_that_meets(alloc, &[ANSWERS, 32, 512, 64, LIST, LIST], met)?;
+        let answers = run_summing(alloc, &mut map, calls).ok();
+        let all = hog.took_all();
+        drop(hog);
+        let cost = match met {
+            0..=3 => 280,
+            4..=5 => 360,
+            _ => 0,
+        };
+        let found = (facts_of(answers), map.limiter().cost());
+        assert!(rt; !all || found == (expected(met), cost), "{met} met");
+    }
+    Ok(())
+}
+
+/// Replays the lines, of which the first requests for memory are met, and compares the text.
+fn expect_lines(
+    rt: &(impl Abort + AllocGlobal),
+    input: &[u8],
+    requests: &[usize],
+    met: usize,
+    text: &[u8],
+) -> Result<(), Fail> {
+    let alloc = rt.alloc();
+    let mut reader = input;
+    let mut writer: Vec<u8> = Vec::with_capacity(alloc, 1000)?;
+    let hog = hog_that_meets(alloc, requests, met)?;
+    let end = replay(alloc, &mut reader, &mut writer);
+    let all = hog.took_all();
+    drop(hog);
+    assert_eq!(rt; end, Ok(ReplayEnd::Done));
+    assert!(rt; !all || writer.as_slice() == text, "{met} met");
+    Ok(())
+}
+
+const INPUT: &[u8] =
+    b"compact\ninsert 1 10\ninsert 2 20\ninsert 3 30\ninsert 4 40\nlist\nreserve 1\nstats\n";
+
+/// The requests of a table of 4 buckets, and of one of 8.
+const TABLES: [usize; 5] = [20, 96, 24, 192, 16];
+
+/// A line that runs out of memory says so. What was not inserted is not in the list.
+fn text_of(met: usize) -> &'static [u8] {
+    match met {
+        0..=1 =>
+            b"no memory\nno memory\nno memory\nno memory\n-\nno memory\nlen 0 capacity 0 memory 0 moved 0 placed 0\n",
+        2..=4 =>
+            b"true\ntrue\ntrue\nno memory\n3:30 2:20 1:10\nno memory\nlen 3 capacity 3 memory 148 moved 0 placed 3\n",
+        _ =>
+            b"true\ntrue\ntrue\ntrue\n4:40 3:30 2:20 1:10\nok\nlen 4 capacity 7 memory 280 moved 3 placed 4\n",
+    }
+}
+
+/// A `put` asks for memory for the pairs that leave before it inserts: for one pair here, and then for a table of 4
+/// buckets. The memory for one pair serves the second line too, until two are needed.
+fn text_of_puts(met: usize) -> &'static [u8] {
+    match met {
+        0 => b"no memory\nno memory\n-\n",
+        1..=2 => b"no memory 1:10\nno memory 2:20\n-\n",
+        _ => b"true\nno memory\n1:10\n",
+    }
+}
+
+#[test]
+fn lines(rt: HostRuntime) -> Result<(), Fail> {
+    for met in 0..=5usize {
+        expect_lines(&rt, INPUT, &TABLES, met, text_of(met))?;
+    }
+    for met in 0..=3usize {
+        let puts = b"compact\nput 1 10\nput 2 20\nlist\n";
+        expect_lines(&rt, puts.as_slice(), &[16, 20, 96], met, text_of_puts(met))?;
+    }
+    Ok(())
+}

@@ -1,0 +1,106 @@
+//! Calls that are refused memory, and memory that a closed tenant gives back.
+use lru_tenants::{TenantCache, TenantError};
+use schnellru::Costed;
+use std::alloc::{AllocError, Global};
+use std::rc::Rc;
+use std::test::Fail;
+use test_helpers::Hog;
+
+// Takes all memory, and leaves memory for `requests` requests.
+fn hog_that_meets(alloc: Global, requests: usize) -> Result<Hog, AllocError> {
+    let sizes = vec![in alloc; 8192; requests]?;
+    let mut hog = Hog::new(alloc, sizes.as_slice())?;
+    for _ in 0..requests {
+        hog.release();
+    }
+    Ok(hog)
+}
+
+// A cache of these tenants from 1 on. The first one has pairs of the keys from 1 on.
+fn cache_of(alloc: Global, tenants: u64, pairs: u64) -> Result<TenantCache<u64, u64>, TenantError> {
+    let mut cache = TenantCache::new(alloc, [1, 2, 3, 4], 16);
+    for name in 1..=tenants {
+        cache.open(name, 1000)?;
+    }
+    for key in 1..=pairs {
+        cache.put(1, key, 1)?;
+    }
+    Ok(cache)
+}
+
+// Opens one more tenant, or puts one more pair.
+fn call(cache: &mut TenantCache<u64, u64>, opens: bool) -> Result<(), TenantError> {
+    if opens {
+        return cache.open(1000, 5);
+    }
+    cache.put(1, 1000, 1)?;
+    Ok(())
+}
+
+// Each call is made while no request is met, then while one is, and so on, until it succeeds. A refused call succeeds
+// when there is memory again.
+#[test]
+fn each_request_is_refused(rt: HostRuntime) -> Result<(), Fail> {
+    for opens in [true, false] {
+        let mut refused = 0u32;
+        for size in 0..=14u64 {
+            for requests in 0..8usize {
+                let (tenants, pairs) = if opens { (size, 0) } else { (1, size) };
+                let mut cache = cache_of(rt.alloc(), tenants, pairs)?;
+                let hog = hog_that_meets(rt.alloc(), requests)?;
+                let first = call(&mut cache, opens);
+                // If memory has no end, nothing is refused.
+                refused = refused.wrapping_add((first.is_err() || !hog.took_all()) as u32);
+                drop(hog);
+                if first.is_ok() {
+                    break;
+                }
+                let again = call(&mut cache, opens);
+                assert_eq!(rt; (first, again), (Err(TenantError::Memory), Ok(())));
+            }
+        }
+        assert!(rt; refused > 0);
+    }
+    Ok(())
+}
+
+#[derive(Drop)]
+struct Share(Rc<u64>);
+
+impl Costed for Share {
+    ghost cost = { λ _. 1 };
+
+    fn cost(&self) -> u64 {
+        1
+    }
+}
+
+// Opens a tenant, gives it a pair, and closes it.
+fn open_and_close(
+    cache: &mut TenantCache<Rc<u64>, Share>,
+    key: Rc<u64>,
+    value: Share,
+) -> Result<usize, TenantError> {
+    cache.open(2, 5)?;
+    cache.put(2, key, value)?;
+    cache.close(2)
+}
+
+// A thousand tenants are opened and closed, one after another, with memory for a few.
+#[test]
+fn a_closed_tenant_gives_its_memory_back(rt: HostRuntime) -> Result<(), Fail> {
+    let shared = Rc::new(rt.alloc(), 0u64)?;
+    let mut cache = TenantCache::new(rt.alloc(), [1, 2, 3, 4], 16);
+    let hog = hog_that_meets(rt.alloc(), 4)?;
+    let mut closed = 0u32;
+    for _ in 0..1000u32 {
+        let result = open_and_close(&mut cache, shared.clone()?, Share(shared.clone()?));
+        closed = closed.wrapping_add((result == Ok(1)) as u32);
+    }
+    drop(hog);
+    assert_eq!(rt;
+        (closed, cache.len(), Rc::strong_count(&shared)),
+        (1000, 0, 1)
+    );
+    Ok(())
+}

@@ -1,8 +1,0 @@
-use Rattle.std.proofs.Common.{nat_eq, sym}
-use Rattle.schnellru.proofs.CallerLemmas.{written-found}
-use Rattle.map_tests.proofs.maps.callers.overwrite.Goals as goal
-
-pub returns-in-Some : goal.returns-in-Some
-returns-in-Some c = λ _.
-    let found = sym c.in-Some.ensures.value in
-    written-found (nat_eq c.args.key) c.args.map.now c.in-Some.place.now c.args.value found

@@ -1,0 +1,88 @@
+//! Runs the rows of data files. `docs/ROWS.md` has their form.
+#![tactic(auto)]
+
+mod calls;
+mod escapes;
+mod expected;
+mod limiters;
+mod lines;
+mod maps;
+mod plain;
+mod random;
+mod report;
+mod row;
+mod streams;
+mod table;
+mod trials;
+
+use row::Row;
+use std::rt::{Env, Files};
+use std::{env, fs, io};
+
+/// How many rows hold, and how many fail.
+#[derive(Clone, Copy, Default)]
+struct Count {
+    hold: u64,
+    fail: u64,
+}
+
+impl Count {
+    fn add(&mut self, holds: bool) {
+        if holds {
+            self.hold = self.hold.saturating_add(1);
+        } else {
+            self.fail = self.fail.saturating_add(1);
+        }
+    }
+}
+
+/// Checks the row, if there is one.
+fn check(
+    rt: &(impl Print + AllocGlobal),
+    file: &str,
+    row: &mut Option<Row>,
+    count: &mut Count,
+) -> io::Result<()> {
+    if let Some(row) = row.take() {
+        let holds = if row.input.starts_with(b"map ") {
+            maps::holds(rt, file, &row)?
+        } else {
+            lines::holds(rt, file, &row)?
+        };
+        count.add(holds);
+    }
+    Ok(())
+}
+
+/// Checks the rows of a file. A blank line ends a row, and a line that begins with `#` is a comment.
+fn check_file(
+    rt: &(impl Files + Print + AllocGlobal),
+    file: &str,
+    count: &mut Count,
+) -> io::Result<()> {
+    let text = fs::read_to_string(rt, file)?;
+    let mut row = None;
+    for line in text.lines() {
+        if line.is_empty() {
+            check(rt, file, &mut row, count)?;
+        } else if let Some(name) = line.strip_prefix("row ") {
+            check(rt, file, &mut row, count)?;
+            row = Some(Row::new(rt.alloc(), name)?);
+        } else if !line.starts_with('#') {
+            match &mut row {
+                Some(row) => row.add(rt.alloc(), line)?,
+                None => return Err(row::malformed()),
+            }
+        }
+    }
+    check(rt, file, &mut row, count)
+}
+
+fn main(rt: HostRuntime) -> io::Result<()> {
+    let mut count = Count::default();
+    for file in env::args(&rt)?.skip(1) {
+        check_file(&rt, file.as_str(), &mut count)?;
+    }
+    println!(rt; "{} rows hold, {} fail", count.hold, count.fail)?;
+    trials::run(&rt)
+}

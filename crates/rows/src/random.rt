@@ -1,0 +1,61 @@
+//! Random calls.
+use crate::expected::sum_of_bytes;
+use lru_replay::Call;
+use test_helpers::Random;
+
+/// A hash whose top 7 bits are those of no key.
+const OTHER_TAG: u64 = 1 << 57;
+
+/// How calls are drawn.
+#[derive(Clone, Copy)]
+pub struct Bounds {
+    /// Keys are below this.
+    pub keys: u64,
+    /// Values are below this.
+    pub values: u64,
+    /// Whether each call has a line of the program.
+    pub only_lines: bool,
+}
+
+/// A random call. Half of all calls insert, and few take all pairs out, so that the map is mostly full.
+pub fn random_call<L>(random: &mut Random, bounds: Bounds) -> Call<u64, u64, L> {
+    let (key, value) = (random.below(bounds.keys), random.below(bounds.values));
+    match random.below(4096) {
+        0..=1 => Call::Clear,
+        2..=3 => Call::Drain {
+            front: random.below(bounds.keys) as usize,
+            back: if bounds.only_lines {
+                0
+            } else {
+                random.below(bounds.keys) as usize
+            },
+        },
+        4..=15 => Call::List,
+        16..=31 => Call::Stats,
+        32..=63 => Call::Shrink,
+        64..=191 => Call::Reserve(random.below(100) as usize),
+        192..=319 => Call::PopOldest,
+        320..=447 => Call::PopNewest,
+        448..=703 => Call::Remove(key),
+        704..=1215 => Call::Peek(key),
+        1216..=1727 => Call::Get(key),
+        1728..=2047 if !bounds.only_lines => other_call(random, key, value),
+        2048..=3071 => Call::InsertWith(key, value),
+        _ => Call::Insert(key, value),
+    }
+}
+
+/// A random call that has no line.
+fn other_call<L>(random: &mut Random, key: u64, value: u64) -> Call<u64, u64, L> {
+    let hash = sum_of_bytes(key);
+    match random.below(8) {
+        0 => Call::PeekOldest,
+        1 => Call::PeekNewest,
+        2 => Call::GetByHash(hash.wrapping_add(OTHER_TAG), key),
+        3 => Call::PeekByHash(hash.wrapping_add(OTHER_TAG), key),
+        4 => Call::GetByHash(hash, key),
+        5 => Call::PeekByHash(hash, key),
+        6 => Call::Write(key, value),
+        _ => Call::GetOrInsert(key, value),
+    }
+}

@@ -1,0 +1,134 @@
+//! How often an insert and a look-up call what they were given: hashers, callbacks and closures.
+ghost use Rattle.std.specs.Prelude.{◌≡◌};
+ghost use Rattle.lru_limits.specs.Limiters.{no_rules};
+
+use schnellru::{ByLength, Limiter, LruMap, Storing, UnlimitedCompact};
+use std::alloc::{AllocError, Global};
+use std::cell::Cell;
+use std::rc::Rc;
+use std::test::Fail;
+use test_helpers::{Counted, Sum, get, insert};
+
+type Map<'a> = LruMap<u64, u64, UnlimitedCompact, Counted<'a, Sum>>;
+
+/// How many hashers a call builds beyond one for its key and one for each pair that it moves, as the report counts them.
+fn surplus(map: &mut Map, builds: &Cell<u64>, key: u64) -> Result<u64, AllocError> {
+    let (before, moved) = (builds.get(), map.move_report().moved);
+    insert(map, key)?;
+    let needed = map.move_report().moved.wrapping_sub(moved).wrapping_add(1);
+    Ok(builds.get().wrapping_sub(before).wrapping_sub(needed))
+}
+
+/// The report counts each move, and nothing moves that it does not count: in growth, and in rehashes, to which removals
+/// lead if the keys lie next to one another.
+#[test]
+fn a_hasher_is_built_for_each_key_that_moves(rt: HostRuntime) -> Result<(), Fail> {
+    let builds = Cell::new(0u64);
+    let hasher = Counted {
+        state: Sum(0),
+        builds: &builds,
+    };
+    let mut map: Map = LruMap::with_hasher(rt.alloc(), UnlimitedCompact, hasher, 16);
+    let mut moved_without_growth = 0u64;
+    for key in 0..2000u64 {
+        let (bytes, moved) = (map.memory_usage(), map.move_report().moved);
+        assert_eq!(rt; surplus(&mut map, &builds, key)?, 0, "{key}");
+        if bytes == map.memory_usage() && moved < map.move_report().moved {
+            moved_without_growth = moved_without_growth.saturating_add(1);
+        }
+        if key >= 40 {
+            map.remove(&key.wrapping_sub(40));
+        }
+    }
+    assert!(rt; moved_without_growth > 0);
+    let before = builds.get();
+    assert!(rt; insert(&mut map, 1990)? && get(&mut map, 1991).is_some());
+    assert!(rt; map.peek(&1992).is_some() && map.remove(&1993).is_some());
+    assert_eq!(rt; builds.get().wrapping_sub(before), 4);
+    Ok(())
+}
+
+/// Limits nothing, and counts how often it is asked. When the map is cleared it counts the values that live.
+#[derive(Drop)]
+struct Asked<'a> {
+    asked: &'a Cell<u64>,
+    value: &'a Rc<u64>,
+    lives: &'a Cell<usize>,
+}
+
+impl Limiter<u64, Rc<u64>> for Asked<'_> {
+    type LinkType = u32;
+
+    ghost rules = { no_rules };
+
+    fn is_over_the_limit(&self, _length: usize) -> bool {
+        self.asked.set(self.asked.get().saturating_add(1));
+        false
+    }
+
+    fn on_removed(&mut self, _key: &mut u64, _value: &mut Rc<u64>) {}
+
+    fn on_cleared(&mut self) {
+        self.lives.set(Rc::strong_count(self.value));
+    }
+
+    fn on_grow(&mut self, _new_memory_usage: usize) -> bool {
+        true
+    }
+}
+
+fn new_map<'a>(
+    alloc: Global,
+    asked: &'a Cell<u64>,
+    value: &'a Rc<u64>,
+    lives: &'a Cell<usize>,
+) -> LruMap<u64, Rc<u64>, Storing<Asked<'a>>> {
+    let limiter = Asked {
+        asked,
+        value,
+        lives,
+    };
+    LruMap::new(alloc, Storing(limiter), [1, 2, 3, 4], 16)
+}
+
+/// An insert of a new key asks once after it placed the pair, and once before if there are pairs. One of a key that is
+/// there asks once. A clear is reported after the values were dropped.
+#[test]
+fn the_limiter_is_asked_once(rt: HostRuntime) -> Result<(), Fail> {
+    let (asked, lives, value) = (Cell::new(0), Cell::new(0), Rc::new(rt.alloc(), 0u64)?);
+    let mut map = new_map(rt.alloc(), &asked, &value, &lives);
+    for (key, wanted) in [(1u64, 1u64), (2, 3), (3, 5), (2, 6), (4, 8)] {
+        assert!(rt; map.insert(key, value.clone()?)?);
+        assert_eq!(rt; asked.get(), wanted, "{key}");
+    }
+    let other = value.clone()?;
+    assert!(rt; map.ensure_newest(1, move || other)? && map.remove(&2).is_some());
+    assert_eq!(rt; asked.get(), 8);
+    map.clear();
+    assert_eq!(rt; (lives.get(), asked.get()), (1, 8));
+    Ok(())
+}
+
+/// The closure of a get that inserts is called once for a key that is not there, and never for one that is.
+#[test]
+fn a_closure_is_called_for_a_new_key_alone(rt: HostRuntime) -> Result<(), Fail> {
+    let calls = Cell::new(0u64);
+    let call = |n: u64| {
+        calls.set(calls.get().saturating_add(1));
+        n.wrapping_mul(10)
+    };
+    let mut map: LruMap<u64, u64> = LruMap::new(rt.alloc(), ByLength::new(3), [1, 2, 3, 4], 16);
+    let mut sum = 0u64;
+    for key in [1u64, 2, 1, 3, 2, 3] {
+        sum = sum.wrapping_add(map.get_or_insert(key, || call(key))?.copied().unwrap_or(0));
+        let lent = map.get_or_insert_fallible(key, || Ok::<u64, u64>(call(key)));
+        sum = sum.wrapping_add(lent.ok().flatten().copied().unwrap_or(0));
+        assert!(rt; map.ensure_newest(key, || call(key))?);
+        assert!(rt;
+            map.ensure_newest_fallible(key, || Ok::<u64, u64>(call(key)))
+                .is_ok()
+        );
+    }
+    assert_eq!(rt; (sum, calls.get()), (240, 3));
+    Ok(())
+}

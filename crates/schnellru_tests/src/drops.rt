@@ -1,0 +1,136 @@
+//! Each key and each value is dropped once: none twice, and none is forgotten. No clause says when a value is dropped.
+use super::live::{Live, Lives};
+use schnellru::{
+    ByCost, ByLength, ByMemoryUsage, Insertion, Limiter, LruMap, Storing, Unlimited,
+    UnlimitedCompact,
+};
+use std::alloc::{AllocError, Global};
+use std::process::Abort;
+use std::test::Fail;
+use test_helpers::Random;
+
+type Map<'a, L> = LruMap<Live<'a>, Live<'a>, L>;
+
+/// Drops the value, and fails.
+fn fails(_value: Live<'_>) -> Result<Live<'_>, u8> {
+    Err(0)
+}
+
+/// Makes a random call that inserts. Each closure owns its value, also if it is not called, or fails.
+fn random_insert<'a, L: Insertion<Live<'a>, Live<'a>, Live<'a>>>(
+    map: &mut Map<'a, L>,
+    random: &mut Random,
+    lives: &'a Lives,
+) -> Result<(), AllocError> {
+    let (key, value) = (lives.key(random.below(40)), lives.value(random.below(12)));
+    match random.below(7) {
+        0 => drop(map.insert(key, value)?),
+        1 => drop(map.insert_with(key, value, &mut |key, value| drop((key, value)))?),
+        2 => drop(map.get_or_insert(key, move || value)?.is_some()),
+        3 => drop(
+            map.get_or_insert_fallible(key, move || Ok::<Live, u8>(value))
+                .is_ok(),
+        ),
+        4 => drop(map.ensure_newest(key, move || value)?),
+        5 => drop(
+            map.ensure_newest_fallible(key, move || Ok::<Live, u8>(value))
+                .is_ok(),
+        ),
+        _ => drop(
+            map.ensure_newest_fallible(key, move || fails(value))
+                .is_ok(),
+        ),
+    }
+    Ok(())
+}
+
+/// Makes another random call, and drops what it returns.
+fn random_call<'a, L: Limiter<Live<'a>, Live<'a>> + Clone + Drop>(
+    map: &mut Map<'a, L>,
+    random: &mut Random,
+    lives: &'a Lives,
+) {
+    let key = lives.key(random.below(40));
+    match random.below(40) {
+        0 => map.clear(),
+        1 => drop(map.drain().next()),
+        2 => drop(map.drain().next_back()),
+        3..=5 => drop(map.shrink_to_fit().is_ok()),
+        6..=9 => drop(map.try_reserve(random.below(60) as usize).is_ok()),
+        10..=13 => {
+            lives.clones.set(random.below(40));
+            drop(map.clone());
+        }
+        14..=20 => drop(map.remove(&key)),
+        21..=24 => drop(map.pop_oldest()),
+        25..=28 => drop(map.pop_newest()),
+        _ => if let Some(value) = map.get(&key) {
+            *value = lives.value(random.below(12));
+        },
+    }
+}
+
+/// Makes random calls on a map. After each the keys and values that live are those of the map.
+fn balances<'a, L: Insertion<Live<'a>, Live<'a>, Live<'a>> + Clone + Drop>(
+    alloc: Global,
+    limiter: L,
+    lives: &'a Lives,
+) -> Result<bool, AllocError> {
+    let mut random = Random::new(1);
+    let mut map = LruMap::new(alloc, limiter, [1, 2, 3, 4], 16);
+    for _ in 0..20_000u32 {
+        if random.below(3) == 0 {
+            random_call(&mut map, &mut random, lives);
+        } else {
+            random_insert(&mut map, &mut random, lives)?;
+        }
+        let len = map.len() as u64;
+        if lives.keys.get() != len || lives.values.get() != len {
+            return Ok(false);
+        }
+    }
+    Ok(true)
+}
+
+fn expect_balance<'a, L: Insertion<Live<'a>, Live<'a>, Live<'a>> + Clone + Drop>(
+    rt: &(impl Abort + AllocGlobal),
+    limiter: L,
+    lives: &'a Lives,
+) -> Result<(), Fail> {
+    assert!(rt; balances(rt.alloc(), limiter, lives)?);
+    assert_eq!(rt; (lives.keys.get(), lives.values.get()), (0, 0));
+    Ok(())
+}
+
+#[test]
+fn keys_and_values_are_dropped_once(rt: HostRuntime) -> Result<(), Fail> {
+    let lives = Lives::new();
+    expect_balance(&rt, ByLength::new(20), &lives)?;
+    expect_balance(&rt, ByLength::new(0), &lives)?;
+    expect_balance(&rt, ByMemoryUsage::new(560), &lives)?;
+    expect_balance(&rt, ByMemoryUsage::new(83), &lives)?;
+    expect_balance(&rt, ByCost::new(10), &lives)?;
+    expect_balance(&rt, Unlimited, &lives)?;
+    expect_balance(&rt, UnlimitedCompact, &lives)?;
+    expect_balance(&rt, Storing(ByLength::new(3)), &lives)
+}
+
+/// A drain that is forgotten leaves the rest in the map, and the map drops it.
+#[test]
+fn a_forgotten_drain_leaves_the_rest(rt: HostRuntime) -> Result<(), Fail> {
+    let lives = Lives::new();
+    let mut map: Map<ByLength> = LruMap::new(rt.alloc(), ByLength::new(9), [1, 2, 3, 4], 16);
+    for n in 0..3u64 {
+        map.insert(lives.key(n), lives.value(n))?;
+    }
+    let mut drain = map.drain();
+    drop(drain.next_back());
+    std::mem::forget(drain);
+    assert_eq!(rt;
+        (map.len(), lives.keys.get(), lives.values.get()),
+        (2, 2, 2)
+    );
+    drop(map);
+    assert_eq!(rt; (lives.keys.get(), lives.values.get()), (0, 0));
+    Ok(())
+}

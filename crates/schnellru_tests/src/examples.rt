@@ -1,0 +1,261 @@
+//! The examples of the README and of the public items' documents.
+use schnellru::{
+    ByLength, ByMemoryUsage, GetOrInsertError, LruMap, MoveReport, RandomState, ReserveError,
+    Unlimited, UnlimitedCompact,
+};
+use std::alloc::{AllocError, Global};
+use std::hash::BuildHasher;
+use std::test::Fail;
+
+/// A map of the pairs (1, 10), (2, 20) and (3, 30), and of at most three pairs.
+fn three(alloc: Global) -> Result<LruMap<u64, u64>, AllocError> {
+    let mut map = LruMap::new(alloc, ByLength::new(3), [1, 2, 3, 4], 16);
+    for n in 1..=3u64 {
+        map.insert(n, n.wrapping_mul(10))?;
+    }
+    Ok(map)
+}
+
+#[test]
+fn of_the_map(rt: HostRuntime) -> Result<(), Fail> {
+    let alloc = rt.alloc();
+    let mut map = LruMap::new(alloc, ByLength::new(2), [1, 2, 3, 4], 32);
+    map.insert(1, 10)?;
+    map.insert(2, 20)?;
+    map.get(&1);
+    map.insert(3, 30)?;
+    assert!(rt; map.peek(&2).is_none());
+    Ok(())
+}
+
+#[test]
+fn of_the_constructors(rt: HostRuntime) -> Result<(), Fail> {
+    let alloc = rt.alloc();
+    let map: LruMap<u64, u32> = LruMap::with_hasher(
+        alloc,
+        ByLength::new(3),
+        RandomState::default(),
+        32,
+    );
+    assert!(rt; map.is_empty() && map.memory_usage() == 0);
+    let mut map: LruMap<u64, u64, ByMemoryUsage> = LruMap::with_memory_budget(
+        alloc,
+        84,
+        [1, 2, 3, 4],
+        16,
+    );
+    for n in 1..=4 {
+        map.insert(n, n)?;
+    }
+    assert!(rt; map.len() == 3 && map.memory_usage() == 84 && map.peek(&1).is_none());
+    let usage = LruMap::<u64, u64, UnlimitedCompact>::memory_usage_for_memory_budget(512, 16);
+    assert_eq!(rt; usage, 288);
+    Ok(())
+}
+
+#[test]
+fn of_inserts_and_the_limiter(rt: HostRuntime) -> Result<(), Fail> {
+    let mut map = three(rt.alloc())?;
+    assert!(rt; map.insert(1, 10)?);
+    assert!(rt; map.insert(1, 20)?);
+    assert_eq!(rt; map.peek(&1), Some(&20));
+    *map.limiter_mut() = ByLength::new(1);
+    assert_eq!(rt; map.len(), 3);
+    map.insert(4, 40)?;
+    assert_eq!(rt; map.len(), 1);
+    Ok(())
+}
+
+#[test]
+fn of_inserts_that_hand_over(rt: HostRuntime) -> Result<(), Fail> {
+    let mut map = three(rt.alloc())?;
+    let mut left = None;
+    map.insert_with(4, 40, &mut |key, value| left = Some((key, value)))?;
+    assert_eq!(rt; left, Some((1, 10)));
+    Ok(())
+}
+
+#[test]
+fn of_look_ups_and_removals(rt: HostRuntime) -> Result<(), Fail> {
+    let mut map = three(rt.alloc())?;
+    assert_eq!(rt; map.remove(&1), Some(10));
+    assert_eq!(rt; map.remove(&1), None);
+    map.insert(1, 10)?;
+    map.insert(2, 20)?;
+    if let Some(value) = map.get(&1) {
+        *value = 100;
+    }
+    assert!(rt; map.peek_newest() == Some((&1, &100)));
+    Ok(())
+}
+
+#[test]
+fn of_reservations_and_what_they_make_room_for(rt: HostRuntime) -> Result<(), Fail> {
+    let mut map: LruMap<u64, u64, UnlimitedCompact> = LruMap::default(rt.alloc());
+    assert_eq!(rt; map.try_reserve(7), Ok(()));
+    assert_eq!(rt; (map.guaranteed_capacity(), map.len()), (7, 0));
+    assert_eq!(rt; map.get_or_insert(1, || 10)?.copied(), Some(10));
+    assert_eq!(rt; map.get_or_insert(1, || 20)?.copied(), Some(10));
+    if map.ensure_newest(1, || 0)? {
+        if let Some(count) = map.newest_mut() {
+            *count = count.saturating_add(1);
+        }
+    }
+    assert_eq!(rt; map.peek(&1), Some(&11));
+    Ok(())
+}
+
+#[test]
+fn of_walks(rt: HostRuntime) -> Result<(), Fail> {
+    let mut map = three(rt.alloc())?;
+    let mut total = 0u64;
+    for (key, value) in &map {
+        total = total.wrapping_add(key.wrapping_mul(*value));
+    }
+    let mut sum = 0u64;
+    for (key, value) in map.drain() {
+        sum = sum.wrapping_add(key.wrapping_mul(value));
+    }
+    assert!(rt; map.is_empty());
+    assert_eq!(rt; (total, sum), (140, 140));
+    Ok(())
+}
+
+#[test]
+fn of_both_ends(rt: HostRuntime) -> Result<(), Fail> {
+    let mut map = three(rt.alloc())?;
+    assert_eq!(rt;
+        map.move_report(),
+        MoveReport {
+            moved: 0,
+            placed: 3,
+            shrunk: 0
+        }
+    );
+    assert!(rt; map.peek_key_value(&1) == Some((&1, &10)));
+    assert!(rt; map.peek_key_value(&4).is_none());
+    assert!(rt; map.peek_oldest() == Some((&1, &10)));
+    assert!(rt; map.peek_newest() == Some((&3, &30)));
+    assert_eq!(rt; map.pop_oldest(), Some((1, 10)));
+    assert_eq!(rt; map.pop_newest(), Some((3, 30)));
+    map.clear();
+    assert_eq!(rt; (map.len(), map.guaranteed_capacity()), (0, 3));
+    Ok(())
+}
+
+#[test]
+fn of_values_that_are_written(rt: HostRuntime) -> Result<(), Fail> {
+    let mut map = three(rt.alloc())?;
+    let mut walk = map.iter_mut();
+    if let Some((_, value)) = walk.next() {
+        *value = 300;
+    }
+    if let Some((_, value)) = walk.next_back() {
+        *value = 100;
+    }
+    assert_eq!(rt; walk.len(), 1);
+    drop(walk);
+    assert!(rt; map.peek_newest() == Some((&3, &300)));
+    assert!(rt; map.peek_oldest() == Some((&1, &100)));
+    if let Some(value) = map.peek_mut(&1) {
+        *value = 10;
+    }
+    assert!(rt; map.peek_oldest() == Some((&1, &10)));
+    let mut copy = map.clone()?;
+    assert_eq!(rt; copy.remove(&1), Some(10));
+    assert_eq!(rt; (copy.len(), map.len()), (2, 3));
+    Ok(())
+}
+
+/// The map has the seeds of the default hasher.
+#[test]
+fn of_searches_by_a_hash(rt: HostRuntime) -> Result<(), Fail> {
+    let mut map = three(rt.alloc())?;
+    let hash = RandomState::default().hash_one(&1u64);
+    assert_eq!(rt;
+        map.get_by_hash(hash, |key, _| *key == 1).copied(),
+        Some(10)
+    );
+    assert!(rt; map.peek_newest() == Some((&1, &10)));
+    assert_eq!(rt;
+        map.peek_by_hash(hash, |_, value| *value == 10).copied(),
+        Some(10)
+    );
+    if let Some(value) = map.peek_by_hash_mut(hash, |key, _| *key == 1) {
+        *value = 100;
+    }
+    assert_eq!(rt; map.peek(&1), Some(&100));
+    Ok(())
+}
+
+#[test]
+fn of_seeds(rt: HostRuntime) -> Result<(), Fail> {
+    let alloc = rt.alloc();
+    let mut map: LruMap<u64, u64> = LruMap::with_seed(alloc, ByLength::new(3), [5, 6, 7, 8], 16);
+    map.insert(1, 10)?;
+    let hash = RandomState::with_seeds([5, 6, 7, 8]).hash_one(&1u64);
+    assert_eq!(rt;
+        map.peek_by_hash(hash, |key, _| *key == 1).copied(),
+        Some(10)
+    );
+    Ok(())
+}
+
+#[test]
+fn of_refused_reservations(rt: HostRuntime) {
+    let alloc = rt.alloc();
+    let mut map: LruMap<u64, u64, Unlimited> = LruMap::new(alloc, Unlimited, [1, 2, 3, 4], 16);
+    assert_eq!(rt; map.try_reserve(usize::MAX), Err(ReserveError::TooLarge));
+    assert_eq!(rt; map.try_reserve(1 << 50), Err(ReserveError::Memory));
+    let mut map: LruMap<u64, u64, ByMemoryUsage> = LruMap::with_memory_budget(
+        alloc,
+        84,
+        [1, 2, 3, 4],
+        16,
+    );
+    assert_eq!(rt; map.try_reserve(4), Err(ReserveError::Refused));
+}
+
+#[test]
+fn of_closures_that_may_fail(rt: HostRuntime) -> Result<(), Fail> {
+    let mut map = three(rt.alloc())?;
+    let answer = map.ensure_newest_fallible(4, || Err(7u8));
+    assert_eq!(rt; answer, Err(GetOrInsertError::Caller(7)));
+    assert!(rt; map.ensure_newest_fallible(4, || Err(7u8)).is_err());
+    assert!(rt; map.peek(&4).is_none());
+    assert!(rt; map.ensure_newest_fallible(4, || Ok::<u64, u8>(40))?);
+    assert!(rt; map.peek_newest() == Some((&4, &40)));
+    assert!(rt; map.get_or_insert_fallible(5, || Err(7u8)).is_err());
+    assert!(rt; map.peek(&5).is_none());
+    assert_eq!(rt;
+        map.get_or_insert_fallible(5, || Ok::<u64, u8>(50))?
+            .copied(),
+        Some(50)
+    );
+    Ok(())
+}
+
+/// The number of bits set in a number, from a map of the last three numbers that were asked for.
+fn ones_of(map: &mut LruMap<u64, u32>, number: u64) -> Result<u32, AllocError> {
+    if let Some(ones) = map.get(&number) {
+        return Ok(*ones);
+    }
+    let ones = number.count_ones();
+    map.insert(number, ones)?;
+    Ok(ones)
+}
+
+/// Asks for 1, 2, 3, 1 and 4: then 2 is the one that was evicted.
+fn keeps_the_last_asked(alloc: Global) -> Result<bool, AllocError> {
+    let mut map = LruMap::new(alloc, ByLength::new(3), [1, 2, 3, 4], 24);
+    for number in [1, 2, 3, 1, 4] {
+        ones_of(&mut map, number)?;
+    }
+    Ok(map.peek(&1).is_some() && map.peek(&2).is_none() && map.len() == 3)
+}
+
+#[test]
+fn of_the_readme(rt: HostRuntime) -> Result<(), Fail> {
+    assert!(rt; keeps_the_last_asked(rt.alloc())?);
+    Ok(())
+}

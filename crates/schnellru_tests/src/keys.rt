@@ -1,0 +1,62 @@
+//! `String` keys: looked up by texts, and made of texts when they are stored. How often the limiter makes a key, no
+//! contract of the map says.
+use schnellru::LruMap;
+use std::alloc::{AllocError, Global};
+use std::test::Fail;
+use test_helpers::{Counting, InsertKey};
+
+/// A map of texts, under a limiter that counts the keys that it makes of texts.
+pub(super) type Texts = LruMap<String, u32, Counting>;
+
+/// Whether the keys are these, newest first.
+pub(super) fn has_keys(map: &Texts, keys: &[&str]) -> bool {
+    map.len() == keys.len()
+        && map
+            .iter()
+            .zip(keys)
+            .all(|((key, _), text)| key.as_str() == *text)
+}
+
+/// A map of these texts, the last one newest.
+pub(super) fn texts_of(alloc: Global, texts: &[&str]) -> Result<Texts, AllocError> {
+    let mut map: Texts = LruMap::new(alloc, Counting::default(), [1, 2, 3, 4], 16);
+    for text in texts {
+        map.insert(InsertKey(text), 1)?;
+    }
+    Ok(map)
+}
+
+#[test]
+fn a_text_becomes_a_key_once(rt: HostRuntime) -> Result<(), Fail> {
+    let map = texts_of(rt.alloc(), &["1", "2", "1"])?;
+    assert!(rt; has_keys(&map, &["1", "2"]));
+    assert_eq!(rt; (map.limiter().inserts, map.limiter().replacements), (2, 1));
+    Ok(())
+}
+
+#[test]
+fn look_ups_by_texts(rt: HostRuntime) -> Result<(), Fail> {
+    let alloc = rt.alloc();
+    let mut map: Texts = LruMap::new(alloc, Counting::default(), [1, 2, 3, 4], 16);
+    for (key, value) in [("1", 1), ("2", 2), ("3", 3)] {
+        assert!(rt; map.insert(String::from_str(alloc, key)?, value)?);
+    }
+    assert_eq!(rt;
+        (map.peek(&"2").copied(), map.get(&"2").copied()),
+        (Some(2), Some(2))
+    );
+    for (key, value, lent) in [("2", 20, 2), ("4", 40, 40)] {
+        let key = String::from_str(alloc, key)?;
+        assert_eq!(rt; map.get_or_insert(key, || value)?.copied(), Some(lent));
+    }
+    for (key, value, lent) in [("2", 200, 2), ("6", 6, 6)] {
+        assert_eq!(rt;
+            map.get_or_insert(InsertKey(key), || value)?.copied(),
+            Some(lent)
+        );
+    }
+    assert!(rt; has_keys(&map, &["6", "2", "4", "3", "1"]));
+    assert_eq!(rt; (map.remove(&"3"), map.remove(&"7")), (Some(3), None));
+    assert_eq!(rt; (map.limiter().inserts, map.limiter().replacements), (1, 0));
+    Ok(())
+}

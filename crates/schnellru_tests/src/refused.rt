@@ -1,0 +1,371 @@
+//! Calls whose requests for memory are refused in turn, until one is met. No clause says that memory is there, or how
+//! much a call takes. What a refused call leaves is a clause; these tests show it for each request.
+use super::keys::{has_keys, texts_of};
+use schnellru::{GetOrInsertError, Insertion, LruMap, ReserveError, Storing, UnlimitedCompact};
+use std::alloc::{AllocError, Global};
+use std::hash::BuildHasher;
+use std::process::Abort;
+use std::test::Fail;
+use test_helpers::{
+    Hog, InsertKey, LastByte, OF_HASH_28, Within, counts_down, figures, get, insert, insert_all,
+    is_list, map_of, remove_all, report, three_costs,
+};
+
+/// The bytes of a first table of 4 buckets with entries of 24 bytes: its control bytes, 16 more, and its entries.
+const FIRST_TABLE: [usize; 2] = [20, 96];
+
+/// Of a table of 16 buckets, and of the links of the 8 before.
+const GROWTH: [usize; 3] = [32, 384, 32];
+
+/// Of the links of 32 buckets, and of fresh control bytes for them.
+const REHASH: [usize; 2] = [128, 48];
+
+/// Of a table of 8 buckets, and of the links of the 32 before.
+const SHRINK: [usize; 3] = [24, 192, 128];
+
+/// A call that may take memory.
+#[derive(Clone, Copy)]
+enum Taking {
+    Insert,
+    InsertWith,
+    GetOrInsert,
+    GetOrInsertFallible,
+    EnsureNewest,
+    EnsureNewestFallible,
+    Reserve(usize),
+    Shrink,
+}
+
+const INSERTS: [Taking; 6] = [
+    Taking::Insert,
+    Taking::InsertWith,
+    Taking::GetOrInsert,
+    Taking::GetOrInsertFallible,
+    Taking::EnsureNewest,
+    Taking::EnsureNewestFallible,
+];
+
+/// Makes the call, with this pair if it inserts one, and returns whether it ran out of memory.
+fn is_refused<L: Insertion<u64, u64, u64>, S: BuildHasher>(
+    map: &mut LruMap<u64, u64, L, S>,
+    call: Taking,
+    (key, value): (u64, u64),
+) -> bool {
+    match call {
+        Taking::Insert => map.insert(key, value).is_err(),
+        Taking::InsertWith => {
+            let mut passed = None;
+            let answer = map.insert_with(key, value, &mut |key, value| passed = Some((key, value)));
+            answer.is_err() && passed == Some((key, value))
+        }
+        Taking::GetOrInsert => map.get_or_insert(key, || value).is_err(),
+        Taking::GetOrInsertFallible => is_memory(
+            &map.get_or_insert_fallible(key, || Ok(value)).err(),
+        ),
+        Taking::EnsureNewest => map.ensure_newest(key, || value).is_err(),
+        Taking::EnsureNewestFallible => is_memory(
+            &map.ensure_newest_fallible(key, || Ok(value)).err(),
+        ),
+        Taking::Reserve(n) => map.try_reserve(n) == Err(ReserveError::Memory),
+        Taking::Shrink => map.shrink_to_fit().is_err(),
+    }
+}
+
+fn is_memory(error: &Option<GetOrInsertError<u8>>) -> bool {
+    matches!(error, Some(GetOrInsertError::Memory))
+}
+
+/// The number of pairs with the capacity and the bytes of the table, and how many entries inserts moved and placed.
+type Figures = ((usize, usize, usize), (u64, u64));
+
+/// A call on a map, with the requests that it makes, and what is expected.
+#[derive(Clone, Copy)]
+struct Case<'a> {
+    /// The bytes of the greatest table that the limiter permits.
+    most: usize,
+    /// The pairs 1 to `len` are inserted, and then `removed` is removed.
+    len: u64,
+    removed: (u64, u64),
+    call: Taking,
+    pair: (u64, u64),
+    requests: &'a [usize],
+    /// The newest and the oldest number of the pairs that stay after each refusal.
+    stay: (u64, u64),
+    refused: Figures,
+    met: Figures,
+    /// How many pairs the limiter was told of, and how often it was asked, after each refusal and after the call that
+    /// is met.
+    told: &'a [(u32, u32)],
+}
+
+/// What is found after each try: whether it was refused and the pairs stay, the figures, and what the limiter was told.
+type Found = Vec<(bool, Figures, (u32, u32))>;
+
+/// Makes the call while each request in turn is refused, and then once with memory. Returns nothing if memory has no
+/// end.
+fn refuse_each<S: BuildHasher>(
+    alloc: Global,
+    map: &mut LruMap<u64, u64, Storing<Within>, S>,
+    case: Case,
+) -> Result<Option<Found>, AllocError> {
+    insert_all(map, 1..=case.len)?;
+    remove_all(map, case.removed.0..=case.removed.1);
+    let mut found = Vec::with_capacity(alloc, case.requests.len().saturating_add(1))?;
+    let mut hog = Hog::new(alloc, case.requests)?;
+    for _ in 0..=case.requests.len() {
+        let refused = is_refused(map, case.call, case.pair);
+        let stays = counts_down(map, case.stay.0, case.stay.1);
+        let limiter = map.limiter().0;
+        let told = (limiter.removed, limiter.asked);
+        found.push((refused && stays, (figures(map), report(map)), told))?;
+        hog.release();
+    }
+    Ok(if hog.took_all() { Some(found) } else { None })
+}
+
+fn expect<S: BuildHasher>(
+    rt: &(impl Abort + AllocGlobal),
+    map: &mut LruMap<u64, u64, Storing<Within>, S>,
+    case: Case,
+) -> Result<(), Fail> {
+    let Some(found) = refuse_each(rt.alloc(), map, case)? else {
+        return Ok(());
+    };
+    let mut expected = Vec::new(rt.alloc());
+    for (i, told) in case.told.iter().enumerate() {
+        let is_refused = i < case.requests.len();
+        let figures = if is_refused { case.refused } else { case.met };
+        expected.push((is_refused, figures, *told))?;
+    }
+    assert_eq!(rt; found, expected);
+    Ok(())
+}
+
+/// A first table, and a growth: the limiter is asked and told of the new pair each time.
+#[test]
+fn inserts_that_need_a_table(rt: HostRuntime) -> Result<(), Fail> {
+    for call in INSERTS {
+        let first = Case {
+            most: 84,
+            len: 0,
+            removed: (1, 0),
+            call,
+            pair: (1, 10),
+            requests: &FIRST_TABLE,
+            stay: (0, 1),
+            refused: ((0, 0, 0), (0, 0)),
+            met: ((1, 3, 84), (0, 1)),
+            told: &[(1, 1), (2, 2), (2, 3)],
+        };
+        let growth = Case {
+            most: 288,
+            len: 7,
+            pair: (8, 80),
+            requests: &GROWTH,
+            stay: (7, 1),
+            refused: ((7, 7, 152), (3, 7)),
+            met: ((8, 14, 288), (10, 8)),
+            told: &[(1, 3), (2, 4), (3, 5), (3, 6)],
+            ..first
+        };
+        for case in [first, growth] {
+            let limiter = Storing(Within::new(case.most));
+            expect(&rt, &mut map_of(rt.alloc(), limiter), case)?;
+        }
+    }
+    Ok(())
+}
+
+/// A rehash after a refused growth: the oldest 15 pairs are evicted before it, once, and the limiter is not asked again.
+#[test]
+fn inserts_that_need_a_rehash(rt: HostRuntime) -> Result<(), Fail> {
+    for call in INSERTS {
+        let case = Case {
+            most: 560,
+            len: 28,
+            removed: (1, 0),
+            call,
+            pair: (OF_HASH_28, 0),
+            requests: &REHASH,
+            stay: (28, 16),
+            refused: ((13, 13, 560), (24, 28)),
+            met: ((14, 28, 560), (37, 29)),
+            told: &[(16, 5), (17, 5), (17, 5)],
+        };
+        let limiter = Storing(Within::new(case.most));
+        let mut map = LruMap::with_hasher(rt.alloc(), limiter, LastByte(0), 16);
+        expect(&rt, &mut map, case)?;
+    }
+    Ok(())
+}
+
+/// Reservations of a first table, of a larger one and of a rehash, and a shrink. The pairs stay, and of a shrink and of
+/// a rehash the limiter hears nothing.
+#[test]
+fn reservations_and_shrinks(rt: HostRuntime) -> Result<(), Fail> {
+    let first = Case {
+        most: 84,
+        len: 0,
+        removed: (1, 0),
+        call: Taking::Reserve(3),
+        pair: (0, 0),
+        requests: &FIRST_TABLE,
+        stay: (0, 1),
+        refused: ((0, 0, 0), (0, 0)),
+        met: ((0, 3, 84), (0, 0)),
+        told: &[(0, 1), (0, 2), (0, 3)],
+    };
+    let larger = Case {
+        most: 288,
+        len: 7,
+        call: Taking::Reserve(1),
+        requests: &GROWTH,
+        stay: (7, 1),
+        refused: ((7, 7, 152), (3, 7)),
+        met: ((7, 14, 288), (3, 7)),
+        told: &[(0, 3), (0, 4), (0, 5), (0, 6)],
+        ..first
+    };
+    let rehash = Case {
+        most: 560,
+        len: 28,
+        removed: (4, 28),
+        call: Taking::Reserve(6),
+        requests: &REHASH,
+        stay: (3, 1),
+        refused: ((3, 3, 560), (24, 28)),
+        met: ((3, 28, 560), (24, 28)),
+        told: &[(25, 4), (25, 4), (25, 4)],
+        ..first
+    };
+    let shrink = Case {
+        most: 560,
+        len: 15,
+        removed: (1, 10),
+        call: Taking::Shrink,
+        requests: &SHRINK,
+        stay: (15, 11),
+        refused: ((5, 28, 560), (24, 15)),
+        met: ((5, 7, 152), (24, 15)),
+        told: &[(10, 4), (10, 4), (10, 4), (10, 4)],
+        ..first
+    };
+    for case in [first, larger, rehash, shrink] {
+        let limiter = Storing(Within::new(case.most));
+        let mut map = LruMap::with_hasher(rt.alloc(), limiter, LastByte(0), 16);
+        expect(&rt, &mut map, case)?;
+    }
+    Ok(())
+}
+
+/// An account is charged for the new pair, and the charge is taken off if the growth runs out of memory. The links have
+/// 8 bytes, so an entry has 32.
+#[test]
+fn an_account_in_a_growth(rt: HostRuntime) -> Result<(), Fail> {
+    let mut map = three_costs(rt.alloc())?;
+    let mut found = [(false, false, 0u64); 4];
+    let mut hog = Hog::new(rt.alloc(), &[24, 256, 32])?;
+    for n in 0..4usize {
+        let refused = map.insert(4, 4).is_err();
+        let stays = is_list(&map, &[(3, 3), (2, 2), (1, 1)]);
+        found[n] = (refused, stays, map.limiter().cost());
+        hog.release();
+    }
+    let all = hog.took_all();
+    drop(hog);
+    let refused = (true, true, 6);
+    assert!(rt; !all || found == [refused, refused, refused, (false, false, 10)]);
+    Ok(())
+}
+
+/// A limiter that makes a key in fresh memory: its request is refused, and then those of the growth, each time after
+/// the key was made again. If the key is not made the limiter is as before.
+#[test]
+fn keys_that_are_made(rt: HostRuntime) -> Result<(), Fail> {
+    let mut map = texts_of(rt.alloc(), &["1", "2", "3"])?;
+    let mut found = [(false, false, 0u32); 5];
+    let mut hog = Hog::new(rt.alloc(), &[1, 24, 8 * 40, 16])?;
+    for n in 0..5usize {
+        let refused = map.insert(InsertKey("9"), 9).is_err();
+        found[n] = (
+            refused,
+            has_keys(&map, &["3", "2", "1"]),
+            map.limiter().inserts,
+        );
+        hog.release();
+    }
+    let all = hog.took_all();
+    drop(hog);
+    let expected = [
+        (true, true, 3),
+        (true, true, 4),
+        (true, true, 5),
+        (true, true, 6),
+        (false, false, 7),
+    ];
+    assert!(rt; !all || (found == expected && has_keys(&map, &["9", "3", "2", "1"])));
+    Ok(())
+}
+
+/// A copy of three texts takes control bytes, entries, and a byte for each text.
+#[test]
+fn copies(rt: HostRuntime) -> Result<(), Fail> {
+    let map = texts_of(rt.alloc(), &["1", "2", "3"])?;
+    let mut refused = 0u32;
+    let mut hog = Hog::new(rt.alloc(), &[20, 160, 1, 1, 1])?;
+    for _ in 0..5u32 {
+        if map.clone().is_err() {
+            refused = refused.wrapping_add(1);
+        }
+        hog.release();
+    }
+    let is_made = match map.clone() {
+        Ok(copy) => has_keys(&copy, &["3", "2", "1"]),
+        Err(_) => false,
+    };
+    let all = hog.took_all();
+    drop(hog);
+    assert!(rt; !all || (refused == 5 && is_made));
+    assert!(rt; has_keys(&map, &["3", "2", "1"]));
+    Ok(())
+}
+
+/// What calls return while no memory is left.
+fn calls_without_memory<L: Insertion<u64, u64, u64>, S: BuildHasher>(
+    map: &mut LruMap<u64, u64, L, S>,
+) -> bool {
+    let inserted = insert_all(map, 1..=7) == Ok(7) && insert_all(map, 1..=7) == Ok(7);
+    let found = get(map, 3) == Some(30) && map.remove(&3) == Some(30);
+    let back = map.pop_oldest() == Some((1, 10)) && insert(map, 1) == Ok(true);
+    let made = map.get_or_insert(3, || 30).is_ok() && map.ensure_newest(3, || 30) == Ok(true);
+    let enough = map.try_reserve(0) == Ok(()) && map.shrink_to_fit() == Ok(false);
+    let refused = insert(map, 8).is_err() && map.try_reserve(1) == Err(ReserveError::Memory);
+    let too_large = map.try_reserve(usize::MAX) == Err(ReserveError::TooLarge);
+    map.clear();
+    let given_back = map.shrink_to_fit() == Ok(true) && map.shrink_to_fit() == Ok(false);
+    inserted && found && back && made && enough && refused && too_large && given_back
+}
+
+/// Inserts while there is growth left, look-ups, removals, reservations that are met already, and shrinks of no pairs
+/// take no memory. Nor does the rehash of an emptied table.
+#[test]
+fn calls_that_take_no_memory(rt: HostRuntime) -> Result<(), Fail> {
+    let alloc = rt.alloc();
+    let mut map = map_of(alloc, UnlimitedCompact);
+    assert_eq!(rt; map.try_reserve(7), Ok(()));
+    let mut emptied = LruMap::with_hasher(alloc, Storing(Within::new(560)), LastByte(0), 16);
+    insert_all(&mut emptied, 1..=27)?;
+    remove_all(&mut emptied, 1..=27);
+    let hog = Hog::new(alloc, &[])?;
+    let calls = calls_without_memory(&mut map);
+    let refused = emptied.try_reserve(29);
+    let rehashed = emptied.try_reserve(14);
+    let all = hog.took_all();
+    drop(hog);
+    assert!(rt; calls || !all);
+    assert_eq!(rt;
+        (refused, rehashed, figures(&emptied)),
+        (Err(ReserveError::Refused), Ok(()), (0, 28, 560))
+    );
+    Ok(())
+}
