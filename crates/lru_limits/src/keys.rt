@@ -1,9 +1,10 @@
 //! What a key may be looked up by.
-ghost use Rattle.std.specs.Prelude.{◌≡◌, Bool};
+ghost use Rattle.std.specs.Prelude.{◌≡◌, Bool, ℕ, IsTrue};
+ghost use Rattle.lru_limits.specs.Hashing.{hash_by, hash_by-named, hash_by-equal};
 ghost use Rattle.lru_limits.specs.Laws.{IsLookup};
 ghost use Rattle.lru_limits.specs.Texts.{names_text, names_text-lawful};
 
-use std::hash::Hash;
+use std::hash::{BuildHasher, Hash};
 
 /// A value that names at most one key, up to equality, and hashes as that key does.
 ///
@@ -54,5 +55,36 @@ impl LookupKey<String> for &str {
     #[inline]
     fn is_key(&self, key: &String) -> bool {
         *self == key.as_str()
+    }
+}
+
+/// What hashes the keys of a type, and all that names them. Every `BuildHasher` does.
+pub trait KeyHasher<K: Eq + Hash>: BuildHasher {
+    /// The hash of a key.
+    ghost hash_of: { Self → K → ℕ };
+
+    /// The hash of the key that the value names.
+    fn hash_named<Q: LookupKey<K>>(&self, key: &Q) -> u64
+        ensures { (k : K) → IsTrue (Q.names key.now k) → result ≡ hash_of self.now k };
+
+    /// Equal keys have one hash.
+    ghost respects_eq: { (s : Self) (x y : K) → IsTrue (K.eq x y) → hash_of s x ≡ hash_of s y };
+
+    /// It is the hash of what the key writes.
+    ghost by_builder: { (s : Self) (k : K) →
+        hash_of s k ≡ hash_by K.hash_input Self.BuildHasher Self.Hasher.Hasher s k };
+}
+
+/// By the hasher that is built.
+impl<K: Eq + Hash, S: BuildHasher> KeyHasher<K> for S {
+    ghost hash_of = { hash_by K.hash_input S.BuildHasher S.Hasher.Hasher };
+
+    ghost respects_eq = { hash_by-equal K.respects_eq S.BuildHasher S.Hasher.Hasher };
+
+    ghost by_builder = { λ s k _. hash_by K.hash_input S.BuildHasher S.Hasher.Hasher s k };
+
+    #[inline]
+    fn hash_named<Q: LookupKey<K>>(&self, key: &Q) -> u64 {
+        self.hash_one(key)
     }
 }

@@ -19,6 +19,6 @@ pub mod limiters;
 pub use accounts::{ByCost, Costed, Summing};
 pub use group_table::LinkType;
 pub use hasher::{DefaultHasher, RandomState};
-pub use keys::LookupKey;
+pub use keys::{KeyHasher, LookupKey};
 pub use limiter::{Insertion, Limiter};
 pub use limiters::{ByLength, ByMemoryUsage, Storing, Unlimited, UnlimitedCompact};

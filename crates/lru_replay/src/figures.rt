@@ -2,8 +2,8 @@
 ghost use Rattle.std.specs.Prelude.{◌≡◌, ℕ, Option, Some, None};
 ghost use Rattle.lru_replay.specs.Figures.{IsFigures};
 
-use schnellru::{ByCost, ByLength, ByMemoryUsage, Limiter, LruMap, UnlimitedCompact};
-use std::hash::{BuildHasher, Hash};
+use schnellru::{ByCost, ByLength, ByMemoryUsage, KeyHasher, Limiter, LruMap, UnlimitedCompact};
+use std::hash::Hash;
 
 /// A limiter of a replay, which may keep a cost.
 pub trait TellsCost {
@@ -65,7 +65,7 @@ pub struct Figures {
 }
 
 /// The figures of the map.
-pub fn figures_of<K: Eq + Hash, V, L: Limiter<K, V>, S: BuildHasher>(
+pub fn figures_of<K: Eq + Hash, V, L: Limiter<K, V>, S: KeyHasher<K>>(
     map: &LruMap<K, V, L, S>,
 ) -> Figures
     ensures { IsFigures map.now result }

@@ -2,7 +2,6 @@
 //! their contracts are the theorems.
 ghost use Rattle.std.specs.Prelude.{◌≡◌, ℕ, ◌≤◌, ◌+◌, ◌*◌, length, List, map};
 ghost use Rattle.std.specs.List.{AllByRecursion, IsDistinct};
-ghost use Rattle.lru_limits.specs.Hashing.{hash_by};
 ghost use Rattle.schnellru.specs.Exact.{AlwaysGrants, HasTables, HasTableFor, IsDetermined, NeverLacks, LookAlike};
 ghost use Rattle.schnellru.specs.Lists.{keys_of};
 ghost use Rattle.schnellru.specs.State.{State, contents, buckets, IsSized, IsMap};
@@ -12,14 +11,14 @@ ghost use Rattle.lru_replay.specs.CallRuns.{IsRun, CallStep, SummingStep, SetsNo
 ghost use Rattle.lru_replay.specs.ListRuns.{ListCallStep, ListSummingStep};
 ghost use Rattle.lru_replay.specs.Replies.{Reply, want_of};
 
-use schnellru::{ByCost, ByLength, ByMemoryUsage, Costed, Insertion, Limiter, Summing, laws};
-use std::hash::{BuildHasher, Hash};
+use schnellru::{ByCost, ByLength, ByMemoryUsage, Costed, Insertion, KeyHasher, Limiter, Summing, laws};
+use std::hash::Hash;
 
 /// Over any stretch of calls moved and potential together rise by at most two for each element that is placed, while
 /// the count of these goes on, and by one for each that shrinks place anew.
-pub fn calls_pay_for_moves<K: Eq + Hash, V, L: Insertion<K, V, K>, S: BuildHasher>()
+pub fn calls_pay_for_moves<K: Eq + Hash, V, L: Insertion<K, V, K>, S: KeyHasher<K>>()
     ensures rise { (old new : State K V L S) (calls : List (Call K V L)) (replies : List (Reply K V)) →
-        IsRun (CallStep L.rules L.offers K.eq (hash_by K.hash_input S.BuildHasher S.Hasher.Hasher)) (IsMap K.eq)
+        IsRun (CallStep L.rules L.offers K.eq S.hash_of) (IsMap K.eq)
         old calls replies new → IsSized old → (anew : ℕ) × PaysForMoves anew old new }
 {
     laws::runs_pay_for_moves::<K, V, K, L, S>();
@@ -27,45 +26,43 @@ pub fn calls_pay_for_moves<K: Eq + Hash, V, L: Insertion<K, V, K>, S: BuildHashe
 
 /// With `ByLength` there are at most `max_length` pairs after each of the calls, if there were no more before, and none
 /// sets another limiter.
-pub fn calls_keep_the_length<K: Eq + Hash + Drop, V: Drop, S: BuildHasher>()
+pub fn calls_keep_the_length<K: Eq + Hash + Drop, V: Drop, S: KeyHasher<K>>()
     ensures length { (old new : State K V ByLength S) (calls : List (Call K V ByLength)) (replies : List (Reply K V)) →
         IsRun (CallStep ⟦<ByLength as Limiter<K, V>>⟧.rules ⟦<ByLength as Insertion<K, V, K>>⟧.offers K.eq
-        (hash_by K.hash_input S.BuildHasher S.Hasher.Hasher)) (IsMap K.eq) old calls replies new →
+        S.hash_of) (IsMap K.eq) old calls replies new →
         AllByRecursion SetsNoLimiter calls → length old.pairs ≤ old.limiter →
         IsRun (CallStep ⟦<ByLength as Limiter<K, V>>⟧.rules ⟦<ByLength as Insertion<K, V, K>>⟧.offers K.eq
-        (hash_by K.hash_input S.BuildHasher S.Hasher.Hasher)) (λ st. length st.pairs ≤ old.limiter)
-        old calls replies new }
+        S.hash_of) (λ st. length st.pairs ≤ old.limiter) old calls replies new }
 {
     laws::runs_keep_the_length::<K, V, S>();
 }
 
 /// With `ByMemoryUsage` the table uses at most `max_memory_usage` bytes after each of the calls, if it used no more
 /// before, and none sets another limiter.
-pub fn calls_keep_the_memory_usage<K: Eq + Hash + Drop, V: Drop, S: BuildHasher>()
+pub fn calls_keep_the_memory_usage<K: Eq + Hash + Drop, V: Drop, S: KeyHasher<K>>()
     ensures usage { (old new : State K V ByMemoryUsage S) (calls : List (Call K V ByMemoryUsage))
         (replies : List (Reply K V)) →
         IsRun (CallStep ⟦<ByMemoryUsage as Limiter<K, V>>⟧.rules ⟦<ByMemoryUsage as Insertion<K, V, K>>⟧.offers K.eq
-        (hash_by K.hash_input S.BuildHasher S.Hasher.Hasher)) (IsMap K.eq) old calls replies new →
+        S.hash_of) (IsMap K.eq) old calls replies new →
         AllByRecursion SetsNoLimiter calls → UsesAtMost old.limiter old →
         IsRun (CallStep ⟦<ByMemoryUsage as Limiter<K, V>>⟧.rules ⟦<ByMemoryUsage as Insertion<K, V, K>>⟧.offers K.eq
-        (hash_by K.hash_input S.BuildHasher S.Hasher.Hasher)) (λ st. UsesAtMost old.limiter st)
-        old calls replies new }
+        S.hash_of) (λ st. UsesAtMost old.limiter st) old calls replies new }
 {
     laws::runs_keep_the_memory_usage::<K, V, S>();
 }
 
 /// With `ByCost` the cost is at most the limit after each of the calls, if it was so before and was the sum of the
 /// costs of the pairs, and none sets another limiter.
-pub fn calls_keep_the_cost<K: Eq + Hash + Drop, V: Costed + Drop, S: BuildHasher>()
+pub fn calls_keep_the_cost<K: Eq + Hash + Drop, V: Costed + Drop, S: KeyHasher<K>>()
     ensures cost { (old new : State K V ByCost S) (calls : List (Call K V ByCost)) (replies : List (Reply K V)) →
         IsRun (SummingStep ⟦<ByCost as Limiter<K, V>>⟧.rules ⟦<ByCost as Insertion<K, V, K>>⟧.offers K.eq
-        (hash_by K.hash_input S.BuildHasher S.Hasher.Hasher) ⟦<ByCost as Summing<K, V, K>>⟧.cost_of
+        S.hash_of ⟦<ByCost as Summing<K, V, K>>⟧.cost_of
         ⟦<ByCost as Summing<K, V, K>>⟧.account) (IsMap K.eq) old calls replies new →
         AllByRecursion SetsNoLimiter calls →
         IsSummed ⟦<ByCost as Summing<K, V, K>>⟧.cost_of ⟦<ByCost as Summing<K, V, K>>⟧.account old →
         old.limiter.cost ≤ old.limiter.limit →
         IsRun (SummingStep ⟦<ByCost as Limiter<K, V>>⟧.rules ⟦<ByCost as Insertion<K, V, K>>⟧.offers K.eq
-        (hash_by K.hash_input S.BuildHasher S.Hasher.Hasher) ⟦<ByCost as Summing<K, V, K>>⟧.cost_of
+        S.hash_of ⟦<ByCost as Summing<K, V, K>>⟧.cost_of
         ⟦<ByCost as Summing<K, V, K>>⟧.account) (λ st. st.limiter.cost ≤ old.limiter.limit) old calls replies new }
 {
     laws::runs_keep_the_cost::<K, V, S>();
@@ -76,18 +73,17 @@ pub fn calls_keep_the_cost<K: Eq + Hash + Drop, V: Costed + Drop, S: BuildHasher
 /// the tables that the pairs may need, a run is one on a list of pairs with distinct keys that has no table. So each
 /// answer and each state is as the list and the limiter have it. They reach those tables, if they reach one for eight
 /// times as many pairs as there are and calls.
-pub fn granted_calls_are_exact<K: Eq + Hash, V, L: Insertion<K, V, K>, S: BuildHasher>()
+pub fn granted_calls_are_exact<K: Eq + Hash, V, L: Insertion<K, V, K>, S: KeyHasher<K>>()
     ensures exact { (old new : State K V L S) (calls : List (Call K V L)) (replies : List (Reply K V)) →
         AlwaysGrants L.rules → HasTables old →
-        IsRun (CallStep L.rules L.offers K.eq (hash_by K.hash_input S.BuildHasher S.Hasher.Hasher))
+        IsRun (CallStep L.rules L.offers K.eq S.hash_of)
         (λ st. IsMap K.eq st × HasTables st) old calls replies new →
-        IsRun (ListCallStep L.rules L.offers K.eq (hash_by K.hash_input S.BuildHasher S.Hasher.Hasher old.hasher))
+        IsRun (ListCallStep L.rules L.offers K.eq (S.hash_of old.hasher))
         (λ list. IsDistinct K.eq (keys_of list.pairs)) (contents old) calls replies (contents new) }
     ensures reached { (old new : State K V L S) (calls : List (Call K V L)) (replies : List (Reply K V)) →
         HasTableFor (8 * (length old.pairs + length calls + 1)) old → IsMap K.eq old →
-        IsRun (CallStep L.rules L.offers K.eq (hash_by K.hash_input S.BuildHasher S.Hasher.Hasher)) (IsMap K.eq)
-        old calls replies new →
-        HasTables old × IsRun (CallStep L.rules L.offers K.eq (hash_by K.hash_input S.BuildHasher S.Hasher.Hasher))
+        IsRun (CallStep L.rules L.offers K.eq S.hash_of) (IsMap K.eq) old calls replies new →
+        HasTables old × IsRun (CallStep L.rules L.offers K.eq S.hash_of)
         (λ st. IsMap K.eq st × HasTables st) old calls replies new }
 {
     laws::granted_inserts_are_exact::<K, V, K, L, S>();
@@ -95,20 +91,17 @@ pub fn granted_calls_are_exact<K: Eq + Hash, V, L: Insertion<K, V, K>, S: BuildH
 }
 
 /// So is a run under a summing limiter: a call that keeps the cost is one on the list, and any other changes nothing.
-pub fn granted_summing_is_exact<K: Eq + Hash, V, L: Summing<K, V, K>, S: BuildHasher>()
+pub fn granted_summing_is_exact<K: Eq + Hash, V, L: Summing<K, V, K>, S: KeyHasher<K>>()
     ensures exact { (old new : State K V L S) (calls : List (Call K V L)) (replies : List (Reply K V)) →
         AlwaysGrants L.rules → HasTables old →
-        IsRun (SummingStep L.rules L.offers K.eq (hash_by K.hash_input S.BuildHasher S.Hasher.Hasher)
+        IsRun (SummingStep L.rules L.offers K.eq S.hash_of
         L.cost_of L.account) (λ st. IsMap K.eq st × HasTables st) old calls replies new →
-        IsRun (ListSummingStep L.rules L.offers K.eq
-        (hash_by K.hash_input S.BuildHasher S.Hasher.Hasher old.hasher) L.cost_of L.account)
+        IsRun (ListSummingStep L.rules L.offers K.eq (S.hash_of old.hasher) L.cost_of L.account)
         (λ list. IsDistinct K.eq (keys_of list.pairs)) (contents old) calls replies (contents new) }
     ensures reached { (old new : State K V L S) (calls : List (Call K V L)) (replies : List (Reply K V)) →
         HasTableFor (8 * (length old.pairs + length calls + 1)) old → IsMap K.eq old →
-        IsRun (SummingStep L.rules L.offers K.eq (hash_by K.hash_input S.BuildHasher S.Hasher.Hasher)
-        L.cost_of L.account) (IsMap K.eq) old calls replies new →
-        HasTables old × IsRun (SummingStep L.rules L.offers K.eq
-        (hash_by K.hash_input S.BuildHasher S.Hasher.Hasher) L.cost_of L.account)
+        IsRun (SummingStep L.rules L.offers K.eq S.hash_of L.cost_of L.account) (IsMap K.eq) old calls replies new →
+        HasTables old × IsRun (SummingStep L.rules L.offers K.eq S.hash_of L.cost_of L.account)
         (λ st. IsMap K.eq st × HasTables st) old calls replies new }
 {
     laws::granted_inserts_are_exact::<K, V, K, L, S>();
@@ -118,15 +111,13 @@ pub fn granted_summing_is_exact<K: Eq + Hash, V, L: Summing<K, V, K>, S: BuildHa
 /// Two runs of the same calls give the same answers, under a limiter that leaves nothing open, if they find the same
 /// wants of memory, no table of theirs has more than 16 buckets, and the two maps before them differ at most in which
 /// buckets are full. So do the two maps after them.
-pub fn small_calls_are_alike<K: Eq + Hash, V, L: Insertion<K, V, K>, S: BuildHasher>()
+pub fn small_calls_are_alike<K: Eq + Hash, V, L: Insertion<K, V, K>, S: KeyHasher<K>>()
     ensures alike { (old other new last : State K V L S) (calls : List (Call K V L))
         (replies answers : List (Reply K V)) →
         IsDetermined L.offers → NeverLacks L.offers → LookAlike old other → buckets old ≤ 16 →
-        AllByRecursion (HasPlainSearch (hash_by K.hash_input S.BuildHasher S.Hasher.Hasher old.hasher)) calls →
-        IsRun (CallStep L.rules L.offers K.eq (hash_by K.hash_input S.BuildHasher S.Hasher.Hasher))
-        (λ st. buckets st ≤ 16) old calls replies new →
-        IsRun (CallStep L.rules L.offers K.eq (hash_by K.hash_input S.BuildHasher S.Hasher.Hasher))
-        (λ st. buckets st ≤ 16) other calls answers last →
+        AllByRecursion (HasPlainSearch (S.hash_of old.hasher)) calls →
+        IsRun (CallStep L.rules L.offers K.eq S.hash_of) (λ st. buckets st ≤ 16) old calls replies new →
+        IsRun (CallStep L.rules L.offers K.eq S.hash_of) (λ st. buckets st ≤ 16) other calls answers last →
         map want_of replies ≡ map want_of answers →
         (replies ≡ answers) × LookAlike new last }
 {
@@ -134,14 +125,14 @@ pub fn small_calls_are_alike<K: Eq + Hash, V, L: Insertion<K, V, K>, S: BuildHas
 }
 
 /// So do two runs under a summing limiter.
-pub fn small_summing_is_alike<K: Eq + Hash, V, L: Summing<K, V, K>, S: BuildHasher>()
+pub fn small_summing_is_alike<K: Eq + Hash, V, L: Summing<K, V, K>, S: KeyHasher<K>>()
     ensures alike { (old other new last : State K V L S) (calls : List (Call K V L))
         (replies answers : List (Reply K V)) →
         IsDetermined L.offers → NeverLacks L.offers → LookAlike old other → buckets old ≤ 16 →
-        AllByRecursion (HasPlainSearch (hash_by K.hash_input S.BuildHasher S.Hasher.Hasher old.hasher)) calls →
-        IsRun (SummingStep L.rules L.offers K.eq (hash_by K.hash_input S.BuildHasher S.Hasher.Hasher)
+        AllByRecursion (HasPlainSearch (S.hash_of old.hasher)) calls →
+        IsRun (SummingStep L.rules L.offers K.eq S.hash_of
         L.cost_of L.account) (λ st. buckets st ≤ 16) old calls replies new →
-        IsRun (SummingStep L.rules L.offers K.eq (hash_by K.hash_input S.BuildHasher S.Hasher.Hasher)
+        IsRun (SummingStep L.rules L.offers K.eq S.hash_of
         L.cost_of L.account) (λ st. buckets st ≤ 16) other calls answers last →
         map want_of replies ≡ map want_of answers →
         (replies ≡ answers) × LookAlike new last }

@@ -2,7 +2,6 @@
 ghost use Rattle.std.specs.Prelude.{◌≡◌, [], ◌∷◌, ◌++◌, ◌+◌, ◌≤◌, ◌<◌, option_to_list, IfOk};
 ghost use Rattle.std.specs.Result.{OnErr};
 ghost use Rattle.std.specs.Vec.{vec_len, vec_capacity};
-ghost use Rattle.lru_limits.specs.Hashing.{hash_by};
 ghost use Rattle.schnellru.specs.Drains.{newest_given, oldest_given, pops_first};
 ghost use Rattle.schnellru.specs.HandedOver.{InsertHands};
 ghost use Rattle.schnellru.specs.State.{contents, Leaves, pops};
@@ -12,17 +11,16 @@ ghost use Rattle.lru_replay.specs.Replies.{said};
 
 use crate::call::Answer;
 use schnellru::laws::inserts_hand_over_few;
-use schnellru::{Insertion, Limiter, LruMap};
+use schnellru::{Insertion, KeyHasher, Limiter, LruMap};
 use std::alloc::{AllocError, Global};
-use std::hash::{BuildHasher, Hash};
+use std::hash::Hash;
 
 /// All pairs, newest first.
-pub fn list<K: Copy + Eq + Hash, V: Copy, L: Insertion<K, V, K>, S: BuildHasher>(
+pub fn list<K: Copy + Eq + Hash, V: Copy, L: Insertion<K, V, K>, S: KeyHasher<K>>(
     alloc: Global,
     map: &LruMap<K, V, L, S>,
 ) -> Answer<K, V>
-    ensures { CallStep L.rules L.offers K.eq (hash_by K.hash_input S.BuildHasher S.Hasher.Hasher)
-        map.now calls.List (said result) map.now }
+    ensures { CallStep L.rules L.offers K.eq S.hash_of map.now calls.List (said result) map.now }
 {
     let Ok(mut pairs) = Vec::with_capacity(alloc, map.len()) else {
         return Answer::Memory;
@@ -34,14 +32,13 @@ pub fn list<K: Copy + Eq + Hash, V: Copy, L: Insertion<K, V, K>, S: BuildHasher>
 }
 
 /// The answer to an insert that hands pairs over.
-pub fn insert_with<K: Eq + Hash + Drop, V: Drop, L: Insertion<K, V, K>, S: BuildHasher>(
+pub fn insert_with<K: Eq + Hash + Drop, V: Drop, L: Insertion<K, V, K>, S: KeyHasher<K>>(
     alloc: Global,
     map: &mut LruMap<K, V, L, S>,
     key: K,
     value: V,
 ) -> Answer<K, V>
-    ensures { CallStep L.rules L.offers K.eq (hash_by K.hash_input S.BuildHasher S.Hasher.Hasher)
-        map.old (calls.InsertWith key value) (said result) map.new }
+    ensures { CallStep L.rules L.offers K.eq S.hash_of map.old (calls.InsertWith key value) (said result) map.new }
 {
     match insert_and_keep(alloc, map, key, value) {
         Ok((done, out)) => Answer::Given { done, out },
@@ -50,14 +47,14 @@ pub fn insert_with<K: Eq + Hash + Drop, V: Drop, L: Insertion<K, V, K>, S: Build
 }
 
 /// An insert, and the pairs that it hands over, for which memory is taken first.
-pub fn insert_and_keep<K: Eq + Hash + Drop, V: Drop, L: Insertion<K, V, K>, S: BuildHasher>(
+pub fn insert_and_keep<K: Eq + Hash + Drop, V: Drop, L: Insertion<K, V, K>, S: KeyHasher<K>>(
     alloc: Global,
     map: &mut LruMap<K, V, L, S>,
     key: K,
     value: V,
 ) -> Result<(Result<bool, AllocError>, Vec<(K, V)>), AllocError>
     ensures handed { IfOk result (λ answer. InsertHands L.rules L.offers K.eq
-        (hash_by K.hash_input S.BuildHasher S.Hasher.Hasher) key value map.old answer.0 answer.1.items map.new) }
+        S.hash_of key value map.old answer.0 answer.1.items map.new) }
     ensures unchanged { OnErr result (map.new ≡ map.old) }
 {
     // Nothing at run time: it tells the proof that there is room for all that is handed over.
@@ -79,14 +76,13 @@ fn keep<K: Drop, V: Drop>(pairs: &mut Vec<(K, V)>, pair: (K, V))
 }
 
 /// So many of the newest pairs, then so many of the oldest. The others are dropped.
-pub fn drain<K: Eq + Hash + Drop, V: Drop, L: Insertion<K, V, K>, S: BuildHasher>(
+pub fn drain<K: Eq + Hash + Drop, V: Drop, L: Insertion<K, V, K>, S: KeyHasher<K>>(
     alloc: Global,
     map: &mut LruMap<K, V, L, S>,
     front: usize,
     back: usize,
 ) -> Answer<K, V>
-    ensures { CallStep L.rules L.offers K.eq (hash_by K.hash_input S.BuildHasher S.Hasher.Hasher)
-        map.old (calls.Drain front back) (said result) map.new }
+    ensures { CallStep L.rules L.offers K.eq S.hash_of map.old (calls.Drain front back) (said result) map.new }
 {
     let newest = front.min(map.len());
     let oldest = back.min(map.len() - newest);
@@ -100,7 +96,7 @@ pub fn drain<K: Eq + Hash + Drop, V: Drop, L: Insertion<K, V, K>, S: BuildHasher
 }
 
 /// Takes out so many of the newest pairs, one after another.
-fn take_newest<K: Eq + Hash, V, L: Limiter<K, V>, S: BuildHasher>(
+fn take_newest<K: Eq + Hash, V, L: Limiter<K, V>, S: KeyHasher<K>>(
     map: &mut LruMap<K, V, L, S>,
     count: usize,
     pairs: &mut Vec<(K, V)>,
@@ -117,7 +113,7 @@ fn take_newest<K: Eq + Hash, V, L: Limiter<K, V>, S: BuildHasher>(
 }
 
 /// Takes out so many of the oldest pairs, one after another.
-fn take_oldest<K: Eq + Hash, V, L: Limiter<K, V>, S: BuildHasher>(
+fn take_oldest<K: Eq + Hash, V, L: Limiter<K, V>, S: KeyHasher<K>>(
     map: &mut LruMap<K, V, L, S>,
     count: usize,
     pairs: &mut Vec<(K, V)>,

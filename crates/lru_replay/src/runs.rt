@@ -1,7 +1,6 @@
 //! Lists of calls on a map.
 ghost use Rattle.std.specs.Prelude.{◌≡◌, IfOk};
 ghost use Rattle.std.specs.Result.{OnErr};
-ghost use Rattle.lru_limits.specs.Hashing.{hash_by};
 ghost use Rattle.schnellru.specs.State.{IsMap};
 ghost use Rattle.lru_replay.specs.declared.call.Call.TheVariants as calls;
 ghost use Rattle.lru_replay.specs.CallRuns.{IsRun, CallStep};
@@ -13,9 +12,9 @@ use crate::pairs::{drain, insert_with, list};
 use crate::steps::{
     get, get_by_hash, get_or_insert, insert, peek_by_hash, peek_newest, peek_oldest, stats, write,
 };
-use schnellru::{Insertion, LruMap};
+use schnellru::{Insertion, KeyHasher, LruMap};
 use std::alloc::{AllocError, Global};
-use std::hash::{BuildHasher, Hash};
+use std::hash::Hash;
 
 /// Carries out the calls on the map, one after another, and gives their answers, one a call.
 ///
@@ -39,15 +38,14 @@ pub fn run_calls<
     K: Copy + Eq + Hash + Drop,
     V: Copy + Drop,
     L: Insertion<K, V, K> + Drop,
-    S: BuildHasher,
+    S: KeyHasher<K>,
 >(
     alloc: Global,
     map: &mut LruMap<K, V, L, S>,
     calls: Vec<Call<K, V, L>>,
 ) -> Result<Vec<Answer<K, V>>, AllocError>
     // The answers and the map after them are a run from the map before, and each state in between is a map.
-    ensures run { IfOk result (λ answers.
-        IsRun (CallStep L.rules L.offers K.eq (hash_by K.hash_input S.BuildHasher S.Hasher.Hasher)) (IsMap K.eq)
+    ensures run { IfOk result (λ answers. IsRun (CallStep L.rules L.offers K.eq S.hash_of) (IsMap K.eq)
         map.old calls.items (all_said answers.items) map.new) }
     ensures unmade { OnErr result (map.new ≡ map.old) }
 {
@@ -68,9 +66,8 @@ where
     K: Copy + Eq + Hash + Drop,
     V: Copy + Drop,
     L: Insertion<K, V, K> + Drop,
-    S: BuildHasher,
-    ensures step { CallStep L.rules L.offers K.eq (hash_by K.hash_input S.BuildHasher S.Hasher.Hasher)
-        map.old call (said result) map.new }
+    S: KeyHasher<K>,
+    ensures step { CallStep L.rules L.offers K.eq S.hash_of map.old call (said result) map.new }
     ensures map { IsMap K.eq map.new }
 {
     let answer = answer_to(alloc, map, call);
@@ -89,9 +86,8 @@ where
     K: Copy + Eq + Hash + Drop,
     V: Copy + Drop,
     L: Insertion<K, V, K> + Drop,
-    S: BuildHasher,
-    ensures { CallStep L.rules L.offers K.eq (hash_by K.hash_input S.BuildHasher S.Hasher.Hasher)
-        map.old call (said result) map.new }
+    S: KeyHasher<K>,
+    ensures { CallStep L.rules L.offers K.eq S.hash_of map.old call (said result) map.new }
 {
     match call {
         Call::Insert(key, value) => insert(map, key, value),

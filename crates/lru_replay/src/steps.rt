@@ -1,6 +1,5 @@
 //! The calls of a run that take more than one call of the map.
 ghost use Rattle.std.specs.Prelude.{◌≡◌, Option, is_some};
-ghost use Rattle.lru_limits.specs.Hashing.{hash_by};
 ghost use Rattle.schnellru.specs.Calls.{promoted, written};
 ghost use Rattle.schnellru.specs.Lists.{lookup, first, last, newest_value};
 ghost use Rattle.lru_replay.specs.declared.call.Call.TheVariants as calls;
@@ -8,17 +7,16 @@ ghost use Rattle.lru_replay.specs.Replies.{said};
 ghost use Rattle.lru_replay.specs.Steps.{Step, FindsByHash, promoted_if};
 
 use crate::call::Answer;
-use schnellru::{Insertion, Limiter, LruMap};
-use std::hash::{BuildHasher, Hash};
+use schnellru::{Insertion, KeyHasher, Limiter, LruMap};
+use std::hash::Hash;
 
 /// The answer to an insert.
-pub fn insert<K: Eq + Hash + Drop, V: Drop, L: Insertion<K, V, K>, S: BuildHasher>(
+pub fn insert<K: Eq + Hash + Drop, V: Drop, L: Insertion<K, V, K>, S: KeyHasher<K>>(
     map: &mut LruMap<K, V, L, S>,
     key: K,
     value: V,
 ) -> Answer<K, V>
-    ensures { Step L.rules L.offers K.eq (hash_by K.hash_input S.BuildHasher S.Hasher.Hasher)
-        map.old (calls.Insert key value) (said result) map.new }
+    ensures { Step L.rules L.offers K.eq S.hash_of map.old (calls.Insert key value) (said result) map.new }
 {
     match map.insert(key, value) {
         Ok(there) => Answer::Flag(there),
@@ -27,13 +25,12 @@ pub fn insert<K: Eq + Hash + Drop, V: Drop, L: Insertion<K, V, K>, S: BuildHashe
 }
 
 /// The answer to a get that inserts.
-pub fn get_or_insert<K: Eq + Hash + Drop, V: Copy + Drop, L: Insertion<K, V, K>, S: BuildHasher>(
+pub fn get_or_insert<K: Eq + Hash + Drop, V: Copy + Drop, L: Insertion<K, V, K>, S: KeyHasher<K>>(
     map: &mut LruMap<K, V, L, S>,
     key: K,
     value: V,
 ) -> Answer<K, V>
-    ensures { Step L.rules L.offers K.eq (hash_by K.hash_input S.BuildHasher S.Hasher.Hasher)
-        map.old (calls.GetOrInsert key value) (said result) map.new }
+    ensures { Step L.rules L.offers K.eq S.hash_of map.old (calls.GetOrInsert key value) (said result) map.new }
 {
     match map.ensure_newest(key, || value) {
         Ok(true) => Answer::Value(newest_value(map)),
@@ -43,7 +40,7 @@ pub fn get_or_insert<K: Eq + Hash + Drop, V: Copy + Drop, L: Insertion<K, V, K>,
 }
 
 /// The value of the newest pair, if there is one.
-fn newest_value<K: Eq + Hash, V: Copy, L: Limiter<K, V>, S: BuildHasher>(
+fn newest_value<K: Eq + Hash, V: Copy, L: Limiter<K, V>, S: KeyHasher<K>>(
     map: &LruMap<K, V, L, S>,
 ) -> Option<V>
     ensures { result ≡ newest_value map.now.pairs }
@@ -55,7 +52,7 @@ fn newest_value<K: Eq + Hash, V: Copy, L: Limiter<K, V>, S: BuildHasher>(
 }
 
 /// The value of the key, whose pair becomes the newest.
-pub fn get<K: Eq + Hash, V: Copy, L: Limiter<K, V>, S: BuildHasher>(
+pub fn get<K: Eq + Hash, V: Copy, L: Limiter<K, V>, S: KeyHasher<K>>(
     map: &mut LruMap<K, V, L, S>,
     key: &K,
 ) -> Option<V>
@@ -69,7 +66,7 @@ pub fn get<K: Eq + Hash, V: Copy, L: Limiter<K, V>, S: BuildHasher>(
 }
 
 /// Writes the value of the key, and tells whether the key is there.
-pub fn write<K: Eq + Hash, V: Drop, L: Limiter<K, V>, S: BuildHasher>(
+pub fn write<K: Eq + Hash, V: Drop, L: Limiter<K, V>, S: KeyHasher<K>>(
     map: &mut LruMap<K, V, L, S>,
     key: &K,
     value: V,
@@ -87,13 +84,12 @@ pub fn write<K: Eq + Hash, V: Drop, L: Limiter<K, V>, S: BuildHasher>(
 }
 
 /// The value of the key, if a search by the hash finds it. Its pair becomes the newest.
-pub fn get_by_hash<K: Eq + Hash, V: Copy, L: Limiter<K, V>, S: BuildHasher>(
+pub fn get_by_hash<K: Eq + Hash, V: Copy, L: Limiter<K, V>, S: KeyHasher<K>>(
     map: &mut LruMap<K, V, L, S>,
     hash: u64,
     key: &K,
 ) -> Option<V>
-    ensures found { FindsByHash K.eq (hash_by K.hash_input S.BuildHasher S.Hasher.Hasher map.old.hasher) hash key.now
-        map.old.pairs result }
+    ensures found { FindsByHash K.eq (S.hash_of map.old.hasher) hash key.now map.old.pairs result }
     ensures promoted { map.new ≡ promoted_if K.eq result key.now map.old }
 {
     // Nothing at run time: it tells the proof that no two keys are equal.
@@ -105,13 +101,12 @@ pub fn get_by_hash<K: Eq + Hash, V: Copy, L: Limiter<K, V>, S: BuildHasher>(
 }
 
 /// The value of the key, if a search by the hash finds it.
-pub fn peek_by_hash<K: Eq + Hash, V: Copy, L: Limiter<K, V>, S: BuildHasher>(
+pub fn peek_by_hash<K: Eq + Hash, V: Copy, L: Limiter<K, V>, S: KeyHasher<K>>(
     map: &LruMap<K, V, L, S>,
     hash: u64,
     key: &K,
 ) -> Option<V>
-    ensures { FindsByHash K.eq (hash_by K.hash_input S.BuildHasher S.Hasher.Hasher map.now.hasher) hash key.now
-        map.now.pairs result }
+    ensures { FindsByHash K.eq (S.hash_of map.now.hasher) hash key.now map.now.pairs result }
 {
     // Nothing at run time: it tells the proof that no two keys are equal.
     let _len = map.len();
@@ -122,7 +117,7 @@ pub fn peek_by_hash<K: Eq + Hash, V: Copy, L: Limiter<K, V>, S: BuildHasher>(
 }
 
 /// The oldest pair, if there is one.
-pub fn peek_oldest<K: Copy + Eq + Hash, V: Copy, L: Limiter<K, V>, S: BuildHasher>(
+pub fn peek_oldest<K: Copy + Eq + Hash, V: Copy, L: Limiter<K, V>, S: KeyHasher<K>>(
     map: &LruMap<K, V, L, S>,
 ) -> Option<(K, V)>
     ensures { result ≡ last map.now.pairs }
@@ -134,7 +129,7 @@ pub fn peek_oldest<K: Copy + Eq + Hash, V: Copy, L: Limiter<K, V>, S: BuildHashe
 }
 
 /// The newest pair, if there is one.
-pub fn peek_newest<K: Copy + Eq + Hash, V: Copy, L: Limiter<K, V>, S: BuildHasher>(
+pub fn peek_newest<K: Copy + Eq + Hash, V: Copy, L: Limiter<K, V>, S: KeyHasher<K>>(
     map: &LruMap<K, V, L, S>,
 ) -> Option<(K, V)>
     ensures { result ≡ first map.now.pairs }
@@ -146,11 +141,10 @@ pub fn peek_newest<K: Copy + Eq + Hash, V: Copy, L: Limiter<K, V>, S: BuildHashe
 }
 
 /// The answer to a call that asks for the figures of the map.
-pub fn stats<K: Eq + Hash, V, L: Insertion<K, V, K>, S: BuildHasher>(
+pub fn stats<K: Eq + Hash, V, L: Insertion<K, V, K>, S: KeyHasher<K>>(
     map: &LruMap<K, V, L, S>,
 ) -> Answer<K, V>
-    ensures { Step L.rules L.offers K.eq (hash_by K.hash_input S.BuildHasher S.Hasher.Hasher)
-        map.now calls.Stats (said result) map.now }
+    ensures { Step L.rules L.offers K.eq S.hash_of map.now calls.Stats (said result) map.now }
 {
     Answer::Stats {
         len: map.len(),

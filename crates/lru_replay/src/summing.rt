@@ -1,7 +1,6 @@
 //! Lists of calls under a limiter that keeps a sum.
 ghost use Rattle.std.specs.Prelude.{◌≡◌, IfOk, true, false};
 ghost use Rattle.std.specs.Result.{OnErr};
-ghost use Rattle.lru_limits.specs.Hashing.{hash_by};
 ghost use Rattle.schnellru.specs.State.{contents, IsMap};
 ghost use Rattle.schnellru.specs.Theorems.{IsSummed};
 ghost use Rattle.lru_replay.specs.CallRuns.{IsRun, IsSummedFrom, SummingStep, KeepsCost};
@@ -10,9 +9,9 @@ ghost use Rattle.lru_replay.specs.Replies.{said, all_said};
 use crate::call::{Answer, Call};
 use crate::runs::carry_out;
 use schnellru::laws::runs_keep_sums;
-use schnellru::{LruMap, Summing};
+use schnellru::{KeyHasher, LruMap, Summing};
 use std::alloc::{AllocError, Global};
-use std::hash::{BuildHasher, Hash};
+use std::hash::Hash;
 
 /// Carries out the calls on the map as `run_calls` does, but for those that would change the sum behind the limiter's
 /// back.
@@ -41,11 +40,10 @@ where
     K: Copy + Eq + Hash + Drop,
     V: Copy + Drop,
     L: Summing<K, V, K> + Drop,
-    S: BuildHasher,
+    S: KeyHasher<K>,
     // The answers and the map after them are a run from the map before, and each state in between is a map, with an
     // account that is the sum of the costs if it was so before.
-    ensures run { IfOk result (λ answers.
-        IsRun (SummingStep L.rules L.offers K.eq (hash_by K.hash_input S.BuildHasher S.Hasher.Hasher)
+    ensures run { IfOk result (λ answers. IsRun (SummingStep L.rules L.offers K.eq S.hash_of
         L.cost_of L.account) (IsSummedFrom K.eq L.cost_of L.account map.old)
         map.old calls.items (all_said answers.items) map.new) }
     // So it is after all calls.
@@ -69,8 +67,8 @@ where
     K: Copy + Eq + Hash + Drop,
     V: Copy + Drop,
     L: Summing<K, V, K> + Drop,
-    S: BuildHasher,
-    ensures step { SummingStep L.rules L.offers K.eq (hash_by K.hash_input S.BuildHasher S.Hasher.Hasher)
+    S: KeyHasher<K>,
+    ensures step { SummingStep L.rules L.offers K.eq S.hash_of
         L.cost_of L.account map.old call (said result) map.new }
     ensures map { IsMap K.eq map.new }
     ensures account { IsSummed L.cost_of L.account map.old → IsSummed L.cost_of L.account map.new }
@@ -87,7 +85,7 @@ fn keeps_cost<K, V, L, S>(map: &LruMap<K, V, L, S>, call: &Call<K, V, L>) -> boo
 where
     K: Eq + Hash,
     L: Summing<K, V, K>,
-    S: BuildHasher,
+    S: KeyHasher<K>,
     ensures map { IsMap K.eq map.now }
     ensures yes { result ≡ true → KeepsCost K.eq L.cost_of L.account (contents map.now) call.now }
     ensures no { result ≡ false → KeepsCost K.eq L.cost_of L.account (contents map.now) call.now → ⊥ }

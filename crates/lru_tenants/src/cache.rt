@@ -232,8 +232,8 @@ fn insert<K: Eq + Hash + Drop, V: Costed + Drop>(
     ensures budget { map.new.limiter.limit ≡ map.old.limiter.limit }
     ensures tenant { IsTenant K.eq V.cost map.new }
 {
-    laws::inserts_keep_sums::<K, V, K, ByCost, RandomState>();
-    laws::runs_keep_the_cost::<K, V, RandomState>();
+    laws::calls_keep_sums::<K, V, K, ByCost, RandomState>();
+    laws::calls_keep_the_cost::<K, V, RandomState>();
     map.insert(key, value)
 }
 

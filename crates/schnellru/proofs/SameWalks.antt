@@ -8,6 +8,7 @@ use Rattle.std.specs.declared.fmt.Debug as debug
 use Rattle.std.specs.declared.hash.Hash as hashing
 use Rattle.std.specs.declared.hash.Hasher as hasher
 use Rattle.std.specs.declared.hash.BuildHasher as builder
+use Rattle.lru_limits.specs.declared.keys.KeyHasher as key_hasher
 use Rattle.group_table.specs.declared.link.LinkType as link_type
 use Rattle.lru_limits.specs.declared.limiter.Limiter as limiter
 use Rattle.schnellru.specs.Lists.{last_of}
@@ -16,10 +17,10 @@ use Rattle.schnellru.specs.declared.walk.iter_mut.IterMut.{IterMut}
 
 module _ {K V L S N H : Type 0} {equal : equality.Ghosts K} {input : hashing.Ghosts K} {limits : limiter.Ghosts L K V N}
     {links : link_type.Ghosts N} {link_eq : equality.Ghosts N} {link_shown : debug.Ghosts N}
-    {build : builder.Ghosts S H} {hash : hasher.Ghosts H} where
+    {keyed : key_hasher.Ghosts S K H} {build : builder.Ghosts S H} {hash : hasher.Ghosts H} where
   abbrev walk : (m : MutBor (State K V L S)) (start end : ℕ) (front back : Option ℕ) → end ≤ length m.now.places
       → front ≡ slice_get m.now.places start → back ≡ last_of end m.now.places
-      → IterMut K V L S N H equal input limits links link_eq link_shown build hash
+      → IterMut K V L S N H equal input limits links link_eq link_shown keyed build hash
   walk m start end front back within first last = record {
     map = m;
     start = start;

@@ -8,6 +8,8 @@ use Rattle.std.specs.declared.fmt.Debug as debug
 use Rattle.std.specs.declared.hash.Hash as hashing
 use Rattle.std.specs.declared.hash.Hasher as hasher
 use Rattle.std.specs.declared.hash.BuildHasher as builder
+use Rattle.lru_limits.specs.declared.keys.KeyHasher as key_hasher
+use Rattle.lru_limits.specs.Hashing.{HasherMembers}
 use Rattle.group_table.specs.declared.link.LinkType as link_type
 use Rattle.lru_limits.specs.declared.limiter.Limiter as limiter
 use Rattle.schnellru.specs.Lists.{set_value_at, last_of}
@@ -28,26 +30,26 @@ lent_name None = maybe.none
 -- the members of the traits on which an `IterMut` stands
 module _ {K V L S N H : Type 0} {equal : equality.Ghosts K} {input : hashing.Ghosts K} {limits : limiter.Ghosts L K V N}
     {links : link_type.Ghosts N} {link_eq : equality.Ghosts N} {link_shown : debug.Ghosts N}
-    {build : builder.Ghosts S H} {hash : hasher.Ghosts H} where
+    {keyed : key_hasher.Ghosts S K H} {build : builder.Ghosts S H} {hash : hasher.Ghosts H} where
   -- the map as it is now
-  abbrev pub walk_map : IterMut K V L S N H equal input limits links link_eq link_shown build hash → State K V L S
+  abbrev pub walk_map : IterMut K V L S N H equal input limits links link_eq link_shown keyed build hash → State K V L S
   walk_map walk = walk.map.now
 
   -- the ghost name of the reference to it
-  abbrev pub walk_lender : IterMut K V L S N H equal input limits links link_eq link_shown build hash → GName
+  abbrev pub walk_lender : IterMut K V L S N H equal input limits links link_eq link_shown keyed build hash → GName
   walk_lender walk = walk.map.ghost_name
 
   -- the places of the pairs that are left: from this one
-  abbrev pub walk_start : IterMut K V L S N H equal input limits links link_eq link_shown build hash → ℕ
+  abbrev pub walk_start : IterMut K V L S N H equal input limits links link_eq link_shown keyed build hash → ℕ
   walk_start walk = walk.start
 
   -- up to this one
-  abbrev pub walk_end : IterMut K V L S N H equal input limits links link_eq link_shown build hash → ℕ
+  abbrev pub walk_end : IterMut K V L S N H equal input limits links link_eq link_shown keyed build hash → ℕ
   walk_end walk = walk.end
 
   -- the walk after it lent the first pair that was left, where w was left
-  abbrev pub walk_after_first : IterMut K V L S N H equal input limits links link_eq link_shown build hash → V
-      → IterMut K V L S N H equal input limits links link_eq link_shown build hash
+  abbrev pub walk_after_first : IterMut K V L S N H equal input limits links link_eq link_shown keyed build hash → V
+      → IterMut K V L S N H equal input limits links link_eq link_shown keyed build hash
   walk_after_first walk w = let m = walk.map in record {
     map = record {
       ref_ptr = m.ref_ptr;
@@ -64,8 +66,8 @@ module _ {K V L S N H : Type 0} {equal : equality.Ghosts K} {input : hashing.Gho
   }
 
   -- and after it lent the last
-  abbrev pub walk_after_last : IterMut K V L S N H equal input limits links link_eq link_shown build hash → V
-      → IterMut K V L S N H equal input limits links link_eq link_shown build hash
+  abbrev pub walk_after_last : IterMut K V L S N H equal input limits links link_eq link_shown keyed build hash → V
+      → IterMut K V L S N H equal input limits links link_eq link_shown keyed build hash
   walk_after_last walk w = let m = walk.map in record {
     map = record {
       ref_ptr = m.ref_ptr;
@@ -82,24 +84,26 @@ module _ {K V L S N H : Type 0} {equal : equality.Ghosts K} {input : hashing.Gho
   }
 
   -- the pair that `next` lends, and that of `next_back`
-  abbrev pub next_pair : IterMut K V L S N H equal input limits links link_eq link_shown build hash → Option (K × V)
+  abbrev pub next_pair : IterMut K V L S N H equal input limits links link_eq link_shown keyed build hash → Option (K × V)
   next_pair walk = if nat_lt walk.start walk.end then slice_get (walk_map walk).pairs walk.start else None
 
-  abbrev pub next_back_pair : IterMut K V L S N H equal input limits links link_eq link_shown build hash
+  abbrev pub next_back_pair : IterMut K V L S N H equal input limits links link_eq link_shown keyed build hash
       → Option (K × V)
   next_back_pair walk = if nat_lt walk.start walk.end then slice_get (walk_map walk).pairs (walk.end - 1) else None
 
 module _ (K V L S N H : RattleType) (key : HashMembers K.Denot)
     (limits : limiter.Ghosts L.Denot K.Denot V.Denot N.Denot)
     (links : link_type.Ghosts N.Denot) (link_eq : equality.Ghosts N.Denot) (link_shown : debug.Ghosts N.Denot)
-    (build : builder.Ghosts S.Denot H.Denot) (hash : hasher.Ghosts H.Denot) where
+    (hashed : HasherMembers S.Denot K.Denot H.Denot) (hash : hasher.Ghosts H.Denot) where
   abbrev pub walk_row : RattleType
   walk_row = the_row (record { mir = named 1; lft = [] }) K V L S N H (record { eq = key.eq })
-      (record { hash_input = key.hash_input }) limits links link_eq link_shown build hash
+      (record { hash_input = key.hash_input }) limits links link_eq link_shown
+      (record { hash_of = hashed.hash_of }) (record { build_hasher = hashed.build_hasher }) hash
 
   module _ (walk : MutBor (IterMut K.Denot V.Denot L.Denot S.Denot N.Denot H.Denot (record { eq = key.eq })
       (record { hash_input = key.hash_input }) limits
-      links link_eq link_shown build hash)) where
+      links link_eq link_shown (record { hash_of = hashed.hash_of })
+      (record { build_hasher = hashed.build_hasher }) hash)) where
     -- the first pair that was left is lent until r ends, if there is one
     abbrev pub lends_next : Option (Bor K.Denot × MutBor V.Denot) → Fml
     lends_next r = follows_if walk_row V walk.ghost_name (lent_name r) (λ w. walk_after_first walk.now w) walk.now

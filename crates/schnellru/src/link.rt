@@ -18,7 +18,7 @@ ghost use Rattle.schnellru.specs.Inside.Chain.{first_bucket, last_bucket, bucket
 
 use crate::link::chain::{close_gap, link_newest, link_placed, rewrite, unlink};
 use group_table::{LinkType, Table};
-use lru_limits::LookupKey;
+use lru_limits::{KeyHasher, LookupKey};
 use std::alloc::{AllocError, Global};
 use std::hash::{BuildHasher, Hash};
 use std::marker::Model;
@@ -321,7 +321,7 @@ impl<K: Eq + Hash, V, N: LinkType> Linked<K, V, N> {
 impl<K: Eq + Hash + Drop, V: Drop, N: LinkType> Linked<K, V, N> {
     // Moves all pairs into a table of so many buckets, in the same order. Among as many buckets as now they stay in
     // this table, and without pairs that needs no memory. Nor do no buckets.
-    pub(crate) fn move_to<S: BuildHasher>(
+    pub(crate) fn move_to<S: KeyHasher<K>>(
         &mut self,
         buckets: usize,
         hasher: &S,
@@ -334,8 +334,7 @@ impl<K: Eq + Hash + Drop, V: Drop, N: LinkType> Linked<K, V, N> {
         ensures pairs { pairs_of self.new ≡ pairs_of self.old }
         ensures room { OnOk result (room (marks_of self.new.slots) + length self.old.order ≡ full_capacity buckets) }
         ensures placings { OnOk result (self.new.placings ≡ count_up self.old.placings (length self.old.order)) }
-        ensures fits { OnOk result
-            (KeysFit (hash_by K.hash_input S.BuildHasher S.Hasher.Hasher hasher.now) self.new.slots) }
+        ensures fits { OnOk result (KeysFit (S.hash_of hasher.now) self.new.slots) }
         ensures linked { IsLinked self.new }
         ensures unchanged { OnErr result (self.new ≡ self.old) }
         ensures succeeds { length self.old.order ≡ 0 → length self.old.slots ≡ buckets → IsOk result }

@@ -6,9 +6,9 @@ ghost use Rattle.schnellru.specs.Sizes.{default_entry_bytes, links_of_32_bits};
 ghost use Rattle.schnellru.specs.State.{State, empty_map};
 
 use crate::link::Linked;
-use lru_limits::{ByLength, ByMemoryUsage, Limiter, RandomState};
+use lru_limits::{ByLength, ByMemoryUsage, KeyHasher, Limiter, RandomState};
 use std::alloc::Global;
-use std::hash::{BuildHasher, Hash};
+use std::hash::Hash;
 use std::marker::Model;
 
 mod by_hash;
@@ -64,7 +64,7 @@ pub const DEFAULT_ENTRY_BYTES: usize = 32;
 ///
 /// After schnellru's `LruMap`.
 #[derive(Drop)]
-pub struct LruMap<K: Eq + Hash, V, L: Limiter<K, V> = ByLength, S: BuildHasher = RandomState> {
+pub struct LruMap<K: Eq + Hash, V, L: Limiter<K, V> = ByLength, S: KeyHasher<K> = RandomState> {
     pub(crate) entries: Linked<K, V, L::LinkType>,
     limiter: L,
     hasher: S,
@@ -75,12 +75,11 @@ pub struct LruMap<K: Eq + Hash, V, L: Limiter<K, V> = ByLength, S: BuildHasher =
     alloc: Global,
 }
 
-impl<K: Eq + Hash, V, L: Limiter<K, V>, S: BuildHasher> Model for LruMap<K, V, L, S> {
+impl<K: Eq + Hash, V, L: Limiter<K, V>, S: KeyHasher<K>> Model for LruMap<K, V, L, S> {
     ghost use Rattle.schnellru.specs.State.{State};
 
     ghost Value = { State K V L S };
 
-    ghost use Rattle.lru_limits.specs.Hashing.{hash_by};
     ghost use Rattle.schnellru.specs.Inside.Holds.{state_of, Holds};
 
     ghost view = { λ m. state_of m.entries (record {
@@ -93,19 +92,18 @@ impl<K: Eq + Hash, V, L: Limiter<K, V>, S: BuildHasher> Model for LruMap<K, V, L
       max = L.LinkType.number L.LinkType.MAX;
     }) };
 
-    ghost invariant = { λ m. Holds K.eq (hash_by K.hash_input S.BuildHasher S.Hasher.Hasher) m.entries
-        (record {
-          limiter = m.limiter;
-          hasher = m.hasher;
-          moved = m.moved;
-          placed = m.placed;
-          shrunk = m.shrunk;
-          entry_bytes = m.entry_bytes;
-          max = L.LinkType.number L.LinkType.MAX;
-        }) };
+    ghost invariant = { λ m. Holds K.eq S.hash_of m.entries (record {
+      limiter = m.limiter;
+      hasher = m.hasher;
+      moved = m.moved;
+      placed = m.placed;
+      shrunk = m.shrunk;
+      entry_bytes = m.entry_bytes;
+      max = L.LinkType.number L.LinkType.MAX;
+    }) };
 }
 
-impl<K: Eq + Hash, V, L: Limiter<K, V>, S: BuildHasher> LruMap<K, V, L, S> {
+impl<K: Eq + Hash, V, L: Limiter<K, V>, S: KeyHasher<K>> LruMap<K, V, L, S> {
     /// An empty map, with this hasher and so many bytes an entry. It has no buckets and takes no memory.
     ///
     /// The documentation of the type says how the bytes of an entry are computed. Cost: `O(1)`.
@@ -177,7 +175,7 @@ impl<K: Eq + Hash, V, L: Limiter<K, V>> LruMap<K, V, L, RandomState> {
     }
 }
 
-impl<K: Eq + Hash, V, S: BuildHasher> LruMap<K, V, ByMemoryUsage, S> {
+impl<K: Eq + Hash, V, S: KeyHasher<K>> LruMap<K, V, ByMemoryUsage, S> {
     /// An empty map whose table may use so many bytes, with this hasher.
     ///
     /// The budget is kept as `memory_usage` counts, by the bytes of an entry that are given here.

@@ -8,8 +8,8 @@ ghost use Rattle.schnellru.specs.State.{IsMap};
 use crate::link::Linked;
 use crate::map::LruMap;
 use group_table::LinkType;
-use lru_limits::Limiter;
-use std::hash::{BuildHasher, Hash};
+use lru_limits::{KeyHasher, Limiter};
+use std::hash::Hash;
 use std::iter::FusedIterator;
 use std::marker::Model;
 
@@ -95,7 +95,7 @@ impl<'a, K, V, N: LinkType> ExactSizeIterator for Walk<'a, K, V, N> {
 
 impl<'a, K, V, N: LinkType> FusedIterator for Walk<'a, K, V, N> {}
 
-impl<K: Eq + Hash, V, L: Limiter<K, V>, S: BuildHasher> LruMap<K, V, L, S> {
+impl<K: Eq + Hash, V, L: Limiter<K, V>, S: KeyHasher<K>> LruMap<K, V, L, S> {
     /// The pairs, newest first. The order stays.
     ///
     /// ```
@@ -130,7 +130,7 @@ impl<
     V,
     N: LinkType + 'a,
     L: Limiter<K, V, LinkType = N>,
-    S: BuildHasher,
+    S: KeyHasher<K>,
 > IntoIterator for &'a LruMap<K, V, L, S> {
     type Item = (&'a K, &'a V);
 

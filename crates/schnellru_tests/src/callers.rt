@@ -72,7 +72,7 @@ fn put_within(map: &mut LruMap<u64, u64>, key: u64, value: u64) -> Result<bool, 
     requires { length map.old.pairs ≤ map.old.limiter }
     ensures { length map.new.pairs ≤ map.new.limiter }
 {
-    laws::inserts_keep_the_length::<u64, u64, RandomState>();
+    laws::calls_keep_the_length::<u64, u64, RandomState>();
     map.insert(key, value)
 }
 
@@ -88,8 +88,7 @@ fn exchange(
     ensures { IsSummed ⟦<ByCost as Summing<u64, u64, u64>>⟧.cost_of
         ⟦<ByCost as Summing<u64, u64, u64>>⟧.account map.new }
 {
-    laws::removals_keep_sums::<u64, u64, u64, ByCost, RandomState>();
-    laws::inserts_keep_sums::<u64, u64, u64, ByCost, RandomState>();
+    laws::calls_keep_sums::<u64, u64, u64, ByCost, RandomState>();
     map.remove(&old);
     map.insert(new, value)
 }

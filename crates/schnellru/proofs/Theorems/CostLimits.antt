@@ -14,7 +14,7 @@ use Rattle.schnellru.proofs.Theorems.InsertAnswers.{IsWithin}
 use Rattle.schnellru.proofs.Theorems.Limits.{insert_within, total-without}
 use Rattle.schnellru.proofs.Theorems.Moves.{KeepsOffers}
 use Rattle.schnellru.proofs.Theorems.Reservations.{reserved_list}
-use Rattle.schnellru.proofs.Theorems.Runs.{run_keeps, run_summed}
+use Rattle.schnellru.proofs.Theorems.Runs.{step_changes, step_summed}
 use Rattle.schnellru.proofs.Theorems.Shrinks.{shrunk_list}
 use Rattle.schnellru.proofs.Theorems.Sums.{total, total-is, total-front, split-least, split_last}
 
@@ -103,14 +103,19 @@ module _ {K V H : Type 0} (cost : V → ℕ) (names : K → K → Bool) (hash_of
         (omega (arith, ap (total value_cost) (reserved_list _ n old result new h).0))
     step_within (shrinks result h) = less (omega (arith, ap (total value_cost) (shrunk_list old result new h).0))
 
+  pub step_keeps_cost : (old new : State K V Budget H) → Step (by_cost cost) (charges cost) names hash_of old new
+      → IsSummed (λ k v. cost v) (λ b. b.cost) old → old.limiter.cost ≤ old.limiter.limit
+      → new.limiter.cost ≤ old.limiter.limit
+  step_keeps_cost old new s was within = step_within old new was (step_summed (charges-sums cost) old new s was)
+      (step_changes (keeps_limit cost) old new s).2.moves within s
+
   pub run_within_cost : (new old : State K V Budget H) → Run (Step (by_cost cost) (charges cost) names hash_of) new old
       → IsSummed (λ k v. cost v) (λ b. b.cost) old → old.limiter.cost ≤ old.limiter.limit
       → new.limiter.cost ≤ old.limiter.limit
   run_within_cost new old ends was within = within
   run_within_cost new old (goes_on mid s sized r) was within =
-      let one : Run (Step (by_cost cost) (charges cost) names hash_of) mid old = goes_on mid s sized ends in
-      let is = run_summed (charges-sums cost) mid old one was in
-      let same : mid.limiter.limit ≡ old.limiter.limit = run_keeps (keeps_limit cost) mid old one in
-      let kept : mid.limiter.cost ≤ old.limiter.limit = step_within old mid was is same within s in
+      let is = step_summed (charges-sums cost) old mid s was in
+      let same : mid.limiter.limit ≡ old.limiter.limit = (step_changes (keeps_limit cost) old mid s).2.moves in
+      let kept = step_keeps_cost old mid s was within in
       subst (λ n. new.limiter.cost ≤ n) same
       (run_within_cost new mid r is (subst (λ n. mid.limiter.cost ≤ n) (sym same) kept))

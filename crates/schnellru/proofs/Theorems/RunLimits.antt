@@ -30,7 +30,7 @@ module _ {K V H : Type 0} (names : K → K → Bool) (hash_of : H → K → ℕ)
     fewer : length new.pairs ≤ length old.pairs → length old.pairs ≤ old.limiter → length new.pairs ≤ old.limiter
     fewer h few = omega (arith, h, few)
 
-    step_stays_short : Step length_rules length_offers names hash_of old new
+    pub step_stays_short : Step length_rules length_offers names hash_of old new
         → length old.pairs ≤ old.limiter → length new.pairs ≤ old.limiter
     step_stays_short (inserts k v result h) = by_length_stays names hash_of k v old result new h
     step_stays_short (makes_newest v k result (got w e r step)) = fewer
@@ -61,7 +61,7 @@ module _ {K V H : Type 0} (names : K → K → Bool) (hash_of : H → K → ℕ)
       (subst (λ most. length mid.pairs ≤ most) (sym same) (step_stays_short old mid s few)))
 
   -- a limit by memory usage
-  step_uses_at_most : (old new : State K V ℕ H) → Step memory_rules all_offers names hash_of old new
+  pub step_uses_at_most : (old new : State K V ℕ H) → Step memory_rules all_offers names hash_of old new
       → UsesAtMost old.limiter old → UsesAtMost old.limiter new
   step_uses_at_most old new s = uses_at_most memory_rules _ _ _ old new
       (λ bytes e. grind (arith, nat_tests)) (λ s p. p.1) (step_changes keeps_limiter old new s).2.tables

@@ -1,18 +1,22 @@
 -- What each move keeps, every step keeps, and so does every run.
-use Rattle.std.proofs.Common.{◌≡◌, ℕ, Bool, List, subst}
+use Rattle.std.proofs.Common.{◌≡◌, ℕ, Bool, true, false, List, length, Ok, Err, inl, inr, refl, subst}
 use Rattle.std.specs.List.{IsDistinct}
 use Rattle.std.specs.Map.{set_value}
 use Rattle.std.proofs.lemmas.Map.{keys-set_value}
 use Rattle.std.proofs.Common.{sym}
 use Rattle.lru_limits.specs.Rules.{Rules, Offers}
 use Rattle.lru_limits.specs.Laws.{IsLookup, IsInsertion, IsAccount}
+use Rattle.schnellru.specs.Lists.{keys_of}
 use Rattle.schnellru.specs.State.{State, Contents, contents, IsSized, IsMap}
+use Rattle.schnellru.specs.Calls.{promoted, written, cleared}
 use Rattle.schnellru.specs.Runs.{Step, inserts, makes_newest, gets, removes, pops_oldest, pops_newest, drains, clears}
 use Rattle.schnellru.specs.Runs.{reserves, shrinks}
 use Rattle.schnellru.specs.Runs.{AnyStep, calls, writes, sets_limiter, Run, ends, goes_on}
+use Rattle.schnellru.specs.Shrinks.{PlacesAnew}
 use Rattle.schnellru.specs.Theorems.{PaysForMoves, IsSummed}
 use Rattle.schnellru.proofs.PairLists.DistinctKeys.{offers_distinct}
-use Rattle.schnellru.proofs.Theorems.Moves.{KeepsOffers, keeps_nothing}
+use Rattle.schnellru.proofs.Theorems.Moves.{KeepsOffers, keeps_nothing, keeps_any}
+use Rattle.schnellru.proofs.Theorems.Removals.{stay_any}
 use Rattle.schnellru.proofs.Theorems.TableGrowth.{Changes}
 use Rattle.schnellru.proofs.Theorems.Potential.{pays_self, pays_trans, bounded_of}
 use Rattle.schnellru.proofs.Theorems.Ways.{insert_changes}
@@ -21,7 +25,15 @@ use Rattle.schnellru.proofs.Theorems.Sums.{keeps_sums, stays_summed}
 use Rattle.schnellru.proofs.Theorems.CallChanges.{promoted_changes, remove_changes, pop_oldest_changes}
 use Rattle.schnellru.proofs.Theorems.CallChanges.{pop_newest_changes, cleared_changes, drain_changes}
 use Rattle.schnellru.proofs.Theorems.CallChanges.{reserve_changes, makes_newest_changes, written_changes, set_changes}
-use Rattle.schnellru.proofs.Theorems.Shrinks.{shrink_changes}
+use Rattle.schnellru.proofs.Theorems.Shrinks.{shrink_changes, shrink_pays, shrink_kept}
+
+module _ {K V S H : Type 0} where
+  -- what moves is paid for, also what is placed anew
+  abbrev pub Pays : State K V S H → State K V S H → Type 0
+  Pays old new = (anew : ℕ) × PlacesAnew anew old new × PaysForMoves anew old new
+
+  none : (old new : State K V S H) → PaysForMoves 0 old new → Pays old new
+  none old new pays = (0, inl refl, pays)
 
 module _ {K V S H I : Type 0} {rules : Rules K V S} {offers : Offers K V S I} {names : I → K → Bool}
     {hash_of : H → K → ℕ} where
@@ -63,14 +75,47 @@ module _ {K V S H I : Type 0} {rules : Rules K V S} {offers : Offers K V S I} {n
       let tables = (any_changes keeps_nothing (λ c test value. tt) (λ c s. tt) old new s).2.tables in
       (tables.hasher, tables.max, tables.entry_bytes)
 
+  -- each call pays for what it moves
+  pub any_pays : (old new : State K V S H) → AnyStep rules offers names hash_of old new → IsSized old → Pays old new
+  any_pays old new (calls (inserts key value result h)) ok =
+      none old new ((insert_changes keeps_nothing key value old result new h).tables.pays (bounded_of old ok))
+  any_pays old new (calls (makes_newest value key result h)) ok =
+      none old new ((makes_newest_changes keeps_nothing h).tables.pays (bounded_of old ok))
+  any_pays old new (calls (gets key e)) ok = rw e
+      (none old (promoted (names key) old) ((promoted_changes {rules = rules} {names = names} keeps_any old key).tables.pays (bounded_of old ok)))
+  any_pays old new (calls (removes test result h)) ok =
+      none old new ((remove_changes stay_any old test result new h).tables.pays (bounded_of old ok))
+  any_pays old new (calls (pops_oldest result h)) ok =
+      none old new ((pop_oldest_changes stay_any old result new h).tables.pays (bounded_of old ok))
+  any_pays old new (calls (pops_newest result h)) ok =
+      none old new ((pop_newest_changes stay_any old result new h).tables.pays (bounded_of old ok))
+  any_pays old new (calls (drains newest oldest result h)) ok =
+      none old new ((drain_changes stay_any old newest oldest result new h).tables.pays (bounded_of old ok))
+  any_pays old new (calls (clears e)) ok = rw e
+      (none old (cleared rules old) ((cleared_changes {rules = rules} stay_any old).tables.pays (bounded_of old ok)))
+  any_pays old new (calls (reserves n result h)) ok =
+      none old new ((reserve_changes stay_any.way n old result new h).tables.pays (bounded_of old ok))
+  any_pays old new (calls (shrinks (Ok true) h)) ok = (length old.pairs, inr (h, refl), shrink_pays old new h)
+  any_pays old new (calls (shrinks (Ok false) h)) ok =
+      rw (shrink_kept old (Ok false) new (λ same. absurd cc) h) (none old old (pays_self old ok.shrunk))
+  any_pays old new (calls (shrinks (Err e) h)) ok =
+      rw (shrink_kept old (Err e) new (λ same. absurd cc) h) (none old old (pays_self old ok.shrunk))
+  any_pays old new (writes test value e) ok = rw e
+      (none old (written test value old) ((written_changes rules (λ c d. Unit {0}) old test value tt).tables.pays (bounded_of old ok)))
+  any_pays old new (sets_limiter s e) ok = rw e
+      (none old (record old { limiter = s }) ((set_changes rules (λ c d. Unit {0}) old s tt).tables.pays (bounded_of old ok)))
+
   pub run_pays : (new old : State K V S H) → IsSized old → Run (AnyStep rules offers names hash_of) new old
       → (anew : ℕ) × PaysForMoves anew old new
   run_pays new old ok ends = (0, pays_self new ok.shrunk)
   run_pays new old ok (goes_on mid s sized r) =
-      let first = (any_changes keeps_nothing (λ c test value. tt) (λ c s. tt) old mid s).2.tables.pays
-      (bounded_of old ok) in
       let rest = run_pays new mid sized r in
-      (_, pays_trans first rest.1)
+      (_, pays_trans (any_pays old mid s ok).2 rest.1)
+
+  pub step_summed : {cost : K → V → ℕ} {account : S → ℕ} → IsAccount rules offers cost account
+      → (old new : State K V S H) → Step rules offers names hash_of old new
+      → IsSummed cost account old → IsSummed cost account new
+  step_summed laws old new s = stays_summed laws old new (step_changes (keeps_sums laws names) old new s).2.moves
 
   pub run_summed : {cost : K → V → ℕ} {account : S → ℕ} → IsAccount rules offers cost account
       → (new old : State K V S H)
@@ -80,7 +125,13 @@ module _ {K V S H I : Type 0} {rules : Rules K V S} {offers : Offers K V S I} {n
   module _ {eq : K → K → Bool} {query_input : I → List (List ℕ)} {key_input : K → List (List ℕ)}
       (looks_up : IsLookup names eq query_input key_input)
       (laws : IsInsertion names eq offers) where
-    any_is_map : (old new : State K V S H) → AnyStep rules offers names hash_of old new → IsMap eq old → IsSized new
+    pub any_distinct : (old new : State K V S H) → AnyStep rules offers names hash_of old new
+        → IsDistinct eq (keys_of old.pairs) → IsDistinct eq (keys_of new.pairs)
+    any_distinct old new s = (any_changes (offers_distinct looks_up laws)
+        (λ c test value d. subst (IsDistinct eq) (sym (keys-set_value test c.pairs value)) d)
+        (λ c s d. d) old new s).2.moves
+
+    pub any_is_map : (old new : State K V S H) → AnyStep rules offers names hash_of old new → IsMap eq old → IsSized new
         → IsMap eq new
     any_is_map old new s =
         let changed = any_changes (offers_distinct looks_up laws)

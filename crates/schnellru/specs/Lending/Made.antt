@@ -6,7 +6,7 @@ use Rattle.std.specs.declared.cmp.PartialEq as equality
 use Rattle.std.specs.declared.fmt.Debug as debug
 use Rattle.std.specs.HashMap.Lent.{HashMembers}
 use Rattle.std.specs.declared.hash.Hasher as hasher
-use Rattle.std.specs.declared.hash.BuildHasher as builder
+use Rattle.lru_limits.specs.Hashing.{HasherMembers}
 use Rattle.group_table.specs.declared.link.LinkType as link_type
 use Rattle.lru_limits.specs.declared.limiter.Limiter as limiter
 use Rattle.schnellru.specs.Lists.{newest_value, set_newest}
@@ -18,7 +18,7 @@ use Rattle.schnellru.specs.declared.map.get_or_insert.NotLent.{NotLent}
 module _ (K V L S N H : RattleType) (key : HashMembers K.Denot)
     (limits : limiter.Ghosts L.Denot K.Denot V.Denot N.Denot)
     (links : link_type.Ghosts N.Denot) (link_eq : equality.Ghosts N.Denot) (link_shown : debug.Ghosts N.Denot)
-    (build : builder.Ghosts S.Denot H.Denot) (hash : hasher.Ghosts H.Denot)
+    (hashed : HasherMembers S.Denot K.Denot H.Denot) (hash : hasher.Ghosts H.Denot)
     (m : MutBor (State K.Denot V.Denot L.Denot S.Denot)) {E : Type 0}
     (Step : Result Bool E → State K.Denot V.Denot L.Denot S.Denot → Type 0) where
   -- it was made n, whose newest value is lent, where w is left
@@ -28,11 +28,11 @@ module _ (K V L S N H : RattleType) (key : HashMembers K.Denot)
       × (n ≡ record made { pairs = set_newest made.pairs w })
 
   abbrev pub lends_or : Result (MutBor V.Denot) (NotLent E) → Fml
-  lends_or r = LendsSoOk (map_row K V L S N H key limits links link_eq link_shown build hash) V m r
+  lends_or r = LendsSoOk (map_row K V L S N H key limits links link_eq link_shown hashed hash) V m r
       (λ n w. Made (kept_of r) n w) (λ n. Step (is_kept (kept_of r)) n)
 
   -- the same for an answer that has no error where the key is not there
   abbrev pub lends_made : Result (Option (MutBor V.Denot)) E → Fml
-  lends_made r = follows_so (map_row K V L S N H key limits links link_eq link_shown build hash) V m.ghost_name
+  lends_made r = follows_so (map_row K V L S N H key limits links link_eq link_shown hashed hash) V m.ghost_name
       (name_lent r)
       (λ w n. IsLent r → Made r n w) (λ n. NoneLent r → Step (is_kept r) n)

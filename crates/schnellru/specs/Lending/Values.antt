@@ -6,7 +6,7 @@ use Rattle.std.specs.declared.cmp.PartialEq as equality
 use Rattle.std.specs.declared.fmt.Debug as debug
 use Rattle.std.specs.HashMap.Lent.{HashMembers}
 use Rattle.std.specs.declared.hash.Hasher as hasher
-use Rattle.std.specs.declared.hash.BuildHasher as builder
+use Rattle.lru_limits.specs.Hashing.{HasherMembers}
 use Rattle.group_table.specs.declared.link.LinkType as link_type
 use Rattle.lru_limits.specs.declared.limiter.Limiter as limiter
 use Rattle.schnellru.specs.Lists.{set_newest, set_value_at}
@@ -17,11 +17,12 @@ use Rattle.schnellru.specs.contracts.map.LruMap.{the_row}
 module _ (K V L S N H : RattleType) (key : HashMembers K.Denot)
     (limits : limiter.Ghosts L.Denot K.Denot V.Denot N.Denot)
     (links : link_type.Ghosts N.Denot) (link_eq : equality.Ghosts N.Denot) (link_shown : debug.Ghosts N.Denot)
-    (build : builder.Ghosts S.Denot H.Denot) (hash : hasher.Ghosts H.Denot) where
+    (hashed : HasherMembers S.Denot K.Denot H.Denot) (hash : hasher.Ghosts H.Denot) where
   -- the map's type, as the logic holds it
   abbrev pub map_row : RattleType
   map_row = the_row K V L S N H (record { eq = key.eq })
-      (record { hash_input = key.hash_input }) limits links link_eq link_shown build hash
+      (record { hash_input = key.hash_input }) limits links link_eq link_shown
+      (record { hash_of = hashed.hash_of }) (record { build_hasher = hashed.build_hasher }) hash
 
   module _ (m : MutBor (State K.Denot V.Denot L.Denot S.Denot)) where
     -- it ends as this map, but with the last value written through r at the key that is named, and at `None` it stays

@@ -2,16 +2,15 @@
 ghost use Rattle.std.specs.Prelude.{◌≡◌, IfSome, IfNone};
 ghost use Rattle.std.specs.Borrow.{sem};
 ghost use Rattle.std.specs.Option.{option_copied_mut};
-ghost use Rattle.lru_limits.specs.Hashing.{hash_by};
 ghost use Rattle.schnellru.specs.ByHash.{GivesByHash, GivesNoneByHash};
 ghost use Rattle.schnellru.specs.State.{IsMap};
 ghost use Rattle.schnellru.specs.Calls.{promoted, written};
 
 use crate::map::LruMap;
-use lru_limits::Limiter;
-use std::hash::{BuildHasher, Hash};
+use lru_limits::{KeyHasher, Limiter};
+use std::hash::Hash;
 
-impl<K: Eq + Hash, V, L: Limiter<K, V>, S: BuildHasher> LruMap<K, V, L, S> {
+impl<K: Eq + Hash, V, L: Limiter<K, V>, S: KeyHasher<K>> LruMap<K, V, L, S> {
     ghost use Rattle.schnellru.specs.Lending.Values.{lends_given};
 
     /// The value of a pair of this hash that `is_eq` accepts, to be changed. Its pair becomes the newest; what is
@@ -33,12 +32,9 @@ impl<K: Eq + Hash, V, L: Limiter<K, V>, S: BuildHasher> LruMap<K, V, L, S> {
     pub fn get_by_hash<F: FnMut(&K, &V) -> bool>(&mut self, hash: u64, is_eq: F) -> Option<&mut V>
         requires callable { F.IsAlwaysCallable is_eq }
         ensures* writes_back { sem 𝓛 (lends_given K.row V.row L.row S.row L.LinkType.row S.Hasher.row K.Hash L.Limiter
-            L.LinkType.LinkType.own L.LinkType.PartialEq L.LinkType.Debug S.BuildHasher S.Hasher.Hasher self.entry
-            (GivesByHash K.eq (hash_by K.hash_input S.BuildHasher S.Hasher.Hasher self.old.hasher) self.old.pairs hash
-            F.FnMut is_eq)
-            promoted result) }
-        ensures none { IfNone result
-            (GivesNoneByHash K.eq (hash_by K.hash_input S.BuildHasher S.Hasher.Hasher self.old.hasher) self.old.pairs
+            L.LinkType.LinkType.own L.LinkType.PartialEq L.LinkType.Debug S.KeyHasher S.Hasher.Hasher self.entry
+            (GivesByHash K.eq (S.hash_of self.old.hasher) self.old.pairs hash F.FnMut is_eq) promoted result) }
+        ensures none { IfNone result (GivesNoneByHash K.eq (S.hash_of self.old.hasher) self.old.pairs
             hash F.FnMut is_eq) }
         ensures map { (key : K) (last : V) → IsMap K.eq (written (K.eq key) last (promoted (K.eq key) self.old)) }
     {
@@ -58,10 +54,8 @@ impl<K: Eq + Hash, V, L: Limiter<K, V>, S: BuildHasher> LruMap<K, V, L, S> {
     pub fn peek_by_hash<F: FnMut(&K, &V) -> bool>(&self, hash: u64, is_eq: F) -> Option<&V>
         requires callable { F.IsAlwaysCallable is_eq }
         ensures found { IfSome result (λ value. (key : K)
-            × GivesByHash K.eq (hash_by K.hash_input S.BuildHasher S.Hasher.Hasher self.now.hasher) self.now.pairs hash
-            F.FnMut is_eq (key, value.now)) }
-        ensures none { IfNone result
-            (GivesNoneByHash K.eq (hash_by K.hash_input S.BuildHasher S.Hasher.Hasher self.now.hasher) self.now.pairs
+            × GivesByHash K.eq (S.hash_of self.now.hasher) self.now.pairs hash F.FnMut is_eq (key, value.now)) }
+        ensures none { IfNone result (GivesNoneByHash K.eq (S.hash_of self.now.hasher) self.now.pairs
             hash F.FnMut is_eq) }
     {
         let b = self.entries.find_by(hash, is_eq)?;
@@ -86,12 +80,10 @@ impl<K: Eq + Hash, V, L: Limiter<K, V>, S: BuildHasher> LruMap<K, V, L, S> {
     ) -> Option<&mut V>
         requires callable { F.IsAlwaysCallable is_eq }
         ensures* writes_back { sem 𝓛 (lends_given K.row V.row L.row S.row L.LinkType.row S.Hasher.row K.Hash L.Limiter
-            L.LinkType.LinkType.own L.LinkType.PartialEq L.LinkType.Debug S.BuildHasher S.Hasher.Hasher self.entry
-            (GivesByHash K.eq (hash_by K.hash_input S.BuildHasher S.Hasher.Hasher self.old.hasher) self.old.pairs hash
-            F.FnMut is_eq)
+            L.LinkType.LinkType.own L.LinkType.PartialEq L.LinkType.Debug S.KeyHasher S.Hasher.Hasher self.entry
+            (GivesByHash K.eq (S.hash_of self.old.hasher) self.old.pairs hash F.FnMut is_eq)
             (λ names st. st) result) }
-        ensures none { IfNone result
-            (GivesNoneByHash K.eq (hash_by K.hash_input S.BuildHasher S.Hasher.Hasher self.old.hasher) self.old.pairs
+        ensures none { IfNone result (GivesNoneByHash K.eq (S.hash_of self.old.hasher) self.old.pairs
             hash F.FnMut is_eq) }
         ensures map { (key : K) (last : V) → IsMap K.eq (written (K.eq key) last self.old) }
     {

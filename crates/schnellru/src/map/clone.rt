@@ -1,19 +1,18 @@
 //! A copy of a map.
 ghost use Rattle.std.specs.Prelude.{◌≡◌, IfOk, IsOk, IsTrue};
-ghost use Rattle.lru_limits.specs.Hashing.{hash_by};
 ghost use Rattle.schnellru.specs.Clones.{IsClone};
 ghost use Rattle.schnellru.specs.State.{buckets};
 
 use crate::map::LruMap;
-use lru_limits::Limiter;
+use lru_limits::{KeyHasher, Limiter};
 use std::alloc::AllocError;
-use std::hash::{BuildHasher, Hash};
+use std::hash::Hash;
 
 impl<
     K: Eq + Hash + Clone + Drop,
     V: Clone + Drop,
     L: Limiter<K, V> + Clone,
-    S: BuildHasher + Clone + Drop,
+    S: KeyHasher<K> + Clone + Drop,
 > LruMap<K, V, L, S> {
     /// The map again: its pairs in their order, its limiter, its hasher, its buckets and room, and its counts, each by
     /// its clone. The map itself stays.
@@ -35,8 +34,7 @@ impl<
     pub fn clone(&self) -> Result<Self, AllocError>
         requires keys { (key copy : K) → K.is_clone key copy → IsTrue (K.eq key copy) }
         requires hashers { (hasher copy : S) → S.is_clone hasher copy → (key : K) →
-            hash_by K.hash_input S.BuildHasher S.Hasher.Hasher copy key
-            ≡ hash_by K.hash_input S.BuildHasher S.Hasher.Hasher hasher key }
+            S.hash_of copy key ≡ S.hash_of hasher key }
         ensures clone { IfOk result (IsClone K.is_clone V.is_clone L.is_clone S.is_clone self.now) }
         ensures succeeds { buckets self.now ≡ 0 → L.is_infallible self.now.limiter → S.is_infallible self.now.hasher
             → IsOk result }

@@ -9,10 +9,10 @@ ghost use Rattle.schnellru.specs.Inside.Handing.{Hands};
 
 use crate::map::LruMap;
 use crate::map::remove::take_out_last;
-use lru_limits::Limiter;
-use std::hash::{BuildHasher, Hash};
+use lru_limits::{KeyHasher, Limiter};
+use std::hash::Hash;
 
-impl<K: Eq + Hash, V, L: Limiter<K, V>, S: BuildHasher> LruMap<K, V, L, S> {
+impl<K: Eq + Hash, V, L: Limiter<K, V>, S: KeyHasher<K>> LruMap<K, V, L, S> {
     // Takes the oldest pair out, of which the limiter is told, and gives what that left of it.
     #[inline]
     pub(super) fn take_oldest(&mut self) -> (K, V)
@@ -24,7 +24,7 @@ impl<K: Eq + Hash, V, L: Limiter<K, V>, S: BuildHasher> LruMap<K, V, L, S> {
     }
 }
 
-impl<K: Eq + Hash + Drop, V: Drop, L: Limiter<K, V>, S: BuildHasher> LruMap<K, V, L, S> {
+impl<K: Eq + Hash + Drop, V: Drop, L: Limiter<K, V>, S: KeyHasher<K>> LruMap<K, V, L, S> {
     // Hands over the oldest pair, if the limiter would be over with one more.
     #[inline]
     pub(super) fn make_way<F: FnMut(K, V)>(&mut self, sink: &mut F)

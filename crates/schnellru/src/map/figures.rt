@@ -8,11 +8,11 @@ ghost use Rattle.schnellru.specs.State.{IsMap, buckets, room};
 use crate::map::LruMap;
 use crate::sizes;
 use group_table::LinkType;
-use lru_limits::Limiter;
+use lru_limits::{KeyHasher, Limiter};
 use std::fmt;
-use std::hash::{BuildHasher, Hash};
+use std::hash::Hash;
 
-impl<K: Eq + Hash, V, L: Limiter<K, V>, S: BuildHasher> LruMap<K, V, L, S> {
+impl<K: Eq + Hash, V, L: Limiter<K, V>, S: KeyHasher<K>> LruMap<K, V, L, S> {
     ghost use Rattle.schnellru.specs.Lending.Values.{lends_limiter};
 
     /// The number of pairs. Cost: `O(1)`.
@@ -90,7 +90,7 @@ impl<K: Eq + Hash, V, L: Limiter<K, V>, S: BuildHasher> LruMap<K, V, L, S> {
     /// Cost: `O(1)`.
     pub fn limiter_mut(&mut self) -> &mut L
         ensures* writes_back { sem 𝓛 (lends_limiter K.row V.row L.row S.row L.LinkType.row S.Hasher.row K.Hash L.Limiter
-            L.LinkType.LinkType.own L.LinkType.PartialEq L.LinkType.Debug S.BuildHasher S.Hasher.Hasher self.entry
+            L.LinkType.LinkType.own L.LinkType.PartialEq L.LinkType.Debug S.KeyHasher S.Hasher.Hasher self.entry
             result) }
         ensures value { result.now ≡ self.old.limiter }
     {
@@ -99,7 +99,7 @@ impl<K: Eq + Hash, V, L: Limiter<K, V>, S: BuildHasher> LruMap<K, V, L, S> {
 }
 
 /// Shows the number of pairs alone, as `LruMap { len: 3, .. }`.
-impl<K: Eq + Hash, V, L: Limiter<K, V>, S: BuildHasher> fmt::Debug for LruMap<K, V, L, S> {
+impl<K: Eq + Hash, V, L: Limiter<K, V>, S: KeyHasher<K>> fmt::Debug for LruMap<K, V, L, S> {
     fn fmt<W: fmt::Write>(&self, f: &mut fmt::Formatter<W>) -> fmt::Result {
         let len = self.len();
         f.debug_struct("LruMap")

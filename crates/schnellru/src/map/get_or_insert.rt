@@ -1,6 +1,5 @@
 //! Getting a value that is inserted where its key is not there.
 ghost use Rattle.std.specs.Prelude.{◌≡◌, None};
-ghost use Rattle.lru_limits.specs.Hashing.{hash_by};
 ghost use Rattle.schnellru.specs.Lists.{lookup};
 ghost use Rattle.schnellru.specs.State.{IsMap};
 ghost use Rattle.schnellru.specs.GetOrInserts.{MakesNewest, SaysNewest};
@@ -9,9 +8,9 @@ ghost use Rattle.std.specs.Borrow.{sem};
 ghost use Rattle.schnellru.specs.Lending.Answers.{kept_of};
 
 use crate::map::LruMap;
-use lru_limits::{Insertion, Limiter, LookupKey};
+use lru_limits::{Insertion, KeyHasher, Limiter, LookupKey};
 use std::alloc::AllocError;
-use std::hash::{BuildHasher, Hash};
+use std::hash::Hash;
 use thiserror::Error;
 
 // Why no value is lent: the key is not there, or there was a refusal.
@@ -59,7 +58,7 @@ fn kept_or<V>(lent: Result<&mut V, NotLent<AllocError>>) -> Result<Option<&mut V
     }
 }
 
-impl<K: Eq + Hash + Drop, V: Drop, L: Limiter<K, V>, S: BuildHasher> LruMap<K, V, L, S> {
+impl<K: Eq + Hash + Drop, V: Drop, L: Limiter<K, V>, S: KeyHasher<K>> LruMap<K, V, L, S> {
     ghost use Rattle.schnellru.specs.Lending.Made.{lends_or, lends_made};
 
     /// Makes the pair of a key the newest, and inserts it with the value that the closure makes where the key is not
@@ -89,8 +88,7 @@ impl<K: Eq + Hash + Drop, V: Drop, L: Limiter<K, V>, S: BuildHasher> LruMap<K, V
     where
         L: Insertion<K, V, I>,
         requires { lookup (I.names key) self.old.pairs ≡ None → F.pre make }
-        ensures step { MakesNewest L.rules L.offers I.names (hash_by K.hash_input S.BuildHasher S.Hasher.Hasher)
-            (F.post make) key self.old result self.new }
+        ensures step { MakesNewest L.rules L.offers I.names S.hash_of (F.post make) key self.old result self.new }
         ensures says { SaysNewest (I.names key) result self.new }
         ensures map { IsMap K.eq self.new }
     {
@@ -109,10 +107,9 @@ impl<K: Eq + Hash + Drop, V: Drop, L: Limiter<K, V>, S: BuildHasher> LruMap<K, V
     where
         L: Insertion<K, V, I>,
         requires { lookup (I.names key) self.old.pairs ≡ None → F.pre make }
-        ensures { MakesNewest L.rules L.offers I.names (hash_by K.hash_input S.BuildHasher S.Hasher.Hasher)
-            (F.post make) key self.old result self.new }
+        ensures { MakesNewest L.rules L.offers I.names S.hash_of (F.post make) key self.old result self.new }
     {
-        let hash = self.hasher.hash_one(&key);
+        let hash = self.hasher.hash_named(&key);
         match self.entries.find(hash, &key) {
             Some(b) => {
                 self.entries.promote(b);
@@ -132,9 +129,8 @@ impl<K: Eq + Hash + Drop, V: Drop, L: Limiter<K, V>, S: BuildHasher> LruMap<K, V
         L: Insertion<K, V, I>,
         requires { lookup (I.names key) self.old.pairs ≡ None → F.pre make }
         ensures* writes_back { sem 𝓛 (lends_or K.row V.row L.row S.row L.LinkType.row S.Hasher.row K.Hash L.Limiter
-            L.LinkType.LinkType.own L.LinkType.PartialEq L.LinkType.Debug S.BuildHasher S.Hasher.Hasher self.entry
-            (MakesNewest L.rules L.offers I.names (hash_by K.hash_input S.BuildHasher S.Hasher.Hasher)
-            (F.post make) key self.old) result) }
+            L.LinkType.LinkType.own L.LinkType.PartialEq L.LinkType.Debug S.KeyHasher S.Hasher.Hasher self.entry
+            (MakesNewest L.rules L.offers I.names S.hash_of (F.post make) key self.old) result) }
     {
         match self.ensure_newest(key, make) {
             Ok(true) => Ok(self.newest_value_mut()),
@@ -170,9 +166,8 @@ impl<K: Eq + Hash + Drop, V: Drop, L: Limiter<K, V>, S: BuildHasher> LruMap<K, V
         L: Insertion<K, V, I>,
         requires { lookup (I.names key) self.old.pairs ≡ None → F.pre make }
         ensures* writes_back { sem 𝓛 (lends_made K.row V.row L.row S.row L.LinkType.row S.Hasher.row K.Hash L.Limiter
-            L.LinkType.LinkType.own L.LinkType.PartialEq L.LinkType.Debug S.BuildHasher S.Hasher.Hasher self.entry
-            (MakesNewest L.rules L.offers I.names (hash_by K.hash_input S.BuildHasher S.Hasher.Hasher)
-            (F.post make) key self.old) result) }
+            L.LinkType.LinkType.own L.LinkType.PartialEq L.LinkType.Debug S.KeyHasher S.Hasher.Hasher self.entry
+            (MakesNewest L.rules L.offers I.names S.hash_of (F.post make) key self.old) result) }
     {
         let lent = self.lend_or_insert(key, make);
         kept_or(lent)
@@ -198,7 +193,7 @@ impl<K: Eq + Hash + Drop, V: Drop, L: Limiter<K, V>, S: BuildHasher> LruMap<K, V
     where
         L: Insertion<K, V, I>,
         requires { lookup (I.names key) self.old.pairs ≡ None → F.pre make }
-        ensures step { MakesNewestIfMade L.rules L.offers I.names (hash_by K.hash_input S.BuildHasher S.Hasher.Hasher)
+        ensures step { MakesNewestIfMade L.rules L.offers I.names S.hash_of
             (F.post make) key self.old result self.new }
         ensures says { SaysNewest (I.names key) result self.new }
         ensures map { IsMap K.eq self.new }
@@ -218,10 +213,9 @@ impl<K: Eq + Hash + Drop, V: Drop, L: Limiter<K, V>, S: BuildHasher> LruMap<K, V
     where
         L: Insertion<K, V, I>,
         requires { lookup (I.names key) self.old.pairs ≡ None → F.pre make }
-        ensures { MakesNewestIfMade L.rules L.offers I.names (hash_by K.hash_input S.BuildHasher S.Hasher.Hasher)
-            (F.post make) key self.old result self.new }
+        ensures { MakesNewestIfMade L.rules L.offers I.names S.hash_of (F.post make) key self.old result self.new }
     {
-        let hash = self.hasher.hash_one(&key);
+        let hash = self.hasher.hash_named(&key);
         match self.entries.find(hash, &key) {
             Some(b) => {
                 self.entries.promote(b);
@@ -250,9 +244,8 @@ impl<K: Eq + Hash + Drop, V: Drop, L: Limiter<K, V>, S: BuildHasher> LruMap<K, V
         L: Insertion<K, V, I>,
         requires { lookup (I.names key) self.old.pairs ≡ None → F.pre make }
         ensures* writes_back { sem 𝓛 (lends_or K.row V.row L.row S.row L.LinkType.row S.Hasher.row K.Hash L.Limiter
-            L.LinkType.LinkType.own L.LinkType.PartialEq L.LinkType.Debug S.BuildHasher S.Hasher.Hasher self.entry
-            (MakesNewestIfMade L.rules L.offers I.names (hash_by K.hash_input S.BuildHasher S.Hasher.Hasher)
-            (F.post make) key self.old) result) }
+            L.LinkType.LinkType.own L.LinkType.PartialEq L.LinkType.Debug S.KeyHasher S.Hasher.Hasher self.entry
+            (MakesNewestIfMade L.rules L.offers I.names S.hash_of (F.post make) key self.old) result) }
     {
         match self.ensure_newest_fallible(key, make) {
             Ok(true) => Ok(self.newest_value_mut()),
@@ -283,9 +276,8 @@ impl<K: Eq + Hash + Drop, V: Drop, L: Limiter<K, V>, S: BuildHasher> LruMap<K, V
         L: Insertion<K, V, I>,
         requires { lookup (I.names key) self.old.pairs ≡ None → F.pre make }
         ensures* writes_back { sem 𝓛 (lends_made K.row V.row L.row S.row L.LinkType.row S.Hasher.row K.Hash L.Limiter
-            L.LinkType.LinkType.own L.LinkType.PartialEq L.LinkType.Debug S.BuildHasher S.Hasher.Hasher self.entry
-            (MakesNewestIfMade L.rules L.offers I.names (hash_by K.hash_input S.BuildHasher S.Hasher.Hasher)
-            (F.post make) key self.old) result) }
+            L.LinkType.LinkType.own L.LinkType.PartialEq L.LinkType.Debug S.KeyHasher S.Hasher.Hasher self.entry
+            (MakesNewestIfMade L.rules L.offers I.names S.hash_of (F.post make) key self.old) result) }
     {
         let lent = self.lend_or_insert_fallible(key, make);
         kept_or_error(lent)

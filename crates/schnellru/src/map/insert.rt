@@ -1,7 +1,6 @@
 //! `insert` and `insert_with`.
 ghost use Rattle.std.specs.Prelude.{◌≡◌, ◌⊎◌, ℕ, ◌+◌, true, false, not, length, None, Some, IfSome, Ok, OnErr, List};
-ghost use Rattle.std.specs.Prelude.{if◌then◌else◌};
-ghost use Rattle.lru_limits.specs.Hashing.{hash_by};
+ghost use Rattle.std.specs.Prelude.{if◌then◌else◌, IsTrue};
 ghost use Rattle.schnellru.specs.Lists.{first, lookup_entry, is_empty, IsFront};
 ghost use Rattle.schnellru.specs.State.{contents, trim, Leaves, IsMap};
 ghost use Rattle.schnellru.specs.Inserts.{Insert, PlacesNew, LacksMemory, make_way};
@@ -11,11 +10,11 @@ ghost use Rattle.schnellru.specs.Inside.Handing.{Hands};
 
 use crate::map::LruMap;
 use crate::map::replace::replace;
-use lru_limits::{Insertion, Limiter, LookupKey};
+use lru_limits::{Insertion, KeyHasher, Limiter, LookupKey};
 use std::alloc::AllocError;
-use std::hash::{BuildHasher, Hash};
+use std::hash::Hash;
 
-impl<K: Eq + Hash + Drop, V: Drop, L: Limiter<K, V>, S: BuildHasher> LruMap<K, V, L, S> {
+impl<K: Eq + Hash + Drop, V: Drop, L: Limiter<K, V>, S: KeyHasher<K>> LruMap<K, V, L, S> {
     /// Puts a value under a key, as the newest pair, and answers whether the key is in the map then.
     ///
     /// A key that is there stays as it is stored, and the limiter is asked whether the new value replaces the old one;
@@ -47,14 +46,12 @@ impl<K: Eq + Hash + Drop, V: Drop, L: Limiter<K, V>, S: BuildHasher> LruMap<K, V
     pub fn insert<I: LookupKey<K>>(&mut self, key: I, value: V) -> Result<bool, AllocError>
     where
         L: Insertion<K, V, I>,
-        ensures step { Insert L.rules L.offers I.names
-            (hash_by K.hash_input S.BuildHasher S.Hasher.Hasher) key value self.old result self.new }
+        ensures step { Insert L.rules L.offers I.names S.hash_of key value self.old result self.new }
         ensures says { SaysWhether L.rules (I.names key) result self.new }
         ensures stores { result ≡ Ok true
             → IfSome (first self.new.pairs) (Stores L.rules L.offers I.names key value self.old) }
         ensures lacks { OnErr result
-            (LacksMemory L.rules L.offers I.names
-            (hash_by K.hash_input S.BuildHasher S.Hasher.Hasher) key value self.old self.new) }
+            (LacksMemory L.rules L.offers I.names S.hash_of key value self.old self.new) }
         ensures keeps { OnErr result (IsFront self.new.pairs self.old.pairs) }
         ensures map { IsMap K.eq self.new }
     {
@@ -90,22 +87,19 @@ impl<K: Eq + Hash + Drop, V: Drop, L: Limiter<K, V>, S: BuildHasher> LruMap<K, V
     where
         L: Insertion<K, V, I>,
         requires callable { F.IsAlwaysCallable sink.old }
-        ensures step { Insert L.rules L.offers I.names
-            (hash_by K.hash_input S.BuildHasher S.Hasher.Hasher) key value self.old result self.new }
+        ensures step { Insert L.rules L.offers I.names S.hash_of key value self.old result self.new }
         ensures handed { (handed : List (K × V)) × Takes F.FnMut sink.old handed sink.new
-            × InsertHands L.rules L.offers I.names (hash_by K.hash_input S.BuildHasher S.Hasher.Hasher) key value
-            self.old result handed self.new }
+            × InsertHands L.rules L.offers I.names S.hash_of key value self.old result handed self.new }
         ensures callable { F.IsAlwaysCallable sink.new }
         ensures says { SaysWhether L.rules (I.names key) result self.new }
         ensures stores { result ≡ Ok true
             → IfSome (first self.new.pairs) (Stores L.rules L.offers I.names key value self.old) }
         ensures lacks { OnErr result
-            (LacksMemory L.rules L.offers I.names
-            (hash_by K.hash_input S.BuildHasher S.Hasher.Hasher) key value self.old self.new) }
+            (LacksMemory L.rules L.offers I.names S.hash_of key value self.old self.new) }
         ensures keeps { OnErr result (IsFront self.new.pairs self.old.pairs) }
         ensures map { IsMap K.eq self.new }
     {
-        let hash = self.hasher.hash_one(&key);
+        let hash = self.hasher.hash_named(&key);
         let answer = self.insert_hashed(hash, key, value, sink);
         // Nothing at run time: it opens the map, whose invariant is the clause `map`.
         let _ = &self.entries;
@@ -124,9 +118,9 @@ impl<K: Eq + Hash + Drop, V: Drop, L: Limiter<K, V>, S: BuildHasher> LruMap<K, V
     where
         L: Insertion<K, V, I>,
         requires callable { F.IsAlwaysCallable sink.old }
-        requires hash { hash ≡ hash_by I.hash_input S.BuildHasher S.Hasher.Hasher self.old.hasher key }
+        requires hash { (k : K) → IsTrue (I.names key k) → hash ≡ S.hash_of self.old.hasher k }
         ensures handed { Hands F.FnMut sink.old sink.new (λ before after. Insert (noting L.rules)
-            (noting_offers L.offers) I.names (hash_by K.hash_input S.BuildHasher S.Hasher.Hasher) key value
+            (noting_offers L.offers) I.names S.hash_of key value
             (noted before self.old) result (noted after self.new)) }
         ensures callable { F.IsAlwaysCallable sink.new }
     {
@@ -153,10 +147,10 @@ impl<K: Eq + Hash + Drop, V: Drop, L: Limiter<K, V>, S: BuildHasher> LruMap<K, V
     where
         L: Insertion<K, V, I>,
         requires callable { F.IsAlwaysCallable sink.old }
-        requires hash { hash ≡ hash_by I.hash_input S.BuildHasher S.Hasher.Hasher self.old.hasher key }
+        requires hash { (k : K) → IsTrue (I.names key k) → hash ≡ S.hash_of self.old.hasher k }
         requires absent { lookup_entry (I.names key) self.old.pairs ≡ None }
         ensures handed { Hands F.FnMut sink.old sink.new (λ before after. Insert (noting L.rules)
-            (noting_offers L.offers) I.names (hash_by K.hash_input S.BuildHasher S.Hasher.Hasher) key value
+            (noting_offers L.offers) I.names S.hash_of key value
             (noted before self.old) result (noted after self.new)) }
         ensures callable { F.IsAlwaysCallable sink.new }
     {
@@ -177,11 +171,10 @@ impl<K: Eq + Hash + Drop, V: Drop, L: Limiter<K, V>, S: BuildHasher> LruMap<K, V
         sink: &mut F,
     ) -> Result<bool, AllocError>
         requires callable { F.IsAlwaysCallable sink.old }
-        requires hash { hash ≡ hash_by K.hash_input S.BuildHasher S.Hasher.Hasher self.old.hasher pair.0 }
+        requires hash { hash ≡ S.hash_of self.old.hasher pair.0 }
         requires absent { lookup_entry (K.eq pair.0) self.old.pairs ≡ None }
         ensures handed { Hands F.FnMut sink.old sink.new (λ before after. PlacesNew (noting L.rules)
-            (hash_by K.hash_input S.BuildHasher S.Hasher.Hasher) pair (noted before self.old) result
-            (noted after self.new)) }
+            S.hash_of pair (noted before self.old) result (noted after self.new)) }
         ensures callable { F.IsAlwaysCallable sink.new }
     {
         self.make_way(sink);

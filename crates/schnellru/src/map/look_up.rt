@@ -8,10 +8,10 @@ ghost use Rattle.schnellru.specs.State.{State, IsMap};
 ghost use Rattle.schnellru.specs.Calls.{Get, promoted, written};
 
 use crate::map::LruMap;
-use lru_limits::{Limiter, LookupKey};
-use std::hash::{BuildHasher, Hash};
+use lru_limits::{KeyHasher, Limiter, LookupKey};
+use std::hash::Hash;
 
-impl<K: Eq + Hash, V, L: Limiter<K, V>, S: BuildHasher> LruMap<K, V, L, S> {
+impl<K: Eq + Hash, V, L: Limiter<K, V>, S: KeyHasher<K>> LruMap<K, V, L, S> {
     ghost use Rattle.schnellru.specs.Lending.Values.{lends_value, lends_newest, lends_newest_value};
 
     /// The value of a key, to be changed. Its pair becomes the newest; what is written is not told to the limiter.
@@ -32,13 +32,13 @@ impl<K: Eq + Hash, V, L: Limiter<K, V>, S: BuildHasher> LruMap<K, V, L, S> {
     #[inline]
     pub fn get<Q: LookupKey<K>>(&mut self, key: &Q) -> Option<&mut V>
         ensures* writes_back { sem 𝓛 (lends_value K.row V.row L.row S.row L.LinkType.row S.Hasher.row K.Hash L.Limiter
-            L.LinkType.LinkType.own L.LinkType.PartialEq L.LinkType.Debug S.BuildHasher S.Hasher.Hasher
+            L.LinkType.LinkType.own L.LinkType.PartialEq L.LinkType.Debug S.KeyHasher S.Hasher.Hasher
             self.entry (Q.names key.now) (promoted (Q.names key.now) self.old) result) }
         ensures value { option_copied_mut result ≡ lookup (Q.names key.now) self.old.pairs }
         ensures map { (new : State K V L S) → Get (Q.names key.now) self.old (option_copied_mut result) new
             → IsMap K.eq new }
     {
-        let b = self.entries.find(self.hasher.hash_one(key), key)?;
+        let b = self.entries.find(self.hasher.hash_named(key), key)?;
         self.entries.promote(b);
         Some(&mut self.entries.pair_mut(b).value)
     }
@@ -50,7 +50,7 @@ impl<K: Eq + Hash, V, L: Limiter<K, V>, S: BuildHasher> LruMap<K, V, L, S> {
     #[inline]
     pub fn newest_mut(&mut self) -> Option<&mut V>
         ensures* writes_back { sem 𝓛 (lends_newest K.row V.row L.row S.row L.LinkType.row S.Hasher.row K.Hash L.Limiter
-            L.LinkType.LinkType.own L.LinkType.PartialEq L.LinkType.Debug S.BuildHasher S.Hasher.Hasher
+            L.LinkType.LinkType.own L.LinkType.PartialEq L.LinkType.Debug S.KeyHasher S.Hasher.Hasher
             self.entry result) }
         ensures value { option_copied_mut result ≡ newest_value self.old.pairs }
     {
@@ -64,7 +64,7 @@ impl<K: Eq + Hash, V, L: Limiter<K, V>, S: BuildHasher> LruMap<K, V, L, S> {
         requires { 0 < length self.old.pairs }
         ensures* writes_back { sem 𝓛
             (lends_newest_value K.row V.row L.row S.row L.LinkType.row S.Hasher.row K.Hash L.Limiter
-            L.LinkType.LinkType.own L.LinkType.PartialEq L.LinkType.Debug S.BuildHasher S.Hasher.Hasher
+            L.LinkType.LinkType.own L.LinkType.PartialEq L.LinkType.Debug S.KeyHasher S.Hasher.Hasher
             self.entry result) }
         ensures value { newest_value self.old.pairs ≡ Some result.now }
     {
@@ -83,7 +83,7 @@ impl<K: Eq + Hash, V, L: Limiter<K, V>, S: BuildHasher> LruMap<K, V, L, S> {
     pub fn peek<Q: LookupKey<K>>(&self, key: &Q) -> Option<&V>
         ensures { option_copied result ≡ lookup (Q.names key.now) self.now.pairs }
     {
-        let b = self.entries.find(self.hasher.hash_one(key), key)?;
+        let b = self.entries.find(self.hasher.hash_named(key), key)?;
         Some(&self.entries.pair(b).value)
     }
 
@@ -102,7 +102,7 @@ impl<K: Eq + Hash, V, L: Limiter<K, V>, S: BuildHasher> LruMap<K, V, L, S> {
     pub fn peek_key_value<Q: LookupKey<K>>(&self, key: &Q) -> Option<(&K, &V)>
         ensures { option_map deref_pair result ≡ lookup_entry (Q.names key.now) self.now.pairs }
     {
-        let b = self.entries.find(self.hasher.hash_one(key), key)?;
+        let b = self.entries.find(self.hasher.hash_named(key), key)?;
         let pair = self.entries.pair(b);
         Some((&pair.key, &pair.value))
     }
@@ -122,12 +122,12 @@ impl<K: Eq + Hash, V, L: Limiter<K, V>, S: BuildHasher> LruMap<K, V, L, S> {
     #[inline]
     pub fn peek_mut<Q: LookupKey<K>>(&mut self, key: &Q) -> Option<&mut V>
         ensures* writes_back { sem 𝓛 (lends_value K.row V.row L.row S.row L.LinkType.row S.Hasher.row K.Hash L.Limiter
-            L.LinkType.LinkType.own L.LinkType.PartialEq L.LinkType.Debug S.BuildHasher S.Hasher.Hasher
+            L.LinkType.LinkType.own L.LinkType.PartialEq L.LinkType.Debug S.KeyHasher S.Hasher.Hasher
             self.entry (Q.names key.now) self.old result) }
         ensures value { option_copied_mut result ≡ lookup (Q.names key.now) self.old.pairs }
         ensures map { (last : V) → IsMap K.eq (written (Q.names key.now) last self.old) }
     {
-        let b = self.entries.find(self.hasher.hash_one(key), key)?;
+        let b = self.entries.find(self.hasher.hash_named(key), key)?;
         Some(&mut self.entries.pair_mut(b).value)
     }
 

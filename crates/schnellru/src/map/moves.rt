@@ -10,11 +10,11 @@ ghost use Rattle.schnellru.specs.Place.{table_for};
 use crate::map::LruMap;
 use crate::sizes::larger_table;
 use group_table::LinkType;
-use lru_limits::Limiter;
+use lru_limits::{KeyHasher, Limiter};
 use std::alloc::AllocError;
-use std::hash::{BuildHasher, Hash};
+use std::hash::Hash;
 
-impl<K: Eq + Hash, V, L: Limiter<K, V>, S: BuildHasher> LruMap<K, V, L, S> {
+impl<K: Eq + Hash, V, L: Limiter<K, V>, S: KeyHasher<K>> LruMap<K, V, L, S> {
     // The buckets and the bytes of the table to which this one goes for so many pairs more, if there is such a table.
     // They are more than half of what this one takes, and the others are at most half of what that one does.
     pub(super) fn larger_table(&self, more: usize) -> Option<(usize, usize)>
@@ -32,7 +32,7 @@ impl<K: Eq + Hash, V, L: Limiter<K, V>, S: BuildHasher> LruMap<K, V, L, S> {
     }
 }
 
-impl<K: Eq + Hash + Drop, V: Drop, L: Limiter<K, V>, S: BuildHasher> LruMap<K, V, L, S> {
+impl<K: Eq + Hash + Drop, V: Drop, L: Limiter<K, V>, S: KeyHasher<K>> LruMap<K, V, L, S> {
     // Moves all pairs into a table of so many buckets, at most half full then, which is not counted. Among as many
     // buckets as now that needs no memory without pairs.
     pub(super) fn move_to(&mut self, count: usize) -> Result<(), AllocError>

@@ -4,7 +4,6 @@ ghost use Rattle.std.specs.Prelude.{OnErr, IfErr, IsOk};
 ghost use Rattle.group_table.specs.Sizes.{IsPowerFromFour, full_capacity};
 ghost use Rattle.group_table.specs.Bucket.{empty};
 ghost use Rattle.group_table.specs.Change.{HasNoPlace};
-ghost use Rattle.lru_limits.specs.Hashing.{hash_by};
 ghost use Rattle.schnellru.specs.Lists.{lookup_entry};
 ghost use Rattle.schnellru.specs.Sizes.{usage};
 ghost use Rattle.schnellru.specs.State.{buckets, room, FirstFreeIs};
@@ -18,11 +17,11 @@ use crate::map::LruMap;
 use crate::map::remove::tell;
 use crate::sizes::usage;
 use group_table::full_capacity;
-use lru_limits::Limiter;
+use lru_limits::{KeyHasher, Limiter};
 use std::alloc::AllocError;
-use std::hash::{BuildHasher, Hash};
+use std::hash::Hash;
 
-impl<K: Eq + Hash + Drop, V: Drop, L: Limiter<K, V>, S: BuildHasher> LruMap<K, V, L, S> {
+impl<K: Eq + Hash + Drop, V: Drop, L: Limiter<K, V>, S: KeyHasher<K>> LruMap<K, V, L, S> {
     // Places a pair whose key is new and has this hash, as the newest, and trims. The answer is whether pairs are left.
     #[inline]
     pub(crate) fn place<F: FnMut(K, V)>(
@@ -32,11 +31,10 @@ impl<K: Eq + Hash + Drop, V: Drop, L: Limiter<K, V>, S: BuildHasher> LruMap<K, V
         sink: &mut F,
     ) -> Result<bool, AllocError>
         requires callable { F.IsAlwaysCallable sink.old }
-        requires hash { hash ≡ hash_by K.hash_input S.BuildHasher S.Hasher.Hasher self.old.hasher pair.0 }
+        requires hash { hash ≡ S.hash_of self.old.hasher pair.0 }
         requires absent { lookup_entry (K.eq pair.0) self.old.pairs ≡ None }
         ensures handed { Hands F.FnMut sink.old sink.new (λ before after. PlacesAndTrims (noting L.rules)
-            (hash_by K.hash_input S.BuildHasher S.Hasher.Hasher) pair (noted before self.old) result
-            (noted after self.new)) }
+            S.hash_of pair (noted before self.old) result (noted after self.new)) }
         ensures callable { F.IsAlwaysCallable sink.new }
     {
         if self.entries.room() == 0 && self.entries.len() == 0 {
@@ -51,7 +49,7 @@ impl<K: Eq + Hash + Drop, V: Drop, L: Limiter<K, V>, S: BuildHasher> LruMap<K, V
     // Places the pair in the first free bucket, where the table may fill that.
     #[inline(always)]
     fn place_in_bucket(&mut self, hash: u64, pair: (K, V)) -> Result<(), (K, V)>
-        requires hash { hash ≡ hash_by K.hash_input S.BuildHasher S.Hasher.Hasher self.old.hasher pair.0 }
+        requires hash { hash ≡ S.hash_of self.old.hasher pair.0 }
         requires absent { lookup_entry (K.eq pair.0) self.old.pairs ≡ None }
         ensures placed { OnOk result (IsPlaced pair (buckets self.old) (room self.new) 0 self.old self.new) }
         ensures fills { OnOk result (FillsBucket hash self.old self.new) }
@@ -76,13 +74,12 @@ impl<K: Eq + Hash + Drop, V: Drop, L: Limiter<K, V>, S: BuildHasher> LruMap<K, V
         sink: &mut F,
     ) -> Result<bool, AllocError>
         requires callable { F.IsAlwaysCallable sink.old }
-        requires hash { hash ≡ hash_by K.hash_input S.BuildHasher S.Hasher.Hasher self.old.hasher pair.0 }
+        requires hash { hash ≡ S.hash_of self.old.hasher pair.0 }
         requires absent { lookup_entry (K.eq pair.0) self.old.pairs ≡ None }
         requires no_room { room self.old ≡ 0 }
         requires empty { 0 < length self.old.pairs → FirstFreeIs empty hash self.old }
         ensures handed { Hands F.FnMut sink.old sink.new (λ before after. PlacesAndTrims (noting L.rules)
-            (hash_by K.hash_input S.BuildHasher S.Hasher.Hasher) pair (noted before self.old) result
-            (noted after self.new)) }
+            S.hash_of pair (noted before self.old) result (noted after self.new)) }
         ensures callable { F.IsAlwaysCallable sink.new }
     {
         if !self.place_without_room(hash, pair, sink)? {
@@ -99,13 +96,12 @@ impl<K: Eq + Hash + Drop, V: Drop, L: Limiter<K, V>, S: BuildHasher> LruMap<K, V
         sink: &mut F,
     ) -> Result<bool, AllocError>
         requires callable { F.IsAlwaysCallable sink.old }
-        requires hash { hash ≡ hash_by K.hash_input S.BuildHasher S.Hasher.Hasher self.old.hasher pair.0 }
+        requires hash { hash ≡ S.hash_of self.old.hasher pair.0 }
         requires absent { lookup_entry (K.eq pair.0) self.old.pairs ≡ None }
         requires no_room { room self.old ≡ 0 }
         requires empty { 0 < length self.old.pairs → FirstFreeIs empty hash self.old }
         ensures handed { Hands F.FnMut sink.old sink.new (λ before after. Place (noting L.rules)
-            (hash_by K.hash_input S.BuildHasher S.Hasher.Hasher) pair (noted before self.old) (outcome_of result)
-            (noted after self.new)) }
+            S.hash_of pair (noted before self.old) (outcome_of result) (noted after self.new)) }
         ensures callable { F.IsAlwaysCallable sink.new }
     {
         let buckets = self.entries.buckets();
@@ -128,11 +124,10 @@ impl<K: Eq + Hash + Drop, V: Drop, L: Limiter<K, V>, S: BuildHasher> LruMap<K, V
         sink: &mut F,
     ) -> Result<bool, AllocError>
         requires callable { F.IsAlwaysCallable sink.old }
-        requires hash { hash ≡ hash_by K.hash_input S.BuildHasher S.Hasher.Hasher self.old.hasher pair.0 }
+        requires hash { hash ≡ S.hash_of self.old.hasher pair.0 }
         requires none { buckets self.old ≡ 0 }
         ensures handed { Hands F.FnMut sink.old sink.new (λ before after. Place (noting L.rules)
-            (hash_by K.hash_input S.BuildHasher S.Hasher.Hasher) pair (noted before self.old) (outcome_of result)
-            (noted after self.new)) }
+            S.hash_of pair (noted before self.old) (outcome_of result) (noted after self.new)) }
         ensures callable { F.IsAlwaysCallable sink.new }
     {
         match usage(self.entry_bytes, 4) {
@@ -159,14 +154,13 @@ impl<K: Eq + Hash + Drop, V: Drop, L: Limiter<K, V>, S: BuildHasher> LruMap<K, V
         sink: &mut F,
     ) -> Result<bool, AllocError>
         requires callable { F.IsAlwaysCallable sink.old }
-        requires hash { hash ≡ hash_by K.hash_input S.BuildHasher S.Hasher.Hasher self.old.hasher pair.0 }
+        requires hash { hash ≡ S.hash_of self.old.hasher pair.0 }
         requires absent { lookup_entry (K.eq pair.0) self.old.pairs ≡ None }
         requires lacks_room { LacksRoom self.old }
         requires empty { FirstFreeIs empty hash self.old }
         requires half { full_capacity (buckets self.old) / 2 < length self.old.pairs + 1 }
         ensures handed { Hands F.FnMut sink.old sink.new (λ before after. Place (noting L.rules)
-            (hash_by K.hash_input S.BuildHasher S.Hasher.Hasher) pair (noted before self.old) (outcome_of result)
-            (noted after self.new)) }
+            S.hash_of pair (noted before self.old) (outcome_of result) (noted after self.new)) }
         ensures callable { F.IsAlwaysCallable sink.new }
     {
         match self.larger_table(1) {
@@ -189,7 +183,7 @@ impl<K: Eq + Hash + Drop, V: Drop, L: Limiter<K, V>, S: BuildHasher> LruMap<K, V
         sink: &mut F,
     ) -> Result<bool, AllocError>
         requires callable { F.IsAlwaysCallable sink.old }
-        requires hash { hash ≡ hash_by K.hash_input S.BuildHasher S.Hasher.Hasher self.old.hasher pair.0 }
+        requires hash { hash ≡ S.hash_of self.old.hasher pair.0 }
         requires absent { lookup_entry (K.eq pair.0) self.old.pairs ≡ None }
         requires lacks_room { LacksRoom self.old }
         requires no_place { HasNoPlace self.old.marks hash }
@@ -224,7 +218,7 @@ impl<K: Eq + Hash + Drop, V: Drop, L: Limiter<K, V>, S: BuildHasher> LruMap<K, V
         sink: &mut F,
     ) -> Result<bool, AllocError>
         requires callable { F.IsAlwaysCallable sink.old }
-        requires hash { hash ≡ hash_by K.hash_input S.BuildHasher S.Hasher.Hasher self.old.hasher pair.0 }
+        requires hash { hash ≡ S.hash_of self.old.hasher pair.0 }
         requires absent { lookup_entry (K.eq pair.0) self.old.pairs ≡ None }
         requires count { IsPowerFromFour count }
         requires reached { count < L.LinkType.number L.LinkType.MAX }
@@ -253,7 +247,7 @@ impl<K: Eq + Hash + Drop, V: Drop, L: Limiter<K, V>, S: BuildHasher> LruMap<K, V
 
     // Places the pair where there is room.
     fn place_surely(&mut self, hash: u64, pair: (K, V))
-        requires hash { hash ≡ hash_by K.hash_input S.BuildHasher S.Hasher.Hasher self.old.hasher pair.0 }
+        requires hash { hash ≡ S.hash_of self.old.hasher pair.0 }
         requires absent { lookup_entry (K.eq pair.0) self.old.pairs ≡ None }
         requires room { 0 < room self.old }
         requires exact { length self.old.pairs + room self.old ≡ full_capacity (buckets self.old) }

@@ -5,10 +5,10 @@ ghost use Rattle.std.specs.Map.Iter.{deref_pair_mut};
 ghost use Rattle.schnellru.specs.Lists.{last_of};
 
 use crate::map::LruMap;
-use lru_limits::Limiter;
-use std::hash::{BuildHasher, Hash};
+use lru_limits::{KeyHasher, Limiter};
+use std::hash::Hash;
 
-impl<K: Eq + Hash, V, L: Limiter<K, V>, S: BuildHasher> LruMap<K, V, L, S> {
+impl<K: Eq + Hash, V, L: Limiter<K, V>, S: KeyHasher<K>> LruMap<K, V, L, S> {
     ghost use Rattle.schnellru.specs.Lending.Values.{lends_value_at};
 
     // The bucket of the newest pair, and that of the oldest.
@@ -45,7 +45,7 @@ impl<K: Eq + Hash, V, L: Limiter<K, V>, S: BuildHasher> LruMap<K, V, L, S> {
         requires { slice_get self.old.places at ≡ Some b }
         ensures* writes_back { sem 𝓛
             (lends_value_at K.row V.row L.row S.row L.LinkType.row S.Hasher.row K.Hash L.Limiter
-            L.LinkType.LinkType.own L.LinkType.PartialEq L.LinkType.Debug S.BuildHasher S.Hasher.Hasher
+            L.LinkType.LinkType.own L.LinkType.PartialEq L.LinkType.Debug S.KeyHasher S.Hasher.Hasher
             self.entry at result) }
         ensures value { slice_get self.old.pairs at ≡ Some (deref_pair_mut result) }
     {

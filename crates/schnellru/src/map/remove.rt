@@ -9,10 +9,10 @@ ghost use Rattle.schnellru.specs.Inside.Steps.{IsTakenOut};
 
 use crate::link::Linked;
 use crate::map::LruMap;
-use lru_limits::{Limiter, LookupKey};
-use std::hash::{BuildHasher, Hash};
+use lru_limits::{KeyHasher, Limiter, LookupKey};
+use std::hash::Hash;
 
-impl<K: Eq + Hash, V, L: Limiter<K, V>, S: BuildHasher> LruMap<K, V, L, S> {
+impl<K: Eq + Hash, V, L: Limiter<K, V>, S: KeyHasher<K>> LruMap<K, V, L, S> {
     /// Takes out the oldest pair, as the limiter leaves it, if there is a pair.
     ///
     /// ```
@@ -48,7 +48,7 @@ impl<K: Eq + Hash, V, L: Limiter<K, V>, S: BuildHasher> LruMap<K, V, L, S> {
     }
 }
 
-impl<K: Eq + Hash + Drop, V, L: Limiter<K, V>, S: BuildHasher> LruMap<K, V, L, S> {
+impl<K: Eq + Hash + Drop, V, L: Limiter<K, V>, S: KeyHasher<K>> LruMap<K, V, L, S> {
     /// Takes out the pair of a key, and answers its value as the limiter leaves it. The others keep their order.
     ///
     /// ```
@@ -62,13 +62,13 @@ impl<K: Eq + Hash + Drop, V, L: Limiter<K, V>, S: BuildHasher> LruMap<K, V, L, S
     pub fn remove<Q: LookupKey<K>>(&mut self, key: &Q) -> Option<V>
         ensures step { Remove L.rules (Q.names key.now) self.old result self.new }
     {
-        let b = self.entries.find(self.hasher.hash_one(key), key)?;
+        let b = self.entries.find(self.hasher.hash_named(key), key)?;
         let (_, value) = take_out(&mut self.entries, &mut self.limiter, b);
         Some(value)
     }
 }
 
-impl<K: Eq + Hash + Drop, V: Drop, L: Limiter<K, V>, S: BuildHasher> LruMap<K, V, L, S> {
+impl<K: Eq + Hash + Drop, V: Drop, L: Limiter<K, V>, S: KeyHasher<K>> LruMap<K, V, L, S> {
     /// Drops all pairs. The limiter is told of the clear alone, also where there is no pair.
     /// The table keeps its buckets.
     ///

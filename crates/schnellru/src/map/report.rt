@@ -2,8 +2,8 @@
 ghost use Rattle.std.specs.Prelude.{◌≡◌, ◌+◌, ◌*◌, ◌≤◌};
 
 use crate::map::LruMap;
-use lru_limits::Limiter;
-use std::hash::{BuildHasher, Hash};
+use lru_limits::{KeyHasher, Limiter};
+use std::hash::Hash;
 
 /// How many entries the inserts of a map have moved, how many new ones they have placed, and how many its shrinks have
 /// placed anew.
@@ -17,7 +17,7 @@ pub struct MoveReport {
     pub shrunk: u64,
 }
 
-impl<K: Eq + Hash, V, L: Limiter<K, V>, S: BuildHasher> LruMap<K, V, L, S> {
+impl<K: Eq + Hash, V, L: Limiter<K, V>, S: KeyHasher<K>> LruMap<K, V, L, S> {
     /// What the inserts have moved and placed since the map was made, and what `shrink_to_fit` has placed anew. A count
     /// that reaches `u64::MAX` stays there.
     ///

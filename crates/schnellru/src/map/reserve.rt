@@ -6,8 +6,8 @@ ghost use Rattle.schnellru.specs.Reservations.{LacksRoomFor, Reserve};
 
 use crate::map::LruMap;
 use group_table::full_capacity;
-use lru_limits::Limiter;
-use std::hash::{BuildHasher, Hash};
+use lru_limits::{KeyHasher, Limiter};
+use std::hash::Hash;
 use thiserror::Error;
 
 /// Why no room is reserved.
@@ -32,7 +32,7 @@ pub enum ReserveError {
     Memory = 3,
 }
 
-impl<K: Eq + Hash + Drop, V: Drop, L: Limiter<K, V>, S: BuildHasher> LruMap<K, V, L, S> {
+impl<K: Eq + Hash + Drop, V: Drop, L: Limiter<K, V>, S: KeyHasher<K>> LruMap<K, V, L, S> {
     /// Makes room for so many pairs more: afterwards `guaranteed_capacity` is at least `len` and these.
     ///
     /// The pairs stay, and so do the counts of moves. Where there is room, nothing is asked. Where at most half of what

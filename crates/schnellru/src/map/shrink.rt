@@ -3,11 +3,11 @@ ghost use Rattle.schnellru.specs.Shrinks.{Shrink};
 
 use crate::map::LruMap;
 use group_table::{LinkType, buckets_for_capacity};
-use lru_limits::Limiter;
+use lru_limits::{KeyHasher, Limiter};
 use std::alloc::AllocError;
-use std::hash::{BuildHasher, Hash};
+use std::hash::Hash;
 
-impl<K: Eq + Hash + Drop, V: Drop, L: Limiter<K, V>, S: BuildHasher> LruMap<K, V, L, S> {
+impl<K: Eq + Hash + Drop, V: Drop, L: Limiter<K, V>, S: KeyHasher<K>> LruMap<K, V, L, S> {
     /// Moves the pairs into as few buckets as hold them, and answers true; or answers false, where the table has no
     /// more than these.
     ///

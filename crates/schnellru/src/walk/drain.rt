@@ -5,8 +5,8 @@ ghost use Rattle.std.specs.Iterator.SizeHint.{IsWithinCount};
 ghost use Rattle.schnellru.specs.Drains.{drain_map, drain_lender};
 
 use crate::map::LruMap;
-use lru_limits::Limiter;
-use std::hash::{BuildHasher, Hash};
+use lru_limits::{KeyHasher, Limiter};
+use std::hash::Hash;
 use std::iter::FusedIterator;
 
 /// Takes the pairs out of a map from both ends.
@@ -16,11 +16,11 @@ use std::iter::FusedIterator;
 /// of the pair is given. The clear tells the limiter of the clear alone.
 ///
 /// After schnellru's `Drain`.
-pub struct Drain<'a, K: Eq + Hash, V, L: Limiter<K, V>, S: BuildHasher> {
+pub struct Drain<'a, K: Eq + Hash, V, L: Limiter<K, V>, S: KeyHasher<K>> {
     map: &'a mut LruMap<K, V, L, S>,
 }
 
-impl<'a, K: Eq + Hash + Drop, V: Drop, L: Limiter<K, V>, S: BuildHasher> Drop
+impl<'a, K: Eq + Hash + Drop, V: Drop, L: Limiter<K, V>, S: KeyHasher<K>> Drop
     for Drain<'a, K, V, L, S> {
     ghost use Rattle.schnellru.specs.Calls.{cleared};
 
@@ -33,7 +33,7 @@ impl<'a, K: Eq + Hash + Drop, V: Drop, L: Limiter<K, V>, S: BuildHasher> Drop
     }
 }
 
-impl<'a, K: Eq + Hash + Drop, V: Drop, L: Limiter<K, V>, S: BuildHasher> Iterator
+impl<'a, K: Eq + Hash + Drop, V: Drop, L: Limiter<K, V>, S: KeyHasher<K>> Iterator
     for Drain<'a, K, V, L, S> {
     ghost use Rattle.schnellru.specs.Drains.{TakesNewest, drain_left};
 
@@ -58,7 +58,7 @@ impl<'a, K: Eq + Hash + Drop, V: Drop, L: Limiter<K, V>, S: BuildHasher> Iterato
     }
 }
 
-impl<'a, K: Eq + Hash + Drop, V: Drop, L: Limiter<K, V>, S: BuildHasher> DoubleEndedIterator
+impl<'a, K: Eq + Hash + Drop, V: Drop, L: Limiter<K, V>, S: KeyHasher<K>> DoubleEndedIterator
     for Drain<'a, K, V, L, S> {
     ghost use Rattle.schnellru.specs.Drains.{TakesOldest};
 
@@ -69,17 +69,17 @@ impl<'a, K: Eq + Hash + Drop, V: Drop, L: Limiter<K, V>, S: BuildHasher> DoubleE
     }
 }
 
-impl<'a, K: Eq + Hash + Drop, V: Drop, L: Limiter<K, V>, S: BuildHasher> ExactSizeIterator
+impl<'a, K: Eq + Hash + Drop, V: Drop, L: Limiter<K, V>, S: KeyHasher<K>> ExactSizeIterator
     for Drain<'a, K, V, L, S> {
     fn len(&self) -> usize {
         self.map.len()
     }
 }
 
-impl<'a, K: Eq + Hash + Drop, V: Drop, L: Limiter<K, V>, S: BuildHasher> FusedIterator
+impl<'a, K: Eq + Hash + Drop, V: Drop, L: Limiter<K, V>, S: KeyHasher<K>> FusedIterator
     for Drain<'a, K, V, L, S> {}
 
-impl<K: Eq + Hash, V, L: Limiter<K, V>, S: BuildHasher> LruMap<K, V, L, S> {
+impl<K: Eq + Hash, V, L: Limiter<K, V>, S: KeyHasher<K>> LruMap<K, V, L, S> {
     /// Takes out the pairs, the newest first. What is not taken is cleared when the walk is dropped.
     ///
     /// ```

@@ -1,4 +1,3 @@
-use Rattle.lru_limits.specs.Hashing.{hash_by}
 use Rattle.lru_replay.proofs.CallLaws.{any_run}
 use Rattle.lru_replay.proofs.laws.calls_pay_for_moves.Goals as goal
 
@@ -6,5 +5,5 @@ pub returns : goal.returns
 returns g c = record {
   rise = λ old new calls replies run sized. c.runs_pay_for_moves.ensures.rise old new
       (any_run g.L.Limiter.rules g.L.Insertion.offers g.K.PartialEq.eq
-      (hash_by g.K.Hash.hash_input g.S.BuildHasher g.S.Hasher.Hasher) old calls replies new run) sized;
+      g.S.KeyHasher.hash_of old calls replies new run) sized;
 }

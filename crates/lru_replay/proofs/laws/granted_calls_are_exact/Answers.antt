@@ -1,5 +1,4 @@
 use Rattle.std.proofs.Common.{refl}
-use Rattle.lru_limits.specs.Hashing.{hash_by}
 use Rattle.lru_replay.specs.ListRuns.{ListCallStep}
 use Rattle.lru_replay.proofs.CallLaws.{call_moves}
 use Rattle.lru_replay.proofs.ListRuns.{call_in_list, run_in_list, whole_reaches}
@@ -10,7 +9,7 @@ returns g c =
     let rules = g.L.Limiter.rules in
     let offers = g.L.Insertion.offers in
     let eq = g.K.PartialEq.eq in
-    let hash_of = hash_by g.K.Hash.hash_input g.S.BuildHasher g.S.Hasher.Hasher in
+    let hash_of = g.S.KeyHasher.hash_of in
     record {
       exact = λ old new calls replies grants tables run.
           run_in_list call_moves (ListCallStep rules offers eq)

@@ -1,5 +1,4 @@
 use Rattle.std.proofs.Common.{refl, ap}
-use Rattle.lru_limits.specs.Hashing.{hash_by}
 use Rattle.lru_replay.proofs.AlikeRuns.{call_alike, runs_alike}
 use Rattle.lru_replay.proofs.CallLaws.{call_moves}
 use Rattle.lru_replay.proofs.laws.small_calls_are_alike.Goals as goal
@@ -7,10 +6,9 @@ use Rattle.lru_replay.proofs.laws.small_calls_are_alike.Goals as goal
 pub returns : goal.returns
 returns g c = record {
   alike = λ old other new last calls replies answers determined never alike small plain run ran wants.
-      let hash_of = hash_by g.K.Hash.hash_input g.S.BuildHasher g.S.Hasher.Hasher in
+      let hash_of = g.S.KeyHasher.hash_of in
       runs_alike call_moves
       (call_alike g.L.Limiter.rules g.L.Insertion.offers g.K.PartialEq.eq hash_of c.small_inserts_look_alike.ensures
-      determined never (λ h k l same. ap (λ input. hash_by (λ _. input) g.S.BuildHasher g.S.Hasher.Hasher h k)
-      (g.met.K.Hash.respects_eq k l same)))
+      determined never g.met.S.KeyHasher.respects_eq)
       old.hasher calls old other new last replies answers refl alike small plain run ran wants;
 }

@@ -1,5 +1,4 @@
 use Rattle.std.proofs.Common.{rules, ◌+◌, length, arith, subst}
-use Rattle.lru_limits.specs.Hashing.{hash_by}
 use Rattle.schnellru.specs.HandedOver.{InsertHands}
 use Rattle.lru_replay.proofs.KeptPairs.{all_kept}
 use Rattle.lru_replay.proofs.pairs.insert_and_keep.Goals as goal
@@ -18,5 +17,5 @@ returns-clause-handed g c =
     }) _ (length before.pairs + 1) handed _ (search rules) c.in_ok-out.ensures.items c.in_ok-out.ensures.len took in
     let items = all.items (omega (arith, few)) in
     subst (λ out. InsertHands g.L.Limiter.rules g.L.Insertion.offers g.K.PartialEq.eq
-    (hash_by g.K.Hash.hash_input g.S.BuildHasher g.S.Hasher.Hasher) c.args.key c.args.value before
+    g.S.KeyHasher.hash_of c.args.key c.args.value before
     c.insert_with-done.result out c.insert_with-done.new.self) (search (rules, all.same, items)) step

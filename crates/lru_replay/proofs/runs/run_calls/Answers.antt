@@ -1,7 +1,6 @@
 use Rattle.std.proofs.Common.{◌∷◌, [], arith, sym, ap, ◌∙◌, length}
 use Rattle.std.specs.Vec.Iter.{into_iter_items}
 use Rattle.std.proofs.lemmas.List.{length-append}
-use Rattle.lru_limits.specs.Hashing.{hash_by}
 use Rattle.schnellru.specs.State.{IsMap}
 use Rattle.lru_replay.specs.CallRuns.{CallStep}
 use Rattle.lru_replay.proofs.CallRuns.{next_run, next_items, whole_run}
@@ -10,7 +9,7 @@ use Rattle.lru_replay.proofs.runs.run_calls.Goals as goal
 pub loop-call-preserved : goal.loop-call-preserved
 loop-call-preserved g c =
     let h = c.loop-call.invariant in
-    let hash_of = hash_by g.K.Hash.hash_input g.S.BuildHasher g.S.Hasher.Hasher in
+    let hash_of = g.S.KeyHasher.hash_of in
     let IsStep = CallStep g.L.Limiter.rules g.L.Insertion.offers g.K.PartialEq.eq hash_of in
     let Holds = IsMap g.K.PartialEq.eq in
     let first = c.in-Some.ensures.steps.0 in
@@ -28,7 +27,7 @@ loop-call-preserved g c =
 pub returns-clause-run : goal.returns-clause-run
 returns-clause-run g c =
     let h = c.loop-call.invariant in
-    let hash_of = hash_by g.K.Hash.hash_input g.S.BuildHasher g.S.Hasher.Hasher in
+    let hash_of = g.S.KeyHasher.hash_of in
     whole_run (CallStep g.L.Limiter.rules g.L.Insertion.offers g.K.PartialEq.eq hash_of) (IsMap g.K.PartialEq.eq)
     c.args.map.now c.args.calls.items c.loop-call.yielded (into_iter_items c.loop-call.call-iterator) _ c.loop-call.map
     (sym h.left ∙ c.in-None.ensures.steps.0) h.items h.run

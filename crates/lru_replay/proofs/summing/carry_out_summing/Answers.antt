@@ -1,4 +1,3 @@
-use Rattle.lru_limits.specs.Hashing.{hash_by}
 use Rattle.lru_replay.specs.Replies.{said}
 use Rattle.lru_replay.proofs.SummedCalls.{call_summed}
 use Rattle.lru_replay.proofs.summing.carry_out_summing.Goals as goal
@@ -6,6 +5,6 @@ use Rattle.lru_replay.proofs.summing.carry_out_summing.Goals as goal
 pub returns-clause-account : goal.returns-clause-account
 returns-clause-account g c =
     call_summed g.L.Limiter.rules g.L.Insertion.offers g.K.PartialEq.eq
-    (hash_by g.K.Hash.hash_input g.S.BuildHasher g.S.Hasher.Hasher) g.L.Summing.cost_of g.L.Summing.account
+    g.S.KeyHasher.hash_of g.L.Summing.cost_of g.L.Summing.account
     c.runs_keep_sums.ensures.sum c.args.map.now c.carry_out.new.map c.carry_out.ensures.map.sized c.args.call
     (said c.carry_out.result) (c.keeps_cost.ensures.yes c.if-not-keeps_cost.false) c.carry_out.ensures.step

@@ -1,7 +1,6 @@
 -- The calls so far are a run.
 use Rattle.std.proofs.Common.{◌≡◌, ◌≤◌, ◌++◌, length, vec_len, vec_capacity}
 use Rattle.std.specs.Vec.Iter.{into_iter_items, into_iter_len}
-use Rattle.lru_limits.specs.Hashing.{hash_by}
 use Rattle.schnellru.specs.Theorems.{IsSummed}
 use Rattle.lru_replay.specs.CallRuns.{IsRun, IsSummedFrom, SummingStep}
 use Rattle.lru_replay.specs.Replies.{all_said}
@@ -12,7 +11,7 @@ invariant-loop-call g l = record {
   items : l.yielded ++ into_iter_items l.call-iterator ≡ l.fn.calls.items;
   left : into_iter_len l.call-iterator ≡ length (into_iter_items l.call-iterator);
   run : IsRun (SummingStep g.L.Limiter.rules g.L.Insertion.offers g.K.PartialEq.eq
-      (hash_by g.K.Hash.hash_input g.S.BuildHasher g.S.Hasher.Hasher) g.L.Summing.cost_of g.L.Summing.account)
+      g.S.KeyHasher.hash_of g.L.Summing.cost_of g.L.Summing.account)
       (IsSummedFrom g.K.PartialEq.eq g.L.Summing.cost_of g.L.Summing.account l.fn.map)
       l.fn.map l.yielded (all_said l.answers.items) l.map;
   account : IsSummed g.L.Summing.cost_of g.L.Summing.account l.fn.map

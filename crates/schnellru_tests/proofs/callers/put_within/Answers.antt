@@ -1,10 +1,10 @@
 use Rattle.std.proofs.Common.{◌≤◌, length, sym, subst}
+use Rattle.schnellru.specs.Runs.Step.{inserts}
 use Rattle.schnellru_tests.proofs.callers.put_within.Goals as goal
 
 pub returns : goal.returns
 returns c =
-    let law = c.inserts_keep_the_length.ensures in
-    let step = c.insert.ensures.step in
-    let same = law.limiter c.args.key c.args.value c.args.map.now c.insert.result c.insert.new.self step in
-    let within = law.length c.args.key c.args.value c.args.map.now c.insert.result c.insert.new.self step c.requires in
-    subst (λ most. length c.insert.new.self.pairs ≤ most) (sym same) within
+    let old = c.args.map.now in let new = c.insert.new.self in
+    let law = c.calls_keep_the_length.ensures in
+    let step = inserts c.args.key c.args.value c.insert.result c.insert.ensures.step in
+    subst (λ most. length new.pairs ≤ most) (sym (law.limiter old new step)) (law.length old new step c.requires)

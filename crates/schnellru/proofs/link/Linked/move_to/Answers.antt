@@ -1,7 +1,7 @@
-use Rattle.std.proofs.Common.{ap, ◌∙◌}
-use Rattle.schnellru.specs.Inside.Linked.{entries_in}
-use Rattle.schnellru.specs.Inside.Chain.{pair_slots}
+use Rattle.std.proofs.Common.{ap, ◌∙◌, ◌≡◌, sym, subst}
 use Rattle.lru_limits.specs.Hashing.{hash_by}
+use Rattle.schnellru.specs.Inside.Linked.{entries_in, KeysFit}
+use Rattle.schnellru.specs.Inside.Chain.{pair_slots}
 use Rattle.schnellru.proofs.LinkedTables.PairSlots.{marks_of-pair_slots, same_marks}
 use Rattle.schnellru.proofs.Chains.WholeChains.{whole_order, IsWhole-shown, IsLinked-view}
 use Rattle.schnellru.proofs.LinkedTables.Relocations.{IsWhole-moved, pairs-moved, KeysFit-moved}
@@ -43,9 +43,11 @@ returns-clause-room g c =
 
 pub returns-clause-fits : goal.returns-clause-fits
 returns-clause-fits g c =
-    KeysFit-moved c.in_ok-links.ensures.renumbered c.rewrite.new.table.slots c.rewrite.ensures.pairs
-    (hash_by g.K.Hash.hash_input g.S.BuildHasher g.S.Hasher.Hasher c.args.hasher.now)
-    c.in_ok-links.ensures.hashes
+    let slots = c.rewrite.new.table.slots in let hasher = c.args.hasher.now in
+    let told = hash_by g.K.Hash.hash_input g.S.BuildHasher g.S.Hasher.Hasher hasher in
+    let same : told ≡ g.S.KeyHasher.hash_of hasher = λ i k. sym (g.met.S.KeyHasher.by_builder hasher k) i in
+    subst (λ hash_of. KeysFit hash_of (pair_slots slots)) same
+    (KeysFit-moved c.in_ok-links.ensures.renumbered slots c.rewrite.ensures.pairs told c.in_ok-links.ensures.hashes)
 
 pub returns-clause-linked : goal.returns-clause-linked
 returns-clause-linked g c =

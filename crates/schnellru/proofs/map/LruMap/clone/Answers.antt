@@ -1,5 +1,4 @@
 use Rattle.std.proofs.Common.{sym, ◌∙◌}
-use Rattle.lru_limits.specs.Hashing.{hash_by, hash_by-named}
 use Rattle.schnellru.specs.Clones.{IsPairClone}
 use Rattle.schnellru.specs.Inside.Holds.{state_of}
 use Rattle.schnellru.specs.Inside.Linked.{pairs_of}
@@ -12,13 +11,12 @@ pub invariant_of-result : goal.invariant_of-result
 invariant_of-result g c =
     let m = c.self.inside in let holds = c.self.invariant in let done = c.in_ok-entries.ensures in
     let rest = beside_of m (g.L.LinkType.LinkType.number g.L.LinkType.LinkType.MAX) in
-    let hash_of = hash_by g.K.Hash.hash_input g.S.BuildHasher g.S.Hasher.Hasher in
+    let hash_of = g.S.KeyHasher.hash_of in
     copied_holds g.K.PartialEq.eq hash_of rest m.entries c.in_ok-entries.entries c.in_ok-limiter.limiter
     c.in_ok-hasher.hasher holds done.linked
     (done.fits (hash_of m.hasher) (hash_of c.in_ok-hasher.hasher)
     (λ key copy same. c.requires.hashers m.hasher c.in_ok-hasher.hasher c.in_ok-hasher.ensures.cases copy
-    ∙ sym (hash_by-named (record { writes = g.met.K.Hash.respects_eq; one = g.met.K.Eq.laws.congr }) g.S.BuildHasher
-    g.S.Hasher.Hasher m.hasher key copy
+    ∙ sym (g.met.S.KeyHasher.respects_eq m.hasher key copy
     (c.requires.keys key copy same))) holds.fits)
     done.marks
     (distinct_same g.met.K.Eq.laws (IsPairClone g.K.Clone.is_clone g.V.Clone.is_clone)

@@ -1,6 +1,5 @@
 use Rattle.std.proofs.Common.{Some, None, refl, sym, ap, ◌∙◌, subst, unwrap_or, ◌≡◌, true}
 use Rattle.group_table.specs.Bucket.{entry_at}
-use Rattle.lru_limits.specs.Hashing.{hash_by, hash_by-named}
 use Rattle.schnellru.specs.Inside.Linked.{KeysFit}
 use Rattle.schnellru.proofs.Maps.Fields.{beside_of}
 use Rattle.schnellru.proofs.LinkedTables.BucketPairs.{value_found}
@@ -12,10 +11,9 @@ use Rattle.schnellru.proofs.map.LruMap.get.Goals as goal
 pub returns-in_err-b : goal.returns-in_err-b
 returns-in_err-b g c =
     let m = c.self.inside in let holds = c.self.invariant in
-    let hash_of = hash_by g.K.Hash.hash_input g.S.BuildHasher g.S.Hasher.Hasher m.hasher in
-    let none = no_value m.entries holds.linked (g.Q.LookupKey.names c.args.key.now) hash_of c.hash_one.result
-    (λ k named. c.hash_one.ensures
-    ∙ hash_by-named g.met.Q.LookupKey.laws g.S.BuildHasher g.S.Hasher.Hasher m.hasher c.args.key.now k named)
+    let hash_of = g.S.KeyHasher.hash_of m.hasher in
+    let none = no_value m.entries holds.linked (g.Q.LookupKey.names c.args.key.now) hash_of c.hash_named.result
+    c.hash_named.ensures
     (c.in_err-b.ensures.none hash_of holds.fits) in
     rw (c.from_residual.ensures, ← c.self.view_is) (
       refl,
@@ -35,7 +33,7 @@ invariant_of-self-lent g c = λ w.
     let there = ap (λ s. entry_at s c.in_ok-b.b) (sym c.promote.ensures.slots) ∙ c.pair_mut.ensures.pair in
     let key : found.0 ≡ (c.pair_mut.result.now.key, c.pair_mut.result.now.value) = ap (λ o. unwrap_or o found.0)
     (sym found.1 ∙ there) in
-    let hash_of = hash_by g.K.Hash.hash_input g.S.BuildHasher g.S.Hasher.Hasher in
+    let hash_of = g.S.KeyHasher.hash_of in
     first_holds t v holds.linked c.in_ok-b.b
     (c.pair_mut.result.now.key, c.pair_mut.result.now.value) there c.promote.ensures.slots c.promote.ensures.order
     c.promote.ensures.placings

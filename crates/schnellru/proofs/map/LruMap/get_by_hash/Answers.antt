@@ -1,6 +1,5 @@
 use Rattle.std.proofs.Common.{◌≡◌, refl, sym, ap, ◌∙◌, subst, unwrap_or}
 use Rattle.group_table.specs.Bucket.{entry_at}
-use Rattle.lru_limits.specs.Hashing.{hash_by}
 use Rattle.schnellru.specs.ByHash.{GivesByHash}
 use Rattle.schnellru.specs.Inside.Linked.{KeysFit, pairs_of}
 use Rattle.schnellru.proofs.LinkedTables.ByHash.{gives_by_hash, gives_none_by_hash}
@@ -12,7 +11,7 @@ use Rattle.schnellru.proofs.map.LruMap.get_by_hash.Goals as goal
 pub returns-in_err-b : goal.returns-in_err-b
 returns-in_err-b g c =
     let m = c.self.inside in let holds = c.self.invariant in
-    let hash_of = hash_by g.K.Hash.hash_input g.S.BuildHasher g.S.Hasher.Hasher m.hasher in
+    let hash_of = g.S.KeyHasher.hash_of m.hasher in
     rw (c.from_residual.ensures, ← c.self.view_is) (
       (refl, λ w. tt, refl),
       record {
@@ -30,7 +29,7 @@ invariant_of-self-lent g c = λ w.
     let t = m.entries in let v = c.promote.new.self in let holds = c.self.invariant in
     let now = c.pair_mut.result.now in
     let there = ap (λ s. entry_at s c.in_ok-b.b) (sym c.promote.ensures.slots) ∙ c.pair_mut.ensures.pair in
-    let hash_of = hash_by g.K.Hash.hash_input g.S.BuildHasher g.S.Hasher.Hasher in
+    let hash_of = g.S.KeyHasher.hash_of in
     let eq = g.K.PartialEq.eq in let laws = g.met.K.Eq.laws in
     first_holds t v holds.linked c.in_ok-b.b (now.key, now.value) there c.promote.ensures.slots c.promote.ensures.order
     c.promote.ensures.placings
@@ -46,7 +45,7 @@ returns g c =
     let t = m.entries in let v = c.promote.new.self in let holds = c.self.invariant in
     let now = c.pair_mut.result.now in
     let there = ap (λ s. entry_at s c.in_ok-b.b) (sym c.promote.ensures.slots) ∙ c.pair_mut.ensures.pair in
-    let hash_of = hash_by g.K.Hash.hash_input g.S.BuildHasher g.S.Hasher.Hasher m.hasher in
+    let hash_of = g.S.KeyHasher.hash_of m.hasher in
     let eq = g.K.PartialEq.eq in let laws = g.met.K.Eq.laws in let found = c.in_ok-b.ensures.found in
     let gives = gives_by_hash t holds.linked laws holds.map.distinct hash_of holds.fits c.args.hash g.F.FnMut
     c.args.is_eq c.in_ok-b.b found in

@@ -40,12 +40,11 @@ use Rattle.std.specs.Prelude.{Bool, Ok, Err, Result}
 use Rattle.std.specs.HashMap.Lent.{HashMembers}
 use Rattle.schnellru.specs.declared.map.get_or_insert.GetOrInsertError.{GetOrInsertError}
 use Rattle.std.specs.declared.hash.Hasher as hasher
-use Rattle.std.specs.declared.hash.BuildHasher as builder
 use Rattle.std.specs.declared.cmp.PartialEq as equality
 use Rattle.std.specs.declared.fmt.Debug as debug
 use Rattle.group_table.specs.declared.link.LinkType as link_type
 use Rattle.lru_limits.specs.declared.limiter.Limiter as limiter
-use Rattle.lru_limits.specs.Hashing.{hash_by}
+use Rattle.lru_limits.specs.Hashing.{HasherMembers}
 use Rattle.std.specs.contracts.option.Option as option
 use Rattle.std.specs.contracts.result.Result as result
 use Rattle.schnellru.specs.contracts.map.get_or_insert.GetOrInsertError as GE
@@ -79,28 +78,28 @@ lone τ (v ∷ w ∷ vs) t = absurd t.1
 -- the one clause gives the other
 module _ {M : Type 1} {𝓤 : Ura M} (𝓛 : Logic 𝓤) (K V L S N H : RattleType) (key : HashMembers K.Denot) (limits :
     limiter.Ghosts L.Denot K.Denot V.Denot N.Denot)
-    (links : link_type.Ghosts N.Denot) (link_eq : equality.Ghosts N.Denot) (link_shown : debug.Ghosts N.Denot) (build
-    : builder.Ghosts S.Denot H.Denot) (hash : hasher.Ghosts H.Denot)
+    (links : link_type.Ghosts N.Denot) (link_eq : equality.Ghosts N.Denot) (link_shown : debug.Ghosts N.Denot) (hashed
+    : HasherMembers S.Denot K.Denot H.Denot) (hash : hasher.Ghosts H.Denot)
     (m : MutBor (State K.Denot V.Denot L.Denot S.Denot)) {E : Type 0} (Step : Result Bool E →
     State K.Denot V.Denot L.Denot S.Denot → Type 0) where
   abbrev Map : Type 0
   Map = State K.Denot V.Denot L.Denot S.Denot
 
   abbrev R : RattleType
-  R = map_row K V L S N H key limits links link_eq link_shown build hash
+  R = map_row K V L S N H key limits links link_eq link_shown hashed hash
 
   abbrev Or : Result (MutBor V.Denot) (NotLent E) → Fml
-  Or = lends_or K V L S N H key limits links link_eq link_shown build hash m Step
+  Or = lends_or K V L S N H key limits links link_eq link_shown hashed hash m Step
 
   abbrev With : Result (MutBor V.Denot) (NotLent E) → Map → V.Denot → Type 0
-  With r n w = Made K V L S N H key limits links link_eq link_shown build hash m Step (kept_of r) n w
+  With r n w = Made K V L S N H key limits links link_eq link_shown hashed hash m Step (kept_of r) n w
 
   abbrev Both : Result (MutBor V.Denot) (NotLent E) → Type 0
   Both r = (s : (V.Denot → Map) × Map) × ((w : V.Denot) → IsLent (kept_of r) →
       With r (s.0 w) w) × (NoneLent (kept_of r) → Step (is_kept (kept_of r)) s.1)
 
   ends : (r : Result (MutBor V.Denot) (NotLent E)) →
-      ent 𝓤 (sem 𝓛 (Or r)) (sem 𝓛 (lends_made K V L S N H key limits links link_eq link_shown build hash m Step
+      ent 𝓤 (sem 𝓛 (Or r)) (sem 𝓛 (lends_made K V L S N H key limits links link_eq link_shown hashed hash m Step
       (kept_of r)))
   unfolding follows_by such_by
   ends (Ok x) = qed 𝓛 (‵ (Or (Ok x)) ∷ []) ∵ fpick ! (λ s.
@@ -141,9 +140,9 @@ module _ (κ : Lft) (V E : RattleType) where
 
 pub get_or_insert_fallible_spec : {M : Type 1} → statement M
 get_or_insert_fallible_spec 𝓤 𝓛 𝓜 𝓡 wired K V L S N H I E F LK LV LL LS LN LH LI LE LF cN kE kEd kP kPd kH kHd lL lLd
-    nL nLd nC nCd nE nEd nP nPd nD nDd sB sBd hH hHd kDd vDd hDd iL iLd iH iHd iE iEd iP iPd fF fFd lI lId iDd fDd m1
-    m2 m3 m4 m5 m6 m7 m8 m9 m10 m11 m12 m13 m14 m15 m16 m17 m18 m19 m20 m21 m22 =
-    let W : Ended = f.ended K V L S N H I E F kE kEd kP kPd kH kHd lL lLd nL nLd nC nCd nE nEd nP nPd nD nDd sB sBd hH
+    nL nLd nC nCd nE nEd nP nPd nD nDd sK sKd sB sBd hH hHd kDd vDd hDd iL iLd iH iHd iE iEd iP iPd fF fFd lI lId iDd fDd m1
+    m2 m3 m4 m5 m6 m7 m8 m9 m10 m11 m12 m13 m14 m15 m16 m17 m18 m19 m20 m21 m22 m23 =
+    let W : Ended = f.ended K V L S N H I E F kE kEd kP kPd kH kHd lL lLd nL nLd nC nCd nE nEd nP nPd nD nDd sK sKd sB sBd hH
     hHd kDd vDd hDd iL iLd iH iHd iE iEd iP iPd fF fFd lI lId iDd fDd in
     let stayed : Stays W.signature.params W.kept = (
       stay_dropped _ no,
@@ -157,17 +156,17 @@ get_or_insert_fallible_spec 𝓤 𝓛 𝓜 𝓡 wired K V L S N H I E F LK LV LL
     ) in
     let args : Args = bounded (a_type ∷ a_type ∷ a_type ∷ a_type ∷ a_type ∷ a_type ∷ a_type ∷ a_type ∷ a_type ∷ [])
     (K, (V, (L, (S, (N, (H, (I, (E, (F, tt))))))))) (dcons kEd (dcons kPd (dcons kHd (dcons lLd (dcons nLd (dcons
-    nCd (dcons nEd (dcons nPd (dcons nDd (dcons sBd (dcons hHd (dcons kDd (dcons vDd (dcons hDd (dcons iLd (dcons
-    iHd (dcons iEd (dcons iPd (dcons fFd (dcons lId (dcons iDd (dcons fDd dnil)))))))))))))))))))))) in
+    nCd (dcons nEd (dcons nPd (dcons nDd (dcons sKd (dcons sBd (dcons hHd (dcons kDd (dcons vDd (dcons hDd (dcons iLd (dcons
+    iHd (dcons iEd (dcons iPd (dcons fFd (dcons lId (dcons iDd (dcons fDd dnil))))))))))))))))))))))) in
     let fn : Fn = inst_fn args code.function in
     let R : RattleType = M'.the_row (param 0 K) (param 1 V) (param 2 L) (param 3 S) (copied 4 N) (param 5 H) kP kH lL
-    nL nP nD sB hH in
-    let c = f.clauses K V L S N H I E F kE kEd kP kPd kH kHd lL lLd nL nLd nC nCd nE nEd nP nPd nD nDd sB sBd hH hHd
+    nL nP nD sK sB hH in
+    let c = f.clauses K V L S N H I E F kE kEd kP kPd kH kHd lL lLd nL nLd nC nCd nE nEd nP nPd nD nDd sK sKd sB sBd hH hHd
     kDd vDd hDd iL iLd iH iHd iE iEd iP iPd fF fFd lI lId iDd fDd 𝓛 𝓜.mem 𝓡.returns in
     let End = walk_of 𝓛 W stayed c in let 𝓣 = tables 𝓤 𝓛.H 𝓜 𝓡 𝓡.env in
     let G₁ = triple_of 𝓛 (g₁.signature K V L S N H I E F kE kEd kP kPd kH kHd lL lLd nL nLd nC nCd nE nEd nP nPd nD
-    nDd sB sBd hH hHd kDd vDd hDd iL iLd iH iHd iE iEd iP iPd fF fFd lI lId iDd fDd) (g₁.spec K V L S N H I E F kE
-    kEd kP kPd kH kHd lL lLd nL nLd nC nCd nE nEd nP nPd nD nDd sB sBd hH hHd kDd vDd hDd iL iLd iH iHd iE iEd iP
+    nDd sK sKd sB sBd hH hHd kDd vDd hDd iL iLd iH iHd iE iEd iP iPd fF fFd lI lId iDd fDd) (g₁.spec K V L S N H I E F kE
+    kEd kP kPd kH kHd lL lLd nL nLd nC nCd nE nEd nP nPd nD nDd sK sKd sB sBd hH hHd kDd vDd hDd iL iLd iH iHd iE iEd iP
     iPd fF fFd lI lId iDd fDd 𝓛 𝓜.mem 𝓡.returns) in
     let G₂ = triple_of 𝓛 (g₂.signature V E) (g₂.spec V E 𝓛 𝓜.mem 𝓡.returns) in
     proved_at 𝓛 W stayed c 𝓜 𝓡 (
@@ -179,7 +178,7 @@ get_or_insert_fallible_spec 𝓤 𝓛 𝓜 𝓡 wired K V L S N H I E F LK LV LL
       ),
     )
     (f.Key.name args) fn (code.unfolded 𝓤 𝓛.H 𝓜 𝓡 wired (K, (V, (L, (S, (N, (H, (I, (E, (F, tt))))))))) kEd kPd kHd
-    lLd nLd nCd nEd nPd nDd sBd hHd kDd vDd hDd iLd iHd iEd iPd fFd lId iDd fDd) (λ y are.
+    lLd nLd nCd nEd nPd nDd sKd sBd hHd kDd vDd hDd iLd iHd iEd iPd fFd lId iDd fDd) (λ y are.
     let κs = y.0.0 in let qs = y.0.1 in let bounds = y.0.2 in let a = y.0.3 in let r = a.0 in let k = a.1.0 in
     let mk = a.1.1.0 in let κ = κs.0 in
     let one₁ = lone _ y.0.4.1.0 (((param_laws 6 I LI).lawful 𝓛).typed k y.0.4.1.0 are.1.0) in
@@ -217,15 +216,17 @@ get_or_insert_fallible_spec 𝓤 𝓛 𝓜 𝓡 wired K V L S N H I E F LK LV LL
     ‵ (flft κs.1.1.1.1.1.1.1.0 qs.1.1.1.1.1.1.1.0) ⊛ ‵ (flft κs.1.1.1.1.1.1.1.1.0 qs.1.1.1.1.1.1.1.1.0) ⊛
     ‵ (flft κs.1.1.1.1.1.1.1.1.1.0 qs.1.1.1.1.1.1.1.1.1.0) ⊛ ‵ ftrue in
     let key : HashMembers K.Denot = record { eq = kP.eq; hash_input = kH.hash_input } in
+    let hashed : HasherMembers S.Denot K.Denot H.Denot =
+    record { build_hasher = sB.build_hasher; hash_of = sK.hash_of } in
     let Step : Result Bool (GetOrInsertError E.Denot) → State K.Denot V.Denot L.Denot S.Denot → Type 0 =
-    MakesNewestIfMade lL.rules lI.offers iL.names (hash_by kH.hash_input sB hH) ((closure.words K V L S N H I E F
+    MakesNewestIfMade lL.rules lI.offers iL.names sK.hash_of ((closure.words K V L S N H I E F
     fF).post mk) k r.now in
     qed 𝓛 (raw (on_entry 𝓛 W.signature κs qs a y'.0.4) ∷ (raw (fact 𝓤 (κs.1.0 ⊑ K.lives)) ⊛
     raw (fact 𝓤 (κs.1.1.0 ⊑ V.lives)) ⊛ raw (fact 𝓤 (κs.1.1.1.0 ⊑ L.lives)) ⊛
     raw (fact 𝓤 (κs.1.1.1.1.0 ⊑ S.lives)) ⊛ raw (fact 𝓤 (κs.1.1.1.1.1.0 ⊑ N.lives)) ⊛
     raw (fact 𝓤 (κs.1.1.1.1.1.1.0 ⊑ H.lives)) ⊛ raw (fact 𝓤 (κs.1.1.1.1.1.1.1.0 ⊑ I.lives)) ⊛
     raw (fact 𝓤 (κs.1.1.1.1.1.1.1.1.0 ⊑ E.lives)) ⊛ raw (fact 𝓤 (κs.1.1.1.1.1.1.1.1.1.0 ⊑ F.lives)) ⊛
-    raw (f.requires-1 K V L S N H I E F kE kEd kP kPd kH kHd lL lLd nL nLd nC nCd nE nEd nP nPd nD nDd sB sBd hH
+    raw (f.requires-1 K V L S N H I E F kE kEd kP kPd kH kHd lL lLd nL nLd nC nCd nE nEd nP nPd nD nDd sK sKd sB sBd hH
     hHd kDd vDd hDd iL iLd iH iHd iE iEd iP iPd fF fFd lI lId iDd fDd 𝓛 κs 𝓜.mem 𝓡.returns r k mk)) ∷ []) ∵
     move ! (1 ∷ []) $ split ! $ heard ! _ (λ l0. split ! $ heard ! _ (λ l1. split ! $ heard ! _ (λ l2. split ! $
     heard ! _ (λ l3. split ! $ heard ! _ (λ l4. split ! $ heard ! _ (λ l5. split ! $ heard ! _ (λ l6. split ! $
@@ -245,15 +246,15 @@ get_or_insert_fallible_spec 𝓤 𝓛 𝓜 𝓡 wired K V L S N H I E F LK LV LL
     sets ! (of_opd ! (get ! refl)) refl one₂.2 $
     calls_at ! (framed 𝓤 𝓛.H 𝓜 𝓣) G₁ (lend-thm.met 𝓤 𝓛 𝓜 𝓡 (code.calls-schnellru::map::LruMap::lend_or_insert_fallible
     𝓡.env wired) K V L S N H I E F LK LV LL LS LN LH LI LE LF cN kE kEd kP kPd kH kHd lL lLd nL nLd nC nCd nE nEd
-    nP nPd nD nDd sB sBd hH hHd kDd vDd hDd iL iLd iH iHd iE iEd iP iPd fF fFd lI lId iDd fDd m1 m2 m3 m4 m5 m6 m7
-    m8 m9 m10 m11 m12 m13 m14 m15 m16 m17 m18 m19 m20 m21 m22) z₁
+    nP nPd nD nDd sK sKd sB sBd hH hHd kDd vDd hDd iL iLd iH iHd iE iEd iP iPd fF fFd lI lId iDd fDd m1 m2 m3 m4 m5 m6 m7
+    m8 m9 m10 m11 m12 m13 m14 m15 m16 m17 m18 m19 m20 m21 m22 m23) z₁
     (and_then ! (get ! refl) (and_then ! (get ! refl) (and_then ! (get ! refl) (no_more !)))) (λ v.
     use1 𝓛 (later (some (λ (x : Lt.Denot). (Tokens ⊛ ‵ (Lt.own_val x (v ∷ []))) ⊛
     some (λ (ws : Lasts (g₁.ended K V L S N H I E F kE kEd kP kPd kH kHd lL lLd nL nLd nC nCd nE nEd nP nPd nD nDd
-    sB sBd hH hHd kDd vDd hDd iL iLd iH iHd iE iEd iP iPd fF fFd lI lId iDd fDd) κs a). ‵ (lasts (g₁.ended K V L S
-    N H I E F kE kEd kP kPd kH kHd lL lLd nL nLd nC nCd nE nEd nP nPd nD nDd sB sBd hH hHd kDd vDd hDd iL iLd iH
+    sK sKd sB sBd hH hHd kDd vDd hDd iL iLd iH iHd iE iEd iP iPd fF fFd lI lId iDd fDd) κs a). ‵ (lasts (g₁.ended K V L S
+    N H I E F kE kEd kP kPd kH kHd lL lLd nL nLd nC nCd nE nEd nP nPd nD nDd sK sKd sB sBd hH hHd kDd vDd hDd iL iLd iH
     iHd iE iEd iP iPd fF fFd lI lId iDd fDd) κs a ws) ⊛
-    ‵ (lends_or (param 0 K) (param 1 V) (param 2 L) (param 3 S) (copied 4 N) (param 5 H) key lL nL nP nD sB hH r Step
+    ‵ (lends_or (param 0 K) (param 1 V) (param 2 L) (param 3 S) (copied 4 N) (param 5 H) key lL nL nP nD hashed hH r Step
     x))))) (id⊢ 𝓤 _) $ await ! tt $ pick ! (λ x.
     split ! $ split ! $ move ! (2 ∷ []) $ pick ! (λ _. split ! $ drop ! $ move ! (2 ∷ []) $
     peeks ! Lt _ (shows 𝓛 Lt) x (v ∷ []) (λ is₁.
@@ -296,8 +297,8 @@ get_or_insert_fallible_spec 𝓤 𝓛 𝓜 𝓡 wired K V L S N H I E F LK LV LL
     move ! (2 ∷ 0 ∷ []) $ join ! $ move ! (4 ∷ 0 ∷ []) $ join ! $ move ! (2 ∷ 0 ∷ []) $ join ! $
     -- [the tokens; nothing; the answer; what follows]
     move ! (3 ∷ []) $ use1 𝓛 (‵ (lends_made (param 0 K) (param 1 V) (param 2 L) (param 3 S) (copied 4 N) (param 5 H)
-    key lL nL nP nD sB hH r Step (kept_of x))) (ends 𝓛 (param 0 K) (param 1 V) (param 2 L) (param 3 S) (copied 4
-    N) (param 5 H) key lL nL nP nD sB hH r Step x) $
+    key lL nL nP nD hashed hH r Step (kept_of x))) (ends 𝓛 (param 0 K) (param 1 V) (param 2 L) (param 3 S) (copied 4
+    N) (param 5 H) key lL nL nP nD hashed hH r Step x) $
     move ! (3 ∷ 0 ∷ []) $ join ! $ nothing ! $ nothing ! $ fjoin ! $ nothing ! $ fjoin ! $ nothing ! $ fjoin ! $
     join ! $ move ! (1 ∷ 0 ∷ []) $ join ! $ keep ! (0 ∷ []) $
     by ! (leaves 𝓛 W stayed c y' u (kept_of x) (tt, (tt, (tt, tt))) (tt, (tt, (tt, tt)))))))))))))))))))))))))

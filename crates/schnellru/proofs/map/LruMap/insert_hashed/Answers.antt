@@ -1,6 +1,5 @@
 use Rattle.std.proofs.Common.{◌≡◌, ℕ, true, false, Ok, [], ◌∷◌, ◌++◌, length, refl, ap, sym, ◌∙◌, subst, arith}
 use Rattle.std.specs.Prelude.{fold}
-use Rattle.lru_limits.specs.Hashing.{hash_by, hash_by-named}
 use Rattle.schnellru.proofs.Maps.Fields.{beside, beside_of}
 use Rattle.schnellru.proofs.LinkedTables.Searches.{not_found}
 use Rattle.schnellru.proofs.LinkedTables.Replacements.{replaced_leaves, replaced_holds, given_up_leaves, given_up_holds}
@@ -18,10 +17,9 @@ use Rattle.schnellru.proofs.map.LruMap.insert_hashed.Goals as goal
 pub insert_new-requires-clause-absent : goal.insert_new-requires-clause-absent
 insert_new-requires-clause-absent g c =
     let m = c.self.inside in let holds = c.self.invariant in
-    let hash_of = hash_by g.K.Hash.hash_input g.S.BuildHasher g.S.Hasher.Hasher m.hasher in
+    let hash_of = g.S.KeyHasher.hash_of m.hasher in
     rw (← c.self.view_is) (not_found m.entries holds.linked (g.I.LookupKey.names c.args.key) hash_of c.args.hash
-    (λ k named. (rw (← c.self.view_is) at c.requires.hash)
-    ∙ hash_by-named g.met.I.LookupKey.laws g.S.BuildHasher g.S.Hasher.Hasher m.hasher c.args.key k named)
+    (λ k named. (rw (← c.self.view_is) at c.requires.hash) k named)
     (c.in-None.ensures.none hash_of holds.fits))
 
 pub invariant_of-self : goal.invariant_of-self
@@ -33,11 +31,10 @@ invariant_of-self g c =
     let b = c.in-Some.b in let found = c.in-Some.ensures.found in let was = found.0 in
     let names = g.I.LookupKey.names c.args.key in let one = g.met.I.LookupKey.laws.one c.args.key in
     let by = g.L.Insertion.offers.on_replace m.limiter (length t.order) was.0 c.args.key was.1 c.args.value in
-    let hash_of = hash_by g.K.Hash.hash_input g.S.BuildHasher g.S.Hasher.Hasher in
+    let hash_of = g.S.KeyHasher.hash_of in
     let fits =
     c.replace.ensures.fits (hash_of m.hasher)
-    (λ x y e. ap (λ input. g.S.Hasher.Hasher.finish
-    (fold g.S.Hasher.Hasher.write (g.S.BuildHasher.build_hasher m.hasher) input)) (g.met.K.Hash.respects_eq x y e))
+    (g.met.S.KeyHasher.respects_eq m.hasher)
     holds.fits in
     given_up_holds by t u b l holds.linked c.replace.ensures.linked was found.1 names g.met.K.Eq.laws one
     holds.map.distinct found.2
@@ -53,11 +50,10 @@ invariant_of-self-in-Some g c =
     let b = c.in-Some.b in let found = c.in-Some.ensures.found in let was = found.0 in
     let names = g.I.LookupKey.names c.args.key in let one = g.met.I.LookupKey.laws.one c.args.key in
     let by = g.L.Insertion.offers.on_replace m.limiter (length t.order) was.0 c.args.key was.1 c.args.value in
-    let hash_of = hash_by g.K.Hash.hash_input g.S.BuildHasher g.S.Hasher.Hasher in
+    let hash_of = g.S.KeyHasher.hash_of in
     let fits =
     c.replace.ensures.fits (hash_of m.hasher)
-    (λ x y e. ap (λ input. g.S.Hasher.Hasher.finish
-    (fold g.S.Hasher.Hasher.write (g.S.BuildHasher.build_hasher m.hasher) input)) (g.met.K.Hash.respects_eq x y e))
+    (g.met.S.KeyHasher.respects_eq m.hasher)
     holds.fits in
     replaced_holds by t u b l holds.linked c.replace.ensures.linked was found.1 names g.met.K.Eq.laws one
     holds.map.distinct found.2

@@ -1,5 +1,4 @@
 use Rattle.std.proofs.Common.{Some, None, refl, ap, sym, ◌∙◌, subst}
-use Rattle.lru_limits.specs.Hashing.{hash_by-named}
 use Rattle.schnellru.specs.Inside.Linked.{pairs_of}
 use Rattle.schnellru.specs.Inside.Holds.{state_of}
 use Rattle.schnellru.specs.Inserts.{no_memory_to_admit, not_admitted, admitted}
@@ -31,8 +30,7 @@ place_new-requires-clause-hash g c =
     (Some pair) = rw c.in-Some.is at c.in_ok-pair.ensures.offered in
     let named = g.met.L.Insertion.laws.names_given m.limiter c.len.result c.args.key c.args.value c.on_insert.new.self
     pair.0 pair.1 given in
-    (rw (← c.self.view_is) at c.requires.hash)
-    ∙ hash_by-named g.met.I.LookupKey.laws g.S.BuildHasher g.S.Hasher.Hasher m.hasher c.args.key pair.0 named
+    (rw (← c.self.view_is) at c.requires.hash) pair.0 named
 
 pub place_new-requires-clause-absent : goal.place_new-requires-clause-absent
 place_new-requires-clause-absent g c =

@@ -1,5 +1,4 @@
 use Rattle.std.proofs.Common.{[], refl, sym, ap, ◌∙◌, ◌≡◌, None}
-use Rattle.lru_limits.specs.Hashing.{hash_by, hash_by-named}
 use Rattle.schnellru.specs.Lists.{lookup}
 use Rattle.schnellru.specs.IfMade.{got, failed, inserted}
 use Rattle.schnellru.proofs.Maps.Fields.{beside_of}
@@ -19,15 +18,14 @@ invariant_of-self g c =
     c.promote.ensures.order c.promote.ensures.placings
     (g.I.LookupKey.names c.args.key) g.met.K.Eq.laws (g.met.I.LookupKey.laws.one c.args.key) found.2 holds.map.distinct
     rest
-    (hash_by g.K.Hash.hash_input g.S.BuildHasher g.S.Hasher.Hasher) holds c.promote.ensures.linked
+    g.S.KeyHasher.hash_of holds c.promote.ensures.linked
 
 pub make-requires : goal.make-requires
 make-requires g c =
     let m = c.self.inside in let holds = c.self.invariant in
-    let hash_of = hash_by g.K.Hash.hash_input g.S.BuildHasher g.S.Hasher.Hasher m.hasher in
-    let none = no_value m.entries holds.linked (g.I.LookupKey.names c.args.key) hash_of c.hash_one-hash.result
-    (λ k named. c.hash_one-hash.ensures
-    ∙ hash_by-named g.met.I.LookupKey.laws g.S.BuildHasher g.S.Hasher.Hasher m.hasher c.args.key k named)
+    let hash_of = g.S.KeyHasher.hash_of m.hasher in
+    let none = no_value m.entries holds.linked (g.I.LookupKey.names c.args.key) hash_of c.hash_named-hash.result
+    c.hash_named-hash.ensures
     (c.in-None.ensures.none hash_of holds.fits) in
     let absent : lookup (g.I.LookupKey.names c.args.key) c.args.self.now.pairs ≡ None = rw (← c.self.view_is) none in
     c.requires absent
@@ -35,11 +33,10 @@ make-requires g c =
 pub insert_new-requires-clause-absent : goal.insert_new-requires-clause-absent
 insert_new-requires-clause-absent g c =
     let m = c.self.inside in let holds = c.self.invariant in
-    let hash_of = hash_by g.K.Hash.hash_input g.S.BuildHasher g.S.Hasher.Hasher m.hasher in
+    let hash_of = g.S.KeyHasher.hash_of m.hasher in
     rw (← c.self.view_is)
-    (not_found m.entries holds.linked (g.I.LookupKey.names c.args.key) hash_of c.hash_one-hash.result
-    (λ k named. c.hash_one-hash.ensures
-    ∙ hash_by-named g.met.I.LookupKey.laws g.S.BuildHasher g.S.Hasher.Hasher m.hasher c.args.key k named)
+    (not_found m.entries holds.linked (g.I.LookupKey.names c.args.key) hash_of c.hash_named-hash.result
+    c.hash_named-hash.ensures
     (c.in-None.ensures.none hash_of holds.fits))
 
 pub returns-in-Some : goal.returns-in-Some
@@ -58,10 +55,9 @@ returns-in-Some g c =
 pub returns-in-Err : goal.returns-in-Err
 returns-in-Err g c =
     let m = c.self.inside in let holds = c.self.invariant in
-    let hash_of = hash_by g.K.Hash.hash_input g.S.BuildHasher g.S.Hasher.Hasher m.hasher in
-    let none = no_value m.entries holds.linked (g.I.LookupKey.names c.args.key) hash_of c.hash_one-hash.result
-    (λ k named. c.hash_one-hash.ensures
-    ∙ hash_by-named g.met.I.LookupKey.laws g.S.BuildHasher g.S.Hasher.Hasher m.hasher c.args.key k named)
+    let hash_of = g.S.KeyHasher.hash_of m.hasher in
+    let none = no_value m.entries holds.linked (g.I.LookupKey.names c.args.key) hash_of c.hash_named-hash.result
+    c.hash_named-hash.ensures
     (c.in-None.ensures.none hash_of holds.fits) in
     let absent : lookup (g.I.LookupKey.names c.args.key) c.args.self.now.pairs ≡ None = rw (← c.self.view_is) none in
     failed absent c.in-Err.error c.in-Err.ensures refl refl
@@ -69,10 +65,9 @@ returns-in-Err g c =
 pub returns-in-Ok-insert_new : goal.returns-in-Ok-insert_new
 returns-in-Ok-insert_new g c =
     let m = c.self.inside in let holds = c.self.invariant in
-    let hash_of = hash_by g.K.Hash.hash_input g.S.BuildHasher g.S.Hasher.Hasher m.hasher in
-    let none = no_value m.entries holds.linked (g.I.LookupKey.names c.args.key) hash_of c.hash_one-hash.result
-    (λ k named. c.hash_one-hash.ensures
-    ∙ hash_by-named g.met.I.LookupKey.laws g.S.BuildHasher g.S.Hasher.Hasher m.hasher c.args.key k named)
+    let hash_of = g.S.KeyHasher.hash_of m.hasher in
+    let none = no_value m.entries holds.linked (g.I.LookupKey.names c.args.key) hash_of c.hash_named-hash.result
+    c.hash_named-hash.ensures
     (c.in-None.ensures.none hash_of holds.fits) in
     let absent : lookup (g.I.LookupKey.names c.args.key) c.args.self.now.pairs ≡ None = rw (← c.self.view_is) none in
     inserted absent c.in-Ok.value c.in-Ok.ensures c.insert_new.result
@@ -82,10 +77,9 @@ returns-in-Ok-insert_new g c =
 pub returns-in-Err-insert_new : goal.returns-in-Err-insert_new
 returns-in-Err-insert_new g c =
     let m = c.self.inside in let holds = c.self.invariant in
-    let hash_of = hash_by g.K.Hash.hash_input g.S.BuildHasher g.S.Hasher.Hasher m.hasher in
-    let none = no_value m.entries holds.linked (g.I.LookupKey.names c.args.key) hash_of c.hash_one-hash.result
-    (λ k named. c.hash_one-hash.ensures
-    ∙ hash_by-named g.met.I.LookupKey.laws g.S.BuildHasher g.S.Hasher.Hasher m.hasher c.args.key k named)
+    let hash_of = g.S.KeyHasher.hash_of m.hasher in
+    let none = no_value m.entries holds.linked (g.I.LookupKey.names c.args.key) hash_of c.hash_named-hash.result
+    c.hash_named-hash.ensures
     (c.in-None.ensures.none hash_of holds.fits) in
     let absent : lookup (g.I.LookupKey.names c.args.key) c.args.self.now.pairs ≡ None = rw (← c.self.view_is) none in
     inserted absent c.in-Ok.value c.in-Ok.ensures c.insert_new.result

@@ -1,5 +1,4 @@
 use Rattle.std.proofs.Common.{refl, sym, ◌∙◌}
-use Rattle.lru_limits.specs.Hashing.{hash_by}
 use Rattle.schnellru.proofs.Maps.Fields.{beside_of}
 use Rattle.schnellru.proofs.LinkedTables.NewestPair.{newest_state, newest_holds, newest_is}
 use Rattle.schnellru.proofs.LinkedTables.Writes.{same_follow}
@@ -10,7 +9,7 @@ invariant_of-self-lent g c = λ w.
     let m = c.self.inside in
     let rest = beside_of m (g.L.LinkType.LinkType.number g.L.LinkType.LinkType.MAX) in
     let t = m.entries in let holds = c.self.invariant in
-    let hash_of = hash_by g.K.Hash.hash_input g.S.BuildHasher g.S.Hasher.Hasher in
+    let hash_of = g.S.KeyHasher.hash_of in
     newest_holds t holds.linked c.in_ok-b.b
     (c.pair_mut.result.now.key, c.pair_mut.result.now.value) c.pair_mut.ensures.pair (sym c.newest.ensures.newest
     ∙ c.in_ok-b.was) w

@@ -1,5 +1,4 @@
 use Rattle.std.proofs.Common.{refl, ap, ◌∙◌}
-use Rattle.lru_limits.specs.Hashing.{hash_by}
 use Rattle.schnellru.specs.Inside.Holds.{state_of}
 use Rattle.schnellru.specs.Inside.Linked.{pairs_of}
 use Rattle.schnellru.proofs.LinkedTables.BucketPairs.{all_full}
@@ -13,7 +12,7 @@ invariant_of-self-lent g c = λ w.
     let m = c.self.inside in
     let rest = beside_of m (g.L.LinkType.LinkType.number g.L.LinkType.LinkType.MAX) in
     let holds = c.self.invariant in let now = c.pair_mut-pair.result.now in let laws = g.met.K.Eq.laws in
-    let hash_of = hash_by g.K.Hash.hash_input g.S.BuildHasher g.S.Hasher.Hasher in
+    let hash_of = g.S.KeyHasher.hash_of in
     kept_holds m.entries holds.linked c.args.b (now.key, now.value) c.pair_mut-pair.ensures.pair
     (g.K.PartialEq.eq now.key) laws (λ x y h. laws.congr now.key x y h) (laws.refl now.key)
     holds.map.distinct rest w hash_of holds

@@ -1,5 +1,4 @@
 use Rattle.std.proofs.Common.{sym, ap, ◌∙◌, option_map}
-use Rattle.lru_limits.specs.Hashing.{hash_by, hash_by-named}
 use Rattle.schnellru.proofs.LinkedTables.BucketPairs.{value_found}
 use Rattle.schnellru.proofs.LinkedTables.Searches.{no_value}
 use Rattle.schnellru.proofs.map.LruMap.peek.Goals as goal
@@ -7,11 +6,10 @@ use Rattle.schnellru.proofs.map.LruMap.peek.Goals as goal
 pub returns-in_err-b : goal.returns-in_err-b
 returns-in_err-b g c =
     let m = c.self.inside in let holds = c.self.invariant in
-    let hash_of = hash_by g.K.Hash.hash_input g.S.BuildHasher g.S.Hasher.Hasher m.hasher in
+    let hash_of = g.S.KeyHasher.hash_of m.hasher in
     rw (← c.self.view_is, c.from_residual.ensures)
-    (sym (no_value m.entries holds.linked (g.Q.LookupKey.names c.args.key.now) hash_of c.hash_one.result
-    (λ k named. c.hash_one.ensures
-    ∙ hash_by-named g.met.Q.LookupKey.laws g.S.BuildHasher g.S.Hasher.Hasher m.hasher c.args.key.now k named)
+    (sym (no_value m.entries holds.linked (g.Q.LookupKey.names c.args.key.now) hash_of c.hash_named.result
+    c.hash_named.ensures
     (c.in_err-b.ensures.none hash_of holds.fits)))
 
 pub returns : goal.returns

@@ -1,5 +1,4 @@
 use Rattle.std.proofs.Common.{◌≡◌, sym, ap, ◌∙◌, subst, unwrap_or}
-use Rattle.lru_limits.specs.Hashing.{hash_by}
 use Rattle.schnellru.specs.ByHash.{GivesByHash}
 use Rattle.schnellru.specs.Inside.Linked.{pairs_of}
 use Rattle.schnellru.proofs.LinkedTables.ByHash.{gives_by_hash, gives_none_by_hash}
@@ -8,7 +7,7 @@ use Rattle.schnellru.proofs.map.LruMap.peek_by_hash.Goals as goal
 pub returns-in_err-b-clause-none : goal.returns-in_err-b-clause-none
 returns-in_err-b-clause-none g c =
     let m = c.self.inside in let holds = c.self.invariant in
-    let hash_of = hash_by g.K.Hash.hash_input g.S.BuildHasher g.S.Hasher.Hasher m.hasher in
+    let hash_of = g.S.KeyHasher.hash_of m.hasher in
     rw (c.from_residual.ensures, ← c.self.view_is)
     (gives_none_by_hash m.entries holds.linked g.met.K.Eq.laws holds.map.distinct hash_of holds.fits
     c.args.hash g.F.FnMut c.args.is_eq c.in_err-b.ensures.none)
@@ -17,7 +16,7 @@ pub returns-clause-found : goal.returns-clause-found
 returns-clause-found g c =
     let m = c.self.inside in let holds = c.self.invariant in let now = c.pair.result.now in
     let found = c.in_ok-b.ensures.found in
-    let hash_of = hash_by g.K.Hash.hash_input g.S.BuildHasher g.S.Hasher.Hasher m.hasher in
+    let hash_of = g.S.KeyHasher.hash_of m.hasher in
     let same : found.accepted.pair ≡ (now.key, now.value) = ap (λ o. unwrap_or o found.accepted.pair)
     (sym found.accepted.there ∙ c.pair.ensures.pair) in
     rw (← c.self.view_is) (

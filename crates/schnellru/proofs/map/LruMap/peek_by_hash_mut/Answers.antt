@@ -1,5 +1,4 @@
 use Rattle.std.proofs.Common.{◌≡◌, refl, sym, ap, ◌∙◌, subst, unwrap_or}
-use Rattle.lru_limits.specs.Hashing.{hash_by}
 use Rattle.schnellru.specs.ByHash.{GivesByHash}
 use Rattle.schnellru.specs.Inside.Linked.{pairs_of}
 use Rattle.schnellru.proofs.LinkedTables.ByHash.{gives_by_hash, gives_none_by_hash}
@@ -11,7 +10,7 @@ use Rattle.schnellru.proofs.map.LruMap.peek_by_hash_mut.Goals as goal
 pub returns-in_err-b : goal.returns-in_err-b
 returns-in_err-b g c =
     let m = c.self.inside in let holds = c.self.invariant in
-    let hash_of = hash_by g.K.Hash.hash_input g.S.BuildHasher g.S.Hasher.Hasher m.hasher in
+    let hash_of = g.S.KeyHasher.hash_of m.hasher in
     rw (c.from_residual.ensures, ← c.self.view_is) (
       (refl, λ w. tt, refl),
       record {
@@ -27,7 +26,7 @@ invariant_of-self-lent g c = λ w.
     let m = c.self.inside in
     let rest = beside_of m (g.L.LinkType.LinkType.number g.L.LinkType.LinkType.MAX) in
     let holds = c.self.invariant in let now = c.pair_mut.result.now in let laws = g.met.K.Eq.laws in
-    let hash_of = hash_by g.K.Hash.hash_input g.S.BuildHasher g.S.Hasher.Hasher in
+    let hash_of = g.S.KeyHasher.hash_of in
     kept_holds m.entries holds.linked c.in_ok-b.b (now.key, now.value) c.pair_mut.ensures.pair
     (g.K.PartialEq.eq now.key) laws (λ x y h. laws.congr now.key x y h) (laws.refl now.key)
     holds.map.distinct rest w hash_of holds
@@ -38,7 +37,7 @@ returns g c =
     let m = c.self.inside in
     let rest = beside_of m (g.L.LinkType.LinkType.number g.L.LinkType.LinkType.MAX) in
     let t = m.entries in let holds = c.self.invariant in let now = c.pair_mut.result.now in
-    let hash_of = hash_by g.K.Hash.hash_input g.S.BuildHasher g.S.Hasher.Hasher m.hasher in
+    let hash_of = g.S.KeyHasher.hash_of m.hasher in
     let eq = g.K.PartialEq.eq in let laws = g.met.K.Eq.laws in let found = c.in_ok-b.ensures.found in
     let gives = gives_by_hash t holds.linked laws holds.map.distinct hash_of holds.fits c.args.hash g.F.FnMut
     c.args.is_eq c.in_ok-b.b found in

@@ -1,5 +1,4 @@
 use Rattle.std.proofs.Common.{refl, sym, ap, ◌∙◌, subst, unwrap_or, ◌≡◌, true}
-use Rattle.lru_limits.specs.Hashing.{hash_by, hash_by-named}
 use Rattle.schnellru.proofs.Maps.Fields.{beside_of}
 use Rattle.schnellru.proofs.LinkedTables.BucketPairs.{value_found}
 use Rattle.schnellru.proofs.LinkedTables.Searches.{no_value}
@@ -10,10 +9,9 @@ use Rattle.schnellru.proofs.map.LruMap.peek_mut.Goals as goal
 pub returns-in_err-b : goal.returns-in_err-b
 returns-in_err-b g c =
     let m = c.self.inside in let holds = c.self.invariant in
-    let hash_of = hash_by g.K.Hash.hash_input g.S.BuildHasher g.S.Hasher.Hasher m.hasher in
-    let none = no_value m.entries holds.linked (g.Q.LookupKey.names c.args.key.now) hash_of c.hash_one.result
-    (λ k named. c.hash_one.ensures
-    ∙ hash_by-named g.met.Q.LookupKey.laws g.S.BuildHasher g.S.Hasher.Hasher m.hasher c.args.key.now k named)
+    let hash_of = g.S.KeyHasher.hash_of m.hasher in
+    let none = no_value m.entries holds.linked (g.Q.LookupKey.names c.args.key.now) hash_of c.hash_named.result
+    c.hash_named.ensures
     (c.in_err-b.ensures.none hash_of holds.fits) in
     rw (c.from_residual.ensures, ← c.self.view_is) (
       refl,
@@ -31,7 +29,7 @@ invariant_of-self-lent g c = λ w.
     let t = m.entries in let holds = c.self.invariant in let found = c.in_ok-b.ensures.found in
     let now = c.pair_mut.result.now in
     let key : found.0 ≡ (now.key, now.value) = ap (λ o. unwrap_or o found.0) (sym found.1 ∙ c.pair_mut.ensures.pair) in
-    let hash_of = hash_by g.K.Hash.hash_input g.S.BuildHasher g.S.Hasher.Hasher in
+    let hash_of = g.S.KeyHasher.hash_of in
     kept_holds t holds.linked c.in_ok-b.b (now.key, now.value) c.pair_mut.ensures.pair
     (g.Q.LookupKey.names c.args.key.now) g.met.K.Eq.laws (g.met.Q.LookupKey.laws.one c.args.key.now)
     (subst (λ p. g.Q.LookupKey.names c.args.key.now p.0 ≡ true) key found.2)

@@ -22,6 +22,13 @@ place_after_move-requires-clause-absent g c =
     i.n i.gone i.some i.half i.no_place i.no_room c.take_oldest-key.ensures.state
     (g.K.PartialEq.eq c.args.pair.0) c.requires.absent)
 
+pub place_after_move-requires-clause-half : goal.place_after_move-requires-clause-half
+place_after_move-requires-clause-half g c =
+    let n = c.self-in-evictions.inside in
+    let len : c.len.result ≡ length c.take_oldest-key.new.self.pairs = rw (← c.self-in-evictions.view_is)
+    (c.len.ensures.len ∙ sym (pairs-length n.entries c.self-in-evictions.invariant.linked)) in
+    omega (arith, len, c.full_capacity-half.ensures, c.if-len-half.true)
+
 pub place_in_bucket-requires-clause-absent : goal.place_in_bucket-requires-clause-absent
 place_in_bucket-requires-clause-absent g c =
     let i = c.evictions.invariant in

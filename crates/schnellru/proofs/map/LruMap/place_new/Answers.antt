@@ -1,5 +1,4 @@
 use Rattle.std.proofs.Common.{[], refl, ap, sym, ◌∙◌, subst}
-use Rattle.lru_limits.specs.Hashing.{hash_by}
 use Rattle.schnellru.specs.Lists.{IsFront}
 use Rattle.schnellru.specs.State.{contents}
 use Rattle.schnellru.specs.HandedOver.{noting, noted}
@@ -18,7 +17,7 @@ pub place-requires-clause-hash : goal.place-requires-clause-hash
 place-requires-clause-hash g c =
     let way = (c.make_way.ensures.handed c.args.sink.now [] refl).2 in
     c.requires.hash
-    ∙ ap (λ hasher. hash_by g.K.Hash.hash_input g.S.BuildHasher g.S.Hasher.Hasher hasher c.args.pair.0)
+    ∙ ap (λ hasher. g.S.KeyHasher.hash_of hasher c.args.pair.0)
     (sym (ap (λ st. st.hasher) way.is))
 
 pub returns-clause-handed : goal.returns-clause-handed

@@ -1,5 +1,4 @@
 use Rattle.std.proofs.Common.{◌≡◌, true, sym, ap, ◌∙◌, subst, unwrap_or, option_map}
-use Rattle.lru_limits.specs.Hashing.{hash_by, hash_by-named}
 use Rattle.schnellru.proofs.Maps.Fields.{beside_of}
 use Rattle.schnellru.proofs.LinkedTables.BucketPairs.{pair_found, others_are}
 use Rattle.schnellru.proofs.LinkedTables.Searches.{not_found}
@@ -10,10 +9,9 @@ use Rattle.schnellru.proofs.map.LruMap.remove.Goals as goal
 pub returns-in_err-b : goal.returns-in_err-b
 returns-in_err-b g c =
     let m = c.self.inside in let holds = c.self.invariant in
-    let hash_of = hash_by g.K.Hash.hash_input g.S.BuildHasher g.S.Hasher.Hasher m.hasher in
-    let none = not_found m.entries holds.linked (g.Q.LookupKey.names c.args.key.now) hash_of c.hash_one.result
-    (λ k named. c.hash_one.ensures
-    ∙ hash_by-named g.met.Q.LookupKey.laws g.S.BuildHasher g.S.Hasher.Hasher m.hasher c.args.key.now k named)
+    let hash_of = g.S.KeyHasher.hash_of m.hasher in
+    let none = not_found m.entries holds.linked (g.Q.LookupKey.names c.args.key.now) hash_of c.hash_named.result
+    c.hash_named.ensures
     (c.in_err-b.ensures.none hash_of holds.fits) in
     rw (c.from_residual.ensures, ← c.self.view_is)
     (record { step = none_removed g.L.Limiter.rules (g.Q.LookupKey.names c.args.key.now) _ none })

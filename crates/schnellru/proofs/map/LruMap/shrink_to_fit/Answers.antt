@@ -4,7 +4,6 @@ use Rattle.std.specs.Prelude.{IfSome}
 use Rattle.group_table.specs.Sizes.{buckets_for}
 use Rattle.group_table.specs.Change.{count_up}
 use Rattle.group_table.proofs.BucketLemmas.{length-marks_of}
-use Rattle.lru_limits.specs.Hashing.{hash_by}
 use Rattle.schnellru.specs.State.{buckets, MovesTo}
 use Rattle.schnellru.specs.Shrinks.{shrink_counted, kept, shrunk, no_memory_to_shrink}
 use Rattle.schnellru.specs.Inside.Linked.{pairs_of}
@@ -65,7 +64,7 @@ invariant_of-self-2 g c =
     let rises : c.saturating_add-self-inside.result ≡ count_up m.shrunk (length (pairs_of m.entries)) =
     c.saturating_add-self-inside.ensures ∙ ap (λ n. min (m.shrunk + n) (2 ^ 64 - 1))
     (c.len-len.ensures.len ∙ sym (pairs-length m.entries holds.linked)) in
-    let hash_of = hash_by g.K.Hash.hash_input g.S.BuildHasher g.S.Hasher.Hasher in
+    let hash_of = g.S.KeyHasher.hash_of in
     subst (λ n. Holds g.K.PartialEq.eq hash_of c.move_to.new.self (record rest { shrunk = n })) (sym rises)
     (shrinks_holds m.entries c.move_to.new.self c.in-Some.count holds.linked e.linked e.buckets e.pairs e.room
     e.placings rest g.K.PartialEq.eq hash_of holds e.fits

@@ -53,8 +53,8 @@ use Rattle.schnellru.proofs.LentPairs.{Lent, lent_val, lent_shows, true_of, fals
 pub next_back_spec : {M : Type 1} → statement M
 unfolding follows_by
 next_back_spec 𝓤 𝓛 𝓜 𝓡 wired K V L S N H LK LV LL LS LN LH cN kE kEd kP kPd kH kHd lL lLd nL nLd nC nCd nE nEd nP nPd
-    nD nDd sB sBd hH hHd hDd m1 m2 m3 m4 m5 m6 m7 m8 m9 m10 m11 m12 =
-    let T : Ended = f.ended K V L S N H kE kEd kP kPd kH kHd lL lLd nL nLd nC nCd nE nEd nP nPd nD nDd sB sBd hH hHd
+    nD nDd sK sKd sB sBd hH hHd hDd m1 m2 m3 m4 m5 m6 m7 m8 m9 m10 m11 m12 m13 =
+    let T : Ended = f.ended K V L S N H kE kEd kP kPd kH kHd lL lLd nL nLd nC nCd nE nEd nP nPd nD nDd sK sKd sB sBd hH hHd
     hDd in let stayed : Stays T.signature.params T.kept = (stay_dropped _ no, tt) in
     let args : Args = bounded (a_type ∷ a_type ∷ a_type ∷ a_type ∷ a_type ∷ a_type ∷ []) (
       K,
@@ -74,20 +74,20 @@ next_back_spec 𝓤 𝓛 𝓜 𝓡 wired K V L S N H LK LV LL LS LN LH cN kE kEd
           ),
         ),
       ),
-    ) (dcons kEd (dcons kPd (dcons kHd (dcons lLd (dcons nLd (dcons nCd (dcons nEd (dcons nPd (dcons nDd (dcons
-    sBd (dcons hHd (dcons hDd dnil)))))))))))) in
+    ) (dcons kEd (dcons kPd (dcons kHd (dcons lLd (dcons nLd (dcons nCd (dcons nEd (dcons nPd (dcons nDd (dcons sKd (dcons
+    sBd (dcons hHd (dcons hDd dnil))))))))))))) in
     let fn : Fn = inst_fn args code.function in
     let Row : Lfts 8 → RattleType = λ κs. W.the_row (named_lft 8 1 tt κs) (param 0 K) (param 1 V) (param 2 L) (param 3
-    S) (copied 4 N) (param 5 H) kP kH lL nL nP nD sB hH in
-    let c = f.clauses K V L S N H kE kEd kP kPd kH kHd lL lLd nL nLd nC nCd nE nEd nP nPd nD nDd sB sBd hH hHd hDd 𝓛
+    S) (copied 4 N) (param 5 H) kP kH lL nL nP nD sK sB hH in
+    let c = f.clauses K V L S N H kE kEd kP kPd kH kHd lL lLd nL nLd nC nCd nE nEd nP nPd nD nDd sK sKd sB sBd hH hHd hDd 𝓛
     𝓜.mem 𝓡.returns in let End = walk_of 𝓛 T stayed c in let 𝓣 = tables 𝓤 𝓛.H 𝓜 𝓡 𝓡.env in
     proved 𝓛 T stayed c 𝓜 𝓡 (Goes-spent_ref 𝓛 8 (0 ∷ []) tt (plain Row), tt)
     (f.Key.name args) fn (code.unfolded 𝓤 𝓛.H 𝓜 𝓡 wired (K, (V, (L, (S, (N, (H, tt)))))) kEd kPd kHd lLd nLd nCd nEd
-    nPd nDd sBd hHd hDd)
+    nPd nDd sKd sBd hHd hDd)
     (λ κs. (mut_vals, tt)) (λ κs. (mut_Tells (named 0) κs.0 (Row κs), tt)) (λ κs qs bounds a _ are.
     let κ = κs.0 in let q = qs.0 in let R = Row κs in
     let low = laws.lowers (named_lft 8 1 tt κs) (param 0 K) (param 1 V) (param 2 L) (param 3 S) (copied 4 N) (param 5
-    H) kP kH lL nL nP nD sB hH (param_laws 0 K LK) (param_laws 1 V LV) (param_laws 2 L LL) (param_laws 3 S LS)
+    H) kP kH lL nL nP nD sK sB hH (param_laws 0 K LK) (param_laws 1 V LV) (param_laws 2 L LL) (param_laws 3 S LS)
     (copied_laws 4 N LN) (param_laws 5 H LH) in
     let r = a.0 in let b = r.ref_ptr.0 in let o = r.ref_ptr.1 in let s = r.now in
     let Two = Lent κ (param 0 K) (param 1 V) in let val = lent_val κ (param 0 K) (param 1 V) in
@@ -124,8 +124,8 @@ next_back_spec 𝓤 𝓛 𝓜 𝓡 wired K V L S N H LK LV LL LS LN LH cN kE kEd
     first ! $ branches ! (get ! refl)
     (λ more.
     let low_at = ltb→lt (walk_start s) (walk_end s) more in let there = true_of _ more in
-    let G = triple_of 𝓛 (g.signature K V L S N H kE kEd kP kPd kH kHd lL lLd nL nLd nC nCd nE nEd nP nPd nD nDd sB sBd
-    hH hHd hDd) (g.spec K V L S N H kE kEd kP kPd kH kHd lL lLd nL nLd nC nCd nE nEd nP nPd nD nDd sB sBd hH hHd hDd 𝓛
+    let G = triple_of 𝓛 (g.signature K V L S N H kE kEd kP kPd kH kHd lL lLd nL nLd nC nCd nE nEd nP nPd nD nDd sK sKd sB sBd
+    hH hHd hDd) (g.spec K V L S N H kE kEd kP kPd kH kHd lL lLd nL nLd nC nCd nE nEd nP nPd nD nDd sK sKd sB sBd hH hHd hDd 𝓛
     𝓜.mem 𝓡.returns) in
     let z : G.Ghost = ((κs, qs, bounds, a, (mut_vals r, tt)), tt) in
     sets ! (addr ! (through ! refl (stop !))) refl (tt, tt) $
@@ -140,15 +140,15 @@ next_back_spec 𝓤 𝓛 𝓜 𝓡 wired K V L S N H LK LV LL LS LN LH cN kE kEd
     use0 𝓛 (raw (fact 𝓤 (κs.1.1.0 ⊑ K.lives))) (fact_i 𝓤 _ (emp 𝓤) lK) $ join ! $
     move ! (1 ∷ 0 ∷ []) $ join ! $ use1 𝓛 (raw (G.pre z)) (id⊢ 𝓤 _) $
     calls_at ! (framed 𝓤 𝓛.H 𝓜 𝓣) G (met 𝓤 𝓛 𝓜 𝓡 (code.calls-schnellru::walk::iter_mut::IterMut::lend_next_back 𝓡.env
-    wired) K V L S N H LK LV LL LS LN LH cN kE kEd kP kPd kH kHd lL lLd nL nLd nC nCd nE nEd nP nPd nD nDd sB sBd hH
-    hHd hDd m1 m2 m3 m4 m5 m6 m7 m8 m9 m10 m11 m12) z (and_then ! (get ! refl) (no_more !)) (λ v.
+    wired) K V L S N H LK LV LL LS LN LH cN kE kEd kP kPd kH kHd lL lLd nL nLd nC nCd nE nEd nP nPd nD nDd sK sKd sB sBd hH
+    hHd hDd m1 m2 m3 m4 m5 m6 m7 m8 m9 m10 m11 m12 m13) z (and_then ! (get ! refl) (no_more !)) (λ v.
     use1 𝓛 (later (some (λ (x : Two.Denot). (Tokens ⊛ ‵ (Two.own_val x (v ∷ []))) ⊛
     some (λ (ws : Unit {0} × Unit {0}). ‵ (lasts (g.ended K V L S N H kE kEd kP kPd kH kHd lL lLd nL nLd nC nCd nE nEd
-    nP nPd nD nDd sB sBd hH hHd hDd) κs a ws) ⊛
+    nP nPd nD nDd sK sKd sB sBd hH hHd hDd) κs a ws) ⊛
     (‵ (lends_last (param 0 K) (param 1 V) (param 2 L) (param 3 S) (copied 4 N) (param 5 H) (record {
       eq = kP.eq;
       hash_input = kH.hash_input;
-    }) lL nL nP nD sB hH r x) ⊛
+    }) lL nL nP nD (record { build_hasher = sB.build_hasher; hash_of = sK.hash_of }) hH r x) ⊛
     raw (fact 𝓤 (slice_get (walk_map s).pairs (walk_end s - 1) ≡ Some (deref_pair_mut x)))))))) (id⊢ 𝓤 _) $
     await ! tt $ pick ! (λ x.
     split ! $ split ! $ move ! (1 ∷ []) $ peeks ! Two _ (lent_shows κ (param 0 K) (param 1 V) 𝓛) x (v ∷ []) (λ two.

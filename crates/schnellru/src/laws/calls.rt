@@ -1,0 +1,94 @@
+//! What is proved of each call, whichever it is. A step is what one call makes of a map (`specs/Runs`): `Step` is that of
+//! a call through which nothing is written, and `AnyStep` also that of a value or a limiter that is written through a
+//! reference.
+
+ghost use Rattle.std.specs.Prelude.{◌≡◌, ℕ, ◌+◌, ◌≤◌, length};
+ghost use Rattle.std.specs.List.{IsDistinct};
+ghost use Rattle.schnellru.specs.Lists.{keys_of};
+ghost use Rattle.schnellru.specs.State.{State, IsSized, IsMap};
+ghost use Rattle.schnellru.specs.Runs.{Step, AnyStep};
+ghost use Rattle.schnellru.specs.Shrinks.{PlacesAnew};
+ghost use Rattle.schnellru.specs.Theorems.{PaysForMoves, UsesAtMost, IsSummed};
+
+use lru_limits::{
+    ByCost, ByLength, ByMemoryUsage, Costed, Insertion, KeyHasher, Limiter, LookupKey, Summing,
+};
+use std::hash::Hash;
+
+/// Each call keeps what holds of every map, where the table is sound, as every table is: no two keys are equal, each pair
+/// has a bucket, and what inserts moved is at most twice what they placed, and what shrinks placed anew.
+pub fn calls_keep_maps<K: Eq + Hash, V, I: LookupKey<K>, L: Insertion<K, V, I>, S: KeyHasher<K>>()
+    ensures keys { (old new : State K V L S) →
+        AnyStep L.rules L.offers I.names S.hash_of old new →
+        IsDistinct K.eq (keys_of old.pairs) → IsDistinct K.eq (keys_of new.pairs) }
+    ensures map { (old new : State K V L S) →
+        AnyStep L.rules L.offers I.names S.hash_of old new →
+        IsMap K.eq old → IsSized new → IsMap K.eq new }
+{}
+
+/// A summing limiter that held the sum of the costs holds it after each call through which nothing is written.
+pub fn calls_keep_sums<K: Eq + Hash, V, I: LookupKey<K>, L: Summing<K, V, I>, S: KeyHasher<K>>()
+    ensures { (old new : State K V L S) →
+        Step L.rules L.offers I.names S.hash_of old new →
+        IsSummed L.cost_of L.account old → IsSummed L.cost_of L.account new }
+{}
+
+/// Each call pays for what it moves: moved and potential together rise by at most two for each element that it places, and
+/// one for each entry that it places anew, which only a shrink does.
+pub fn calls_pay_for_moves<
+    K: Eq + Hash,
+    V,
+    I: LookupKey<K>,
+    L: Insertion<K, V, I>,
+    S: KeyHasher<K>,
+>()
+    ensures { (old new : State K V L S) →
+        AnyStep L.rules L.offers I.names S.hash_of old new →
+        IsSized old → (anew : ℕ) × PlacesAnew anew old new × PaysForMoves anew old new }
+{}
+
+/// With `ByLength` each call leaves the limiter, and at most `max_length` pairs, if there were no more before.
+pub fn calls_keep_the_length<K: Eq + Hash + Drop, V: Drop, S: KeyHasher<K>>()
+    ensures limiter { (old new : State K V ByLength S) →
+        Step ⟦<ByLength as Limiter<K, V>>⟧.rules ⟦<ByLength as Insertion<K, V, K>>⟧.offers K.eq S.hash_of old new →
+        new.limiter ≡ old.limiter }
+    ensures length { (old new : State K V ByLength S) →
+        Step ⟦<ByLength as Limiter<K, V>>⟧.rules ⟦<ByLength as Insertion<K, V, K>>⟧.offers K.eq S.hash_of old new →
+        length old.pairs ≤ old.limiter → length new.pairs ≤ old.limiter }
+{}
+
+/// With `ByMemoryUsage` each call leaves the limiter, and a table of at most `max_memory_usage` bytes, if it had no more
+/// before.
+pub fn calls_keep_the_memory_usage<K: Eq + Hash + Drop, V: Drop, S: KeyHasher<K>>()
+    ensures limiter { (old new : State K V ByMemoryUsage S) →
+        Step ⟦<ByMemoryUsage as Limiter<K, V>>⟧.rules ⟦<ByMemoryUsage as Insertion<K, V, K>>⟧.offers K.eq
+        S.hash_of old new → new.limiter ≡ old.limiter }
+    ensures usage { (old new : State K V ByMemoryUsage S) →
+        Step ⟦<ByMemoryUsage as Limiter<K, V>>⟧.rules ⟦<ByMemoryUsage as Insertion<K, V, K>>⟧.offers K.eq
+        S.hash_of old new → UsesAtMost old.limiter old → UsesAtMost old.limiter new }
+{}
+
+/// With `ByCost` each call leaves the limit, and a cost that is at most the limit, if it was so before and was the sum of
+/// the costs of the pairs.
+pub fn calls_keep_the_cost<K: Eq + Hash + Drop, V: Costed + Drop, S: KeyHasher<K>>()
+    ensures limit { (old new : State K V ByCost S) →
+        Step ⟦<ByCost as Limiter<K, V>>⟧.rules ⟦<ByCost as Insertion<K, V, K>>⟧.offers K.eq S.hash_of old new →
+        new.limiter.limit ≡ old.limiter.limit }
+    ensures cost { (old new : State K V ByCost S) →
+        Step ⟦<ByCost as Limiter<K, V>>⟧.rules ⟦<ByCost as Insertion<K, V, K>>⟧.offers K.eq S.hash_of old new →
+        IsSummed ⟦<ByCost as Summing<K, V, K>>⟧.cost_of ⟦<ByCost as Summing<K, V, K>>⟧.account old →
+        old.limiter.cost ≤ old.limiter.limit → new.limiter.cost ≤ old.limiter.limit }
+{}
+
+/// No call adds more than one pair.
+pub fn calls_add_one_pair<
+    K: Eq + Hash,
+    V,
+    I: LookupKey<K>,
+    L: Insertion<K, V, I>,
+    S: KeyHasher<K>,
+>()
+    ensures { (old new : State K V L S) →
+        AnyStep L.rules L.offers I.names S.hash_of old new →
+        length new.pairs ≤ length old.pairs + 1 }
+{}
