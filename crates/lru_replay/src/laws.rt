@@ -11,7 +11,9 @@ ghost use Rattle.lru_replay.specs.CallRuns.{IsRun, CallStep, SummingStep, SetsNo
 ghost use Rattle.lru_replay.specs.ListRuns.{ListCallStep, ListSummingStep};
 ghost use Rattle.lru_replay.specs.Replies.{Reply, want_of};
 
-use schnellru::{ByCost, ByLength, ByMemoryUsage, Costed, Insertion, KeyHasher, Limiter, Summing, laws};
+use schnellru::{
+    ByCost, ByLength, ByMemoryUsage, Costed, Insertion, KeyHasher, Limiter, Summing, laws,
+};
 use std::hash::Hash;
 
 /// Over any stretch of calls moved and potential together rise by at most two for each element that is placed, while

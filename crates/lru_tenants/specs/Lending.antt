@@ -11,7 +11,7 @@ use mathlib.Core.Option.{none}
 module _ (K V : RattleType) (key : HashMembers K.Denot) (costs : costed.Ghosts V.Denot) where
   -- the cache's type, as the logic holds it
   abbrev pub cache_row : RattleType
-  cache_row = the_row K V (record { eq = key.eq }) (record { hash_input = key.hash_input }) costs
+  cache_row = the_row K V (record {}) (record { eq = key.eq }) (record { hash_input = key.hash_input }) costs
 
   -- it ends as one of which this holds
   abbrev pub ends_so : MutBor (Cache K.Denot V.Denot) → (Cache K.Denot V.Denot → Type 0) → Fml
