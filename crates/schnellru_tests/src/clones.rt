@@ -62,24 +62,6 @@ fn a_copy_equals_its_source(rt: HostRuntime) -> Result<(), Fail> {
     Ok(())
 }
 
-#[test]
-fn a_copy_changes_apart_from_its_source(rt: HostRuntime) -> Result<(), Fail> {
-    let mut map = test_helpers::three_costs(rt.alloc())?;
-    let mut copy = map.clone()?;
-    assert!(rt; copy.insert(4, 4)?);
-    assert_eq!(rt; map.pop_oldest(), Some((1, 1)));
-    assert_eq!(rt;
-        (
-            copy.limiter().cost(),
-            map.limiter().cost(),
-            copy.len(),
-            map.len()
-        ),
-        (10, 5, 4, 2)
-    );
-    Ok(())
-}
-
 /// Limits nothing, holds something, and may refuse to be cloned. As a hasher it does the same.
 #[derive(Drop)]
 struct Holding<'a> {

@@ -114,23 +114,3 @@ fn keys_and_values_are_dropped_once(rt: HostRuntime) -> Result<(), Fail> {
     expect_balance(&rt, UnlimitedCompact, &lives)?;
     expect_balance(&rt, Storing(ByLength::new(3)), &lives)
 }
-
-/// A drain that is forgotten leaves the rest in the map, and the map drops it.
-#[test]
-fn a_forgotten_drain_leaves_the_rest(rt: HostRuntime) -> Result<(), Fail> {
-    let lives = Lives::new();
-    let mut map: Map<ByLength> = LruMap::new(rt.alloc(), ByLength::new(9), [1, 2, 3, 4], 16);
-    for n in 0..3u64 {
-        map.insert(lives.key(n), lives.value(n))?;
-    }
-    let mut drain = map.drain();
-    drop(drain.next_back());
-    std::mem::forget(drain);
-    assert_eq!(rt;
-        (map.len(), lives.keys.get(), lives.values.get()),
-        (2, 2, 2)
-    );
-    drop(map);
-    assert_eq!(rt; (lives.keys.get(), lives.values.get()), (0, 0));
-    Ok(())
-}
