@@ -89,7 +89,7 @@ fn random_calls_beside_maps_of_their_own(rt: HostRuntime) -> Result<(), Fail> {
 
 #[test]
 fn a_hundred_thousand_tenants(rt: HostRuntime) -> Result<(), Fail> {
-    let mut cache = TenantCache::new(rt.alloc(), [1, 2, 3, 4], 16);
+    let mut cache = TenantCache::new(rt.alloc(), [1, 2, 3, 4], 4000);
     for name in 0..100_000u64 {
         cache.open(name, name)?;
         cache.put(name, name, name)?;

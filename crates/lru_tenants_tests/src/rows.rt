@@ -46,5 +46,6 @@ fn worked_calls(rt: HostRuntime) -> Result<(), Fail> {
     let mut cache = TenantCache::new(alloc, [1, 2, 3, 4], 16);
     let answers = run_tenants(alloc, &mut cache, calls)?;
     assert_eq!(rt; answers.as_slice(), wanted.as_slice());
+    assert!(rt; run_tenants(alloc, &mut cache, Vec::new(alloc))?.is_empty());
     Ok(())
 }
