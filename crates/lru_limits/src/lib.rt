@@ -1,6 +1,7 @@
 //! What a map with a limiter asks of its parts: look-up keys, limiters, accounts and a hasher.
 //!
-//! - [`LookupKey`]: a value that a key is looked up by, as `&str` where the keys are `String`s.
+//! - [`LookupKey`]: a value that a key is looked up by, as `&str` if the keys are `String`s.
+//! - [`KeyHasher`]: a hasher of keys. Each `BuildHasher` is one; its clauses name the hash of a key.
 //! - [`Limiter`] and [`Insertion`]: when a map is over its limit, and what happens to an element that is offered to it.
 //! - [`ByLength`], [`ByMemoryUsage`], [`Unlimited`], [`UnlimitedCompact`]: limiters that look at no element.
 //! - [`Storing`]: an adapter for a limiter of your own that stores each pair as it comes.
