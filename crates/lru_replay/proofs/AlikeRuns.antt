@@ -31,10 +31,10 @@ use Rattle.lru_replay.specs.Figures.{IsFigures}
 use Rattle.lru_replay.specs.Replies.{Reply, flag, given, value, pair, listed, reserved, shrunk, stats, done, no_memory}
 use Rattle.lru_replay.specs.Replies.{insert_reply, made_reply, cost_differs, Want, found_all, lacks, lacks_beside}
 use Rattle.lru_replay.specs.Replies.{want_of}
-use Rattle.lru_replay.specs.Steps.{Step, FindsByHash, found, not_found, promoted_if}
-use Rattle.lru_replay.specs.declared.call.Call.{Call}
-use Rattle.lru_replay.specs.declared.call.Call.TheVariants as calls
-use Rattle.lru_replay.specs.declared.figures.Figures.{Figures}
+use Rattle.lru_replay.specs.Steps.{ReplyStep, FindsByHash, found, not_found, promoted_if}
+use Rattle.lru_replay.specs.declared.calls.call.Call.{Call}
+use Rattle.lru_replay.specs.declared.calls.call.Call.TheVariants as calls
+use Rattle.lru_replay.specs.declared.lines.figures.Figures.{Figures}
 use Rattle.lru_replay.proofs.ListRuns.{same_hasher}
 
 head_same : {x y : Want} {xs ys : List Want} → x ∷ xs ≡ y ∷ ys → x ≡ y
@@ -181,16 +181,16 @@ module _ {K V S H : Type 0} (rules : Rules K V S) (offers : Offers K V S K) (eq 
         both_short : wants_memory reply ≡ wants_memory answer
         both_short = ap is_short same_wants
 
-        insert_alike : (k : K) (v : V) → Step rules offers eq hash_of old (calls.Insert k v) reply new
-            → Step rules offers eq hash_of other (calls.Insert k v) answer last → AreAlike
+        insert_alike : (k : K) (v : V) → ReplyStep rules offers eq hash_of old (calls.Insert k v) reply new
+            → ReplyStep rules offers eq hash_of other (calls.Insert k v) answer last → AreAlike
         insert_alike k v (result, h, is) (result', h', is') =
             let errs = sym (insert_wants K V result) ∙ ap wants_memory (sym is) ∙ both_short
             ∙ ap wants_memory is' ∙ insert_wants K V result' in
             let both = law k v old result new other result' last determined never small after too alike errs h h' in
             (is ∙ ap insert_reply both.0 ∙ sym is', both.1)
 
-        handed_alike : (k : K) (v : V) → Step rules offers eq hash_of old (calls.InsertWith k v) reply new
-            → Step rules offers eq hash_of other (calls.InsertWith k v) answer last → AreAlike
+        handed_alike : (k : K) (v : V) → ReplyStep rules offers eq hash_of old (calls.InsertWith k v) reply new
+            → ReplyStep rules offers eq hash_of other (calls.InsertWith k v) answer last → AreAlike
         handed_alike k v (result, out, h, is) (result', out', h', is') =
             let errs = sym (given_wants result out) ∙ ap wants_memory (sym is) ∙ both_short
             ∙ ap wants_memory is' ∙ given_wants result' out' in
@@ -262,8 +262,8 @@ module _ {K V S H : Type 0} (rules : Rules K V S) (offers : Offers K V S K) (eq 
           (ap shape (e' ∙ ap (λ r. promoted_if eq r k other) (sym same)))
 
       step_alike : want_of reply ≡ want_of answer → (call : Call K V S)
-          → HasPlainSearch (hash_of old.hasher) call → Step rules offers eq hash_of old call reply new
-          → Step rules offers eq hash_of other call answer last → AreAlike
+          → HasPlainSearch (hash_of old.hasher) call → ReplyStep rules offers eq hash_of old call reply new
+          → ReplyStep rules offers eq hash_of other call answer last → AreAlike
       step_alike wants (calls.Insert k v) plain h h' = insert_alike wants k v h h'
       step_alike wants (calls.InsertWith k v) plain h h' = handed_alike wants k v h h'
       step_alike wants (calls.GetOrInsert k v) plain (result, h, is) (result', h', is') =
@@ -327,7 +327,7 @@ module _ {K V S H : Type 0} (rules : Rules K V S) (offers : Offers K V S K) (eq 
 
     -- what stores pairs and finds memory for them tells more than a want
     stored_tells : (old new : State K V S H) (call : Call K V S) (reply : Reply K V) → StoresPairs call
-        → Step rules offers eq hash_of old call reply new → is_alone (want_of reply) ≡ false
+        → ReplyStep rules offers eq hash_of old call reply new → is_alone (want_of reply) ≡ false
     stored_tells old new (calls.InsertWith k v) reply stores (result, out, h, is) =
         ap (λ r. is_alone (want_of r)) is ∙ given_tells result out
     stored_tells old new calls.List reply stores (is, e) = ap (λ r. is_alone (want_of r)) is

@@ -8,9 +8,9 @@ use Rattle.schnellru.specs.Runs.{reserves, shrinks, AnyStep, calls as any_call, 
 use Rattle.schnellru.specs.State.{State}
 use Rattle.lru_replay.specs.CallRuns.{CallStep}
 use Rattle.lru_replay.specs.Replies.{Reply}
-use Rattle.lru_replay.specs.Steps.{Step as StepOf}
-use Rattle.lru_replay.specs.declared.call.Call.{Call}
-use Rattle.lru_replay.specs.declared.call.Call.TheVariants as calls
+use Rattle.lru_replay.specs.Steps.{ReplyStep}
+use Rattle.lru_replay.specs.declared.calls.call.Call.{Call}
+use Rattle.lru_replay.specs.declared.calls.call.Call.TheVariants as calls
 
 module _ {K V S H : Type 0} (rules : Rules K V S) (offers : Offers K V S K) (eq : K → K → Bool)
     (hash_of : H → K → ℕ) (old new : State K V S H) where
@@ -22,7 +22,7 @@ module _ {K V S H : Type 0} (rules : Rules K V S) (offers : Offers K V S K) (eq 
 
 module _ {K V S H : Type 0} {rules : Rules K V S} {offers : Offers K V S K} {eq : K → K → Bool}
     {hash_of : H → K → ℕ} {old new : State K V S H} where
-  step_kind : (call : Call K V S) (reply : Reply K V) → StepOf rules offers eq hash_of old call reply new
+  step_kind : (call : Call K V S) (reply : Reply K V) → ReplyStep rules offers eq hash_of old call reply new
       → Kind rules offers eq hash_of old new call
   step_kind (calls.Insert k v) reply (result, h, is) = calls_map (inserts k v result h)
   step_kind (calls.InsertWith k v) reply (result, out, h, is) = calls_map (inserts k v result (plain_insert h))

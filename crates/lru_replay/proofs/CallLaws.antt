@@ -7,8 +7,8 @@ use Rattle.schnellru.specs.Runs.{Step, AnyStep, Run, ends, goes_on}
 use Rattle.schnellru.specs.State.{State, contents, IsSized, IsMap}
 use Rattle.lru_replay.specs.CallRuns.{IsRun, CallStep, SummingStep, KeepsCost, SetsNoLimiter}
 use Rattle.lru_replay.specs.Replies.{Reply}
-use Rattle.lru_replay.specs.declared.call.Call.{Call}
-use Rattle.lru_replay.specs.declared.call.Call.TheVariants as calls
+use Rattle.lru_replay.specs.declared.calls.call.Call.{Call}
+use Rattle.lru_replay.specs.declared.calls.call.Call.TheVariants as calls
 use Rattle.lru_replay.proofs.CallKinds.{Kind, calls_map, stays, writes_value, sets_limiter, kind_of, any_step}
 
 module _ {K V S H : Type 0} (rules : Rules K V S) (offers : Offers K V S K) (eq : K → K → Bool)

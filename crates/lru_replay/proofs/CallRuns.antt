@@ -2,8 +2,8 @@
 use Rattle.std.proofs.Common.{◌≡◌, List, [], ◌∷◌, ◌++◌, length, refl, sym, ap, ◌∙◌, subst, arith}
 use Rattle.std.proofs.Common.{append_assoc}
 use Rattle.std.proofs.lemmas.List.{append-nil}
-use Rattle.lru_replay.specs.declared.call.Answer.{Answer}
-use Rattle.lru_replay.specs.declared.call.Call.{Call}
+use Rattle.lru_replay.specs.declared.calls.call.Answer.{Answer}
+use Rattle.lru_replay.specs.declared.calls.call.Call.{Call}
 use Rattle.lru_replay.specs.CallRuns.{IsRun}
 use Rattle.lru_replay.specs.Replies.{Reply, said, all_said}
 

@@ -9,14 +9,14 @@ use Rattle.lru_limits.specs.Rules.{Rules, Offers}
 use Rattle.schnellru.specs.Lists.{IsFront}
 use Rattle.schnellru.specs.State.{IsSized}
 use Rattle.std.proofs.lemmas.Option.{IfSome_then}
-use Rattle.lru_replay.specs.declared.command.Limit.{Limit}
-use Rattle.lru_replay.specs.declared.command.Limit.TheVariants as limits
-use Rattle.lru_replay.specs.declared.line.Ending.{Ending}
-use Rattle.lru_replay.specs.declared.line.Ending.TheVariants as endings
-use Rattle.lru_replay.specs.declared.outcome.ReplayEnd.{ReplayEnd}
-use Rattle.lru_replay.specs.declared.outcome.ReplayEnd.TheVariants as ends
-use Rattle.lru_replay.specs.declared.outcome.ReplayError.{ReplayError}
-use Rattle.lru_replay.specs.declared.outcome.ReplayError.TheVariants as errors
+use Rattle.lru_replay.specs.declared.lines.command.Limit.{Limit}
+use Rattle.lru_replay.specs.declared.lines.command.Limit.TheVariants as limits
+use Rattle.lru_replay.specs.declared.lines.line.Ending.{Ending}
+use Rattle.lru_replay.specs.declared.lines.line.Ending.TheVariants as endings
+use Rattle.lru_replay.specs.declared.lines.outcome.ReplayEnd.{ReplayEnd}
+use Rattle.lru_replay.specs.declared.lines.outcome.ReplayEnd.TheVariants as ends
+use Rattle.lru_replay.specs.declared.lines.outcome.ReplayError.{ReplayError}
+use Rattle.lru_replay.specs.declared.lines.outcome.ReplayError.TheVariants as errors
 use Rattle.lru_replay.specs.Grammar.{SpellsLimit}
 use Rattle.lru_replay.specs.Lines.{lines_of, TakesFed, TakesRest, TakesLine, TakesPart, TakesLines, TakesFirst}
 use Rattle.lru_replay.specs.Output.{Fails, no_limiter_text}

@@ -3,12 +3,12 @@ use Rattle.std.proofs.Common.{◌≡◌, ℕ, ◌<◌, ◌≤◌, ◌^◌, List,
 use Rattle.std.proofs.Common.{decimal, Option, Result}
 use Rattle.std.proofs.lemmas.List.{take_all, length-append}
 use Rattle.std.proofs.lemmas.Fmt.{length-decimal-le}
-use Rattle.lru_replay.specs.declared.line.TheConstants.{HELD, LONGEST}
-use Rattle.lru_replay.specs.declared.command.Command.{Command}
-use Rattle.lru_replay.specs.declared.command.Command.TheVariants as commands
-use Rattle.lru_replay.specs.declared.command.Limit.{Limit}
-use Rattle.lru_replay.specs.declared.command.Limit.TheVariants as limits
-use Rattle.lru_replay.specs.declared.outcome.ReplayError.{ReplayError}
+use Rattle.lru_replay.specs.declared.lines.line.TheConstants.{HELD, LONGEST}
+use Rattle.lru_replay.specs.declared.lines.command.Command.{Command}
+use Rattle.lru_replay.specs.declared.lines.command.Command.TheVariants as commands
+use Rattle.lru_replay.specs.declared.lines.command.Limit.{Limit}
+use Rattle.lru_replay.specs.declared.lines.command.Limit.TheVariants as limits
+use Rattle.lru_replay.specs.declared.lines.outcome.ReplayError.{ReplayError}
 use Rattle.lru_replay.specs.Grammar.{SpellsCommand, SpellsLimit, command_spelling, limit_spelling, FitsCommand}
 use Rattle.lru_replay.specs.Grammar.{FitsLimit}
 use Rattle.lru_limits.specs.Rules.{Rules, Offers}

@@ -21,9 +21,9 @@ use Rattle.schnellru.specs.declared.map.reserve.ReserveError.{ReserveError}
 use Rattle.lru_replay.specs.CallRuns.{IsRun, CallStep, SummingStep}
 use Rattle.lru_replay.specs.ListRuns.{ListStep, ListCallStep, ListSummingStep, beside, emptied}
 use Rattle.lru_replay.specs.Replies.{Reply, value, pair, listed, made_reply}
-use Rattle.lru_replay.specs.Steps.{Step}
-use Rattle.lru_replay.specs.declared.call.Call.{Call}
-use Rattle.lru_replay.specs.declared.call.Call.TheVariants as calls
+use Rattle.lru_replay.specs.Steps.{ReplyStep}
+use Rattle.lru_replay.specs.declared.calls.call.Call.{Call}
+use Rattle.lru_replay.specs.declared.calls.call.Call.TheVariants as calls
 
 -- a value that is found is that of the pair that comes to the front
 newest_found : {K V : Type 0} (names : K → Bool) (others xs : List (K × V)) (w : V) → lookup names xs ≡ Some w
@@ -89,7 +89,7 @@ module _ {K V S H : Type 0} (rules : Rules K V S) (offers : Offers K V S K) (eq 
         is,
       )
 
-      in_list : (call : Call K V S) (reply : Reply K V) → Step rules offers eq hash_of old call reply new
+      in_list : (call : Call K V S) (reply : Reply K V) → ReplyStep rules offers eq hash_of old call reply new
           → ListStep rules offers eq (hash_of old.hasher) (contents old) call reply (contents new)
       in_list (calls.Insert k v) reply (result, h, is) = (result, law k v old result new grants tables h, is)
       in_list (calls.InsertWith k v) reply (result, out, h, is) = (result, out, handed_in_list k v result out h, is)

@@ -10,8 +10,8 @@ use Rattle.std.proofs.lemmas.Str.{IsUtf8-from_ascii}
 use Rattle.std.specs.Result.{result_ok}
 use Rattle.std.specs.Str.Parse.{ParsesUnsigned, IsNumeral, digits_value, AllDigits}
 use Rattle.lru_replay.specs.Grammar.{SpellsNumber, StartsAsNumber, SpellsPair, SpellsLimit, pair_spelling}
-use Rattle.lru_replay.specs.declared.command.Limit.{Limit}
-use Rattle.lru_replay.specs.declared.command.Limit.TheVariants as limits
+use Rattle.lru_replay.specs.declared.lines.command.Limit.{Limit}
+use Rattle.lru_replay.specs.declared.lines.command.Limit.TheVariants as limits
 use Rattle.lru_replay.specs.Lines.{Lacks}
 use Rattle.lru_replay.proofs.ByteLists.{one_split, Lacks-none}
 

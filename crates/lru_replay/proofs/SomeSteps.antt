@@ -10,9 +10,9 @@ use Rattle.schnellru.specs.State.{Contents, room, contents, IsSized, pop}
 use Rattle.schnellru.specs.Drains.{pops_first, newest_given}
 use Rattle.schnellru.proofs.CallerLemmas.{promoted_sized, cleared_sized, some_insert, some_leave, some_reservation}
 use Rattle.schnellru.proofs.CallerLemmas.{some_shrink, length-without, length-without_first, length-without_last}
-use Rattle.lru_replay.specs.declared.command.Command.{Command}
-use Rattle.lru_replay.specs.declared.command.Command.TheVariants as commands
-use Rattle.lru_replay.specs.declared.figures.Figures.{Figures}
+use Rattle.lru_replay.specs.declared.lines.command.Command.{Command}
+use Rattle.lru_replay.specs.declared.lines.command.Command.TheVariants as commands
+use Rattle.lru_replay.specs.declared.lines.figures.Figures.{Figures}
 use Rattle.lru_replay.specs.Limits.{AlwaysOffers}
 use Rattle.lru_replay.specs.LineRuns.{AnswersCommand}
 use Rattle.lru_replay.specs.Maps.{Map, hash_of}

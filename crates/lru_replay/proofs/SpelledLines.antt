@@ -10,10 +10,10 @@ use Rattle.std.specs.Str.{bytes_eq}
 use Rattle.std.specs.Str.Parse.{digits_value}
 use Rattle.std.specs.Prelude.{nat_lt}
 use Rattle.std.specs.Bool.{Decides}
-use Rattle.lru_replay.specs.declared.command.Command.{Command}
-use Rattle.lru_replay.specs.declared.command.Command.TheVariants as commands
-use Rattle.lru_replay.specs.declared.command.Limit.{Limit}
-use Rattle.lru_replay.specs.declared.command.Limit.TheVariants as limits
+use Rattle.lru_replay.specs.declared.lines.command.Command.{Command}
+use Rattle.lru_replay.specs.declared.lines.command.Command.TheVariants as commands
+use Rattle.lru_replay.specs.declared.lines.command.Limit.{Limit}
+use Rattle.lru_replay.specs.declared.lines.command.Limit.TheVariants as limits
 use Rattle.lru_replay.specs.Grammar.{SpellsCommand, SpellsLimit, pair_spelling, command_spelling, limit_spelling}
 use Rattle.lru_replay.specs.Grammar.{FitsCommand, FitsLimit}
 use Rattle.lru_replay.specs.Lines.{Lacks}

@@ -7,7 +7,7 @@ use Rattle.schnellru.specs.State.{State, contents, IsSized}
 use Rattle.schnellru.specs.Theorems.{IsSummed}
 use Rattle.lru_replay.specs.CallRuns.{CallStep, KeepsCost}
 use Rattle.lru_replay.specs.Replies.{Reply}
-use Rattle.lru_replay.specs.declared.call.Call.{Call}
+use Rattle.lru_replay.specs.declared.calls.call.Call.{Call}
 use Rattle.lru_replay.proofs.CallKinds.{Kind, calls_map, stays, writes_value, sets_limiter, kind_of}
 
 module _ {K V S H : Type 0} (rules : Rules K V S) (offers : Offers K V S K) (eq : K → K → Bool)

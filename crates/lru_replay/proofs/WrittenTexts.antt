@@ -6,7 +6,7 @@ use Rattle.std.proofs.lemmas.Fmt.{decimal_step}
 use Rattle.std.specs.declared.alloc.AllocError.{AllocError}
 use Rattle.std.specs.Io.KnownBytes.{Appends}
 use Rattle.std.proofs.KnownBytes.{Appends-trans}
-use Rattle.lru_replay.specs.declared.outcome.ReplayError.{ReplayError}
+use Rattle.lru_replay.specs.declared.lines.outcome.ReplayError.{ReplayError}
 use Rattle.lru_replay.specs.Output.{Writes, Fails, rest_text, pair_text, insert_text, reply_text}
 use Rattle.lru_replay.specs.Replies.{insert_reply}
 

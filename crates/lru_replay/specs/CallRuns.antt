@@ -5,10 +5,10 @@ use Rattle.lru_limits.specs.Rules.{Rules, Offers}
 use Rattle.schnellru.specs.Lists.{lookup_entry}
 use Rattle.schnellru.specs.State.{State, Contents, contents, IsMap}
 use Rattle.schnellru.specs.Theorems.{IsSummed}
-use Rattle.lru_replay.specs.declared.call.Call.{Call}
-use Rattle.lru_replay.specs.declared.call.Call.TheVariants as calls
+use Rattle.lru_replay.specs.declared.calls.call.Call.{Call}
+use Rattle.lru_replay.specs.declared.calls.call.Call.TheVariants as calls
 use Rattle.lru_replay.specs.Replies.{Reply, no_memory, cost_differs}
-use Rattle.lru_replay.specs.Steps.{Step}
+use Rattle.lru_replay.specs.Steps.{ReplyStep}
 
 -- Steps one after another, one reply a call. What holds of each state in between is Holds.
 module _ {S C R : Type 0} (IsStep : S → C → R → S → Type 0) (Holds : S → Type 0) where
@@ -68,7 +68,7 @@ module _ {K V S H : Type 0} (rules : Rules K V S) (offers : Offers K V S K) (eq 
     (hash_of : H → K → ℕ) where
   -- a step of a map, or no memory is found to store pairs
   abbrev pub CallStep : State K V S H → Call K V S → Reply K V → State K V S H → Type 0
-  CallStep = StepIfMemory (Step rules offers eq hash_of)
+  CallStep = StepIfMemory (ReplyStep rules offers eq hash_of)
 
   module _ (cost : K → V → ℕ) (account : S → ℕ) where
     -- a step of a map that keeps the cost, or one that would not is told so

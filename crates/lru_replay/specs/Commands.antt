@@ -1,9 +1,9 @@
 -- The calls that commands stand for.
 use Rattle.std.specs.Prelude.{ℕ}
-use Rattle.lru_replay.specs.declared.call.Call.{Call}
-use Rattle.lru_replay.specs.declared.call.Call.TheVariants as calls
-use Rattle.lru_replay.specs.declared.command.Command.{Command}
-use Rattle.lru_replay.specs.declared.command.Command.TheVariants as commands
+use Rattle.lru_replay.specs.declared.calls.call.Call.{Call}
+use Rattle.lru_replay.specs.declared.calls.call.Call.TheVariants as calls
+use Rattle.lru_replay.specs.declared.lines.command.Command.{Command}
+use Rattle.lru_replay.specs.declared.lines.command.Command.TheVariants as commands
 
 -- The call of the same name. A drain takes pairs from the newest end alone.
 abbrev pub call_of : {S : Type 0} → Command → Call ℕ ℕ S

@@ -2,7 +2,7 @@
 use Rattle.std.specs.Prelude.{◌≡◌, ◌+◌, length, Some}
 use Rattle.schnellru.specs.Sizes.{usage}
 use Rattle.schnellru.specs.State.{State, buckets, room}
-use Rattle.lru_replay.specs.declared.figures.Figures.{Figures}
+use Rattle.lru_replay.specs.declared.lines.figures.Figures.{Figures}
 
 -- what is told of a map by numbers
 pub record IsFigures {K V S H : Type 0} (st : State K V S H) (figures : Figures) : Type 0 where

@@ -4,10 +4,10 @@ use Rattle.std.specs.Io.KnownBytes.{Appends, IsAtEnd}
 use Rattle.lru_limits.specs.Rules.{Rules, Offers}
 use Rattle.schnellru.specs.Lists.{IsFront}
 use Rattle.schnellru.specs.State.{IsSized}
-use Rattle.lru_replay.specs.declared.command.Command.{Command}
-use Rattle.lru_replay.specs.declared.command.Command.TheVariants as commands
-use Rattle.lru_replay.specs.declared.outcome.ReplayError.{ReplayError}
-use Rattle.lru_replay.specs.declared.outcome.ReplayError.TheVariants as errors
+use Rattle.lru_replay.specs.declared.lines.command.Command.{Command}
+use Rattle.lru_replay.specs.declared.lines.command.Command.TheVariants as commands
+use Rattle.lru_replay.specs.declared.lines.outcome.ReplayError.{ReplayError}
+use Rattle.lru_replay.specs.declared.lines.outcome.ReplayError.TheVariants as errors
 use Rattle.lru_replay.specs.CallRuns.{IsRun}
 use Rattle.lru_replay.specs.Commands.{call_of}
 use Rattle.lru_replay.specs.Grammar.{SpellsCommand}
@@ -15,7 +15,7 @@ use Rattle.lru_replay.specs.Lines.{lines_of, fed, TakesLines, TakesWhole}
 use Rattle.lru_replay.specs.Maps.{Map, hash_of}
 use Rattle.lru_replay.specs.Output.{reply_text, bad_text, Writes}
 use Rattle.lru_replay.specs.Replies.{Reply, no_memory}
-use Rattle.lru_replay.specs.Steps.{Step}
+use Rattle.lru_replay.specs.Steps.{ReplyStep}
 
 -- The pairs are stored before they are written, which takes memory: those of an insert stand behind its answer.
 abbrev pub StoresFirst : Command → Type 0
@@ -25,7 +25,7 @@ StoresFirst command = ⊥
 module _ {S : Type 0} (rules : Rules ℕ ℕ S) (offers : Offers ℕ ℕ S ℕ) where
   -- the call of the command is carried out, or no memory is found to store pairs, and nothing changes
   abbrev pub AnswersCommand : Map S → Command → Reply ℕ ℕ → Map S → Type 0
-  AnswersCommand old command reply new = Step rules offers nat_eq hash_of old (call_of command) reply new
+  AnswersCommand old command reply new = ReplyStep rules offers nat_eq hash_of old (call_of command) reply new
       ⊎ (StoresFirst command × (reply ≡ no_memory) × (new ≡ old))
 
 module _ {S : Type 0} (rules : Rules ℕ ℕ S) (offers : Offers ℕ ℕ S ℕ) (told : S → Option ℕ) where

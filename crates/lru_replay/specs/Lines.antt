@@ -3,10 +3,10 @@ use Rattle.std.specs.Prelude.{◌≡◌, ◌≢◌, ℕ, ◌<◌, List, [], ◌�
 use Rattle.std.specs.Prelude.{OnSome, IfSome, ◌⊎◌}
 use Rattle.std.specs.List.{AllByRecursion}
 use Rattle.std.specs.Io.KnownBytes.{Consumes, IsAtEnd}
-use Rattle.lru_replay.specs.declared.line.Piece.{Piece}
-use Rattle.lru_replay.specs.declared.line.Piece.TheVariants as pieces
-use Rattle.lru_replay.specs.declared.line.Ending.{Ending}
-use Rattle.lru_replay.specs.declared.line.Ending.TheVariants as endings
+use Rattle.lru_replay.specs.declared.lines.line.Piece.{Piece}
+use Rattle.lru_replay.specs.declared.lines.line.Piece.TheVariants as pieces
+use Rattle.lru_replay.specs.declared.lines.line.Ending.{Ending}
+use Rattle.lru_replay.specs.declared.lines.line.Ending.TheVariants as endings
 
 -- the byte is not among them
 abbrev pub Lacks : ℕ → List ℕ → Type 0

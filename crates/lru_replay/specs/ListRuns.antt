@@ -13,9 +13,9 @@ use Rattle.schnellru.specs.HandedOver.{noting, noting_offers}
 use Rattle.schnellru.specs.Lists.{first, last, front, lookup, lookup_entry}
 use Rattle.schnellru.specs.State.{Contents, pop, pops}
 use Rattle.schnellru.specs.declared.map.reserve.ReserveError.{ReserveError}
-use Rattle.lru_replay.specs.declared.call.Call.{Call}
-use Rattle.lru_replay.specs.declared.call.Call.TheVariants as calls
-use Rattle.lru_replay.specs.declared.figures.Figures.{Figures}
+use Rattle.lru_replay.specs.declared.calls.call.Call.{Call}
+use Rattle.lru_replay.specs.declared.calls.call.Call.TheVariants as calls
+use Rattle.lru_replay.specs.declared.lines.figures.Figures.{Figures}
 use Rattle.lru_replay.specs.CallRuns.{StepIfMemory, StepIfKept}
 use Rattle.lru_replay.specs.Replies.{Reply, flag, given, value, pair, listed, reserved, shrunk, stats, done}
 use Rattle.lru_replay.specs.Replies.{insert_reply, made_reply}

@@ -6,9 +6,9 @@ use Rattle.std.specs.Io.KnownBytes.{Appends}
 use Rattle.schnellru.specs.Lists.{IsFront}
 use Rattle.schnellru.specs.declared.map.reserve.ReserveError.{ReserveError}
 use Rattle.schnellru.specs.declared.map.reserve.ReserveError.TheVariants.{TooLarge, Refused, Memory}
-use Rattle.lru_replay.specs.declared.figures.Figures.{Figures}
-use Rattle.lru_replay.specs.declared.outcome.ReplayError.{ReplayError}
-use Rattle.lru_replay.specs.declared.outcome.ReplayError.TheVariants as errors
+use Rattle.lru_replay.specs.declared.lines.figures.Figures.{Figures}
+use Rattle.lru_replay.specs.declared.lines.outcome.ReplayError.{ReplayError}
+use Rattle.lru_replay.specs.declared.lines.outcome.ReplayError.TheVariants as errors
 use Rattle.lru_replay.specs.Replies.{Reply, flag, given, value, pair, listed, reserved, shrunk, stats, done}
 use Rattle.lru_replay.specs.Replies.{no_memory, cost_differs}
 

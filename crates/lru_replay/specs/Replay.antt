@@ -3,12 +3,12 @@ use Rattle.std.specs.Prelude.{◌≡◌, ℕ, List, [], ◌∷◌, ◌⊎◌, Op
 use Rattle.std.specs.Io.KnownBytes.{Appends, IsAtEnd}
 use Rattle.lru_limits.specs.Limiters.{length_rules, length_offers, memory_rules, no_rules, all_offers}
 use Rattle.lru_limits.specs.declared.limiters.unlimited_compact.UnlimitedCompact.{UnlimitedCompact}
-use Rattle.lru_replay.specs.declared.command.Limit.{Limit}
-use Rattle.lru_replay.specs.declared.command.Limit.TheVariants as limits
-use Rattle.lru_replay.specs.declared.outcome.ReplayEnd.{ReplayEnd}
-use Rattle.lru_replay.specs.declared.outcome.ReplayEnd.TheVariants as ends
-use Rattle.lru_replay.specs.declared.outcome.ReplayError.{ReplayError}
-use Rattle.lru_replay.specs.declared.outcome.ReplayError.TheVariants as errors
+use Rattle.lru_replay.specs.declared.lines.command.Limit.{Limit}
+use Rattle.lru_replay.specs.declared.lines.command.Limit.TheVariants as limits
+use Rattle.lru_replay.specs.declared.lines.outcome.ReplayEnd.{ReplayEnd}
+use Rattle.lru_replay.specs.declared.lines.outcome.ReplayEnd.TheVariants as ends
+use Rattle.lru_replay.specs.declared.lines.outcome.ReplayError.{ReplayError}
+use Rattle.lru_replay.specs.declared.lines.outcome.ReplayError.TheVariants as errors
 use Rattle.schnellru.specs.Lists.{IsFront}
 use Rattle.schnellru.specs.Sizes.{default_entry_bytes, links_of_32_bits, links_of_64_bits}
 use Rattle.lru_replay.specs.Grammar.{SpellsLimit}

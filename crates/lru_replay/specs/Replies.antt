@@ -4,9 +4,9 @@ use Rattle.std.specs.declared.alloc.AllocError.{AllocError}
 use Rattle.schnellru.specs.Lists.{newest_value}
 use Rattle.schnellru.specs.declared.map.reserve.ReserveError.{ReserveError}
 use Rattle.schnellru.specs.declared.map.reserve.ReserveError.TheVariants.{Memory}
-use Rattle.lru_replay.specs.declared.call.Answer.{Answer}
-use Rattle.lru_replay.specs.declared.call.Answer.TheVariants as answers
-use Rattle.lru_replay.specs.declared.figures.Figures.{Figures}
+use Rattle.lru_replay.specs.declared.calls.call.Answer.{Answer}
+use Rattle.lru_replay.specs.declared.calls.call.Answer.TheVariants as answers
+use Rattle.lru_replay.specs.declared.lines.figures.Figures.{Figures}
 
 pub data Reply (K V : Type 0) : Type 0 where
   -- whether the key of an insertion or of a write is there now

@@ -16,9 +16,9 @@ use Rattle.schnellru.specs.Reservations.{Reserve}
 use Rattle.schnellru.specs.Shrinks.{Shrink}
 use Rattle.schnellru.specs.State.{State}
 use Rattle.schnellru.specs.declared.map.reserve.ReserveError.{ReserveError}
-use Rattle.lru_replay.specs.declared.call.Call.{Call}
-use Rattle.lru_replay.specs.declared.call.Call.TheVariants as calls
-use Rattle.lru_replay.specs.declared.figures.Figures.{Figures}
+use Rattle.lru_replay.specs.declared.calls.call.Call.{Call}
+use Rattle.lru_replay.specs.declared.calls.call.Call.TheVariants as calls
+use Rattle.lru_replay.specs.declared.lines.figures.Figures.{Figures}
 use Rattle.lru_replay.specs.Figures.{IsFigures}
 use Rattle.lru_replay.specs.Replies.{Reply, flag, given, value, pair, listed, reserved, shrunk, stats, done}
 use Rattle.lru_replay.specs.Replies.{insert_reply, made_reply}
@@ -41,40 +41,40 @@ module _ {K V S H : Type 0} (eq : K → K → Bool) where
 module _ {K V S H : Type 0} (rules : Rules K V S) (offers : Offers K V S K) (eq : K → K → Bool)
     (hash_of : H → K → ℕ) where
   -- from old, the call may say this and leave new
-  abbrev pub Step : State K V S H → Call K V S → Reply K V → State K V S H → Type 0
-  Step old (calls.Insert key v) reply new = (result : Result Bool AllocError)
+  abbrev pub ReplyStep : State K V S H → Call K V S → Reply K V → State K V S H → Type 0
+  ReplyStep old (calls.Insert key v) reply new = (result : Result Bool AllocError)
       × Insert rules offers eq hash_of key v old result new × (reply ≡ insert_reply result)
-  Step old (calls.InsertWith key v) reply new = (result : Result Bool AllocError) × (out : List (K × V))
+  ReplyStep old (calls.InsertWith key v) reply new = (result : Result Bool AllocError) × (out : List (K × V))
       × InsertHands rules offers eq hash_of key v old result out new × (reply ≡ given result out)
-  Step old (calls.GetOrInsert key v) reply new = (result : Result Bool AllocError)
+  ReplyStep old (calls.GetOrInsert key v) reply new = (result : Result Bool AllocError)
       × MakesNewest rules offers eq hash_of (λ made. made ≡ v) key old result new
       × (reply ≡ made_reply result new.pairs)
-  Step old (calls.Get key) reply new =
+  ReplyStep old (calls.Get key) reply new =
       (reply ≡ value (lookup (eq key) old.pairs)) × (new ≡ promoted (eq key) old)
-  Step old (calls.Peek key) reply new = (reply ≡ value (lookup (eq key) old.pairs)) × (new ≡ old)
-  Step old (calls.GetByHash hash key) reply new = (result : Option V)
+  ReplyStep old (calls.Peek key) reply new = (reply ≡ value (lookup (eq key) old.pairs)) × (new ≡ old)
+  ReplyStep old (calls.GetByHash hash key) reply new = (result : Option V)
       × FindsByHash eq (hash_of old.hasher) hash key old.pairs result × (reply ≡ value result)
       × (new ≡ promoted_if eq result key old)
-  Step old (calls.PeekByHash hash key) reply new = (result : Option V)
+  ReplyStep old (calls.PeekByHash hash key) reply new = (result : Option V)
       × FindsByHash eq (hash_of old.hasher) hash key old.pairs result × (reply ≡ value result) × (new ≡ old)
-  Step old (calls.Write key v) reply new =
+  ReplyStep old (calls.Write key v) reply new =
       (reply ≡ flag (is_some (lookup (eq key) old.pairs))) × (new ≡ written (eq key) v old)
-  Step old (calls.Remove key) reply new =
+  ReplyStep old (calls.Remove key) reply new =
       (result : Option V) × Remove rules (eq key) old result new × (reply ≡ value result)
-  Step old calls.PopOldest reply new =
+  ReplyStep old calls.PopOldest reply new =
       (result : Option (K × V)) × PopOldest rules old result new × (reply ≡ pair result)
-  Step old calls.PopNewest reply new =
+  ReplyStep old calls.PopNewest reply new =
       (result : Option (K × V)) × PopNewest rules old result new × (reply ≡ pair result)
-  Step old calls.PeekOldest reply new = (reply ≡ pair (last old.pairs)) × (new ≡ old)
-  Step old calls.PeekNewest reply new = (reply ≡ pair (first old.pairs)) × (new ≡ old)
-  Step old (calls.Reserve n) reply new =
+  ReplyStep old calls.PeekOldest reply new = (reply ≡ pair (last old.pairs)) × (new ≡ old)
+  ReplyStep old calls.PeekNewest reply new = (reply ≡ pair (first old.pairs)) × (new ≡ old)
+  ReplyStep old (calls.Reserve n) reply new =
       (result : Result (Unit {0}) ReserveError) × Reserve rules n old result new × (reply ≡ reserved result)
-  Step old calls.Shrink reply new =
+  ReplyStep old calls.Shrink reply new =
       (result : Result Bool AllocError) × Shrink old result new × (reply ≡ shrunk result)
-  Step old calls.Clear reply new = (reply ≡ done) × (new ≡ cleared rules old)
-  Step old (calls.Drain front back) reply new =
+  ReplyStep old calls.Clear reply new = (reply ≡ done) × (new ≡ cleared rules old)
+  ReplyStep old (calls.Drain front back) reply new =
       (pairs : List (K × V)) × Drained rules front back old pairs new × (reply ≡ listed pairs)
-  Step old calls.List reply new = (reply ≡ listed old.pairs) × (new ≡ old)
-  Step old calls.Stats reply new =
+  ReplyStep old calls.List reply new = (reply ≡ listed old.pairs) × (new ≡ old)
+  ReplyStep old calls.Stats reply new =
       (figures : Figures) × IsFigures old figures × (reply ≡ stats figures) × (new ≡ old)
-  Step old (calls.SetLimiter s) reply new = (reply ≡ done) × (new ≡ record old { limiter = s })
+  ReplyStep old (calls.SetLimiter s) reply new = (reply ≡ done) × (new ≡ record old { limiter = s })

@@ -6,7 +6,7 @@ ghost use Rattle.schnellru.specs.Exact.{AlwaysGrants, HasTables, HasTableFor, Is
 ghost use Rattle.schnellru.specs.Lists.{keys_of};
 ghost use Rattle.schnellru.specs.State.{State, contents, buckets, IsSized, IsMap};
 ghost use Rattle.schnellru.specs.Theorems.{PaysForMoves, UsesAtMost, IsSummed};
-ghost use Rattle.lru_replay.specs.declared.call.Call.{Call};
+ghost use Rattle.lru_replay.specs.declared.calls.call.Call.{Call};
 ghost use Rattle.lru_replay.specs.CallRuns.{IsRun, CallStep, SummingStep, SetsNoLimiter, HasPlainSearch};
 ghost use Rattle.lru_replay.specs.ListRuns.{ListCallStep, ListSummingStep};
 ghost use Rattle.lru_replay.specs.Replies.{Reply, want_of};

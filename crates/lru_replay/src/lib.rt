@@ -6,24 +6,12 @@
 //! same steps, of which `docs/RUNS.md` tells.
 #![tactic(auto)]
 
-mod bytes;
-mod call;
-mod command;
-mod drain;
-mod figures;
+mod calls;
 pub mod laws;
-mod line;
-mod outcome;
-mod output;
-mod pairs;
-mod put;
-mod replays;
-mod runs;
-mod steps;
-mod summing;
+mod lines;
 
-pub use call::{Answer, Call};
-pub use outcome::{ReplayEnd, ReplayError, status};
-pub use replays::replay;
-pub use runs::run_calls;
-pub use summing::run_summing;
+pub use calls::call::{Answer, Call};
+pub use calls::runs::run_calls;
+pub use calls::summing::run_summing;
+pub use lines::outcome::{ReplayEnd, ReplayError, status};
+pub use lines::replays::replay;

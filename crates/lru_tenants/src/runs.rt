@@ -42,13 +42,13 @@ pub fn run_tenants<K: Copy + Eq + Hash + Drop, V: Copy + Costed + Drop>(
     let _len = cache.len();
     let mut answers = Vec::with_capacity(alloc, calls.len())?;
     for call in calls {
-        answers.push_reserved(carry_out(cache, call));
+        answers.push_reserved(make_tenant_call(cache, call));
     }
     Ok(answers)
 }
 
 /// Carries out a call.
-fn carry_out<K: Copy + Eq + Hash + Drop, V: Copy + Costed + Drop>(
+fn make_tenant_call<K: Copy + Eq + Hash + Drop, V: Copy + Costed + Drop>(
     cache: &mut TenantCache<K, V>,
     call: TenantCall<K, V>,
 ) -> TenantAnswer<V>

@@ -26,7 +26,8 @@
 pub use Rattle.schnellru.proofs.Theorems.KeySearches.{given-found, given-tag, none-found}
 pub use Rattle.schnellru.proofs.Maps.LeavingPairs.{leaves_trans, length-without_first, length-without_last}
 pub use Rattle.schnellru.proofs.Maps.Promotions.{promoted_sized, promoted_is_map}
-pub use Rattle.schnellru.proofs.Maps.SomeInsert.{some_insert, some_leave}
+pub use Rattle.schnellru.proofs.Maps.SomeInsert.{some_insert}
+pub use Rattle.schnellru.proofs.Maps.SomePlace.{some_leave}
 pub use Rattle.schnellru.proofs.Maps.SomeReservation.{cleared_sized, some_reservation}
 pub use Rattle.schnellru.proofs.Maps.SomeShrink.{some_shrink}
 pub use Rattle.schnellru.proofs.Theorems.Fronts.{found_named}

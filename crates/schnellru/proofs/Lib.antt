@@ -1,7 +1,7 @@
 pub mod TableSizes
 pub mod PairLists
 pub mod Chains
-pub mod LinkedTables
+pub mod OrderedTables
 pub mod Maps
 pub mod Theorems
 mod SameWalks

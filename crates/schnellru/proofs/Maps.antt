@@ -10,6 +10,7 @@ pub mod ClearedMaps
 pub mod MovedPairs
 pub mod ShrunkMaps
 pub mod Placements
+pub mod SomePlace
 pub mod SomeInsert
 pub mod SomeReservation
 pub mod SomeShrink

@@ -1,3 +1,4 @@
 pub mod DistinctKeys
 pub mod NamedPairs
+pub mod NamedPlaces
 pub mod Emptiness

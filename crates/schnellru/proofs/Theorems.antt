@@ -19,6 +19,7 @@ pub mod CallChanges
 pub mod Shrinks
 pub mod Runs
 pub mod AddedPairs
+pub mod OtherPairs
 pub mod RunLimits
 pub mod SmallTables
 pub mod SmallCalls

@@ -1,6 +1,6 @@
 -- Inserts that leave nothing open but where memory is short: into tables of up to 16 buckets, or where the limiter
 -- permits every growth.
-use Rattle.std.specs.Prelude.{◌≡◌, ◌≢◌, ℕ, ◌+◌, ◌-◌, ◌/◌, ◌==◌, ◌<◌, ◌≤◌, nat_lt, nat_le, Bool, true, false, not}
+use Rattle.std.specs.Prelude.{◌≡◌, ◌≢◌, ℕ, ◌+◌, ◌-◌, ◌/◌, ◌<◌, ◌≤◌, nat_lt, nat_le, Bool, true, false, not}
 use Rattle.std.specs.Prelude.{if◌then◌else◌, ◌∷◌, length, Option, Some, None, Result, Ok, IsErr}
 use Rattle.std.specs.declared.alloc.AllocError.{AllocError}
 use Rattle.lru_limits.specs.Rules.{Rules, Offers}
@@ -9,7 +9,7 @@ use Rattle.schnellru.specs.Sizes.{usage, Target, target, no_table, same_table, n
 use Rattle.schnellru.specs.Lists.{is_empty, lookup_entry}
 use Rattle.schnellru.specs.State.{State, buckets, room, Contents, contents, pops, trim}
 use Rattle.schnellru.specs.Place.{table_for}
-use Rattle.schnellru.specs.Inserts.{make_way, replacement, with_replaced, with_given_up, MayGive}
+use Rattle.schnellru.specs.Inserts.{make_room, replacement, with_replaced, with_given_up, MayGive}
 
 -- whether a pair was placed, and the pairs and the limiter then
 pub record Landing (K V S : Type 0) : Type 0 where
@@ -31,21 +31,15 @@ module _ {K V S : Type 0} (rules : Rules K V S) (pair : K × V) where
   turns_away c = let s = (rules.on_removed c.limiter pair.0 pair.1).limiter in
       record { there = false; left = record { pairs = c.pairs; limiter = s } }
 
-  -- the oldest leaves for it
+  -- the oldest is evicted for it, or it is turned away, if there is none
   abbrev pub evicts : Contents K V S → Landing K V S
-  evicts c = lands (pops rules 1 c)
+  evicts c = if is_empty c.pairs then turns_away c else lands (pops rules 1 c)
 
   -- the contents, after the limiter was asked for a table of so many bytes
   abbrev pub asks : ℕ → Contents K V S → Contents K V S
   asks bytes c = record { pairs = c.pairs; limiter = (rules.on_grow c.limiter bytes).limiter }
 
-  -- the first table is asked for, where there can be one of so many bytes
-  abbrev pub first_lands : Option ℕ → Contents K V S → Landing K V S
-  first_lands None c = turns_away c
-  first_lands (Some bytes) c =
-      if (rules.on_grow c.limiter bytes).allowed then lands (asks bytes c) else turns_away (asks bytes c)
-
-  -- a larger table is asked for, where there can be one, and else the oldest leaves
+  -- the limiter is asked for a larger table, if there is one, and if there is none or it refuses, the oldest is evicted
   abbrev pub grows : Target → Contents K V S → Landing K V S
   grows no_table c = evicts c
   grows same_table c = evicts c
@@ -55,11 +49,9 @@ module _ {K V S : Type 0} (rules : Rules K V S) (pair : K × V) where
   -- what placing the pair does with memory, in a table of so many buckets, up to 16, with so much room
   abbrev pub landing : ℕ → ℕ → ℕ → ℕ → Contents K V S → Landing K V S
   landing count spare entry_bytes max c =
-      if is_empty c.pairs then
-      (if count == 0 then first_lands (usage entry_bytes 4) c else lands c)
-      else (if nat_lt 0 spare then lands c
+      if nat_lt 0 spare then lands c
       else (if nat_le (length c.pairs + 1) (full_capacity count / 2) then lands c
-      else grows (target max entry_bytes count (length c.pairs + 1)) c))
+      else grows (target max entry_bytes count (length c.pairs + 1)) c)
 
 module _ {K V S : Type 0} (rules : Rules K V S) where
   -- what it does in the table of a map, after some pairs of this left
@@ -92,7 +84,7 @@ module _ {K V S I : Type 0} (rules : Rules K V S) (offers : Offers K V S I) (nam
   abbrev pub ending_new : S → Option (K × V) → Ending K V S
   ending_new s None = record { flag = false; left = record { pairs = old.pairs; limiter = s } }
   ending_new s (Some pair) =
-      settled rules (land pair (make_way rules (record { pairs = old.pairs; limiter = s })))
+      settled rules (land pair (make_room rules (record { pairs = old.pairs; limiter = s })))
 
   -- by the pair whose key is there, if there is one, and else by what the limiter may give
   abbrev pub EndsBy : Option (K × V) → Result Bool AllocError → Contents K V S → Type 0
@@ -124,7 +116,7 @@ module _ {K V S I : Type 0} (rules : Rules K V S) (offers : Offers K V S I) (nam
     -- or for the pair, after way was made for it, and the limiter is told that it leaves.
     not_placed : lookup_entry (names i) old.pairs ≡ None →
         (s : S) (pair : K × V) → MayGive rules offers names i v old s (Some pair) →
-        IsErr result → new ≡ (turns_away rules pair (make_way rules (record { pairs = old.pairs; limiter = s }))).left →
+        IsErr result → new ≡ (turns_away rules pair (make_room rules (record { pairs = old.pairs; limiter = s }))).left →
         InsertsInList old result new
 
 -- two inserts ended alike

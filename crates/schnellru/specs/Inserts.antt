@@ -11,8 +11,8 @@ use Rattle.schnellru.specs.State.{State, buckets, room, Contents, contents, Leav
 use Rattle.schnellru.specs.Place.{Place, Outcome, placed, refused, no_memory}
 
 -- the oldest leaves, if the limiter would be over with one more
-abbrev pub make_way : {K V S : Type 0} → Rules K V S → Contents K V S → Contents K V S
-make_way rules c = if rules.is_over_the_limit c.limiter (length c.pairs + 1) then pop rules c else c
+abbrev pub make_room : {K V S : Type 0} → Rules K V S → Contents K V S → Contents K V S
+make_room rules c = if rules.is_over_the_limit c.limiter (length c.pairs + 1) then pop rules c else c
 
 module _ {K V S H : Type 0} (rules : Rules K V S) where
   -- what follows a placing; the answer is whether a pair is left
@@ -29,7 +29,7 @@ module _ {K V S H : Type 0} (rules : Rules K V S) where
 
   -- a pair of a new key, which the limiter gave, is placed so, after way was made for it
   abbrev pub PlacesNew : (H → K → ℕ) → K × V → State K V S H → Result Bool AllocError → State K V S H → Type 0
-  PlacesNew hash_of pair old result new = (ready : State K V S H) × Leaves old (make_way rules (contents old)) ready
+  PlacesNew hash_of pair old result new = (ready : State K V S H) × Leaves old (make_room rules (contents old)) ready
       × PlacesAndTrims hash_of pair ready result new
 
 module _ {K V S I : Type 0} (rules : Rules K V S) (offers : Offers K V S I) (names : I → K → Bool) where
@@ -86,7 +86,7 @@ module _ {K V S I : Type 0} (rules : Rules K V S) (offers : Offers K V S I) (nam
       pub s : S
       pub pair : K × V
       pub given : MayGive i v (contents old) s (Some pair)
-      pub beside : (buckets old ≡ 0) ⊎ (0 < length (make_way rules (record { pairs = old.pairs; limiter = s })).pairs)
+      pub beside : (buckets old ≡ 0) ⊎ (0 < length (make_room rules (record { pairs = old.pairs; limiter = s })).pairs)
 
     -- why an insert finds no memory: the key is new, and the limiter found none for it, so that nothing has changed, or
     -- the table had no room for it

@@ -1,4 +1,4 @@
-pub mod Linked
+pub mod OrderedTable
 pub mod Chain
 pub mod PairLends
 pub mod Holds

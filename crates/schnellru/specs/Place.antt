@@ -1,11 +1,11 @@
 -- Placing a new pair: what the table's room allows, what the limiter is asked, and what it costs.
-use Rattle.std.specs.Prelude.{◌≡◌, ℕ, zero, suc, ◌+◌, ◌-◌, ◌/◌, ◌≤◌, ◌<◌, ◌⊎◌, Bool, true, false, [], ◌∷◌, length, Some}
-use Rattle.std.specs.Prelude.{None, Result, Ok, Err}
+use Rattle.std.specs.Prelude.{◌≡◌, ℕ, zero, suc, ◌+◌, ◌-◌, ◌/◌, ◌≤◌, ◌<◌, ◌⊎◌, Bool, true, false, [], ◌∷◌, length}
+use Rattle.std.specs.Prelude.{Result, Ok, Err}
 use Rattle.group_table.specs.Sizes.{full_capacity}
 use Rattle.group_table.specs.Bucket.{empty, deleted}
 use Rattle.group_table.specs.Change.{count_up, HasNoPlace}
 use Rattle.lru_limits.specs.Rules.{Rules}
-use Rattle.schnellru.specs.Sizes.{usage, target, Target, no_table, new_table}
+use Rattle.schnellru.specs.Sizes.{target, Target, no_table, new_table}
 use Rattle.schnellru.specs.State.{State, buckets, room, FirstFreeIs, contents, Leaves, pop}
 
 -- what comes of placing a pair: it is in the map, the limiter or the size refused it, or memory did
@@ -38,6 +38,18 @@ module _ {K V S H : Type 0} where
   abbrev pub FillsBucket : ℕ → State K V S H → State K V S H → Type 0
   FillsBucket hash old new = (FirstFreeIs empty hash old × (room new + 1 ≡ room old))
       ⊎ (FirstFreeIs deleted hash old × (16 < buckets old) × (room new ≡ room old))
+
+  -- No bucket takes a pair of this hash: no room is left, and the first free bucket that a search finds is an empty one.
+  -- (In a table without pairs no bucket stays deleted, so there it may be any.)
+  pub record HasNoBucket (hash : ℕ) (st : State K V S H) : Type 0 where
+    pub no_room : room st ≡ 0
+    pub first_empty : 0 < length st.pairs → FirstFreeIs empty hash st
+
+  -- nor would a rehash help: with one pair more the table would be over half full, or there is no table yet
+  pub record IsOutgrown (hash : ℕ) (st : State K V S H) : Type 0 where
+    pub no_bucket : HasNoBucket hash st
+    pub above_half : full_capacity (buckets st) / 2 < length st.pairs + 1
+    pub begun : (buckets st ≡ 0) ⊎ (0 < length st.pairs)
 
   -- where the table goes for n pairs more
   abbrev pub table_for : ℕ → State K V S H → Target
@@ -83,16 +95,20 @@ module _ {K V S H : Type 0} (rules : Rules K V S) where
     denied : (count bytes : ℕ) → table_for 1 old ≡ new_table count bytes → Denies bytes old →
         mid ≡ asked bytes old → CannotGrow old mid
 
-  -- The oldest leave mid until the pair of this hash finds a bucket, or until they are fewer than half of what the
-  -- table takes, and it is made anew for the pair. The map was old before mid was known.
+  -- The oldest pairs of mid are evicted until the new pair finds a bucket, or until fewer than half of what the table
+  -- takes are left, and it is rehashed. If there are none to evict, the new pair is turned away. Before the limiter was
+  -- asked the map was old.
   pub data Evicts (hash : ℕ) (pair : K × V) (old mid : State K V S H) (outcome : Outcome)
       (new : State K V S H) : Type 0 where
+    nothing_to_evict : old.pairs ≡ [] →
+        outcome ≡ refused → new ≡ turned_away pair mid →
+        Evicts hash pair old mid outcome new
     finds_bucket : (n : ℕ) → 0 < n → (buckets old ≤ 16 → n ≡ 1) →
         full_capacity (buckets old) / 2 + n ≤ length old.pairs →
         (left : State K V S H) → OldestLeave hash n mid left → FillsBucket hash left new →
         outcome ≡ placed → IsPlaced pair (buckets old) (room new) 0 left new →
         Evicts hash pair old mid outcome new
-    made_anew : (n : ℕ) → 0 < n → (buckets old ≤ 16 → n ≡ 1) →
+    rehashes : 0 < length old.pairs → (n : ℕ) → 0 < n → (buckets old ≤ 16 → n ≡ 1) →
         length old.pairs + 1 ≡ full_capacity (buckets old) / 2 + n →
         (left : State K V S H) → OldestLeave hash n mid left →
         IsPlacedIfMemory pair (buckets old) (full_capacity (buckets old) / 2) (length left.pairs) left outcome new →
@@ -101,53 +117,25 @@ module _ {K V S H : Type 0} (rules : Rules K V S) where
 module _ {K V S H : Type 0} (rules : Rules K V S) (hash_of : H → K → ℕ) where
   -- what may come of placing the pair
   pub data Place (pair : K × V) (old : State K V S H) (outcome : Outcome) (new : State K V S H) : Type 0 where
-    -- With no table the limiter is asked for one of 4 buckets.
-    first_table : old.pairs ≡ [] → buckets old ≡ 0 →
-        (bytes : ℕ) → usage old.entry_bytes 4 ≡ Some bytes → Grants rules bytes old →
-        IsPlacedIfMemory rules pair 4 2 0 (asked rules bytes old) outcome new →
-        Place pair old outcome new
-    first_denied : old.pairs ≡ [] → buckets old ≡ 0 →
-        (bytes : ℕ) → usage old.entry_bytes 4 ≡ Some bytes → Denies rules bytes old →
-        outcome ≡ refused → new ≡ turned_away rules pair (asked rules bytes old) →
-        Place pair old outcome new
-    first_too_large : old.pairs ≡ [] → buckets old ≡ 0 →
-        usage old.entry_bytes 4 ≡ None →
-        outcome ≡ refused → new ≡ turned_away rules pair old →
-        Place pair old outcome new
-    -- A map without pairs that has a table places one, asks nothing and needs no memory.
-    empty_with_room : old.pairs ≡ [] → 0 < buckets old →
-        0 < room old → FillsBucket (hash_of old.hasher pair.0) old new →
+    -- A free bucket takes the pair; nothing is asked, and no memory is needed.
+    in_bucket : length old.pairs < full_capacity (buckets old) → (0 < room old) ⊎ (0 < length old.pairs) →
+        FillsBucket (hash_of old.hasher pair.0) old new →
         outcome ≡ placed → IsPlaced pair (buckets old) (room new) 0 old new →
         Place pair old outcome new
-    empty_without_room : old.pairs ≡ [] → 0 < buckets old →
-        room old ≡ 0 →
-        outcome ≡ placed → IsPlaced pair (buckets old) (full_capacity (buckets old) - 1) 0 old new →
-        Place pair old outcome new
-    -- So does a table with room.
-    with_room : 0 < length old.pairs → 0 < room old → FillsBucket (hash_of old.hasher pair.0) old new →
-        outcome ≡ placed → IsPlaced pair (buckets old) (room new) 0 old new →
-        Place pair old outcome new
-    -- With no room a deleted bucket serves, where it is the first free one that a search finds.
-    deleted_bucket : LacksRoom old → FirstFreeIs deleted (hash_of old.hasher pair.0) old →
-        16 < buckets old → length old.pairs < full_capacity (buckets old) →
-        outcome ≡ placed → IsPlaced pair (buckets old) 0 0 old new →
-        Place pair old outcome new
-    -- Where that is an empty one, the table is made anew at its size, where it then is at most half full,
-    rehashed : LacksRoom old → FirstFreeIs empty (hash_of old.hasher pair.0) old →
-        length old.pairs + 1 ≤ full_capacity (buckets old) / 2 →
+    -- None does, and the table is rehashed, if it is at most half full then. Without pairs that needs no memory.
+    rehashed : HasNoBucket (hash_of old.hasher pair.0) old → length old.pairs + 1 ≤ full_capacity (buckets old) / 2 →
+        (outcome ≡ no_memory → 0 < length old.pairs) →
         IsPlacedIfMemory rules pair (buckets old) (full_capacity (buckets old) - length old.pairs - 1)
         (length old.pairs) old outcome new →
         Place pair old outcome new
-    -- or, with more pairs, larger,
-    grown : LacksRoom old → FirstFreeIs empty (hash_of old.hasher pair.0) old →
-        full_capacity (buckets old) / 2 < length old.pairs + 1 →
+    -- Or it grows, if there is a larger table and the limiter grants it,
+    grown : IsOutgrown (hash_of old.hasher pair.0) old →
         (count bytes : ℕ) → table_for 1 old ≡ new_table count bytes → Grants rules bytes old →
         IsPlacedIfMemory rules pair count (full_capacity count - length old.pairs - 1)
         (length old.pairs) (asked rules bytes old) outcome new →
         Place pair old outcome new
-    -- or it cannot be, and the oldest leave, at least one.
-    evicting : LacksRoom old → FirstFreeIs empty (hash_of old.hasher pair.0) old →
-        full_capacity (buckets old) / 2 < length old.pairs + 1 →
+    -- and else the oldest pairs are evicted, at least one.
+    not_grown : IsOutgrown (hash_of old.hasher pair.0) old →
         (mid : State K V S H) → CannotGrow rules old mid →
         Evicts rules (hash_of old.hasher pair.0) pair old mid outcome new →
         Place pair old outcome new

@@ -2,7 +2,7 @@
 --     rules, offers       what the limiter says (`Rules`, `Offers` of `lru_limits`)
 --     names i k           the key i, as it is handed to a call, names the key k
 --     hash_of h k         the hash of the key k, by the hasher h
-use Rattle.std.specs.Prelude.{◌≡◌, ℕ, Bool, List, Option, Result}
+use Rattle.std.specs.Prelude.{◌≡◌, ℕ, Bool, true, List, Option, Result}
 use Rattle.std.specs.declared.alloc.AllocError.{AllocError}
 use Rattle.lru_limits.specs.Rules.{Rules, Offers}
 use Rattle.schnellru.specs.State.{State, IsSized}
@@ -13,6 +13,10 @@ use Rattle.schnellru.specs.Inserts.{Insert}
 use Rattle.schnellru.specs.Reservations.{Reserve}
 use Rattle.schnellru.specs.Shrinks.{Shrink}
 use Rattle.schnellru.specs.declared.map.reserve.ReserveError.{ReserveError}
+
+-- each key that is named passes the test
+abbrev pub AreAmong : {K : Type 0} → (K → Bool) → (K → Bool) → Type 0
+AreAmong {K} named test = (key : K) → named key ≡ true → test key ≡ true
 
 module _ {K V S H I : Type 0} (rules : Rules K V S) (offers : Offers K V S I) (names : I → K → Bool)
     (hash_of : H → K → ℕ) where
@@ -37,6 +41,20 @@ module _ {K V S H I : Type 0} (rules : Rules K V S) (offers : Offers K V S I) (n
     calls : Step old new → AnyStep old new
     writes : (test : K → Bool) (value : V) → new ≡ written test value old → AnyStep old new
     sets_limiter : (limiter : S) → new ≡ record old { limiter = limiter } → AnyStep old new
+
+  -- the call names keys that pass the test alone, and does not pop the newest pair
+  abbrev pub NamesOnly : (test : K → Bool) → (old new : State K V S H) → AnyStep old new → Type 0
+  NamesOnly test old new (calls (inserts key value result h)) = AreAmong (names key) test
+  NamesOnly test old new (calls (makes_newest value key result h)) = AreAmong (names key) test
+  NamesOnly test old new (calls (gets key e)) = AreAmong (names key) test
+  NamesOnly test old new (calls (removes named result h)) = AreAmong named test
+  NamesOnly test old new (calls (pops_newest result h)) = ⊥
+  NamesOnly test old new (writes named value e) = AreAmong named test
+  NamesOnly test old new step = Unit {0}
+
+  -- such a call
+  abbrev pub StepAmong : (K → Bool) → State K V S H → State K V S H → Type 0
+  StepAmong test old new = (step : AnyStep old new) × NamesOnly test old new step
 
 -- Steps, one after another, each of which leaves a sound table, as every call does.
 pub data Run {K V S H : Type 0} (IsStep : State K V S H → State K V S H → Type 0) (new : State K V S H) : State K V S H

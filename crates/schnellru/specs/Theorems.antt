@@ -1,5 +1,6 @@
 -- What the theorems say.
-use Rattle.std.specs.Prelude.{◌≡◌, ℕ, ◌+◌, ◌-◌, ◌*◌, ◌/◌, ◌^◌, ◌≤◌, ◌<◌, Bool, true, false, List, ◌∷◌, length, sum_by}
+use Rattle.std.specs.Prelude.{◌≡◌, ℕ, ◌+◌, ◌-◌, ◌*◌, ◌/◌, ◌^◌, ◌≤◌, ◌<◌, Bool, true, false, List, ◌∷◌, length, sum_by, not}
+use Rattle.std.specs.List.{filter}
 use Rattle.std.specs.Prelude.{Some, None, Result, Ok, Err}
 use Rattle.std.specs.declared.alloc.AllocError.{AllocError}
 use Rattle.group_table.specs.Sizes.{full_capacity}
@@ -32,6 +33,10 @@ module _ {K V S H : Type 0} where
   -- the account is the sum of the costs
   abbrev pub IsSummed : (K → V → ℕ) → (S → ℕ) → State K V S H → Type 0
   IsSummed cost account st = account st.limiter ≡ sum_by (λ p. cost p.0 p.1) st.pairs
+
+-- the pairs whose keys do not pass the test
+abbrev pub others : {K V : Type 0} → (K → Bool) → List (K × V) → List (K × V)
+others test pairs = filter (λ pair. not (test pair.0)) pairs
 
 -- the newest pair has a key that passes the test
 pub record IsNewest {K V : Type 0} (names : K → Bool) (pairs : List (K × V)) : Type 0 where

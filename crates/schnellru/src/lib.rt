@@ -6,8 +6,8 @@
 #![tactic(auto)]
 
 pub mod laws;
-mod link;
 mod map;
+mod ordered;
 mod sizes;
 mod walk;
 

@@ -5,7 +5,7 @@ ghost use Rattle.lru_limits.specs.Mixing.{seeded};
 ghost use Rattle.schnellru.specs.Sizes.{default_entry_bytes, links_of_32_bits};
 ghost use Rattle.schnellru.specs.State.{State, empty_map};
 
-use crate::link::Linked;
+use crate::ordered::OrderedTable;
 use lru_limits::{ByLength, ByMemoryUsage, KeyHasher, Limiter, RandomState};
 use std::alloc::Global;
 use std::hash::Hash;
@@ -13,19 +13,18 @@ use std::marker::Model;
 
 mod by_hash;
 mod clone;
-mod evict;
 mod figures;
+mod find;
 pub(crate) mod get_or_insert;
 mod insert;
+mod leave;
 mod look_up;
-mod moves;
-mod place;
-mod places;
-mod remove;
 mod replace;
 pub(crate) mod report;
 pub(crate) mod reserve;
+mod resize;
 mod shrink;
+mod store;
 
 /// The bytes of an entry of a map that `LruMap::default` makes.
 pub const DEFAULT_ENTRY_BYTES: usize = 32;
@@ -65,7 +64,7 @@ pub const DEFAULT_ENTRY_BYTES: usize = 32;
 /// After schnellru's `LruMap`.
 #[derive(Drop)]
 pub struct LruMap<K: Eq + Hash, V, L: Limiter<K, V> = ByLength, S: KeyHasher<K> = RandomState> {
-    pub(crate) entries: Linked<K, V, L::LinkType>,
+    pub(crate) entries: OrderedTable<K, V, L::LinkType>,
     limiter: L,
     hasher: S,
     entry_bytes: usize,
@@ -118,7 +117,7 @@ impl<K: Eq + Hash, V, L: Limiter<K, V>, S: KeyHasher<K>> LruMap<K, V, L, S> {
         ensures { result ≡ empty_map limiter hasher entry_bytes (L.LinkType.number L.LinkType.MAX) }
     {
         LruMap {
-            entries: Linked::new(alloc),
+            entries: OrderedTable::new(alloc),
             limiter,
             hasher,
             entry_bytes,

@@ -5,8 +5,8 @@ ghost use Rattle.std.specs.Iterator.SizeHint.{IsWithinCount};
 ghost use Rattle.std.specs.Map.Iter.{ShowsInOrder, ShowsInReverse, TakesFirst, TakesLast, deref_pair};
 ghost use Rattle.schnellru.specs.State.{IsMap};
 
-use crate::link::Linked;
 use crate::map::LruMap;
+use crate::ordered::OrderedTable;
 use group_table::LinkType;
 use lru_limits::{KeyHasher, Limiter};
 use std::hash::Hash;
@@ -15,6 +15,7 @@ use std::marker::Model;
 
 pub(crate) mod drain;
 pub(crate) mod iter_mut;
+mod positions;
 
 /// The walk of a map under this limiter. A function over the walks of all limiters takes a `Walk`.
 ///
@@ -25,7 +26,7 @@ pub type Iter<'a, K, V, L> = Walk<'a, K, V, <L as Limiter<K, V>>::LinkType>;
 /// type of the links.
 #[derive(Drop)]
 pub struct Walk<'a, K, V, N: LinkType> {
-    entries: &'a Linked<K, V, N>,
+    entries: &'a OrderedTable<K, V, N>,
     front: Option<usize>,
     back: Option<usize>,
     left: usize,

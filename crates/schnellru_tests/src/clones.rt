@@ -62,25 +62,26 @@ fn a_copy_equals_its_source(rt: HostRuntime) -> Result<(), Fail> {
     Ok(())
 }
 
-/// Limits nothing, holds something, and may refuse to be cloned. As a hasher it does the same.
+/// Limits nothing, holds something, and may be cloned a few times. As a hasher it does the same.
 #[derive(Drop)]
 struct Holding<'a> {
     state: RandomState,
     held: Rc<u64>,
-    refuses: &'a Cell<bool>,
+    clones: &'a Cell<u64>,
 }
 
 impl Clone for Holding<'_> {
     ghost is_clone = { λ s copy. copy.state ≡ s.state };
 
     fn clone(&self) -> Result<Self, AllocError> {
-        if self.refuses.get() {
+        let Some(left) = self.clones.get().checked_sub(1) else {
             return Err(AllocError);
-        }
+        };
+        self.clones.set(left);
         Ok(Holding {
             state: self.state.clone()?,
             held: self.held.clone()?,
-            refuses: self.refuses,
+            clones: self.clones,
         })
     }
 }
@@ -118,12 +119,12 @@ impl BuildHasher for Holding<'_> {
 #[test]
 fn a_limiter_or_a_hasher_that_refuses(rt: HostRuntime) -> Result<(), Fail> {
     let alloc = rt.alloc();
-    let (limiter, hasher, lives) = (Cell::new(false), Cell::new(false), Lives::new());
+    let (limiter, hasher, lives) = (Cell::new(0u64), Cell::new(0u64), Lives::new());
     let (of_limiter, of_hasher) = (Rc::new(alloc, 0u64)?, Rc::new(alloc, 0u64)?);
-    let holding = |held: Rc<u64>, refuses| Holding {
+    let holding = |held: Rc<u64>, clones| Holding {
         state: RandomState::default(),
         held,
-        refuses,
+        clones,
     };
     let mut map: LruMap<Live, Live, Storing<Holding>, Holding> = LruMap::with_hasher(
         alloc,
@@ -133,9 +134,9 @@ fn a_limiter_or_a_hasher_that_refuses(rt: HostRuntime) -> Result<(), Fail> {
     );
     map.insert(lives.key(1), lives.value(1))?;
     lives.clones.set(100);
-    for (refuses_limiter, refuses_hasher) in [(true, false), (false, true), (true, true)] {
-        limiter.set(refuses_limiter);
-        hasher.set(refuses_hasher);
+    for (of_the_limiter, of_the_hasher) in [(0u64, 2u64), (2, 0), (0, 0)] {
+        limiter.set(of_the_limiter);
+        hasher.set(of_the_hasher);
         assert!(rt; map.clone().is_err());
         let counts = (Rc::strong_count(&of_limiter), Rc::strong_count(&of_hasher));
         assert_eq!(rt;
@@ -143,9 +144,10 @@ fn a_limiter_or_a_hasher_that_refuses(rt: HostRuntime) -> Result<(), Fail> {
             ((2, 2), 1, 1)
         );
     }
-    limiter.set(false);
-    hasher.set(false);
+    limiter.set(2);
+    hasher.set(2);
     let copy = map.clone()?;
+    assert_eq!(rt; (limiter.get(), hasher.get()), (1, 1));
     let counts = (Rc::strong_count(&of_limiter), Rc::strong_count(&of_hasher));
     assert_eq!(rt;
         (counts, lives.keys.get(), lives.values.get()),

@@ -44,7 +44,9 @@ fn a_hasher_is_built_for_each_key_that_moves(rt: HostRuntime) -> Result<(), Fail
     let before = builds.get();
     assert!(rt; insert(&mut map, 1990)? && get(&mut map, 1991).is_some());
     assert!(rt; map.peek(&1992).is_some() && map.remove(&1993).is_some());
-    assert_eq!(rt; builds.get().wrapping_sub(before), 4);
+    assert!(rt; map.ensure_newest(1994, || 0)? && map.ensure_newest(1993, || 0)?);
+    let made = map.ensure_newest_fallible(1995, || Ok::<u64, u64>(0));
+    assert_eq!(rt; (made, builds.get().wrapping_sub(before)), (Ok(true), 7));
     Ok(())
 }
 

@@ -8,6 +8,7 @@ ghost use Rattle.lru_limits.specs.Stores.{HandsOver, answers, given-names};
 use schnellru::{Insertion, Limiter, LruMap, RandomState};
 use std::alloc::{AllocError, Global};
 use std::cell::Cell;
+use std::ops::RangeInclusive;
 use std::test::Fail;
 use test_helpers::{Hog, insert_all, map_of};
 
@@ -120,23 +121,23 @@ impl Insertion<u64, u64, u64> for Noting<'_> {
 /// What an insert did: its result, the calls, and each pair that the sink was given, as three digits.
 type Traced = (Result<bool, AllocError>, u64, u64);
 
-/// Inserts into a map of the pairs (1, 10), (2, 20) and so on, as many as `len`, under a limit that is then set. Returns
-/// nothing if all memory was to be taken and has no end.
+/// Inserts into a map of these numbers, each with ten times the number, under a limit that is then set. Returns nothing
+/// if all memory was to be taken and has no end.
 fn traced(
     alloc: Global,
-    len: u64,
+    numbers: RangeInclusive<u64>,
     (most, bytes): (usize, usize),
     (key, value): (u64, u64),
     takes_memory: bool,
 ) -> Result<Option<Traced>, AllocError> {
     let (trace, passed) = (Cell::new(0u64), Cell::new(0u64));
     let limiter = Noting {
-        most: 9,
+        most: 99,
         bytes: 1000,
         trace: &trace,
     };
     let mut map: LruMap<u64, u64, Noting, RandomState> = map_of(alloc, limiter);
-    insert_all(&mut map, 1..=len)?;
+    insert_all(&mut map, numbers)?;
     map.limiter_mut().most = most;
     map.limiter_mut().bytes = bytes;
     trace.set(0);
@@ -162,9 +163,10 @@ fn traced(
 #[test]
 fn each_pair_is_passed_on_before_the_next_callback(rt: HostRuntime) -> Result<(), Fail> {
     let alloc = rt.alloc();
-    for (len, limits, pair, takes_memory, expected) in [
+    for (first, last, limits, pair, takes_memory, expected) in [
         // Three pairs over a limit that was lowered.
         (
+            1,
             3,
             (1, 1000),
             (4, 40),
@@ -172,19 +174,28 @@ fn each_pair_is_passed_on_before_the_next_callback(rt: HostRuntime) -> Result<()
             (Ok(true), 41_231_231_231, 100_200_300),
         ),
         // The oldest, after a growth was refused.
-        (3, (9, 84), (4, 40), false, (Ok(true), 415_231, 100)),
+        (1, 3, (9, 84), (4, 40), false, (Ok(true), 415_231, 100)),
+        // The three oldest, after a growth was refused to a table of 32 buckets: the buckets of two of them do not serve.
+        (
+            3,
+            30,
+            (99, 1000),
+            (202, 40),
+            false,
+            (Ok(true), 4_152_323_231, 300_400_500),
+        ),
         // The pair whose replacement is refused.
-        (3, (9, 84), (2, 101), false, (Ok(false), 623, 200)),
+        (1, 3, (9, 84), (2, 101), false, (Ok(false), 623, 200)),
         // The new pair, if the first table is refused.
-        (0, (9, 83), (4, 40), false, (Ok(false), 4523, 400)),
+        (1, 0, (9, 83), (4, 40), false, (Ok(false), 4523, 400)),
         // The new pair, if there is no memory for the first table, and if there is none for a growth.
-        (0, (9, 84), (4, 40), true, (Err(AllocError), 4523, 400)),
-        (3, (9, 1000), (4, 40), true, (Err(AllocError), 41_523, 400)),
+        (1, 0, (9, 84), (4, 40), true, (Err(AllocError), 4523, 400)),
+        (1, 3, (9, 1000), (4, 40), true, (Err(AllocError), 41_523, 400)),
         // None, if the value is replaced.
-        (3, (9, 84), (2, 21), false, (Ok(true), 61, 0)),
+        (1, 3, (9, 84), (2, 21), false, (Ok(true), 61, 0)),
     ] {
-        if let Some(found) = traced(alloc, len, limits, pair, takes_memory)? {
-            assert_eq!(rt; found, expected, "{len} pairs, then {pair:?}");
+        if let Some(found) = traced(alloc, first..=last, limits, pair, takes_memory)? {
+            assert_eq!(rt; found, expected, "{first} to {last}, then {pair:?}");
         }
     }
     Ok(())

@@ -7,13 +7,13 @@ use Rattle.std.proofs.lemmas.Option.{none-some}
 use Rattle.group_table.specs.Link.{IsLinkType}
 use Rattle.group_table.specs.Bucket.{Slot, IsFull, entry_at}
 use Rattle.group_table.specs.Change.{Removes}
-use Rattle.schnellru.specs.declared.link.Entry.{Entry}
-use Rattle.schnellru.specs.Inside.Linked.{without_bucket}
+use Rattle.schnellru.specs.declared.ordered.Entry.{Entry}
+use Rattle.schnellru.specs.Inside.OrderedTable.{without_bucket}
 use Rattle.schnellru.specs.Inside.Chain.{first_bucket, last_bucket, bucket_after, bucket_before, link_to, pair_slots}
 use Rattle.schnellru.specs.Inside.Chain.{IsChain, IsWhole, IsGap}
 use Rattle.schnellru.proofs.Chains.Orders.{after_in, before_in, first_in, last_in, before-alone, after-last}
 use Rattle.schnellru.proofs.Chains.Neighbours.{newest_again}
-use Rattle.schnellru.proofs.LinkedTables.PairSlots.{is_full-pair_slots}
+use Rattle.schnellru.proofs.OrderedTables.PairSlots.{is_full-pair_slots}
 use Rattle.schnellru.proofs.Chains.LinkWrites.{end_by_link, chained_below, newer_link, older_link, IsGap-taken}
 
 last_some : (order : List ℕ) → 0 < length order → last_bucket order ≡ None → ⊥

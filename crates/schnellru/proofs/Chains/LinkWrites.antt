@@ -11,8 +11,8 @@ use Rattle.group_table.proofs.BucketLemmas.{full_lt}
 use Rattle.group_table.proofs.RefillLemmas.{entry_at-refilled, entry_at-refilled_other}
 use Rattle.group_table.proofs.SearchLemmas.{full_by_entry}
 use Rattle.group_table.proofs.ChangeLemmas.{length-removed, bucket_at-removed_other}
-use Rattle.schnellru.specs.declared.link.Entry.{Entry}
-use Rattle.schnellru.specs.Inside.Linked.{without_bucket}
+use Rattle.schnellru.specs.declared.ordered.Entry.{Entry}
+use Rattle.schnellru.specs.Inside.OrderedTable.{without_bucket}
 use Rattle.schnellru.specs.Inside.Chain.{first_bucket, last_bucket, bucket_after, bucket_before, link_to, newer_at}
 use Rattle.schnellru.specs.Inside.Chain.{older_at, SetsLinks, SetsNewer, SetsOlder, SetsEnd, IsChain}
 use Rattle.schnellru.specs.Inside.Chain.{IsGap}
@@ -23,7 +23,7 @@ use Rattle.schnellru.proofs.Chains.Neighbours.{before-next, before-stays, after-
 use Rattle.schnellru.proofs.Chains.Neighbours.{first-left_stays, last-left}
 use Rattle.schnellru.proofs.Chains.Neighbours.{last-left_stays, before-itself, after-itself, before-first, before-later}
 use Rattle.schnellru.proofs.Chains.Neighbours.{after-later}
-use Rattle.schnellru.proofs.LinkedTables.PairSlots.{same_length, same_full, pair_slots-refilled}
+use Rattle.schnellru.proofs.OrderedTables.PairSlots.{same_length, same_full, pair_slots-refilled}
 
 -- the buckets of a chain are below the number of none
 pub chained_below : {K V N : Type 0} {number : N → ℕ} {link : ℕ → N} {none : N} {slots : List (Slot (Entry K V N))}

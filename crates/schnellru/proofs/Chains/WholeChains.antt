@@ -13,20 +13,20 @@ use Rattle.group_table.specs.Change.{Places, Removes}
 use Rattle.group_table.proofs.BucketLemmas.{bucket_at-past, is_full-marks_of, entry_count-marks_of}
 use Rattle.group_table.proofs.RefillLemmas.{entry_at-refilled, entry_at-refilled_other, marks_of-refilled}
 use Rattle.group_table.proofs.SearchLemmas.{full_by_entry}
-use Rattle.group_table.proofs.ChangeLemmas.{entry_count-places, bucket_at-placed_other, length-removed}
+use Rattle.group_table.proofs.ChangeLemmas.{entry_count-places, bucket_at-placed_other}
 use Rattle.group_table.proofs.ChangeLemmas.{entry_at-removed, bucket_at-removed_other, entry_count-removes}
-use Rattle.schnellru.specs.declared.link.Entry.{Entry}
-use Rattle.schnellru.specs.declared.link.Pair.{Pair}
-use Rattle.schnellru.specs.Inside.Linked.{Linked, IsLinked, without_bucket, with_pair}
+use Rattle.schnellru.specs.declared.ordered.Entry.{Entry}
+use Rattle.schnellru.specs.declared.ordered.Pair.{Pair}
+use Rattle.schnellru.specs.Inside.OrderedTable.{OrderedTable, IsLinked, without_bucket, with_pair}
 use Rattle.schnellru.specs.Inside.Chain.{first_bucket, bucket_after, link_to, pair_slots, older_at, along, IsChain}
 use Rattle.schnellru.specs.Inside.Chain.{IsWhole}
 use Rattle.schnellru.proofs.Chains.Orders.{other_than, Contains-here, Contains-later, distinct_head, distinct_tail}
-use Rattle.schnellru.proofs.Chains.Orders.{without_in, in_without, length-without}
+use Rattle.schnellru.proofs.Chains.Orders.{in_without, length-without}
 use Rattle.schnellru.proofs.Chains.Neighbours.{after-later}
-use Rattle.schnellru.proofs.LinkedTables.PairSlots.{same_count, same_full, marks_of-pair_slots, is_full-pair_slots}
-use Rattle.schnellru.proofs.LinkedTables.PairSlots.{entry_count-pair_slots, pair_slots-rewritten}
+use Rattle.schnellru.proofs.OrderedTables.PairSlots.{same_count, same_full, marks_of-pair_slots, is_full-pair_slots}
+use Rattle.schnellru.proofs.OrderedTables.PairSlots.{entry_count-pair_slots, pair_slots-rewritten}
 use Rattle.schnellru.proofs.Chains.LinkWrites.{chained_below}
-use Rattle.schnellru.proofs.LinkedTables.KeyHashes.{not_full}
+use Rattle.schnellru.proofs.OrderedTables.KeyHashes.{not_full}
 
 module _ {N : Type 0} {number : N → ℕ} {link : ℕ → N} {none : N} {eq : N → N → Bool}
     (laws : IsLinkType number link none eq) {K V : Type 0} where
@@ -223,7 +223,7 @@ module _ {N : Type 0} {number : N → ℕ} {link : ℕ → N} {none : N} {eq : N
     }
 
     -- and the table shows it
-    pub view-refilled : (placings : ℕ) → ◌≡◌ {A = Linked K V}
+    pub view-refilled : (placings : ℕ) → ◌≡◌ {A = OrderedTable K V}
         (record { slots = pair_slots after; order = along number (length after) after newest; placings = placings })
         (with_pair (record { slots = pair_slots slots; order = order; placings = placings }) b (pair.key, pair.value))
     view-refilled placings =

@@ -6,14 +6,14 @@ use Rattle.group_table.specs.Bucket.{Mark, marks_of, room, room_at, is_used, buc
 use Rattle.group_table.proofs.BucketLemmas.{length-marks_of, entry_count-marks_of}
 use Rattle.schnellru.specs.Sizes.{usage}
 use Rattle.schnellru.specs.State.{Contents, IsSized, FreesRoom, Leaves}
-use Rattle.schnellru.specs.Inside.Linked.{Linked, IsLinked, KeysFit, pairs_of}
+use Rattle.schnellru.specs.Inside.OrderedTable.{OrderedTable, IsLinked, KeysFit, pairs_of}
 use Rattle.schnellru.specs.Inside.Holds.{Beside, state_of, Holds}
 use Rattle.schnellru.proofs.PairLists.DistinctKeys.{AreDistinct}
 use Rattle.schnellru.proofs.Theorems.PaidMoves.{leaves_paid}
-use Rattle.schnellru.proofs.LinkedTables.BucketPairs.{pairs-length}
+use Rattle.schnellru.proofs.OrderedTables.BucketPairs.{pairs-length}
 
 module _ {K V S H : Type 0} (beside : Beside S H) where
-  pub sized_by : (t : Linked K V) → IsLinked t → (length t.slots ≡ 0) ⊎ (length t.slots < beside.max)
+  pub sized_by : (t : OrderedTable K V) → IsLinked t → (length t.slots ≡ 0) ⊎ (length t.slots < beside.max)
       → ((bytes : ℕ) × (usage beside.entry_bytes (length t.slots) ≡ Some bytes)) → beside.moved < 2 ^ 64
       → beside.placed < 2 ^ 64 → beside.shrunk < 2 ^ 64 → IsSized (state_of t beside)
   sized_by t linked reached usable m p s = record {
@@ -36,7 +36,7 @@ room_at-most marks b = go (is_used (bucket_at marks b))
     go false = omega arith
 
 -- one bucket was emptied
-module _ {K V : Type 0} (old new : Linked K V) (b : ℕ) (first : IsLinked old) (last : IsLinked new)
+module _ {K V : Type 0} (old new : OrderedTable K V) (b : ℕ) (first : IsLinked old) (last : IsLinked new)
     (table : length new.slots ≡ length old.slots) (one : suc (length new.order) ≡ length old.order)
     (freed : room (marks_of new.slots) ≡ room (marks_of old.slots) + room_at (marks_of new.slots) b) where
   pub frees_room : {S H : Type 0} (before after : Beside S H) → FreesRoom (state_of old before) (state_of new after)
@@ -71,7 +71,7 @@ module _ {K V : Type 0} (old new : Linked K V) (b : ℕ) (first : IsLinked old) 
 
 module _ {K V S H : Type 0} (beside : Beside S H) where
   -- a table of as many buckets is as usable
-  pub sized_same : (t u : Linked K V) (l : S) → IsSized (state_of t beside) → IsLinked u → length u.slots
+  pub sized_same : (t u : OrderedTable K V) (l : S) → IsSized (state_of t beside) → IsLinked u → length u.slots
       ≡ length t.slots
       → IsSized (state_of u (record beside { limiter = l }))
   sized_same t u l sized linked same =
@@ -81,7 +81,7 @@ module _ {K V S H : Type 0} (beside : Beside S H) where
       sized.shrunk
 
   -- what holds of a map holds after some pairs left
-  pub leaves_holds : (eq : K → K → Bool) (hash_of : H → K → ℕ) (t u : Linked K V) (left : Contents K V S) (l : S)
+  pub leaves_holds : (eq : K → K → Bool) (hash_of : H → K → ℕ) (t u : OrderedTable K V) (left : Contents K V S) (l : S)
       → Holds eq hash_of t beside → IsLinked u → KeysFit (hash_of beside.hasher) u.slots → length u.slots
       ≡ length t.slots
       → Leaves (state_of t beside) left (state_of u (record beside { limiter = l })) → AreDistinct eq (pairs_of u)
@@ -97,7 +97,7 @@ module _ {K V S H : Type 0} (beside : Beside S H) where
   }
 
 -- what holds of a map holds with pairs of distinct keys that fit in the same buckets, under another limiter and hasher
-module _ {K V S H : Type 0} (eq : K → K → Bool) (hash_of : H → K → ℕ) (beside : Beside S H) (t u : Linked K V) where
+module _ {K V S H : Type 0} (eq : K → K → Bool) (hash_of : H → K → ℕ) (beside : Beside S H) (t u : OrderedTable K V) where
   pub copied_holds : (limiter : S) (hasher : H) → Holds eq hash_of t beside → IsLinked u
       → KeysFit (hash_of hasher) u.slots
       → marks_of u.slots ≡ marks_of t.slots → AreDistinct eq (pairs_of u)
@@ -124,7 +124,7 @@ module _ {K V S H : Type 0} (eq : K → K → Bool) (hash_of : H → K → ℕ) 
       }
 
 -- what holds of a map holds after its pairs were written or reordered in their buckets, with distinct keys that fit
-pub alike_holds : {K V S H : Type 0} (beside : Beside S H) (eq : K → K → Bool) (hash_of : H → K → ℕ) (t u : Linked K V)
+pub alike_holds : {K V S H : Type 0} (beside : Beside S H) (eq : K → K → Bool) (hash_of : H → K → ℕ) (t u : OrderedTable K V)
     → Holds eq hash_of t beside → IsLinked u → KeysFit (hash_of beside.hasher) u.slots
     → marks_of u.slots ≡ marks_of t.slots → AreDistinct eq (pairs_of u) → Holds eq hash_of u beside
 alike_holds beside eq hash_of t u = copied_holds eq hash_of beside t u beside.limiter beside.hasher

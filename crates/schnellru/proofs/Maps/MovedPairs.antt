@@ -6,13 +6,13 @@ use Rattle.group_table.specs.Change.{count_up}
 use Rattle.group_table.proofs.BucketLemmas.{length-marks_of}
 use Rattle.schnellru.specs.Sizes.{usage}
 use Rattle.schnellru.specs.State.{MovesTo}
-use Rattle.schnellru.specs.Inside.Linked.{Linked, IsLinked, KeysFit, pairs_of}
+use Rattle.schnellru.specs.Inside.OrderedTable.{OrderedTable, IsLinked, KeysFit, pairs_of}
 use Rattle.schnellru.specs.Inside.Holds.{Beside, state_of, Holds}
 use Rattle.schnellru.proofs.PairLists.DistinctKeys.{AreDistinct}
-use Rattle.schnellru.proofs.LinkedTables.BucketPairs.{pairs-length}
+use Rattle.schnellru.proofs.OrderedTables.BucketPairs.{pairs-length}
 use Rattle.schnellru.proofs.Maps.HeldMaps.{sized_by}
 
-module _ {K V S H : Type 0} (t u : Linked K V) (count : ℕ) (linked : IsLinked t) (next : IsLinked u)
+module _ {K V S H : Type 0} (t u : OrderedTable K V) (count : ℕ) (linked : IsLinked t) (next : IsLinked u)
     (table : length u.slots ≡ count)
     (pairs : pairs_of u ≡ pairs_of t) (left : room (marks_of u.slots) + length t.order ≡ full_capacity count)
     (counted : u.placings ≡ count_up t.placings (length t.order)) (beside : Beside S H) where

@@ -8,10 +8,10 @@ use Rattle.lru_limits.specs.Rules.{Rules, Replaced}
 use Rattle.schnellru.specs.Lists.{last}
 use Rattle.schnellru.specs.State.{State, Contents, IsSized, FreesRoom, Leaves, contents, told_of, pop}
 use Rattle.schnellru.specs.Calls.{PopOldest, left_of}
-use Rattle.schnellru.specs.Place.{IsPlaced, turned_away}
-use Rattle.schnellru.specs.Inserts.{make_way}
+use Rattle.schnellru.specs.Place.{IsPlaced, HasNoBucket, IsOutgrown, turned_away}
+use Rattle.schnellru.specs.Inserts.{make_room}
 use Rattle.schnellru.specs.HandedOver.{noting, noted, Takes}
-use Rattle.schnellru.specs.Inside.Linked.{Linked}
+use Rattle.schnellru.specs.Inside.OrderedTable.{OrderedTable}
 use Rattle.schnellru.specs.Inside.Steps.{IsReplaced, IsGivenUp}
 
 -- the sink was handed one pair more
@@ -31,6 +31,18 @@ module _ {K V S H : Type 0} where
     moved = ok.moved;
     placed = ok.placed;
     shrunk = ok.shrunk;
+  }
+
+  pub noted_no_bucket : {hash : ℕ} (list : List (K × V)) (st : State K V S H) → HasNoBucket hash st
+      → HasNoBucket hash (noted list st)
+  noted_no_bucket list st none = record { no_room = none.no_room; first_empty = none.first_empty }
+
+  pub noted_outgrown : {hash : ℕ} (list : List (K × V)) (st : State K V S H) → IsOutgrown hash st
+      → IsOutgrown hash (noted list st)
+  noted_outgrown list st outgrown = record {
+    no_bucket = noted_no_bucket list st outgrown.no_bucket;
+    above_half = outgrown.above_half;
+    begun = outgrown.begun;
   }
 
   pub noted_placed : (list : List (K × V)) (pair : K × V) (count spare moves : ℕ) (old new : State K V S H)
@@ -82,9 +94,9 @@ module _ {K V S H : Type 0} (rules : Rules K V S) (before : List (K × V)) (old 
   }
 
 -- where the limiter would be over, way is made
-pub make_way-over : {K V S : Type 0} (rules : Rules K V S) (c : Contents K V S) →
-    rules.is_over_the_limit c.limiter (length c.pairs + 1) ≡ true → make_way rules c ≡ pop rules c
-make_way-over rules c over = rw over refl
+pub make_room-over : {K V S : Type 0} (rules : Rules K V S) (c : Contents K V S) →
+    rules.is_over_the_limit c.limiter (length c.pairs + 1) ≡ true → make_room rules c ≡ pop rules c
+make_room-over rules c over = rw over refl
 
 -- the pair that was not placed goes to the list
 pub noted_turned_away : {K V S H : Type 0} (rules : Rules K V S) (before : List (K × V)) (old new : State K V S H)
@@ -98,7 +110,7 @@ noted_turned_away {K} {V} {S} {H} rules before old new pair left s is told e =
     ∙ ap {A = S × List (K × V)} {B = State K V (S × List (K × V)) H} (λ t. record (noted before old) { limiter = t })
     (noted_told rules before old.limiter left (Some pair) e)
 
-module _ {K V S : Type 0} (before : List (K × V)) (by : Replaced K V S) (b : ℕ) (old new : Linked K V) (l : S) where
+module _ {K V S : Type 0} (before : List (K × V)) (by : Replaced K V S) (b : ℕ) (old new : OrderedTable K V) (l : S) where
   -- what was left of a replacement, where the limiter is beside a list
   abbrev pub noted_by : Replaced K V (S × List (K × V))
   noted_by = record {

@@ -1,28 +1,27 @@
 -- What the steps of a placing come to.
-use Rattle.std.proofs.Common.{◌≡◌, ℕ, suc, ◌+◌, ◌-◌, ◌/◌, ◌<◌, ◌≤◌, ◌⊎◌, inl, inr, Bool, true, false, [], length, Some}
+use Rattle.std.proofs.Common.{◌≡◌, ℕ, suc, ◌+◌, ◌-◌, ◌/◌, ◌<◌, ◌≤◌, ◌⊎◌, inl, inr, Bool, true, false, [], length}
 use Rattle.std.proofs.Common.{None, Result, Ok, Err, refl, sym, ap, ◌∙◌, subst, arith}
 use Rattle.std.specs.Prelude.{IsOk}
 use Rattle.std.specs.declared.alloc.AllocError.{AllocError}
 use native.Mathlib.Decide.{dec_lt}
 use Rattle.std.proofs.lemmas.List.{nil_from_length}
 use Rattle.group_table.specs.Sizes.{IsPowerFromFour, IsBucketCount, full_capacity}
-use Rattle.group_table.specs.Bucket.{empty, marks_of}
+use Rattle.group_table.specs.Bucket.{marks_of}
 use Rattle.group_table.specs.Change.{HasNoPlace}
 use Rattle.lru_limits.specs.Rules.{Rules}
-use Rattle.schnellru.specs.Sizes.{usage, no_table, new_table}
-use Rattle.schnellru.specs.State.{State, buckets, room, contents, IsSized, Leaves, pop, pops, FirstFreeIs}
-use Rattle.schnellru.specs.Place.{Evicts, Place, first_table, first_denied, empty_with_room, empty_without_room}
-use Rattle.schnellru.specs.Place.{with_room, deleted_bucket, rehashed, grown, evicting, finds_bucket, made_anew}
-use Rattle.schnellru.specs.Place.{CannotGrow}
-use Rattle.schnellru.specs.Place.{Outcome, no_target, denied, outcome_of, placed, refused, IsPlaced, IsPlacedIfMemory}
-use Rattle.schnellru.specs.Place.{LacksRoom, FillsBucket, OldestLeave, asked, turned_away, table_for}
+use Rattle.schnellru.specs.Sizes.{no_table, new_table}
+use Rattle.schnellru.specs.State.{State, buckets, room, contents, IsSized, Leaves, pop, pops}
+use Rattle.schnellru.specs.Place.{Place, in_bucket, rehashed, grown, not_grown, HasNoBucket, IsOutgrown, CannotGrow}
+use Rattle.schnellru.specs.Place.{no_target, denied, Evicts, nothing_to_evict, finds_bucket, rehashes, OldestLeave}
+use Rattle.schnellru.specs.Place.{Outcome, outcome_of, placed, no_memory, IsPlaced, IsPlacedIfMemory}
+use Rattle.schnellru.specs.Place.{LacksRoom, FillsBucket, table_for}
 use Rattle.group_table.proofs.BucketLemmas.{length-marks_of}
-use Rattle.schnellru.specs.Inside.Linked.{Linked, IsLinked, pairs_of}
-use Rattle.schnellru.proofs.LinkedTables.BucketPairs.{pairs-length}
+use Rattle.schnellru.specs.Inside.OrderedTable.{OrderedTable, IsLinked, pairs_of}
+use Rattle.schnellru.proofs.OrderedTables.BucketPairs.{pairs-length}
 use Rattle.schnellru.proofs.TableSizes.SizedMarks.{fits, exact}
-use Rattle.schnellru.proofs.TableSizes.Growth.{full_capacity-4, full_capacity-at_most, full_capacity-some}
-use Rattle.schnellru.proofs.TableSizes.Growth.{full_capacity-even}
+use Rattle.schnellru.proofs.TableSizes.Growth.{full_capacity-at_most, full_capacity-some, full_capacity-even}
 use Rattle.schnellru.proofs.Theorems.LackOfMemory.{no_room}
+use Rattle.schnellru.proofs.Maps.Outcomes.{placed-not_no_memory, refused-not_no_memory}
 use Rattle.schnellru.proofs.Maps.LeavingPairs.{length-without_last, length-pops, known_is, leaves_more, oldest_leaves}
 use Rattle.schnellru.proofs.Maps.LeavingPairs.{room_after}
 use Rattle.schnellru.proofs.TableSizes.FilledBuckets.{deleted_first_large}
@@ -45,147 +44,99 @@ module _ {K V S H : Type 0} (st : State K V S H) (ok : IsSized st) where
 
 module _ {K V S H : Type 0} (rules : Rules K V S) (hash_of : H → K → ℕ) (pair : K × V) (old new : State K V S H)
     (ok : IsSized old) where
-  -- the limiter was asked for the first table
-  module _ (none : buckets old ≡ 0) (bytes : ℕ) (usable : usage old.entry_bytes 4 ≡ Some bytes) (s : S)
-      (told : s ≡ (rules.on_grow old.limiter bytes).limiter) where
-    pub first_granted : (outcome : Outcome) → (rules.on_grow old.limiter bytes).allowed ≡ true →
-        IsPlacedIfMemory rules pair 4 (full_capacity 4 - length old.pairs - 1) (length old.pairs)
-        (record old { limiter = s }) outcome new →
-        Place rules hash_of pair old outcome new
-    first_granted outcome granted step =
-        let no_pairs = none_without_buckets old ok none in
-        let zero_pairs : length old.pairs ≡ 0 = ap length no_pairs in
-        let two : full_capacity 4 - length old.pairs - 1 ≡ 2 = omega (arith, full_capacity-4, zero_pairs) in
-        first_table no_pairs none bytes usable granted
-        (subst (λ n. IsPlacedIfMemory rules pair 4 2 n (asked rules bytes old) outcome new) zero_pairs
-        (subst (λ n. IsPlacedIfMemory rules pair 4 n (length old.pairs) (asked rules bytes old) outcome new) two
-        (subst (λ l. IsPlacedIfMemory rules pair 4 (full_capacity 4 - length old.pairs - 1) (length old.pairs)
-        (record old { limiter = l }) outcome new) told step)))
-
-    pub first_refused : (rules.on_grow old.limiter bytes).allowed ≡ false → new
-        ≡ turned_away rules pair (record old { limiter = s }) →
-        Place rules hash_of pair old refused new
-    first_refused refusal step = first_denied (none_without_buckets old ok none) none bytes usable refusal refl
-        (step ∙ ap {A = S} {B = State K V S H} (λ l. turned_away rules pair (record old { limiter = l })) told)
-
-  -- the oldest left, where the table cannot grow
-  pub evicts_place : (outcome : Outcome) (mid : State K V S H) → CannotGrow rules old mid → LacksRoom old
-      → FirstFreeIs empty (hash_of old.hasher pair.0) old →
-      full_capacity (buckets old) / 2 < length old.pairs + 1 → (hash : ℕ) → hash ≡ hash_of old.hasher pair.0
-      → Evicts rules hash pair mid mid outcome new → Place rules hash_of pair old outcome new
-  evicts_place outcome mid cannot lacks first above hash is_hash e = go
-      (subst (λ h. Evicts rules h pair mid mid outcome new) is_hash e)
-    where
-      known : mid ≡ record old { limiter = mid.limiter }
-      known = known_is rules old mid cannot
-
-      same : buckets mid ≡ buckets old
-      same = ap buckets known
-
-      pairs : length mid.pairs ≡ length old.pairs
-      pairs = ap (λ st. length st.pairs) known
-
-      go : Evicts rules (hash_of old.hasher pair.0) pair mid mid outcome new → Place rules hash_of pair old outcome new
-      go (finds_bucket n pos one half left gone fills o p) = evicting lacks first above mid cannot
-          (finds_bucket n pos (λ small. one (omega (arith, same, small)))
-          (omega (arith, half, pairs, ap full_capacity same)) left gone fills o
-          (subst (λ b. IsPlaced pair b (room new) 0 left new) same p))
-      go (made_anew n pos one half left gone m) = evicting lacks first above mid cannot
-          (made_anew n pos (λ small. one (omega (arith, same, small)))
-          (omega (arith, half, pairs, ap full_capacity same)) left gone
-          (subst (λ b. IsPlacedIfMemory rules pair b (full_capacity b / 2) (length left.pairs) left outcome new) same
-          m))
-
   -- the pair went into a bucket that the table has
   pub bucket_place : (0 < room old) ⊎ (0 < length old.pairs) → IsPlaced pair (buckets old) (room new) 0 old new →
       FillsBucket (hash_of old.hasher pair.0) old new → Place rules hash_of pair old placed new
-  bucket_place some step fills = go (dec_lt 0 (room old)) (dec_lt 0 (length old.pairs))
+  bucket_place some step fills = in_bucket (within fills) some fills refl step
     where
-      deleted_first : 0 < length old.pairs → room old ≡ 0 → FillsBucket (hash_of old.hasher pair.0) old new
-          → Place rules hash_of pair old placed new
-      deleted_first l none (inl less) = absurd (omega (arith, none, less.1))
-      deleted_first l none (inr (first, large, same)) =
-          let within : length old.pairs < full_capacity (buckets old) = omega
-          (arith, (deleted_first_large old ok (hash_of old.hasher pair.0) first).1) in
-          deleted_bucket (l, none) first large within refl
-          (record { table = step.table; room_left = omega (arith, same, none); state = step.state })
+      within : FillsBucket (hash_of old.hasher pair.0) old new → length old.pairs < full_capacity (buckets old)
+      within (inl (first, spends)) = omega (arith, spends, fits old ok)
+      within (inr (first, large, same)) = omega
+          (arith, (deleted_first_large old ok (hash_of old.hasher pair.0) first).1)
 
-      go : Dec (0 < room old) → Dec (0 < length old.pairs) → Place rules hash_of pair old placed new
-      go (yes r) (yes l) = with_room l r fills refl step
-      go (yes r) (no l) = empty_with_room (nil_from_length old.pairs (omega (arith, l)))
-          (omega (arith, r, fits old ok, full_capacity-at_most (buckets old))) r
-          fills refl step
-      go (no r) (yes l) = deleted_first l (omega (arith, r)) fills
-      go (no r) (no l) = elim some [ inl x ↦ absurd (r x) | inr x ↦ absurd (l x) ]
-
-  -- the table was made anew at its size, where it had no room
-  pub rehash_place : (result : Result Bool AllocError) → room old ≡ 0
-      → (0 < length old.pairs → FirstFreeIs empty (hash_of old.hasher pair.0) old) →
-      length old.pairs < full_capacity (buckets old) / 2 →
+  -- the table was rehashed at its size
+  pub rehash_place : (result : Result Bool AllocError) → HasNoBucket (hash_of old.hasher pair.0) old
+      → length old.pairs < full_capacity (buckets old) / 2 →
       IsPlacedIfMemory rules pair (buckets old) (full_capacity (buckets old) - length old.pairs - 1)
       (length old.pairs) old (outcome_of result) new →
       (old.pairs ≡ [] → IsOk result) → Place rules hash_of pair old (outcome_of result) new
-  rehash_place result none first few step succeeds = go (dec_lt 0 (length old.pairs))
+  rehash_place result none few step succeeds = rehashed none (omega (arith, few)) (some result succeeds) step
     where
-      placed_by : (r : Result Bool AllocError) → IsOk r → IsPlacedIfMemory rules pair (buckets old)
-          (full_capacity (buckets old) - length old.pairs - 1) (length old.pairs) old (outcome_of r) new →
-          (outcome_of r ≡ placed) × IsPlaced pair (buckets old) (full_capacity (buckets old) - length old.pairs - 1)
-          (length old.pairs) old new
-      placed_by (Ok true) ok h = (refl, h)
-      placed_by (Ok false) ok h = absurd h
-      placed_by (Err e) ok h = absurd (grind (arith, ok))
+      some : (r : Result Bool AllocError) → (old.pairs ≡ [] → IsOk r) → outcome_of r ≡ no_memory
+          → 0 < length old.pairs
+      some (Ok true) h q = placed-not_no_memory q
+      some (Ok false) h q = refused-not_no_memory q
+      some (Err e) h q = elim (dec_lt 0 (length old.pairs)) [
+        | yes l ↦ l
+        | no l ↦ absurd (grind (arith, h (nil_from_length old.pairs (omega (arith, l)))))
+      ]
 
-      go : Dec (0 < length old.pairs) → Place rules hash_of pair old (outcome_of result) new
-      go (yes some) = rehashed (some, none) (first some) (omega (arith, few)) step
-      go (no l) =
-          let no_pairs : length old.pairs ≡ 0 = omega (arith, l) in
-          let empty_list = nil_from_length old.pairs no_pairs in
-          let there = placed_by result (succeeds empty_list) step in
-          let spare : full_capacity (buckets old) - length old.pairs - 1 ≡ full_capacity (buckets old) - 1 = omega
-          (arith, no_pairs) in
-          empty_without_room empty_list (omega (arith, few, full_capacity-at_most (buckets old))) none there.0
-          (subst (λ n. IsPlaced pair (buckets old) n 0 old new) spare
-          (subst (λ n. IsPlaced pair (buckets old) (full_capacity (buckets old) - length old.pairs - 1) n old new)
-          no_pairs there.1))
-
-  module _ (lacks : LacksRoom old) (first : FirstFreeIs empty (hash_of old.hasher pair.0) old)
-      (above : full_capacity (buckets old) / 2 < length old.pairs + 1)
+  module _ (hash : ℕ) (is_hash : hash ≡ hash_of old.hasher pair.0) (outgrown : IsOutgrown hash old)
       (outcome : Outcome) where
+    outgrown_by : IsOutgrown (hash_of old.hasher pair.0) old
+    outgrown_by = subst (λ h. IsOutgrown h old) is_hash outgrown
+
+    -- the oldest left, because the table cannot grow
+    evicts_place : (mid : State K V S H) → CannotGrow rules old mid → Evicts rules hash pair mid mid outcome new
+        → Place rules hash_of pair old outcome new
+    evicts_place mid cannot e = not_grown outgrown_by mid cannot
+        (go (subst (λ h. Evicts rules h pair mid mid outcome new) is_hash e))
+      where
+        known : mid ≡ record old { limiter = mid.limiter }
+        known = known_is rules old mid cannot
+
+        same : buckets mid ≡ buckets old
+        same = ap buckets known
+
+        pairs : length mid.pairs ≡ length old.pairs
+        pairs = ap (λ st. length st.pairs) known
+
+        go : Evicts rules (hash_of old.hasher pair.0) pair mid mid outcome new
+            → Evicts rules (hash_of old.hasher pair.0) pair old mid outcome new
+        go (nothing_to_evict e o n) = nothing_to_evict (sym (ap (λ st. st.pairs) known) ∙ e) o n
+        go (finds_bucket n pos one half left gone fills o p) = finds_bucket n pos
+            (λ small. one (omega (arith, same, small)))
+            (omega (arith, half, pairs, ap full_capacity same)) left gone fills o
+            (subst (λ b. IsPlaced pair b (room new) 0 left new) same p)
+        go (rehashes some n pos one half left gone m) = rehashes (omega (arith, some, pairs)) n pos
+            (λ small. one (omega (arith, same, small)))
+            (omega (arith, half, pairs, ap full_capacity same)) left gone
+            (subst (λ b. IsPlacedIfMemory rules pair b (full_capacity b / 2) (length left.pairs) left outcome new) same
+            m)
+
+    -- the limiter was asked for a larger table
     module _ (count bytes : ℕ) (next : table_for 1 old ≡ new_table count bytes) (s : S)
         (told : s ≡ (rules.on_grow old.limiter bytes).limiter) where
       pub grown_place : (rules.on_grow old.limiter bytes).allowed ≡ true →
           IsPlacedIfMemory rules pair count (full_capacity count - length old.pairs - 1) (length old.pairs)
           (record old { limiter = s }) outcome new →
           Place rules hash_of pair old outcome new
-      grown_place granted step = grown lacks first above count bytes next granted
+      grown_place granted step = grown outgrown_by count bytes next granted
           (subst (λ l. IsPlacedIfMemory rules pair count (full_capacity count - length old.pairs - 1)
           (length old.pairs) (record old { limiter = l }) outcome new) told step)
 
-      pub denied_place : (rules.on_grow old.limiter bytes).allowed ≡ false → (hash : ℕ) → hash
-          ≡ hash_of old.hasher pair.0 →
+      pub denied_place : (rules.on_grow old.limiter bytes).allowed ≡ false →
           Evicts rules hash pair (record old { limiter = s }) (record old { limiter = s }) outcome new
           → Place rules hash_of pair old outcome new
-      denied_place refusal hash is_hash step = evicts_place outcome (record old { limiter = s })
-          (denied count bytes next refusal (ap {A = S} {B = State K V S H} (λ l. record old { limiter = l }) told))
-          lacks first above hash is_hash step
+      denied_place refusal step = evicts_place (record old { limiter = s })
+          (denied count bytes next refusal (ap {A = S} {B = State K V S H} (λ l. record old { limiter = l }) told)) step
 
-    pub untold_place : table_for 1 old ≡ no_table → (hash : ℕ) → hash ≡ hash_of old.hasher pair.0
-        → Evicts rules hash pair old old outcome new → Place rules hash_of pair old outcome new
-    untold_place none hash is_hash step = evicts_place outcome old
-        (no_target none refl) lacks first above hash is_hash step
+    -- or there is none
+    pub untold_place : table_for 1 old ≡ no_table → Evicts rules hash pair old old outcome new
+        → Place rules hash_of pair old outcome new
+    untold_place none step = evicts_place old (no_target none refl) step
 
--- the first free bucket of a map that has no place for a hash is empty
+-- no bucket takes a pair for which a map has no place
 module _ {K V S H : Type 0} (st : State K V S H) (ok : IsSized st) (hash : ℕ) where
-  pub no_place_room : HasNoPlace st.marks hash → room st ≡ 0
-  no_place_room (inl none) = no_room st.marks none
-  no_place_room (inr (none, b, first, is)) = none
-
-  pub no_place_empty : HasNoPlace st.marks hash → 0 < length st.pairs → FirstFreeIs empty hash st
-  no_place_empty (inl none) some = absurd (omega (arith, ap length (none_without_buckets st ok none), some))
-  no_place_empty (inr (none, b, first, is)) some = (b, first, is)
+  pub no_place_bucket : HasNoPlace st.marks hash → HasNoBucket hash st
+  no_place_bucket (inl none) = record {
+    no_room = no_room st.marks none;
+    first_empty = λ some. absurd (omega (arith, ap length (none_without_buckets st ok none), some));
+  }
+  no_place_bucket (inr (none, b, first, is)) = record { no_room = none; first_empty = λ some. (b, first, is) }
 
 -- a table with buckets that is at least half full has a pair
-pub some_of_half : {K V : Type 0} (t : Linked K V) → IsLinked t → (length t.slots ≡ 0 → ⊥)
+pub some_of_half : {K V : Type 0} (t : OrderedTable K V) → IsLinked t → (length t.slots ≡ 0 → ⊥)
     → full_capacity (length t.slots) / 2 ≤ length t.order → 0 < length (pairs_of t)
 some_of_half t linked there half = go linked.table.count
   where
@@ -239,11 +190,11 @@ module _ {K V S H : Type 0} (rules : Rules K V S) (hash : ℕ) (pair : K × V) (
         (omega (arith, enough, one_fewer, in_all)) left one_more fills refl
         (subst (λ b. IsPlaced pair b (room new) 0 left new) same_buckets p)
 
-    pub makes_anew : (outcome : Outcome) → length left.pairs < full_capacity (buckets old) / 2 →
+    pub rehashes_then : (outcome : Outcome) → length left.pairs < full_capacity (buckets old) / 2 →
         IsPlacedIfMemory rules pair (buckets old) (full_capacity (buckets old) - length left.pairs - 1)
         (length left.pairs) left outcome new →
         Evicts rules hash pair old old outcome new
-    makes_anew outcome few m = made_anew (suc n) (omega arith) only_one
+    rehashes_then outcome few m = rehashes lacks.0 (suc n) (omega arith) only_one
         (omega (arith, few, half, one_fewer, in_all)) left one_more
         (subst (λ s. IsPlacedIfMemory rules pair (buckets old) s (length left.pairs) left outcome new)
         (spare (dec_lt 8 (buckets old))) m)

@@ -9,11 +9,11 @@ use Rattle.group_table.proofs.BucketLemmas.{length-marks_of}
 use Rattle.schnellru.specs.Sizes.{usage}
 use Rattle.schnellru.specs.State.{MovesTo, IsSized, buckets}
 use Rattle.schnellru.specs.Shrinks.{shrink_counted}
-use Rattle.schnellru.specs.Inside.Linked.{Linked, IsLinked, KeysFit, pairs_of}
+use Rattle.schnellru.specs.Inside.OrderedTable.{OrderedTable, IsLinked, KeysFit, pairs_of}
 use Rattle.schnellru.specs.Inside.Holds.{Beside, state_of, Holds}
 use Rattle.schnellru.proofs.PairLists.DistinctKeys.{AreDistinct}
 use Rattle.schnellru.proofs.TableSizes.Budgets.{usage_fewer}
-use Rattle.schnellru.proofs.LinkedTables.BucketPairs.{pairs-length}
+use Rattle.schnellru.proofs.OrderedTables.BucketPairs.{pairs-length}
 use Rattle.schnellru.proofs.Maps.HeldMaps.{sized_by}
 use Rattle.schnellru.proofs.Maps.MovedPairs.{moves_to}
 use Rattle.schnellru.proofs.Theorems.PaidMoves.{paid_after}
@@ -24,7 +24,7 @@ pub none_needed : (max count : ℕ) → buckets_for max 0 ≡ Some count → cou
 unfolding buckets_for
 none_needed max count is = sym (same_Some 0 count is)
 
-module _ {K V S H : Type 0} (beside : Beside S H) (t : Linked K V) (linked : IsLinked t) where
+module _ {K V S H : Type 0} (beside : Beside S H) (t : OrderedTable K V) (linked : IsLinked t) where
   -- so many buckets are needed for the pairs of a map, from the figures of its linked table
   pub needs : {most pairs : ℕ} {need : Option ℕ} → most ≡ beside.max → pairs ≡ length t.order
       → need ≡ buckets_for most pairs → buckets_for beside.max (length (pairs_of t)) ≡ need
@@ -32,7 +32,7 @@ module _ {K V S H : Type 0} (beside : Beside S H) (t : Linked K V) (linked : IsL
       let pairs_are : pairs ≡ length (pairs_of t) = is_pairs ∙ sym (pairs-length t linked) in
       (λ i. buckets_for (sym is_max i) (sym pairs_are i)) ∙ sym is
 
-module _ {K V S H : Type 0} (t u : Linked K V) (count : ℕ) (linked : IsLinked t) (next : IsLinked u)
+module _ {K V S H : Type 0} (t u : OrderedTable K V) (count : ℕ) (linked : IsLinked t) (next : IsLinked u)
     (table : length u.slots ≡ count)
     (pairs : pairs_of u ≡ pairs_of t) (left : room (marks_of u.slots) + length t.order ≡ full_capacity count)
     (placings : u.placings ≡ count_up t.placings (length t.order)) (beside : Beside S H) where

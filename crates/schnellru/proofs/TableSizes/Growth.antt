@@ -11,7 +11,7 @@ use Rattle.std.proofs.lemmas.Option.{cond_some, same_Some}
 use Rattle.group_table.specs.Sizes.{IsPowerFromFour, IsBucketCount, full_capacity, least_power, below, buckets_for}
 use Rattle.group_table.proofs.PowerLemmas.{doubled, first_power_least, first_power_shape, power_gap}
 use Rattle.group_table.proofs.SizeLemmas.{full_capacity-large, power_pos}
-use Rattle.schnellru.specs.Sizes.{bytes_of, usage, no_table, same_table, new_table, table_of, table_with, target_from}
+use Rattle.schnellru.specs.Sizes.{bytes_of, usage, same_table, new_table, table_of, table_with, target_from}
 use Rattle.schnellru.specs.Sizes.{target}
 
 -- 4, 8, or at least 16
@@ -305,14 +305,18 @@ target_new max e b c n bytes (inl none) some h =
       omega (arith, none, full_capacity-at_most b),
     )
 
--- the first table for a pair has 4 buckets
-pub first_target-none : (max e : ℕ) → usage e 4 ≡ None → target max e 0 1 ≡ no_table
+-- the first table has 4 buckets
+pub first_target-count : (max e n bytes : ℕ) → target max e 0 1 ≡ new_table n bytes → n ≡ 4
 unfolding target buckets_for
-first_target-none max e u = go (nat_lt 4 max)
+first_target-count max e n bytes = go (nat_lt 4 max)
   where
-    go : (b : Bool) → target_from max e 0 1 (cond b (Some 4) None) ≡ no_table
-    go true = rw u refl
-    go false = refl
+    by : (u : Option ℕ) → table_of 4 u ≡ new_table n bytes → n ≡ 4
+    by None h = absurd (grind arith)
+    by (Some x) h = grind arith
+
+    go : (b : Bool) → target_from max e 0 1 (cond b (Some 4) None) ≡ new_table n bytes → n ≡ 4
+    go true h = by (usage e 4) h
+    go false h = absurd (grind arith)
 
 -- a table of the same size is kept where at most half of it is needed
 pub target-same : (max e b c : ℕ) → target max e b c ≡ same_table → c ≤ full_capacity b / 2

@@ -8,15 +8,15 @@ use Rattle.group_table.proofs.BucketLemmas.{length-marks_of}
 use Rattle.schnellru.specs.Sizes.{usage, Target, same_table, new_table, target, larger}
 use Rattle.schnellru.specs.State.{State, buckets, IsSized}
 use Rattle.schnellru.specs.Place.{table_for}
-use Rattle.schnellru.specs.Inside.Linked.{Linked, IsLinked, pairs_of}
+use Rattle.schnellru.specs.Inside.OrderedTable.{OrderedTable, IsLinked, pairs_of}
 use Rattle.schnellru.specs.Inside.Holds.{Beside, state_of}
-use Rattle.schnellru.proofs.LinkedTables.BucketPairs.{pairs-length}
+use Rattle.schnellru.proofs.OrderedTables.BucketPairs.{pairs-length}
 use Rattle.schnellru.proofs.TableSizes.SizedMarks.{fits}
 use Rattle.schnellru.proofs.TableSizes.Growth.{target_new, target_usage, target_doubles, full_capacity-at_most}
 use Rattle.schnellru.proofs.TableSizes.Growth.{full_capacity-double}
 use Rattle.schnellru.proofs.TableSizes.Doubling.{target_keeps}
 
-module _ {K V S H : Type 0} (beside : Beside S H) (t : Linked K V) (linked : IsLinked t) where
+module _ {K V S H : Type 0} (beside : Beside S H) (t : OrderedTable K V) (linked : IsLinked t) where
   -- where the table of a map goes for n more, from the figures of its linked table
   pub goes_to : (n : ℕ) {next : Target} {most count pairs : ℕ} → most ≡ beside.max → count ≡ length t.slots → pairs
       ≡ length t.order →

@@ -26,7 +26,7 @@ gives_up_adds names refuses xs ys (with_none absent f) = omega (arith, length-fr
 gives_up_adds names refuses xs ys (without_one pair found r e) = omega (arith, ap length e, length-without names xs)
 
 module _ {K V S H : Type 0} (rules : Rules K V S) (n : ℕ) (old new : State K V S H) where
-  reserve_stays : (result : Result (Unit {0}) ReserveError) → Reserve rules n old result new → new.pairs ≡ old.pairs
+  pub reserve_stays : (result : Result (Unit {0}) ReserveError) → Reserve rules n old result new → new.pairs ≡ old.pairs
   reserve_stays result (enough_room s l r e) = ap (λ st. st.pairs) e
   reserve_stays result (too_many l r e) = ap (λ st. st.pairs) e
   reserve_stays result (no_such_table l t r e) = ap (λ st. st.pairs) e

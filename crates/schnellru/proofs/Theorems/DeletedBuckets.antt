@@ -1,17 +1,16 @@
 -- A deleted bucket serves where it is the first free one that a search finds.
-use Rattle.std.proofs.Common.{◌≡◌, ℕ, ◌+◌, ◌<◌, inl, inr, [], length, sym, ap, ◌∙◌, arith}
+use Rattle.std.proofs.Common.{◌≡◌, ℕ, ◌+◌, ◌<◌, inl, inr, length, sym, ap, ◌∙◌, subst, arith}
 use Rattle.group_table.specs.Sizes.{IsBucketCount}
 use Rattle.group_table.proofs.SizeLemmas.{power_pos}
 use Rattle.group_table.specs.Bucket.{Mark, empty, deleted, bucket_at}
 use Rattle.group_table.proofs.FirstFree.{IsFirstFree-unique}
 use Rattle.lru_limits.specs.Rules.{Rules}
 use Rattle.schnellru.specs.State.{State, buckets, room, FirstFreeIs}
-use Rattle.schnellru.specs.Place.{Place, first_table, first_denied, first_too_large, empty_with_room}
-use Rattle.schnellru.specs.Place.{empty_without_room, with_room, deleted_bucket, rehashed, grown, evicting}
-use Rattle.schnellru.specs.Place.{finds_bucket, made_anew, Outcome, placed, IsPlaced, asked}
+use Rattle.schnellru.specs.Place.{Place, in_bucket, rehashed, grown, not_grown, FillsBucket}
+use Rattle.schnellru.specs.Place.{nothing_to_evict, finds_bucket, rehashes, Outcome, placed, IsPlaced, asked}
 use Rattle.schnellru.proofs.Theorems.RefusedGrowth.{left_length, placed_if}
-use Rattle.schnellru.proofs.TableSizes.Growth.{full_capacity-at_most, target_doubles}
-use Rattle.schnellru.proofs.Theorems.Potential.{IsBounded}
+use Rattle.schnellru.proofs.TableSizes.Growth.{target_doubles}
+use Rattle.schnellru.proofs.Theorems.Potential.{IsBounded, no_buckets}
 
 module _ {K V S H : Type 0} (rules : Rules K V S) (hash_of : H → K → ℕ) (pair : K × V) (old : State K V S H)
     (some : 0 < length old.pairs) (no_room : room old ≡ 0) where
@@ -21,38 +20,29 @@ module _ {K V S H : Type 0} (rules : Rules K V S) (hash_of : H → K → ℕ) (p
       no : ◌≡◌ {A = Mark} deleted empty → ⊥
       no h = grind arith
 
-  none_is_empty : {A : Type 0} → old.pairs ≡ [] → A
-  none_is_empty e = absurd (omega (arith, ap length e, some))
+  -- so no empty bucket is filled
+  of_deleted : FirstFreeIs deleted (hash_of old.hasher pair.0) old → (new : State K V S H)
+      → FillsBucket (hash_of old.hasher pair.0) old new → room new ≡ 0
+  of_deleted p new (inl f) = absurd (not_both p f.0)
+  of_deleted p new (inr f) = omega (arith, f.2, no_room)
 
   -- with no room, where the first free bucket is a deleted one, it is filled
   pub deleted_serves : FirstFreeIs deleted (hash_of old.hasher pair.0) old → (outcome : Outcome) (new : State K V S H)
       → Place rules hash_of pair old outcome new
       → (outcome ≡ placed) × IsPlaced pair (buckets old) 0 0 old new
-  deleted_serves p outcome new (first_table e b bytes u g m) = none_is_empty e
-  deleted_serves p outcome new (first_denied e b bytes u d o n) = none_is_empty e
-  deleted_serves p outcome new (first_too_large e b u o n) = none_is_empty e
-  deleted_serves p outcome new (empty_with_room e b r s o n) = none_is_empty e
-  deleted_serves p outcome new (empty_without_room e b r o n) = none_is_empty e
-  deleted_serves p outcome new (with_room e r s o n) = absurd (omega (arith, r, no_room))
-  deleted_serves p outcome new (deleted_bucket f i b l o n) = (o, n)
-  deleted_serves p outcome new (rehashed f i l m) = absurd (not_both p i)
-  deleted_serves p outcome new (grown f i l count bytes t g m) = absurd (not_both p i)
-  deleted_serves p outcome new (evicting f i l mid c (finds_bucket n pos one half left gone fills o is)) = absurd
-      (not_both p i)
-  deleted_serves p outcome new (evicting f i l mid c (made_anew n pos one half left gone m)) = absurd (not_both p i)
+  deleted_serves p outcome new (in_bucket l f s o n) =
+      (o, subst (λ spare. IsPlaced pair (buckets old) spare 0 old new) (of_deleted p new s) n)
+  deleted_serves p outcome new (rehashed b l any m) = absurd (not_both p (b.first_empty some))
+  deleted_serves p outcome new (grown g count bytes t y m) = absurd (not_both p (g.no_bucket.first_empty some))
+  deleted_serves p outcome new (not_grown g mid c e) = absurd (not_both p (g.no_bucket.first_empty some))
 
   -- and no other placing ends as one into a deleted bucket does
   pub only_deleted : IsBounded old → (outcome : Outcome) (new : State K V S H) → outcome ≡ placed
       → Place rules hash_of pair old outcome new → IsPlaced pair (buckets old) 0 0 old new
       → FirstFreeIs deleted (hash_of old.hasher pair.0) old
-  only_deleted ok outcome new q (first_table e b bytes u g m) p = none_is_empty e
-  only_deleted ok outcome new q (first_denied e b bytes u d o n) p = none_is_empty e
-  only_deleted ok outcome new q (first_too_large e b u o n) p = none_is_empty e
-  only_deleted ok outcome new q (empty_with_room e b r s o n) p = none_is_empty e
-  only_deleted ok outcome new q (empty_without_room e b r o n) p = none_is_empty e
-  only_deleted ok outcome new q (with_room e r s o n) p = absurd (omega (arith, r, no_room))
-  only_deleted ok outcome new q (deleted_bucket f i b l o n) p = i
-  only_deleted ok outcome new q (rehashed f i l m) p =
+  only_deleted ok outcome new q (in_bucket l f (inl s) o n) p = absurd (omega (arith, s.1, no_room))
+  only_deleted ok outcome new q (in_bucket l f (inr s) o n) p = s.0
+  only_deleted ok outcome new q (rehashed b l any m) p =
       absurd (omega (
         arith,
         l,
@@ -60,13 +50,13 @@ module _ {K V S H : Type 0} (rules : Rules K V S) (hash_of : H → K → ℕ) (p
         p.room_left,
         (placed_if rules hash_of pair old old new _ _ _ outcome q m).room_left,
       ))
-  only_deleted ok outcome new q (grown f i l count bytes t g m) p = absurd (larger ok.count)
+  only_deleted ok outcome new q (grown g count bytes t y m) p = absurd (larger ok.count)
     where
       same : count ≡ buckets old
       same = sym (placed_if rules hash_of pair old (asked rules bytes old) new _ _ _ outcome q m).table ∙ p.table
 
       larger : IsBucketCount (buckets old) → ⊥
-      larger (inl z) = absurd (omega (arith, z, f.0, ok.fits, full_capacity-at_most (buckets old)))
+      larger (inl z) = absurd (no_buckets old ok some z)
       larger (inr k) = absurd
           (omega (
             arith,
@@ -75,7 +65,8 @@ module _ {K V S H : Type 0} (rules : Rules K V S) (hash_of : H → K → ℕ) (p
             target_doubles k.0 old.max old.entry_bytes (buckets old)
                 (length old.pairs + 1) count bytes k.1 t,
           ))
-  only_deleted ok outcome new q (evicting f i l mid c (finds_bucket n pos one half left gone fills o is)) p =
+  only_deleted ok outcome new q (not_grown g mid c (nothing_to_evict e o n)) p = absurd (omega (arith, ap length e, some))
+  only_deleted ok outcome new q (not_grown g mid c (finds_bucket n pos one half left gone fills o is)) p =
       absurd (omega (
         arith,
         pos,
@@ -84,7 +75,7 @@ module _ {K V S H : Type 0} (rules : Rules K V S) (hash_of : H → K → ℕ) (p
         ap (λ st. length st.pairs) p.state,
         left_length rules hash_of pair old n mid left c gone,
       ))
-  only_deleted ok outcome new q (evicting f i l mid c (made_anew n pos one half left gone m)) p =
+  only_deleted ok outcome new q (not_grown g mid c (rehashes any n pos one half left gone m)) p =
       absurd (omega (
         arith,
         pos,

@@ -1,20 +1,19 @@
 -- Where each placing leaves nothing open, an insert does not either, as in tables of up to 16 buckets, memory aside.
-use Rattle.std.proofs.Common.{◌≡◌, ℕ, ◌+◌, ◌-◌, ◌/◌, ◌<◌, ◌≤◌, Bool, true, false, length, Option, Some, None, Result}
-use Rattle.std.proofs.Common.{Ok, sym, ap, ◌∙◌, subst, arith, le_of_eq}
+use Rattle.std.proofs.Common.{◌≡◌, ℕ, ◌+◌, ◌-◌, ◌/◌, ◌<◌, ◌≤◌, inl, inr, Bool, true, false, length, Option, Some, None}
+use Rattle.std.proofs.Common.{Result, Ok, refl, sym, ap, ◌∙◌, subst, arith, le_of_eq}
 use Rattle.std.specs.Prelude.{not, IsOk}
 use Rattle.lru_limits.specs.Rules.{Rules, Offers}
 use Rattle.group_table.specs.Sizes.{full_capacity}
 use Rattle.schnellru.specs.Lists.{is_empty, lookup_entry}
 use Rattle.schnellru.specs.State.{State, buckets, room, Contents, contents, Leaves, pops, trim}
-use Rattle.schnellru.specs.Place.{Place, first_table, first_denied, first_too_large, empty_with_room}
-use Rattle.schnellru.specs.Place.{empty_without_room, with_room, deleted_bucket, rehashed, grown, evicting}
-use Rattle.schnellru.specs.Place.{finds_bucket, made_anew}
+use Rattle.schnellru.specs.Place.{Place, in_bucket, rehashed, grown, not_grown}
+use Rattle.schnellru.specs.Place.{nothing_to_evict, finds_bucket, rehashes, FillsBucket}
 use Rattle.schnellru.specs.Place.{CannotGrow, no_target, denied, table_for, Outcome, placed, refused, no_memory}
-use Rattle.schnellru.specs.Place.{IsPlaced, IsPlacedIfMemory, asked, OldestLeave}
+use Rattle.schnellru.specs.Place.{IsPlaced, IsPlacedIfMemory, IsOutgrown, asked, OldestLeave}
 use Rattle.std.specs.declared.alloc.AllocError.{AllocError}
-use Rattle.std.proofs.lemmas.Bool.{eq-eqb, ne_eqb, lt-ltb, le-ltb, le-leb, lt-leb}
+use Rattle.std.proofs.lemmas.Bool.{lt-ltb, le-ltb, le-leb, lt-leb}
 use Rattle.schnellru.proofs.PairLists.Emptiness.{is_empty-some}
-use Rattle.schnellru.specs.Inserts.{Insert, replaced, given_up, no_memory_to_admit, not_admitted, admitted, make_way}
+use Rattle.schnellru.specs.Inserts.{Insert, replaced, given_up, no_memory_to_admit, not_admitted, admitted, make_room}
 use Rattle.schnellru.specs.Inserts.{with_replaced, Settles}
 use Rattle.schnellru.proofs.Maps.LeavingPairs.{oldest_leaves}
 use Rattle.schnellru.proofs.Maps.Outcomes.{ok-not_err}
@@ -46,19 +45,30 @@ module _ {K V S H : Type 0} (rules : Rules K V S) (hash_of : H → K → ℕ) (p
   abbrev pub here : Landing K V S
   here = landing rules pair (buckets old) (room old) old.entry_bytes old.max (contents old)
 
-  full_lands : 0 < length old.pairs → room old ≡ 0 → full_capacity (buckets old) / 2 < length old.pairs + 1 → here
-      ≡ grows rules pair (table_for 1 old) (contents old)
-  full_lands l r f = rw (
-    is_empty-some old.pairs l,
-    le-ltb 0 (room old) (le_of_eq r),
+  roomy_lands : (new : State K V S H) → FillsBucket (hash_of old.hasher pair.0) old new → here ≡ lands rules pair (contents old)
+  roomy_lands new (inl s) = rw (lt-ltb 0 (room old) (omega (arith, s.1))) refl
+  roomy_lands new (inr s) = absurd (omega (arith, small, s.1))
+
+  full_lands : IsOutgrown (hash_of old.hasher pair.0) old → here ≡ grows rules pair (table_for 1 old) (contents old)
+  full_lands b = rw (
+    le-ltb 0 (room old) (le_of_eq b.no_bucket.no_room),
     lt-leb (length old.pairs + 1)
-        (full_capacity (buckets old) / 2) f,
+        (full_capacity (buckets old) / 2) b.above_half,
   )
 
   evicts_from : (mid : State K V S H) → CannotGrow rules old mid → grows rules pair (table_for 1 old) (contents old)
       ≡ evicts rules pair (contents mid)
   evicts_from mid (no_target t e) = rw (t, e)
   evicts_from mid (denied count bytes t d e) = rw (t, d, e)
+
+  same_pairs : (mid : State K V S H) → CannotGrow rules old mid → mid.pairs ≡ old.pairs
+  same_pairs mid (no_target t e) = ap (λ st. st.pairs) e
+  same_pairs mid (denied count bytes t d e) = ap (λ st. st.pairs) e
+
+  -- with pairs the oldest is evicted
+  evicts_one : (mid : State K V S H) → CannotGrow rules old mid → 0 < length old.pairs
+      → evicts rules pair (contents mid) ≡ lands rules pair (pops rules 1 (contents mid))
+  evicts_one mid c some = rw (is_empty-some mid.pairs (omega (arith, ap length (same_pairs mid c), some))) refl
 
   one_left : (n : ℕ) (mid left : State K V S H) → n ≡ 1 → OldestLeave rules (hash_of old.hasher pair.0) n mid left
       → contents left ≡ pops rules 1 (contents mid)
@@ -67,43 +77,33 @@ module _ {K V S H : Type 0} (rules : Rules K V S) (hash_of : H → K → ℕ) (p
 
   pub place_lands : (outcome : Outcome) (new : State K V S H) → Place rules hash_of pair old outcome new
       → LandsAs rules pair here outcome new
-  place_lands outcome new (first_table e b bytes u g m) = rw (ap is_empty e, eq-eqb (buckets old) 0 b, u, g)
-      (if_memory rules pair (asked rules bytes old) _ _ _ outcome new m)
-  place_lands outcome new (first_denied e b bytes u d o n) = rw (ap is_empty e, eq-eqb (buckets old) 0 b, u, d, o)
-      (sym (ap (λ x. record { there = false; left = contents x }) n))
-  place_lands outcome new (first_too_large e b u o n) = rw (ap is_empty e, eq-eqb (buckets old) 0 b, u, o)
-      (sym (ap (λ x. record { there = false; left = contents x }) n))
-  place_lands outcome new (empty_with_room e b r s o n) = rw
-      (ap is_empty e, ne_eqb (buckets old) 0 (λ none. omega (arith, b, none)))
-      (is_placed rules pair old outcome new o n)
-  place_lands outcome new (empty_without_room e b r o n) = rw
-      (ap is_empty e, ne_eqb (buckets old) 0 (λ none. omega (arith, b, none)))
-      (is_placed rules pair old outcome new o n)
-  place_lands outcome new (with_room e r s o n) = rw (is_empty-some old.pairs e, lt-ltb 0 (room old) r)
-      (is_placed rules pair old outcome new o n)
-  place_lands outcome new (deleted_bucket f i b l o n) = absurd (omega (arith, small))
-  place_lands outcome new (rehashed f i l m) = rw (
-    is_empty-some old.pairs f.0,
-    le-ltb 0 (room old) (le_of_eq f.1),
+  place_lands outcome new (in_bucket l f s o n) = rw (roomy_lands new s) (is_placed rules pair old outcome new o n)
+  place_lands outcome new (rehashed b l some m) = rw (
+    le-ltb 0 (room old) (le_of_eq b.no_room),
     le-leb (length old.pairs + 1) (full_capacity (buckets old) / 2) l,
   ) (if_memory rules pair old _ _ _ outcome new m)
-  place_lands outcome new (grown f i l count bytes t g m) = rw (full_lands f.0 f.1 l, t, g)
+  place_lands outcome new (grown b count bytes t g m) = rw (full_lands b, t, g)
       (if_memory rules pair (asked rules bytes old) _ _ _ outcome new m)
-  place_lands outcome new (evicting f i l mid c (finds_bucket n pos one half left gone fills o p)) = rw
-      (full_lands f.0 f.1 l, evicts_from mid c) (subst (λ x. LandsAs rules pair (lands rules pair x) outcome new)
+  place_lands outcome new (not_grown b mid c (nothing_to_evict e o n)) = rw
+      (full_lands b, evicts_from mid c, ap is_empty (same_pairs mid c ∙ e), o)
+      (sym (ap (λ x. record { there = false; left = contents x }) n))
+  place_lands outcome new (not_grown b mid c (finds_bucket n pos one half left gone fills o p)) = rw
+      (full_lands b, evicts_from mid c, evicts_one mid c (omega (arith, pos, half)))
+      (subst (λ x. LandsAs rules pair (lands rules pair x) outcome new)
       (one_left n mid left (one small) gone) (is_placed rules pair left outcome new o p))
-  place_lands outcome new (evicting f i l mid c (made_anew n pos one half left gone m)) =
-      rw (full_lands f.0 f.1 l, evicts_from mid c) (subst (λ x. LandsAs rules pair (lands rules pair x) outcome new)
+  place_lands outcome new (not_grown b mid c (rehashes some n pos one half left gone m)) = rw
+      (full_lands b, evicts_from mid c, evicts_one mid c some)
+      (subst (λ x. LandsAs rules pair (lands rules pair x) outcome new)
       (one_left n mid left (one small) gone) (if_memory rules pair left _ _ _ outcome new m))
 
 module _ {K V S H : Type 0} (rules : Rules K V S) (hash_of : H → K → ℕ) (old : State K V S H) where
   -- up to 16 buckets a pair that the limiter gave lands as it is to, after way was made for it
   small_places : buckets old ≤ 16 → (s : S) (pair : K × V) (ready : State K V S H) →
-      let c = make_way rules (record { pairs = old.pairs; limiter = s }) in
+      let c = make_room rules (record { pairs = old.pairs; limiter = s }) in
       Leaves (record old { limiter = s }) c ready → (outcome : Outcome) (landed : State K V S H)
       → Place rules hash_of pair ready outcome landed → LandsAs rules pair (lands_in rules old pair c) outcome landed
   small_places small s pair ready l outcome landed p =
-      let c = make_way rules (record { pairs = old.pairs; limiter = s }) in
+      let c = make_room rules (record { pairs = old.pairs; limiter = s }) in
       let tiny : buckets ready ≤ 16 = omega (arith, l.room.table, small) in
       let same : contents ready ≡ c = ap contents l.is in
       let spare : room ready ≡ room old + length old.pairs - length c.pairs = omega

@@ -8,10 +8,10 @@ use Rattle.lru_limits.specs.Rules.{Rules, Offers}
 use Rattle.lru_limits.specs.Laws.{IsLookup, IsInsertion}
 use Rattle.schnellru.specs.State.{State, Contents, contents, pops, trim}
 use Rattle.schnellru.specs.Place.{Place, Outcome, placed, refused, no_memory}
-use Rattle.schnellru.specs.Inserts.{Insert, replaced, given_up, no_memory_to_admit, not_admitted, admitted, make_way}
+use Rattle.schnellru.specs.Inserts.{Insert, replaced, given_up, no_memory_to_admit, not_admitted, admitted, make_room}
 use Rattle.schnellru.specs.Inserts.{MayGive, replacement, with_replaced}
 use Rattle.schnellru.specs.Theorems.{GivesUp, behind, with_none, without_one}
-use Rattle.schnellru.proofs.Theorems.Moves.{KeepsWay, pops_keep, trim_keeps, make_way_keeps, settles_keep}
+use Rattle.schnellru.proofs.Theorems.Moves.{KeepsWay, pops_keep, trim_keeps, make_room_keeps, settles_keep}
 use Rattle.schnellru.proofs.Theorems.Ways.{Lands, place_lands}
 
 module _ {X : Type 0} where
@@ -86,8 +86,8 @@ module _ {K V S : Type 0} (rules : Rules K V S) where
   pub front_trim : (c : Contents K V S) → IsFront (trim rules c).pairs c.pairs
   front_trim = trim_keeps rules _ front_way
 
-  pub front_make_way : (c : Contents K V S) → IsFront (make_way rules c).pairs c.pairs
-  front_make_way = make_way_keeps rules _ front_way
+  pub front_make_room : (c : Contents K V S) → IsFront (make_room rules c).pairs c.pairs
+  front_make_room = make_room_keeps rules _ front_way
 
   -- a front part is left, or the new pair and one
   abbrev pub Ends : {H : Type 0} → K × V → State K V S H → State K V S H → Type 0
@@ -156,7 +156,7 @@ module _ {K V S H I : Type 0} {rules : Rules K V S} {offers : Offers K V S I} {n
     where
       ready_front : IsFront ready.pairs old.pairs
       ready_front = front_trans _ (front_same (ap (λ st. st.pairs) l.is))
-          (front_make_way rules (record { pairs = old.pairs; limiter = s }))
+          (front_make_room rules (record { pairs = old.pairs; limiter = s }))
 
       others : IsFront ready.pairs (without (names i) old.pairs)
       others = subst (IsFront ready.pairs) (sym (without_none (names i) old.pairs a)) ready_front

@@ -7,17 +7,15 @@ use native.Mathlib.Decide.{dec_lt}
 use Rattle.lru_limits.specs.Rules.{Rules, Offers}
 use Rattle.schnellru.specs.Sizes.{target, no_table}
 use Rattle.schnellru.specs.State.{State, Contents, contents, Leaves, pop}
-use Rattle.schnellru.specs.Place.{Place, first_table, first_denied, first_too_large, empty_with_room}
-use Rattle.schnellru.specs.Place.{empty_without_room, with_room, deleted_bucket, rehashed, grown, evicting}
+use Rattle.schnellru.specs.Place.{Place, in_bucket, rehashed, grown, not_grown}
 use Rattle.schnellru.specs.Place.{CannotGrow, no_target, denied, table_for, Outcome, placed, refused, no_memory, asked}
 use Rattle.schnellru.specs.Place.{IsPlaced, IsPlacedIfMemory}
-use Rattle.schnellru.specs.Inserts.{Insert, replaced, given_up, no_memory_to_admit, not_admitted, admitted, make_way}
+use Rattle.schnellru.specs.Inserts.{Insert, replaced, given_up, no_memory_to_admit, not_admitted, admitted, make_room}
 use Rattle.schnellru.specs.Inserts.{with_replaced, Settles, MayGive}
 use Rattle.schnellru.specs.Lists.{lookup_entry}
 use Rattle.schnellru.specs.Exact.{lands, turns_away, AlwaysGrants, HasTables, InsertsInList, ends, not_offered}
 use Rattle.schnellru.specs.Exact.{not_placed, IsEnding, trimmed}
 use Rattle.schnellru.proofs.Maps.LeavingPairs.{length-without_last}
-use Rattle.schnellru.proofs.TableSizes.Growth.{first_target-none}
 use Rattle.schnellru.proofs.Theorems.Exactness.{trimmed_ends}
 use Rattle.schnellru.proofs.Theorems.Moves.{left_are}
 
@@ -49,27 +47,16 @@ module _ {K V S H : Type 0} (rules : Rules K V S) (grants : AlwaysGrants rules) 
 
   pub place_granted : (outcome : Outcome) (new : State K V S H) → Place rules hash_of pair old outcome new
       → LandsBeside outcome new
-  place_granted outcome new (first_table e b bytes u g m) = if_memory (asked rules bytes old) (asked_same bytes) _ _ _
+  place_granted outcome new (in_bucket l f s o n) = is_placed _ _ _ outcome new o n
+  place_granted outcome new (rehashed b l some m) = if_memory old refl _ _ _ outcome new m
+  place_granted outcome new (grown g count bytes t y m) = if_memory (asked rules bytes old) (asked_same bytes) _ _ _
       outcome new m
-  place_granted outcome new (first_denied e b bytes u d o n) = absurd
-      (true≢false (sym (grants old.limiter bytes).0 ∙ d))
-  place_granted outcome new (first_too_large e b u o n) = absurd
-      (tables (ap (λ k. target old.max old.entry_bytes k (length old.pairs + 1)) b
-      ∙ ap (λ pairs. target old.max old.entry_bytes 0 (length pairs + 1)) e
-      ∙ first_target-none old.max old.entry_bytes u))
-  place_granted outcome new (empty_with_room e b r s o n) = is_placed _ _ _ outcome new o n
-  place_granted outcome new (empty_without_room e b r o n) = is_placed _ _ _ outcome new o n
-  place_granted outcome new (with_room e r s o n) = is_placed _ _ _ outcome new o n
-  place_granted outcome new (deleted_bucket f i b l o n) = is_placed _ _ _ outcome new o n
-  place_granted outcome new (rehashed f i l m) = if_memory old refl _ _ _ outcome new m
-  place_granted outcome new (grown f i l count bytes t g m) = if_memory (asked rules bytes old) (asked_same bytes) _ _ _
-      outcome new m
-  place_granted outcome new (evicting f i l mid c e) = no_refusal mid c
+  place_granted outcome new (not_grown g mid c e) = no_refusal mid c
 
 module _ {K V S H : Type 0} (rules : Rules K V S) (old : State K V S H) where
   -- after way was made, there is one pair more to come than there were, or as many as there were
-  way_length : (c : Contents K V S) → (length (make_way rules c).pairs ≡ length c.pairs)
-      ⊎ (length (make_way rules c).pairs + 1 ≡ length c.pairs)
+  way_length : (c : Contents K V S) → (length (make_room rules c).pairs ≡ length c.pairs)
+      ⊎ (length (make_room rules c).pairs + 1 ≡ length c.pairs)
   way_length c = go (rules.is_over_the_limit c.limiter (length c.pairs + 1))
     where
       go : (b : Bool) → (length (cond b (pop rules c) c).pairs ≡ length c.pairs)
@@ -82,10 +69,10 @@ module _ {K V S H : Type 0} (rules : Rules K V S) (old : State K V S H) where
 
   -- so there is a table for the pair
   way_tables : HasTables old → (s : S) (ready : State K V S H)
-      → Leaves (record old { limiter = s }) (make_way rules (record { pairs = old.pairs; limiter = s })) ready
+      → Leaves (record old { limiter = s }) (make_room rules (record { pairs = old.pairs; limiter = s })) ready
       → table_for 1 ready ≢ no_table
   way_tables tables s ready l =
-      let c = make_way rules (record { pairs = old.pairs; limiter = s }) in
+      let c = make_room rules (record { pairs = old.pairs; limiter = s }) in
       let left : length ready.pairs ≡ length c.pairs = ap (λ st. length st.pairs) l.is in
       let goes : (n : ℕ) → n ≡ length ready.pairs + 1 → target old.max old.entry_bytes (length old.marks) n ≢ no_table
       → table_for 1 ready ≢ no_table =
@@ -103,7 +90,7 @@ module _ {K V S H I : Type 0} (rules : Rules K V S) (offers : Offers K V S I) (n
 
   settles : lookup_entry (names i) old.pairs ≡ None → (s : S)
       → (pair : K × V) → MayGive rules offers names i v (contents old) s (Some pair) → (ready : State K V S H)
-      → contents ready ≡ make_way rules (record { pairs = old.pairs; limiter = s })
+      → contents ready ≡ make_room rules (record { pairs = old.pairs; limiter = s })
       → (tables : table_for 1 ready ≢ no_table) (grants : AlwaysGrants rules) (hash_of : H → K → ℕ)
       (outcome : Outcome) (landed : State K V S H)
       → LandsBeside rules grants hash_of pair ready tables outcome landed → Settles rules outcome landed result new

@@ -6,11 +6,10 @@ use Rattle.std.specs.declared.alloc.AllocError.{AllocError}
 use Rattle.lru_limits.specs.Rules.{Rules, Offers}
 use Rattle.schnellru.specs.Lists.{last, without_last}
 use Rattle.schnellru.specs.State.{State, Contents, contents, Leaves, told_of, pop, trim, trim_from}
-use Rattle.schnellru.specs.Place.{Place, first_table, first_denied, first_too_large, empty_with_room}
-use Rattle.schnellru.specs.Place.{empty_without_room, with_room, deleted_bucket, rehashed, grown, evicting}
-use Rattle.schnellru.specs.Place.{Evicts, finds_bucket, made_anew, CannotGrow, no_target, denied, OldestLeave}
+use Rattle.schnellru.specs.Place.{Place, in_bucket, rehashed, grown, not_grown}
+use Rattle.schnellru.specs.Place.{Evicts, nothing_to_evict, finds_bucket, rehashes, CannotGrow, no_target, denied, OldestLeave}
 use Rattle.schnellru.specs.Place.{Outcome, placed, refused, no_memory, IsPlaced, IsPlacedIfMemory, turned_away, asked}
-use Rattle.schnellru.specs.Inserts.{Insert, replaced, given_up, no_memory_to_admit, not_admitted, admitted, make_way}
+use Rattle.schnellru.specs.Inserts.{Insert, replaced, given_up, no_memory_to_admit, not_admitted, admitted, make_room}
 use Rattle.schnellru.specs.Inserts.{Settles, PlacesNew, with_replaced, with_given_up}
 use Rattle.schnellru.specs.HandedOver.{noting, noting_offers, noted, InsertHands}
 use Rattle.schnellru.proofs.Theorems.Limits.{length-without}
@@ -41,7 +40,7 @@ module _ {K V S : Type 0} (rules : Rules K V S) where
   either_keeps true c d n e f = e
   either_keeps false c d n e f = f
 
-  way_keeps : (c : Contents K V (S × List (K × V))) → in_all (make_way (noting rules) c) ≡ in_all c
+  way_keeps : (c : Contents K V (S × List (K × V))) → in_all (make_room (noting rules) c) ≡ in_all c
   way_keeps c = either_keeps (rules.is_over_the_limit c.limiter.0 (length c.pairs + 1)) (pop (noting rules) c) c
       (in_all c) (pop_keeps c) refl
 
@@ -91,28 +90,21 @@ module _ {K V S H : Type 0} (rules : Rules K V S) where
   evicts_adds : (hash : ℕ) (pair : K × V) (old mid : State K V (S × List (K × V)) H) (outcome : Outcome)
       (new : State K V (S × List (K × V)) H) → Evicts (noting rules) hash pair old mid outcome new
       → in_map new ≡ in_map mid + 1
+  evicts_adds hash pair old mid outcome new (nothing_to_evict e o n) = ap in_map n ∙ away_adds pair mid
   evicts_adds hash pair old mid outcome new (finds_bucket n pos one half left gone fills o p) =
       placed_adds pair _ _ _ left new p ∙ ap (λ n. n + 1) (gone_keeps hash n mid left gone)
-  evicts_adds hash pair old mid outcome new (made_anew n pos one half left gone m) =
+  evicts_adds hash pair old mid outcome new (rehashes some n pos one half left gone m) =
       memory_adds pair _ _ _ left outcome new m ∙ ap (λ n. n + 1) (gone_keeps hash n mid left gone)
 
   module _ (hash_of : H → K → ℕ) where
     place_adds : (pair : K × V) (old : State K V (S × List (K × V)) H) (outcome : Outcome)
         (new : State K V (S × List (K × V)) H) → Place (noting rules) hash_of pair old outcome new
         → in_map new ≡ in_map old + 1
-    place_adds pair old outcome new (first_table e b bytes u g m) =
+    place_adds pair old outcome new (in_bucket l f s o p) = placed_adds pair _ _ _ old new p
+    place_adds pair old outcome new (rehashed b l some m) = memory_adds pair _ _ _ old outcome new m
+    place_adds pair old outcome new (grown g count bytes t y m) =
         memory_adds pair _ _ _ (asked (noting rules) bytes old) outcome new m
-    place_adds pair old outcome new (first_denied e b bytes u d o n) =
-        ap in_map n ∙ away_adds pair (asked (noting rules) bytes old)
-    place_adds pair old outcome new (first_too_large e b u o n) = ap in_map n ∙ away_adds pair old
-    place_adds pair old outcome new (empty_with_room e b r f o p) = placed_adds pair _ _ _ old new p
-    place_adds pair old outcome new (empty_without_room e b r o p) = placed_adds pair _ _ _ old new p
-    place_adds pair old outcome new (with_room s r f o p) = placed_adds pair _ _ _ old new p
-    place_adds pair old outcome new (deleted_bucket l f b s o p) = placed_adds pair _ _ _ old new p
-    place_adds pair old outcome new (rehashed l f h m) = memory_adds pair _ _ _ old outcome new m
-    place_adds pair old outcome new (grown l f h count bytes t g m) =
-        memory_adds pair _ _ _ (asked (noting rules) bytes old) outcome new m
-    place_adds pair old outcome new (evicting l f h mid cannot e) =
+    place_adds pair old outcome new (not_grown g mid cannot e) =
         evicts_adds _ pair old mid outcome new e ∙ ap (λ n. n + 1) (cannot_keeps old mid cannot)
 
     settles_keeps : (outcome : Outcome) (landed : State K V (S × List (K × V)) H) (result : Result Bool AllocError)
@@ -128,7 +120,7 @@ module _ {K V S H : Type 0} (rules : Rules K V S) where
         → in_map new ≡ in_map old + 1
     places_adds pair old result new (ready, way, (outcome, landed, place, settles)) =
         settles_keeps outcome landed result new settles ∙ place_adds pair ready outcome landed place
-        ∙ ap (λ n. n + 1) (left_is old ready (make_way (noting rules) (contents old)) way
+        ∙ ap (λ n. n + 1) (left_is old ready (make_room (noting rules) (contents old)) way
         ∙ way_keeps rules (contents old))
 
 module _ {K V S H I : Type 0} (rules : Rules K V S) (offers : Offers K V S I) (names : I → K → Bool)

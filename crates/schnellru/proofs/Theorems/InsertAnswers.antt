@@ -17,7 +17,7 @@ use Rattle.schnellru.specs.Theorems.{IsNewest, SaysWhether, Stores, left, given,
 use Rattle.schnellru.proofs.Maps.LeavingPairs.{length-without_last}
 use Rattle.schnellru.proofs.Maps.Outcomes.{ok-not_err, same_kept}
 use Rattle.schnellru.proofs.Theorems.Fronts.{front_first, front_way, front_same, front_trans, front_trim}
-use Rattle.schnellru.proofs.Theorems.Fronts.{front_make_way, front_absent, front_cons, given_named, replaced_named}
+use Rattle.schnellru.proofs.Theorems.Fronts.{front_make_room, front_absent, front_cons, given_named, replaced_named}
 use Rattle.schnellru.proofs.Theorems.Ways.{Lands, place_lands}
 use Rattle.schnellru.proofs.PairLists.DistinctKeys.{AreDistinct, absent_without}
 
@@ -145,7 +145,7 @@ module _ {K V S H I : Type 0} {rules : Rules K V S} {offers : Offers K V S I} {n
       settled_says rules (names i) hash_of pair ready outcome landed result new
       (given_named rules offers names looks_up laws i v old s pair n)
       (front_absent (names i) ready.pairs old.pairs (front_trans _ (front_same (ap (λ st. st.pairs) l.is))
-      (front_make_way rules (record { pairs = old.pairs; limiter = s }))) a)
+      (front_make_room rules (record { pairs = old.pairs; limiter = s }))) a)
       (place_comes rules hash_of pair ready outcome landed p) t
 
 module _ {K V S H I : Type 0} {rules : Rules K V S} {offers : Offers K V S I} {names : I → K → Bool} {i : I} {v : V}

@@ -6,13 +6,12 @@ use Rattle.std.specs.declared.alloc.AllocError.{AllocError}
 use Rattle.group_table.specs.Bucket.{Mark, room as room_of}
 use Rattle.lru_limits.specs.Rules.{Rules, Offers}
 use Rattle.schnellru.specs.State.{State, buckets, room}
-use Rattle.schnellru.specs.Place.{Place, first_table, first_denied, first_too_large, empty_with_room}
-use Rattle.schnellru.specs.Place.{empty_without_room, with_room, deleted_bucket, rehashed, grown, evicting}
-use Rattle.schnellru.specs.Place.{finds_bucket, made_anew, Outcome, placed, refused, no_memory}
-use Rattle.schnellru.specs.Inserts.{Insert, replaced, given_up, no_memory_to_admit, not_admitted, admitted, make_way}
+use Rattle.schnellru.specs.Place.{Place, in_bucket, rehashed, grown, not_grown}
+use Rattle.schnellru.specs.Place.{nothing_to_evict, finds_bucket, rehashes, Outcome, placed, refused, no_memory}
+use Rattle.schnellru.specs.Inserts.{Insert, replaced, given_up, no_memory_to_admit, not_admitted, admitted, make_room}
 use Rattle.schnellru.specs.Inserts.{Settles, IsShort, LacksMemory}
 use Rattle.schnellru.specs.Lists.{IsFront}
-use Rattle.schnellru.proofs.Theorems.Fronts.{front_same, front_trans, front_make_way}
+use Rattle.schnellru.proofs.Theorems.Fronts.{front_same, front_trans, front_make_room}
 use Rattle.schnellru.proofs.Theorems.InsertAnswers.{place_comes}
 use Rattle.schnellru.proofs.Maps.Outcomes.{placed-not_no_memory, refused-not_no_memory, ok-not_err}
 use Rattle.schnellru.proofs.TableSizes.Growth.{full_capacity-at_most}
@@ -29,18 +28,14 @@ module _ {K V S H : Type 0} (rules : Rules K V S) (hash_of : H → K → ℕ) (p
 
   pub place_lacks : (new : State K V S H) (outcome : Outcome) → outcome ≡ no_memory
       → Place rules hash_of pair old outcome new → LacksTable
-  place_lacks new outcome q (first_table e b bytes u g m) = (no_room old.marks b, inl b)
-  place_lacks new outcome q (first_denied e b bytes u d o n) = refused-not_no_memory (sym o ∙ q)
-  place_lacks new outcome q (first_too_large e b u o n) = refused-not_no_memory (sym o ∙ q)
-  place_lacks new outcome q (empty_with_room e b r s o n) = placed-not_no_memory (sym o ∙ q)
-  place_lacks new outcome q (empty_without_room e b r o n) = placed-not_no_memory (sym o ∙ q)
-  place_lacks new outcome q (with_room e r s o n) = placed-not_no_memory (sym o ∙ q)
-  place_lacks new outcome q (deleted_bucket f i b l o n) = placed-not_no_memory (sym o ∙ q)
-  place_lacks new outcome q (rehashed f i l m) = (f.1, inr f.0)
-  place_lacks new outcome q (grown f i l count bytes t g m) = (f.1, inr f.0)
-  place_lacks new outcome q (evicting f i l mid c (finds_bucket n pos one half left gone fills o p)) =
+  place_lacks new outcome q (in_bucket l f s o n) = placed-not_no_memory (sym o ∙ q)
+  place_lacks new outcome q (rehashed b l some m) = (b.no_room, inr (some q))
+  place_lacks new outcome q (grown b count bytes t g m) = (b.no_bucket.no_room, b.begun)
+  place_lacks new outcome q (not_grown b mid c (nothing_to_evict e o n)) = refused-not_no_memory (sym o ∙ q)
+  place_lacks new outcome q (not_grown b mid c (finds_bucket n pos one half left gone fills o p)) =
       placed-not_no_memory (sym o ∙ q)
-  place_lacks new outcome q (evicting f i l mid c (made_anew n pos one half left gone m)) = (f.1, inr f.0)
+  place_lacks new outcome q (not_grown b mid c (rehashes some n pos one half left gone m)) =
+      (b.no_bucket.no_room, inr some)
 
 module _ {K V S H I : Type 0} {rules : Rules K V S} {offers : Offers K V S I} {names : I → K → Bool}
     {hash_of : H → K → ℕ} {i : I} {v : V} {old : State K V S H} {result : Result Bool AllocError}
@@ -64,7 +59,7 @@ module _ {K V S H I : Type 0} {rules : Rules K V S} {offers : Offers K V S I} {n
       }
         where
           side : (buckets ready ≡ 0) ⊎ (0 < length ready.pairs) → (buckets old ≡ 0)
-              ⊎ (0 < length (make_way rules (record { pairs = old.pairs; limiter = s })).pairs)
+              ⊎ (0 < length (make_room rules (record { pairs = old.pairs; limiter = s })).pairs)
           side (inl b) = inl (sym l.room.table ∙ b)
           side (inr f) = inr (subst (λ ps. 0 < length ps) (ap (λ st. st.pairs) l.is) f)
 
@@ -89,7 +84,7 @@ module _ {K V S H I : Type 0} {rules : Rules K V S} {offers : Offers K V S I} {n
       go no_memory p t = front_trans _ (front_same (ap (λ st. st.pairs) t.1))
           (front_trans _ (place_comes rules hash_of pair ready no_memory landed p)
           (front_trans _ (front_same (ap (λ st. st.pairs) l.is))
-          (front_make_way rules (record { pairs = old.pairs; limiter = s }))))
+          (front_make_room rules (record { pairs = old.pairs; limiter = s }))))
 
 -- what an error implies, of a result that may be one
 pub on_err : {A : Type 0} (result : Result Bool AllocError) → (IsErr result → A) → OnErr result A

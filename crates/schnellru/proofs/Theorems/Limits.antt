@@ -17,7 +17,7 @@ use Rattle.schnellru.proofs.TableSizes.Budgets.{usage_fewer}
 use Rattle.schnellru.proofs.Theorems.Moves.{KeepsOffers, left_are}
 use Rattle.schnellru.proofs.Theorems.TableGrowth.{Tables, IsNextCount}
 use Rattle.schnellru.proofs.Theorems.Ways.{insert_changes}
-use Rattle.schnellru.proofs.Theorems.Fronts.{front_make_way}
+use Rattle.schnellru.proofs.Theorems.Fronts.{front_make_room}
 use Rattle.schnellru.proofs.Theorems.Sums.{total, total-least, split-least, split_named}
 use Rattle.schnellru.proofs.Theorems.InsertAnswers.{IsWithin, trim_ends, Comes, place_comes}
 
@@ -80,7 +80,7 @@ module _ {K V : Type 0} (f : K × V → ℕ) where
         fewer = omega (
           arith,
           ap (λ st. total f st.pairs) l.is,
-          total-least f _ old.pairs (front_make_way rules (record { pairs = old.pairs; limiter = s })),
+          total-least f _ old.pairs (front_make_room rules (record { pairs = old.pairs; limiter = s })),
         )
 
         settled : (outcome : Outcome) → Comes rules hash_of pair ready outcome landed

@@ -11,7 +11,7 @@ use Rattle.schnellru.specs.Lists.{front, lookup_entry, without}
 use Rattle.schnellru.specs.State.{State, Contents, contents, Leaves, pop, pops, trim, trim_from}
 use Rattle.schnellru.specs.Place.{Outcome, placed, refused, no_memory}
 use Rattle.schnellru.specs.Calls.{removal}
-use Rattle.schnellru.specs.Inserts.{make_way, Settles}
+use Rattle.schnellru.specs.Inserts.{make_room, Settles}
 
 module _ {K V S : Type 0} where
   -- a pair comes first
@@ -106,8 +106,8 @@ module _ {K V S : Type 0} (rules : Rules K V S) (R : Contents K V S → Contents
   unfolding trim
   trim_keeps c = trim_from_keeps (length c.pairs) c
 
-  pub make_way_keeps : (c : Contents K V S) → R c (make_way rules c)
-  make_way_keeps c = go (rules.is_over_the_limit c.limiter (length c.pairs + 1))
+  pub make_room_keeps : (c : Contents K V S) → R c (make_room rules c)
+  make_room_keeps c = go (rules.is_over_the_limit c.limiter (length c.pairs + 1))
     where
       go : (b : Bool) → R c (cond b (pop rules c) c)
       go true = k.popped c

@@ -6,11 +6,10 @@ use Rattle.std.specs.declared.alloc.AllocError.{AllocError}
 use Rattle.lru_limits.specs.Rules.{Rules, Offers}
 use Rattle.schnellru.specs.Lists.{last}
 use Rattle.schnellru.specs.State.{State, Contents, contents, FreesRoom, Leaves, told_of, pop, trim, trim_from}
-use Rattle.schnellru.specs.Place.{Place, first_table, first_denied, first_too_large, empty_with_room}
-use Rattle.schnellru.specs.Place.{empty_without_room, with_room, deleted_bucket, rehashed, grown, evicting}
-use Rattle.schnellru.specs.Place.{Evicts, finds_bucket, made_anew, CannotGrow, no_target, denied, OldestLeave}
-use Rattle.schnellru.specs.Place.{Outcome, placed, refused, no_memory, IsPlaced, IsPlacedIfMemory}
-use Rattle.schnellru.specs.Inserts.{Insert, replaced, given_up, no_memory_to_admit, not_admitted, admitted, make_way}
+use Rattle.schnellru.specs.Place.{Place, in_bucket, rehashed, grown, not_grown}
+use Rattle.schnellru.specs.Place.{Evicts, nothing_to_evict, finds_bucket, rehashes, CannotGrow, no_target, denied, OldestLeave}
+use Rattle.schnellru.specs.Place.{Outcome, placed, refused, no_memory, IsPlaced, IsPlacedIfMemory, HasNoBucket, IsOutgrown}
+use Rattle.schnellru.specs.Inserts.{Insert, replaced, given_up, no_memory_to_admit, not_admitted, admitted, make_room}
 use Rattle.schnellru.specs.Inserts.{Settles, PlacesNew}
 use Rattle.schnellru.specs.HandedOver.{noting, noting_offers, noted}
 
@@ -49,9 +48,9 @@ module _ {K V S : Type 0} (rules : Rules K V S) where
   plain_if true c d p q e f = e
   plain_if false c d p q e f = f
 
-  plain_make_way : (c : Contents K V (S × List (K × V)))
-      → plain_contents (make_way (noting rules) c) ≡ make_way rules (plain_contents c)
-  plain_make_way c = plain_if (rules.is_over_the_limit c.limiter.0 (length c.pairs + 1)) (pop (noting rules) c) c
+  plain_make_room : (c : Contents K V (S × List (K × V)))
+      → plain_contents (make_room (noting rules) c) ≡ make_room rules (plain_contents c)
+  plain_make_room c = plain_if (rules.is_over_the_limit c.limiter.0 (length c.pairs + 1)) (pop (noting rules) c) c
       (pop rules (plain_contents c)) (plain_contents c) (plain_pop c) refl
 
   plain_trim_from : (n : ℕ) (c : Contents K V (S × List (K × V)))
@@ -81,6 +80,15 @@ module _ {K V S H : Type 0} where
       (c : Contents K V S) → plain_contents left ≡ c → Leaves old left new → Leaves (plain old) c (plain new)
   plain_leaves old new left c e leaves = subst (λ c. Leaves (plain old) c (plain new)) e
       (record { is = ap plain leaves.is; room = plain_room old new leaves.room })
+
+  plain_no_bucket : {hash : ℕ} (old : State K V (S × List (K × V)) H) → HasNoBucket hash old
+      → HasNoBucket hash (plain old)
+  plain_no_bucket old b = record { no_room = b.no_room; first_empty = b.first_empty }
+
+  plain_outgrown : {hash : ℕ} (old : State K V (S × List (K × V)) H) → IsOutgrown hash old
+      → IsOutgrown hash (plain old)
+  plain_outgrown old g =
+      record { no_bucket = plain_no_bucket old g.no_bucket; above_half = g.above_half; begun = g.begun }
 
   plain_placed : (pair : K × V) (count spare moves : ℕ) (old new : State K V (S × List (K × V)) H)
       → IsPlaced pair count spare moves old new → IsPlaced pair count spare moves (plain old) (plain new)
@@ -117,34 +125,25 @@ module _ {K V S H : Type 0} (rules : Rules K V S) where
   plain_evicts : (hash : ℕ) (pair : K × V) (old mid : State K V (S × List (K × V)) H) (outcome : Outcome)
       (new : State K V (S × List (K × V)) H) → Evicts (noting rules) hash pair old mid outcome new
       → Evicts rules hash pair (plain old) (plain mid) outcome (plain new)
+  plain_evicts hash pair old mid outcome new (nothing_to_evict e o n) = nothing_to_evict e o (ap plain n)
   plain_evicts hash pair old mid outcome new (finds_bucket n pos one half left gone fills o p) =
       finds_bucket n pos one half (plain left) (plain_gone hash n mid left gone) fills o
       (plain_placed pair _ _ _ left new p)
-  plain_evicts hash pair old mid outcome new (made_anew n pos one half left gone m) =
-      made_anew n pos one half (plain left) (plain_gone hash n mid left gone)
+  plain_evicts hash pair old mid outcome new (rehashes some n pos one half left gone m) =
+      rehashes some n pos one half (plain left) (plain_gone hash n mid left gone)
       (plain_if_memory pair _ _ _ left outcome new m)
 
   module _ (hash_of : H → K → ℕ) where
     plain_place : (pair : K × V) (old : State K V (S × List (K × V)) H) (outcome : Outcome)
         (new : State K V (S × List (K × V)) H) → Place (noting rules) hash_of pair old outcome new
         → Place rules hash_of pair (plain old) outcome (plain new)
-    plain_place pair old outcome new (first_table e b bytes u g m) =
-        first_table e b bytes u g (plain_if_memory pair 4 2 0 _ outcome new m)
-    plain_place pair old outcome new (first_denied e b bytes u d o n) = first_denied e b bytes u d o (ap plain n)
-    plain_place pair old outcome new (first_too_large e b u o n) = first_too_large e b u o (ap plain n)
-    plain_place pair old outcome new (empty_with_room e b r f o p) =
-        empty_with_room e b r f o (plain_placed pair _ _ _ old new p)
-    plain_place pair old outcome new (empty_without_room e b r o p) =
-        empty_without_room e b r o (plain_placed pair _ _ _ old new p)
-    plain_place pair old outcome new (with_room s r f o p) = with_room s r f o (plain_placed pair _ _ _ old new p)
-    plain_place pair old outcome new (deleted_bucket l f b s o p) =
-        deleted_bucket l f b s o (plain_placed pair _ _ _ old new p)
-    plain_place pair old outcome new (rehashed l f h m) =
-        rehashed l f h (plain_if_memory pair _ _ _ old outcome new m)
-    plain_place pair old outcome new (grown l f h count bytes t g m) =
-        grown l f h count bytes t g (plain_if_memory pair count _ _ _ outcome new m)
-    plain_place pair old outcome new (evicting l f h mid cannot e) =
-        evicting l f h (plain mid) (plain_cannot old mid cannot) (plain_evicts _ pair old mid outcome new e)
+    plain_place pair old outcome new (in_bucket l f s o p) = in_bucket l f s o (plain_placed pair _ _ _ old new p)
+    plain_place pair old outcome new (rehashed b l some m) =
+        rehashed (plain_no_bucket old b) l some (plain_if_memory pair _ _ _ old outcome new m)
+    plain_place pair old outcome new (grown g count bytes t y m) =
+        grown (plain_outgrown old g) count bytes t y (plain_if_memory pair count _ _ _ outcome new m)
+    plain_place pair old outcome new (not_grown g mid cannot e) = not_grown (plain_outgrown old g) (plain mid)
+        (plain_cannot old mid cannot) (plain_evicts _ pair old mid outcome new e)
 
     plain_settles : (outcome : Outcome) (landed : State K V (S × List (K × V)) H) (result : Result Bool AllocError)
         (new : State K V (S × List (K × V)) H) → Settles (noting rules) outcome landed result new
@@ -162,8 +161,8 @@ module _ {K V S H : Type 0} (rules : Rules K V S) where
         → PlacesNew rules hash_of pair (plain old) result (plain new)
     plain_places pair old result new (ready, way, (outcome, landed, place, settles)) = (
       plain ready,
-      plain_leaves old ready (make_way (noting rules) (contents old)) (make_way rules (contents (plain old)))
-          (plain_make_way rules (contents old)) way,
+      plain_leaves old ready (make_room (noting rules) (contents old)) (make_room rules (contents (plain old)))
+          (plain_make_room rules (contents old)) way,
       (
         outcome,
         plain landed,

@@ -1,5 +1,5 @@
 -- Which pairs a placing keeps where growth is refused, and where it is not.
-use Rattle.std.proofs.Common.{◌≡◌, ◌≢◌, ℕ, suc, ◌+◌, ◌-◌, ◌/◌, ◌<◌, ◌≤◌, ◌⊎◌, inl, inr, [], ◌∷◌, length}
+use Rattle.std.proofs.Common.{◌≡◌, ◌≢◌, ℕ, suc, ◌+◌, ◌-◌, ◌/◌, ◌<◌, ◌≤◌, ◌⊎◌, inl, inr, ◌∷◌, length}
 use Rattle.std.proofs.Common.{refl, sym, ap, ◌∙◌, arith}
 use Rattle.std.proofs.lemmas.Bool.{true≢false}
 use Rattle.group_table.specs.Sizes.{full_capacity}
@@ -7,11 +7,10 @@ use Rattle.lru_limits.specs.Rules.{Rules}
 use Rattle.schnellru.specs.Lists.{without_last}
 use Rattle.schnellru.specs.State.{State, buckets, contents, pops}
 use Rattle.schnellru.specs.Sizes.{no_table, new_table}
-use Rattle.schnellru.specs.Place.{Place, first_table, first_denied, first_too_large, empty_with_room}
-use Rattle.schnellru.specs.Place.{empty_without_room, with_room, deleted_bucket, rehashed, grown, evicting}
-use Rattle.schnellru.specs.Place.{finds_bucket, made_anew}
+use Rattle.schnellru.specs.Place.{Place, in_bucket, rehashed, grown, not_grown}
+use Rattle.schnellru.specs.Place.{nothing_to_evict, finds_bucket, rehashes}
 use Rattle.schnellru.specs.Place.{CannotGrow, no_target, denied, Outcome, placed, refused, no_memory, IsPlaced}
-use Rattle.schnellru.specs.Place.{IsPlacedIfMemory, Grants, asked, table_for, LacksRoom, OldestLeave}
+use Rattle.schnellru.specs.Place.{IsPlacedIfMemory, Grants, asked, table_for, LacksRoom, FillsBucket, OldestLeave}
 use Rattle.schnellru.specs.Theorems.{IsRefusedGrowth}
 use Rattle.schnellru.proofs.Maps.Outcomes.{placed-not_no_memory, refused-not_no_memory, refused-not_placed}
 use Rattle.schnellru.proofs.Maps.LeavingPairs.{length-pops, known_is, oldest_leaves}
@@ -40,10 +39,6 @@ module _ {K V S H : Type 0} (rules : Rules K V S) (hash_of : H → K → ℕ) (p
   left_if st new count spare moves placed o h = placed-not_no_memory o
   left_if st new count spare moves no_memory o h = ap (λ x. x.pairs) h
   left_if st new count spare moves refused o h = absurd h
-
-  -- with pairs and no room there are pairs
-  with_pairs : {A : Type 0} → old.pairs ≡ [] → IsRefusedGrowth rules old → A
-  with_pairs e r = absurd (omega (arith, ap length e, r.lacks_room.0))
 
   -- what the limiter grants is not refused
   not_granted : {A : Type 0} (count bytes : ℕ) → table_for 1 old ≡ new_table count bytes → Grants rules bytes old
@@ -88,79 +83,62 @@ module _ {K V S H : Type 0} (rules : Rules K V S) (hash_of : H → K → ℕ) (p
   -- a pair is placed beside all others, or growth is refused and the oldest give way
   pub place_keeps : (outcome : Outcome) (new : State K V S H) → outcome ≡ placed
       → Place rules hash_of pair old outcome new → KeepsAll new ⊎ (IsRefusedGrowth rules old × GivesWay new)
-  place_keeps outcome new q (first_table e b bytes u g m) = inl
-      (record {
-        pairs = ap (λ st. st.pairs) (placed_if (asked rules bytes old) new _ _ _ outcome q m).state;
-        large = with_pairs e;
-      })
-  place_keeps outcome new q (first_denied e b bytes u d o n) = refused-not_placed (sym o ∙ q)
-  place_keeps outcome new q (first_too_large e b u o n) = refused-not_placed (sym o ∙ q)
-  place_keeps outcome new q (empty_with_room e b r s o n) = inl
-      (record { pairs = ap (λ st. st.pairs) n.state; large = with_pairs e })
-  place_keeps outcome new q (empty_without_room e b r o n) = inl
-      (record { pairs = ap (λ st. st.pairs) n.state; large = with_pairs e })
-  place_keeps outcome new q (with_room e r s o n) = inl
-      (record {
-        pairs = ap (λ st. st.pairs) n.state;
-        large = λ refusal. absurd (omega (arith, r, refusal.lacks_room.1));
-      })
-  place_keeps outcome new q (deleted_bucket f i b l o n) = inl
-      (record { pairs = ap (λ st. st.pairs) n.state; large = λ refusal. b })
-  place_keeps outcome new q (rehashed f i l m) =
+  place_keeps outcome new q (in_bucket l f s o n) = inl (record { pairs = ap (λ st. st.pairs) n.state; large = large s })
+    where
+      large : FillsBucket (hash_of old.hasher pair.0) old new → IsRefusedGrowth rules old → 16 < buckets old
+      large (inl s) refusal = absurd (omega (arith, s.1, refusal.lacks_room.1))
+      large (inr s) refusal = s.1
+  place_keeps outcome new q (rehashed b l some m) =
       inl (record {
         pairs = ap (λ st. st.pairs) (placed_if old new _ _ _ outcome q m).state;
         large = λ refusal. absurd (omega (arith, l, refusal.above_half));
       })
-  place_keeps outcome new q (grown f i l count bytes t g m) =
+  place_keeps outcome new q (grown b count bytes t g m) =
       inl (record {
         pairs = ap (λ st. st.pairs) (placed_if (asked rules bytes old) new _ _ _ outcome q m).state;
         large = λ refusal. not_granted count bytes t g refusal.known refusal.refused;
       })
-  place_keeps outcome new q (evicting f i l mid c (finds_bucket n pos one half left gone fills o p)) =
-      gives_way f l mid c n one left gone new (λ taken. omega (arith, half, taken))
-      (ap (λ st. st.pairs) p.state) p.table
-  place_keeps outcome new q (evicting f i l mid c (made_anew n pos one half left gone m)) =
+  place_keeps outcome new q (not_grown b mid c (nothing_to_evict e o n)) = refused-not_placed (sym o ∙ q)
+  place_keeps outcome new q (not_grown b mid c (finds_bucket n pos one half left gone fills o p)) =
+      gives_way (omega (arith, pos, half), b.no_bucket.no_room) b.above_half mid c n one left gone new
+      (λ taken. omega (arith, half, taken)) (ap (λ st. st.pairs) p.state) p.table
+  place_keeps outcome new q (not_grown b mid c (rehashes some n pos one half left gone m)) =
       let p = placed_if left new _ _ _ outcome q m in
-      gives_way f l mid c n one left gone new (λ taken. omega (arith, half, taken))
-      (ap (λ st. st.pairs) p.state) p.table
+      gives_way (some, b.no_bucket.no_room) b.above_half mid c n one left gone new
+      (λ taken. omega (arith, half, taken)) (ap (λ st. st.pairs) p.state) p.table
 
   -- where memory lacks after that, one fewer than half are left at the least
   pub place_lacks_half : IsRefusedGrowth rules old → (outcome : Outcome) (new : State K V S H) → outcome ≡ no_memory
       → Place rules hash_of pair old outcome new
       → full_capacity (buckets old) / 2 ≤ length new.pairs + 1
-  place_lacks_half refusal outcome new q (first_table e b bytes u g m) = with_pairs e refusal
-  place_lacks_half refusal outcome new q (first_denied e b bytes u d o n) = refused-not_no_memory (sym o ∙ q)
-  place_lacks_half refusal outcome new q (first_too_large e b u o n) = refused-not_no_memory (sym o ∙ q)
-  place_lacks_half refusal outcome new q (empty_with_room e b r s o n) = placed-not_no_memory (sym o ∙ q)
-  place_lacks_half refusal outcome new q (empty_without_room e b r o n) = placed-not_no_memory (sym o ∙ q)
-  place_lacks_half refusal outcome new q (with_room e r s o n) = placed-not_no_memory (sym o ∙ q)
-  place_lacks_half refusal outcome new q (deleted_bucket f i b l o n) = placed-not_no_memory (sym o ∙ q)
-  place_lacks_half refusal outcome new q (rehashed f i l m) = absurd (omega (arith, l, refusal.above_half))
-  place_lacks_half refusal outcome new q (grown f i l count bytes t g m) =
+  place_lacks_half refusal outcome new q (in_bucket l f s o n) = placed-not_no_memory (sym o ∙ q)
+  place_lacks_half refusal outcome new q (rehashed b l some m) = absurd (omega (arith, l, refusal.above_half))
+  place_lacks_half refusal outcome new q (grown b count bytes t g m) =
       not_granted count bytes t g refusal.known refusal.refused
-  place_lacks_half refusal outcome new q (evicting f i l mid c (finds_bucket n pos one half left gone fills o p)) =
+  place_lacks_half refusal outcome new q (not_grown b mid c (nothing_to_evict e o n)) =
+      refused-not_no_memory (sym o ∙ q)
+  place_lacks_half refusal outcome new q (not_grown b mid c (finds_bucket n pos one half left gone fills o p)) =
       placed-not_no_memory (sym o ∙ q)
-  place_lacks_half refusal outcome new q (evicting f i l mid c (made_anew n pos one half left gone m)) =
+  place_lacks_half refusal outcome new q (not_grown b mid c (rehashes some n pos one half left gone m)) =
       omega (arith, ap length (left_if left new _ _ _ outcome q m), left_length n mid left c gone, half)
 
   -- where memory lacks, all pairs are left, or growth was refused
   pub place_lacks_keeps : (outcome : Outcome) (new : State K V S H) → outcome ≡ no_memory
       → Place rules hash_of pair old outcome new → (new.pairs ≡ old.pairs) ⊎ IsRefusedGrowth rules old
-  place_lacks_keeps outcome new q (first_table e b bytes u g m) = inl
+  place_lacks_keeps outcome new q (in_bucket l f s o n) = placed-not_no_memory (sym o ∙ q)
+  place_lacks_keeps outcome new q (rehashed b l some m) = inl (left_if old new _ _ _ outcome q m)
+  place_lacks_keeps outcome new q (grown b count bytes t g m) = inl
       (left_if (asked rules bytes old) new _ _ _ outcome q m)
-  place_lacks_keeps outcome new q (first_denied e b bytes u d o n) = refused-not_no_memory (sym o ∙ q)
-  place_lacks_keeps outcome new q (first_too_large e b u o n) = refused-not_no_memory (sym o ∙ q)
-  place_lacks_keeps outcome new q (empty_with_room e b r s o n) = placed-not_no_memory (sym o ∙ q)
-  place_lacks_keeps outcome new q (empty_without_room e b r o n) = placed-not_no_memory (sym o ∙ q)
-  place_lacks_keeps outcome new q (with_room e r s o n) = placed-not_no_memory (sym o ∙ q)
-  place_lacks_keeps outcome new q (deleted_bucket f i b l o n) = placed-not_no_memory (sym o ∙ q)
-  place_lacks_keeps outcome new q (rehashed f i l m) = inl (left_if old new _ _ _ outcome q m)
-  place_lacks_keeps outcome new q (grown f i l count bytes t g m) = inl
-      (left_if (asked rules bytes old) new _ _ _ outcome q m)
-  place_lacks_keeps outcome new q (evicting f i l mid c (finds_bucket n pos one half left gone fills o p)) =
+  place_lacks_keeps outcome new q (not_grown b mid c (nothing_to_evict e o n)) = refused-not_no_memory (sym o ∙ q)
+  place_lacks_keeps outcome new q (not_grown b mid c (finds_bucket n pos one half left gone fills o p)) =
       placed-not_no_memory (sym o ∙ q)
-  place_lacks_keeps outcome new q (evicting f i l mid c (made_anew n pos one half left gone m)) = inr
-      (record { lacks_room = f; above_half = l; known = mid; refused = c })
+  place_lacks_keeps outcome new q (not_grown b mid c (rehashes some n pos one half left gone m)) = inr
+      (record {
+        lacks_room = (some, b.no_bucket.no_room);
+        above_half = b.above_half;
+        known = mid;
+        refused = c;
+      })
 
   module _ (new : State K V S H) (step : Place rules hash_of pair old placed new) where
     pub refused_half : IsRefusedGrowth rules old → full_capacity (buckets old) / 2 ≤ length new.pairs

@@ -1,22 +1,21 @@
 -- In tables of up to 16 buckets no call depends on which of them are full.
 use Rattle.std.proofs.Common.{◌≡◌, ℕ, ◌+◌, ◌-◌, ◌/◌, ◌<◌, ◌≤◌, inl, inr, Bool, true, false, cond, [], ◌∷◌, length}
 use Rattle.std.proofs.Common.{Option, Some, None, Result, Ok, Err, refl, sym, ap, ◌∙◌, subst, arith, le_of_eq}
-use Rattle.std.specs.Prelude.{◌==◌, nat_lt, nat_le, not, is_err, if◌then◌else◌}
+use Rattle.std.specs.Prelude.{nat_lt, nat_le, not, is_err, if◌then◌else◌}
 use Rattle.std.specs.declared.alloc.AllocError.{AllocError}
-use Rattle.std.proofs.lemmas.Bool.{eq-eqb, ne_eqb, lt-ltb, le-ltb, le-leb, lt-leb}
+use Rattle.std.proofs.lemmas.Bool.{lt-ltb, le-ltb, le-leb, lt-leb}
 use Rattle.group_table.specs.Change.{count_up}
 use Rattle.group_table.specs.Sizes.{full_capacity}
 use Rattle.lru_limits.specs.Rules.{Rules, Offers}
 use Rattle.schnellru.specs.Exact.{LookAlike, IsDetermined, NeverLacks}
-use Rattle.schnellru.specs.Inserts.{Insert, replaced, given_up, no_memory_to_admit, not_admitted, admitted, make_way}
+use Rattle.schnellru.specs.Inserts.{Insert, replaced, given_up, no_memory_to_admit, not_admitted, admitted, make_room}
 use Rattle.schnellru.specs.Inserts.{MayGive, replacement, with_replaced, with_given_up, Settles}
 use Rattle.schnellru.specs.Lists.{is_empty, lookup_entry}
-use Rattle.schnellru.specs.Place.{Place, first_table, first_denied, first_too_large, empty_with_room}
-use Rattle.schnellru.specs.Place.{empty_without_room, with_room, deleted_bucket, rehashed, grown, evicting}
-use Rattle.schnellru.specs.Place.{finds_bucket, made_anew, FillsBucket, OldestLeave}
+use Rattle.schnellru.specs.Place.{Place, in_bucket, rehashed, grown, not_grown}
+use Rattle.schnellru.specs.Place.{nothing_to_evict, finds_bucket, rehashes, FillsBucket, OldestLeave, IsOutgrown}
 use Rattle.schnellru.specs.Place.{CannotGrow, no_target, denied, table_for, Outcome, placed, refused, no_memory, asked}
 use Rattle.schnellru.specs.Place.{IsPlaced, IsPlacedIfMemory}
-use Rattle.schnellru.specs.Sizes.{usage, Target, target, no_table, same_table, new_table}
+use Rattle.schnellru.specs.Sizes.{Target, target, no_table, same_table, new_table}
 use Rattle.schnellru.specs.State.{State, Contents, buckets, room, contents, Leaves, pops, trim}
 use Rattle.schnellru.proofs.Maps.LeavingPairs.{oldest_leaves, known_is}
 use Rattle.schnellru.proofs.PairLists.Emptiness.{is_empty-some}
@@ -82,8 +81,8 @@ module _ {K V S H : Type 0} where
 
   -- up to 16 buckets an empty one is filled
   fills_one : (hash : ℕ) (old new : State K V S H) → buckets old ≤ 16 → FillsBucket hash old new
-      → room old - 1 ≡ room new
-  fills_one hash old new small (inl (first, r)) = omega (arith, r)
+      → room new + 1 ≡ room old
+  fills_one hash old new small (inl (first, r)) = r
   fills_one hash old new small (inr (first, large, r)) = absurd (omega (arith, small, large))
 
 -- whether it is want of memory
@@ -100,12 +99,13 @@ module _ {K V S H : Type 0} (rules : Rules K V S) (pair : K × V) (lacks : Bool)
   abbrev if_memory : Shape K V S H → ℕ → ℕ → ℕ → Outcome × Shape K V S H
   if_memory sh count spare moves = cond lacks (no_memory, turned sh) (placed, landed pair sh count spare moves)
 
-  -- the oldest leaves for it
+  -- the oldest is evicted for it, or it is turned away, if there is none
   abbrev evict : Shape K V S H → Outcome × Shape K V S H
   evict sh = let left = with_left (pops rules 1 (contents sh.bare)) sh in
-      cond (nat_le (full_capacity sh.count / 2 + 1) (length sh.bare.pairs))
+      cond (is_empty sh.bare.pairs) (refused, turned sh)
+      (cond (nat_le (full_capacity sh.count / 2 + 1) (length sh.bare.pairs))
       (placed, landed pair left sh.count (left.spare - 1) 0)
-      (if_memory left sh.count (full_capacity sh.count / 2) (length left.bare.pairs))
+      (if_memory left sh.count (full_capacity sh.count / 2) (length left.bare.pairs)))
 
   abbrev grow : Target → Shape K V S H → Outcome × Shape K V S H
   grow no_table sh = evict sh
@@ -114,21 +114,12 @@ module _ {K V S H : Type 0} (rules : Rules K V S) (pair : K × V) (lacks : Bool)
       cond g.allowed (if_memory (relimited g.limiter sh) count (full_capacity count - length sh.bare.pairs - 1)
       (length sh.bare.pairs)) (evict (relimited g.limiter sh))
 
-  abbrev place_first : Option ℕ → Shape K V S H → Outcome × Shape K V S H
-  place_first None sh = (refused, turned sh)
-  place_first (Some bytes) sh = let g = rules.on_grow sh.bare.limiter bytes in
-      cond g.allowed (if_memory (relimited g.limiter sh) 4 2 0) (refused, turned (relimited g.limiter sh))
-
   abbrev pub place_in : Shape K V S H → Outcome × Shape K V S H
   place_in sh =
-      if is_empty sh.bare.pairs then
-      (if sh.count == 0 then place_first (usage sh.bare.entry_bytes 4) sh
-      else (if nat_lt 0 sh.spare then (placed, landed pair sh sh.count (sh.spare - 1) 0)
-      else (placed, landed pair sh sh.count (full_capacity sh.count - 1) 0)))
-      else (if nat_lt 0 sh.spare then (placed, landed pair sh sh.count (sh.spare - 1) 0)
+      if nat_lt 0 sh.spare then (placed, landed pair sh sh.count (sh.spare - 1) 0)
       else (if nat_le (length sh.bare.pairs + 1) (full_capacity sh.count / 2)
       then if_memory sh sh.count (full_capacity sh.count - length sh.bare.pairs - 1) (length sh.bare.pairs)
-      else grow (target sh.bare.max sh.bare.entry_bytes sh.count (length sh.bare.pairs + 1)) sh))
+      else grow (target sh.bare.max sh.bare.entry_bytes sh.count (length sh.bare.pairs + 1)) sh)
 
 module _ {K V S H : Type 0} (rules : Rules K V S) (hash_of : H → K → ℕ) (pair : K × V) where
   if_memory_is : (st : State K V S H) (count spare moves : ℕ) (outcome : Outcome) (new : State K V S H)
@@ -174,75 +165,66 @@ module _ {K V S H : Type 0} (rules : Rules K V S) (hash_of : H → K → ℕ) (p
     found_is n left new outcome one half gone fills o p =
         let is = one_left n left one gone in
         let half_of = ap full_capacity same_table_mid in
-        let spare = ap (λ k. k - 1) (sym (ap (λ sh. sh.spare) is))
-        ∙ fills_one _ left new (omega (arith, small, same_table_mid, ap (λ sh. sh.count) is)) fills in
+        let spare : (with_left (pops rules 1 (contents mid)) (shape mid)).spare - 1 ≡ room new = omega (
+          arith,
+          ap (λ sh. sh.spare) is,
+          fills_one _ left new (omega (arith, small, same_table_mid, ap (λ sh. sh.count) is)) fills,
+        ) in
         rw (
+          is_empty-some mid.pairs (omega (arith, half, one, same_length)),
           le-leb (full_capacity (buckets mid) / 2 + 1) (length mid.pairs)
               (omega (arith, half, half_of, one, same_length)),
           o,
         ) (ap (λ sh. (placed, sh))
         ((λ j. landed pair (sym is j) (sym same_table_mid j) (spare j) 0) ∙ sym (landed_shape pair _ _ _ left new p)))
 
-    anew_is : (n : ℕ) (left new : State K V S H) (outcome : Outcome) → n ≡ 1
+    anew_is : 0 < length old.pairs → (n : ℕ) (left new : State K V S H) (outcome : Outcome) → n ≡ 1
         → length old.pairs + 1 ≡ full_capacity (buckets old) / 2 + n
         → OldestLeave rules (hash_of old.hasher pair.0) n mid left
         → IsPlacedIfMemory rules pair (buckets old) (full_capacity (buckets old) / 2) (length left.pairs) left outcome
         new
         → evict rules pair (lacks_memory outcome) (shape mid) ≡ (outcome, shape new)
-    anew_is n left new outcome one half gone m =
+    anew_is some n left new outcome one half gone m =
         let is = one_left n left one gone in
         let half_of = ap full_capacity same_table_mid in
-        rw (lt-leb (full_capacity (buckets mid) / 2 + 1) (length mid.pairs)
-        (omega (arith, half, half_of, one, same_length)))
-        ((λ j. if_memory rules pair (lacks_memory outcome) (sym is j) (sym same_table_mid j)
+        rw (
+          is_empty-some mid.pairs (omega (arith, some, same_length)),
+          lt-leb (full_capacity (buckets mid) / 2 + 1) (length mid.pairs)
+              (omega (arith, half, half_of, one, same_length)),
+        ) ((λ j. if_memory rules pair (lacks_memory outcome) (sym is j) (sym same_table_mid j)
         (full_capacity (sym same_table_mid j) / 2) (length (sym is j).bare.pairs))
         ∙ if_memory_is left _ _ _ outcome new m)
 
   module _ (old : State K V S H) (small : buckets old ≤ 16) where
-    full_grows : (lacks : Bool) → 0 < length old.pairs → room old ≡ 0
-        → full_capacity (buckets old) / 2 < length old.pairs + 1
+    full_grows : (lacks : Bool) → IsOutgrown (hash_of old.hasher pair.0) old
         → place_in rules pair lacks (shape old) ≡ grow rules pair lacks (table_for 1 old) (shape old)
-    full_grows lacks some none more = rw (
-      is_empty-some old.pairs some,
-      le-ltb 0 (room old) (le_of_eq none),
-      lt-leb (length old.pairs + 1) (full_capacity (buckets old) / 2) more,
+    full_grows lacks b = rw (
+      le-ltb 0 (room old) (le_of_eq b.no_bucket.no_room),
+      lt-leb (length old.pairs + 1) (full_capacity (buckets old) / 2) b.above_half,
     ) refl
 
     -- a placing makes this of the shape
     pub place_is : (outcome : Outcome) (new : State K V S H) → Place rules hash_of pair old outcome new
         → place_in rules pair (lacks_memory outcome) (shape old) ≡ (outcome, shape new)
-    place_is outcome new (first_table e b bytes u g m) = rw (ap is_empty e, eq-eqb (buckets old) 0 b, u, g)
-        (if_memory_is (asked rules bytes old) _ _ _ outcome new m)
-    place_is outcome new (first_denied e b bytes u d o n) = rw (ap is_empty e, eq-eqb (buckets old) 0 b, u, d, o)
-        (ap (λ st. (refused, shape st)) (sym n))
-    place_is outcome new (first_too_large e b u o n) = rw (ap is_empty e, eq-eqb (buckets old) 0 b, u, o)
-        (ap (λ st. (refused, shape st)) (sym n))
-    place_is outcome new (empty_with_room e b r s o n) = rw (
-      ap is_empty e,
-      ne_eqb (buckets old) 0 (λ none. omega (arith, b, none)),
-      lt-ltb 0 (room old) r,
-    ) (placed_is old _ _ _ outcome new o n _ (fills_one _ old new small s))
-    place_is outcome new (empty_without_room e b r o n) = rw (
-      ap is_empty e,
-      ne_eqb (buckets old) 0 (λ none. omega (arith, b, none)),
-      le-ltb 0 (room old) (le_of_eq r),
-    ) (placed_is old _ _ _ outcome new o n _ refl)
-    place_is outcome new (with_room e r s o n) = rw (is_empty-some old.pairs e, lt-ltb 0 (room old) r)
-        (placed_is old _ _ _ outcome new o n _ (fills_one _ old new small s))
-    place_is outcome new (deleted_bucket f i b l o n) = absurd (omega (arith, small, b))
-    place_is outcome new (rehashed f i l m) = rw (
-      is_empty-some old.pairs f.0,
-      le-ltb 0 (room old) (le_of_eq f.1),
+    place_is outcome new (in_bucket l f s o n) = let spends = fills_one _ old new small s in
+        rw (lt-ltb 0 (room old) (omega (arith, spends)))
+        (placed_is old _ _ _ outcome new o n _ (omega (arith, spends)))
+    place_is outcome new (rehashed b l some m) = rw (
+      le-ltb 0 (room old) (le_of_eq b.no_room),
       le-leb (length old.pairs + 1) (full_capacity (buckets old) / 2) l,
     ) (if_memory_is old _ _ _ outcome new m)
-    place_is outcome new (grown f i l count bytes t g m) = full_grows (lacks_memory outcome) f.0 f.1 l
+    place_is outcome new (grown b count bytes t g m) = full_grows (lacks_memory outcome) b
         ∙ rw (t, g) (if_memory_is (asked rules bytes old) _ _ _ outcome new m)
-    place_is outcome new (evicting f i l mid c (finds_bucket n pos one half left gone fills o p)) =
-        full_grows (lacks_memory outcome) f.0 f.1 l ∙ grow_evicts old mid small c (lacks_memory outcome)
+    place_is outcome new (not_grown b mid c (nothing_to_evict e o n)) =
+        full_grows (lacks_memory outcome) b ∙ grow_evicts old mid small c (lacks_memory outcome)
+        ∙ rw (ap is_empty (ap (λ st. st.pairs) (known_is rules old mid c) ∙ e), o)
+        (ap (λ st. (refused, shape st)) (sym n))
+    place_is outcome new (not_grown b mid c (finds_bucket n pos one half left gone fills o p)) =
+        full_grows (lacks_memory outcome) b ∙ grow_evicts old mid small c (lacks_memory outcome)
         ∙ found_is old mid small c n left new outcome (one small) half gone fills o p
-    place_is outcome new (evicting f i l mid c (made_anew n pos one half left gone m)) =
-        full_grows (lacks_memory outcome) f.0 f.1 l ∙ grow_evicts old mid small c (lacks_memory outcome)
-        ∙ anew_is old mid small c n left new outcome (one small) half gone m
+    place_is outcome new (not_grown b mid c (rehashes some n pos one half left gone m)) =
+        full_grows (lacks_memory outcome) b ∙ grow_evicts old mid small c (lacks_memory outcome)
+        ∙ anew_is old mid small c some n left new outcome (one small) half gone m
 
 -- the flag of an answer, if it has one
 abbrev pub told : Result Bool AllocError → Option Bool
@@ -301,7 +283,7 @@ module _ {K V S H I : Type 0} (rules : Rules K V S) (offers : Offers K V S I) (n
     abbrev ends_new : Bool → Shape K V S H → S → Option (K × V) → Option Bool × Shape K V S H
     ends_new lacks sh s None = (Some false, relimited s sh)
     ends_new lacks sh s (Some pair) = settles (place_in rules pair lacks
-        (with_left (make_way rules (record { pairs = sh.bare.pairs; limiter = s })) (relimited s sh)))
+        (with_left (make_room rules (record { pairs = sh.bare.pairs; limiter = s })) (relimited s sh)))
 
     abbrev EndsBy : Bool → Shape K V S H → Option (K × V) → Option Bool × Shape K V S H → Type 0
     EndsBy lacks sh (Some pair) ended = ends_there pair sh ≡ ended
@@ -330,7 +312,7 @@ module _ {K V S H I : Type 0} (rules : Rules K V S) (offers : Offers K V S I) (n
       insert_is (not_admitted a s n r e) = rw (a, r) (s, None, n, ap (λ st. (Some false, shape st)) (sym e))
       insert_is (admitted a s pair n (ready, l, (outcome, mid, p, t))) =
           let start : State K V S H = record old { limiter = s } in
-          let is = left_shape start (make_way rules (contents start)) ready small l in
+          let is = left_shape start (make_room rules (contents start)) ready small l in
           let tiny : buckets ready ≤ 16 = omega (arith, small, l.room.table) in
           rw a (
             s,

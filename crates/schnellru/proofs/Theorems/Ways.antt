@@ -7,18 +7,20 @@ use Rattle.group_table.specs.Change.{count_up}
 use Rattle.lru_limits.specs.Rules.{Rules, Offers}
 use Rattle.lru_limits.specs.Laws.{kept_value}
 use Rattle.schnellru.specs.Lists.{without}
-use Rattle.schnellru.specs.State.{State, buckets, potential, Contents, contents}
-use Rattle.schnellru.specs.Place.{Place, first_table, first_denied, first_too_large, empty_with_room}
-use Rattle.schnellru.specs.Place.{empty_without_room, with_room, deleted_bucket, rehashed, grown}
-use Rattle.schnellru.specs.Place.{evicting, finds_bucket, made_anew, Outcome, placed, refused, no_memory, IsPlaced}
+use Rattle.schnellru.specs.State.{State, buckets, room, potential, Contents, contents}
+use Rattle.schnellru.specs.Sizes.{target, new_table}
+use Rattle.schnellru.specs.Place.{Place, in_bucket, rehashed, grown, not_grown, FillsBucket}
+use Rattle.schnellru.specs.Place.{nothing_to_evict, finds_bucket, rehashes, Outcome, placed, refused, no_memory}
+use Rattle.schnellru.specs.Place.{IsPlaced}
 use Rattle.schnellru.specs.Place.{asked, turned_away, IsPlacedIfMemory, CannotGrow, no_target, denied}
 use Rattle.schnellru.specs.Inserts.{Insert, replaced, given_up, no_memory_to_admit, not_admitted, admitted, replacement}
-use Rattle.schnellru.proofs.Maps.LeavingPairs.{length-pops, oldest_leaves}
-use Rattle.schnellru.proofs.TableSizes.Growth.{full_capacity-4, full_capacity-double, target_doubles, target_usage}
+use Rattle.schnellru.proofs.Maps.LeavingPairs.{length-pops, oldest_leaves, known_is}
+use Rattle.schnellru.proofs.TableSizes.Growth.{full_capacity-4, full_capacity-at_most, full_capacity-double, target_doubles}
+use Rattle.schnellru.proofs.TableSizes.Growth.{target_usage, first_target-count}
 use Rattle.schnellru.proofs.TableSizes.Doubling.{target_small}
-use Rattle.schnellru.proofs.Theorems.Potential.{IsBounded, pays_placing, no_buckets}
+use Rattle.schnellru.proofs.Theorems.Potential.{IsBounded, pays_placing}
 use Rattle.schnellru.proofs.Theorems.Moves.{KeepsWay, Keeps, KeepsOffers, behind, exchange, leaves_keep, pops_keep}
-use Rattle.schnellru.proofs.Theorems.Moves.{trim_keeps, make_way_keeps, settles_keep, way_behind}
+use Rattle.schnellru.proofs.Theorems.Moves.{trim_keeps, make_room_keeps, settles_keep, way_behind}
 use Rattle.schnellru.proofs.Theorems.TableGrowth.{settles_calm, Calm, Tables, IsNextCount, Changes, self_calm}
 use Rattle.schnellru.proofs.Theorems.TableGrowth.{limiter_calm, leaves_calm, calm_trans, calm_tables, calm_then}
 use Rattle.schnellru.proofs.Theorems.TableGrowth.{then_calm, calm_changes, leaves_changes}
@@ -117,27 +119,16 @@ module _ {K V S H : Type 0} (rules : Rules K V S) (R : Contents K V S → Conten
   -- Placing a pair makes way for it first.
   pub place_lands : (outcome : Outcome) (new : State K V S H) → Place rules hash_of pair old outcome new
       → Ends outcome new
-  place_lands outcome new (first_table e b bytes u g m) =
-      if_memory (asked rules bytes old) 4 2 0 outcome new m (k.asked bytes (contents old)) (limiter_calm old _)
-      (inr (record { bytes = bytes; usable = u; limiter = old.limiter; holds = holds; granted = g }))
-      (λ ok. omega (arith, full_capacity-4)) (λ ok h. omega (arith, full_capacity-4))
-  place_lands outcome new (first_denied e b bytes u d o n) = rw o
-      (record {
-        mid = asked rules bytes old;
-        way = k.asked bytes (contents old);
-        calm = limiter_calm old _;
-        lands = (e, n);
-      })
-  place_lands outcome new (first_too_large e b u o n) = rw o
-      (record { mid = old; way = self; calm = self_calm old; lands = (e, n) })
-  place_lands outcome new (empty_with_room e b r s o n) = fills outcome new _ o n (λ ok. omega (arith, s))
-  place_lands outcome new (empty_without_room e b r o n) = fills outcome new _ o n (λ ok. omega arith)
-  place_lands outcome new (with_room e r s o n) = fills outcome new _ o n (λ ok. omega (arith, s))
-  place_lands outcome new (deleted_bucket f i b l o n) = fills outcome new _ o n (λ ok. omega (arith, f.1))
-  place_lands outcome new (rehashed f i l m) =
+  place_lands outcome new (in_bucket l f s o n) = fills outcome new _ o n (λ ok. spends s)
+    where
+      spends : FillsBucket (hash_of old.hasher pair.0) old new
+          → full_capacity (buckets old) - 2 * room new ≤ potential old + 2
+      spends (inl s) = omega (arith, s.1)
+      spends (inr s) = omega (arith, s.2)
+  place_lands outcome new (rehashed b l some m) =
       if_memory old _ _ _ outcome new m self (self_calm old) (inl (omega arith))
-      (λ ok. omega (arith, f.1, ok.fits)) same_little
-  place_lands outcome new (grown f i l count bytes t g m) = if_memory (asked rules bytes old) count _ _ outcome new m
+      (λ ok. omega (arith, b.no_room, ok.fits)) same_little
+  place_lands outcome new (grown b count bytes t g m) = if_memory (asked rules bytes old) count _ _ outcome new m
       (k.asked bytes (contents old)) (limiter_calm old _)
       (inr (record {
         bytes = bytes;
@@ -146,30 +137,60 @@ module _ {K V S H : Type 0} (rules : Rules K V S) (R : Contents K V S → Conten
         holds = holds;
         granted = g;
       }))
-      (λ ok. omega (arith, large ok ok.count, f.1, ok.fits)) (λ ok h. small ok ok.count)
+      (λ ok. large ok ok.count) (λ ok h. small ok ok.count)
     where
-      large : IsBounded old → IsBucketCount (buckets old) → 2 * full_capacity (buckets old) ≤ full_capacity count
-      large ok (inl z) = absurd (no_buckets old ok f.0 z)
-      large ok (inr j) = full_capacity-double j.0 (buckets old) count j.1
-          (target_doubles j.0 old.max old.entry_bytes (buckets old) (length old.pairs + 1) count bytes j.1 t)
+      -- the first table has 4 buckets
+      first : IsBounded old → buckets old ≡ 0 → (count ≡ 4) × (length old.pairs ≡ 0)
+      first ok none =
+          let no_pairs : length old.pairs ≡ 0 = omega (arith, ok.fits, none, full_capacity-at_most (buckets old)) in (
+            first_target-count old.max old.entry_bytes count bytes
+                (subst (λ n. target old.max old.entry_bytes 0 (n + 1) ≡ new_table count bytes) no_pairs
+                (subst (λ n. target old.max old.entry_bytes n (length old.pairs + 1) ≡ new_table count bytes) none t)),
+            no_pairs,
+          )
+
+      large : IsBounded old → IsBucketCount (buckets old)
+          → length old.pairs + (full_capacity count - 2 * (full_capacity count - length old.pairs - 1))
+          ≤ potential old + 2
+      large ok (inl none) = let (four, no_pairs) = first ok none in
+          omega (arith, ap full_capacity four ∙ full_capacity-4, no_pairs)
+      large ok (inr j) = omega (
+        arith,
+        b.no_bucket.no_room,
+        ok.fits,
+        full_capacity-double j.0 (buckets old) count j.1
+            (target_doubles j.0 old.max old.entry_bytes (buckets old) (length old.pairs + 1) count bytes j.1 t),
+      )
 
       small : IsBounded old → IsBucketCount (buckets old) → full_capacity count < 4 * (length old.pairs + 1)
-      small ok (inl z) = absurd (no_buckets old ok f.0 z)
+      small ok (inl none) = omega (arith, ap full_capacity (first ok none).0 ∙ full_capacity-4)
       small ok (inr j) = target_small j.0 old.max old.entry_bytes (buckets old)
-          (length old.pairs + 1) count bytes j.1 l t
-  place_lands outcome new (evicting f i l mid c (finds_bucket n pos one half left gone fills o p)) = let (r, s) =
+          (length old.pairs + 1) count bytes j.1 b.above_half t
+  place_lands outcome new (not_grown b mid c (nothing_to_evict e o n)) = let (r, s) = known mid c in
+      rw o (record { mid = mid; way = r; calm = s; lands = (none mid c e, n) })
+    where
+      none : (mid : State K V S H) → CannotGrow rules old mid → old.pairs ≡ [] → mid.pairs ≡ []
+      none mid c e = ap (λ st. st.pairs) (known_is rules old mid c) ∙ e
+  place_lands outcome new (not_grown b mid c (finds_bucket n pos one half left gone fills o p)) = let (r, s) =
       known mid c in
       let lv = oldest_leaves rules _ n mid left gone in
       rw o (if_memory left _ _ 0 placed new p
       (k.trans r (leaves_keep R mid _ left lv (pops_keep rules R k n (contents mid))))
       (calm_trans old mid left s (leaves_calm mid _ left lv)) (inl (omega arith))
-      (λ ok. omega (arith, f.1)) same_little)
-  place_lands outcome new (evicting f i l mid c (made_anew n pos one half left gone m)) = let (r, s) = known mid c in
+      (λ ok. omega (arith, b.no_bucket.no_room)) same_little)
+  place_lands outcome new (not_grown b mid c (rehashes some n pos one half left gone m)) = let (r, s) = known mid c in
       let lv = oldest_leaves rules _ n mid left gone in
       if_memory left _ _ _ outcome new m
       (k.trans r (leaves_keep R mid _ left lv (pops_keep rules R k n (contents mid))))
       (calm_trans old mid left s (leaves_calm mid _ left lv)) (inl (omega arith))
-      (λ ok. omega (arith, f.1, half, s.few, ap (λ st. length st.pairs) lv.is, length-pops rules n (contents mid)))
+      (λ ok. omega (
+        arith,
+        b.no_bucket.no_room,
+        half,
+        s.few,
+        ap (λ st. length st.pairs) lv.is,
+        length-pops rules n (contents mid),
+      ))
       same_little
 
   pub place_tables : (outcome : Outcome) (new : State K V S H) → Place rules hash_of pair old outcome new
@@ -243,7 +264,7 @@ module _ {K V S H I : Type 0} {rules : Rules K V S} {offers : Offers K V S I} {n
       let hand = way_behind rules names R k.keeps pair in
       let reached = k.keeps.way.trans (k.came i v (contents old) s pair a n)
       (leaves_keep (λ c d. R (behind pair c) (behind pair d)) start _ ready l
-      (make_way_keeps rules _ hand (contents start))) in
+      (make_room_keeps rules _ hand (contents start))) in
       record {
         moves = k.keeps.way.trans reached
             (k.keeps.way.trans (place_keeps rules names R k.keeps hash_of pair ready outcome landed p)

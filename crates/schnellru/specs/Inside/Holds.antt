@@ -2,7 +2,7 @@
 use Rattle.std.specs.Prelude.{ℕ, Bool}
 use Rattle.group_table.specs.Bucket.{marks_of}
 use Rattle.schnellru.specs.State.{State, IsMap}
-use Rattle.schnellru.specs.Inside.Linked.{Linked, IsLinked, KeysFit, pairs_of}
+use Rattle.schnellru.specs.Inside.OrderedTable.{OrderedTable, IsLinked, KeysFit, pairs_of}
 
 -- what a map has beside its entries
 pub record Beside (S H : Type 0) : Type 0 where
@@ -16,7 +16,7 @@ pub record Beside (S H : Type 0) : Type 0 where
 
 module _ {K V S H : Type 0} where
   -- a map of these entries
-  abbrev pub state_of : Linked K V → Beside S H → State K V S H
+  abbrev pub state_of : OrderedTable K V → Beside S H → State K V S H
   state_of entries beside = record {
     pairs = pairs_of entries;
     limiter = beside.limiter;
@@ -32,7 +32,7 @@ module _ {K V S H : Type 0} where
   }
 
   -- the buckets are linked, the hashes of the keys fit, and what holds of every map holds
-  pub record Holds (eq : K → K → Bool) (hash_of : H → K → ℕ) (entries : Linked K V) (beside : Beside S H) : Type 0 where
+  pub record Holds (eq : K → K → Bool) (hash_of : H → K → ℕ) (entries : OrderedTable K V) (beside : Beside S H) : Type 0 where
     pub linked : IsLinked entries
     pub fits : KeysFit (hash_of beside.hasher) entries.slots
     pub map : IsMap eq (state_of entries beside)

@@ -1,6 +1,6 @@
 -- How the fields of a walk hold what is left of it. No public clause cites this module.
 use Rattle.std.specs.Prelude.{◌≡◌, ℕ, List, [], ◌∷◌, ◌++◌, length, take, nat_eq, if◌then◌else◌, Option, None, Some}
-use Rattle.schnellru.specs.Inside.Linked.{Linked, IsLinked, entries_in}
+use Rattle.schnellru.specs.Inside.OrderedTable.{OrderedTable, IsLinked, entries_in}
 use Rattle.schnellru.specs.Inside.Chain.{first_bucket, last_bucket}
 
 -- the buckets from this one on
@@ -9,7 +9,7 @@ from_bucket None order = []
 from_bucket (Some b) [] = []
 from_bucket (Some b) (c ∷ cs) = if nat_eq c b then c ∷ cs else from_bucket (Some b) cs
 
-module _ {K V : Type 0} (t : Linked K V) where
+module _ {K V : Type 0} (t : OrderedTable K V) where
   -- so many pairs, from that in the bucket in front on
   abbrev pub rest_of : Option ℕ → ℕ → List (K × V)
   rest_of front left = entries_in t.slots (take left (from_bucket front t.order))

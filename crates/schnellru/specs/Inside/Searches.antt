@@ -10,25 +10,25 @@ use Rattle.schnellru.specs.ByHash.{Asks}
 
 module _ {K V F : Type 0} (closure : Mut F (Bor K × (Bor V × Unit {0})) Bool) (slots : List (Slot (K × V))) where
   -- f was asked about the pair in a bucket, and is then g
-  pub record Answers (f : F) (b : ℕ) (answer : Bool) (g : F) : Type 0 where
+  pub record AnswersPair (f : F) (b : ℕ) (answer : Bool) (g : F) : Type 0 where
     pub pair : K × V
     pub there : entry_at slots b ≡ Some pair
     pub asked : Asks closure f pair answer g
 
   -- a search for the hash asked f about these buckets, and f refused all but the last, which is b
-  pub record Finds (hash : ℕ) (f : F) (b : ℕ) : Type 0 where
+  pub record FindsPair (hash : ℕ) (f : F) (b : ℕ) : Type 0 where
     pub before : List ℕ
     pub search : IsSearch slots hash (before ++ b ∷ [])
     pub between : F
-    pub refused : FoldsTo (λ p c q. Answers p c false q) f before between
+    pub refused : FoldsTo (λ p c q. AnswersPair p c false q) f before between
     pub last : F
-    pub accepted : Answers between b true last
+    pub accepted : AnswersPair between b true last
 
   -- or it refused all, and among them is each with the hash, whatever hashes fit
-  pub record FindsNone (hash : ℕ) (f : F) : Type 0 where
+  pub record FindsNoPair (hash : ℕ) (f : F) : Type 0 where
     pub asked : List ℕ
     pub search : IsSearch slots hash asked
     pub last : F
-    pub refused : FoldsTo (λ p c q. Answers p c false q) f asked last
+    pub refused : FoldsTo (λ p c q. AnswersPair p c false q) f asked last
     pub complete : (hash_of : ℕ → ℕ) → Fits slots hash_of → (b : ℕ) → IsFull slots b → hash_of b ≡ hash
         → Contains asked b

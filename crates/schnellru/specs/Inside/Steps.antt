@@ -5,17 +5,17 @@ use Rattle.group_table.specs.Change.{Removes}
 use Rattle.lru_limits.specs.Rules.{Rules, Replaced}
 use Rattle.schnellru.specs.State.{told_of}
 use Rattle.schnellru.specs.Calls.{left_of}
-use Rattle.schnellru.specs.Inside.Linked.{Linked, with_pair, without_bucket}
+use Rattle.schnellru.specs.Inside.OrderedTable.{OrderedTable, with_pair, without_bucket}
 
 -- The limiter took the new value for the pair in a bucket, and the pair is the newest.
-pub record IsReplaced {K V S : Type 0} (by : Replaced K V S) (b : ℕ) (old new : Linked K V) (limiter : S) : Type 0 where
+pub record IsReplaced {K V S : Type 0} (by : Replaced K V S) (b : ℕ) (old new : OrderedTable K V) (limiter : S) : Type 0 where
   pub slots : new.slots ≡ (with_pair old b (by.key, by.new_value)).slots
   pub order : new.order ≡ b ∷ without_bucket b old.order
   pub placings : new.placings ≡ old.placings
   pub told : limiter ≡ by.limiter
 
 -- The limiter refused it, and the pair left.
-pub record IsGivenUp {K V S : Type 0} (rules : Rules K V S) (by : Replaced K V S) (b : ℕ) (old new : Linked K V)
+pub record IsGivenUp {K V S : Type 0} (rules : Rules K V S) (by : Replaced K V S) (b : ℕ) (old new : OrderedTable K V)
     (limiter : S) : Type 0 where
   pub slots : Removes (with_pair old b (by.key, by.old_value)).slots new.slots b
   pub order : new.order ≡ without_bucket b old.order
@@ -24,7 +24,7 @@ pub record IsGivenUp {K V S : Type 0} (rules : Rules K V S) (by : Replaced K V S
   pub told : limiter ≡ (rules.on_removed by.limiter by.key by.old_value).limiter
 
 -- The pair in a bucket left, the limiter was told, and what it left of the pair is answered.
-pub record IsTakenOut {K V S : Type 0} (rules : Rules K V S) (b : ℕ) (old new : Linked K V) (limiter : S)
+pub record IsTakenOut {K V S : Type 0} (rules : Rules K V S) (b : ℕ) (old new : OrderedTable K V) (limiter : S)
     (result : K × V) (after : S) : Type 0 where
   pub pair : K × V
   pub there : entry_at old.slots b ≡ Some pair

@@ -2,13 +2,13 @@
 //! a call through which nothing is written, and `AnyStep` also that of a value or a limiter that is written through a
 //! reference.
 
-ghost use Rattle.std.specs.Prelude.{◌≡◌, ℕ, ◌+◌, ◌≤◌, length};
+ghost use Rattle.std.specs.Prelude.{◌≡◌, ℕ, ◌+◌, ◌≤◌, Bool, length};
 ghost use Rattle.std.specs.List.{IsDistinct};
-ghost use Rattle.schnellru.specs.Lists.{keys_of};
+ghost use Rattle.schnellru.specs.Lists.{keys_of, IsFront};
 ghost use Rattle.schnellru.specs.State.{State, IsSized, IsMap};
-ghost use Rattle.schnellru.specs.Runs.{Step, AnyStep};
+ghost use Rattle.schnellru.specs.Runs.{Step, AnyStep, StepAmong};
 ghost use Rattle.schnellru.specs.Shrinks.{PlacesAnew};
-ghost use Rattle.schnellru.specs.Theorems.{PaysForMoves, UsesAtMost, IsSummed};
+ghost use Rattle.schnellru.specs.Theorems.{PaysForMoves, UsesAtMost, IsSummed, others};
 
 use lru_limits::{
     ByCost, ByLength, ByMemoryUsage, Costed, Insertion, KeyHasher, Limiter, LookupKey, Summing,
@@ -91,4 +91,21 @@ pub fn calls_add_one_pair<
     ensures { (old new : State K V L S) →
         AnyStep L.rules L.offers I.names S.hash_of old new →
         length new.pairs ≤ length old.pairs + 1 }
+{}
+
+/// A call gives up pairs from the old end alone: of the pairs whose keys it does not name, those that it leaves are the
+/// newest, in their order. Only `pop_newest` takes from the other end, and is left out.
+///
+/// The pairs that it names are those of the key that an insert or a look-up is called with, of a key that is removed,
+/// and of one whose value is written. An insert may give up such a pair too: the one whose replacement is refused.
+pub fn calls_give_up_the_oldest<
+    K: Eq + Hash,
+    V,
+    I: LookupKey<K>,
+    L: Insertion<K, V, I>,
+    S: KeyHasher<K>,
+>()
+    ensures { (test : K → Bool) (old new : State K V L S) →
+        StepAmong L.rules L.offers I.names S.hash_of test old new →
+        IsFront (others test new.pairs) (others test old.pairs) }
 {}

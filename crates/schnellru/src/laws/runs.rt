@@ -1,9 +1,10 @@
 //! What is proved of runs: calls, one after another. Each law is that of one call (`calls`), by induction.
 
-ghost use Rattle.std.specs.Prelude.{◌≡◌, ℕ, ◌≤◌, length};
+ghost use Rattle.std.specs.Prelude.{◌≡◌, ℕ, ◌≤◌, Bool, length};
+ghost use Rattle.schnellru.specs.Lists.{IsFront};
 ghost use Rattle.schnellru.specs.State.{State, IsSized, IsMap, empty_map};
-ghost use Rattle.schnellru.specs.Runs.{Step, AnyStep, Run};
-ghost use Rattle.schnellru.specs.Theorems.{PaysForMoves, UsesAtMost, IsSummed};
+ghost use Rattle.schnellru.specs.Runs.{Step, AnyStep, StepAmong, Run};
+ghost use Rattle.schnellru.specs.Theorems.{PaysForMoves, UsesAtMost, IsSummed, others};
 
 use lru_limits::{
     ByCost, ByLength, ByMemoryUsage, Costed, Insertion, KeyHasher, Limiter, LookupKey, Summing,
@@ -37,6 +38,20 @@ pub fn runs_pay_for_moves<
     ensures rise { (old new : State K V L S) →
         Run (AnyStep L.rules L.offers I.names S.hash_of) new old →
         IsSized old → (anew : ℕ) × PaysForMoves anew old new }
+{}
+
+/// Any calls give up pairs from the old end alone: of the pairs whose keys none of them names, those that are left are
+/// the newest, in their order, unless one of the calls is `pop_newest`.
+pub fn runs_give_up_the_oldest<
+    K: Eq + Hash,
+    V,
+    I: LookupKey<K>,
+    L: Insertion<K, V, I>,
+    S: KeyHasher<K>,
+>()
+    ensures oldest { (test : K → Bool) (old new : State K V L S) →
+        Run (StepAmong L.rules L.offers I.names S.hash_of test) new old →
+        IsFront (others test new.pairs) (others test old.pairs) }
 {}
 
 /// With `ByLength` there are at most `max_length` pairs after any calls, if there were no more before. The limiter

@@ -110,9 +110,9 @@ impl<K: Eq + Hash + Drop, V: Drop, L: Limiter<K, V>, S: KeyHasher<K>> LruMap<K, 
         ensures { MakesNewest L.rules L.offers I.names S.hash_of (F.post make) key self.old result self.new }
     {
         let hash = self.hasher.hash_named(&key);
-        match self.entries.find(hash, &key) {
+        match self.find_hashed(hash, &key) {
             Some(b) => {
-                self.entries.promote(b);
+                self.promote(b);
                 Ok(true)
             }
             None => self.insert_new(hash, key, make(), &mut |_, _| {}),
@@ -216,9 +216,9 @@ impl<K: Eq + Hash + Drop, V: Drop, L: Limiter<K, V>, S: KeyHasher<K>> LruMap<K, 
         ensures { MakesNewestIfMade L.rules L.offers I.names S.hash_of (F.post make) key self.old result self.new }
     {
         let hash = self.hasher.hash_named(&key);
-        match self.entries.find(hash, &key) {
+        match self.find_hashed(hash, &key) {
             Some(b) => {
-                self.entries.promote(b);
+                self.promote(b);
                 Ok(true)
             }
             None => {

@@ -3,7 +3,7 @@ ghost use Rattle.std.specs.Prelude.{◌≡◌, ◌⊎◌, ℕ, ◌+◌, true, fa
 ghost use Rattle.std.specs.Prelude.{if◌then◌else◌, IsTrue};
 ghost use Rattle.schnellru.specs.Lists.{first, lookup_entry, is_empty, IsFront};
 ghost use Rattle.schnellru.specs.State.{contents, trim, Leaves, IsMap};
-ghost use Rattle.schnellru.specs.Inserts.{Insert, PlacesNew, LacksMemory, make_way};
+ghost use Rattle.schnellru.specs.Inserts.{Insert, PlacesNew, LacksMemory, make_room};
 ghost use Rattle.schnellru.specs.Theorems.{SaysWhether, Stores};
 ghost use Rattle.schnellru.specs.HandedOver.{noting, noting_offers, noted, Takes, InsertHands};
 ghost use Rattle.schnellru.specs.Inside.Handing.{Hands};
@@ -124,12 +124,12 @@ impl<K: Eq + Hash + Drop, V: Drop, L: Limiter<K, V>, S: KeyHasher<K>> LruMap<K, 
             (noted before self.old) result (noted after self.new)) }
         ensures callable { F.IsAlwaysCallable sink.new }
     {
-        match self.entries.find(hash, &key) {
+        match self.find_hashed(hash, &key) {
             Some(b) => {
                 if !replace(&mut self.entries, &mut self.limiter, b, key, value, sink) {
                     return Ok(false);
                 }
-                Ok(self.trim(sink))
+                Ok(self.evict_over_limit(sink))
             }
             None => self.insert_new(hash, key, value, sink),
         }
@@ -158,13 +158,13 @@ impl<K: Eq + Hash + Drop, V: Drop, L: Limiter<K, V>, S: KeyHasher<K>> LruMap<K, 
             .limiter
             .on_insert(self.alloc, self.entries.len(), key, value)?
         {
-            Some(pair) => self.place_new(hash, pair, sink),
+            Some(pair) => self.insert_pair(hash, pair, sink),
             None => Ok(false),
         }
     }
 
-    // Makes way for a pair that the limiter gave, whose key is new, and places it.
-    fn place_new<F: FnMut(K, V)>(
+    // Makes room for a pair that the limiter gave, stores it, and evicts what is over the limit then.
+    fn insert_pair<F: FnMut(K, V)>(
         &mut self,
         hash: u64,
         pair: (K, V),
@@ -177,7 +177,10 @@ impl<K: Eq + Hash + Drop, V: Drop, L: Limiter<K, V>, S: KeyHasher<K>> LruMap<K, 
             S.hash_of pair (noted before self.old) result (noted after self.new)) }
         ensures callable { F.IsAlwaysCallable sink.new }
     {
-        self.make_way(sink);
-        self.place(hash, pair, sink)
+        self.make_room(sink);
+        if !self.store(hash, pair, sink)? {
+            return Ok(false);
+        }
+        Ok(self.evict_over_limit(sink))
     }
 }

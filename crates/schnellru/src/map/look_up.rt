@@ -38,8 +38,8 @@ impl<K: Eq + Hash, V, L: Limiter<K, V>, S: KeyHasher<K>> LruMap<K, V, L, S> {
         ensures map { (new : State K V L S) → Get (Q.names key.now) self.old (option_copied_mut result) new
             → IsMap K.eq new }
     {
-        let b = self.entries.find(self.hasher.hash_named(key), key)?;
-        self.entries.promote(b);
+        let b = self.find(key)?;
+        self.promote(b);
         Some(&mut self.entries.pair_mut(b).value)
     }
 
@@ -83,8 +83,8 @@ impl<K: Eq + Hash, V, L: Limiter<K, V>, S: KeyHasher<K>> LruMap<K, V, L, S> {
     pub fn peek<Q: LookupKey<K>>(&self, key: &Q) -> Option<&V>
         ensures { option_copied result ≡ lookup (Q.names key.now) self.now.pairs }
     {
-        let b = self.entries.find(self.hasher.hash_named(key), key)?;
-        Some(&self.entries.pair(b).value)
+        let b = self.find(key)?;
+        Some(&self.pair_in(b).value)
     }
 
     /// The pair of a key. The order stays.
@@ -102,8 +102,8 @@ impl<K: Eq + Hash, V, L: Limiter<K, V>, S: KeyHasher<K>> LruMap<K, V, L, S> {
     pub fn peek_key_value<Q: LookupKey<K>>(&self, key: &Q) -> Option<(&K, &V)>
         ensures { option_map deref_pair result ≡ lookup_entry (Q.names key.now) self.now.pairs }
     {
-        let b = self.entries.find(self.hasher.hash_named(key), key)?;
-        let pair = self.entries.pair(b);
+        let b = self.find(key)?;
+        let pair = self.pair_in(b);
         Some((&pair.key, &pair.value))
     }
 
@@ -127,7 +127,7 @@ impl<K: Eq + Hash, V, L: Limiter<K, V>, S: KeyHasher<K>> LruMap<K, V, L, S> {
         ensures value { option_copied_mut result ≡ lookup (Q.names key.now) self.old.pairs }
         ensures map { (last : V) → IsMap K.eq (written (Q.names key.now) last self.old) }
     {
-        let b = self.entries.find(self.hasher.hash_named(key), key)?;
+        let b = self.find(key)?;
         Some(&mut self.entries.pair_mut(b).value)
     }
 

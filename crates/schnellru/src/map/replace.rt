@@ -1,12 +1,12 @@
 //! Replacing the value of a key that is there, over the linked table and the limiter.
 ghost use Rattle.std.specs.Prelude.{◌≡◌, ℕ, true, false, length, Some, IsTrue};
 ghost use Rattle.group_table.specs.Bucket.{entry_at};
-ghost use Rattle.schnellru.specs.Inside.Linked.{IsLinked, KeysFit};
+ghost use Rattle.schnellru.specs.Inside.OrderedTable.{IsLinked, KeysFit};
 ghost use Rattle.schnellru.specs.Inside.Steps.{IsReplaced, IsGivenUp};
 ghost use Rattle.schnellru.specs.Inside.Handing.{HandsGivenUp};
 
-use crate::link::Linked;
-use crate::map::remove::take_out;
+use crate::map::leave::take_out;
+use crate::ordered::OrderedTable;
 use lru_limits::{Insertion, Limiter, LookupKey};
 use std::hash::Hash;
 
@@ -19,7 +19,7 @@ pub(super) fn replace<
     L: Insertion<K, V, I>,
     F: FnMut(K, V),
 >(
-    entries: &mut Linked<K, V, L::LinkType>,
+    entries: &mut OrderedTable<K, V, L::LinkType>,
     limiter: &mut L,
     b: usize,
     key: I,

@@ -80,7 +80,7 @@ impl<K: Eq + Hash + Drop, V: Drop, L: Limiter<K, V>, S: KeyHasher<K>> LruMap<K, 
         requires half { full_capacity (buckets self.old) / 2 < length self.old.pairs + n }
         ensures { Reserve L.rules n self.old result self.new }
     {
-        match self.larger_table(n) {
+        match self.next_table(n) {
             Some((count, bytes)) => {
                 if !self.limiter.on_grow(bytes) {
                     return Err(ReserveError::Refused);

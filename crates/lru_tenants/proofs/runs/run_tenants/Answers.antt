@@ -13,17 +13,17 @@ loop-call-preserved g c =
     let hash_of = hash_of g.K.Hash.hash_input in
     let first = c.args.cache.now in
     let call = c.in-Some.call in
-    let answer = c.carry_out.result in
+    let answer = c.make_tenant_call.result in
     let step = subst (λ f. On (named call) (TenantStep eq g.V.Costed.cost hash_of f call) c.loop-call.cache answer
-    c.carry_out.new.cache) (fresh-same first c.loop-call.cache h.hasher h.entry_bytes) c.carry_out.ensures.step in
+    c.make_tenant_call.new.cache) (fresh-same first c.loop-call.cache h.hasher h.entry_bytes) c.make_tenant_call.ensures.step in
     record {
       items = append_assoc c.loop-call.yielded (call ∷ []) (into_iter_items c.next.new.self)
           ∙ ap (λ l. c.loop-call.yielded ++ l) (sym c.in-Some.ensures.steps.0) ∙ h.items;
       left = omega (arith, c.in-Some.ensures.steps.1, h.left, ap length c.in-Some.ensures.steps.0);
       own = λ name. rw c.push_reserved.ensures.items (own-push eq g.V.Costed.cost hash_of (fresh first) name first
-          c.loop-call.cache c.carry_out.new.cache c.loop-call.yielded c.loop-call.answers.items call answer
-          (h.own name) step c.carry_out.ensures.tenants);
-      tenants = c.carry_out.ensures.tenants;
+          c.loop-call.cache c.make_tenant_call.new.cache c.loop-call.yielded c.loop-call.answers.items call answer
+          (h.own name) step c.make_tenant_call.ensures.tenants);
+      tenants = c.make_tenant_call.ensures.tenants;
       hasher = step.2.hasher ∙ h.hasher;
       entry_bytes = step.2.entry_bytes ∙ h.entry_bytes;
       len = omega (arith, c.push_reserved.ensures.len, h.len, length-append c.loop-call.yielded (call ∷ []));

@@ -1,7 +1,7 @@
 use Rattle.std.proofs.Common.{sym, ◌∙◌}
 use Rattle.schnellru.specs.Clones.{IsPairClone}
 use Rattle.schnellru.specs.Inside.Holds.{state_of}
-use Rattle.schnellru.specs.Inside.Linked.{pairs_of}
+use Rattle.schnellru.specs.Inside.OrderedTable.{pairs_of}
 use Rattle.schnellru.proofs.Maps.Fields.{beside, beside_of}
 use Rattle.schnellru.proofs.Maps.HeldMaps.{copied_holds}
 use Rattle.schnellru.proofs.PairLists.DistinctKeys.{distinct_same}

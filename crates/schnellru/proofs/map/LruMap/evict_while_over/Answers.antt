@@ -3,7 +3,7 @@ use denote.Param.Always.{mut_next}
 use Rattle.schnellru.specs.State.{contents, Leaves}
 use Rattle.schnellru.specs.HandedOver.{noting, noted}
 use Rattle.schnellru.proofs.PairLists.Emptiness.{empty-length, some-length}
-use Rattle.schnellru.proofs.LinkedTables.BucketPairs.{pairs-length}
+use Rattle.schnellru.proofs.OrderedTables.BucketPairs.{pairs-length}
 use Rattle.schnellru.proofs.Maps.LeavingPairs.{length-without_last, leaves_self, trim-within, trim-empty}
 use Rattle.schnellru.proofs.Maps.Trims.{trims_more}
 use Rattle.schnellru.proofs.map.LruMap.evict_while_over.Goals as goal

@@ -1,26 +1,22 @@
 use Rattle.std.proofs.Common.{Some, None, refl, sym, ap, ◌∙◌, subst, unwrap_or, ◌≡◌, true}
-use Rattle.group_table.specs.Bucket.{entry_at}
-use Rattle.schnellru.specs.Inside.Linked.{KeysFit}
+use Rattle.schnellru.specs.Lists.{lookup_entry, place_of}
 use Rattle.schnellru.proofs.Maps.Fields.{beside_of}
-use Rattle.schnellru.proofs.LinkedTables.BucketPairs.{value_found}
-use Rattle.schnellru.proofs.LinkedTables.Searches.{no_value}
+use Rattle.schnellru.proofs.OrderedTables.BucketPairs.{pair_found}
+use Rattle.schnellru.proofs.OrderedTables.Searches.{pair_of_place}
+use Rattle.schnellru.proofs.PairLists.NamedPlaces.{front_place, front_found, named_value, no_named_value}
 use Rattle.schnellru.proofs.Maps.Promotions.{get_is_map}
-use Rattle.schnellru.proofs.LinkedTables.Writes.{first_holds, first_state, same_follow}
+use Rattle.schnellru.specs.Calls.{written}
+use Rattle.schnellru.proofs.OrderedTables.Writes.{kept_holds, kept_state, same_follow}
 use Rattle.schnellru.proofs.map.LruMap.get.Goals as goal
 
 pub returns-in_err-b : goal.returns-in_err-b
-returns-in_err-b g c =
-    let m = c.self.inside in let holds = c.self.invariant in
-    let hash_of = g.S.KeyHasher.hash_of m.hasher in
-    let none = no_value m.entries holds.linked (g.Q.LookupKey.names c.args.key.now) hash_of c.hash_named.result
-    c.hash_named.ensures
-    (c.in_err-b.ensures.none hash_of holds.fits) in
-    rw (c.from_residual.ensures, ← c.self.view_is) (
+returns-in_err-b g c = let names = g.Q.LookupKey.names c.args.key.now in
+    rw c.from_residual.ensures (
       refl,
       record {
         writes_back = tt;
-        value = sym none;
-        map = λ new step. get_is_map g.met.Q.LookupKey.laws c.args.key.now _ None new step holds.map;
+        value = sym (no_named_value names c.args.self.now.pairs c.in_err-b.ensures.none);
+        map = λ new step. get_is_map g.met.Q.LookupKey.laws c.args.key.now _ None new step c.find.ensures.map;
       },
     )
 
@@ -28,45 +24,38 @@ pub invariant_of-self-lent : goal.invariant_of-self-lent
 invariant_of-self-lent g c = λ w.
     let m = c.self.inside in
     let rest = beside_of m (g.L.LinkType.LinkType.number g.L.LinkType.LinkType.MAX) in
-    let t = m.entries in let v = c.promote.new.self in let holds = c.self.invariant in
-    let found = c.in_ok-b.ensures.found in
-    let there = ap (λ s. entry_at s c.in_ok-b.b) (sym c.promote.ensures.slots) ∙ c.pair_mut.ensures.pair in
-    let key : found.0 ≡ (c.pair_mut.result.now.key, c.pair_mut.result.now.value) = ap (λ o. unwrap_or o found.0)
-    (sym found.1 ∙ there) in
-    let hash_of = g.S.KeyHasher.hash_of in
-    first_holds t v holds.linked c.in_ok-b.b
-    (c.pair_mut.result.now.key, c.pair_mut.result.now.value) there c.promote.ensures.slots c.promote.ensures.order
-    c.promote.ensures.placings
-    (g.Q.LookupKey.names c.args.key.now) g.met.K.Eq.laws (g.met.Q.LookupKey.laws.one c.args.key.now)
-    (subst (λ p. g.Q.LookupKey.names c.args.key.now p.0 ≡ true) key found.2)
+    let t = m.entries in let holds = c.self.invariant in let now = c.pair_mut.result.now in
+    let laws = g.met.K.Eq.laws in let hash_of = g.S.KeyHasher.hash_of in
+    kept_holds t holds.linked c.in_ok-b.b (now.key, now.value) c.pair_mut.ensures.pair
+    (g.K.PartialEq.eq now.key) laws (λ x y h. laws.congr now.key x y h) (laws.refl now.key)
     holds.map.distinct rest w hash_of holds
-    (c.pair_mut.ensures.linked (c.pair_mut.result.now.key, w))
-    (c.pair_mut.ensures.fits (hash_of m.hasher)
-    (subst (KeysFit (hash_of m.hasher)) (sym c.promote.ensures.slots) holds.fits)
-    (c.pair_mut.result.now.key, w) refl)
+    (c.pair_mut.ensures.linked (now.key, w)) (c.pair_mut.ensures.fits (hash_of m.hasher) holds.fits (now.key, w) refl)
 
 pub returns : goal.returns
 returns g c =
     let m = c.self.inside in
     let rest = beside_of m (g.L.LinkType.LinkType.number g.L.LinkType.LinkType.MAX) in
-    let t = m.entries in let v = c.promote.new.self in let holds = c.self.invariant in
-    let found = c.in_ok-b.ensures.found in
+    let t = m.entries in let holds = c.self.invariant in let now = c.pair_mut.result.now in
+    let old = c.args.self.now in let laws = g.met.K.Eq.laws in
     let names = g.Q.LookupKey.names c.args.key.now in let one = g.met.Q.LookupKey.laws.one c.args.key.now in
-    let there = ap (λ s. entry_at s c.in_ok-b.b) (sym c.promote.ensures.slots) ∙ c.pair_mut.ensures.pair in
-    let key : found.0 ≡ (c.pair_mut.result.now.key, c.pair_mut.result.now.value) = ap (λ o. unwrap_or o found.0)
-    (sym found.1 ∙ there) in
-    let named : names c.pair_mut.result.now.key ≡ true = subst (λ p. names p.0 ≡ true) key found.2 in
-    rw (← c.self.view_is) (
-      same_follow _ _ _ (λ w. first_state t v holds.linked c.in_ok-b.b
-          (c.pair_mut.result.now.key, c.pair_mut.result.now.value) there c.promote.ensures.slots
-          c.promote.ensures.order c.promote.ensures.placings
-          names g.met.K.Eq.laws one named holds.map.distinct rest w),
+    let at = c.in_ok-b.ensures.found in let is = c.promote.ensures.promoted names one at in
+    let first = subst (λ st. place_of names st.pairs st.places ≡ Some c.in_ok-b.b) (sym (c.self.view_is ∙ is))
+    (front_place names old.pairs old.places c.in_ok-b.b at) in
+    let (p, there, accepts) = pair_of_place t holds.linked names laws one holds.map.distinct c.in_ok-b.b first in
+    let key : p ≡ (now.key, now.value) = ap (λ o. unwrap_or o p) (sym there ∙ c.pair_mut.ensures.pair) in
+    let named : names now.key ≡ true = subst (λ p. names p.0 ≡ true) key accepts in
+    let found : lookup_entry names old.pairs ≡ Some (now.key, now.value) =
+    sym (front_found names old.pairs old.places c.in_ok-b.b at)
+    ∙ ap (λ st. lookup_entry names st.pairs) (sym (c.self.view_is ∙ is))
+    ∙ pair_found t holds.linked c.in_ok-b.b (now.key, now.value) c.pair_mut.ensures.pair names laws one
+    holds.map.distinct named in (
+      same_follow _ _ _ (λ w. kept_state t holds.linked c.in_ok-b.b
+          (now.key, now.value) c.pair_mut.ensures.pair names laws one named holds.map.distinct rest w
+          ∙ ap (written names w) (c.self.view_is ∙ is)),
       record {
         writes_back = tt;
-        value = sym (value_found t holds.linked c.in_ok-b.b
-            (c.pair_mut.result.now.key, c.pair_mut.result.now.value) there names g.met.K.Eq.laws one holds.map.distinct
-            named);
-        map = λ new step. get_is_map g.met.Q.LookupKey.laws c.args.key.now _
-            (Some c.pair_mut.result.now.value) new step holds.map;
+        value = sym (named_value names old.pairs (now.key, now.value) found);
+        map = λ new step. get_is_map g.met.Q.LookupKey.laws c.args.key.now _ (Some now.value) new step
+            c.find.ensures.map;
       },
     )

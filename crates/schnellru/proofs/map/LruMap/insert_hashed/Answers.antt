@@ -1,11 +1,10 @@
 use Rattle.std.proofs.Common.{◌≡◌, ℕ, true, false, Ok, [], ◌∷◌, ◌++◌, length, refl, ap, sym, ◌∙◌, subst, arith}
-use Rattle.std.specs.Prelude.{fold}
 use Rattle.schnellru.proofs.Maps.Fields.{beside, beside_of}
-use Rattle.schnellru.proofs.LinkedTables.Searches.{not_found}
-use Rattle.schnellru.proofs.LinkedTables.Replacements.{replaced_leaves, replaced_holds, given_up_leaves, given_up_holds}
+use Rattle.schnellru.proofs.OrderedTables.Searches.{pair_of_place}
+use Rattle.schnellru.proofs.OrderedTables.Replacements.{replaced_leaves, replaced_holds, given_up_leaves, given_up_holds}
 use Rattle.schnellru.proofs.Maps.LeavingPairs.{leaves_trimmed}
-use Rattle.schnellru.proofs.LinkedTables.BucketPairs.{pairs-length, pair_found}
-use Rattle.schnellru.specs.Inside.Linked.{pairs_of}
+use Rattle.schnellru.proofs.OrderedTables.BucketPairs.{pairs-length, pair_found}
+use Rattle.schnellru.specs.Inside.OrderedTable.{pairs_of}
 use Rattle.schnellru.specs.Inside.Holds.{state_of}
 use Rattle.schnellru.specs.Inside.Steps.{IsReplaced, IsGivenUp}
 use Rattle.schnellru.specs.Inserts.{replaced, given_up}
@@ -14,13 +13,12 @@ use Rattle.schnellru.specs.Inside.Handing.{HandsGivenUp}
 use Rattle.schnellru.proofs.Maps.NotedStates.{takes_more, noted_by, noted_replaced, noted_given_up}
 use Rattle.schnellru.proofs.map.LruMap.insert_hashed.Goals as goal
 
-pub insert_new-requires-clause-absent : goal.insert_new-requires-clause-absent
-insert_new-requires-clause-absent g c =
-    let m = c.self.inside in let holds = c.self.invariant in
-    let hash_of = g.S.KeyHasher.hash_of m.hasher in
-    rw (← c.self.view_is) (not_found m.entries holds.linked (g.I.LookupKey.names c.args.key) hash_of c.args.hash
-    (λ k named. (rw (← c.self.view_is) at c.requires.hash) k named)
-    (c.in-None.ensures.none hash_of holds.fits))
+pub replace-requires-clause-there : goal.replace-requires-clause-there
+replace-requires-clause-there g c =
+    let t = c.self.inside.entries in let holds = c.self.invariant in
+    pair_of_place t holds.linked (g.I.LookupKey.names c.args.key) g.met.K.Eq.laws
+    (g.met.I.LookupKey.laws.one c.args.key) holds.map.distinct c.in-Some.b
+    (rw (← c.self.view_is) at c.in-Some.ensures.found)
 
 pub invariant_of-self : goal.invariant_of-self
 invariant_of-self g c =
@@ -28,8 +26,11 @@ invariant_of-self g c =
     let rest = beside_of m (g.L.LinkType.LinkType.number g.L.LinkType.LinkType.MAX) in
     let t = m.entries in let u = c.replace.new.entries in let l = c.replace.new.limiter in
     let holds = c.self.invariant in
-    let b = c.in-Some.b in let found = c.in-Some.ensures.found in let was = found.0 in
+    let b = c.in-Some.b in
     let names = g.I.LookupKey.names c.args.key in let one = g.met.I.LookupKey.laws.one c.args.key in
+    let found = pair_of_place t holds.linked names g.met.K.Eq.laws one holds.map.distinct b
+    (rw (← c.self.view_is) at c.in-Some.ensures.found) in
+    let was = found.0 in
     let by = g.L.Insertion.offers.on_replace m.limiter (length t.order) was.0 c.args.key was.1 c.args.value in
     let hash_of = g.S.KeyHasher.hash_of in
     let fits =
@@ -47,8 +48,11 @@ invariant_of-self-in-Some g c =
     let rest = beside_of m (g.L.LinkType.LinkType.number g.L.LinkType.LinkType.MAX) in
     let t = m.entries in let u = c.replace.new.entries in let l = c.replace.new.limiter in
     let holds = c.self.invariant in
-    let b = c.in-Some.b in let found = c.in-Some.ensures.found in let was = found.0 in
+    let b = c.in-Some.b in
     let names = g.I.LookupKey.names c.args.key in let one = g.met.I.LookupKey.laws.one c.args.key in
+    let found = pair_of_place t holds.linked names g.met.K.Eq.laws one holds.map.distinct b
+    (rw (← c.self.view_is) at c.in-Some.ensures.found) in
+    let was = found.0 in
     let by = g.L.Insertion.offers.on_replace m.limiter (length t.order) was.0 c.args.key was.1 c.args.value in
     let hash_of = g.S.KeyHasher.hash_of in
     let fits =
@@ -62,9 +66,12 @@ invariant_of-self-in-Some g c =
     (one was.0 by.key found.2 ∙ g.met.L.Insertion.laws.keeps_key m.limiter
     (length t.order) was.0 c.args.key was.1 c.args.value found.2) holds fits
 
-pub trim-requires-clause-some : goal.trim-requires-clause-some
-trim-requires-clause-some g c =
-    let was = c.in-Some.ensures.found in
+pub evict_over_limit-requires-clause-some : goal.evict_over_limit-requires-clause-some
+evict_over_limit-requires-clause-some g c =
+    let t = c.self.inside.entries in let holds = c.self.invariant in
+    let was = pair_of_place t holds.linked (g.I.LookupKey.names c.args.key) g.met.K.Eq.laws
+    (g.met.I.LookupKey.laws.one c.args.key) holds.map.distinct c.in-Some.b
+    (rw (← c.self.view_is) at c.in-Some.ensures.found) in
     omega (
       arith,
       pairs-length c.replace.new.entries c.replace.ensures.linked,
@@ -76,8 +83,11 @@ returns-then-not-replace-clause-handed g c =
     let m = c.self.inside in
     let t = m.entries in let u = c.replace.new.entries in let l = c.replace.new.limiter in
     let holds = c.self.invariant in
-    let b = c.in-Some.b in let found = c.in-Some.ensures.found in let was = found.0 in
+    let b = c.in-Some.b in
     let names = g.I.LookupKey.names c.args.key in let one = g.met.I.LookupKey.laws.one c.args.key in
+    let found = pair_of_place t holds.linked names g.met.K.Eq.laws one holds.map.distinct b
+    (rw (← c.self.view_is) at c.in-Some.ensures.found) in
+    let was = found.0 in
     let rules = g.L.Limiter.rules in let same = sym (pairs-length t holds.linked) in
     let by = λ (n : ℕ). g.L.Insertion.offers.on_replace m.limiter n was.0 c.args.key was.1 c.args.value in
     let replacement = by (length (pairs_of t)) in
@@ -107,8 +117,11 @@ returns-else-not-replace-clause-handed g c =
     let rest = beside_of m (g.L.LinkType.LinkType.number g.L.LinkType.LinkType.MAX) in
     let t = m.entries in let u = c.replace.new.entries in let l = c.replace.new.limiter in
     let holds = c.self.invariant in
-    let b = c.in-Some.b in let found = c.in-Some.ensures.found in let was = found.0 in
+    let b = c.in-Some.b in
     let names = g.I.LookupKey.names c.args.key in let one = g.met.I.LookupKey.laws.one c.args.key in
+    let found = pair_of_place t holds.linked names g.met.K.Eq.laws one holds.map.distinct b
+    (rw (← c.self.view_is) at c.in-Some.ensures.found) in
+    let was = found.0 in
     let rules = g.L.Limiter.rules in let same = sym (pairs-length t holds.linked) in
     let by = λ (n : ℕ). g.L.Insertion.offers.on_replace m.limiter n was.0 c.args.key was.1 c.args.value in
     let replacement = by (length (pairs_of t)) in
@@ -123,11 +136,11 @@ returns-else-not-replace-clause-handed g c =
     c.replace.ensures.linked was found.1 names g.met.K.Eq.laws one holds.map.distinct found.2
     (beside (m.limiter, before) m.hasher m.moved m.placed m.shrunk m.entry_bytes
     (g.L.LinkType.LinkType.number g.L.LinkType.LinkType.MAX)) (noted_replaced before replacement b t u l is) in
-    let (after, had, trimmed) = c.trim.ensures.handed first before
+    let (after, had, trimmed) = c.evict_over_limit.ensures.handed first before
     (subst (λ s. Takes g.F.FnMut first before s) (sym (c.replace.ensures.kept c.if-not-replace.false)) taken) in (
       after,
       had,
-      rw (← c.self.view_is) (replaced was there taken_it (ap Ok c.trim.ensures.left)
-          (leaves_trimmed (noting rules) (noted before old) (noted before mid) (noted after c.trim.new.self) _ leaves
+      rw (← c.self.view_is) (replaced was there taken_it (ap Ok c.evict_over_limit.ensures.left)
+          (leaves_trimmed (noting rules) (noted before old) (noted before mid) (noted after c.evict_over_limit.new.self) _ leaves
           trimmed)),
     )

@@ -1,11 +1,11 @@
 use Rattle.std.proofs.Common.{Some, None, refl, ap, sym, ◌∙◌, subst}
-use Rattle.schnellru.specs.Inside.Linked.{pairs_of}
+use Rattle.schnellru.specs.Inside.OrderedTable.{pairs_of}
 use Rattle.schnellru.specs.Inside.Holds.{state_of}
 use Rattle.schnellru.specs.Inserts.{no_memory_to_admit, not_admitted, admitted}
 use Rattle.schnellru.specs.HandedOver.{noted}
 use Rattle.schnellru.proofs.Maps.Fields.{beside_of}
-use Rattle.schnellru.proofs.LinkedTables.BucketPairs.{pairs-length}
-use Rattle.schnellru.proofs.LinkedTables.Searches.{lookup_alike}
+use Rattle.schnellru.proofs.OrderedTables.BucketPairs.{pairs-length}
+use Rattle.schnellru.proofs.OrderedTables.Searches.{lookup_alike}
 use Rattle.schnellru.proofs.map.LruMap.insert_new.Goals as goal
 
 pub returns-in_err-pair-clause-handed : goal.returns-in_err-pair-clause-handed
@@ -23,8 +23,8 @@ returns-in_err-pair-clause-handed g c =
           (ap (λ l. noted before (state_of m.entries (record rest { limiter = l }))) c.in_err-pair.ensures.unchanged)),
     )
 
-pub place_new-requires-clause-hash : goal.place_new-requires-clause-hash
-place_new-requires-clause-hash g c =
+pub insert_pair-requires-clause-hash : goal.insert_pair-requires-clause-hash
+insert_pair-requires-clause-hash g c =
     let m = c.self.inside in let pair = c.in-Some.pair in
     let given : g.L.Insertion.offers.on_insert m.limiter c.len.result c.args.key c.args.value c.on_insert.new.self
     (Some pair) = rw c.in-Some.is at c.in_ok-pair.ensures.offered in
@@ -32,8 +32,8 @@ place_new-requires-clause-hash g c =
     pair.0 pair.1 given in
     (rw (← c.self.view_is) at c.requires.hash) pair.0 named
 
-pub place_new-requires-clause-absent : goal.place_new-requires-clause-absent
-place_new-requires-clause-absent g c =
+pub insert_pair-requires-clause-absent : goal.insert_pair-requires-clause-absent
+insert_pair-requires-clause-absent g c =
     let m = c.self.inside in let pair = c.in-Some.pair in
     let given : g.L.Insertion.offers.on_insert m.limiter c.len.result c.args.key c.args.value c.on_insert.new.self
     (Some pair) = rw c.in-Some.is at c.in_ok-pair.ensures.offered in
@@ -50,7 +50,7 @@ returns-in-Some-clause-handed g c =
     let given = subst (λ n. g.L.Insertion.offers.on_insert m.limiter n c.args.key c.args.value c.on_insert.new.self
     (Some c.in-Some.pair)) len (rw c.in-Some.is at c.in_ok-pair.ensures.offered) in
     λ first before taken.
-    let (after, had, step) = c.place_new.ensures.handed first before taken in (
+    let (after, had, step) = c.insert_pair.ensures.handed first before taken in (
       after,
       had,
       rw (← c.self.view_is) (admitted absent (c.on_insert.new.self, before) c.in-Some.pair (given, refl) step),

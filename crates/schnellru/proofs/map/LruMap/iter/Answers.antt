@@ -1,7 +1,7 @@
 use Rattle.std.proofs.Common.{ap, length}
 use Rattle.std.proofs.iter.runs.Sources.{from_front, from_back}
 use Rattle.std.specs.Map.Iter.{deref_pair, TakesFirst, TakesLast}
-use Rattle.schnellru.proofs.LinkedTables.WalkRests.{rest-whole}
+use Rattle.schnellru.proofs.OrderedTables.WalkRests.{rest-whole}
 use Rattle.schnellru.proofs.map.LruMap.iter.Goals as goal
 
 pub returns-clause-runs : goal.returns-clause-runs

@@ -1,7 +1,7 @@
 use Rattle.std.proofs.Common.{refl, sym, ◌∙◌}
 use Rattle.schnellru.proofs.Maps.Fields.{beside_of}
-use Rattle.schnellru.proofs.LinkedTables.NewestPair.{newest_state, newest_holds, newest_is}
-use Rattle.schnellru.proofs.LinkedTables.Writes.{same_follow}
+use Rattle.schnellru.proofs.OrderedTables.NewestPair.{newest_state, newest_holds, newest_is}
+use Rattle.schnellru.proofs.OrderedTables.Writes.{same_follow}
 use Rattle.schnellru.proofs.map.LruMap.newest_mut.Goals as goal
 
 pub invariant_of-self-lent : goal.invariant_of-self-lent

@@ -1,24 +1,21 @@
 use Rattle.std.proofs.Common.{refl, sym, ap, ◌∙◌, subst, unwrap_or, ◌≡◌, true}
+use Rattle.schnellru.specs.Inside.OrderedTable.{pairs_of}
 use Rattle.schnellru.proofs.Maps.Fields.{beside_of}
-use Rattle.schnellru.proofs.LinkedTables.BucketPairs.{value_found}
-use Rattle.schnellru.proofs.LinkedTables.Searches.{no_value}
+use Rattle.schnellru.proofs.OrderedTables.BucketPairs.{value_found}
+use Rattle.schnellru.proofs.OrderedTables.Searches.{pair_of_place}
+use Rattle.schnellru.proofs.PairLists.NamedPlaces.{no_named_value}
 use Rattle.schnellru.proofs.Maps.Promotions.{written_is_map}
-use Rattle.schnellru.proofs.LinkedTables.Writes.{kept_holds, kept_state, same_follow}
+use Rattle.schnellru.proofs.OrderedTables.Writes.{kept_holds, kept_state, same_follow}
 use Rattle.schnellru.proofs.map.LruMap.peek_mut.Goals as goal
 
 pub returns-in_err-b : goal.returns-in_err-b
-returns-in_err-b g c =
-    let m = c.self.inside in let holds = c.self.invariant in
-    let hash_of = g.S.KeyHasher.hash_of m.hasher in
-    let none = no_value m.entries holds.linked (g.Q.LookupKey.names c.args.key.now) hash_of c.hash_named.result
-    c.hash_named.ensures
-    (c.in_err-b.ensures.none hash_of holds.fits) in
+returns-in_err-b g c = let names = g.Q.LookupKey.names c.args.key.now in
     rw (c.from_residual.ensures, ← c.self.view_is) (
       refl,
       record {
         writes_back = tt;
-        value = sym none;
-        map = λ last. written_is_map _ (g.Q.LookupKey.names c.args.key.now) last holds.map;
+        value = sym (no_named_value names (pairs_of c.self.inside.entries) c.in_err-b.ensures.none);
+        map = λ last. written_is_map _ names last c.self.invariant.map;
       },
     )
 
@@ -26,25 +23,26 @@ pub invariant_of-self-lent : goal.invariant_of-self-lent
 invariant_of-self-lent g c = λ w.
     let m = c.self.inside in
     let rest = beside_of m (g.L.LinkType.LinkType.number g.L.LinkType.LinkType.MAX) in
-    let t = m.entries in let holds = c.self.invariant in let found = c.in_ok-b.ensures.found in
-    let now = c.pair_mut.result.now in
-    let key : found.0 ≡ (now.key, now.value) = ap (λ o. unwrap_or o found.0) (sym found.1 ∙ c.pair_mut.ensures.pair) in
+    let t = m.entries in let holds = c.self.invariant in let now = c.pair_mut.result.now in
+    let names = g.Q.LookupKey.names c.args.key.now in let one = g.met.Q.LookupKey.laws.one c.args.key.now in
+    let (p, there, is) = pair_of_place t holds.linked names g.met.K.Eq.laws one holds.map.distinct c.in_ok-b.b
+    c.in_ok-b.ensures.found in
+    let key : p ≡ (now.key, now.value) = ap (λ o. unwrap_or o p) (sym there ∙ c.pair_mut.ensures.pair) in
     let hash_of = g.S.KeyHasher.hash_of in
-    kept_holds t holds.linked c.in_ok-b.b (now.key, now.value) c.pair_mut.ensures.pair
-    (g.Q.LookupKey.names c.args.key.now) g.met.K.Eq.laws (g.met.Q.LookupKey.laws.one c.args.key.now)
-    (subst (λ p. g.Q.LookupKey.names c.args.key.now p.0 ≡ true) key found.2)
-    holds.map.distinct rest w hash_of holds
+    kept_holds t holds.linked c.in_ok-b.b (now.key, now.value) c.pair_mut.ensures.pair names g.met.K.Eq.laws one
+    (subst (λ p. names p.0 ≡ true) key is) holds.map.distinct rest w hash_of holds
     (c.pair_mut.ensures.linked (now.key, w)) (c.pair_mut.ensures.fits (hash_of m.hasher) holds.fits (now.key, w) refl)
 
 pub returns : goal.returns
 returns g c =
     let m = c.self.inside in
     let rest = beside_of m (g.L.LinkType.LinkType.number g.L.LinkType.LinkType.MAX) in
-    let t = m.entries in let holds = c.self.invariant in let found = c.in_ok-b.ensures.found in
+    let t = m.entries in let holds = c.self.invariant in let now = c.pair_mut.result.now in
     let names = g.Q.LookupKey.names c.args.key.now in let one = g.met.Q.LookupKey.laws.one c.args.key.now in
-    let now = c.pair_mut.result.now in
-    let key : found.0 ≡ (now.key, now.value) = ap (λ o. unwrap_or o found.0) (sym found.1 ∙ c.pair_mut.ensures.pair) in
-    let named : names now.key ≡ true = subst (λ p. names p.0 ≡ true) key found.2 in
+    let (p, there, is) = pair_of_place t holds.linked names g.met.K.Eq.laws one holds.map.distinct c.in_ok-b.b
+    c.in_ok-b.ensures.found in
+    let key : p ≡ (now.key, now.value) = ap (λ o. unwrap_or o p) (sym there ∙ c.pair_mut.ensures.pair) in
+    let named : names now.key ≡ true = subst (λ p. names p.0 ≡ true) key is in
     rw (← c.self.view_is) (
       same_follow _ _ _ (λ w. kept_state t holds.linked c.in_ok-b.b
           (now.key, now.value) c.pair_mut.ensures.pair names g.met.K.Eq.laws one named holds.map.distinct

@@ -1,7 +1,7 @@
 use Rattle.std.proofs.Common.{sym, ◌∙◌}
 use Rattle.schnellru.proofs.Maps.Fields.{beside_of}
-use Rattle.schnellru.proofs.LinkedTables.BucketPairs.{newest_full, newest_is, others_newest}
-use Rattle.schnellru.proofs.LinkedTables.TakenPairs.{taken_pairs, taken_left, taken_told, taken_leaves, taken_holds}
+use Rattle.schnellru.proofs.OrderedTables.BucketPairs.{newest_full, newest_is, others_newest}
+use Rattle.schnellru.proofs.OrderedTables.TakenPairs.{taken_pairs, taken_left, taken_told, taken_leaves, taken_holds}
 use Rattle.schnellru.proofs.map.LruMap.pop_newest.Goals as goal
 
 pub take_out-requires : goal.take_out-requires

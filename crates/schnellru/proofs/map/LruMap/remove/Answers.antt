@@ -1,20 +1,14 @@
 use Rattle.std.proofs.Common.{◌≡◌, true, sym, ap, ◌∙◌, subst, unwrap_or, option_map}
 use Rattle.schnellru.proofs.Maps.Fields.{beside_of}
-use Rattle.schnellru.proofs.LinkedTables.BucketPairs.{pair_found, others_are}
-use Rattle.schnellru.proofs.LinkedTables.Searches.{not_found}
-use Rattle.schnellru.proofs.LinkedTables.TakenPairs.{none_removed, taken_pairs, taken_left, taken_told, taken_leaves}
-use Rattle.schnellru.proofs.LinkedTables.TakenPairs.{taken_holds}
+use Rattle.schnellru.proofs.OrderedTables.BucketPairs.{pair_found, others_are}
+use Rattle.schnellru.proofs.OrderedTables.Searches.{pair_of_place}
+use Rattle.schnellru.proofs.OrderedTables.TakenPairs.{none_removed, taken_pairs, taken_left, taken_told, taken_leaves}
+use Rattle.schnellru.proofs.OrderedTables.TakenPairs.{taken_holds}
 use Rattle.schnellru.proofs.map.LruMap.remove.Goals as goal
 
 pub returns-in_err-b : goal.returns-in_err-b
-returns-in_err-b g c =
-    let m = c.self.inside in let holds = c.self.invariant in
-    let hash_of = g.S.KeyHasher.hash_of m.hasher in
-    let none = not_found m.entries holds.linked (g.Q.LookupKey.names c.args.key.now) hash_of c.hash_named.result
-    c.hash_named.ensures
-    (c.in_err-b.ensures.none hash_of holds.fits) in
-    rw (c.from_residual.ensures, ← c.self.view_is)
-    (record { step = none_removed g.L.Limiter.rules (g.Q.LookupKey.names c.args.key.now) _ none })
+returns-in_err-b g c = rw c.from_residual.ensures
+    (record { step = none_removed g.L.Limiter.rules (g.Q.LookupKey.names c.args.key.now) _ c.in_err-b.ensures.none })
 
 pub invariant_of-self : goal.invariant_of-self
 invariant_of-self g c =
@@ -29,8 +23,10 @@ pub returns : goal.returns
 returns g c =
     let m = c.self.inside in
     let rest = beside_of m (g.L.LinkType.LinkType.number g.L.LinkType.LinkType.MAX) in
-    let holds = c.self.invariant in let found = c.in_ok-b.ensures.found in
+    let holds = c.self.invariant in
     let names = g.Q.LookupKey.names c.args.key.now in let one = g.met.Q.LookupKey.laws.one c.args.key.now in
+    let found = pair_of_place m.entries holds.linked names g.met.K.Eq.laws one holds.map.distinct c.in_ok-b.b
+    (rw (← c.self.view_is) at c.in_ok-b.ensures.found) in
     let took = c.take_out-value in let out = took.ensures.taken in
     let rules = g.L.Limiter.rules in let t = m.entries in let u = took.new.entries in let l = took.new.limiter in
     let key = ap (λ o. unwrap_or o found.0) (sym found.1 ∙ out.there) in

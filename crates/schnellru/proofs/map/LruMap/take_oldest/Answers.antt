@@ -1,7 +1,7 @@
 use Rattle.schnellru.proofs.Maps.Fields.{beside_of}
-use Rattle.schnellru.proofs.LinkedTables.BucketPairs.{oldest_is, others_oldest}
+use Rattle.schnellru.proofs.OrderedTables.BucketPairs.{oldest_is, others_oldest}
 use Rattle.std.proofs.Common.{sym, ◌∙◌}
-use Rattle.schnellru.proofs.LinkedTables.TakenPairs.{taken_pairs, taken_left, taken_told, taken_leaves, taken_holds}
+use Rattle.schnellru.proofs.OrderedTables.TakenPairs.{taken_pairs, taken_left, taken_told, taken_leaves, taken_holds}
 use Rattle.schnellru.proofs.map.LruMap.take_oldest.Goals as goal
 
 pub invariant_of-self : goal.invariant_of-self

@@ -6,7 +6,7 @@ use Rattle.schnellru.specs.State.{buckets}
 use Rattle.schnellru.specs.Inside.Holds.{state_of}
 use Rattle.schnellru.specs.Reservations.{LacksRoomFor, too_many, enough_room, remade, no_memory_to_remake}
 use Rattle.schnellru.proofs.Maps.Fields.{beside_of}
-use Rattle.schnellru.proofs.LinkedTables.BucketPairs.{pairs-length}
+use Rattle.schnellru.proofs.OrderedTables.BucketPairs.{pairs-length}
 use Rattle.schnellru.proofs.TableSizes.NextTable.{stays}
 use Rattle.schnellru.proofs.Maps.Reservations.{some_there}
 use Rattle.schnellru.proofs.map.LruMap.try_reserve.Goals as goal

@@ -3,7 +3,7 @@ use Rattle.std.specs.List.{IsDistinct}
 use Rattle.group_table.specs.Sizes.{full_capacity}
 use Rattle.group_table.specs.Bucket.{marks_of, room}
 use Rattle.schnellru.specs.Sizes.{usage}
-use Rattle.schnellru.specs.Inside.Linked.{entries_in}
+use Rattle.schnellru.specs.Inside.OrderedTable.{entries_in}
 use Rattle.schnellru.proofs.PairLists.DistinctKeys.{AreDistinct}
 use Rattle.schnellru.proofs.Maps.Fields.{beside}
 use Rattle.schnellru.proofs.Maps.HeldMaps.{sized_by}

@@ -1,6 +1,6 @@
 use Rattle.std.proofs.Common.{sym, subst, arith, ◌<◌, ◌-◌}
 use Rattle.schnellru.specs.Inside.Rest.{IsRest}
-use Rattle.schnellru.proofs.LinkedTables.WalkRests.{back-some, back-full, back-next, back-cut, rest-length}
+use Rattle.schnellru.proofs.OrderedTables.WalkRests.{back-some, back-full, back-next, back-cut, rest-length}
 use Rattle.schnellru.proofs.walk.WalkDoubleEndedIterator.next_back.Goals as goal
 
 pub returns-in_err-b-clause-steps : goal.returns-in_err-b-clause-steps

@@ -1,5 +1,5 @@
 use Rattle.std.proofs.Common.{sym}
-use Rattle.schnellru.proofs.LinkedTables.WalkRests.{rest-length}
+use Rattle.schnellru.proofs.OrderedTables.WalkRests.{rest-length}
 use Rattle.schnellru.proofs.walk.WalkExactSizeIterator.len.Goals as goal
 
 pub returns-clause-value : goal.returns-clause-value

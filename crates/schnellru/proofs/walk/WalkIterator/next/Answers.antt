@@ -1,6 +1,6 @@
 use Rattle.std.proofs.Common.{ap, sym, subst, length, arith, ◌<◌, ◌-◌}
 use Rattle.schnellru.specs.Inside.Rest.{IsRest}
-use Rattle.schnellru.proofs.LinkedTables.WalkRests.{front-full, front-next, front-cut}
+use Rattle.schnellru.proofs.OrderedTables.WalkRests.{front-full, front-next, front-cut}
 use Rattle.schnellru.proofs.walk.WalkIterator.next.Goals as goal
 
 pub pair-pair-requires : goal.pair-pair-requires

@@ -1,5 +1,5 @@
 use Rattle.std.proofs.Common.{Some, ap, sym, arith}
-use Rattle.schnellru.proofs.LinkedTables.WalkRests.{rest-length}
+use Rattle.schnellru.proofs.OrderedTables.WalkRests.{rest-length}
 use Rattle.schnellru.proofs.walk.WalkIterator.size_hint.Goals as goal
 
 pub returns-clause-lower : goal.returns-clause-lower

@@ -1,0 +1,140 @@
+//! The calls of a run that answer pairs. The memory for these is taken before the map changes.
+ghost use Rattle.std.specs.Prelude.{◌≡◌, [], ◌∷◌, ◌++◌, ◌+◌, ◌≤◌, ◌<◌, option_to_list, IfOk};
+ghost use Rattle.std.specs.Result.{OnErr};
+ghost use Rattle.std.specs.Vec.{vec_len, vec_capacity};
+ghost use Rattle.schnellru.specs.Drains.{newest_given, oldest_given, pops_first};
+ghost use Rattle.schnellru.specs.HandedOver.{InsertHands};
+ghost use Rattle.schnellru.specs.State.{contents, Leaves, pops};
+ghost use Rattle.lru_replay.specs.declared.calls.call.Call.TheVariants as calls;
+ghost use Rattle.lru_replay.specs.CallRuns.{CallStep};
+ghost use Rattle.lru_replay.specs.Replies.{said};
+
+use crate::calls::call::Answer;
+use schnellru::laws::inserts_hand_over_few;
+use schnellru::{Insertion, KeyHasher, Limiter, LruMap};
+use std::alloc::{AllocError, Global};
+use std::hash::Hash;
+
+/// All pairs, newest first.
+pub fn list<K: Copy + Eq + Hash, V: Copy, L: Insertion<K, V, K>, S: KeyHasher<K>>(
+    alloc: Global,
+    map: &LruMap<K, V, L, S>,
+) -> Answer<K, V>
+    ensures { CallStep L.rules L.offers K.eq S.hash_of map.now calls.List (said result) map.now }
+{
+    let Ok(mut pairs) = Vec::with_capacity(alloc, map.len()) else {
+        return Answer::Memory;
+    };
+    for (key, value) in map.iter() {
+        pairs.push_reserved((*key, *value));
+    }
+    Answer::Pairs(pairs)
+}
+
+/// The answer to an insert that hands pairs over.
+pub fn insert_with<K: Eq + Hash + Drop, V: Drop, L: Insertion<K, V, K>, S: KeyHasher<K>>(
+    alloc: Global,
+    map: &mut LruMap<K, V, L, S>,
+    key: K,
+    value: V,
+) -> Answer<K, V>
+    ensures { CallStep L.rules L.offers K.eq S.hash_of map.old (calls.InsertWith key value) (said result) map.new }
+{
+    match insert_and_keep(alloc, map, key, value) {
+        Ok((done, out)) => Answer::Given { done, out },
+        Err(_) => Answer::Memory,
+    }
+}
+
+/// An insert, and the pairs that it hands over, for which memory is taken first.
+pub fn insert_and_keep<K: Eq + Hash + Drop, V: Drop, L: Insertion<K, V, K>, S: KeyHasher<K>>(
+    alloc: Global,
+    map: &mut LruMap<K, V, L, S>,
+    key: K,
+    value: V,
+) -> Result<(Result<bool, AllocError>, Vec<(K, V)>), AllocError>
+    ensures handed { IfOk result (λ answer. InsertHands L.rules L.offers K.eq
+        S.hash_of key value map.old answer.0 answer.1.items map.new) }
+    ensures unchanged { OnErr result (map.new ≡ map.old) }
+{
+    // Nothing at run time: it tells the proof that there is room for all that is handed over.
+    inserts_hand_over_few::<K, V, K, L, S>();
+    let mut out = Vec::with_capacity(alloc, map.len() + 1)?;
+    let done = map.insert_with(key, value, &mut |key, value| keep(&mut out, (key, value)));
+    Ok((done, out))
+}
+
+/// Adds the pair. Without room it is dropped, which `insert_and_keep` never comes to.
+fn keep<K: Drop, V: Drop>(pairs: &mut Vec<(K, V)>, pair: (K, V))
+    ensures items { vec_len pairs.old < vec_capacity pairs.old → pairs.new.items ≡ pairs.old.items ++ pair ∷ [] }
+    ensures len { vec_len pairs.old < vec_capacity pairs.old → vec_len pairs.new ≡ vec_len pairs.old + 1 }
+    ensures capacity { vec_capacity pairs.new ≡ vec_capacity pairs.old }
+{
+    if pairs.len() < pairs.capacity() {
+        pairs.push_reserved(pair);
+    }
+}
+
+/// So many of the newest pairs, then so many of the oldest. The others are dropped.
+pub fn drain_pairs<K: Eq + Hash + Drop, V: Drop, L: Insertion<K, V, K>, S: KeyHasher<K>>(
+    alloc: Global,
+    map: &mut LruMap<K, V, L, S>,
+    front: usize,
+    back: usize,
+) -> Answer<K, V>
+    ensures { CallStep L.rules L.offers K.eq S.hash_of map.old (calls.Drain front back) (said result) map.new }
+{
+    let newest = front.min(map.len());
+    let oldest = back.min(map.len() - newest);
+    let Ok(mut pairs) = Vec::with_capacity(alloc, newest + oldest) else {
+        return Answer::Memory;
+    };
+    take_newest(map, newest, &mut pairs);
+    take_oldest(map, oldest, &mut pairs);
+    map.clear();
+    Answer::Pairs(pairs)
+}
+
+/// Takes out so many of the newest pairs, one after another.
+fn take_newest<K: Eq + Hash, V, L: Limiter<K, V>, S: KeyHasher<K>>(
+    map: &mut LruMap<K, V, L, S>,
+    count: usize,
+    pairs: &mut Vec<(K, V)>,
+)
+    requires { vec_len pairs.old + count ≤ vec_capacity pairs.old }
+    ensures pairs { pairs.new.items ≡ pairs.old.items ++ newest_given L.rules count (contents map.old) }
+    ensures len { vec_len pairs.new ≤ vec_len pairs.old + count }
+    ensures capacity { vec_capacity pairs.new ≡ vec_capacity pairs.old }
+    ensures left { Leaves map.old (pops_first L.rules count (contents map.old)) map.new }
+{
+    for _ in 0..count {
+        add(pairs, map.pop_newest());
+    }
+}
+
+/// Takes out so many of the oldest pairs, one after another.
+fn take_oldest<K: Eq + Hash, V, L: Limiter<K, V>, S: KeyHasher<K>>(
+    map: &mut LruMap<K, V, L, S>,
+    count: usize,
+    pairs: &mut Vec<(K, V)>,
+)
+    requires { vec_len pairs.old + count ≤ vec_capacity pairs.old }
+    ensures pairs { pairs.new.items ≡ pairs.old.items ++ oldest_given L.rules count (contents map.old) }
+    ensures left { Leaves map.old (pops L.rules count (contents map.old)) map.new }
+{
+    for _ in 0..count {
+        add(pairs, map.pop_oldest());
+    }
+}
+
+/// Adds the pair, if there is one.
+fn add<K, V>(pairs: &mut Vec<(K, V)>, pair: Option<(K, V)>)
+    requires { vec_len pairs.old < vec_capacity pairs.old }
+    ensures items { pairs.new.items ≡ pairs.old.items ++ option_to_list pair }
+    ensures len { vec_len pairs.new ≤ vec_len pairs.old + 1 }
+    ensures capacity { vec_capacity pairs.new ≡ vec_capacity pairs.old }
+{
+    if let Some(pair) = pair {
+        pairs.push_reserved(pair);
+    }
+}

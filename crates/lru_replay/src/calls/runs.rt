@@ -1,0 +1,120 @@
+//! Lists of calls on a map.
+ghost use Rattle.std.specs.Prelude.{◌≡◌, IfOk};
+ghost use Rattle.std.specs.Result.{OnErr};
+ghost use Rattle.schnellru.specs.State.{IsMap};
+ghost use Rattle.lru_replay.specs.declared.calls.call.Call.TheVariants as calls;
+ghost use Rattle.lru_replay.specs.CallRuns.{IsRun, CallStep};
+ghost use Rattle.lru_replay.specs.Replies.{said, all_said};
+ghost use Rattle.lru_replay.specs.Steps.{ReplyStep};
+
+use crate::calls::call::{Answer, Call};
+use crate::calls::pairs::{drain_pairs, insert_with, list};
+use crate::calls::steps::{
+    get, get_by_hash, get_or_insert, insert, peek_by_hash, peek_newest, peek_oldest, stats, write,
+};
+use schnellru::{Insertion, KeyHasher, LruMap};
+use std::alloc::{AllocError, Global};
+use std::hash::Hash;
+
+/// Carries out the calls on the map, one after another, and gives their answers, one a call.
+///
+/// Each answer is that of the map's own call, and the map after the calls is as these leave it. `docs/RUNS.md` tells
+/// how a run is read.
+///
+/// ```
+/// let calls = vec![in alloc; Call::Insert(1, 10), Call::Get(1), Call::Peek(2)]?;
+/// let answers = run_calls(alloc, &mut map, calls)?;
+/// assert!(rt; answers.get(1) == Some(&Answer::Value(Some(10))));
+/// assert!(rt; answers.get(2) == Some(&Answer::Value(None)));
+/// ```
+///
+/// Cost: that of the calls, and one request for memory for the answers. `InsertWith`, `List` and `Drain` each take one
+/// more.
+///
+/// # Errors
+///
+/// `Err` says that there was no memory for the answers. No call was made then.
+pub fn run_calls<
+    K: Copy + Eq + Hash + Drop,
+    V: Copy + Drop,
+    L: Insertion<K, V, K> + Drop,
+    S: KeyHasher<K>,
+>(
+    alloc: Global,
+    map: &mut LruMap<K, V, L, S>,
+    calls: Vec<Call<K, V, L>>,
+) -> Result<Vec<Answer<K, V>>, AllocError>
+    // The answers and the map after them are a run from the map before, and each state in between is a map.
+    ensures run { IfOk result (λ answers. IsRun (CallStep L.rules L.offers K.eq S.hash_of) (IsMap K.eq)
+        map.old calls.items (all_said answers.items) map.new) }
+    ensures unmade { OnErr result (map.new ≡ map.old) }
+{
+    let mut answers = Vec::with_capacity(alloc, calls.len())?;
+    for call in calls {
+        answers.push_reserved(make_call(alloc, map, call));
+    }
+    Ok(answers)
+}
+
+/// Carries out a call.
+pub(crate) fn make_call<K, V, L, S>(
+    alloc: Global,
+    map: &mut LruMap<K, V, L, S>,
+    call: Call<K, V, L>,
+) -> Answer<K, V>
+where
+    K: Copy + Eq + Hash + Drop,
+    V: Copy + Drop,
+    L: Insertion<K, V, K> + Drop,
+    S: KeyHasher<K>,
+    ensures step { CallStep L.rules L.offers K.eq S.hash_of map.old call (said result) map.new }
+    ensures map { IsMap K.eq map.new }
+{
+    let answer = answer_to(alloc, map, call);
+    // Nothing at run time: it tells the proof that what holds of every map holds.
+    let _len = map.len();
+    answer
+}
+
+/// The answer to a call.
+fn answer_to<K, V, L, S>(
+    alloc: Global,
+    map: &mut LruMap<K, V, L, S>,
+    call: Call<K, V, L>,
+) -> Answer<K, V>
+where
+    K: Copy + Eq + Hash + Drop,
+    V: Copy + Drop,
+    L: Insertion<K, V, K> + Drop,
+    S: KeyHasher<K>,
+    ensures { CallStep L.rules L.offers K.eq S.hash_of map.old call (said result) map.new }
+{
+    match call {
+        Call::Insert(key, value) => insert(map, key, value),
+        Call::InsertWith(key, value) => insert_with(alloc, map, key, value),
+        Call::GetOrInsert(key, value) => get_or_insert(map, key, value),
+        Call::Get(key) => Answer::Value(get(map, &key)),
+        Call::Peek(key) => Answer::Value(map.peek(&key).copied()),
+        Call::GetByHash(hash, key) => Answer::Value(get_by_hash(map, hash, &key)),
+        Call::PeekByHash(hash, key) => Answer::Value(peek_by_hash(map, hash, &key)),
+        Call::Write(key, value) => Answer::Flag(write(map, &key, value)),
+        Call::Remove(key) => Answer::Value(map.remove(&key)),
+        Call::PopOldest => Answer::Pair(map.pop_oldest()),
+        Call::PopNewest => Answer::Pair(map.pop_newest()),
+        Call::PeekOldest => Answer::Pair(peek_oldest(map)),
+        Call::PeekNewest => Answer::Pair(peek_newest(map)),
+        Call::Reserve(n) => Answer::Reserved(map.try_reserve(n)),
+        Call::Shrink => Answer::Shrunk(map.shrink_to_fit()),
+        Call::Clear => {
+            map.clear();
+            Answer::Done
+        }
+        Call::Drain { front, back } => drain_pairs(alloc, map, front, back),
+        Call::List => list(alloc, map),
+        Call::Stats => stats(map),
+        Call::SetLimiter(limiter) => {
+            *map.limiter_mut() = limiter;
+            Answer::Done
+        }
+    }
+}

@@ -1,0 +1,103 @@
+//! Lists of calls under a limiter that keeps a sum.
+ghost use Rattle.std.specs.Prelude.{◌≡◌, IfOk, true, false};
+ghost use Rattle.std.specs.Result.{OnErr};
+ghost use Rattle.schnellru.specs.State.{contents, IsMap};
+ghost use Rattle.schnellru.specs.Theorems.{IsSummed};
+ghost use Rattle.lru_replay.specs.CallRuns.{IsRun, IsSummedFrom, SummingStep, KeepsCost};
+ghost use Rattle.lru_replay.specs.Replies.{said, all_said};
+
+use crate::calls::call::{Answer, Call};
+use crate::calls::runs::make_call;
+use schnellru::laws::runs_keep_sums;
+use schnellru::{KeyHasher, LruMap, Summing};
+use std::alloc::{AllocError, Global};
+use std::hash::Hash;
+
+/// Carries out the calls on the map as `run_calls` does, but for those that would change the sum behind the limiter's
+/// back.
+///
+/// A write that would change the cost of its pair, and a setting of a limiter that has another account, are answered
+/// `CostDiffers`, and change nothing. So an account that is the sum of the costs stays it, after every call.
+///
+/// ```
+/// let calls = vec![in alloc; Call::Insert(1, 2), Call::Write(1, 3), Call::Peek(1)]?;
+/// let answers = run_summing(alloc, &mut costs, calls)?;
+/// assert!(rt; answers.get(1) == Some(&Answer::CostDiffers));
+/// assert!(rt; answers.get(2) == Some(&Answer::Value(Some(2))));
+/// ```
+///
+/// Cost: that of `run_calls`, and one look-up more for each `Write`.
+///
+/// # Errors
+///
+/// `Err` says that there was no memory for the answers. No call was made then.
+pub fn run_summing<K, V, L, S>(
+    alloc: Global,
+    map: &mut LruMap<K, V, L, S>,
+    calls: Vec<Call<K, V, L>>,
+) -> Result<Vec<Answer<K, V>>, AllocError>
+where
+    K: Copy + Eq + Hash + Drop,
+    V: Copy + Drop,
+    L: Summing<K, V, K> + Drop,
+    S: KeyHasher<K>,
+    // The answers and the map after them are a run from the map before, and each state in between is a map, with an
+    // account that is the sum of the costs if it was so before.
+    ensures run { IfOk result (λ answers. IsRun (SummingStep L.rules L.offers K.eq S.hash_of
+        L.cost_of L.account) (IsSummedFrom K.eq L.cost_of L.account map.old)
+        map.old calls.items (all_said answers.items) map.new) }
+    // So it is after all calls.
+    ensures account { IsSummed L.cost_of L.account map.old → IsSummed L.cost_of L.account map.new }
+    ensures unmade { OnErr result (map.new ≡ map.old) }
+{
+    let mut answers = Vec::with_capacity(alloc, calls.len())?;
+    for call in calls {
+        answers.push_reserved(make_summing_call(alloc, map, call));
+    }
+    Ok(answers)
+}
+
+/// Carries out a call, unless the sum would change by it.
+fn make_summing_call<K, V, L, S>(
+    alloc: Global,
+    map: &mut LruMap<K, V, L, S>,
+    call: Call<K, V, L>,
+) -> Answer<K, V>
+where
+    K: Copy + Eq + Hash + Drop,
+    V: Copy + Drop,
+    L: Summing<K, V, K> + Drop,
+    S: KeyHasher<K>,
+    ensures step { SummingStep L.rules L.offers K.eq S.hash_of
+        L.cost_of L.account map.old call (said result) map.new }
+    ensures map { IsMap K.eq map.new }
+    ensures account { IsSummed L.cost_of L.account map.old → IsSummed L.cost_of L.account map.new }
+{
+    runs_keep_sums::<K, V, K, L, S>();
+    if !keeps_cost(map, &call) {
+        return Answer::CostDiffers;
+    }
+    make_call(alloc, map, call)
+}
+
+/// Whether the sum of the costs stays that of the account by the call.
+fn keeps_cost<K, V, L, S>(map: &LruMap<K, V, L, S>, call: &Call<K, V, L>) -> bool
+where
+    K: Eq + Hash,
+    L: Summing<K, V, K>,
+    S: KeyHasher<K>,
+    ensures map { IsMap K.eq map.now }
+    ensures yes { result ≡ true → KeepsCost K.eq L.cost_of L.account (contents map.now) call.now }
+    ensures no { result ≡ false → KeepsCost K.eq L.cost_of L.account (contents map.now) call.now → ⊥ }
+{
+    // Nothing at run time: it tells the proof that what holds of every map holds.
+    let _len = map.len();
+    match call {
+        Call::Write(key, value) => match map.peek_key_value(key) {
+            Some((stored, old)) => L::cost_of(stored, value) == L::cost_of(stored, old),
+            None => true,
+        },
+        Call::SetLimiter(limiter) => limiter.account() == map.limiter().account(),
+        _ => true,
+    }
+}

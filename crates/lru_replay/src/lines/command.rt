@@ -1,0 +1,183 @@
+//! What a line says: a command, which is a call on the map, or, the first line, what limits the map.
+ghost use Rattle.std.specs.Prelude.{◌≡◌, ◌≢◌, ℕ, List, ◌++◌, IfSome, IfNone, true, false};
+ghost use Rattle.lru_replay.specs.Grammar.{SpellsCommand, IsPlain, SpellsLimit, SpellsPair, SpellsNumber};
+ghost use Rattle.lru_replay.specs.Grammar.{StartsAsNumber};
+
+use crate::lines::bytes::index_of;
+
+/// A call on the map that a line spells.
+#[derive(Clone, Copy, Debug, PartialEq, Eq)]
+pub enum Command {
+    /// `insert K V`: makes the pair of this key and value the newest.
+    Insert(u64, u64),
+    /// `put K V`: the same as `insert`, and gives the pairs that leave.
+    Put(u64, u64),
+    /// `get K`: gives the value of the key, and makes its pair the newest.
+    Get(u64),
+    /// `peek K`: gives the value of the key.
+    Peek(u64),
+    /// `remove K`: takes the pair of the key out, and gives its value.
+    Remove(u64),
+    /// `pop-oldest`: takes the oldest pair out, and gives it.
+    PopOldest,
+    /// `pop-newest`: takes the newest pair out, and gives it.
+    PopNewest,
+    /// `reserve N`: makes room for so many pairs more.
+    Reserve(u64),
+    /// `shrink`: moves the pairs into as few buckets as hold them.
+    Shrink,
+    /// `drain N`: gives the newest pairs, at most so many, and drops all.
+    Drain(u64),
+    /// `clear`: drops all pairs.
+    Clear,
+    /// `list`: gives all pairs.
+    List,
+    /// `stats`: gives the figures of the map.
+    Stats,
+}
+
+/// What limits the map.
+#[derive(Clone, Copy, Debug, PartialEq, Eq)]
+pub enum Limit {
+    /// `length N`: at most so many pairs.
+    Length(u32),
+    /// `memory N E`: a table of at most N bytes, where an entry has E.
+    Memory(usize, usize),
+    /// `cost N`: at most this sum of the values.
+    Cost(u64),
+    /// `compact`: nothing does.
+    Compact,
+}
+
+/// What stands after the word, if the line begins with it.
+fn after<'a>(line: &'a [u8], word: &[u8]) -> Option<&'a [u8]>
+    ensures some { IfSome result (λ rest. line.now ≡ word.now ++ rest.now) }
+    ensures none { IfNone result ((rest : List ℕ) → line.now ≢ word.now ++ rest) }
+{
+    line.strip_prefix(word)
+}
+
+/// Whether the word can begin a number: not by a sign, nor by a zero in front of another digit.
+fn starts_as_number(word: &[u8]) -> bool
+    ensures yes { result ≡ true → StartsAsNumber word.now }
+    ensures no { result ≡ false → StartsAsNumber word.now → ⊥ }
+{
+    if word.is_empty() || word[0] == b'+' {
+        return false;
+    }
+    word[0] != b'0' || word.len() == 1
+}
+
+/// A number in decimal digits, with no zero in front of another digit.
+fn number(word: &[u8]) -> Option<u64>
+    ensures some { IfSome result (λ n. SpellsNumber word.now n) }
+    ensures none { IfNone result ((n : ℕ) → SpellsNumber word.now n → ⊥) }
+{
+    if !starts_as_number(word) {
+        return None;
+    }
+    let text = str::from_utf8(word).ok()?;
+    text.parse().ok()
+}
+
+/// Two numbers with one space between them.
+fn number_pair(words: &[u8]) -> Option<(u64, u64)>
+    ensures some { IfSome result (λ pair. SpellsPair words.now pair.0 pair.1) }
+    ensures none { IfNone result ((k v : ℕ) → SpellsPair words.now k v → ⊥) }
+{
+    let at = index_of(words, b' ');
+    if at == words.len() {
+        return None;
+    }
+    let first = number(&words[..at])?;
+    let second = number(&words[at + 1..])?;
+    Some((first, second))
+}
+
+/// The command that the line spells.
+pub fn command_of(line: &[u8]) -> Option<Command>
+    ensures some { IfSome result (λ command. SpellsCommand line.now command) }
+    ensures none { IfNone result ((command : Command) → SpellsCommand line.now command → ⊥) }
+{
+    if let Some(rest) = after(line, b"insert ") {
+        let (key, value) = number_pair(rest)?;
+        return Some(Command::Insert(key, value));
+    }
+    if let Some(rest) = after(line, b"put ") {
+        let (key, value) = number_pair(rest)?;
+        return Some(Command::Put(key, value));
+    }
+    if let Some(rest) = after(line, b"get ") {
+        let key = number(rest)?;
+        return Some(Command::Get(key));
+    }
+    if let Some(rest) = after(line, b"peek ") {
+        let key = number(rest)?;
+        return Some(Command::Peek(key));
+    }
+    if let Some(rest) = after(line, b"remove ") {
+        let key = number(rest)?;
+        return Some(Command::Remove(key));
+    }
+    if let Some(rest) = after(line, b"reserve ") {
+        let n = number(rest)?;
+        return Some(Command::Reserve(n));
+    }
+    if let Some(rest) = after(line, b"drain ") {
+        let n = number(rest)?;
+        return Some(Command::Drain(n));
+    }
+    plain_command_of(line)
+}
+
+/// The command that the line spells by one word alone.
+fn plain_command_of(line: &[u8]) -> Option<Command>
+    ensures some { IfSome result (λ command. SpellsCommand line.now command) }
+    ensures none { IfNone result ((command : Command) → IsPlain command → SpellsCommand line.now command → ⊥) }
+{
+    if line == b"list".as_slice() {
+        return Some(Command::List);
+    }
+    if line == b"pop-oldest".as_slice() {
+        return Some(Command::PopOldest);
+    }
+    if line == b"pop-newest".as_slice() {
+        return Some(Command::PopNewest);
+    }
+    if line == b"clear".as_slice() {
+        return Some(Command::Clear);
+    }
+    if line == b"stats".as_slice() {
+        return Some(Command::Stats);
+    }
+    if line == b"shrink".as_slice() {
+        return Some(Command::Shrink);
+    }
+    None
+}
+
+/// The limit that the line names.
+pub fn limit_of(line: &[u8]) -> Option<Limit>
+    ensures some { IfSome result (λ limit. SpellsLimit line.now limit) }
+    ensures none { IfNone result ((limit : Limit) → SpellsLimit line.now limit → ⊥) }
+{
+    if let Some(rest) = after(line, b"length ") {
+        let n = number(rest)?;
+        if n > u32::MAX as u64 {
+            return None;
+        }
+        return Some(Limit::Length(n as u32));
+    }
+    if let Some(rest) = after(line, b"memory ") {
+        let (budget, entry_bytes) = number_pair(rest)?;
+        return Some(Limit::Memory(budget as usize, entry_bytes as usize));
+    }
+    if let Some(rest) = after(line, b"cost ") {
+        let most = number(rest)?;
+        return Some(Limit::Cost(most));
+    }
+    if line == b"compact".as_slice() {
+        return Some(Limit::Compact);
+    }
+    None
+}

@@ -1,0 +1,32 @@
+//! The line `put`: an insert whose pairs that leave are stored, and written after its answer.
+ghost use Rattle.std.specs.Prelude.{ℕ, Option};
+ghost use Rattle.lru_replay.specs.declared.lines.command.Command.TheVariants as commands;
+ghost use Rattle.lru_replay.specs.LineRuns.{AnswersCommand};
+ghost use Rattle.lru_replay.specs.Output.{Writes, reply_text};
+ghost use Rattle.lru_replay.specs.Replies.{Reply};
+
+use crate::lines::outcome::ReplayError;
+use crate::lines::output::{write_bytes, write_given};
+use crate::calls::pairs::insert_and_keep;
+use schnellru::{Insertion, LruMap};
+use std::alloc::Global;
+use std::io::Write;
+
+/// Inserts, and writes the answer and then the pairs that were handed over. Nothing changes where no memory is found to
+/// store them.
+pub fn write_put<L: Insertion<u64, u64, u64>, W: Write>(
+    alloc: Global,
+    map: &mut LruMap<u64, u64, L>,
+    key: u64,
+    value: u64,
+    writer: &mut W,
+) -> Result<(), ReplayError>
+    ensures { (cost : Option ℕ) → (reply : Reply ℕ ℕ)
+        × AnswersCommand L.rules L.offers map.old (commands.Put key value) reply map.new
+        × Writes (W.contents writer.old) (W.contents writer.new) result (reply_text cost reply) }
+{
+    match insert_and_keep(alloc, map, key, value) {
+        Ok((done, out)) => write_given(writer, done, out.as_slice()),
+        Err(_) => write_bytes(writer, b"no memory"),
+    }
+}

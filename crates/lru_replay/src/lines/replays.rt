@@ -1,0 +1,228 @@
+//! A replay, from the lines of a reader to the answer lines of a writer.
+ghost use Rattle.std.specs.Prelude.{◌≡◌, ◌↔◌, ℕ, nat_eq, List, IfSome, OnOk, IsErrOf};
+ghost use Rattle.std.specs.Io.KnownBytes.{Appends, IsAtEnd};
+ghost use Rattle.std.specs.Option.{OnSome};
+ghost use Rattle.schnellru.specs.Calls.{promoted};
+ghost use Rattle.schnellru.specs.Lists.{lookup};
+ghost use Rattle.schnellru.specs.State.{IsSized};
+ghost use Rattle.lru_replay.specs.Lines.{lines_of, TakesFirst};
+ghost use Rattle.lru_replay.specs.Maps.{empty};
+ghost use Rattle.lru_replay.specs.Output.{Writes, no_limiter_text};
+ghost use Rattle.lru_replay.specs.Replay.{IsTextUnder, NamesNoLimit, WritesReplay, WritesSoFar, WritesCut};
+ghost use Rattle.lru_replay.specs.Replay.{WritesCutSoFar, Replays};
+ghost use Rattle.lru_replay.specs.LineRuns.{LineStep, AnswersLine, IsTextOf, Answers};
+
+use crate::lines::command::{Command, Limit, command_of, limit_of};
+use crate::lines::drain::write_drain;
+use crate::lines::figures::{TellsCost, figures_of};
+use crate::lines::line::{Ending, Line, read_line};
+use crate::lines::outcome::{ReplayEnd, ReplayError};
+use crate::lines::output::{
+    write_bytes, write_cost, write_figures, write_insert, write_left, write_pairs,
+    write_reservation, write_shrink, write_value,
+};
+use crate::lines::put::write_put;
+use crate::calls::steps::get;
+use schnellru::{
+    ByCost, ByLength, ByMemoryUsage, Insertion, LruMap, RandomState, UnlimitedCompact,
+};
+use std::alloc::Global;
+use std::io::{BufRead, Write};
+
+/// The bytes of an entry, by which the memory of a map is counted.
+const ENTRY_BYTES: usize = 32;
+
+/// Carries out what a line says, and writes the answer.
+fn answer_command<L: Insertion<u64, u64, u64> + TellsCost, W: Write>(
+    alloc: Global,
+    map: &mut LruMap<u64, u64, L>,
+    line: &[u8],
+    writer: &mut W,
+) -> Result<(), ReplayError>
+    ensures { (text : List ℕ) × LineStep L.rules L.offers L.told map.old line.now text map.new
+        × Writes (W.contents writer.old) (W.contents writer.new) result text }
+{
+    match command_of(line) {
+        Some(Command::Insert(key, value)) => write_insert(writer, map.insert(key, value)),
+        Some(Command::Put(key, value)) => write_put(alloc, map, key, value, writer),
+        Some(Command::Get(key)) => write_value(writer, get(map, &key)),
+        Some(Command::Peek(key)) => write_value(writer, map.peek(&key).copied()),
+        Some(Command::Remove(key)) => write_value(writer, map.remove(&key)),
+        Some(Command::PopOldest) => write_left(writer, map.pop_oldest()),
+        Some(Command::PopNewest) => write_left(writer, map.pop_newest()),
+        Some(Command::Reserve(n)) => write_reservation(writer, map.try_reserve(n as usize)),
+        Some(Command::Shrink) => write_shrink(writer, map.shrink_to_fit()),
+        Some(Command::Drain(n)) => write_drain(map, n, writer),
+        Some(Command::Clear) => {
+            map.clear();
+            write_bytes(writer, b"ok")
+        }
+        Some(Command::List) => write_pairs(writer, map.iter()),
+        Some(Command::Stats) => {
+            write_figures(writer, figures_of(map))?;
+            write_cost(writer, map.limiter().told_cost())
+        }
+        None => write_bytes(writer, b"bad"),
+    }
+}
+
+/// Carries out what a line says, and writes the answer line.
+fn answer_line<L: Insertion<u64, u64, u64> + TellsCost, W: Write>(
+    alloc: Global,
+    map: &mut LruMap<u64, u64, L>,
+    line: &[u8],
+    writer: &mut W,
+) -> Result<(), ReplayError>
+    ensures step { AnswersLine L.rules L.offers L.told map.old line.now map.new
+        (W.contents writer.old) (W.contents writer.new) result }
+    ensures sized { IsSized map.new }
+{
+    let carried_out = answer_command(alloc, map, line, writer);
+    learn(map);
+    carried_out?;
+    write_bytes(writer, b"\n")
+}
+
+/// Does nothing: the table of every map is sound, as `len` says.
+fn learn<L: Insertion<u64, u64, u64>>(map: &LruMap<u64, u64, L>)
+    ensures { IsSized map.now }
+{
+    let _len = map.len();
+}
+
+/// Answers the lines up to the reader's end.
+fn answer_lines<L: Insertion<u64, u64, u64> + TellsCost, R: BufRead, W: Write>(
+    alloc: Global,
+    map: &mut LruMap<u64, u64, L>,
+    reader: &mut R,
+    writer: &mut W,
+) -> Result<(), ReplayError>
+    ensures { Answers (IsTextOf L.rules L.offers L.told map.old) (R.remaining reader.old) (R.remaining reader.new)
+        (W.contents writer.old) (W.contents writer.new) result }
+{
+    let mut line = Line::new();
+    for _ in 0..u64::MAX {
+        match read_line(reader, &mut line)? {
+            Ending::Feed => answer_line(alloc, map, line.as_slice(), writer)?,
+            Ending::InputEnd => return answer_line(alloc, map, line.as_slice(), writer),
+            Ending::Nothing => return Ok(()),
+        }
+    }
+    Err(ReplayError::Read)
+}
+
+/// Answers the lines on an empty map with this limiter, and so many bytes an entry.
+fn answer_with<L: Insertion<u64, u64, u64> + TellsCost + Drop, R: BufRead, W: Write>(
+    alloc: Global,
+    limiter: L,
+    entry_bytes: usize,
+    reader: &mut R,
+    writer: &mut W,
+) -> Result<(), ReplayError>
+    ensures { Answers (IsTextOf L.rules L.offers L.told (empty limiter entry_bytes (L.LinkType.number L.LinkType.MAX)))
+        (R.remaining reader.old) (R.remaining reader.new) (W.contents writer.old) (W.contents writer.new) result }
+{
+    let mut map = LruMap::with_hasher(alloc, limiter, RandomState::default(), entry_bytes);
+    answer_lines(alloc, &mut map, reader, writer)
+}
+
+/// Answers the lines on an empty map under the limit.
+fn answer_under<R: BufRead, W: Write>(
+    alloc: Global,
+    limit: Limit,
+    reader: &mut R,
+    writer: &mut W,
+) -> Result<(), ReplayError>
+    ensures { Answers (IsTextUnder limit) (R.remaining reader.old) (R.remaining reader.new)
+        (W.contents writer.old) (W.contents writer.new) result }
+{
+    match limit {
+        Limit::Length(most) => answer_with(alloc, ByLength::new(most), ENTRY_BYTES, reader, writer),
+        Limit::Memory(budget, entry_bytes) => {
+            let limiter = ByMemoryUsage::new(budget);
+            answer_with(alloc, limiter, entry_bytes, reader, writer)
+        }
+        Limit::Cost(most) => answer_with(alloc, ByCost::new(most), ENTRY_BYTES, reader, writer),
+        Limit::Compact => answer_with(alloc, UnlimitedCompact, ENTRY_BYTES, reader, writer),
+    }
+}
+
+/// Reads the first line, and answers the others where it names a limit.
+fn answer_all<R: BufRead, W: Write>(
+    alloc: Global,
+    reader: &mut R,
+    writer: &mut W,
+) -> Result<ReplayEnd, ReplayError>
+    ensures { Replays (R.remaining reader.old) (R.remaining reader.new)
+        (W.contents writer.old) (W.contents writer.new) result }
+{
+    let mut line = Line::new();
+    let ending = read_line(reader, &mut line)?;
+    let Some(limit) = limit_of(line.as_slice()) else {
+        write_bytes(writer, b"no limiter\n")?;
+        return Ok(ReplayEnd::NoLimiter);
+    };
+    let Ending::Feed = ending else {
+        return Ok(ReplayEnd::Done);
+    };
+    answer_under(alloc, limit, reader, writer)?;
+    Ok(ReplayEnd::Done)
+}
+
+/// Answers all lines, and flushes what is written, unless a write failed.
+fn answer_and_flush<R: BufRead, W: Write>(
+    alloc: Global,
+    reader: &mut R,
+    writer: &mut W,
+) -> Result<ReplayEnd, ReplayError>
+    ensures { Replays (R.remaining reader.old) (R.remaining reader.new)
+        (W.contents writer.old) (W.contents writer.new) result }
+{
+    let end = answer_all(alloc, reader, writer);
+    if let Err(ReplayError::Write) = end {
+        return end;
+    }
+    match writer.flush() {
+        Ok(()) => end,
+        Err(_) => Err(ReplayError::Write),
+    }
+}
+
+/// Carries out the lines of the reader on an LRU map, and writes the answer lines. The first line names the
+/// limiter and has no answer; docs/REPLAY.md has the lines and their answers. What is written is flushed
+/// once, at the end, unless a write failed.
+///
+/// In the clauses, a reader's bytes and a writer's bytes are those that they tell, however they are cut
+/// into reads and writes; of one that tells nothing they say nothing.
+pub fn replay<R: BufRead, W: Write>(
+    alloc: Global,
+    reader: &mut R,
+    writer: &mut W,
+) -> Result<ReplayEnd, ReplayError>
+    // The first line names a limit, and all lines after it were answered: what was written is the text of a
+    // run over them, from the empty map.
+    ensures done { result ≡ Ok ReplayEnd.Done →
+        WritesReplay (R.remaining reader.old) (W.contents writer.old) (W.contents writer.new) }
+    ensures done_at_the_end { result ≡ Ok ReplayEnd.Done →
+        OnSome (R.remaining reader.old) (IsAtEnd (R.remaining reader.new)) }
+    // Otherwise the first line names no limit, or there is none. It alone was read, and that was written.
+    ensures no_limiter { OnOk result (IfSome (R.remaining reader.old)
+        (λ input. (result ≡ Ok ReplayEnd.NoLimiter) ↔ NamesNoLimit (lines_of input))) }
+    ensures no_limiter_text { result ≡ Ok ReplayEnd.NoLimiter →
+        Appends (W.contents writer.old) (W.contents writer.new) no_limiter_text }
+    ensures no_limiter_reads { result ≡ Ok ReplayEnd.NoLimiter →
+        TakesFirst (R.remaining reader.old) (R.remaining reader.new) }
+    // The lines that were read whole are answered, and nothing else is written.
+    ensures read_failed { IsErrOf result ReplayError.Read →
+        WritesSoFar (R.remaining reader.old) (R.remaining reader.new)
+        (W.contents writer.old) (W.contents writer.new) }
+    // What was written is a beginning of what a replay of these lines writes, and of what one of the lines that
+    // were read writes.
+    ensures write_failed { IsErrOf result ReplayError.Write →
+        WritesCut (R.remaining reader.old) (W.contents writer.old) (W.contents writer.new) }
+    ensures write_failed_reads { IsErrOf result ReplayError.Write →
+        WritesCutSoFar (R.remaining reader.old) (R.remaining reader.new)
+        (W.contents writer.old) (W.contents writer.new) }
+{
+    answer_and_flush(alloc, reader, writer)
+}

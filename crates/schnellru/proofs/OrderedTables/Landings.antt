@@ -1,0 +1,117 @@
+-- A pair lands in the first free bucket of a linked table, as the newest.
+use Rattle.std.proofs.Common.{◌≡◌, ℕ, ◌+◌, ◌^◌, ◌<◌, inl, inr, ◌∷◌, ◌++◌, length, refl, sym, ap, ◌∙◌, arith, slice_set}
+use Rattle.std.proofs.Common.{if◌then◌else◌, subst, Bool, None}
+use Rattle.std.specs.Prelude.{option_to_list}
+use Rattle.std.proofs.lemmas.List.{length-set, get_or-set_same}
+use Rattle.group_table.specs.Sizes.{full_capacity}
+use Rattle.group_table.specs.Bucket.{Mark, empty, deleted, full, is_full, is_used, bucket_at, entry_of, marks_of, room}
+use Rattle.group_table.specs.Bucket.{room_at, IsFull}
+use Rattle.group_table.specs.Probe.{hash_tag, IsFirstFree}
+use Rattle.group_table.specs.Change.{count_up}
+use Rattle.std.proofs.lemmas.Bool.{false≢true}
+use Rattle.group_table.proofs.FirstFree.{fills_within}
+use Rattle.group_table.proofs.BucketLemmas.{length-marks_of, is_full-marks_of}
+use Rattle.schnellru.specs.State.{State, buckets, IsSized, IsPaid}
+use Rattle.schnellru.specs.Place.{IsPlaced, FillsBucket}
+use Rattle.schnellru.specs.Lists.{lookup_entry}
+use Rattle.schnellru.specs.Inside.OrderedTable.{OrderedTable, IsLinked, KeysFit, Lands, pairs_of, entries_in}
+use Rattle.std.specs.List.{IsDistinct}
+use Rattle.schnellru.proofs.PairLists.DistinctKeys.{AreDistinct, absent_keys}
+use Rattle.schnellru.specs.Inside.Holds.{Beside, state_of, Holds}
+use Rattle.schnellru.proofs.OrderedTables.OrderCuts.{entries-apart}
+use Rattle.schnellru.proofs.Chains.Orders.{Lacks, lacks_unless}
+use Rattle.schnellru.proofs.TableSizes.FilledBuckets.{deleted_large}
+use Rattle.schnellru.proofs.Maps.HeldMaps.{sized_same, room_at-most}
+use Rattle.schnellru.proofs.Theorems.Potential.{pays_placing}
+use Rattle.schnellru.proofs.Theorems.PaidMoves.{paid_after}
+
+pub count_up-none : (n : ℕ) → n < 2 ^ 64 → n ≡ count_up n 0
+count_up-none n h = grind (arith, h)
+
+-- an entry went into the first free bucket of a table
+module _ {K V S H : Type 0} (old new : State K V S H) (ok : IsSized old) (hash b : ℕ) (within : b < buckets old)
+    (first : IsFirstFree old.marks hash b)
+    (filled : room new.marks + room_at old.marks b ≡ room old.marks) where
+  fills : FillsBucket hash old new
+  fills = go (bucket_at old.marks b) refl
+    where
+      counts : (m : Mark) → bucket_at old.marks b ≡ m → room_at old.marks b ≡ (if is_used m then 0 else 1)
+      counts m e = ap (λ x. if is_used x then 0 else 1) e
+
+      go : (m : Mark) → bucket_at old.marks b ≡ m → FillsBucket hash old new
+      go empty e = inl ((b, first, e), omega (arith, filled, counts empty e))
+      go deleted e = inr ((b, first, e), (deleted_large old ok b within e).0, omega (arith, filled, counts deleted e))
+      go (full held) e = absurd (false≢true (sym first.free_there ∙ ap is_full e))
+
+module _ {K V : Type 0} (t u : OrderedTable K V) (hash : ℕ) (pair : K × V) (b : ℕ) (linked : IsLinked t)
+    (lands : Lands t u hash pair b) where
+  pub lands_within : b < length t.slots
+  lands_within = fills_within t.slots hash b lands.first lands.may
+
+  pub lands_length : length u.slots ≡ length t.slots
+  lands_length = ap length lands.slots ∙ length-set t.slots b _
+
+  apart : Lacks b t.order
+  apart = lacks_unless b t.order (λ k. let f : IsFull t.slots b = linked.only b k in
+      false≢true (sym lands.first.free_there ∙ is_full-marks_of t.slots b ∙ f))
+
+  -- it is the newest, before the others
+  pub lands_pairs : pairs_of u ≡ pair ∷ pairs_of t
+  lands_pairs = ap (entries_in u.slots) lands.order
+      ∙ ap (λ s. entries_in s (b ∷ t.order)) lands.slots
+      ∙ ap (λ s. option_to_list (entry_of s)
+      ++ entries_in (slice_set t.slots b (full (record { tag = hash_tag hash; entry = pair }))) t.order)
+      (get_or-set_same t.slots b (full (record { tag = hash_tag hash; entry = pair })) empty lands_within)
+      ∙ ap (λ l. pair ∷ l) (entries-apart t.slots b _ t.order apart)
+
+  module _ {S H : Type 0} (beside : Beside S H) (sized : IsSized (state_of t beside)) where
+    abbrev pub counted : Beside S H
+    counted = record beside { placed = count_up beside.placed 1 }
+
+    kept : beside.moved ≡ count_up beside.moved 0
+    kept = count_up-none beside.moved sized.moved
+
+    pub lands_placed : IsPlaced pair (buckets (state_of t beside)) (room (marks_of u.slots)) 0 (state_of t beside)
+        (state_of u counted)
+    lands_placed = record {
+      table = length-marks_of u.slots ∙ lands_length ∙ sym (length-marks_of t.slots);
+      room_left = refl;
+      state = λ i. record (state_of u counted) { pairs = lands_pairs i; moved = kept i; placings = lands.placings i };
+    }
+
+    pub lands_fills : FillsBucket hash (state_of t beside) (state_of u counted)
+    lands_fills = fills (state_of t beside) (state_of u counted) sized hash b
+        (subst (λ n. b < n) (sym (length-marks_of t.slots)) lands_within) lands.first lands.room
+
+    pub lands_sized : IsLinked u → IsSized (state_of u counted)
+    lands_sized next = let same = sized_same beside t u beside.limiter sized next lands_length in record {
+      table = same.table;
+      taken = same.taken;
+      reachable = same.reachable;
+      usable = same.usable;
+      moved = sized.moved;
+      placed = grind arith;
+      shrunk = sized.shrunk;
+    }
+
+    pub lands_paid : IsPaid (state_of t beside) → IsPaid (state_of u counted)
+    lands_paid paid = paid_after (state_of t beside) (state_of u counted)
+        (pays_placing (state_of t beside) (state_of u counted) 0 sized.placed sized.shrunk kept refl refl
+        (omega (arith, lands.room, room_at-most (marks_of t.slots) b, ap full_capacity lands_placed.table)))
+        sized.moved (omega (arith, sized.table.addressable, lands_placed.table)) paid
+
+    -- so what holds of every map holds, if its key was not there
+    pub lands_holds : {eq : K → K → Bool} (hash_of : H → K → ℕ) → Holds eq hash_of t beside → IsLinked u
+        → KeysFit (hash_of beside.hasher) u.slots
+        → lookup_entry (eq pair.0) (pairs_of t) ≡ None → Holds eq hash_of u counted
+    unfolding IsDistinct
+    lands_holds {eq} hash_of holds next fits absent = record {
+      linked = next;
+      fits = fits;
+      map = record {
+        distinct = subst (AreDistinct eq) (sym lands_pairs)
+            (absent_keys (eq pair.0) (pairs_of t) absent, holds.map.distinct);
+        sized = lands_sized next;
+        paid = lands_paid holds.map.paid;
+      };
+    }

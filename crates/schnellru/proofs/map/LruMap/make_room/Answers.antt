@@ -1,0 +1,22 @@
+use Rattle.std.proofs.Common.{◌≡◌, ◌+◌, true, [], ◌∷◌, ◌++◌, length, ap, sym, ◌∙◌, subst}
+use Rattle.schnellru.specs.State.{contents, Leaves}
+use Rattle.schnellru.specs.HandedOver.{noting, noted}
+use Rattle.schnellru.proofs.OrderedTables.BucketPairs.{pairs-length}
+use Rattle.schnellru.proofs.Maps.NotedStates.{takes_more, noted_pop, make_room-over}
+use Rattle.schnellru.proofs.map.LruMap.make_room.Goals as goal
+
+pub returns-then-is_over_the_limit-clause-handed : goal.returns-then-is_over_the_limit-clause-handed
+returns-then-is_over_the_limit-clause-handed g c =
+    let m = c.self.inside in let rules = g.L.Limiter.rules in let st = c.args.self.now in
+    let u = c.take_oldest-key.new.self in let pair = c.take_oldest-key.result in
+    let over : rules.is_over_the_limit st.limiter (length st.pairs + 1) ≡ true = rw (← c.self.view_is)
+    (ap (λ n. rules.is_over_the_limit m.limiter (n + 1))
+    (pairs-length m.entries c.self.invariant.linked ∙ sym c.len.ensures.len)
+    ∙ sym c.is_over_the_limit.ensures ∙ c.if-is_over_the_limit.true) in
+    λ first before taken. (
+      before ++ pair ∷ [],
+      takes_more g.F.FnMut first before c.args.sink.now pair c.sink.new.self taken c.sink.ensures,
+      subst (λ left. Leaves (noted before st) left (noted (before ++ pair ∷ []) u))
+          (sym (make_room-over (noting rules) (contents (noted before st)) over))
+          (noted_pop rules before st u pair c.take_oldest-key.ensures),
+    )

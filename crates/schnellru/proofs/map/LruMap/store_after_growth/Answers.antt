@@ -1,0 +1,57 @@
+use Rattle.std.proofs.Common.{ap, sym, subst, ◌∙◌}
+use Rattle.schnellru.specs.State.{IsSized}
+use Rattle.schnellru.specs.Inside.Holds.{state_of}
+use Rattle.schnellru.specs.HandedOver.{noting, noted}
+use Rattle.schnellru.proofs.Maps.NotedStates.{noted_sized, noted_outgrown}
+use Rattle.schnellru.proofs.Maps.Fields.{beside_of}
+use Rattle.schnellru.proofs.Maps.Placements.{grown_place, denied_place, untold_place}
+use Rattle.schnellru.proofs.map.LruMap.store_after_growth.Goals as goal
+
+pub returns-then-on_grow-clause-handed : goal.returns-then-on_grow-clause-handed
+returns-then-on_grow-clause-handed g c =
+    let m = c.self.inside in
+    let rest = beside_of m (g.L.LinkType.LinkType.number g.L.LinkType.LinkType.MAX) in
+    let old = state_of m.entries rest in
+    let outgrown = rw (← c.self.view_is) at c.requires.outgrown in
+    let next = rw (← c.self.view_is) at (sym c.in-Some.ensures.next) in
+    let hash = rw (← c.self.view_is) at c.requires.hash in
+    λ first before taken.
+    let (after, had, step) = c.store_after_move.ensures.handed first before taken in (
+      after,
+      had,
+      rw (← c.self.view_is) (grown_place (noting g.L.Limiter.rules) _ c.args.pair (noted before old)
+          (noted after c.store_after_move.new.self) (noted_sized before old c.self.invariant.map.sized) c.args.hash
+          hash (noted_outgrown before old outgrown) _ c.in-Some.count c.in-Some.bytes next (c.on_grow.new.self, before)
+          (ap (λ s. (s, before)) c.on_grow.ensures.limiter) (sym c.on_grow.ensures.allowed ∙ c.if-on_grow.true) step),
+    )
+
+pub returns-else-on_grow-clause-handed : goal.returns-else-on_grow-clause-handed
+returns-else-on_grow-clause-handed g c =
+    let m = c.self.inside in
+    let rest = beside_of m (g.L.LinkType.LinkType.number g.L.LinkType.LinkType.MAX) in
+    let old = state_of m.entries rest in
+    let outgrown = rw (← c.self.view_is) at c.requires.outgrown in
+    let next = rw (← c.self.view_is) at (sym c.in-Some.ensures.next) in
+    let hash = rw (← c.self.view_is) at c.requires.hash in
+    λ first before taken.
+    let (after, had, step) = c.store_without_growth.ensures.handed first before taken in (
+      after,
+      had,
+      rw (← c.self.view_is) (denied_place (noting g.L.Limiter.rules) _ c.args.pair (noted before old)
+          (noted after c.store_without_growth.new.self) (noted_sized before old c.self.invariant.map.sized) c.args.hash
+          hash (noted_outgrown before old outgrown) _ c.in-Some.count c.in-Some.bytes next (c.on_grow.new.self, before)
+          (ap (λ s. (s, before)) c.on_grow.ensures.limiter) (sym c.on_grow.ensures.allowed ∙ c.if-on_grow.false) step),
+    )
+
+pub returns-in-None-clause-handed : goal.returns-in-None-clause-handed
+returns-in-None-clause-handed g c =
+    let old = c.args.self.now in
+    let sized = subst IsSized c.self.view_is c.self.invariant.map.sized in
+    λ first before taken.
+    let (after, had, step) = c.store_without_growth-in-None.ensures.handed first before taken in (
+      after,
+      had,
+      untold_place (noting g.L.Limiter.rules) _ c.args.pair (noted before old)
+          (noted after c.store_without_growth-in-None.new.self) (noted_sized before old sized) c.args.hash
+          c.requires.hash (noted_outgrown before old c.requires.outgrown) _ (sym c.in-None.ensures.next) step,
+    )

@@ -1,0 +1,35 @@
+use Rattle.std.proofs.Common.{◌-◌, length, ap, ◌∙◌, arith, rules}
+use Rattle.group_table.specs.Sizes.{full_capacity}
+use Rattle.schnellru.specs.State.{room}
+use Rattle.schnellru.specs.Place.{IsPlaced, turned_away}
+use Rattle.schnellru.specs.HandedOver.{noting, noted}
+use Rattle.schnellru.proofs.Maps.NotedStates.{noted_placed}
+use Rattle.schnellru.proofs.TableSizes.Growth.{full_capacity-some}
+use Rattle.schnellru.proofs.map.LruMap.store_after_move.Goals as goal
+
+pub store_in_room-requires-clause-room : goal.store_in_room-requires-clause-room
+store_in_room-requires-clause-room g c =
+    omega (
+      arith,
+      c.in-Ok.ensures.moved.exact,
+      ap room c.count_moves.ensures,
+      c.requires.half,
+      full_capacity-some c.args.count c.requires.count,
+    )
+
+pub returns-in-Ok-clause-handed : goal.returns-in-Ok-clause-handed
+returns-in-Ok-clause-handed g c =
+    let old = c.args.self.now in let new = c.store_in_room.new.self in
+    let placed : IsPlaced c.args.pair c.args.count (full_capacity c.args.count - length old.pairs - 1)
+    (length old.pairs) old new = search rules in
+    λ first before taken. (before, taken, noted_placed before c.args.pair c.args.count _ _ old new placed)
+
+pub returns-in-Err-clause-handed : goal.returns-in-Err-clause-handed
+returns-in-Err-clause-handed g c =
+    λ first before taken.
+    let (after, had, away) = c.turn_away.ensures.handed first before taken in (
+      after,
+      had,
+      away ∙ ap (λ st. turned_away (noting g.L.Limiter.rules) c.args.pair (noted before st))
+          c.in-Err.ensures.unchanged,
+    )

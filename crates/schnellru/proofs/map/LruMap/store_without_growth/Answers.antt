@@ -1,0 +1,13 @@
+use Rattle.std.proofs.Common.{refl, sym, ◌∙◌}
+use Rattle.std.proofs.lemmas.List.{nil_from_length}
+use Rattle.schnellru.specs.Place.{nothing_to_evict}
+use Rattle.schnellru.proofs.PairLists.Emptiness.{empty-length}
+use Rattle.schnellru.proofs.map.LruMap.store_without_growth.Goals as goal
+
+pub returns-then-is_empty-clause-handed : goal.returns-then-is_empty-clause-handed
+returns-then-is_empty-clause-handed g c =
+    let none = nil_from_length c.args.self.now.pairs
+    (empty-length c.args.self.now.pairs (sym c.is_empty.ensures ∙ c.if-is_empty.true)) in
+    λ first before taken.
+    let (after, had, away) = c.turn_away.ensures.handed first before taken in
+    (after, had, nothing_to_evict none refl away)

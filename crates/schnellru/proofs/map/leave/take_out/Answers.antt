@@ -1,0 +1,13 @@
+use Rattle.schnellru.proofs.map.leave.take_out.Goals as goal
+
+pub returns-clause-taken : goal.returns-clause-taken
+returns-clause-taken g c = record {
+  pair = c.take.result;
+  there = c.take.ensures.pair;
+  left = c.tell.ensures.pair;
+  told = c.tell.ensures.limiter;
+  slots = c.take.ensures.removed;
+  order = c.take.ensures.order;
+  placings = c.take.ensures.placings;
+  room = c.take.ensures.room;
+}

@@ -1,0 +1,59 @@
+use Rattle.std.proofs.Common.{refl, sym, ◌∙◌}
+use Rattle.schnellru.proofs.Chains.Orders.{without_in}
+use Rattle.schnellru.proofs.OrderedTables.PairSlots.{same_marks}
+use Rattle.schnellru.proofs.Chains.WholeChains.{whole_order, IsWhole-shown, IsLinked-view, IsWhole-promoted}
+use Rattle.schnellru.proofs.Chains.LinkReads.{equal_links, unequal_links, full_entry, inside}
+use Rattle.schnellru.proofs.Chains.LinkReads.{newest_already, newest_left}
+use Rattle.schnellru.proofs.ordered.OrderedTable.promote.Goals as goal
+
+pub returns-then-eq-clause-order : goal.returns-then-eq-clause-order
+returns-then-eq-clause-order g c =
+    let full = rw (← c.self.view_is) at c.requires in
+    let none = equal_links g.met.N.LinkType.laws (sym c.eq.ensures ∙ c.if-eq.true) ∙ c.MAX.ensures in
+    rw (← c.self.view_is) (newest_already g.met.N.LinkType.laws c.self.invariant c.args.b full c.get.result.now
+    c.get.ensures.entry none)
+
+pub returns-then-eq-clause-linked : goal.returns-then-eq-clause-linked
+returns-then-eq-clause-linked g c = rw (← c.self.view_is)
+    (IsLinked-view g.met.N.LinkType.laws c.self.invariant c.get.ensures.table)
+
+pub link_newest-requires-clause-some : goal.link_newest-requires-clause-some
+link_newest-requires-clause-some g c =
+    let full = rw (← c.self.view_is) at c.requires in
+    let there = inside g.met.N.LinkType.laws c.self.invariant c.args.b full in
+    let newer = unequal_links g.met.N.LinkType.laws (sym c.eq.ensures ∙ c.if-eq.false) in
+    newest_left g.met.N.LinkType.laws c.self.invariant c.args.b full c.get.result.now c.get.ensures.entry
+    (λ e. newer (e ∙ sym c.MAX.ensures)) (c.unlink.ensures.chain _ c.self.invariant.chain there)
+
+pub link_newest-requires-clause-chained : goal.link_newest-requires-clause-chained
+link_newest-requires-clause-chained g c =
+    let full = rw (← c.self.view_is) at c.requires in
+    let there = inside g.met.N.LinkType.laws c.self.invariant c.args.b full in
+    (_, (_, c.unlink.ensures.chain _ c.self.invariant.chain there, λ w. (without_in c.args.b c.args.b _ w).1 refl))
+
+pub invariant_of-self : goal.invariant_of-self
+invariant_of-self g c =
+    let full = rw (← c.self.view_is) at c.requires in
+    let there = inside g.met.N.LinkType.laws c.self.invariant c.args.b full in
+    let left = c.unlink.ensures.chain _ c.self.invariant.chain there in
+    let chain = c.link_newest.ensures.chain _ _ left (λ w. (without_in c.args.b c.args.b _ w).1 refl) in
+    IsWhole-shown g.met.N.LinkType.laws (IsWhole-promoted g.met.N.LinkType.laws c.self.invariant c.args.b
+    (full_entry g.met.N.LinkType.laws c.self.invariant c.args.b full) (c.link_newest.ensures.pairs
+    ∙ c.unlink.ensures.pairs) chain)
+
+pub returns-clause-order : goal.returns-clause-order
+returns-clause-order g c =
+    let full = rw (← c.self.view_is) at c.requires in
+    let there = inside g.met.N.LinkType.laws c.self.invariant c.args.b full in
+    let left = c.unlink.ensures.chain _ c.self.invariant.chain there in
+    let chain = c.link_newest.ensures.chain _ _ left (λ w. (without_in c.args.b c.args.b _ w).1 refl) in
+    rw (← c.self.view_is) (whole_order g.met.N.LinkType.laws
+    (IsWhole-promoted g.met.N.LinkType.laws c.self.invariant c.args.b
+    (full_entry g.met.N.LinkType.laws c.self.invariant c.args.b full) (c.link_newest.ensures.pairs
+    ∙ c.unlink.ensures.pairs) chain))
+
+pub returns-clause-linked : goal.returns-clause-linked
+returns-clause-linked g c =
+    let marks = same_marks c.self.inside.table.slots c.link_newest.new.table.slots (c.link_newest.ensures.pairs
+    ∙ c.unlink.ensures.pairs) in
+    IsLinked-view g.met.N.LinkType.laws (invariant_of-self g c) (rw marks c.get.ensures.table)

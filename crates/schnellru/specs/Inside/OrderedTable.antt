@@ -1,0 +1,61 @@
+-- A table whose full buckets stand in an order, newest first. No public clause cites this module.
+use Rattle.std.specs.Prelude.{◌≡◌, ◌≢◌, ℕ, ◌+◌, List, [], ◌∷◌, ◌++◌, length, filter, not, nat_eq, slice_set, option_map}
+use Rattle.std.specs.Prelude.{option_to_list, unwrap_or, Contains, AllPairs}
+use Rattle.group_table.specs.Bucket.{Slot, IsFull, entry_at, entry_count, bucket_at, refilled, marks_of, room}
+use Rattle.group_table.specs.Bucket.{room_at}
+use Rattle.group_table.specs.Probe.{filled, IsFirstFree}
+use Rattle.group_table.specs.Change.{MayFill, count_up}
+use Rattle.group_table.specs.Table.{IsTable}
+use Rattle.group_table.specs.Fits.{Fits}
+
+pub record OrderedTable (K V : Type 0) : Type 0 where
+  -- the buckets, a full one with its pair
+  pub slots : List (Slot (K × V))
+  -- the full buckets, newest first
+  pub order : List ℕ
+  -- how many placings the table has made
+  pub placings : ℕ
+
+-- the buckets without this one
+abbrev pub without_bucket : ℕ → List ℕ → List ℕ
+without_bucket b order = filter (λ c. not (nat_eq c b)) order
+
+-- the entries of these buckets
+abbrev pub entries_in : {T : Type 0} → List (Slot T) → List ℕ → List T
+entries_in slots [] = []
+entries_in slots (b ∷ bs) = option_to_list (entry_at slots b) ++ entries_in slots bs
+
+module _ {K V : Type 0} where
+  -- the pairs, newest first
+  abbrev pub pairs_of : OrderedTable K V → List (K × V)
+  pairs_of t = entries_in t.slots t.order
+
+  -- the table with another pair in a full bucket
+  abbrev pub with_pair : OrderedTable K V → ℕ → K × V → OrderedTable K V
+  with_pair t b pair = record t { slots = slice_set t.slots b (refilled (bucket_at t.slots b) pair) }
+
+  -- the hash of the key in a bucket
+  abbrev pub hash_in : (K → ℕ) → List (Slot (K × V)) → ℕ → ℕ
+  hash_in hash_of slots b = unwrap_or (option_map (λ pair. hash_of pair.0) (entry_at slots b)) 0
+
+  -- the hashes of the keys fit
+  abbrev pub KeysFit : (K → ℕ) → List (Slot (K × V)) → Type 0
+  KeysFit hash_of slots = Fits slots (hash_in hash_of slots)
+
+  -- the pair filled the first free bucket, as the newest
+  pub record Lands (old new : OrderedTable K V) (hash : ℕ) (pair : K × V) (b : ℕ) : Type 0 where
+    pub first : IsFirstFree (marks_of old.slots) hash b
+    pub may : MayFill (marks_of old.slots) b
+    pub slots : new.slots ≡ slice_set old.slots b (filled hash pair)
+    pub order : new.order ≡ b ∷ old.order
+    pub placings : new.placings ≡ count_up old.placings 1
+    pub room : room (marks_of new.slots) + room_at (marks_of old.slots) b ≡ room (marks_of old.slots)
+
+  -- what holds of every table whose buckets are linked
+  pub record IsLinked (t : OrderedTable K V) : Type 0 where
+    pub table : IsTable (marks_of t.slots)
+    -- each full bucket stands once in the order, and no other
+    pub distinct : AllPairs ◌≢◌ t.order
+    pub all : (b : ℕ) → IsFull t.slots b → Contains t.order b
+    pub only : (b : ℕ) → Contains t.order b → IsFull t.slots b
+    pub count : entry_count t.slots ≡ length t.order

@@ -1,0 +1,56 @@
+// Looking a key up, and making its pair the newest: what every look-up begins with.
+ghost use Rattle.std.specs.Prelude.{◌≡◌, Bool, Some, None, IfSome, IfNone, IsTrue, Contains};
+ghost use Rattle.schnellru.specs.Lists.{lookup_entry, place_of};
+ghost use Rattle.schnellru.specs.State.{IsMap};
+ghost use Rattle.schnellru.specs.Calls.{promoted};
+
+use crate::map::LruMap;
+use crate::ordered::Pair;
+use lru_limits::{KeyHasher, Limiter, LookupKey};
+use std::hash::Hash;
+
+impl<K: Eq + Hash, V, L: Limiter<K, V>, S: KeyHasher<K>> LruMap<K, V, L, S> {
+    // The bucket of the pair of a key, if it is there.
+    #[inline]
+    pub(super) fn find<Q: LookupKey<K>>(&self, key: &Q) -> Option<usize>
+        ensures found { IfSome result (λ b. place_of (Q.names key.now) self.now.pairs self.now.places ≡ Some b) }
+        ensures there { IfSome result (Contains self.now.places) }
+        ensures none { IfNone result (lookup_entry (Q.names key.now) self.now.pairs ≡ None) }
+        ensures map { IsMap K.eq self.now }
+    {
+        self.find_hashed(self.hasher.hash_named(key), key)
+    }
+
+    // The same with the hash of the key.
+    #[inline]
+    pub(super) fn find_hashed<Q: LookupKey<K>>(&self, hash: u64, key: &Q) -> Option<usize>
+        requires hash { (k : K) → IsTrue (Q.names key.now k) → hash ≡ S.hash_of self.now.hasher k }
+        ensures found { IfSome result (λ b. place_of (Q.names key.now) self.now.pairs self.now.places ≡ Some b) }
+        ensures there { IfSome result (Contains self.now.places) }
+        ensures none { IfNone result (lookup_entry (Q.names key.now) self.now.pairs ≡ None) }
+    {
+        self.entries.find(hash, key)
+    }
+
+    // The pair in a bucket.
+    #[inline]
+    pub(super) fn pair_in(&self, b: usize) -> &Pair<K, V>
+        requires { Contains self.now.places b }
+        ensures { (names : K → Bool) → ((x y : K) → IsTrue (names x) → names y ≡ K.eq x y) →
+            place_of names self.now.pairs self.now.places ≡ Some b →
+            lookup_entry names self.now.pairs ≡ Some (result.now.key, result.now.value) }
+    {
+        self.entries.pair(b)
+    }
+
+    // Makes the pair in a bucket the newest.
+    #[inline]
+    pub(super) fn promote(&mut self, b: usize)
+        requires { Contains self.old.places b }
+        ensures promoted { (names : K → Bool) → ((x y : K) → IsTrue (names x) → names y ≡ K.eq x y) →
+            place_of names self.old.pairs self.old.places ≡ Some b → self.new ≡ promoted names self.old }
+        ensures there { Contains self.new.places b }
+    {
+        self.entries.promote(b);
+    }
+}

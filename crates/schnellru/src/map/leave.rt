@@ -1,0 +1,202 @@
+//! What leaves a map: removals, a clear, and evictions. The limiter is told of each.
+ghost use Rattle.std.specs.Prelude.{◌≡◌, ℕ, ◌<◌, true, not, length, Some};
+ghost use Rattle.group_table.specs.Bucket.{IsFull};
+ghost use Rattle.schnellru.specs.Lists.{is_empty};
+ghost use Rattle.schnellru.specs.State.{contents, told_of, trim, Leaves};
+ghost use Rattle.schnellru.specs.Calls.{left_of, Remove, PopOldest, PopNewest, cleared};
+ghost use Rattle.schnellru.specs.Inserts.{make_room};
+ghost use Rattle.schnellru.specs.HandedOver.{noting, noted};
+ghost use Rattle.schnellru.specs.Inside.Chain.{last_bucket};
+ghost use Rattle.schnellru.specs.Inside.OrderedTable.{IsLinked, KeysFit};
+ghost use Rattle.schnellru.specs.Inside.Handing.{Hands};
+ghost use Rattle.schnellru.specs.Inside.Steps.{IsTakenOut};
+
+use crate::map::LruMap;
+use crate::ordered::OrderedTable;
+use lru_limits::{KeyHasher, Limiter, LookupKey};
+use std::hash::Hash;
+
+impl<K: Eq + Hash, V, L: Limiter<K, V>, S: KeyHasher<K>> LruMap<K, V, L, S> {
+    /// Takes out the oldest pair, as the limiter leaves it, if there is a pair.
+    ///
+    /// ```
+    /// assert_eq!(rt; map.pop_oldest(), Some((1, 10)));
+    /// ```
+    ///
+    /// Cost: `O(1)`.
+    ///
+    /// After schnellru's `LruMap::pop_oldest`.
+    pub fn pop_oldest(&mut self) -> Option<(K, V)>
+        ensures step { PopOldest L.rules self.old result self.new }
+    {
+        if self.is_empty() {
+            return None;
+        }
+        Some(self.take_oldest())
+    }
+
+    /// Takes out the newest pair, as the limiter leaves it, if there is a pair.
+    ///
+    /// ```
+    /// assert_eq!(rt; map.pop_newest(), Some((3, 30)));
+    /// ```
+    ///
+    /// Cost: `O(1)`.
+    ///
+    /// After schnellru's `LruMap::pop_newest`.
+    pub fn pop_newest(&mut self) -> Option<(K, V)>
+        ensures step { PopNewest L.rules self.old result self.new }
+    {
+        let b = self.entries.newest()?;
+        Some(take_out(&mut self.entries, &mut self.limiter, b))
+    }
+}
+
+impl<K: Eq + Hash + Drop, V, L: Limiter<K, V>, S: KeyHasher<K>> LruMap<K, V, L, S> {
+    /// Takes out the pair of a key, and answers its value as the limiter leaves it. The others keep their order.
+    ///
+    /// ```
+    /// assert_eq!(rt; map.remove(&1), Some(10));
+    /// assert_eq!(rt; map.remove(&1), None);
+    /// ```
+    ///
+    /// Cost: `O(1)` expected.
+    ///
+    /// After schnellru's `LruMap::remove`.
+    pub fn remove<Q: LookupKey<K>>(&mut self, key: &Q) -> Option<V>
+        ensures step { Remove L.rules (Q.names key.now) self.old result self.new }
+    {
+        let b = self.find(key)?;
+        let (_, value) = take_out(&mut self.entries, &mut self.limiter, b);
+        Some(value)
+    }
+}
+
+impl<K: Eq + Hash + Drop, V: Drop, L: Limiter<K, V>, S: KeyHasher<K>> LruMap<K, V, L, S> {
+    /// Drops all pairs. The limiter is told of the clear alone, also where there is no pair.
+    /// The table keeps its buckets.
+    ///
+    /// ```
+    /// map.clear();
+    /// assert_eq!(rt; (map.len(), map.guaranteed_capacity()), (0, 3));
+    /// ```
+    ///
+    /// Cost: `O(buckets)`, also where there are few pairs.
+    ///
+    /// After schnellru's `LruMap::clear`.
+    pub fn clear(&mut self)
+        ensures step { self.new ≡ cleared L.rules self.old }
+    {
+        self.entries.clear();
+        self.limiter.on_cleared();
+    }
+}
+
+impl<K: Eq + Hash, V, L: Limiter<K, V>, S: KeyHasher<K>> LruMap<K, V, L, S> {
+    // Takes the oldest pair out, as the limiter leaves it.
+    #[inline]
+    pub(super) fn take_oldest(&mut self) -> (K, V)
+        requires { 0 < length self.old.pairs }
+        ensures { PopOldest L.rules self.old (Some result) self.new }
+    {
+        let b = self.entries.oldest();
+        take_out_last(&mut self.entries, &mut self.limiter, b)
+    }
+}
+
+impl<K: Eq + Hash + Drop, V: Drop, L: Limiter<K, V>, S: KeyHasher<K>> LruMap<K, V, L, S> {
+    // Evicts the oldest pair, if the limiter would be over with one more.
+    #[inline]
+    pub(super) fn make_room<F: FnMut(K, V)>(&mut self, sink: &mut F)
+        requires callable { F.IsAlwaysCallable sink.old }
+        ensures handed { Hands F.FnMut sink.old sink.new (λ before after. Leaves (noted before self.old)
+            (make_room (noting L.rules) (contents (noted before self.old))) (noted after self.new)) }
+        ensures callable { F.IsAlwaysCallable sink.new }
+    {
+        if !self.is_empty() && self.limiter.is_over_the_limit(self.entries.len() + 1) {
+            let (key, value) = self.take_oldest();
+            sink(key, value);
+        }
+    }
+
+    // Evicts the oldest pairs while the limiter is over, of a map with pairs. It returns whether some are left.
+    #[inline]
+    pub(super) fn evict_over_limit<F: FnMut(K, V)>(&mut self, sink: &mut F) -> bool
+        requires some { 0 < length self.old.pairs }
+        requires callable { F.IsAlwaysCallable sink.old }
+        ensures left { result ≡ not (is_empty self.new.pairs) }
+        ensures handed { Hands F.FnMut sink.old sink.new (λ before after. Leaves (noted before self.old)
+            (trim (noting L.rules) (contents (noted before self.old))) (noted after self.new)) }
+        ensures callable { F.IsAlwaysCallable sink.new }
+    {
+        if self.limiter.is_over_the_limit(self.entries.len()) {
+            self.evict_while_over(sink)
+        } else {
+            true
+        }
+    }
+
+    // The same if the limiter is over. Out of line, so that no caller of an insert has the evictions in its code.
+    #[inline(never)]
+    fn evict_while_over<F: FnMut(K, V)>(&mut self, sink: &mut F) -> bool
+        requires some { 0 < length self.old.pairs }
+        requires over { L.rules.is_over_the_limit self.old.limiter (length self.old.pairs) ≡ true }
+        requires callable { F.IsAlwaysCallable sink.old }
+        ensures left { result ≡ not (is_empty self.new.pairs) }
+        ensures handed { Hands F.FnMut sink.old sink.new (λ before after. Leaves (noted before self.old)
+            (trim (noting L.rules) (contents (noted before self.old))) (noted after self.new)) }
+        ensures callable { F.IsAlwaysCallable sink.new }
+    {
+        'evictions: loop {
+            let (key, value) = self.take_oldest();
+            sink(key, value);
+            if self.is_empty() {
+                return false;
+            }
+            if !self.limiter.is_over_the_limit(self.entries.len()) {
+                return true;
+            }
+        }
+    }
+}
+
+// Takes the pair out of a full bucket, and tells the limiter.
+#[inline]
+pub(super) fn take_out<K: Eq + Hash, V, L: Limiter<K, V>>(
+    entries: &mut OrderedTable<K, V, L::LinkType>,
+    limiter: &mut L,
+    b: usize,
+) -> (K, V)
+    requires { IsFull entries.old.slots b }
+    ensures taken { IsTakenOut L.rules b entries.old entries.new limiter.old result limiter.new }
+    ensures linked { IsLinked entries.new }
+    ensures fits { (hash_of : K → ℕ) → KeysFit hash_of entries.old.slots → KeysFit hash_of entries.new.slots }
+{
+    tell(limiter, entries.take(b))
+}
+
+// The same of the oldest pair, which is in this bucket.
+#[inline]
+pub(super) fn take_out_last<K: Eq + Hash, V, L: Limiter<K, V>>(
+    entries: &mut OrderedTable<K, V, L::LinkType>,
+    limiter: &mut L,
+    b: usize,
+) -> (K, V)
+    requires { last_bucket entries.old.order ≡ Some b }
+    ensures taken { IsTakenOut L.rules b entries.old entries.new limiter.old result limiter.new }
+    ensures linked { IsLinked entries.new }
+    ensures fits { (hash_of : K → ℕ) → KeysFit hash_of entries.old.slots → KeysFit hash_of entries.new.slots }
+{
+    tell(limiter, entries.take_last(b))
+}
+
+// Tells the limiter of a pair that left, or was not placed, and gives what it left of the pair.
+#[inline]
+pub(super) fn tell<K, V, L: Limiter<K, V>>(limiter: &mut L, pair: (K, V)) -> (K, V)
+    ensures limiter { limiter.new ≡ told_of L.rules (Some pair) limiter.old }
+    ensures pair { Some result ≡ left_of L.rules limiter.old (Some pair) }
+{
+    let (mut key, mut value) = pair;
+    limiter.on_removed(&mut key, &mut value);
+    (key, value)
+}

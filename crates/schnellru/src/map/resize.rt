@@ -1,0 +1,59 @@
+//! Moving all pairs: where a table goes that is to take more, and the move.
+ghost use Rattle.std.specs.Prelude.{◌≡◌, ℕ, ◌+◌, ◌-◌, ◌*◌, ◌/◌, ◌^◌, ◌<◌, ◌≤◌, [], length, Some, IfSome, OnOk, OnErr};
+ghost use Rattle.std.specs.Prelude.{IsOk};
+ghost use Rattle.group_table.specs.Sizes.{IsPowerFromFour, full_capacity};
+ghost use Rattle.group_table.specs.Change.{count_up};
+ghost use Rattle.schnellru.specs.Sizes.{usage, larger};
+ghost use Rattle.schnellru.specs.State.{buckets, potential, MovesTo};
+ghost use Rattle.schnellru.specs.Place.{table_for};
+
+use crate::map::LruMap;
+use crate::sizes::larger_table;
+use group_table::LinkType;
+use lru_limits::{KeyHasher, Limiter};
+use std::alloc::AllocError;
+use std::hash::Hash;
+
+impl<K: Eq + Hash, V, L: Limiter<K, V>, S: KeyHasher<K>> LruMap<K, V, L, S> {
+    // The buckets and the bytes of the table to which this one goes for so many pairs more, if there is such a table.
+    // They are more than half of what this one takes, and the others are at most half of what that one does.
+    pub(super) fn next_table(&self, more: usize) -> Option<(usize, usize)>
+        requires number { length self.now.pairs + more < 2 ^ 64 }
+        requires half { full_capacity (buckets self.now) / 2 < length self.now.pairs + more }
+        ensures next { larger result ≡ table_for more self.now }
+        ensures count { IfSome result (λ t. IsPowerFromFour t.0) }
+        ensures reached { IfSome result (λ t. t.0 < L.LinkType.number L.LinkType.MAX) }
+        ensures usable { IfSome result (λ t. usage self.now.entry_bytes t.0 ≡ Some t.1) }
+        ensures half { IfSome result (λ t. 2 * length self.now.pairs ≤ full_capacity t.0) }
+    {
+        let max = L::LinkType::MAX.into_usize();
+        let len = self.entries.len();
+        larger_table(max, self.entry_bytes, self.entries.buckets(), len + more)
+    }
+}
+
+impl<K: Eq + Hash + Drop, V: Drop, L: Limiter<K, V>, S: KeyHasher<K>> LruMap<K, V, L, S> {
+    // Moves all pairs into a table of so many buckets, at most half full then, which is not counted. Among as many
+    // buckets as now that needs no memory without pairs.
+    pub(super) fn move_to(&mut self, count: usize) -> Result<(), AllocError>
+        requires count { IsPowerFromFour count }
+        requires reached { count < L.LinkType.number L.LinkType.MAX }
+        requires usable { (bytes : ℕ) × (usage self.old.entry_bytes count ≡ Some bytes) }
+        requires half { 2 * length self.old.pairs ≤ full_capacity count }
+        ensures moved { OnOk result (MovesTo count self.old self.new) }
+        ensures unchanged { OnErr result (self.new ≡ self.old) }
+        ensures succeeds { self.old.pairs ≡ [] → count ≡ buckets self.old → IsOk result }
+    {
+        self.entries.move_to(count, &self.hasher)?;
+        Ok(())
+    }
+
+    // Counts all pairs as moved.
+    pub(super) fn count_moves(&mut self)
+        requires paid { self.old.shrunk < 2 ^ 64 - 1 →
+            self.old.moved + length self.old.pairs + potential self.old ≤ 2 * self.old.placed + self.old.shrunk }
+        ensures { self.new ≡ record self.old { moved = count_up self.old.moved (length self.old.pairs) } }
+    {
+        self.moved = self.moved.saturating_add(self.entries.len() as u64);
+    }
+}

@@ -1,0 +1,231 @@
+//! Storing a new pair: in a free bucket, or after the table was rehashed, has grown, or the oldest pairs were evicted.
+ghost use Rattle.std.specs.Prelude.{◌≡◌, ◌⊎◌, ℕ, ◌+◌, ◌-◌, ◌*◌, ◌/◌, ◌^◌, ◌<◌, ◌≤◌, [], length, None, Some, OnOk};
+ghost use Rattle.std.specs.Prelude.{OnErr, IfErr, IsOk};
+ghost use Rattle.group_table.specs.Sizes.{IsPowerFromFour, full_capacity};
+ghost use Rattle.group_table.specs.Change.{HasNoPlace};
+ghost use Rattle.schnellru.specs.Lists.{lookup_entry};
+ghost use Rattle.schnellru.specs.Sizes.{usage};
+ghost use Rattle.schnellru.specs.State.{buckets, room};
+ghost use Rattle.schnellru.specs.Place.{Place, Evicts, IsPlaced, IsPlacedIfMemory, FillsBucket, HasNoBucket};
+ghost use Rattle.schnellru.specs.Place.{IsOutgrown, outcome_of, turned_away};
+ghost use Rattle.schnellru.specs.HandedOver.{noting, noted};
+ghost use Rattle.schnellru.specs.Inside.Handing.{Hands};
+
+use crate::map::LruMap;
+use crate::map::leave::tell;
+use group_table::full_capacity;
+use lru_limits::{KeyHasher, Limiter};
+use std::alloc::AllocError;
+use std::hash::Hash;
+
+impl<K: Eq + Hash + Drop, V: Drop, L: Limiter<K, V>, S: KeyHasher<K>> LruMap<K, V, L, S> {
+    // Stores a pair whose key is new and has this hash, as the newest. It returns whether the pair is stored.
+    #[inline]
+    pub(crate) fn store<F: FnMut(K, V)>(
+        &mut self,
+        hash: u64,
+        pair: (K, V),
+        sink: &mut F,
+    ) -> Result<bool, AllocError>
+        requires callable { F.IsAlwaysCallable sink.old }
+        requires hash { hash ≡ S.hash_of self.old.hasher pair.0 }
+        requires absent { lookup_entry (K.eq pair.0) self.old.pairs ≡ None }
+        ensures handed { Hands F.FnMut sink.old sink.new (λ before after. Place (noting L.rules)
+            S.hash_of pair (noted before self.old) (outcome_of result) (noted after self.new)) }
+        ensures callable { F.IsAlwaysCallable sink.new }
+    {
+        if self.entries.room() == 0 && self.entries.len() == 0 {
+            return self.store_without_bucket(hash, pair, sink);
+        }
+        match self.store_in_bucket(hash, pair) {
+            Ok(()) => Ok(true),
+            Err(pair) => self.store_without_bucket(hash, pair, sink),
+        }
+    }
+
+    // Stores the pair in the first free bucket, if the table may fill that one.
+    #[inline(always)]
+    fn store_in_bucket(&mut self, hash: u64, pair: (K, V)) -> Result<(), (K, V)>
+        requires hash { hash ≡ S.hash_of self.old.hasher pair.0 }
+        requires absent { lookup_entry (K.eq pair.0) self.old.pairs ≡ None }
+        ensures placed { OnOk result (IsPlaced pair (buckets self.old) (room self.new) 0 self.old self.new) }
+        ensures fills { OnOk result (FillsBucket hash self.old self.new) }
+        ensures spends { OnOk result (length self.old.pairs + room self.old ≡ full_capacity (buckets self.old) →
+            room self.new + 1 ≡ room self.old) }
+        ensures returned { IfErr result (λ back. back ≡ pair) }
+        ensures unchanged { OnErr result (self.new ≡ self.old) }
+        ensures no_place { OnErr result (HasNoPlace self.old.marks hash) }
+    {
+        self.entries.place(hash, pair)?;
+        self.placed = self.placed.saturating_add(1);
+        Ok(())
+    }
+
+    // Stores a pair that no bucket takes, after a change of the table. Under a limit on memory each new pair may come
+    // here.
+    #[inline(never)]
+    fn store_without_bucket<F: FnMut(K, V)>(
+        &mut self,
+        hash: u64,
+        pair: (K, V),
+        sink: &mut F,
+    ) -> Result<bool, AllocError>
+        requires callable { F.IsAlwaysCallable sink.old }
+        requires hash { hash ≡ S.hash_of self.old.hasher pair.0 }
+        requires absent { lookup_entry (K.eq pair.0) self.old.pairs ≡ None }
+        requires no_bucket { HasNoBucket hash self.old }
+        ensures handed { Hands F.FnMut sink.old sink.new (λ before after. Place (noting L.rules)
+            S.hash_of pair (noted before self.old) (outcome_of result) (noted after self.new)) }
+        ensures callable { F.IsAlwaysCallable sink.new }
+    {
+        let buckets = self.entries.buckets();
+        if self.entries.len() < full_capacity(buckets) / 2 {
+            self.store_after_move(buckets, hash, pair, sink)
+        } else {
+            self.store_after_growth(hash, pair, sink)
+        }
+    }
+
+    // Stores the pair in a larger table, if there is one and the limiter grants it.
+    fn store_after_growth<F: FnMut(K, V)>(
+        &mut self,
+        hash: u64,
+        pair: (K, V),
+        sink: &mut F,
+    ) -> Result<bool, AllocError>
+        requires callable { F.IsAlwaysCallable sink.old }
+        requires hash { hash ≡ S.hash_of self.old.hasher pair.0 }
+        requires absent { lookup_entry (K.eq pair.0) self.old.pairs ≡ None }
+        requires outgrown { IsOutgrown hash self.old }
+        ensures handed { Hands F.FnMut sink.old sink.new (λ before after. Place (noting L.rules)
+            S.hash_of pair (noted before self.old) (outcome_of result) (noted after self.new)) }
+        ensures callable { F.IsAlwaysCallable sink.new }
+    {
+        match self.next_table(1) {
+            Some((count, bytes)) => {
+                if self.limiter.on_grow(bytes) {
+                    self.store_after_move(count, hash, pair, sink)
+                } else {
+                    self.store_without_growth(hash, pair, sink)
+                }
+            }
+            None => self.store_without_growth(hash, pair, sink),
+        }
+    }
+
+    // Stores the pair after the oldest were evicted, or turns it away, if there are none.
+    fn store_without_growth<F: FnMut(K, V)>(
+        &mut self,
+        hash: u64,
+        pair: (K, V),
+        sink: &mut F,
+    ) -> Result<bool, AllocError>
+        requires callable { F.IsAlwaysCallable sink.old }
+        requires hash { hash ≡ S.hash_of self.old.hasher pair.0 }
+        requires absent { lookup_entry (K.eq pair.0) self.old.pairs ≡ None }
+        requires outgrown { IsOutgrown hash self.old }
+        ensures handed { Hands F.FnMut sink.old sink.new (λ before after. Evicts (noting L.rules) hash pair
+            (noted before self.old) (noted before self.old) (outcome_of result) (noted after self.new)) }
+        ensures callable { F.IsAlwaysCallable sink.new }
+    {
+        if self.is_empty() {
+            self.turn_away(pair, sink);
+            return Ok(false);
+        }
+        self.store_after_eviction(hash, pair, sink)
+    }
+
+    // Stores the pair after the oldest pairs were evicted, at least one.
+    fn store_after_eviction<F: FnMut(K, V)>(
+        &mut self,
+        hash: u64,
+        mut pair: (K, V),
+        sink: &mut F,
+    ) -> Result<bool, AllocError>
+        requires callable { F.IsAlwaysCallable sink.old }
+        requires hash { hash ≡ S.hash_of self.old.hasher pair.0 }
+        requires absent { lookup_entry (K.eq pair.0) self.old.pairs ≡ None }
+        requires some { 0 < length self.old.pairs }
+        requires outgrown { IsOutgrown hash self.old }
+        ensures handed { Hands F.FnMut sink.old sink.new (λ before after. Evicts (noting L.rules) hash pair
+            (noted before self.old) (noted before self.old) (outcome_of result) (noted after self.new)) }
+        ensures callable { F.IsAlwaysCallable sink.new }
+    {
+        let buckets = self.entries.buckets();
+        let half = full_capacity(buckets) / 2;
+        'evictions: loop {
+            let (key, value) = self.take_oldest();
+            sink(key, value);
+            if self.entries.len() < half {
+                return self.store_after_move(buckets, hash, pair, sink);
+            }
+            match self.store_in_bucket(hash, pair) {
+                Ok(()) => return Ok(true),
+                Err(back) => pair = back,
+            }
+        }
+    }
+
+    // Moves all pairs to a table of `count` buckets, which is counted, and stores the pair there. If the number of
+    // buckets stays and there are no pairs, this needs no memory.
+    #[cold]
+    fn store_after_move<F: FnMut(K, V)>(
+        &mut self,
+        count: usize,
+        hash: u64,
+        pair: (K, V),
+        sink: &mut F,
+    ) -> Result<bool, AllocError>
+        requires callable { F.IsAlwaysCallable sink.old }
+        requires hash { hash ≡ S.hash_of self.old.hasher pair.0 }
+        requires absent { lookup_entry (K.eq pair.0) self.old.pairs ≡ None }
+        requires count { IsPowerFromFour count }
+        requires reached { count < L.LinkType.number L.LinkType.MAX }
+        requires usable { (bytes : ℕ) × (usage self.old.entry_bytes count ≡ Some bytes) }
+        requires half { 2 * length self.old.pairs ≤ full_capacity count }
+        requires paid { self.old.shrunk < 2 ^ 64 - 1 →
+            self.old.moved + length self.old.pairs ≤ 2 * self.old.placed + self.old.shrunk }
+        ensures handed { Hands F.FnMut sink.old sink.new (λ before after. IsPlacedIfMemory (noting L.rules) pair count
+            (full_capacity count - length self.old.pairs - 1) (length self.old.pairs) (noted before self.old)
+            (outcome_of result) (noted after self.new)) }
+        ensures succeeds { self.old.pairs ≡ [] → count ≡ buckets self.old → IsOk result }
+        ensures callable { F.IsAlwaysCallable sink.new }
+    {
+        match self.move_to(count) {
+            Ok(()) => {
+                self.count_moves();
+                self.store_in_room(hash, pair);
+                Ok(true)
+            }
+            Err(error) => {
+                self.turn_away(pair, sink);
+                Err(error)
+            }
+        }
+    }
+
+    // Stores the pair in a table with room.
+    fn store_in_room(&mut self, hash: u64, pair: (K, V))
+        requires hash { hash ≡ S.hash_of self.old.hasher pair.0 }
+        requires absent { lookup_entry (K.eq pair.0) self.old.pairs ≡ None }
+        requires room { 0 < room self.old }
+        requires exact { length self.old.pairs + room self.old ≡ full_capacity (buckets self.old) }
+        ensures { IsPlaced pair (buckets self.old) (room self.old - 1) 0 self.old self.new }
+    {
+        match self.store_in_bucket(hash, pair) {
+            Ok(()) => {}
+            Err(_) => unreachable!(),
+        }
+    }
+
+    // Tells the limiter of a pair that was not stored, and passes what it left of the pair to the sink.
+    fn turn_away<F: FnMut(K, V)>(&mut self, pair: (K, V), sink: &mut F)
+        requires callable { F.IsAlwaysCallable sink.old }
+        ensures handed { Hands F.FnMut sink.old sink.new (λ before after. noted after self.new ≡ turned_away
+            (noting L.rules) pair (noted before self.old)) }
+        ensures callable { F.IsAlwaysCallable sink.new }
+    {
+        let (key, value) = tell(&mut self.limiter, pair);
+        sink(key, value);
+    }
+}

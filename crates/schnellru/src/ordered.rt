@@ -1,0 +1,395 @@
+//! `OrderedTable`: the table of a map, whose full buckets stand in an order, newest first.
+//!
+//! Each entry keeps the numbers of its newer and its older neighbour as links, so that it is promoted or taken without
+//! a walk. A clause sees an `OrderedTable` as its `slots` and the `order` of the full ones.
+ghost use Rattle.std.specs.Prelude.{◌≡◌, ◌≢◌, ℕ, ◌+◌, ◌^◌, ◌<◌, ◌≤◌, false, [], ◌∷◌, length, Some, None, IfSome};
+ghost use Rattle.std.specs.Prelude.{IfNone, IfOk, IfErr, OnOk, OnErr, IsOk, IsTrue, replicate, slice_set};
+ghost use Rattle.std.specs.Borrow.{sem};
+ghost use Rattle.group_table.specs.Sizes.{IsBucketCount, full_capacity};
+ghost use Rattle.group_table.specs.Bucket.{empty, marks_of, IsFull, entry_at, entry_count, room, room_at};
+ghost use Rattle.group_table.specs.Change.{HasNoPlace, Removes, count_up};
+ghost use Rattle.group_table.specs.Relocation.{Renumbers, KeepsHashes};
+ghost use Rattle.group_table.specs.Table.{IsTable};
+ghost use Rattle.lru_limits.specs.Hashing.{hash_by};
+ghost use Rattle.schnellru.specs.Inside.OrderedTable.{IsLinked, KeysFit, Lands, pairs_of, without_bucket, with_pair, hash_in};
+ghost use Rattle.schnellru.specs.ByHash.{Asks};
+ghost use Rattle.schnellru.specs.Inside.Searches.{FindsPair, FindsNoPair};
+ghost use Rattle.schnellru.specs.Inside.Chain.{first_bucket, last_bucket, bucket_after, bucket_before, pair_slots};
+
+use crate::ordered::chain::{close_gap, link_newest, link_placed, rewrite, unlink};
+use group_table::{LinkType, Table};
+use lru_limits::{KeyHasher, LookupKey};
+use std::alloc::{AllocError, Global};
+use std::hash::{BuildHasher, Hash};
+use std::marker::Model;
+
+mod chain;
+mod copy;
+
+#[derive(Drop)]
+pub(crate) struct Pair<K, V> {
+    pub(crate) key: K,
+    pub(crate) value: V,
+}
+
+// A pair with its neighbours in the order; `MAX` at the ends. The key and the value stand side by side at the end, so
+// that a look at a pair as a rule reads one line of memory.
+#[derive(Drop)]
+pub(crate) struct Entry<K, V, N> {
+    newer: N,
+    older: N,
+    pair: Pair<K, V>,
+}
+
+#[derive(Drop)]
+pub(crate) struct OrderedTable<K, V, N: LinkType> {
+    table: Table<Entry<K, V, N>>,
+    newest: N,
+    oldest: N,
+}
+
+impl<K, V, N: LinkType> Model for OrderedTable<K, V, N> {
+    ghost use Rattle.schnellru.specs.Inside.OrderedTable.{OrderedTable as Seen};
+
+    ghost Value = { Seen K V };
+
+    ghost use Rattle.std.specs.Prelude.{length};
+    ghost use Rattle.schnellru.specs.Inside.Chain.{pair_slots, along, IsWhole};
+
+    ghost view = { λ t. record {
+      slots = pair_slots t.table.slots;
+      order = along N.number (length t.table.slots) t.table.slots t.newest;
+      placings = t.table.placings;
+    } };
+
+    ghost invariant = { λ t. IsWhole N.number N.link N.MAX t.table.slots t.newest t.oldest
+        (along N.number (length t.table.slots) t.table.slots t.newest) };
+}
+
+impl<K, V, N: LinkType> OrderedTable<K, V, N> {
+    ghost use Rattle.schnellru.specs.Inside.PairLends.{lends_pair};
+
+    // No buckets; takes no memory.
+    pub(crate) fn new(alloc: Global) -> Self
+        ensures slots { result.slots ≡ [] }
+        ensures order { result.order ≡ [] }
+        ensures placings { result.placings ≡ 0 }
+        ensures linked { IsLinked result }
+        ensures fits { (hash_of : K → ℕ) → KeysFit hash_of result.slots }
+    {
+        OrderedTable {
+            table: Table::new(alloc),
+            newest: N::MAX,
+            oldest: N::MAX,
+        }
+    }
+
+    #[inline]
+    pub(crate) fn len(&self) -> usize
+        ensures len { result ≡ length self.now.order }
+        ensures linked { IsLinked self.now }
+    {
+        self.table.len()
+    }
+
+    #[inline]
+    pub(crate) fn buckets(&self) -> usize
+        ensures buckets { result ≡ length self.now.slots }
+        ensures linked { IsLinked self.now }
+        ensures reached { length self.now.slots < N.number N.MAX }
+    {
+        self.table.buckets()
+    }
+
+    #[inline]
+    pub(crate) fn room(&self) -> usize
+        ensures room { result ≡ room (marks_of self.now.slots) }
+        ensures linked { IsLinked self.now }
+    {
+        self.table.room()
+    }
+
+    // The pair in a full bucket.
+    #[inline]
+    pub(crate) fn pair(&self, b: usize) -> &Pair<K, V>
+        requires { IsFull self.now.slots b }
+        ensures pair { entry_at self.now.slots b ≡ Some (result.now.key, result.now.value) }
+    {
+        &self.table.get(b).pair
+    }
+
+    // The bucket of the newest pair, if there is one.
+    #[inline]
+    pub(crate) fn newest(&self) -> Option<usize>
+        ensures newest { result ≡ first_bucket self.now.order }
+    {
+        bucket_of(self.newest)
+    }
+
+    // The bucket of the oldest pair.
+    #[inline]
+    pub(crate) fn oldest(&self) -> usize
+        requires { 0 < length self.now.order }
+        ensures oldest { last_bucket self.now.order ≡ Some result }
+    {
+        self.oldest.into_usize()
+    }
+
+    // The same, if there is one.
+    #[inline]
+    pub(crate) fn last(&self) -> Option<usize>
+        ensures last { result ≡ last_bucket self.now.order }
+    {
+        bucket_of(self.oldest)
+    }
+
+    // The bucket after this one in the order, towards the oldest.
+    #[inline]
+    pub(crate) fn older(&self, b: usize) -> Option<usize>
+        requires { IsFull self.now.slots b }
+        ensures older { result ≡ bucket_after b self.now.order }
+    {
+        bucket_of(self.table.get(b).older)
+    }
+
+    // The bucket before this one in the order, towards the newest.
+    #[inline]
+    pub(crate) fn newer(&self, b: usize) -> Option<usize>
+        requires { IsFull self.now.slots b }
+        ensures newer { result ≡ bucket_before b self.now.order }
+    {
+        bucket_of(self.table.get(b).newer)
+    }
+
+    // The pair in a full bucket for writing. What is written there keeps the hash of the key.
+    #[inline]
+    pub(crate) fn pair_mut(&mut self, b: usize) -> &mut Pair<K, V>
+        requires { IsFull self.old.slots b }
+        ensures* writes_back { sem 𝓛
+            (lends_pair K.row V.row N.row N.LinkType.own N.PartialEq N.Debug self.entry b result) }
+        ensures pair { entry_at self.old.slots b ≡ Some (result.now.key, result.now.value) }
+        ensures fits { (hash_of : K → ℕ) → KeysFit hash_of self.old.slots →
+            (last : K × V) → hash_of last.0 ≡ hash_of result.now.key
+            → KeysFit hash_of (with_pair self.old b last).slots }
+        ensures linked { (last : K × V) → IsLinked (with_pair self.old b last) }
+    {
+        &mut self.table.get_mut(b).pair
+    }
+
+    // The bucket of the first pair that `f` accepts, of those with the tag of the hash.
+    pub(crate) fn find_by<F: FnMut(&K, &V) -> bool>(&self, hash: u64, mut f: F) -> Option<usize>
+        requires { F.IsAlwaysCallable f }
+        ensures found { IfSome result (FindsPair F.FnMut self.now.slots hash f) }
+        ensures full { IfSome result (IsFull self.now.slots) }
+        ensures none { IfNone result (FindsNoPair F.FnMut self.now.slots hash f) }
+    {
+        self.table.find(
+            hash,
+            move |entry: &Entry<K, V, N>| -> bool
+                requires { F.IsAlwaysCallable f }
+                ensures { Asks F.FnMut f.entry (entry.now.pair.key, entry.now.pair.value) result f.exit }
+            { f(&entry.pair.key, &entry.pair.value) },
+        )
+    }
+
+    // The pair in a full bucket becomes the newest.
+    pub(crate) fn promote(&mut self, b: usize)
+        requires { IsFull self.old.slots b }
+        ensures slots { self.new.slots ≡ self.old.slots }
+        ensures order { self.new.order ≡ b ∷ without_bucket b self.old.order }
+        ensures placings { self.new.placings ≡ self.old.placings }
+        ensures linked { IsLinked self.new }
+    {
+        if self.table.get(b).newer == N::MAX {
+            return;
+        }
+        unlink(&mut self.table, &mut self.newest, &mut self.oldest, b);
+        link_newest(&mut self.table, &mut self.newest, b);
+    }
+
+    // Takes the pair out of a full bucket.
+    #[inline(always)]
+    pub(crate) fn take(&mut self, b: usize) -> (K, V)
+        requires { IsFull self.old.slots b }
+        ensures pair { entry_at self.old.slots b ≡ Some result }
+        ensures removed { Removes self.old.slots self.new.slots b }
+        ensures order { self.new.order ≡ without_bucket b self.old.order }
+        ensures placings { self.new.placings ≡ self.old.placings }
+        ensures room { room (marks_of self.new.slots) ≡ room (marks_of self.old.slots)
+            + room_at (marks_of self.new.slots) b }
+        ensures fits { (hash_of : K → ℕ) → KeysFit hash_of self.old.slots → KeysFit hash_of self.new.slots }
+        ensures linked { IsLinked self.new }
+    {
+        let Entry { newer, older, pair } = self.table.take(b);
+        close_gap(
+            &mut self.table,
+            &mut self.newest,
+            &mut self.oldest,
+            newer,
+            older,
+        );
+        (pair.key, pair.value)
+    }
+
+    // Takes out the oldest pair, which is in this bucket. It has no older neighbour, so that link is not read.
+    #[inline(always)]
+    pub(crate) fn take_last(&mut self, b: usize) -> (K, V)
+        requires { last_bucket self.old.order ≡ Some b }
+        ensures pair { entry_at self.old.slots b ≡ Some result }
+        ensures removed { Removes self.old.slots self.new.slots b }
+        ensures order { self.new.order ≡ without_bucket b self.old.order }
+        ensures placings { self.new.placings ≡ self.old.placings }
+        ensures room { room (marks_of self.new.slots) ≡ room (marks_of self.old.slots)
+            + room_at (marks_of self.new.slots) b }
+        ensures fits { (hash_of : K → ℕ) → KeysFit hash_of self.old.slots → KeysFit hash_of self.new.slots }
+        ensures linked { IsLinked self.new }
+    {
+        let Entry {
+            newer,
+            older: _,
+            pair,
+        } = self.table.take(b);
+        close_gap(
+            &mut self.table,
+            &mut self.newest,
+            &mut self.oldest,
+            newer,
+            N::MAX,
+        );
+        (pair.key, pair.value)
+    }
+}
+
+impl<K: Drop, V: Drop, N: LinkType> OrderedTable<K, V, N> {
+    // Puts a pair whose key has this hash into the first free bucket, as the newest.
+    #[inline(always)]
+    pub(crate) fn place(&mut self, hash: u64, pair: (K, V)) -> Result<(), (K, V)>
+        ensures placed { OnOk result ((b : ℕ) × Lands self.old self.new hash pair b) }
+        ensures fits { OnOk result ((hash_of : K → ℕ) → KeysFit hash_of self.old.slots → hash_of pair.0 ≡ hash
+            → KeysFit hash_of self.new.slots) }
+        ensures linked { IsLinked self.new }
+        ensures returned { IfErr result (λ back. back ≡ pair) }
+        ensures unchanged { OnErr result (self.new ≡ self.old) }
+        ensures no_place { OnErr result (HasNoPlace (marks_of self.old.slots) hash) }
+    {
+        let (key, value) = pair;
+        let first = self.newest;
+        let entry = Entry {
+            newer: N::MAX,
+            older: first,
+            pair: Pair { key, value },
+        };
+        match self.table.try_place(hash, entry) {
+            Ok(b) => {
+                let link = link_placed(&mut self.table, first, &mut self.oldest, b);
+                self.newest = link;
+                Ok(())
+            }
+            Err(entry) => Err((entry.pair.key, entry.pair.value)),
+        }
+    }
+
+    // Drops all pairs. The buckets stay, and are empty.
+    pub(crate) fn clear(&mut self)
+        ensures slots { self.new.slots ≡ replicate (length self.old.slots) empty }
+        ensures order { self.new.order ≡ [] }
+        ensures placings { self.new.placings ≡ self.old.placings }
+        ensures fits { (hash_of : K → ℕ) → KeysFit hash_of self.new.slots }
+        ensures linked { IsLinked self.new }
+    {
+        self.table.clear();
+        self.newest = N::MAX;
+        self.oldest = N::MAX;
+    }
+}
+
+impl<K: Eq + Hash, V, N: LinkType> OrderedTable<K, V, N> {
+    // The bucket of the key that is named, which has this hash.
+    #[inline]
+    pub(crate) fn find<Q: LookupKey<K>>(&self, hash: u64, key: &Q) -> Option<usize>
+        ensures found { IfSome result (λ b. (pair : K × V) × (entry_at self.now.slots b ≡ Some pair)
+            × IsTrue (Q.names key.now pair.0)) }
+        ensures full { IfSome result (IsFull self.now.slots) }
+        ensures none { IfNone result ((hash_of : K → ℕ) → KeysFit hash_of self.now.slots →
+            (b : ℕ) (pair : K × V) → entry_at self.now.slots b ≡ Some pair → hash_of pair.0 ≡ hash
+            → Q.names key.now pair.0 ≡ false) }
+    {
+        self.table.find(hash, |entry| key.is_key(&entry.pair.key))
+    }
+}
+
+impl<K: Eq + Hash + Drop, V: Drop, N: LinkType> OrderedTable<K, V, N> {
+    // Moves all pairs into a table of so many buckets, in the same order. Among as many buckets as now they stay in
+    // this table, and without pairs that needs no memory. Nor do no buckets.
+    pub(crate) fn move_to<S: KeyHasher<K>>(
+        &mut self,
+        buckets: usize,
+        hasher: &S,
+    ) -> Result<(), AllocError>
+        requires count { IsBucketCount buckets }
+        requires addressable { buckets + 16 < 2 ^ 63 }
+        requires below { buckets < N.number N.MAX }
+        requires within { entry_count self.old.slots ≤ full_capacity buckets }
+        ensures buckets { OnOk result (length self.new.slots ≡ buckets) }
+        ensures pairs { pairs_of self.new ≡ pairs_of self.old }
+        ensures room { OnOk result (room (marks_of self.new.slots) + length self.old.order ≡ full_capacity buckets) }
+        ensures placings { OnOk result (self.new.placings ≡ count_up self.old.placings (length self.old.order)) }
+        ensures fits { OnOk result (KeysFit (S.hash_of hasher.now) self.new.slots) }
+        ensures linked { IsLinked self.new }
+        ensures unchanged { OnErr result (self.new ≡ self.old) }
+        ensures succeeds { length self.old.order ≡ 0 → length self.old.slots ≡ buckets → IsOk result }
+        ensures gives_back { buckets ≡ 0 → IsOk result }
+    {
+        let links = renumber_entries(&mut self.table, buckets, hasher)?;
+        rewrite(
+            &mut self.table,
+            &mut self.newest,
+            &mut self.oldest,
+            links.as_slice(),
+        );
+        Ok(())
+    }
+}
+
+// Moves the entries into a table of so many buckets, or, among as many as now, within this one.
+// It answers where each is.
+fn renumber_entries<K: Eq + Hash + Drop, V: Drop, N: LinkType, S: BuildHasher>(
+    table: &mut Table<Entry<K, V, N>>,
+    buckets: usize,
+    hasher: &S,
+) -> Result<Vec<N>, AllocError>
+    requires count { IsBucketCount buckets }
+    requires addressable { buckets + 16 < 2 ^ 63 }
+    requires below { buckets < N.number N.MAX }
+    requires within { entry_count table.old.slots ≤ full_capacity buckets }
+    ensures buckets { OnOk result (length table.new.slots ≡ buckets) }
+    ensures renumbered { IfOk result (λ links. Renumbers N.number N.MAX table.old.slots table.new.slots links.items) }
+    ensures entries { OnOk result (entry_count table.new.slots ≡ entry_count table.old.slots) }
+    ensures room { OnOk result (room (marks_of table.new.slots) + entry_count table.old.slots ≡ full_capacity buckets) }
+    ensures placings { OnOk result (table.new.placings ≡ count_up table.old.placings (entry_count table.old.slots)) }
+    ensures hashes { IfOk result (λ links. KeepsHashes N.number N.MAX table.old.slots table.new.slots links.items
+        (hash_in (hash_by K.hash_input S.BuildHasher S.Hasher.Hasher hasher.now) (pair_slots table.old.slots))) }
+    ensures table { IsTable (marks_of table.new.slots) }
+    ensures unchanged { OnErr result (table.new ≡ table.old) }
+    ensures succeeds { entry_count table.old.slots ≡ 0 → length table.old.slots ≡ buckets → IsOk result }
+    ensures gives_back { buckets ≡ 0 → IsOk result }
+{
+    if buckets == table.buckets() {
+        table.rehash(|entry| hasher.hash_one(&entry.pair.key))
+    } else {
+        table.relocate(buckets, |entry| hasher.hash_one(&entry.pair.key))
+    }
+}
+
+// The bucket that a link leads to.
+#[inline]
+fn bucket_of<N: LinkType>(link: N) -> Option<usize>
+    ensures none { IfNone result (link ≡ N.MAX) }
+    ensures some { IfSome result (λ b. (link ≢ N.MAX) × (b ≡ N.number link)) }
+{
+    if link == N::MAX {
+        None
+    } else {
+        Some(link.into_usize())
+    }
+}
