@@ -5,9 +5,9 @@ ghost use Rattle.lru_replay.specs.LineRuns.{AnswersCommand};
 ghost use Rattle.lru_replay.specs.Output.{Writes, reply_text};
 ghost use Rattle.lru_replay.specs.Replies.{Reply};
 
+use crate::calls::pairs::insert_and_keep;
 use crate::lines::outcome::ReplayError;
 use crate::lines::output::{write_bytes, write_given};
-use crate::calls::pairs::insert_and_keep;
 use schnellru::{Insertion, LruMap};
 use std::alloc::Global;
 use std::io::Write;

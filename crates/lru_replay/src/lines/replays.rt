@@ -12,6 +12,7 @@ ghost use Rattle.lru_replay.specs.Replay.{IsTextUnder, NamesNoLimit, WritesRepla
 ghost use Rattle.lru_replay.specs.Replay.{WritesCutSoFar, Replays};
 ghost use Rattle.lru_replay.specs.LineRuns.{LineStep, AnswersLine, IsTextOf, Answers};
 
+use crate::calls::steps::get;
 use crate::lines::command::{Command, Limit, command_of, limit_of};
 use crate::lines::drain::write_drain;
 use crate::lines::figures::{TellsCost, figures_of};
@@ -22,7 +23,6 @@ use crate::lines::output::{
     write_reservation, write_shrink, write_value,
 };
 use crate::lines::put::write_put;
-use crate::calls::steps::get;
 use schnellru::{
     ByCost, ByLength, ByMemoryUsage, Insertion, LruMap, RandomState, UnlimitedCompact,
 };

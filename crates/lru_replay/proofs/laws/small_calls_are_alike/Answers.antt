@@ -1,4 +1,4 @@
-use Rattle.std.proofs.Common.{refl, ap}
+use Rattle.std.proofs.Common.{refl}
 use Rattle.lru_replay.proofs.AlikeRuns.{call_alike, runs_alike}
 use Rattle.lru_replay.proofs.CallLaws.{call_moves}
 use Rattle.lru_replay.proofs.laws.small_calls_are_alike.Goals as goal

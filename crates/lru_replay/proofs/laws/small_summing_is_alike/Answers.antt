@@ -1,4 +1,4 @@
-use Rattle.std.proofs.Common.{refl, ap}
+use Rattle.std.proofs.Common.{refl}
 use Rattle.lru_replay.proofs.AlikeRuns.{summing_alike, runs_alike}
 use Rattle.lru_replay.proofs.CallLaws.{summing_moves}
 use Rattle.lru_replay.proofs.laws.small_summing_is_alike.Goals as goal

@@ -1,11 +1,11 @@
 use Rattle.std.proofs.Common.{List, ℕ, ◌++◌, codes, Err, Option}
 use Rattle.std.proofs.lemmas.Result.{err_from_is_err_and}
 use Rattle.std.specs.Io.KnownBytes.{Appends}
-use Rattle.lru_replay.specs.declared.figures.Figures.{Figures}
-use Rattle.lru_replay.specs.declared.outcome.ReplayError.{ReplayError}
+use Rattle.lru_replay.specs.declared.lines.figures.Figures.{Figures}
+use Rattle.lru_replay.specs.declared.lines.outcome.ReplayError.{ReplayError}
 use Rattle.lru_replay.specs.Output.{Fails, named_text, placed_text}
 use Rattle.lru_replay.proofs.WrittenTexts.{writes_after, failed_front}
-use Rattle.lru_replay.proofs.output.write_figures.Goals as goal
+use Rattle.lru_replay.proofs.lines.output.write_figures.Goals as goal
 
 -- a failure after a text that was written
 later : (a b c : Option (List ℕ)) (t u : List ℕ) (e : ReplayError) → Appends a b t → Fails e b c u

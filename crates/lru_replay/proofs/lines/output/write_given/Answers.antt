@@ -1,7 +1,7 @@
 use Rattle.std.proofs.lemmas.Result.{err_from_is_err_and}
 use Rattle.lru_replay.specs.Output.{insert_text, rest_text}
 use Rattle.lru_replay.proofs.WrittenTexts.{writes_after, failed_front}
-use Rattle.lru_replay.proofs.output.write_given.Goals as goal
+use Rattle.lru_replay.proofs.lines.output.write_given.Goals as goal
 
 pub returns-in_err-write_insert : goal.returns-in_err-write_insert
 returns-in_err-write_insert g c =

@@ -1,7 +1,7 @@
 use Rattle.std.proofs.Common.{decimal}
 use Rattle.std.proofs.lemmas.Result.{err_from_is_err_and}
 use Rattle.lru_replay.proofs.WrittenTexts.{writes_after, failed_front}
-use Rattle.lru_replay.proofs.output.write_named.Goals as goal
+use Rattle.lru_replay.proofs.lines.output.write_named.Goals as goal
 
 pub returns-in_err-write_bytes : goal.returns-in_err-write_bytes
 returns-in_err-write_bytes g c =

@@ -2,7 +2,7 @@ use Rattle.std.proofs.Common.{ℕ, ◌∷◌, []}
 use Rattle.std.proofs.lemmas.Result.{err_from_is_err_and}
 use Rattle.lru_replay.specs.Output.{pair_text}
 use Rattle.lru_replay.proofs.WrittenTexts.{writes_after, failed_front}
-use Rattle.lru_replay.proofs.output.write_next.Goals as goal
+use Rattle.lru_replay.proofs.lines.output.write_next.Goals as goal
 
 pub returns-in_err-write_bytes : goal.returns-in_err-write_bytes
 returns-in_err-write_bytes g c =

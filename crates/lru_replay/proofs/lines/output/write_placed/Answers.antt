@@ -3,7 +3,7 @@ use Rattle.std.proofs.lemmas.Bool.{ne_eqb}
 use Rattle.std.proofs.lemmas.Result.{err_from_is_err_and}
 use Rattle.lru_replay.specs.Output.{named_text}
 use Rattle.lru_replay.proofs.WrittenTexts.{writes_after, failed_front}
-use Rattle.lru_replay.proofs.output.write_placed.Goals as goal
+use Rattle.lru_replay.proofs.lines.output.write_placed.Goals as goal
 
 pub returns-in_err-write_named : goal.returns-in_err-write_named
 returns-in_err-write_named g c =
