@@ -11,7 +11,7 @@ use denote.Sharing.{nothing, said, beside}
 use denote.RawPtr.{Ptr, block_ptr, null_ptr}
 
 module _ (R : RattleType) where
-  -- one place, so many bytes into a block: an entry, or bare memory for one
+  -- one place, n bytes into a block: an entry, or bare memory for one
   abbrev pub place : ℕ → ℕ → Option R.Denot → Fml
   place block o (Some entry) = part_at R full_share entry block o
   place block o None = froom (raw (lone R.mir)) block o
@@ -45,6 +45,6 @@ module _ (R : RattleType) where
   lends_cells (block_ptr block o) held = beside (said (addressable held)) (places_lent block o held)
   lends_cells null_ptr held = said ffalse
 
-  -- the allocator's token for a block of so many places
+  -- the allocator's token for a block of n places
   abbrev pub owns_block : (Ty → Ptr → Fml) → Ptr → ℕ → Fml
   owns_block token start count = token (raw (ty_array (lone R.mir) count)) start

@@ -12,7 +12,7 @@ use Rattle.group_table.specs.declared.probe.Probe.{Probe}
 use Rattle.group_table.specs.declared.probe.Asked.{Asked}
 use Rattle.group_table.specs.declared.probe.Asked.TheVariants.{Accepted, Ended, GoesOn}
 
--- a search for the hash comes to the group that begins here, after so many buckets of whole groups
+-- a search for the hash comes to the group that begins here, after n buckets of whole groups
 pub record IsProbe (buckets hash : ℕ) (probe : Probe) : Type 0 where
   pub start : probe.start ≡ probed buckets hash probe.passed
   pub whole : probe.passed % 16 ≡ 0
@@ -84,14 +84,14 @@ pub record IsReachedFreeByte (control : List ℕ) (buckets hash b : ℕ) : Type 
   pub free_there : IsFreeByte (slice_index control b)
   pub full_before : (before : ℕ) → before / 16 < step / 16 → IsTag (slice_index control (probed buckets hash before))
 
--- so many used buckets stand directly before this one: 16, or up to an empty one
+-- `run` used buckets are directly before this one: 16, or all up to an empty one
 pub record IsRunBefore (control : List ℕ) (buckets b run : ℕ) : Type 0 where
   pub bound : run ≤ 16
   pub used : (x steps : ℕ) → x < buckets → 0 < steps → steps ≤ run → (x + steps) % buckets ≡ b
       → slice_index control x ≢ empty_byte
   pub ends : run < 16 → (x : ℕ) → x < buckets → (x + (run + 1)) % buckets ≡ b → slice_index control x ≡ empty_byte
 
--- so many used buckets stand from this one on: 16, or up to an empty one
+-- `run` used buckets begin with this one: 16, or all up to an empty one
 pub record IsRunFrom (control : List ℕ) (buckets b run : ℕ) : Type 0 where
   pub bound : run ≤ 16
   pub used : (steps : ℕ) → steps < run → slice_index control ((b + steps) % buckets) ≢ empty_byte

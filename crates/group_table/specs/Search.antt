@@ -15,7 +15,7 @@ module _ {T : Type 0} (slots : List (Slot T)) (hash : ℕ) where
       filter (λ b. has_tag (hash_tag hash) (bucket_at slots b))
       (map (probed (length slots) hash) (range_with_len 0 steps))
 
-  -- these are the candidates of so many steps, each of which a search reaches, and each stands once
+  -- these are the candidates of the first `steps` steps, each of which a search reaches, each once
   pub record IsSearch (asked : List ℕ) : Type 0 where
     pub steps : ℕ
     pub within : steps ≤ length slots

@@ -10,11 +10,11 @@ IsPowerFromFour buckets = (k : ℕ) × (buckets ≡ 4 * 2 ^ k)
 abbrev pub IsBucketCount : ℕ → Type 0
 IsBucketCount buckets = (buckets ≡ 0) ⊎ IsPowerFromFour buckets
 
--- the most entries that so many buckets take: all but one of 4 or 8, and seven eighths of more
+-- the most entries that n buckets may hold: all but one of 4 or 8, and seven eighths of more
 unfoldable pub full_capacity : ℕ → ℕ
 full_capacity buckets = if nat_le buckets 8 then buckets - 1 else buckets / 8 * 7
 
--- the first of power, 2 * power, 4 * power, .. that is n or more, among so many
+-- the first of power, 2 * power, 4 * power, .. that is n or more, among the first `tries`
 abbrev pub first_power_from : ℕ → ℕ → ℕ → ℕ
 first_power_from zero n power = power
 first_power_from (suc tries) n power = if nat_le n power then power else first_power_from tries n (2 * power)
@@ -27,8 +27,8 @@ least_power n = first_power_from 64 n 1
 abbrev pub below : ℕ → ℕ → Option ℕ
 below limit n = if nat_lt n limit then Some n else None
 
--- the buckets for so many entries, where links reach that many: none for none, then 4, then 8, and else the
--- least power of two that is at least eight sevenths of the entries
+-- the buckets for n entries, if links can number them: none for none, then 4, then 8, and else the least power of two
+-- that is at least eight sevenths of n
 unfoldable pub buckets_for : ℕ → ℕ → Option ℕ
 buckets_for max entries =
     if entries == 0 then Some 0

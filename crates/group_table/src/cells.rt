@@ -1,4 +1,5 @@
-//! Places for entries in one block of memory. No place has a tag: whoever holds them knows which one holds an entry.
+//! Places for entries in one block of memory. No place has a tag: whoever owns the places knows which of them hold an
+//! entry.
 ghost use Rattle.std.specs.Prelude.{◌≡◌, ℕ, ◌<◌, List, Option, Some, None, length, replicate, get_or, slice_set, IfOk};
 ghost use Rattle.std.specs.Prelude.{true, ⊤};
 ghost use Rattle.std.specs.Borrow.{sem};
@@ -31,7 +32,7 @@ impl<T> Clone for Block<T> {
 
 impl<T> Copy for Block<T> {}
 
-// It is a number that nothing can be done with alone.
+// It is a number that nobody can use alone.
 unsafe impl<T> Send for Block<T> {}
 
 unsafe impl<T> Sync for Block<T> {}
@@ -54,7 +55,7 @@ unsafe impl<T: Send> Send for Cells<T> {}
 
 unsafe impl<T: Sync> Sync for Cells<T> {}
 
-// The right to give a block of so many places back to its allocator. It has no bytes.
+// The right to give a block of `count` places back to its allocator. It has no bytes.
 pub(crate) struct Deed<T, A: Allocator> {
     mark: PhantomData<*const (T, A)>,
     ghost start: { Ptr },
@@ -82,7 +83,7 @@ fn bytes_of<T>() -> usize
     size_of::<T>()
 }
 
-// Whether a block may have so many places.
+// Returns whether a block may have `count` places.
 #[inline]
 pub(crate) fn fits_in_block<T>(count: usize) -> bool
     ensures block { result ≡ true → FitsInBlock T.row count }
@@ -94,7 +95,7 @@ pub(crate) fn fits_in_block<T>(count: usize) -> bool
     }
 }
 
-// A block of so many places, none of which holds an entry.
+// Takes a block of `count` places, none of which holds an entry.
 pub(crate) fn allocate<T, A: Allocator>(
     alloc: &A,
     count: usize,
@@ -165,7 +166,7 @@ impl<T> Cells<T> {
         unsafe { block.start.add(b).read() }
     }
 
-    // The entry in a place.
+    // Returns the entry in a place.
     #[inline]
     pub(crate) fn get(&self, block: Block<T>, b: usize) -> &T
         requires { (self.now.start ≡ block.start) × Holds self.now.places b }
@@ -174,7 +175,7 @@ impl<T> Cells<T> {
         unsafe { &*block.start.add(b) }
     }
 
-    // The entry in a place for writing.
+    // Lends the entry in a place for writing.
     #[inline]
     pub(crate) fn get_mut(&mut self, block: Block<T>, b: usize) -> &mut T
         requires { (self.old.start ≡ block.start) × Holds self.old.places b }

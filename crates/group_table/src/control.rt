@@ -1,4 +1,5 @@
-//! Control bytes: one a bucket, and 16 more, which repeat the first buckets so that a group can be read in one piece.
+//! Control bytes: one for each bucket, and 16 more, which repeat the first buckets, so that a group is read in one
+//! piece.
 ghost use Rattle.std.specs.Prelude.{◌≡◌, ℕ, ◌+◌, ◌-◌, ◌%◌, ◌^◌, ◌<◌, ◌≤◌, [], length, max, replicate, slice_index};
 ghost use Rattle.std.specs.Prelude.{slice_set, if◌then◌else◌, nat_eq, ◌⊎◌, IfOk};
 ghost use Rattle.group_table.specs.Sizes.{IsPowerFromFour};
@@ -16,11 +17,11 @@ pub(crate) const EMPTY: u8 = 0xff;
 // The control byte of a deleted bucket.
 pub(crate) const DELETED: u8 = 0x80;
 
-// The control bytes of a table, which stay as many as they are.
+// The control bytes of a table. Their number stays.
 #[derive(Drop)]
 pub(crate) struct Control {
     bytes: Vec<u8>,
-    // The number of the last bucket, by which a place is wrapped; 0 where there are no buckets.
+    // The number of the last bucket, by which a position is wrapped; 0 without buckets.
     last: usize,
 }
 
@@ -36,7 +37,7 @@ impl Model for Control {
 }
 
 impl Control {
-    // Those of no buckets, which take no memory.
+    // The control bytes of no buckets, which take no memory.
     pub(crate) fn new(alloc: Global) -> Control
         ensures { result ≡ [] }
     {
@@ -46,7 +47,7 @@ impl Control {
         }
     }
 
-    // Those of so many empty buckets.
+    // The control bytes of `buckets` empty buckets.
     pub(crate) fn with_buckets(alloc: Global, buckets: usize) -> Result<Control, AllocError>
         requires count { IsPowerFromFour buckets }
         requires addressable { buckets + 16 < 2 ^ 63 }
@@ -59,7 +60,7 @@ impl Control {
         })
     }
 
-    // The same bytes again.
+    // Copies the bytes.
     pub(crate) fn copied(&self, alloc: Global) -> Result<Control, AllocError>
         ensures { IfOk result (λ c. c ≡ self.now) }
     {
@@ -70,7 +71,7 @@ impl Control {
         })
     }
 
-    // Whether they are for no buckets.
+    // Returns whether there are no buckets.
     #[inline]
     pub(crate) fn is_empty(&self) -> bool
         ensures { result ≡ nat_eq (buckets_of self.now) 0 }
@@ -78,7 +79,7 @@ impl Control {
         self.last == 0
     }
 
-    // How many buckets they are for.
+    // Returns the number of buckets.
     #[inline]
     pub(crate) fn buckets(&self) -> usize
         ensures { result ≡ buckets_of self.now }
@@ -86,7 +87,7 @@ impl Control {
         if self.is_empty() { 0 } else { self.last + 1 }
     }
 
-    // The bucket at a place on the circle.
+    // Returns the bucket at a position on the circle.
     #[inline]
     pub(crate) fn wrap(&self, place: usize) -> usize
         requires { 0 < buckets_of self.now }
@@ -97,7 +98,7 @@ impl Control {
         wrap(place, self.last)
     }
 
-    // The bucket sixteen places before a bucket on the circle; of 4 or 8 that is the bucket itself.
+    // Returns the bucket sixteen positions before a bucket on the circle; of 4 or 8 buckets that is the bucket itself.
     #[inline]
     pub(crate) fn sixteen_before(&self, b: usize) -> usize
         requires { 0 < buckets_of self.now }
@@ -107,7 +108,7 @@ impl Control {
         sixteen_before(b, self.last)
     }
 
-    // That of a bucket.
+    // Returns the control byte of a bucket.
     #[inline]
     pub(crate) fn byte(&self, b: usize) -> u8
         requires { b < buckets_of self.now }
@@ -116,7 +117,7 @@ impl Control {
         self.bytes[b]
     }
 
-    // The sixteen from a bucket on.
+    // Returns the sixteen control bytes from a bucket on.
     #[inline]
     pub(crate) fn group(&self, start: usize) -> Group
         requires { start < buckets_of self.now }
@@ -126,7 +127,7 @@ impl Control {
         Group::load(self.bytes.as_slice(), start)
     }
 
-    // Writes that of a bucket, and its repetition.
+    // Writes the control byte of a bucket, and its repetition.
     #[inline]
     pub(crate) fn set(&mut self, b: usize, byte: u8)
         requires { b < buckets_of self.old }
@@ -135,7 +136,7 @@ impl Control {
         set_both(self.bytes.as_mut_slice(), self.last, b, byte);
     }
 
-    // Makes each that of an empty bucket.
+    // Makes every bucket empty.
     pub(crate) fn clear(&mut self)
         ensures { self.new ≡ replicate (length self.old) empty_byte }
     {
@@ -143,7 +144,7 @@ impl Control {
     }
 }
 
-// The control byte of a bucket with an entry of this hash, whose top bit is clear.
+// Returns the control byte of a bucket with an entry of this hash. Its top bit is clear.
 #[inline]
 pub(crate) fn tag_of(hash: u64) -> u8
     ensures value { result ≡ hash_tag hash }
@@ -152,7 +153,7 @@ pub(crate) fn tag_of(hash: u64) -> u8
     (hash >> 57) as u8
 }
 
-// The control byte of a bucket whose entry has left, by whether that gives its room back.
+// Returns the control byte of a bucket whose entry has left, by whether that gives growth left back.
 #[inline]
 pub(crate) fn emptied_byte(gives_room: bool) -> u8
     ensures { result ≡ (if gives_room then empty_byte else deleted_byte) }
@@ -160,7 +161,8 @@ pub(crate) fn emptied_byte(gives_room: bool) -> u8
     if gives_room { EMPTY } else { DELETED }
 }
 
-// How much room an entry takes in a free bucket with this byte: an empty one had room for it, a deleted one takes none.
+// Returns how much of the growth left an entry takes in a free bucket with this byte: one in an empty bucket, none in a
+// deleted one.
 #[inline]
 pub(crate) fn room_taken(byte: u8) -> usize
     requires { (byte ≡ deleted_byte) ⊎ (byte ≡ empty_byte) }
@@ -178,11 +180,12 @@ fn set_both(bytes: &mut [u8], last: usize, b: usize, byte: u8)
     ensures { bytes.new ≡ slice_set (slice_set bytes.old b byte) (b + max 16 (buckets_of bytes.old)) byte }
 {
     bytes[b] = byte;
-    // That of one of the first 16 buckets; else it is the same byte again, so that nothing has to be asked.
+    // The repetition of one of the first 16 buckets. For other buckets this rewrites the same byte, which avoids a
+    // branch.
     bytes[sixteen_before(b, last) + 16] = byte;
 }
 
-// The bucket at a place on a circle whose last bucket has this number.
+// Returns the bucket at a position on a circle whose last bucket has this number.
 #[inline]
 fn wrap(place: usize, last: usize) -> usize
     requires { IsPowerFromFour (last + 1) }
@@ -192,7 +195,7 @@ fn wrap(place: usize, last: usize) -> usize
     place & last
 }
 
-// The bucket sixteen places before one on such a circle.
+// Returns the bucket sixteen positions before a bucket on such a circle.
 #[inline]
 fn sixteen_before(b: usize, last: usize) -> usize
     requires power { IsPowerFromFour (last + 1) }

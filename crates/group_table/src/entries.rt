@@ -7,17 +7,17 @@ use crate::cells::{Block, Cells, Deed, allocate, deallocate, fits_in_block};
 use std::alloc::{AllocError, Global};
 use std::marker::Model;
 
-// One block of places, with the right to give it back.
+// A block of places, with the right to give it back.
 struct Row<T> {
     block: Block<T>,
     cells: Cells<T>,
     deed: Deed<T, Global>,
 }
 
-// The places; there is no block where there are none. How many there are only the control bytes tell.
+// The places. Without places there is no block. Only the control bytes know the number of places.
 //
-// A place has no tag: the control byte of a bucket tells whether it holds an entry. So a caller of `free` must show
-// that no place holds one.
+// A place has no tag: the control byte of a bucket says whether it holds an entry. So a caller of `free` must show that
+// no place holds one.
 pub(crate) struct Entries<T> {
     row: Option<Row<T>>,
     alloc: Global,
@@ -44,7 +44,7 @@ impl<T> Entries<T> {
         Entries { row: None, alloc }
     }
 
-    // So many places with no entry, in one request.
+    // Takes `count` places without entries, in one request.
     pub(crate) fn with_places(alloc: Global, count: usize) -> Result<Entries<T>, AllocError>
         requires { 0 < count }
         ensures { IfOk result (λ e. e ≡ replicate count None) }
@@ -59,12 +59,12 @@ impl<T> Entries<T> {
         })
     }
 
-    // Where their memory comes from.
+    // Returns the allocator of the places.
     pub(crate) fn allocator(&self) -> Global {
         self.alloc
     }
 
-    // The entry in a place.
+    // Returns the entry in a place.
     #[inline]
     pub(crate) fn get(&self, b: usize) -> &T
         requires { IsSome (slice_index_or self.now b None) }
@@ -118,7 +118,7 @@ impl<T> Entries<T> {
         }
     }
 
-    // Gives the memory of so many places back. None of them holds an entry.
+    // Gives the memory of `count` places back. None of them holds an entry.
     pub(crate) fn free(self, count: usize)
         requires { self ≡ replicate count None }
     {

@@ -9,7 +9,7 @@ use crate::entries::Entries;
 use crate::link::LinkType;
 use std::alloc::{AllocError, Global};
 
-// So many links, each of no bucket.
+// Returns `count` links, each to no bucket.
 pub(crate) fn no_links<N: LinkType>(alloc: Global, count: usize) -> Result<Vec<N>, AllocError>
     ensures { IfOk result (λ v. v.items ≡ replicate count N.MAX) }
 {
@@ -20,7 +20,7 @@ pub(crate) fn no_links<N: LinkType>(alloc: Global, count: usize) -> Result<Vec<N
     Ok(links)
 }
 
-// Drops the entries in the first places, so many. The others hold none.
+// Drops the entries in the first `count` places. The others hold none.
 pub(crate) fn drop_first<T: Drop>(control: &Control, entries: &mut Entries<T>, count: usize)
     requires buckets { length entries.old ≤ buckets_of control.now }
     requires within { count ≤ length entries.old }
@@ -35,7 +35,7 @@ pub(crate) fn drop_first<T: Drop>(control: &Control, entries: &mut Entries<T>, c
     }
 }
 
-// Drops every entry, of which there are so many.
+// Drops all `len` entries.
 pub(crate) fn drop_entries<T: Drop>(control: &Control, entries: &mut Entries<T>, len: usize)
     requires laid_out { IsLaidOut control.now entries.old }
     requires none_left { len ≡ 0 → entries.old ≡ replicate (length entries.old) None }
@@ -65,7 +65,7 @@ pub(crate) fn fill_bucket<T>(
     entries.write(b, entry);
 }
 
-// Writes the tag and the entry of a bucket, and gives the entry that stood there, if one did: the byte tells.
+// Writes the tag and the entry of a bucket. Returns the entry that was there, if the control byte says that one was.
 #[inline]
 pub(crate) fn put<T>(
     control: &mut Control,

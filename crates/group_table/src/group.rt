@@ -1,4 +1,4 @@
-//! Groups of sixteen control bytes, and masks of their lanes: bit i stands for lane i.
+//! Groups of sixteen control bytes, and masks of their lanes: bit i is lane i.
 ghost use Rattle.std.specs.Prelude.{◌≡◌, ◌≢◌, ◌≤◌, ◌<◌, ◌+◌, ◌-◌, ◌↔◌, ℕ, length, slice_index};
 ghost use Rattle.group_table.specs.Bytes.{empty_byte, IsFreeByte};
 ghost use Rattle.group_table.specs.Lanes.{IsMaskOf, IsMaskAt, HasLane, lowest};
@@ -6,10 +6,10 @@ ghost use Rattle.group_table.specs.Lanes.{IsMaskOf, IsMaskAt, HasLane, lowest};
 use crate::control::{DELETED, EMPTY};
 use std::simd::prelude::*;
 
-/// The lanes that hold the tag, of the control bytes of sixteen neighbouring buckets.
+/// Returns the lanes that hold the tag, of the control bytes of sixteen neighbouring buckets.
 ///
-/// Bit i of the answer is set exactly if byte i is the tag. The bytes are compared at once.
-/// `docs/TABLE.md` has a table of masks.
+/// Bit i of the result is set if and only if byte i is the tag. The bytes are compared at once. `docs/TABLE.md` shows a
+/// table of masks.
 ///
 /// ```
 /// let bytes: [u8; 16] = [0, 255, 128, 5, 255, 255, 255, 255, 255, 255, 255, 255, 255, 255, 255, 255];
@@ -24,9 +24,9 @@ pub fn match_tag(bytes: &[u8; 16], tag: u8) -> u16
         .to_bitmask() as u16
 }
 
-/// The lanes of empty buckets, whose byte is 255.
+/// Returns the lanes of empty buckets, whose byte is 255.
 ///
-/// Bit i of the answer is set exactly if bucket i is empty. The bytes are compared at once.
+/// Bit i of the result is set if and only if bucket i is empty. The bytes are compared at once.
 ///
 /// ```
 /// let bytes: [u8; 16] = [0, 255, 128, 5, 255, 255, 255, 255, 255, 255, 255, 255, 255, 255, 255, 255];
@@ -39,9 +39,9 @@ pub fn match_empty(bytes: &[u8; 16]) -> u16
     match_tag(bytes, EMPTY)
 }
 
-/// The lanes of free buckets, whose byte has the top bit: it is 255 for an empty one and 128 for a deleted one.
+/// Returns the lanes of free buckets, whose byte has the top bit set: 255 if empty, 128 if deleted.
 ///
-/// Bit i of the answer is set exactly if bucket i is free. The bytes are compared at once.
+/// Bit i of the result is set if and only if bucket i is free. The bytes are compared at once.
 ///
 /// ```
 /// let bytes: [u8; 16] = [0, 255, 128, 5, 255, 255, 255, 255, 255, 255, 255, 255, 255, 255, 255, 255];
@@ -63,7 +63,7 @@ pub(crate) struct Group {
 }
 
 impl Group {
-    // The sixteen bytes from a place on.
+    // Reads the sixteen bytes from a position on.
     #[inline]
     pub(crate) fn load(bytes: &[u8], at: usize) -> Group
         requires { at + 16 ≤ length bytes.now }
@@ -74,7 +74,7 @@ impl Group {
         }
     }
 
-    // The lanes that hold the tag.
+    // Returns the lanes that hold the tag.
     #[inline]
     pub(crate) fn match_tag(&self, tag: u8) -> u16
         ensures { IsMaskOf (λ byte. byte ≡ tag) self.now.lanes result }
@@ -82,7 +82,7 @@ impl Group {
         match_tag(&self.lanes, tag)
     }
 
-    // The lanes of empty buckets.
+    // Returns the lanes of empty buckets.
     #[inline]
     pub(crate) fn match_empty(&self) -> u16
         ensures { IsMaskOf (λ byte. byte ≡ empty_byte) self.now.lanes result }
@@ -90,7 +90,7 @@ impl Group {
         match_empty(&self.lanes)
     }
 
-    // The lanes of empty and deleted buckets.
+    // Returns the lanes of empty and deleted buckets.
     #[inline]
     pub(crate) fn match_free(&self) -> u16
         ensures { IsMaskOf IsFreeByte self.now.lanes result }
@@ -99,7 +99,7 @@ impl Group {
     }
 }
 
-// The lowest lane of a mask that holds one.
+// Returns the lowest lane of a mask that is not empty.
 #[inline]
 pub(crate) fn lowest_lane(mask: u16) -> usize
     requires { mask ≢ 0 }
@@ -111,7 +111,7 @@ pub(crate) fn lowest_lane(mask: u16) -> usize
     mask.trailing_zeros() as usize
 }
 
-// The mask without its lowest lane.
+// Returns the mask without its lowest lane.
 #[inline]
 pub(crate) fn without_lowest(mask: u16) -> u16
     requires { mask ≢ 0 }
@@ -121,7 +121,7 @@ pub(crate) fn without_lowest(mask: u16) -> u16
     mask & (mask - 1)
 }
 
-// How many lanes come before the lowest of a mask: all sixteen where it holds none.
+// Returns how many lanes come before the lowest of a mask: all sixteen if it is empty.
 #[inline]
 pub(crate) fn lanes_below(mask: u16) -> usize
     ensures bound { result ≤ 16 }
@@ -131,7 +131,7 @@ pub(crate) fn lanes_below(mask: u16) -> usize
     mask.trailing_zeros() as usize
 }
 
-// How many lanes come after the highest of a mask: all sixteen where it holds none.
+// Returns how many lanes come after the highest of a mask: all sixteen if it is empty.
 #[inline]
 pub(crate) fn lanes_above(mask: u16) -> usize
     ensures bound { result ≤ 16 }

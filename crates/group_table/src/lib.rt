@@ -1,7 +1,7 @@
 //! The bucket table of the LRU map, and the widths of its links.
 #![tactic(auto)]
 
-// Where control never comes. `unreachable!()` is compiled to a trap, and to a test before it. This has no code and no
+// Marks code that is never reached. `unreachable!()` compiles to a trap and a test before it. This has no code and no
 // test: it matches on what would be read from an array of nothing.
 macro_rules! nowhere {
     () => {{

@@ -1,19 +1,19 @@
-//! `LinkType`: in how many bits a link keeps the number of a bucket.
+//! `LinkType`: the width of a link, which is the number of a bucket.
 ghost use Rattle.std.specs.Prelude.{◌≡◌, ◌<◌, ℕ};
 ghost use Rattle.group_table.specs.Link.{IsLinkType};
 
 use std::fmt::Debug;
 
-/// The type of a link: the number of a bucket, below `MAX`, or `MAX` itself, which stands for no bucket.
+/// The type of a link: the number of a bucket, below `MAX`, or `MAX` itself, which means no bucket.
 ///
-/// A table whose buckets are numbered by an `N` has fewer than `N::MAX` of them, so the width of the links limits its
-/// size. It is there for `u8`, `u16`, `u32` and `usize`. A type of one's own is a width too: it says which number a
-/// link has and which link a number, and proves the laws.
+/// A table with links of type `N` has fewer than `N::MAX` buckets, so the width of the links limits its size. It is
+/// implemented for `u8`, `u16`, `u32` and `usize`. An impl of your own is a width too: it converts links to numbers and
+/// back, and proves the laws.
 pub trait LinkType: Copy + Eq + Debug {
-    /// No bucket. As a number, it is one more than the greatest number that a link may have, and at least 255.
+    /// No bucket. As a number, it is one more than the greatest number of a link, and at least 255.
     const MAX: Self;
 
-    /// `MAX`, as clauses have it.
+    /// `MAX`, as contracts see it.
     ghost MAX: { Self };
 
     /// The number of a link.
@@ -22,12 +22,12 @@ pub trait LinkType: Copy + Eq + Debug {
     /// The link of a number below that of `MAX`.
     ghost link: { ℕ → Self };
 
-    /// The link of this number, which is below that of `MAX`; no bits are cut off.
+    /// Returns the link of this number, which is below `MAX`; no bits are cut off.
     fn from_usize(value: usize) -> Self
         requires { value < number MAX }
         ensures { result ≡ link value };
 
-    /// The number of this link.
+    /// Returns the number of this link.
     fn into_usize(self) -> usize
         ensures { result ≡ number self };
 

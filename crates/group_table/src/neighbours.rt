@@ -1,4 +1,4 @@
-//! Whether the 16 neighbouring buckets round a bucket hold an empty one, by two runs of control bytes.
+//! Whether the 16 neighbouring buckets around a bucket contain an empty one, by two runs of control bytes.
 ghost use Rattle.std.specs.Prelude.{◌≡◌, ◌≢◌, ℕ, ◌+◌, ◌<◌, ◌≤◌, slice_index, MatchBool};
 ghost use Rattle.group_table.specs.Bytes.{empty_byte};
 ghost use Rattle.group_table.specs.Control.{buckets_of, HasEmptyByte, IsCircle};
@@ -7,7 +7,8 @@ ghost use Rattle.group_table.specs.Group.{IsRunBefore, IsRunFrom, EmptyNeighbour
 use crate::control::Control;
 use crate::group::{lanes_above, lanes_below};
 
-// How many used buckets stand directly before this one, at most 16. Of 4 or 8 buckets, it is not more than there are.
+// Returns how many used buckets are directly before this one, at most 16. Of 4 or 8 buckets, it is not more than there
+// are.
 #[inline]
 fn run_before(control: &Control, b: usize) -> usize
     requires { b < buckets_of control.now }
@@ -19,7 +20,7 @@ fn run_before(control: &Control, b: usize) -> usize
     lanes_above(control.group(start).match_empty())
 }
 
-// How many used buckets stand from this one on, at most 16. Of 4 or 8 buckets, those after it at most.
+// Returns how many used buckets there are from this one on, at most 16. Of 4 or 8 buckets, at most those after it.
 #[inline]
 fn run_from(control: &Control, b: usize) -> usize
     requires { b < buckets_of control.now }
@@ -29,8 +30,8 @@ fn run_from(control: &Control, b: usize) -> usize
     lanes_below(control.group(b).match_empty())
 }
 
-// Whether every 16 neighbouring buckets that hold this one hold an empty one. Those that do lie between the last
-// empty bucket before it and the first one after it, so the two runs tell.
+// Returns whether every 16 neighbouring buckets around this one contain an empty one. They lie between the last empty
+// bucket before it and the first one after it, so the two runs decide.
 pub(crate) fn has_empty_neighbours(control: &Control, b: usize) -> bool
     requires bucket { b < buckets_of control.now }
     requires used { slice_index control.now b ≢ empty_byte }

@@ -13,7 +13,7 @@ use crate::control::{Control, DELETED, tag_of};
 use crate::entries::Entries;
 use crate::group::{lowest_lane, without_lowest};
 
-// The row of groups of a search: the bucket at which the next one begins, and how many buckets those before it have.
+// The groups of a search: the bucket at which the next group begins, and how many buckets the groups before it have.
 #[derive(Drop)]
 pub(crate) struct Probe {
     start: usize,
@@ -21,7 +21,7 @@ pub(crate) struct Probe {
 }
 
 impl Probe {
-    // The row of a search for the hash, which begins there.
+    // The groups of a search for the hash, from its first one on.
     #[inline]
     fn of(control: &Control, hash: u64) -> Probe
         requires { 0 < buckets_of control.now }
@@ -50,15 +50,14 @@ impl Probe {
     }
 }
 
-// What came of asking about one group: a bucket whose entry was accepted, the end of the search at an empty
-// bucket, or neither.
+// The result of one group: a bucket whose entry was accepted, the end of the search at an empty bucket, or neither.
 enum Asked {
     Accepted(usize),
     Ended,
     GoesOn,
 }
 
-// Asks about the entries with the tag in the group that begins here, until one is accepted.
+// Calls `f` with the entries with the tag in the group that begins here, until it accepts one.
 #[inline]
 fn ask_group<T, F: FnMut(&T) -> bool>(
     control: &Control,
@@ -92,7 +91,7 @@ fn ask_group<T, F: FnMut(&T) -> bool>(
     }
 }
 
-// Asks about the entries with the tag of the hash, group by group, until one is accepted.
+// Calls `f` with the entries with the tag of the hash, group by group, until it accepts one.
 pub(crate) fn find_bucket<T, F: FnMut(&T) -> bool>(
     control: &Control,
     entries: &Entries<T>,
@@ -117,7 +116,7 @@ pub(crate) fn find_bucket<T, F: FnMut(&T) -> bool>(
     }
 }
 
-// The first bucket of the group that begins here that is empty or deleted.
+// Returns the first bucket of the group that begins here that is empty or deleted.
 #[inline]
 fn free_in_group(control: &Control, start: usize) -> Option<usize>
     requires start { start < buckets_of control.now }
@@ -138,7 +137,7 @@ fn free_in_group(control: &Control, start: usize) -> Option<usize>
     Some(lowest_lane(control.group(0).match_free()))
 }
 
-// The first bucket in the order of a search for the hash that is empty or deleted.
+// Returns the first bucket in the order of a search for the hash that is empty or deleted.
 pub(crate) fn first_free(control: &Control, hash: u64) -> usize
     requires { HasFreeByte control.now }
     ensures { IsFirstFreeByte control.now (buckets_of control.now) hash result }
@@ -152,7 +151,7 @@ pub(crate) fn first_free(control: &Control, hash: u64) -> usize
     }
 }
 
-// Whether the bucket is among the 16 that a search for the hash reads first.
+// Returns whether the bucket is among the 16 that a search for the hash reads first.
 #[inline]
 pub(crate) fn is_read_first(control: &Control, hash: u64, b: usize) -> bool
     requires { b < buckets_of control.now }

@@ -1,8 +1,9 @@
-//! How many entries a number of buckets takes, and how many buckets a number of entries needs.
+//! How many entries a number of buckets holds, and how many buckets a number of entries needs.
 ghost use Rattle.std.specs.Prelude.{◌≡◌, ◌<◌, ◌≤◌, IfSome};
 ghost use Rattle.group_table.specs.Sizes.{IsBucketCount, full_capacity, buckets_for};
 
-/// The most entries that so many buckets take: none of none, all but one of up to 8, and of more seven for each eight.
+/// Returns how many entries a table of `buckets` buckets may hold: all but one of up to 8 buckets, and seven eighths of
+/// more.
 #[inline]
 #[tactic(auto, unfolding(crate::specs::Sizes::full_capacity))]
 pub fn full_capacity(buckets: usize) -> usize
@@ -15,13 +16,13 @@ pub fn full_capacity(buckets: usize) -> usize
     }
 }
 
-/// The number of buckets for so many entries, which is 0 or below `max`, one more than the greatest bucket number
-/// that a link can name; `None` where there is no such number, or eight times the capacity overflows.
+/// Returns the number of buckets for `capacity` entries, which is 0 or below `max`, one more than the greatest number
+/// of a link. Returns `None` if there is no such number, or eight times the capacity overflows.
 #[tactic(auto, unfolding(crate::specs::Sizes::buckets_for))]
 pub fn buckets_for_capacity(capacity: usize, max: usize) -> Option<usize>
     ensures value { result ≡ buckets_for max capacity }
 
-    // So many buckets are below the limit, are a number that a table can have, and take so many entries.
+    // The result is below the limit, is a number of buckets that a table can have, and holds that many entries.
     ensures below { IfSome result (λ b. 0 < b → b < max) }
     ensures valid { IfSome result IsBucketCount }
     ensures holds { IfSome result (λ b. capacity ≤ full_capacity b) }

@@ -1,4 +1,4 @@
-//! `Table`. A clause sees a table as its `slots`, one a bucket, and its `placings`.
+//! `Table`. A contract sees a table as its `slots`, one for each bucket, and its `placings`, the number of insertions.
 ghost use Rattle.std.specs.Prelude.{◌≡◌, ◌↔◌, ℕ, ◌+◌, ◌^◌, ◌<◌, [], length, replicate, Some, IfSome, IfNone, IfOk};
 ghost use Rattle.std.specs.Prelude.{IfErr, OnErr, IsOk, IsTrue, nat_eq};
 ghost use Rattle.std.specs.Borrow.{sem};
@@ -28,13 +28,13 @@ mod relocation;
 
 /// A hash table of numbered buckets, each of which is empty, deleted or full.
 ///
-/// It sees no key and stores no hash: the hash of an entry is what its placing was given, and a search asks its
-/// caller about each entry that may be the one. An entry keeps its bucket until it is taken, or all entries are moved.
-/// `docs/TABLE.md` has its rules, which are those of hashbrown's raw table.
+/// It sees no key and stores no hash: the caller gives the hash when it inserts an entry, and a search calls the
+/// caller's closure with each entry that may be the one. An entry keeps its bucket until it is taken out, or all
+/// entries are moved. `docs/TABLE.md` explains its rules, which are those of hashbrown's raw table.
 ///
 /// A table of B buckets has B + 16 control bytes and B places for entries. Only `with_buckets`, `relocate`, `rehash`
 /// and `clone_with` ask for memory. `get`, `get_mut`, `take` and the figures take O(1). `find` and `try_place` take
-/// O(1) where the hashes are spread, and at worst O(B). All other calls take O(B).
+/// O(1) if the hashes are spread, and at worst O(B). All other calls take O(B).
 ///
 /// ```
 /// let mut table = Table::with_buckets(alloc, 8)?;
@@ -45,7 +45,7 @@ pub struct Table<T> {
     control: Control,
     entries: Entries<T>,
     room: usize,
-    // Between the two counts that a placing and a removal change, which are then not read and written as one.
+    // Between the two counts that an insertion and a removal change, which are then not read and written as one.
     placings: u64,
     len: usize,
 }
@@ -68,7 +68,7 @@ impl<T> Model for Table<T> {
 impl<T> Table<T> {
     ghost use Rattle.group_table.specs.Lends.{lends_entry};
 
-    /// A table of no buckets, which takes no memory. It refuses each entry until it is given buckets by `relocate`.
+    /// Makes a table of no buckets, which takes no memory. It rejects each entry until `relocate` gives it buckets.
     pub fn new(alloc: Global) -> Self
         ensures slots { result.slots ≡ [] }
         ensures placings { result.placings ≡ 0 }
@@ -84,14 +84,15 @@ impl<T> Table<T> {
         }
     }
 
-    /// A table of so many buckets, all empty: none, or a power of two from 4 on, and with 16 more at most `isize::MAX`.
+    /// Makes a table of `buckets` empty buckets: none, or a power of two from 4 on, and with 16 more at most
+    /// `isize::MAX`.
     ///
-    /// It takes a byte a bucket and 16 more for the control bytes, and room for a `T` a bucket for the entries, each in
-    /// one request, and time by the buckets. No buckets take no memory.
+    /// It takes a byte for each bucket and 16 more for the control bytes, and the bytes of a `T` for each bucket for
+    /// the entries, each in one request. It takes time O(buckets). No buckets take no memory.
     ///
     /// # Errors
     ///
-    /// Want of memory, and nothing else; never for no buckets.
+    /// Out of memory; never for no buckets.
     pub fn with_buckets(alloc: Global, buckets: usize) -> Result<Self, AllocError>
         requires count { IsBucketCount buckets }
         requires addressable { buckets + 16 < 2 ^ 63 }
@@ -115,13 +116,13 @@ impl<T> Table<T> {
         })
     }
 
-    /// The bucket of the first entry that `f` accepts, of those with the tag of the hash, its top 7 bits.
+    /// Returns the bucket of the first entry that `f` accepts, of those with the tag of the hash, its top 7 bits.
     ///
-    /// `f` is asked about one entry after another in the order of the search, about each at most once, and no more
-    /// after it accepted one. `None` says that it refused each entry of that hash.
+    /// `f` is called with one entry after another in the order of the search, with each at most once, and no more after
+    /// it accepted one. `None` says that it rejected each entry of that hash.
     ///
-    /// It reads 16 control bytes at once, as a rule of one group or two, and an entry for each question. At worst it
-    /// reads all control bytes, and asks about each entry with the tag.
+    /// It reads 16 control bytes at once, usually of one group or two, and an entry for each call. At worst it reads
+    /// all control bytes, and calls `f` with each entry with the tag.
     pub fn find<F: FnMut(&T) -> bool>(&self, hash: u64, f: F) -> Option<usize>
         requires { F.IsAlwaysCallable f }
         ensures found { IfSome result (Finds F.FnMut self.now.slots hash f) }
@@ -135,7 +136,7 @@ impl<T> Table<T> {
         find_bucket(&self.control, &self.entries, hash, f)
     }
 
-    /// The entry in a full bucket. Nothing of the table is read but where its entries lie.
+    /// Returns the entry in a full bucket. It reads nothing of the table but the address of its entries.
     #[inline]
     pub fn get(&self, b: usize) -> &T
         requires { IsFull self.now.slots b }
@@ -145,8 +146,8 @@ impl<T> Table<T> {
         self.entries.get(b)
     }
 
-    /// The entry in a full bucket for writing, at the cost of `get`. What is written there keeps the hash of the entry
-    /// before, so a caller whose hashes depend on the entry writes nothing that changes it.
+    /// Lends the entry in a full bucket for writing, at the cost of `get`. The table does not rehash: do not write
+    /// anything that changes the entry's hash.
     #[inline]
     pub fn get_mut(&mut self, b: usize) -> &mut T
         requires { IsFull self.old.slots b }
@@ -161,8 +162,9 @@ impl<T> Table<T> {
 
     /// Takes the entry out of a full bucket.
     ///
-    /// The bucket is then empty, which gives the room back, if every 16 neighbouring buckets that hold it hold an empty
-    /// one; else it is deleted, so that no search that went on past it ends there. Up to 16 buckets it is always empty.
+    /// The bucket is then empty, which gives growth left back, if every 16 neighbouring buckets around it contain an
+    /// empty one. Otherwise it is deleted, so that no search that went past it ends there. Up to 16 buckets it is
+    /// always empty.
     ///
     /// It reads 32 control bytes and writes one and its repetition, whatever the table's size.
     #[inline(always)]
@@ -183,7 +185,7 @@ impl<T> Table<T> {
         empty_bucket(&mut self.control, &mut self.entries, b, byte)
     }
 
-    // The control bytes, and the entries of which they tell.
+    // Returns the control bytes and the entries.
     fn into_parts(self) -> (Control, Entries<T>)
         ensures laid_out { IsLaidOut result.0 result.1 }
         ensures slots { slots_of result.0 result.1 ≡ self.slots }
@@ -209,14 +211,14 @@ impl<T: Drop> Drop for Table<T> {
 }
 
 impl<T: Drop> Table<T> {
-    /// Puts an entry with this hash into the first free bucket in the order of a search, and gives its number.
+    /// Puts an entry with this hash into the first free bucket in the order of a search, and returns its number.
     ///
-    /// An empty bucket takes one of the room, a deleted one none. It asks for no memory, moves no other entry, and
-    /// reads 16 control bytes at once, as a rule of one group or two.
+    /// An empty bucket takes one of the growth left, a deleted one none. It asks for no memory, moves no other entry,
+    /// and reads 16 control bytes at once, usually of one group or two.
     ///
     /// # Errors
     ///
-    /// The entry comes back, and nothing has changed, where there are no buckets, or there is no room and the first
+    /// Returns the entry, and changes nothing, if there are no buckets, or if there is no growth left and the first
     /// free bucket is empty.
     #[inline(always)]
     pub fn try_place(&mut self, hash: u64, entry: T) -> Result<usize, T>
@@ -228,7 +230,7 @@ impl<T: Drop> Table<T> {
             Fits self.new.slots (with_hash hash_of b hash)) }
         ensures table { IsTable (marks_of self.new.slots) }
 
-        // An entry that found no place comes back, and the table stays.
+        // An entry that found no bucket is returned, and the table stays.
         ensures returned { IfErr result (λ back. back ≡ entry) }
         ensures unchanged { OnErr result (self.new ≡ self.old) }
         ensures no_place { OnErr result (HasNoPlace (marks_of self.old.slots) hash) }
@@ -248,9 +250,9 @@ impl<T: Drop> Table<T> {
         Ok(b)
     }
 
-    /// Drops all entries. Every bucket is then empty; there are as many as before, and the placings stay.
+    /// Drops all entries. Every bucket is empty then; their number and the count of insertions stay.
     ///
-    /// It writes all control bytes, and goes through the entries' places only where there is an entry.
+    /// It writes all control bytes, and goes through the entries' places only if there is an entry.
     pub fn clear(&mut self)
         ensures slots { self.new.slots ≡ replicate (length self.old.slots) empty }
         ensures placings { self.new.placings ≡ self.old.placings }
@@ -264,7 +266,7 @@ impl<T: Drop> Table<T> {
     }
 }
 
-// Whether there are no buckets. Where there is room there are some, and the control bytes are not asked.
+// Returns whether there are no buckets. With growth left there are some, and the control bytes are not read.
 #[inline]
 fn is_without_buckets(control: &Control, room: usize) -> bool
     requires { buckets_of control.now ≡ 0 → room ≡ 0 }

@@ -1,4 +1,4 @@
--- What the limiters of this crate say, beside `Budget`, which has the rules and offers of a limit by cost.
+-- What the limiters of this crate decide, except for `Budget`, which has the rules and offers of a limit by cost.
 --     length_rules, length_offers      those of a limit by length, which is the limiter's state
 --     memory_rules                     the rules of a limit by memory usage, whose bytes are the limiter's state
 --     no_rules                         those of a limiter that limits nothing

@@ -1,4 +1,4 @@
-//! Costs, limiters that keep the sum of them, and the limiter by a cost.
+//! Costs, limiters with a running total of them, and the limiter by cost.
 ghost use Rattle.std.specs.Prelude.{◌≡◌, ℕ, string_len, vec_len};
 ghost use Rattle.lru_limits.specs.Laws.{IsAccount};
 
@@ -9,10 +9,10 @@ use crate::limiter::Insertion;
 pub use by_cost::ByCost;
 use std::hash::Hash;
 
-/// A value that has a cost. A whole number costs itself, a text its bytes, and a vector the number of its items.
+/// A value with a cost. A whole number costs itself, a text its bytes, and a vector the number of its items.
 ///
-/// The cost of a value is read again when the value leaves the map, so a cost that changes in the map makes a sum that
-/// is not that of the pairs.
+/// The cost of a value is read again when the value leaves the map. So if the cost changes in the map, the running
+/// total is no longer the sum of the costs.
 ///
 /// ```
 /// struct Page {
@@ -28,10 +28,10 @@ use std::hash::Hash;
 /// }
 /// ```
 pub trait Costed {
-    /// The cost of the value.
+    /// Returns the cost of the value.
     ghost cost: { Self → ℕ };
 
-    /// The cost of the value.
+    /// Returns the cost of the value.
     fn cost(&self) -> u64
         ensures { result ≡ cost self.now };
 }
@@ -101,31 +101,31 @@ impl<T> Costed for Vec<T> {
     }
 }
 
-/// A limiter that keeps the sum of the costs of the pairs that it gave to be stored and was not told had left.
+/// A limiter with a running total: the sum of the costs of the pairs that it returned for storage and that have not
+/// left.
 ///
-/// Its account starts with a map as the sum over the pairs of the map, and stays that sum through each call, while
-/// nobody writes to the values or to the limiter behind its back: each callback changes the account as the laws say.
-/// The two that take a cost off are bound by them only where the account has that much.
-/// `docs/LIMITERS.md` shows an impl.
+/// The total is the sum over the pairs of the map after each call, unless somebody writes to the values or to the
+/// limiter through a reference: each callback changes the total as the laws say. The two laws that subtract a cost hold
+/// only if the total is at least that cost. `docs/LIMITERS.md` shows an impl.
 ///
 /// ```
 /// assert_eq!(rt; Summing::<u64, u64, u64>::account(&limiter), 2);
 /// ```
 pub trait Summing<K: Eq + Hash, V, I: LookupKey<K>>: Insertion<K, V, I> {
-    /// The cost of a pair.
+    /// Returns the cost of a pair.
     ghost cost_of: { K → V → ℕ };
 
-    /// The sum that the limiter has come to.
+    /// Returns the running total.
     ghost account: { Self → ℕ };
 
-    /// The cost of a pair.
+    /// Returns the cost of a pair.
     fn cost_of(key: &K, value: &V) -> u64
         ensures { result ≡ cost_of key.now value.now };
 
-    /// The sum that the limiter has come to.
+    /// Returns the running total.
     fn account(&self) -> u64
         ensures { result ≡ account self.now };
 
-    /// What each callback does to the account.
+    /// What each callback does to the running total.
     ghost laws: { IsAccount Self.rules Self.offers cost_of account };
 }

@@ -1,4 +1,4 @@
-//! A fast seeded hasher: each eight bytes of a write are one multiplication. Which hashes it gives is not promised.
+//! A fast seeded hasher: each eight bytes of a write cost one multiplication. Nothing promises which hashes it gives.
 ghost use Rattle.std.specs.Prelude.{◌≡◌, ◌+◌, ◌*◌, ◌^◌, ◌<◌, length, fold};
 ghost use Rattle.std.specs.Int.{w64, from_le_bytes};
 ghost use Rattle.lru_limits.specs.Mixing.{folded, joined, written, closed, seeded};
@@ -16,11 +16,11 @@ const REST_KEY: u64 = 0x3c6e_f372_fe94_f82b;
 
 const REST_FACTOR: u64 = 0xa54f_f53a_5f1d_36f1;
 
-/// Makes hashers that are seeded by four words. A clause sees it as the hasher before the first write.
+/// Builds hashers with four seeds. A contract sees it as the hasher before the first write.
 ///
-/// Hashers of equal words give equal hashes after equal writes, so `state.hash_one(&key)` is the hash that a map with
-/// an equal state has of the key, and of all that names it. The default has the words 1, 2, 3, 4: nothing is drawn at
-/// random here, and strength against chosen keys is not claimed.
+/// Hashers of equal seeds give equal hashes after equal writes. So `state.hash_one(&key)` is the hash of the key in a
+/// map with an equal state, and of every value that names the key. The default seeds are 1, 2, 3, 4: nothing is random
+/// here, and nothing is claimed against chosen keys.
 ///
 /// ```
 /// let state = RandomState::with_seeds([5, 6, 7, 8]);
@@ -44,7 +44,7 @@ impl Model for RandomState {
 }
 
 impl RandomState {
-    /// The state of these words.
+    /// Makes the state with these seeds.
     pub fn with_seeds(words: [u64; 4]) -> RandomState
         ensures { result ≡ seeded words }
     {
@@ -56,7 +56,7 @@ impl RandomState {
     }
 }
 
-/// The state of the words 1, 2, 3, 4.
+/// The state with the seeds 1, 2, 3, 4.
 impl Default for RandomState {
     ghost use Rattle.std.specs.Prelude.{◌∷◌, []};
 
@@ -67,7 +67,7 @@ impl Default for RandomState {
     }
 }
 
-/// Shows nothing of the words.
+/// Does not show the seeds.
 impl Debug for RandomState {
     fn fmt<W: Write>(&self, f: &mut Formatter<W>) -> Result {
         f.debug_struct("RandomState").finish_non_exhaustive()
@@ -91,8 +91,8 @@ impl BuildHasher for RandomState {
 
 /// The hasher that a `RandomState` makes.
 ///
-/// A whole number is written as its bytes, the lowest first: `write_u64(n)` leaves what `write(&n.to_le_bytes())`
-/// leaves. Two writes are not one write of the bytes of both.
+/// A whole number is written as its bytes, the lowest first: `write_u64(n)` does what `write(&n.to_le_bytes())` does.
+/// Two writes are not one write of the bytes of both.
 #[derive(Drop)]
 pub struct DefaultHasher {
     state: u64,

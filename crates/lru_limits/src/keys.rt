@@ -8,11 +8,11 @@ use std::hash::{BuildHasher, Hash};
 
 /// A value that names at most one key, up to equality, and hashes as that key does.
 ///
-/// It is there for every key itself, and for `&str` where the keys are `String`s: `"a".is_key(&key)` says whether the
-/// key is the text `a`, and no `String` has to be made for a look-up. A type of one's own says by `names` which key it
-/// names, gives that test as `is_key`, and proves the two laws: what it names is one key up to equality, and it writes
-/// to a hasher what that key writes. A derived `Hash` on a struct of one field writes what the field writes.
-/// `docs/LIMITERS.md` shows two such types.
+/// It is implemented for every key itself, and for `&str` if the keys are `String`s: `"a".is_key(&key)` returns whether
+/// the key is the text `a`, so a look-up makes no `String`. An impl of your own says by `names` which key it names,
+/// computes that test in `is_key`, and proves two laws: it names one key up to equality, and it writes to a hasher what
+/// that key writes. A derived `Hash` of a struct with one field writes what the field writes. `docs/LIMITERS.md` shows
+/// two such types.
 ///
 /// ```
 /// let key = String::from_str(rt.alloc(), "a")?;
@@ -20,14 +20,14 @@ use std::hash::{BuildHasher, Hash};
 /// assert!(rt; !"b".is_key(&key));
 /// ```
 pub trait LookupKey<K: Eq + Hash>: Hash {
-    /// Whether the value names this key.
+    /// Returns whether the value names this key.
     ghost names: { Self → K → Bool };
 
-    /// Whether the value names this key.
+    /// Returns whether the value names this key.
     fn is_key(&self, key: &K) -> bool
         ensures { result ≡ names self.now key.now };
 
-    /// What the value names is one key up to equality, which writes to a hasher what the value writes.
+    /// The value names one key up to equality, and writes to a hasher what that key writes.
     ghost laws: { IsLookup names K.eq Self.hash_input K.hash_input };
 }
 
@@ -58,24 +58,24 @@ impl LookupKey<String> for &str {
     }
 }
 
-/// What hashes the keys of a type, and all that names them. Every `BuildHasher` does.
+/// A hasher of keys, and of all that names them. Every `BuildHasher` is one.
 pub trait KeyHasher<K: Eq + Hash>: BuildHasher {
-    /// The hash of a key.
+    /// Returns the hash of a key.
     ghost hash_of: { Self → K → ℕ };
 
-    /// The hash of the key that the value names.
+    /// Returns the hash of the key that the value names.
     fn hash_named<Q: LookupKey<K>>(&self, key: &Q) -> u64
         ensures { (k : K) → IsTrue (Q.names key.now k) → result ≡ hash_of self.now k };
 
-    /// Equal keys have one hash.
+    /// Equal keys have equal hashes.
     ghost respects_eq: { (s : Self) (x y : K) → IsTrue (K.eq x y) → hash_of s x ≡ hash_of s y };
 
-    /// It is the hash of what the key writes.
+    /// The hash is what the built hasher makes of the bytes that the key writes.
     ghost by_builder: { (s : Self) (k : K) →
         hash_of s k ≡ hash_by K.hash_input Self.BuildHasher Self.Hasher.Hasher s k };
 }
 
-/// By the hasher that is built.
+/// Hashes with the hasher that is built.
 impl<K: Eq + Hash, S: BuildHasher> KeyHasher<K> for S {
     ghost hash_of = { hash_by K.hash_input S.BuildHasher S.Hasher.Hasher };
 

@@ -1,14 +1,14 @@
-//! What a map with a limiter asks of its parts: look-up keys, limiters, accounts and a hasher.
+//! The parts of a map with a limiter: look-up keys, limiters, running totals and a hasher.
 //!
-//! - [`LookupKey`]: a value that a key is looked up by, as `&str` if the keys are `String`s.
-//! - [`KeyHasher`]: a hasher of keys. Each `BuildHasher` is one; its clauses name the hash of a key.
+//! - [`LookupKey`]: a value that names a key in a look-up, as `&str` if the keys are `String`s.
+//! - [`KeyHasher`]: a hasher of keys. Each `BuildHasher` is one; contracts name the hash of a key by it.
 //! - [`Limiter`] and [`Insertion`]: when a map is over its limit, and what happens to an element that is offered to it.
 //! - [`ByLength`], [`ByMemoryUsage`], [`Unlimited`], [`UnlimitedCompact`]: limiters that look at no element.
 //! - [`Storing`]: an adapter for a limiter of your own that stores each pair as it comes.
-//! - [`Costed`], [`Summing`], [`ByCost`]: limiters that keep the sum of the costs of the elements.
-//! - [`RandomState`] and [`DefaultHasher`]: the hasher, seeded by four words.
+//! - [`Costed`], [`Summing`], [`ByCost`]: limiters with a running total of the costs of the elements.
+//! - [`RandomState`] and [`DefaultHasher`]: the hasher, with four seeds.
 //!
-//! `docs/LIMITERS.md` shows how a limiter and a look-up key of one's own are written.
+//! `docs/LIMITERS.md` shows how to write a limiter and a look-up key of your own.
 #![tactic(auto)]
 
 pub mod accounts;

@@ -18,5 +18,6 @@ pub mod MadeValues
 pub mod CallKinds
 pub mod SummedCalls
 pub mod CallLaws
+pub mod OldestGone
 pub mod ListRuns
 pub mod AlikeRuns

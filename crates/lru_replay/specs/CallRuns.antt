@@ -3,6 +3,7 @@ use Rattle.std.specs.Prelude.{◌≡◌, ℕ, Bool, List, [], ◌∷◌, ◌⊎�
 use Rattle.group_table.specs.Probe.{hash_tag}
 use Rattle.lru_limits.specs.Rules.{Rules, Offers}
 use Rattle.schnellru.specs.Lists.{lookup_entry}
+use Rattle.schnellru.specs.Runs.{AreAmong}
 use Rattle.schnellru.specs.State.{State, Contents, contents, IsMap}
 use Rattle.schnellru.specs.Theorems.{IsSummed}
 use Rattle.lru_replay.specs.declared.calls.call.Call.{Call}
@@ -38,6 +39,18 @@ module _ {K V S : Type 0} where
   HasPlainSearch hash_of (calls.GetByHash hash key) = hash_tag (hash_of key) ≡ hash_tag hash → hash_of key ≡ hash
   HasPlainSearch hash_of (calls.PeekByHash hash key) = hash_tag (hash_of key) ≡ hash_tag hash → hash_of key ≡ hash
   HasPlainSearch hash_of call = Unit {0}
+
+  -- the call names keys that pass the test alone, and does not pop the newest pair
+  abbrev pub NamesAmong : (K → K → Bool) → (K → Bool) → Call K V S → Type 0
+  NamesAmong eq test (calls.Insert key v) = AreAmong (eq key) test
+  NamesAmong eq test (calls.InsertWith key v) = AreAmong (eq key) test
+  NamesAmong eq test (calls.GetOrInsert key v) = AreAmong (eq key) test
+  NamesAmong eq test (calls.Get key) = AreAmong (eq key) test
+  NamesAmong eq test (calls.GetByHash hash key) = AreAmong (eq key) test
+  NamesAmong eq test (calls.Write key v) = AreAmong (eq key) test
+  NamesAmong eq test (calls.Remove key) = AreAmong (eq key) test
+  NamesAmong eq test calls.PopNewest = ⊥
+  NamesAmong eq test call = Unit {0}
 
   -- the call sets no other limiter
   abbrev pub SetsNoLimiter : Call K V S → Type 0

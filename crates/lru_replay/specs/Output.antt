@@ -79,7 +79,7 @@ abbrev pub cost_text : Option ℕ → List ℕ
 cost_text None = []
 cost_text (Some cost) = named_text (codes " cost ") cost
 
--- as ` placed 15 shrunk 5`, and ` placed 15` where no shrink placed an entry anew
+-- as ` placed 15 shrunk 5`, and ` placed 15` if no shrink rehashed an entry
 abbrev pub placed_text : ℕ → ℕ → List ℕ
 placed_text placed anew =
     named_text (codes " placed ") placed ++ (if anew == 0 then [] else named_text (codes " shrunk ") anew)

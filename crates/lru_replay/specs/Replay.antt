@@ -44,12 +44,12 @@ NamesNoLimit lines = (limit : Limit) (first : List ℕ) (others : List (List ℕ
 abbrev pub IsOutput : List (List ℕ) → List ℕ → Type 0
 IsOutput lines text = IsReplay lines text ⊎ (NamesNoLimit lines × (text ≡ no_limiter_text))
 
--- the text of the first so many lines: there is none before the first, which names the limit
+-- the text of the first n lines: there is none before the first, which names the limit
 abbrev pub IsTextSoFar : List (List ℕ) → List ℕ → Type 0
 IsTextSoFar [] text = text ≡ []
 IsTextSoFar (first ∷ others) text = (limit : Limit) × SpellsLimit first limit × IsTextUnder limit others text
 
--- what is written of the first so many lines: nothing yet of none
+-- what is written of the first n lines: nothing yet of none
 abbrev pub IsOutputSoFar : List (List ℕ) → List ℕ → Type 0
 IsOutputSoFar [] text = text ≡ []
 IsOutputSoFar (first ∷ others) text = IsOutput (first ∷ others) text
@@ -72,7 +72,7 @@ abbrev pub WritesSoFar : Option (List ℕ) → Option (List ℕ) → Option (Lis
 WritesSoFar = WritesTextSoFar IsTextSoFar
 
 -- Lines were read whole, and a beginning of what is written of them was written. They are all lines of the input, or
--- the first so many, and then a part of the next may have been read.
+-- the first n, and then a part of the next may have been read.
 abbrev pub WritesCutSoFar : Option (List ℕ) → Option (List ℕ) → Option (List ℕ) → Option (List ℕ) → Type 0
 WritesCutSoFar from to old new = IfSome from (λ _. (lines : List (List ℕ)) × (text part : List ℕ)
     × ((TakesAll from to lines × IsOutput lines text)

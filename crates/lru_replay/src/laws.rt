@@ -1,13 +1,13 @@
-//! What is proved of runs of calls, beside what `run_calls` and `run_summing` say of each. The functions do nothing:
-//! their contracts are the theorems.
-ghost use Rattle.std.specs.Prelude.{◌≡◌, ℕ, ◌≤◌, ◌+◌, ◌*◌, length, List, map};
+//! What is proved of runs of calls, in addition to what `run_calls` and `run_summing` say of each. The functions do
+//! nothing: their contracts are the theorems.
+ghost use Rattle.std.specs.Prelude.{◌≡◌, ℕ, ◌≤◌, ◌+◌, ◌*◌, Bool, length, List, map};
 ghost use Rattle.std.specs.List.{AllByRecursion, IsDistinct};
 ghost use Rattle.schnellru.specs.Exact.{AlwaysGrants, HasTables, HasTableFor, IsDetermined, NeverLacks, LookAlike};
-ghost use Rattle.schnellru.specs.Lists.{keys_of};
+ghost use Rattle.schnellru.specs.Lists.{keys_of, IsFront};
 ghost use Rattle.schnellru.specs.State.{State, contents, buckets, IsSized, IsMap};
-ghost use Rattle.schnellru.specs.Theorems.{PaysForMoves, UsesAtMost, IsSummed};
+ghost use Rattle.schnellru.specs.Theorems.{PaysForMoves, UsesAtMost, IsSummed, others};
 ghost use Rattle.lru_replay.specs.declared.calls.call.Call.{Call};
-ghost use Rattle.lru_replay.specs.CallRuns.{IsRun, CallStep, SummingStep, SetsNoLimiter, HasPlainSearch};
+ghost use Rattle.lru_replay.specs.CallRuns.{IsRun, CallStep, SummingStep, NamesAmong, SetsNoLimiter, HasPlainSearch};
 ghost use Rattle.lru_replay.specs.ListRuns.{ListCallStep, ListSummingStep};
 ghost use Rattle.lru_replay.specs.Replies.{Reply, want_of};
 
@@ -16,14 +16,30 @@ use schnellru::{
 };
 use std::hash::Hash;
 
-/// Over any stretch of calls moved and potential together rise by at most two for each element that is placed, while
-/// the count of these goes on, and by one for each that shrinks place anew.
+/// Over any calls the count of moved entries and the potential together rise by at most two for each entry that inserts
+/// store, while the count of stored entries goes on, and by one for each entry that shrinks rehash.
 pub fn calls_pay_for_moves<K: Eq + Hash, V, L: Insertion<K, V, K>, S: KeyHasher<K>>()
     ensures rise { (old new : State K V L S) (calls : List (Call K V L)) (replies : List (Reply K V)) →
         IsRun (CallStep L.rules L.offers K.eq S.hash_of) (IsMap K.eq)
         old calls replies new → IsSized old → (anew : ℕ) × PaysForMoves anew old new }
 {
     laws::runs_pay_for_moves::<K, V, K, L, S>();
+}
+
+/// A list of calls evicts from the old end alone: of the pairs whose keys none of the calls names, those that are left
+/// are the newest, in their order, unless one of the calls is `PopNewest`. So does a list under a limiter with a running
+/// total.
+pub fn calls_give_up_the_oldest<K: Eq + Hash, V, L: Insertion<K, V, K>, S: KeyHasher<K>>()
+    ensures oldest { (test : K → Bool) (old new : State K V L S) (calls : List (Call K V L))
+        (replies : List (Reply K V)) →
+        IsRun (CallStep L.rules L.offers K.eq S.hash_of) (IsMap K.eq) old calls replies new →
+        AllByRecursion (NamesAmong K.eq test) calls → IsFront (others test new.pairs) (others test old.pairs) }
+    ensures summing { (cost : K → V → ℕ) (account : L → ℕ) (test : K → Bool) (old new : State K V L S)
+        (calls : List (Call K V L)) (replies : List (Reply K V)) →
+        IsRun (SummingStep L.rules L.offers K.eq S.hash_of cost account) (IsMap K.eq) old calls replies new →
+        AllByRecursion (NamesAmong K.eq test) calls → IsFront (others test new.pairs) (others test old.pairs) }
+{
+    laws::runs_give_up_the_oldest::<K, V, K, L, S>();
 }
 
 /// With `ByLength` there are at most `max_length` pairs after each of the calls, if there were no more before, and none
@@ -53,8 +69,8 @@ pub fn calls_keep_the_memory_usage<K: Eq + Hash + Drop, V: Drop, S: KeyHasher<K>
     laws::runs_keep_the_memory_usage::<K, V, S>();
 }
 
-/// With `ByCost` the cost is at most the limit after each of the calls, if it was so before and was the sum of the
-/// costs of the pairs, and none sets another limiter.
+/// With `ByCost` the cost is at most the limit after each of the calls, if that held before and the cost was the sum of
+/// the costs of the pairs, and none sets another limiter.
 pub fn calls_keep_the_cost<K: Eq + Hash + Drop, V: Costed + Drop, S: KeyHasher<K>>()
     ensures cost { (old new : State K V ByCost S) (calls : List (Call K V ByCost)) (replies : List (Reply K V)) →
         IsRun (SummingStep ⟦<ByCost as Limiter<K, V>>⟧.rules ⟦<ByCost as Insertion<K, V, K>>⟧.offers K.eq
@@ -71,10 +87,10 @@ pub fn calls_keep_the_cost<K: Eq + Hash + Drop, V: Costed + Drop, S: KeyHasher<K
     laws::runs_keep_sums::<K, V, K, ByCost, S>();
 }
 
-/// Where the limiter permits every growth, as `ByLength`, `ByCost` and the unlimited ones do, and links and bytes reach
-/// the tables that the pairs may need, a run is one on a list of pairs with distinct keys that has no table. So each
-/// answer and each state is as the list and the limiter have it. They reach those tables, if they reach one for eight
-/// times as many pairs as there are and calls.
+/// If the limiter permits every growth, as `ByLength`, `ByCost` and the unlimited ones do, and the tables that the
+/// pairs may need are within the reach of links and bytes, a run is one on a list of pairs with distinct keys that has
+/// no table: the list and the limiter determine each answer and each state. Those tables are within reach, if one for
+/// eight times as many pairs as there are pairs and calls is.
 pub fn granted_calls_are_exact<K: Eq + Hash, V, L: Insertion<K, V, K>, S: KeyHasher<K>>()
     ensures exact { (old new : State K V L S) (calls : List (Call K V L)) (replies : List (Reply K V)) →
         AlwaysGrants L.rules → HasTables old →
@@ -92,7 +108,8 @@ pub fn granted_calls_are_exact<K: Eq + Hash, V, L: Insertion<K, V, K>, S: KeyHas
     laws::calls_add_one_pair::<K, V, K, L, S>();
 }
 
-/// So is a run under a summing limiter: a call that keeps the cost is one on the list, and any other changes nothing.
+/// So is a run under a limiter with a running total: a call that keeps the cost is one on the list, and any other
+/// changes nothing.
 pub fn granted_summing_is_exact<K: Eq + Hash, V, L: Summing<K, V, K>, S: KeyHasher<K>>()
     ensures exact { (old new : State K V L S) (calls : List (Call K V L)) (replies : List (Reply K V)) →
         AlwaysGrants L.rules → HasTables old →
@@ -110,9 +127,9 @@ pub fn granted_summing_is_exact<K: Eq + Hash, V, L: Summing<K, V, K>, S: KeyHash
     laws::calls_add_one_pair::<K, V, K, L, S>();
 }
 
-/// Two runs of the same calls give the same answers, under a limiter that leaves nothing open, if they find the same
-/// wants of memory, no table of theirs has more than 16 buckets, and the two maps before them differ at most in which
-/// buckets are full. So do the two maps after them.
+/// Two runs of the same calls return the same answers and leave maps that differ at most in which buckets are full, if
+/// the maps before differed in no more, the limiter's offers are determined, the same allocations fail, and no table
+/// has more than 16 buckets.
 pub fn small_calls_are_alike<K: Eq + Hash, V, L: Insertion<K, V, K>, S: KeyHasher<K>>()
     ensures alike { (old other new last : State K V L S) (calls : List (Call K V L))
         (replies answers : List (Reply K V)) →
@@ -126,7 +143,7 @@ pub fn small_calls_are_alike<K: Eq + Hash, V, L: Insertion<K, V, K>, S: KeyHashe
     laws::small_inserts_look_alike::<K, V, K, L, S>();
 }
 
-/// So do two runs under a summing limiter.
+/// So do two runs under a limiter with a running total.
 pub fn small_summing_is_alike<K: Eq + Hash, V, L: Summing<K, V, K>, S: KeyHasher<K>>()
     ensures alike { (old other new last : State K V L S) (calls : List (Call K V L))
         (replies answers : List (Reply K V)) →

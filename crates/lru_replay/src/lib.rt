@@ -1,9 +1,9 @@
 //! Runs of calls on an LRU map: as lists of calls, and as lines from a reader to a writer.
 //!
 //! [`run_calls`] carries out a list of calls on a map of any keys, values, limiter and hasher. [`run_summing`] does so
-//! under a limiter that keeps a sum, and carries out no write that would make the sum another. [`replay`] reads lines,
-//! each of which spells a call, and writes their answers; `docs/REPLAY.md` has the lines. All three are runs of the
-//! same steps, of which `docs/RUNS.md` tells.
+//! under a limiter with a running total, and carries out no write that would make the total wrong. [`replay`] reads
+//! lines, each of which spells a call, and writes their answers; `docs/REPLAY.md` lists the lines. All three are runs
+//! of the same steps, which `docs/RUNS.md` explains.
 #![tactic(auto)]
 
 mod calls;

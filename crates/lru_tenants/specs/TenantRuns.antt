@@ -56,7 +56,7 @@ module _ {K V : Type 0} where
   Costs None answer new = (answer ≡ Err NotOpen) × (new ≡ None)
   Costs (Some map) answer new = (answer ≡ Ok map.limiter.cost) × (new ≡ Some map)
 
-  -- one that is open closes, and so many pairs are dropped
+  -- one that is open closes, and n pairs are dropped
   abbrev pub Closes : Option (Tenant K V) → Result ℕ TenantError → Option (Tenant K V) → Type 0
   Closes None answer new = (answer ≡ Err NotOpen) × (new ≡ None)
   Closes (Some map) answer new = (answer ≡ Ok (length map.pairs)) × (new ≡ None)

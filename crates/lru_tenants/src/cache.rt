@@ -1,4 +1,4 @@
-//! `TenantCache`. A clause sees a cache as its open tenants, each with its map.
+//! `TenantCache`. A contract sees a cache as its open tenants, each with its map.
 ghost use Rattle.std.specs.Prelude.{◌≡◌, [], length, nat_eq};
 ghost use Rattle.std.specs.List.{IsDistinct};
 ghost use Rattle.std.specs.Map.{keys_of};
@@ -18,7 +18,7 @@ use std::hash::Hash;
 use std::marker::Model;
 use thiserror::Error;
 
-/// Why a call on a tenant did nothing, or not all.
+/// Why a call on a tenant failed.
 #[derive(Clone, Copy, Debug, PartialEq, Eq, Error)]
 pub enum TenantError {
     /// The tenant is open already.
@@ -27,12 +27,12 @@ pub enum TenantError {
     /// The tenant is not open.
     #[error("not open")]
     NotOpen = 2,
-    /// Memory was refused.
+    /// Out of memory.
     #[error("no memory")]
     Memory = 3,
 }
 
-/// A cache for many tenants, which are named by numbers: a map for each, limited by the cost of its values.
+/// A cache for many tenants, which are named by numbers. Each tenant has a map, limited by the cost of its values.
 ///
 /// ```
 /// let mut cache: TenantCache<u64, u64> = TenantCache::new(alloc, [1, 2, 3, 4], 16);
@@ -68,10 +68,10 @@ impl<K: Eq + Hash, V: Costed> Model for TenantCache<K, V> {
 impl<K: Eq + Hash, V: Costed> TenantCache<K, V> {
     ghost use Rattle.lru_tenants.specs.Lending.{ends_so};
 
-    /// A cache without tenants.
+    /// Makes a cache without tenants.
     ///
-    /// The words seed the hasher of all maps, and so many bytes are told to each as those of an entry, as to
-    /// `LruMap::new`. Where keys come from outside, take words that nobody can guess. Cost: `O(1)`, and no memory.
+    /// The hashers of all maps have these seeds, and each map counts `entry_bytes` bytes an entry, as `LruMap::new`
+    /// does. If strangers choose the keys, take seeds that nobody can guess. Cost: `O(1)`, and no memory.
     pub fn new(alloc: Global, seed: [u64; 4], entry_bytes: usize) -> Self
         ensures { result ≡ record { tenants = []; hasher = seeded seed; entry_bytes = entry_bytes } }
     {
@@ -83,9 +83,9 @@ impl<K: Eq + Hash, V: Costed> TenantCache<K, V> {
         }
     }
 
-    /// A tenant's value of a key. Its pair becomes the tenant's newest.
+    /// Returns a tenant's value of a key, and makes its entry the tenant's newest.
     ///
-    /// `String` keys are looked up by a text, as `cache.get(1, &"a")`. The value is lent to be read alone, so that its
+    /// `String` keys are looked up by a `&str`, as `cache.get(1, &"a")`. The value is lent for reading alone, so its
     /// cost stays.
     ///
     /// Cost: `O(1)` expected.
@@ -107,7 +107,7 @@ impl<K: Eq + Hash, V: Costed> TenantCache<K, V> {
         }
     }
 
-    /// How many tenants are open.
+    /// Returns how many tenants are open.
     ///
     /// Cost: `O(1)`.
     pub fn len(&self) -> usize
@@ -118,7 +118,7 @@ impl<K: Eq + Hash, V: Costed> TenantCache<K, V> {
         self.tenants.len()
     }
 
-    /// Whether no tenant is open.
+    /// Returns whether no tenant is open.
     ///
     /// Cost: `O(1)`.
     pub fn is_empty(&self) -> bool
@@ -127,7 +127,7 @@ impl<K: Eq + Hash, V: Costed> TenantCache<K, V> {
         self.tenants.is_empty()
     }
 
-    /// The sum of the costs of a tenant's values.
+    /// Returns the sum of the costs of a tenant's values.
     ///
     /// Cost: `O(1)` expected.
     ///
@@ -146,7 +146,7 @@ impl<K: Eq + Hash, V: Costed> TenantCache<K, V> {
 }
 
 impl<K: Eq + Hash + Drop, V: Costed + Drop> TenantCache<K, V> {
-    /// Opens a tenant, whose map is empty, with the greatest sum of costs that its values may come to.
+    /// Opens a tenant with an empty map and a budget: the greatest sum of the costs of its values.
     ///
     /// ```
     /// assert_eq!(rt; cache.open(1, 3), Ok(()));
@@ -157,7 +157,7 @@ impl<K: Eq + Hash + Drop, V: Costed + Drop> TenantCache<K, V> {
     ///
     /// # Errors
     ///
-    /// `AlreadyOpen`, or `Memory`: none was found for one tenant more. Both change nothing.
+    /// `AlreadyOpen`, or `Memory`: there was none for one tenant more. Both change nothing.
     pub fn open(&mut self, name: u64, budget: u64) -> Result<(), TenantError>
         ensures opens { On name (Opens (fresh self.old budget)) self.old result self.new }
         ensures tenants { AreTenants K.eq V.cost self.new }
@@ -181,17 +181,17 @@ impl<K: Eq + Hash + Drop, V: Costed + Drop> TenantCache<K, V> {
         LruMap::new(self.alloc, ByCost::new(budget), self.seed, self.entry_bytes)
     }
 
-    /// Puts a value under a key, as the newest pair of the tenant, and answers whether the key is there then.
+    /// Inserts a key with a value, as the newest entry of the tenant. Returns whether the key is there then.
     ///
-    /// It is an `insert` into the map of the tenant: a value whose own cost is above the budget is not taken, and the
-    /// tenant's oldest pairs leave until the sum of its costs is within it.
+    /// It is an `insert` into the map of the tenant: it rejects a value whose cost alone is above the budget, and
+    /// evicts the tenant's oldest entries until the sum of its costs is within the budget.
     ///
-    /// Cost: that of `LruMap::insert`.
+    /// Cost: as `LruMap::insert`.
     ///
     /// # Errors
     ///
-    /// `NotOpen`: nothing has changed. `Memory`: none was found for the pair. The newest of the tenant's pairs
-    /// are left, as after an `Err` of `LruMap::insert`.
+    /// `NotOpen`: nothing has changed. `Memory`: there was none for the entry. The newest of the tenant's entries are
+    /// left, as after an `Err` of `LruMap::insert`.
     pub fn put(&mut self, name: u64, key: K, value: V) -> Result<bool, TenantError>
         ensures puts { On name (Puts K.eq V.cost (hash_of K.hash_input) key value) self.old result self.new }
         ensures tenants { AreTenants K.eq V.cost self.new }
@@ -202,7 +202,7 @@ impl<K: Eq + Hash + Drop, V: Costed + Drop> TenantCache<K, V> {
         put_answer(insert(own, key, value))
     }
 
-    /// Closes a tenant, whose pairs are dropped, and answers how many these were.
+    /// Closes a tenant and drops its entries. Returns how many these were.
     ///
     /// Cost: `O(buckets)` of its table.
     ///
@@ -237,7 +237,7 @@ fn insert<K: Eq + Hash + Drop, V: Costed + Drop>(
     map.insert(key, value)
 }
 
-// What a put answers, where the insert into the map of its tenant answers this.
+// What a put returns if the insert into the map of its tenant returns this.
 fn put_answer(inserted: Result<bool, AllocError>) -> Result<bool, TenantError>
     ensures { result ≡ put_answer inserted }
 {

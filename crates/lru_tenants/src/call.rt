@@ -10,13 +10,13 @@ use crate::cache::TenantError;
 pub enum TenantCall<K, V> {
     /// `open`: opens the tenant with this budget.
     Open(u64, u64),
-    /// `put`: puts the value under the key, as the newest pair of the tenant.
+    /// `put`: inserts the key with the value, as the newest entry of the tenant.
     Put(u64, K, V),
-    /// `get`: gives the tenant's value of the key, and makes its pair the newest.
+    /// `get`: returns the tenant's value of the key, and makes its entry the newest.
     Get(u64, K),
-    /// `cost`: gives the sum of the costs of the tenant's values.
+    /// `cost`: returns the sum of the costs of the tenant's values.
     Cost(u64),
-    /// `close`: drops the tenant's pairs, and forgets the tenant.
+    /// `close`: drops the tenant's entries and closes the tenant.
     Close(u64),
 }
 
@@ -31,6 +31,6 @@ pub enum TenantAnswer<V> {
     Got(Result<Option<V>, TenantError>),
     /// To `Cost`: the sum of the costs.
     Cost(Result<u64, TenantError>),
-    /// To `Close`: how many pairs were dropped.
+    /// To `Close`: how many entries were dropped.
     Closed(Result<usize, TenantError>),
 }

@@ -1,7 +1,7 @@
 //! A cache for many tenants: each has a map of its own, limited by a budget of its own.
 //!
-//! [`TenantCache`] is the cache, and [`run_tenants`] carries out a list of calls on it. `docs/TENANTS.md` shows how it
-//! is used, and what is proved of it: the answers to a tenant are those of a map that nobody else uses.
+//! [`TenantCache`] is the cache, and [`run_tenants`] carries out a list of calls on it. `docs/TENANTS.md` shows how to
+//! use it, and what is proved of it: a tenant's calls return what a map returns that nobody else uses.
 #![tactic(auto)]
 
 mod cache;

@@ -10,9 +10,9 @@ use schnellru::Costed;
 use std::alloc::{AllocError, Global};
 use std::hash::Hash;
 
-/// Carries out the calls on the cache, one after another, and gives their answers, one a call.
+/// Carries out the calls on the cache, one after another, and returns one answer for each.
 ///
-/// The answers to a tenant are those of its own calls alone, whatever calls of others come between.
+/// The answers to a tenant depend on its own calls alone, whatever calls of others come between.
 ///
 /// ```
 /// let calls = vec![in alloc; TenantCall::Open(1, 3), TenantCall::Put(1, 7, 1), TenantCall::Get(2, 7)]?;
@@ -21,7 +21,7 @@ use std::hash::Hash;
 /// assert!(rt; answers.get(2) == Some(&TenantAnswer::Got(Err(TenantError::NotOpen))));
 /// ```
 ///
-/// Cost: that of the calls, and one request for memory for the answers.
+/// Cost: as the calls, and one request for memory for the answers.
 ///
 /// # Errors
 ///
@@ -62,7 +62,7 @@ fn make_tenant_call<K: Copy + Eq + Hash + Drop, V: Copy + Costed + Drop>(
     answer
 }
 
-/// The answer to a call.
+/// Returns the answer to a call.
 fn answer_to<K: Copy + Eq + Hash + Drop, V: Copy + Costed + Drop>(
     cache: &mut TenantCache<K, V>,
     call: TenantCall<K, V>,
@@ -79,7 +79,7 @@ fn answer_to<K: Copy + Eq + Hash + Drop, V: Copy + Costed + Drop>(
     }
 }
 
-/// A tenant's value of a key, whose pair becomes the newest.
+/// Returns a tenant's value of a key, and makes its entry the newest.
 fn get<K: Eq + Hash, V: Copy + Costed>(
     cache: &mut TenantCache<K, V>,
     name: u64,

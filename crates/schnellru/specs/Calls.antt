@@ -1,4 +1,4 @@
--- What each call of a map does; `Inserts` has the inserts, and `Reservations` those of room.
+-- What each call of a map does; `Inserts` has the inserts, and `Reservations` the reservations.
 --     rules      what the limiter says (`Rules` of `lru_limits`)
 --     names      whether a key is the one that is looked up
 use Rattle.std.specs.Prelude.{◌≡◌, Bool, [], Option, Some, None, option_map, replicate}
@@ -17,8 +17,8 @@ module _ {K V S H : Type 0} where
   abbrev pub written : (K → Bool) → V → State K V S H → State K V S H
   written names value st = record st { pairs = set_value names st.pairs value }
 
-  -- The value of the named key is lent, and its pair comes first, with what is left in the value.
-  -- Where there is none, nothing changes.
+  -- The value of the named key is lent, and its pair comes first, with the last value written. If there is none,
+  -- nothing changes.
   pub data Get (names : K → Bool) (old : State K V S H) (result : Option V) (new : State K V S H) : Type 0 where
     found : (value left : V) → lookup names old.pairs ≡ Some value →
         result ≡ Some value → new ≡ written names left (promoted names old) →
@@ -28,28 +28,28 @@ module _ {K V S H : Type 0} where
         Get names old result new
 
 module _ {K V S : Type 0} (rules : Rules K V S) where
-  -- what the limiter leaves of the pair as it goes, if there is one
+  -- what the limiter leaves of the pair that leaves, if there is one
   abbrev pub left_of : S → Option (K × V) → Option (K × V)
   left_of s pair = option_map (λ p. ((rules.on_removed s p.0 p.1).key, (rules.on_removed s p.0 p.1).value)) pair
 
-  -- without the pair of the named key, of which the limiter is told
+  -- without the pair of the named key, of which the limiter is notified
   abbrev pub removal : (K → Bool) → Contents K V S → Contents K V S
   removal names c = record {
     pairs = without names c.pairs;
     limiter = told_of rules (lookup_entry names c.pairs) c.limiter;
   }
 
-  -- without the newest pair, of which the limiter is told
+  -- without the newest pair, of which the limiter is notified
   abbrev pub pop_first : Contents K V S → Contents K V S
   pop_first c = record { pairs = without_first c.pairs; limiter = told_of rules (first c.pairs) c.limiter }
 
 module _ {K V S H : Type 0} (rules : Rules K V S) where
-  -- the pair of the named key leaves, and what the limiter leaves of its value is answered
+  -- the pair of the named key is removed, and what the limiter leaves of its value is returned
   pub record Remove (names : K → Bool) (old : State K V S H) (result : Option V) (new : State K V S H) : Type 0 where
     pub value : result ≡ option_map (λ p. p.1) (left_of rules old.limiter (lookup_entry names old.pairs))
     pub state : Leaves old (removal rules names (contents old)) new
 
-  -- the oldest pair leaves, and what the limiter leaves of it is answered
+  -- the oldest pair is removed, and what the limiter leaves of it is returned
   pub record PopOldest (old : State K V S H) (result : Option (K × V)) (new : State K V S H) : Type 0 where
     pub pair : result ≡ left_of rules old.limiter (last old.pairs)
     pub state : Leaves old (pop rules (contents old)) new
@@ -59,7 +59,7 @@ module _ {K V S H : Type 0} (rules : Rules K V S) where
     pub pair : result ≡ left_of rules old.limiter (first old.pairs)
     pub state : Leaves old (pop_first rules (contents old)) new
 
-  -- Without pairs, in a table of as many buckets, all empty. The limiter is told of the clear alone.
+  -- Without pairs, in a table of as many buckets, all empty. The limiter is notified of the clear alone.
   abbrev pub cleared : State K V S H → State K V S H
   cleared st = record st {
     pairs = [];

@@ -33,12 +33,12 @@ module _ {K V L S N H : Type 0} where
       pub same_reference : drain_lender new ≡ drain_lender old
 
 module _ {K V S : Type 0} (rules : Rules K V S) where
-  -- without so many of the newest pairs, one after another
+  -- without the n newest pairs, one after another
   abbrev pub pops_first : ℕ → Contents K V S → Contents K V S
   pops_first zero c = c
   pops_first (suc n) c = pops_first n (pop_first rules c)
 
-  -- what n calls of `pop_newest` answer, and what n of `pop_oldest` do
+  -- what n calls of `pop_newest` return, and what n of `pop_oldest` do
   abbrev pub newest_given : ℕ → Contents K V S → List (K × V)
   newest_given zero c = []
   newest_given (suc n) c = option_to_list (left_of rules c.limiter (first c.pairs))
@@ -49,7 +49,7 @@ module _ {K V S : Type 0} (rules : Rules K V S) where
   oldest_given (suc n) c = option_to_list (left_of rules c.limiter (last c.pairs)) ++ oldest_given n (pop rules c)
 
 module _ {K V S H : Type 0} (rules : Rules K V S) where
-  -- a whole drain: so many from the newest end, then so many from the oldest, then the drop
+  -- a whole drain: n from the newest end, then n from the oldest, then the drop
   pub record Drained (newest oldest : ℕ) (old : State K V S H) (result : List (K × V))
       (new : State K V S H) : Type 0 where
     pub pairs : result ≡ newest_given rules newest (contents old)

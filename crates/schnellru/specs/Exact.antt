@@ -1,5 +1,5 @@
--- Inserts that leave nothing open but where memory is short: into tables of up to 16 buckets, or where the limiter
--- permits every growth.
+-- Inserts that are determined, except for whether memory is there: into tables of up to 16 buckets, or under a limiter
+-- that permits every growth.
 use Rattle.std.specs.Prelude.{◌≡◌, ◌≢◌, ℕ, ◌+◌, ◌-◌, ◌/◌, ◌<◌, ◌≤◌, nat_lt, nat_le, Bool, true, false, not}
 use Rattle.std.specs.Prelude.{if◌then◌else◌, ◌∷◌, length, Option, Some, None, Result, Ok, IsErr}
 use Rattle.std.specs.declared.alloc.AllocError.{AllocError}
@@ -11,31 +11,31 @@ use Rattle.schnellru.specs.State.{State, buckets, room, Contents, contents, pops
 use Rattle.schnellru.specs.Place.{table_for}
 use Rattle.schnellru.specs.Inserts.{make_room, replacement, with_replaced, with_given_up, MayGive}
 
--- whether a pair was placed, and the pairs and the limiter then
+-- whether a pair was stored, and the pairs and the limiter then
 pub record Landing (K V S : Type 0) : Type 0 where
   pub there : Bool
   pub left : Contents K V S
 
--- whether an insert answers true, and the pairs and the limiter that it leaves
+-- whether an insert returns true, and the pairs and the limiter that it leaves
 pub record Ending (K V S : Type 0) : Type 0 where
   pub flag : Bool
   pub left : Contents K V S
 
 module _ {K V S : Type 0} (rules : Rules K V S) (pair : K × V) where
-  -- the pair is placed, beside these
+  -- the pair is stored besides these
   abbrev pub lands : Contents K V S → Landing K V S
   lands c = record { there = true; left = record { pairs = pair ∷ c.pairs; limiter = c.limiter } }
 
-  -- it is not, and the limiter is told that it leaves
+  -- it is not, and the limiter is notified of it
   abbrev pub turns_away : Contents K V S → Landing K V S
   turns_away c = let s = (rules.on_removed c.limiter pair.0 pair.1).limiter in
       record { there = false; left = record { pairs = c.pairs; limiter = s } }
 
-  -- the oldest is evicted for it, or it is turned away, if there is none
+  -- the oldest pair is evicted for it, or the new one is rejected, if there is none
   abbrev pub evicts : Contents K V S → Landing K V S
   evicts c = if is_empty c.pairs then turns_away c else lands (pops rules 1 c)
 
-  -- the contents, after the limiter was asked for a table of so many bytes
+  -- the contents, after the limiter was asked to permit a table of n bytes
   abbrev pub asks : ℕ → Contents K V S → Contents K V S
   asks bytes c = record { pairs = c.pairs; limiter = (rules.on_grow c.limiter bytes).limiter }
 
@@ -46,7 +46,7 @@ module _ {K V S : Type 0} (rules : Rules K V S) (pair : K × V) where
   grows (new_table count bytes) c =
       if (rules.on_grow c.limiter bytes).allowed then lands (asks bytes c) else evicts (asks bytes c)
 
-  -- what placing the pair does with memory, in a table of so many buckets, up to 16, with so much room
+  -- what an insertion of the pair does if memory is there, in a table of up to 16 buckets with this growth left
   abbrev pub landing : ℕ → ℕ → ℕ → ℕ → Contents K V S → Landing K V S
   landing count spare entry_bytes max c =
       if nat_lt 0 spare then lands c
@@ -54,66 +54,66 @@ module _ {K V S : Type 0} (rules : Rules K V S) (pair : K × V) where
       else grows (target max entry_bytes count (length c.pairs + 1)) c)
 
 module _ {K V S : Type 0} (rules : Rules K V S) where
-  -- what it does in the table of a map, after some pairs of this left
+  -- the same in the table of a map, after some of its pairs left
   abbrev pub lands_in : {H : Type 0} → State K V S H → K × V → Contents K V S → Landing K V S
   lands_in st pair c =
       landing rules pair (buckets st) (room st + length st.pairs - length c.pairs) st.entry_bytes st.max c
 
-  -- the oldest leave, as long as the limiter is over
+  -- the oldest pairs are evicted while the limiter is over its limit
   abbrev pub trimmed : Contents K V S → Ending K V S
   trimmed c = record { flag = not (is_empty (trim rules c).pairs); left = trim rules c }
 
-  -- what follows a placing
+  -- what follows an insertion into the table
   abbrev pub settled : Landing K V S → Ending K V S
   settled l = if l.there then trimmed l.left else record { flag = false; left = l.left }
 
--- an insert answers Ok, with this flag, and leaves these contents
+-- an insert returns Ok, with this flag, and leaves these contents
 abbrev pub IsEnding : {K V S : Type 0} → Ending K V S → Result Bool AllocError → Contents K V S → Type 0
 IsEnding e result new = (result ≡ Ok e.flag) × (new ≡ e.left)
 
--- How an insert ends where a pair that the limiter gave lands as `land` says.
+-- How an insert ends if a pair that the limiter returned is stored as `land` says.
 module _ {K V S I : Type 0} (rules : Rules K V S) (offers : Offers K V S I) (names : I → K → Bool)
     (land : K × V → Contents K V S → Landing K V S) (i : I) (v : V) (old : Contents K V S) where
-  -- what it leaves, where the key is there
+  -- what it leaves, if the key is there
   abbrev pub ending_there : K × V → Ending K V S
   ending_there pair = if (replacement rules offers names pair i v old).taken
       then trimmed rules (with_replaced rules offers names pair i v old)
       else record { flag = false; left = with_given_up rules offers names pair i v old }
 
-  -- what it leaves, where the key is new, of which the limiter gave this and is s
+  -- what it leaves, if the key is new and the limiter returned this and is s then
   abbrev pub ending_new : S → Option (K × V) → Ending K V S
   ending_new s None = record { flag = false; left = record { pairs = old.pairs; limiter = s } }
   ending_new s (Some pair) =
       settled rules (land pair (make_room rules (record { pairs = old.pairs; limiter = s })))
 
-  -- by the pair whose key is there, if there is one, and else by what the limiter may give
+  -- by the pair of the key, if there is one, and else by what the limiter may return
   abbrev pub EndsBy : Option (K × V) → Result Bool AllocError → Contents K V S → Type 0
   EndsBy (Some pair) result new = IsEnding (ending_there pair) result new
   EndsBy None result new = (s : S) × (given : Option (K × V)) × MayGive rules offers names i v old s given
       × IsEnding (ending_new s given) result new
 
-  -- an insert answers Ok, and ends so
+  -- an insert returns Ok, and ends so
   abbrev pub EndsIfLanded : Result Bool AllocError → Contents K V S → Type 0
   EndsIfLanded result new = EndsBy (lookup_entry (names i) old.pairs) result new
 
 module _ {K V S I : Type 0} (rules : Rules K V S) (offers : Offers K V S I) (names : I → K → Bool)
     (i : I) (v : V) where
-  -- an insert ends as the pairs and the limiter have it, in the table of this map, up to 16 buckets
+  -- an insert ends as the pairs and the limiter determine it, in the table of this map, of up to 16 buckets
   abbrev pub EndsExactly : {H : Type 0} → State K V S H → Result Bool AllocError → State K V S H → Type 0
   EndsExactly old result new = EndsIfLanded rules offers names (lands_in rules old) i v (contents old) result
       (contents new)
 
-  -- An insert into a list of pairs that has no table: each pair that the limiter gives is placed.
-  -- Or no memory is found,
+  -- An insert into a list of pairs that has no table: each pair that the limiter returns is stored. Or there is no
+  -- memory,
   pub data InsertsInList (old : Contents K V S) (result : Result Bool AllocError) (new : Contents K V S) : Type 0 where
     ends : EndsIfLanded rules offers names (lands rules) i v old result new →
         InsertsInList old result new
-    -- by the limiter, and nothing changes,
+    -- for the limiter, and nothing changes,
     not_offered : lookup_entry (names i) old.pairs ≡ None →
         offers.may_lack old.limiter (length old.pairs) i v →
         IsErr result → new ≡ old →
         InsertsInList old result new
-    -- or for the pair, after way was made for it, and the limiter is told that it leaves.
+    -- or for the pair, after room was made for it, and the limiter is notified of the pair.
     not_placed : lookup_entry (names i) old.pairs ≡ None →
         (s : S) (pair : K × V) → MayGive rules offers names i v old s (Some pair) →
         IsErr result → new ≡ (turns_away rules pair (make_room rules (record { pairs = old.pairs; limiter = s }))).left →
@@ -125,7 +125,7 @@ pub record EndsAlike {K V S : Type 0} (result other : Result Bool AllocError)
   pub answers : result ≡ other
   pub contents : new ≡ others
 
--- an offer leaves nothing open
+-- an offer is determined
 abbrev pub IsDetermined : {K V S I : Type 0} → Offers K V S I → Type 0
 IsDetermined {K} {V} {S} {I} offers = (s : S) (n : ℕ) (i : I) (v : V) (t u : S) (given other : Option (K × V)) →
     offers.on_insert s n i v t given → offers.on_insert s n i v u other → (t ≡ u) × (given ≡ other)
@@ -145,7 +145,7 @@ abbrev pub AlwaysGrants : {K V S : Type 0} → Rules K V S → Type 0
 AlwaysGrants {K} {V} {S} rules = (s : S) (bytes : ℕ) →
     ((rules.on_grow s bytes).allowed ≡ true) × ((rules.on_grow s bytes).limiter ≡ s)
 
--- links and bytes reach a table that takes so many pairs
+-- there is a table for n pairs, within the reach of links and bytes
 pub record HasTableFor {K V S H : Type 0} (n : ℕ) (st : State K V S H) : Type 0 where
   pub count : ℕ
   pub bytes : ℕ

@@ -1,8 +1,8 @@
--- What a get does that inserts where the key is not there.
+-- What a get does that inserts the key if it is not there.
 --     rules, offers       what the limiter says (`Rules`, `Offers` of `lru_limits`)
 --     names i k           the inserted key i names the key k
 --     hash_of h k         the hash of the key k, by the hasher h
---     makes v             the closure may answer v
+--     makes v             the closure may return v
 use Rattle.std.specs.Prelude.{◌≡◌, ℕ, Bool, true, false, Some, None, Result, Ok, Err}
 use Rattle.std.specs.declared.alloc.AllocError.{AllocError}
 use Rattle.lru_limits.specs.Rules.{Rules, Offers}
@@ -14,8 +14,8 @@ use Rattle.schnellru.specs.Theorems.{IsNewest}
 
 module _ {K V S H I : Type 0} (rules : Rules K V S) (offers : Offers K V S I) (names : I → K → Bool)
     (hash_of : H → K → ℕ) where
-  -- A key that is there is got; else a value that the closure makes is inserted.
-  -- The answer is whether the key is there.
+  -- A key that is there is promoted; else it is inserted with a value that the closure returns. The result is whether
+  -- the key is there.
   pub data MakesNewest (makes : V → Type 0) (i : I) (old : State K V S H) (result : Result Bool AllocError)
       (new : State K V S H) : Type 0 where
     got : (w : V) → lookup (names i) old.pairs ≡ Some w →

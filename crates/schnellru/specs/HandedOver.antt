@@ -1,9 +1,10 @@
--- Which pairs a call hands over: those of which it tells the limiter that they left, each as that left it, in order.
+-- Which pairs a call passes to its callback: those of which it notifies the limiter that they left, as the limiter
+-- leaves each, in order.
 --     rules, offers       what the limiter says (`Rules`, `Offers` of `lru_limits`)
 --     names i k           the inserted key i names the key k
 --     hash_of h k         the hash of the key k, by the hasher h
---     closure             how the sink may be called
---     f, g                the sink before and after
+--     closure             how the callback may be called
+--     f, g                the callback before and after
 use Rattle.std.specs.Prelude.{◌≡◌, ℕ, Bool, List, [], ◌∷◌, ◌++◌, Result}
 use Rattle.std.specs.List.{FoldsTo}
 use Rattle.std.specs.Fn.{Mut, Called}
@@ -13,7 +14,7 @@ use Rattle.schnellru.specs.State.{State}
 use Rattle.schnellru.specs.Inserts.{Insert}
 
 module _ {K V S : Type 0} where
-  -- the limiter beside a list, to which each pair goes of which it is told that it left
+  -- the limiter together with a list, to which it adds each pair of which it is notified that it left
   abbrev pub noting : Rules K V S → Rules K V (S × List (K × V))
   noting rules = record {
     is_over_the_limit = λ s n. rules.is_over_the_limit s.0 n;
@@ -29,7 +30,7 @@ module _ {K V S : Type 0} where
     };
   }
 
-  -- to which no other callback adds
+  -- no other call of the limiter adds to the list
   abbrev pub noting_offers : {I : Type 0} → Offers K V S I → Offers K V (S × List (K × V)) I
   noting_offers offers = record {
     on_insert = λ s n i v t given. offers.on_insert s.0 n i v t.0 given × (t.1 ≡ s.1);
@@ -43,7 +44,7 @@ module _ {K V S : Type 0} where
     };
   }
 
-  -- the map, whose limiter is beside this list
+  -- the map, whose limiter is together with this list
   abbrev pub noted : {H : Type 0} → List (K × V) → State K V S H → State K V (S × List (K × V)) H
   noted list st = record {
     pairs = st.pairs;
@@ -65,7 +66,7 @@ Takes closure f pairs g = FoldsTo (λ p pair q. Called closure p (pair.0, (pair.
 
 module _ {K V S H I : Type 0} (rules : Rules K V S) (offers : Offers K V S I) (names : I → K → Bool)
     (hash_of : H → K → ℕ) where
-  -- an insert that hands over these pairs: the list that began empty has them at its end
+  -- an insert that passes on these pairs: the list that began empty has them at its end
   abbrev pub InsertHands : I → V → State K V S H → Result Bool AllocError → List (K × V) → State K V S H → Type 0
   InsertHands i v old result handed new = Insert (noting rules) (noting_offers offers) names hash_of i v (noted [] old)
       result (noted handed new)

@@ -1,4 +1,4 @@
--- The same as `GetOrInserts` where the closure may fail.
+-- The same as `GetOrInserts` with a closure that may fail.
 use Rattle.std.specs.Prelude.{◌≡◌, ℕ, Bool, true, Some, None, Result, Ok, Err}
 use Rattle.std.specs.declared.alloc.AllocError.{AllocError}
 use Rattle.lru_limits.specs.Rules.{Rules, Offers}
@@ -9,7 +9,7 @@ use Rattle.schnellru.specs.Inserts.{Insert}
 use Rattle.schnellru.specs.declared.map.get_or_insert.GetOrInsertError.{GetOrInsertError}
 use Rattle.schnellru.specs.declared.map.get_or_insert.GetOrInsertError.TheVariants.{Memory, Caller}
 
--- the answer of an insert, with its error as one of two
+-- the result of an insert, with its error as one of two
 abbrev pub or_memory : {E : Type 0} → Result Bool AllocError → Result Bool (GetOrInsertError E)
 or_memory (Ok kept) = Ok kept
 or_memory (Err e) = Err Memory

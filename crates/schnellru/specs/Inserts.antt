@@ -10,24 +10,24 @@ use Rattle.schnellru.specs.Lists.{is_empty, lookup_entry, without}
 use Rattle.schnellru.specs.State.{State, buckets, room, Contents, contents, Leaves, pop, trim}
 use Rattle.schnellru.specs.Place.{Place, Outcome, placed, refused, no_memory}
 
--- the oldest leaves, if the limiter would be over with one more
+-- the oldest pair is evicted, if the limiter would be over its limit with one pair more
 abbrev pub make_room : {K V S : Type 0} → Rules K V S → Contents K V S → Contents K V S
 make_room rules c = if rules.is_over_the_limit c.limiter (length c.pairs + 1) then pop rules c else c
 
 module _ {K V S H : Type 0} (rules : Rules K V S) where
-  -- what follows a placing; the answer is whether a pair is left
+  -- what follows an insertion into the table; the result is whether a pair is left
   abbrev pub Settles : Outcome → State K V S H → Result Bool AllocError → State K V S H → Type 0
   Settles placed landed result new =
       (result ≡ Ok (not (is_empty new.pairs))) × Leaves landed (trim rules (contents landed)) new
   Settles refused landed result new = (result ≡ Ok false) × (new ≡ landed)
   Settles no_memory landed result new = IsErr result × (new ≡ landed)
 
-  -- a pair of a new key is placed, and what follows
+  -- a pair of a new key is inserted into the table, and what follows
   abbrev pub PlacesAndTrims : (H → K → ℕ) → K × V → State K V S H → Result Bool AllocError → State K V S H → Type 0
   PlacesAndTrims hash_of pair old result new = (outcome : Outcome) × (landed : State K V S H)
       × Place rules hash_of pair old outcome landed × Settles outcome landed result new
 
-  -- a pair of a new key, which the limiter gave, is placed so, after way was made for it
+  -- the same for a pair that the limiter gave, after room was made for it
   abbrev pub PlacesNew : (H → K → ℕ) → K × V → State K V S H → Result Bool AllocError → State K V S H → Type 0
   PlacesNew hash_of pair old result new = (ready : State K V S H) × Leaves old (make_room rules (contents old)) ready
       × PlacesAndTrims hash_of pair ready result new
@@ -37,25 +37,25 @@ module _ {K V S I : Type 0} (rules : Rules K V S) (offers : Offers K V S I) (nam
   abbrev pub replacement : K × V → I → V → Contents K V S → Replaced K V S
   replacement pair i v c = offers.on_replace c.limiter (length c.pairs) pair.0 i pair.1 v
 
-  -- after the new value was taken for the pair, which comes first
+  -- after the limiter accepted the new value: the pair comes first
   abbrev pub with_replaced : K × V → I → V → Contents K V S → Contents K V S
   with_replaced pair i v c = let r = replacement pair i v c in
       record { pairs = (r.key, r.new_value) ∷ without (names i) c.pairs; limiter = r.limiter }
 
-  -- after the new value was refused and the pair left, of which the limiter is told
+  -- after it rejected the new value: the pair is removed, and the limiter is notified
   abbrev pub with_given_up : K × V → I → V → Contents K V S → Contents K V S
   with_given_up pair i v c = let r = replacement pair i v c in
       record { pairs = without (names i) c.pairs; limiter = (rules.on_removed r.limiter r.key r.old_value).limiter }
 
-  -- of a new key the limiter may give this, and be s then
+  -- for a new key the limiter may return this, and be s then
   abbrev pub MayGive : I → V → Contents K V S → S → Option (K × V) → Type 0
   MayGive i v c s given = offers.on_insert c.limiter (length c.pairs) i v s given
 
   module _ {H : Type 0} (hash_of : H → K → ℕ) where
-    -- what an insert may answer and leave
+    -- what an insert may return and leave
     pub data Insert (i : I) (v : V) (old : State K V S H) (result : Result Bool AllocError)
         (new : State K V S H) : Type 0 where
-      -- The key is there: the pair as left comes first, or it goes.
+      -- The key is there: its pair gets the new value and comes first, or it is removed.
       replaced : (pair : K × V) → lookup_entry (names i) old.pairs ≡ Some pair →
           (replacement pair i v (contents old)).taken ≡ true →
           result ≡ Ok (not (is_empty new.pairs)) → Leaves old (trim rules (with_replaced pair i v (contents old))) new →
@@ -64,7 +64,7 @@ module _ {K V S I : Type 0} (rules : Rules K V S) (offers : Offers K V S I) (nam
           (replacement pair i v (contents old)).taken ≡ false →
           result ≡ Ok false → Leaves old (with_given_up pair i v (contents old)) new →
           Insert i v old result new
-      -- The key is new: the limiter finds no memory, or gives no pair,
+      -- The key is new: the limiter finds no memory, or returns no pair,
       no_memory_to_admit : lookup_entry (names i) old.pairs ≡ None →
           offers.may_lack old.limiter (length old.pairs) i v →
           IsErr result → new ≡ old →
@@ -73,14 +73,14 @@ module _ {K V S I : Type 0} (rules : Rules K V S) (offers : Offers K V S I) (nam
           (s : S) → MayGive i v (contents old) s None →
           result ≡ Ok false → new ≡ record old { limiter = s } →
           Insert i v old result new
-      -- or the pair that it gives is placed, with all that this takes.
+      -- or the pair that it returns is inserted into the table, with all that this takes.
       admitted : lookup_entry (names i) old.pairs ≡ None →
           (s : S) (pair : K × V) → MayGive i v (contents old) s (Some pair) →
           PlacesNew rules hash_of pair (record old { limiter = s }) result new →
           Insert i v old result new
 
-    -- memory is short for the table: there is no room, and no buckets or a pair beside which to place the new one,
-    -- where s is the limiter after it admitted that
+    -- the table may run out of memory: there is no growth left, and no buckets or a pair besides the new one, where s
+    -- is the limiter after it accepted that
     pub record IsShort (i : I) (v : V) (old : State K V S H) : Type 0 where
       pub no_room : room old ≡ 0
       pub s : S
@@ -88,8 +88,8 @@ module _ {K V S I : Type 0} (rules : Rules K V S) (offers : Offers K V S I) (nam
       pub given : MayGive i v (contents old) s (Some pair)
       pub beside : (buckets old ≡ 0) ⊎ (0 < length (make_room rules (record { pairs = old.pairs; limiter = s })).pairs)
 
-    -- why an insert finds no memory: the key is new, and the limiter found none for it, so that nothing has changed, or
-    -- the table had no room for it
+    -- why an insert runs out of memory: the key is new, and the limiter found none for it, so that nothing has changed,
+    -- or the table had no growth left
     abbrev pub LacksMemory : I → V → State K V S H → State K V S H → Type 0
     LacksMemory i v old new = (lookup_entry (names i) old.pairs ≡ None)
         × ((offers.may_lack old.limiter (length old.pairs) i v × (new ≡ old)) ⊎ IsShort i v old)

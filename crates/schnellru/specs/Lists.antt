@@ -31,7 +31,7 @@ module _ {X : Type 0} where
   without_last (x ∷ []) = []
   without_last (x ∷ y ∷ ys) = x ∷ without_last (y ∷ ys)
 
-  -- the last of so many from the first on
+  -- the last of the first n
   abbrev pub last_of : ℕ → List X → Option X
   last_of zero xs = None
   last_of (suc n) xs = slice_get xs n

@@ -1,4 +1,5 @@
--- Placing a new pair: what the table's room allows, what the limiter is asked, and what it costs.
+-- Inserting a new pair into the table: what its growth left allows, what the limiter permits, and how many entries
+-- move.
 use Rattle.std.specs.Prelude.{◌≡◌, ℕ, zero, suc, ◌+◌, ◌-◌, ◌/◌, ◌≤◌, ◌<◌, ◌⊎◌, Bool, true, false, [], ◌∷◌, length}
 use Rattle.std.specs.Prelude.{Result, Ok, Err}
 use Rattle.group_table.specs.Sizes.{full_capacity}
@@ -8,19 +9,19 @@ use Rattle.lru_limits.specs.Rules.{Rules}
 use Rattle.schnellru.specs.Sizes.{target, Target, no_table, new_table}
 use Rattle.schnellru.specs.State.{State, buckets, room, FirstFreeIs, contents, Leaves, pop}
 
--- what comes of placing a pair: it is in the map, the limiter or the size refused it, or memory did
+-- what comes of it: the pair is stored, the limiter or the sizes refused it, or the map ran out of memory
 pub data Outcome : Type 0 where
   placed refused no_memory : Outcome
 
--- the outcome that an answer tells: whether the pair is placed, or no memory
+-- the outcome that a result reports: whether the pair is stored, or out of memory
 abbrev pub outcome_of : {E : Type 0} → Result Bool E → Outcome
 outcome_of (Ok true) = placed
 outcome_of (Ok false) = refused
 outcome_of (Err e) = no_memory
 
 module _ {K V S H : Type 0} where
-  -- the pair is the newest now, in a table of so many buckets with so much room left, and so many entries were placed
-  -- anew for it
+  -- the pair is the newest now, in a table of `count` buckets with `spare` growth left, and `moves` entries moved for
+  -- it
   pub record IsPlaced (pair : K × V) (count spare moves : ℕ) (old new : State K V S H) : Type 0 where
     pub table : buckets new ≡ count
     pub room_left : room new ≡ spare
@@ -33,14 +34,14 @@ module _ {K V S H : Type 0} where
       placed = count_up old.placed 1;
     }
 
-  -- The first free bucket that a search for the hash finds was filled: an empty one, which uses one of the room, or, in
-  -- a table of more than 16 buckets, a deleted one, which uses none.
+  -- The first free bucket that a search for the hash finds was filled: an empty one, which uses one of the growth left,
+  -- or, in a table of more than 16 buckets, a deleted one, which uses none.
   abbrev pub FillsBucket : ℕ → State K V S H → State K V S H → Type 0
   FillsBucket hash old new = (FirstFreeIs empty hash old × (room new + 1 ≡ room old))
       ⊎ (FirstFreeIs deleted hash old × (16 < buckets old) × (room new ≡ room old))
 
-  -- No bucket takes a pair of this hash: no room is left, and the first free bucket that a search finds is an empty one.
-  -- (In a table without pairs no bucket stays deleted, so there it may be any.)
+  -- No bucket takes a pair of this hash: there is no growth left, and the first free bucket that a search finds is an
+  -- empty one. (Without pairs it may be any, because such a table is rehashed.)
   pub record HasNoBucket (hash : ℕ) (st : State K V S H) : Type 0 where
     pub no_room : room st ≡ 0
     pub first_empty : 0 < length st.pairs → FirstFreeIs empty hash st
@@ -51,20 +52,20 @@ module _ {K V S H : Type 0} where
     pub above_half : full_capacity (buckets st) / 2 < length st.pairs + 1
     pub begun : (buckets st ≡ 0) ⊎ (0 < length st.pairs)
 
-  -- where the table goes for n pairs more
+  -- into which table a map grows for n pairs more
   abbrev pub table_for : ℕ → State K V S H → Target
   table_for n st = target st.max st.entry_bytes (buckets st) (length st.pairs + n)
 
-  -- there is a pair, and no more is sure to fit
+  -- there is a pair, and no growth left
   abbrev pub LacksRoom : State K V S H → Type 0
   LacksRoom st = (0 < length st.pairs) × (room st ≡ 0)
 
 module _ {K V S H : Type 0} (rules : Rules K V S) where
-  -- after the limiter was asked for a table of so many bytes
+  -- after the limiter was asked to permit a table of n bytes
   abbrev pub asked : ℕ → State K V S H → State K V S H
   asked bytes st = record st { limiter = (rules.on_grow st.limiter bytes).limiter }
 
-  -- the limiter permits a table of so many bytes
+  -- the limiter permits a table of n bytes
   abbrev pub Grants : ℕ → State K V S H → Type 0
   Grants bytes st = (rules.on_grow st.limiter bytes).allowed ≡ true
 
@@ -72,32 +73,32 @@ module _ {K V S H : Type 0} (rules : Rules K V S) where
   abbrev pub Denies : ℕ → State K V S H → Type 0
   Denies bytes st = (rules.on_grow st.limiter bytes).allowed ≡ false
 
-  -- after the limiter was told that the pair leaves, which was not placed
+  -- after the limiter was notified of a pair that was not stored
   abbrev pub turned_away : K × V → State K V S H → State K V S H
   turned_away pair st = record st { limiter = (rules.on_removed st.limiter pair.0 pair.1).limiter }
 
-  -- So many of the oldest left, one after another, each because a pair of this hash had no place.
+  -- The n oldest pairs were evicted, one after another, each because no bucket took a pair of this hash.
   abbrev pub OldestLeave : ℕ → ℕ → State K V S H → State K V S H → Type 0
   OldestLeave hash zero old new = new ≡ old
   OldestLeave hash (suc n) old new = (before : State K V S H) × OldestLeave hash n old before
       × HasNoPlace before.marks hash × Leaves before (pop rules (contents before)) new
 
-  -- the pair is placed, or no memory is found for it and the rest stays
+  -- the pair is stored, or there was no memory for it and the rest stays
   abbrev pub IsPlacedIfMemory : K × V → ℕ → ℕ → ℕ → State K V S H → Outcome → State K V S H → Type 0
   IsPlacedIfMemory pair count spare moves old placed new = IsPlaced pair count spare moves old new
   IsPlacedIfMemory pair count spare moves old no_memory new = new ≡ turned_away pair old
   IsPlacedIfMemory pair count spare moves old refused new = ⊥
 
-  -- there is no larger table, and mid is the state in which this is known:
-  -- links or bytes do not reach one, or the limiter refuses it
+  -- there is no larger table, and mid is the state in which this is known: links or bytes do not reach one, or the
+  -- limiter refuses it
   pub data CannotGrow (old mid : State K V S H) : Type 0 where
     no_target : table_for 1 old ≡ no_table → mid ≡ old → CannotGrow old mid
     denied : (count bytes : ℕ) → table_for 1 old ≡ new_table count bytes → Denies bytes old →
         mid ≡ asked bytes old → CannotGrow old mid
 
   -- The oldest pairs of mid are evicted until the new pair finds a bucket, or until fewer than half of what the table
-  -- takes are left, and it is rehashed. If there are none to evict, the new pair is turned away. Before the limiter was
-  -- asked the map was old.
+  -- may hold are left, and it is rehashed. If there are none to evict, the new pair is rejected. The map was old before
+  -- the limiter was asked.
   pub data Evicts (hash : ℕ) (pair : K × V) (old mid : State K V S H) (outcome : Outcome)
       (new : State K V S H) : Type 0 where
     nothing_to_evict : old.pairs ≡ [] →
@@ -115,14 +116,14 @@ module _ {K V S H : Type 0} (rules : Rules K V S) where
         Evicts hash pair old mid outcome new
 
 module _ {K V S H : Type 0} (rules : Rules K V S) (hash_of : H → K → ℕ) where
-  -- what may come of placing the pair
+  -- what may come of inserting the pair into the table
   pub data Place (pair : K × V) (old : State K V S H) (outcome : Outcome) (new : State K V S H) : Type 0 where
-    -- A free bucket takes the pair; nothing is asked, and no memory is needed.
+    -- A free bucket takes the pair. The limiter is not asked, and no memory is needed.
     in_bucket : length old.pairs < full_capacity (buckets old) → (0 < room old) ⊎ (0 < length old.pairs) →
         FillsBucket (hash_of old.hasher pair.0) old new →
         outcome ≡ placed → IsPlaced pair (buckets old) (room new) 0 old new →
         Place pair old outcome new
-    -- None does, and the table is rehashed, if it is at most half full then. Without pairs that needs no memory.
+    -- Or none does, and the table is rehashed, if it is at most half full then. Without pairs that needs no memory.
     rehashed : HasNoBucket (hash_of old.hasher pair.0) old → length old.pairs + 1 ≤ full_capacity (buckets old) / 2 →
         (outcome ≡ no_memory → 0 < length old.pairs) →
         IsPlacedIfMemory rules pair (buckets old) (full_capacity (buckets old) - length old.pairs - 1)

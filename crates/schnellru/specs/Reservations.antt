@@ -8,15 +8,15 @@ use Rattle.schnellru.specs.declared.map.reserve.ReserveError.{ReserveError}
 use Rattle.schnellru.specs.declared.map.reserve.ReserveError.TheVariants.{TooLarge, Refused, Memory}
 
 module _ {K V S H : Type 0} where
-  -- n more are not sure to fit, and their number with the pairs is one of 64 bits
+  -- n is more than the growth left, and the pairs with n more are a number of 64 bits
   abbrev pub LacksRoomFor : ℕ → State K V S H → Type 0
   LacksRoomFor n st = (room st < n) × (length st.pairs + n < 2 ^ 64)
 
 module _ {K V S H : Type 0} (rules : Rules K V S) where
-  -- room for n more; the pairs stay, and so do the counts
+  -- growth for n more; the pairs stay, and so do the counts
   pub data Reserve (n : ℕ) (old : State K V S H) (result : Result (Unit {0}) ReserveError)
       (new : State K V S H) : Type 0 where
-    -- There may be room, or no such number,
+    -- There may be enough growth left, or no such number,
     enough_room : n ≤ room old → length old.pairs + n < 2 ^ 64 →
         result ≡ Ok tt → new ≡ old →
         Reserve n old result new
@@ -27,14 +27,14 @@ module _ {K V S H : Type 0} (rules : Rules K V S) where
     no_such_table : LacksRoomFor n old → table_for n old ≡ no_table →
         result ≡ Err TooLarge → new ≡ old →
         Reserve n old result new
-    -- The table is made anew at its size, for which nothing is asked; without pairs it needs no memory.
+    -- The table is rehashed at its size, for which the limiter is not asked; without pairs it needs no memory.
     remade : LacksRoomFor n old → table_for n old ≡ same_table →
         result ≡ Ok tt → MovesTo (buckets old) old new →
         Reserve n old result new
     no_memory_to_remake : LacksRoomFor n old → table_for n old ≡ same_table → 0 < length old.pairs →
         result ≡ Err Memory → new ≡ old →
         Reserve n old result new
-    -- Or it is made larger, where the limiter permits it.
+    -- Or it grows, if the limiter permits it.
     reserved : LacksRoomFor n old → (count bytes : ℕ) → table_for n old ≡ new_table count bytes
         → Grants rules bytes old →
         result ≡ Ok tt → MovesTo count (asked rules bytes old) new →

@@ -1,6 +1,6 @@
 -- Calls of a map, one after another.
 --     rules, offers       what the limiter says (`Rules`, `Offers` of `lru_limits`)
---     names i k           the key i, as it is handed to a call, names the key k
+--     names i k           the key i, as a call gets it, names the key k
 --     hash_of h k         the hash of the key k, by the hasher h
 use Rattle.std.specs.Prelude.{◌≡◌, ℕ, Bool, true, List, Option, Result}
 use Rattle.std.specs.declared.alloc.AllocError.{AllocError}
@@ -20,8 +20,8 @@ AreAmong {K} named test = (key : K) → named key ≡ true → test key ≡ true
 
 module _ {K V S H I : Type 0} (rules : Rules K V S) (offers : Offers K V S I) (names : I → K → Bool)
     (hash_of : H → K → ℕ) where
-  -- What one call makes of a map through which nothing is written. A call that only looks makes nothing of it, and a
-  -- search by a hash promotes the pair that it finds.
+  -- What one call makes of a map if nothing is written through a reference. A call that only looks changes nothing, and
+  -- a search by a hash promotes the pair that it finds.
   pub data Step (old new : State K V S H) : Type 0 where
     inserts : (key : I) (value : V) (result : Result Bool AllocError)
         → Insert rules offers names hash_of key value old result new → Step old new

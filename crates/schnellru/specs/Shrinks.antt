@@ -10,11 +10,11 @@ module _ {K V S H : Type 0} where
   abbrev pub IsTight : State K V S H → Type 0
   IsTight st = IfSome (buckets_for st.max (length st.pairs)) (λ count. buckets st ≤ count)
 
-  -- so many buckets hold the pairs, fewer than it has
+  -- n buckets hold the pairs, fewer than it has
   abbrev pub IsLooseFor : ℕ → State K V S H → Type 0
   IsLooseFor count st = (buckets_for st.max (length st.pairs) ≡ Some count) × (count < buckets st)
 
-  -- its pairs are counted as placed anew by a shrink
+  -- its pairs are counted as rehashed by a shrink
   abbrev pub shrink_counted : State K V S H → State K V S H
   shrink_counted st = record st { shrunk = count_up st.shrunk (length st.pairs) }
 
@@ -32,6 +32,6 @@ module _ {K V S H : Type 0} where
         IsErr result → new ≡ old →
         Shrink old result new
 
--- how many entries a call places anew: none, or all of a map that it shrinks
+-- how many entries a call rehashes as a shrink: none, or all of a map that it shrinks
 abbrev pub PlacesAnew : {K V S H : Type 0} → ℕ → State K V S H → State K V S H → Type 0
 PlacesAnew anew old new = (anew ≡ 0) ⊎ (Shrink old (Ok true) new × (anew ≡ length old.pairs))

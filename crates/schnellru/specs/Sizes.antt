@@ -1,10 +1,9 @@
--- Numbers of entries and of links, what a table takes in bytes, and where a table goes that is to take more pairs.
--- Quotients are rounded down.
+-- Numbers of entries and of links, the bytes of a table, and into which table a map grows. Quotients are rounded down.
 use Rattle.std.specs.Prelude.{◌≡◌, ◌⊎◌, ℕ, ◌+◌, ◌-◌, ◌*◌, ◌/◌, ◌^◌, ◌<◌, ◌≤◌, ◌==◌, nat_lt, nat_le, if◌then◌else◌}
 use Rattle.std.specs.Prelude.{Option, Some, None}
 use Rattle.group_table.specs.Sizes.{IsPowerFromFour, full_capacity, buckets_for}
 
--- the bytes that an entry counts where nothing else is said
+-- the bytes of an entry that `LruMap::default` assumes
 abbrev pub default_entry_bytes : ℕ
 default_entry_bytes = 32
 
@@ -19,14 +18,14 @@ links_of_64_bits = 2 ^ 64 - 1
 abbrev pub bytes_of : ℕ → ℕ → ℕ
 bytes_of entry_bytes buckets = (entry_bytes * buckets + 15) / 16 * 16 + buckets + 16
 
--- the memory that a table uses, where there can be such a table; no buckets use none
+-- the memory that a table uses, if there can be such a table; no buckets use none
 unfoldable pub usage : ℕ → ℕ → Option ℕ
 usage entry_bytes buckets =
     if buckets == 0 then Some 0
     else (if nat_le (bytes_of entry_bytes buckets) (2 ^ 63 - 16) then Some (bytes_of entry_bytes buckets)
     else None)
 
--- the greatest usage within the budget of a table whose buckets links reach, or 0 where there is no such table
+-- the greatest usage within the budget of a table whose buckets links can number, or 0 if there is no such table
 pub record IsGreatestUsage (max entry_bytes budget bytes : ℕ) : Type 0 where
   pub within : bytes ≤ budget
   pub of_table : (bytes ≡ 0)
@@ -34,24 +33,24 @@ pub record IsGreatestUsage (max entry_bytes budget bytes : ℕ) : Type 0 where
   pub greatest : (buckets other : ℕ) → IsPowerFromFour buckets → buckets < max →
       usage entry_bytes buckets ≡ Some other → other ≤ budget → other ≤ bytes
 
--- Where a table goes that is to take more pairs: nowhere, to a table as large as it is,
--- or to one of so many buckets and bytes.
+-- Into which table a map grows: into none, a table as large as it is, or one of these buckets and bytes.
 pub data Target : Type 0 where
   no_table same_table : Target
   new_table : ℕ → ℕ → Target
 
--- a table of so many buckets, where it has a usage
+-- a table of n buckets, if it has a usage
 abbrev pub table_of : ℕ → Option ℕ → Target
 table_of buckets None = no_table
 table_of buckets (Some bytes) = new_table buckets bytes
 
--- a table of so many buckets, where there is such a number
+-- the same, if there is such a number
 abbrev pub table_with : ℕ → Option ℕ → Target
 table_with entry_bytes None = no_table
 table_with entry_bytes (Some buckets) = table_of buckets (usage entry_bytes buckets)
 
--- Where a table of so many buckets goes for so many pairs, where these need need buckets: to one with as many, if it
--- has fewer, to the same, if the pairs are at most half of what it takes, and else to one of twice the buckets.
+-- Into which table a table of `buckets` buckets grows for `pairs` pairs that need `need` buckets: one of `need`
+-- buckets, if it has fewer; the same, if the pairs are at most half of what it may hold; and else one of twice the
+-- buckets.
 abbrev pub target_from : ℕ → ℕ → ℕ → ℕ → Option ℕ → Target
 target_from max entry_bytes buckets pairs None = no_table
 target_from max entry_bytes buckets pairs (Some need) =
@@ -59,7 +58,7 @@ target_from max entry_bytes buckets pairs (Some need) =
     else (if nat_le pairs (full_capacity buckets / 2) then same_table
     else table_with entry_bytes (buckets_for max (full_capacity (2 * buckets))))
 
--- where a table of so many buckets goes that is to take so many pairs
+-- into which table a table of `buckets` buckets grows for `pairs` pairs
 unfoldable pub target : ℕ → ℕ → ℕ → ℕ → Target
 target max entry_bytes buckets pairs = target_from max entry_bytes buckets pairs (buckets_for max pairs)
 

@@ -1,4 +1,4 @@
--- A map as a list of pairs under a limiter, in a table of which the marks of its buckets are known.
+-- A map as a list of pairs under a limiter, in a table whose bucket states are known.
 use Rattle.std.specs.Prelude.{◌≡◌, ℕ, zero, suc, ◌+◌, ◌-◌, ◌*◌, ◌^◌, ◌≤◌, ◌<◌, ◌⊎◌, Bool, if◌then◌else◌, List, []}
 use Rattle.std.specs.Prelude.{length, Option, Some, None}
 use Rattle.std.specs.List.{IsDistinct}
@@ -27,14 +27,14 @@ pub record State (K V S H : Type 0) : Type 0 where
   pub marks : List Mark
   -- the bucket of each pair, newest first
   pub places : List ℕ
-  -- how many placings the table has made
+  -- how many insertions the table has made
   pub placings : ℕ
-  -- how many entries inserts placed anew, and how many new ones they placed
+  -- how many entries inserts moved, and how many new ones they stored
   pub moved : ℕ
   pub placed : ℕ
-  -- how many entries shrinks placed anew
+  -- how many entries shrinks rehashed
   pub shrunk : ℕ
-  -- what a bucket takes, and the number from which on links reach no bucket
+  -- the bytes of a bucket, and the first number of a bucket that links cannot have
   pub entry_bytes : ℕ
   pub max : ℕ
 
@@ -63,11 +63,11 @@ module _ {K V S H : Type 0} where
   abbrev pub buckets : State K V S H → ℕ
   buckets st = length st.marks
 
-  -- how many more pairs the table is sure to take
+  -- the growth left: how many more pairs the table holds for sure
   abbrev pub room : State K V S H → ℕ
   room st = room_of st.marks
 
-  -- the first bucket that a search for the hash finds empty or deleted has this mark
+  -- the first bucket that a search for the hash finds empty or deleted is in this state
   abbrev pub FirstFreeIs : Mark → ℕ → State K V S H → Type 0
   FirstFreeIs mark hash st = (b : ℕ) × IsFirstFree st.marks hash b × (bucket_at st.marks b ≡ mark)
 
@@ -85,14 +85,14 @@ module _ {K V S H : Type 0} where
     pub placed : st.placed < 2 ^ 64
     pub shrunk : st.shrunk < 2 ^ 64
 
-  -- twice what is used of the table, beyond half of it
+  -- twice the buckets in use, beyond half of what the table may hold
   abbrev pub potential : State K V S H → ℕ
   potential st = full_capacity (buckets st) - 2 * room st
 
-  -- what inserts moved is paid for by what they placed, two for each, and by what shrinks placed anew
+  -- the moves of inserts are paid for by what they stored, two for each, and by what shrinks rehashed
   pub record IsPaid (st : State K V S H) : Type 0 where
     pub moved : st.moved ≤ 2 * st.placed + st.shrunk
-    -- and the potential with it, while the count of shrinks goes on
+    -- and the potential with them, while the count of shrinks goes on
     pub ahead : st.shrunk < 2 ^ 64 - 1 → st.moved + potential st ≤ 2 * st.placed + st.shrunk
 
   -- what holds of every map
@@ -102,16 +102,16 @@ module _ {K V S H : Type 0} where
     pub sized : IsSized st
     pub paid : IsPaid st
 
-  -- What leaves gives room, or not; up to 16 buckets it does.
+  -- A pair that leaves may give back growth left; up to 16 buckets it does.
   pub record FreesRoom (old new : State K V S H) : Type 0 where
     pub table : buckets new ≡ buckets old
     pub keeps : room old ≤ room new
     pub at_most : length new.pairs + room new ≤ length old.pairs + room old
     pub exact : buckets old ≤ 16 → length new.pairs + room new ≡ length old.pairs + room old
-    -- where nothing left, no mark has changed
+    -- if no pair left, no bucket has changed its state
     pub untouched : length new.pairs ≡ length old.pairs → new.marks ≡ old.marks
 
-  -- all pairs moved into a table of so many buckets, none of which is deleted
+  -- all pairs moved into a table of `count` buckets, none of which is deleted
   pub record MovesTo (count : ℕ) (old new : State K V S H) : Type 0 where
     pub table : buckets new ≡ count
     pub exact : length old.pairs + room new ≡ full_capacity count
@@ -127,25 +127,25 @@ module _ {K V S H : Type 0} where
     pub room : FreesRoom old new
 
 module _ {K V S : Type 0} (rules : Rules K V S) where
-  -- the limiter, after it was told that the pair left, if there was one
+  -- the limiter, after it was notified of the pair that left, if there was one
   abbrev pub told_of : Option (K × V) → S → S
   told_of None s = s
   told_of (Some pair) s = (rules.on_removed s pair.0 pair.1).limiter
 
-  -- without the oldest pair, of which the limiter is told
+  -- without the oldest pair, of which the limiter is notified
   abbrev pub pop : Contents K V S → Contents K V S
   pop c = record { pairs = without_last c.pairs; limiter = told_of (last c.pairs) c.limiter }
 
-  -- without so many of the oldest pairs, one after another
+  -- without the n oldest pairs, one after another
   abbrev pub pops : ℕ → Contents K V S → Contents K V S
   pops zero c = c
   pops (suc n) c = pops n (pop c)
 
-  -- the oldest of so many pairs leave, as long as the limiter is over
+  -- the oldest of n pairs are evicted while the limiter is over its limit
   abbrev pub trim_from : ℕ → Contents K V S → Contents K V S
   trim_from zero c = c
   trim_from (suc n) c = if rules.is_over_the_limit c.limiter (suc n) then trim_from n (pop c) else c
 
-  -- the oldest leave, as long as the limiter is over
+  -- the oldest pairs are evicted while the limiter is over its limit
   unfoldable pub trim : Contents K V S → Contents K V S
   trim c = trim_from (length c.pairs) c

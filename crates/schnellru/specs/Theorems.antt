@@ -13,24 +13,24 @@ use Rattle.schnellru.specs.Place.{LacksRoom, CannotGrow}
 use Rattle.schnellru.specs.Inserts.{replacement, MayGive}
 
 module _ {K V S H : Type 0} where
-  -- from old to new, in which shrinks place so many entries anew, moved and potential together rise by at most 1 for
-  -- each of these and 2 for each element placed, while the count of elements placed goes on
+  -- from old to new, while shrinks rehash `anew` entries, the count of moved entries and the potential together rise by
+  -- at most 1 for each of these and 2 for each entry stored, while the count of stored entries goes on
   pub record PaysForMoves (anew : ℕ) (old new : State K V S H) : Type 0 where
     pub placed : old.placed ≤ new.placed
     pub shrunk : new.shrunk ≡ count_up old.shrunk anew
     pub moved : new.placed < 2 ^ 64 - 1 →
         new.moved + potential new + 2 * old.placed ≤ old.moved + potential old + 2 * new.placed + anew
 
-  -- the placings of the table rise by what moved and placed rise by, while no count has stopped
+  -- the table's insertions are the entries moved and the entries stored, while no count has stopped
   abbrev pub CountsPlacings : State K V S H → State K V S H → Type 0
   CountsPlacings old new = new.placings < 2 ^ 64 - 1 → new.moved < 2 ^ 64 - 1 → new.placed < 2 ^ 64 - 1 →
       new.placings + old.moved + old.placed ≡ old.placings + new.moved + new.placed
 
-  -- the table takes at most so many bytes
+  -- the table takes at most n bytes
   abbrev pub UsesAtMost : ℕ → State K V S H → Type 0
   UsesAtMost most st = (bytes : ℕ) × (usage st.entry_bytes (buckets st) ≡ Some bytes) × (bytes ≤ most)
 
-  -- the account is the sum of the costs
+  -- the running total is the sum of the costs
   abbrev pub IsSummed : (K → V → ℕ) → (S → ℕ) → State K V S H → Type 0
   IsSummed cost account st = account st.limiter ≡ sum_by (λ p. cost p.0 p.1) st.pairs
 
@@ -45,27 +45,27 @@ pub record IsNewest {K V : Type 0} (names : K → Bool) (pairs : List (K × V)) 
   pub first : pairs ≡ pair ∷ rest
   pub named : names pair.0 ≡ true
 
--- what an insert leaves of the pairs, where names tells the inserted key
+-- what an insert leaves of the pairs, where names accepts the inserted key
 pub data GivesUp {K V : Type 0} (names : K → Bool) (refuses : K × V → Type 0) (old new : List (K × V)) : Type 0 where
-  -- the oldest go, as many as it takes, behind the new pair
+  -- the oldest are evicted, as many as it takes, and the new pair is the newest
   behind : (newest : K × V) → names newest.0 ≡ true → IsFront new (newest ∷ without names old) →
       GivesUp names refuses old new
-  -- the oldest go, and no pair comes, nor was the key there
+  -- the oldest are evicted, and no pair is stored, nor was the key there
   with_none : lookup_entry names old ≡ None → IsFront new old → GivesUp names refuses old new
-  -- the pair goes whose replacement is refused, and no other
+  -- the pair whose replacement is rejected is removed, and no other
   without_one : (pair : K × V) → lookup_entry names old ≡ Some pair → refuses pair → new ≡ without names old →
       GivesUp names refuses old new
 
 module _ {K V S H : Type 0} (rules : Rules K V S) where
-  -- the table lacks room, is to be more than half full, and cannot grow
+  -- the table has no growth left, would be more than half full, and cannot grow
   pub record IsRefusedGrowth (st : State K V S H) : Type 0 where
     pub lacks_room : LacksRoom st
     pub above_half : full_capacity (buckets st) / 2 < length st.pairs + 1
     pub known : State K V S H
     pub refused : CannotGrow rules st known
 
-  -- what the answer of an insert says: true, that the key is there, as the newest, and the limiter is not over; false,
-  -- or an error, that it is not there
+  -- what the result of an insert says: true, that the key is there, as the newest, and the limiter is not over its
+  -- limit; false, or an error, that the key is not there
   abbrev pub SaysWhether : (K → Bool) → Result Bool AllocError → State K V S H → Type 0
   SaysWhether names (Ok true) new =
       IsNewest names new.pairs × (rules.is_over_the_limit new.limiter (length new.pairs) ≡ false)
@@ -73,7 +73,7 @@ module _ {K V S H : Type 0} (rules : Rules K V S) where
   SaysWhether names (Err e) new = lookup_entry names new.pairs ≡ None
 
 module _ {K V S H I : Type 0} (rules : Rules K V S) (offers : Offers K V S I) (names : I → K → Bool) where
-  -- the pair that an insert stores: what a replacement left of the one that was there, or what the limiter gave
+  -- the pair that an insert stores: what a replacement left of the one that was there, or what the limiter returned
   pub data Stores (i : I) (v : V) (old : State K V S H) (pair : K × V) : Type 0 where
     left : (was : K × V) → lookup_entry (names i) old.pairs ≡ Some was
         → (replacement rules offers names was i v (contents old)).taken ≡ true →

@@ -1,4 +1,4 @@
-//! What is proved of each call, and of all calls, one after another.
+//! What is proved of inserts and other single calls, of each call (`calls`) and of lists of calls (`runs`).
 //! Each theorem is the contract of a function that does nothing.
 
 ghost use Rattle.std.specs.Prelude.{◌≡◌, ◌≢◌, ℕ, ◌≤◌, ◌<◌, ◌+◌, ◌*◌, ◌/◌, ◌⊎◌, ◌∷◌, Bool, false, Option, Some, None};
@@ -38,7 +38,8 @@ pub use runs::{
 };
 pub use shrinks::{shrinks_keep_the_list, shrinks_leave_a_tight_table, shrinks_pay_for_moves};
 
-/// An insert gives up pairs from the old end alone, save one whose replacement is refused.
+/// An insert evicts from the old end alone. The one other pair that it may remove is the pair whose replacement is
+/// rejected.
 pub fn inserts_give_up_the_oldest<
     K: Eq + Hash,
     V,
@@ -53,8 +54,8 @@ pub fn inserts_give_up_the_oldest<
         new.pairs }
 {}
 
-/// An insert answers true exactly where its key is there afterwards.
-/// It is the newest then, and the limiter is not over.
+/// An insert returns true if and only if its key is there afterwards. The key is the newest then, and the limiter is
+/// not over its limit.
 pub fn inserts_say_whether<
     K: Eq + Hash,
     V,
@@ -68,8 +69,9 @@ pub fn inserts_say_whether<
         SaysWhether L.rules (I.names key) result new }
 {}
 
-/// What an insert hands over is a list of pairs which, with those that are left, are at most one more than there were.
-/// So a sink that keeps them needs room for one pair more than the map has. It is an insert as any other.
+/// The pairs that an insert passes to its callback, together with those that are left, are at most one more than there
+/// were. So a callback that keeps them needs space for one pair more than the map has. `InsertHands` is an insert like
+/// any other.
 pub fn inserts_hand_over_few<
     K: Eq + Hash,
     V,
@@ -87,8 +89,8 @@ pub fn inserts_hand_over_few<
         Insert L.rules L.offers I.names S.hash_of key value old result new }
 {}
 
-/// Where an insert answers true, the newest pair is the one that the limiter gave of a new key, or left of the pair
-/// that was there. So under a limiter that stores values as they come, a look-up of the key then gives the value.
+/// If an insert returns true, the newest pair is what the limiter gave for the new key, or what it left of the pair
+/// that was there. So under a limiter that stores values as they come, a look-up of the key returns the value.
 pub fn inserts_store_the_value<
     K: Eq + Hash,
     V,
@@ -105,8 +107,8 @@ pub fn inserts_store_the_value<
         lookup (I.names key) new.pairs ≡ Some value }
 {}
 
-/// Want of memory in an insert is that of `on_insert`, or that of a table without room.
-/// It leaves a front part of the pairs.
+/// If an insert runs out of memory, `on_insert` did, or the table had no growth left. The pairs that stay are the
+/// newest of the old ones.
 pub fn inserts_lack_memory_at_no_room<
     K: Eq + Hash,
     V,
@@ -126,9 +128,9 @@ pub fn inserts_lack_memory_at_no_room<
         IsFront new.pairs old.pairs }
 {}
 
-/// An insert into a table of up to 16 buckets leaves nothing open but where memory is short: not what it answers, nor
-/// the pairs, nor the limiter. Where the limiter's offers leave nothing open, two inserts of the same end alike,
-/// however a pair lands that the limiter gives.
+/// An insert into a table of up to 16 buckets is determined, except for whether memory is there: its answer, the pairs
+/// and the limiter follow from the pairs and the limiter before. If the limiter's offers are determined too, two equal
+/// inserts end alike, wherever the limiter's pair is stored.
 pub fn small_inserts_are_exact<
     K: Eq + Hash,
     V,
@@ -148,8 +150,9 @@ pub fn small_inserts_are_exact<
         EndsAlike result other new others }
 {}
 
-/// Two maps that differ at most in which buckets are full, in tables of up to 16, do so after inserts of the same, if
-/// offers leave nothing open and find their memory, and both inserts find memory or neither does. Both answer the same.
+/// If two maps differ at most in which buckets are full, in tables of up to 16 buckets, so do they after equal inserts,
+/// and both inserts return the same. The premises: offers are determined and find their memory, and both inserts find
+/// memory or neither does.
 pub fn small_inserts_look_alike<
     K: Eq + Hash,
     V,
@@ -167,9 +170,9 @@ pub fn small_inserts_look_alike<
         (result ≡ answer) × LookAlike new last }
 {}
 
-/// Where the limiter permits every growth, as `ByLength` does and the unlimited ones, and links and bytes reach the
-/// tables that it may need, an insert is one into a list of pairs that has no table. It leaves nothing open but where
-/// memory is short.
+/// If the limiter permits every growth, as `ByLength` and the unlimited ones do, and the tables that an insert may need
+/// are within the reach of links and bytes, the insert is one into a list of pairs that has no table. Only whether
+/// memory is there stays open.
 pub fn granted_inserts_are_exact<
     K: Eq + Hash,
     V,
@@ -183,7 +186,7 @@ pub fn granted_inserts_are_exact<
         InsertsInList L.rules L.offers I.names key value (contents old) result (contents new) }
 {}
 
-/// An insert that grows the table makes one that takes fewer than four times the pairs.
+/// If an insert grows the table, the new table holds fewer than four times the pairs.
 pub fn inserts_grow_little<
     K: Eq + Hash,
     V,
@@ -197,8 +200,8 @@ pub fn inserts_grow_little<
         buckets old < buckets new → full_capacity (buckets new) < 4 * (length old.pairs + 1) }
 {}
 
-/// Where there are pairs and no room, and a search for the new key finds a deleted bucket first, it is filled: nothing
-/// is asked and nothing moves. No other placing ends so.
+/// If there are pairs and no growth left, and a search for the new key meets a deleted bucket first, the pair fills
+/// that bucket: the limiter is not queried and nothing moves. No other insertion into the table ends so.
 pub fn deleted_buckets_serve<K: Eq + Hash, V, L: Limiter<K, V>, S: KeyHasher<K>>()
     ensures served { (pair : K × V) (old : State K V L S) (outcome : Outcome) (new : State K V L S) →
         LacksRoom old →
@@ -212,9 +215,9 @@ pub fn deleted_buckets_serve<K: Eq + Hash, V, L: Limiter<K, V>, S: KeyHasher<K>>
         FirstFreeIs deleted (S.hash_of old.hasher pair.0) old }
 {}
 
-/// An insert pays for the entries that it moves: moved and potential together rise by at most 2 for the one that it
-/// places, and so moved stays at most twice what was placed, and what shrinks placed anew. It moves and places no entry
-/// that it does not count.
+/// An insert pays for the entries that it moves: the count of moved entries and the potential together rise by at most
+/// 2 for the entry that it stores. So inserts move at most twice as many entries as they store, plus those that shrinks
+/// rehashed. An insert moves and stores no entry that it does not count.
 pub fn inserts_pay_for_moves<
     K: Eq + Hash,
     V,
@@ -236,8 +239,8 @@ pub fn inserts_pay_for_moves<
         CountsPlacings old new }
 {}
 
-/// Where growth is refused, at least half of what the table takes stays, the new pair included, and in a table of up to
-/// 16 buckets exactly the oldest goes.
+/// If the limiter refuses growth, the map keeps at least half of what the table may hold, the new pair included. In a
+/// table of up to 16 buckets exactly the oldest pair is evicted.
 pub fn refused_growth_keeps_half<K: Eq + Hash, V, L: Limiter<K, V>, S: KeyHasher<K>>()
     ensures half { (pair : K × V) (old new : State K V L S) →
         IsRefusedGrowth L.rules old →
@@ -253,8 +256,8 @@ pub fn refused_growth_keeps_half<K: Eq + Hash, V, L: Limiter<K, V>, S: KeyHasher
         new.pairs ≡ pair ∷ without_last old.pairs }
 {}
 
-/// A pair that is placed joins all the others, where the table grows and where it is made anew at most half full. Where
-/// memory is refused, the others stay. Only refused growth has pairs leave for a placing.
+/// An insertion into the table evicts nothing, if the table grows or is at most half full after a rehash. Nor does one
+/// that runs out of memory. Only a refused growth makes the table evict.
 pub fn growth_keeps_the_list<K: Eq + Hash, V, L: Limiter<K, V>, S: KeyHasher<K>>()
     ensures grown { (pair : K × V) (old new : State K V L S) →
         buckets new ≢ buckets old →
@@ -272,7 +275,7 @@ pub fn growth_keeps_the_list<K: Eq + Hash, V, L: Limiter<K, V>, S: KeyHasher<K>>
         (new.pairs ≡ old.pairs) ⊎ IsRefusedGrowth L.rules old }
 {}
 
-/// A key that was removed is not there.
+/// After a removal the key is not there.
 pub fn removed_keys_are_absent<
     K: Eq + Hash,
     V,
@@ -293,13 +296,13 @@ pub fn reservations_keep_the_list<K: Eq + Hash, V, L: Limiter<K, V>, S: KeyHashe
         × (new.shrunk ≡ old.shrunk) }
 {}
 
-/// Where room is reserved, there is room.
+/// After a successful reservation of n, the table takes n more pairs without growth.
 pub fn reservations_make_room<K: Eq + Hash, V, L: Limiter<K, V>, S: KeyHasher<K>>()
     ensures { (n : ℕ) (old new : State K V L S) →
         IsSized old → Reserve L.rules n old (Ok tt) new → n ≤ room new }
 {}
 
-/// The memory that a map uses, as a budget, gives itself.
+/// The number of bytes that a map uses, taken as a budget, gives a limit of the same number.
 pub fn usages_are_their_budgets<K: Eq + Hash, V, L: Limiter<K, V>, S: KeyHasher<K>>()
     ensures { (old : State K V L S) (bytes greatest : ℕ) →
         IsSized old → usage old.entry_bytes (buckets old) ≡ Some bytes →

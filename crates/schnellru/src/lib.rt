@@ -1,4 +1,5 @@
-//! A map that holds its pairs by recency of use, within the limit of a limiter.
+//! A hash map that remembers the order in which its entries were used, and evicts the oldest ones when a limiter says
+//! so.
 //!
 //! [`LruMap`] is the map, [`ByLength`] and its like are limiters. `docs/LIMITERS.md` shows how a limiter and a look-up
 //! key of one's own are written, `docs/CALLING.md` how code that calls the map is proved, and `docs/DIFFERENCES.md` has

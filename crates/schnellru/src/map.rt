@@ -1,5 +1,5 @@
-//! `LruMap`. A clause sees a map as a `State`: its pairs, newest first, with its limiter, its hasher, the marks of its
-//! table's buckets, and its counts.
+//! `LruMap`. A contract sees a map as a `State`: its pairs, newest first, with its limiter, its hasher, the state of
+//! each bucket of its table, and its counts.
 ghost use Rattle.std.specs.Prelude.{◌≡◌, ◌∷◌, []};
 ghost use Rattle.lru_limits.specs.Mixing.{seeded};
 ghost use Rattle.schnellru.specs.Sizes.{default_entry_bytes, links_of_32_bits};
@@ -26,13 +26,13 @@ mod resize;
 mod shrink;
 mod store;
 
-/// The bytes of an entry of a map that `LruMap::default` makes.
+/// The bytes of an entry that `LruMap::default` assumes.
 pub const DEFAULT_ENTRY_BYTES: usize = 32;
 
-/// A hash map whose pairs stand in an order of use, under a limiter.
+/// A hash map that keeps its entries in the order of their use, within the limit of a limiter.
 ///
-/// `get` and `insert` make a pair the newest. The limiter says which elements are taken, when the map is over its
-/// limit, so that the oldest pairs leave, and how large the table may grow.
+/// `get` and `insert` make an entry the newest. The limiter decides which entries are accepted, when the map is over
+/// its limit, so that the oldest entries are evicted, and how large the table may grow.
 ///
 /// ```
 /// let mut map = LruMap::new(alloc, ByLength::new(2), [1, 2, 3, 4], 32);
@@ -45,21 +45,21 @@ pub const DEFAULT_ENTRY_BYTES: usize = 32;
 ///
 /// # The bytes of an entry
 ///
-/// Each constructor is told how many bytes a bucket takes, as `entry_bytes`. `memory_usage` counts by this number, and
-/// so do the sizes of which a limiter is asked. To compute it, add the bytes of a key, a value and two links, and round
-/// up to the greatest alignment among them. For `u64` keys, `u32` values and links of 32 bits these are
-/// 8 + 4 + 4 + 4 = 20, rounded up to 24. For `u64` keys and values and links of 64 bits they are 32.
+/// Each constructor takes the number of bytes of a bucket, as `entry_bytes`. `memory_usage` counts by this number, and
+/// so do the sizes that a limiter is asked to permit. To compute it, add the bytes of a key, a value and two links, and
+/// round up to the greatest alignment among them. For `u64` keys, `u32` values and links of 32 bits these are 8 + 4 + 4
+/// + 4 = 20, rounded up to 24. For `u64` keys and values and links of 64 bits they are 32.
 ///
-/// The memory that the map takes is that of its buckets, whatever it was told. A number that is too small has
-/// `ByMemoryUsage` permit tables that take more than its bytes; one that is too great has it refuse tables that would
-/// fit. With a number so great that a table's bytes would pass `usize::MAX` that table is not made.
+/// The number does not change the memory that the map takes. If it is too small, `ByMemoryUsage` permits tables that
+/// take more memory than its limit. If it is too great, `ByMemoryUsage` refuses tables that would fit. A table whose
+/// bytes by this number would pass `usize::MAX` is never made.
 ///
 /// # The width of links
 ///
-/// Each pair has links to its neighbours in the order of use, of the limiter's `LinkType`. The width bounds the number
-/// of pairs: 112 with `u8`, 28,672 with `u16`, 1,879,048,192 with `u32`. With `usize` only memory bounds it. Take
-/// `u32`, as `ByLength`, `ByMemoryUsage` and `UnlimitedCompact` do, unless there may be more pairs, for which
-/// `Unlimited` and `ByCost` have `usize`. The smaller widths save memory where the keys and values are as small.
+/// Each entry has links to its neighbours in the order of use, of the limiter's `LinkType`. The width of a link bounds
+/// the number of entries: 112 with `u8`, 28,672 with `u16`, 1,879,048,192 with `u32`. With `usize` only memory bounds
+/// it. Choose `u32`, as `ByLength`, `ByMemoryUsage` and `UnlimitedCompact` do, unless there may be more entries;
+/// `Unlimited` and `ByCost` use `usize`. The smaller widths save memory if keys and values are small too.
 ///
 /// After schnellru's `LruMap`.
 #[derive(Drop)]
@@ -103,9 +103,10 @@ impl<K: Eq + Hash, V, L: Limiter<K, V>, S: KeyHasher<K>> Model for LruMap<K, V, 
 }
 
 impl<K: Eq + Hash, V, L: Limiter<K, V>, S: KeyHasher<K>> LruMap<K, V, L, S> {
-    /// An empty map, with this hasher and so many bytes an entry. It has no buckets and takes no memory.
+    /// Makes an empty map with this limiter and this hasher, which counts `entry_bytes` bytes an entry. It has no
+    /// buckets and takes no memory.
     ///
-    /// The documentation of the type says how the bytes of an entry are computed. Cost: `O(1)`.
+    /// The documentation of the type says how to compute the bytes of an entry. Cost: `O(1)`.
     ///
     /// ```
     /// let map: LruMap<u64, u32> = LruMap::with_hasher(alloc, ByLength::new(3), RandomState::default(), 32);
@@ -128,9 +129,9 @@ impl<K: Eq + Hash, V, L: Limiter<K, V>, S: KeyHasher<K>> LruMap<K, V, L, S> {
         }
     }
 
-    /// An empty map with the default limiter and hasher, and `DEFAULT_ENTRY_BYTES` an entry.
+    /// Makes an empty map with the default limiter and hasher, and `DEFAULT_ENTRY_BYTES` bytes an entry.
     ///
-    /// The default hasher is seeded by the words 1, 2, 3 and 4, so its hashes are known to everyone. Cost: `O(1)`.
+    /// The seeds of the default hasher are 1, 2, 3 and 4, so everyone knows its hashes. Cost: `O(1)`.
     ///
     /// After schnellru's `Default` for `LruMap`.
     pub fn default(alloc: Global) -> Self
@@ -145,10 +146,10 @@ impl<K: Eq + Hash, V, L: Limiter<K, V>, S: KeyHasher<K>> LruMap<K, V, L, S> {
 }
 
 impl<K: Eq + Hash, V, L: Limiter<K, V>> LruMap<K, V, L, RandomState> {
-    /// An empty map with the hasher that these words seed.
+    /// Makes an empty map whose hasher has these seeds.
     ///
-    /// Equal words give equal hashes. Where keys come from outside, take words that nobody can guess. The documentation
-    /// of the type says how the bytes of an entry are computed. Cost: `O(1)`, and no memory.
+    /// Equal seeds give equal hashes. If strangers choose the keys, take seeds that nobody can guess. The documentation
+    /// of the type says how to compute the bytes of an entry. Cost: `O(1)`, and no memory.
     ///
     /// After schnellru's `LruMap::new`.
     pub fn new(alloc: Global, limiter: L, words: [u64; 4], entry_bytes: usize) -> Self
@@ -157,7 +158,7 @@ impl<K: Eq + Hash, V, L: Limiter<K, V>> LruMap<K, V, L, RandomState> {
         LruMap::with_hasher(alloc, limiter, RandomState::with_seeds(words), entry_bytes)
     }
 
-    /// The same as `new`, under schnellru's name for seeds that are given.
+    /// The same as `new`, under schnellru's name for a constructor with given seeds.
     ///
     /// ```
     /// let mut map: LruMap<u64, u64> = LruMap::with_seed(alloc, ByLength::new(3), [5, 6, 7, 8], 16);
@@ -175,10 +176,9 @@ impl<K: Eq + Hash, V, L: Limiter<K, V>> LruMap<K, V, L, RandomState> {
 }
 
 impl<K: Eq + Hash, V, S: KeyHasher<K>> LruMap<K, V, ByMemoryUsage, S> {
-    /// An empty map whose table may use so many bytes, with this hasher.
+    /// Makes an empty map whose table may use `budget` bytes, with this hasher.
     ///
-    /// The budget is kept as `memory_usage` counts, by the bytes of an entry that are given here.
-    /// Cost: `O(1)`, and no memory.
+    /// The budget limits `memory_usage`, which counts `entry_bytes` bytes an entry. Cost: `O(1)`, and no memory.
     ///
     /// After schnellru's `LruMap::with_memory_budget_and_hasher`.
     pub fn with_memory_budget_and_hasher(
@@ -194,10 +194,9 @@ impl<K: Eq + Hash, V, S: KeyHasher<K>> LruMap<K, V, ByMemoryUsage, S> {
 }
 
 impl<K: Eq + Hash, V> LruMap<K, V, ByMemoryUsage, RandomState> {
-    /// An empty map whose table may use so many bytes, with the hasher that these words seed.
+    /// Makes an empty map whose table may use `budget` bytes, with a hasher of these seeds.
     ///
-    /// The budget is kept as `memory_usage` counts, by the bytes of an entry that are given here.
-    /// Cost: `O(1)`, and no memory.
+    /// The budget limits `memory_usage`, which counts `entry_bytes` bytes an entry. Cost: `O(1)`, and no memory.
     ///
     /// ```
     /// let mut map: LruMap<u64, u64, ByMemoryUsage> = LruMap::with_memory_budget(alloc, 84, [1, 2, 3, 4], 16);

@@ -1,7 +1,7 @@
-//! `OrderedTable`: the table of a map, whose full buckets stand in an order, newest first.
+//! `OrderedTable`: the table of a map, whose full buckets are in an order, newest first.
 //!
-//! Each entry keeps the numbers of its newer and its older neighbour as links, so that it is promoted or taken without
-//! a walk. A clause sees an `OrderedTable` as its `slots` and the `order` of the full ones.
+//! Each entry has links to its newer and its older neighbour, so a promotion or a removal walks nowhere. A contract
+//! sees an `OrderedTable` as its `slots` and the `order` of the full ones.
 ghost use Rattle.std.specs.Prelude.{◌≡◌, ◌≢◌, ℕ, ◌+◌, ◌^◌, ◌<◌, ◌≤◌, false, [], ◌∷◌, length, Some, None, IfSome};
 ghost use Rattle.std.specs.Prelude.{IfNone, IfOk, IfErr, OnOk, OnErr, IsOk, IsTrue, replicate, slice_set};
 ghost use Rattle.std.specs.Borrow.{sem};
@@ -32,8 +32,8 @@ pub(crate) struct Pair<K, V> {
     pub(crate) value: V,
 }
 
-// A pair with its neighbours in the order; `MAX` at the ends. The key and the value stand side by side at the end, so
-// that a look at a pair as a rule reads one line of memory.
+// A pair with its neighbours in the order; `MAX` at the ends. The key and the value are side by side at the end, so a
+// look at a pair usually reads one line of memory.
 #[derive(Drop)]
 pub(crate) struct Entry<K, V, N> {
     newer: N,
@@ -161,7 +161,7 @@ impl<K, V, N: LinkType> OrderedTable<K, V, N> {
         bucket_of(self.table.get(b).newer)
     }
 
-    // The pair in a full bucket for writing. What is written there keeps the hash of the key.
+    // Lends the pair in a full bucket for writing. What is written keeps the hash of the key.
     #[inline]
     pub(crate) fn pair_mut(&mut self, b: usize) -> &mut Pair<K, V>
         requires { IsFull self.old.slots b }
@@ -176,7 +176,7 @@ impl<K, V, N: LinkType> OrderedTable<K, V, N> {
         &mut self.table.get_mut(b).pair
     }
 
-    // The bucket of the first pair that `f` accepts, of those with the tag of the hash.
+    // Returns the bucket of the first pair that `f` accepts, of those with the tag of the hash.
     pub(crate) fn find_by<F: FnMut(&K, &V) -> bool>(&self, hash: u64, mut f: F) -> Option<usize>
         requires { F.IsAlwaysCallable f }
         ensures found { IfSome result (FindsPair F.FnMut self.now.slots hash f) }
@@ -192,7 +192,7 @@ impl<K, V, N: LinkType> OrderedTable<K, V, N> {
         )
     }
 
-    // The pair in a full bucket becomes the newest.
+    // Makes the pair in a full bucket the newest.
     pub(crate) fn promote(&mut self, b: usize)
         requires { IsFull self.old.slots b }
         ensures slots { self.new.slots ≡ self.old.slots }
@@ -304,7 +304,7 @@ impl<K: Drop, V: Drop, N: LinkType> OrderedTable<K, V, N> {
 }
 
 impl<K: Eq + Hash, V, N: LinkType> OrderedTable<K, V, N> {
-    // The bucket of the key that is named, which has this hash.
+    // Returns the bucket of the key that `key` names, which has this hash.
     #[inline]
     pub(crate) fn find<Q: LookupKey<K>>(&self, hash: u64, key: &Q) -> Option<usize>
         ensures found { IfSome result (λ b. (pair : K × V) × (entry_at self.now.slots b ≡ Some pair)
@@ -319,8 +319,8 @@ impl<K: Eq + Hash, V, N: LinkType> OrderedTable<K, V, N> {
 }
 
 impl<K: Eq + Hash + Drop, V: Drop, N: LinkType> OrderedTable<K, V, N> {
-    // Moves all pairs into a table of so many buckets, in the same order. Among as many buckets as now they stay in
-    // this table, and without pairs that needs no memory. Nor do no buckets.
+    // Moves all pairs into a table of `buckets` buckets, in the same order. If the number of buckets stays, so does the
+    // table; without pairs that needs no memory. Nor does a table of no buckets.
     pub(crate) fn move_to<S: KeyHasher<K>>(
         &mut self,
         buckets: usize,
@@ -351,8 +351,8 @@ impl<K: Eq + Hash + Drop, V: Drop, N: LinkType> OrderedTable<K, V, N> {
     }
 }
 
-// Moves the entries into a table of so many buckets, or, among as many as now, within this one.
-// It answers where each is.
+// Moves the entries into a table of `buckets` buckets, or rehashes them in this one, if it has as many. Returns where
+// each is now.
 fn renumber_entries<K: Eq + Hash + Drop, V: Drop, N: LinkType, S: BuildHasher>(
     table: &mut Table<Entry<K, V, N>>,
     buckets: usize,

@@ -7,7 +7,7 @@ use group_table::{buckets_for_capacity, full_capacity};
 
 const MOST_BYTES: usize = isize::MAX as usize - 15;
 
-// The bytes of a table of so many buckets, where there can be such a table.
+// The bytes of a table of n buckets, if there can be such a table.
 #[tactic(auto, unfolding(crate::specs::Sizes::usage))]
 pub(crate) fn usage(entry_bytes: usize, buckets: usize) -> Option<usize>
     ensures { result ≡ usage entry_bytes buckets }
@@ -24,7 +24,7 @@ pub(crate) fn usage(entry_bytes: usize, buckets: usize) -> Option<usize>
     }
 }
 
-// The bytes of a table that there is.
+// The bytes of an existing table.
 pub(crate) fn bytes_of(entry_bytes: usize, buckets: usize) -> usize
     requires { bytes_of entry_bytes buckets ≤ 2 ^ 63 - 16 }
     ensures { result ≡ bytes_of entry_bytes buckets }
@@ -32,8 +32,8 @@ pub(crate) fn bytes_of(entry_bytes: usize, buckets: usize) -> usize
     (entry_bytes * buckets + 15) / 16 * 16 + buckets + 16
 }
 
-// The buckets and the bytes of the table that a table goes to which is to take so many pairs,
-// more than half of what it takes.
+// The buckets and the bytes of the table into which a table grows that is to hold `pairs` pairs, more than half of what
+// it may hold now.
 #[tactic(auto, unfolding(crate::specs::Sizes::target))]
 pub(crate) fn larger_table(
     max: usize,
@@ -56,7 +56,7 @@ pub(crate) fn larger_table(
     Some((count, bytes))
 }
 
-// The greatest usage within the budget of a table of 4, 8, 16, .. buckets that links reach, or 0.
+// The greatest usage within the budget of a table of 4, 8, 16, .. buckets that links can number, or 0.
 pub(crate) fn usage_within(max: usize, entry_bytes: usize, budget: usize) -> usize
     ensures { IsGreatestUsage max entry_bytes budget result }
 {

@@ -17,13 +17,13 @@ pub(crate) mod drain;
 pub(crate) mod iter_mut;
 mod positions;
 
-/// The walk of a map under this limiter. A function over the walks of all limiters takes a `Walk`.
+/// The iterator over a map under this limiter. A function over the iterators of all limiters takes a `Walk`.
 ///
 /// After schnellru's `Iter`.
 pub type Iter<'a, K, V, L> = Walk<'a, K, V, <L as Limiter<K, V>>::LinkType>;
 
-/// The pairs of a map that a walk has not given yet from either end, newest first. Of the map's limiter it knows the
-/// type of the links.
+/// An iterator over the pairs of a map, newest first, from both ends. It depends on the map's limiter only by the type
+/// of its links.
 #[derive(Drop)]
 pub struct Walk<'a, K, V, N: LinkType> {
     entries: &'a OrderedTable<K, V, N>,
@@ -62,7 +62,7 @@ impl<'a, K, V, N: LinkType> Iterator for Walk<'a, K, V, N> {
         Some((&pair.key, &pair.value))
     }
 
-    /// Exactly how many pairs are left, as `len` says.
+    /// Returns exactly how many pairs are left, as `len` does.
     fn size_hint(&self) -> (usize, Option<usize>)
         ensures lower { IsWithinCount result.0 (at_most (length self.now)) }
         ensures upper { IfSome result.1 (UpTo (at_most (length self.now))) }
@@ -97,7 +97,7 @@ impl<'a, K, V, N: LinkType> ExactSizeIterator for Walk<'a, K, V, N> {
 impl<'a, K, V, N: LinkType> FusedIterator for Walk<'a, K, V, N> {}
 
 impl<K: Eq + Hash, V, L: Limiter<K, V>, S: KeyHasher<K>> LruMap<K, V, L, S> {
-    /// The pairs, newest first. The order stays.
+    /// Returns an iterator over the pairs, newest first. The order stays.
     ///
     /// ```
     /// for (key, value) in map.iter() {
@@ -124,7 +124,7 @@ impl<K: Eq + Hash, V, L: Limiter<K, V>, S: KeyHasher<K>> LruMap<K, V, L, S> {
     }
 }
 
-/// So that `for (key, value) in &map` walks the pairs, newest first.
+/// `for (key, value) in &map` walks the pairs, newest first.
 impl<
     'a,
     K: Eq + Hash,

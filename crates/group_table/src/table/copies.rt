@@ -14,16 +14,16 @@ use crate::table::Table;
 use std::alloc::AllocError;
 
 impl<T: Drop> Table<T> {
-    /// A table of the same buckets, with what `f` answers of each entry.
+    /// Makes a table of the same buckets, with what `f` returns for each entry.
     ///
-    /// `f` is asked in rising order of the buckets, once for each entry, until it answers an error. Deleted buckets
-    /// stay deleted, so the room is the same, and the placings are taken over. It takes time by the buckets, and two
-    /// requests for memory.
+    /// `f` is called in rising order of the buckets, once for each entry, until it returns an error. Deleted buckets
+    /// stay deleted, so the growth left is the same, and the count of insertions is copied. It takes time O(buckets),
+    /// and two requests for memory.
     ///
     /// # Errors
     ///
-    /// Want of memory, or the error of `f`. What was copied is dropped then. A table without buckets asks for no
-    /// memory, and its copy is never refused.
+    /// Out of memory, or the error of `f`. What was copied is dropped then. A table without buckets asks for no memory,
+    /// and its copy never fails.
     pub fn clone_with<F: Fn(&T) -> Result<T, AllocError>>(&self, f: F) -> Result<Self, AllocError>
         requires callable { F.IsAlwaysCallable f }
         ensures copies { IfOk result (λ t. Copies F.Fn f self.now.slots t.slots) }
@@ -51,7 +51,8 @@ impl<T: Drop> Table<T> {
     }
 }
 
-// What the closure answers of each entry, in the place of the entry. The control bytes tell which places hold one.
+// Writes what the closure returns for each entry, in the place of the entry. The control bytes say which places hold
+// one.
 fn copy_entries<T: Drop, F: Fn(&T) -> Result<T, AllocError>>(
     control: &Control,
     entries: &Entries<T>,

@@ -1,4 +1,4 @@
-//! What a `Table` tells of itself: its figures, and which buckets are full.
+//! The figures of a `Table`, and which buckets are full.
 ghost use Rattle.std.specs.Prelude.{◌≡◌, ◌↔◌, length, IsTrue};
 ghost use Rattle.group_table.specs.Bucket.{marks_of, IsFull, entry_count, room};
 ghost use Rattle.group_table.specs.Table.{IsTable};
@@ -7,7 +7,7 @@ use super::Table;
 use crate::control::DELETED;
 
 impl<T> Table<T> {
-    /// The number of buckets: none, or a power of two from 4 on. They are numbered from 0 on.
+    /// Returns the number of buckets: none, or a power of two from 4 on. They are numbered from 0 on.
     #[inline]
     pub fn buckets(&self) -> usize
         ensures value { result ≡ length self.now.slots }
@@ -16,7 +16,7 @@ impl<T> Table<T> {
         self.control.buckets()
     }
 
-    /// The number of entries, which is counted as they come and go.
+    /// Returns the number of entries.
     #[inline]
     pub fn len(&self) -> usize
         ensures value { result ≡ entry_count self.now.slots }
@@ -25,8 +25,8 @@ impl<T> Table<T> {
         self.len
     }
 
-    /// How many more entries are sure to find an empty bucket: the full capacity of the buckets, less those that are
-    /// full or deleted.
+    /// Returns the growth left: how many more entries find an empty bucket for sure. It is the most entries that the
+    /// table may hold, less the buckets that are full or deleted.
     #[inline]
     pub fn room(&self) -> usize
         ensures value { result ≡ room (marks_of self.now.slots) }
@@ -35,7 +35,8 @@ impl<T> Table<T> {
         self.room
     }
 
-    /// How many placings the table has made, those of moves included; a count that reaches `u64::MAX` stays there.
+    /// Returns how many insertions the table has made, those of moves included; a count that reaches `u64::MAX` stays
+    /// there.
     #[inline]
     pub fn placings(&self) -> u64
         ensures value { result ≡ self.now.placings }
@@ -44,7 +45,7 @@ impl<T> Table<T> {
         self.placings
     }
 
-    /// Whether the bucket is there and holds an entry. Any number may be asked about.
+    /// Returns whether the bucket exists and holds an entry, for any number.
     #[inline]
     pub fn is_full(&self, b: usize) -> bool
         ensures full { IsTrue result ↔ IsFull self.now.slots b }

@@ -1,4 +1,4 @@
-//! How the entries of a table take new places where they stand.
+//! Rehashing the entries of a table in place.
 ghost use Rattle.std.specs.Prelude.{◌≡◌, ℕ, ◌+◌, ◌-◌, ◌^◌, ◌<◌, ◌≤◌, length, replicate, count_by, is_some};
 ghost use Rattle.std.specs.Prelude.{slice_index_or};
 ghost use Rattle.group_table.specs.Sizes.{IsPowerFromFour, full_capacity};
@@ -13,11 +13,11 @@ use crate::fields::put;
 use crate::link::LinkType;
 use crate::probe::{first_free, is_read_first};
 
-// Places every entry again, over cleared control bytes, and writes where each stands now.
+// Inserts every entry again, over cleared control bytes, and writes where each is now.
 //
-// The control bytes from before tell which places held an entry, and are only read.
-// An entry whose turn it is stays where a search for it reads its bucket among the first, and else goes into the first
-// free one. The bucket of an entry that still waits counts as free: that one leaves it and comes next.
+// The control bytes from before say which places held an entry, and are only read. An entry whose turn it is stays, if
+// a search for it reads its bucket among the first 16, and otherwise goes into the first free bucket. The bucket of an
+// entry that still waits counts as free: that entry leaves it and is next.
 pub(crate) fn place_again<T, N: LinkType, H: Fn(&T) -> u64>(
     before: &Control,
     control: &mut Control,
@@ -47,7 +47,7 @@ pub(crate) fn place_again<T, N: LinkType, H: Fn(&T) -> u64>(
         (slots_of control.new entries.new) links.new.items hash_at }
 {
     for b in 0..before.buckets() {
-        // Another entry has come here, or none ever stood here.
+        // Another entry has come here, or none was ever here.
         if control.byte(b) < DELETED || before.byte(b) >= DELETED {
             continue;
         }

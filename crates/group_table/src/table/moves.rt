@@ -1,4 +1,4 @@
-//! How entries come into a fresh table, one after another.
+//! Moving entries into a fresh table, one after another.
 ghost use Rattle.std.specs.Prelude.{◌≡◌, ℕ, ◌<◌, ◌≤◌, length, replicate, count_by, is_some, slice_index_or};
 ghost use Rattle.std.specs.Prelude.{None};
 ghost use Rattle.group_table.specs.Sizes.{full_capacity};
@@ -14,7 +14,8 @@ use crate::probe::first_free;
 use crate::table::Table;
 
 impl<T: Drop> Table<T> {
-    // Puts an entry into the first free bucket of a table with room and no deleted bucket. No placing is counted.
+    // Puts an entry into the first free bucket of a table with growth left and no deleted bucket. No insertion is
+    // counted.
     #[inline]
     pub(crate) fn place_fresh(&mut self, hash: u64, entry: T) -> usize
         requires room { entry_count self.old.slots < full_capacity (length self.old.slots) }
@@ -30,8 +31,8 @@ impl<T: Drop> Table<T> {
     }
 }
 
-// Moves entries, in rising order of their old buckets, into an empty table, and writes where each stands now. The old
-// control bytes tell which places hold one; afterwards none does.
+// Moves entries, in rising order of their old buckets, into an empty table, and writes where each is now. The old
+// control bytes say which places hold one; afterwards none does.
 pub(crate) fn move_entries<T: Drop, N: LinkType, H: Fn(&T) -> u64>(
     control: &Control,
     old: &mut Entries<T>,

@@ -17,19 +17,19 @@ use std::alloc::AllocError;
 use std::mem;
 
 impl<T: Drop> Table<T> {
-    /// Moves all entries, in rising order of their buckets, into a fresh table of so many buckets.
+    /// Moves all entries, in rising order of their buckets, into a fresh table of `buckets` buckets.
     ///
-    /// A table without entries may go to no buckets, which gives its memory back.
+    /// A table without entries may move to no buckets, which gives its memory back.
     ///
-    /// The answer has a link for each old bucket: the number of the bucket where its entry stands now, or `MAX` where
-    /// it was free. It is empty for a table without entries. `hash_of` is asked once for each entry, and for nothing
-    /// else. The placings rise by the entries, and no bucket is deleted afterwards. It takes time by the old buckets
-    /// and the new ones.
+    /// The result contains a link for each old bucket: the number of the bucket where its entry is now, or `MAX` if it
+    /// was free. It is empty for a table without entries. `hash_of` is called once for each entry. The count of
+    /// insertions rises by the entries, and no bucket is deleted afterwards. It takes time O(old buckets + new
+    /// buckets).
     ///
     /// # Errors
     ///
-    /// Want of memory, which changes nothing: all memory is taken before the first entry moves, in two requests for the
-    /// table and, where there is an entry, one for the links. No buckets take none, and are never refused.
+    /// Out of memory, which changes nothing: all memory is taken before the first entry moves, in two requests for the
+    /// table and, if there is an entry, one for the links. No buckets take none, and never fail.
     pub fn relocate<N: LinkType, H: Fn(&T) -> u64>(
         &mut self,
         buckets: usize,
@@ -70,16 +70,15 @@ impl<T: Drop> Table<T> {
         Ok(links)
     }
 
-    /// Gives all entries new buckets so that none is deleted, among as many as now, and answers as `relocate` does.
+    /// Moves all entries within the table so that no bucket is deleted, and returns what `relocate` returns.
     ///
-    /// The entries are not moved into another table, and `hash_of` is asked once for each.
-    /// It takes time by the buckets.
+    /// `hash_of` is called once for each entry. It takes time O(buckets).
     ///
     /// # Errors
     ///
-    /// Want of memory, which changes nothing: there are two requests, one for the links and one for fresh control
-    /// bytes, before the first entry moves. A table without entries makes none and is never refused: its buckets are
-    /// emptied where they lie.
+    /// Out of memory, which changes nothing: there are two requests, one for the links and one for fresh control bytes,
+    /// before the first entry moves. A table without entries makes none and never fails: its buckets are emptied in
+    /// place.
     pub fn rehash<N: LinkType, H: Fn(&T) -> u64>(
         &mut self,
         hash_of: H,

@@ -9,10 +9,10 @@ use std::alloc::{AllocError, Global};
 use std::hash::Hash;
 use std::marker::Model;
 
-/// Limits the sum of the costs of the values. A clause sees it as its limit and that sum.
+/// Limits the sum of the costs of the values. A contract sees it as its limit and that sum.
 ///
-/// It refuses an element, or a replacement, whose own cost is above the limit, or where the sum would pass `u64::MAX`.
-/// Otherwise it takes it in, and the map then gives up its oldest pairs until the sum is within the limit again.
+/// It rejects an element or a replacement if its cost alone is above the limit, or if the sum would pass `u64::MAX`.
+/// Otherwise it accepts it, and the map evicts its oldest pairs until the sum is within the limit again.
 ///
 /// ```
 /// let mut limiter = ByCost::new(3);
@@ -21,7 +21,7 @@ use std::marker::Model;
 /// assert_eq!(rt; limiter.cost(), 2);
 /// ```
 ///
-/// Cost: each callback asks each value that it is given for its cost once, and takes no memory.
+/// Cost: each callback reads the cost of each value that it gets once, and takes no memory.
 #[derive(Clone, Copy, Debug)]
 pub struct ByCost {
     limit: u64,
@@ -39,28 +39,28 @@ impl Model for ByCost {
 }
 
 impl ByCost {
-    /// The limiter to this sum, which is 0 so far.
+    /// Makes a limiter with this limit. Its sum is 0 so far.
     pub fn new(limit: u64) -> ByCost
         ensures { result ≡ record { limit = limit; cost = 0 } }
     {
         ByCost { limit, cost: 0 }
     }
 
-    /// The greatest sum that a map may have.
+    /// Returns the limit.
     pub fn limit(&self) -> u64
         ensures { result ≡ self.now.limit }
     {
         self.limit
     }
 
-    /// The sum of the costs so far.
+    /// Returns the sum of the costs so far.
     pub fn cost(&self) -> u64
         ensures { result ≡ self.now.cost }
     {
         self.cost
     }
 
-    // The sum with this cost added, where the cost alone is within the limit and the sum fits.
+    // Returns the sum with this cost added, if the cost alone is within the limit and the sum fits.
     #[inline]
     fn sum_with(&self, sum: u64, cost: u64) -> Option<u64>
         ensures { result ≡ (if can_add self.now.limit sum cost then Some (sum + cost) else None) }

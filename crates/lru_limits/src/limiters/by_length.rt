@@ -9,10 +9,10 @@ use std::alloc::{AllocError, Global};
 use std::hash::Hash;
 use std::marker::Model;
 
-/// Limits the number of pairs. A clause sees it as that number.
+/// Limits the number of pairs. A contract sees it as that number.
 ///
-/// A map under it has at most `max_length` pairs after each call, as long as nobody lowers it, and after each insert
-/// that places or replaces. It refuses an element only where `max_length` is 0.
+/// A map under it has at most `max_length` pairs after each call, unless somebody lowers the limit, and after each
+/// insert that stores or replaces a pair. It rejects an element only if `max_length` is 0.
 ///
 /// ```
 /// let limiter = ByLength::new(3);
@@ -37,14 +37,14 @@ impl Model for ByLength {
 }
 
 impl ByLength {
-    /// The limiter to so many pairs.
+    /// Makes a limiter to `max_length` pairs.
     pub fn new(max_length: u32) -> ByLength
         ensures { result ≡ max_length }
     {
         ByLength { max_length }
     }
 
-    /// The number of pairs that a map may have.
+    /// Returns the limit.
     pub fn max_length(&self) -> u32
         ensures { result ≡ self.now }
     {
@@ -86,7 +86,8 @@ impl<K, V> Limiter<K, V> for ByLength {
 impl<K: Eq + Hash + Drop, V: Drop> Insertion<K, V, K> for ByLength {
     ghost offers = { length_offers };
 
-    // In line before its caller is optimised, which then branches here, and takes the pair as it came.
+    // Forced inline: the caller then branches, instead of selecting between `Some` and `None`, and takes the pair as it
+    // came.
     #[inline(always)]
     fn on_insert(
         &mut self,

@@ -9,10 +9,10 @@ use std::alloc::{AllocError, Global};
 use std::hash::Hash;
 use std::marker::Model;
 
-/// Limits the bytes of the table. A clause sees it as that number.
+/// Limits the bytes of the table. A contract sees it as that number.
 ///
-/// It permits a growth exactly where the grown table has at most so many bytes; after a refusal the map gives up its
-/// oldest pairs. What a growth needs while the old table is still there is not counted, nor what keys and values own.
+/// It permits a growth if and only if the grown table is within the limit. After a refusal the map evicts its oldest
+/// pairs. The old table, which exists during a growth, is not counted, nor is what keys and values own.
 ///
 /// ```
 /// let mut limiter = ByMemoryUsage::new(152);
@@ -37,14 +37,14 @@ impl Model for ByMemoryUsage {
 }
 
 impl ByMemoryUsage {
-    /// The limiter to a table of so many bytes.
+    /// Makes a limiter to a table of `max_memory_usage` bytes.
     pub fn new(max_bytes: usize) -> ByMemoryUsage
         ensures { result ≡ max_bytes }
     {
         ByMemoryUsage { max_bytes }
     }
 
-    /// The number of bytes that the table may have.
+    /// Returns the limit.
     pub fn max_memory_usage(&self) -> usize
         ensures { result ≡ self.now }
     {

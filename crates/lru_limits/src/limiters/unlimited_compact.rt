@@ -7,8 +7,8 @@ use crate::limiter::{Insertion, Limiter};
 use std::alloc::{AllocError, Global};
 use std::hash::Hash;
 
-/// Limits nothing but by its links of 32 bits: at most 1,879,048,192 pairs.
-/// Its buckets are smaller than under `Unlimited`.
+/// Limits nothing except by its links of 32 bits: at most 1,879,048,192 pairs. Its buckets are smaller than under
+/// `Unlimited`.
 ///
 /// ```
 /// assert!(rt; !Limiter::<u64, u64>::is_over_the_limit(&UnlimitedCompact, usize::MAX));

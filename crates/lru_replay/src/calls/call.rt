@@ -2,7 +2,7 @@
 use schnellru::{MoveReport, ReserveError};
 use std::alloc::AllocError;
 
-/// A call of a run. `docs/RUNS.md` tells what each answers.
+/// A call of a run. `docs/RUNS.md` says what each returns.
 ///
 /// ```
 /// let calls = vec![in alloc; Call::Insert(1, 10), Call::Get(1), Call::Peek(2)]?;
@@ -11,13 +11,13 @@ use std::alloc::AllocError;
 pub enum Call<K, V, L> {
     /// `insert`: makes the pair of this key and value the newest.
     Insert(K, V),
-    /// `insert_with`: the same as `Insert`, and gives the pairs that leave.
+    /// `insert_with`: the same as `Insert`, and returns the pairs that leave.
     InsertWith(K, V),
-    /// `get_or_insert`: gives the value of the key, which is inserted with this value where it is not there.
+    /// `get_or_insert`: returns the value of the key, which is inserted with this value if it is not there.
     GetOrInsert(K, V),
-    /// `get`: gives the value of the key, and makes its pair the newest.
+    /// `get`: returns the value of the key, and makes its pair the newest.
     Get(K),
-    /// `peek`: gives the value of the key.
+    /// `peek`: returns the value of the key.
     Peek(K),
     /// `get_by_hash`, with a closure that accepts this key alone.
     GetByHash(u64, K),
@@ -25,32 +25,32 @@ pub enum Call<K, V, L> {
     PeekByHash(u64, K),
     /// Writes the value through `peek_mut` of the key.
     Write(K, V),
-    /// `remove`: takes the pair of the key out, and gives its value.
+    /// `remove`: removes the key, and returns its value.
     Remove(K),
-    /// `pop_oldest`: takes the oldest pair out, and gives it.
+    /// `pop_oldest`: removes and returns the oldest pair.
     PopOldest,
-    /// `pop_newest`: takes the newest pair out, and gives it.
+    /// `pop_newest`: removes and returns the newest pair.
     PopNewest,
-    /// `peek_oldest`: gives the oldest pair.
+    /// `peek_oldest`: returns the oldest pair.
     PeekOldest,
-    /// `peek_newest`: gives the newest pair.
+    /// `peek_newest`: returns the newest pair.
     PeekNewest,
-    /// `try_reserve`: makes room for so many pairs more.
+    /// `try_reserve`: makes room for n more pairs.
     Reserve(usize),
-    /// `shrink_to_fit`: moves the pairs into as few buckets as hold them.
+    /// `shrink_to_fit`: shrinks the table to as few buckets as hold the pairs.
     Shrink,
     /// `clear`: drops all pairs.
     Clear,
-    /// `drain`: gives so many pairs from the newest end, then so many from the oldest, and drops the others.
+    /// `drain`: returns `front` pairs from the newest end, then `back` pairs from the oldest, and drops the others.
     Drain {
         /// How many from the newest end.
         front: usize,
         /// How many from the oldest end.
         back: usize,
     },
-    /// Gives all pairs, newest first.
+    /// Returns all pairs, newest first.
     List,
-    /// Gives the figures of the map.
+    /// Returns the figures of the map.
     Stats,
     /// Writes another limiter through `limiter_mut`.
     SetLimiter(L),
@@ -61,11 +61,11 @@ pub enum Call<K, V, L> {
 pub enum Answer<K, V> {
     /// To `Insert` and `Write`: whether the key is in the map.
     Flag(bool),
-    /// To `InsertWith`: what the insert answered, and what it handed over.
+    /// To `InsertWith`: what the insert returned, and what it passed to its callback.
     Given {
-        /// Whether the key is in the map, or that no memory was found.
+        /// Whether the key is in the map, or out of memory.
         done: Result<bool, AllocError>,
-        /// The pairs that were handed over, in that order.
+        /// The pairs that the callback got, in that order.
         out: Vec<(K, V)>,
     },
     /// To `GetOrInsert`, `Get`, `Peek`, `Remove` and the searches by a hash: the value, if there is one.
@@ -76,24 +76,25 @@ pub enum Answer<K, V> {
     Pairs(Vec<(K, V)>),
     /// To `Clear` and `SetLimiter`: it is done.
     Done,
-    /// To `Reserve`: whether there is room, or why not.
+    /// To `Reserve`: that there is room, or why not.
     Reserved(Result<(), ReserveError>),
-    /// To `Shrink`: whether the table has fewer buckets now, or that no memory was found, and nothing has changed.
+    /// To `Shrink`: whether the table has fewer buckets now, or out of memory, and nothing has changed.
     Shrunk(Result<bool, AllocError>),
     /// To `Stats`: the figures of the map.
     Stats {
         /// The number of pairs.
         len: usize,
-        /// How many pairs the table is sure to take without growing.
+        /// How many pairs the table holds for sure without growing.
         capacity: usize,
         /// The bytes of the table.
         memory: usize,
-        /// What inserts have moved and placed, and what shrinks have placed anew.
+        /// How many entries inserts moved and stored, and how many shrinks rehashed.
         report: MoveReport,
     },
-    /// To `Insert` and `GetOrInsert`: no memory was found. To `InsertWith`, `List` and `Drain`: none was found for the
-    /// pairs to give, and nothing has changed. A reservation tells it in `Reserved`, a shrink in `Shrunk`.
+    /// To `Insert` and `GetOrInsert`: out of memory. To `InsertWith`, `List` and `Drain`: out of memory for the pairs
+    /// to return, and nothing has changed. A reservation reports it in `Reserved`, a shrink in `Shrunk`.
     Memory,
-    /// To `Write` and `SetLimiter`, under a summing limiter: the sum would be another, and nothing has changed.
+    /// To `Write` and `SetLimiter`, under a limiter with a running total: the total would be wrong, and nothing has
+    /// changed.
     CostDiffers,
 }

@@ -1,4 +1,4 @@
-//! The calls of a run that answer pairs. The memory for these is taken before the map changes.
+//! The calls of a run that return pairs. The memory for these is taken before the map changes.
 ghost use Rattle.std.specs.Prelude.{◌≡◌, [], ◌∷◌, ◌++◌, ◌+◌, ◌≤◌, ◌<◌, option_to_list, IfOk};
 ghost use Rattle.std.specs.Result.{OnErr};
 ghost use Rattle.std.specs.Vec.{vec_len, vec_capacity};
@@ -15,7 +15,7 @@ use schnellru::{Insertion, KeyHasher, Limiter, LruMap};
 use std::alloc::{AllocError, Global};
 use std::hash::Hash;
 
-/// All pairs, newest first.
+/// Returns all pairs, newest first.
 pub fn list<K: Copy + Eq + Hash, V: Copy, L: Insertion<K, V, K>, S: KeyHasher<K>>(
     alloc: Global,
     map: &LruMap<K, V, L, S>,
@@ -31,7 +31,7 @@ pub fn list<K: Copy + Eq + Hash, V: Copy, L: Insertion<K, V, K>, S: KeyHasher<K>
     Answer::Pairs(pairs)
 }
 
-/// The answer to an insert that hands pairs over.
+/// Returns the answer to an insert with the pairs that leave.
 pub fn insert_with<K: Eq + Hash + Drop, V: Drop, L: Insertion<K, V, K>, S: KeyHasher<K>>(
     alloc: Global,
     map: &mut LruMap<K, V, L, S>,
@@ -46,7 +46,7 @@ pub fn insert_with<K: Eq + Hash + Drop, V: Drop, L: Insertion<K, V, K>, S: KeyHa
     }
 }
 
-/// An insert, and the pairs that it hands over, for which memory is taken first.
+/// Inserts, and returns the pairs that the callback gets, for which memory is taken first.
 pub fn insert_and_keep<K: Eq + Hash + Drop, V: Drop, L: Insertion<K, V, K>, S: KeyHasher<K>>(
     alloc: Global,
     map: &mut LruMap<K, V, L, S>,
@@ -57,14 +57,14 @@ pub fn insert_and_keep<K: Eq + Hash + Drop, V: Drop, L: Insertion<K, V, K>, S: K
         S.hash_of key value map.old answer.0 answer.1.items map.new) }
     ensures unchanged { OnErr result (map.new ≡ map.old) }
 {
-    // Nothing at run time: it tells the proof that there is room for all that is handed over.
+    // Nothing at run time: it tells the proof that there is space for all that the callback gets.
     inserts_hand_over_few::<K, V, K, L, S>();
     let mut out = Vec::with_capacity(alloc, map.len() + 1)?;
     let done = map.insert_with(key, value, &mut |key, value| keep(&mut out, (key, value)));
     Ok((done, out))
 }
 
-/// Adds the pair. Without room it is dropped, which `insert_and_keep` never comes to.
+/// Adds the pair. Without space it would be dropped, but `insert_and_keep` takes enough.
 fn keep<K: Drop, V: Drop>(pairs: &mut Vec<(K, V)>, pair: (K, V))
     ensures items { vec_len pairs.old < vec_capacity pairs.old → pairs.new.items ≡ pairs.old.items ++ pair ∷ [] }
     ensures len { vec_len pairs.old < vec_capacity pairs.old → vec_len pairs.new ≡ vec_len pairs.old + 1 }
@@ -75,7 +75,7 @@ fn keep<K: Drop, V: Drop>(pairs: &mut Vec<(K, V)>, pair: (K, V))
     }
 }
 
-/// So many of the newest pairs, then so many of the oldest. The others are dropped.
+/// Takes out `front` of the newest pairs, then `back` of the oldest. The others are dropped.
 pub fn drain_pairs<K: Eq + Hash + Drop, V: Drop, L: Insertion<K, V, K>, S: KeyHasher<K>>(
     alloc: Global,
     map: &mut LruMap<K, V, L, S>,
@@ -95,7 +95,7 @@ pub fn drain_pairs<K: Eq + Hash + Drop, V: Drop, L: Insertion<K, V, K>, S: KeyHa
     Answer::Pairs(pairs)
 }
 
-/// Takes out so many of the newest pairs, one after another.
+/// Takes out the `count` newest pairs, one after another.
 fn take_newest<K: Eq + Hash, V, L: Limiter<K, V>, S: KeyHasher<K>>(
     map: &mut LruMap<K, V, L, S>,
     count: usize,
@@ -112,7 +112,7 @@ fn take_newest<K: Eq + Hash, V, L: Limiter<K, V>, S: KeyHasher<K>>(
     }
 }
 
-/// Takes out so many of the oldest pairs, one after another.
+/// Takes out the `count` oldest pairs, one after another.
 fn take_oldest<K: Eq + Hash, V, L: Limiter<K, V>, S: KeyHasher<K>>(
     map: &mut LruMap<K, V, L, S>,
     count: usize,

@@ -16,10 +16,10 @@ use schnellru::{Insertion, KeyHasher, LruMap};
 use std::alloc::{AllocError, Global};
 use std::hash::Hash;
 
-/// Carries out the calls on the map, one after another, and gives their answers, one a call.
+/// Carries out the calls on the map, one after another, and returns one answer for each.
 ///
-/// Each answer is that of the map's own call, and the map after the calls is as these leave it. `docs/RUNS.md` tells
-/// how a run is read.
+/// Each answer is what the map's own call returns, and the map is as these calls leave it. `docs/RUNS.md` explains how
+/// to read a run.
 ///
 /// ```
 /// let calls = vec![in alloc; Call::Insert(1, 10), Call::Get(1), Call::Peek(2)]?;
@@ -28,8 +28,7 @@ use std::hash::Hash;
 /// assert!(rt; answers.get(2) == Some(&Answer::Value(None)));
 /// ```
 ///
-/// Cost: that of the calls, and one request for memory for the answers. `InsertWith`, `List` and `Drain` each take one
-/// more.
+/// Cost: as the calls, and one request for memory for the answers. `InsertWith`, `List` and `Drain` each take one more.
 ///
 /// # Errors
 ///
@@ -76,7 +75,7 @@ where
     answer
 }
 
-/// The answer to a call.
+/// Returns the answer to a call.
 fn answer_to<K, V, L, S>(
     alloc: Global,
     map: &mut LruMap<K, V, L, S>,

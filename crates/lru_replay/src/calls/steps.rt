@@ -10,7 +10,7 @@ use crate::calls::call::Answer;
 use schnellru::{Insertion, KeyHasher, Limiter, LruMap};
 use std::hash::Hash;
 
-/// The answer to an insert.
+/// Returns the answer to an insert.
 pub fn insert<K: Eq + Hash + Drop, V: Drop, L: Insertion<K, V, K>, S: KeyHasher<K>>(
     map: &mut LruMap<K, V, L, S>,
     key: K,
@@ -24,7 +24,7 @@ pub fn insert<K: Eq + Hash + Drop, V: Drop, L: Insertion<K, V, K>, S: KeyHasher<
     }
 }
 
-/// The answer to a get that inserts.
+/// Returns the answer to a get that inserts.
 pub fn get_or_insert<K: Eq + Hash + Drop, V: Copy + Drop, L: Insertion<K, V, K>, S: KeyHasher<K>>(
     map: &mut LruMap<K, V, L, S>,
     key: K,
@@ -39,7 +39,7 @@ pub fn get_or_insert<K: Eq + Hash + Drop, V: Copy + Drop, L: Insertion<K, V, K>,
     }
 }
 
-/// The value of the newest pair, if there is one.
+/// Returns the value of the newest pair, if there is one.
 fn newest_value<K: Eq + Hash, V: Copy, L: Limiter<K, V>, S: KeyHasher<K>>(
     map: &LruMap<K, V, L, S>,
 ) -> Option<V>
@@ -51,7 +51,7 @@ fn newest_value<K: Eq + Hash, V: Copy, L: Limiter<K, V>, S: KeyHasher<K>>(
     }
 }
 
-/// The value of the key, whose pair becomes the newest.
+/// Returns the value of the key, and makes its pair the newest.
 pub fn get<K: Eq + Hash, V: Copy, L: Limiter<K, V>, S: KeyHasher<K>>(
     map: &mut LruMap<K, V, L, S>,
     key: &K,
@@ -65,7 +65,7 @@ pub fn get<K: Eq + Hash, V: Copy, L: Limiter<K, V>, S: KeyHasher<K>>(
     }
 }
 
-/// Writes the value of the key, and tells whether the key is there.
+/// Writes the value of the key. Returns whether the key is there.
 pub fn write<K: Eq + Hash, V: Drop, L: Limiter<K, V>, S: KeyHasher<K>>(
     map: &mut LruMap<K, V, L, S>,
     key: &K,
@@ -83,7 +83,7 @@ pub fn write<K: Eq + Hash, V: Drop, L: Limiter<K, V>, S: KeyHasher<K>>(
     }
 }
 
-/// The value of the key, if a search by the hash finds it. Its pair becomes the newest.
+/// Returns the value of the key, if a search by the hash finds it, and makes its pair the newest.
 pub fn get_by_hash<K: Eq + Hash, V: Copy, L: Limiter<K, V>, S: KeyHasher<K>>(
     map: &mut LruMap<K, V, L, S>,
     hash: u64,
@@ -116,7 +116,7 @@ pub fn peek_by_hash<K: Eq + Hash, V: Copy, L: Limiter<K, V>, S: KeyHasher<K>>(
     }
 }
 
-/// The oldest pair, if there is one.
+/// Returns the oldest pair, if there is one.
 pub fn peek_oldest<K: Copy + Eq + Hash, V: Copy, L: Limiter<K, V>, S: KeyHasher<K>>(
     map: &LruMap<K, V, L, S>,
 ) -> Option<(K, V)>
@@ -128,7 +128,7 @@ pub fn peek_oldest<K: Copy + Eq + Hash, V: Copy, L: Limiter<K, V>, S: KeyHasher<
     }
 }
 
-/// The newest pair, if there is one.
+/// Returns the newest pair, if there is one.
 pub fn peek_newest<K: Copy + Eq + Hash, V: Copy, L: Limiter<K, V>, S: KeyHasher<K>>(
     map: &LruMap<K, V, L, S>,
 ) -> Option<(K, V)>
@@ -140,7 +140,7 @@ pub fn peek_newest<K: Copy + Eq + Hash, V: Copy, L: Limiter<K, V>, S: KeyHasher<
     }
 }
 
-/// The answer to a call that asks for the figures of the map.
+/// Returns the answer to a call for the figures of the map.
 pub fn stats<K: Eq + Hash, V, L: Insertion<K, V, K>, S: KeyHasher<K>>(
     map: &LruMap<K, V, L, S>,
 ) -> Answer<K, V>

@@ -1,4 +1,4 @@
-//! Lists of calls under a limiter that keeps a sum.
+//! Lists of calls under a limiter with a running total.
 ghost use Rattle.std.specs.Prelude.{◌≡◌, IfOk, true, false};
 ghost use Rattle.std.specs.Result.{OnErr};
 ghost use Rattle.schnellru.specs.State.{contents, IsMap};
@@ -13,11 +13,10 @@ use schnellru::{KeyHasher, LruMap, Summing};
 use std::alloc::{AllocError, Global};
 use std::hash::Hash;
 
-/// Carries out the calls on the map as `run_calls` does, but for those that would change the sum behind the limiter's
-/// back.
+/// Carries out the calls on the map as `run_calls` does, except for those that would make the limiter's total wrong.
 ///
-/// A write that would change the cost of its pair, and a setting of a limiter that has another account, are answered
-/// `CostDiffers`, and change nothing. So an account that is the sum of the costs stays it, after every call.
+/// A write that would change the cost of its pair, and a setting of a limiter with another total, are answered
+/// `CostDiffers`, and change nothing. So a total that is the sum of the costs is their sum after every call.
 ///
 /// ```
 /// let calls = vec![in alloc; Call::Insert(1, 2), Call::Write(1, 3), Call::Peek(1)]?;
@@ -26,7 +25,7 @@ use std::hash::Hash;
 /// assert!(rt; answers.get(2) == Some(&Answer::Value(Some(2))));
 /// ```
 ///
-/// Cost: that of `run_calls`, and one look-up more for each `Write`.
+/// Cost: as `run_calls`, and one look-up more for each `Write`.
 ///
 /// # Errors
 ///
@@ -41,8 +40,8 @@ where
     V: Copy + Drop,
     L: Summing<K, V, K> + Drop,
     S: KeyHasher<K>,
-    // The answers and the map after them are a run from the map before, and each state in between is a map, with an
-    // account that is the sum of the costs if it was so before.
+    // The answers and the map after them are a run from the map before, and each state in between is a map, whose total
+    // is the sum of the costs if it was so before.
     ensures run { IfOk result (λ answers. IsRun (SummingStep L.rules L.offers K.eq S.hash_of
         L.cost_of L.account) (IsSummedFrom K.eq L.cost_of L.account map.old)
         map.old calls.items (all_said answers.items) map.new) }
@@ -57,7 +56,7 @@ where
     Ok(answers)
 }
 
-/// Carries out a call, unless the sum would change by it.
+/// Carries out a call, unless the total would be wrong after it.
 fn make_summing_call<K, V, L, S>(
     alloc: Global,
     map: &mut LruMap<K, V, L, S>,
@@ -80,7 +79,7 @@ where
     make_call(alloc, map, call)
 }
 
-/// Whether the sum of the costs stays that of the account by the call.
+/// Returns whether the total is right after the call.
 fn keeps_cost<K, V, L, S>(map: &LruMap<K, V, L, S>, call: &Call<K, V, L>) -> bool
 where
     K: Eq + Hash,

@@ -1,8 +1,8 @@
-//! The place of a byte.
+//! The position of a byte.
 ghost use Rattle.std.specs.Prelude.{◌≡◌, ◌<◌, ◌≤◌, ◌+◌, ◌∷◌, [], ◌++◌, length, take, drop};
 ghost use Rattle.lru_replay.specs.Lines.{Lacks};
 
-/// Where the byte stands first, or else the length.
+/// Returns the first position of the byte, or else the length.
 pub fn index_of(bytes: &[u8], byte: u8) -> usize
     ensures within { result ≤ length bytes.now }
     ensures before { Lacks byte (take result bytes.now) }

@@ -10,46 +10,46 @@ use crate::lines::bytes::index_of;
 pub enum Command {
     /// `insert K V`: makes the pair of this key and value the newest.
     Insert(u64, u64),
-    /// `put K V`: the same as `insert`, and gives the pairs that leave.
+    /// `put K V`: the same as `insert`, and returns the pairs that leave.
     Put(u64, u64),
-    /// `get K`: gives the value of the key, and makes its pair the newest.
+    /// `get K`: returns the value of the key, and makes its pair the newest.
     Get(u64),
-    /// `peek K`: gives the value of the key.
+    /// `peek K`: returns the value of the key.
     Peek(u64),
-    /// `remove K`: takes the pair of the key out, and gives its value.
+    /// `remove K`: removes the key, and returns its value.
     Remove(u64),
-    /// `pop-oldest`: takes the oldest pair out, and gives it.
+    /// `pop-oldest`: removes and returns the oldest pair.
     PopOldest,
-    /// `pop-newest`: takes the newest pair out, and gives it.
+    /// `pop-newest`: removes and returns the newest pair.
     PopNewest,
-    /// `reserve N`: makes room for so many pairs more.
+    /// `reserve N`: makes room for N more pairs.
     Reserve(u64),
-    /// `shrink`: moves the pairs into as few buckets as hold them.
+    /// `shrink`: shrinks the table to as few buckets as hold the pairs.
     Shrink,
-    /// `drain N`: gives the newest pairs, at most so many, and drops all.
+    /// `drain N`: returns at most N of the newest pairs, and drops the others.
     Drain(u64),
     /// `clear`: drops all pairs.
     Clear,
-    /// `list`: gives all pairs.
+    /// `list`: returns all pairs.
     List,
-    /// `stats`: gives the figures of the map.
+    /// `stats`: returns the figures of the map.
     Stats,
 }
 
 /// What limits the map.
 #[derive(Clone, Copy, Debug, PartialEq, Eq)]
 pub enum Limit {
-    /// `length N`: at most so many pairs.
+    /// `length N`: at most N pairs.
     Length(u32),
-    /// `memory N E`: a table of at most N bytes, where an entry has E.
+    /// `memory N E`: a table of at most N bytes, in which an entry has E bytes.
     Memory(usize, usize),
-    /// `cost N`: at most this sum of the values.
+    /// `cost N`: values whose sum is at most N.
     Cost(u64),
-    /// `compact`: nothing does.
+    /// `compact`: no limit.
     Compact,
 }
 
-/// What stands after the word, if the line begins with it.
+/// Returns what follows the word, if the line begins with it.
 fn after<'a>(line: &'a [u8], word: &[u8]) -> Option<&'a [u8]>
     ensures some { IfSome result (λ rest. line.now ≡ word.now ++ rest.now) }
     ensures none { IfNone result ((rest : List ℕ) → line.now ≢ word.now ++ rest) }
@@ -57,7 +57,7 @@ fn after<'a>(line: &'a [u8], word: &[u8]) -> Option<&'a [u8]>
     line.strip_prefix(word)
 }
 
-/// Whether the word can begin a number: not by a sign, nor by a zero in front of another digit.
+/// Returns whether the word can begin a number: not with a sign, nor with a zero in front of another digit.
 fn starts_as_number(word: &[u8]) -> bool
     ensures yes { result ≡ true → StartsAsNumber word.now }
     ensures no { result ≡ false → StartsAsNumber word.now → ⊥ }
@@ -68,7 +68,7 @@ fn starts_as_number(word: &[u8]) -> bool
     word[0] != b'0' || word.len() == 1
 }
 
-/// A number in decimal digits, with no zero in front of another digit.
+/// Reads a number in decimal digits, with no zero in front of another digit.
 fn number(word: &[u8]) -> Option<u64>
     ensures some { IfSome result (λ n. SpellsNumber word.now n) }
     ensures none { IfNone result ((n : ℕ) → SpellsNumber word.now n → ⊥) }
@@ -80,7 +80,7 @@ fn number(word: &[u8]) -> Option<u64>
     text.parse().ok()
 }
 
-/// Two numbers with one space between them.
+/// Reads two numbers with one space between them.
 fn number_pair(words: &[u8]) -> Option<(u64, u64)>
     ensures some { IfSome result (λ pair. SpellsPair words.now pair.0 pair.1) }
     ensures none { IfNone result ((k v : ℕ) → SpellsPair words.now k v → ⊥) }
@@ -94,7 +94,7 @@ fn number_pair(words: &[u8]) -> Option<(u64, u64)>
     Some((first, second))
 }
 
-/// The command that the line spells.
+/// Returns the command that the line spells.
 pub fn command_of(line: &[u8]) -> Option<Command>
     ensures some { IfSome result (λ command. SpellsCommand line.now command) }
     ensures none { IfNone result ((command : Command) → SpellsCommand line.now command → ⊥) }
@@ -130,7 +130,7 @@ pub fn command_of(line: &[u8]) -> Option<Command>
     plain_command_of(line)
 }
 
-/// The command that the line spells by one word alone.
+/// Returns the command that the line spells by one word alone.
 fn plain_command_of(line: &[u8]) -> Option<Command>
     ensures some { IfSome result (λ command. SpellsCommand line.now command) }
     ensures none { IfNone result ((command : Command) → IsPlain command → SpellsCommand line.now command → ⊥) }
@@ -156,7 +156,7 @@ fn plain_command_of(line: &[u8]) -> Option<Command>
     None
 }
 
-/// The limit that the line names.
+/// Returns the limit that the line names.
 pub fn limit_of(line: &[u8]) -> Option<Limit>
     ensures some { IfSome result (λ limit. SpellsLimit line.now limit) }
     ensures none { IfNone result ((limit : Limit) → SpellsLimit line.now limit → ⊥) }

@@ -8,8 +8,8 @@ use crate::lines::output::{write_bytes, write_next};
 use schnellru::{Insertion, LruMap};
 use std::io::Write;
 
-/// Takes out the newest pairs, at most so many, and writes them as they go. Then it drops the others. Where a
-/// write fails, nothing more is written, and the map ends as it would have.
+/// Takes out at most `most` of the newest pairs, and writes each. Then it drops the others. If a write fails, nothing
+/// more is written, and the map ends as it would have.
 pub fn write_drain<L: Insertion<u64, u64, u64>, W: Write>(
     map: &mut LruMap<u64, u64, L>,
     most: u64,
@@ -44,7 +44,7 @@ fn write_taken<W: Write>(
     write_next(writer, any, taken)
 }
 
-/// Writes that there were none, if so.
+/// Writes `-` if there were no pairs.
 fn end_of_pairs<W: Write>(
     writer: &mut W,
     before: Result<(), ReplayError>,

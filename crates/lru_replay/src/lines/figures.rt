@@ -1,16 +1,16 @@
-//! What `stats` tells of a map.
+//! What `stats` reports of a map.
 ghost use Rattle.std.specs.Prelude.{◌≡◌, ℕ, Option, Some, None};
 ghost use Rattle.lru_replay.specs.Figures.{IsFigures};
 
 use schnellru::{ByCost, ByLength, ByMemoryUsage, KeyHasher, Limiter, LruMap, UnlimitedCompact};
 use std::hash::Hash;
 
-/// A limiter of a replay, which may keep a cost.
+/// A limiter of a replay, which may have a running total of costs.
 pub trait TellsCost {
-    /// The cost that the limiter keeps, if it keeps one.
+    /// Returns the running total of costs, if there is one.
     ghost told: { Self → Option ℕ };
 
-    /// The cost that the limiter keeps, if it keeps one.
+    /// Returns the running total of costs, if there is one.
     fn told_cost(&self) -> Option<u64>
         ensures { result ≡ told self.now };
 }
@@ -52,19 +52,19 @@ impl TellsCost for ByCost {
 pub struct Figures {
     /// The number of pairs.
     pub len: usize,
-    /// How many pairs the table is sure to take without growing.
+    /// How many pairs the table holds for sure without growing.
     pub capacity: usize,
     /// The bytes of the table.
     pub memory: usize,
-    /// How many entries inserts have placed anew.
+    /// How many entries inserts have moved.
     pub moved: u64,
-    /// How many new entries inserts have placed.
+    /// How many new entries inserts have stored.
     pub placed: u64,
-    /// How many entries shrinks have placed anew.
+    /// How many entries shrinks have rehashed.
     pub shrunk: u64,
 }
 
-/// The figures of the map.
+/// Returns the figures of the map.
 pub fn figures_of<K: Eq + Hash, V, L: Limiter<K, V>, S: KeyHasher<K>>(
     map: &LruMap<K, V, L, S>,
 ) -> Figures

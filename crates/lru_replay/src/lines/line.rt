@@ -7,11 +7,10 @@ use crate::lines::outcome::ReplayError;
 use std::io::{BufRead, ErrorKind};
 use std::marker::Model;
 
-/// How many bytes the longest line has that says something: `insert` with two numbers of 20 digits.
+/// The bytes of the longest line with a meaning: `insert` with two numbers of 20 digits.
 const LONGEST: usize = 48;
 
-/// How many bytes of a line are held: one more than the longest that says something has, so that a longer
-/// line is told apart from it.
+/// How many bytes of a line are held: one more than the longest line with a meaning, to tell longer lines from it.
 const HELD: usize = LONGEST + 1;
 
 /// The first `HELD` bytes of a line.
@@ -74,7 +73,7 @@ impl Line {
         self.len += 1;
     }
 
-    /// Adds bytes at the end, as far as the array has room.
+    /// Adds bytes at the end, as many as fit.
     fn extend(&mut self, piece: &[u8])
         requires { length self.old ≤ HELD }
         ensures { self.new ≡ take HELD (self.old ++ piece.now) }
@@ -99,7 +98,7 @@ pub enum Piece {
     End,
 }
 
-/// Takes what the reader's buffer has of the line. A look that was interrupted gives no byte.
+/// Takes what the reader's buffer contains of the line. An interrupted look gives no byte.
 fn take_piece<R: BufRead>(reader: &mut R, line: &mut Line) -> Result<Piece, ReplayError>
     requires { length line.old ≤ HELD }
     ensures ok { IfOk result (λ piece. (bytes : List ℕ)
@@ -143,8 +142,8 @@ pub enum Ending {
     Nothing,
 }
 
-/// Reads the next line, and holds its first bytes: a line of any length is read through, in constant
-/// memory. A look at the reader's buffer that was interrupted is tried again.
+/// Reads the next line, and holds its first bytes: a line of any length is read to its end, in constant memory. An
+/// interrupted look at the reader's buffer is repeated.
 pub fn read_line<R: BufRead>(reader: &mut R, line: &mut Line) -> Result<Ending, ReplayError>
     ensures ok { IfOk result (λ ending. (bytes : List ℕ)
         × TakesLine (R.remaining reader.old) (R.remaining reader.new) ending bytes

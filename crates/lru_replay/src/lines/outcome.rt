@@ -4,7 +4,7 @@ ghost use Rattle.lru_replay.specs.Replay.{status_of};
 
 use thiserror::Error;
 
-/// How a replay ends in which no read and no write failed.
+/// How a replay ends if no read and no write fails.
 #[derive(Clone, Copy, Debug, PartialEq, Eq)]
 pub enum ReplayEnd {
     /// All lines were carried out.
@@ -24,8 +24,8 @@ pub enum ReplayError {
     Write = 2,
 }
 
-/// The exit status: 0 where the lines were carried out, 1 where none names a limiter, and 2 where a read
-/// or a write failed.
+/// Returns the exit status: 0 if the lines were carried out, 1 if the first line names no limiter, and 2 if a read or a
+/// write failed.
 pub fn status(end: &Result<ReplayEnd, ReplayError>) -> u8
     ensures { result ≡ status_of end.now }
 {

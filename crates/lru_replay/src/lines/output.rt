@@ -10,7 +10,7 @@ use schnellru::{LinkType, ReserveError, Walk};
 use std::alloc::AllocError;
 use std::io::{ErrorKind, Write};
 
-/// Writes all the bytes. A write that was interrupted is tried again.
+/// Writes all the bytes. An interrupted write is repeated.
 pub fn write_bytes<W: Write>(writer: &mut W, bytes: &[u8]) -> Result<(), ReplayError>
     ensures { Writes (W.contents writer.old) (W.contents writer.new) result bytes.now }
 {
@@ -43,7 +43,7 @@ pub fn write_flag<W: Write>(writer: &mut W, flag: bool) -> Result<(), ReplayErro
     }
 }
 
-/// Writes what an insert answered, and after it the pairs that it handed over.
+/// Writes what an insert returned, and after it the pairs that left.
 pub fn write_given<W: Write>(
     writer: &mut W,
     done: Result<bool, AllocError>,
@@ -55,7 +55,7 @@ pub fn write_given<W: Write>(
     write_handed(writer, out)
 }
 
-/// Writes whether the key is there, or that no memory was found.
+/// Writes whether the key is there, or `no memory`.
 pub fn write_insert<W: Write>(
     writer: &mut W,
     done: Result<bool, AllocError>,
@@ -99,7 +99,7 @@ pub fn write_left<W: Write>(writer: &mut W, left: Option<(u64, u64)>) -> Result<
     }
 }
 
-/// Writes whether room is reserved, or why not.
+/// Writes that there is room, or why not.
 pub fn write_reservation<W: Write>(
     writer: &mut W,
     reserved: Result<(), ReserveError>,
@@ -114,7 +114,7 @@ pub fn write_reservation<W: Write>(
     }
 }
 
-/// Writes whether the table has fewer buckets now, as `ok` or `kept`, or that no memory was found.
+/// Writes whether the table has fewer buckets now, as `ok` or `kept`, or `no memory`.
 pub fn write_shrink<W: Write>(
     writer: &mut W,
     shrunk: Result<bool, AllocError>,
@@ -167,7 +167,7 @@ pub fn write_figures<W: Write>(writer: &mut W, figures: Figures) -> Result<(), R
     write_placed(writer, figures.placed, figures.shrunk)
 }
 
-/// Writes how many entries were placed, and after it how many shrinks placed anew, where there are any.
+/// Writes how many entries inserts stored, and after it how many shrinks rehashed, if any.
 fn write_placed<W: Write>(writer: &mut W, placed: u64, shrunk: u64) -> Result<(), ReplayError>
     ensures { Writes (W.contents writer.old) (W.contents writer.new) result (placed_text placed shrunk) }
 {
@@ -179,7 +179,7 @@ fn write_placed<W: Write>(writer: &mut W, placed: u64, shrunk: u64) -> Result<()
     }
 }
 
-/// Writes the cost after the figures, where one is kept.
+/// Writes the cost after the figures, if there is one.
 pub fn write_cost<W: Write>(writer: &mut W, cost: Option<u64>) -> Result<(), ReplayError>
     ensures { Writes (W.contents writer.old) (W.contents writer.new) result (cost_text cost) }
 {
@@ -197,7 +197,7 @@ fn write_named<W: Write>(writer: &mut W, name: &[u8], number: u64) -> Result<(),
     write_number(writer, number)
 }
 
-/// Writes the pair, with a space before it where others were written, or nothing for none.
+/// Writes the pair, with a space before it if others were written, or nothing for none.
 pub fn write_next<W: Write>(
     writer: &mut W,
     any: bool,

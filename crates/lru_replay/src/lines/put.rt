@@ -1,4 +1,4 @@
-//! The line `put`: an insert whose pairs that leave are stored, and written after its answer.
+//! The line `put`: an insert, with the pairs that leave written after its answer.
 ghost use Rattle.std.specs.Prelude.{ℕ, Option};
 ghost use Rattle.lru_replay.specs.declared.lines.command.Command.TheVariants as commands;
 ghost use Rattle.lru_replay.specs.LineRuns.{AnswersCommand};
@@ -12,8 +12,7 @@ use schnellru::{Insertion, LruMap};
 use std::alloc::Global;
 use std::io::Write;
 
-/// Inserts, and writes the answer and then the pairs that were handed over. Nothing changes where no memory is found to
-/// store them.
+/// Inserts, and writes the answer and then the pairs that left. If there is no memory to store these, nothing changes.
 pub fn write_put<L: Insertion<u64, u64, u64>, W: Write>(
     alloc: Global,
     map: &mut LruMap<u64, u64, L>,

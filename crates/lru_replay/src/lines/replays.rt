@@ -29,7 +29,7 @@ use schnellru::{
 use std::alloc::Global;
 use std::io::{BufRead, Write};
 
-/// The bytes of an entry, by which the memory of a map is counted.
+/// The bytes of an entry, unless the first line says otherwise.
 const ENTRY_BYTES: usize = 32;
 
 /// Carries out what a line says, and writes the answer.
@@ -83,7 +83,7 @@ fn answer_line<L: Insertion<u64, u64, u64> + TellsCost, W: Write>(
     write_bytes(writer, b"\n")
 }
 
-/// Does nothing: the table of every map is sound, as `len` says.
+/// Does nothing at run time: it tells the proof that the table is sound, as the table of every map is.
 fn learn<L: Insertion<u64, u64, u64>>(map: &LruMap<u64, u64, L>)
     ensures { IsSized map.now }
 {
@@ -111,7 +111,7 @@ fn answer_lines<L: Insertion<u64, u64, u64> + TellsCost, R: BufRead, W: Write>(
     Err(ReplayError::Read)
 }
 
-/// Answers the lines on an empty map with this limiter, and so many bytes an entry.
+/// Answers the lines on an empty map with this limiter and `entry_bytes` bytes an entry.
 fn answer_with<L: Insertion<u64, u64, u64> + TellsCost + Drop, R: BufRead, W: Write>(
     alloc: Global,
     limiter: L,
@@ -147,7 +147,7 @@ fn answer_under<R: BufRead, W: Write>(
     }
 }
 
-/// Reads the first line, and answers the others where it names a limit.
+/// Reads the first line, and answers the others if it names a limit.
 fn answer_all<R: BufRead, W: Write>(
     alloc: Global,
     reader: &mut R,
@@ -188,12 +188,12 @@ fn answer_and_flush<R: BufRead, W: Write>(
     }
 }
 
-/// Carries out the lines of the reader on an LRU map, and writes the answer lines. The first line names the
-/// limiter and has no answer; docs/REPLAY.md has the lines and their answers. What is written is flushed
-/// once, at the end, unless a write failed.
+/// Carries out the lines of the reader on an LRU map, and writes the answer lines. The first line names the limiter and
+/// has no answer; docs/REPLAY.md lists the lines and their answers. The output is flushed once, at the end, unless a
+/// write failed.
 ///
-/// In the clauses, a reader's bytes and a writer's bytes are those that they tell, however they are cut
-/// into reads and writes; of one that tells nothing they say nothing.
+/// In the contract, a reader's bytes and a writer's bytes are the whole streams, however they are cut into reads and
+/// writes. Of a reader or a writer whose type says nothing of its bytes, the contract says nothing.
 pub fn replay<R: BufRead, W: Write>(
     alloc: Global,
     reader: &mut R,

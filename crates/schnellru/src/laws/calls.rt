@@ -1,6 +1,5 @@
-//! What is proved of each call, whichever it is. A step is what one call makes of a map (`specs/Runs`): `Step` is that of
-//! a call through which nothing is written, and `AnyStep` also that of a value or a limiter that is written through a
-//! reference.
+//! What is proved of each call, whichever it is. A step is what one call makes of a map (`specs/Runs`): `Step` for the
+//! calls that write nothing through a reference, and `AnyStep` also for writes to a value or to the limiter.
 
 ghost use Rattle.std.specs.Prelude.{◌≡◌, ℕ, ◌+◌, ◌≤◌, Bool, length};
 ghost use Rattle.std.specs.List.{IsDistinct};
@@ -15,8 +14,9 @@ use lru_limits::{
 };
 use std::hash::Hash;
 
-/// Each call keeps what holds of every map, where the table is sound, as every table is: no two keys are equal, each pair
-/// has a bucket, and what inserts moved is at most twice what they placed, and what shrinks placed anew.
+/// Each call keeps what holds of every map: no two keys are equal, each pair has a bucket, and inserts moved at most
+/// twice as many entries as they stored, plus those that shrinks rehashed. The premise is a sound table, which every
+/// map has.
 pub fn calls_keep_maps<K: Eq + Hash, V, I: LookupKey<K>, L: Insertion<K, V, I>, S: KeyHasher<K>>()
     ensures keys { (old new : State K V L S) →
         AnyStep L.rules L.offers I.names S.hash_of old new →
@@ -26,15 +26,16 @@ pub fn calls_keep_maps<K: Eq + Hash, V, I: LookupKey<K>, L: Insertion<K, V, I>, 
         IsMap K.eq old → IsSized new → IsMap K.eq new }
 {}
 
-/// A summing limiter that held the sum of the costs holds it after each call through which nothing is written.
+/// A limiter's running total that was the sum of the costs is their sum after each call that writes nothing through a
+/// reference.
 pub fn calls_keep_sums<K: Eq + Hash, V, I: LookupKey<K>, L: Summing<K, V, I>, S: KeyHasher<K>>()
     ensures { (old new : State K V L S) →
         Step L.rules L.offers I.names S.hash_of old new →
         IsSummed L.cost_of L.account old → IsSummed L.cost_of L.account new }
 {}
 
-/// Each call pays for what it moves: moved and potential together rise by at most two for each element that it places, and
-/// one for each entry that it places anew, which only a shrink does.
+/// Each call pays for what it moves: the count of moved entries and the potential together rise by at most two for each
+/// entry that it stores, and by one for each entry that a shrink rehashes.
 pub fn calls_pay_for_moves<
     K: Eq + Hash,
     V,
@@ -47,7 +48,7 @@ pub fn calls_pay_for_moves<
         IsSized old → (anew : ℕ) × PlacesAnew anew old new × PaysForMoves anew old new }
 {}
 
-/// With `ByLength` each call leaves the limiter, and at most `max_length` pairs, if there were no more before.
+/// With `ByLength` each call leaves the limiter as it is, and at most `max_length` pairs, if there were no more before.
 pub fn calls_keep_the_length<K: Eq + Hash + Drop, V: Drop, S: KeyHasher<K>>()
     ensures limiter { (old new : State K V ByLength S) →
         Step ⟦<ByLength as Limiter<K, V>>⟧.rules ⟦<ByLength as Insertion<K, V, K>>⟧.offers K.eq S.hash_of old new →
@@ -57,8 +58,8 @@ pub fn calls_keep_the_length<K: Eq + Hash + Drop, V: Drop, S: KeyHasher<K>>()
         length old.pairs ≤ old.limiter → length new.pairs ≤ old.limiter }
 {}
 
-/// With `ByMemoryUsage` each call leaves the limiter, and a table of at most `max_memory_usage` bytes, if it had no more
-/// before.
+/// With `ByMemoryUsage` each call leaves the limiter as it is, and a table of at most `max_memory_usage` bytes, if it
+/// had no more before.
 pub fn calls_keep_the_memory_usage<K: Eq + Hash + Drop, V: Drop, S: KeyHasher<K>>()
     ensures limiter { (old new : State K V ByMemoryUsage S) →
         Step ⟦<ByMemoryUsage as Limiter<K, V>>⟧.rules ⟦<ByMemoryUsage as Insertion<K, V, K>>⟧.offers K.eq
@@ -68,8 +69,8 @@ pub fn calls_keep_the_memory_usage<K: Eq + Hash + Drop, V: Drop, S: KeyHasher<K>
         S.hash_of old new → UsesAtMost old.limiter old → UsesAtMost old.limiter new }
 {}
 
-/// With `ByCost` each call leaves the limit, and a cost that is at most the limit, if it was so before and was the sum of
-/// the costs of the pairs.
+/// With `ByCost` each call leaves the limit as it is, and a cost of at most the limit, if that held before and the cost
+/// was the sum of the costs of the pairs.
 pub fn calls_keep_the_cost<K: Eq + Hash + Drop, V: Costed + Drop, S: KeyHasher<K>>()
     ensures limit { (old new : State K V ByCost S) →
         Step ⟦<ByCost as Limiter<K, V>>⟧.rules ⟦<ByCost as Insertion<K, V, K>>⟧.offers K.eq S.hash_of old new →
@@ -93,11 +94,11 @@ pub fn calls_add_one_pair<
         length new.pairs ≤ length old.pairs + 1 }
 {}
 
-/// A call gives up pairs from the old end alone: of the pairs whose keys it does not name, those that it leaves are the
-/// newest, in their order. Only `pop_newest` takes from the other end, and is left out.
+/// A call evicts from the old end alone: of the pairs whose keys it does not name, those that it leaves are the newest,
+/// in their order. Only `pop_newest` takes from the other end, and is left out.
 ///
-/// The pairs that it names are those of the key that an insert or a look-up is called with, of a key that is removed,
-/// and of one whose value is written. An insert may give up such a pair too: the one whose replacement is refused.
+/// A call names the key that it inserts, looks up or removes, or whose value it writes. An insert may remove the pair
+/// of that key too: if its replacement is rejected.
 pub fn calls_give_up_the_oldest<
     K: Eq + Hash,
     V,

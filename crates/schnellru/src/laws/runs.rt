@@ -1,4 +1,4 @@
-//! What is proved of runs: calls, one after another. Each law is that of one call (`calls`), by induction.
+//! What is proved of runs: calls, one after another. Each law is the law of one call (`calls`), by induction.
 
 ghost use Rattle.std.specs.Prelude.{◌≡◌, ℕ, ◌≤◌, Bool, length};
 ghost use Rattle.schnellru.specs.Lists.{IsFront};
@@ -11,23 +11,25 @@ use lru_limits::{
 };
 use std::hash::Hash;
 
-/// What holds of every map holds after any calls, whatever is written through what they lend: no two keys are equal,
-/// each pair has a bucket, and what inserts moved is at most twice what they placed, and what shrinks placed anew.
+/// What holds of every map holds after any calls, whatever is written through the references that they lend: no two
+/// keys are equal, each pair has a bucket, and inserts moved at most twice as many entries as they stored, plus those
+/// that shrinks rehashed.
 pub fn runs_keep_maps<K: Eq + Hash, V, I: LookupKey<K>, L: Insertion<K, V, I>, S: KeyHasher<K>>()
     ensures map { (old new : State K V L S) →
         Run (AnyStep L.rules L.offers I.names S.hash_of) new old →
         IsMap K.eq old → IsMap K.eq new }
 {}
 
-/// A summing limiter that held the sum of the costs holds it after any calls through which nothing is written.
+/// A limiter's running total that was the sum of the costs is their sum after any calls that write nothing through a
+/// reference.
 pub fn runs_keep_sums<K: Eq + Hash, V, I: LookupKey<K>, L: Summing<K, V, I>, S: KeyHasher<K>>()
     ensures sum { (old new : State K V L S) →
         Run (Step L.rules L.offers I.names S.hash_of) new old →
         IsSummed L.cost_of L.account old → IsSummed L.cost_of L.account new }
 {}
 
-/// Over any calls moved and potential together rise by at most two for each element that is placed, while the count of
-/// these goes on, and by one for each that shrinks place anew.
+/// Over any calls the count of moved entries and the potential together rise by at most two for each entry that inserts
+/// store, while the count of stored entries goes on, and by one for each entry that shrinks rehash.
 pub fn runs_pay_for_moves<
     K: Eq + Hash,
     V,
@@ -40,8 +42,8 @@ pub fn runs_pay_for_moves<
         IsSized old → (anew : ℕ) × PaysForMoves anew old new }
 {}
 
-/// Any calls give up pairs from the old end alone: of the pairs whose keys none of them names, those that are left are
-/// the newest, in their order, unless one of the calls is `pop_newest`.
+/// Any calls evict from the old end alone: of the pairs whose keys none of them names, those that are left are the
+/// newest, in their order, unless one of the calls is `pop_newest`.
 pub fn runs_give_up_the_oldest<
     K: Eq + Hash,
     V,
@@ -55,7 +57,7 @@ pub fn runs_give_up_the_oldest<
 {}
 
 /// With `ByLength` there are at most `max_length` pairs after any calls, if there were no more before. The limiter
-/// stays.
+/// stays as it is.
 pub fn runs_keep_the_length<K: Eq + Hash + Drop, V: Drop, S: KeyHasher<K>>()
     ensures length { (old new : State K V ByLength S) →
         Run (Step ⟦<ByLength as Limiter<K, V>>⟧.rules ⟦<ByLength as Insertion<K, V, K>>⟧.offers K.eq
@@ -66,8 +68,8 @@ pub fn runs_keep_the_length<K: Eq + Hash + Drop, V: Drop, S: KeyHasher<K>>()
         S.hash_of) new old → new.limiter ≡ old.limiter }
 {}
 
-/// With `ByMemoryUsage` the table uses at most `max_memory_usage` bytes after any calls, if it used no more before.
-/// The limiter stays.
+/// With `ByMemoryUsage` the table uses at most `max_memory_usage` bytes after any calls, if it used no more before. The
+/// limiter stays as it is.
 pub fn runs_keep_the_memory_usage<K: Eq + Hash + Drop, V: Drop, S: KeyHasher<K>>()
     ensures usage { (old new : State K V ByMemoryUsage S) →
         Run (Step ⟦<ByMemoryUsage as Limiter<K, V>>⟧.rules ⟦<ByMemoryUsage as Insertion<K, V, K>>⟧.offers K.eq
@@ -78,8 +80,8 @@ pub fn runs_keep_the_memory_usage<K: Eq + Hash + Drop, V: Drop, S: KeyHasher<K>>
         S.hash_of) new old → new.limiter ≡ old.limiter }
 {}
 
-/// With `ByCost` the cost is at most the limit after any calls, if it was so before and was the sum of the costs of the
-/// pairs. The limit stays.
+/// With `ByCost` the cost is at most the limit after any calls, if that held before and the cost was the sum of the
+/// costs of the pairs. The limit stays as it is.
 pub fn runs_keep_the_cost<K: Eq + Hash + Drop, V: Costed + Drop, S: KeyHasher<K>>()
     ensures cost { (old new : State K V ByCost S) →
         Run (Step ⟦<ByCost as Limiter<K, V>>⟧.rules ⟦<ByCost as Insertion<K, V, K>>⟧.offers K.eq

@@ -16,8 +16,8 @@ pub fn shrinks_keep_the_list<K: Eq + Hash, V, L: Limiter<K, V>, S: KeyHasher<K>>
         × (new.moved ≡ old.moved) × (new.placed ≡ old.placed) }
 {}
 
-/// A shrink places each pair anew, counts it so, and lets the potential rise by at most one for each. Where it does not
-/// shrink, nothing changes.
+/// A shrink rehashes each pair, counts it, and lets the potential rise by at most one for each. If it does not shrink
+/// the table, nothing changes.
 pub fn shrinks_pay_for_moves<K: Eq + Hash, V, L: Limiter<K, V>, S: KeyHasher<K>>()
     ensures shrunk { (old new : State K V L S) →
         IsSized old → Shrink old (Ok true) new → PaysForMoves (length old.pairs) old new }
@@ -25,7 +25,7 @@ pub fn shrinks_pay_for_moves<K: Eq + Hash, V, L: Limiter<K, V>, S: KeyHasher<K>>
         (result ≡ Ok true → ⊥) → Shrink old result new → new ≡ old }
 {}
 
-/// No shrink makes the table larger, or lets it use more. A second one finds nothing to do.
+/// No shrink makes the table larger, or lets it use more memory. A second shrink finds nothing to do.
 pub fn shrinks_leave_a_tight_table<K: Eq + Hash, V, L: Limiter<K, V>, S: KeyHasher<K>>()
     ensures fewer { (old : State K V L S) (result : Result Bool AllocError) (new : State K V L S) →
         Shrink old result new → buckets new ≤ buckets old }

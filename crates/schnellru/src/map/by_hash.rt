@@ -1,4 +1,4 @@
-//! Searches by a hash, with a closure that knows the pair.
+//! Searches by a hash, with a closure that recognises the entry.
 ghost use Rattle.std.specs.Prelude.{◌≡◌, IfSome, IfNone};
 ghost use Rattle.std.specs.Borrow.{sem};
 ghost use Rattle.std.specs.Option.{option_copied_mut};
@@ -13,14 +13,14 @@ use std::hash::Hash;
 impl<K: Eq + Hash, V, L: Limiter<K, V>, S: KeyHasher<K>> LruMap<K, V, L, S> {
     ghost use Rattle.schnellru.specs.Lending.Values.{lends_given};
 
-    /// The value of a pair of this hash that `is_eq` accepts, to be changed. Its pair becomes the newest; what is
-    /// written is not told to the limiter.
+    /// Lends the value of an entry of this hash that `is_eq` accepts, for writing, and makes the entry the newest. The
+    /// limiter is not notified of what is written.
     ///
-    /// `is_eq` is asked about different pairs, each once, whose hashes agree with `hash` in their top 7 bits, until it
-    /// accepts one. `None` says that it refused each pair of the hash, and nothing has changed. A hash is that of the
-    /// map's own hasher, over what the key writes to it.
+    /// `is_eq` is called with different entries, each once, whose hashes agree with `hash` in their top 7 bits, until
+    /// it accepts one. `None` says that it rejected each entry of the hash, and that nothing has changed. A key's hash
+    /// is what the map's own hasher makes of the bytes that the key writes.
     ///
-    /// Cost: `O(1)` expected, with one call of `is_eq` for each pair that is asked about.
+    /// Cost: `O(1)` expected, with one call of `is_eq` for each entry that it is asked about.
     ///
     /// ```
     /// let hash = RandomState::default().hash_one(&1u64);
@@ -43,8 +43,8 @@ impl<K: Eq + Hash, V, L: Limiter<K, V>, S: KeyHasher<K>> LruMap<K, V, L, S> {
         Some(&mut self.entries.pair_mut(b).value)
     }
 
-    /// The value of a pair of this hash that `is_eq` accepts. The order stays.
-    /// `is_eq` is asked as `get_by_hash` asks it.
+    /// Returns the value of an entry of this hash that `is_eq` accepts. The order stays. `is_eq` is called as
+    /// `get_by_hash` calls it.
     ///
     /// ```
     /// assert_eq!(rt; map.peek_by_hash(hash, |_, value| *value == 10).copied(), Some(10));
@@ -62,8 +62,8 @@ impl<K: Eq + Hash, V, L: Limiter<K, V>, S: KeyHasher<K>> LruMap<K, V, L, S> {
         Some(&self.entries.pair(b).value)
     }
 
-    /// The value of a pair of this hash that `is_eq` accepts, to be changed. The order stays; what is written is not
-    /// told to the limiter. `is_eq` is asked as `get_by_hash` asks it.
+    /// Lends the value of an entry of this hash that `is_eq` accepts, for writing. The order stays. The limiter is not
+    /// notified of what is written. `is_eq` is called as `get_by_hash` calls it.
     ///
     /// ```
     /// if let Some(value) = map.peek_by_hash_mut(hash, |key, _| *key == 1) {

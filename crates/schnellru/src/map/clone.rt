@@ -14,8 +14,8 @@ impl<
     L: Limiter<K, V> + Clone,
     S: KeyHasher<K> + Clone + Drop,
 > LruMap<K, V, L, S> {
-    /// The map again: its pairs in their order, its limiter, its hasher, its buckets and room, and its counts, each by
-    /// its clone. The map itself stays.
+    /// Copies the map: the same entries in the same order, the same limiter, hasher, buckets and counts, each by its
+    /// clone.
     ///
     /// ```
     /// let mut copy = map.clone()?;
@@ -23,12 +23,12 @@ impl<
     /// assert_eq!(rt; (copy.len(), map.len()), (2, 3));
     /// ```
     ///
-    /// A clone of a key has to equal the key, and a clone of the hasher has to build hashers of the same hashes. Cost:
-    /// `O(buckets)`, with two requests for memory beside those of the clones; a map without buckets makes none.
+    /// A clone of a key has to equal the key, and a clone of the hasher has to hash alike. Cost: `O(buckets)`, with two
+    /// requests for memory besides those of the clones; a map without buckets makes none.
     ///
     /// # Errors
     ///
-    /// `Err` says that a request for memory was refused, or a clone was. What was copied is dropped.
+    /// `Err` says that a request for memory was refused, or a clone failed. What was copied is dropped.
     ///
     /// After schnellru's `LruMap::clone`.
     pub fn clone(&self) -> Result<Self, AllocError>

@@ -1,4 +1,4 @@
-//! What a map tells of itself, and its limiter.
+//! The length, the capacity, the memory and the limiter of a map.
 ghost use Rattle.std.specs.Prelude.{◌≡◌, ◌+◌, length, Some};
 ghost use Rattle.std.specs.Borrow.{sem};
 ghost use Rattle.schnellru.specs.Lists.{is_empty};
@@ -15,7 +15,7 @@ use std::hash::Hash;
 impl<K: Eq + Hash, V, L: Limiter<K, V>, S: KeyHasher<K>> LruMap<K, V, L, S> {
     ghost use Rattle.schnellru.specs.Lending.Values.{lends_limiter};
 
-    /// The number of pairs. Cost: `O(1)`.
+    /// Returns the number of entries. Cost: `O(1)`.
     #[inline]
     pub fn len(&self) -> usize
         ensures len { result ≡ length self.now.pairs }
@@ -24,7 +24,7 @@ impl<K: Eq + Hash, V, L: Limiter<K, V>, S: KeyHasher<K>> LruMap<K, V, L, S> {
         self.entries.len()
     }
 
-    /// Whether there are no pairs. Cost: `O(1)`.
+    /// Returns whether the map is empty. Cost: `O(1)`.
     #[inline]
     pub fn is_empty(&self) -> bool
         ensures { result ≡ is_empty self.now.pairs }
@@ -32,21 +32,21 @@ impl<K: Eq + Hash, V, L: Limiter<K, V>, S: KeyHasher<K>> LruMap<K, V, L, S> {
         self.entries.len() == 0
     }
 
-    /// How many pairs the table is sure to take without growing: those that it has, and its room.
+    /// Returns how many entries the table holds for sure without growing: its entries and its growth left.
     ///
-    /// It does not depend on the limiter, and may fall where a pair leaves a table of more than 16 buckets.
-    /// Cost: `O(1)`.
+    /// It does not depend on the limiter. It may fall when an entry leaves a table of more than 16 buckets. Cost:
+    /// `O(1)`.
     pub fn guaranteed_capacity(&self) -> usize
         ensures { result ≡ length self.now.pairs + room self.now }
     {
         self.entries.len() + self.entries.room()
     }
 
-    /// The bytes of the table, or 0 without buckets.
-    /// They are those of its entries, rounded up to a multiple of 16, a byte for each bucket, and 16 more.
+    /// Returns the bytes of the table, or 0 without buckets: those of its entries, rounded up to a multiple of 16, a
+    /// byte for each bucket, and 16 more.
     ///
-    /// An entry counts as the bytes that the constructor was told. 4 buckets of 16 bytes are 64 + 4 + 16 = 84.
-    /// Cost: `O(1)`.
+    /// An entry counts as the bytes that the constructor was given. 4 buckets of 16 bytes are 64 + 4 + 16 = 84. Cost:
+    /// `O(1)`.
     pub fn memory_usage(&self) -> usize
         ensures { usage self.now.entry_bytes (buckets self.now) ≡ Some result }
     {
@@ -57,7 +57,7 @@ impl<K: Eq + Hash, V, L: Limiter<K, V>, S: KeyHasher<K>> LruMap<K, V, L, S> {
         sizes::bytes_of(self.entry_bytes, buckets)
     }
 
-    /// The greatest `memory_usage` that a map with entries of so many bytes can have within a budget, or 0.
+    /// Returns the greatest `memory_usage` within a budget of a map whose entries have `entry_bytes` bytes, or 0.
     ///
     /// ```
     /// let usage = LruMap::<u64, u64, UnlimitedCompact>::memory_usage_for_memory_budget(512, 16);
@@ -71,14 +71,14 @@ impl<K: Eq + Hash, V, L: Limiter<K, V>, S: KeyHasher<K>> LruMap<K, V, L, S> {
         sizes::usage_within(L::LinkType::MAX.into_usize(), entry_bytes, budget)
     }
 
-    /// The limiter. Cost: `O(1)`.
+    /// Returns the limiter. Cost: `O(1)`.
     pub fn limiter(&self) -> &L
         ensures { result.now ≡ self.now.limiter }
     {
         &self.limiter
     }
 
-    /// The limiter, to be changed. Nothing is told of what is written, and no pair leaves before the next insert.
+    /// Lends the limiter for writing. A lower limit takes effect at the next insert: nothing is evicted before.
     ///
     /// ```
     /// *map.limiter_mut() = ByLength::new(1);
@@ -98,7 +98,7 @@ impl<K: Eq + Hash, V, L: Limiter<K, V>, S: KeyHasher<K>> LruMap<K, V, L, S> {
     }
 }
 
-/// Shows the number of pairs alone, as `LruMap { len: 3, .. }`.
+/// Shows the number of entries alone, as `LruMap { len: 3, .. }`.
 impl<K: Eq + Hash, V, L: Limiter<K, V>, S: KeyHasher<K>> fmt::Debug for LruMap<K, V, L, S> {
     fn fmt<W: fmt::Write>(&self, f: &mut fmt::Formatter<W>) -> fmt::Result {
         let len = self.len();

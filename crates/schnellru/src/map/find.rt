@@ -1,4 +1,4 @@
-// Looking a key up, and making its pair the newest: what every look-up begins with.
+// What every look-up begins with: the search for a key, and the promotion of its pair.
 ghost use Rattle.std.specs.Prelude.{◌≡◌, Bool, Some, None, IfSome, IfNone, IsTrue, Contains};
 ghost use Rattle.schnellru.specs.Lists.{lookup_entry, place_of};
 ghost use Rattle.schnellru.specs.State.{IsMap};
@@ -10,7 +10,7 @@ use lru_limits::{KeyHasher, Limiter, LookupKey};
 use std::hash::Hash;
 
 impl<K: Eq + Hash, V, L: Limiter<K, V>, S: KeyHasher<K>> LruMap<K, V, L, S> {
-    // The bucket of the pair of a key, if it is there.
+    // Returns the bucket of the pair of a key, if the key is there.
     #[inline]
     pub(super) fn find<Q: LookupKey<K>>(&self, key: &Q) -> Option<usize>
         ensures found { IfSome result (λ b. place_of (Q.names key.now) self.now.pairs self.now.places ≡ Some b) }
@@ -32,7 +32,7 @@ impl<K: Eq + Hash, V, L: Limiter<K, V>, S: KeyHasher<K>> LruMap<K, V, L, S> {
         self.entries.find(hash, key)
     }
 
-    // The pair in a bucket.
+    // Returns the pair in a bucket.
     #[inline]
     pub(super) fn pair_in(&self, b: usize) -> &Pair<K, V>
         requires { Contains self.now.places b }

@@ -1,4 +1,4 @@
-//! Getting a value that is inserted where its key is not there.
+//! Getting a value, which is inserted if its key is not there.
 ghost use Rattle.std.specs.Prelude.{◌≡◌, None};
 ghost use Rattle.schnellru.specs.Lists.{lookup};
 ghost use Rattle.schnellru.specs.State.{IsMap};
@@ -13,7 +13,7 @@ use std::alloc::AllocError;
 use std::hash::Hash;
 use thiserror::Error;
 
-// Why no value is lent: the key is not there, or there was a refusal.
+// Why no value is lent: the key is not there, or something failed.
 #[derive(Drop)]
 pub(crate) enum NotLent<E> {
     NotKept,
@@ -28,7 +28,7 @@ pub(crate) enum NotLent<E> {
 /// ```
 #[derive(Debug, Drop, PartialEq, Eq, Error)]
 pub enum GetOrInsertError<E> {
-    /// Memory was refused.
+    /// Out of memory.
     #[error("no memory")]
     Memory,
     /// The closure failed.
@@ -61,11 +61,11 @@ fn kept_or<V>(lent: Result<&mut V, NotLent<AllocError>>) -> Result<Option<&mut V
 impl<K: Eq + Hash + Drop, V: Drop, L: Limiter<K, V>, S: KeyHasher<K>> LruMap<K, V, L, S> {
     ghost use Rattle.schnellru.specs.Lending.Made.{lends_or, lends_made};
 
-    /// Makes the pair of a key the newest, and inserts it with the value that the closure makes where the key is not
-    /// there. It answers whether the key is in the map then.
+    /// Makes the entry of a key the newest. If the key is not there, inserts it with the value that the closure
+    /// returns. Returns whether the key is in the map then.
     ///
-    /// The key is looked up once. For a key that is there the closure is not called, and nothing is told to the
-    /// limiter. Otherwise the pair is inserted as `insert` inserts it. `newest_mut` lends the value then.
+    /// The key is looked up once. If it is there, the closure is not called and the limiter is not notified. Otherwise
+    /// the entry is inserted as `insert` inserts it. Then `newest_mut` lends the value.
     ///
     /// ```
     /// if map.ensure_newest(1, || 0)? {
@@ -75,11 +75,11 @@ impl<K: Eq + Hash + Drop, V: Drop, L: Limiter<K, V>, S: KeyHasher<K>> LruMap<K, 
     /// }
     /// ```
     ///
-    /// Cost: that of `get` for a key that is there, else that of `insert`.
+    /// Cost: as `get` if the key is there, else as `insert`.
     ///
     /// # Errors
     ///
-    /// `Err` comes as it comes from `insert`, after the closure was called.
+    /// Fails as `insert` does, after the closure was called.
     pub fn ensure_newest<I: LookupKey<K> + Drop, F: FnOnce() -> V>(
         &mut self,
         key: I,
@@ -119,7 +119,7 @@ impl<K: Eq + Hash + Drop, V: Drop, L: Limiter<K, V>, S: KeyHasher<K>> LruMap<K, 
         }
     }
 
-    // What `get_or_insert` lends, in a form of which a caller's proof learns.
+    // What `get_or_insert` lends, in a form whose contract reaches a caller's proof.
     pub(crate) fn lend_or_insert<I: LookupKey<K> + Drop, F: FnOnce() -> V>(
         &mut self,
         key: I,
@@ -139,22 +139,23 @@ impl<K: Eq + Hash + Drop, V: Drop, L: Limiter<K, V>, S: KeyHasher<K>> LruMap<K, 
         }
     }
 
-    /// The value of a key, to be changed. A key that is not there is inserted with the value that the closure makes.
+    /// Lends the value of a key for writing. If the key is not there, inserts it with the value that the closure
+    /// returns.
     ///
-    /// For a key that is there the closure is not called, its pair becomes the newest, and nothing is told to the
-    /// limiter. `None` says that the new pair is not in the map, as `insert` says it by false. A proof about a caller
-    /// learns more from `ensure_newest` and `newest_mut`.
+    /// If the key is there, the closure is not called, its entry becomes the newest, and the limiter is not notified.
+    /// `None` says that the new entry is not in the map, as `false` says it of `insert`. The prover carries no contract
+    /// on this type of result into a caller's proof; write `ensure_newest` and `newest_mut` there.
     ///
     /// ```
     /// assert_eq!(rt; map.get_or_insert(1, || 10)?.copied(), Some(10));
     /// assert_eq!(rt; map.get_or_insert(1, || 20)?.copied(), Some(10));
     /// ```
     ///
-    /// Cost: that of `get` for a key that is there, else that of `insert`.
+    /// Cost: as `get` if the key is there, else as `insert`.
     ///
     /// # Errors
     ///
-    /// `Err` comes as it comes from `insert`, after the closure was called.
+    /// Fails as `insert` does, after the closure was called.
     ///
     /// After schnellru's `LruMap::get_or_insert`.
     pub fn get_or_insert<I: LookupKey<K> + Drop, F: FnOnce() -> V>(
@@ -173,7 +174,7 @@ impl<K: Eq + Hash + Drop, V: Drop, L: Limiter<K, V>, S: KeyHasher<K>> LruMap<K, 
         kept_or(lent)
     }
 
-    /// The same as `ensure_newest` with a closure that may fail. Where it fails nothing has changed.
+    /// The same as `ensure_newest` with a closure that may fail. If it fails, nothing has changed.
     ///
     /// ```
     /// assert!(rt; map.ensure_newest_fallible(4, || Err(7u8)).is_err());
@@ -184,7 +185,7 @@ impl<K: Eq + Hash + Drop, V: Drop, L: Limiter<K, V>, S: KeyHasher<K>> LruMap<K, 
     ///
     /// # Errors
     ///
-    /// `Caller` has the error of the closure. `Memory` comes as the `Err` of `insert` comes.
+    /// `Caller` contains the error of the closure. `Memory` comes when `insert` would fail.
     pub fn ensure_newest_fallible<I: LookupKey<K> + Drop, E, F: FnOnce() -> Result<V, E>>(
         &mut self,
         key: I,
@@ -234,7 +235,7 @@ impl<K: Eq + Hash + Drop, V: Drop, L: Limiter<K, V>, S: KeyHasher<K>> LruMap<K, 
         }
     }
 
-    // What `get_or_insert_fallible` lends, in a form of which a caller's proof learns.
+    // What `get_or_insert_fallible` lends, in a form whose contract reaches a caller's proof.
     pub(crate) fn lend_or_insert_fallible<I: LookupKey<K> + Drop, E, F: FnOnce() -> Result<V, E>>(
         &mut self,
         key: I,
@@ -254,7 +255,7 @@ impl<K: Eq + Hash + Drop, V: Drop, L: Limiter<K, V>, S: KeyHasher<K>> LruMap<K, 
         }
     }
 
-    /// The same as `get_or_insert` with a closure that may fail. Where it fails nothing has changed.
+    /// The same as `get_or_insert` with a closure that may fail. If it fails, nothing has changed.
     ///
     /// ```
     /// assert!(rt; map.get_or_insert_fallible(5, || Err(7u8)).is_err());
@@ -264,7 +265,7 @@ impl<K: Eq + Hash + Drop, V: Drop, L: Limiter<K, V>, S: KeyHasher<K>> LruMap<K, 
     ///
     /// # Errors
     ///
-    /// `Caller` has the error of the closure. `Memory` comes as the `Err` of `insert` comes.
+    /// `Caller` contains the error of the closure. `Memory` comes when `insert` would fail.
     ///
     /// After schnellru's `LruMap::get_or_insert_fallible`.
     pub fn get_or_insert_fallible<I: LookupKey<K> + Drop, E, F: FnOnce() -> Result<V, E>>(

@@ -15,13 +15,13 @@ use std::alloc::AllocError;
 use std::hash::Hash;
 
 impl<K: Eq + Hash + Drop, V: Drop, L: Limiter<K, V>, S: KeyHasher<K>> LruMap<K, V, L, S> {
-    /// Puts a value under a key, as the newest pair, and answers whether the key is in the map then.
+    /// Inserts a key with a value, as the newest entry. Returns whether the key is in the map then.
     ///
-    /// A key that is there stays as it is stored, and the limiter is asked whether the new value replaces the old one;
-    /// where it says no, the pair leaves and the answer is false. A new key is handed to the limiter, which gives the
-    /// pair to store, or none. The oldest pair leaves first where the limiter would be over with one more. The table
-    /// grows where it has to and the limiter permits it; where it may not, the oldest pairs leave until there is a
-    /// place. Where the key is there then, the oldest leave as long as the limiter is over.
+    /// If the key is there, the stored key stays, and the limiter decides whether the new value replaces the old one;
+    /// if it rejects the value, the entry is removed and the result is false. A new key goes to the limiter, which
+    /// returns the entry to store, or none. If one more entry would be over the limit, the oldest is evicted first. The
+    /// table grows if it has to and the limiter permits it; if it may not, the oldest entries are evicted until a
+    /// bucket is free. If the key is there then, the oldest entries are evicted while the limiter is over its limit.
     ///
     /// ```
     /// assert!(rt; map.insert(1, 10)?);
@@ -29,17 +29,18 @@ impl<K: Eq + Hash + Drop, V: Drop, L: Limiter<K, V>, S: KeyHasher<K>> LruMap<K, 
     /// assert_eq!(rt; map.peek(&1), Some(&20));
     /// ```
     ///
-    /// Cost: `O(1)` expected, amortised over the inserts. An insert that grows the table moves all pairs; over all
-    /// inserts these are at most two for each new pair.
+    /// Cost: `O(1)` expected, amortised over the inserts. An insert that grows the table moves all entries; over all
+    /// inserts these are at most two for each new entry.
     ///
     /// # Errors
     ///
-    /// An `Err` may come after the oldest pairs left to make way for the new one. They do not come back: the newest of
-    /// the old pairs are left, and the limiter was told of each pair that left, and of the new one.
+    /// An `Err` says that the map ran out of memory for a new key. Then the key is not there, and the entries that are
+    /// left are the newest of the old ones: some of the oldest may have been evicted to make room. The limiter was
+    /// notified of each, and of the new entry.
     ///
-    /// It says that memory was refused, and comes only for a new key. Either `on_insert` found none: then nothing has
-    /// changed. Or the table found none: then it had no room. That memory is short has no pair leave, and no memory is
-    /// taken while there is room, but what `on_insert` takes.
+    /// There are two causes. Either `on_insert` found no memory; then nothing has changed. Or the table had no growth
+    /// left and found none for a larger one. While there is growth left, only `on_insert` takes memory. Running out of
+    /// memory evicts nothing by itself: the same entries would have been evicted had the insert succeeded.
     ///
     /// After schnellru's `LruMap::insert`.
     #[inline(always)]
@@ -58,13 +59,11 @@ impl<K: Eq + Hash + Drop, V: Drop, L: Limiter<K, V>, S: KeyHasher<K>> LruMap<K, 
         self.insert_with(key, value, &mut |_, _| {})
     }
 
-    /// The same as `insert`, and each pair of which the limiter is told that it left is handed to the sink, as the
-    /// limiter leaves it.
+    /// The same as `insert`, and passes each entry that leaves to the callback, as the limiter leaves it.
     ///
-    /// These are the pairs that are evicted, oldest first, the pair whose replacement is refused, and the new pair
-    /// where it finds no place, also where the answer is an `Err`. Each is handed over once, before the limiter is
-    /// asked or told anything more. A value that is replaced is not handed over, nor is an element of which the limiter
-    /// gives no pair.
+    /// These are the evicted entries, oldest first, the entry whose new value is rejected, and the new entry if it
+    /// could not be stored, even if the result is an `Err`. Each is passed on once, before the limiter is called again.
+    /// A value that is replaced is not passed on, nor is an element for which the limiter returns no entry.
     ///
     /// ```
     /// let mut left = None;
@@ -72,11 +71,11 @@ impl<K: Eq + Hash + Drop, V: Drop, L: Limiter<K, V>, S: KeyHasher<K>> LruMap<K, 
     /// assert_eq!(rt; left, Some((1, 10)));
     /// ```
     ///
-    /// Cost: that of `insert`, with one call of the sink for each pair that is handed over.
+    /// Cost: as `insert`, with one call of the callback for each entry that it gets.
     ///
     /// # Errors
     ///
-    /// `Err` comes as it comes from `insert`. The new pair was handed over then, unless `on_insert` found no memory.
+    /// Fails as `insert` does. The new entry was passed to the callback then, unless `on_insert` found no memory.
     #[inline(always)]
     pub fn insert_with<I: LookupKey<K>, F: FnMut(K, V)>(
         &mut self,
@@ -106,7 +105,7 @@ impl<K: Eq + Hash + Drop, V: Drop, L: Limiter<K, V>, S: KeyHasher<K>> LruMap<K, 
         answer
     }
 
-    // Inserts under a key that has this hash.
+    // Inserts a key that has this hash.
     #[inline(always)]
     fn insert_hashed<I: LookupKey<K>, F: FnMut(K, V)>(
         &mut self,
@@ -135,7 +134,7 @@ impl<K: Eq + Hash + Drop, V: Drop, L: Limiter<K, V>, S: KeyHasher<K>> LruMap<K, 
         }
     }
 
-    // Inserts under a key that is not there.
+    // Inserts a key that is not there.
     #[inline(never)]
     pub(crate) fn insert_new<I: LookupKey<K>, F: FnMut(K, V)>(
         &mut self,

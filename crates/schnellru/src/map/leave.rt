@@ -1,4 +1,4 @@
-//! What leaves a map: removals, a clear, and evictions. The limiter is told of each.
+//! What leaves a map: removals, a clear, and evictions. The limiter is notified of each.
 ghost use Rattle.std.specs.Prelude.{◌≡◌, ℕ, ◌<◌, true, not, length, Some};
 ghost use Rattle.group_table.specs.Bucket.{IsFull};
 ghost use Rattle.schnellru.specs.Lists.{is_empty};
@@ -17,7 +17,7 @@ use lru_limits::{KeyHasher, Limiter, LookupKey};
 use std::hash::Hash;
 
 impl<K: Eq + Hash, V, L: Limiter<K, V>, S: KeyHasher<K>> LruMap<K, V, L, S> {
-    /// Takes out the oldest pair, as the limiter leaves it, if there is a pair.
+    /// Removes and returns the oldest entry, as the limiter leaves it, if there is one.
     ///
     /// ```
     /// assert_eq!(rt; map.pop_oldest(), Some((1, 10)));
@@ -35,7 +35,7 @@ impl<K: Eq + Hash, V, L: Limiter<K, V>, S: KeyHasher<K>> LruMap<K, V, L, S> {
         Some(self.take_oldest())
     }
 
-    /// Takes out the newest pair, as the limiter leaves it, if there is a pair.
+    /// Removes and returns the newest entry, as the limiter leaves it, if there is one.
     ///
     /// ```
     /// assert_eq!(rt; map.pop_newest(), Some((3, 30)));
@@ -53,7 +53,7 @@ impl<K: Eq + Hash, V, L: Limiter<K, V>, S: KeyHasher<K>> LruMap<K, V, L, S> {
 }
 
 impl<K: Eq + Hash + Drop, V, L: Limiter<K, V>, S: KeyHasher<K>> LruMap<K, V, L, S> {
-    /// Takes out the pair of a key, and answers its value as the limiter leaves it. The others keep their order.
+    /// Removes a key. Returns its value, as the limiter leaves it. The other entries keep their order.
     ///
     /// ```
     /// assert_eq!(rt; map.remove(&1), Some(10));
@@ -73,15 +73,15 @@ impl<K: Eq + Hash + Drop, V, L: Limiter<K, V>, S: KeyHasher<K>> LruMap<K, V, L, 
 }
 
 impl<K: Eq + Hash + Drop, V: Drop, L: Limiter<K, V>, S: KeyHasher<K>> LruMap<K, V, L, S> {
-    /// Drops all pairs. The limiter is told of the clear alone, also where there is no pair.
-    /// The table keeps its buckets.
+    /// Drops all entries. The limiter is notified of the clear, not of each entry, even if the map is empty. The table
+    /// keeps its buckets.
     ///
     /// ```
     /// map.clear();
     /// assert_eq!(rt; (map.len(), map.guaranteed_capacity()), (0, 3));
     /// ```
     ///
-    /// Cost: `O(buckets)`, also where there are few pairs.
+    /// Cost: `O(buckets)`, even if there are few entries.
     ///
     /// After schnellru's `LruMap::clear`.
     pub fn clear(&mut self)
@@ -93,7 +93,7 @@ impl<K: Eq + Hash + Drop, V: Drop, L: Limiter<K, V>, S: KeyHasher<K>> LruMap<K, 
 }
 
 impl<K: Eq + Hash, V, L: Limiter<K, V>, S: KeyHasher<K>> LruMap<K, V, L, S> {
-    // Takes the oldest pair out, as the limiter leaves it.
+    // Takes out the oldest pair, as the limiter leaves it.
     #[inline]
     pub(super) fn take_oldest(&mut self) -> (K, V)
         requires { 0 < length self.old.pairs }
@@ -119,7 +119,7 @@ impl<K: Eq + Hash + Drop, V: Drop, L: Limiter<K, V>, S: KeyHasher<K>> LruMap<K, 
         }
     }
 
-    // Evicts the oldest pairs while the limiter is over, of a map with pairs. It returns whether some are left.
+    // Evicts the oldest pairs while the limiter is over its limit, of a map with pairs. Returns whether some are left.
     #[inline]
     pub(super) fn evict_over_limit<F: FnMut(K, V)>(&mut self, sink: &mut F) -> bool
         requires some { 0 < length self.old.pairs }
@@ -136,7 +136,7 @@ impl<K: Eq + Hash + Drop, V: Drop, L: Limiter<K, V>, S: KeyHasher<K>> LruMap<K, 
         }
     }
 
-    // The same if the limiter is over. Out of line, so that no caller of an insert has the evictions in its code.
+    // The same if the limiter is over its limit. Out of line, so that an insert's code does not contain the evictions.
     #[inline(never)]
     fn evict_while_over<F: FnMut(K, V)>(&mut self, sink: &mut F) -> bool
         requires some { 0 < length self.old.pairs }
@@ -160,7 +160,7 @@ impl<K: Eq + Hash + Drop, V: Drop, L: Limiter<K, V>, S: KeyHasher<K>> LruMap<K, 
     }
 }
 
-// Takes the pair out of a full bucket, and tells the limiter.
+// Takes the pair out of a full bucket, and notifies the limiter.
 #[inline]
 pub(super) fn take_out<K: Eq + Hash, V, L: Limiter<K, V>>(
     entries: &mut OrderedTable<K, V, L::LinkType>,
@@ -175,7 +175,7 @@ pub(super) fn take_out<K: Eq + Hash, V, L: Limiter<K, V>>(
     tell(limiter, entries.take(b))
 }
 
-// The same of the oldest pair, which is in this bucket.
+// The same for the oldest pair, which is in this bucket.
 #[inline]
 pub(super) fn take_out_last<K: Eq + Hash, V, L: Limiter<K, V>>(
     entries: &mut OrderedTable<K, V, L::LinkType>,
@@ -190,7 +190,7 @@ pub(super) fn take_out_last<K: Eq + Hash, V, L: Limiter<K, V>>(
     tell(limiter, entries.take_last(b))
 }
 
-// Tells the limiter of a pair that left, or was not placed, and gives what it left of the pair.
+// Notifies the limiter of a pair that left or could not be stored, and returns what the limiter left of it.
 #[inline]
 pub(super) fn tell<K, V, L: Limiter<K, V>>(limiter: &mut L, pair: (K, V)) -> (K, V)
     ensures limiter { limiter.new ≡ told_of L.rules (Some pair) limiter.old }

@@ -14,10 +14,11 @@ use std::hash::Hash;
 impl<K: Eq + Hash, V, L: Limiter<K, V>, S: KeyHasher<K>> LruMap<K, V, L, S> {
     ghost use Rattle.schnellru.specs.Lending.Values.{lends_value, lends_newest, lends_newest_value};
 
-    /// The value of a key, to be changed. Its pair becomes the newest; what is written is not told to the limiter.
+    /// Lends the value of a key for writing, and makes its entry the newest. The limiter is not notified of what is
+    /// written.
     ///
-    /// `None` says that the key is not there, and nothing has changed. `String` keys are looked up by a text, as
-    /// `map.get(&"a")`; `docs/LIMITERS.md` shows look-up keys of one's own.
+    /// `None` says that the key is not there, and nothing has changed. `String` keys are looked up by a `&str`, as
+    /// `map.get(&"a")`; `docs/LIMITERS.md` shows look-up keys of your own.
     ///
     /// ```
     /// if let Some(value) = map.get(&1) {
@@ -43,10 +44,10 @@ impl<K: Eq + Hash, V, L: Limiter<K, V>, S: KeyHasher<K>> LruMap<K, V, L, S> {
         Some(&mut self.entries.pair_mut(b).value)
     }
 
-    /// The value of the newest pair, to be changed. What is written is not told to the limiter.
+    /// Lends the value of the newest entry for writing. The limiter is not notified of what is written.
     ///
-    /// `None` says that there are no pairs. After `ensure_newest` answered true it is the value of that key.
-    /// Cost: `O(1)`.
+    /// `None` says that the map is empty. After `ensure_newest` returned true, it is the value of that key. Cost:
+    /// `O(1)`.
     #[inline]
     pub fn newest_mut(&mut self) -> Option<&mut V>
         ensures* writes_back { sem 𝓛 (lends_newest K.row V.row L.row S.row L.LinkType.row S.Hasher.row K.Hash L.Limiter
@@ -58,7 +59,7 @@ impl<K: Eq + Hash, V, L: Limiter<K, V>, S: KeyHasher<K>> LruMap<K, V, L, S> {
         Some(&mut self.entries.pair_mut(b).value)
     }
 
-    // The same of a map with pairs.
+    // The same for a map with pairs.
     #[inline]
     pub(crate) fn newest_value_mut(&mut self) -> &mut V
         requires { 0 < length self.old.pairs }
@@ -74,9 +75,9 @@ impl<K: Eq + Hash, V, L: Limiter<K, V>, S: KeyHasher<K>> LruMap<K, V, L, S> {
         }
     }
 
-    /// The value of a key. The order stays.
+    /// Returns the value of a key. The order stays.
     ///
-    /// `String` keys are looked up by a text, as `map.peek(&"a")`. Cost: `O(1)` expected.
+    /// `String` keys are looked up by a `&str`, as `map.peek(&"a")`. Cost: `O(1)` expected.
     ///
     /// After schnellru's `LruMap::peek`.
     #[inline]
@@ -87,9 +88,9 @@ impl<K: Eq + Hash, V, L: Limiter<K, V>, S: KeyHasher<K>> LruMap<K, V, L, S> {
         Some(&self.pair_in(b).value)
     }
 
-    /// The pair of a key. The order stays.
+    /// Returns the entry of a key. The order stays.
     ///
-    /// The key is the one that is stored, which may differ from an equal one that is looked up.
+    /// The returned key is the stored one, which may differ from the equal one that is looked up.
     ///
     /// ```
     /// assert!(rt; map.peek_key_value(&1) == Some((&1, &10)));
@@ -107,7 +108,7 @@ impl<K: Eq + Hash, V, L: Limiter<K, V>, S: KeyHasher<K>> LruMap<K, V, L, S> {
         Some((&pair.key, &pair.value))
     }
 
-    /// The value of a key, to be changed. The order stays; what is written is not told to the limiter.
+    /// Lends the value of a key for writing. The order stays. The limiter is not notified of what is written.
     ///
     /// ```
     /// if let Some(value) = map.peek_mut(&1) {
@@ -131,7 +132,7 @@ impl<K: Eq + Hash, V, L: Limiter<K, V>, S: KeyHasher<K>> LruMap<K, V, L, S> {
         Some(&mut self.entries.pair_mut(b).value)
     }
 
-    /// The oldest pair. The order stays.
+    /// Returns the oldest entry. The order stays.
     ///
     /// ```
     /// assert!(rt; map.peek_oldest() == Some((&1, &10)));
@@ -150,7 +151,7 @@ impl<K: Eq + Hash, V, L: Limiter<K, V>, S: KeyHasher<K>> LruMap<K, V, L, S> {
         Some((&pair.key, &pair.value))
     }
 
-    /// The newest pair. The order stays.
+    /// Returns the newest entry. The order stays.
     ///
     /// ```
     /// assert!(rt; map.peek_newest() == Some((&3, &30)));

@@ -1,4 +1,4 @@
-//! Replacing the value of a key that is there, over the linked table and the limiter.
+//! Replacing the value of a key that is there, over the table and the limiter.
 ghost use Rattle.std.specs.Prelude.{◌≡◌, ℕ, true, false, length, Some, IsTrue};
 ghost use Rattle.group_table.specs.Bucket.{entry_at};
 ghost use Rattle.schnellru.specs.Inside.OrderedTable.{IsLinked, KeysFit};
@@ -10,8 +10,8 @@ use crate::ordered::OrderedTable;
 use lru_limits::{Insertion, Limiter, LookupKey};
 use std::hash::Hash;
 
-// Has the limiter replace the value in a bucket: it takes the new one, and the pair is the newest then, or the pair
-// leaves and is handed over. The answer is whether it took it.
+// Offers the limiter a new value for the pair in a bucket. If it accepts, the pair gets the value and becomes the
+// newest. If not, the pair is removed and passed to the callback. Returns whether it accepted.
 pub(super) fn replace<
     K: Eq + Hash + Drop,
     V: Drop,

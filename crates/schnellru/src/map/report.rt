@@ -1,28 +1,28 @@
-//! What inserts moved and placed, and what shrinks placed anew.
+//! How many entries inserts moved and stored, and how many shrinks rehashed.
 ghost use Rattle.std.specs.Prelude.{◌≡◌, ◌+◌, ◌*◌, ◌≤◌};
 
 use crate::map::LruMap;
 use lru_limits::{KeyHasher, Limiter};
 use std::hash::Hash;
 
-/// How many entries the inserts of a map have moved, how many new ones they have placed, and how many its shrinks have
-/// placed anew.
+/// How many entries the inserts of a map have moved, how many new ones they have stored, and how many entries its
+/// shrinks have rehashed.
 #[derive(Clone, Copy, Debug, PartialEq, Eq)]
 pub struct MoveReport {
-    /// Entries that were placed anew because their table grew or was made anew.
+    /// Entries that inserts moved, because the table grew or was rehashed.
     pub moved: u64,
-    /// New entries that were placed.
+    /// New entries that inserts stored.
     pub placed: u64,
-    /// Entries that `shrink_to_fit` placed anew.
+    /// Entries that `shrink_to_fit` rehashed.
     pub shrunk: u64,
 }
 
 impl<K: Eq + Hash, V, L: Limiter<K, V>, S: KeyHasher<K>> LruMap<K, V, L, S> {
-    /// What the inserts have moved and placed since the map was made, and what `shrink_to_fit` has placed anew. A count
-    /// that reaches `u64::MAX` stays there.
+    /// Returns how many entries inserts have moved and stored since the map was made, and how many `shrink_to_fit` has
+    /// rehashed. A count that reaches `u64::MAX` stays there.
     ///
     /// `moved` is at most twice `placed`, plus `shrunk`. So in a map that was never shrunk an insert moves at most two
-    /// entries in the mean. Entries that a reservation moves are not counted.
+    /// entries on average. Entries that a reservation moves are not counted.
     pub fn move_report(&self) -> MoveReport
         ensures moved { result.moved ≡ self.now.moved }
         ensures placed { result.placed ≡ self.now.placed }

@@ -1,4 +1,4 @@
-//! Room for pairs that are to come.
+//! Growth ahead of inserts.
 ghost use Rattle.std.specs.Prelude.{◌+◌, ◌/◌, ◌<◌, length};
 ghost use Rattle.group_table.specs.Sizes.{full_capacity};
 ghost use Rattle.schnellru.specs.State.{buckets};
@@ -10,7 +10,7 @@ use lru_limits::{KeyHasher, Limiter};
 use std::hash::Hash;
 use thiserror::Error;
 
-/// Why no room is reserved.
+/// Why a reservation fails.
 ///
 /// ```
 /// let mut map: LruMap<u64, u64, Unlimited> = LruMap::new(alloc, Unlimited, [1, 2, 3, 4], 16);
@@ -21,37 +21,37 @@ use thiserror::Error;
 /// ```
 #[derive(Clone, Copy, Debug, PartialEq, Eq, Error)]
 pub enum ReserveError {
-    /// There is no table for so many pairs.
+    /// There is no table for that many entries.
     #[error("too large")]
     TooLarge = 1,
-    /// The limiter did not permit the table.
+    /// The limiter refused the table.
     #[error("refused")]
     Refused = 2,
-    /// Memory was refused.
+    /// Out of memory.
     #[error("no memory")]
     Memory = 3,
 }
 
 impl<K: Eq + Hash + Drop, V: Drop, L: Limiter<K, V>, S: KeyHasher<K>> LruMap<K, V, L, S> {
-    /// Makes room for so many pairs more: afterwards `guaranteed_capacity` is at least `len` and these.
+    /// Makes room for n more entries: afterwards `guaranteed_capacity` is at least `len` + n.
     ///
-    /// The pairs stay, and so do the counts of moves. Where there is room, nothing is asked. Where at most half of what
-    /// the table takes is needed, it is made anew at its size, for which nothing is asked either. Else the limiter is
-    /// asked for a larger one.
+    /// The entries stay, and so do the counts of moves. If there is enough growth left, nothing happens. If at most
+    /// half of what the table may hold is needed, the table is rehashed at its size, and the limiter is not queried.
+    /// Otherwise the limiter is asked for a larger table.
     ///
     /// ```
     /// assert_eq!(rt; map.try_reserve(7), Ok(()));
     /// assert_eq!(rt; (map.guaranteed_capacity(), map.len()), (7, 0));
     /// ```
     ///
-    /// Cost: `O(1)` where there is room, else `O(buckets)` of both tables. A table that is made anew at its size
-    /// without pairs takes no memory.
+    /// Cost: `O(1)` if there is enough growth left, else `O(buckets)` of both tables. A rehash at the same size takes
+    /// no memory if the map is empty.
     ///
     /// # Errors
     ///
-    /// Each leaves the pairs and the table. `TooLarge`: their number is none of 64 bits, or no table that the links
-    /// reach takes them, or its bytes are no such number. `Refused`: the limiter did not permit the table. `Memory`: a
-    /// request was refused. After `Refused` and `Memory` the limiter is as it left itself when it was asked.
+    /// Each error leaves the entries and the table. `TooLarge`: the number of entries or the bytes of the table pass 64
+    /// bits, or no table that the links can number holds them. `Refused`: the limiter refused the table. `Memory`: a
+    /// request was refused. After `Refused` and `Memory` the limiter keeps what it noted when it was asked.
     ///
     /// After schnellru's `LruMap::try_reserve`.
     pub fn try_reserve(&mut self, n: usize) -> Result<(), ReserveError>

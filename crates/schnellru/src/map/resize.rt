@@ -1,4 +1,4 @@
-//! Moving all pairs: where a table goes that is to take more, and the move.
+//! Moving all pairs: into which table a map grows, and the move.
 ghost use Rattle.std.specs.Prelude.{◌≡◌, ℕ, ◌+◌, ◌-◌, ◌*◌, ◌/◌, ◌^◌, ◌<◌, ◌≤◌, [], length, Some, IfSome, OnOk, OnErr};
 ghost use Rattle.std.specs.Prelude.{IsOk};
 ghost use Rattle.group_table.specs.Sizes.{IsPowerFromFour, full_capacity};
@@ -15,8 +15,9 @@ use std::alloc::AllocError;
 use std::hash::Hash;
 
 impl<K: Eq + Hash, V, L: Limiter<K, V>, S: KeyHasher<K>> LruMap<K, V, L, S> {
-    // The buckets and the bytes of the table to which this one goes for so many pairs more, if there is such a table.
-    // They are more than half of what this one takes, and the others are at most half of what that one does.
+    // Returns the buckets and the bytes of the table into which this one grows for `more` pairs, if there is one. The
+    // pairs with these are more than half of what this table may hold; the pairs alone are at most half of what that
+    // one may.
     pub(super) fn next_table(&self, more: usize) -> Option<(usize, usize)>
         requires number { length self.now.pairs + more < 2 ^ 64 }
         requires half { full_capacity (buckets self.now) / 2 < length self.now.pairs + more }
@@ -33,8 +34,8 @@ impl<K: Eq + Hash, V, L: Limiter<K, V>, S: KeyHasher<K>> LruMap<K, V, L, S> {
 }
 
 impl<K: Eq + Hash + Drop, V: Drop, L: Limiter<K, V>, S: KeyHasher<K>> LruMap<K, V, L, S> {
-    // Moves all pairs into a table of so many buckets, at most half full then, which is not counted. Among as many
-    // buckets as now that needs no memory without pairs.
+    // Moves all pairs into a table of `count` buckets, which is at most half full then. The moves are not counted here.
+    // If the number of buckets stays and there are no pairs, this needs no memory.
     pub(super) fn move_to(&mut self, count: usize) -> Result<(), AllocError>
         requires count { IsPowerFromFour count }
         requires reached { count < L.LinkType.number L.LinkType.MAX }

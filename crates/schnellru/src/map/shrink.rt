@@ -8,12 +8,12 @@ use std::alloc::AllocError;
 use std::hash::Hash;
 
 impl<K: Eq + Hash + Drop, V: Drop, L: Limiter<K, V>, S: KeyHasher<K>> LruMap<K, V, L, S> {
-    /// Moves the pairs into as few buckets as hold them, and answers true; or answers false, where the table has no
+    /// Shrinks the table to as few buckets as hold the entries, and returns true. Returns false if the table has no
     /// more than these.
     ///
-    /// The pairs and their order stay. The limiter is not asked or told. A map without pairs gives its table back.
-    /// The pairs that move are counted as `shrunk` of the `MoveReport`. The next insert may have to make the table
-    /// larger again, so a map that is to grow is better not shrunk.
+    /// The entries and their order stay. The limiter is not called. An empty map gives its table back. The entries that
+    /// move are counted as `shrunk` in the `MoveReport`. The next insert may have to grow the table again, so do not
+    /// shrink a map that is about to grow.
     ///
     /// ```
     /// assert_eq!(rt; map.shrink_to_fit()?, true);
@@ -21,8 +21,7 @@ impl<K: Eq + Hash + Drop, V: Drop, L: Limiter<K, V>, S: KeyHasher<K>> LruMap<K, 
     /// assert_eq!(rt; map.shrink_to_fit()?, false);
     /// ```
     ///
-    /// Cost: `O(1)` where the table stays, else `O(buckets)`, with three requests for memory; a map without pairs makes
-    /// none.
+    /// Cost: `O(1)` if the table stays, else `O(buckets)`, with three requests for memory; an empty map makes none.
     ///
     /// # Errors
     ///

@@ -19,7 +19,7 @@ use std::alloc::AllocError;
 use std::hash::Hash;
 
 impl<K: Eq + Hash + Drop, V: Drop, L: Limiter<K, V>, S: KeyHasher<K>> LruMap<K, V, L, S> {
-    // Stores a pair whose key is new and has this hash, as the newest. It returns whether the pair is stored.
+    // Stores a pair whose key is new and has this hash, as the newest. Returns whether the pair is stored.
     #[inline]
     pub(crate) fn store<F: FnMut(K, V)>(
         &mut self,
@@ -61,7 +61,7 @@ impl<K: Eq + Hash + Drop, V: Drop, L: Limiter<K, V>, S: KeyHasher<K>> LruMap<K, 
         Ok(())
     }
 
-    // Stores a pair that no bucket takes, after a change of the table. Under a limit on memory each new pair may come
+    // Stores a pair that no bucket takes, after a change of the table. Under `ByMemoryUsage` each new pair may come
     // here.
     #[inline(never)]
     fn store_without_bucket<F: FnMut(K, V)>(
@@ -204,7 +204,7 @@ impl<K: Eq + Hash + Drop, V: Drop, L: Limiter<K, V>, S: KeyHasher<K>> LruMap<K, 
         }
     }
 
-    // Stores the pair in a table with room.
+    // Stores the pair in a table with growth left.
     fn store_in_room(&mut self, hash: u64, pair: (K, V))
         requires hash { hash ≡ S.hash_of self.old.hasher pair.0 }
         requires absent { lookup_entry (K.eq pair.0) self.old.pairs ≡ None }
@@ -218,7 +218,7 @@ impl<K: Eq + Hash + Drop, V: Drop, L: Limiter<K, V>, S: KeyHasher<K>> LruMap<K, 
         }
     }
 
-    // Tells the limiter of a pair that was not stored, and passes what it left of the pair to the sink.
+    // Notifies the limiter of a pair that was not stored, and passes what it left of the pair to the callback.
     fn turn_away<F: FnMut(K, V)>(&mut self, pair: (K, V), sink: &mut F)
         requires callable { F.IsAlwaysCallable sink.old }
         ensures handed { Hands F.FnMut sink.old sink.new (λ before after. noted after self.new ≡ turned_away

@@ -1,6 +1,6 @@
-//! The links between the entries of a table: each change of the order as a change of a few entries.
+//! The links between the entries of a table: each change of the order changes a few entries.
 //!
-//! `newest` and `oldest` are the ends of the chain. The order of the buckets is known to the clauses alone.
+//! `newest` and `oldest` are the ends of the chain. Only the contracts know the order of the buckets.
 ghost use Rattle.std.specs.Prelude.{◌≡◌, ◌≢◌, ◌⊎◌, ◌<◌, ◌≤◌, ℕ, ◌∷◌, List, Some, Contains, map, length};
 ghost use Rattle.group_table.specs.Bucket.{Slot, IsFull};
 ghost use Rattle.group_table.specs.Relocation.{Renumbers, moved_to};
@@ -13,7 +13,7 @@ ghost use Rattle.schnellru.specs.Inside.Chain.{newer_at, older_at, pair_slots};
 use crate::ordered::Entry;
 use group_table::{LinkType, Table};
 
-// Takes a bucket out of the chain. Its entry stays where it is, and its own links as they are.
+// Takes a bucket out of the chain. Its entry stays in the table, with its own links unchanged.
 pub(crate) fn unlink<K, V, N: LinkType>(
     table: &mut Table<Entry<K, V, N>>,
     newest: &mut N,
@@ -32,8 +32,7 @@ pub(crate) fn unlink<K, V, N: LinkType>(
     close_gap(table, newest, oldest, newer, older);
 }
 
-// Links the neighbours of a bucket that leaves the chain to each other. Its entry, which had these links, may have left
-// the table before.
+// Links the neighbours of a bucket to each other, which had these links. Its entry may have left the table before.
 #[inline]
 pub(crate) fn close_gap<K, V, N: LinkType>(
     table: &mut Table<Entry<K, V, N>>,
@@ -54,7 +53,7 @@ pub(crate) fn close_gap<K, V, N: LinkType>(
     set_newer(table, oldest, older, newer);
 }
 
-// Puts a bucket that is in no chain in front of this one, which is not empty.
+// Puts a bucket that is in no chain in front of this chain, which is not empty.
 pub(crate) fn link_newest<K, V, N: LinkType>(
     table: &mut Table<Entry<K, V, N>>,
     newest: &mut N,
@@ -76,8 +75,8 @@ pub(crate) fn link_newest<K, V, N: LinkType>(
     *newest = link;
 }
 
-// Puts a bucket whose entry came with the links of a newest one in front of the chain that begins with `first`, or
-// makes it the only one. It answers the link to it, with which the chain begins then.
+// Puts a bucket whose entry already has the links of a newest one in front of the chain that begins with `first`, or
+// makes it the only one. Returns the link to it, with which the chain begins then.
 pub(crate) fn link_placed<K, V, N: LinkType>(
     table: &mut Table<Entry<K, V, N>>,
     first: N,
@@ -99,7 +98,7 @@ pub(crate) fn link_placed<K, V, N: LinkType>(
     link
 }
 
-// Sets the newer link of the entry at a link, or the oldest end, where the link is `MAX`.
+// Sets the newer link of the entry at a link, or the oldest end, if the link is `MAX`.
 #[inline]
 fn set_newer<K, V, N: LinkType>(table: &mut Table<Entry<K, V, N>>, oldest: &mut N, at: N, to: N)
     requires reached { length table.old.slots < N.number N.MAX }
@@ -125,7 +124,7 @@ fn write_newer<K, V, N: LinkType>(table: &mut Table<Entry<K, V, N>>, at: N, to: 
     table.get_mut(at.into_usize()).newer = to;
 }
 
-// Sets the older link of the entry at a link, or the newest end, where the link is `MAX`.
+// Sets the older link of the entry at a link, or the newest end, if the link is `MAX`.
 #[inline]
 fn set_older<K, V, N: LinkType>(table: &mut Table<Entry<K, V, N>>, newest: &mut N, at: N, to: N)
     requires reached { length table.old.slots < N.number N.MAX }
@@ -153,8 +152,7 @@ fn set_links<K, V, N: LinkType>(table: &mut Table<Entry<K, V, N>>, b: usize, new
     entry.older = older;
 }
 
-// Makes the links of entries that moved, and the ends, those of the buckets where they are now: `links` has the new
-// number of each old bucket.
+// Rewrites the links of entries that moved, and the ends: `links` contains the new number of each old bucket.
 pub(crate) fn rewrite<K, V, N: LinkType>(
     table: &mut Table<Entry<K, V, N>>,
     newest: &mut N,
@@ -181,7 +179,7 @@ pub(crate) fn rewrite<K, V, N: LinkType>(
     *oldest = moved_link(links, *oldest);
 }
 
-// Makes the links of an entry those to where its neighbours have moved.
+// Rewrites the links of an entry to where its neighbours have moved.
 #[inline]
 fn move_links<K, V, N: LinkType>(table: &mut Table<Entry<K, V, N>>, b: usize, links: &[N])
     requires full { IsFull table.old.slots b }
@@ -196,7 +194,7 @@ fn move_links<K, V, N: LinkType>(table: &mut Table<Entry<K, V, N>>, b: usize, li
     entry.older = moved_link(links, entry.older);
 }
 
-// The link to where the bucket of a link has moved.
+// Returns the link to where the bucket of a link has moved.
 #[inline]
 fn moved_link<N: LinkType>(links: &[N], link: N) -> N
     requires place { HasPlace N.number N.MAX links.now link }

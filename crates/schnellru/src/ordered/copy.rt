@@ -11,7 +11,7 @@ use group_table::LinkType;
 use std::alloc::AllocError;
 
 impl<K: Drop, V: Drop, N: LinkType> OrderedTable<K, V, N> {
-    // Clones of the pairs, in buckets of the same numbers and in the same order. The links are copied with the entries.
+    // Clones the pairs, into buckets of the same numbers and in the same order. The links are copied with the entries.
     pub(crate) fn copy(&self) -> Result<Self, AllocError>
     where
         K: Clone,

@@ -9,11 +9,11 @@ use lru_limits::{KeyHasher, Limiter};
 use std::hash::Hash;
 use std::iter::FusedIterator;
 
-/// Takes the pairs out of a map from both ends.
-/// What is left is cleared when it is dropped, and stays where it is forgotten.
+/// An iterator that takes the pairs out of a map, from both ends. Dropping it clears the map; forgetting it leaves the
+/// other pairs in the map.
 ///
-/// A pair that is taken is one that `pop_newest` or `pop_oldest` takes: the limiter is told of it, and what it leaves
-/// of the pair is given. The clear tells the limiter of the clear alone.
+/// It takes a pair as `pop_newest` or `pop_oldest` does: the limiter is notified, and the pair is returned as the
+/// limiter leaves it. The limiter is notified of the clear itself, not of each pair that it drops.
 ///
 /// After schnellru's `Drain`.
 pub struct Drain<'a, K: Eq + Hash, V, L: Limiter<K, V>, S: KeyHasher<K>> {
@@ -24,7 +24,7 @@ impl<'a, K: Eq + Hash + Drop, V: Drop, L: Limiter<K, V>, S: KeyHasher<K>> Drop
     for Drain<'a, K, V, L, S> {
     ghost use Rattle.schnellru.specs.Calls.{cleared};
 
-    /// Clears the map, also where no pair is left.
+    /// Clears the map, even if no pair is left.
     fn drop(self)
         ensures { self.exit.0.now ≡ cleared L.rules (drain_map self.entry) }
     {
@@ -47,7 +47,7 @@ impl<'a, K: Eq + Hash + Drop, V: Drop, L: Limiter<K, V>, S: KeyHasher<K>> Iterat
         self.map.pop_newest()
     }
 
-    /// Exactly how many pairs are left, as `len` says.
+    /// Returns exactly how many pairs are left, as `len` does.
     fn size_hint(&self) -> (usize, Option<usize>)
         ensures lower { IsWithinCount result.0 (drain_left self.now) }
         ensures upper { IfSome result.1 (UpTo (drain_left self.now)) }
@@ -80,7 +80,7 @@ impl<'a, K: Eq + Hash + Drop, V: Drop, L: Limiter<K, V>, S: KeyHasher<K>> FusedI
     for Drain<'a, K, V, L, S> {}
 
 impl<K: Eq + Hash, V, L: Limiter<K, V>, S: KeyHasher<K>> LruMap<K, V, L, S> {
-    /// Takes out the pairs, the newest first. What is not taken is cleared when the walk is dropped.
+    /// Takes out the pairs, newest first. When the iterator is dropped, the map is cleared.
     ///
     /// ```
     /// for (key, value) in map.drain() {

@@ -1,4 +1,4 @@
-//! A walk that lends each value to be changed.
+//! An iterator that lends each value for writing.
 ghost use Rattle.std.specs.Prelude.{◌≡◌, ◌≤◌, length, slice_get};
 ghost use Rattle.schnellru.specs.Lists.{last_of};
 
@@ -6,10 +6,10 @@ use crate::map::LruMap;
 use lru_limits::{KeyHasher, Limiter};
 use std::hash::Hash;
 
-/// The pairs of a map that were not lent yet from either end, newest first. Each value is lent until the next call.
+/// An iterator over the pairs of a map, newest first, from both ends, that lends each value until its next call.
 ///
-/// The pairs that are left stand from the place `start` up to `end`, counted from the newest, and `front` and `back`
-/// are the buckets of the first and the last of them. So a step reads one entry.
+/// The pairs that are left are those at the positions from `start` up to `end`, counted from the newest. `front` and
+/// `back` are the buckets of the first and the last of them, so a step reads one entry.
 ///
 /// After schnellru's `IterMut`.
 #[derive(Drop)]
@@ -31,16 +31,17 @@ impl<'a, K: Eq + Hash, V, L: Limiter<K, V>, S: KeyHasher<K>> IterMut<'a, K, V, L
     ghost use Rattle.schnellru.specs.Walks.{walk_map, walk_start, walk_end, lends_first, lends_last};
     ghost use Rattle.schnellru.specs.Walks.{lends_next, lends_next_back, next_pair, next_back_pair};
 
-    /// How many pairs are left.
+    /// Returns how many pairs are left.
     pub fn len(&self) -> usize
         ensures { result ≡ walk_end self.now - walk_start self.now }
     {
         self.end.saturating_sub(self.start)
     }
 
-    /// The newest pair that is left, with its value to be changed until the next call; `None` where none is left.
+    /// Lends the newest pair that is left, its value for writing until the next call. `None` says that no pair is left.
     ///
-    /// A caller's proof learns nothing of this shape of a result; `len` and `lend_next` serve it. Cost: `O(1)`.
+    /// The prover carries no contract on this type of result into a caller's proof; write `len` and `lend_next` there.
+    /// Cost: `O(1)`.
     pub fn next(&mut self) -> Option<(&K, &mut V)>
         ensures* writes_back { sem 𝓛 (lends_next K.row V.row L.row S.row L.LinkType.row S.Hasher.row K.Hash L.Limiter
             L.LinkType.LinkType.own L.LinkType.PartialEq L.LinkType.Debug S.KeyHasher S.Hasher.Hasher self.entry
@@ -53,7 +54,7 @@ impl<'a, K: Eq + Hash, V, L: Limiter<K, V>, S: KeyHasher<K>> IterMut<'a, K, V, L
         None
     }
 
-    /// The oldest pair that is left, as `next` gives the newest.
+    /// Lends the oldest pair that is left, as `next` lends the newest.
     pub fn next_back(&mut self) -> Option<(&K, &mut V)>
         ensures* writes_back { sem 𝓛
             (lends_next_back K.row V.row L.row S.row L.LinkType.row S.Hasher.row K.Hash L.Limiter
@@ -67,7 +68,7 @@ impl<'a, K: Eq + Hash, V, L: Limiter<K, V>, S: KeyHasher<K>> IterMut<'a, K, V, L
         None
     }
 
-    /// The same as `next`, where a pair is left.
+    /// The same as `next`, if a pair is left.
     pub fn lend_next(&mut self) -> (&K, &mut V)
         requires some { walk_start self.old < walk_end self.old }
         ensures* writes_back { sem 𝓛 (lends_first K.row V.row L.row S.row L.LinkType.row S.Hasher.row K.Hash L.Limiter
@@ -86,7 +87,7 @@ impl<'a, K: Eq + Hash, V, L: Limiter<K, V>, S: KeyHasher<K>> IterMut<'a, K, V, L
         }
     }
 
-    /// The same as `next_back`, where a pair is left.
+    /// The same as `next_back`, if a pair is left.
     pub fn lend_next_back(&mut self) -> (&K, &mut V)
         requires some { walk_start self.old < walk_end self.old }
         ensures* writes_back { sem 𝓛 (lends_last K.row V.row L.row S.row L.LinkType.row S.Hasher.row K.Hash L.Limiter
@@ -109,7 +110,8 @@ impl<'a, K: Eq + Hash, V, L: Limiter<K, V>, S: KeyHasher<K>> IterMut<'a, K, V, L
 impl<K: Eq + Hash, V, L: Limiter<K, V>, S: KeyHasher<K>> LruMap<K, V, L, S> {
     ghost use Rattle.schnellru.specs.Walks.{walk_map, walk_lender, walk_start, walk_end};
 
-    /// The pairs, newest first, each value to be changed. The order stays; what is written is not told to the limiter.
+    /// Returns an iterator over the pairs, newest first, that lends each value for writing. The order stays. The
+    /// limiter is not notified of what is written.
     ///
     /// ```
     /// let mut walk = map.iter_mut();

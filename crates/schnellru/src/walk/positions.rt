@@ -1,4 +1,4 @@
-// A map by its places, the bucket of each pair, newest first, for walks.
+// What an iterator needs of a map: the bucket of each pair, by its position from the newest on.
 ghost use Rattle.std.specs.Prelude.{◌≡◌, ℕ, ◌+◌, length, slice_get, Some, Contains};
 ghost use Rattle.std.specs.Borrow.{sem};
 ghost use Rattle.std.specs.Map.Iter.{deref_pair_mut};
@@ -11,7 +11,7 @@ use std::hash::Hash;
 impl<K: Eq + Hash, V, L: Limiter<K, V>, S: KeyHasher<K>> LruMap<K, V, L, S> {
     ghost use Rattle.schnellru.specs.Lending.Values.{lends_value_at};
 
-    // The bucket of the newest pair, and that of the oldest.
+    // The buckets of the newest and of the oldest pair.
     #[inline]
     pub(crate) fn ends(&self) -> (Option<usize>, Option<usize>)
         ensures newest { result.0 ≡ slice_get self.now.places 0 }
@@ -39,7 +39,7 @@ impl<K: Eq + Hash, V, L: Limiter<K, V>, S: KeyHasher<K>> LruMap<K, V, L, S> {
         self.entries.newer(b)
     }
 
-    // The pair at a position, counted from the newest on, whose bucket this is, with its value to be changed.
+    // Lends the pair in bucket `b`, which is at position `at` counted from the newest, its value for writing.
     #[inline]
     pub(crate) fn pair_at_mut(&mut self, at: usize, b: usize) -> (&K, &mut V)
         requires { slice_get self.old.places at ≡ Some b }
