@@ -1,6 +1,6 @@
 -- No two outcomes of a placing are the same, and no result is both.
 use Rattle.std.proofs.Common.{◌≡◌, Bool, Result, Ok, Err, arith}
-use Rattle.std.specs.Prelude.{IsOk, IsErr, IfOk}
+use Rattle.std.specs.Prelude.{IsOk, IsErr, IfOk, OnErr}
 use Rattle.std.specs.declared.alloc.AllocError.{AllocError}
 use Rattle.schnellru.specs.Place.{placed, refused, no_memory}
 
@@ -22,6 +22,11 @@ pub if_ok : {T E : Type 0} (result : Result T E) (P Q : T → Type 0) → ((v : 
     → IfOk result Q
 if_ok (Ok v) P Q more h = more v h
 if_ok (Err e) P Q more h = h
+
+-- what an error implies leads to more
+pub if_err : {T E P Q : Type 0} (result : Result T E) → (P → Q) → OnErr result P → OnErr result Q
+if_err (Ok v) more h = h
+if_err (Err e) more h = more h
 
 -- equal answers have equal flags
 pub same_kept : {E : Type 0} (x y : Bool) → ◌≡◌ {A = Result Bool E} (Ok x) (Ok y) → x ≡ y

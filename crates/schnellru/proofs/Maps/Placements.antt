@@ -44,16 +44,6 @@ module _ {K V S H : Type 0} (st : State K V S H) (ok : IsSized st) where
 
 module _ {K V S H : Type 0} (rules : Rules K V S) (hash_of : H → K → ℕ) (pair : K × V) (old new : State K V S H)
     (ok : IsSized old) where
-  -- the pair went into a bucket that the table has
-  pub bucket_place : (0 < room old) ⊎ (0 < length old.pairs) → IsPlaced pair (buckets old) (room new) 0 old new →
-      FillsBucket (hash_of old.hasher pair.0) old new → Place rules hash_of pair old placed new
-  bucket_place some step fills = in_bucket (within fills) some fills refl step
-    where
-      within : FillsBucket (hash_of old.hasher pair.0) old new → length old.pairs < full_capacity (buckets old)
-      within (inl (first, spends)) = omega (arith, spends, fits old ok)
-      within (inr (first, large, same)) = omega
-          (arith, (deleted_first_large old ok (hash_of old.hasher pair.0) first).1)
-
   -- the table was rehashed at its size
   pub rehash_place : (result : Result Bool AllocError) → HasNoBucket (hash_of old.hasher pair.0) old
       → length old.pairs < full_capacity (buckets old) / 2 →
@@ -126,8 +116,13 @@ module _ {K V S H : Type 0} (rules : Rules K V S) (hash_of : H → K → ℕ) (p
         → Place rules hash_of pair old outcome new
     untold_place none step = evicts_place old (no_target none refl) step
 
--- no bucket takes a pair for which a map has no place
 module _ {K V S H : Type 0} (st : State K V S H) (ok : IsSized st) (hash : ℕ) where
+  -- a table that fills a bucket holds fewer pairs than it may
+  pub fills_within : (new : State K V S H) → FillsBucket hash st new → length st.pairs < full_capacity (buckets st)
+  fills_within new (inl (first, spends)) = omega (arith, spends, fits st ok)
+  fills_within new (inr (first, large, same)) = omega (arith, (deleted_first_large st ok hash first).1)
+
+  -- no bucket takes a pair for which a map has no place
   pub no_place_bucket : HasNoPlace st.marks hash → HasNoBucket hash st
   no_place_bucket (inl none) = record {
     no_room = no_room st.marks none;

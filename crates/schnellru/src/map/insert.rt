@@ -3,7 +3,8 @@ ghost use Rattle.std.specs.Prelude.{◌≡◌, ◌⊎◌, ℕ, ◌+◌, true, fa
 ghost use Rattle.std.specs.Prelude.{if◌then◌else◌, IsTrue};
 ghost use Rattle.schnellru.specs.Lists.{first, lookup_entry, is_empty, IsFront};
 ghost use Rattle.schnellru.specs.State.{contents, trim, Leaves, IsMap};
-ghost use Rattle.schnellru.specs.Inserts.{Insert, PlacesNew, LacksMemory, make_room};
+ghost use Rattle.schnellru.specs.Inserts.{Insert, PlacesNew, PlacesAndTrims, LacksMemory, make_room};
+ghost use Rattle.schnellru.specs.Place.{HasNoBucket};
 ghost use Rattle.schnellru.specs.Theorems.{SaysWhether, Stores};
 ghost use Rattle.schnellru.specs.HandedOver.{noting, noting_offers, noted, Takes, InsertHands};
 ghost use Rattle.schnellru.specs.Inside.Handing.{Hands};
@@ -177,7 +178,30 @@ impl<K: Eq + Hash + Drop, V: Drop, L: Limiter<K, V>, S: KeyHasher<K>> LruMap<K, 
         ensures callable { F.IsAlwaysCallable sink.new }
     {
         self.make_room(sink);
-        if !self.store(hash, pair, sink)? {
+        match self.store_in_bucket(hash, pair) {
+            Ok(()) => Ok(self.evict_over_limit(sink)),
+            Err(pair) => self.insert_without_bucket(hash, pair, sink),
+        }
+    }
+
+    // Stores a pair that no bucket takes, and evicts what is over the limit then. Under `ByMemoryUsage` each new pair may
+    // come here. Out of line, so that the code of other inserts stays short.
+    #[inline(never)]
+    fn insert_without_bucket<F: FnMut(K, V)>(
+        &mut self,
+        hash: u64,
+        pair: (K, V),
+        sink: &mut F,
+    ) -> Result<bool, AllocError>
+        requires callable { F.IsAlwaysCallable sink.old }
+        requires hash { hash ≡ S.hash_of self.old.hasher pair.0 }
+        requires absent { lookup_entry (K.eq pair.0) self.old.pairs ≡ None }
+        requires no_bucket { HasNoBucket hash self.old }
+        ensures handed { Hands F.FnMut sink.old sink.new (λ before after. PlacesAndTrims (noting L.rules)
+            S.hash_of pair (noted before self.old) result (noted after self.new)) }
+        ensures callable { F.IsAlwaysCallable sink.new }
+    {
+        if !self.store_without_bucket(hash, pair, sink)? {
             return Ok(false);
         }
         Ok(self.evict_over_limit(sink))

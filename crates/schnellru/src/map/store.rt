@@ -19,33 +19,29 @@ use std::alloc::AllocError;
 use std::hash::Hash;
 
 impl<K: Eq + Hash + Drop, V: Drop, L: Limiter<K, V>, S: KeyHasher<K>> LruMap<K, V, L, S> {
-    // Stores a pair whose key is new and has this hash, as the newest. Returns whether the pair is stored.
-    #[inline]
-    pub(crate) fn store<F: FnMut(K, V)>(
-        &mut self,
-        hash: u64,
-        pair: (K, V),
-        sink: &mut F,
-    ) -> Result<bool, AllocError>
-        requires callable { F.IsAlwaysCallable sink.old }
+    // Stores a pair whose key is new and has this hash in a free bucket, as the newest. Returns the pair if none takes it.
+    #[inline(always)]
+    pub(super) fn store_in_bucket(&mut self, hash: u64, pair: (K, V)) -> Result<(), (K, V)>
         requires hash { hash ≡ S.hash_of self.old.hasher pair.0 }
         requires absent { lookup_entry (K.eq pair.0) self.old.pairs ≡ None }
-        ensures handed { Hands F.FnMut sink.old sink.new (λ before after. Place (noting L.rules)
-            S.hash_of pair (noted before self.old) (outcome_of result) (noted after self.new)) }
-        ensures callable { F.IsAlwaysCallable sink.new }
+        ensures within { OnOk result (length self.old.pairs < full_capacity (buckets self.old)) }
+        ensures some { OnOk result ((0 < room self.old) ⊎ (0 < length self.old.pairs)) }
+        ensures placed { OnOk result (IsPlaced pair (buckets self.old) (room self.new) 0 self.old self.new) }
+        ensures fills { OnOk result (FillsBucket hash self.old self.new) }
+        ensures returned { IfErr result (λ back. back ≡ pair) }
+        ensures unchanged { OnErr result (self.new ≡ self.old) }
+        ensures no_bucket { OnErr result (HasNoBucket hash self.old) }
     {
+        // (Without pairs a rehash needs no memory, and gives all growth left back.)
         if self.entries.room() == 0 && self.entries.len() == 0 {
-            return self.store_without_bucket(hash, pair, sink);
+            return Err(pair);
         }
-        match self.store_in_bucket(hash, pair) {
-            Ok(()) => Ok(true),
-            Err(pair) => self.store_without_bucket(hash, pair, sink),
-        }
+        self.fill_bucket(hash, pair)
     }
 
     // Stores the pair in the first free bucket, if the table may fill that one.
     #[inline(always)]
-    fn store_in_bucket(&mut self, hash: u64, pair: (K, V)) -> Result<(), (K, V)>
+    fn fill_bucket(&mut self, hash: u64, pair: (K, V)) -> Result<(), (K, V)>
         requires hash { hash ≡ S.hash_of self.old.hasher pair.0 }
         requires absent { lookup_entry (K.eq pair.0) self.old.pairs ≡ None }
         ensures placed { OnOk result (IsPlaced pair (buckets self.old) (room self.new) 0 self.old self.new) }
@@ -61,10 +57,8 @@ impl<K: Eq + Hash + Drop, V: Drop, L: Limiter<K, V>, S: KeyHasher<K>> LruMap<K, 
         Ok(())
     }
 
-    // Stores a pair that no bucket takes, after a change of the table. Under `ByMemoryUsage` each new pair may come
-    // here.
-    #[inline(never)]
-    fn store_without_bucket<F: FnMut(K, V)>(
+    // Stores a pair that no bucket takes, after a change of the table. Returns whether the pair is stored.
+    pub(super) fn store_without_bucket<F: FnMut(K, V)>(
         &mut self,
         hash: u64,
         pair: (K, V),
@@ -159,7 +153,7 @@ impl<K: Eq + Hash + Drop, V: Drop, L: Limiter<K, V>, S: KeyHasher<K>> LruMap<K, 
             if self.entries.len() < half {
                 return self.store_after_move(buckets, hash, pair, sink);
             }
-            match self.store_in_bucket(hash, pair) {
+            match self.fill_bucket(hash, pair) {
                 Ok(()) => return Ok(true),
                 Err(back) => pair = back,
             }
@@ -212,7 +206,7 @@ impl<K: Eq + Hash + Drop, V: Drop, L: Limiter<K, V>, S: KeyHasher<K>> LruMap<K, 
         requires exact { length self.old.pairs + room self.old ≡ full_capacity (buckets self.old) }
         ensures { IsPlaced pair (buckets self.old) (room self.old - 1) 0 self.old self.new }
     {
-        match self.store_in_bucket(hash, pair) {
+        match self.fill_bucket(hash, pair) {
             Ok(()) => {}
             Err(_) => unreachable!(),
         }

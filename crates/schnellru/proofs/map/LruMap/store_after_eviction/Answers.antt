@@ -40,8 +40,8 @@ store_after_move-requires-clause-usable g c =
     ∙ ap (λ st. st.entry_bytes) c.evictions.invariant.leaves.is in
     rw (bytes, same) ok.usable
 
-pub store_in_bucket-requires-clause-absent : goal.store_in_bucket-requires-clause-absent
-store_in_bucket-requires-clause-absent g c =
+pub fill_bucket-requires-clause-absent : goal.fill_bucket-requires-clause-absent
+fill_bucket-requires-clause-absent g c =
     let i = c.evictions.invariant in
     subst (λ p. lookup_entry (g.K.PartialEq.eq p.0) c.take_oldest-key.new.self.pairs ≡ None) (sym i.same_pair)
     (left_absent g.L.Limiter.rules c.args.hash c.args.pair c.args.self.now c.evictions.self c.take_oldest-key.new.self
@@ -81,7 +81,7 @@ returns-in-Ok-clause-handed g c =
     let m = c.self.inside in let n = c.self-in-evictions.inside in let i = c.evictions.invariant in
     let rules = g.L.Limiter.rules in let old = c.args.self.now in let st = c.evictions.self in
     let u = c.take_oldest-key.new.self in let pair = c.take_oldest-key.result in
-    let new = c.store_in_bucket.new.self in
+    let new = c.fill_bucket.new.self in
     let takes : c.full_capacity-half.result ≡ full_capacity (buckets old) =
     rw (← c.self.view_is) (c.full_capacity-half.ensures
     ∙ ap full_capacity (c.buckets-buckets.ensures.buckets ∙ sym (length-marks_of m.entries.slots))) in
@@ -125,7 +125,7 @@ evictions-smaller g c =
     let one = one_fewer g.L.Limiter.rules c.args.hash c.args.pair c.args.self.now c.evictions.self
     c.take_oldest-key.new.self (subst IsSized c.self.view_is c.self.invariant.map.sized)
     (c.requires.some, c.requires.outgrown.no_bucket.no_room) i.n i.gone i.some i.half i.no_place i.no_room c.take_oldest-key.ensures.state in
-    let fewer : length c.store_in_bucket.new.self.pairs < length c.evictions.self.pairs = omega
+    let fewer : length c.fill_bucket.new.self.pairs < length c.evictions.self.pairs = omega
     (arith, one, ap (λ st. length st.pairs) c.in-Err.ensures.unchanged) in fewer
 
 pub evictions-preserved : goal.evictions-preserved

@@ -1,0 +1,44 @@
+use Rattle.std.proofs.Common.{◌≡◌, ◌+◌, length, sym, subst}
+use Rattle.group_table.specs.Sizes.{full_capacity}
+use Rattle.schnellru.specs.State.{buckets, room}
+use Rattle.schnellru.specs.Inside.Holds.{state_of}
+use Rattle.schnellru.proofs.TableSizes.FilledBuckets.{fills_exact}
+use Rattle.schnellru.proofs.Maps.Fields.{beside_of}
+use Rattle.schnellru.proofs.OrderedTables.Landings.{lands_placed, lands_fills, lands_holds}
+use Rattle.schnellru.proofs.map.LruMap.fill_bucket.Goals as goal
+
+pub invariant_of-self-2 : goal.invariant_of-self-2
+invariant_of-self-2 g c =
+    let m = c.self.inside in let e = c.in_ok-place.ensures in let holds = c.self.invariant in
+    let rest = beside_of m (g.L.LinkType.LinkType.number g.L.LinkType.LinkType.MAX) in
+    rw c.saturating_add-self-inside.ensures
+    (lands_holds m.entries c.place.new.self c.args.hash c.args.pair e.placed.0 holds.linked e.placed.1 rest
+    holds.map.sized _ holds
+    e.linked (e.fits _ holds.fits (sym (rw (← c.self.view_is) at c.requires.hash)))
+    (rw (← c.self.view_is) at c.requires.absent))
+
+pub returns-clause-placed : goal.returns-clause-placed
+returns-clause-placed g c =
+    let m = c.self.inside in let e = c.in_ok-place.ensures in let holds = c.self.invariant in
+    let rest = beside_of m (g.L.LinkType.LinkType.number g.L.LinkType.LinkType.MAX) in
+    rw (← c.self.view_is, c.saturating_add-self-inside.ensures)
+    (lands_placed m.entries c.place.new.self c.args.hash c.args.pair e.placed.0 holds.linked e.placed.1 rest
+    holds.map.sized)
+
+pub returns-clause-fills : goal.returns-clause-fills
+returns-clause-fills g c =
+    let m = c.self.inside in let e = c.in_ok-place.ensures in let holds = c.self.invariant in
+    let rest = beside_of m (g.L.LinkType.LinkType.number g.L.LinkType.LinkType.MAX) in
+    rw (← c.self.view_is)
+    (lands_fills m.entries c.place.new.self c.args.hash c.args.pair e.placed.0 holds.linked e.placed.1 rest
+    holds.map.sized)
+
+pub returns-clause-spends : goal.returns-clause-spends
+returns-clause-spends g c =
+    let m = c.self.inside in
+    let rest = beside_of m (g.L.LinkType.LinkType.number g.L.LinkType.LinkType.MAX) in
+    let old = state_of m.entries rest in
+    subst (λ st. length st.pairs + room st ≡ full_capacity (buckets st) → room (state_of c.place.new.self rest) + 1
+    ≡ room st) c.self.view_is
+    (fills_exact old c.self.invariant.map.sized c.args.hash (state_of c.place.new.self rest)
+    (rw (← c.self.view_is) at (returns-clause-fills g c)))
