@@ -9,7 +9,7 @@ use Rattle.lru_limits.specs.Rules.{Rules, Offers}
 use Rattle.schnellru.specs.Lists.{lookup, lookup_entry}
 use Rattle.schnellru.specs.State.{State}
 use Rattle.schnellru.specs.Calls.{promoted}
-use Rattle.schnellru.specs.Inserts.{Insert}
+use Rattle.schnellru.specs.Inserts.{Insert, LacksMemory}
 use Rattle.schnellru.specs.Theorems.{IsNewest}
 
 module _ {K V S H I : Type 0} (rules : Rules K V S) (offers : Offers K V S I) (names : I → K → Bool)
@@ -24,6 +24,10 @@ module _ {K V S H I : Type 0} (rules : Rules K V S) (offers : Offers K V S I) (n
     inserted : lookup (names i) old.pairs ≡ None →
         (v : V) → makes v → Insert rules offers names hash_of i v old result new →
         MakesNewest makes i old result new
+
+  -- why it fails: the closure returned v, and the insert of v ran out of memory
+  abbrev pub LacksMemoryFor : (makes : V → Type 0) → I → State K V S H → State K V S H → Type 0
+  LacksMemoryFor makes i old new = (v : V) × makes v × LacksMemory rules offers names hash_of i v old new
 
 module _ {K V S H E : Type 0} where
   -- true says that the key is there, as the newest; false, or an error, that it is not there

@@ -1,6 +1,6 @@
 -- What the answer of a get that inserts says.
 use Rattle.std.proofs.Common.{◌≡◌, ℕ, Bool, true, false, List, Option, Some, None, Result, Ok, Err, refl, sym, ◌∙◌}
-use Rattle.std.proofs.Common.{option_map}
+use Rattle.std.proofs.Common.{option_map, arith}
 use Rattle.std.specs.declared.alloc.AllocError.{AllocError}
 use Rattle.std.proofs.lemmas.Option.{none-some}
 use Rattle.lru_limits.specs.Rules.{Rules, Offers}
@@ -8,7 +8,7 @@ use Rattle.lru_limits.specs.Laws.{IsLookup, IsInsertion}
 use Rattle.schnellru.specs.Lists.{lookup, lookup_entry, without, front, after}
 use Rattle.schnellru.specs.State.{State}
 use Rattle.schnellru.specs.Theorems.{IsNewest, SaysWhether}
-use Rattle.schnellru.specs.GetOrInserts.{MakesNewest, got, inserted, SaysNewest}
+use Rattle.schnellru.specs.GetOrInserts.{MakesNewest, got, inserted, SaysNewest, LacksMemoryFor}
 use Rattle.schnellru.specs.IfMade as if_made
 use Rattle.schnellru.specs.IfMade.{MakesNewestIfMade, or_memory}
 use Rattle.schnellru.specs.declared.map.get_or_insert.GetOrInsertError.{GetOrInsertError}
@@ -16,6 +16,10 @@ use Rattle.schnellru.proofs.PairLists.DistinctKeys.{AreDistinct}
 use Rattle.schnellru.proofs.Theorems.Fronts.{found_named}
 use Rattle.schnellru.proofs.PairLists.NamedPairs.{lookup-entry}
 use Rattle.schnellru.proofs.Theorems.InsertAnswers.{insert_says}
+use Rattle.schnellru.proofs.Theorems.LackOfMemory.{err_is}
+use Rattle.schnellru.proofs.Maps.Outcomes.{ok-not_err}
+use Rattle.schnellru.specs.declared.map.get_or_insert.GetOrInsertError.TheVariants.{Memory}
+use Rattle.std.specs.Prelude.{IsErr}
 
 -- a named pair that is there comes first
 first_named : {K V : Type 0} (names : K → Bool) (xs : List (K × V)) (w : V) → lookup names xs ≡ Some w
@@ -73,3 +77,24 @@ module _ {K V S H I E : Type 0} {rules : Rules K V S} {offers : Offers K V S I} 
   says_if_made {result} {new} d (if_made.failed none e made r step) = rw r (rw step (no_pair (names i) old.pairs none))
   says_if_made {result} {new} d (if_made.inserted none v made flag step r) =
       rw r (says_or_memory rules (names i) new E flag (insert_says looks_up laws d step))
+
+-- why it runs out of memory
+module _ {K V S H I : Type 0} {rules : Rules K V S} {offers : Offers K V S I} {names : I → K → Bool}
+    {hash_of : H → K → ℕ} {i : I} {old new : State K V S H} where
+  pub makes_lacks : {makes : V → Type 0} {result : Result Bool AllocError} → IsErr result
+      → MakesNewest rules offers names hash_of makes i old result new
+      → LacksMemoryFor rules offers names hash_of makes i old new
+  makes_lacks {result = result} h (got w there r step) = ok-not_err result (rw r refl) h
+  makes_lacks h (inserted absent v made step) = (v, made, err_is h step)
+
+  pub lacks_if_made : {E : Type 0} {makes : Result V E → Type 0} {result : Result Bool (GetOrInsertError E)}
+      → result ≡ Err Memory → MakesNewestIfMade rules offers names hash_of makes i old result new
+      → LacksMemoryFor rules offers names hash_of (λ v. makes (Ok v)) i old new
+  lacks_if_made h (if_made.got w there r step) = absurd (grind (arith, sym r ∙ h))
+  lacks_if_made h (if_made.failed none e made r step) = absurd (grind (arith, sym r ∙ h))
+  lacks_if_made {E} h (if_made.inserted none v made flag step r) = (v, made, err_is (failed flag (sym r ∙ h)) step)
+    where
+      failed : (flag : Result Bool AllocError) → ◌≡◌ {A = Result Bool (GetOrInsertError E)} (or_memory flag) (Err Memory)
+          → IsErr flag
+      failed (Ok b) e = absurd (grind (arith, e))
+      failed (Err a) e = refl

@@ -1,8 +1,8 @@
 //! Getting a value, which is inserted if its key is not there.
-ghost use Rattle.std.specs.Prelude.{◌≡◌, None};
+ghost use Rattle.std.specs.Prelude.{◌≡◌, None, Ok, OnErr, IsErrOf};
 ghost use Rattle.schnellru.specs.Lists.{lookup};
 ghost use Rattle.schnellru.specs.State.{IsMap};
-ghost use Rattle.schnellru.specs.GetOrInserts.{MakesNewest, SaysNewest};
+ghost use Rattle.schnellru.specs.GetOrInserts.{MakesNewest, SaysNewest, LacksMemoryFor};
 ghost use Rattle.schnellru.specs.IfMade.{MakesNewestIfMade};
 ghost use Rattle.std.specs.Borrow.{sem};
 ghost use Rattle.schnellru.specs.Lending.Answers.{kept_of};
@@ -90,6 +90,8 @@ impl<K: Eq + Hash + Drop, V: Drop, L: Limiter<K, V>, S: KeyHasher<K>> LruMap<K, 
         requires { lookup (I.names key) self.old.pairs ≡ None → F.pre make }
         ensures step { MakesNewest L.rules L.offers I.names S.hash_of (F.post make) key self.old result self.new }
         ensures says { SaysNewest (I.names key) result self.new }
+        ensures lacks { OnErr result
+            (LacksMemoryFor L.rules L.offers I.names S.hash_of (F.post make) key self.old self.new) }
         ensures map { IsMap K.eq self.new }
     {
         // Nothing at run time: it opens the map, whose invariant is the clause `map`.
@@ -197,6 +199,8 @@ impl<K: Eq + Hash + Drop, V: Drop, L: Limiter<K, V>, S: KeyHasher<K>> LruMap<K, 
         ensures step { MakesNewestIfMade L.rules L.offers I.names S.hash_of
             (F.post make) key self.old result self.new }
         ensures says { SaysNewest (I.names key) result self.new }
+        ensures lacks { IsErrOf result GetOrInsertError.Memory → LacksMemoryFor L.rules L.offers I.names S.hash_of
+            (λ value. F.post make (Ok value)) key self.old self.new }
         ensures map { IsMap K.eq self.new }
     {
         // Nothing at run time: it opens the map, whose invariant is the clause `map`.

@@ -1,6 +1,7 @@
 use Rattle.std.proofs.Common.{subst}
 use Rattle.schnellru.specs.State.{IsMap}
-use Rattle.schnellru.proofs.Theorems.GetOrInserts.{makes_says}
+use Rattle.schnellru.proofs.Theorems.GetOrInserts.{makes_says, makes_lacks}
+use Rattle.schnellru.proofs.Theorems.LackOfMemory.{on_err}
 use Rattle.schnellru.proofs.map.LruMap.ensure_newest.Goals as goal
 
 pub returns-clause-says : goal.returns-clause-says
@@ -8,3 +9,6 @@ returns-clause-says g c =
     let old : IsMap g.K.PartialEq.eq c.args.self.now = subst
     (IsMap g.K.PartialEq.eq) c.self.view_is c.self.invariant.map in
     makes_says g.met.I.LookupKey.laws g.met.L.Insertion.laws old.distinct c.make_newest-answer.ensures
+
+pub returns-clause-lacks : goal.returns-clause-lacks
+returns-clause-lacks g c = on_err _ (λ failed. makes_lacks failed c.make_newest-answer.ensures)

@@ -1,6 +1,6 @@
 use Rattle.std.proofs.Common.{subst}
 use Rattle.schnellru.specs.State.{IsMap}
-use Rattle.schnellru.proofs.Theorems.GetOrInserts.{says_if_made}
+use Rattle.schnellru.proofs.Theorems.GetOrInserts.{says_if_made, lacks_if_made}
 use Rattle.schnellru.proofs.map.LruMap.ensure_newest_fallible.Goals as goal
 
 pub returns-clause-says : goal.returns-clause-says
@@ -8,3 +8,6 @@ returns-clause-says g c =
     let old : IsMap g.K.PartialEq.eq c.args.self.now = subst
     (IsMap g.K.PartialEq.eq) c.self.view_is c.self.invariant.map in
     says_if_made g.met.I.LookupKey.laws g.met.L.Insertion.laws old.distinct c.make_newest_if_made-answer.ensures
+
+pub returns-clause-lacks : goal.returns-clause-lacks
+returns-clause-lacks g c = λ failed. lacks_if_made failed c.make_newest_if_made-answer.ensures
