@@ -5,7 +5,7 @@ use Rattle.lru_limits.specs.Rules.{Rules, Offers}
 use Rattle.schnellru.proofs.HandingLemmas.{plain_insert}
 use Rattle.schnellru.specs.Runs.{inserts, makes_newest, gets, removes, pops_oldest, drains, clears, reserves, shrinks}
 use Rattle.schnellru.specs.Runs.{calls as any_call, writes, sets_limiter, StepAmong, Run, ends, goes_on}
-use Rattle.schnellru.specs.State.{State, IsMap, IsSized}
+use Rattle.schnellru.specs.State.{State, IsMap}
 use Rattle.lru_replay.specs.CallRuns.{IsRun, CallStep, SummingStep, NamesAmong}
 use Rattle.lru_replay.specs.Replies.{Reply}
 use Rattle.lru_replay.specs.Steps.{ReplyStep}

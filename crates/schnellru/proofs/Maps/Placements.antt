@@ -11,7 +11,7 @@ use Rattle.group_table.specs.Change.{HasNoPlace}
 use Rattle.lru_limits.specs.Rules.{Rules}
 use Rattle.schnellru.specs.Sizes.{no_table, new_table}
 use Rattle.schnellru.specs.State.{State, buckets, room, contents, IsSized, Leaves, pop, pops}
-use Rattle.schnellru.specs.Place.{Place, in_bucket, rehashed, grown, not_grown, HasNoBucket, IsOutgrown, CannotGrow}
+use Rattle.schnellru.specs.Place.{Place, rehashed, grown, not_grown, HasNoBucket, IsOutgrown, CannotGrow}
 use Rattle.schnellru.specs.Place.{no_target, denied, Evicts, nothing_to_evict, finds_bucket, rehashes, OldestLeave}
 use Rattle.schnellru.specs.Place.{Outcome, outcome_of, placed, no_memory, IsPlaced, IsPlacedIfMemory}
 use Rattle.schnellru.specs.Place.{LacksRoom, FillsBucket, table_for}
