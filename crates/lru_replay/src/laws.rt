@@ -89,8 +89,8 @@ pub fn calls_keep_the_cost<K: Eq + Hash + Drop, V: Costed + Drop, S: KeyHasher<K
 
 /// If the limiter permits every growth, as `ByLength`, `ByCost` and the unlimited ones do, and the tables that the
 /// pairs may need are within the reach of links and bytes, a run is one on a list of pairs with distinct keys that has
-/// no table: the list and the limiter determine each answer and each state. Those tables are within reach, if one for
-/// eight times as many pairs as there are pairs and calls is.
+/// no table: the list and the limiter determine each answer and each state (`exact`). With n pairs and m calls, those
+/// tables are within reach if a table for 8 * (n + m + 1) pairs is (`reached`).
 pub fn granted_calls_are_exact<K: Eq + Hash, V, L: Insertion<K, V, K>, S: KeyHasher<K>>()
     ensures exact { (old new : State K V L S) (calls : List (Call K V L)) (replies : List (Reply K V)) →
         AlwaysGrants L.rules → HasTables old →

@@ -9,6 +9,10 @@
 --     hands_over-determined, charges-determined      it leaves nothing open, nor does the limiter by a cost
 --     hands_over-finds, charges-finds                and both find the memory that they ask for
 --     plain-grants, by_cost-grants                   where a limiter permits every growth
+--     plain-changes_none, by_cost-changes_none       limiters that change no pair as it leaves
+--     hands_over-accepts, charges-accepts            when they accept a pair of a new key
+--     stored_key-same      a key that equals no other key is stored as it came
+--     stored-came          and so is the pair, by a limiter that stores pairs as they come
 --     inserted-found       under such a limiter, after an insert that answered true, a look-up finds the value
 --     inserted-only        whatever it answered, a look-up finds no other one
 --     inserted-all         what holds of each pair holds of each after an insert, if it holds of the inserted one
@@ -34,6 +38,9 @@ pub use Rattle.schnellru.proofs.Theorems.Fronts.{found_named}
 pub use Rattle.schnellru.proofs.Theorems.Limits.{length-without}
 pub use Rattle.schnellru.proofs.TableSizes.ReachedTables.{has_tables}
 pub use Rattle.schnellru.proofs.Theorems.Runs.{any_step_same}
+pub use Rattle.schnellru.proofs.Theorems.StoringLimiters.{plain-changes_none, by_cost-changes_none}
+pub use Rattle.schnellru.proofs.Theorems.StoringLimiters.{hands_over-accepts, charges-accepts, stored_key-same}
+pub use Rattle.schnellru.proofs.Theorems.StoringLimiters.{stored-came}
 pub use Rattle.schnellru.proofs.Theorems.Sums.{sum-set}
 pub use Rattle.schnellru.proofs.Theorems.SmallTables.{Shape, shape, same_shape, look_alike, with_left, left_shape}
 pub use Rattle.schnellru.proofs.Theorems.Shrinks.{shrink_contents}

@@ -7,11 +7,14 @@ pub mod PaidMoves
 pub mod CountedPlacings
 pub mod Fronts
 pub mod InsertAnswers
+pub mod StoringLimiters
 pub mod PlainInserts
 pub mod HandedPairs
+pub mod NothingLost
 pub mod LackOfMemory
 pub mod Exactness
 pub mod GrantedGrowth
+pub mod RoomyInserts
 pub mod Sums
 pub mod Limits
 pub mod RefusedGrowth
@@ -28,3 +31,4 @@ pub mod Removals
 pub mod GetOrInserts
 pub mod KeySearches
 pub mod CostLimits
+pub mod NewestInserts

@@ -11,6 +11,7 @@ pub mod Theorems
 pub mod GetOrInserts
 pub mod IfMade
 pub mod Exact
+pub mod Kept
 pub mod ByHash
 pub mod Inside
 pub mod Lending

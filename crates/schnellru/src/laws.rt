@@ -1,4 +1,5 @@
-//! What is proved of inserts and other single calls, of each call (`calls`) and of lists of calls (`runs`).
+//! What is proved of inserts and other single calls, of what inserts keep (`kept`), of each call (`calls`) and of lists
+//! of calls (`runs`).
 //! Each theorem is the contract of a function that does nothing.
 
 ghost use Rattle.std.specs.Prelude.{◌≡◌, ◌≢◌, ℕ, ◌≤◌, ◌<◌, ◌+◌, ◌*◌, ◌/◌, ◌⊎◌, ◌∷◌, Bool, false, Option, Some, None};
@@ -25,12 +26,17 @@ use lru_limits::{ByLength, ByMemoryUsage, Insertion, KeyHasher, Limiter, LookupK
 use std::hash::Hash;
 
 mod calls;
+mod kept;
 mod runs;
 mod shrinks;
 
 pub use calls::{
     calls_add_one_pair, calls_give_up_the_oldest, calls_keep_maps, calls_keep_sums,
     calls_keep_the_cost, calls_keep_the_length, calls_keep_the_memory_usage, calls_pay_for_moves,
+};
+pub use kept::{
+    inserts_leave_the_newest, inserts_with_room_are_exact, maps_keep_to_their_length,
+    nothing_is_lost,
 };
 pub use runs::{
     runs_begin_with_maps, runs_give_up_the_oldest, runs_keep_maps, runs_keep_sums,

@@ -46,13 +46,13 @@ pub const DEFAULT_ENTRY_BYTES: usize = 32;
 /// # The bytes of an entry
 ///
 /// Each constructor takes the number of bytes of a bucket, as `entry_bytes`. `memory_usage` counts by this number, and
-/// so do the sizes that a limiter is asked to permit. To compute it, add the bytes of a key, a value and two links, and
-/// round up to the greatest alignment among them. For `u64` keys, `u32` values and links of 32 bits these are 8 + 4 + 4
-/// + 4 = 20, rounded up to 24. For `u64` keys and values and links of 64 bits they are 32.
+/// so do the sizes that a limiter is asked to permit. A bucket has two links of a type `N`, and then a key and a value,
+/// so the number is `size_of::<(N, N, (K, V))>()`. It is 24 for `u64` keys, `u32` values and links of 32 bits, and 32
+/// for `u64` keys and values and links of 64 bits.
 ///
 /// The number does not change the memory that the map takes. If it is too small, `ByMemoryUsage` permits tables that
 /// take more memory than its limit. If it is too great, `ByMemoryUsage` refuses tables that would fit. A table whose
-/// bytes by this number would pass `usize::MAX` is never made.
+/// bytes by this number would pass `isize::MAX - 15` is never made.
 ///
 /// # The width of links
 ///

@@ -1,11 +1,16 @@
 //! Callers of a map whose own contracts rest on those of its calls: the code of docs/CALLING.md.
-ghost use Rattle.std.specs.Prelude.{◌≡◌, ◌≤◌, length, nat_eq, Some, Ok, IfOk, true};
+ghost use Rattle.std.specs.Prelude.{◌≡◌, ◌≤◌, ℕ, ◌∷◌, ◌++◌, List, length, reverse, take, nat_eq, Some, None, Ok, IfOk};
+ghost use Rattle.std.specs.Prelude.{OnOk, OnErr, true};
 ghost use Rattle.std.specs.List.{All};
-ghost use Rattle.schnellru.specs.Lists.{lookup};
+ghost use Rattle.schnellru.specs.Lists.{lookup, lookup_entry, without};
+ghost use Rattle.schnellru.specs.HandedOver.{Takes};
+ghost use Rattle.schnellru.specs.Kept.{KeepsToLength};
 ghost use Rattle.schnellru.specs.Theorems.{IsSummed, KeepsValues};
 
-use schnellru::{ByCost, ByLength, Insertion, LruMap, RandomState, Summing, laws};
-use std::alloc::AllocError;
+use schnellru::{
+    ByCost, ByLength, Insertion, LruMap, RandomState, ReserveError, Summing, UnlimitedCompact, laws,
+};
+use std::alloc::{AllocError, Global};
 use std::hash::Hash;
 use std::test::Fail;
 
@@ -93,6 +98,62 @@ fn exchange(
     map.insert(new, value)
 }
 
+/// Inserts a pair, and shows the callback what leaves. If the pair is in the map then, the pairs that are left, and then
+/// those that the callback was shown, oldest last, are that pair and the others in their order: nothing is lost.
+fn put_and_show<F: FnMut(u64, u64)>(
+    map: &mut LruMap<u64, u64>,
+    key: u64,
+    value: u64,
+    callback: &mut F,
+) -> Result<bool, AllocError>
+    requires callable { F.IsAlwaysCallable callback.old }
+    ensures shown { result ≡ Ok true → (handed : List (ℕ × ℕ)) × Takes F.FnMut callback.old handed callback.new
+        × (map.new.pairs ++ reverse handed ≡ (key, value) ∷ without (nat_eq key) map.old.pairs) }
+{
+    laws::nothing_is_lost::<u64, u64, u64, ByLength, RandomState>();
+    map.insert_with(key, value, callback)
+}
+
+/// Adds a pair of a new key to all the others, or returns why the table has no growth left. It evicts nothing.
+fn put_and_keep_all(
+    map: &mut LruMap<u64, u64, UnlimitedCompact>,
+    key: u64,
+    value: u64,
+) -> Result<(), ReserveError>
+    requires { lookup_entry (nat_eq key) map.old.pairs ≡ None }
+    ensures added { OnOk result (map.new.pairs ≡ (key, value) ∷ map.old.pairs) }
+    ensures kept { OnErr result (map.new.pairs ≡ map.old.pairs) }
+{
+    laws::reservations_make_room::<u64, u64, UnlimitedCompact, RandomState>();
+    laws::reservations_keep_the_list::<u64, u64, UnlimitedCompact, RandomState>();
+    laws::inserts_with_room_are_exact::<u64, u64, u64, UnlimitedCompact, RandomState>();
+    let _ = map.len();
+    map.try_reserve(1)?;
+    let _ = map.insert(key, value);
+    Ok(())
+}
+
+/// Returns a map that keeps to its maximum length.
+fn map_of_length(alloc: Global, most: u32) -> LruMap<u64, u64>
+    requires { most ≤ 939524096 }
+    ensures { KeepsToLength result }
+{
+    laws::maps_keep_to_their_length::<u64, u64, RandomState>();
+    LruMap::new(alloc, ByLength::new(most), [1, 2, 3, 4], 24)
+}
+
+/// Inserts a pair into such a map. The map then has the newest pairs, up to its maximum length.
+fn put_newest(map: &mut LruMap<u64, u64>, key: u64, value: u64) -> Result<bool, AllocError>
+    requires { KeepsToLength map.old }
+    ensures newest { OnOk result
+        (map.new.pairs ≡ take map.old.limiter ((key, value) ∷ without (nat_eq key) map.old.pairs)) }
+    ensures keeps { KeepsToLength map.new }
+{
+    laws::inserts_leave_the_newest::<u64, u64, RandomState>();
+    laws::maps_keep_to_their_length::<u64, u64, RandomState>();
+    map.insert(key, value)
+}
+
 #[test]
 fn what_is_put_is_found(rt: HostRuntime) -> Result<(), Fail> {
     let mut map = LruMap::new(rt.alloc(), ByLength::new(2), [1, 2, 3, 4], 16);
@@ -122,5 +183,18 @@ fn laws_are_cited(rt: HostRuntime) -> Result<(), Fail> {
     assert!(rt; exchange(&mut costs, 1, 2, 7)?);
     assert!(rt; exchange(&mut costs, 2, 3, 9)?);
     assert_eq!(rt; costs.limiter().cost(), 9);
+    Ok(())
+}
+
+#[test]
+fn pairs_are_kept(rt: HostRuntime) -> Result<(), Fail> {
+    let mut map = map_of_length(rt.alloc(), 2);
+    assert!(rt; put_newest(&mut map, 1, 10)?);
+    assert!(rt; put_newest(&mut map, 2, 20)?);
+    let mut shown = 0u64;
+    assert!(rt; put_and_show(&mut map, 3, 30, &mut |key: u64, _: u64| shown = key)?);
+    assert_eq!(rt; (shown, map.len()), (1, 2));
+    let mut all = LruMap::new(rt.alloc(), UnlimitedCompact, [1, 2, 3, 4], 24);
+    assert_eq!(rt; put_and_keep_all(&mut all, 1, 10), Ok(()));
     Ok(())
 }

@@ -190,7 +190,14 @@ fn each_pair_is_passed_on_before_the_next_callback(rt: HostRuntime) -> Result<()
         (1, 0, (9, 83), (4, 40), false, (Ok(false), 4523, 400)),
         // The new pair, if there is no memory for the first table, and if there is none for a growth.
         (1, 0, (9, 84), (4, 40), true, (Err(AllocError), 4523, 400)),
-        (1, 3, (9, 1000), (4, 40), true, (Err(AllocError), 41_523, 400)),
+        (
+            1,
+            3,
+            (9, 1000),
+            (4, 40),
+            true,
+            (Err(AllocError), 41_523, 400),
+        ),
         // None, if the value is replaced.
         (1, 3, (9, 84), (2, 21), false, (Ok(true), 61, 0)),
     ] {

@@ -35,11 +35,14 @@ module _ {K V S H : Type 0} (st : State K V S H) where
   pub promoted_sized : (names : K → Bool) → IsSized st → IsSized (promoted names st)
   promoted_sized names ok = sized_with _ _ (length-front_pairs names st.pairs) ok
 
+  pub written_sized : (names : K → Bool) (value : V) → IsSized st → IsSized (written names value st)
+  written_sized names value ok = sized_with _ _ (length-set_value names st.pairs value) ok
+
   pub written_is_map : (names : K → Bool) (value : V) {eq : K → K → Bool} → IsMap eq st
       → IsMap eq (written names value st)
   written_is_map names value {eq} ok = record {
     distinct = subst (IsDistinct eq) (sym (keys-set_value names st.pairs value)) ok.distinct;
-    sized = sized_with _ _ (length-set_value names st.pairs value) ok.sized;
+    sized = written_sized names value ok.sized;
     paid = record { moved = ok.paid.moved; ahead = ok.paid.ahead };
   }
 

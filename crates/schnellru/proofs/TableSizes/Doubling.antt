@@ -12,7 +12,7 @@ use Rattle.schnellru.specs.Sizes.{same_table, new_table, table_with, target_from
 use Rattle.schnellru.proofs.TableSizes.Growth.{full_capacity-at_most, sizes_of, least_power_shape, buckets_double}
 use Rattle.schnellru.proofs.TableSizes.Growth.{table_with_is}
 
-least_power_upper : (n : ℕ) → 0 < n → least_power n < 2 * n
+pub least_power_upper : (n : ℕ) → 0 < n → least_power n < 2 * n
 unfolding least_power
 least_power_upper n h = first_power_upper 64 n 1 (omega arith)
 

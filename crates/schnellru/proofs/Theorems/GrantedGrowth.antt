@@ -1,15 +1,16 @@
--- Where the limiter permits every growth and there are tables, an insert is one into a list that has no table.
+-- If growth is left, or the limiter permits every growth and there are tables, an insert is one into a list that has no
+-- table.
 use Rattle.std.proofs.Common.{◌≡◌, ◌≢◌, ℕ, ◌+◌, ◌⊎◌, inl, inr, Bool, true, false, cond, length, None, Some, Result}
-use Rattle.std.proofs.Common.{refl, sym, ap, ◌∙◌, subst, arith}
+use Rattle.std.proofs.Common.{refl, sym, ap, ◌∙◌, subst, arith, ◌<◌, ◌≤◌}
 use Rattle.std.proofs.lemmas.Bool.{true≢false}
 use Rattle.std.specs.declared.alloc.AllocError.{AllocError}
 use native.Mathlib.Decide.{dec_lt}
 use Rattle.lru_limits.specs.Rules.{Rules, Offers}
 use Rattle.schnellru.specs.Sizes.{target, no_table}
-use Rattle.schnellru.specs.State.{State, Contents, contents, Leaves, pop}
+use Rattle.schnellru.specs.State.{State, Contents, contents, buckets, room, Leaves, pop}
 use Rattle.schnellru.specs.Place.{Place, in_bucket, rehashed, grown, not_grown}
 use Rattle.schnellru.specs.Place.{CannotGrow, no_target, denied, table_for, Outcome, placed, refused, no_memory, asked}
-use Rattle.schnellru.specs.Place.{IsPlaced, IsPlacedIfMemory}
+use Rattle.schnellru.specs.Place.{IsPlaced, IsPlacedIfMemory, FillsBucket}
 use Rattle.schnellru.specs.Inserts.{Insert, replaced, given_up, no_memory_to_admit, not_admitted, admitted, make_room}
 use Rattle.schnellru.specs.Inserts.{with_replaced, Settles, MayGive}
 use Rattle.schnellru.specs.Lists.{lookup_entry}
@@ -19,9 +20,8 @@ use Rattle.schnellru.proofs.Maps.LeavingPairs.{length-without_last}
 use Rattle.schnellru.proofs.Theorems.Exactness.{trimmed_ends}
 use Rattle.schnellru.proofs.Theorems.Moves.{left_are}
 
-module _ {K V S H : Type 0} (rules : Rules K V S) (grants : AlwaysGrants rules) (hash_of : H → K → ℕ) (pair : K × V)
-    (old : State K V S H) (tables : table_for 1 old ≢ no_table) where
-  -- the pair lands beside the others, or no memory is found for it
+module _ {K V S H : Type 0} (rules : Rules K V S) (pair : K × V) (old : State K V S H) where
+  -- the pair is stored with all the others, or there is no memory for it
   abbrev pub LandsBeside : Outcome → State K V S H → Type 0
   LandsBeside placed new = contents new ≡ (lands rules pair (contents old)).left
   LandsBeside refused new = ⊥
@@ -37,6 +37,23 @@ module _ {K V S H : Type 0} (rules : Rules K V S) (grants : AlwaysGrants rules) 
       → IsPlaced pair count spare moves old new → LandsBeside outcome new
   is_placed count spare moves outcome new o p = rw o (ap contents p.state)
 
+  -- filling a bucket uses at most one of the growth left
+  spare : {hash : ℕ} (new : State K V S H) → FillsBucket hash old new → room old ≤ room new + 1
+  spare new (inl e) = omega (arith, e.1)
+  spare new (inr d) = omega (arith, d.2)
+
+  -- with growth left the pair is stored in the same table
+  pub place_with_room : (hash_of : H → K → ℕ) → 0 < room old → (outcome : Outcome) (new : State K V S H)
+      → Place rules hash_of pair old outcome new
+      → (outcome ≡ placed) × IsPlaced pair (buckets old) (room new) 0 old new × (room old ≤ room new + 1)
+  place_with_room hash_of some outcome new (in_bucket l f s o p) = (o, p, spare new s)
+  place_with_room hash_of some outcome new (rehashed b l p m) = absurd (omega (arith, some, b.no_room))
+  place_with_room hash_of some outcome new (grown g count bytes t y m) = absurd
+      (omega (arith, some, g.no_bucket.no_room))
+  place_with_room hash_of some outcome new (not_grown g mid c e) = absurd (omega (arith, some, g.no_bucket.no_room))
+
+module _ {K V S H : Type 0} (rules : Rules K V S) (grants : AlwaysGrants rules) (hash_of : H → K → ℕ) (pair : K × V)
+    (old : State K V S H) (tables : table_for 1 old ≢ no_table) where
   -- the limiter is asked and stays
   asked_same : (bytes : ℕ) → contents (asked rules bytes old) ≡ contents old
   asked_same bytes = ap (λ s. record { pairs = old.pairs; limiter = s }) (grants old.limiter bytes).1
@@ -46,15 +63,15 @@ module _ {K V S H : Type 0} (rules : Rules K V S) (grants : AlwaysGrants rules) 
   no_refusal mid (denied count bytes t d e) = absurd (true≢false (sym (grants old.limiter bytes).0 ∙ d))
 
   pub place_granted : (outcome : Outcome) (new : State K V S H) → Place rules hash_of pair old outcome new
-      → LandsBeside outcome new
-  place_granted outcome new (in_bucket l f s o n) = is_placed _ _ _ outcome new o n
-  place_granted outcome new (rehashed b l some m) = if_memory old refl _ _ _ outcome new m
-  place_granted outcome new (grown g count bytes t y m) = if_memory (asked rules bytes old) (asked_same bytes) _ _ _
-      outcome new m
+      → LandsBeside rules pair old outcome new
+  place_granted outcome new (in_bucket l f s o n) = is_placed rules pair old _ _ _ outcome new o n
+  place_granted outcome new (rehashed b l some m) = if_memory rules pair old old refl _ _ _ outcome new m
+  place_granted outcome new (grown g count bytes t y m) =
+      if_memory rules pair old (asked rules bytes old) (asked_same bytes) _ _ _ outcome new m
   place_granted outcome new (not_grown g mid c e) = no_refusal mid c
 
 module _ {K V S H : Type 0} (rules : Rules K V S) (old : State K V S H) where
-  -- after way was made, there is one pair more to come than there were, or as many as there were
+  -- after room was made, there is one pair more to come than there were, or as many as there were
   way_length : (c : Contents K V S) → (length (make_room rules c).pairs ≡ length c.pairs)
       ⊎ (length (make_room rules c).pairs + 1 ≡ length c.pairs)
   way_length c = go (rules.is_over_the_limit c.limiter (length c.pairs + 1))
@@ -91,11 +108,9 @@ module _ {K V S H I : Type 0} (rules : Rules K V S) (offers : Offers K V S I) (n
   settles : lookup_entry (names i) old.pairs ≡ None → (s : S)
       → (pair : K × V) → MayGive rules offers names i v (contents old) s (Some pair) → (ready : State K V S H)
       → contents ready ≡ make_room rules (record { pairs = old.pairs; limiter = s })
-      → (tables : table_for 1 ready ≢ no_table) (grants : AlwaysGrants rules) (hash_of : H → K → ℕ)
-      (outcome : Outcome) (landed : State K V S H)
-      → LandsBeside rules grants hash_of pair ready tables outcome landed → Settles rules outcome landed result new
-      → EndsSo
-  settles a s pair n ready same tables grants hash_of placed landed beside t =
+      → (outcome : Outcome) (landed : State K V S H)
+      → LandsBeside rules pair ready outcome landed → Settles rules outcome landed result new → EndsSo
+  settles a s pair n ready same placed landed beside t =
       let left = beside ∙ ap (λ c. (lands rules pair c).left) same in
       ends (rw a (
         s,
@@ -104,19 +119,34 @@ module _ {K V S H I : Type 0} (rules : Rules K V S) (offers : Offers K V S I) (n
         subst (λ c. IsEnding (trimmed rules c) result (contents new)) left
             (trimmed_ends rules landed (contents landed) result new t.0 t.1),
       ))
-  settles a s pair n ready same tables grants hash_of refused landed beside t = absurd beside
-  settles a s pair n ready same tables grants hash_of no_memory landed beside t =
+  settles a s pair n ready same refused landed beside t = absurd beside
+  settles a s pair n ready same no_memory landed beside t =
       not_placed a s pair n t.0 (ap contents t.1 ∙ beside ∙ ap (λ c. (turns_away rules pair c).left) same)
 
-  -- Where growth is permitted, an insert is one into a list.
+  -- If each pair that the limiter returns is stored with all the others, an insert is one into a list.
+  pub insert_in_list : {hash_of : H → K → ℕ}
+      → ((s : S) (pair : K × V) → MayGive rules offers names i v (contents old) s (Some pair) → (ready : State K V S H)
+      → Leaves (record old { limiter = s }) (make_room rules (record { pairs = old.pairs; limiter = s })) ready
+      → (outcome : Outcome) (landed : State K V S H) → Place rules hash_of pair ready outcome landed
+      → LandsBeside rules pair ready outcome landed)
+      → Insert rules offers names hash_of i v old result new → EndsSo
+  insert_in_list beside (replaced pair found y r l) = ends (rw (found, y)
+      (trimmed_ends rules old (with_replaced rules offers names pair i v (contents old)) result new r l))
+  insert_in_list beside (given_up pair found y r l) = ends (rw (found, y) (r, left_are old _ new l))
+  insert_in_list beside (no_memory_to_admit a k r e) = not_offered a k r (ap contents e)
+  insert_in_list beside (not_admitted a s n r e) = ends (rw a (s, None, n, (r, ap contents e)))
+  insert_in_list beside (admitted a s pair n (ready, l, (outcome, landed, p, t))) =
+      settles a s pair n ready (ap contents l.is) outcome landed (beside s pair n ready l outcome landed p) t
+
+  -- So it is if growth is permitted and there are tables,
   pub insert_granted : {hash_of : H → K → ℕ} → AlwaysGrants rules → HasTables old
       → Insert rules offers names hash_of i v old result new → EndsSo
-  insert_granted grants tables (replaced pair found y r l) = ends (rw (found, y)
-      (trimmed_ends rules old (with_replaced rules offers names pair i v (contents old)) result new r l))
-  insert_granted grants tables (given_up pair found y r l) = ends (rw (found, y) (r, left_are old _ new l))
-  insert_granted grants tables (no_memory_to_admit a k r e) = not_offered a k r (ap contents e)
-  insert_granted grants tables (not_admitted a s n r e) = ends (rw a (s, None, n, (r, ap contents e)))
-  insert_granted {hash_of} grants tables (admitted a s pair n (ready, l, (outcome, landed, p, t))) =
-      let some = way_tables rules old tables s ready l in
-      settles a s pair n ready (ap contents l.is) some grants hash_of outcome landed
-      (place_granted rules grants hash_of pair ready some outcome landed p) t
+  insert_granted {hash_of} grants tables = insert_in_list (λ s pair n ready l.
+      place_granted rules grants hash_of pair ready (way_tables rules old tables s ready l))
+
+  -- and if growth is left.
+  pub insert_with_room : {hash_of : H → K → ℕ} → 0 < room old
+      → Insert rules offers names hash_of i v old result new → EndsSo
+  insert_with_room {hash_of} some = insert_in_list (λ s pair n ready l outcome landed p.
+      let is = place_with_room rules pair ready hash_of (omega (arith, some, l.room.keeps)) outcome landed p in
+      is_placed rules pair ready _ _ _ outcome landed is.0 is.1)

@@ -31,7 +31,7 @@ module _ {K V : Type 0} (names : K → Bool) where
       go true h = omega arith
       go false h = omega (arith, h)
 
-told_plain : {K V S : Type 0} (over grants : S → ℕ → Bool) (pair : Option (K × V)) (s : S)
+pub told_plain : {K V S : Type 0} (over grants : S → ℕ → Bool) (pair : Option (K × V)) (s : S)
     → told_of (plain over grants) pair s ≡ s
 told_plain over grants None s = refl
 told_plain over grants (Some pair) s = refl

@@ -1,0 +1,105 @@
+//! What is proved of the pairs that inserts keep: an insert loses none, it evicts none if growth is left, and with
+//! `ByLength` it leaves the newest ones.
+
+ghost use Rattle.std.specs.Prelude.{◌≡◌, ◌⊎◌, ℕ, ◌<◌, ◌≤◌, [], ◌∷◌, ◌++◌, length, reverse, Bool, true, false, Result, Ok};
+ghost use Rattle.std.specs.Prelude.{List, None};
+ghost use Rattle.std.specs.List.{Contains};
+ghost use Rattle.std.specs.declared.alloc.AllocError.{AllocError};
+ghost use Rattle.schnellru.specs.Lists.{lookup_entry, without};
+ghost use Rattle.schnellru.specs.Sizes.{links_of_32_bits};
+ghost use Rattle.schnellru.specs.State.{State, contents, room, IsSized, empty_map};
+ghost use Rattle.schnellru.specs.Inserts.{Insert};
+ghost use Rattle.schnellru.specs.HandedOver.{InsertHands};
+ghost use Rattle.schnellru.specs.Calls.{written};
+ghost use Rattle.schnellru.specs.Runs.{Step};
+ghost use Rattle.schnellru.specs.Theorems.{Stores};
+ghost use Rattle.schnellru.specs.Exact.{InsertsInList};
+ghost use Rattle.schnellru.specs.Kept.{ChangesNoPair, LosesNothing, AcceptsNew, IsAdded, LeavesTheNewest};
+ghost use Rattle.schnellru.specs.Kept.{KeepsToLength};
+
+use lru_limits::{ByLength, Insertion, KeyHasher, Limiter, LookupKey};
+use std::hash::Hash;
+
+/// An insert loses nothing, if the limiter changes no pair that leaves. Take the pairs that are left, followed by those
+/// that were passed to the callback, oldest last: these are the new pair and the old ones, in order (`all`, with a case
+/// for each result). If the result is true, the stored pair comes first (`stored`). Whatever it is, each old pair of
+/// another key is left or was passed to the callback (`others`).
+pub fn nothing_is_lost<K: Eq + Hash, V, I: LookupKey<K>, L: Insertion<K, V, I>, S: KeyHasher<K>>()
+    ensures all { (key : I) (value : V) (old : State K V L S) (result : Result Bool AllocError)
+        (handed : List (K × V)) (new : State K V L S) →
+        ChangesNoPair L.rules →
+        InsertHands L.rules L.offers I.names S.hash_of key value old result handed new →
+        LosesNothing L.rules L.offers I.names key value old result handed new }
+    ensures stored { (key : I) (value : V) (old : State K V L S) (handed : List (K × V)) (new : State K V L S) →
+        ChangesNoPair L.rules →
+        InsertHands L.rules L.offers I.names S.hash_of key value old (Ok true) handed new →
+        (pair : K × V) × Stores L.rules L.offers I.names key value old pair
+        × (new.pairs ++ reverse handed ≡ pair ∷ without (I.names key) old.pairs) }
+    ensures others { (key : I) (value : V) (old : State K V L S) (result : Result Bool AllocError)
+        (handed : List (K × V)) (new : State K V L S) →
+        ChangesNoPair L.rules →
+        InsertHands L.rules L.offers I.names S.hash_of key value old result handed new →
+        (pair : K × V) → I.names key pair.0 ≡ false →
+        Contains old.pairs pair → Contains new.pairs pair ⊎ Contains handed pair }
+{}
+
+/// An insert into a table with growth left is exact. It is one into a list that has no table, whatever the limiter says
+/// of growth (`list`). If the limiter accepts the pair of a new key, the insert returns true and adds the pair to all
+/// the others (`added`). So it evicts nothing, and passes nothing to its callback (`handed`).
+pub fn inserts_with_room_are_exact<
+    K: Eq + Hash,
+    V,
+    I: LookupKey<K>,
+    L: Insertion<K, V, I>,
+    S: KeyHasher<K>,
+>()
+    ensures list { (key : I) (value : V) (old : State K V L S) (result : Result Bool AllocError)
+        (new : State K V L S) →
+        0 < room old →
+        Insert L.rules L.offers I.names S.hash_of key value old result new →
+        InsertsInList L.rules L.offers I.names key value (contents old) result (contents new) }
+    ensures added { (key : I) (value : V) (pair : K × V) (old : State K V L S) (result : Result Bool AllocError)
+        (new : State K V L S) →
+        0 < room old → lookup_entry (I.names key) old.pairs ≡ None →
+        AcceptsNew L.rules L.offers I.names key value (contents old) pair →
+        Insert L.rules L.offers I.names S.hash_of key value old result new →
+        IsAdded L.rules L.offers I.names key value pair old result new }
+    ensures handed { (key : I) (value : V) (pair : K × V) (old : State K V L S) (result : Result Bool AllocError)
+        (handed : List (K × V)) (new : State K V L S) →
+        0 < room old → lookup_entry (I.names key) old.pairs ≡ None →
+        AcceptsNew L.rules L.offers I.names key value (contents old) pair →
+        InsertHands L.rules L.offers I.names S.hash_of key value old result handed new → handed ≡ [] }
+{}
+
+/// With `ByLength` an insert leaves its pair first, under the key that is stored, and then the newest others, up to
+/// `max_length` pairs. The premise is that the map keeps to its length (`maps_keep_to_their_length`), or that growth is
+/// left in its table.
+pub fn inserts_leave_the_newest<K: Eq + Hash + Drop, V: Drop, S: KeyHasher<K>>()
+    ensures newest { (key : K) (value : V) (old : State K V ByLength S) (result : Result Bool AllocError)
+        (new : State K V ByLength S) →
+        KeepsToLength old →
+        Insert ⟦<ByLength as Limiter<K, V>>⟧.rules ⟦<ByLength as Insertion<K, V, K>>⟧.offers K.eq S.hash_of key value
+        old result new →
+        LeavesTheNewest K.eq old.limiter key value old.pairs result new.pairs }
+    ensures with_room { (key : K) (value : V) (old : State K V ByLength S) (result : Result Bool AllocError)
+        (new : State K V ByLength S) →
+        length old.pairs ≤ old.limiter → 0 < room old →
+        Insert ⟦<ByLength as Limiter<K, V>>⟧.rules ⟦<ByLength as Insertion<K, V, K>>⟧.offers K.eq S.hash_of key value
+        old result new →
+        LeavesTheNewest K.eq old.limiter key value old.pairs result new.pairs }
+{}
+
+/// A new map with `ByLength` keeps to its length, if that is at most 939,524,096 and an entry has fewer than 2 ^ 32 - 1
+/// bytes (`begins`). So does a map after any call that does not set the limiter (`goes_on`), and after any value is
+/// written (`written`).
+pub fn maps_keep_to_their_length<K: Eq + Hash + Drop, V: Drop, S: KeyHasher<K>>()
+    ensures begins { (most entry_bytes : ℕ) (hasher : S) →
+        most ≤ 939524096 → entry_bytes < links_of_32_bits →
+        KeepsToLength (empty_map {K = K} {V = V} {S = ByLength} most hasher entry_bytes links_of_32_bits) }
+    ensures goes_on { (old new : State K V ByLength S) →
+        KeepsToLength old → IsSized new →
+        Step ⟦<ByLength as Limiter<K, V>>⟧.rules ⟦<ByLength as Insertion<K, V, K>>⟧.offers K.eq S.hash_of old new →
+        KeepsToLength new }
+    ensures written { (names : K → Bool) (value : V) (old : State K V ByLength S) →
+        KeepsToLength old → KeepsToLength (written names value old) }
+{}

@@ -1,0 +1,17 @@
+use Rattle.std.proofs.Common.{◌∷◌, nat_eq, refl, ap, ◌∙◌}
+use Rattle.schnellru.specs.State.{contents}
+use Rattle.schnellru.specs.Lists.{lookup_entry}
+use Rattle.schnellru.proofs.CallerLemmas.{hands_over-accepts}
+use Rattle.schnellru_tests.proofs.callers.put_and_keep_all.Goals as goal
+
+pub returns-clause-added : goal.returns-clause-added
+returns-clause-added c =
+    let mid = c.try_reserve.new.self in
+    let reserved = c.in_ok-try_reserve.ensures.step in
+    let stay = (c.reservations_keep_the_list.ensures 1 c.args.map.now _ mid reserved).0 in
+    let room = c.reservations_make_room.ensures 1 c.args.map.now mid c.len.ensures.map.sized reserved in
+    let absent = ap (lookup_entry (nat_eq c.args.key)) stay ∙ c.requires in
+    let accepts = hands_over-accepts _ _ nat_eq c.args.key c.args.value (contents mid) refl refl in
+    let law = c.inserts_with_room_are_exact.ensures.added c.args.key c.args.value (c.args.key, c.args.value) mid in
+    (law c.insert.result c.insert.new.self room absent accepts c.insert.ensures.step).pairs
+    ∙ ap (λ pairs. (c.args.key, c.args.value) ∷ pairs) stay

@@ -1,0 +1,17 @@
+use Rattle.std.proofs.Common.{◌∷◌, nat_eq, ap, ◌∙◌}
+use Rattle.std.proofs.lemmas.Bool.{eqb-true}
+use Rattle.schnellru.specs.Lists.{without}
+use Rattle.schnellru.proofs.CallerLemmas.{plain-changes_none, stored-came}
+use Rattle.schnellru_tests.proofs.callers.put_and_show.Goals as goal
+
+pub returns : goal.returns
+returns g c = record {
+  shown = λ told.
+      let old = c.args.map.now in
+      let key = c.args.key in
+      let (handed, takes, hands) = c.insert_with.ensures.handed in
+      let law = c.nothing_is_lost.ensures.stored key c.args.value old handed c.insert_with.new.self in
+      let (pair, stored, all) = law (plain-changes_none _ _) (rw told at hands) in
+      let is = stored-came _ _ nat_eq key c.args.value old pair (eqb-true key) stored in
+      (handed, takes, all ∙ ap (λ p. p ∷ without (nat_eq key) old.pairs) is);
+}
