@@ -14,9 +14,9 @@ Tenant K V = State K V Budget Mixer
 
 -- what a contract sees of a cache
 pub record Cache (K V : Type 0) : Type 0 where
-  -- the open tenants by their names, in no order that is told
+  -- the open tenants by their names, in an order that means nothing
   pub tenants : List (ℕ × Tenant K V)
-  -- what builds the hashers of keys, and what a bucket takes
+  -- what builds the hashers of names and keys, and the bytes of an entry
   pub hasher : Mixer
   pub entry_bytes : ℕ
 
@@ -30,7 +30,7 @@ module _ {K V : Type 0} where
   fresh cache budget =
       empty_map (record { limit = budget; cost = 0 }) cache.hasher cache.entry_bytes (2 ^ 64 - 1)
 
-  -- the tenant of this name is left so, and the others stay
+  -- the tenant of this name is `left` afterwards, and the others stay
   pub record Leaves (name : ℕ) (left : Option (Tenant K V)) (old new : Cache K V) : Type 0 where
     pub tenants : (other : ℕ) → tenant other new ≡ cond (nat_eq name other) left (tenant other old)
     pub hasher : new.hasher ≡ old.hasher
@@ -39,7 +39,7 @@ module _ {K V : Type 0} where
   -- what holds of the map of every tenant
   pub record IsTenant (eq : K → K → Bool) (cost : V → ℕ) (own : Tenant K V) : Type 0 where
     pub map : IsMap eq own
-    -- the account is the sum of the costs, and within the budget
+    -- the running total is the sum of the costs, and within the budget
     pub sum : IsSummed (λ k v. cost v) (λ b. b.cost) own
     pub within : own.limiter.cost ≤ own.limiter.limit
 

@@ -50,6 +50,8 @@ pub struct TenantCache<K: Eq + Hash, V: Costed> {
 
 impl<K: Eq + Hash, V: Costed> Model for TenantCache<K, V> {
     ghost use Rattle.std.specs.List.{All};
+    ghost use Rattle.std.specs.Prelude.{◌≡◌};
+    ghost use Rattle.std.specs.HashMap.{hasher_of};
     ghost use Rattle.std.specs.Map.{values_of};
     ghost use Rattle.lru_limits.specs.Mixing.{seeded};
     ghost use Rattle.lru_tenants.specs.Cache.{Cache, IsTenant};
@@ -62,7 +64,8 @@ impl<K: Eq + Hash, V: Costed> Model for TenantCache<K, V> {
       entry_bytes = c.entry_bytes;
     } };
 
-    ghost invariant = { λ c. All (IsTenant K.eq V.cost) (values_of c.tenants.entries) };
+    ghost invariant = { λ c. All (IsTenant K.eq V.cost) (values_of c.tenants.entries)
+        × (hasher_of c.tenants ≡ seeded c.seed) };
 }
 
 impl<K: Eq + Hash, V: Costed> TenantCache<K, V> {
@@ -70,8 +73,9 @@ impl<K: Eq + Hash, V: Costed> TenantCache<K, V> {
 
     /// Makes a cache without tenants.
     ///
-    /// The hashers of all maps have these seeds, and each map counts `entry_bytes` bytes an entry, as `LruMap::new`
-    /// does. If strangers choose the keys, take seeds that nobody can guess. Cost: `O(1)`, and no memory.
+    /// The hashers of names and of all maps have these seeds, and each map counts `entry_bytes` bytes an entry, as
+    /// `LruMap::new` does. If strangers choose names or keys, take seeds that nobody can guess. Cost: `O(1)`, and no
+    /// memory.
     pub fn new(alloc: Global, seed: [u64; 4], entry_bytes: usize) -> Self
         ensures { result ≡ record { tenants = []; hasher = seeded seed; entry_bytes = entry_bytes } }
     {

@@ -5,7 +5,7 @@ use lru_replay::{replay, status};
 use std::io::{self, BufReader, BufWriter};
 use std::process::ExitCode;
 
-/// The exit status where a buffer finds no memory, and nothing was read.
+/// The exit status if there is no memory for a buffer, so that nothing was read.
 const NO_BUFFER: u8 = 3;
 
 fn main(rt: HostRuntime) -> ExitCode {
@@ -16,5 +16,7 @@ fn main(rt: HostRuntime) -> ExitCode {
         return ExitCode::from(NO_BUFFER);
     };
     let end = replay(rt.alloc(), &mut reader, &mut writer);
+    // After a failed write the buffer still contains bytes. Its drop would write them again.
+    let (_output, _unwritten) = writer.into_parts();
     ExitCode::from(status(&end))
 }

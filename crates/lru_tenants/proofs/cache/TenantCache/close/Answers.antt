@@ -7,19 +7,23 @@ use Rattle.lru_tenants.proofs.Changes.{kept-removed}
 use Rattle.lru_tenants.proofs.cache.TenantCache.close.Goals as goal
 
 pub invariant_of-self : goal.invariant_of-self
-invariant_of-self g c =
-    kept-removed (IsTenant g.K.PartialEq.eq g.V.Costed.cost) (nat_eq c.args.name) c.self.inside.tenants
-    c.remove.new.self c.self.invariant c.remove.ensures.entries
+invariant_of-self g c = (
+  kept-removed (IsTenant g.K.PartialEq.eq g.V.Costed.cost) (nat_eq c.args.name) c.self.inside.tenants
+      c.remove.new.self c.self.invariant.0 c.remove.ensures.entries,
+  c.remove.ensures.hasher ∙ c.self.invariant.1,
+)
 
 pub invariant_of-self-2 : goal.invariant_of-self-2
-invariant_of-self-2 g c =
-    kept-removed (IsTenant g.K.PartialEq.eq g.V.Costed.cost) (nat_eq c.args.name) c.self.inside.tenants
-    c.remove.new.self c.self.invariant c.remove.ensures.entries
+invariant_of-self-2 g c = (
+  kept-removed (IsTenant g.K.PartialEq.eq g.V.Costed.cost) (nat_eq c.args.name) c.self.inside.tenants
+      c.remove.new.self c.self.invariant.0 c.remove.ensures.entries,
+  c.remove.ensures.hasher ∙ c.self.invariant.1,
+)
 
 pub returns-clause-tenants : goal.returns-clause-tenants
 returns-clause-tenants g c =
     kept-removed (IsTenant g.K.PartialEq.eq g.V.Costed.cost) (nat_eq c.args.name) c.self.inside.tenants
-    c.remove.new.self c.self.invariant c.remove.ensures.entries
+    c.remove.new.self c.self.invariant.0 c.remove.ensures.entries
 
 pub returns-in_default-clause-closes : goal.returns-in_default-clause-closes
 returns-in_default-clause-closes g c =

@@ -1,4 +1,4 @@
-use Rattle.std.proofs.Common.{subst, Some, None, sym, refl, ap, is_some, nat_eq}
+use Rattle.std.proofs.Common.{subst, Some, None, sym, refl, ◌∙◌, ap, is_some, nat_eq}
 use Rattle.std.proofs.lemmas.Map.Views.{All-values-set_value}
 use Rattle.schnellru.specs.Calls.{promoted, written}
 use Rattle.schnellru.specs.Lists.{lookup}
@@ -14,21 +14,27 @@ invariant_of-self-in-Some-get g c =
     let names = g.Q.LookupKey.names c.args.key.now in
     let left = written names c.in-Some-get.value.now (promoted names c.in-Some.map.now) in
     let was = found-all (IsTenant g.K.PartialEq.eq g.V.Costed.cost) (nat_eq c.args.name) c.self.inside.tenants
-    c.in-Some.map.now (sym c.in-Some.ensures.value) c.self.invariant in
+    c.in-Some.map.now (sym c.in-Some.ensures.value) c.self.invariant.0 in
     let back = read_back names c.in-Some.map.now c.in-Some-get.value.now (sym c.in-Some-get.ensures.value) in
     let is = subst (IsTenant g.K.PartialEq.eq g.V.Costed.cost) (sym back)
     (promoted_is_tenant g.met.Q.LookupKey.laws c.args.key.now g.V.Costed.cost c.in-Some.map.now was) in
-    rw ((c.get_mut.follows.holds left).0)
-    (All-values-set_value (nat_eq c.args.name) (IsTenant g.K.PartialEq.eq g.V.Costed.cost)
-    c.self.inside.tenants.entries left c.self.invariant is)
+    let writes = c.get_mut.follows.holds left in (
+      rw (writes.0)
+          (All-values-set_value (nat_eq c.args.name) (IsTenant g.K.PartialEq.eq g.V.Costed.cost)
+          c.self.inside.tenants.entries left c.self.invariant.0 is),
+      writes.5 ∙ c.self.invariant.1,
+    )
 
 pub invariant_of-self-in-None : goal.invariant_of-self-in-None
 invariant_of-self-in-None g c =
     let was = found-all (IsTenant g.K.PartialEq.eq g.V.Costed.cost) (nat_eq c.args.name) c.self.inside.tenants
-    c.in-Some.map.now (sym c.in-Some.ensures.value) c.self.invariant in
-    rw ((c.get_mut.follows.holds c.in-Some.map.now).0)
-    (All-values-set_value (nat_eq c.args.name) (IsTenant g.K.PartialEq.eq g.V.Costed.cost)
-    c.self.inside.tenants.entries c.in-Some.map.now c.self.invariant was)
+    c.in-Some.map.now (sym c.in-Some.ensures.value) c.self.invariant.0 in
+    let writes = c.get_mut.follows.holds c.in-Some.map.now in (
+      rw (writes.0)
+          (All-values-set_value (nat_eq c.args.name) (IsTenant g.K.PartialEq.eq g.V.Costed.cost)
+          c.self.inside.tenants.entries c.in-Some.map.now c.self.invariant.0 was),
+      writes.5 ∙ c.self.invariant.1,
+    )
 
 pub returns-in-Some-get : goal.returns-in-Some-get
 returns-in-Some-get g c =

@@ -13,14 +13,17 @@ returns-then-contains_key-clause-opens g c =
     (sym c.contains_key.ensures ∙ c.if-contains_key.true))
 
 pub invariant_of-self : goal.invariant_of-self
-invariant_of-self g c =
-    All-values-PutsEntry nat_eq (IsTenant g.K.PartialEq.eq g.V.Costed.cost) c.self.inside.tenants c.insert.new.self
-    c.args.name c.fresh-map.result c.in-Ok.field-0 c.in-Ok.ensures.entries c.self.invariant c.fresh-map.ensures.tenant
+invariant_of-self g c = (
+  All-values-PutsEntry nat_eq (IsTenant g.K.PartialEq.eq g.V.Costed.cost) c.self.inside.tenants
+      c.insert.new.self c.args.name c.fresh-map.result c.in-Ok.field-0 c.in-Ok.ensures.entries
+      c.self.invariant.0 c.fresh-map.ensures.tenant,
+  c.insert.ensures.hasher ∙ c.self.invariant.1,
+)
 
 pub returns-in-Ok-clause-tenants : goal.returns-in-Ok-clause-tenants
 returns-in-Ok-clause-tenants g c =
     All-values-PutsEntry nat_eq (IsTenant g.K.PartialEq.eq g.V.Costed.cost) c.self.inside.tenants c.insert.new.self
-    c.args.name c.fresh-map.result c.in-Ok.field-0 c.in-Ok.ensures.entries c.self.invariant c.fresh-map.ensures.tenant
+    c.args.name c.fresh-map.result c.in-Ok.field-0 c.in-Ok.ensures.entries c.self.invariant.0 c.fresh-map.ensures.tenant
 
 pub returns-in-Ok-clause-opens : goal.returns-in-Ok-clause-opens
 returns-in-Ok-clause-opens g c =
@@ -34,8 +37,7 @@ returns-in-Ok-clause-opens g c =
     c.self.inside.tenants c.insert.new.self c.in-Ok.ensures.updates))
 
 pub invariant_of-self-2 : goal.invariant_of-self-2
-invariant_of-self-2 g c =
-    rw (c.in-Err.ensures.err) c.self.invariant
+invariant_of-self-2 g c = (rw (c.in-Err.ensures.err) c.self.invariant.0, c.insert.ensures.hasher ∙ c.self.invariant.1)
 
 pub returns-clause-opens : goal.returns-clause-opens
 returns-clause-opens g c =
@@ -45,4 +47,4 @@ returns-clause-opens g c =
 
 pub returns-clause-tenants : goal.returns-clause-tenants
 returns-clause-tenants g c =
-    rw (c.in-Err.ensures.err) c.self.invariant
+    rw (c.in-Err.ensures.err) c.self.invariant.0

@@ -1,4 +1,4 @@
-use Rattle.std.proofs.Common.{Some, sym, refl, ap, is_some, nat_eq}
+use Rattle.std.proofs.Common.{Some, sym, refl, ◌∙◌, ap, is_some, nat_eq}
 use Rattle.std.proofs.lemmas.Map.Views.{All-values-set_value}
 use Rattle.lru_tenants.specs.Cache.{IsTenant}
 use Rattle.lru_tenants.specs.TenantRuns.{hash_of, Puts}
@@ -7,15 +7,18 @@ use Rattle.lru_tenants.proofs.cache.TenantCache.put.Goals as goal
 
 pub invariant_of-self-2 : goal.invariant_of-self-2
 invariant_of-self-2 g c =
-    rw ((c.get_mut.follows.holds c.insert.new.map).0)
-    (All-values-set_value (nat_eq c.args.name) (IsTenant g.K.PartialEq.eq g.V.Costed.cost) c.self.inside.tenants.entries
-    c.insert.new.map c.self.invariant c.insert.ensures.tenant)
+    let writes = c.get_mut.follows.holds c.insert.new.map in (
+      rw (writes.0)
+          (All-values-set_value (nat_eq c.args.name) (IsTenant g.K.PartialEq.eq g.V.Costed.cost)
+          c.self.inside.tenants.entries c.insert.new.map c.self.invariant.0 c.insert.ensures.tenant),
+      writes.5 ∙ c.self.invariant.1,
+    )
 
 pub returns-clause-tenants : goal.returns-clause-tenants
 returns-clause-tenants g c =
     rw ((c.get_mut.follows.holds c.insert.new.map).0)
     (All-values-set_value (nat_eq c.args.name) (IsTenant g.K.PartialEq.eq g.V.Costed.cost) c.self.inside.tenants.entries
-    c.insert.new.map c.self.invariant c.insert.ensures.tenant)
+    c.insert.new.map c.self.invariant.0 c.insert.ensures.tenant)
 
 pub returns-clause-puts : goal.returns-clause-puts
 returns-clause-puts g c =
