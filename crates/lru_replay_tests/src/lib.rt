@@ -5,8 +5,6 @@
 #![tactic(auto)]
 
 #[cfg(test)]
-mod callers;
-#[cfg(test)]
 mod examples;
 #[cfg(test)]
 mod refused;
