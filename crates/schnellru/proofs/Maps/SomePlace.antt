@@ -1,4 +1,4 @@
--- From every map the placing of a pair can end: there is an outcome, and a state that it may leave.
+-- From every map the insertion of a pair into the table can end: there is an outcome, and a state after it.
 use Rattle.std.proofs.Common.{◌≡◌, ℕ, ◌+◌, ◌-◌, ◌/◌, ◌^◌, ◌<◌, ◌≤◌, inl, inr, Bool, true, false, ◌∷◌, length}
 use Rattle.std.proofs.Common.{refl, sym, ap, ◌∙◌, subst, arith, count_by}
 use Rattle.std.proofs.lemmas.Bool.{false≢true}
@@ -27,7 +27,7 @@ counted : (n more : ℕ) → count_up n more < 2 ^ 64
 counted n more = omega arith
 
 module _ {K V S H : Type 0} where
-  -- some pairs can leave, so that each gives its room back
+  -- some pairs can be evicted, so that each gives growth left back
   pub some_leave : (old : State K V S H) (c : Contents K V S) → IsSized old → length c.pairs ≤ length old.pairs
       → (new : State K V S H) × Leaves old c new × IsSized new
       × (length c.pairs + room new ≡ length old.pairs + room old)
@@ -83,7 +83,7 @@ module _ {K V S H : Type 0} where
   ]
 
   module _ (pair : K × V) (old : State K V S H) (ok : IsSized old) where
-    -- the pair can take a bucket beside the others, with so many buckets deleted then
+    -- the pair can fill a bucket, with this number of buckets deleted then
     some_bucket : (deletions : ℕ) → length old.pairs + 1 + deletions ≤ full_capacity (buckets old)
         → (buckets old ≤ 16 → deletions ≡ 0)
         → (new : State K V S H)
@@ -112,7 +112,7 @@ module _ {K V S H : Type 0} where
               (counted old.placed 1),
         )
 
-    -- with room it can fill the first free one
+    -- with growth left it can fill the first free one
     some_filled : (hash : ℕ) → 0 < room old
         → (new : State K V S H) × IsPlaced pair (buckets old) (room new) 0 old new × FillsBucket hash old new
         × IsSized new
@@ -153,7 +153,7 @@ module _ {K V S H : Type 0} where
 
 module _ {K V S H : Type 0} (rules : Rules K V S) (hash_of : H → K → ℕ) (pair : K × V) (old : State K V S H)
     (ok : IsSized old) where
-  -- placing the pair can come to an end
+  -- the insertion of the pair can end
   abbrev pub Ends : Type 0
   Ends = (outcome : Outcome) × (new : State K V S H) × Place rules hash_of pair old outcome new × IsSized new
 
@@ -173,13 +173,13 @@ module _ {K V S H : Type 0} (rules : Rules K V S) (hash_of : H → K → ℕ) (p
   spent_within : length old.pairs + deletions ≤ full_capacity (buckets old)
   spent_within = omega (arith, used_count-split old.marks, ok.taken, ok.table.used_within)
 
-  -- with room a bucket is filled
+  -- with growth left a bucket is filled
   roomy_ends : 0 < room old → Ends
   roomy_ends r =
       let (new, is, fills, sized) = some_filled pair old ok hash r in
       (placed, new, in_bucket (omega (arith, r, spent)) (inl r) fills refl is, sized)
 
-  -- so is a deleted one without room
+  -- without growth left a deleted one is filled
   deleted_ends : 0 < length old.pairs → room old ≡ 0 → (free : FirstFreeIs deleted hash old) → free.0 < buckets old
       → Ends
   deleted_ends l none free below =
@@ -197,7 +197,7 @@ module _ {K V S H : Type 0} (rules : Rules K V S) (hash_of : H → K → ℕ) (p
         sized,
       )
 
-  -- the oldest is evicted, or the pair is turned away, where the table cannot grow
+  -- if the table cannot grow, the oldest pair is evicted, or the new one is not stored
   evicted_ends : IsOutgrown hash old → (s : S) → CannotGrow rules old (record old { limiter = s }) → Ends
   evicted_ends outgrown s cannot = elim (dec_lt 0 (length old.pairs)) [
     | yes some ↦ with_pairs some

@@ -19,7 +19,7 @@ lookup_alike names others same (x ∷ xs) = (λ i. cond (same x.0 i) (Some x) (l
 module _ {K V : Type 0} (t : OrderedTable K V) (linked : IsLinked t) (names : K → Bool) (hash_of : K → ℕ) (hash : ℕ)
     (hashes : (k : K) → names k ≡ true → hash ≡ hash_of k)
     (none : (b : ℕ) (p : K × V) → entry_at t.slots b ≡ Some p → hash_of p.0 ≡ hash → names p.0 ≡ false) where
-  -- where no entry of the hash is named, no pair is
+  -- if no entry of the hash is named, no pair is
   pub not_found : lookup_entry names (pairs_of t) ≡ None
   not_found = none_named t linked names (λ b p there. go b p there (names p.0) refl)
     where

@@ -71,7 +71,7 @@ module _ {K V S H : Type 0} (rules : Rules K V S) (grants : AlwaysGrants rules) 
   place_granted outcome new (not_grown g mid c e) = no_refusal mid c
 
 module _ {K V S H : Type 0} (rules : Rules K V S) (old : State K V S H) where
-  -- after room was made, there is one pair more to come than there were, or as many as there were
+  -- after room was made, the map has as many pairs as before, or one fewer
   way_length : (c : Contents K V S) → (length (make_room rules c).pairs ≡ length c.pairs)
       ⊎ (length (make_room rules c).pairs + 1 ≡ length c.pairs)
   way_length c = go (rules.is_over_the_limit c.limiter (length c.pairs + 1))

@@ -70,7 +70,7 @@ module _ {K V : Type 0} (test : K → Bool) where
 module _ {K V S H I : Type 0} {rules : Rules K V S} {offers : Offers K V S I} {names : I → K → Bool}
     {hash_of : H → K → ℕ} {eq : K → K → Bool} {query_input : I → List (List ℕ)} {key_input : K → List (List ℕ)}
     (looks_up : IsLookup names eq query_input key_input) (laws : IsInsertion names eq offers) (test : K → Bool) where
-  -- what a call gives up of the others goes from the old end
+  -- a call evicts others from the old end alone
   pub step_gives_up : (old new : State K V S H) (step : AnyStep rules offers names hash_of old new)
       → NamesOnly rules offers names hash_of test old new step → IsFront (others test new.pairs) (others test old.pairs)
   step_gives_up old new (calls (inserts key value result h)) among =

@@ -99,7 +99,7 @@ module _ {K V S H : Type 0} (rules : Rules K V S) (pair : K × V) (lacks : Bool)
   abbrev if_memory : Shape K V S H → ℕ → ℕ → ℕ → Outcome × Shape K V S H
   if_memory sh count spare moves = cond lacks (no_memory, turned sh) (placed, landed pair sh count spare moves)
 
-  -- the oldest is evicted for it, or it is turned away, if there is none
+  -- the oldest is evicted for it, or it is not stored if there is none
   abbrev evict : Shape K V S H → Outcome × Shape K V S H
   evict sh = let left = with_left (pops rules 1 (contents sh.bare)) sh in
       cond (is_empty sh.bare.pairs) (refused, turned sh)

@@ -1,4 +1,4 @@
--- What an `OrderedTable` ends as, where a `&mut` to one of its pairs is returned. No public clause cites this module.
+-- What an `OrderedTable` is after a `&mut` to one of its pairs was returned. No public clause cites this module.
 use Rattle.std.specs.Prelude.{ℕ}
 use Rattle.std.specs.Borrow.{Lends, Fml, RattleType, MutBor}
 use Rattle.std.specs.declared.cmp.PartialEq as equality
