@@ -1,29 +1,17 @@
--- From every map an insert can end: there is an answer that it may give, and a state that it may leave.
-use Rattle.std.proofs.Common.{◌≡◌, ℕ, ◌+◌, Bool, true, false, List, [], ◌∷◌, length}
-use Rattle.std.proofs.Common.{Option, Some, None, Result, Ok, Err, refl, arith, cond, not, suc}
+-- From every map an insert can end: there is a result that it may return, and a state after it.
+use Rattle.std.proofs.Common.{◌≡◌, ℕ, Bool, true, false, length}
+use Rattle.std.proofs.Common.{Option, Some, None, Result, Ok, Err, refl, arith, not}
 use Rattle.std.specs.declared.alloc.AllocError.{AllocError}
 use Rattle.lru_limits.specs.Rules.{Rules, Offers}
-use Rattle.schnellru.specs.Lists.{is_empty, lookup_entry, without}
+use Rattle.schnellru.specs.Lists.{is_empty, lookup_entry}
 use Rattle.schnellru.specs.State.{State, Contents, contents, IsSized, Leaves, trim}
 use Rattle.schnellru.specs.Place.{Place, Outcome, placed, refused, no_memory}
 use Rattle.schnellru.specs.Inserts.{Insert, replaced, given_up, not_admitted, admitted, make_room, replacement}
 use Rattle.schnellru.specs.Inserts.{with_replaced, with_given_up}
 use Rattle.schnellru.proofs.Theorems.Fronts.{length-front, front_trim, front_make_room}
+use Rattle.schnellru.proofs.Theorems.Limits.{length-without_found}
 use Rattle.schnellru.proofs.Theorems.Potential.{sized_with_limiter}
 use Rattle.schnellru.proofs.Maps.SomePlace.{some_leave, some_place}
-
-module _ {K V : Type 0} (names : K → Bool) where
-  -- a key that is there goes once
-  length-without_found : (xs : List (K × V)) (pair : K × V) → lookup_entry names xs ≡ Some pair
-      → length (without names xs) + 1 ≡ length xs
-  length-without_found [] pair e = absurd (grind arith)
-  length-without_found (x ∷ xs) pair e = go (names x.0) (length-without_found xs pair) e
-    where
-      go : (b : Bool) → (lookup_entry names xs ≡ Some pair → length (without names xs) + 1 ≡ length xs)
-          → cond b (Some x) (lookup_entry names xs) ≡ Some pair
-          → length (cond b xs (x ∷ without names xs)) + 1 ≡ suc (length xs)
-      go true h e = omega arith
-      go false h e = omega (arith, h e)
 
 module _ {K V S H I : Type 0} (rules : Rules K V S) (offers : Offers K V S I) (names : I → K → Bool)
     (hash_of : H → K → ℕ) (i : I) (v : V) (old : State K V S H) (ok : IsSized old)

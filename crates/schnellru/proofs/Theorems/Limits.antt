@@ -1,6 +1,6 @@
 -- An insert stays within a limit by length, and within one by memory usage.
-use Rattle.std.proofs.Common.{◌≡◌, ℕ, suc, ◌≤◌, ◌⊎◌, inl, inr, Bool, true, false, cond, List, [], ◌∷◌, length, Option}
-use Rattle.std.proofs.Common.{Some, None, Result, refl, sym, ap, ◌∙◌, subst, arith}
+use Rattle.std.proofs.Common.{◌≡◌, ℕ, suc, ◌+◌, ◌≤◌, ◌⊎◌, inl, inr, Bool, true, false, cond, List, [], ◌∷◌, length}
+use Rattle.std.proofs.Common.{Option, Some, None, Result, refl, sym, ap, ◌∙◌, subst, arith}
 use Rattle.std.proofs.lemmas.Bool.Decides.{nat_tests}
 use Rattle.std.specs.declared.alloc.AllocError.{AllocError}
 use Rattle.schnellru.proofs.PairLists.Emptiness.{empty-length}
@@ -31,13 +31,25 @@ module _ {K V : Type 0} (names : K → Bool) where
       go true h = omega arith
       go false h = omega (arith, h)
 
+  -- without a pair that is there, the list has one fewer
+  pub length-without_found : (xs : List (K × V)) (pair : K × V) → lookup_entry names xs ≡ Some pair
+      → length (without names xs) + 1 ≡ length xs
+  length-without_found [] pair e = absurd (grind arith)
+  length-without_found (x ∷ xs) pair e = go (names x.0) (length-without_found xs pair) e
+    where
+      go : (b : Bool) → (lookup_entry names xs ≡ Some pair → length (without names xs) + 1 ≡ length xs)
+          → cond b (Some x) (lookup_entry names xs) ≡ Some pair
+          → length (cond b xs (x ∷ without names xs)) + 1 ≡ suc (length xs)
+      go true h e = omega arith
+      go false h e = omega (arith, h e)
+
 pub told_plain : {K V S : Type 0} (over grants : S → ℕ → Bool) (pair : Option (K × V)) (s : S)
     → told_of (plain over grants) pair s ≡ s
 told_plain over grants None s = refl
 told_plain over grants (Some pair) s = refl
 
 module _ {K V S : Type 0} {over grants : S → ℕ → Bool} {admits : S → K → V → Bool} {names : K → K → Bool} where
-  -- a limiter that is told nothing new stays as it is
+  -- a limiter that ignores its notifications stays as it is
   pub keeps_limiter : KeepsOffers (plain over grants) (hands_over admits) names (λ c d. d.limiter ≡ c.limiter)
   keeps_limiter = record {
     keeps = record {

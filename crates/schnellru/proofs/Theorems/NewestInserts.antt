@@ -1,5 +1,5 @@
 -- With a maximum length an insert leaves the newest pairs, up to that length.
-use Rattle.std.proofs.Common.{◌≡◌, ◌≢◌, ℕ, zero, suc, ◌+◌, ◌-◌, ◌<◌, ◌≤◌, Bool, true, false, cond, List, []}
+use Rattle.std.proofs.Common.{◌≡◌, ◌≢◌, ℕ, zero, suc, ◌+◌, ◌-◌, ◌<◌, ◌≤◌, Bool, true, List, []}
 use Rattle.std.proofs.Common.{◌∷◌, length, take, Option, Some, None, Result, Ok, Err, refl, sym, ap, ◌∙◌, subst, arith}
 use Rattle.std.proofs.lemmas.Bool.{lt-ltb, le-ltb}
 use Rattle.std.proofs.lemmas.List.{take_all, length-take, nil_from_length}
@@ -27,7 +27,7 @@ use Rattle.schnellru.proofs.PairLists.Emptiness.{is_empty-some}
 use Rattle.schnellru.proofs.TableSizes.ReachedTables.{has_table_of_half}
 use Rattle.schnellru.proofs.Theorems.Fronts.{without_none}
 use Rattle.schnellru.proofs.Theorems.GrantedGrowth.{insert_in_list, insert_with_room, place_granted}
-use Rattle.schnellru.proofs.Theorems.Limits.{told_plain, keeps_limiter}
+use Rattle.schnellru.proofs.Theorems.Limits.{told_plain, keeps_limiter, length-without_found}
 use Rattle.schnellru.proofs.Theorems.RunLimits.{step_stays_short}
 use Rattle.schnellru.proofs.Theorems.Runs.{any_step_same, step_changes}
 
@@ -47,19 +47,6 @@ module _ {X : Type 0} where
 
   take_few : (n : ℕ) (xs : List X) → length (take n xs) ≤ n
   take_few n xs = omega (arith, length-take n xs)
-
-module _ {K V : Type 0} (names : K → Bool) where
-  -- without a pair that is there, the list has one fewer
-  one_fewer : (xs : List (K × V)) (was : K × V) → lookup_entry names xs ≡ Some was
-      → length (without names xs) + 1 ≡ length xs
-  one_fewer [] was e = absurd (none-some was e)
-  one_fewer (x ∷ xs) was e = go (names x.0) e (one_fewer xs was)
-    where
-      go : (b : Bool) → cond b (Some x) (lookup_entry names xs) ≡ Some was
-          → (lookup_entry names xs ≡ Some was → length (without names xs) + 1 ≡ length xs)
-          → length (cond b xs (x ∷ without names xs)) + 1 ≡ suc (length xs)
-      go true e later = omega arith
-      go false e later = omega (arith, later e)
 
 module _ {K V : Type 0} where
   -- room is made for one more
@@ -114,7 +101,7 @@ module _ {K V : Type 0} (eq : K → K → Bool) (key : K) (value : V) (old new :
   there : (was : K × V) → lookup_entry (eq key) old.pairs ≡ Some was
       → EndsBy length_rules length_offers eq (lands length_rules) key value old (Some was) result new → EndsSo result
   there was found h =
-      let fewer = one_fewer (eq key) old.pairs was found in
+      let fewer = length-without_found (eq key) old.pairs was found in
       let stored : was.0 ≡ stored_key (eq key) key old.pairs =
       sym (ap (λ o. unwrap_or (option_map (λ p. p.0) o) key) found) in
       ended (record { pairs = (was.0, value) ∷ without (eq key) old.pairs; limiter = old.limiter })

@@ -37,7 +37,7 @@ module _ {K V S H : Type 0} (rules : Rules K V S) (P : S → Type 0) (pair : K �
     pub paid : IsBounded old → moves + (full_capacity count - 2 * spare) ≤ potential old + 2
     pub little : IsBounded old → buckets old < count → full_capacity count < 4 * (length old.pairs + 1)
 
-  -- it lands so, or is turned away; where it is refused no pair was there
+  -- the pair is stored so, or not at all; if it is refused, no pair was there
   abbrev pub Lands : Outcome → State K V S H → State K V S H → Type 0
   Lands placed mid new = Fills mid new
   Lands refused mid new = (mid.pairs ≡ []) × (new ≡ turned_away rules pair mid)

@@ -107,7 +107,7 @@ impl<K: Eq + Hash + Drop, V: Drop, L: Limiter<K, V>, S: KeyHasher<K>> LruMap<K, 
         }
     }
 
-    // Stores the pair after the oldest were evicted, or turns it away, if there are none.
+    // Stores the pair after the oldest were evicted. If there are none, the pair is not stored.
     fn store_without_growth<F: FnMut(K, V)>(
         &mut self,
         hash: u64,
