@@ -77,7 +77,7 @@ unsafe impl<T, A: Allocator> Sync for Deed<T, A> {}
 
 // How many bytes a place has.
 #[inline]
-fn bytes_of<T>() -> usize
+pub(crate) fn bytes_of<T>() -> usize
     ensures { result ≡ capped (type_size T.row) }
 {
     size_of::<T>()

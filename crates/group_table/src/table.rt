@@ -38,8 +38,8 @@ mod relocation;
 ///
 /// ```
 /// let mut table = Table::with_buckets(alloc, 8)?;
-/// let b = table.try_place(hash_of(&"a"), "a").ok().ok_or("no room")?;
-/// assert_eq!(rt; table.find(hash_of(&"a"), |entry| *entry == "a"), Some(b));
+/// let b = table.try_place(7, "a").ok().ok_or("no room")?;
+/// assert_eq!(rt; table.find(7, |entry| *entry == "a"), Some(b));
 /// ```
 pub struct Table<T> {
     control: Control,
@@ -185,32 +185,6 @@ impl<T> Table<T> {
         empty_bucket(&mut self.control, &mut self.entries, b, byte)
     }
 
-    // Returns the control bytes and the entries.
-    fn into_parts(self) -> (Control, Entries<T>)
-        ensures laid_out { IsLaidOut result.0 result.1 }
-        ensures slots { slots_of result.0 result.1 ≡ self.slots }
-    {
-        let Table {
-            control,
-            entries,
-            room: _,
-            len: _,
-            placings: _,
-        } = self;
-        (control, entries)
-    }
-}
-
-impl<T: Drop> Drop for Table<T> {
-    fn drop(self) {
-        let len = self.len;
-        let (control, mut entries) = self.into_parts();
-        drop_entries(&control, &mut entries, len);
-        entries.free(control.buckets());
-    }
-}
-
-impl<T: Drop> Table<T> {
     /// Puts an entry with this hash into the first free bucket in the order of a search, and returns its number.
     ///
     /// An empty bucket takes one of the growth left, a deleted one none. It asks for no memory, moves no other entry,
@@ -250,6 +224,51 @@ impl<T: Drop> Table<T> {
         Ok(b)
     }
 
+    // Makes every bucket of a table without entries empty.
+    fn empty_buckets(&mut self)
+        requires { entry_count self.old.slots ≡ 0 }
+        ensures slots { self.new.slots ≡ replicate (length self.old.slots) empty }
+        ensures placings { self.new.placings ≡ self.old.placings }
+        ensures table { IsTable (marks_of self.new.slots) }
+    {
+        self.control.clear();
+        self.room = full_capacity(self.control.buckets());
+    }
+
+    // Gives the memory of a table without entries back.
+    fn free_unused(self)
+        requires { entry_count self.slots ≡ 0 }
+    {
+        let (control, unused) = self.into_parts();
+        unused.free(control.buckets());
+    }
+
+    // Returns the control bytes and the entries.
+    fn into_parts(self) -> (Control, Entries<T>)
+        ensures laid_out { IsLaidOut result.0 result.1 }
+        ensures slots { slots_of result.0 result.1 ≡ self.slots }
+    {
+        let Table {
+            control,
+            entries,
+            room: _,
+            len: _,
+            placings: _,
+        } = self;
+        (control, entries)
+    }
+}
+
+impl<T: Drop> Drop for Table<T> {
+    fn drop(self) {
+        let len = self.len;
+        let (control, mut entries) = self.into_parts();
+        drop_entries(&control, &mut entries, len);
+        entries.free(control.buckets());
+    }
+}
+
+impl<T: Drop> Table<T> {
     /// Drops all entries. Every bucket is empty then; their number and the count of insertions stay.
     ///
     /// It writes all control bytes, and goes through the entries' places only if there is an entry.

@@ -4,6 +4,8 @@
 #[cfg(test)]
 mod drops;
 #[cfg(test)]
+mod examples;
+#[cfg(test)]
 mod memory;
 #[cfg(test)]
 mod placings;

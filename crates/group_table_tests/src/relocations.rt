@@ -74,18 +74,18 @@ fn up_and_down(rt: HostRuntime) -> Result<(), Fail> {
 // A call may find no memory, so a body that gives up above some size is proved.
 #[test]
 fn many_buckets(rt: HostRuntime) -> Result<(), Fail> {
-    let mut table = table_of(rt.alloc(), 1 << 18)?;
+    let mut table = table_of(rt.alloc(), 1 << 20)?;
     let next = fill(&mut table, SCATTERED, 0);
     thin(&mut table, 3, 0);
     fill(&mut table, SCATTERED, next);
-    let is_rehashed = moves::<u32>(rt.alloc(), &mut table, 1 << 18, SCATTERED)?;
+    let is_rehashed = moves::<u32>(rt.alloc(), &mut table, 1 << 20, SCATTERED)?;
     let copy = table.clone_with(|key| Ok(*key))?;
     let is_copied = keys_of(rt.alloc(), &copy)? == keys_of(rt.alloc(), &table)?;
-    thin(&mut table, 2, 114_688);
-    let is_relocated = moves::<u32>(rt.alloc(), &mut table, 1 << 17, SCATTERED)?;
+    thin(&mut table, 2, 458_752);
+    let is_relocated = moves::<u32>(rt.alloc(), &mut table, 1 << 19, SCATTERED)?;
     assert_eq!(rt; (is_rehashed, is_copied, is_relocated), (true, true, true));
     let figures = (copy.len(), table.len(), table.room());
-    assert_eq!(rt; figures, (229_376, 114_688, 0));
+    assert_eq!(rt; figures, (917_504, 458_752, 0));
     Ok(())
 }
 

@@ -45,6 +45,10 @@ impl Model for RandomState {
 
 impl RandomState {
     /// Makes the state with these seeds.
+    ///
+    /// ```
+    /// let state = RandomState::with_seeds([5, 6, 7, 8]);
+    /// ```
     pub fn with_seeds(words: [u64; 4]) -> RandomState
         ensures { result ≡ seeded words }
     {
@@ -93,6 +97,12 @@ impl BuildHasher for RandomState {
 ///
 /// A whole number is written as its bytes, the lowest first: `write_u64(n)` does what `write(&n.to_le_bytes())` does.
 /// Two writes are not one write of the bytes of both.
+///
+/// ```
+/// let mut hasher = state.build_hasher();
+/// key.hash(&mut hasher);
+/// assert_eq!(rt; hasher.finish(), state.hash_one(&key));
+/// ```
 #[derive(Drop)]
 pub struct DefaultHasher {
     state: u64,

@@ -59,6 +59,10 @@ impl LookupKey<String> for &str {
 }
 
 /// A hasher of keys, and of all that names them. Every `BuildHasher` is one.
+///
+/// ```
+/// assert_eq!(rt; KeyHasher::<String>::hash_named(&state, &"a"), state.hash_one(&key));
+/// ```
 pub trait KeyHasher<K: Eq + Hash>: BuildHasher {
     /// Returns the hash of a key.
     ghost hash_of: { Self → K → ℕ };

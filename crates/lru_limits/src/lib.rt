@@ -22,4 +22,6 @@ pub use group_table::LinkType;
 pub use hasher::{DefaultHasher, RandomState};
 pub use keys::{KeyHasher, LookupKey};
 pub use limiter::{Insertion, Limiter};
-pub use limiters::{ByLength, ByMemoryUsage, Storing, Unlimited, UnlimitedCompact};
+pub use limiters::{
+    ByLength, ByMemoryUsage, Storing, Unlimited, UnlimitedCompact, limiters_fix_their_links,
+};

@@ -17,7 +17,12 @@ use std::hash::Hash;
 /// impl defines the four functions as `rules`, and the prover checks that the code computes them. So whoever knows the
 /// `rules` of a limiter knows what a map does under it. For a limiter that never changes, `plain` of
 /// `specs/Stores.antt` defines them in one line. The rules of this crate's limiters are in `specs/Limiters.antt` and
-/// `specs/Budget.antt`.
+/// `specs/Budget.antt`. `docs/LIMITERS.md` shows how to write a limiter.
+///
+/// ```
+/// assert!(rt; !Limiter::<u64, u64>::is_over_the_limit(&limiter, 3));
+/// assert!(rt; Limiter::<u64, u64>::is_over_the_limit(&limiter, 4));
+/// ```
 pub trait Limiter<K, V> {
     /// The type of the links of the map, which limits the number of its pairs.
     type LinkType: LinkType;
@@ -55,6 +60,11 @@ pub trait Limiter<K, V> {
 /// a `String`. The impl defines `offers`: what an offered element may leave, when an offer may run out of memory, and
 /// what a replacement leaves. For a limiter that stores pairs as they come, use [`crate::Storing`], or define the
 /// offers by `hands_over` of `specs/Stores.antt` in one line, and the laws by `hands_over-lawful`.
+///
+/// ```
+/// assert!(rt; limiter.on_insert(alloc, 0, 1u64, 2u64)?.is_some());
+/// assert!(rt; limiter.on_insert(alloc, 1, 2u64, 4u64)?.is_none());
+/// ```
 pub trait Insertion<K: Eq + Hash, V, I: LookupKey<K>>: Limiter<K, V> {
     /// What the callbacks of this trait may leave.
     ghost offers: { Offers K V Self I };

@@ -1,5 +1,11 @@
 //! The limiters that look at no element: by the number of pairs, by the size of the table, and without a limit; and an
 //! adapter for limiters of your own that store each pair as it comes.
+ghost use Rattle.std.specs.Prelude.{◌≡◌, ◌-◌, ◌^◌};
+
+use crate::accounts::{ByCost, Costed};
+use crate::limiter::Limiter;
+use group_table::LinkType;
+
 mod by_length;
 mod by_memory_usage;
 mod storing;
@@ -11,3 +17,14 @@ pub use by_memory_usage::ByMemoryUsage;
 pub use storing::Storing;
 pub use unlimited::Unlimited;
 pub use unlimited_compact::UnlimitedCompact;
+
+/// A map has links of 32 bits under `ByLength`, `ByMemoryUsage` and `UnlimitedCompact`, and of 64 bits under `Unlimited`
+/// and `ByCost`. Under `Storing` it has those of the limiter inside. The function does nothing: its contract is the law.
+pub fn limiters_fix_their_links<K, V, C: Costed, L: Limiter<K, V>>()
+    ensures by_length { ⟦<<ByLength as Limiter<K, V>>::LinkType as LinkType>⟧.MAX ≡ 2 ^ 32 - 1 }
+    ensures by_memory_usage { ⟦<<ByMemoryUsage as Limiter<K, V>>::LinkType as LinkType>⟧.MAX ≡ 2 ^ 32 - 1 }
+    ensures unlimited_compact { ⟦<<UnlimitedCompact as Limiter<K, V>>::LinkType as LinkType>⟧.MAX ≡ 2 ^ 32 - 1 }
+    ensures unlimited { ⟦<<Unlimited as Limiter<K, V>>::LinkType as LinkType>⟧.MAX ≡ 2 ^ 64 - 1 }
+    ensures by_cost { ⟦<<ByCost as Limiter<K, C>>::LinkType as LinkType>⟧.MAX ≡ 2 ^ 64 - 1 }
+    ensures storing { ⟦<<Storing<L> as Limiter<K, V>>::LinkType as LinkType>⟧.MAX ≡ L.LinkType.MAX }
+{}

@@ -1,9 +1,9 @@
 //! The examples of the docs of public items.
 use lru_limits::{
-    ByCost, ByLength, ByMemoryUsage, Costed, Insertion, Limiter, LookupKey, RandomState, Storing,
-    Summing, Unlimited, UnlimitedCompact,
+    ByCost, ByLength, ByMemoryUsage, Costed, Insertion, KeyHasher, Limiter, LookupKey, RandomState,
+    Storing, Summing, Unlimited, UnlimitedCompact,
 };
-use std::hash::BuildHasher;
+use std::hash::{BuildHasher, Hash, Hasher};
 use std::test::Fail;
 
 /// A page whose cost is its bytes.
@@ -23,16 +23,19 @@ impl Costed for Page {
 fn of_limiters(rt: HostRuntime) -> Result<(), Fail> {
     let alloc = rt.alloc();
     let limiter = ByLength::new(3);
+    assert_eq!(rt; limiter.max_length(), 3);
     assert!(rt; !Limiter::<u64, u64>::is_over_the_limit(&limiter, 3));
     assert!(rt; Limiter::<u64, u64>::is_over_the_limit(&limiter, 4));
     let limiter = Storing(ByLength::new(3));
     assert!(rt; Limiter::<u64, u64>::is_over_the_limit(&limiter, 4));
     let mut limiter = ByMemoryUsage::new(152);
+    assert_eq!(rt; limiter.max_memory_usage(), 152);
     assert!(rt; Limiter::<u64, u64>::on_grow(&mut limiter, 152));
     assert!(rt; !Limiter::<u64, u64>::on_grow(&mut limiter, 153));
     assert!(rt; !Limiter::<u64, u64>::is_over_the_limit(&Unlimited, usize::MAX));
     assert!(rt; !Limiter::<u64, u64>::is_over_the_limit(&UnlimitedCompact, usize::MAX));
     let mut limiter = ByCost::new(3);
+    assert_eq!(rt; limiter.limit(), 3);
     assert!(rt; limiter.on_insert(alloc, 0, 1u64, 2u64)?.is_some());
     assert!(rt; limiter.on_insert(alloc, 1, 2u64, 4u64)?.is_none());
     assert_eq!(rt; limiter.cost(), 2);
@@ -48,5 +51,12 @@ fn of_keys_costs_and_hashes(rt: HostRuntime) -> Result<(), Fail> {
     assert_eq!(rt; Page { bytes: 4096 }.cost(), 4096);
     let state = RandomState::with_seeds([5, 6, 7, 8]);
     assert_eq!(rt; state.hash_one(&"a"), state.hash_one(&key));
+    assert_eq!(rt;
+        KeyHasher::<String>::hash_named(&state, &"a"),
+        state.hash_one(&key)
+    );
+    let mut hasher = state.build_hasher();
+    key.hash(&mut hasher);
+    assert_eq!(rt; hasher.finish(), state.hash_one(&key));
     Ok(())
 }

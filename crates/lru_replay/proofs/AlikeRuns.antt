@@ -23,7 +23,7 @@ use Rattle.schnellru.specs.Reservations.{Reserve}
 use Rattle.schnellru.specs.Runs.{AnyStep}
 use Rattle.schnellru.specs.Shrinks.{Shrink}
 use Rattle.schnellru.specs.Sizes.{usage}
-use Rattle.schnellru.specs.State.{State, buckets, contents, pop, pops}
+use Rattle.schnellru.specs.State.{State, buckets, contents, pop, pops, trim}
 use Rattle.schnellru.specs.declared.map.reserve.ReserveError.{ReserveError}
 use Rattle.schnellru.specs.declared.map.reserve.ReserveError.TheVariants.{TooLarge, Refused, Memory}
 use Rattle.lru_replay.specs.CallRuns.{IsRun, CallStep, SummingStep, KeepsCost, HasPlainSearch, StoresPairs}
@@ -36,60 +36,8 @@ use Rattle.lru_replay.specs.declared.calls.call.Call.{Call}
 use Rattle.lru_replay.specs.declared.calls.call.Call.TheVariants as calls
 use Rattle.lru_replay.specs.declared.lines.figures.Figures.{Figures}
 use Rattle.lru_replay.proofs.ListRuns.{same_hasher}
-
-head_same : {x y : Want} {xs ys : List Want} → x ∷ xs ≡ y ∷ ys → x ≡ y
-head_same e = cc
-
-tail_same : {x y : Want} {xs ys : List Want} → x ∷ xs ≡ y ∷ ys → xs ≡ ys
-tail_same e = cc
-
--- whether not all memory was found
-abbrev is_short : Want → Bool
-is_short found_all = false
-is_short lacks = true
-is_short lacks_beside = true
-
--- whether the answer tells nothing else
-abbrev is_alone : Want → Bool
-is_alone found_all = false
-is_alone lacks = true
-is_alone lacks_beside = false
-
-abbrev wants_memory : {K V : Type 0} → Reply K V → Bool
-wants_memory reply = is_short (want_of reply)
-
-given_wants : {K V : Type 0} (result : Result Bool AllocError) (out : List (K × V))
-    → wants_memory (given result out) ≡ is_err result
-given_wants (Ok b) out = refl
-given_wants (Err e) out = refl
-
-given_tells : {K V : Type 0} (result : Result Bool AllocError) (out : List (K × V))
-    → is_alone (want_of (given result out)) ≡ false
-given_tells (Ok b) out = refl
-given_tells (Err e) out = refl
-
-insert_wants : (K V : Type 0) (result : Result Bool AllocError) → wants_memory {K = K} {V = V} (insert_reply result)
-    ≡ is_err result
-insert_wants K V (Ok b) = refl
-insert_wants K V (Err e) = refl
-
-made_wants : {K V : Type 0} (result : Result Bool AllocError) (pairs : List (K × V))
-    → wants_memory (made_reply result pairs) ≡ is_err result
-made_wants (Ok true) pairs = refl
-made_wants (Ok false) pairs = refl
-made_wants (Err e) pairs = refl
-
-reserved_wants : (K V : Type 0) (result : Result (Unit {0}) ReserveError)
-    → wants_memory {K = K} {V = V} (reserved result) ≡ is_memory result
-reserved_wants K V (Ok u) = refl
-reserved_wants K V (Err TooLarge) = refl
-reserved_wants K V (Err Refused) = refl
-reserved_wants K V (Err Memory) = refl
-
-shrunk_wants : (K V : Type 0) (result : Result Bool AllocError)
-    → wants_memory {K = K} {V = V} (shrunk result) ≡ is_err result
-shrunk_wants K V (Ok b) = refl
-shrunk_wants K V (Err e) = refl
+use Rattle.lru_replay.proofs.Wants.{head_same, tail_same, is_alone, is_short, wants_memory, given_wants, given_tells}
+use Rattle.lru_replay.proofs.Wants.{insert_wants, made_wants, reserved_wants, shrunk_wants}
 
 -- a plain search finds the same in the same pairs
 found_alike : {K V : Type 0} (eq : K → K → Bool) (hash_of : K → ℕ)
@@ -273,6 +221,12 @@ module _ {K V S H : Type 0} (rules : Rules K V S) (offers : Offers K V S K) (eq 
           (ap shape e')
       step_alike wants (calls.Peek k) plain (is, e) (is', e') = told_by (λ sh. value (lookup (eq k) sh.bare.pairs))
           (λ sh. sh) is (ap shape e) is' (ap shape e')
+      step_alike wants (calls.Contains k) plain (is, e) (is', e') =
+          told_by (λ sh. flag (is_some (lookup (eq k) sh.bare.pairs))) (λ sh. sh) is (ap shape e) is' (ap shape e')
+      step_alike wants (calls.Promote k) plain (is, e) (is', e') =
+          told_by (λ sh. flag (is_some (lookup (eq k) sh.bare.pairs)))
+          (λ sh. record sh { bare = record sh.bare { pairs = front (eq k) sh.bare.pairs } }) is (ap shape e) is'
+          (ap shape e')
       step_alike wants (calls.GetByHash hash k) plain (result, h, is, e) (result', h', is', e') =
           get_alike k result result' (search_alike hash k result result' plain h h') is is' e e'
       step_alike wants (calls.PeekByHash hash k) plain (result, h, is, e) (result', h', is', e') =
@@ -287,6 +241,11 @@ module _ {K V S H : Type 0} (rules : Rules K V S) (offers : Offers K V S K) (eq 
           (λ sh. with_left (removal rules (eq k) (contents sh.bare)) sh)
           (is ∙ ap value h.value) (left_shape old _ new small h.state)
           (is' ∙ ap value h'.value) (left_shape other _ last small_other h'.state)
+      step_alike wants (calls.RemoveEntry k) plain (result, h, is) (result', h', is') = told_by
+          (λ sh. pair (left_of rules sh.bare.limiter (lookup_entry (eq k) sh.bare.pairs)))
+          (λ sh. with_left (removal rules (eq k) (contents sh.bare)) sh)
+          (is ∙ ap pair h.pair) (left_shape old _ new small h.state)
+          (is' ∙ ap pair h'.pair) (left_shape other _ last small_other h'.state)
       step_alike wants calls.PopOldest plain (result, h, is) (result', h', is') = told_by
           (λ sh. pair (left_of rules sh.bare.limiter (last_of sh.bare.pairs)))
           (λ sh. with_left (pop rules (contents sh.bare)) sh)
@@ -305,6 +264,9 @@ module _ {K V S H : Type 0} (rules : Rules K V S) (offers : Offers K V S K) (eq 
           reserve_alike wants n result result' h h' is is'
       step_alike wants calls.Shrink plain (result, h, is) (result', h', is') =
           shrink_alike wants result result' h h' is is'
+      step_alike wants calls.Trim plain (is, h) (is', h') = told_by (λ sh. done)
+          (λ sh. with_left (trim rules (contents sh.bare)) sh) is (left_shape old _ new small h) is'
+          (left_shape other _ last small_other h')
       step_alike wants calls.Clear plain (is, e) (is', e') = told_by (λ sh. done) (clears rules) is
           (ap shape e ∙ cleared_shape rules old) is' (ap shape e' ∙ cleared_shape rules other)
       step_alike wants (calls.Drain front back) plain (pairs, h, is) (pairs', h', is') = told_by

@@ -9,108 +9,110 @@ use Rattle.lru_limits.specs.Rules.{Rules, Offers}
 use Rattle.schnellru.specs.State.{IsSized}
 use Rattle.lru_replay.specs.declared.lines.outcome.ReplayError.{ReplayError}
 use Rattle.lru_replay.specs.declared.lines.outcome.ReplayError.TheVariants as errors
-use Rattle.lru_replay.specs.Lines.{lines_of, fed, TakesPart, TakesFed, TakesRest, TakesLines}
+use Rattle.lru_replay.specs.Lines.{lines_of, fed, TakesPart, TakesFed, TakesRest, TakesLines, TakesWhole}
 use Rattle.lru_replay.specs.Maps.{Map}
-use Rattle.lru_replay.specs.LineRuns.{AnswersLine, Answers, IsLineRun, IsTextOf}
+use Rattle.lru_replay.specs.LineRuns.{LineStep, AnswersLine, Answers, IsLineRun, IsTextOf}
 use Rattle.lru_replay.proofs.ByteLists.{Consumes_end}
 use Rattle.lru_replay.proofs.LineLists.{takes_line_more, takes_part_more, lines_at_end, lines_of-last}
 use Rattle.lru_replay.proofs.LineRuns.{line_run-append, line_run-one}
 
-module _ {S : Type 0} (rules : Rules ℕ ℕ S) (offers : Offers ℕ ℕ S ℕ) (told : S → Option ℕ) where
-  -- these lines were read whole, and the text of a run over them was written
-  abbrev pub RunsSoFar : Map S → Option (List ℕ) → Option (List ℕ) → Option (List ℕ) → Option (List ℕ) → Map S → Type 0
-  RunsSoFar old r₀ r₁ w₀ w₁ now = (lines : List (List ℕ)) × (text : List ℕ)
-      × IsLineRun rules offers told old lines text now × TakesLines r₀ r₁ lines [] × Appends w₀ w₁ text
+-- From the map old, some lines were read whole, and the text of a run over them was written, which left the map now.
+-- The reader's bytes were r₀ and are r₁, and the writer's were w₀ and are w₁.
+pub record RunsSoFar {S : Type 0} (rules : Rules ℕ ℕ S) (offers : Offers ℕ ℕ S ℕ) (told : S → Option ℕ) (old : Map S)
+    (r₀ r₁ w₀ w₁ : Option (List ℕ)) (now : Map S) : Type 0 where
+  pub lines : List (List ℕ)
+  pub text : List ℕ
+  pub run : IsLineRun rules offers told old lines text now
+  pub reads : TakesLines r₀ r₁ lines []
+  pub wrote : Appends w₀ w₁ text
 
-  module _ (old now : Map S) (r₀ r₁ r₂ w₀ w₁ : Option (List ℕ)) (line : List ℕ) where
-    -- a read failed in the next line
-    pub read_failed : RunsSoFar old r₀ r₁ w₀ w₁ now → TakesPart r₁ r₂ line
-        → Answers (IsTextOf rules offers told old) r₀ r₂ w₀ w₁ (Err errors.Read)
-    read_failed (lines, text, run, reads, wrote) part =
-        (lines, text, line, (now, run), takes_part_more r₀ r₁ r₂ lines line reads part, wrote)
+module _ {S : Type 0} {rules : Rules ℕ ℕ S} {offers : Offers ℕ ℕ S ℕ} {told : S → Option ℕ} {old now : Map S}
+    {r₀ r₁ w₀ w₁ : Option (List ℕ)} (so_far : RunsSoFar rules offers told old r₀ r₁ w₀ w₁ now) (r₂ : Option (List ℕ))
+    (line : List ℕ) where
+  -- a read failed in the next line
+  pub read_failed : TakesPart r₁ r₂ line → Answers (IsTextOf rules offers told old) r₀ r₂ w₀ w₁ (Err errors.Read)
+  read_failed part = (
+    so_far.lines,
+    so_far.text,
+    line,
+    (now, so_far.run),
+    takes_part_more r₀ r₁ r₂ so_far.lines line so_far.reads part,
+    so_far.wrote,
+  )
 
-    -- the input's end came after a line feed
-    pub all_answered : RunsSoFar old r₀ r₁ w₀ w₁ now → TakesRest r₁ r₂ line → line ≡ []
-        → Answers (IsTextOf rules offers told old) r₀ r₂ w₀ w₁ (Ok tt)
-    all_answered (lines, text, run, reads, wrote) taken none = (
-      IfSome_then r₀ (lines_at_end r₀ r₁ r₂ lines line reads taken) (λ input all. (
-        text,
-        (
-          now,
-          subst (λ ls. IsLineRun rules offers told old ls text now)
-              (sym (all ∙ ap (λ l. lines ++ lines_of l) none ∙ append-nil lines)) run,
-        ),
-        wrote,
-      )),
-      Consumes_end r₀ r₁ r₂ _ reads.2 taken.2,
-    )
-
-  module _ (old now new : Map S) (r₀ r₁ r₂ w₀ w₁ w₂ : Option (List ℕ)) (line : List ℕ) (sized : IsSized new) where
-    -- a line with its line feed was answered
-    pub line_answered : RunsSoFar old r₀ r₁ w₀ w₁ now → TakesFed r₁ r₂ line
-        → AnswersLine rules offers told now line new w₁ w₂ (Ok tt) → RunsSoFar old r₀ r₂ w₀ w₂ new
-    line_answered (lines, text, run, reads, wrote) taken (next, step, answered) = (
-      lines ++ line ∷ [],
-      text ++ fed next,
-      line_run-append rules offers told old lines text now (line ∷ []) (fed next) new run
-          (line_run-one rules offers told now line next new step sized),
-      takes_line_more r₀ r₁ r₂ lines line reads taken,
-      Appends-trans w₀ w₁ w₂ text (fed next) wrote answered,
-    )
-
-    -- a write failed within its answer line
-    pub line_cut : (e : ReplayError) → RunsSoFar old r₀ r₁ w₀ w₁ now → TakesFed r₁ r₂ line
-        → AnswersLine rules offers told now line new w₁ w₂ (Err e)
-        → Answers (IsTextOf rules offers told old) r₀ r₂ w₀ w₂ (Err e)
-    line_cut errors.Read so_far taken (next, step, (same, part, front, written)) = absurd (cc same)
-    line_cut errors.Write (lines, text, run, reads, wrote) taken (next, step, (same, part, (rest, is), written)) = (
-      lines ++ line ∷ [],
-      text ++ fed next,
-      text ++ part,
+  -- the input's end came after a line feed
+  pub all_answered : TakesRest r₁ r₂ line → line ≡ [] → Answers (IsTextOf rules offers told old) r₀ r₂ w₀ w₁ (Ok tt)
+  all_answered taken none = (
+    IfSome_then r₀ (lines_at_end r₀ r₁ r₂ so_far.lines line so_far.reads taken) (λ input all. (
+      so_far.text,
       (
-        new,
-        line_run-append rules offers told old lines text now (line ∷ []) (fed next) new run
-            (line_run-one rules offers told now line next new step sized),
+        now,
+        subst (λ ls. IsLineRun rules offers told old ls so_far.text now)
+            (sym (all ∙ ap (λ l. so_far.lines ++ lines_of l) none ∙ append-nil so_far.lines)) so_far.run,
       ),
-      inl (takes_line_more r₀ r₁ r₂ lines line reads taken),
-      (rest, ap (λ l. text ++ l) is ∙ sym (append_assoc text part rest)),
-      Appends-trans w₀ w₁ w₂ text part wrote written,
+      so_far.wrote,
+    )),
+    Consumes_end r₀ r₁ r₂ _ so_far.reads.2 taken.2,
+  )
+
+  module _ (new : Map S) (w₂ : Option (List ℕ)) (sized : IsSized new) where
+    -- the run with one line more
+    run_on : (next : List ℕ) → LineStep rules offers told now line next new
+        → IsLineRun rules offers told old (so_far.lines ++ line ∷ []) (so_far.text ++ fed next) new
+    run_on next step = line_run-append rules offers told old so_far.lines so_far.text now (line ∷ []) (fed next) new
+        so_far.run (line_run-one rules offers told now line next new step sized)
+
+    -- a line with its line feed was answered
+    pub line_answered : TakesFed r₁ r₂ line → AnswersLine rules offers told now line new w₁ w₂ (Ok tt)
+        → RunsSoFar rules offers told old r₀ r₂ w₀ w₂ new
+    line_answered taken (next, step, answered) = record {
+      lines = so_far.lines ++ line ∷ [];
+      text = so_far.text ++ fed next;
+      run = run_on next step;
+      reads = takes_line_more r₀ r₁ r₂ so_far.lines line so_far.reads taken;
+      wrote = Appends-trans w₀ w₁ w₂ so_far.text (fed next) so_far.wrote answered;
+    }
+
+    -- a write failed within the answer to a line that was read whole
+    cut_within : TakesWhole r₀ r₂ (so_far.lines ++ line ∷ [])
+        → AnswersLine rules offers told now line new w₁ w₂ (Err errors.Write)
+        → Answers (IsTextOf rules offers told old) r₀ r₂ w₀ w₂ (Err errors.Write)
+    cut_within whole (next, step, (same, part, (rest, is), written)) = (
+      so_far.lines ++ line ∷ [],
+      so_far.text ++ fed next,
+      so_far.text ++ part,
+      (new, run_on next step),
+      whole,
+      (rest, ap (λ l. so_far.text ++ l) is ∙ sym (append_assoc so_far.text part rest)),
+      Appends-trans w₀ w₁ w₂ so_far.text part so_far.wrote written,
     )
 
-    -- all lines, where the input's end ended the last
-    all_lines : (lines : List (List ℕ)) → TakesLines r₀ r₁ lines [] → TakesRest r₁ r₂ line → 0 < length line
-        → IfSome r₀ (λ input. lines_of input ≡ lines ++ line ∷ [])
-    all_lines lines reads taken some =
-        IfSome_then r₀ (lines_at_end r₀ r₁ r₂ lines line reads taken)
-        (λ input all. all ∙ ap (λ l. lines ++ l) (lines_of-last line taken.0 some))
+    pub line_cut : (e : ReplayError) → TakesFed r₁ r₂ line → AnswersLine rules offers told now line new w₁ w₂ (Err e)
+        → Answers (IsTextOf rules offers told old) r₀ r₂ w₀ w₂ (Err e)
+    line_cut errors.Read taken (next, step, (same, part, front, written)) = absurd (cc same)
+    line_cut errors.Write taken answered =
+        cut_within (inl (takes_line_more r₀ r₁ r₂ so_far.lines line so_far.reads taken)) answered
 
     -- the last line, which the input's end ended, was answered, or a write failed within its answer line
-    pub last_answered : (result : Result (Unit {0}) ReplayError) → RunsSoFar old r₀ r₁ w₀ w₁ now → TakesRest r₁ r₂ line
-        → 0 < length line
-        → AnswersLine rules offers told now line new w₁ w₂ result
-        → Answers (IsTextOf rules offers told old) r₀ r₂ w₀ w₂ result
-    last_answered (Ok u) (lines, text, run, reads, wrote) taken some (next, step, answered) =
-        let whole = line_run-append rules offers told old lines text now (line ∷ []) (fed next) new run
-        (line_run-one rules offers told now line next new step sized) in (
-          IfSome_then r₀ (all_lines lines reads taken some) (λ input all. (
-            text ++ fed next,
-            (new, subst (λ ls. IsLineRun rules offers told old ls (text ++ fed next) new) (sym all) whole),
-            Appends-trans w₀ w₁ w₂ text (fed next) wrote answered,
-          )),
-          Consumes_end r₀ r₁ r₂ _ reads.2 taken.2,
-        )
-    last_answered (Err errors.Read) so_far taken some (next, step, (same, part, front, written)) = absurd (cc same)
-    last_answered (Err errors.Write) (lines, text, run, reads, wrote) taken some
-        (next, step, (same, part, (rest, is), written)) = (
-          lines ++ line ∷ [],
-          text ++ fed next,
-          text ++ part,
+    module _ (taken : TakesRest r₁ r₂ line) (some : 0 < length line) where
+      all_lines : IfSome r₀ (λ input. lines_of input ≡ so_far.lines ++ line ∷ [])
+      all_lines = IfSome_then r₀ (lines_at_end r₀ r₁ r₂ so_far.lines line so_far.reads taken)
+          (λ input all. all ∙ ap (λ l. so_far.lines ++ l) (lines_of-last line taken.0 some))
+
+      pub last_answered : (result : Result (Unit {0}) ReplayError)
+          → AnswersLine rules offers told now line new w₁ w₂ result
+          → Answers (IsTextOf rules offers told old) r₀ r₂ w₀ w₂ result
+      last_answered (Ok u) (next, step, answered) = (
+        IfSome_then r₀ all_lines (λ input all. (
+          so_far.text ++ fed next,
           (
             new,
-            line_run-append rules offers told old lines text now (line ∷ []) (fed next) new run
-                (line_run-one rules offers told now line next new step sized),
+            subst (λ ls. IsLineRun rules offers told old ls (so_far.text ++ fed next) new) (sym all) (run_on next step),
           ),
-          inr (Consumes_end r₀ r₁ r₂ _ reads.2 taken.2, all_lines lines reads taken some),
-          (rest, ap (λ l. text ++ l) is ∙ sym (append_assoc text part rest)),
-          Appends-trans w₀ w₁ w₂ text part wrote written,
-        )
+          Appends-trans w₀ w₁ w₂ so_far.text (fed next) so_far.wrote answered,
+        )),
+        Consumes_end r₀ r₁ r₂ _ so_far.reads.2 taken.2,
+      )
+      last_answered (Err errors.Read) (next, step, (same, part, front, written)) = absurd (cc same)
+      last_answered (Err errors.Write) answered =
+          cut_within (inr (Consumes_end r₀ r₁ r₂ _ so_far.reads.2 taken.2, all_lines)) answered

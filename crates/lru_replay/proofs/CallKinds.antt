@@ -1,10 +1,11 @@
 -- What a call of a run is to the map: a step of it, a write, another limiter, or a look that changes nothing.
-use Rattle.std.proofs.Common.{◌≡◌, ℕ, Bool, Some, None, refl, inl, inr, ◌⊎◌}
+use Rattle.std.proofs.Common.{◌≡◌, ℕ, Bool, Some, None, option_map, refl, inl, inr, ◌⊎◌}
 use Rattle.lru_limits.specs.Rules.{Rules, Offers}
+use Rattle.schnellru.proofs.CallerLemmas.{value_removed}
 use Rattle.schnellru.proofs.HandingLemmas.{plain_insert}
 use Rattle.schnellru.specs.Calls.{written}
 use Rattle.schnellru.specs.Runs.{Step, inserts, makes_newest, gets, removes, pops_oldest, pops_newest, drains, clears}
-use Rattle.schnellru.specs.Runs.{reserves, shrinks, AnyStep, calls as any_call, writes, sets_limiter as sets}
+use Rattle.schnellru.specs.Runs.{reserves, shrinks, trims, AnyStep, calls as any_call, writes, sets_limiter as sets}
 use Rattle.schnellru.specs.State.{State}
 use Rattle.lru_replay.specs.CallRuns.{CallStep}
 use Rattle.lru_replay.specs.Replies.{Reply}
@@ -29,17 +30,22 @@ module _ {K V S H : Type 0} {rules : Rules K V S} {offers : Offers K V S K} {eq 
   step_kind (calls.GetOrInsert k v) reply (result, h, is) = calls_map (makes_newest v k result h)
   step_kind (calls.Get k) reply (is, e) = calls_map (gets k e)
   step_kind (calls.Peek k) reply (is, e) = stays e
+  step_kind (calls.Contains k) reply (is, e) = stays e
+  step_kind (calls.Promote k) reply (is, e) = calls_map (gets k e)
   step_kind (calls.GetByHash hash k) reply (Some w, h, is, e) = calls_map (gets k e)
   step_kind (calls.GetByHash hash k) reply (None, h, is, e) = stays e
   step_kind (calls.PeekByHash hash k) reply (result, h, is, e) = stays e
   step_kind (calls.Write k v) reply (is, e) = writes_value k v refl e
   step_kind (calls.Remove k) reply (result, h, is) = calls_map (removes (eq k) result h)
+  step_kind (calls.RemoveEntry k) reply (result, h, is) =
+      calls_map (removes (eq k) (option_map (λ p. p.1) result) (value_removed rules (eq k) old result new h))
   step_kind calls.PopOldest reply (result, h, is) = calls_map (pops_oldest result h)
   step_kind calls.PopNewest reply (result, h, is) = calls_map (pops_newest result h)
   step_kind calls.PeekOldest reply (is, e) = stays e
   step_kind calls.PeekNewest reply (is, e) = stays e
   step_kind (calls.Reserve n) reply (result, h, is) = calls_map (reserves n result h)
   step_kind calls.Shrink reply (result, h, is) = calls_map (shrinks result h)
+  step_kind calls.Trim reply (is, h) = calls_map (trims h)
   step_kind calls.Clear reply (is, e) = calls_map (clears e)
   step_kind (calls.Drain front back) reply (pairs, h, is) = calls_map (drains front back pairs h)
   step_kind calls.List reply (is, e) = stays e

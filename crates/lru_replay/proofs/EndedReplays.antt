@@ -20,7 +20,7 @@ use Rattle.lru_replay.specs.declared.lines.outcome.ReplayError.TheVariants as er
 use Rattle.lru_replay.specs.Grammar.{SpellsLimit}
 use Rattle.lru_replay.specs.Lines.{lines_of, TakesFed, TakesRest, TakesLine, TakesPart, TakesLines, TakesFirst}
 use Rattle.lru_replay.specs.Output.{Fails, no_limiter_text}
-use Rattle.lru_replay.specs.Replay.{IsTextUnder, IsReplay, NamesNoLimit, IsOutput, IsOutputSoFar, IsTextSoFar}
+use Rattle.lru_replay.specs.Replay.{IsTextUnder, IsReplay, NamesNoLimit, IsOutput, SoFar}
 use Rattle.lru_replay.specs.Replay.{WritesCut, WritesCutSoFar, Replays}
 use Rattle.lru_limits.specs.Limiters.{length_rules, length_offers, memory_rules, no_rules, all_offers}
 use Rattle.lru_replay.specs.Limits.{cost_rules, cost_offers, no_cost, cost_told, AlwaysOffers}
@@ -33,14 +33,14 @@ use Rattle.lru_replay.proofs.ByteLists.{Consumes_end}
 use Rattle.lru_replay.proofs.EmptyMaps.{empty_is_sized, length_always, cost_always, all_always}
 use Rattle.lru_replay.proofs.SpelledLines.{limit_or}
 
--- what is said of the lines after the first is said of all
+-- what is said of the lines after the first, said of all lines
 after_first : (a b : Option (List ℕ)) (first : List ℕ) (P Q : List ℕ → Type 0) → TakesFed a b first
     → ((rest input : List ℕ) → lines_of input ≡ first ∷ lines_of rest → P rest → Q input) → IfSome b P → IfSome a Q
 after_first None b first P Q taken f h = tt
 after_first (Some x) None first P Q (lacks, p) f h = absurd p
 after_first (Some x) (Some y) first P Q (lacks, p) f h = f y x (ap lines_of p ∙ lines_of-fed first y lacks) h
 
--- the input is what its end ends
+-- the input is one line, which no line feed ends
 only_first : (a b : Option (List ℕ)) (first : List ℕ) (Q : List ℕ → Type 0) → TakesRest a b first
     → ((input : List ℕ) → lines_of input ≡ lines_of first → Q input) → IfSome a Q
 only_first a b first Q taken f = IfSome_then a (lines_at_end a a b [] first (tt, tt, Consumes-nil a) taken) f
@@ -69,7 +69,7 @@ no_limit (Some x) b endings.Nothing first (taken, nothing) none = only_first (So
     (λ input. NamesNoLimit (lines_of input)) taken
     (λ input same. none_first (lines_of input) (same ∙ ap lines_of nothing))
 
--- A text of the first so many lines goes on for more.
+-- A text of the first n lines goes on for more lines.
 module _ {S : Type 0} (rules : Rules ℕ ℕ S) (offers : Offers ℕ ℕ S ℕ) (told : S → Option ℕ)
     (offered : AlwaysOffers offers) (old : Map S) (sized : IsSized old) where
   text_goes_on : (lines more : List (List ℕ)) (text : List ℕ) → IsTextOf rules offers told old lines text
@@ -111,8 +111,8 @@ some_output (first ∷ lines) = by (limit_or first)
         (text, inl (limit, first, lines, refl, spells, is))
     by (inr none) = (no_limiter_text, inr (none_named (first ∷ lines) lines first refl none, refl))
 
--- and what is written of the first so many goes on for more.
-output_goes_on : (lines more : List (List ℕ)) (text : List ℕ) → IsOutputSoFar lines text → (u : List ℕ)
+-- and what is written of the first n lines goes on for more.
+output_goes_on : (lines more : List (List ℕ)) (text : List ℕ) → SoFar IsOutput lines text → (u : List ℕ)
     × IsOutput (lines ++ more) (text ++ u)
 output_goes_on [] more text none = let (u, is) = some_output more in
     (u, subst (λ l. IsOutput more (l ++ u)) (sym none) is)
@@ -143,7 +143,7 @@ cut_of_all (Some x) (Some y) w v (lines, text, part, inr (rest, reads, is), (mor
       wrote,
     )
 
--- `NoLimiter` comes exactly where no limit is named.
+-- `NoLimiter` comes exactly if no limit is named.
 pub exactly_no_limiter : (a b w v : Option (List ℕ)) (end : Result ReplayEnd ReplayError) → Replays a b w v end
     → OnOk end (IfSome a (λ input. (end ≡ Ok ends.NoLimiter) ↔ NamesNoLimit (lines_of input)))
 exactly_no_limiter a b w v (Ok ends.Done) (done, at_end) = IfSome_then a done
@@ -156,7 +156,7 @@ exactly_no_limiter a b w v (Ok ends.NoLimiter) (none, reads, wrote) = IfSome_the
     (λ input is. (λ same. is, λ names. refl))
 exactly_no_limiter a b w v (Err e) h = tt
 
--- What was read and written stays so while the writer's bytes stay.
+-- What was read and written stays true while the writer's bytes stay the same.
 pub replays-kept : (a b w v u : Option (List ℕ)) (end : Result ReplayEnd ReplayError) → Keeps v u → Replays a b w v end
     → Replays a b w u end
 replays-kept a b w v u (Ok ends.Done) keeps (done, at_end) =
@@ -171,11 +171,11 @@ replays-kept a b w v u (Err errors.Write) keeps h = IfSome_then a h
 all_of : (text : List ℕ) → IsFront text text
 all_of text = ([], sym (append-nil text))
 
-so_far_output : (lines : List (List ℕ)) (text : List ℕ) → IsTextSoFar lines text → IsOutputSoFar lines text
+so_far_output : (lines : List (List ℕ)) (text : List ℕ) → SoFar IsReplay lines text → SoFar IsOutput lines text
 so_far_output [] text is = is
-so_far_output (first ∷ others) text (limit, spells, is) = inl (limit, first, others, refl, spells, is)
+so_far_output (first ∷ others) text is = inl is
 
--- The flush failed: what is written is all of what may be written of the lines that were read.
+-- The flush failed: all text of the lines that were read was written before.
 pub flush_failed : (a b w v : Option (List ℕ)) (end : Result ReplayEnd ReplayError) → Replays a b w v end
     → Replays a b w v (Err errors.Write)
 flush_failed None b w v end h = tt
@@ -260,7 +260,7 @@ spelled_some line (limits.Memory budget entry_bytes) (fits, is) = omega (arith, 
 spelled_some line (limits.Cost most) (fits, is) = omega (arith, ap length is)
 spelled_some line limits.Compact (fits, is) = omega (arith, ap length is)
 
--- a line that no line feed ended is all that was left
+-- a line without a line feed is all that was left
 rest_taken : (a b : Option (List ℕ)) (ending : Ending) (line : List ℕ) → (ending ≡ endings.Feed → ⊥)
     → TakesLine a b ending line → TakesRest a b line
 rest_taken a b endings.Feed line not_fed taken = absurd (not_fed refl)
@@ -289,7 +289,7 @@ done_first a b w ending first limit spells not_fed line =
       taken.2,
     )
 
--- what holds at each input holds at one that is known
+-- what holds of each input holds of one that is known
 if_known : (a : Option (List ℕ)) {P : List ℕ → Type 0} → ((input : List ℕ) → P input) → IfSome a P
 if_known None f = tt
 if_known (Some x) f = f x
@@ -305,8 +305,14 @@ module _ (a b c w v : Option (List ℕ)) (first : List ℕ) (limit : Limit) (spe
   )
 
   pub others_failed : (e : ReplayError) → Answers (IsTextUnder limit) b c w v (Err e) → Replays a c w v (Err e)
-  others_failed errors.Read (lines, text, part, is, reads, wrote) =
-      (first ∷ lines, text, part, (limit, spells, is), takes_line_before a b c first lines part taken reads, wrote)
+  others_failed errors.Read (lines, text, part, is, reads, wrote) = (
+    first ∷ lines,
+    text,
+    part,
+    (limit, first, lines, refl, spells, is),
+    takes_line_before a b c first lines part taken reads,
+    wrote,
+  )
   others_failed errors.Write (lines, text, part, is, inl reads, front, wrote) =
       if_known a (λ input. (
         first ∷ lines,

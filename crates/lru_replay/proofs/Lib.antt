@@ -21,3 +21,5 @@ pub mod CallLaws
 pub mod OldestGone
 pub mod ListRuns
 pub mod AlikeRuns
+pub mod Wants
+pub mod SmallBudgets

@@ -12,8 +12,7 @@ use Rattle.schnellru.specs.HandedOver.{noting, noting_offers, noted, InsertHands
 use Rattle.schnellru.specs.Inserts.{Insert}
 use Rattle.schnellru.specs.Lists.{lookup, lookup_entry, after, newest_value, keys_of}
 use Rattle.schnellru.specs.Place.{asked}
-use Rattle.schnellru.specs.Reservations.{Reserve, too_many, enough_room, no_such_table, remade, no_memory_to_remake}
-use Rattle.schnellru.specs.Reservations.{denied_room, reserved, no_memory_to_grow}
+use Rattle.schnellru.specs.Reservations.{Reserve, unchanged, remade, reserved, asked_only}
 use Rattle.schnellru.specs.Runs.{AnyStep}
 use Rattle.schnellru.specs.Sizes.{usage}
 use Rattle.schnellru.specs.State.{State, Contents, contents, IsMap}
@@ -52,14 +51,10 @@ module _ {K V S H : Type 0} (rules : Rules K V S) (offers : Offers K V S K) (eq 
 
       reserve_same : (n : ℕ) (result : Result (Unit {0}) ReserveError) → Reserve rules n old result new
           → contents new ≡ contents old
-      reserve_same n result (enough_room s l r e) = ap contents e
-      reserve_same n result (too_many l r e) = ap contents e
-      reserve_same n result (no_such_table l t r e) = ap contents e
+      reserve_same n result (unchanged why e) = ap contents e
       reserve_same n result (remade l t r m) = ap contents m.state
-      reserve_same n result (no_memory_to_remake l t p r e) = ap contents e
       reserve_same n result (reserved l count bytes t g r m) = ap contents m.state ∙ asked_same bytes
-      reserve_same n result (no_memory_to_grow l count bytes t g r e) = ap contents e ∙ asked_same bytes
-      reserve_same n result (denied_room l count bytes t d r e) = ap contents e ∙ asked_same bytes
+      reserve_same n result (asked_only l count bytes t f e) = ap contents e ∙ asked_same bytes
 
     -- beside a list the limiter permits as much
     noting_grants : AlwaysGrants (noting rules)
@@ -96,17 +91,21 @@ module _ {K V S H : Type 0} (rules : Rules K V S) (offers : Offers K V S K) (eq 
       in_list (calls.GetOrInsert k v) reply (result, h, is) = made_in_list k v result reply h is
       in_list (calls.Get k) reply (is, e) = (is, ap contents e)
       in_list (calls.Peek k) reply (is, e) = (is, ap contents e)
+      in_list (calls.Contains k) reply (is, e) = (is, ap contents e)
+      in_list (calls.Promote k) reply (is, e) = (is, ap contents e)
       in_list (calls.GetByHash hash k) reply (Some w, h, is, e) = (Some w, h, is, ap contents e)
       in_list (calls.GetByHash hash k) reply (None, h, is, e) = (None, h, is, ap contents e)
       in_list (calls.PeekByHash hash k) reply (result, h, is, e) = (result, h, is, ap contents e)
       in_list (calls.Write k v) reply (is, e) = (is, ap contents e)
       in_list (calls.Remove k) reply (result, h, is) = (is ∙ ap value h.value, ap contents h.state.is)
+      in_list (calls.RemoveEntry k) reply (result, h, is) = (is ∙ ap pair h.pair, ap contents h.state.is)
       in_list calls.PopOldest reply (result, h, is) = (is ∙ ap pair h.pair, ap contents h.state.is)
       in_list calls.PopNewest reply (result, h, is) = (is ∙ ap pair h.pair, ap contents h.state.is)
       in_list calls.PeekOldest reply (is, e) = (is, ap contents e)
       in_list calls.PeekNewest reply (is, e) = (is, ap contents e)
       in_list (calls.Reserve n) reply (result, h, is) = (result, is, reserve_same old new n result h)
       in_list calls.Shrink reply (result, h, is) = (result, is, shrink_contents old result new h)
+      in_list calls.Trim reply (is, h) = (is, ap contents h.is)
       in_list calls.Clear reply (is, e) = (is, ap contents e)
       in_list (calls.Drain front back) reply (pairs, h, is) =
           (is ∙ ap listed h.pairs, ap contents h.state.2 ∙ ap (λ st. emptied rules (contents st)) h.state.1.is)

@@ -1,9 +1,10 @@
 -- Runs of calls evict from the old end alone.
-use Rattle.std.proofs.Common.{◌≡◌, ℕ, Bool, Some, None, List, [], ◌∷◌, subst, inl, inr, ◌⊎◌}
+use Rattle.std.proofs.Common.{◌≡◌, ℕ, Bool, Some, None, option_map, List, [], ◌∷◌, subst, inl, inr, ◌⊎◌}
 use Rattle.std.specs.List.{AllByRecursion}
 use Rattle.lru_limits.specs.Rules.{Rules, Offers}
+use Rattle.schnellru.proofs.CallerLemmas.{value_removed}
 use Rattle.schnellru.proofs.HandingLemmas.{plain_insert}
-use Rattle.schnellru.specs.Runs.{inserts, makes_newest, gets, removes, pops_oldest, drains, clears, reserves, shrinks}
+use Rattle.schnellru.specs.Runs.{inserts, makes_newest, gets, removes, pops_oldest, drains, clears, reserves, shrinks, trims}
 use Rattle.schnellru.specs.Runs.{calls as any_call, writes, sets_limiter, StepAmong, Run, ends, goes_on}
 use Rattle.schnellru.specs.State.{State, IsMap}
 use Rattle.lru_replay.specs.CallRuns.{IsRun, CallStep, SummingStep, NamesAmong}
@@ -27,17 +28,24 @@ module _ {K V S H : Type 0} (rules : Rules K V S) (offers : Offers K V S K) (eq 
       inl (any_call (makes_newest v k result h), among)
   step_among old new (calls.Get k) reply (is, e) among = inl (any_call (gets k e), among)
   step_among old new (calls.Peek k) reply (is, e) among = inr e
+  step_among old new (calls.Contains k) reply (is, e) among = inr e
+  step_among old new (calls.Promote k) reply (is, e) among = inl (any_call (gets k e), among)
   step_among old new (calls.GetByHash hash k) reply (Some w, h, is, e) among = inl (any_call (gets k e), among)
   step_among old new (calls.GetByHash hash k) reply (None, h, is, e) among = inr e
   step_among old new (calls.PeekByHash hash k) reply (result, h, is, e) among = inr e
   step_among old new (calls.Write k v) reply (is, e) among = inl (writes (eq k) v e, among)
   step_among old new (calls.Remove k) reply (result, h, is) among = inl (any_call (removes (eq k) result h), among)
+  step_among old new (calls.RemoveEntry k) reply (result, h, is) among = inl (
+    any_call (removes (eq k) (option_map (λ p. p.1) result) (value_removed rules (eq k) old result new h)),
+    among,
+  )
   step_among old new calls.PopOldest reply (result, h, is) among = inl (any_call (pops_oldest result h), tt)
   step_among old new calls.PopNewest reply (result, h, is) among = absurd among
   step_among old new calls.PeekOldest reply (is, e) among = inr e
   step_among old new calls.PeekNewest reply (is, e) among = inr e
   step_among old new (calls.Reserve n) reply (result, h, is) among = inl (any_call (reserves n result h), tt)
   step_among old new calls.Shrink reply (result, h, is) among = inl (any_call (shrinks result h), tt)
+  step_among old new calls.Trim reply (is, h) among = inl (any_call (trims h), tt)
   step_among old new calls.Clear reply (is, e) among = inl (any_call (clears e), tt)
   step_among old new (calls.Drain front back) reply (pairs, h, is) among =
       inl (any_call (drains front back pairs h), tt)

@@ -74,12 +74,7 @@ fits_command (commands.Peek k) = lt_or k (2 ^ 64)
 fits_command (commands.Remove k) = lt_or k (2 ^ 64)
 fits_command (commands.Reserve n) = lt_or n (2 ^ 64)
 fits_command (commands.Drain n) = lt_or n (2 ^ 64)
-fits_command commands.PopOldest = inl tt
-fits_command commands.PopNewest = inl tt
-fits_command commands.Clear = inl tt
-fits_command commands.Stats = inl tt
-fits_command commands.Shrink = inl tt
-fits_command commands.List = inl tt
+fits_command command = inl tt
 
 fits_limit : (limit : Limit) → FitsLimit limit ⊎ (FitsLimit limit → ⊥)
 fits_limit (limits.Length n) = lt_or n (2 ^ 32)

@@ -1,9 +1,10 @@
 -- Runs of calls: a step for each call, each from the state that the one before left.
-use Rattle.std.specs.Prelude.{◌≡◌, ℕ, Bool, List, [], ◌∷◌, ◌⊎◌, MatchOption}
+use Rattle.std.specs.Prelude.{◌≡◌, ◌≤◌, ℕ, Bool, List, [], ◌∷◌, ◌⊎◌, MatchOption, Some}
 use Rattle.group_table.specs.Probe.{hash_tag}
 use Rattle.lru_limits.specs.Rules.{Rules, Offers}
 use Rattle.schnellru.specs.Lists.{lookup_entry}
 use Rattle.schnellru.specs.Runs.{AreAmong}
+use Rattle.schnellru.specs.Sizes.{usage}
 use Rattle.schnellru.specs.State.{State, Contents, contents, IsMap}
 use Rattle.schnellru.specs.Theorems.{IsSummed}
 use Rattle.lru_replay.specs.declared.calls.call.Call.{Call}
@@ -46,9 +47,11 @@ module _ {K V S : Type 0} where
   NamesAmong eq test (calls.InsertWith key v) = AreAmong (eq key) test
   NamesAmong eq test (calls.GetOrInsert key v) = AreAmong (eq key) test
   NamesAmong eq test (calls.Get key) = AreAmong (eq key) test
+  NamesAmong eq test (calls.Promote key) = AreAmong (eq key) test
   NamesAmong eq test (calls.GetByHash hash key) = AreAmong (eq key) test
   NamesAmong eq test (calls.Write key v) = AreAmong (eq key) test
   NamesAmong eq test (calls.Remove key) = AreAmong (eq key) test
+  NamesAmong eq test (calls.RemoveEntry key) = AreAmong (eq key) test
   NamesAmong eq test calls.PopNewest = ⊥
   NamesAmong eq test call = Unit {0}
 
@@ -87,3 +90,7 @@ module _ {K V S H : Type 0} (rules : Rules K V S) (offers : Offers K V S K) (eq 
     -- a step of a map that keeps the cost, or one that would not is told so
     abbrev pub SummingStep : State K V S H → Call K V S → Reply K V → State K V S H → Type 0
     SummingStep = StepIfKept eq cost account contents CallStep
+
+-- the limit by memory usage is at most the bytes of a table of 16 buckets
+abbrev pub HasSmallBudget : {K V H : Type 0} → State K V ℕ H → Type 0
+HasSmallBudget st = (bytes : ℕ) × (usage st.entry_bytes 16 ≡ Some bytes) × (st.limiter ≤ bytes)

@@ -17,7 +17,7 @@ use Rattle.lru_replay.specs.Output.{reply_text, bad_text, Writes}
 use Rattle.lru_replay.specs.Replies.{Reply, no_memory}
 use Rattle.lru_replay.specs.Steps.{ReplyStep}
 
--- The pairs are stored before they are written, which takes memory: those of an insert stand behind its answer.
+-- The pairs are stored before they are written, which takes memory: the pairs of an insert follow its answer.
 abbrev pub StoresFirst : Command → Type 0
 StoresFirst (commands.Put k v) = Unit {0}
 StoresFirst command = ⊥
@@ -40,7 +40,7 @@ module _ {S : Type 0} (rules : Rules ℕ ℕ S) (offers : Offers ℕ ℕ S ℕ) 
   LineStep old line text new = ((command : Command) × SpellsCommand line command × CommandStep old command text new)
       ⊎ (((command : Command) → SpellsCommand line command → ⊥) × (text ≡ bad_text) × (new ≡ old))
 
-  -- The line is answered, and its text is written with a line feed, or a beginning of that where a write failed.
+  -- The line is answered, and its text is written with a line feed, or a beginning of that if a write failed.
   abbrev pub AnswersLine : Map S → List ℕ → Map S → Option (List ℕ) → Option (List ℕ) → Result (Unit {0}) ReplayError
       → Type 0
   AnswersLine before line after old new result =
@@ -56,27 +56,27 @@ module _ {S : Type 0} (rules : Rules ℕ ℕ S) (offers : Offers ℕ ℕ S ℕ) 
   abbrev pub IsTextOf : Map S → List (List ℕ) → List ℕ → Type 0
   IsTextOf old lines text = (new : Map S) × IsLineRun old lines text new
 
--- Below, IsText tells the texts of lines. What a reader had left, where it is known, is from, and what it has left is
--- to. A writer's bytes are old and new.
+-- Below, IsText says which texts lines have. A reader had the bytes `from` left, if they are known, and has `to` left
+-- now. A writer's bytes were `old` and are `new`.
 module _ (IsText : List (List ℕ) → List ℕ → Type 0) where
   -- a text of all the lines was written
   abbrev pub WritesText : Option (List ℕ) → Option (List ℕ) → Option (List ℕ) → Type 0
   WritesText from old new =
       IfSome from (λ input. (text : List ℕ) × IsText (lines_of input) text × Appends old new text)
 
-  -- some lines were read whole, and a part of the next, and a text of the whole ones was written
-  abbrev pub WritesTextSoFar : Option (List ℕ) → Option (List ℕ) → Option (List ℕ) → Option (List ℕ) → Type 0
-  WritesTextSoFar from to old new = (lines : List (List ℕ)) × (text part : List ℕ)
-      × IsText lines text × TakesLines from to lines part × Appends old new text
+  module _ (from to old new : Option (List ℕ)) where
+    -- some lines were read whole, and a part of the next, and a text of the whole ones was written
+    abbrev pub WritesTextSoFar : Type 0
+    WritesTextSoFar = (lines : List (List ℕ)) × (text part : List ℕ)
+        × IsText lines text × TakesLines from to lines part × Appends old new text
 
-  -- some lines were read whole, and a beginning of a text of them was written
-  abbrev pub BeginsText : Option (List ℕ) → Option (List ℕ) → Option (List ℕ) → Option (List ℕ) → Type 0
-  BeginsText from to old new = (lines : List (List ℕ)) × (text part : List ℕ)
-      × IsText lines text × TakesWhole from to lines × IsFront part text × Appends old new part
+    -- some lines were read whole, and a beginning of a text of them was written
+    abbrev pub BeginsText : Type 0
+    BeginsText = (lines : List (List ℕ)) × (text part : List ℕ)
+        × IsText lines text × TakesWhole from to lines × IsFront part text × Appends old new part
 
-  -- what was read and written, by how the answers to the lines ended
-  abbrev pub Answers : Option (List ℕ) → Option (List ℕ) → Option (List ℕ) → Option (List ℕ)
-      → Result (Unit {0}) ReplayError → Type 0
-  Answers from to old new (Ok _) = WritesText from old new × OnSome from (IsAtEnd to)
-  Answers from to old new (Err errors.Read) = WritesTextSoFar from to old new
-  Answers from to old new (Err errors.Write) = BeginsText from to old new
+    -- what was read and written, by how the answers to the lines ended
+    abbrev pub Answers : Result (Unit {0}) ReplayError → Type 0
+    Answers (Ok _) = WritesText from old new × OnSome from (IsAtEnd to)
+    Answers (Err errors.Read) = WritesTextSoFar
+    Answers (Err errors.Write) = BeginsText

@@ -11,7 +11,7 @@ use Rattle.schnellru.specs.Drains.{pops_first, newest_given, oldest_given}
 use Rattle.schnellru.specs.Exact.{InsertsInList}
 use Rattle.schnellru.specs.HandedOver.{noting, noting_offers}
 use Rattle.schnellru.specs.Lists.{first, last, front, lookup, lookup_entry}
-use Rattle.schnellru.specs.State.{Contents, pop, pops}
+use Rattle.schnellru.specs.State.{Contents, pop, pops, trim}
 use Rattle.schnellru.specs.declared.map.reserve.ReserveError.{ReserveError}
 use Rattle.lru_replay.specs.declared.calls.call.Call.{Call}
 use Rattle.lru_replay.specs.declared.calls.call.Call.TheVariants as calls
@@ -54,6 +54,9 @@ module _ {K V S : Type 0} (rules : Rules K V S) (offers : Offers K V S K) (eq : 
       (λ there. (reply ≡ value (Some there)) × (d ≡ fronted eq key c))
   ListStep c (calls.Get key) reply d = (reply ≡ value (lookup (eq key) c.pairs)) × (d ≡ fronted eq key c)
   ListStep c (calls.Peek key) reply d = (reply ≡ value (lookup (eq key) c.pairs)) × (d ≡ c)
+  ListStep c (calls.Contains key) reply d = (reply ≡ flag (is_some (lookup (eq key) c.pairs))) × (d ≡ c)
+  ListStep c (calls.Promote key) reply d =
+      (reply ≡ flag (is_some (lookup (eq key) c.pairs))) × (d ≡ fronted eq key c)
   ListStep c (calls.GetByHash hash key) reply d = (result : Option V)
       × FindsByHash eq hash_of hash key c.pairs result × (reply ≡ value result) × (d ≡ fronted_if eq result key c)
   ListStep c (calls.PeekByHash hash key) reply d = (result : Option V)
@@ -63,6 +66,8 @@ module _ {K V S : Type 0} (rules : Rules K V S) (offers : Offers K V S K) (eq : 
   ListStep c (calls.Remove key) reply d =
       (reply ≡ value (option_map (λ p. p.1) (left_of rules c.limiter (lookup_entry (eq key) c.pairs))))
       × (d ≡ removal rules (eq key) c)
+  ListStep c (calls.RemoveEntry key) reply d =
+      (reply ≡ pair (left_of rules c.limiter (lookup_entry (eq key) c.pairs))) × (d ≡ removal rules (eq key) c)
   ListStep c calls.PopOldest reply d = (reply ≡ pair (left_of rules c.limiter (last c.pairs))) × (d ≡ pop rules c)
   ListStep c calls.PopNewest reply d =
       (reply ≡ pair (left_of rules c.limiter (first c.pairs))) × (d ≡ pop_first rules c)
@@ -71,6 +76,7 @@ module _ {K V S : Type 0} (rules : Rules K V S) (offers : Offers K V S K) (eq : 
   ListStep c (calls.Reserve n) reply d =
       (result : Result (Unit {0}) ReserveError) × (reply ≡ reserved result) × (d ≡ c)
   ListStep c calls.Shrink reply d = (result : Result Bool AllocError) × (reply ≡ shrunk result) × (d ≡ c)
+  ListStep c calls.Trim reply d = (reply ≡ done) × (d ≡ trim rules c)
   ListStep c calls.Clear reply d = (reply ≡ done) × (d ≡ emptied rules c)
   ListStep c (calls.Drain front back) reply d =
       (reply ≡ listed (newest_given rules front c ++ oldest_given rules back (pops_first rules front c)))

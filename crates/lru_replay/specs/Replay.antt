@@ -1,4 +1,4 @@
--- A whole replay: what is written of an input, at its end and where a read or a write fails.
+-- A whole replay: what is written of an input, at its end and if a read or a write fails.
 use Rattle.std.specs.Prelude.{◌≡◌, ℕ, List, [], ◌∷◌, ◌⊎◌, Option, OnSome, IfSome, Result, Ok, Err}
 use Rattle.std.specs.Io.KnownBytes.{Appends, IsAtEnd}
 use Rattle.lru_limits.specs.Limiters.{length_rules, length_offers, memory_rules, no_rules, all_offers}
@@ -40,55 +40,49 @@ abbrev pub NamesNoLimit : List (List ℕ) → Type 0
 NamesNoLimit lines = (limit : Limit) (first : List ℕ) (others : List (List ℕ)) → lines ≡ first ∷ others
     → SpellsLimit first limit → ⊥
 
--- what is written of these lines, where nothing fails
+-- what is written of these lines if nothing fails
 abbrev pub IsOutput : List (List ℕ) → List ℕ → Type 0
 IsOutput lines text = IsReplay lines text ⊎ (NamesNoLimit lines × (text ≡ no_limiter_text))
 
--- the text of the first n lines: there is none before the first, which names the limit
-abbrev pub IsTextSoFar : List (List ℕ) → List ℕ → Type 0
-IsTextSoFar [] text = text ≡ []
-IsTextSoFar (first ∷ others) text = (limit : Limit) × SpellsLimit first limit × IsTextUnder limit others text
+-- what is written of the first n lines, if `IsText` tells what is written of lines: nothing before the first
+abbrev pub SoFar : (List (List ℕ) → List ℕ → Type 0) → List (List ℕ) → List ℕ → Type 0
+SoFar IsText [] text = text ≡ []
+SoFar IsText (first ∷ others) text = IsText (first ∷ others) text
 
--- what is written of the first n lines: nothing yet of none
-abbrev pub IsOutputSoFar : List (List ℕ) → List ℕ → Type 0
-IsOutputSoFar [] text = text ≡ []
-IsOutputSoFar (first ∷ others) text = IsOutput (first ∷ others) text
+-- Below, as in `LineRuns`, a reader had the bytes `from` left, if they are known, and has `to` left now. A writer's
+-- bytes were `old` and are `new`.
+module _ (from old new : Option (List ℕ)) where
+  -- A replay of all the lines was written.
+  abbrev pub WritesReplay : Type 0
+  WritesReplay = WritesText IsReplay from old new
 
--- Below, `WritesText` and `WritesTextSoFar` of `LineRuns` are used with the texts of a replay. The arguments are what
--- the reader had left, where it is known, what it has left now, unless the word does not speak of it, and the writer's
--- bytes before and after.
+  -- A beginning of what is written of the lines was written.
+  abbrev pub WritesCut : Type 0
+  WritesCut = IfSome from (λ input. (text part : List ℕ)
+      × IsOutput (lines_of input) text × IsFront part text × Appends old new part)
 
--- A replay of all the lines was written.
-abbrev pub WritesReplay : Option (List ℕ) → Option (List ℕ) → Option (List ℕ) → Type 0
-WritesReplay = WritesText IsReplay
+module _ (from to old new : Option (List ℕ)) where
+  -- Some whole lines were read, and a part of the next, and the text of the whole lines was written.
+  abbrev pub WritesSoFar : Type 0
+  WritesSoFar = WritesTextSoFar (SoFar IsReplay) from to old new
 
--- A beginning of what is written of the lines was written.
-abbrev pub WritesCut : Option (List ℕ) → Option (List ℕ) → Option (List ℕ) → Type 0
-WritesCut from old new = IfSome from (λ input. (text part : List ℕ)
-    × IsOutput (lines_of input) text × IsFront part text × Appends old new part)
+  -- Lines were read whole, and a beginning of what is written of them was written. They are all lines of the input, or
+  -- the first n, and then a part of the next may have been read.
+  abbrev pub WritesCutSoFar : Type 0
+  WritesCutSoFar = IfSome from (λ _. (lines : List (List ℕ)) × (text part : List ℕ)
+      × ((TakesAll from to lines × IsOutput lines text)
+      ⊎ ((rest : List ℕ) × TakesLines from to lines rest × SoFar IsOutput lines text))
+      × IsFront part text × Appends old new part)
 
--- Some whole lines were read, and a part of the next, and the text of the whole lines was written.
-abbrev pub WritesSoFar : Option (List ℕ) → Option (List ℕ) → Option (List ℕ) → Option (List ℕ) → Type 0
-WritesSoFar = WritesTextSoFar IsTextSoFar
+  -- what was read and written, by how the replay ended
+  abbrev pub Replays : Result ReplayEnd ReplayError → Type 0
+  Replays (Ok ends.Done) = WritesReplay from old new × OnSome from (IsAtEnd to)
+  Replays (Ok ends.NoLimiter) =
+      IfSome from (λ input. NamesNoLimit (lines_of input)) × TakesFirst from to × Appends old new no_limiter_text
+  Replays (Err errors.Read) = WritesSoFar
+  Replays (Err errors.Write) = WritesCutSoFar
 
--- Lines were read whole, and a beginning of what is written of them was written. They are all lines of the input, or
--- the first n, and then a part of the next may have been read.
-abbrev pub WritesCutSoFar : Option (List ℕ) → Option (List ℕ) → Option (List ℕ) → Option (List ℕ) → Type 0
-WritesCutSoFar from to old new = IfSome from (λ _. (lines : List (List ℕ)) × (text part : List ℕ)
-    × ((TakesAll from to lines × IsOutput lines text)
-    ⊎ ((rest : List ℕ) × TakesLines from to lines rest × IsOutputSoFar lines text))
-    × IsFront part text × Appends old new part)
-
--- what was read and written, by how the replay ended
-abbrev pub Replays : Option (List ℕ) → Option (List ℕ) → Option (List ℕ) → Option (List ℕ)
-    → Result ReplayEnd ReplayError → Type 0
-Replays from to old new (Ok ends.Done) = WritesReplay from old new × OnSome from (IsAtEnd to)
-Replays from to old new (Ok ends.NoLimiter) =
-    IfSome from (λ input. NamesNoLimit (lines_of input)) × TakesFirst from to × Appends old new no_limiter_text
-Replays from to old new (Err errors.Read) = WritesSoFar from to old new
-Replays from to old new (Err errors.Write) = WritesCutSoFar from to old new
-
--- 0 where the lines were carried out, 1 where none names a limit, and 2 where a read or a write failed
+-- 0 if the lines were carried out, 1 if none names a limit, and 2 if a read or a write failed
 abbrev pub status_of : Result ReplayEnd ReplayError → ℕ
 status_of (Ok ends.Done) = 0
 status_of (Ok ends.NoLimiter) = 1

@@ -6,7 +6,7 @@ use Rattle.std.specs.Prelude.{◌≡◌, ℕ, Bool, List, Option, Some, None, Re
 use Rattle.std.specs.declared.alloc.AllocError.{AllocError}
 use Rattle.group_table.specs.Probe.{hash_tag}
 use Rattle.lru_limits.specs.Rules.{Rules, Offers}
-use Rattle.schnellru.specs.Calls.{promoted, written, Remove, PopOldest, PopNewest, cleared}
+use Rattle.schnellru.specs.Calls.{promoted, written, Remove, RemoveEntry, PopOldest, PopNewest, cleared}
 use Rattle.schnellru.specs.Drains.{Drained}
 use Rattle.schnellru.specs.GetOrInserts.{MakesNewest}
 use Rattle.schnellru.specs.HandedOver.{InsertHands}
@@ -14,7 +14,7 @@ use Rattle.schnellru.specs.Inserts.{Insert}
 use Rattle.schnellru.specs.Lists.{first, last, lookup, lookup_entry}
 use Rattle.schnellru.specs.Reservations.{Reserve}
 use Rattle.schnellru.specs.Shrinks.{Shrink}
-use Rattle.schnellru.specs.State.{State}
+use Rattle.schnellru.specs.State.{State, Trims}
 use Rattle.schnellru.specs.declared.map.reserve.ReserveError.{ReserveError}
 use Rattle.lru_replay.specs.declared.calls.call.Call.{Call}
 use Rattle.lru_replay.specs.declared.calls.call.Call.TheVariants as calls
@@ -52,6 +52,10 @@ module _ {K V S H : Type 0} (rules : Rules K V S) (offers : Offers K V S K) (eq 
   ReplyStep old (calls.Get key) reply new =
       (reply ≡ value (lookup (eq key) old.pairs)) × (new ≡ promoted (eq key) old)
   ReplyStep old (calls.Peek key) reply new = (reply ≡ value (lookup (eq key) old.pairs)) × (new ≡ old)
+  ReplyStep old (calls.Contains key) reply new =
+      (reply ≡ flag (is_some (lookup (eq key) old.pairs))) × (new ≡ old)
+  ReplyStep old (calls.Promote key) reply new =
+      (reply ≡ flag (is_some (lookup (eq key) old.pairs))) × (new ≡ promoted (eq key) old)
   ReplyStep old (calls.GetByHash hash key) reply new = (result : Option V)
       × FindsByHash eq (hash_of old.hasher) hash key old.pairs result × (reply ≡ value result)
       × (new ≡ promoted_if eq result key old)
@@ -61,6 +65,8 @@ module _ {K V S H : Type 0} (rules : Rules K V S) (offers : Offers K V S K) (eq 
       (reply ≡ flag (is_some (lookup (eq key) old.pairs))) × (new ≡ written (eq key) v old)
   ReplyStep old (calls.Remove key) reply new =
       (result : Option V) × Remove rules (eq key) old result new × (reply ≡ value result)
+  ReplyStep old (calls.RemoveEntry key) reply new =
+      (result : Option (K × V)) × RemoveEntry rules (eq key) old result new × (reply ≡ pair result)
   ReplyStep old calls.PopOldest reply new =
       (result : Option (K × V)) × PopOldest rules old result new × (reply ≡ pair result)
   ReplyStep old calls.PopNewest reply new =
@@ -71,6 +77,7 @@ module _ {K V S H : Type 0} (rules : Rules K V S) (offers : Offers K V S K) (eq 
       (result : Result (Unit {0}) ReserveError) × Reserve rules n old result new × (reply ≡ reserved result)
   ReplyStep old calls.Shrink reply new =
       (result : Result Bool AllocError) × Shrink old result new × (reply ≡ shrunk result)
+  ReplyStep old calls.Trim reply new = (reply ≡ done) × Trims rules old new
   ReplyStep old calls.Clear reply new = (reply ≡ done) × (new ≡ cleared rules old)
   ReplyStep old (calls.Drain front back) reply new =
       (pairs : List (K × V)) × Drained rules front back old pairs new × (reply ≡ listed pairs)

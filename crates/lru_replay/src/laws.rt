@@ -8,6 +8,7 @@ ghost use Rattle.schnellru.specs.State.{State, contents, buckets, IsSized, IsMap
 ghost use Rattle.schnellru.specs.Theorems.{PaysForMoves, UsesAtMost, IsSummed, others};
 ghost use Rattle.lru_replay.specs.declared.calls.call.Call.{Call};
 ghost use Rattle.lru_replay.specs.CallRuns.{IsRun, CallStep, SummingStep, NamesAmong, SetsNoLimiter, HasPlainSearch};
+ghost use Rattle.lru_replay.specs.CallRuns.{HasSmallBudget};
 ghost use Rattle.lru_replay.specs.ListRuns.{ListCallStep, ListSummingStep};
 ghost use Rattle.lru_replay.specs.Replies.{Reply, want_of};
 
@@ -141,6 +142,24 @@ pub fn small_calls_are_alike<K: Eq + Hash, V, L: Insertion<K, V, K>, S: KeyHashe
         (replies ≡ answers) × LookAlike new last }
 {
     laws::small_inserts_look_alike::<K, V, K, L, S>();
+}
+
+/// With `ByMemoryUsage` and a limit of at most the bytes of a table of 16 buckets, this holds of the runs that
+/// `run_calls` ensures, if the first map is within its limit, and no call sets another limiter.
+pub fn small_budgets_are_alike<K: Eq + Hash + Drop, V: Drop, S: KeyHasher<K>>()
+    ensures alike { (old other new last : State K V ByMemoryUsage S) (calls : List (Call K V ByMemoryUsage))
+        (replies answers : List (Reply K V)) →
+        HasSmallBudget old → UsesAtMost old.limiter old → LookAlike old other →
+        AllByRecursion SetsNoLimiter calls → AllByRecursion (HasPlainSearch (S.hash_of old.hasher)) calls →
+        IsRun (CallStep ⟦<ByMemoryUsage as Limiter<K, V>>⟧.rules ⟦<ByMemoryUsage as Insertion<K, V, K>>⟧.offers K.eq
+        S.hash_of) (IsMap K.eq) old calls replies new →
+        IsRun (CallStep ⟦<ByMemoryUsage as Limiter<K, V>>⟧.rules ⟦<ByMemoryUsage as Insertion<K, V, K>>⟧.offers K.eq
+        S.hash_of) (IsMap K.eq) other calls answers last →
+        map want_of replies ≡ map want_of answers →
+        (replies ≡ answers) × LookAlike new last }
+{
+    laws::runs_keep_the_memory_usage::<K, V, S>();
+    small_calls_are_alike::<K, V, ByMemoryUsage, S>();
 }
 
 /// So do two runs under a limiter with a running total.

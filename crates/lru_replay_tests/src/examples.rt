@@ -1,5 +1,5 @@
 //! The examples of the documents of `lru_replay`, and the texts and numbers of its errors.
-use lru_replay::{Answer, Call, ReplayEnd, ReplayError, run_calls, run_summing, status};
+use lru_replay::{Answer, Call, ReplayEnd, ReplayError, replay, run_calls, run_summing, status};
 use schnellru::{ByCost, ByLength, LruMap};
 use std::test::Fail;
 
@@ -30,12 +30,24 @@ fn of_errors(rt: HostRuntime) -> Result<(), Fail> {
     let (read, write) = (ReplayError::Read, ReplayError::Write);
     let text = format!(in rt.alloc(); "{read}, {write}")?;
     assert_eq!(rt; text.as_str(), "read failed, write failed");
+    assert_eq!(rt; status(&Ok(ReplayEnd::NoLimiter)), 1);
     let statuses = [
         status(&Ok(ReplayEnd::Done)),
-        status(&Ok(ReplayEnd::NoLimiter)),
         status(&Err(read)),
         status(&Err(write)),
     ];
-    assert_eq!(rt; (statuses, read as u8, write as u8), ([0, 1, 2, 2], 1, 2));
+    assert_eq!(rt; (statuses, read as u8, write as u8), ([0, 2, 2], 1, 2));
+    Ok(())
+}
+
+#[test]
+fn of_a_replay(rt: HostRuntime) -> Result<(), Fail> {
+    let mut reader = b"length 1\ninsert 1 10\n".as_slice();
+    let mut writer = Vec::new(rt.alloc());
+    assert_eq!(rt;
+        replay(rt.alloc(), &mut reader, &mut writer),
+        Ok(ReplayEnd::Done)
+    );
+    assert_eq!(rt; writer.as_slice(), b"true\n".as_slice());
     Ok(())
 }

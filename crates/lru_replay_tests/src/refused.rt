@@ -167,3 +167,22 @@ fn lines(rt: HostRuntime) -> Result<(), Fail> {
     }
     Ok(())
 }
+
+/// Many replays run in the memory of a few.
+#[test]
+fn replays_give_their_memory_back(rt: HostRuntime) -> Result<(), Fail> {
+    let alloc = rt.alloc();
+    let mut writer: Vec<u8> = Vec::with_capacity(alloc, 1000)?;
+    let mut hog = Hog::new(alloc, &[1 << 16])?;
+    hog.release();
+    let mut right = 0u32;
+    for _ in 0..1000u32 {
+        let mut reader = INPUT;
+        writer.clear();
+        let is_done = replay(alloc, &mut reader, &mut writer) == Ok(ReplayEnd::Done);
+        right = right.wrapping_add((is_done && writer.as_slice() == text_of(5)) as u32);
+    }
+    drop(hog);
+    assert_eq!(rt; right, 1000);
+    Ok(())
+}

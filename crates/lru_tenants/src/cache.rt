@@ -19,6 +19,10 @@ use std::marker::Model;
 use thiserror::Error;
 
 /// Why a call on a tenant failed.
+///
+/// ```
+/// assert_eq!(rt; cache.open(1, 5), Err(TenantError::AlreadyOpen));
+/// ```
 #[derive(Clone, Copy, Debug, PartialEq, Eq, Error)]
 pub enum TenantError {
     /// The tenant is open already.
@@ -76,6 +80,11 @@ impl<K: Eq + Hash, V: Costed> TenantCache<K, V> {
     /// The hashers of names and of all maps have these seeds, and each map counts `entry_bytes` bytes an entry, as
     /// `LruMap::new` does. If strangers choose names or keys, take seeds that nobody can guess. Cost: `O(1)`, and no
     /// memory.
+    ///
+    /// ```
+    /// let mut cache: TenantCache<u64, u64> = TenantCache::new(alloc, [1, 2, 3, 4], 16);
+    /// assert!(rt; cache.is_empty());
+    /// ```
     pub fn new(alloc: Global, seed: [u64; 4], entry_bytes: usize) -> Self
         ensures { result ≡ record { tenants = []; hasher = seeded seed; entry_bytes = entry_bytes } }
     {
@@ -91,6 +100,11 @@ impl<K: Eq + Hash, V: Costed> TenantCache<K, V> {
     ///
     /// `String` keys are looked up by a `&str`, as `cache.get(1, &"a")`. The value is lent for reading alone, so its
     /// cost stays.
+    ///
+    /// ```
+    /// let page = pages.get(1, &"a")?.ok_or("no page")?;
+    /// assert_eq!(rt; page.as_str(), "hello");
+    /// ```
     ///
     /// Cost: `O(1)` expected.
     ///
@@ -113,6 +127,10 @@ impl<K: Eq + Hash, V: Costed> TenantCache<K, V> {
 
     /// Returns how many tenants are open.
     ///
+    /// ```
+    /// assert_eq!(rt; (cache.len(), cache.close(1), cache.len()), (1, Ok(1), 0));
+    /// ```
+    ///
     /// Cost: `O(1)`.
     pub fn len(&self) -> usize
         ensures len { result ≡ length self.now.tenants }
@@ -124,6 +142,10 @@ impl<K: Eq + Hash, V: Costed> TenantCache<K, V> {
 
     /// Returns whether no tenant is open.
     ///
+    /// ```
+    /// assert!(rt; cache.is_empty());
+    /// ```
+    ///
     /// Cost: `O(1)`.
     pub fn is_empty(&self) -> bool
         ensures { result ≡ is_empty self.now.tenants }
@@ -132,6 +154,10 @@ impl<K: Eq + Hash, V: Costed> TenantCache<K, V> {
     }
 
     /// Returns the sum of the costs of a tenant's values.
+    ///
+    /// ```
+    /// assert_eq!(rt; cache.cost(1), Ok(2));
+    /// ```
     ///
     /// Cost: `O(1)` expected.
     ///
@@ -190,6 +216,10 @@ impl<K: Eq + Hash + Drop, V: Costed + Drop> TenantCache<K, V> {
     /// It is an `insert` into the map of the tenant: it rejects a value whose cost alone is above the budget, and
     /// evicts the tenant's oldest entries until the sum of its costs is within the budget.
     ///
+    /// ```
+    /// assert_eq!(rt; cache.put(1, 7, 2), Ok(true));
+    /// ```
+    ///
     /// Cost: as `LruMap::insert`.
     ///
     /// # Errors
@@ -207,6 +237,10 @@ impl<K: Eq + Hash + Drop, V: Costed + Drop> TenantCache<K, V> {
     }
 
     /// Closes a tenant and drops its entries. Returns how many these were.
+    ///
+    /// ```
+    /// assert_eq!(rt; (cache.len(), cache.close(1), cache.len()), (1, Ok(1), 0));
+    /// ```
     ///
     /// Cost: `O(buckets)` of its table.
     ///

@@ -4,7 +4,7 @@ use crate::cache::TenantError;
 /// A call of a run. Each names its tenant.
 ///
 /// ```
-/// let calls = vec![in alloc; TenantCall::Open(1, 3), TenantCall::Put(1, 7, 1), TenantCall::Cost(1)]?;
+/// let calls = vec![in alloc; TenantCall::Open(1, 3), TenantCall::Put(1, 7, 1), TenantCall::Get(2, 7)]?;
 /// ```
 #[derive(Debug, Drop)]
 pub enum TenantCall<K, V> {

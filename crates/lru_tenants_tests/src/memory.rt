@@ -1,7 +1,8 @@
 //! Calls that are refused memory, and memory that a closed tenant gives back.
-use lru_tenants::{TenantCache, TenantError};
+use lru_tenants::{TenantAnswer, TenantCache, TenantCall, TenantError, run_tenants};
 use schnellru::Costed;
 use std::alloc::{AllocError, Global};
+use std::mem::size_of;
 use std::rc::Rc;
 use std::test::Fail;
 use test_helpers::Hog;
@@ -64,6 +65,25 @@ fn each_request_is_refused(rt: HostRuntime) -> Result<(), Fail> {
     Ok(())
 }
 
+// A list of one call takes the memory of one answer, and fails without it.
+#[test]
+fn a_list_takes_the_memory_of_its_answers(rt: HostRuntime) -> Result<(), Fail> {
+    let alloc = rt.alloc();
+    for is_met in [false, true] {
+        let mut cache: TenantCache<u64, u64> = TenantCache::new(alloc, [1, 2, 3, 4], 16);
+        let calls = vec![in alloc; TenantCall::Cost(1)]?;
+        let mut hog = Hog::new(alloc, &[size_of::<TenantAnswer<u64>>()])?;
+        if is_met {
+            hog.release();
+        }
+        let is_made = run_tenants(alloc, &mut cache, calls).is_ok();
+        let all = hog.took_all();
+        drop(hog);
+        assert!(rt; is_made == is_met || !all);
+    }
+    Ok(())
+}
+
 #[derive(Drop)]
 struct Share(Rc<u64>);
 
@@ -86,7 +106,8 @@ fn open_and_close(
     cache.close(2)
 }
 
-// A thousand tenants are opened and closed, one after another, with memory for a few.
+// A thousand tenants are opened and closed, one after another, with memory for a few. A put to a tenant that is not open
+// drops its key and its value.
 #[test]
 fn a_closed_tenant_gives_its_memory_back(rt: HostRuntime) -> Result<(), Fail> {
     let shared = Rc::new(rt.alloc(), 0u64)?;
@@ -98,6 +119,8 @@ fn a_closed_tenant_gives_its_memory_back(rt: HostRuntime) -> Result<(), Fail> {
         closed = closed.wrapping_add((result == Ok(1)) as u32);
     }
     drop(hog);
+    let refused = cache.put(2, shared.clone()?, Share(shared.clone()?));
+    assert_eq!(rt; refused, Err(TenantError::NotOpen));
     assert_eq!(rt;
         (closed, cache.len(), Rc::strong_count(&shared)),
         (1000, 0, 1)

@@ -12,7 +12,10 @@ pub fn call_of<L: Spelled>(line: &str) -> Option<Call<u64, u64, L>> {
         "set" => Some(Call::SetLimiter(L::spelled(rest)?)),
         "get" => Some(Call::Get(number(rest)?)),
         "peek" => Some(Call::Peek(number(rest)?)),
+        "contains" => Some(Call::Contains(number(rest)?)),
+        "promote" => Some(Call::Promote(number(rest)?)),
         "remove" => Some(Call::Remove(number(rest)?)),
+        "remove-entry" => Some(Call::RemoveEntry(number(rest)?)),
         "reserve" => Some(Call::Reserve(number(rest)? as usize)),
         _ => match rest {
             "" => call_of_word(word),
@@ -29,6 +32,7 @@ fn call_of_word<L>(word: &str) -> Option<Call<u64, u64, L>> {
         "peek-oldest" => Some(Call::PeekOldest),
         "peek-newest" => Some(Call::PeekNewest),
         "shrink" => Some(Call::Shrink),
+        "trim" => Some(Call::Trim),
         "clear" => Some(Call::Clear),
         "list" => Some(Call::List),
         "stats" => Some(Call::Stats),

@@ -72,17 +72,33 @@ impl Plain {
             }
             Call::Get(key) => Answer::Value(self.get(*key)?),
             Call::Peek(key) => Answer::Value(self.value(*key)),
-            Call::GetByHash(hash, key) if *hash == sum_of_bytes(*key) => Answer::Value(self.get(
-                *key,
-            )?),
-            Call::PeekByHash(hash, key) if *hash == sum_of_bytes(*key) => Answer::Value(self.value(
-                *key,
-            )),
-            Call::GetByHash(_, _) | Call::PeekByHash(_, _) => Answer::Value(None),
+            Call::GetByHash(hash, key) => Answer::Value(self.get_by_hash(*hash, *key)?),
+            Call::PeekByHash(hash, key) => Answer::Value(self.peek_by_hash(*hash, *key)),
             Call::Write(key, value) => self.write_or_refuse(*key, *value),
+            Call::Contains(key) => Answer::Flag(self.value(*key).is_some()),
+            Call::Promote(key) => Answer::Flag(self.get(*key)?.is_some()),
             Call::Remove(key) => Answer::Value(self.remove(*key)),
+            Call::RemoveEntry(key) => Answer::Pair(self.remove_entry(*key)),
             _ => return Ok(None),
         }))
+    }
+
+    /// The value of the key, if the hash is the key's, and its pair comes first then.
+    fn get_by_hash(&mut self, hash: u64, key: u64) -> Result<Option<u64>, AllocError> {
+        if hash == sum_of_bytes(key) {
+            self.get(key)
+        } else {
+            Ok(None)
+        }
+    }
+
+    /// The value of the key, if the hash is the key's.
+    fn peek_by_hash(&self, hash: u64, key: u64) -> Option<u64> {
+        if hash == sum_of_bytes(key) {
+            self.value(key)
+        } else {
+            None
+        }
     }
 
     /// Writes the value, unless a limit by cost keeps the sum.
@@ -101,6 +117,7 @@ impl Plain {
     ) -> Result<Answer<u64, u64>, AllocError> {
         Ok(match call {
             Call::PopOldest => Answer::Pair(self.take(0)),
+            Call::Trim => Answer::Done,
             Call::PopNewest => Answer::Pair(self.pop_newest()),
             Call::PeekOldest => Answer::Pair(self.pairs.first().copied()),
             Call::PeekNewest => Answer::Pair(self.pairs.last().copied()),

@@ -63,13 +63,13 @@ fn first_fault(alloc: Global, row: &Row) -> io::Result<Option<String>> {
     }
 }
 
-/// Whether the replay ends with the status and the text of the row, however the input is cut, and flushes once. Its
-/// third read and its third write are interrupted.
+/// Whether the replay ends with the status and the text of the row, however the input is cut, and flushes once. One read
+/// is interrupted, and a thousand writes are, one after another.
 fn in_pieces(alloc: Global, row: &Row) -> io::Result<bool> {
     let slow = Slow::new(row.input.as_slice(), 1).failing(3, ErrorKind::Interrupted);
     let mut reader = BufReader::new(alloc, slow)?;
     let interrupted = Failure::Error(ErrorKind::Interrupted);
-    let mut writer = Narrow::new(alloc, 1).failing(3, interrupted);
+    let mut writer = Narrow::new(alloc, 1).failing(3, 1000, interrupted);
     let end = replay(alloc, &mut reader, &mut writer);
     let text = writer.bytes.as_slice() == row.text.as_slice();
     Ok(status(&end) == row.status && text && writer.flushes == 1)
@@ -136,11 +136,17 @@ fn first_write_fault(alloc: Global, row: &Row) -> io::Result<Option<usize>> {
     Ok(None)
 }
 
-/// Whether the front of the text is written and nothing is flushed, if a write fails.
+/// Whether the front of the text is written, no line is read after the one that is answered, and nothing is flushed, if
+/// a write fails.
 fn with_failing_write(alloc: Global, row: &Row, at: usize, failure: Failure) -> io::Result<bool> {
     let mut reader = row.input.as_slice();
-    let mut writer = Narrow::new(alloc, 1).failing(at, failure);
+    let mut writer = Narrow::new(alloc, 1).failing(at, 1, failure);
     let end = replay(alloc, &mut reader, &mut writer);
     let text = &row.text.as_slice()[..at.min(row.text.len())];
-    Ok(end == Err(ReplayError::Write) && writer.bytes.as_slice() == text && writer.flushes == 0)
+    let is_written = writer.bytes.as_slice() == text && writer.flushes == 0;
+    let answered = text.iter().filter(|b| **b == b'\n').count();
+    let first = if row.status == 1 { 1 } else { 2 };
+    let lines = front_lines(row.input.as_slice(), answered.saturating_add(first));
+    let is_read = lines.len().saturating_add(reader.len()) == row.input.len();
+    Ok(end == Err(ReplayError::Write) && is_written && is_read)
 }

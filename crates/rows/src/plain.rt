@@ -64,10 +64,15 @@ impl Plain {
         Some(pair)
     }
 
-    /// Takes the pair of the key out, and returns its value.
-    pub fn remove(&mut self, key: u64) -> Option<u64> {
+    /// Takes the pair of the key out.
+    pub fn remove_entry(&mut self, key: u64) -> Option<(u64, u64)> {
         let at = self.position(key)?;
-        self.take(at).map(|pair| pair.1)
+        self.take(at)
+    }
+
+    /// The same, and returns the value alone.
+    pub fn remove(&mut self, key: u64) -> Option<u64> {
+        self.remove_entry(key).map(|pair| pair.1)
     }
 
     /// Takes the newest pair out.

@@ -58,8 +58,8 @@ pub enum Failure {
     NoBytes,
 }
 
-/// Takes at most `most` bytes a write, fails at the write with the number `fails_at`, counted from 0, and counts its
-/// flushes.
+/// Takes at most `most` bytes a write, fails `times` times from the write with the number `fails_at` on, counted from 0,
+/// and counts its flushes.
 #[derive(Drop)]
 pub struct Narrow {
     /// What was written.
@@ -71,6 +71,7 @@ pub struct Narrow {
     most: usize,
     writes: usize,
     fails_at: usize,
+    times: usize,
     failure: Failure,
 }
 
@@ -84,14 +85,16 @@ impl Narrow {
             most,
             writes: 0,
             fails_at: usize::MAX,
+            times: 0,
             failure: Failure::NoBytes,
         }
     }
 
-    /// The same writer, which fails at a write.
-    pub fn failing(self, fails_at: usize, failure: Failure) -> Narrow {
+    /// The same writer, which fails `times` times, from a write on.
+    pub fn failing(self, fails_at: usize, times: usize, failure: Failure) -> Narrow {
         Narrow {
             fails_at,
+            times,
             failure,
             ..self
         }
@@ -102,7 +105,7 @@ impl Write for Narrow {
     fn write(&mut self, buf: &[u8]) -> io::Result<usize> {
         let write = self.writes;
         self.writes = write.saturating_add(1);
-        if write == self.fails_at {
+        if write >= self.fails_at && write - self.fails_at < self.times {
             return match self.failure {
                 Failure::Error(kind) => Err(Error::from(kind)),
                 Failure::NoBytes => Ok(0),

@@ -21,13 +21,18 @@
 --     given-promoted       one through which nothing is written brings that pair to the front, and no more
 --     none-found           where it gives none, no pair of that key has the hash
 --     sum-set              a write that keeps the cost of its pair keeps the sum of the costs
+--     empty_is_sized       a map without pairs and buckets has a sound table
 --     has_tables           there are tables for the pairs of a map, where links and bytes reach one for many more
 --     Shape, shape         a map, but for which of its buckets are full; `same_shape` and `look_alike` say so
 --     left_shape, cleared_shape, reserve_is      what calls make of it in tables of up to 16 buckets
 --     shrinks_look_alike   two shrinks of maps of one shape answer alike, and leave such maps
 --     shrink_contents      a shrink leaves the pairs and the limiter
+--     usage_bytes          the bytes of a table that has a usage
+--     value_removed        of an entry that is removed, the value may be returned alone
+--     nothing_written      a run of calls is one of calls and writes
 --     any_step_same        no call changes what builds the hashers, how far links reach, and what a bucket takes
 pub use Rattle.schnellru.proofs.Theorems.KeySearches.{given-found, given-tag, none-found}
+pub use Rattle.schnellru.proofs.Maps.EmptyMaps.{empty_is_sized}
 pub use Rattle.schnellru.proofs.Maps.LeavingPairs.{leaves_trans, length-without_first, length-without_last}
 pub use Rattle.schnellru.proofs.Maps.Promotions.{promoted_sized, promoted_is_map}
 pub use Rattle.schnellru.proofs.Maps.SomeInsert.{some_insert}
@@ -36,7 +41,10 @@ pub use Rattle.schnellru.proofs.Maps.SomeReservation.{cleared_sized, some_reserv
 pub use Rattle.schnellru.proofs.Maps.SomeShrink.{some_shrink}
 pub use Rattle.schnellru.proofs.Theorems.Fronts.{found_named}
 pub use Rattle.schnellru.proofs.Theorems.Limits.{length-without}
+pub use Rattle.schnellru.proofs.OrderedTables.TakenPairs.{value_removed}
 pub use Rattle.schnellru.proofs.TableSizes.ReachedTables.{has_tables}
+pub use Rattle.schnellru.proofs.TableSizes.Growth.{usage_bytes}
+pub use Rattle.schnellru.proofs.Theorems.RunLimits.{nothing_written}
 pub use Rattle.schnellru.proofs.Theorems.Runs.{any_step_same}
 pub use Rattle.schnellru.proofs.Theorems.StoringLimiters.{plain-changes_none, by_cost-changes_none}
 pub use Rattle.schnellru.proofs.Theorems.StoringLimiters.{hands_over-accepts, charges-accepts, stored_key-same}

@@ -6,5 +6,6 @@ pub mod Maps
 pub mod Theorems
 mod SameWalks
 mod LentPairs
+mod LentValues
 pub mod CallerLemmas
 pub mod HandingLemmas

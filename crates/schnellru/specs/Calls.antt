@@ -44,7 +44,13 @@ module _ {K V S : Type 0} (rules : Rules K V S) where
   pop_first c = record { pairs = without_first c.pairs; limiter = told_of rules (first c.pairs) c.limiter }
 
 module _ {K V S H : Type 0} (rules : Rules K V S) where
-  -- the pair of the named key is removed, and what the limiter leaves of its value is returned
+  -- the pair of the named key is removed, and what the limiter leaves of it is returned
+  pub record RemoveEntry (names : K → Bool) (old : State K V S H) (result : Option (K × V)) (new : State K V S H)
+      : Type 0 where
+    pub pair : result ≡ left_of rules old.limiter (lookup_entry names old.pairs)
+    pub state : Leaves old (removal rules names (contents old)) new
+
+  -- the same, and what it leaves of the value is returned
   pub record Remove (names : K → Bool) (old : State K V S H) (result : Option V) (new : State K V S H) : Type 0 where
     pub value : result ≡ option_map (λ p. p.1) (left_of rules old.limiter (lookup_entry names old.pairs))
     pub state : Leaves old (removal rules names (contents old)) new

@@ -10,7 +10,7 @@ use Rattle.std.specs.List.{FoldsTo}
 use Rattle.std.specs.Fn.{Mut, Called}
 use Rattle.std.specs.declared.alloc.AllocError.{AllocError}
 use Rattle.lru_limits.specs.Rules.{Rules, Offers}
-use Rattle.schnellru.specs.State.{State}
+use Rattle.schnellru.specs.State.{State, Trims}
 use Rattle.schnellru.specs.Inserts.{Insert}
 
 module _ {K V S : Type 0} where
@@ -70,3 +70,7 @@ module _ {K V S H I : Type 0} (rules : Rules K V S) (offers : Offers K V S I) (n
   abbrev pub InsertHands : I → V → State K V S H → Result Bool AllocError → List (K × V) → State K V S H → Type 0
   InsertHands i v old result handed new = Insert (noting rules) (noting_offers offers) names hash_of i v (noted [] old)
       result (noted handed new)
+
+-- a trim that passes on these pairs
+abbrev pub TrimHands : {K V S H : Type 0} → Rules K V S → State K V S H → List (K × V) → State K V S H → Type 0
+TrimHands rules old handed new = Trims (noting rules) (noted [] old) (noted handed new)

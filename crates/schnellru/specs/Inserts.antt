@@ -3,12 +3,22 @@
 --     names i k           the inserted key i names the key k
 --     hash_of h k         the hash of the key k, by the hasher h
 use Rattle.std.specs.Prelude.{◌≡◌, ℕ, ◌+◌, ◌⊎◌, ◌<◌, Bool, true, false, not, if◌then◌else◌, ◌∷◌, length, Option, Some}
-use Rattle.std.specs.Prelude.{None, Result, Ok, IsErr}
+use Rattle.std.specs.Prelude.{None, option_map, Result, Ok, Err, IsErr}
 use Rattle.std.specs.declared.alloc.AllocError.{AllocError}
 use Rattle.lru_limits.specs.Rules.{Rules, Offers, Replaced}
 use Rattle.schnellru.specs.Lists.{is_empty, lookup_entry, without}
+use Rattle.schnellru.specs.declared.map.insert.Inserted.{Inserted}
 use Rattle.schnellru.specs.State.{State, buckets, room, Contents, contents, Leaves, pop, trim}
 use Rattle.schnellru.specs.Place.{Place, Outcome, placed, refused, no_memory}
+
+-- of an old and a new value, the one that the pair does not have after an offer
+abbrev pub unkept_of : {K V S : Type 0} → Replaced K V S → V
+unkept_of r = if r.taken then r.old_value else r.new_value
+
+-- what an insert that returns a value besides says of the key
+abbrev pub kept_of : {V E : Type 0} → Result (Inserted V) E → Result Bool E
+kept_of (Ok inserted) = Ok inserted.kept
+kept_of (Err e) = Err e
 
 -- the oldest pair is evicted, if the limiter would be over its limit with one pair more
 abbrev pub make_room : {K V S : Type 0} → Rules K V S → Contents K V S → Contents K V S
@@ -46,6 +56,10 @@ module _ {K V S I : Type 0} (rules : Rules K V S) (offers : Offers K V S I) (nam
   abbrev pub with_given_up : K × V → I → V → Contents K V S → Contents K V S
   with_given_up pair i v c = let r = replacement pair i v c in
       record { pairs = without (names i) c.pairs; limiter = (rules.on_removed r.limiter r.key r.old_value).limiter }
+
+  -- of a key that is there, the value that the map does not have after an insert
+  abbrev pub unkept_value : I → V → Contents K V S → Option V
+  unkept_value i v c = option_map (λ pair. unkept_of (replacement pair i v c)) (lookup_entry (names i) c.pairs)
 
   -- for a new key the limiter may return this, and be s then
   abbrev pub MayGive : I → V → Contents K V S → S → Option (K × V) → Type 0

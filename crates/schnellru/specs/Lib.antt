@@ -3,6 +3,7 @@ pub mod Lists
 pub mod State
 pub mod Place
 pub mod Calls
+pub mod Pops
 pub mod Inserts
 pub mod HandedOver
 pub mod Reservations

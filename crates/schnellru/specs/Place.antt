@@ -34,6 +34,10 @@ module _ {K V S H : Type 0} where
       placed = count_up old.placed 1;
     }
 
+  -- the pair is in a bucket of the same table, and no entry moved for it
+  abbrev pub IsPlacedInTable : K × V → State K V S H → State K V S H → Type 0
+  IsPlacedInTable pair old new = IsPlaced pair (buckets old) (room new) 0 old new
+
   -- The first free bucket that a search for the hash finds was filled: an empty one, which uses one of the growth left,
   -- or, in a table of more than 16 buckets, a deleted one, which uses none.
   abbrev pub FillsBucket : ℕ → State K V S H → State K V S H → Type 0
@@ -89,6 +93,11 @@ module _ {K V S H : Type 0} (rules : Rules K V S) where
   IsPlacedIfMemory pair count spare moves old no_memory new = new ≡ turned_away pair old
   IsPlacedIfMemory pair count spare moves old refused new = ⊥
 
+  -- all entries were moved into a table of `count` buckets, and the pair with them, if there was memory for that
+  abbrev pub IsPlacedByMove : K × V → ℕ → State K V S H → Outcome → State K V S H → Type 0
+  IsPlacedByMove pair count old =
+      IsPlacedIfMemory pair count (full_capacity count - length old.pairs - 1) (length old.pairs) old
+
   -- there is no larger table, and mid is the state in which this is known: links or bytes do not reach one, or the
   -- limiter refuses it
   pub data CannotGrow (old mid : State K V S H) : Type 0 where
@@ -121,19 +130,17 @@ module _ {K V S H : Type 0} (rules : Rules K V S) (hash_of : H → K → ℕ) wh
     -- A free bucket takes the pair. The limiter is not asked, and no memory is needed.
     in_bucket : length old.pairs < full_capacity (buckets old) → (0 < room old) ⊎ (0 < length old.pairs) →
         FillsBucket (hash_of old.hasher pair.0) old new →
-        outcome ≡ placed → IsPlaced pair (buckets old) (room new) 0 old new →
+        outcome ≡ placed → IsPlacedInTable pair old new →
         Place pair old outcome new
     -- Or none does, and the table is rehashed, if it is at most half full then. Without pairs that needs no memory.
     rehashed : HasNoBucket (hash_of old.hasher pair.0) old → length old.pairs + 1 ≤ full_capacity (buckets old) / 2 →
         (outcome ≡ no_memory → 0 < length old.pairs) →
-        IsPlacedIfMemory rules pair (buckets old) (full_capacity (buckets old) - length old.pairs - 1)
-        (length old.pairs) old outcome new →
+        IsPlacedByMove rules pair (buckets old) old outcome new →
         Place pair old outcome new
     -- Or it grows, if there is a larger table and the limiter grants it,
     grown : IsOutgrown (hash_of old.hasher pair.0) old →
         (count bytes : ℕ) → table_for 1 old ≡ new_table count bytes → Grants rules bytes old →
-        IsPlacedIfMemory rules pair count (full_capacity count - length old.pairs - 1)
-        (length old.pairs) (asked rules bytes old) outcome new →
+        IsPlacedByMove rules pair count (asked rules bytes old) outcome new →
         Place pair old outcome new
     -- and else the oldest pairs are evicted, at least one.
     not_grown : IsOutgrown (hash_of old.hasher pair.0) old →

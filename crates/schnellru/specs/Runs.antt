@@ -2,10 +2,10 @@
 --     rules, offers       what the limiter says (`Rules`, `Offers` of `lru_limits`)
 --     names i k           the key i, as a call gets it, names the key k
 --     hash_of h k         the hash of the key k, by the hasher h
-use Rattle.std.specs.Prelude.{◌≡◌, ℕ, Bool, true, List, Option, Result}
+use Rattle.std.specs.Prelude.{◌≡◌, ◌⊎◌, ℕ, Bool, true, List, Option, Result}
 use Rattle.std.specs.declared.alloc.AllocError.{AllocError}
 use Rattle.lru_limits.specs.Rules.{Rules, Offers}
-use Rattle.schnellru.specs.State.{State, IsSized}
+use Rattle.schnellru.specs.State.{State, IsSized, Trims}
 use Rattle.schnellru.specs.Calls.{promoted, written, Remove, PopOldest, PopNewest, cleared}
 use Rattle.schnellru.specs.Drains.{Drained}
 use Rattle.schnellru.specs.GetOrInserts.{MakesNewest}
@@ -35,12 +35,17 @@ module _ {K V S H I : Type 0} (rules : Rules K V S) (offers : Offers K V S I) (n
     clears : new ≡ cleared rules old → Step old new
     reserves : (n : ℕ) (result : Result (Unit {0}) ReserveError) → Reserve rules n old result new → Step old new
     shrinks : (result : Result Bool AllocError) → Shrink old result new → Step old new
+    trims : Trims rules old new → Step old new
 
   -- the same, or a value is written through a reference, or another limiter is
   pub data AnyStep (old new : State K V S H) : Type 0 where
     calls : Step old new → AnyStep old new
     writes : (test : K → Bool) (value : V) → new ≡ written test value old → AnyStep old new
     sets_limiter : (limiter : S) → new ≡ record old { limiter = limiter } → AnyStep old new
+
+  -- a call, or a value is written through a reference
+  abbrev pub StepOrWrite : State K V S H → State K V S H → Type 0
+  StepOrWrite old new = Step old new ⊎ ((test : K → Bool) × (value : V) × (new ≡ written test value old))
 
   -- the call names keys that pass the test alone, and does not pop the newest pair
   abbrev pub NamesOnly : (test : K → Bool) → (old new : State K V S H) → AnyStep old new → Type 0

@@ -1,5 +1,5 @@
 -- A map as a list of pairs under a limiter, in a table whose bucket states are known.
-use Rattle.std.specs.Prelude.{◌≡◌, ℕ, zero, suc, ◌+◌, ◌-◌, ◌*◌, ◌^◌, ◌≤◌, ◌<◌, ◌⊎◌, Bool, if◌then◌else◌, List, []}
+use Rattle.std.specs.Prelude.{◌≡◌, ℕ, zero, suc, ◌+◌, ◌-◌, ◌*◌, ◌^◌, ◌≤◌, ◌<◌, ◌⊎◌, Bool, false, if◌then◌else◌, List, []}
 use Rattle.std.specs.Prelude.{length, Option, Some, None}
 use Rattle.std.specs.List.{IsDistinct}
 use Rattle.group_table.specs.Sizes.{full_capacity}
@@ -149,3 +149,11 @@ module _ {K V S : Type 0} (rules : Rules K V S) where
   -- the oldest pairs are evicted while the limiter is over its limit
   unfoldable pub trim : Contents K V S → Contents K V S
   trim c = trim_from (length c.pairs) c
+
+  -- no pair is left, or the limiter is not over its limit
+  abbrev pub IsWithin : Contents K V S → Type 0
+  IsWithin c = (c.pairs ≡ []) ⊎ (rules.is_over_the_limit c.limiter (length c.pairs) ≡ false)
+
+-- the oldest pairs of a map are evicted while its limiter is over its limit
+abbrev pub Trims : {K V S H : Type 0} → Rules K V S → State K V S H → State K V S H → Type 0
+Trims rules old new = Leaves old (trim rules (contents old)) new

@@ -27,69 +27,53 @@ abbrev pub lent_name : {K V : Type 0} → Option (Bor K × MutBor V) → maybe.O
 lent_name (Some pair) = maybe.some pair.1.ghost_name
 lent_name None = maybe.none
 
--- the members of the traits on which an `IterMut` stands
+-- of a walk, over the members of the traits that an `IterMut` relies on
 module _ {K V L S N H : Type 0} {equal : equality.Ghosts K} {input : hashing.Ghosts K} {limits : limiter.Ghosts L K V N}
     {links : link_type.Ghosts N} {link_eq : equality.Ghosts N} {link_shown : debug.Ghosts N}
-    {keyed : key_hasher.Ghosts S K H} {build : builder.Ghosts S H} {hash : hasher.Ghosts H} where
-  -- the map as it is now
-  abbrev pub walk_map : IterMut K V L S N H equal input limits links link_eq link_shown keyed build hash → State K V L S
-  walk_map walk = walk.map.now
+    {keyed : key_hasher.Ghosts S K H} {build : builder.Ghosts S H} {hash : hasher.Ghosts H}
+    (walk : IterMut K V L S N H equal input limits links link_eq link_shown keyed build hash) where
+  -- the map as it is now, and the ghost name of the reference to it
+  abbrev pub walk_map : State K V L S
+  walk_map = walk.map.now
 
-  -- the ghost name of the reference to it
-  abbrev pub walk_lender : IterMut K V L S N H equal input limits links link_eq link_shown keyed build hash → GName
-  walk_lender walk = walk.map.ghost_name
+  abbrev pub walk_lender : GName
+  walk_lender = walk.map.ghost_name
 
-  -- the places of the pairs that are left: from this one
-  abbrev pub walk_start : IterMut K V L S N H equal input limits links link_eq link_shown keyed build hash → ℕ
-  walk_start walk = walk.start
+  -- the pairs that are left are at the positions from the first of these up to the second
+  abbrev pub walk_start : ℕ
+  walk_start = walk.start
 
-  -- up to this one
-  abbrev pub walk_end : IterMut K V L S N H equal input limits links link_eq link_shown keyed build hash → ℕ
-  walk_end walk = walk.end
+  abbrev pub walk_end : ℕ
+  walk_end = walk.end
 
-  -- the walk after it lent the first pair that was left, where w was left
-  abbrev pub walk_after_first : IterMut K V L S N H equal input limits links link_eq link_shown keyed build hash → V
-      → IterMut K V L S N H equal input limits links link_eq link_shown keyed build hash
-  walk_after_first walk w = let m = walk.map in record {
-    map = record {
-      ref_ptr = m.ref_ptr;
-      ghost_name = m.ghost_name;
-      now = record m.now { pairs = set_value_at m.now.pairs walk.start w };
-    };
+  -- the reference to the map after a value was written at a position
+  abbrev pub walk_written : ℕ → V → MutBor (State K V L S)
+  walk_written at w = record walk.map { now = record walk.map.now { pairs = set_value_at walk.map.now.pairs at w } }
+
+  -- the walk after it lent the first pair that was left, and w was written, or the last pair
+  abbrev pub walk_after_first : V → IterMut K V L S N H equal input limits links link_eq link_shown keyed build hash
+  walk_after_first w = record walk {
+    map = walk_written walk.start w;
     start = walk.start + 1;
-    end = walk.end;
-    front = slice_get m.now.places (walk.start + 1);
-    back = walk.back;
-    within = walk.within;
+    front = slice_get walk.map.now.places (walk.start + 1);
     first = refl;
-    last = walk.last;
   }
 
-  -- and after it lent the last
-  abbrev pub walk_after_last : IterMut K V L S N H equal input limits links link_eq link_shown keyed build hash → V
-      → IterMut K V L S N H equal input limits links link_eq link_shown keyed build hash
-  walk_after_last walk w = let m = walk.map in record {
-    map = record {
-      ref_ptr = m.ref_ptr;
-      ghost_name = m.ghost_name;
-      now = record m.now { pairs = set_value_at m.now.pairs (walk.end - 1) w };
-    };
-    start = walk.start;
+  abbrev pub walk_after_last : V → IterMut K V L S N H equal input limits links link_eq link_shown keyed build hash
+  walk_after_last w = record walk {
+    map = walk_written (walk.end - 1) w;
     end = walk.end - 1;
-    front = walk.front;
-    back = last_of (walk.end - 1) m.now.places;
-    within = one_less walk.end (length m.now.places) walk.within;
-    first = walk.first;
+    back = last_of (walk.end - 1) walk.map.now.places;
+    within = one_less walk.end (length walk.map.now.places) walk.within;
     last = refl;
   }
 
-  -- the pair that `next` lends, and that of `next_back`
-  abbrev pub next_pair : IterMut K V L S N H equal input limits links link_eq link_shown keyed build hash → Option (K × V)
-  next_pair walk = if nat_lt walk.start walk.end then slice_get (walk_map walk).pairs walk.start else None
+  -- the pair that `next` lends, and the pair that `next_back` lends
+  abbrev pub next_pair : Option (K × V)
+  next_pair = if nat_lt walk.start walk.end then slice_get walk.map.now.pairs walk.start else None
 
-  abbrev pub next_back_pair : IterMut K V L S N H equal input limits links link_eq link_shown keyed build hash
-      → Option (K × V)
-  next_back_pair walk = if nat_lt walk.start walk.end then slice_get (walk_map walk).pairs (walk.end - 1) else None
+  abbrev pub next_back_pair : Option (K × V)
+  next_back_pair = if nat_lt walk.start walk.end then slice_get walk.map.now.pairs (walk.end - 1) else None
 
 module _ (K V L S N H : RattleType) (key : HashMembers K.Denot)
     (limits : limiter.Ghosts L.Denot K.Denot V.Denot N.Denot)

@@ -17,9 +17,12 @@ pub use lru_limits::{
     LinkType, LookupKey, RandomState, Storing, Summing, Unlimited, UnlimitedCompact,
 };
 pub use map::get_or_insert::GetOrInsertError;
+pub use map::insert::Inserted;
 pub use map::report::MoveReport;
 pub use map::reserve::ReserveError;
 pub use map::{DEFAULT_ENTRY_BYTES, LruMap};
 pub use walk::drain::Drain;
+pub use walk::into_iter::IntoIter;
 pub use walk::iter_mut::IterMut;
+pub use walk::keys::{Keys, Values};
 pub use walk::{Iter, Walk};

@@ -1,6 +1,6 @@
 //! `LruMap`. A contract sees a map as a `State`: its pairs, newest first, with its limiter, its hasher, the state of
 //! each bucket of its table, and its counts.
-ghost use Rattle.std.specs.Prelude.{◌≡◌, ◌∷◌, []};
+ghost use Rattle.std.specs.Prelude.{◌≡◌, ℕ, ◌∷◌, []};
 ghost use Rattle.lru_limits.specs.Mixing.{seeded};
 ghost use Rattle.schnellru.specs.Sizes.{default_entry_bytes, links_of_32_bits};
 ghost use Rattle.schnellru.specs.State.{State, empty_map};
@@ -16,15 +16,17 @@ mod clone;
 mod figures;
 mod find;
 pub(crate) mod get_or_insert;
-mod insert;
+pub(crate) mod insert;
 mod leave;
 mod look_up;
+mod pop_if;
 mod replace;
 pub(crate) mod report;
 pub(crate) mod reserve;
 mod resize;
 mod shrink;
 mod store;
+mod trim;
 
 /// The bytes of an entry that `LruMap::default` assumes.
 pub const DEFAULT_ENTRY_BYTES: usize = 32;
@@ -133,6 +135,10 @@ impl<K: Eq + Hash, V, L: Limiter<K, V>, S: KeyHasher<K>> LruMap<K, V, L, S> {
     ///
     /// The seeds of the default hasher are 1, 2, 3 and 4, so everyone knows its hashes. Cost: `O(1)`.
     ///
+    /// ```
+    /// let mut map: LruMap<u64, u64, UnlimitedCompact> = LruMap::default(alloc);
+    /// ```
+    ///
     /// After schnellru's `Default` for `LruMap`.
     pub fn default(alloc: Global) -> Self
     where
@@ -145,11 +151,39 @@ impl<K: Eq + Hash, V, L: Limiter<K, V>, S: KeyHasher<K>> LruMap<K, V, L, S> {
     }
 }
 
+impl<K: Eq + Hash, V, L: Limiter<K, V>, S: KeyHasher<K>> LruMap<K, V, L, S> {
+    /// Makes an empty map with this limiter, the default hasher, and the size of a bucket as `entry_bytes`.
+    ///
+    /// The seeds of the default hasher are 1, 2, 3 and 4, so everyone knows its hashes. If strangers choose the keys,
+    /// call `new` with seeds that nobody can guess. Cost: `O(1)`, and no memory.
+    ///
+    /// ```
+    /// let mut map: LruMap<u64, u64> = LruMap::with_limiter(alloc, ByLength::new(3));
+    /// assert!(rt; map.insert(1, 10)?);
+    /// ```
+    ///
+    /// schnellru's constructors take a limiter alone.
+    pub fn with_limiter(alloc: Global, limiter: L) -> Self
+    where
+        S: Default,
+        ensures { (hasher : S) × (entry_bytes : ℕ) × S.is_default hasher
+            × (result ≡ empty_map limiter hasher entry_bytes (L.LinkType.number L.LinkType.MAX)) }
+    {
+        let entry_bytes = OrderedTable::<K, V, L::LinkType>::entry_bytes();
+        LruMap::with_hasher(alloc, limiter, S::default(), entry_bytes)
+    }
+}
+
 impl<K: Eq + Hash, V, L: Limiter<K, V>> LruMap<K, V, L, RandomState> {
     /// Makes an empty map whose hasher has these seeds.
     ///
     /// Equal seeds give equal hashes. If strangers choose the keys, take seeds that nobody can guess. The documentation
     /// of the type says how to compute the bytes of an entry. Cost: `O(1)`, and no memory.
+    ///
+    /// ```
+    /// let mut map = LruMap::new(alloc, ByLength::new(2), [1, 2, 3, 4], 32);
+    /// map.insert(1, 10)?;
+    /// ```
     ///
     /// After schnellru's `LruMap::new`.
     pub fn new(alloc: Global, limiter: L, words: [u64; 4], entry_bytes: usize) -> Self

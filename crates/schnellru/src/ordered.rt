@@ -16,7 +16,7 @@ ghost use Rattle.schnellru.specs.ByHash.{Asks};
 ghost use Rattle.schnellru.specs.Inside.Searches.{FindsPair, FindsNoPair};
 ghost use Rattle.schnellru.specs.Inside.Chain.{first_bucket, last_bucket, bucket_after, bucket_before, pair_slots};
 
-use crate::ordered::chain::{close_gap, link_newest, link_placed, rewrite, unlink};
+use crate::ordered::chain::Chain;
 use group_table::{LinkType, Table};
 use lru_limits::{KeyHasher, LookupKey};
 use std::alloc::{AllocError, Global};
@@ -43,9 +43,7 @@ pub(crate) struct Entry<K, V, N> {
 
 #[derive(Drop)]
 pub(crate) struct OrderedTable<K, V, N: LinkType> {
-    table: Table<Entry<K, V, N>>,
-    newest: N,
-    oldest: N,
+    chain: Chain<K, V, N>,
 }
 
 impl<K, V, N: LinkType> Model for OrderedTable<K, V, N> {
@@ -57,13 +55,13 @@ impl<K, V, N: LinkType> Model for OrderedTable<K, V, N> {
     ghost use Rattle.schnellru.specs.Inside.Chain.{pair_slots, along, IsWhole};
 
     ghost view = { λ t. record {
-      slots = pair_slots t.table.slots;
-      order = along N.number (length t.table.slots) t.table.slots t.newest;
-      placings = t.table.placings;
+      slots = pair_slots t.chain.table.slots;
+      order = along N.number (length t.chain.table.slots) t.chain.table.slots t.chain.newest;
+      placings = t.chain.table.placings;
     } };
 
-    ghost invariant = { λ t. IsWhole N.number N.link N.MAX t.table.slots t.newest t.oldest
-        (along N.number (length t.table.slots) t.table.slots t.newest) };
+    ghost invariant = { λ t. IsWhole N.number N.link N.MAX t.chain.table.slots t.chain.newest t.chain.oldest
+        (along N.number (length t.chain.table.slots) t.chain.table.slots t.chain.newest) };
 }
 
 impl<K, V, N: LinkType> OrderedTable<K, V, N> {
@@ -78,10 +76,17 @@ impl<K, V, N: LinkType> OrderedTable<K, V, N> {
         ensures fits { (hash_of : K → ℕ) → KeysFit hash_of result.slots }
     {
         OrderedTable {
-            table: Table::new(alloc),
-            newest: N::MAX,
-            oldest: N::MAX,
+            chain: Chain {
+                table: Table::new(alloc),
+                newest: N::MAX,
+                oldest: N::MAX,
+            },
         }
+    }
+
+    // The bytes of an entry with its links.
+    pub(crate) fn entry_bytes() -> usize {
+        Table::<Entry<K, V, N>>::entry_bytes()
     }
 
     #[inline]
@@ -89,7 +94,7 @@ impl<K, V, N: LinkType> OrderedTable<K, V, N> {
         ensures len { result ≡ length self.now.order }
         ensures linked { IsLinked self.now }
     {
-        self.table.len()
+        self.chain.table.len()
     }
 
     #[inline]
@@ -98,7 +103,7 @@ impl<K, V, N: LinkType> OrderedTable<K, V, N> {
         ensures linked { IsLinked self.now }
         ensures reached { length self.now.slots < N.number N.MAX }
     {
-        self.table.buckets()
+        self.chain.table.buckets()
     }
 
     #[inline]
@@ -106,7 +111,7 @@ impl<K, V, N: LinkType> OrderedTable<K, V, N> {
         ensures room { result ≡ room (marks_of self.now.slots) }
         ensures linked { IsLinked self.now }
     {
-        self.table.room()
+        self.chain.table.room()
     }
 
     // The pair in a full bucket.
@@ -115,7 +120,7 @@ impl<K, V, N: LinkType> OrderedTable<K, V, N> {
         requires { IsFull self.now.slots b }
         ensures pair { entry_at self.now.slots b ≡ Some (result.now.key, result.now.value) }
     {
-        &self.table.get(b).pair
+        &self.chain.table.get(b).pair
     }
 
     // The bucket of the newest pair, if there is one.
@@ -123,7 +128,7 @@ impl<K, V, N: LinkType> OrderedTable<K, V, N> {
     pub(crate) fn newest(&self) -> Option<usize>
         ensures newest { result ≡ first_bucket self.now.order }
     {
-        bucket_of(self.newest)
+        bucket_of(self.chain.newest)
     }
 
     // The bucket of the oldest pair.
@@ -132,7 +137,7 @@ impl<K, V, N: LinkType> OrderedTable<K, V, N> {
         requires { 0 < length self.now.order }
         ensures oldest { last_bucket self.now.order ≡ Some result }
     {
-        self.oldest.into_usize()
+        self.chain.oldest.into_usize()
     }
 
     // The same, if there is one.
@@ -140,7 +145,7 @@ impl<K, V, N: LinkType> OrderedTable<K, V, N> {
     pub(crate) fn last(&self) -> Option<usize>
         ensures last { result ≡ last_bucket self.now.order }
     {
-        bucket_of(self.oldest)
+        bucket_of(self.chain.oldest)
     }
 
     // The bucket after this one in the order, towards the oldest.
@@ -149,7 +154,7 @@ impl<K, V, N: LinkType> OrderedTable<K, V, N> {
         requires { IsFull self.now.slots b }
         ensures older { result ≡ bucket_after b self.now.order }
     {
-        bucket_of(self.table.get(b).older)
+        bucket_of(self.chain.table.get(b).older)
     }
 
     // The bucket before this one in the order, towards the newest.
@@ -158,7 +163,7 @@ impl<K, V, N: LinkType> OrderedTable<K, V, N> {
         requires { IsFull self.now.slots b }
         ensures newer { result ≡ bucket_before b self.now.order }
     {
-        bucket_of(self.table.get(b).newer)
+        bucket_of(self.chain.table.get(b).newer)
     }
 
     // Lends the pair in a full bucket for writing. What is written keeps the hash of the key.
@@ -173,7 +178,7 @@ impl<K, V, N: LinkType> OrderedTable<K, V, N> {
             → KeysFit hash_of (with_pair self.old b last).slots }
         ensures linked { (last : K × V) → IsLinked (with_pair self.old b last) }
     {
-        &mut self.table.get_mut(b).pair
+        &mut self.chain.table.get_mut(b).pair
     }
 
     // Returns the bucket of the first pair that `f` accepts, of those with the tag of the hash.
@@ -183,7 +188,7 @@ impl<K, V, N: LinkType> OrderedTable<K, V, N> {
         ensures full { IfSome result (IsFull self.now.slots) }
         ensures none { IfNone result (FindsNoPair F.FnMut self.now.slots hash f) }
     {
-        self.table.find(
+        self.chain.table.find(
             hash,
             move |entry: &Entry<K, V, N>| -> bool
                 requires { F.IsAlwaysCallable f }
@@ -200,17 +205,18 @@ impl<K, V, N: LinkType> OrderedTable<K, V, N> {
         ensures placings { self.new.placings ≡ self.old.placings }
         ensures linked { IsLinked self.new }
     {
-        if self.table.get(b).newer == N::MAX {
+        if self.chain.table.get(b).newer == N::MAX {
             return;
         }
-        unlink(&mut self.table, &mut self.newest, &mut self.oldest, b);
-        link_newest(&mut self.table, &mut self.newest, b);
+        self.chain.unlink(b);
+        self.chain.link_newest(b);
     }
 
-    // Takes the pair out of a full bucket.
+    // Takes the pair out of a full bucket. If that is known to be the oldest (`last`), its older link is not read.
     #[inline(always)]
-    pub(crate) fn take(&mut self, b: usize) -> (K, V)
-        requires { IsFull self.old.slots b }
+    pub(crate) fn take(&mut self, b: usize, last: bool) -> (K, V)
+        requires full { IsFull self.old.slots b }
+        requires last { IsTrue last → last_bucket self.old.order ≡ Some b }
         ensures pair { entry_at self.old.slots b ≡ Some result }
         ensures removed { Removes self.old.slots self.new.slots b }
         ensures order { self.new.order ≡ without_bucket b self.old.order }
@@ -220,47 +226,13 @@ impl<K, V, N: LinkType> OrderedTable<K, V, N> {
         ensures fits { (hash_of : K → ℕ) → KeysFit hash_of self.old.slots → KeysFit hash_of self.new.slots }
         ensures linked { IsLinked self.new }
     {
-        let Entry { newer, older, pair } = self.table.take(b);
-        close_gap(
-            &mut self.table,
-            &mut self.newest,
-            &mut self.oldest,
-            newer,
-            older,
-        );
-        (pair.key, pair.value)
-    }
-
-    // Takes out the oldest pair, which is in this bucket. It has no older neighbour, so that link is not read.
-    #[inline(always)]
-    pub(crate) fn take_last(&mut self, b: usize) -> (K, V)
-        requires { last_bucket self.old.order ≡ Some b }
-        ensures pair { entry_at self.old.slots b ≡ Some result }
-        ensures removed { Removes self.old.slots self.new.slots b }
-        ensures order { self.new.order ≡ without_bucket b self.old.order }
-        ensures placings { self.new.placings ≡ self.old.placings }
-        ensures room { room (marks_of self.new.slots) ≡ room (marks_of self.old.slots)
-            + room_at (marks_of self.new.slots) b }
-        ensures fits { (hash_of : K → ℕ) → KeysFit hash_of self.old.slots → KeysFit hash_of self.new.slots }
-        ensures linked { IsLinked self.new }
-    {
-        let Entry {
-            newer,
-            older: _,
-            pair,
-        } = self.table.take(b);
-        close_gap(
-            &mut self.table,
-            &mut self.newest,
-            &mut self.oldest,
-            newer,
-            N::MAX,
-        );
+        let Entry { newer, older, pair } = self.chain.table.take(b);
+        self.chain.close_gap(newer, link_or_max(older, last));
         (pair.key, pair.value)
     }
 }
 
-impl<K: Drop, V: Drop, N: LinkType> OrderedTable<K, V, N> {
+impl<K, V, N: LinkType> OrderedTable<K, V, N> {
     // Puts a pair whose key has this hash into the first free bucket, as the newest.
     #[inline(always)]
     pub(crate) fn place(&mut self, hash: u64, pair: (K, V)) -> Result<(), (K, V)>
@@ -273,22 +245,23 @@ impl<K: Drop, V: Drop, N: LinkType> OrderedTable<K, V, N> {
         ensures no_place { OnErr result (HasNoPlace (marks_of self.old.slots) hash) }
     {
         let (key, value) = pair;
-        let first = self.newest;
+        let first = self.chain.newest;
         let entry = Entry {
             newer: N::MAX,
             older: first,
             pair: Pair { key, value },
         };
-        match self.table.try_place(hash, entry) {
+        match self.chain.table.try_place(hash, entry) {
             Ok(b) => {
-                let link = link_placed(&mut self.table, first, &mut self.oldest, b);
-                self.newest = link;
+                self.chain.link_placed(first, b);
                 Ok(())
             }
             Err(entry) => Err((entry.pair.key, entry.pair.value)),
         }
     }
+}
 
+impl<K: Drop, V: Drop, N: LinkType> OrderedTable<K, V, N> {
     // Drops all pairs. The buckets stay, and are empty.
     pub(crate) fn clear(&mut self)
         ensures slots { self.new.slots ≡ replicate (length self.old.slots) empty }
@@ -297,9 +270,9 @@ impl<K: Drop, V: Drop, N: LinkType> OrderedTable<K, V, N> {
         ensures fits { (hash_of : K → ℕ) → KeysFit hash_of self.new.slots }
         ensures linked { IsLinked self.new }
     {
-        self.table.clear();
-        self.newest = N::MAX;
-        self.oldest = N::MAX;
+        self.chain.table.clear();
+        self.chain.newest = N::MAX;
+        self.chain.oldest = N::MAX;
     }
 }
 
@@ -314,11 +287,13 @@ impl<K: Eq + Hash, V, N: LinkType> OrderedTable<K, V, N> {
             (b : ℕ) (pair : K × V) → entry_at self.now.slots b ≡ Some pair → hash_of pair.0 ≡ hash
             → Q.names key.now pair.0 ≡ false) }
     {
-        self.table.find(hash, |entry| key.is_key(&entry.pair.key))
+        self.chain
+            .table
+            .find(hash, |entry| key.is_key(&entry.pair.key))
     }
 }
 
-impl<K: Eq + Hash + Drop, V: Drop, N: LinkType> OrderedTable<K, V, N> {
+impl<K: Eq + Hash, V, N: LinkType> OrderedTable<K, V, N> {
     // Moves all pairs into a table of `buckets` buckets, in the same order. If the number of buckets stays, so does the
     // table; without pairs that needs no memory. Nor does a table of no buckets.
     pub(crate) fn move_to<S: KeyHasher<K>>(
@@ -340,20 +315,15 @@ impl<K: Eq + Hash + Drop, V: Drop, N: LinkType> OrderedTable<K, V, N> {
         ensures succeeds { length self.old.order ≡ 0 → length self.old.slots ≡ buckets → IsOk result }
         ensures gives_back { buckets ≡ 0 → IsOk result }
     {
-        let links = renumber_entries(&mut self.table, buckets, hasher)?;
-        rewrite(
-            &mut self.table,
-            &mut self.newest,
-            &mut self.oldest,
-            links.as_slice(),
-        );
+        let links = renumber_entries(&mut self.chain.table, buckets, hasher)?;
+        self.chain.rewrite(links.as_slice());
         Ok(())
     }
 }
 
 // Moves the entries into a table of `buckets` buckets, or rehashes them in this one, if it has as many. Returns where
 // each is now.
-fn renumber_entries<K: Eq + Hash + Drop, V: Drop, N: LinkType, S: BuildHasher>(
+fn renumber_entries<K: Eq + Hash, V, N: LinkType, S: BuildHasher>(
     table: &mut Table<Entry<K, V, N>>,
     buckets: usize,
     hasher: &S,
@@ -392,4 +362,13 @@ fn bucket_of<N: LinkType>(link: N) -> Option<usize>
     } else {
         Some(link.into_usize())
     }
+}
+
+// Returns the link, which is `MAX` if `max`. Then it is not read, if that is known when this is compiled.
+#[inline(always)]
+fn link_or_max<N: LinkType>(link: N, max: bool) -> N
+    requires { IsTrue max → link ≡ N.MAX }
+    ensures { result ≡ link }
+{
+    if max { N::MAX } else { link }
 }

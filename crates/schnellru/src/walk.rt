@@ -1,5 +1,5 @@
 //! Walking the pairs of a map in their order of use.
-ghost use Rattle.std.specs.Prelude.{◌≡◌, ◌<◌, ◌^◌, length, Some, IfSome};
+ghost use Rattle.std.specs.Prelude.{◌≡◌, ◌<◌, ◌^◌, length, Some, IfSome, ⊤};
 ghost use Rattle.std.specs.Iterator.{at_most, UpTo};
 ghost use Rattle.std.specs.Iterator.SizeHint.{IsWithinCount};
 ghost use Rattle.std.specs.Map.Iter.{ShowsInOrder, ShowsInReverse, TakesFirst, TakesLast, deref_pair};
@@ -9,12 +9,15 @@ use crate::map::LruMap;
 use crate::ordered::OrderedTable;
 use group_table::LinkType;
 use lru_limits::{KeyHasher, Limiter};
+use std::alloc::AllocError;
 use std::hash::Hash;
 use std::iter::FusedIterator;
 use std::marker::Model;
 
 pub(crate) mod drain;
+pub(crate) mod into_iter;
 pub(crate) mod iter_mut;
+pub(crate) mod keys;
 mod positions;
 
 /// The iterator over a map under this limiter. A function over the iterators of all limiters takes a `Walk`.
@@ -95,6 +98,22 @@ impl<'a, K, V, N: LinkType> ExactSizeIterator for Walk<'a, K, V, N> {
 }
 
 impl<'a, K, V, N: LinkType> FusedIterator for Walk<'a, K, V, N> {}
+
+/// The clone gives the pairs that are left of the walk. Cost: `O(1)`, and no memory.
+impl<'a, K, V, N: LinkType> Clone for Walk<'a, K, V, N> {
+    ghost is_clone = { λ s r. r ≡ s };
+
+    ghost is_infallible = { λ _. ⊤ };
+
+    fn clone(&self) -> Result<Walk<'a, K, V, N>, AllocError> {
+        Ok(Walk {
+            entries: self.entries,
+            front: self.front,
+            back: self.back,
+            left: self.left,
+        })
+    }
+}
 
 impl<K: Eq + Hash, V, L: Limiter<K, V>, S: KeyHasher<K>> LruMap<K, V, L, S> {
     /// Returns an iterator over the pairs, newest first. The order stays.

@@ -1,8 +1,9 @@
 //! Callers of a map whose own contracts rest on those of its calls: the code of docs/CALLING.md.
 ghost use Rattle.std.specs.Prelude.{◌≡◌, ◌≤◌, ℕ, ◌∷◌, ◌++◌, List, length, reverse, take, nat_eq, Some, None, Ok, IfOk};
-ghost use Rattle.std.specs.Prelude.{OnOk, OnErr, true};
+ghost use Rattle.std.specs.Prelude.{OnOk, OnErr, true, is_some};
 ghost use Rattle.std.specs.List.{All};
 ghost use Rattle.schnellru.specs.Lists.{lookup, lookup_entry, without};
+ghost use Rattle.schnellru.specs.Calls.{promoted};
 ghost use Rattle.schnellru.specs.HandedOver.{Takes};
 ghost use Rattle.schnellru.specs.Kept.{KeepsToLength};
 ghost use Rattle.schnellru.specs.Theorems.{IsSummed, KeepsValues};
@@ -36,6 +37,14 @@ fn put_any<K: Eq + Hash + Drop, V: Drop, L: Insertion<K, V, K>>(
     ensures { result ≡ Ok true → lookup (K.eq key) map.new.pairs ≡ Some value }
 {
     map.insert(key, value)
+}
+
+/// Makes the entry of a key the newest, and returns whether the key is there.
+fn touch(map: &mut LruMap<u64, u64>, key: u64) -> bool
+    ensures there { result ≡ is_some (lookup (nat_eq key) map.old.pairs) }
+    ensures newest { map.new ≡ promoted (nat_eq key) map.old }
+{
+    map.promote(&key)
 }
 
 /// Writes a value under a key that is there, and answers whether it is. A look-up gives the value then.
@@ -161,6 +170,7 @@ fn what_is_put_is_found(rt: HostRuntime) -> Result<(), Fail> {
     assert!(rt; put_any(&mut map, 1, 15)?);
     assert!(rt; overwrite(&mut map, 1, 20));
     assert!(rt; !overwrite(&mut map, 2, 20));
+    assert!(rt; touch(&mut map, 1) && !touch(&mut map, 2));
     assert_eq!(rt; map.peek(&1).copied(), Some(20));
     Ok(())
 }

@@ -1,7 +1,7 @@
 //! The examples of the README and of the public items' documents.
 use schnellru::{
-    ByLength, ByMemoryUsage, GetOrInsertError, LruMap, MoveReport, RandomState, ReserveError,
-    Unlimited, UnlimitedCompact,
+    ByLength, ByMemoryUsage, GetOrInsertError, KeyHasher, LruMap, MoveReport, RandomState,
+    ReserveError, Unlimited, UnlimitedCompact,
 };
 use std::alloc::{AllocError, Global};
 use std::hash::BuildHasher;
@@ -48,6 +48,9 @@ fn of_the_constructors(rt: HostRuntime) -> Result<(), Fail> {
         map.insert(n, n)?;
     }
     assert!(rt; map.len() == 3 && map.memory_usage() == 84 && map.peek(&1).is_none());
+    let mut map: LruMap<u64, u64> = LruMap::with_limiter(alloc, ByLength::new(3));
+    assert!(rt; map.insert(1, 10)?);
+    assert_eq!(rt; map.memory_usage(), 4 * 24 + 4 + 16);
     let usage = LruMap::<u64, u64, UnlimitedCompact>::memory_usage_for_memory_budget(512, 16);
     assert_eq!(rt; usage, 288);
     Ok(())
@@ -68,6 +71,9 @@ fn of_inserts_and_the_limiter(rt: HostRuntime) -> Result<(), Fail> {
 
 #[test]
 fn of_inserts_that_hand_over(rt: HostRuntime) -> Result<(), Fail> {
+    let mut map = three(rt.alloc())?;
+    let inserted = map.insert_full(1, 11, &mut |_, _| {})?;
+    assert_eq!(rt; (inserted.kept, inserted.unkept), (true, Some(10)));
     let mut map = three(rt.alloc())?;
     let mut left = None;
     map.insert_with(4, 40, &mut |key, value| left = Some((key, value)))?;
@@ -102,6 +108,9 @@ fn of_reservations_and_what_they_make_room_for(rt: HostRuntime) -> Result<(), Fa
         }
     }
     assert_eq!(rt; map.peek(&1), Some(&11));
+    assert_eq!(rt; map.shrink_to_fit(), Ok(true));
+    assert_eq!(rt; (map.len(), map.guaranteed_capacity()), (1, 3));
+    assert_eq!(rt; map.shrink_to_fit(), Ok(false));
     Ok(())
 }
 
@@ -226,11 +235,61 @@ fn of_closures_that_may_fail(rt: HostRuntime) -> Result<(), Fail> {
     assert!(rt; map.ensure_newest_fallible(4, || Ok::<u64, u8>(40))?);
     assert!(rt; map.peek_newest() == Some((&4, &40)));
     assert!(rt; map.get_or_insert_fallible(5, || Err(7u8)).is_err());
+    let error = map.get_or_insert_fallible(5, || Err(7u8)).err();
+    assert_eq!(rt; error, Some(GetOrInsertError::Caller(7)));
     assert!(rt; map.peek(&5).is_none());
     assert_eq!(rt;
         map.get_or_insert_fallible(5, || Ok::<u64, u8>(50))?
             .copied(),
         Some(50)
+    );
+    Ok(())
+}
+
+#[test]
+fn of_keys_that_are_promoted_or_removed(rt: HostRuntime) -> Result<(), Fail> {
+    let mut map = three(rt.alloc())?;
+    assert!(rt; map.contains(&1) && !map.contains(&9));
+    assert!(rt; map.keys().next() == Some(&3) && map.keys().next_back() == Some(&1));
+    assert!(rt; map.values().next() == Some(&30) && map.values().len() == 3);
+    assert!(rt; map.promote(&1) && !map.promote(&9));
+    assert!(rt; map.peek_newest() == Some((&1, &10)));
+    assert_eq!(rt; map.remove_entry(&1), Some((1, 10)));
+    assert_eq!(rt; map.remove_entry(&1), None);
+    let hash = map.hasher().hash_named(&5);
+    assert!(rt; map.insert_hashed(hash, 5, 50, &mut |_, _| {})?.kept);
+    assert_eq!(rt; map.into_iter().next_back(), Some((2, 20)));
+    Ok(())
+}
+
+#[test]
+fn of_trims(rt: HostRuntime) -> Result<(), Fail> {
+    let mut map = three(rt.alloc())?;
+    let mut evicted = 0u64;
+    *map.limiter_mut() = ByLength::new(1);
+    map.trim_with(&mut |key, _| evicted = evicted.wrapping_add(key));
+    assert_eq!(rt; evicted, 3);
+    let mut map = three(rt.alloc())?;
+    *map.limiter_mut() = ByLength::new(1);
+    map.trim();
+    assert!(rt; map.len() == 1 && map.contains(&3));
+    let mut map = three(rt.alloc())?;
+    let old = map.set_limiter(ByLength::new(1));
+    assert!(rt; old.max_length() == 3 && map.len() == 1);
+    assert_eq!(rt; map.limiter().max_length(), 1);
+    Ok(())
+}
+
+#[test]
+fn of_pops_on_a_condition(rt: HostRuntime) -> Result<(), Fail> {
+    let mut map = three(rt.alloc())?;
+    assert_eq!(rt; map.pop_oldest_if(|key, _| *key == 9), None);
+    assert_eq!(rt; map.try_pop_oldest(|_, _| Err(7u8)), Err(7));
+    assert_eq!(rt; map.len(), 3);
+    assert_eq!(rt; map.pop_oldest_if(|key, _| *key == 1), Some((1, 10)));
+    assert_eq!(rt;
+        map.try_pop_oldest(|_, _| -> Result<(), u8> { Ok(()) }),
+        Ok(Some((2, 20)))
     );
     Ok(())
 }

@@ -141,6 +141,24 @@ fn expect<S: BuildHasher>(
     Ok(())
 }
 
+/// No form of insert gives up above some number of pairs, if there is memory.
+#[test]
+fn inserts_of_many_pairs(rt: HostRuntime) -> Result<(), Fail> {
+    for call in [
+        Taking::GetOrInsert,
+        Taking::GetOrInsertFallible,
+        Taking::EnsureNewest,
+        Taking::EnsureNewestFallible,
+    ] {
+        let mut map = map_of(rt.alloc(), UnlimitedCompact);
+        for key in 0..100_000u64 {
+            assert!(rt; !is_refused(&mut map, call, (key, key)));
+        }
+        assert_eq!(rt; map.len(), 100_000);
+    }
+    Ok(())
+}
+
 /// A first table, and a growth: the limiter is asked and told of the new pair each time.
 #[test]
 fn inserts_that_need_a_table(rt: HostRuntime) -> Result<(), Fail> {

@@ -62,28 +62,28 @@ fn keys_and_values_of_4_kib(rt: HostRuntime) -> Result<(), Fail> {
     Ok(())
 }
 
-const MANY: u64 = 900_000;
+const MANY: u64 = 1_000_000;
 
-/// A table of 2^20 buckets is filled, copied, rehashed and shrunk, and its pairs are drained.
+/// A table of 2^21 buckets is filled, copied, enlarged and shrunk, and its pairs are drained.
 #[test]
 fn many_pairs(rt: HostRuntime) -> Result<(), Fail> {
     let mut map = map_of(rt.alloc(), UnlimitedCompact);
     assert_eq!(rt; insert_all(&mut map, 1..=MANY)?, MANY);
-    assert_eq!(rt; map.guaranteed_capacity(), 917_504);
+    assert_eq!(rt; map.guaranteed_capacity(), 1_835_008);
     let copy = map.clone()?;
     assert_eq!(rt;
         (copy.len(), copy.peek(&MANY).copied()),
-        (900_000, Some(9_000_000))
+        (1_000_000, Some(10_000_000))
     );
     drop(copy);
     remove_all(&mut map, 1..=500_000);
-    assert_eq!(rt; map.try_reserve(500_000), Ok(()));
-    assert_eq!(rt; (map.len(), map.shrink_to_fit()), (400_000, Ok(true)));
-    assert_eq!(rt; map.guaranteed_capacity(), 458_752);
+    assert_eq!(rt; map.try_reserve(2_000_000), Ok(()));
+    assert_eq!(rt; (map.len(), map.shrink_to_fit()), (500_000, Ok(true)));
+    assert_eq!(rt; map.guaranteed_capacity(), 917_504);
     let mut drained = 0u64;
     for _ in map.drain() {
         drained = drained.wrapping_add(1);
     }
-    assert_eq!(rt; drained, 400_000);
+    assert_eq!(rt; drained, 500_000);
     Ok(())
 }

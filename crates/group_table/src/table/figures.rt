@@ -1,9 +1,12 @@
 //! The figures of a `Table`, and which buckets are full.
 ghost use Rattle.std.specs.Prelude.{◌≡◌, ◌↔◌, length, IsTrue};
+ghost use Rattle.std.specs.Mem.{type_size};
+ghost use prog.Memory.{capped};
 ghost use Rattle.group_table.specs.Bucket.{marks_of, IsFull, entry_count, room};
 ghost use Rattle.group_table.specs.Table.{IsTable};
 
 use super::Table;
+use crate::cells::bytes_of;
 use crate::control::DELETED;
 
 impl<T> Table<T> {
@@ -43,6 +46,13 @@ impl<T> Table<T> {
         ensures table { IsTable (marks_of self.now.slots) }
     {
         self.placings
+    }
+
+    /// Returns the bytes that an entry takes in the table: the size of its type.
+    pub fn entry_bytes() -> usize
+        ensures { result ≡ capped (type_size T.row) }
+    {
+        bytes_of::<T>()
     }
 
     /// Returns whether the bucket exists and holds an entry, for any number.

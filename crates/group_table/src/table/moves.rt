@@ -13,7 +13,7 @@ use crate::link::LinkType;
 use crate::probe::first_free;
 use crate::table::Table;
 
-impl<T: Drop> Table<T> {
+impl<T> Table<T> {
     // Puts an entry into the first free bucket of a table with growth left and no deleted bucket. No insertion is
     // counted.
     #[inline]
@@ -32,8 +32,8 @@ impl<T: Drop> Table<T> {
 }
 
 // Moves entries, in rising order of their old buckets, into an empty table, and writes where each is now. The old
-// control bytes say which places hold one; afterwards none does.
-pub(crate) fn move_entries<T: Drop, N: LinkType, H: Fn(&T) -> u64>(
+// control bytes say which places hold one; afterwards none does. (Without `T: Drop` no entry can be dropped or lost.)
+pub(crate) fn move_entries<T, N: LinkType, H: Fn(&T) -> u64>(
     control: &Control,
     old: &mut Entries<T>,
     fresh: &mut Table<T>,

@@ -1,4 +1,6 @@
 //! The calls of `Table` that move every entry.
+//!
+//! They do not require `T: Drop`, so a body that forgets an entry or a table does not compile.
 ghost use Rattle.std.specs.Prelude.{◌≡◌, ℕ, ◌+◌, ◌^◌, ◌<◌, ◌≤◌, [], length, count_by, IfOk, OnErr, OnOk, IsOk};
 ghost use Rattle.group_table.specs.Sizes.{IsBucketCount, full_capacity};
 ghost use Rattle.group_table.specs.Bucket.{marks_of, entry_count, is_deleted, room};
@@ -16,7 +18,7 @@ use crate::table::moves::move_entries;
 use std::alloc::AllocError;
 use std::mem;
 
-impl<T: Drop> Table<T> {
+impl<T> Table<T> {
     /// Moves all entries, in rising order of their buckets, into a fresh table of `buckets` buckets.
     ///
     /// A table without entries may move to no buckets, which gives its memory back.
@@ -58,10 +60,16 @@ impl<T: Drop> Table<T> {
         let mut fresh = Table::with_buckets(alloc, buckets)?;
         if self.len == 0 {
             fresh.placings = self.placings;
-            *self = fresh;
+            mem::replace(self, fresh).free_unused();
             return Ok(Vec::new(alloc));
         }
-        let mut links = no_links(alloc, self.buckets())?;
+        let mut links = match no_links(alloc, self.buckets()) {
+            Ok(links) => links,
+            Err(error) => {
+                fresh.free_unused();
+                return Err(error);
+            }
+        };
         let placings = self.placings.saturating_add(self.len as u64);
         let (control, mut entries) = mem::replace(self, fresh).into_parts();
         move_entries(&control, &mut entries, self, &mut links, &hash_of);
@@ -101,7 +109,7 @@ impl<T: Drop> Table<T> {
     {
         let alloc = self.entries.allocator();
         if self.len == 0 {
-            self.clear();
+            self.empty_buckets();
             return Ok(Vec::new(alloc));
         }
         let buckets = self.buckets();

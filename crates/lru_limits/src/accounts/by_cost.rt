@@ -40,6 +40,10 @@ impl Model for ByCost {
 
 impl ByCost {
     /// Makes a limiter with this limit. Its sum is 0 so far.
+    ///
+    /// ```
+    /// let mut limiter = ByCost::new(3);
+    /// ```
     pub fn new(limit: u64) -> ByCost
         ensures { result ≡ record { limit = limit; cost = 0 } }
     {
@@ -47,6 +51,10 @@ impl ByCost {
     }
 
     /// Returns the limit.
+    ///
+    /// ```
+    /// assert_eq!(rt; limiter.limit(), 3);
+    /// ```
     pub fn limit(&self) -> u64
         ensures { result ≡ self.now.limit }
     {
@@ -54,6 +62,10 @@ impl ByCost {
     }
 
     /// Returns the sum of the costs so far.
+    ///
+    /// ```
+    /// assert_eq!(rt; limiter.cost(), 2);
+    /// ```
     pub fn cost(&self) -> u64
         ensures { result ≡ self.now.cost }
     {

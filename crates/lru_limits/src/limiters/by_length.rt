@@ -38,6 +38,10 @@ impl Model for ByLength {
 
 impl ByLength {
     /// Makes a limiter to `max_length` pairs.
+    ///
+    /// ```
+    /// let limiter = ByLength::new(3);
+    /// ```
     pub fn new(max_length: u32) -> ByLength
         ensures { result ≡ max_length }
     {
@@ -45,6 +49,10 @@ impl ByLength {
     }
 
     /// Returns the limit.
+    ///
+    /// ```
+    /// assert_eq!(rt; limiter.max_length(), 3);
+    /// ```
     pub fn max_length(&self) -> u32
         ensures { result ≡ self.now }
     {

@@ -37,7 +37,11 @@ impl Model for ByMemoryUsage {
 }
 
 impl ByMemoryUsage {
-    /// Makes a limiter to a table of `max_memory_usage` bytes.
+    /// Makes a limiter to a table of `max_bytes` bytes.
+    ///
+    /// ```
+    /// let mut limiter = ByMemoryUsage::new(152);
+    /// ```
     pub fn new(max_bytes: usize) -> ByMemoryUsage
         ensures { result ≡ max_bytes }
     {
@@ -45,6 +49,10 @@ impl ByMemoryUsage {
     }
 
     /// Returns the limit.
+    ///
+    /// ```
+    /// assert_eq!(rt; limiter.max_memory_usage(), 152);
+    /// ```
     pub fn max_memory_usage(&self) -> usize
         ensures { result ≡ self.now }
     {
@@ -83,7 +91,7 @@ impl<K, V> Limiter<K, V> for ByMemoryUsage {
     }
 }
 
-impl<K: Eq + Hash + Drop, V: Drop> Insertion<K, V, K> for ByMemoryUsage {
+impl<K: Eq + Hash + Drop, V> Insertion<K, V, K> for ByMemoryUsage {
     ghost offers = { all_offers };
 
     #[inline]

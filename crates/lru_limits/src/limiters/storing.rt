@@ -45,7 +45,7 @@ impl<K, V, L: Limiter<K, V>> Limiter<K, V> for Storing<L> {
     }
 }
 
-impl<K: Eq + Hash + Drop, V: Drop, L: Limiter<K, V>> Insertion<K, V, K> for Storing<L> {
+impl<K: Eq + Hash + Drop, V, L: Limiter<K, V>> Insertion<K, V, K> for Storing<L> {
     ghost offers = { all_offers };
 
     #[inline]

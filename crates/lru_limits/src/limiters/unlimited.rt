@@ -37,7 +37,7 @@ impl<K, V> Limiter<K, V> for Unlimited {
     }
 }
 
-impl<K: Eq + Hash + Drop, V: Drop> Insertion<K, V, K> for Unlimited {
+impl<K: Eq + Hash + Drop, V> Insertion<K, V, K> for Unlimited {
     ghost offers = { all_offers };
 
     #[inline]

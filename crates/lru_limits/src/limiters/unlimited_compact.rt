@@ -38,7 +38,7 @@ impl<K, V> Limiter<K, V> for UnlimitedCompact {
     }
 }
 
-impl<K: Eq + Hash + Drop, V: Drop> Insertion<K, V, K> for UnlimitedCompact {
+impl<K: Eq + Hash + Drop, V> Insertion<K, V, K> for UnlimitedCompact {
     ghost offers = { all_offers };
 
     #[inline]

@@ -19,6 +19,10 @@ pub enum Call<K, V, L> {
     Get(K),
     /// `peek`: returns the value of the key.
     Peek(K),
+    /// `contains`: returns whether the key is there.
+    Contains(K),
+    /// `promote`: returns whether the key is there, and makes its pair the newest.
+    Promote(K),
     /// `get_by_hash`, with a closure that accepts this key alone.
     GetByHash(u64, K),
     /// `peek_by_hash`, with a closure that accepts this key alone.
@@ -27,6 +31,8 @@ pub enum Call<K, V, L> {
     Write(K, V),
     /// `remove`: removes the key, and returns its value.
     Remove(K),
+    /// `remove_entry`: removes the key, and returns its pair.
+    RemoveEntry(K),
     /// `pop_oldest`: removes and returns the oldest pair.
     PopOldest,
     /// `pop_newest`: removes and returns the newest pair.
@@ -39,6 +45,8 @@ pub enum Call<K, V, L> {
     Reserve(usize),
     /// `shrink_to_fit`: shrinks the table to as few buckets as hold the pairs.
     Shrink,
+    /// `trim`: evicts the oldest pairs while the limiter is over its limit.
+    Trim,
     /// `clear`: drops all pairs.
     Clear,
     /// `drain`: returns `front` pairs from the newest end, then `back` pairs from the oldest, and drops the others.
@@ -57,9 +65,13 @@ pub enum Call<K, V, L> {
 }
 
 /// The answer to a call.
+///
+/// ```
+/// let gives = answers.get(1) == Some(&Answer::Value(Some(10)));
+/// ```
 #[derive(Debug, Drop, PartialEq)]
 pub enum Answer<K, V> {
-    /// To `Insert` and `Write`: whether the key is in the map.
+    /// To `Insert`, `Write`, `Contains` and `Promote`: whether the key is in the map.
     Flag(bool),
     /// To `InsertWith`: what the insert returned, and what it passed to its callback.
     Given {
@@ -70,11 +82,11 @@ pub enum Answer<K, V> {
     },
     /// To `GetOrInsert`, `Get`, `Peek`, `Remove` and the searches by a hash: the value, if there is one.
     Value(Option<V>),
-    /// To the pops and the peeks at an end: the pair, if there is one.
+    /// To the pops, the peeks at an end and `RemoveEntry`: the pair, if there is one.
     Pair(Option<(K, V)>),
     /// To `List` and `Drain`: the pairs.
     Pairs(Vec<(K, V)>),
-    /// To `Clear` and `SetLimiter`: it is done.
+    /// To `Trim`, `Clear` and `SetLimiter`: it is done.
     Done,
     /// To `Reserve`: that there is room, or why not.
     Reserved(Result<(), ReserveError>),

@@ -5,6 +5,10 @@ ghost use Rattle.lru_replay.specs.Replay.{status_of};
 use thiserror::Error;
 
 /// How a replay ends if no read and no write fails.
+///
+/// ```
+/// assert_eq!(rt; status(&Ok(ReplayEnd::NoLimiter)), 1);
+/// ```
 #[derive(Clone, Copy, Debug, PartialEq, Eq)]
 pub enum ReplayEnd {
     /// All lines were carried out.
@@ -14,6 +18,12 @@ pub enum ReplayEnd {
 }
 
 /// What cuts a replay off. As a number, a failed read is 1 and a failed write 2.
+///
+/// ```
+/// let (read, write) = (ReplayError::Read, ReplayError::Write);
+/// let text = format!(in alloc; "{read}, {write}")?;
+/// assert_eq!(rt; text.as_str(), "read failed, write failed");
+/// ```
 #[derive(Clone, Copy, Debug, PartialEq, Eq, Error)]
 pub enum ReplayError {
     /// A read failed, or the reader gave `u64::MAX` reads without an end.
@@ -26,6 +36,10 @@ pub enum ReplayError {
 
 /// Returns the exit status: 0 if the lines were carried out, 1 if the first line names no limiter, and 2 if a read or a
 /// write failed.
+///
+/// ```
+/// assert_eq!(rt; status(&Ok(ReplayEnd::NoLimiter)), 1);
+/// ```
 pub fn status(end: &Result<ReplayEnd, ReplayError>) -> u8
     ensures { result ≡ status_of end.now }
 {

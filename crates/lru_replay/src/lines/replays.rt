@@ -192,6 +192,13 @@ fn answer_and_flush<R: BufRead, W: Write>(
 /// has no answer; docs/REPLAY.md lists the lines and their answers. The output is flushed once, at the end, unless a
 /// write failed.
 ///
+/// ```
+/// let mut reader = b"length 1\ninsert 1 10\n".as_slice();
+/// let mut writer = Vec::new(alloc);
+/// assert_eq!(rt; replay(alloc, &mut reader, &mut writer), Ok(ReplayEnd::Done));
+/// assert_eq!(rt; writer.as_slice(), b"true\n".as_slice());
+/// ```
+///
 /// In the contract, a reader's bytes and a writer's bytes are the whole streams, however they are cut into reads and
 /// writes. Of a reader or a writer whose type says nothing of its bytes, the contract says nothing.
 pub fn replay<R: BufRead, W: Write>(

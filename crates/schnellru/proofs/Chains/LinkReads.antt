@@ -1,20 +1,19 @@
 -- What is read of a table whose links keep the order of its full buckets.
 use Rattle.std.proofs.Common.{◌≡◌, ◌≢◌, ℕ, ◌<◌, Bool, true, false, List, [], ◌∷◌, length, Option, Some, None, refl, ap}
-use Rattle.std.proofs.Common.{sym, ◌∙◌, subst, arith}
+use Rattle.std.proofs.Common.{sym, ◌∙◌, arith}
 use Rattle.std.specs.Prelude.{Contains, IfSome, IfNone, not}
 use Rattle.std.proofs.lemmas.Bool.{eqb-true, eqb-false, not-true, not-false}
 use Rattle.std.proofs.lemmas.Option.{none-some}
 use Rattle.group_table.specs.Link.{IsLinkType}
 use Rattle.group_table.specs.Bucket.{Slot, IsFull, entry_at}
-use Rattle.group_table.specs.Change.{Removes}
 use Rattle.schnellru.specs.declared.ordered.Entry.{Entry}
 use Rattle.schnellru.specs.Inside.OrderedTable.{without_bucket}
 use Rattle.schnellru.specs.Inside.Chain.{first_bucket, last_bucket, bucket_after, bucket_before, link_to, pair_slots}
-use Rattle.schnellru.specs.Inside.Chain.{IsChain, IsWhole, IsGap}
+use Rattle.schnellru.specs.Inside.Chain.{IsChain, IsWhole}
 use Rattle.schnellru.proofs.Chains.Orders.{after_in, before_in, first_in, last_in, before-alone, after-last}
 use Rattle.schnellru.proofs.Chains.Neighbours.{newest_again}
 use Rattle.schnellru.proofs.OrderedTables.PairSlots.{is_full-pair_slots}
-use Rattle.schnellru.proofs.Chains.LinkWrites.{end_by_link, chained_below, newer_link, older_link, IsGap-taken}
+use Rattle.schnellru.proofs.Chains.LinkWrites.{end_by_link, chained_below, newer_link, older_link}
 
 last_some : (order : List ℕ) → 0 < length order → last_bucket order ≡ None → ⊥
 last_some [] p e = absurd (omega arith)
@@ -64,20 +63,11 @@ module _ {N : Type 0} {number : N → ℕ} {link : ℕ → N} {none : N} {eq : N
     oldest_shown p = leads_to (last_bucket order) oldest whole.chain.oldest_last
         (λ y e. chained_below whole.chain y (last_in order y e)) (last_some order p)
 
-    -- the last bucket is full, and its entry has no older one
-    module _ (b : ℕ) (last : last_bucket order ≡ Some b) where
-      pub last_full : IsFull slots b
-      last_full = whole.chain.only b (last_in order b last)
-
-      pub none_older : (entry : Entry K V N) → entry_at slots b ≡ Some entry → entry.older ≡ none
-      none_older entry is = older_link laws whole.chain b (last_in order b last) entry is
-          ∙ ap (link_to link none) (after-last b order whole.chain.distinct last)
-
-      -- to take it out of the chain after its entry left the table
-      pub last_gap : (entry : Entry K V N) → entry_at slots b ≡ Some entry → (new : List (Slot (Entry K V N)))
-          → Removes slots new b → IsGap number link none new newest oldest order b entry.newer none
-      last_gap entry is new removes = subst (IsGap number link none new newest oldest order b entry.newer)
-          (none_older entry is) (IsGap-taken laws whole.chain b (last_in order b last) entry is new removes)
+    -- the last bucket has no older one
+    pub none_older : (b : ℕ) → last_bucket order ≡ Some b → (entry : Entry K V N) → entry_at slots b ≡ Some entry
+        → entry.older ≡ none
+    none_older b last entry is = older_link laws whole.chain b (last_in order b last) entry is
+        ∙ ap (link_to link none) (after-last b order whole.chain.distinct last)
 
     module _ (b : ℕ) (full : IsFull (pair_slots slots) b) where
       pub full_entry : IsFull slots b
@@ -105,7 +95,7 @@ module _ {N : Type 0} {number : N → ℕ} {link : ℕ → N} {none : N} {eq : N
             (λ y k. chained_below whole.chain y (before_in b y order whole.chain.distinct k))
             (sym (newer_link laws whole.chain b inside entry is) ∙ e))
 
-        -- after a bucket with a newer one left, there is a newest one
+        -- if a bucket that has a newer one leaves, the chain still has a newest one
         pub newest_left : {slots' : List (Slot (Entry K V N))} {newest' oldest' : N} → entry.newer ≢ none
             → IsChain number link none slots' newest' oldest' (without_bucket b order) → newest' ≢ none
         newest_left newer left e =

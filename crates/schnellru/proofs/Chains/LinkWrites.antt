@@ -1,4 +1,4 @@
--- What writing a link changes, and the chain after a bucket left it, or came as the newest.
+-- What writing a link changes, and the chain after a bucket left it or became its newest.
 use Rattle.std.proofs.Common.{◌≡◌, ◌≢◌, ℕ, ◌<◌, Bool, List, [], ◌∷◌, length, set, Option, Some, None, ◌⊎◌, inl, inr}
 use Rattle.std.proofs.Common.{refl, ap, sym, ◌∙◌, subst, arith}
 use Rattle.std.specs.Prelude.{option_map, Contains}
@@ -14,8 +14,8 @@ use Rattle.group_table.proofs.ChangeLemmas.{length-removed, bucket_at-removed_ot
 use Rattle.schnellru.specs.declared.ordered.Entry.{Entry}
 use Rattle.schnellru.specs.Inside.OrderedTable.{without_bucket}
 use Rattle.schnellru.specs.Inside.Chain.{first_bucket, last_bucket, bucket_after, bucket_before, link_to, newer_at}
-use Rattle.schnellru.specs.Inside.Chain.{older_at, SetsLinks, SetsNewer, SetsOlder, SetsEnd, IsChain}
-use Rattle.schnellru.specs.Inside.Chain.{IsGap}
+use Rattle.schnellru.specs.Inside.Chain.{older_at, SetsLinks, SetsLink, SetsNewer, SetsOlder, SetsEnd, IsChain}
+use Rattle.schnellru.specs.Inside.Chain.{IsGap, pair_slots}
 use Rattle.schnellru.proofs.Chains.Orders.{other_than, Contains-cases, after_in, before_in, first_in, without_in}
 use Rattle.schnellru.proofs.Chains.Orders.{after_other, before_other}
 use Rattle.schnellru.proofs.Chains.Orders.{distinct_without, distinct_cons}
@@ -49,42 +49,34 @@ module _ {K V N : Type 0} (slots : List (Slot (Entry K V N))) (b : ℕ) (entry :
       }
 
   module _ (number : N → ℕ) (at to : N) (is : b ≡ number at) where
-    -- a write of one link
+    -- a write of the link of one kind
+    set_link : (kind other : Entry K V N → N) (next : Entry K V N)
+        → pair_slots (set slots b (refilled (bucket_at slots b) next)) ≡ pair_slots slots
+        → kind next ≡ to → other next ≡ other entry
+        → SetsLink number kind other slots (set slots b (refilled (bucket_at slots b) next)) at to
+    set_link kind other next pairs writes keeps =
+        let new = set slots b (refilled (bucket_at slots b) next) in
+        let wrote = entry_at-refilled slots b next (full_by_entry (bucket_at slots b) entry there) in record {
+          pairs = pairs;
+          there = λ full. subst (λ c. option_map kind (entry_at new c) ≡ Some to) is
+              (ap (option_map kind) wrote ∙ ap Some writes);
+          others = λ c apart. ap (option_map kind) (entry_at-refilled_other slots b next c (λ e. apart (e ∙ is)));
+          stays = λ c. elim (cases_eq c b) [
+            | inl h ↦ subst (λ k. option_map other (entry_at new k) ≡ option_map other (entry_at slots k)) (sym h)
+                (ap (option_map other) wrote ∙ ap Some keeps ∙ sym (ap (option_map other) there))
+            | inr h ↦ ap (option_map other) (entry_at-refilled_other slots b next c h)
+          ];
+        }
+
     pub SetsNewer-written : SetsNewer number slots
         (set slots b (refilled (bucket_at slots b) (record { pair = entry.pair; newer = to; older = entry.older }))) at
         to
-    SetsNewer-written =
-        let w = SetsLinks-written to entry.older in
-        let new = set slots b
-        (refilled (bucket_at slots b) (record { pair = entry.pair; newer = to; older = entry.older })) in
-        record {
-          pairs = w.pairs;
-          there = λ full. subst (λ c. newer_at new c ≡ Some to) is w.newer_there;
-          others = λ c other. ap (option_map (λ x. x.newer)) (w.others c (λ e. other (e ∙ is)));
-          older = λ c. elim (cases_eq c b) [
-            | inl h ↦ subst (λ k. older_at new k ≡ older_at slots k) (sym h)
-                (w.older_there ∙ sym (ap (option_map (λ x. x.older)) there))
-            | inr h ↦ ap (option_map (λ x. x.older)) (w.others c h)
-          ];
-        }
+    SetsNewer-written = set_link (λ x. x.newer) (λ x. x.older) _ (SetsLinks-written to entry.older).pairs refl refl
 
     pub SetsOlder-written : SetsOlder number slots
         (set slots b (refilled (bucket_at slots b) (record { pair = entry.pair; newer = entry.newer; older = to }))) at
         to
-    SetsOlder-written =
-        let w = SetsLinks-written entry.newer to in
-        let new = set slots b
-        (refilled (bucket_at slots b) (record { pair = entry.pair; newer = entry.newer; older = to })) in
-        record {
-          pairs = w.pairs;
-          there = λ full. subst (λ c. older_at new c ≡ Some to) is w.older_there;
-          others = λ c other. ap (option_map (λ x. x.older)) (w.others c (λ e. other (e ∙ is)));
-          newer = λ c. elim (cases_eq c b) [
-            | inl h ↦ subst (λ k. newer_at new k ≡ newer_at slots k) (sym h)
-                (w.newer_there ∙ sym (ap (option_map (λ x. x.newer)) there))
-            | inr h ↦ ap (option_map (λ x. x.newer)) (w.others c h)
-          ];
-        }
+    SetsOlder-written = set_link (λ x. x.older) (λ x. x.newer) _ (SetsLinks-written entry.newer to).pairs refl refl
 
 module _ {N : Type 0} {number : N → ℕ} {link : ℕ → N} {none : N} {eq : N → N → Bool}
     (laws : IsLinkType number link none eq) where
@@ -105,7 +97,7 @@ module _ {N : Type 0} {number : N → ℕ} {link : ℕ → N} {none : N} {eq : N
   end_by_link (Some y) bounds e = absurd (laws.link_below y (bounds y refl) e)
 
   module _ {K V : Type 0} where
-    -- a link of a chain is that of no bucket, or leads to a full one
+    -- a link of a chain leads to no bucket or to a full one
     pub leads_to_full : (slots : List (Slot (Entry K V N))) → length slots < number none → (o : Option ℕ)
         → ((y : ℕ) → o ≡ Some y → IsFull slots y)
         → (link_to link none o ≡ none) ⊎ IsFull slots (number (link_to link none o))
@@ -164,7 +156,7 @@ module _ {N : Type 0} {number : N → ℕ} {link : ℕ → N} {none : N} {eq : N
       others_full : (x : ℕ) → Contains order x → x ≢ b → IsFull s0 x
       others_full x inside other = ap is_full (gap.others x other) ∙ gap.chain.only x inside
 
-      -- its links are those of no bucket, or lead to full ones
+      -- its links lead to no bucket or to full ones
       pub gap_newer_leads : (newer ≡ none) ⊎ IsFull s0 (number newer)
       gap_newer_leads = rw newer_to (leads_to_full s0 gap_reached (bucket_before b order) (λ y e.
           others_full y (before_in b y order gap.chain.distinct e) (before_other b y order gap.chain.distinct e)))
@@ -226,7 +218,7 @@ module _ {N : Type 0} {number : N → ℕ} {link : ℕ → N} {none : N} {eq : N
             let stays = before-stays b x other order chain.distinct
             (λ e. h (sym (ap number older_is ∙ number-link_to (bucket_after b order) x e
             (chained_below chain x inside)))) in
-            second.others x h ∙ first.newer x ∙ ap (λ s. option_map (λ y. y.newer) (entry_of s)) (gap.others x other)
+            second.others x h ∙ first.stays x ∙ ap (λ s. option_map (λ y. y.newer) (entry_of s)) (gap.others x other)
             ∙ chain.newer x inside ∙ ap (λ o. Some (link_to link none o)) (sym stays)
       ]
 
@@ -236,13 +228,13 @@ module _ {N : Type 0} {number : N → ℕ} {link : ℕ → N} {none : N} {eq : N
             let previous : bucket_before b order ≡ Some x = bucket_by_link (bucket_before b order) x before_below
             (chained_below chain x inside) (h ∙ ap number newer_is) in
             let full : IsFull s0 (number newer) = subst (IsFull s0) h (others_full gap x inside other) in
-            second.older x ∙ subst (λ k. older_at s1 k ≡ Some older) (sym h) (first.there full)
+            second.stays x ∙ subst (λ k. older_at s1 k ≡ Some older) (sym h) (first.there full)
             ∙ ap Some (older_is ∙ ap (link_to link none) (sym (after-previous b x other order chain.distinct previous)))
         | inr h ↦
             let stays = after-stays b x other order chain.distinct
             (λ e. h (sym (ap number newer_is ∙ number-link_to (bucket_before b order) x e
             (chained_below chain x inside)))) in
-            second.older x ∙ first.others x h ∙ ap (λ s. option_map (λ y. y.older) (entry_of s)) (gap.others x other)
+            second.stays x ∙ first.others x h ∙ ap (λ s. option_map (λ y. y.older) (entry_of s)) (gap.others x other)
             ∙ chain.older x inside ∙ ap (λ o. Some (link_to link none o)) (sym stays)
       ]
 
@@ -272,7 +264,7 @@ module _ {N : Type 0} {number : N → ℕ} {link : ℕ → N} {none : N} {eq : N
       older = λ x w. ap (option_map (λ y. y.older)) (sets.others x (other_than b order absent x w)) ∙ chain.older x w;
     }
 
-    -- a bucket with the links of a newest one comes as the newest
+    -- a bucket that already has the links of a newest one becomes the newest
     module _ {s0 s1 : List (Slot (Entry K V N))} {newest oldest oldest' : N} (b : ℕ) {order : List ℕ}
         (chain : IsChain number link none s0 newest oldest order) (absent : Contains order b → ⊥) (full : IsFull s0 b)
         (newer : newer_at s0 b ≡ Some none) (older : older_at s0 b ≡ Some newest)
@@ -333,9 +325,9 @@ module _ {N : Type 0} {number : N → ℕ} {link : ℕ → N} {none : N} {eq : N
         ];
         older = λ x w. elim (Contains-cases b x order w) [
           | inl h ↦ subst (λ k. older_at s1 k ≡ Some (link_to link none (bucket_after k (b ∷ order)))) h
-              (first.older b ∙ older ∙ ap Some chain.newest_first ∙ ap (λ o. Some (link_to link none o))
+              (first.stays b ∙ older ∙ ap Some chain.newest_first ∙ ap (λ o. Some (link_to link none o))
               (sym (after-itself b order absent chain.distinct)))
-          | inr there ↦ first.older x ∙ chain.older x there
+          | inr there ↦ first.stays x ∙ chain.older x there
               ∙ ap (λ o. Some (link_to link none o)) (sym (after-later b order absent chain.distinct x there))
         ];
       }

@@ -1,6 +1,6 @@
--- No two outcomes of a placing are the same, and no result is both.
+-- No two outcomes are the same, and no result is both. What a clause says of a value, or of an error.
 use Rattle.std.proofs.Common.{◌≡◌, Bool, Result, Ok, Err, arith}
-use Rattle.std.specs.Prelude.{IsOk, IsErr, IfOk, OnErr}
+use Rattle.std.specs.Prelude.{IsOk, IsErr, IfOk, OnOk, OnErr}
 use Rattle.std.specs.declared.alloc.AllocError.{AllocError}
 use Rattle.schnellru.specs.Place.{placed, refused, no_memory}
 
@@ -17,17 +17,21 @@ pub ok-not_err : {A : Type 0} (result : Result Bool AllocError) → IsOk result 
 ok-not_err (Ok b) h k = absurd (grind (arith, k))
 ok-not_err (Err e) h k = absurd (grind (arith, h))
 
--- what holds of a value that is there, and leads to more
+-- what holds of a value implies more
 pub if_ok : {T E : Type 0} (result : Result T E) (P Q : T → Type 0) → ((v : T) → P v → Q v) → IfOk result P
     → IfOk result Q
 if_ok (Ok v) P Q more h = more v h
 if_ok (Err e) P Q more h = h
 
--- what an error implies leads to more
+-- what a value, or an error, implies leads to more
+pub on_ok : {T E P Q : Type 0} (result : Result T E) → (P → Q) → OnOk result P → OnOk result Q
+on_ok (Ok v) more h = more h
+on_ok (Err e) more h = h
+
 pub if_err : {T E P Q : Type 0} (result : Result T E) → (P → Q) → OnErr result P → OnErr result Q
 if_err (Ok v) more h = h
 if_err (Err e) more h = more h
 
--- equal answers have equal flags
+-- equal results have equal flags
 pub same_kept : {E : Type 0} (x y : Bool) → ◌≡◌ {A = Result Bool E} (Ok x) (Ok y) → x ≡ y
 same_kept x y e = cc

@@ -1,12 +1,12 @@
--- What the steps of a placing come to.
-use Rattle.std.proofs.Common.{◌≡◌, ℕ, suc, ◌+◌, ◌-◌, ◌/◌, ◌<◌, ◌≤◌, ◌⊎◌, inl, inr, Bool, true, false, [], length}
+-- What the steps of storing a pair amount to: the facts from which the cases of `Place` are proved.
+use Rattle.std.proofs.Common.{◌≡◌, ℕ, suc, ◌+◌, ◌-◌, ◌/◌, ◌<◌, ◌≤◌, ◌⊎◌, inl, inr, Bool, true, false, List, [], length}
 use Rattle.std.proofs.Common.{None, Result, Ok, Err, refl, sym, ap, ◌∙◌, subst, arith}
 use Rattle.std.specs.Prelude.{IsOk}
 use Rattle.std.specs.declared.alloc.AllocError.{AllocError}
 use native.Mathlib.Decide.{dec_lt}
 use Rattle.std.proofs.lemmas.List.{nil_from_length}
-use Rattle.group_table.specs.Sizes.{IsPowerFromFour, IsBucketCount, full_capacity}
-use Rattle.group_table.specs.Bucket.{marks_of}
+use Rattle.group_table.specs.Sizes.{IsPowerFromFour, full_capacity}
+use Rattle.group_table.specs.Bucket.{Mark, room as room_of}
 use Rattle.group_table.specs.Change.{HasNoPlace}
 use Rattle.lru_limits.specs.Rules.{Rules}
 use Rattle.schnellru.specs.Sizes.{no_table, new_table}
@@ -15,11 +15,8 @@ use Rattle.schnellru.specs.Place.{Place, rehashed, grown, not_grown, HasNoBucket
 use Rattle.schnellru.specs.Place.{no_target, denied, Evicts, nothing_to_evict, finds_bucket, rehashes, OldestLeave}
 use Rattle.schnellru.specs.Place.{Outcome, outcome_of, placed, no_memory, IsPlaced, IsPlacedIfMemory}
 use Rattle.schnellru.specs.Place.{LacksRoom, FillsBucket, table_for}
-use Rattle.group_table.proofs.BucketLemmas.{length-marks_of}
-use Rattle.schnellru.specs.Inside.OrderedTable.{OrderedTable, IsLinked, pairs_of}
-use Rattle.schnellru.proofs.OrderedTables.BucketPairs.{pairs-length}
 use Rattle.schnellru.proofs.TableSizes.SizedMarks.{fits, exact}
-use Rattle.schnellru.proofs.TableSizes.Growth.{full_capacity-at_most, full_capacity-some, full_capacity-even}
+use Rattle.schnellru.proofs.TableSizes.Growth.{full_capacity-at_most, full_capacity-even}
 use Rattle.schnellru.proofs.Theorems.LackOfMemory.{no_room}
 use Rattle.schnellru.proofs.Maps.Outcomes.{placed-not_no_memory, refused-not_no_memory}
 use Rattle.schnellru.proofs.Maps.LeavingPairs.{length-without_last, length-pops, known_is, leaves_more, oldest_leaves}
@@ -66,7 +63,7 @@ module _ {K V S H : Type 0} (rules : Rules K V S) (hash_of : H → K → ℕ) (p
     outgrown_by : IsOutgrown (hash_of old.hasher pair.0) old
     outgrown_by = subst (λ h. IsOutgrown h old) is_hash outgrown
 
-    -- the oldest left, because the table cannot grow
+    -- the oldest pairs were evicted, because the table cannot grow
     evicts_place : (mid : State K V S H) → CannotGrow rules old mid → Evicts rules hash pair mid mid outcome new
         → Place rules hash_of pair old outcome new
     evicts_place mid cannot e = not_grown outgrown_by mid cannot
@@ -111,7 +108,7 @@ module _ {K V S H : Type 0} (rules : Rules K V S) (hash_of : H → K → ℕ) (p
       denied_place refusal step = evicts_place (record old { limiter = s })
           (denied count bytes next refusal (ap {A = S} {B = State K V S H} (λ l. record old { limiter = l }) told)) step
 
-    -- or there is none
+    -- there is no larger table
     pub untold_place : table_for 1 old ≡ no_table → Evicts rules hash pair old old outcome new
         → Place rules hash_of pair old outcome new
     untold_place none step = evicts_place old (no_target none refl) step
@@ -130,43 +127,32 @@ module _ {K V S H : Type 0} (st : State K V S H) (ok : IsSized st) (hash : ℕ) 
   }
   no_place_bucket (inr (none, b, first, is)) = record { no_room = none; first_empty = λ some. (b, first, is) }
 
--- a table with buckets that is at least half full has a pair
-pub some_of_half : {K V : Type 0} (t : OrderedTable K V) → IsLinked t → (length t.slots ≡ 0 → ⊥)
-    → full_capacity (length t.slots) / 2 ≤ length t.order → 0 < length (pairs_of t)
-some_of_half t linked there half = go linked.table.count
-  where
-    go : IsBucketCount (length (marks_of t.slots)) → 0 < length (pairs_of t)
-    go (inl none) = absurd (there (sym (length-marks_of t.slots) ∙ none))
-    go (inr power) = omega (
-      arith,
-      full_capacity-some (length (marks_of t.slots)) power,
-      ap full_capacity
-          (length-marks_of t.slots),
-      half,
-      pairs-length t linked,
-    )
+-- no bucket of a table with these states takes a pair of this hash, and it holds at least half of what it may
+pub record IsStuck (hash least : ℕ) (marks : List Mark) (pairs : ℕ) : Type 0 where
+  pub some : 0 < pairs
+  pub half : least ≤ pairs
+  pub no_place : HasNoPlace marks hash
+  pub no_room : room_of marks ≡ 0
 
--- so many of the oldest left, after none of which the pair had a place, and then one more
+-- The n oldest pairs were evicted, after none of which the new pair had a place, and then one more.
 module _ {K V S H : Type 0} (rules : Rules K V S) (hash : ℕ) (pair : K × V) (old before left : State K V S H)
-    (ok : IsSized old) (lacks : LacksRoom old) (n : ℕ)
-    (gone : OldestLeave rules hash n old before) (some : 0 < length before.pairs)
-    (half : full_capacity (buckets old) / 2 ≤ length before.pairs)
-    (still : HasNoPlace before.marks hash) (none : room before ≡ 0)
+    (ok : IsSized old) (lacks : LacksRoom old) (n : ℕ) (gone : OldestLeave rules hash n old before)
+    (stuck : IsStuck hash (full_capacity (buckets old) / 2) before.marks (length before.pairs))
     (step : Leaves before (pop rules (contents before)) left) where
   pub one_more : OldestLeave rules hash (suc n) old left
-  one_more = (before, gone, still, step)
+  one_more = (before, gone, stuck.no_place, step)
 
   leaves : Leaves old (pops rules n (contents old)) before
   leaves = oldest_leaves rules hash n old before gone
 
   pub one_fewer : length left.pairs + 1 ≡ length before.pairs
-  one_fewer = omega (arith, ap (λ st. length st.pairs) step.is, length-without_last before.pairs, some)
+  one_fewer = omega (arith, ap (λ st. length st.pairs) step.is, length-without_last before.pairs, stuck.some)
 
   in_all : length old.pairs ≡ n + length before.pairs
-  in_all = omega (arith, ap (λ st. length st.pairs) leaves.is, length-pops rules n (contents old), some)
+  in_all = omega (arith, ap (λ st. length st.pairs) leaves.is, length-pops rules n (contents old), stuck.some)
 
   only_one : buckets old ≤ 16 → suc n ≡ 1
-  only_one small = omega (arith, room_after rules n old before leaves small (omega (arith, in_all)) lacks.1 none)
+  only_one small = omega (arith, room_after rules n old before leaves small (omega (arith, in_all)) lacks.1 stuck.no_room)
 
   pub same_buckets : buckets left ≡ buckets old
   same_buckets = step.room.table ∙ leaves.room.table
@@ -190,7 +176,7 @@ module _ {K V S H : Type 0} (rules : Rules K V S) (hash : ℕ) (pair : K × V) (
         (length left.pairs) left outcome new →
         Evicts rules hash pair old old outcome new
     rehashes_then outcome few m = rehashes lacks.0 (suc n) (omega arith) only_one
-        (omega (arith, few, half, one_fewer, in_all)) left one_more
+        (omega (arith, few, stuck.half, one_fewer, in_all)) left one_more
         (subst (λ s. IsPlacedIfMemory rules pair (buckets old) s (length left.pairs) left outcome new)
         (spare (dec_lt 8 (buckets old))) m)
       where
@@ -199,7 +185,7 @@ module _ {K V S H : Type 0} (rules : Rules K V S) (hash : ℕ) (pair : K × V) (
         spare (yes large) = omega (
           arith,
           few,
-          half,
+          stuck.half,
           one_fewer,
           full_capacity-even (buckets old)
               (power_with_pairs old ok lacks.0) large,
@@ -212,6 +198,6 @@ module _ {K V S H : Type 0} (rules : Rules K V S) (hash : ℕ) (pair : K × V) (
               only_one (omega (arith, small)),
               in_all,
               few,
-              half,
+              stuck.half,
               one_fewer,
             ))

@@ -1,10 +1,11 @@
--- What the steps of a reservation come to.
+-- What the steps of a reservation amount to.
 use Rattle.std.proofs.Common.{◌≡◌, ℕ, ◌<◌, Ok, Err, true, false, List, [], ◌∷◌, length, refl, ap, ◌∙◌, subst, arith}
+use Rattle.std.proofs.Common.{inl, inr}
 use Rattle.lru_limits.specs.Rules.{Rules}
 use Rattle.schnellru.specs.Sizes.{new_table}
 use Rattle.schnellru.specs.State.{State, MovesTo}
 use Rattle.schnellru.specs.Place.{table_for}
-use Rattle.schnellru.specs.Reservations.{LacksRoomFor, Reserve, reserved, no_memory_to_grow, denied_room}
+use Rattle.schnellru.specs.Reservations.{LacksRoomFor, Reserve, reserved, asked_only}
 use Rattle.schnellru.specs.declared.map.reserve.ReserveError.TheVariants.{Refused, Memory}
 
 pub some_there : {X : Type 0} (xs : List X) → (xs ≡ [] → ⊥) → 0 < length xs
@@ -22,10 +23,10 @@ module _ {K V S H : Type 0} (rules : Rules K V S) (n : ℕ) (old new : State K V
 
   pub lacks_memory : (rules.on_grow old.limiter bytes).allowed ≡ true → new ≡ record old { limiter = s }
       → Reserve rules n old (Err Memory) new
-  lacks_memory granted step = no_memory_to_grow lacks count bytes is granted refl
+  lacks_memory granted step = asked_only lacks count bytes is (inl (granted, refl))
       (step ∙ ap {A = S} {B = State K V S H} (λ l. record old { limiter = l }) told)
 
   pub is_denied : (rules.on_grow old.limiter bytes).allowed ≡ false → new ≡ record old { limiter = s }
       → Reserve rules n old (Err Refused) new
-  is_denied refusal step = denied_room lacks count bytes is refusal refl
+  is_denied refusal step = asked_only lacks count bytes is (inr (refusal, refl))
       (step ∙ ap {A = S} {B = State K V S H} (λ l. record old { limiter = l }) told)

@@ -1,7 +1,7 @@
 -- From every map with a sound table a clear leaves one, and a reservation can end: there is an answer that it may give,
 -- and a map that it may leave.
 use Rattle.std.proofs.Common.{◌≡◌, ℕ, ◌+◌, ◌-◌, ◌^◌, ◌≤◌, Bool, true, false, Result, Ok, Err, List, [], length}
-use Rattle.std.proofs.Common.{replicate, refl, subst, arith}
+use Rattle.std.proofs.Common.{replicate, refl, subst, arith, inl, inr}
 use native.Mathlib.Decide.{dec_lt}
 use Rattle.group_table.specs.Bucket.{empty}
 use Rattle.group_table.specs.Change.{count_up}
@@ -11,8 +11,8 @@ use Rattle.lru_limits.specs.Rules.{Rules}
 use Rattle.schnellru.specs.Calls.{cleared}
 use Rattle.schnellru.specs.State.{State, buckets, room, IsSized}
 use Rattle.schnellru.specs.Place.{table_for, asked}
-use Rattle.schnellru.specs.Reservations.{LacksRoomFor, Reserve, enough_room, too_many, no_such_table, remade}
-use Rattle.schnellru.specs.Reservations.{no_memory_to_grow, denied_room}
+use Rattle.schnellru.specs.Reservations.{LacksRoomFor, Reserve, unchanged, remade, asked_only, enough_room, too_many}
+use Rattle.schnellru.specs.Reservations.{no_such_table}
 use Rattle.schnellru.specs.Sizes.{Target, no_table, same_table, new_table}
 use Rattle.schnellru.specs.declared.map.reserve.ReserveError.{ReserveError}
 use Rattle.schnellru.specs.declared.map.reserve.ReserveError.TheVariants.{TooLarge, Refused, Memory}
@@ -55,7 +55,7 @@ module _ {K V S H : Type 0} (rules : Rules K V S) (n : ℕ) (old : State K V S H
     shrunk = ok.shrunk;
   }
 
-  -- the table is made anew at its size
+  -- the table is rehashed at its size
   some_remade : LacksRoomFor n old → table_for n old ≡ same_table → CanReserve
   some_remade lacks is =
       let placings = count_up old.placings (length old.pairs) in
@@ -77,21 +77,21 @@ module _ {K V S H : Type 0} (rules : Rules K V S) (n : ℕ) (old : State K V S H
   some_asked : LacksRoomFor n old → (count bytes : ℕ) → table_for n old ≡ new_table count bytes → (allowed : Bool)
       → (rules.on_grow old.limiter bytes).allowed ≡ allowed → CanReserve
   some_asked lacks count bytes is true grants =
-      (Err Memory, asked rules bytes old, no_memory_to_grow lacks count bytes is grants refl refl, sized_with _)
+      (Err Memory, asked rules bytes old, asked_only lacks count bytes is (inl (grants, refl)) refl, sized_with _)
   some_asked lacks count bytes is false denies =
-      (Err Refused, asked rules bytes old, denied_room lacks count bytes is denies refl refl, sized_with _)
+      (Err Refused, asked rules bytes old, asked_only lacks count bytes is (inr (denies, refl)) refl, sized_with _)
 
   some_table : LacksRoomFor n old → (t : Target) → table_for n old ≡ t → CanReserve
-  some_table lacks no_table is = (Err TooLarge, old, no_such_table lacks is refl refl, ok)
+  some_table lacks no_table is = (Err TooLarge, old, unchanged (no_such_table lacks is refl) refl, ok)
   some_table lacks same_table is = some_remade lacks is
   some_table lacks (new_table count bytes) is = some_asked lacks count bytes is
       (rules.on_grow old.limiter bytes).allowed refl
 
   pub some_reservation : CanReserve
   some_reservation = elim (dec_lt (length old.pairs + n) (2 ^ 64)) [
-    | no many ↦ (Err TooLarge, old, too_many (omega (arith, many)) refl refl, ok)
+    | no many ↦ (Err TooLarge, old, unchanged (too_many (omega (arith, many)) refl) refl, ok)
     | yes fits ↦ elim (dec_lt (room old) n) [
-      | no enough ↦ (Ok tt, old, enough_room (omega (arith, enough)) fits refl refl, ok)
+      | no enough ↦ (Ok tt, old, unchanged (enough_room (omega (arith, enough)) fits refl) refl, ok)
       | yes lacks ↦ some_table (lacks, fits) (table_for n old) refl
     ]
   ]

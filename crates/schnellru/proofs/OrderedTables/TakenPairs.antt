@@ -8,7 +8,7 @@ use Rattle.lru_limits.specs.Rules.{Rules}
 use Rattle.schnellru.specs.Inside.OrderedTable.{OrderedTable, IsLinked, KeysFit, pairs_of, entries_in, without_bucket}
 use Rattle.schnellru.specs.Lists.{lookup_entry}
 use Rattle.schnellru.specs.State.{State, Contents, Leaves, told_of}
-use Rattle.schnellru.specs.Calls.{left_of, Remove}
+use Rattle.schnellru.specs.Calls.{left_of, Remove, RemoveEntry}
 use Rattle.schnellru.specs.Inside.Steps.{IsTakenOut}
 use Rattle.schnellru.specs.Inside.Holds.{Beside, state_of, Holds}
 use Rattle.schnellru.proofs.PairLists.DistinctKeys.{AreDistinct, distinct_without}
@@ -57,14 +57,19 @@ module _ {K V S : Type 0} (rules : Rules K V S) (t u : OrderedTable K V) (b : �
         (λ x y e. laws.congr out.pair.0 x y e) holds.map.distinct (laws.refl out.pair.0) ∙ sym taken_pairs)
         (distinct_without eq (eq out.pair.0) (pairs_of t) holds.map.distinct))
 
-module _ {K V S H : Type 0} (rules : Rules K V S) (names : K → Bool) (st : State K V S H) where
-  -- where no pair is named, none leaves
-  pub none_removed : lookup_entry names st.pairs ≡ None → Remove rules names st None st
-  none_removed none = record {
-    value = ap (λ o. option_map (λ p. p.1) (left_of rules st.limiter o)) (sym none);
+module _ {K V S H : Type 0} (rules : Rules K V S) (names : K → Bool) where
+  -- if no pair is named, none leaves
+  pub none_removed : (st : State K V S H) → lookup_entry names st.pairs ≡ None → RemoveEntry rules names st None st
+  none_removed st none = record {
+    pair = ap (left_of rules st.limiter) (sym none);
     state = subst (λ left. Leaves st left st)
         (λ i. record {
           pairs = sym (without_none names st.pairs none) i;
           limiter = told_of rules (sym none i) st.limiter;
         }) (leaves_self st);
   }
+
+  -- of a pair that was removed, the value may be returned alone
+  pub value_removed : (old : State K V S H) (pair : Option (K × V)) (new : State K V S H)
+      → RemoveEntry rules names old pair new → Remove rules names old (option_map (λ p. p.1) pair) new
+  value_removed old pair new h = record { value = ap (option_map (λ p. p.1)) h.pair; state = h.state }

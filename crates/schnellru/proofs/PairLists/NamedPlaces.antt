@@ -1,6 +1,7 @@
 -- The place of a named pair, before and after the pair comes first.
 use Rattle.std.proofs.Common.{◌≡◌, ℕ, Bool, true, false, cond, List, [], ◌∷◌, Some, None, refl, sym, ap, ◌∙◌}
-use Rattle.std.proofs.Common.{option_map}
+use Rattle.std.proofs.Common.{Option, option_map}
+use Rattle.std.specs.Prelude.{is_some, IfSome, IfNone}
 use Rattle.std.proofs.lemmas.Option.{none-some}
 use Rattle.schnellru.specs.Lists.{lookup, lookup_entry, place_of, other_places, front, front_places, after, without}
 use Rattle.schnellru.proofs.PairLists.NamedPairs.{lookup-entry}
@@ -42,3 +43,15 @@ module _ {K V : Type 0} (names : K → Bool) where
   pub named_value : (pairs : List (K × V)) (pair : K × V) → lookup_entry names pairs ≡ Some pair
       → lookup names pairs ≡ Some pair.1
   named_value pairs pair there = lookup-entry names pairs ∙ ap (option_map (λ p. p.1)) there
+
+  -- what a search says of the key, by what it finds
+  pub place_says : (pairs : List (K × V)) (places : List ℕ) (b : ℕ) → place_of names pairs places ≡ Some b
+      → is_some (lookup names pairs) ≡ true
+  place_says pairs places b e = let (pair, there, named) = named_there pairs places b e in
+      ap is_some (named_value pairs pair there)
+
+  pub search_says : (pairs : List (K × V)) (places : List ℕ) (found : Option ℕ)
+      → IfSome found (λ b. place_of names pairs places ≡ Some b)
+      → IfNone found (lookup_entry names pairs ≡ None) → is_some found ≡ is_some (lookup names pairs)
+  search_says pairs places (Some b) there none = sym (place_says pairs places b there)
+  search_says pairs places None there none = sym (ap is_some (no_named_value pairs none))

@@ -1,30 +1,15 @@
--- Where a table goes that is to take more pairs.
-use Rattle.std.proofs.Common.{◌≡◌, ℕ, ◌+◌, ◌*◌, ◌/◌, ◌<◌, ◌≤◌, inl, inr, Option, Some, None, length, sym, ◌∙◌, arith}
+-- Into which table a map grows for more pairs.
+use Rattle.std.proofs.Common.{◌≡◌, ℕ, ◌+◌, ◌*◌, ◌/◌, ◌<◌, ◌≤◌, inl, inr, Option, Some, None, length, sym, arith}
 use Rattle.std.proofs.Common.{◌⊎◌}
 use Rattle.std.specs.Prelude.{IfSome}
 use Rattle.group_table.specs.Sizes.{IsPowerFromFour, IsBucketCount, full_capacity}
-use Rattle.group_table.specs.Bucket.{marks_of}
-use Rattle.group_table.proofs.BucketLemmas.{length-marks_of}
-use Rattle.schnellru.specs.Sizes.{usage, Target, same_table, new_table, target, larger}
+use Rattle.schnellru.specs.Sizes.{usage, same_table, new_table, larger}
 use Rattle.schnellru.specs.State.{State, buckets, IsSized}
 use Rattle.schnellru.specs.Place.{table_for}
-use Rattle.schnellru.specs.Inside.OrderedTable.{OrderedTable, IsLinked, pairs_of}
-use Rattle.schnellru.specs.Inside.Holds.{Beside, state_of}
-use Rattle.schnellru.proofs.OrderedTables.BucketPairs.{pairs-length}
 use Rattle.schnellru.proofs.TableSizes.SizedMarks.{fits}
 use Rattle.schnellru.proofs.TableSizes.Growth.{target_new, target_usage, target_doubles, full_capacity-at_most}
 use Rattle.schnellru.proofs.TableSizes.Growth.{full_capacity-double}
 use Rattle.schnellru.proofs.TableSizes.Doubling.{target_keeps}
-
-module _ {K V S H : Type 0} (beside : Beside S H) (t : OrderedTable K V) (linked : IsLinked t) where
-  -- where the table of a map goes for n more, from the figures of its linked table
-  pub goes_to : (n : ℕ) {next : Target} {most count pairs : ℕ} → most ≡ beside.max → count ≡ length t.slots → pairs
-      ≡ length t.order →
-      target most beside.entry_bytes count (pairs + n) ≡ next → table_for n (state_of t beside) ≡ next
-  goes_to n {count = count} {pairs = pairs} is_max is_count is_pairs is =
-      let buckets_are : count ≡ length (marks_of t.slots) = is_count ∙ sym (length-marks_of t.slots) in
-      let pairs_are : pairs ≡ length (pairs_of t) = is_pairs ∙ sym (pairs-length t linked) in
-      (λ i. target (sym is_max i) beside.entry_bytes (sym buckets_are i) (sym pairs_are i + n)) ∙ is
 
 module _ {K V S H : Type 0} (n : ℕ) (st : State K V S H) (ok : IsSized st) (some : 0 < length st.pairs + n) where
   -- a larger table is one that there can be, and is at most half full
@@ -56,13 +41,13 @@ module _ {K V S H : Type 0} (n : ℕ) (st : State K V S H) (ok : IsSized st) (so
               (target_doubles power.0 st.max st.entry_bytes (buckets st) (length st.pairs + n) count bytes power.1 is),
         )
 
-  -- so it is with one that is answered
+  -- the same of the table that a search for one returns
   pub if_larger : (P : ℕ × ℕ → Type 0) → ((count bytes : ℕ) → table_for n st ≡ new_table count bytes → P (count, bytes))
       → (answer : Option (ℕ × ℕ)) → larger answer ≡ table_for n st → IfSome answer P
   if_larger P holds None e = tt
   if_larger P holds (Some table) e = holds table.0 table.1 (sym e)
 
-  -- where at most half is needed, the table stays as large
+  -- if at most half of the table is needed, it keeps its size
   pub stays : length st.pairs + n ≤ full_capacity (buckets st) / 2 → table_for n st ≡ same_table
   stays half = go ok.table.count ok.reachable
     where

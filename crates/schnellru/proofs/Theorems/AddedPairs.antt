@@ -5,16 +5,15 @@ use Rattle.lru_limits.specs.Laws.{IsLookup, IsInsertion}
 use Rattle.lru_limits.specs.Rules.{Rules, Offers}
 use Rattle.schnellru.specs.GetOrInserts.{got, inserted}
 use Rattle.schnellru.specs.Lists.{without}
-use Rattle.schnellru.specs.Reservations.{Reserve, too_many, enough_room, no_such_table, remade, no_memory_to_remake}
-use Rattle.schnellru.specs.Reservations.{denied_room, reserved, no_memory_to_grow}
+use Rattle.schnellru.specs.Reservations.{Reserve, unchanged, remade, reserved, asked_only}
 use Rattle.schnellru.specs.Runs.{Step, inserts, makes_newest, gets, removes, pops_oldest, pops_newest, drains, clears}
-use Rattle.schnellru.specs.Runs.{reserves, shrinks, AnyStep, calls, writes, sets_limiter}
-use Rattle.schnellru.specs.State.{State}
+use Rattle.schnellru.specs.Runs.{reserves, shrinks, trims, AnyStep, calls, writes, sets_limiter}
+use Rattle.schnellru.specs.State.{State, contents}
 use Rattle.schnellru.specs.Theorems.{GivesUp, behind, with_none, without_one}
 use Rattle.schnellru.specs.declared.map.reserve.ReserveError.{ReserveError}
 use Rattle.schnellru.proofs.Maps.LeavingPairs.{length-without_first, length-without_last}
 use Rattle.schnellru.proofs.Maps.Promotions.{length-front_pairs}
-use Rattle.schnellru.proofs.Theorems.Fronts.{insert_gives_up, length-front}
+use Rattle.schnellru.proofs.Theorems.Fronts.{insert_gives_up, front_trim, length-front}
 use Rattle.schnellru.proofs.Theorems.Limits.{length-without}
 use Rattle.schnellru.proofs.Theorems.Shrinks.{shrunk_list}
 
@@ -27,14 +26,10 @@ gives_up_adds names refuses xs ys (without_one pair found r e) = omega (arith, a
 
 module _ {K V S H : Type 0} (rules : Rules K V S) (n : ℕ) (old new : State K V S H) where
   pub reserve_stays : (result : Result (Unit {0}) ReserveError) → Reserve rules n old result new → new.pairs ≡ old.pairs
-  reserve_stays result (enough_room s l r e) = ap (λ st. st.pairs) e
-  reserve_stays result (too_many l r e) = ap (λ st. st.pairs) e
-  reserve_stays result (no_such_table l t r e) = ap (λ st. st.pairs) e
+  reserve_stays result (unchanged why e) = ap (λ st. st.pairs) e
   reserve_stays result (remade l t r m) = ap (λ st. st.pairs) m.state
-  reserve_stays result (no_memory_to_remake l t p r e) = ap (λ st. st.pairs) e
   reserve_stays result (reserved l count bytes t g r m) = ap (λ st. st.pairs) m.state
-  reserve_stays result (no_memory_to_grow l count bytes t g r e) = ap (λ st. st.pairs) e
-  reserve_stays result (denied_room l count bytes t d r e) = ap (λ st. st.pairs) e
+  reserve_stays result (asked_only l count bytes t f e) = ap (λ st. st.pairs) e
 
 module _ {K V S H I : Type 0} {rules : Rules K V S} {offers : Offers K V S I} {names : I → K → Bool}
     {hash_of : H → K → ℕ} {eq : K → K → Bool} {query_input : I → List (List ℕ)} {key_input : K → List (List ℕ)}
@@ -58,6 +53,11 @@ module _ {K V S H I : Type 0} {rules : Rules K V S} {offers : Offers K V S I} {n
   step_adds (clears e) = omega (arith, ap (λ st. length st.pairs) e)
   step_adds (reserves n result h) = omega (arith, ap length (reserve_stays rules n old new result h))
   step_adds (shrinks result h) = omega (arith, ap length (shrunk_list old result new h).0)
+  step_adds (trims h) = omega (
+    arith,
+    ap (λ st. length st.pairs) h.is,
+    length-front _ old.pairs (front_trim rules (contents old)),
+  )
 
   pub any_adds : AnyStep rules offers names hash_of old new → length new.pairs ≤ length old.pairs + 1
   any_adds (calls step) = step_adds step

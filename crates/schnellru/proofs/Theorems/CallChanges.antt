@@ -8,18 +8,17 @@ use Rattle.std.specs.declared.alloc.AllocError.{AllocError}
 use Rattle.group_table.specs.Sizes.{full_capacity, IsBucketCount}
 use Rattle.group_table.specs.Bucket.{Mark, empty, is_used, room as room_of}
 use Rattle.lru_limits.specs.Rules.{Rules, Offers}
-use Rattle.schnellru.specs.State.{State, buckets, Contents, contents, MovesTo}
+use Rattle.schnellru.specs.State.{State, buckets, Contents, contents, MovesTo, Trims}
 use Rattle.schnellru.specs.Calls.{promoted, written, pop_first, Remove, PopOldest, PopNewest, cleared}
 use Rattle.schnellru.specs.Place.{asked}
 use Rattle.schnellru.specs.declared.map.reserve.ReserveError.{ReserveError}
 use Rattle.schnellru.specs.Drains.{pops_first, Drained}
 use Rattle.schnellru.specs.GetOrInserts.{MakesNewest, got, inserted}
-use Rattle.schnellru.specs.Reservations.{Reserve, too_many, enough_room, no_such_table, remade, no_memory_to_remake}
-use Rattle.schnellru.specs.Reservations.{denied_room, reserved, no_memory_to_grow}
+use Rattle.schnellru.specs.Reservations.{Reserve, unchanged, remade, reserved, asked_only}
 use Rattle.schnellru.proofs.TableSizes.Growth.{full_capacity-at_most, full_capacity-double, target_doubles}
 use Rattle.schnellru.proofs.TableSizes.Growth.{target_usage}
 use Rattle.schnellru.proofs.Theorems.Potential.{IsBounded, pays_calm}
-use Rattle.schnellru.proofs.Theorems.Moves.{KeepsWay, Keeps, KeepsOffers, leaves_keep, pops_keep}
+use Rattle.schnellru.proofs.Theorems.Moves.{KeepsWay, Keeps, KeepsOffers, leaves_keep, pops_keep, trim_keeps}
 use Rattle.schnellru.proofs.Theorems.TableGrowth.{Calm, IsNextCount, Reaches, Changes, self_calm, limiter_calm}
 use Rattle.schnellru.proofs.Theorems.TableGrowth.{leaves_calm, calm_trans, calm_changes, leaves_changes}
 use Rattle.schnellru.proofs.Theorems.Ways.{insert_changes}
@@ -99,6 +98,9 @@ module _ {K V S H Q : Type 0} {rules : Rules K V S} {names : Q → K → Bool}
       → Changes rules R 0 0 old new
   pop_oldest_changes result new h = leaves_changes rules R 0 old _ new h.state (k.way.popped (contents old))
 
+  pub trim_changes : (new : State K V S H) → Trims rules old new → Changes rules R 0 0 old new
+  trim_changes new h = leaves_changes rules R 0 old _ new h (trim_keeps rules R k.way (contents old))
+
   pub pop_newest_changes : (result : Option (K × V)) (new : State K V S H) → PopNewest rules old result new
       → Changes rules R 0 0 old new
   pop_newest_changes result new h = leaves_changes rules R 0 old _ new h.state (pop_first_keeps k (contents old))
@@ -158,12 +160,9 @@ module _ {K V S H : Type 0} {rules : Rules K V S} {R : Contents K V S → Conten
 
   pub reserve_changes : (result : Result (Unit {0}) ReserveError) (new : State K V S H)
       → Reserve rules n old result new → Grows new
-  reserve_changes result new (enough_room s l r e) = remains new e
-  reserve_changes result new (too_many l r e) = remains new e
-  reserve_changes result new (no_such_table l t r e) = remains new e
+  reserve_changes result new (unchanged why e) = remains new e
   reserve_changes result new (remade l t r m) = reserves old.limiter new _ m (k.self (contents old)) (inl (omega arith))
       (λ ok. omega arith)
-  reserve_changes result new (no_memory_to_remake l t p r e) = remains new e
   reserve_changes result new (reserved l count bytes t g r m) = reserves _ new count m (k.asked bytes (contents old))
       (inr (record {
         bytes = bytes;
@@ -181,8 +180,7 @@ module _ {K V S H : Type 0} {rules : Rules K V S} {R : Contents K V S → Conten
         full_capacity-double j.0 (buckets old) count j.1
             (target_doubles j.0 old.max old.entry_bytes (buckets old) (length old.pairs + n) count bytes j.1 t),
       )
-  reserve_changes result new (no_memory_to_grow l count bytes t g r e) = asks_only bytes new e
-  reserve_changes result new (denied_room l count bytes t d r e) = asks_only bytes new e
+  reserve_changes result new (asked_only l count bytes t f e) = asks_only bytes new e
 
 module _ {K V S H I : Type 0} {rules : Rules K V S} {offers : Offers K V S I} {names : I → K → Bool}
     {R : Contents K V S → Contents K V S → Type 0} (k : KeepsOffers rules offers names R) {hash_of : H → K → ℕ}

@@ -5,18 +5,18 @@ use Rattle.std.proofs.lemmas.Bool.Decides.{nat_tests}
 use Rattle.std.specs.Prelude.{nat_lt}
 use Rattle.lru_limits.specs.Budget.{Budget, by_cost, charges, charges-sums}
 use Rattle.schnellru.specs.GetOrInserts.{got, inserted}
-use Rattle.schnellru.specs.Lists.{is_empty, last, without_first, without_last, lookup_entry}
-use Rattle.schnellru.specs.State.{State, contents, told_of}
+use Rattle.schnellru.specs.Lists.{last, without_first, without_last, lookup_entry}
+use Rattle.schnellru.specs.State.{State, contents, IsWithin, told_of}
 use Rattle.schnellru.specs.Runs.{Step, inserts, makes_newest, gets, removes, pops_oldest, pops_newest, drains, clears}
-use Rattle.schnellru.specs.Runs.{reserves, shrinks, Run, ends, goes_on}
+use Rattle.schnellru.specs.Runs.{reserves, shrinks, trims, Run, ends, goes_on}
 use Rattle.schnellru.specs.Theorems.{IsSummed}
-use Rattle.schnellru.proofs.Theorems.InsertAnswers.{IsWithin}
+use Rattle.schnellru.proofs.Theorems.Fronts.{front_trim}
 use Rattle.schnellru.proofs.Theorems.Limits.{insert_within, total-without}
 use Rattle.schnellru.proofs.Theorems.Moves.{KeepsOffers}
 use Rattle.schnellru.proofs.Theorems.Reservations.{reserved_list}
 use Rattle.schnellru.proofs.Theorems.Runs.{step_changes, step_summed}
 use Rattle.schnellru.proofs.Theorems.Shrinks.{shrunk_list}
-use Rattle.schnellru.proofs.Theorems.Sums.{total, total-is, total-front, split-least, split_last}
+use Rattle.schnellru.proofs.Theorems.Sums.{total, total-is, total-front, total-least, split-least, split_last}
 
 told_limit : {K V : Type 0} (cost : V → ℕ) (pair : Option (K × V)) (b : Budget)
     → (told_of (by_cost cost) pair b).limit ≡ b.limit
@@ -62,13 +62,9 @@ module _ {K V H : Type 0} (cost : V → ℕ) (names : K → K → Bool) (hash_of
     less : total value_cost new.pairs ≤ total value_cost old.pairs → Within
     less h = omega (arith, was, is, same, within, total-is value_cost new.pairs, total-is value_cost old.pairs, h)
 
-    none : (pairs : List (K × V)) → new.pairs ≡ pairs → is_empty pairs ≡ true → Within
-    none [] e h = less (omega (arith, ap (total value_cost) e))
-    none (p ∷ pairs) e h = absurd cc
-
     ended : IsWithin (by_cost cost) (contents new) ⊎ (total value_cost new.pairs ≤ total value_cost old.pairs)
         → Within
-    ended (inl (inl e)) = none new.pairs refl e
+    ended (inl (inl e)) = less (omega (arith, ap (total value_cost) e))
     ended (inl (inr e)) =
         let not_over : nat_lt new.limiter.limit new.limiter.cost ≡ false = e in
         let kept : new.limiter.cost ≤ new.limiter.limit = grind (arith, nat_tests) in
@@ -102,6 +98,12 @@ module _ {K V H : Type 0} (cost : V → ℕ) (names : K → K → Bool) (hash_of
     step_within (reserves n result h) = less
         (omega (arith, ap (total value_cost) (reserved_list _ n old result new h).0))
     step_within (shrinks result h) = less (omega (arith, ap (total value_cost) (shrunk_list old result new h).0))
+    step_within (trims h) = less
+        (omega (
+          arith,
+          ap (λ st. total value_cost st.pairs) h.is,
+          total-least value_cost _ old.pairs (front_trim (by_cost cost) (contents old)),
+        ))
 
   pub step_keeps_cost : (old new : State K V Budget H) → Step (by_cost cost) (charges cost) names hash_of old new
       → IsSummed (λ k v. cost v) (λ b. b.cost) old → old.limiter.cost ≤ old.limiter.limit

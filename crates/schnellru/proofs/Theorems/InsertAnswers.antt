@@ -2,17 +2,17 @@
 use Rattle.std.proofs.Common.{None, ◌≡◌, ℕ, zero, suc, ◌⊎◌, inl, inr, Bool, true, false, cond, not, List, [], ◌∷◌}
 use Rattle.std.proofs.Common.{length, Result, Ok, Err, refl, sym, ap, ◌∙◌, subst, arith}
 use Rattle.std.proofs.lemmas.Bool.{false≢true, true≢false, not-true}
-use Rattle.std.specs.Prelude.{IsErr, Some, IfSome}
+use Rattle.std.specs.Prelude.{IsErr, Some, IfSome, option_map}
 use Rattle.std.specs.declared.alloc.AllocError.{AllocError}
 use Rattle.std.proofs.lemmas.List.{nil_from_length}
 use Rattle.schnellru.proofs.PairLists.Emptiness.{empty-length, is_empty-none}
 use Rattle.lru_limits.specs.Rules.{Rules, Offers}
 use Rattle.lru_limits.specs.Laws.{IsLookup, IsInsertion}
 use Rattle.schnellru.specs.Lists.{is_empty, first, IsFront, lookup, lookup_entry, without}
-use Rattle.schnellru.specs.State.{State, Contents, contents, Leaves, pop, trim, trim_from}
+use Rattle.schnellru.specs.State.{State, Contents, contents, IsWithin, Leaves, pop, trim, trim_from}
 use Rattle.schnellru.specs.Place.{Place, Outcome, placed, refused, no_memory}
 use Rattle.schnellru.specs.Inserts.{Insert, replaced, given_up, no_memory_to_admit, not_admitted, admitted, replacement}
-use Rattle.schnellru.specs.Inserts.{with_replaced, Settles}
+use Rattle.schnellru.specs.Inserts.{with_replaced, unkept_of, Settles}
 use Rattle.schnellru.specs.Theorems.{IsNewest, SaysWhether, Stores, left, given, KeepsValues}
 use Rattle.schnellru.proofs.Maps.LeavingPairs.{length-without_last}
 use Rattle.schnellru.proofs.Maps.Outcomes.{ok-not_err, same_kept}
@@ -22,21 +22,17 @@ use Rattle.schnellru.proofs.Theorems.Ways.{Lands, place_lands}
 use Rattle.schnellru.proofs.PairLists.DistinctKeys.{AreDistinct, absent_without}
 
 module _ {K V S : Type 0} (rules : Rules K V S) where
-  -- nothing is left, or the limiter is not over
-  abbrev pub IsWithin : Contents K V S → Type 0
-  IsWithin c = (is_empty c.pairs ≡ true) ⊎ (rules.is_over_the_limit c.limiter (length c.pairs) ≡ false)
-
-  within_from : (n : ℕ) (c : Contents K V S) → length c.pairs ≡ n → IsWithin (trim_from rules n c)
-  within_from zero c e = inl (is_empty-none c.pairs e)
+  within_from : (n : ℕ) (c : Contents K V S) → length c.pairs ≡ n → IsWithin rules (trim_from rules n c)
+  within_from zero c e = inl (nil_from_length c.pairs e)
   within_from (suc n) c e = go (rules.is_over_the_limit c.limiter (suc n)) refl
       (within_from n (pop rules c) (omega (arith, length-without_last c.pairs)))
     where
-      go : (b : Bool) → rules.is_over_the_limit c.limiter (suc n) ≡ b → IsWithin (trim_from rules n (pop rules c))
-          → IsWithin (cond b (trim_from rules n (pop rules c)) c)
+      go : (b : Bool) → rules.is_over_the_limit c.limiter (suc n) ≡ b → IsWithin rules (trim_from rules n (pop rules c))
+          → IsWithin rules (cond b (trim_from rules n (pop rules c)) c)
       go true h p = p
       go false h p = inr (rw e h)
 
-  pub trim_ends : (c : Contents K V S) → IsWithin (trim rules c)
+  pub trim_ends : (c : Contents K V S) → IsWithin rules (trim rules c)
   unfolding trim
   trim_ends c = within_from (length c.pairs) c refl
 
@@ -46,10 +42,10 @@ module _ {K V S : Type 0} (rules : Rules K V S) where
   unfolding trim
   trim_within c h = go (within_from (length c.pairs) c refl)
     where
-      go : IsWithin (trim_from rules (length c.pairs) c)
+      go : IsWithin rules (trim_from rules (length c.pairs) c)
           → rules.is_over_the_limit (trim_from rules (length c.pairs) c).limiter
           (length (trim_from rules (length c.pairs) c).pairs) ≡ false
-      go (inl e) = absurd (grind (arith, e, h))
+      go (inl e) = absurd (true≢false (sym (ap is_empty e) ∙ h))
       go (inr f) = f
 
   -- what is left and is not empty begins as it did
@@ -191,3 +187,12 @@ module _ {K V S H I : Type 0} (rules : Rules K V S) (offers : Offers K V S I) (n
       value pair (left was found y is) = ap (λ p. p.1) is
           ∙ keeps.replaced old.limiter (length old.pairs) was.0 i was.1 v
       value pair (given a s n) = keeps.given old.limiter (length old.pairs) i v s pair.0 pair.1 n
+
+-- of a key that is there, the value that a pair does not have after an offer is the one that the map does not have
+pub unkept_is : {K V S I : Type 0} (offers : Offers K V S I) (s : S) (i : I) (v : V) (names : K → Bool)
+    (pairs : List (K × V)) {n : ℕ} {unkept : V} (was : K × V) → lookup_entry names pairs ≡ Some was → n ≡ length pairs
+    → unkept ≡ unkept_of (offers.on_replace s n was.0 i was.1 v)
+    → Some unkept ≡ option_map (λ p. unkept_of (offers.on_replace s (length pairs) p.0 i p.1 v)) (lookup_entry names pairs)
+unkept_is offers s i v names pairs was there same e =
+    ap Some (e ∙ ap (λ m. unkept_of (offers.on_replace s m was.0 i was.1 v)) same)
+    ∙ ap (option_map (λ p. unkept_of (offers.on_replace s (length pairs) p.0 i p.1 v))) (sym there)

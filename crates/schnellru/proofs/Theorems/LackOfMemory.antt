@@ -9,6 +9,8 @@ use Rattle.schnellru.specs.State.{State, buckets, room}
 use Rattle.schnellru.specs.Place.{Place, in_bucket, rehashed, grown, not_grown}
 use Rattle.schnellru.specs.Place.{nothing_to_evict, finds_bucket, rehashes, Outcome, placed, refused, no_memory}
 use Rattle.schnellru.specs.Inserts.{Insert, replaced, given_up, no_memory_to_admit, not_admitted, admitted, make_room}
+use Rattle.schnellru.specs.Inserts.{kept_of}
+use Rattle.schnellru.specs.declared.map.insert.Inserted.{Inserted}
 use Rattle.schnellru.specs.Inserts.{Settles, IsShort, LacksMemory}
 use Rattle.schnellru.specs.Lists.{IsFront}
 use Rattle.schnellru.proofs.Theorems.Fronts.{front_same, front_trans, front_make_room}
@@ -90,3 +92,7 @@ module _ {K V S H I : Type 0} {rules : Rules K V S} {offers : Offers K V S I} {n
 pub on_err : {A : Type 0} (result : Result Bool AllocError) → (IsErr result → A) → OnErr result A
 on_err (Ok b) h = tt
 on_err (Err e) h = h refl
+
+pub on_err_kept : {A V : Type 0} (result : Result (Inserted V) AllocError) → (IsErr (kept_of result) → A) → OnErr result A
+on_err_kept (Ok inserted) h = tt
+on_err_kept (Err e) h = h refl

@@ -3,13 +3,12 @@ use Rattle.std.proofs.Common.{◌≡◌, ℕ, suc, ◌+◌, ◌≤◌, ◌⊎◌
 use Rattle.std.proofs.Common.{Option, Some, None, Result, refl, sym, ap, ◌∙◌, subst, arith}
 use Rattle.std.proofs.lemmas.Bool.Decides.{nat_tests}
 use Rattle.std.specs.declared.alloc.AllocError.{AllocError}
-use Rattle.schnellru.proofs.PairLists.Emptiness.{empty-length}
 use Rattle.lru_limits.specs.Rules.{Rules, Offers}
 use Rattle.lru_limits.specs.Stores.{plain, hands_over}
-use Rattle.lru_limits.specs.Limiters.{length_rules, length_offers, memory_rules, all_offers}
+use Rattle.lru_limits.specs.Limiters.{length_rules, length_offers}
 use Rattle.schnellru.specs.Sizes.{usage}
 use Rattle.schnellru.specs.Lists.{last, lookup_entry, without}
-use Rattle.schnellru.specs.State.{State, buckets, contents, told_of}
+use Rattle.schnellru.specs.State.{State, buckets, contents, IsWithin, told_of}
 use Rattle.schnellru.specs.Place.{Outcome, placed, refused, no_memory}
 use Rattle.schnellru.specs.Inserts.{Insert, replaced, given_up, no_memory_to_admit, not_admitted, admitted, Settles}
 use Rattle.schnellru.specs.Theorems.{UsesAtMost}
@@ -19,7 +18,7 @@ use Rattle.schnellru.proofs.Theorems.TableGrowth.{Tables, IsNextCount}
 use Rattle.schnellru.proofs.Theorems.Ways.{insert_changes}
 use Rattle.schnellru.proofs.Theorems.Fronts.{front_make_room}
 use Rattle.schnellru.proofs.Theorems.Sums.{total, total-least, split-least, split_named}
-use Rattle.schnellru.proofs.Theorems.InsertAnswers.{IsWithin, trim_ends, Comes, place_comes}
+use Rattle.schnellru.proofs.Theorems.InsertAnswers.{trim_ends, Comes, place_comes}
 
 module _ {K V : Type 0} (names : K → Bool) where
   pub length-without : (xs : List (K × V)) → length (without names xs) ≤ length xs
@@ -114,7 +113,7 @@ length_at_most : {K V H : Type 0} (rules : Rules K V ℕ) (old new : State K V �
     → IsWithin rules (contents new) ⊎ (total (λ _. 1) new.pairs ≤ total (λ _. 1) old.pairs)
     → length old.pairs ≤ old.limiter
     → length new.pairs ≤ old.limiter
-length_at_most rules old new within same (inl (inl e)) few = omega (arith, empty-length new.pairs e)
+length_at_most rules old new within same (inl (inl e)) few = omega (arith, ap length e)
 length_at_most rules old new within same (inl (inr e)) few = within (length new.pairs)
     (ap (λ s. rules.is_over_the_limit s (length new.pairs)) (sym same) ∙ e)
 length_at_most rules old new within same (inr e) few =
@@ -150,18 +149,3 @@ pub by_length_stays : {K V H : Type 0} (names : K → K → Bool) (hash_of : H �
 by_length_stays names hash_of k v old result new step few =
     length_at_most length_rules old new (λ n e. grind (arith, nat_tests))
     (insert_changes keeps_limiter k v old result new step).moves (insert_within (λ _. 1) step) few
-
--- a limit by memory usage
-pub by_memory_usage_stays : {K V H : Type 0} (names : K → K → Bool) (hash_of : H → K → ℕ) (k : K) (v : V)
-    (old : State K V ℕ H) (result : Result Bool AllocError) (new : State K V ℕ H) →
-    Insert memory_rules all_offers names hash_of k v old result new → UsesAtMost old.limiter old
-    → UsesAtMost old.limiter new
-by_memory_usage_stays names hash_of k v old result new step uses =
-    uses_at_most memory_rules _ 1 0 old new (λ bytes e. grind (arith, nat_tests)) (λ s p. p.1)
-    (insert_changes keeps_limiter k v old result new step).tables uses
-
--- neither changes
-pub plain_stays : {K V H : Type 0} {over grants : ℕ → ℕ → Bool} {admits : ℕ → K → V → Bool} {names : K → K → Bool}
-    {hash_of : H → K → ℕ} (k : K) (v : V) (old : State K V ℕ H) (result : Result Bool AllocError) (new : State K V ℕ H)
-    → Insert (plain over grants) (hands_over admits) names hash_of k v old result new → new.limiter ≡ old.limiter
-plain_stays k v old result new step = (insert_changes keeps_limiter k v old result new step).moves

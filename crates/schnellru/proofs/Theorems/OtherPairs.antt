@@ -8,12 +8,12 @@ use Rattle.lru_limits.specs.Rules.{Rules, Offers}
 use Rattle.schnellru.specs.GetOrInserts.{got, inserted}
 use Rattle.schnellru.specs.Lists.{IsFront, lookup_entry, without, front, after}
 use Rattle.schnellru.specs.Runs.{inserts, makes_newest, gets, removes, pops_oldest, pops_newest, drains, clears}
-use Rattle.schnellru.specs.Runs.{reserves, shrinks, AnyStep, calls, writes, sets_limiter, AreAmong, NamesOnly, StepAmong}
+use Rattle.schnellru.specs.Runs.{reserves, shrinks, trims, AnyStep, calls, writes, sets_limiter, AreAmong, NamesOnly, StepAmong}
 use Rattle.schnellru.specs.Runs.{Run, ends, goes_on}
-use Rattle.schnellru.specs.State.{State}
+use Rattle.schnellru.specs.State.{State, contents}
 use Rattle.schnellru.specs.Theorems.{GivesUp, behind, with_none, without_one, others}
 use Rattle.schnellru.proofs.Theorems.AddedPairs.{reserve_stays}
-use Rattle.schnellru.proofs.Theorems.Fronts.{insert_gives_up, front_same, front_self, front_trans, front_without_last}
+use Rattle.schnellru.proofs.Theorems.Fronts.{insert_gives_up, front_same, front_self, front_trans, front_trim, front_without_last}
 use Rattle.schnellru.proofs.Theorems.Fronts.{found_named}
 use Rattle.schnellru.proofs.Theorems.Shrinks.{shrunk_list}
 
@@ -99,6 +99,9 @@ module _ {K V S H I : Type 0} {rules : Rules K V S} {offers : Offers K V S I} {n
       others_same test new.pairs old.pairs (reserve_stays rules n old new result h)
   step_gives_up old new (calls (shrinks result h)) among =
       others_same test new.pairs old.pairs (shrunk_list old result new h).0
+  step_gives_up old new (calls (trims h)) among =
+      front_trans _ (others_same test new.pairs _ (ap (λ st. st.pairs) h.is))
+      (front_others test _ old.pairs (front_trim rules (contents old)))
   step_gives_up old new (writes named value e) among =
       front_same (ap (λ st. others test st.pairs) e ∙ others_written test named among old.pairs value)
   step_gives_up old new (sets_limiter s e) among = others_same test new.pairs old.pairs (ap (λ st. st.pairs) e)

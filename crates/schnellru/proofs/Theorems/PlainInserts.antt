@@ -5,7 +5,7 @@ use Rattle.std.specs.Prelude.{if◌then◌else◌}
 use Rattle.std.specs.declared.alloc.AllocError.{AllocError}
 use Rattle.lru_limits.specs.Rules.{Rules, Offers}
 use Rattle.schnellru.specs.Lists.{last}
-use Rattle.schnellru.specs.State.{State, Contents, contents, FreesRoom, Leaves, told_of, pop, trim, trim_from}
+use Rattle.schnellru.specs.State.{State, Contents, contents, FreesRoom, Leaves, Trims, told_of, pop, trim, trim_from}
 use Rattle.schnellru.specs.Place.{Place, in_bucket, rehashed, grown, not_grown}
 use Rattle.schnellru.specs.Place.{Evicts, nothing_to_evict, finds_bucket, rehashes, CannotGrow, no_target, denied, OldestLeave}
 use Rattle.schnellru.specs.Place.{Outcome, placed, refused, no_memory, IsPlaced, IsPlacedIfMemory, HasNoBucket, IsOutgrown}
@@ -189,3 +189,9 @@ module _ {K V S H I : Type 0} {rules : Rules K V S} {offers : Offers K V S I} {n
       → Insert (noting rules) (noting_offers offers) names hash_of i v (noted before old) result (noted after new)
       → Insert rules offers names hash_of i v old result new
   plain_insert {before} {after} {old} {new} step = plain_insert_of (noted before old) (noted after new) step
+
+-- and so is a trim
+pub plain_trims : {K V S H : Type 0} (rules : Rules K V S) (before after : List (K × V)) (old new : State K V S H)
+    → Trims (noting rules) (noted before old) (noted after new) → Trims rules old new
+plain_trims rules before after old new step = plain_leaves (noted before old) (noted after new) _
+    (trim rules (contents old)) (plain_trim rules (contents (noted before old))) step

@@ -1,28 +1,40 @@
--- A limit by length and one by memory usage, over runs of calls.
-use Rattle.std.proofs.Common.{ℕ, ◌≤◌, Bool, true, length, Result, sym, ap, subst, arith}
+-- A limit by length and one by memory usage, over runs of calls and writes.
+use Rattle.std.proofs.Common.{◌≡◌, ℕ, ◌≤◌, Bool, length, refl, sym, ap, ◌∙◌, subst, arith, inl, inr}
+use Rattle.std.proofs.lemmas.Map.{length-set_value}
 use Rattle.std.proofs.lemmas.Bool.Decides.{nat_tests}
+use Rattle.lru_limits.specs.Rules.{Rules, Offers}
 use Rattle.lru_limits.specs.Limiters.{length_rules, length_offers, memory_rules, all_offers}
-use Rattle.schnellru.specs.State.{State}
+use Rattle.schnellru.specs.State.{State, contents}
 use Rattle.schnellru.specs.GetOrInserts.{got, inserted}
-use Rattle.schnellru.specs.Reservations.{Reserve}
 use Rattle.schnellru.specs.Runs.{Step, inserts, makes_newest, gets, removes, pops_oldest, pops_newest, drains, clears}
-use Rattle.schnellru.specs.Runs.{reserves, shrinks, Run, ends, goes_on}
+use Rattle.schnellru.specs.Runs.{reserves, shrinks, trims, StepOrWrite, Run, ends, goes_on}
 use Rattle.schnellru.specs.Theorems.{UsesAtMost}
-use Rattle.schnellru.specs.declared.map.reserve.ReserveError.{ReserveError}
 use Rattle.schnellru.proofs.Maps.LeavingPairs.{length-without_first, length-without_last}
 use Rattle.schnellru.proofs.Maps.Promotions.{length-front_pairs}
-use Rattle.schnellru.proofs.Theorems.CallChanges.{reserve_changes}
+use Rattle.schnellru.proofs.Theorems.Fronts.{front_trim, length-front}
 use Rattle.schnellru.proofs.Theorems.Limits.{keeps_limiter, uses_at_most, length-without, by_length_stays}
 use Rattle.schnellru.proofs.Theorems.Reservations.{reserved_list}
 use Rattle.schnellru.proofs.Theorems.Runs.{step_changes}
 use Rattle.schnellru.proofs.Theorems.Shrinks.{shrunk_list}
 
-pub reserve_uses_at_most : {K V H : Type 0} (names : K → K → Bool) (n : ℕ) (old : State K V ℕ H)
-    (result : Result (Unit {0}) ReserveError) (new : State K V ℕ H)
-    → Reserve memory_rules n old result new → UsesAtMost old.limiter old → UsesAtMost old.limiter new
-reserve_uses_at_most names n old result new h = uses_at_most
-    memory_rules _ _ _ old new (λ bytes e. grind (arith, nat_tests)) (λ s p. p.1)
-    (reserve_changes (keeps_limiter {admits = λ _ _ _. true} {names = names}).keeps.way n old result new h).tables
+module _ {K V S H : Type 0} (rules : Rules K V S) (offers : Offers K V S K) (names : K → K → Bool)
+    (hash_of : H → K → ℕ) where
+  -- a run of calls is one in which nothing is written
+  pub nothing_written : {new : State K V S H} (old : State K V S H) → Run (Step rules offers names hash_of) new old
+      → Run (StepOrWrite rules offers names hash_of) new old
+  nothing_written old ends = ends
+  nothing_written old (goes_on mid step sized run) = goes_on mid (inl step) sized (nothing_written mid run)
+
+-- a limiter that no call changes stays as it is
+pub run_keeps_limiter : {K V S H : Type 0} (rules : Rules K V S) (offers : Offers K V S K) (names : K → K → Bool)
+    (hash_of : H → K → ℕ) → ((old new : State K V S H) → Step rules offers names hash_of old new
+    → new.limiter ≡ old.limiter) → (new old : State K V S H) → Run (StepOrWrite rules offers names hash_of) new old
+    → new.limiter ≡ old.limiter
+run_keeps_limiter rules offers names hash_of keeps new old ends = refl
+run_keeps_limiter rules offers names hash_of keeps new old (goes_on mid (inl step) sized r) =
+    run_keeps_limiter rules offers names hash_of keeps new mid r ∙ keeps old mid step
+run_keeps_limiter rules offers names hash_of keeps new old (goes_on mid (inr (test, value, e)) sized r) =
+    run_keeps_limiter rules offers names hash_of keeps new mid r ∙ ap (λ st. st.limiter) e
 
 module _ {K V H : Type 0} (names : K → K → Bool) (hash_of : H → K → ℕ) where
   -- a limit by length
@@ -49,12 +61,22 @@ module _ {K V H : Type 0} (names : K → K → Bool) (hash_of : H → K → ℕ)
     step_stays_short (clears e) = fewer (omega (arith, ap (λ st. length st.pairs) e))
     step_stays_short (reserves n result h) = fewer (omega (arith, ap length (reserved_list _ n old result new h).0))
     step_stays_short (shrinks result h) = fewer (omega (arith, ap length (shrunk_list old result new h).0))
+    step_stays_short (trims h) = fewer (omega (
+      arith,
+      ap (λ st. length st.pairs) h.is,
+      length-front _ old.pairs (front_trim length_rules (contents old)),
+    ))
 
   pub run_stays_short : (new old : State K V ℕ H)
-      → Run (Step length_rules length_offers names hash_of) new old
+      → Run (StepOrWrite length_rules length_offers names hash_of) new old
       → length old.pairs ≤ old.limiter → length new.pairs ≤ old.limiter
   run_stays_short new old ends few = few
-  run_stays_short new old (goes_on mid s sized r) few =
+  run_stays_short new old (goes_on mid (inr (test, value, e)) sized r) few =
+      let same = ap (λ st. st.limiter) e in
+      let as_many = ap (λ st. length st.pairs) e ∙ length-set_value test old.pairs value in
+      subst (λ most. length new.pairs ≤ most) same
+      (run_stays_short new mid r (omega (arith, same, as_many, few)))
+  run_stays_short new old (goes_on mid (inl s) sized r) few =
       let same = (step_changes keeps_limiter old mid s).2.moves in
       subst (λ most. length new.pairs ≤ most) same
       (run_stays_short new mid r
@@ -67,10 +89,15 @@ module _ {K V H : Type 0} (names : K → K → Bool) (hash_of : H → K → ℕ)
       (λ bytes e. grind (arith, nat_tests)) (λ s p. p.1) (step_changes keeps_limiter old new s).2.tables
 
   pub run_uses_at_most : (new old : State K V ℕ H)
-      → Run (Step memory_rules all_offers names hash_of) new old
+      → Run (StepOrWrite memory_rules all_offers names hash_of) new old
       → UsesAtMost old.limiter old → UsesAtMost old.limiter new
   run_uses_at_most new old ends uses = uses
-  run_uses_at_most new old (goes_on mid s sized r) uses =
+  run_uses_at_most new old (goes_on mid (inr (test, value, e)) sized r) uses =
+      let same = ap (λ st. st.limiter) e in
+      subst (λ most. UsesAtMost most new) same
+      (run_uses_at_most new mid r
+      (subst (λ most. UsesAtMost most mid) (sym same) (subst (UsesAtMost old.limiter) (sym e) uses)))
+  run_uses_at_most new old (goes_on mid (inl s) sized r) uses =
       let same = (step_changes keeps_limiter old mid s).2.moves in
       subst (λ most. UsesAtMost most new) same
       (run_uses_at_most new mid r

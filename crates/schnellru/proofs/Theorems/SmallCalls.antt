@@ -1,6 +1,6 @@
 -- What clears, reservations and shrinks make of a map, but for which of its buckets are full.
 use Rattle.std.proofs.Common.{◌≡◌, ℕ, ◌+◌, ◌-◌, ◌^◌, ◌≤◌, Bool, true, false, cond, [], length, Result, Ok, Err, refl}
-use Rattle.std.proofs.Common.{Option, Some, None, sym, ap, ◌∙◌, arith}
+use Rattle.std.proofs.Common.{Option, Some, None, sym, ap, ◌∙◌, arith, inl, inr}
 use Rattle.std.specs.Prelude.{nat_lt, nat_le, is_err, IfSome, if◌then◌else◌}
 use Rattle.std.specs.declared.alloc.AllocError.{AllocError}
 use Rattle.std.proofs.lemmas.Bool.{lt-ltb, le-ltb, le-leb, lt-leb}
@@ -11,8 +11,8 @@ use Rattle.group_table.specs.Sizes.{full_capacity, buckets_for}
 use Rattle.lru_limits.specs.Rules.{Rules}
 use Rattle.schnellru.specs.Calls.{cleared}
 use Rattle.schnellru.specs.Place.{asked, table_for}
-use Rattle.schnellru.specs.Reservations.{Reserve, too_many, enough_room, no_such_table, remade, no_memory_to_remake}
-use Rattle.schnellru.specs.Reservations.{denied_room, reserved, no_memory_to_grow, LacksRoomFor}
+use Rattle.schnellru.specs.Reservations.{LacksRoomFor, Reserve, unchanged, remade, reserved, asked_only, enough_room}
+use Rattle.schnellru.specs.Reservations.{too_many, no_such_table, no_memory_to_remake}
 use Rattle.schnellru.specs.Exact.{LookAlike}
 use Rattle.schnellru.specs.Shrinks.{Shrink, shrink_counted, kept, shrunk, no_memory_to_shrink}
 use Rattle.schnellru.specs.Sizes.{Target, target, no_table, same_table, new_table}
@@ -79,21 +79,21 @@ module _ {K V S H : Type 0} (rules : Rules K V S) (n : ℕ) (old : State K V S H
 
   pub reserve_is : (result : Result (Unit {0}) ReserveError) (new : State K V S H) → Reserve rules n old result new
       → reserve_in rules n (is_memory result) (shape old) ≡ (result, shape new)
-  reserve_is result new (enough_room s l r e) =
+  reserve_is result new (unchanged (enough_room s l r) e) =
       rw (r, lt-ltb (length old.pairs + n) (2 ^ 64) l, le-leb n (room old) s) (ap (λ st. (Ok tt, shape st)) (sym e))
-  reserve_is result new (too_many l r e) =
+  reserve_is result new (unchanged (too_many l r) e) =
       rw (r, le-ltb (length old.pairs + n) (2 ^ 64) l) (ap (λ st. (Err TooLarge, shape st)) (sym e))
-  reserve_is result new (no_such_table l t r e) = lacks_room (is_memory result) l
+  reserve_is result new (unchanged (no_such_table l t r) e) = lacks_room (is_memory result) l
       ∙ rw (t, r) (ap (λ st. (Err TooLarge, shape st)) (sym e))
   reserve_is result new (remade l t r m) = lacks_room (is_memory result) l
       ∙ rw (t, r) (ap (λ sh. (Ok tt, sh)) (sym (moved_shape _ old new m)))
-  reserve_is result new (no_memory_to_remake l t p r e) = lacks_room (is_memory result) l
+  reserve_is result new (unchanged (no_memory_to_remake l t p r) e) = lacks_room (is_memory result) l
       ∙ rw (t, r) (ap (λ st. (Err Memory, shape st)) (sym e))
   reserve_is result new (reserved l count bytes t g r m) = lacks_room (is_memory result) l
       ∙ rw (t, g, r) (ap (λ sh. (Ok tt, sh)) (sym (moved_shape count (asked rules bytes old) new m)))
-  reserve_is result new (no_memory_to_grow l count bytes t g r e) = lacks_room (is_memory result) l
+  reserve_is result new (asked_only l count bytes t (inl (g, r)) e) = lacks_room (is_memory result) l
       ∙ rw (t, g, r) (ap (λ st. (Err Memory, shape st)) (sym e))
-  reserve_is result new (denied_room l count bytes t d r e) = lacks_room (is_memory result) l
+  reserve_is result new (asked_only l count bytes t (inr (d, r)) e) = lacks_room (is_memory result) l
       ∙ rw (t, d, r) (ap (λ st. (Err Refused, shape st)) (sym e))
 
 module _ {K V S H : Type 0} where

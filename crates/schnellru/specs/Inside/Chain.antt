@@ -5,6 +5,7 @@ use Rattle.std.specs.Prelude.{if◌then◌else◌, Option, Some, None, option_ma
 use Rattle.group_table.specs.Bucket.{empty, deleted, full, Slot, IsFull, bucket_at, entry_at, entry_count}
 use Rattle.group_table.specs.Relocation.{Renumbers}
 use Rattle.schnellru.specs.declared.ordered.Entry.{Entry}
+use Rattle.schnellru.specs.declared.ordered.chain.Chain.{Chain}
 
 -- the first of the buckets, and the last
 abbrev pub first_bucket : List ℕ → Option ℕ
@@ -63,19 +64,19 @@ module _ {K V N : Type 0} where
     pub others : (c : ℕ) → c ≢ b → entry_at new c ≡ entry_at old c
 
 module _ {K V N : Type 0} (number : N → ℕ) where
-  -- the entry at a link, where there is one, has another newer link now, and nothing else has changed
-  pub record SetsNewer (old new : List (Slot (Entry K V N))) (at to : N) : Type 0 where
+  -- The entry at a link, if there is one, has another link of one kind now, and nothing else has changed. The kinds are
+  -- told by what they read of an entry.
+  pub record SetsLink (kind other : Entry K V N → N) (old new : List (Slot (Entry K V N))) (at to : N) : Type 0 where
     pub pairs : pair_slots new ≡ pair_slots old
-    pub there : IsFull old (number at) → newer_at new (number at) ≡ Some to
-    pub others : (b : ℕ) → b ≢ number at → newer_at new b ≡ newer_at old b
-    pub older : (b : ℕ) → older_at new b ≡ older_at old b
+    pub there : IsFull old (number at) → option_map kind (entry_at new (number at)) ≡ Some to
+    pub others : (b : ℕ) → b ≢ number at → option_map kind (entry_at new b) ≡ option_map kind (entry_at old b)
+    pub stays : (b : ℕ) → option_map other (entry_at new b) ≡ option_map other (entry_at old b)
 
-  -- the same of the older link
-  pub record SetsOlder (old new : List (Slot (Entry K V N))) (at to : N) : Type 0 where
-    pub pairs : pair_slots new ≡ pair_slots old
-    pub there : IsFull old (number at) → older_at new (number at) ≡ Some to
-    pub others : (b : ℕ) → b ≢ number at → older_at new b ≡ older_at old b
-    pub newer : (b : ℕ) → newer_at new b ≡ newer_at old b
+  abbrev pub SetsNewer : (old new : List (Slot (Entry K V N))) (at to : N) → Type 0
+  SetsNewer = SetsLink (λ entry. entry.newer) (λ entry. entry.older)
+
+  abbrev pub SetsOlder : (old new : List (Slot (Entry K V N))) (at to : N) → Type 0
+  SetsOlder = SetsLink (λ entry. entry.older) (λ entry. entry.newer)
 
 module _ {N : Type 0} (number : N → ℕ) (none : N) (links : List N) where
   -- the link to where the bucket of a link has moved
@@ -128,15 +129,21 @@ module _ {K V N : Type 0} (number : N → ℕ) (link : ℕ → N) (none : N) whe
     pub same : length slots ≡ length before
     pub others : (c : ℕ) → c ≢ b → bucket_at slots c ≡ bucket_at before c
 
-  -- some buckets are chained, this one among them
-  abbrev pub InChain : List (Slot (Entry K V N)) → N → N → ℕ → Type 0
-  InChain slots newest oldest b = (order : List ℕ) × IsChain slots newest oldest order × Contains order b
+  -- the same of a chain: its links keep the order, or a bucket is to leave it
+  abbrev pub KeepsOrder : Chain K V N → List ℕ → Type 0
+  KeepsOrder chain = IsChain chain.table.slots chain.newest chain.oldest
 
-  -- some buckets are chained, and this one is not among them
-  abbrev pub OutOfChain : List (Slot (Entry K V N)) → N → N → ℕ → Type 0
-  OutOfChain slots newest oldest b = (order : List ℕ) × IsChain slots newest oldest order × (Contains order b → ⊥)
+  abbrev pub HasGap : Chain K V N → List ℕ → ℕ → N → N → Type 0
+  HasGap chain = IsGap chain.table.slots chain.newest chain.oldest
 
-  -- the entries have moved into these slots, and still have the links of the table before
-  abbrev pub Moved : List (Slot (Entry K V N)) → N → N → List N → Type 0
-  Moved slots newest oldest links = (before : List (Slot (Entry K V N))) × (order : List ℕ)
-      × IsWhole before newest oldest order × Renumbers number none before slots links
+  -- the links keep an order of some buckets, this one among them, or not among them
+  abbrev pub InChain : Chain K V N → ℕ → Type 0
+  InChain chain b = (order : List ℕ) × KeepsOrder chain order × Contains order b
+
+  abbrev pub OutOfChain : Chain K V N → ℕ → Type 0
+  OutOfChain chain b = (order : List ℕ) × KeepsOrder chain order × (Contains order b → ⊥)
+
+  -- the entries have moved into the slots, and still have the links of the table before
+  abbrev pub Moved : Chain K V N → List N → Type 0
+  Moved chain links = (before : List (Slot (Entry K V N))) × (order : List ℕ)
+      × IsWhole before chain.newest chain.oldest order × Renumbers number none before chain.table.slots links

@@ -3,7 +3,7 @@
 ghost use Rattle.std.specs.Prelude.{◌≡◌, ℕ, ◌≤◌, Bool, length};
 ghost use Rattle.schnellru.specs.Lists.{IsFront};
 ghost use Rattle.schnellru.specs.State.{State, IsSized, IsMap, empty_map};
-ghost use Rattle.schnellru.specs.Runs.{Step, AnyStep, StepAmong, Run};
+ghost use Rattle.schnellru.specs.Runs.{Step, StepOrWrite, AnyStep, StepAmong, Run};
 ghost use Rattle.schnellru.specs.Theorems.{PaysForMoves, UsesAtMost, IsSummed, others};
 
 use lru_limits::{
@@ -56,27 +56,27 @@ pub fn runs_give_up_the_oldest<
         IsFront (others test new.pairs) (others test old.pairs) }
 {}
 
-/// With `ByLength` there are at most `max_length` pairs after any calls, if there were no more before. The limiter
-/// stays as it is.
+/// With `ByLength` there are at most `max_length` pairs after any calls and writes of values, if there were no more
+/// before. The limiter stays as it is.
 pub fn runs_keep_the_length<K: Eq + Hash + Drop, V: Drop, S: KeyHasher<K>>()
     ensures length { (old new : State K V ByLength S) →
-        Run (Step ⟦<ByLength as Limiter<K, V>>⟧.rules ⟦<ByLength as Insertion<K, V, K>>⟧.offers K.eq
+        Run (StepOrWrite ⟦<ByLength as Limiter<K, V>>⟧.rules ⟦<ByLength as Insertion<K, V, K>>⟧.offers K.eq
         S.hash_of) new old →
         length old.pairs ≤ old.limiter → length new.pairs ≤ old.limiter }
     ensures limiter { (old new : State K V ByLength S) →
-        Run (Step ⟦<ByLength as Limiter<K, V>>⟧.rules ⟦<ByLength as Insertion<K, V, K>>⟧.offers K.eq
+        Run (StepOrWrite ⟦<ByLength as Limiter<K, V>>⟧.rules ⟦<ByLength as Insertion<K, V, K>>⟧.offers K.eq
         S.hash_of) new old → new.limiter ≡ old.limiter }
 {}
 
-/// With `ByMemoryUsage` the table uses at most `max_memory_usage` bytes after any calls, if it used no more before. The
-/// limiter stays as it is.
+/// With `ByMemoryUsage` the table uses at most `max_memory_usage` bytes after any calls and writes of values, if it used
+/// no more before. The limiter stays as it is.
 pub fn runs_keep_the_memory_usage<K: Eq + Hash + Drop, V: Drop, S: KeyHasher<K>>()
     ensures usage { (old new : State K V ByMemoryUsage S) →
-        Run (Step ⟦<ByMemoryUsage as Limiter<K, V>>⟧.rules ⟦<ByMemoryUsage as Insertion<K, V, K>>⟧.offers K.eq
+        Run (StepOrWrite ⟦<ByMemoryUsage as Limiter<K, V>>⟧.rules ⟦<ByMemoryUsage as Insertion<K, V, K>>⟧.offers K.eq
         S.hash_of) new old →
         UsesAtMost old.limiter old → UsesAtMost old.limiter new }
     ensures limiter { (old new : State K V ByMemoryUsage S) →
-        Run (Step ⟦<ByMemoryUsage as Limiter<K, V>>⟧.rules ⟦<ByMemoryUsage as Insertion<K, V, K>>⟧.offers K.eq
+        Run (StepOrWrite ⟦<ByMemoryUsage as Limiter<K, V>>⟧.rules ⟦<ByMemoryUsage as Insertion<K, V, K>>⟧.offers K.eq
         S.hash_of) new old → new.limiter ≡ old.limiter }
 {}
 

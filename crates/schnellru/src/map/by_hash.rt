@@ -39,7 +39,7 @@ impl<K: Eq + Hash, V, L: Limiter<K, V>, S: KeyHasher<K>> LruMap<K, V, L, S> {
         ensures map { (key : K) (last : V) → IsMap K.eq (written (K.eq key) last (promoted (K.eq key) self.old)) }
     {
         let b = self.entries.find_by(hash, is_eq)?;
-        self.promote(b);
+        self.promote_at(b);
         Some(&mut self.entries.pair_mut(b).value)
     }
 

@@ -1,5 +1,5 @@
 //! The length, the capacity, the memory and the limiter of a map.
-ghost use Rattle.std.specs.Prelude.{◌≡◌, ◌+◌, length, Some};
+ghost use Rattle.std.specs.Prelude.{◌≡◌, ◌+◌, ◌<◌, length, Some};
 ghost use Rattle.std.specs.Borrow.{sem};
 ghost use Rattle.schnellru.specs.Lists.{is_empty};
 ghost use Rattle.schnellru.specs.Sizes.{usage, IsGreatestUsage};
@@ -16,6 +16,10 @@ impl<K: Eq + Hash, V, L: Limiter<K, V>, S: KeyHasher<K>> LruMap<K, V, L, S> {
     ghost use Rattle.schnellru.specs.Lending.Values.{lends_limiter};
 
     /// Returns the number of entries. Cost: `O(1)`.
+    ///
+    /// ```
+    /// assert_eq!(rt; map.len(), 3);
+    /// ```
     #[inline]
     pub fn len(&self) -> usize
         ensures len { result ≡ length self.now.pairs }
@@ -25,6 +29,10 @@ impl<K: Eq + Hash, V, L: Limiter<K, V>, S: KeyHasher<K>> LruMap<K, V, L, S> {
     }
 
     /// Returns whether the map is empty. Cost: `O(1)`.
+    ///
+    /// ```
+    /// assert!(rt; map.is_empty());
+    /// ```
     #[inline]
     pub fn is_empty(&self) -> bool
         ensures { result ≡ is_empty self.now.pairs }
@@ -36,6 +44,11 @@ impl<K: Eq + Hash, V, L: Limiter<K, V>, S: KeyHasher<K>> LruMap<K, V, L, S> {
     ///
     /// It does not depend on the limiter. It may fall when an entry leaves a table of more than 16 buckets. Cost:
     /// `O(1)`.
+    ///
+    /// ```
+    /// assert_eq!(rt; map.try_reserve(7), Ok(()));
+    /// assert_eq!(rt; (map.guaranteed_capacity(), map.len()), (7, 0));
+    /// ```
     pub fn guaranteed_capacity(&self) -> usize
         ensures { result ≡ length self.now.pairs + room self.now }
     {
@@ -47,10 +60,14 @@ impl<K: Eq + Hash, V, L: Limiter<K, V>, S: KeyHasher<K>> LruMap<K, V, L, S> {
     ///
     /// An entry counts as the bytes that the constructor was given. 4 buckets of 16 bytes are 64 + 4 + 16 = 84. Cost:
     /// `O(1)`.
+    ///
+    /// ```
+    /// assert!(rt; map.len() == 3 && map.memory_usage() == 84 && map.peek(&1).is_none());
+    /// ```
     pub fn memory_usage(&self) -> usize
         ensures { usage self.now.entry_bytes (buckets self.now) ≡ Some result }
     {
-        let buckets = self.entries.buckets();
+        let buckets = self.bucket_count();
         if buckets == 0 {
             return 0;
         }
@@ -72,10 +89,28 @@ impl<K: Eq + Hash, V, L: Limiter<K, V>, S: KeyHasher<K>> LruMap<K, V, L, S> {
     }
 
     /// Returns the limiter. Cost: `O(1)`.
+    ///
+    /// ```
+    /// assert_eq!(rt; map.limiter().max_length(), 1);
+    /// ```
     pub fn limiter(&self) -> &L
         ensures { result.now ≡ self.now.limiter }
     {
         &self.limiter
+    }
+
+    /// Returns what builds the hashers of keys. With it, `hash_named` gives the hash of a key. Cost: `O(1)`.
+    ///
+    /// ```
+    /// let hash = map.hasher().hash_named(&5);
+    /// assert!(rt; map.insert_hashed(hash, 5, 50, &mut |_, _| {})?.kept);
+    /// ```
+    ///
+    /// After std's `HashMap::hasher`; schnellru has no such call.
+    pub fn hasher(&self) -> &S
+        ensures { result.now ≡ self.now.hasher }
+    {
+        &self.hasher
     }
 
     /// Lends the limiter for writing. A lower limit takes effect at the next insert: nothing is evicted before.
@@ -99,6 +134,36 @@ impl<K: Eq + Hash, V, L: Limiter<K, V>, S: KeyHasher<K>> LruMap<K, V, L, S> {
 }
 
 /// Shows the number of entries alone, as `LruMap { len: 3, .. }`.
+impl<K: Eq + Hash, V, L: Limiter<K, V>, S: KeyHasher<K>> LruMap<K, V, L, S> {
+    // Returns the number of buckets, all of which links reach.
+    #[inline]
+    pub(super) fn bucket_count(&self) -> usize
+        ensures count { result ≡ buckets self.now }
+        ensures reached { result < L.LinkType.number L.LinkType.MAX }
+        ensures max { self.now.max ≡ L.LinkType.number L.LinkType.MAX }
+        ensures map { IsMap K.eq self.now }
+    {
+        self.entries.buckets()
+    }
+
+    // Returns how many entries the table takes before it is rehashed or grows.
+    #[inline]
+    pub(super) fn growth_left(&self) -> usize
+        ensures room { result ≡ room self.now }
+        ensures map { IsMap K.eq self.now }
+    {
+        self.entries.room()
+    }
+
+    // Returns whether the limiter is over its limit.
+    #[inline]
+    pub(super) fn is_over_the_limit(&self) -> bool
+        ensures { result ≡ L.rules.is_over_the_limit self.now.limiter (length self.now.pairs) }
+    {
+        self.limiter.is_over_the_limit(self.entries.len())
+    }
+}
+
 impl<K: Eq + Hash, V, L: Limiter<K, V>, S: KeyHasher<K>> fmt::Debug for LruMap<K, V, L, S> {
     fn fmt<W: fmt::Write>(&self, f: &mut fmt::Formatter<W>) -> fmt::Result {
         let len = self.len();

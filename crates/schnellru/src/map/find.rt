@@ -1,10 +1,11 @@
-// What every look-up begins with: the search for a key, and the promotion of its pair.
+// What every look-up begins with: the search for a key. And what is done then: its pair is promoted, or taken out.
 ghost use Rattle.std.specs.Prelude.{◌≡◌, Bool, Some, None, IfSome, IfNone, IsTrue, Contains};
 ghost use Rattle.schnellru.specs.Lists.{lookup_entry, place_of};
 ghost use Rattle.schnellru.specs.State.{IsMap};
-ghost use Rattle.schnellru.specs.Calls.{promoted};
+ghost use Rattle.schnellru.specs.Calls.{promoted, RemoveEntry};
 
 use crate::map::LruMap;
+use crate::map::leave::take_out;
 use crate::ordered::Pair;
 use lru_limits::{KeyHasher, Limiter, LookupKey};
 use std::hash::Hash;
@@ -45,12 +46,23 @@ impl<K: Eq + Hash, V, L: Limiter<K, V>, S: KeyHasher<K>> LruMap<K, V, L, S> {
 
     // Makes the pair in a bucket the newest.
     #[inline]
-    pub(super) fn promote(&mut self, b: usize)
+    pub(super) fn promote_at(&mut self, b: usize)
         requires { Contains self.old.places b }
         ensures promoted { (names : K → Bool) → ((x y : K) → IsTrue (names x) → names y ≡ K.eq x y) →
             place_of names self.old.pairs self.old.places ≡ Some b → self.new ≡ promoted names self.old }
         ensures there { Contains self.new.places b }
     {
         self.entries.promote(b);
+    }
+
+    // Takes out the pair in a bucket, and notifies the limiter. Returns what the limiter leaves of the pair.
+    #[inline]
+    pub(super) fn take_at(&mut self, b: usize) -> (K, V)
+        requires { Contains self.old.places b }
+        ensures { (names : K → Bool) → ((x y : K) → IsTrue (names x) → names y ≡ K.eq x y) →
+            place_of names self.old.pairs self.old.places ≡ Some b →
+            RemoveEntry L.rules names self.old (Some result) self.new }
+    {
+        take_out(&mut self.entries, &mut self.limiter, b, false)
     }
 }

@@ -114,7 +114,7 @@ impl<K: Eq + Hash + Drop, V: Drop, L: Limiter<K, V>, S: KeyHasher<K>> LruMap<K, 
         let hash = self.hasher.hash_named(&key);
         match self.find_hashed(hash, &key) {
             Some(b) => {
-                self.promote(b);
+                self.promote_at(b);
                 Ok(true)
             }
             None => self.insert_new(hash, key, make(), &mut |_, _| {}),
@@ -223,7 +223,7 @@ impl<K: Eq + Hash + Drop, V: Drop, L: Limiter<K, V>, S: KeyHasher<K>> LruMap<K, 
         let hash = self.hasher.hash_named(&key);
         match self.find_hashed(hash, &key) {
             Some(b) => {
-                self.promote(b);
+                self.promote_at(b);
                 Ok(true)
             }
             None => {

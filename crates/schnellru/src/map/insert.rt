@@ -1,9 +1,10 @@
 //! `insert` and `insert_with`.
-ghost use Rattle.std.specs.Prelude.{◌≡◌, ◌⊎◌, ℕ, ◌+◌, true, false, not, length, None, Some, IfSome, Ok, OnErr, List};
+ghost use Rattle.std.specs.Prelude.{◌≡◌, ◌⊎◌, ℕ, ◌+◌, true, false, not, length, None, Some, IfSome, IfOk, Ok, OnErr, List};
 ghost use Rattle.std.specs.Prelude.{if◌then◌else◌, IsTrue};
 ghost use Rattle.schnellru.specs.Lists.{first, lookup_entry, is_empty, IsFront};
 ghost use Rattle.schnellru.specs.State.{contents, trim, Leaves, IsMap};
-ghost use Rattle.schnellru.specs.Inserts.{Insert, PlacesNew, PlacesAndTrims, LacksMemory, make_room};
+ghost use Rattle.schnellru.specs.Inserts.{Insert, PlacesNew, PlacesAndTrims, LacksMemory, make_room, kept_of};
+ghost use Rattle.schnellru.specs.Inserts.{unkept_value};
 ghost use Rattle.schnellru.specs.Place.{HasNoBucket};
 ghost use Rattle.schnellru.specs.Theorems.{SaysWhether, Stores};
 ghost use Rattle.schnellru.specs.HandedOver.{noting, noting_offers, noted, Takes, InsertHands};
@@ -14,6 +15,20 @@ use crate::map::replace::replace;
 use lru_limits::{Insertion, KeyHasher, Limiter, LookupKey};
 use std::alloc::AllocError;
 use std::hash::Hash;
+
+/// What an insert did, with the value that the map does not keep.
+///
+/// ```
+/// let inserted = map.insert_full(1, 11, &mut |_, _| {})?;
+/// assert_eq!(rt; (inserted.kept, inserted.unkept), (true, Some(10)));
+/// ```
+#[derive(Clone, Copy, Debug, Drop, PartialEq, Eq)]
+pub struct Inserted<V> {
+    /// Whether the key is in the map.
+    pub kept: bool,
+    /// If the key was there, its old value, or the new one, if the limiter rejected it.
+    pub unkept: Option<V>,
+}
 
 impl<K: Eq + Hash + Drop, V: Drop, L: Limiter<K, V>, S: KeyHasher<K>> LruMap<K, V, L, S> {
     /// Inserts a key with a value, as the newest entry. Returns whether the key is in the map then.
@@ -59,7 +74,9 @@ impl<K: Eq + Hash + Drop, V: Drop, L: Limiter<K, V>, S: KeyHasher<K>> LruMap<K, 
     {
         self.insert_with(key, value, &mut |_, _| {})
     }
+}
 
+impl<K: Eq + Hash, V: Drop, L: Limiter<K, V>, S: KeyHasher<K>> LruMap<K, V, L, S> {
     /// The same as `insert`, and passes each entry that leaves to the callback, as the limiter leaves it.
     ///
     /// These are the evicted entries, oldest first, the entry whose new value is rejected, and the new entry if it
@@ -99,39 +116,156 @@ impl<K: Eq + Hash + Drop, V: Drop, L: Limiter<K, V>, S: KeyHasher<K>> LruMap<K, 
         ensures keeps { OnErr result (IsFront self.new.pairs self.old.pairs) }
         ensures map { IsMap K.eq self.new }
     {
+        match self.insert_full(key, value, sink) {
+            Ok(inserted) => Ok(inserted.kept),
+            Err(error) => Err(error),
+        }
+    }
+}
+
+impl<K: Eq + Hash, V, L: Limiter<K, V>, S: KeyHasher<K>> LruMap<K, V, L, S> {
+    /// The same as `insert_with`, and returns the value that the map does not keep, if the key is there: the old one, or
+    /// the new one if the limiter rejects it. It is as the limiter leaves it.
+    ///
+    /// So no value is dropped: an entry that leaves or cannot be stored is passed to the callback. A new element that
+    /// `on_insert` rejects belongs to the limiter, which drops it.
+    ///
+    /// ```
+    /// let inserted = map.insert_full(1, 11, &mut |_, _| {})?;
+    /// assert_eq!(rt; (inserted.kept, inserted.unkept), (true, Some(10)));
+    /// ```
+    ///
+    /// Cost: as `insert_with`.
+    ///
+    /// # Errors
+    ///
+    /// Fails as `insert_with` does.
+    ///
+    /// After `insert_full` of the crate `indexmap`; schnellru has no such call.
+    #[inline(always)]
+    pub fn insert_full<I: LookupKey<K>, F: FnMut(K, V)>(
+        &mut self,
+        key: I,
+        value: V,
+        sink: &mut F,
+    ) -> Result<Inserted<V>, AllocError>
+    where
+        L: Insertion<K, V, I>,
+        requires callable { F.IsAlwaysCallable sink.old }
+        ensures step { Insert L.rules L.offers I.names S.hash_of key value self.old (kept_of result) self.new }
+        ensures unkept { IfOk result (λ inserted. inserted.unkept
+            ≡ unkept_value L.rules L.offers I.names key value (contents self.old)) }
+        ensures handed { (handed : List (K × V)) × Takes F.FnMut sink.old handed sink.new
+            × InsertHands L.rules L.offers I.names S.hash_of key value self.old (kept_of result) handed self.new }
+        ensures callable { F.IsAlwaysCallable sink.new }
+        ensures says { SaysWhether L.rules (I.names key) (kept_of result) self.new }
+        ensures stores { kept_of result ≡ Ok true
+            → IfSome (first self.new.pairs) (Stores L.rules L.offers I.names key value self.old) }
+        ensures lacks { OnErr result
+            (LacksMemory L.rules L.offers I.names S.hash_of key value self.old self.new) }
+        ensures keeps { OnErr result (IsFront self.new.pairs self.old.pairs) }
+        ensures map { IsMap K.eq self.new }
+    {
         let hash = self.hasher.hash_named(&key);
-        let answer = self.insert_hashed(hash, key, value, sink);
-        // Nothing at run time: it opens the map, whose invariant is the clause `map`.
-        let _ = &self.entries;
-        answer
+        self.insert_hashed(hash, key, value, sink)
     }
 
-    // Inserts a key that has this hash.
+    /// The same as `insert_full` for a key whose hash is known.
+    ///
+    /// The hash must be the key's by the map's hasher, as `map.hasher().hash_named(&key)` returns it. The prover checks
+    /// that, so no caller can insert a key under another hash.
+    ///
+    /// ```
+    /// let hash = map.hasher().hash_named(&5);
+    /// assert!(rt; map.insert_hashed(hash, 5, 50, &mut |_, _| {})?.kept);
+    /// ```
+    ///
+    /// Cost: as `insert_full`, without hashing.
+    ///
+    /// # Errors
+    ///
+    /// Fails as `insert_full` does.
+    ///
+    /// After `RawEntryMut::insert_hashed_nocheck` of the crate `hashlink`; schnellru has no such call.
     #[inline(always)]
-    fn insert_hashed<I: LookupKey<K>, F: FnMut(K, V)>(
+    pub fn insert_hashed<I: LookupKey<K>, F: FnMut(K, V)>(
         &mut self,
         hash: u64,
         key: I,
         value: V,
         sink: &mut F,
-    ) -> Result<bool, AllocError>
+    ) -> Result<Inserted<V>, AllocError>
+    where
+        L: Insertion<K, V, I>,
+        requires callable { F.IsAlwaysCallable sink.old }
+        requires hash { (k : K) → IsTrue (I.names key k) → hash ≡ S.hash_of self.old.hasher k }
+        ensures step { Insert L.rules L.offers I.names S.hash_of key value self.old (kept_of result) self.new }
+        ensures unkept { IfOk result (λ inserted. inserted.unkept
+            ≡ unkept_value L.rules L.offers I.names key value (contents self.old)) }
+        ensures handed { (handed : List (K × V)) × Takes F.FnMut sink.old handed sink.new
+            × InsertHands L.rules L.offers I.names S.hash_of key value self.old (kept_of result) handed self.new }
+        ensures callable { F.IsAlwaysCallable sink.new }
+        ensures says { SaysWhether L.rules (I.names key) (kept_of result) self.new }
+        ensures stores { kept_of result ≡ Ok true
+            → IfSome (first self.new.pairs) (Stores L.rules L.offers I.names key value self.old) }
+        ensures lacks { OnErr result
+            (LacksMemory L.rules L.offers I.names S.hash_of key value self.old self.new) }
+        ensures keeps { OnErr result (IsFront self.new.pairs self.old.pairs) }
+        ensures map { IsMap K.eq self.new }
+    {
+        // Nothing at run time: it opens the map, whose invariant the clauses need.
+        let _ = &self.entries;
+        let inserted = self.insert_or_replace(hash, key, value, sink);
+        let _ = &self.entries;
+        inserted
+    }
+
+    // Inserts a key that has this hash.
+    #[inline(always)]
+    fn insert_or_replace<I: LookupKey<K>, F: FnMut(K, V)>(
+        &mut self,
+        hash: u64,
+        key: I,
+        value: V,
+        sink: &mut F,
+    ) -> Result<Inserted<V>, AllocError>
     where
         L: Insertion<K, V, I>,
         requires callable { F.IsAlwaysCallable sink.old }
         requires hash { (k : K) → IsTrue (I.names key k) → hash ≡ S.hash_of self.old.hasher k }
         ensures handed { Hands F.FnMut sink.old sink.new (λ before after. Insert (noting L.rules)
             (noting_offers L.offers) I.names S.hash_of key value
-            (noted before self.old) result (noted after self.new)) }
+            (noted before self.old) (kept_of result) (noted after self.new)) }
+        ensures unkept { IfOk result (λ inserted. inserted.unkept
+            ≡ unkept_value L.rules L.offers I.names key value (contents self.old)) }
         ensures callable { F.IsAlwaysCallable sink.new }
     {
         match self.find_hashed(hash, &key) {
             Some(b) => {
-                if !replace(&mut self.entries, &mut self.limiter, b, key, value, sink) {
-                    return Ok(false);
+                let (accepted, unkept) = replace(
+                    &mut self.entries,
+                    &mut self.limiter,
+                    b,
+                    key,
+                    value,
+                    sink,
+                );
+                if !accepted {
+                    return Ok(Inserted {
+                        kept: false,
+                        unkept: Some(unkept),
+                    });
                 }
-                Ok(self.evict_over_limit(sink))
+                let kept = self.evict_over_limit(sink);
+                Ok(Inserted {
+                    kept,
+                    unkept: Some(unkept),
+                })
             }
-            None => self.insert_new(hash, key, value, sink),
+            None => match self.insert_new(hash, key, value, sink) {
+                Ok(kept) => Ok(Inserted { kept, unkept: None }),
+                Err(error) => Err(error),
+            },
         }
     }
 

@@ -1,9 +1,9 @@
 //! What leaves a map: removals, a clear, and evictions. The limiter is notified of each.
-ghost use Rattle.std.specs.Prelude.{◌≡◌, ℕ, ◌<◌, true, not, length, Some};
+ghost use Rattle.std.specs.Prelude.{◌≡◌, ℕ, ◌<◌, true, not, length, Some, IsTrue};
 ghost use Rattle.group_table.specs.Bucket.{IsFull};
 ghost use Rattle.schnellru.specs.Lists.{is_empty};
 ghost use Rattle.schnellru.specs.State.{contents, told_of, trim, Leaves};
-ghost use Rattle.schnellru.specs.Calls.{left_of, Remove, PopOldest, PopNewest, cleared};
+ghost use Rattle.schnellru.specs.Calls.{left_of, Remove, RemoveEntry, PopOldest, PopNewest, cleared};
 ghost use Rattle.schnellru.specs.Inserts.{make_room};
 ghost use Rattle.schnellru.specs.HandedOver.{noting, noted};
 ghost use Rattle.schnellru.specs.Inside.Chain.{last_bucket};
@@ -48,7 +48,26 @@ impl<K: Eq + Hash, V, L: Limiter<K, V>, S: KeyHasher<K>> LruMap<K, V, L, S> {
         ensures step { PopNewest L.rules self.old result self.new }
     {
         let b = self.entries.newest()?;
-        Some(take_out(&mut self.entries, &mut self.limiter, b))
+        Some(take_out(&mut self.entries, &mut self.limiter, b, false))
+    }
+
+    /// Removes a key. Returns the stored key and its value, as the limiter leaves them. The other entries keep their
+    /// order.
+    ///
+    /// ```
+    /// assert_eq!(rt; map.remove_entry(&1), Some((1, 10)));
+    /// assert_eq!(rt; map.remove_entry(&1), None);
+    /// ```
+    ///
+    /// Cost: `O(1)` expected.
+    ///
+    /// After std's `HashMap::remove_entry`; schnellru has no such call.
+    #[inline]
+    pub fn remove_entry<Q: LookupKey<K>>(&mut self, key: &Q) -> Option<(K, V)>
+        ensures step { RemoveEntry L.rules (Q.names key.now) self.old result self.new }
+    {
+        let b = self.find(key)?;
+        Some(self.take_at(b))
     }
 }
 
@@ -66,8 +85,7 @@ impl<K: Eq + Hash + Drop, V, L: Limiter<K, V>, S: KeyHasher<K>> LruMap<K, V, L, 
     pub fn remove<Q: LookupKey<K>>(&mut self, key: &Q) -> Option<V>
         ensures step { Remove L.rules (Q.names key.now) self.old result self.new }
     {
-        let b = self.find(key)?;
-        let (_, value) = take_out(&mut self.entries, &mut self.limiter, b);
+        let (_, value) = self.remove_entry(key)?;
         Some(value)
     }
 }
@@ -100,11 +118,11 @@ impl<K: Eq + Hash, V, L: Limiter<K, V>, S: KeyHasher<K>> LruMap<K, V, L, S> {
         ensures { PopOldest L.rules self.old (Some result) self.new }
     {
         let b = self.entries.oldest();
-        take_out_last(&mut self.entries, &mut self.limiter, b)
+        take_out(&mut self.entries, &mut self.limiter, b, true)
     }
 }
 
-impl<K: Eq + Hash + Drop, V: Drop, L: Limiter<K, V>, S: KeyHasher<K>> LruMap<K, V, L, S> {
+impl<K: Eq + Hash, V, L: Limiter<K, V>, S: KeyHasher<K>> LruMap<K, V, L, S> {
     // Evicts the oldest pair, if the limiter would be over with one more.
     #[inline]
     pub(super) fn make_room<F: FnMut(K, V)>(&mut self, sink: &mut F)
@@ -129,7 +147,7 @@ impl<K: Eq + Hash + Drop, V: Drop, L: Limiter<K, V>, S: KeyHasher<K>> LruMap<K, 
             (trim (noting L.rules) (contents (noted before self.old))) (noted after self.new)) }
         ensures callable { F.IsAlwaysCallable sink.new }
     {
-        if self.limiter.is_over_the_limit(self.entries.len()) {
+        if self.is_over_the_limit() {
             self.evict_while_over(sink)
         } else {
             true
@@ -153,41 +171,28 @@ impl<K: Eq + Hash + Drop, V: Drop, L: Limiter<K, V>, S: KeyHasher<K>> LruMap<K, 
             if self.is_empty() {
                 return false;
             }
-            if !self.limiter.is_over_the_limit(self.entries.len()) {
+            if !self.is_over_the_limit() {
                 return true;
             }
         }
     }
 }
 
-// Takes the pair out of a full bucket, and notifies the limiter.
+// Takes the pair out of a full bucket, which is known to be the oldest if `last`, and notifies the limiter.
 #[inline]
 pub(super) fn take_out<K: Eq + Hash, V, L: Limiter<K, V>>(
     entries: &mut OrderedTable<K, V, L::LinkType>,
     limiter: &mut L,
     b: usize,
+    last: bool,
 ) -> (K, V)
-    requires { IsFull entries.old.slots b }
+    requires full { IsFull entries.old.slots b }
+    requires last { IsTrue last → last_bucket entries.old.order ≡ Some b }
     ensures taken { IsTakenOut L.rules b entries.old entries.new limiter.old result limiter.new }
     ensures linked { IsLinked entries.new }
     ensures fits { (hash_of : K → ℕ) → KeysFit hash_of entries.old.slots → KeysFit hash_of entries.new.slots }
 {
-    tell(limiter, entries.take(b))
-}
-
-// The same for the oldest pair, which is in this bucket.
-#[inline]
-pub(super) fn take_out_last<K: Eq + Hash, V, L: Limiter<K, V>>(
-    entries: &mut OrderedTable<K, V, L::LinkType>,
-    limiter: &mut L,
-    b: usize,
-) -> (K, V)
-    requires { last_bucket entries.old.order ≡ Some b }
-    ensures taken { IsTakenOut L.rules b entries.old entries.new limiter.old result limiter.new }
-    ensures linked { IsLinked entries.new }
-    ensures fits { (hash_of : K → ℕ) → KeysFit hash_of entries.old.slots → KeysFit hash_of entries.new.slots }
-{
-    tell(limiter, entries.take_last(b))
+    tell(limiter, entries.take(b, last))
 }
 
 // Notifies the limiter of a pair that left or could not be stored, and returns what the limiter left of it.

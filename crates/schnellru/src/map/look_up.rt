@@ -1,5 +1,5 @@
 //! Looking up a key.
-ghost use Rattle.std.specs.Prelude.{◌≡◌, ◌<◌, length, option_map, Some};
+ghost use Rattle.std.specs.Prelude.{◌≡◌, ◌<◌, length, option_map, is_some, Some};
 ghost use Rattle.std.specs.Option.{option_copied, option_copied_mut};
 ghost use Rattle.std.specs.Borrow.{sem};
 ghost use Rattle.std.specs.Map.Iter.{deref_pair};
@@ -40,14 +40,47 @@ impl<K: Eq + Hash, V, L: Limiter<K, V>, S: KeyHasher<K>> LruMap<K, V, L, S> {
             → IsMap K.eq new }
     {
         let b = self.find(key)?;
-        self.promote(b);
+        self.promote_at(b);
         Some(&mut self.entries.pair_mut(b).value)
+    }
+
+    /// Makes the entry of a key the newest, and returns whether the key is there. If it is not, nothing has changed.
+    ///
+    /// ```
+    /// assert!(rt; map.promote(&1) && !map.promote(&9));
+    /// assert!(rt; map.peek_newest() == Some((&1, &10)));
+    /// ```
+    ///
+    /// Cost: `O(1)` expected.
+    ///
+    /// After `promote` of the crate `lru`; schnellru has no such call.
+    #[inline]
+    pub fn promote<Q: LookupKey<K>>(&mut self, key: &Q) -> bool
+        ensures there { result ≡ is_some (lookup (Q.names key.now) self.old.pairs) }
+        ensures promoted { self.new ≡ promoted (Q.names key.now) self.old }
+        ensures map { IsMap K.eq self.new }
+    {
+        match self.find(key) {
+            Some(b) => {
+                self.promote_at(b);
+                // Nothing at run time: it opens the map, whose invariant is the clause `map`.
+                let _ = &self.entries;
+                true
+            }
+            None => false,
+        }
     }
 
     /// Lends the value of the newest entry for writing. The limiter is not notified of what is written.
     ///
     /// `None` says that the map is empty. After `ensure_newest` returned true, it is the value of that key. Cost:
     /// `O(1)`.
+    ///
+    /// ```
+    /// if let Some(count) = map.newest_mut() {
+    ///     *count = count.saturating_add(1);
+    /// }
+    /// ```
     #[inline]
     pub fn newest_mut(&mut self) -> Option<&mut V>
         ensures* writes_back { sem 𝓛 (lends_newest K.row V.row L.row S.row L.LinkType.row S.Hasher.row K.Hash L.Limiter
@@ -75,9 +108,29 @@ impl<K: Eq + Hash, V, L: Limiter<K, V>, S: KeyHasher<K>> LruMap<K, V, L, S> {
         }
     }
 
+    /// Returns whether a key is in the map. The order stays.
+    ///
+    /// ```
+    /// assert!(rt; map.contains(&1) && !map.contains(&9));
+    /// ```
+    ///
+    /// Cost: `O(1)` expected.
+    ///
+    /// After `contains` of the crate `lru`; schnellru has no such call.
+    #[inline]
+    pub fn contains<Q: LookupKey<K>>(&self, key: &Q) -> bool
+        ensures { result ≡ is_some (lookup (Q.names key.now) self.now.pairs) }
+    {
+        self.find(key).is_some()
+    }
+
     /// Returns the value of a key. The order stays.
     ///
     /// `String` keys are looked up by a `&str`, as `map.peek(&"a")`. Cost: `O(1)` expected.
+    ///
+    /// ```
+    /// assert_eq!(rt; map.peek(&1), Some(&20));
+    /// ```
     ///
     /// After schnellru's `LruMap::peek`.
     #[inline]

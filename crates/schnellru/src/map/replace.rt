@@ -2,6 +2,7 @@
 ghost use Rattle.std.specs.Prelude.{◌≡◌, ℕ, true, false, length, Some, IsTrue};
 ghost use Rattle.group_table.specs.Bucket.{entry_at};
 ghost use Rattle.schnellru.specs.Inside.OrderedTable.{IsLinked, KeysFit};
+ghost use Rattle.schnellru.specs.Inserts.{unkept_of};
 ghost use Rattle.schnellru.specs.Inside.Steps.{IsReplaced, IsGivenUp};
 ghost use Rattle.schnellru.specs.Inside.Handing.{HandsGivenUp};
 
@@ -9,35 +10,33 @@ use crate::map::leave::take_out;
 use crate::ordered::OrderedTable;
 use lru_limits::{Insertion, Limiter, LookupKey};
 use std::hash::Hash;
+use std::mem;
 
 // Offers the limiter a new value for the pair in a bucket. If it accepts, the pair gets the value and becomes the
-// newest. If not, the pair is removed and passed to the callback. Returns whether it accepted.
-pub(super) fn replace<
-    K: Eq + Hash + Drop,
-    V: Drop,
-    I: LookupKey<K>,
-    L: Insertion<K, V, I>,
-    F: FnMut(K, V),
->(
+// newest. If not, the pair is removed and passed to the callback. Returns whether it accepted, and the value of the two
+// that the pair does not have.
+pub(super) fn replace<K: Eq + Hash, V, I: LookupKey<K>, L: Insertion<K, V, I>, F: FnMut(K, V)>(
     entries: &mut OrderedTable<K, V, L::LinkType>,
     limiter: &mut L,
     b: usize,
     key: I,
     mut value: V,
     sink: &mut F,
-) -> bool
+) -> (bool, V)
     requires callable { F.IsAlwaysCallable sink.old }
     requires there { (pair : K × V) × (entry_at entries.old.slots b ≡ Some pair) × IsTrue (I.names key pair.0) }
     ensures taken { (pair : K × V) → entry_at entries.old.slots b ≡ Some pair →
-        result ≡ (L.offers.on_replace limiter.old (length entries.old.order) pair.0 key pair.1 value).taken }
-    ensures replaced { result ≡ true → (pair : K × V) → entry_at entries.old.slots b ≡ Some pair →
+        result.0 ≡ (L.offers.on_replace limiter.old (length entries.old.order) pair.0 key pair.1 value).taken }
+    ensures unkept { (pair : K × V) → entry_at entries.old.slots b ≡ Some pair → result.1
+        ≡ unkept_of (L.offers.on_replace limiter.old (length entries.old.order) pair.0 key pair.1 value) }
+    ensures replaced { result.0 ≡ true → (pair : K × V) → entry_at entries.old.slots b ≡ Some pair →
         IsReplaced (L.offers.on_replace limiter.old (length entries.old.order) pair.0 key pair.1 value) b entries.old
         entries.new limiter.new }
-    ensures given_up { result ≡ false → (pair : K × V) → entry_at entries.old.slots b ≡ Some pair →
+    ensures given_up { result.0 ≡ false → (pair : K × V) → entry_at entries.old.slots b ≡ Some pair →
         IsGivenUp L.rules (L.offers.on_replace limiter.old (length entries.old.order) pair.0 key pair.1 value) b
         entries.old entries.new limiter.new }
-    ensures kept { result ≡ true → sink.new ≡ sink.old }
-    ensures handed { result ≡ false → (pair : K × V) → entry_at entries.old.slots b ≡ Some pair →
+    ensures kept { result.0 ≡ true → sink.new ≡ sink.old }
+    ensures handed { result.0 ≡ false → (pair : K × V) → entry_at entries.old.slots b ≡ Some pair →
         HandsGivenUp F.FnMut L.rules
         (L.offers.on_replace limiter.old (length entries.old.order) pair.0 key pair.1 value) sink.old sink.new }
     ensures callable { F.IsAlwaysCallable sink.new }
@@ -49,11 +48,12 @@ pub(super) fn replace<
     let pair = entries.pair_mut(b);
     let taken = limiter.on_replace(length, &mut pair.key, key, &mut pair.value, &mut value);
     if taken {
-        pair.value = value;
+        let old = mem::replace(&mut pair.value, value);
         entries.promote(b);
+        (true, old)
     } else {
-        let (key, value) = take_out(entries, limiter, b);
-        sink(key, value);
+        let (key, old) = take_out(entries, limiter, b, false);
+        sink(key, old);
+        (false, value)
     }
-    taken
 }

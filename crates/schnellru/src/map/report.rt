@@ -7,6 +7,10 @@ use std::hash::Hash;
 
 /// How many entries the inserts of a map have moved, how many new ones they have stored, and how many entries its
 /// shrinks have rehashed.
+///
+/// ```
+/// assert_eq!(rt; map.move_report(), MoveReport { moved: 0, placed: 3, shrunk: 0 });
+/// ```
 #[derive(Clone, Copy, Debug, PartialEq, Eq)]
 pub struct MoveReport {
     /// Entries that inserts moved, because the table grew or was rehashed.
@@ -23,6 +27,10 @@ impl<K: Eq + Hash, V, L: Limiter<K, V>, S: KeyHasher<K>> LruMap<K, V, L, S> {
     ///
     /// `moved` is at most twice `placed`, plus `shrunk`. So in a map that was never shrunk an insert moves at most two
     /// entries on average. Entries that a reservation moves are not counted.
+    ///
+    /// ```
+    /// assert_eq!(rt; map.move_report(), MoveReport { moved: 0, placed: 3, shrunk: 0 });
+    /// ```
     pub fn move_report(&self) -> MoveReport
         ensures moved { result.moved ≡ self.now.moved }
         ensures placed { result.placed ≡ self.now.placed }

@@ -32,7 +32,7 @@ pub enum ReserveError {
     Memory = 3,
 }
 
-impl<K: Eq + Hash + Drop, V: Drop, L: Limiter<K, V>, S: KeyHasher<K>> LruMap<K, V, L, S> {
+impl<K: Eq + Hash, V, L: Limiter<K, V>, S: KeyHasher<K>> LruMap<K, V, L, S> {
     /// Makes room for n more entries: afterwards `guaranteed_capacity` is at least `len` + n.
     ///
     /// The entries stay, and so do the counts of moves. If there is enough growth left, nothing happens. If at most
@@ -57,14 +57,14 @@ impl<K: Eq + Hash + Drop, V: Drop, L: Limiter<K, V>, S: KeyHasher<K>> LruMap<K, 
     pub fn try_reserve(&mut self, n: usize) -> Result<(), ReserveError>
         ensures step { Reserve L.rules n self.old result self.new }
     {
-        let pairs = match self.entries.len().checked_add(n) {
+        let pairs = match self.len().checked_add(n) {
             Some(pairs) => pairs,
             None => return Err(ReserveError::TooLarge),
         };
-        if n <= self.entries.room() {
+        if n <= self.growth_left() {
             return Ok(());
         }
-        let buckets = self.entries.buckets();
+        let buckets = self.bucket_count();
         if full_capacity(buckets) / 2 < pairs {
             return self.reserve_larger(n);
         }

@@ -28,12 +28,10 @@ impl<K: Eq + Hash, V, L: Limiter<K, V>, S: KeyHasher<K>> LruMap<K, V, L, S> {
         ensures half { IfSome result (λ t. 2 * length self.now.pairs ≤ full_capacity t.0) }
     {
         let max = L::LinkType::MAX.into_usize();
-        let len = self.entries.len();
-        larger_table(max, self.entry_bytes, self.entries.buckets(), len + more)
+        let pairs = self.len() + more;
+        larger_table(max, self.entry_bytes, self.bucket_count(), pairs)
     }
-}
 
-impl<K: Eq + Hash + Drop, V: Drop, L: Limiter<K, V>, S: KeyHasher<K>> LruMap<K, V, L, S> {
     // Moves all pairs into a table of `count` buckets, which is at most half full then. The moves are not counted here.
     // If the number of buckets stays and there are no pairs, this needs no memory.
     pub(super) fn move_to(&mut self, count: usize) -> Result<(), AllocError>

@@ -7,7 +7,7 @@ use lru_limits::{KeyHasher, Limiter};
 use std::alloc::AllocError;
 use std::hash::Hash;
 
-impl<K: Eq + Hash + Drop, V: Drop, L: Limiter<K, V>, S: KeyHasher<K>> LruMap<K, V, L, S> {
+impl<K: Eq + Hash, V, L: Limiter<K, V>, S: KeyHasher<K>> LruMap<K, V, L, S> {
     /// Shrinks the table to as few buckets as hold the entries, and returns true. Returns false if the table has no
     /// more than these.
     ///
@@ -16,9 +16,9 @@ impl<K: Eq + Hash + Drop, V: Drop, L: Limiter<K, V>, S: KeyHasher<K>> LruMap<K, 
     /// shrink a map that is about to grow.
     ///
     /// ```
-    /// assert_eq!(rt; map.shrink_to_fit()?, true);
-    /// assert_eq!(rt; (map.len(), map.guaranteed_capacity()), (5, 7));
-    /// assert_eq!(rt; map.shrink_to_fit()?, false);
+    /// assert_eq!(rt; map.shrink_to_fit(), Ok(true));
+    /// assert_eq!(rt; (map.len(), map.guaranteed_capacity()), (1, 3));
+    /// assert_eq!(rt; map.shrink_to_fit(), Ok(false));
     /// ```
     ///
     /// Cost: `O(1)` if the table stays, else `O(buckets)`, with three requests for memory; an empty map makes none.

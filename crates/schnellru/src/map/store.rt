@@ -1,4 +1,5 @@
 //! Storing a new pair: in a free bucket, or after the table was rehashed, has grown, or the oldest pairs were evicted.
+//! Nothing here requires `K: Drop` or `V: Drop`, so a body that forgets a pair does not compile.
 ghost use Rattle.std.specs.Prelude.{◌≡◌, ◌⊎◌, ℕ, ◌+◌, ◌-◌, ◌*◌, ◌/◌, ◌^◌, ◌<◌, ◌≤◌, [], length, None, Some, OnOk};
 ghost use Rattle.std.specs.Prelude.{OnErr, IfErr, IsOk};
 ghost use Rattle.group_table.specs.Sizes.{IsPowerFromFour, full_capacity};
@@ -6,7 +7,7 @@ ghost use Rattle.group_table.specs.Change.{HasNoPlace};
 ghost use Rattle.schnellru.specs.Lists.{lookup_entry};
 ghost use Rattle.schnellru.specs.Sizes.{usage};
 ghost use Rattle.schnellru.specs.State.{buckets, room};
-ghost use Rattle.schnellru.specs.Place.{Place, Evicts, IsPlaced, IsPlacedIfMemory, FillsBucket, HasNoBucket};
+ghost use Rattle.schnellru.specs.Place.{Place, Evicts, IsPlaced, IsPlacedInTable, IsPlacedByMove, FillsBucket, HasNoBucket};
 ghost use Rattle.schnellru.specs.Place.{IsOutgrown, outcome_of, turned_away};
 ghost use Rattle.schnellru.specs.HandedOver.{noting, noted};
 ghost use Rattle.schnellru.specs.Inside.Handing.{Hands};
@@ -18,7 +19,7 @@ use lru_limits::{KeyHasher, Limiter};
 use std::alloc::AllocError;
 use std::hash::Hash;
 
-impl<K: Eq + Hash + Drop, V: Drop, L: Limiter<K, V>, S: KeyHasher<K>> LruMap<K, V, L, S> {
+impl<K: Eq + Hash, V, L: Limiter<K, V>, S: KeyHasher<K>> LruMap<K, V, L, S> {
     // Stores a pair whose key is new and has this hash in a free bucket, as the newest. Returns the pair if none takes it.
     #[inline(always)]
     pub(super) fn store_in_bucket(&mut self, hash: u64, pair: (K, V)) -> Result<(), (K, V)>
@@ -26,14 +27,14 @@ impl<K: Eq + Hash + Drop, V: Drop, L: Limiter<K, V>, S: KeyHasher<K>> LruMap<K, 
         requires absent { lookup_entry (K.eq pair.0) self.old.pairs ≡ None }
         ensures within { OnOk result (length self.old.pairs < full_capacity (buckets self.old)) }
         ensures some { OnOk result ((0 < room self.old) ⊎ (0 < length self.old.pairs)) }
-        ensures placed { OnOk result (IsPlaced pair (buckets self.old) (room self.new) 0 self.old self.new) }
+        ensures placed { OnOk result (IsPlacedInTable pair self.old self.new) }
         ensures fills { OnOk result (FillsBucket hash self.old self.new) }
         ensures returned { IfErr result (λ back. back ≡ pair) }
         ensures unchanged { OnErr result (self.new ≡ self.old) }
         ensures no_bucket { OnErr result (HasNoBucket hash self.old) }
     {
         // (Without pairs a rehash needs no memory, and gives all growth left back.)
-        if self.entries.room() == 0 && self.entries.len() == 0 {
+        if self.growth_left() == 0 && self.len() == 0 {
             return Err(pair);
         }
         self.fill_bucket(hash, pair)
@@ -44,7 +45,7 @@ impl<K: Eq + Hash + Drop, V: Drop, L: Limiter<K, V>, S: KeyHasher<K>> LruMap<K, 
     fn fill_bucket(&mut self, hash: u64, pair: (K, V)) -> Result<(), (K, V)>
         requires hash { hash ≡ S.hash_of self.old.hasher pair.0 }
         requires absent { lookup_entry (K.eq pair.0) self.old.pairs ≡ None }
-        ensures placed { OnOk result (IsPlaced pair (buckets self.old) (room self.new) 0 self.old self.new) }
+        ensures placed { OnOk result (IsPlacedInTable pair self.old self.new) }
         ensures fills { OnOk result (FillsBucket hash self.old self.new) }
         ensures spends { OnOk result (length self.old.pairs + room self.old ≡ full_capacity (buckets self.old) →
             room self.new + 1 ≡ room self.old) }
@@ -72,8 +73,8 @@ impl<K: Eq + Hash + Drop, V: Drop, L: Limiter<K, V>, S: KeyHasher<K>> LruMap<K, 
             S.hash_of pair (noted before self.old) (outcome_of result) (noted after self.new)) }
         ensures callable { F.IsAlwaysCallable sink.new }
     {
-        let buckets = self.entries.buckets();
-        if self.entries.len() < full_capacity(buckets) / 2 {
+        let buckets = self.bucket_count();
+        if self.len() < full_capacity(buckets) / 2 {
             self.store_after_move(buckets, hash, pair, sink)
         } else {
             self.store_after_growth(hash, pair, sink)
@@ -145,12 +146,12 @@ impl<K: Eq + Hash + Drop, V: Drop, L: Limiter<K, V>, S: KeyHasher<K>> LruMap<K, 
             (noted before self.old) (noted before self.old) (outcome_of result) (noted after self.new)) }
         ensures callable { F.IsAlwaysCallable sink.new }
     {
-        let buckets = self.entries.buckets();
+        let buckets = self.bucket_count();
         let half = full_capacity(buckets) / 2;
         'evictions: loop {
             let (key, value) = self.take_oldest();
             sink(key, value);
-            if self.entries.len() < half {
+            if self.len() < half {
                 return self.store_after_move(buckets, hash, pair, sink);
             }
             match self.fill_bucket(hash, pair) {
@@ -179,9 +180,8 @@ impl<K: Eq + Hash + Drop, V: Drop, L: Limiter<K, V>, S: KeyHasher<K>> LruMap<K, 
         requires half { 2 * length self.old.pairs ≤ full_capacity count }
         requires paid { self.old.shrunk < 2 ^ 64 - 1 →
             self.old.moved + length self.old.pairs ≤ 2 * self.old.placed + self.old.shrunk }
-        ensures handed { Hands F.FnMut sink.old sink.new (λ before after. IsPlacedIfMemory (noting L.rules) pair count
-            (full_capacity count - length self.old.pairs - 1) (length self.old.pairs) (noted before self.old)
-            (outcome_of result) (noted after self.new)) }
+        ensures handed { Hands F.FnMut sink.old sink.new (λ before after. IsPlacedByMove (noting L.rules) pair count
+            (noted before self.old) (outcome_of result) (noted after self.new)) }
         ensures succeeds { self.old.pairs ≡ [] → count ≡ buckets self.old → IsOk result }
         ensures callable { F.IsAlwaysCallable sink.new }
     {

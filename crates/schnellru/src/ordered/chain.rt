@@ -1,116 +1,139 @@
-//! The links between the entries of a table: each change of the order changes a few entries.
-//!
-//! `newest` and `oldest` are the ends of the chain. Only the contracts know the order of the buckets.
+//! `Chain`: a table whose entries have links to their neighbours. Each change of the order changes a few entries.
 ghost use Rattle.std.specs.Prelude.{◌≡◌, ◌≢◌, ◌⊎◌, ◌<◌, ◌≤◌, ℕ, ◌∷◌, List, Some, Contains, map, length};
 ghost use Rattle.group_table.specs.Bucket.{Slot, IsFull};
 ghost use Rattle.group_table.specs.Relocation.{Renumbers, moved_to};
 ghost use Rattle.schnellru.specs.Inside.OrderedTable.{without_bucket};
 ghost use Rattle.schnellru.specs.declared.ordered.Entry.{Entry};
-ghost use Rattle.schnellru.specs.Inside.Chain.{IsChain, IsWhole, InChain, OutOfChain, IsGap, Moved, MovesLinks};
+ghost use Rattle.schnellru.specs.Inside.Chain.{KeepsOrder, InChain, OutOfChain, HasGap, IsWhole, Moved, MovesLinks};
 ghost use Rattle.schnellru.specs.Inside.Chain.{HasPlace, moved_link, SetsNewer, SetsOlder, SetsLinks, SetsEnd};
 ghost use Rattle.schnellru.specs.Inside.Chain.{newer_at, older_at, pair_slots};
 
 use crate::ordered::Entry;
 use group_table::{LinkType, Table};
 
-// Takes a bucket out of the chain. Its entry stays in the table, with its own links unchanged.
-pub(crate) fn unlink<K, V, N: LinkType>(
-    table: &mut Table<Entry<K, V, N>>,
-    newest: &mut N,
-    oldest: &mut N,
-    b: usize,
-)
-    requires { InChain N.number N.link N.MAX table.old.slots newest.old oldest.old b }
-    ensures pairs { pair_slots table.new.slots ≡ pair_slots table.old.slots }
-    ensures placings { table.new.placings ≡ table.old.placings }
-    ensures chain { (order : List ℕ) → IsChain N.number N.link N.MAX table.old.slots newest.old oldest.old order
-        → Contains order b →
-        IsChain N.number N.link N.MAX table.new.slots newest.new oldest.new (without_bucket b order) }
-{
-    let entry = table.get(b);
-    let (newer, older) = (entry.newer, entry.older);
-    close_gap(table, newest, oldest, newer, older);
+// A table with links to its newest and its oldest entry; `MAX` if it has none. Only the contracts know the order.
+#[derive(Drop)]
+pub(crate) struct Chain<K, V, N> {
+    pub(crate) table: Table<Entry<K, V, N>>,
+    pub(crate) newest: N,
+    pub(crate) oldest: N,
 }
 
-// Links the neighbours of a bucket to each other, which had these links. Its entry may have left the table before.
-#[inline]
-pub(crate) fn close_gap<K, V, N: LinkType>(
-    table: &mut Table<Entry<K, V, N>>,
-    newest: &mut N,
-    oldest: &mut N,
-    newer: N,
-    older: N,
-)
-    requires { (order : List ℕ) × (b : ℕ)
-        × IsGap N.number N.link N.MAX table.old.slots newest.old oldest.old order b newer older }
-    ensures pairs { pair_slots table.new.slots ≡ pair_slots table.old.slots }
-    ensures placings { table.new.placings ≡ table.old.placings }
-    ensures chain { (order : List ℕ) (b : ℕ) →
-        IsGap N.number N.link N.MAX table.old.slots newest.old oldest.old order b newer older →
-        IsChain N.number N.link N.MAX table.new.slots newest.new oldest.new (without_bucket b order) }
-{
-    set_older(table, newest, newer, older);
-    set_newer(table, oldest, older, newer);
-}
+impl<K, V, N: LinkType> Chain<K, V, N> {
+    // Takes a bucket out of the chain. Its entry stays in the table, with its own links unchanged.
+    pub(crate) fn unlink(&mut self, b: usize)
+        requires { InChain N.number N.link N.MAX self.old b }
+        ensures pairs { pair_slots self.new.table.slots ≡ pair_slots self.old.table.slots }
+        ensures placings { self.new.table.placings ≡ self.old.table.placings }
+        ensures chain { (order : List ℕ) → KeepsOrder N.number N.link N.MAX self.old order → Contains order b →
+            KeepsOrder N.number N.link N.MAX self.new (without_bucket b order) }
+    {
+        let entry = self.table.get(b);
+        let (newer, older) = (entry.newer, entry.older);
+        self.close_gap(newer, older);
+    }
 
-// Puts a bucket that is in no chain in front of this chain, which is not empty.
-pub(crate) fn link_newest<K, V, N: LinkType>(
-    table: &mut Table<Entry<K, V, N>>,
-    newest: &mut N,
-    b: usize,
-)
-    requires full { IsFull table.old.slots b }
-    requires some { newest.old ≢ N.MAX }
-    requires chained { (oldest : N) × OutOfChain N.number N.link N.MAX table.old.slots newest.old oldest b }
-    ensures pairs { pair_slots table.new.slots ≡ pair_slots table.old.slots }
-    ensures placings { table.new.placings ≡ table.old.placings }
-    ensures chain { (oldest : N) (order : List ℕ) →
-        IsChain N.number N.link N.MAX table.old.slots newest.old oldest order → (Contains order b → ⊥) →
-        IsChain N.number N.link N.MAX table.new.slots newest.new oldest (b ∷ order) }
-{
-    let first = *newest;
-    let link = N::from_usize(b);
-    set_links(table, b, N::MAX, first);
-    write_newer(table, first, link);
-    *newest = link;
-}
+    // Links the neighbours of a bucket to each other, which had these links. Its entry may have left the table before.
+    #[inline]
+    pub(crate) fn close_gap(&mut self, newer: N, older: N)
+        requires { (order : List ℕ) × (b : ℕ) × HasGap N.number N.link N.MAX self.old order b newer older }
+        ensures pairs { pair_slots self.new.table.slots ≡ pair_slots self.old.table.slots }
+        ensures placings { self.new.table.placings ≡ self.old.table.placings }
+        ensures chain { (order : List ℕ) (b : ℕ) → HasGap N.number N.link N.MAX self.old order b newer older →
+            KeepsOrder N.number N.link N.MAX self.new (without_bucket b order) }
+    {
+        self.set_older(newer, older);
+        self.set_newer(older, newer);
+    }
 
-// Puts a bucket whose entry already has the links of a newest one in front of the chain that begins with `first`, or
-// makes it the only one. Returns the link to it, with which the chain begins then.
-pub(crate) fn link_placed<K, V, N: LinkType>(
-    table: &mut Table<Entry<K, V, N>>,
-    first: N,
-    oldest: &mut N,
-    b: usize,
-) -> N
-    requires full { IsFull table.old.slots b }
-    requires newer { newer_at table.old.slots b ≡ Some N.MAX }
-    requires older { older_at table.old.slots b ≡ Some first }
-    requires chained { OutOfChain N.number N.link N.MAX table.old.slots first oldest.old b }
-    ensures pairs { pair_slots table.new.slots ≡ pair_slots table.old.slots }
-    ensures placings { table.new.placings ≡ table.old.placings }
-    ensures chain { (order : List ℕ) → IsChain N.number N.link N.MAX table.old.slots first oldest.old order
-        → (Contains order b → ⊥) →
-        IsChain N.number N.link N.MAX table.new.slots result oldest.new (b ∷ order) }
-{
-    let link = N::from_usize(b);
-    set_newer(table, oldest, first, link);
-    link
-}
+    // Puts a bucket that is in no chain in front of this chain, which is not empty.
+    pub(crate) fn link_newest(&mut self, b: usize)
+        requires full { IsFull self.old.table.slots b }
+        requires some { self.old.newest ≢ N.MAX }
+        requires chained { OutOfChain N.number N.link N.MAX self.old b }
+        ensures pairs { pair_slots self.new.table.slots ≡ pair_slots self.old.table.slots }
+        ensures placings { self.new.table.placings ≡ self.old.table.placings }
+        ensures chain { (order : List ℕ) → KeepsOrder N.number N.link N.MAX self.old order → (Contains order b → ⊥) →
+            KeepsOrder N.number N.link N.MAX self.new (b ∷ order) }
+    {
+        let first = self.newest;
+        let link = N::from_usize(b);
+        set_links(&mut self.table, b, N::MAX, first);
+        write_newer(&mut self.table, first, link);
+        self.newest = link;
+    }
 
-// Sets the newer link of the entry at a link, or the oldest end, if the link is `MAX`.
-#[inline]
-fn set_newer<K, V, N: LinkType>(table: &mut Table<Entry<K, V, N>>, oldest: &mut N, at: N, to: N)
-    requires reached { length table.old.slots < N.number N.MAX }
-    requires there { at ≡ N.MAX ⊎ IsFull table.old.slots (N.number at) }
-    ensures slots { SetsNewer N.number table.old.slots table.new.slots at to }
-    ensures end { SetsEnd N.MAX oldest.old oldest.new at to }
-    ensures placings { table.new.placings ≡ table.old.placings }
-{
-    if at == N::MAX {
-        *oldest = to;
-    } else {
-        write_newer(table, at, to);
+    // Puts a bucket whose entry already has the links of a newest one in front of the chain, or makes it the only one.
+    // The link to the newest before is passed, because the caller has read it for that entry.
+    pub(crate) fn link_placed(&mut self, first: N, b: usize)
+        requires first { self.old.newest ≡ first }
+        requires full { IsFull self.old.table.slots b }
+        requires newer { newer_at self.old.table.slots b ≡ Some N.MAX }
+        requires older { older_at self.old.table.slots b ≡ Some first }
+        requires chained { OutOfChain N.number N.link N.MAX self.old b }
+        ensures pairs { pair_slots self.new.table.slots ≡ pair_slots self.old.table.slots }
+        ensures placings { self.new.table.placings ≡ self.old.table.placings }
+        ensures chain { (order : List ℕ) → KeepsOrder N.number N.link N.MAX self.old order → (Contains order b → ⊥) →
+            KeepsOrder N.number N.link N.MAX self.new (b ∷ order) }
+    {
+        let link = N::from_usize(b);
+        self.set_newer(first, link);
+        self.newest = link;
+    }
+
+    // Sets the newer link of the entry at a link, or the oldest end, if the link is `MAX`.
+    #[inline]
+    fn set_newer(&mut self, at: N, to: N)
+        requires reached { length self.old.table.slots < N.number N.MAX }
+        requires there { at ≡ N.MAX ⊎ IsFull self.old.table.slots (N.number at) }
+        ensures slots { SetsNewer N.number self.old.table.slots self.new.table.slots at to }
+        ensures newest { self.new.newest ≡ self.old.newest }
+        ensures oldest { SetsEnd N.MAX self.old.oldest self.new.oldest at to }
+        ensures placings { self.new.table.placings ≡ self.old.table.placings }
+    {
+        if at == N::MAX {
+            self.oldest = to;
+        } else {
+            write_newer(&mut self.table, at, to);
+        }
+    }
+
+    // Sets the older link of the entry at a link, or the newest end, if the link is `MAX`.
+    #[inline]
+    fn set_older(&mut self, at: N, to: N)
+        requires reached { length self.old.table.slots < N.number N.MAX }
+        requires there { at ≡ N.MAX ⊎ IsFull self.old.table.slots (N.number at) }
+        ensures slots { SetsOlder N.number self.old.table.slots self.new.table.slots at to }
+        ensures newest { SetsEnd N.MAX self.old.newest self.new.newest at to }
+        ensures oldest { self.new.oldest ≡ self.old.oldest }
+        ensures placings { self.new.table.placings ≡ self.old.table.placings }
+    {
+        if at == N::MAX {
+            self.newest = to;
+        } else {
+            self.table.get_mut(at.into_usize()).older = to;
+        }
+    }
+
+    // Rewrites the links of entries that moved, and the ends: `links` contains the new number of each old bucket.
+    pub(crate) fn rewrite(&mut self, links: &[N])
+        requires reached { length self.old.table.slots < N.number N.MAX }
+        requires moved { Moved N.number N.link N.MAX self.old links.now }
+        ensures pairs { pair_slots self.new.table.slots ≡ pair_slots self.old.table.slots }
+        ensures placings { self.new.table.placings ≡ self.old.table.placings }
+        ensures chain { (before : List (Slot (Entry K V N))) (order : List ℕ) →
+            IsWhole N.number N.link N.MAX before self.old.newest self.old.oldest order
+            → Renumbers N.number N.MAX before self.old.table.slots links.now →
+            KeepsOrder N.number N.link N.MAX self.new (map (moved_to N.number N.MAX links.now) order) }
+    {
+        for old in 0..links.len() {
+            let moved = links[old];
+            if moved != N::MAX {
+                move_links(&mut self.table, moved.into_usize(), links);
+            }
+        }
+        self.newest = moved_link(links, self.newest);
+        self.oldest = moved_link(links, self.oldest);
     }
 }
 
@@ -124,22 +147,6 @@ fn write_newer<K, V, N: LinkType>(table: &mut Table<Entry<K, V, N>>, at: N, to: 
     table.get_mut(at.into_usize()).newer = to;
 }
 
-// Sets the older link of the entry at a link, or the newest end, if the link is `MAX`.
-#[inline]
-fn set_older<K, V, N: LinkType>(table: &mut Table<Entry<K, V, N>>, newest: &mut N, at: N, to: N)
-    requires reached { length table.old.slots < N.number N.MAX }
-    requires there { at ≡ N.MAX ⊎ IsFull table.old.slots (N.number at) }
-    ensures slots { SetsOlder N.number table.old.slots table.new.slots at to }
-    ensures end { SetsEnd N.MAX newest.old newest.new at to }
-    ensures placings { table.new.placings ≡ table.old.placings }
-{
-    if at == N::MAX {
-        *newest = to;
-    } else {
-        table.get_mut(at.into_usize()).older = to;
-    }
-}
-
 // Sets both links of the entry in a full bucket.
 #[inline]
 fn set_links<K, V, N: LinkType>(table: &mut Table<Entry<K, V, N>>, b: usize, newer: N, older: N)
@@ -150,33 +157,6 @@ fn set_links<K, V, N: LinkType>(table: &mut Table<Entry<K, V, N>>, b: usize, new
     let entry = table.get_mut(b);
     entry.newer = newer;
     entry.older = older;
-}
-
-// Rewrites the links of entries that moved, and the ends: `links` contains the new number of each old bucket.
-pub(crate) fn rewrite<K, V, N: LinkType>(
-    table: &mut Table<Entry<K, V, N>>,
-    newest: &mut N,
-    oldest: &mut N,
-    links: &[N],
-)
-    requires reached { length table.old.slots < N.number N.MAX }
-    requires moved { Moved N.number N.link N.MAX table.old.slots newest.old oldest.old links.now }
-    ensures pairs { pair_slots table.new.slots ≡ pair_slots table.old.slots }
-    ensures placings { table.new.placings ≡ table.old.placings }
-    ensures chain { (before : List (Slot (Entry K V N))) (order : List ℕ) →
-        IsWhole N.number N.link N.MAX before newest.old oldest.old order
-        → Renumbers N.number N.MAX before table.old.slots links.now →
-        IsChain N.number N.link N.MAX table.new.slots newest.new oldest.new
-        (map (moved_to N.number N.MAX links.now) order) }
-{
-    for old in 0..links.len() {
-        let moved = links[old];
-        if moved != N::MAX {
-            move_links(table, moved.into_usize(), links);
-        }
-    }
-    *newest = moved_link(links, *newest);
-    *oldest = moved_link(links, *oldest);
 }
 
 // Rewrites the links of an entry to where its neighbours have moved.

@@ -6,6 +6,7 @@ ghost use Rattle.schnellru.specs.Clones.{IsPairClone};
 ghost use Rattle.schnellru.specs.Inside.Copies.{IsEntryCopy};
 ghost use Rattle.schnellru.specs.Inside.OrderedTable.{IsLinked, KeysFit, pairs_of};
 
+use crate::ordered::chain::Chain;
 use crate::ordered::{Entry, OrderedTable, Pair};
 use group_table::LinkType;
 use std::alloc::AllocError;
@@ -26,7 +27,7 @@ impl<K: Drop, V: Drop, N: LinkType> OrderedTable<K, V, N> {
         ensures linked { IfOk result IsLinked }
         ensures succeeds { length self.now.slots ≡ 0 → IsOk result }
     {
-        let table = self.table.clone_with(
+        let table = self.chain.table.clone_with(
             |entry| -> Result<Entry<K, V, N>, AllocError>
                 ensures { IfOk result (IsEntryCopy K.is_clone V.is_clone entry.now) }
             {
@@ -41,9 +42,11 @@ impl<K: Drop, V: Drop, N: LinkType> OrderedTable<K, V, N> {
             },
         )?;
         Ok(OrderedTable {
-            table,
-            newest: self.newest,
-            oldest: self.oldest,
+            chain: Chain {
+                table,
+                newest: self.chain.newest,
+                oldest: self.chain.oldest,
+            },
         })
     }
 }

@@ -15,6 +15,12 @@ use std::iter::FusedIterator;
 /// It takes a pair as `pop_newest` or `pop_oldest` does: the limiter is notified, and the pair is returned as the
 /// limiter leaves it. The limiter is notified of the clear itself, not of each pair that it drops.
 ///
+/// ```
+/// for (key, value) in map.drain() {
+///     sum = sum.wrapping_add(key.wrapping_mul(value));
+/// }
+/// ```
+///
 /// After schnellru's `Drain`.
 pub struct Drain<'a, K: Eq + Hash, V, L: Limiter<K, V>, S: KeyHasher<K>> {
     map: &'a mut LruMap<K, V, L, S>,

@@ -16,7 +16,7 @@ pub returns-then-self-eq0-clause-room : goal.returns-then-self-eq0-clause-room
 returns-then-self-eq0-clause-room g c =
     let none : entry_count c.args.self.now.slots ≡ 0 = rw (← c.self.view_is) (omega (arith, c.self.invariant.1)) in
     let room = room-fresh g.row.T.Denot (length c.args.self.now.slots) in
-    rw c.clear.ensures.slots (omega (arith, room, none))
+    rw c.empty_buckets.ensures.slots (omega (arith, room, none))
 
 pub returns-in_err-links-clause-table : goal.returns-in_err-links-clause-table
 returns-in_err-links-clause-table g c = rw (← c.self.view_is) (IsTable-by _ _ _ c.self.invariant.0)

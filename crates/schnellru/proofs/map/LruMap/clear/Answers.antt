@@ -1,20 +1,17 @@
-use Rattle.schnellru.proofs.Maps.Fields.{beside_of}
 use Rattle.schnellru.proofs.Maps.ClearedMaps.{cleared_is, cleared_holds}
 use Rattle.schnellru.proofs.map.LruMap.clear.Goals as goal
 
 pub invariant_of-self : goal.invariant_of-self
 invariant_of-self g c =
     let m = c.self.inside in let e = c.clear.ensures in
-    let rest = beside_of m (g.L.LinkType.LinkType.number g.L.LinkType.LinkType.MAX) in
-    cleared_holds g.L.Limiter.rules m.entries c.clear.new.self e.slots e.order e.placings rest c.on_cleared.new.self
+    cleared_holds g.L.Limiter.rules m.entries c.clear.new.self e.slots e.order e.placings _ c.on_cleared.new.self
     c.on_cleared.ensures
     _ _ c.self.invariant e.linked (e.fits _)
 
 pub returns : goal.returns
 returns g c =
     let m = c.self.inside in let e = c.clear.ensures in
-    let rest = beside_of m (g.L.LinkType.LinkType.number g.L.LinkType.LinkType.MAX) in
     rw (← c.self.view_is) (record {
-      step = cleared_is g.L.Limiter.rules m.entries c.clear.new.self e.slots e.order e.placings rest
+      step = cleared_is g.L.Limiter.rules m.entries c.clear.new.self e.slots e.order e.placings _
           c.on_cleared.new.self c.on_cleared.ensures;
     })

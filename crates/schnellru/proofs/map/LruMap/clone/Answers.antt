@@ -2,7 +2,7 @@ use Rattle.std.proofs.Common.{sym, ◌∙◌}
 use Rattle.schnellru.specs.Clones.{IsPairClone}
 use Rattle.schnellru.specs.Inside.Holds.{state_of}
 use Rattle.schnellru.specs.Inside.OrderedTable.{pairs_of}
-use Rattle.schnellru.proofs.Maps.Fields.{beside, beside_of}
+use Rattle.schnellru.proofs.Maps.Fields.{beside}
 use Rattle.schnellru.proofs.Maps.HeldMaps.{copied_holds}
 use Rattle.schnellru.proofs.PairLists.DistinctKeys.{distinct_same}
 use Rattle.schnellru.proofs.map.LruMap.clone.Goals as goal
@@ -10,9 +10,8 @@ use Rattle.schnellru.proofs.map.LruMap.clone.Goals as goal
 pub invariant_of-result : goal.invariant_of-result
 invariant_of-result g c =
     let m = c.self.inside in let holds = c.self.invariant in let done = c.in_ok-entries.ensures in
-    let rest = beside_of m (g.L.LinkType.LinkType.number g.L.LinkType.LinkType.MAX) in
     let hash_of = g.S.KeyHasher.hash_of in
-    copied_holds g.K.PartialEq.eq hash_of rest m.entries c.in_ok-entries.entries c.in_ok-limiter.limiter
+    copied_holds g.K.PartialEq.eq hash_of _ m.entries c.in_ok-entries.entries c.in_ok-limiter.limiter
     c.in_ok-hasher.hasher holds done.linked
     (done.fits (hash_of m.hasher) (hash_of c.in_ok-hasher.hasher)
     (λ key copy same. c.requires.hashers m.hasher c.in_ok-hasher.hasher c.in_ok-hasher.ensures.cases copy

@@ -1,16 +1,13 @@
-use Rattle.std.proofs.Common.{◌≡◌, false, length, ap, sym, ◌∙◌, subst}
+use Rattle.std.proofs.Common.{sym, ◌∙◌, subst}
 use Rattle.schnellru.specs.State.{contents, Leaves}
 use Rattle.schnellru.specs.HandedOver.{noting, noted}
-use Rattle.schnellru.proofs.OrderedTables.BucketPairs.{pairs-length}
 use Rattle.schnellru.proofs.Maps.LeavingPairs.{leaves_self, trim-within}
 use Rattle.schnellru.proofs.map.LruMap.evict_over_limit.Goals as goal
 
 pub returns-else-is_over_the_limit-clause-handed : goal.returns-else-is_over_the_limit-clause-handed
 returns-else-is_over_the_limit-clause-handed g c =
-    let rules = g.L.Limiter.rules in let m = c.self.inside in let st = c.args.self.now in
-    let within : rules.is_over_the_limit st.limiter (length st.pairs) ≡ false = rw (← c.self.view_is)
-    (ap (rules.is_over_the_limit m.limiter) (pairs-length m.entries c.self.invariant.linked ∙ sym c.len.ensures.len)
-    ∙ sym c.is_over_the_limit.ensures ∙ c.if-is_over_the_limit.false) in
+    let rules = g.L.Limiter.rules in let st = c.args.self.now in
+    let within = sym c.is_over_the_limit.ensures ∙ c.if-is_over_the_limit.false in
     λ first before taken. (
       before,
       taken,

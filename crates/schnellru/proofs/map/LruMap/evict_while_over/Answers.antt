@@ -1,9 +1,8 @@
-use Rattle.std.proofs.Common.{◌≡◌, ◌<◌, true, false, length, refl, ap, sym, ◌∙◌, subst, arith}
+use Rattle.std.proofs.Common.{◌<◌, length, refl, ap, sym, ◌∙◌, subst, arith}
 use denote.Param.Always.{mut_next}
 use Rattle.schnellru.specs.State.{contents, Leaves}
 use Rattle.schnellru.specs.HandedOver.{noting, noted}
 use Rattle.schnellru.proofs.PairLists.Emptiness.{empty-length, some-length}
-use Rattle.schnellru.proofs.OrderedTables.BucketPairs.{pairs-length}
 use Rattle.schnellru.proofs.Maps.LeavingPairs.{length-without_last, leaves_self, trim-within, trim-empty}
 use Rattle.schnellru.proofs.Maps.Trims.{trims_more}
 use Rattle.schnellru.proofs.map.LruMap.evict_while_over.Goals as goal
@@ -26,13 +25,10 @@ evictions-smaller g c =
 
 pub evictions-preserved : goal.evictions-preserved
 evictions-preserved g c =
-    let i = c.evictions.invariant in let rules = g.L.Limiter.rules in let m = c.self.inside in
-    let st = c.evictions.self in let u = c.take_oldest-key.new.self in let pair = c.take_oldest-key.result in
-    let over : rules.is_over_the_limit u.limiter (length u.pairs) ≡ true = rw (← c.self.view_is)
-    (ap (rules.is_over_the_limit m.limiter) (pairs-length m.entries c.self.invariant.linked ∙ sym c.len.ensures.len)
-    ∙ sym c.is_over_the_limit.ensures ∙ c.if-not-is_over_the_limit.false) in record {
+    let i = c.evictions.invariant in let rules = g.L.Limiter.rules in
+    let st = c.evictions.self in let u = c.take_oldest-key.new.self in let pair = c.take_oldest-key.result in record {
       some = some-length u.pairs (sym c.is_empty.ensures ∙ c.if-is_empty.false);
-      over = over;
+      over = sym c.is_over_the_limit.ensures ∙ c.if-not-is_over_the_limit.false;
       callable = mut_next g.F.FnMut c.evictions.sink (pair.0, (pair.1, tt)) tt c.sink.new.self c.sink.new.self
           c.sink.ensures refl i.callable;
       handed = trims_more rules g.F.FnMut c.args.self.now c.args.sink.now st u c.evictions.sink c.sink.new.self pair
@@ -41,11 +37,9 @@ evictions-preserved g c =
 
 pub returns-then-not-is_over_the_limit-clause-handed : goal.returns-then-not-is_over_the_limit-clause-handed
 returns-then-not-is_over_the_limit-clause-handed g c =
-    let i = c.evictions.invariant in let rules = g.L.Limiter.rules in let m = c.self.inside in
+    let i = c.evictions.invariant in let rules = g.L.Limiter.rules in
     let st = c.evictions.self in let u = c.take_oldest-key.new.self in let pair = c.take_oldest-key.result in
-    let within : rules.is_over_the_limit u.limiter (length u.pairs) ≡ false = rw (← c.self.view_is)
-    (ap (rules.is_over_the_limit m.limiter) (pairs-length m.entries c.self.invariant.linked ∙ sym c.len.ensures.len)
-    ∙ sym c.is_over_the_limit.ensures ∙ c.if-not-is_over_the_limit.true) in
+    let within = sym c.is_over_the_limit.ensures ∙ c.if-not-is_over_the_limit.true in
     λ first before taken.
     let (after, had, trimmed) = trims_more rules g.F.FnMut c.args.self.now c.args.sink.now st u c.evictions.sink
     c.sink.new.self pair i.some i.over c.take_oldest-key.ensures c.sink.ensures i.handed first before taken in (

@@ -10,9 +10,8 @@ use Rattle.schnellru.proofs.map.LruMap.fill_bucket.Goals as goal
 pub invariant_of-self-2 : goal.invariant_of-self-2
 invariant_of-self-2 g c =
     let m = c.self.inside in let e = c.in_ok-place.ensures in let holds = c.self.invariant in
-    let rest = beside_of m (g.L.LinkType.LinkType.number g.L.LinkType.LinkType.MAX) in
     rw c.saturating_add-self-inside.ensures
-    (lands_holds m.entries c.place.new.self c.args.hash c.args.pair e.placed.0 holds.linked e.placed.1 rest
+    (lands_holds m.entries c.place.new.self c.args.hash c.args.pair e.placed.0 holds.linked e.placed.1 _
     holds.map.sized _ holds
     e.linked (e.fits _ holds.fits (sym (rw (← c.self.view_is) at c.requires.hash)))
     (rw (← c.self.view_is) at c.requires.absent))
@@ -20,17 +19,15 @@ invariant_of-self-2 g c =
 pub returns-clause-placed : goal.returns-clause-placed
 returns-clause-placed g c =
     let m = c.self.inside in let e = c.in_ok-place.ensures in let holds = c.self.invariant in
-    let rest = beside_of m (g.L.LinkType.LinkType.number g.L.LinkType.LinkType.MAX) in
     rw (← c.self.view_is, c.saturating_add-self-inside.ensures)
-    (lands_placed m.entries c.place.new.self c.args.hash c.args.pair e.placed.0 holds.linked e.placed.1 rest
+    (lands_placed m.entries c.place.new.self c.args.hash c.args.pair e.placed.0 holds.linked e.placed.1 _
     holds.map.sized)
 
 pub returns-clause-fills : goal.returns-clause-fills
 returns-clause-fills g c =
     let m = c.self.inside in let e = c.in_ok-place.ensures in let holds = c.self.invariant in
-    let rest = beside_of m (g.L.LinkType.LinkType.number g.L.LinkType.LinkType.MAX) in
     rw (← c.self.view_is)
-    (lands_fills m.entries c.place.new.self c.args.hash c.args.pair e.placed.0 holds.linked e.placed.1 rest
+    (lands_fills m.entries c.place.new.self c.args.hash c.args.pair e.placed.0 holds.linked e.placed.1 _
     holds.map.sized)
 
 pub returns-clause-spends : goal.returns-clause-spends

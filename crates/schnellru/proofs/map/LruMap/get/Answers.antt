@@ -1,6 +1,5 @@
 use Rattle.std.proofs.Common.{Some, None, refl, sym, ap, ◌∙◌, subst, unwrap_or, ◌≡◌, true}
 use Rattle.schnellru.specs.Lists.{lookup_entry, place_of}
-use Rattle.schnellru.proofs.Maps.Fields.{beside_of}
 use Rattle.schnellru.proofs.OrderedTables.BucketPairs.{pair_found}
 use Rattle.schnellru.proofs.OrderedTables.Searches.{pair_of_place}
 use Rattle.schnellru.proofs.PairLists.NamedPlaces.{front_place, front_found, named_value, no_named_value}
@@ -23,22 +22,20 @@ returns-in_err-b g c = let names = g.Q.LookupKey.names c.args.key.now in
 pub invariant_of-self-lent : goal.invariant_of-self-lent
 invariant_of-self-lent g c = λ w.
     let m = c.self.inside in
-    let rest = beside_of m (g.L.LinkType.LinkType.number g.L.LinkType.LinkType.MAX) in
     let t = m.entries in let holds = c.self.invariant in let now = c.pair_mut.result.now in
     let laws = g.met.K.Eq.laws in let hash_of = g.S.KeyHasher.hash_of in
     kept_holds t holds.linked c.in_ok-b.b (now.key, now.value) c.pair_mut.ensures.pair
     (g.K.PartialEq.eq now.key) laws (λ x y h. laws.congr now.key x y h) (laws.refl now.key)
-    holds.map.distinct rest w hash_of holds
+    holds.map.distinct _ w hash_of holds
     (c.pair_mut.ensures.linked (now.key, w)) (c.pair_mut.ensures.fits (hash_of m.hasher) holds.fits (now.key, w) refl)
 
 pub returns : goal.returns
 returns g c =
     let m = c.self.inside in
-    let rest = beside_of m (g.L.LinkType.LinkType.number g.L.LinkType.LinkType.MAX) in
     let t = m.entries in let holds = c.self.invariant in let now = c.pair_mut.result.now in
     let old = c.args.self.now in let laws = g.met.K.Eq.laws in
     let names = g.Q.LookupKey.names c.args.key.now in let one = g.met.Q.LookupKey.laws.one c.args.key.now in
-    let at = c.in_ok-b.ensures.found in let is = c.promote.ensures.promoted names one at in
+    let at = c.in_ok-b.ensures.found in let is = c.promote_at.ensures.promoted names one at in
     let first = subst (λ st. place_of names st.pairs st.places ≡ Some c.in_ok-b.b) (sym (c.self.view_is ∙ is))
     (front_place names old.pairs old.places c.in_ok-b.b at) in
     let (p, there, accepts) = pair_of_place t holds.linked names laws one holds.map.distinct c.in_ok-b.b first in
@@ -50,7 +47,7 @@ returns g c =
     ∙ pair_found t holds.linked c.in_ok-b.b (now.key, now.value) c.pair_mut.ensures.pair names laws one
     holds.map.distinct named in (
       same_follow _ _ _ (λ w. kept_state t holds.linked c.in_ok-b.b
-          (now.key, now.value) c.pair_mut.ensures.pair names laws one named holds.map.distinct rest w
+          (now.key, now.value) c.pair_mut.ensures.pair names laws one named holds.map.distinct _ w
           ∙ ap (written names w) (c.self.view_is ∙ is)),
       record {
         writes_back = tt;

@@ -8,7 +8,6 @@ use Rattle.schnellru.proofs.OrderedTables.ByHash.{gives_by_hash, gives_none_by_h
 use Rattle.schnellru.proofs.OrderedTables.BucketPairs.{pair_found, place_found}
 use Rattle.schnellru.proofs.OrderedTables.Searches.{pair_of_place}
 use Rattle.schnellru.proofs.PairLists.NamedPlaces.{front_place, front_found}
-use Rattle.schnellru.proofs.Maps.Fields.{beside_of}
 use Rattle.schnellru.proofs.Maps.Promotions.{equal_is_map, written_is_map}
 use Rattle.schnellru.proofs.OrderedTables.Writes.{kept_holds, kept_state}
 use Rattle.schnellru.proofs.map.LruMap.get_by_hash.Goals as goal
@@ -27,36 +26,34 @@ returns-in_err-b g c =
       },
     )
 
-pub promote-requires : goal.promote-requires
-promote-requires g c = rw (← c.self.view_is) (c.self.invariant.linked.all c.in_ok-b.b c.in_ok-b.ensures.full)
+pub promote_at-requires : goal.promote_at-requires
+promote_at-requires g c = rw (← c.self.view_is) (c.self.invariant.linked.all c.in_ok-b.b c.in_ok-b.ensures.full)
 
 pub pair_mut-requires : goal.pair_mut-requires
 pair_mut-requires g c =
-    c.self-2.invariant.linked.only c.in_ok-b.b (rw (← c.self-2.view_is) at c.promote.ensures.there)
+    c.self-2.invariant.linked.only c.in_ok-b.b (rw (← c.self-2.view_is) at c.promote_at.ensures.there)
 
 pub invariant_of-self-lent : goal.invariant_of-self-lent
 invariant_of-self-lent g c = λ w.
     let m = c.self-2.inside in
-    let rest = beside_of m (g.L.LinkType.LinkType.number g.L.LinkType.LinkType.MAX) in
     let holds = c.self-2.invariant in let now = c.pair_mut.result.now in
     let laws = g.met.K.Eq.laws in let hash_of = g.S.KeyHasher.hash_of in
     kept_holds m.entries holds.linked c.in_ok-b.b (now.key, now.value) c.pair_mut.ensures.pair
     (g.K.PartialEq.eq now.key) laws (λ x y h. laws.congr now.key x y h) (laws.refl now.key)
-    holds.map.distinct rest w hash_of holds
+    holds.map.distinct _ w hash_of holds
     (c.pair_mut.ensures.linked (now.key, w)) (c.pair_mut.ensures.fits (hash_of m.hasher) holds.fits (now.key, w) refl)
 
 pub returns : goal.returns
 returns g c =
     let m = c.self.inside in let t = m.entries in let holds = c.self.invariant in
     let n = c.self-2.inside in let v = n.entries in let after = c.self-2.invariant in
-    let rest = beside_of n (g.L.LinkType.LinkType.number g.L.LinkType.LinkType.MAX) in
     let now = c.pair_mut.result.now in let b = c.in_ok-b.b in let old = c.args.self.now in
     let eq = g.K.PartialEq.eq in let laws = g.met.K.Eq.laws in let found = c.in_ok-b.ensures.found in
     let p = found.accepted.pair in let names = eq p.0 in
     let one : (x y : _) → names x ≡ true → names y ≡ eq x y = λ x y h. laws.congr p.0 x y h in
     let at : place_of names old.pairs old.places ≡ Some b = rw (← c.self.view_is)
     (place_found t holds.linked b p found.accepted.there names laws one holds.map.distinct (laws.refl p.0)) in
-    let is = c.promote.ensures.promoted names one at in
+    let is = c.promote_at.ensures.promoted names one at in
     let first = subst (λ st. place_of names st.pairs st.places ≡ Some b) (sym (c.self-2.view_is ∙ is))
     (front_place names old.pairs old.places b at) in
     let (q, there, accepts) = pair_of_place v after.linked names laws one after.map.distinct b first in
@@ -79,7 +76,7 @@ returns g c =
           gives,
           ap (λ x. Some x.1) (sym same),
           kept_state v after.linked b (now.key, now.value) c.pair_mut.ensures.pair names laws one named
-              after.map.distinct rest w ∙ ap (written names w) (c.self-2.view_is ∙ is),
+              after.map.distinct _ w ∙ ap (written names w) (c.self-2.view_is ∙ is),
         ),
         tt,
       ),

@@ -1,34 +1,27 @@
 -- `get_or_insert` lends what `lend_or_insert` lends. Assumes `Logic`.
 use mathlib.Core.Path.{◌≡◌, refl, sym, subst}
 use mathlib.Core.List.{List, [], ◌∷◌}
-use lib.Dec.{T}
-use seplogic.Ra.Ura.{Ura}
-use base.Fml.{Fml, Lft, ftrue, flft}
+use base.Fml.{ftrue, flft}
 use base.Logic.{ent, id⊢, emp}
 use mir.MapTy.{inst_fn}
-use mir.Syntax.{Fn, Args, Ty, named, a_type, dcons, dnil}
-use mir.Val.{Val, has_ty, WT}
+use mir.Syntax.{Fn, Args, a_type, dcons, dnil}
+use mir.Val.{Val}
 use prog.Wp.{WpFn}
 use contract.BorrowLft.{◌⊑◌}
 use contract.Monad.{fact, fact_i}
 use contract.Running.{tables}
-use types.Logic.{Logic, sem}
 use types.Kit.{‵, raw, ◌⊛◌, some, later, ◌$◌, ◌∵◌, !, qed, by, move, keep, drop, use0, use1, split, join, fjoin}
-use types.Kit.{fpick, fpack, pick, await, rewrite, done}
+use types.Kit.{pick, await, rewrite}
 use types.Run.{enter, of_opd, addr, stop, no_more, and_then, returns}
 use types.ByLocal.{alloc_all, pass_all, free_all, look_at, get, through, sets, lands_as}
 use denote.Exit.{no}
-use denote.Follow.{follows_by, such_by}
-use denote.Laws.{Typed, shows}
+use denote.Laws.{shows}
 use denote.Param.{param, copied, bounded}
-use denote.Param.Laws.{Laws, param_laws, of_field, row_shared}
-use denote.Param.Shared.{mut_ref_shared}
+use denote.Param.Laws.{param_laws}
 use denote.RattleType.{RattleType}
-use denote.Ref.{MutBor, NamedLft, MutRef, mut_vals}
+use denote.Ref.{mut_vals}
 use denote.Signature.{plain}
 use denote.Steps.{nothing, peeks, heard}
-use denote.Struct.Field.{mut_ref_field}
-use denote.Struct.Laws.{mut_ref_laws}
 use denote.Triple.Call.{calls_at}
 use denote.Triple.Clauses.{Ended, lasts, Lasts}
 use denote.Triple.Entry.{on_entry}
@@ -36,30 +29,16 @@ use denote.Triple.Spec.{triple_of}
 use denote.Triple.Table.{framed}
 use denote.Triple.Walked.{Stays, walk_of, stay_dropped, Goes-spent_ref, Goes-dropped}
 use Rattle.std.proofs.raw_atomic.Walks.{proved_at, leaves}
-use Rattle.std.specs.Prelude.{Bool, Ok, Err, Result}
+use Rattle.std.specs.Prelude.{Bool, Result}
 use Rattle.std.specs.HashMap.Lent.{HashMembers}
 use Rattle.std.specs.declared.alloc.AllocError.{AllocError}
-use Rattle.std.specs.declared.hash.Hasher as hasher
-use Rattle.std.specs.declared.cmp.PartialEq as equality
-use Rattle.std.specs.declared.fmt.Debug as debug
-use Rattle.group_table.specs.declared.link.LinkType as link_type
-use Rattle.lru_limits.specs.declared.limiter.Limiter as limiter
 use Rattle.lru_limits.specs.Hashing.{HasherMembers}
-use Rattle.std.specs.contracts.option.Option as option
-use Rattle.std.specs.contracts.result.Result as result
 use Rattle.std.specs.contracts.alloc.AllocError as AE
-use Rattle.std.proofs.option.Option.TheLaws as option_laws
-use Rattle.std.proofs.result.Result.TheLaws as result_laws
 use Rattle.std.proofs.alloc.AllocError.TheLaws as AE_laws
 use Rattle.schnellru.specs.State.{State}
-use Rattle.schnellru.specs.Lending.Values.{map_row}
-use Rattle.schnellru.specs.Lending.Answers.{kept_of, is_kept, IsLent, NoneLent, name_lent}
-use Rattle.schnellru.specs.Lending.Made.{Made, lends_or, lends_made}
+use Rattle.schnellru.specs.Lending.Answers.{kept_of}
+use Rattle.schnellru.specs.Lending.Made.{lends_or, lends_made}
 use Rattle.schnellru.specs.GetOrInserts.{MakesNewest}
-use Rattle.schnellru.specs.declared.map.get_or_insert.NotLent.{NotLent}
-use Rattle.schnellru.specs.declared.map.get_or_insert.NotLent.TheVariants.{NotKept, Failed}
-use Rattle.schnellru.specs.contracts.map.get_or_insert.NotLent as NL
-use Rattle.schnellru.proofs.map.get_or_insert.NotLent.TheLaws as NL_laws
 use Rattle.schnellru.specs.contracts.map.LruMap as M'
 use Rattle.schnellru.specs.contracts.map.LruMap.get_or_insert as f
 use Rattle.schnellru.specs.contracts.map.LruMap.get_or_insert.F-FnOnce as closure
@@ -69,74 +48,7 @@ use Rattle.schnellru.proofs.map.LruMap.lend_or_insert.Met as lend-thm
 use Rattle.schnellru.proofs.map.get_or_insert.kept_or.Met as kept-thm
 use Rattle.schnellru.proofs.map.LruMap.get_or_insert.Statement.{statement}
 use Rattle.schnellru.proofs.map.LruMap.get_or_insert.Code as code
-
-lone : (τ : Ty) (vs : List Val) → Typed (τ ∷ []) vs → (v : Val) × (vs ≡ v ∷ []) × (T (has_ty τ v) × WT v)
-lone τ [] t = absurd t
-lone τ (v ∷ []) t = (v, refl, t.0)
-lone τ (v ∷ w ∷ vs) t = absurd t.1
-
--- the one clause gives the other
-module _ {M : Type 1} {𝓤 : Ura M} (𝓛 : Logic 𝓤) (K V L S N H : RattleType) (key : HashMembers K.Denot) (limits :
-    limiter.Ghosts L.Denot K.Denot V.Denot N.Denot)
-    (links : link_type.Ghosts N.Denot) (link_eq : equality.Ghosts N.Denot) (link_shown : debug.Ghosts N.Denot) (hashed
-    : HasherMembers S.Denot K.Denot H.Denot) (hash : hasher.Ghosts H.Denot)
-    (m : MutBor (State K.Denot V.Denot L.Denot S.Denot)) {E : Type 0} (Step : Result Bool E →
-    State K.Denot V.Denot L.Denot S.Denot → Type 0) where
-  abbrev Map : Type 0
-  Map = State K.Denot V.Denot L.Denot S.Denot
-
-  abbrev R : RattleType
-  R = map_row K V L S N H key limits links link_eq link_shown hashed hash
-
-  abbrev Or : Result (MutBor V.Denot) (NotLent E) → Fml
-  Or = lends_or K V L S N H key limits links link_eq link_shown hashed hash m Step
-
-  abbrev With : Result (MutBor V.Denot) (NotLent E) → Map → V.Denot → Type 0
-  With r n w = Made K V L S N H key limits links link_eq link_shown hashed hash m Step (kept_of r) n w
-
-  abbrev Both : Result (MutBor V.Denot) (NotLent E) → Type 0
-  Both r = (s : (V.Denot → Map) × Map) × ((w : V.Denot) → IsLent (kept_of r) →
-      With r (s.0 w) w) × (NoneLent (kept_of r) → Step (is_kept (kept_of r)) s.1)
-
-  ends : (r : Result (MutBor V.Denot) (NotLent E)) →
-      ent 𝓤 (sem 𝓛 (Or r)) (sem 𝓛 (lends_made K V L S N H key limits links link_eq link_shown hashed hash m Step
-      (kept_of r)))
-  unfolding follows_by such_by
-  ends (Ok x) = qed 𝓛 (‵ (Or (Ok x)) ∷ []) ∵ fpick ! (λ s.
-      fpack ! (Both (Ok x)) (λ s. follows_by Map V.Denot R.coded.code V.coded.code m.ghost_name (name_lent {V =
-      V.Denot} {E = E} (kept_of (Ok x))) s.0.0 s.0.1) (s.0, (λ w _. s.1 w refl), (λ h. absurd (h refl))) $ done !)
-  ends (Err NotKept) = qed 𝓛 (‵ (Or (Err NotKept)) ∷ []) ∵ fpick ! (λ s.
-      fpack ! (Both (Err NotKept)) (λ s. follows_by Map V.Denot R.coded.code V.coded.code m.ghost_name (name_lent {V =
-      V.Denot} {E = E} (kept_of (Err NotKept))) s.0.0 s.0.1) (s.0, (λ w h. absurd cc), (λ _. s.2)) $ done !)
-  ends (Err (Failed e)) = qed 𝓛 (‵ (Or (Err (Failed e))) ∷ []) ∵ fpick ! (λ s.
-      fpack ! (Both (Err (Failed e))) (λ s. follows_by Map V.Denot R.coded.code V.coded.code m.ghost_name (name_lent
-      {V = V.Denot} {E = E} (kept_of (Err (Failed e)))) s.0.0 s.0.1) (s.0, (λ w h. absurd cc), (λ _. s.2)) $
-      done !)
-
--- the results' types, and their laws
-module _ (κ : Lft) (V : RattleType) where
-  abbrev Ref : RattleType
-  Ref = MutRef (named 0) κ (param 1 V)
-
-  abbrev Lent : RattleType
-  Lent = result.the_row Ref (NL.the_row AE.the_row)
-
-  abbrev Res : RattleType
-  Res = result.the_row (option.the_row Ref) AE.the_row
-
-  module _ (LV : Laws V) where
-    abbrev ref_laws : Laws Ref
-    ref_laws = let a : NamedLft = record { mir = named 0; lft = κ } in
-        of_field (mut_ref_field a (param 1 V) tt) (mut_ref_laws a (param 1 V) tt) refl (mut_ref_shared a (param 1 V)
-        tt (row_shared (param 1 V) (param_laws 1 V LV)))
-
-    abbrev lent_laws : Laws Lent
-    lent_laws = result_laws.the_row_laws Ref (NL.the_row AE.the_row) ref_laws (NL_laws.the_row_laws AE.the_row
-        AE_laws.the_row_laws)
-
-    abbrev res_laws : Laws Res
-    res_laws = result_laws.the_row_laws (option.the_row Ref) AE.the_row (option_laws.the_row_laws Ref ref_laws)
-        AE_laws.the_row_laws
+use Rattle.schnellru.proofs.LentValues.{lone, ends, Lent, Res, lent_laws, res_laws}
 
 pub get_or_insert_spec : {M : Type 1} → statement M
 get_or_insert_spec 𝓤 𝓛 𝓜 𝓡 wired K V L S N H I F LK LV LL LS LN LH LI LF cN kE kEd kP kPd kH kHd lL lLd nL nLd nC nCd
@@ -216,8 +128,9 @@ get_or_insert_spec 𝓤 𝓛 𝓜 𝓡 wired K V L S N H I F LK LV LL LS LN LH L
     (λ i. (sym are.0.0 i, (sym one₁.1 i, sym one₂.1 i))) (
     let y' : End.Ghost = At (mut_vals r) (v₁ ∷ []) (v₂ ∷ []) in
     let z₁ : G₁.Ghost = ((κs, qs, bounds, a, (mut_vals r, (v₁ ∷ [], (v₂ ∷ [], tt)))), tt) in
-    let Lt = Lent κ V in let Rs = Res κ V in let lt = (lent_laws κ V LV).lawful 𝓛 in
-    let rs = (res_laws κ V LV).lawful 𝓛 in
+    let Lt = Lent κ V AE.the_row in let Rs = Res κ V AE.the_row in
+    let lt = (lent_laws κ V AE.the_row LV AE_laws.the_row_laws).lawful 𝓛 in
+    let rs = (res_laws κ V AE.the_row LV AE_laws.the_row_laws).lawful 𝓛 in
     let Tokens = ‵ (flft κs.0 qs.0) ⊛ ‵ (flft κs.1.0 qs.1.0) ⊛ ‵ (flft κs.1.1.0 qs.1.1.0) ⊛
     ‵ (flft κs.1.1.1.0 qs.1.1.1.0) ⊛ ‵ (flft κs.1.1.1.1.0 qs.1.1.1.1.0) ⊛
     ‵ (flft κs.1.1.1.1.1.0 qs.1.1.1.1.1.0) ⊛ ‵ (flft κs.1.1.1.1.1.1.0 qs.1.1.1.1.1.1.0) ⊛

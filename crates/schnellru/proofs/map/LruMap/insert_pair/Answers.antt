@@ -1,4 +1,4 @@
-use Rattle.std.proofs.Common.{[], Ok, length, refl, ap, sym, ◌∙◌, subst, arith}
+use Rattle.std.proofs.Common.{[], Ok, refl, ap, sym, ◌∙◌, subst}
 use Rattle.schnellru.specs.Lists.{IsFront}
 use Rattle.schnellru.specs.State.{contents}
 use Rattle.schnellru.specs.State.{buckets, room}
@@ -38,10 +38,6 @@ insert_without_bucket-requires-clause-hash g c =
     rw (c.in-Err.ensures.returned, c.in-Err.ensures.unchanged)
     (c.requires.hash ∙ ap (λ hasher. g.S.KeyHasher.hash_of hasher c.args.pair.0)
     (sym (ap (λ st. st.hasher) way.is)))
-
-pub evict_over_limit-requires-clause-some : goal.evict_over_limit-requires-clause-some
-evict_over_limit-requires-clause-some g c = omega
-    (arith, ap (λ st. length st.pairs) c.in-Ok.ensures.placed.state)
 
 pub returns-in-Ok-clause-handed : goal.returns-in-Ok-clause-handed
 returns-in-Ok-clause-handed g c =

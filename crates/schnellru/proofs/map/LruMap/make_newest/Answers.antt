@@ -13,7 +13,7 @@ returns-in-Some g c =
     let old = c.args.self.now in let at = c.in-Some.ensures.found in let names = g.I.LookupKey.names c.args.key in
     let (pair, there, accepts) = named_there names old.pairs old.places c.in-Some.b at in
     got pair.1 (named_value names old.pairs pair there) refl
-    (c.promote.ensures.promoted names (g.met.I.LookupKey.laws.one c.args.key) at)
+    (c.promote_at.ensures.promoted names (g.met.I.LookupKey.laws.one c.args.key) at)
 
 pub returns-in-None : goal.returns-in-None
 returns-in-None g c = inserted

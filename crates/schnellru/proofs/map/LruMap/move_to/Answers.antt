@@ -2,7 +2,6 @@ use Rattle.std.proofs.Common.{sym, ◌∙◌, ap, length, arith}
 use Rattle.std.proofs.lemmas.Bool.{false≢true}
 use Rattle.group_table.proofs.BucketLemmas.{length-marks_of}
 use Rattle.schnellru.proofs.TableSizes.Growth.{usage_addressable}
-use Rattle.schnellru.proofs.Maps.Fields.{beside_of}
 use Rattle.schnellru.proofs.OrderedTables.BucketPairs.{pairs-length}
 use Rattle.schnellru.proofs.Maps.MovedPairs.{moves_to, moves_holds}
 use Rattle.schnellru.proofs.map.LruMap.move_to.Goals as goal
@@ -25,15 +24,13 @@ returns-in_err-move_to-clause-succeeds g c = λ none same.
 pub invariant_of-self-2 : goal.invariant_of-self-2
 invariant_of-self-2 g c =
     let m = c.self.inside in let e = c.in_ok-move_to.ensures in let holds = c.self.invariant in
-    let rest = beside_of m (g.L.LinkType.LinkType.number g.L.LinkType.LinkType.MAX) in
     moves_holds m.entries c.move_to.new.self c.args.count holds.linked e.linked e.buckets e.pairs e.room e.placings
-    rest _ _ holds e.fits
+    _ _ _ holds e.fits
     c.requires.reached (rw (← c.self.view_is) at c.requires.usable) (rw (← c.self.view_is) at c.requires.half)
 
 pub returns-clause-moved : goal.returns-clause-moved
 returns-clause-moved g c =
     let m = c.self.inside in let e = c.in_ok-move_to.ensures in
-    let rest = beside_of m (g.L.LinkType.LinkType.number g.L.LinkType.LinkType.MAX) in
     rw (← c.self.view_is)
     (moves_to m.entries c.move_to.new.self c.args.count c.self.invariant.linked e.linked e.buckets e.pairs e.room
-    e.placings rest)
+    e.placings _)

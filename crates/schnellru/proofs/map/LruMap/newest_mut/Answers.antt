@@ -1,5 +1,4 @@
 use Rattle.std.proofs.Common.{refl, sym, ◌∙◌}
-use Rattle.schnellru.proofs.Maps.Fields.{beside_of}
 use Rattle.schnellru.proofs.OrderedTables.NewestPair.{newest_state, newest_holds, newest_is}
 use Rattle.schnellru.proofs.OrderedTables.Writes.{same_follow}
 use Rattle.schnellru.proofs.map.LruMap.newest_mut.Goals as goal
@@ -7,26 +6,24 @@ use Rattle.schnellru.proofs.map.LruMap.newest_mut.Goals as goal
 pub invariant_of-self-lent : goal.invariant_of-self-lent
 invariant_of-self-lent g c = λ w.
     let m = c.self.inside in
-    let rest = beside_of m (g.L.LinkType.LinkType.number g.L.LinkType.LinkType.MAX) in
     let t = m.entries in let holds = c.self.invariant in
     let hash_of = g.S.KeyHasher.hash_of in
     newest_holds t holds.linked c.in_ok-b.b
     (c.pair_mut.result.now.key, c.pair_mut.result.now.value) c.pair_mut.ensures.pair (sym c.newest.ensures.newest
     ∙ c.in_ok-b.was) w
-    rest g.met.K.Eq.laws hash_of holds
+    _ g.met.K.Eq.laws hash_of holds
     (c.pair_mut.ensures.linked (c.pair_mut.result.now.key, w))
     (c.pair_mut.ensures.fits (hash_of m.hasher) holds.fits (c.pair_mut.result.now.key, w) refl)
 
 pub returns : goal.returns
 returns g c =
     let m = c.self.inside in
-    let rest = beside_of m (g.L.LinkType.LinkType.number g.L.LinkType.LinkType.MAX) in
     let t = m.entries in let holds = c.self.invariant in
     let first = sym c.newest.ensures.newest ∙ c.in_ok-b.was in
     rw (← c.self.view_is) (
       same_follow _ _ _ (λ w. newest_state t holds.linked c.in_ok-b.b
           (c.pair_mut.result.now.key, c.pair_mut.result.now.value) c.pair_mut.ensures.pair first w
-          rest),
+          _),
       record {
         writes_back = tt;
         value = sym (newest_is t holds.linked c.in_ok-b.b

@@ -10,12 +10,11 @@ use Rattle.schnellru.proofs.map.LruMap.pair_at_mut.Goals as goal
 pub invariant_of-self-lent : goal.invariant_of-self-lent
 invariant_of-self-lent g c = λ w.
     let m = c.self.inside in
-    let rest = beside_of m (g.L.LinkType.LinkType.number g.L.LinkType.LinkType.MAX) in
     let holds = c.self.invariant in let now = c.pair_mut-pair.result.now in let laws = g.met.K.Eq.laws in
     let hash_of = g.S.KeyHasher.hash_of in
     kept_holds m.entries holds.linked c.args.b (now.key, now.value) c.pair_mut-pair.ensures.pair
     (g.K.PartialEq.eq now.key) laws (λ x y h. laws.congr now.key x y h) (laws.refl now.key)
-    holds.map.distinct rest w hash_of holds
+    holds.map.distinct _ w hash_of holds
     (c.pair_mut-pair.ensures.linked (now.key, w))
     (c.pair_mut-pair.ensures.fits (hash_of m.hasher) holds.fits (now.key, w) refl)
 

@@ -2,7 +2,6 @@ use Rattle.std.proofs.Common.{◌≡◌, refl, sym, ap, ◌∙◌, subst, unwrap
 use Rattle.schnellru.specs.ByHash.{GivesByHash}
 use Rattle.schnellru.specs.Inside.OrderedTable.{pairs_of}
 use Rattle.schnellru.proofs.OrderedTables.ByHash.{gives_by_hash, gives_none_by_hash}
-use Rattle.schnellru.proofs.Maps.Fields.{beside_of}
 use Rattle.schnellru.proofs.Maps.Promotions.{written_is_map}
 use Rattle.schnellru.proofs.OrderedTables.Writes.{kept_holds, kept_state}
 use Rattle.schnellru.proofs.map.LruMap.peek_by_hash_mut.Goals as goal
@@ -24,18 +23,16 @@ returns-in_err-b g c =
 pub invariant_of-self-lent : goal.invariant_of-self-lent
 invariant_of-self-lent g c = λ w.
     let m = c.self.inside in
-    let rest = beside_of m (g.L.LinkType.LinkType.number g.L.LinkType.LinkType.MAX) in
     let holds = c.self.invariant in let now = c.pair_mut.result.now in let laws = g.met.K.Eq.laws in
     let hash_of = g.S.KeyHasher.hash_of in
     kept_holds m.entries holds.linked c.in_ok-b.b (now.key, now.value) c.pair_mut.ensures.pair
     (g.K.PartialEq.eq now.key) laws (λ x y h. laws.congr now.key x y h) (laws.refl now.key)
-    holds.map.distinct rest w hash_of holds
+    holds.map.distinct _ w hash_of holds
     (c.pair_mut.ensures.linked (now.key, w)) (c.pair_mut.ensures.fits (hash_of m.hasher) holds.fits (now.key, w) refl)
 
 pub returns : goal.returns
 returns g c =
     let m = c.self.inside in
-    let rest = beside_of m (g.L.LinkType.LinkType.number g.L.LinkType.LinkType.MAX) in
     let t = m.entries in let holds = c.self.invariant in let now = c.pair_mut.result.now in
     let hash_of = g.S.KeyHasher.hash_of m.hasher in
     let eq = g.K.PartialEq.eq in let laws = g.met.K.Eq.laws in let found = c.in_ok-b.ensures.found in
@@ -51,7 +48,7 @@ returns g c =
           subst (GivesByHash eq hash_of (pairs_of t) c.args.hash g.F.FnMut c.args.is_eq) same gives,
           refl,
           kept_state t holds.linked c.in_ok-b.b (now.key, now.value) c.pair_mut.ensures.pair
-              (eq now.key) laws (λ x y h. laws.congr now.key x y h) (laws.refl now.key) holds.map.distinct rest w,
+              (eq now.key) laws (λ x y h. laws.congr now.key x y h) (laws.refl now.key) holds.map.distinct _ w,
         ),
         tt,
       ),

@@ -1,6 +1,5 @@
 use Rattle.std.proofs.Common.{refl, sym, ap, ◌∙◌, subst, unwrap_or, ◌≡◌, true}
 use Rattle.schnellru.specs.Inside.OrderedTable.{pairs_of}
-use Rattle.schnellru.proofs.Maps.Fields.{beside_of}
 use Rattle.schnellru.proofs.OrderedTables.BucketPairs.{value_found}
 use Rattle.schnellru.proofs.OrderedTables.Searches.{pair_of_place}
 use Rattle.schnellru.proofs.PairLists.NamedPlaces.{no_named_value}
@@ -22,7 +21,6 @@ returns-in_err-b g c = let names = g.Q.LookupKey.names c.args.key.now in
 pub invariant_of-self-lent : goal.invariant_of-self-lent
 invariant_of-self-lent g c = λ w.
     let m = c.self.inside in
-    let rest = beside_of m (g.L.LinkType.LinkType.number g.L.LinkType.LinkType.MAX) in
     let t = m.entries in let holds = c.self.invariant in let now = c.pair_mut.result.now in
     let names = g.Q.LookupKey.names c.args.key.now in let one = g.met.Q.LookupKey.laws.one c.args.key.now in
     let (p, there, is) = pair_of_place t holds.linked names g.met.K.Eq.laws one holds.map.distinct c.in_ok-b.b
@@ -30,13 +28,12 @@ invariant_of-self-lent g c = λ w.
     let key : p ≡ (now.key, now.value) = ap (λ o. unwrap_or o p) (sym there ∙ c.pair_mut.ensures.pair) in
     let hash_of = g.S.KeyHasher.hash_of in
     kept_holds t holds.linked c.in_ok-b.b (now.key, now.value) c.pair_mut.ensures.pair names g.met.K.Eq.laws one
-    (subst (λ p. names p.0 ≡ true) key is) holds.map.distinct rest w hash_of holds
+    (subst (λ p. names p.0 ≡ true) key is) holds.map.distinct _ w hash_of holds
     (c.pair_mut.ensures.linked (now.key, w)) (c.pair_mut.ensures.fits (hash_of m.hasher) holds.fits (now.key, w) refl)
 
 pub returns : goal.returns
 returns g c =
     let m = c.self.inside in
-    let rest = beside_of m (g.L.LinkType.LinkType.number g.L.LinkType.LinkType.MAX) in
     let t = m.entries in let holds = c.self.invariant in let now = c.pair_mut.result.now in
     let names = g.Q.LookupKey.names c.args.key.now in let one = g.met.Q.LookupKey.laws.one c.args.key.now in
     let (p, there, is) = pair_of_place t holds.linked names g.met.K.Eq.laws one holds.map.distinct c.in_ok-b.b
@@ -46,7 +43,7 @@ returns g c =
     rw (← c.self.view_is) (
       same_follow _ _ _ (λ w. kept_state t holds.linked c.in_ok-b.b
           (now.key, now.value) c.pair_mut.ensures.pair names g.met.K.Eq.laws one named holds.map.distinct
-          rest w),
+          _ w),
       record {
         writes_back = tt;
         value = sym (value_found t holds.linked c.in_ok-b.b

@@ -1,26 +1,23 @@
 use Rattle.std.proofs.Common.{sym, ◌∙◌}
-use Rattle.schnellru.proofs.Maps.Fields.{beside_of}
 use Rattle.schnellru.proofs.OrderedTables.BucketPairs.{newest_full, newest_is, others_newest}
 use Rattle.schnellru.proofs.OrderedTables.TakenPairs.{taken_pairs, taken_left, taken_told, taken_leaves, taken_holds}
 use Rattle.schnellru.proofs.map.LruMap.pop_newest.Goals as goal
 
-pub take_out-requires : goal.take_out-requires
-take_out-requires g c = newest_full c.self.inside.entries c.self.invariant.linked c.in_ok-b.b
+pub take_out-requires-clause-full : goal.take_out-requires-clause-full
+take_out-requires-clause-full g c = newest_full c.self.inside.entries c.self.invariant.linked c.in_ok-b.b
     (sym c.newest.ensures.newest ∙ c.in_ok-b.was)
 
 pub invariant_of-self : goal.invariant_of-self
 invariant_of-self g c =
     let m = c.self.inside in
-    let rest = beside_of m (g.L.LinkType.LinkType.number g.L.LinkType.LinkType.MAX) in
     let holds = c.self.invariant in
     taken_holds g.L.Limiter.rules m.entries c.take_out.new.entries c.in_ok-b.b m.limiter c.take_out.new.limiter
     c.take_out.result c.take_out.ensures.taken holds.linked c.take_out.ensures.linked
-    rest g.met.K.Eq.laws _ holds (c.take_out.ensures.fits _ holds.fits)
+    _ g.met.K.Eq.laws _ holds (c.take_out.ensures.fits _ holds.fits)
 
 pub returns : goal.returns
 returns g c =
     let m = c.self.inside in
-    let rest = beside_of m (g.L.LinkType.LinkType.number g.L.LinkType.LinkType.MAX) in
     let holds = c.self.invariant in let out = c.take_out.ensures.taken in
     let rules = g.L.Limiter.rules in let t = m.entries in let u = c.take_out.new.entries in
     let l = c.take_out.new.limiter in
@@ -30,7 +27,7 @@ returns g c =
       step = record {
         pair = taken_left rules t u c.in_ok-b.b m.limiter l c.take_out.result out _ is;
         state = taken_leaves rules t u c.in_ok-b.b m.limiter l c.take_out.result out holds.linked
-            c.take_out.ensures.linked rest _
+            c.take_out.ensures.linked _ _
             (taken_pairs rules t u c.in_ok-b.b m.limiter l c.take_out.result out
             ∙ sym (others_newest t holds.linked c.in_ok-b.b at out.pair out.there))
             (taken_told rules t u c.in_ok-b.b m.limiter l c.take_out.result out _ is);

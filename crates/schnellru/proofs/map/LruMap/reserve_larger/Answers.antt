@@ -1,6 +1,6 @@
 use Rattle.std.proofs.Common.{refl, sym, ◌∙◌}
 use Rattle.schnellru.specs.Inside.Holds.{state_of}
-use Rattle.schnellru.specs.Reservations.{no_such_table}
+use Rattle.schnellru.specs.Reservations.{unchanged, no_such_table}
 use Rattle.schnellru.proofs.Maps.Fields.{beside_of}
 use Rattle.schnellru.proofs.Maps.Reservations.{is_reserved, lacks_memory, is_denied}
 use Rattle.schnellru.proofs.map.LruMap.reserve_larger.Goals as goal
@@ -35,4 +35,5 @@ returns-in-Err g c =
     (sym c.on_grow.ensures.allowed ∙ c.if-not-on_grow.false) c.in-Err.ensures.unchanged)
 
 pub returns-in-None : goal.returns-in-None
-returns-in-None g c = no_such_table c.requires.lacks (sym c.in-None.ensures.next) refl refl
+returns-in-None g c = unchanged
+    (no_such_table c.requires.lacks (sym c.in-None.ensures.next) refl) refl

@@ -1,11 +1,10 @@
 use Rattle.std.proofs.Common.{◌≡◌, ◌/◌, ◌<◌, ◌≤◌, suc, inr, None, [], ◌∷◌, ◌++◌, length, refl, ap, sym, ◌∙◌, subst, arith}
 use denote.Param.Always.{mut_next}
 use Rattle.group_table.specs.Sizes.{full_capacity}
-use Rattle.group_table.proofs.BucketLemmas.{length-marks_of}
 use Rattle.schnellru.specs.Lists.{lookup_entry}
-use Rattle.schnellru.specs.State.{IsSized, buckets, room}
+use Rattle.schnellru.specs.State.{buckets, room}
+use Rattle.schnellru.specs.Place.{LacksRoom}
 use Rattle.schnellru.specs.HandedOver.{noting, noted}
-use Rattle.schnellru.proofs.OrderedTables.BucketPairs.{pairs-length}
 use Rattle.schnellru.proofs.TableSizes.Growth.{full_capacity-some}
 use Rattle.schnellru.proofs.Maps.LeavingPairs.{leaves_self, leaves_more}
 use Rattle.schnellru.proofs.Maps.NotedStates.{takes_more, noted_sized, noted_placed, noted_pop}
@@ -18,51 +17,41 @@ store_after_move-requires-clause-absent g c =
     let i = c.evictions.invariant in
     subst (λ p. lookup_entry (g.K.PartialEq.eq p.0) c.take_oldest-key.new.self.pairs ≡ None) (sym i.same_pair)
     (left_absent g.L.Limiter.rules c.args.hash c.args.pair c.args.self.now c.evictions.self c.take_oldest-key.new.self
-    (subst IsSized c.self.view_is c.self.invariant.map.sized) (c.requires.some, c.requires.outgrown.no_bucket.no_room)
-    i.n i.gone i.some i.half i.no_place i.no_room c.take_oldest-key.ensures.state
+    c.bucket_count-buckets.ensures.map.sized (c.requires.some, c.requires.outgrown.no_bucket.no_room)
+    i.n i.gone i.stuck c.take_oldest-key.ensures.state
     (g.K.PartialEq.eq c.args.pair.0) c.requires.absent)
 
-pub store_after_move-requires-clause-half : goal.store_after_move-requires-clause-half
-store_after_move-requires-clause-half g c =
-    let n = c.self-in-evictions.inside in
-    let len : c.len.result ≡ length c.take_oldest-key.new.self.pairs = rw (← c.self-in-evictions.view_is)
-    (c.len.ensures.len ∙ sym (pairs-length n.entries c.self-in-evictions.invariant.linked)) in
-    omega (arith, len, c.full_capacity-half.ensures, c.if-len-half.true)
+pub store_after_move-requires-clause-count : goal.store_after_move-requires-clause-count
+store_after_move-requires-clause-count g c = rw c.bucket_count-buckets.ensures.count
+    (power_with_pairs c.args.self.now c.bucket_count-buckets.ensures.map.sized c.requires.some)
 
 pub store_after_move-requires-clause-usable : goal.store_after_move-requires-clause-usable
 store_after_move-requires-clause-usable g c =
-    let m = c.self.inside in let old = c.args.self.now in
-    let ok = subst IsSized c.self.view_is c.self.invariant.map.sized in
-    let same : c.buckets-buckets.result ≡ buckets old =
-    rw (← c.self.view_is) (c.buckets-buckets.ensures.buckets ∙ sym (length-marks_of m.entries.slots)) in
-    let bytes : c.take_oldest-key.new.self.entry_bytes ≡ old.entry_bytes =
+    let buckets = c.bucket_count-buckets.ensures in
+    let bytes : c.take_oldest-key.new.self.entry_bytes ≡ c.args.self.now.entry_bytes =
     ap (λ st. st.entry_bytes) c.take_oldest-key.ensures.state.is
     ∙ ap (λ st. st.entry_bytes) c.evictions.invariant.leaves.is in
-    rw (bytes, same) ok.usable
+    rw (bytes, buckets.count) buckets.map.sized.usable
 
 pub fill_bucket-requires-clause-absent : goal.fill_bucket-requires-clause-absent
 fill_bucket-requires-clause-absent g c =
     let i = c.evictions.invariant in
     subst (λ p. lookup_entry (g.K.PartialEq.eq p.0) c.take_oldest-key.new.self.pairs ≡ None) (sym i.same_pair)
     (left_absent g.L.Limiter.rules c.args.hash c.args.pair c.args.self.now c.evictions.self c.take_oldest-key.new.self
-    (subst IsSized c.self.view_is c.self.invariant.map.sized) (c.requires.some, c.requires.outgrown.no_bucket.no_room)
-    i.n i.gone i.some i.half i.no_place i.no_room c.take_oldest-key.ensures.state
+    c.bucket_count-buckets.ensures.map.sized (c.requires.some, c.requires.outgrown.no_bucket.no_room)
+    i.n i.gone i.stuck c.take_oldest-key.ensures.state
     (g.K.PartialEq.eq c.args.pair.0) c.requires.absent)
 
 pub returns-then-len-half-clause-handed : goal.returns-then-len-half-clause-handed
 returns-then-len-half-clause-handed g c =
-    let m = c.self.inside in let n = c.self-in-evictions.inside in let i = c.evictions.invariant in
+    let i = c.evictions.invariant in
     let rules = g.L.Limiter.rules in let old = c.args.self.now in let st = c.evictions.self in
     let u = c.take_oldest-key.new.self in let pair = c.take_oldest-key.result in
-    let same : c.buckets-buckets.result ≡ buckets old =
-    rw (← c.self.view_is) (c.buckets-buckets.ensures.buckets ∙ sym (length-marks_of m.entries.slots)) in
-    let takes : c.full_capacity-half.result ≡ full_capacity (buckets old) = c.full_capacity-half.ensures
-    ∙ ap full_capacity same in
-    let len : c.len.result ≡ length u.pairs =
-    rw (← c.self-in-evictions.view_is)
-    (c.len.ensures.len ∙ sym (pairs-length n.entries c.self-in-evictions.invariant.linked)) in
-    let few : length u.pairs < full_capacity (buckets old) / 2 = omega (arith, takes, len, c.if-len-half.true) in
-    let sized = subst IsSized c.self.view_is c.self.invariant.map.sized in
+    let same = c.bucket_count-buckets.ensures.count in
+    let takes = c.full_capacity-half.ensures ∙ ap full_capacity same in
+    let few : length u.pairs < full_capacity (buckets old) / 2 = omega
+    (arith, takes, c.len.ensures.len, c.if-len-half.true) in
+    let sized = c.bucket_count-buckets.ensures.map.sized in
     λ first before taken.
     let (mid, had, gone) = i.handed first before taken in
     let more = mid ++ pair ∷ [] in
@@ -71,25 +60,21 @@ returns-then-len-half-clause-handed g c =
       after,
       has,
       rehashes_then (noting rules) c.args.hash c.args.pair (noted before old) (noted mid st) (noted more u)
-          (noted_sized before old sized) (c.requires.some, c.requires.outgrown.no_bucket.no_room) i.n gone i.some i.half i.no_place i.no_room
+          (noted_sized before old sized) (c.requires.some, c.requires.outgrown.no_bucket.no_room) i.n gone i.stuck
           (noted_pop rules mid st u pair c.take_oldest-key.ensures) (noted after c.store_after_move.new.self) _ few
           (rw (i.same_pair, same) at step),
     )
 
 pub returns-in-Ok-clause-handed : goal.returns-in-Ok-clause-handed
 returns-in-Ok-clause-handed g c =
-    let m = c.self.inside in let n = c.self-in-evictions.inside in let i = c.evictions.invariant in
+    let i = c.evictions.invariant in
     let rules = g.L.Limiter.rules in let old = c.args.self.now in let st = c.evictions.self in
     let u = c.take_oldest-key.new.self in let pair = c.take_oldest-key.result in
     let new = c.fill_bucket.new.self in
-    let takes : c.full_capacity-half.result ≡ full_capacity (buckets old) =
-    rw (← c.self.view_is) (c.full_capacity-half.ensures
-    ∙ ap full_capacity (c.buckets-buckets.ensures.buckets ∙ sym (length-marks_of m.entries.slots))) in
-    let len : c.len.result ≡ length u.pairs =
-    rw (← c.self-in-evictions.view_is)
-    (c.len.ensures.len ∙ sym (pairs-length n.entries c.self-in-evictions.invariant.linked)) in
-    let enough : full_capacity (buckets old) / 2 ≤ length u.pairs = omega (arith, takes, len, c.if-len-half.false) in
-    let sized = subst IsSized c.self.view_is c.self.invariant.map.sized in
+    let takes = c.full_capacity-half.ensures ∙ ap full_capacity c.bucket_count-buckets.ensures.count in
+    let enough : full_capacity (buckets old) / 2 ≤ length u.pairs = omega
+    (arith, takes, c.len.ensures.len, c.if-len-half.false) in
+    let sized = c.bucket_count-buckets.ensures.map.sized in
     let placed = rw i.same_pair at c.in-Ok.ensures.placed in
     λ first before taken.
     let (mid, had, gone) = i.handed first before taken in
@@ -97,7 +82,7 @@ returns-in-Ok-clause-handed g c =
       more,
       takes_more g.F.FnMut first mid c.evictions.sink pair c.sink.new.self had c.sink.ensures,
       finds (noting rules) c.args.hash c.args.pair (noted before old) (noted mid st) (noted more u)
-          (noted_sized before old sized) (c.requires.some, c.requires.outgrown.no_bucket.no_room) i.n gone i.some i.half i.no_place i.no_room
+          (noted_sized before old sized) (c.requires.some, c.requires.outgrown.no_bucket.no_room) i.n gone i.stuck
           (noted_pop rules mid st u pair c.take_oldest-key.ensures) (noted more new) enough
           (noted_placed more c.args.pair (buckets u) (room new) 0 u new placed) c.in-Ok.ensures.fills,
     )
@@ -105,17 +90,19 @@ returns-in-Ok-clause-handed g c =
 pub evictions-init : goal.evictions-init
 evictions-init g c =
     let old = c.args.self.now in
-    let sized = subst IsSized c.self.view_is c.self.invariant.map.sized in
+    let sized = c.bucket_count-buckets.ensures.map.sized in
     let none = c.requires.outgrown.no_bucket in let free = none.first_empty c.requires.some in record {
       callable = c.requires.callable;
       n = 0;
       gone = refl;
       handed = λ first before taken. (before, taken, refl);
       leaves = leaves_self old;
-      some = c.requires.some;
-      half = omega (arith, c.requires.outgrown.above_half);
-      no_place = inr (none.no_room, free.0, free.1, free.2);
-      no_room = none.no_room;
+      stuck = record {
+        some = c.requires.some;
+        half = omega (arith, c.requires.outgrown.above_half);
+        no_place = inr (none.no_room, free.0, free.1, free.2);
+        no_room = none.no_room;
+      };
       same_pair = refl;
     }
 
@@ -123,52 +110,41 @@ pub evictions-smaller : goal.evictions-smaller
 evictions-smaller g c =
     let i = c.evictions.invariant in
     let one = one_fewer g.L.Limiter.rules c.args.hash c.args.pair c.args.self.now c.evictions.self
-    c.take_oldest-key.new.self (subst IsSized c.self.view_is c.self.invariant.map.sized)
-    (c.requires.some, c.requires.outgrown.no_bucket.no_room) i.n i.gone i.some i.half i.no_place i.no_room c.take_oldest-key.ensures.state in
+    c.take_oldest-key.new.self c.bucket_count-buckets.ensures.map.sized
+    (c.requires.some, c.requires.outgrown.no_bucket.no_room) i.n i.gone i.stuck c.take_oldest-key.ensures.state in
     let fewer : length c.fill_bucket.new.self.pairs < length c.evictions.self.pairs = omega
     (arith, one, ap (λ st. length st.pairs) c.in-Err.ensures.unchanged) in fewer
 
 pub evictions-preserved : goal.evictions-preserved
 evictions-preserved g c =
-    let m = c.self.inside in let n = c.self-in-evictions.inside in let i = c.evictions.invariant in
-    let sized = subst IsSized c.self.view_is c.self.invariant.map.sized in
-    let takes : c.full_capacity-half.result ≡ full_capacity (buckets c.args.self.now) =
-    rw (← c.self.view_is) (c.full_capacity-half.ensures
-    ∙ ap full_capacity (c.buckets-buckets.ensures.buckets ∙ sym (length-marks_of m.entries.slots))) in
-    let len : c.len.result ≡ length c.take_oldest-key.new.self.pairs =
-    rw (← c.self-in-evictions.view_is)
-    (c.len.ensures.len ∙ sym (pairs-length n.entries c.self-in-evictions.invariant.linked)) in
-    let enough : full_capacity (buckets c.args.self.now) / 2 ≤ length c.take_oldest-key.new.self.pairs = omega
-    (arith, takes, len, c.if-len-half.false) in
-    let rules = g.L.Limiter.rules in let u = c.take_oldest-key.new.self in let pair = c.take_oldest-key.result in
-    let st = c.evictions.self in
+    let i = c.evictions.invariant in
+    let rules = g.L.Limiter.rules in let old = c.args.self.now in let st = c.evictions.self in
+    let u = c.take_oldest-key.new.self in let pair = c.take_oldest-key.result in
+    let sized = c.bucket_count-buckets.ensures.map.sized in
+    let lacks : LacksRoom old = (c.requires.some, c.requires.outgrown.no_bucket.no_room) in
+    let takes = c.full_capacity-half.ensures ∙ ap full_capacity c.bucket_count-buckets.ensures.count in
+    let enough : full_capacity (buckets old) / 2 ≤ length u.pairs = omega
+    (arith, takes, c.len.ensures.len, c.if-len-half.false) in
     rw c.in-Err.ensures.unchanged (record {
       callable = mut_next g.F.FnMut c.evictions.sink (pair.0, (pair.1, tt)) tt c.sink.new.self c.sink.new.self
           c.sink.ensures refl i.callable;
       n = suc i.n;
-      gone = one_more g.L.Limiter.rules c.args.hash c.args.pair c.args.self.now c.evictions.self
-          c.take_oldest-key.new.self sized (c.requires.some, c.requires.outgrown.no_bucket.no_room)
-          i.n i.gone i.some i.half i.no_place i.no_room c.take_oldest-key.ensures.state;
+      gone = one_more rules c.args.hash c.args.pair old st u sized lacks i.n i.gone i.stuck
+          c.take_oldest-key.ensures.state;
       handed = λ first before taken.
           let (mid, had, gone) = i.handed first before taken in (
             mid ++ pair ∷ [],
             takes_more g.F.FnMut first mid c.evictions.sink pair c.sink.new.self had c.sink.ensures,
-            one_more (noting rules) c.args.hash c.args.pair (noted before c.args.self.now) (noted mid st)
-                (noted (mid ++ pair ∷ []) u) (noted_sized before c.args.self.now sized) (c.requires.some, c.requires.outgrown.no_bucket.no_room) i.n gone
-                i.some i.half i.no_place i.no_room (noted_pop rules mid st u pair c.take_oldest-key.ensures),
+            one_more (noting rules) c.args.hash c.args.pair (noted before old) (noted mid st)
+                (noted (mid ++ pair ∷ []) u) (noted_sized before old sized) lacks i.n gone i.stuck
+                (noted_pop rules mid st u pair c.take_oldest-key.ensures),
           );
-      leaves = leaves_more g.L.Limiter.rules i.n c.args.self.now c.evictions.self c.take_oldest-key.new.self i.leaves
-          c.take_oldest-key.ensures.state;
-      some = omega (
-        arith,
-        enough,
-        full_capacity-some (buckets c.args.self.now)
-            (power_with_pairs c.args.self.now sized c.requires.some),
-      );
-      half = enough;
-      no_place = c.in-Err.ensures.no_place;
-      no_room = (no_place_bucket c.take_oldest-key.new.self
-          (subst IsSized c.self-in-evictions.view_is c.self-in-evictions.invariant.map.sized) c.args.hash
-          c.in-Err.ensures.no_place).no_room;
+      leaves = leaves_more rules i.n old st u i.leaves c.take_oldest-key.ensures.state;
+      stuck = record {
+        some = omega (arith, enough, full_capacity-some (buckets old) (power_with_pairs old sized c.requires.some));
+        half = enough;
+        no_place = c.in-Err.ensures.no_place;
+        no_room = (no_place_bucket u c.len.ensures.map.sized c.args.hash c.in-Err.ensures.no_place).no_room;
+      };
       same_pair = c.in-Err.ensures.returned ∙ i.same_pair;
     })

@@ -1,13 +1,13 @@
 -- Some of the oldest have left and were handed over. At least half of what the table takes is left, and the pair has no
 -- place yet.
-use Rattle.std.proofs.Common.{◌≡◌, ℕ, ◌/◌, ◌<◌, ◌≤◌, length}
+use Rattle.std.proofs.Common.{◌≡◌, ℕ, ◌/◌, length}
 use denote.Param.Always.{always_mut}
 use Rattle.group_table.specs.Sizes.{full_capacity}
-use Rattle.group_table.specs.Change.{HasNoPlace}
-use Rattle.schnellru.specs.State.{buckets, room, contents, Leaves, pops}
+use Rattle.schnellru.specs.State.{buckets, contents, Leaves, pops}
 use Rattle.schnellru.specs.Place.{OldestLeave}
 use Rattle.schnellru.specs.HandedOver.{noting, noted}
 use Rattle.schnellru.specs.Inside.Handing.{Hands}
+use Rattle.schnellru.proofs.Maps.Placements.{IsStuck}
 use Rattle.schnellru.proofs.map.LruMap.store_after_eviction.Given as goal
 
 abbrev pub invariant-evictions : goal.invariant-evictions
@@ -18,10 +18,7 @@ invariant-evictions g l = record {
   handed : Hands g.F.FnMut l.fn.sink l.sink (λ before after.
       OldestLeave (noting g.L.Limiter.rules) l.hash n (noted before l.fn.self) (noted after l.self));
   leaves : Leaves l.fn.self (pops g.L.Limiter.rules n (contents l.fn.self)) l.self;
-  some : 0 < length l.self.pairs;
-  half : full_capacity (buckets l.fn.self) / 2 ≤ length l.self.pairs;
-  no_place : HasNoPlace l.self.marks l.hash;
-  no_room : room l.self ≡ 0;
+  stuck : IsStuck l.hash (full_capacity (buckets l.fn.self) / 2) l.self.marks (length l.self.pairs);
   same_pair : l.pair ≡ l.fn.pair;
 }
 

@@ -13,7 +13,7 @@ invariant_of-self g c =
 pub returns-clause-slots : goal.returns-clause-slots
 returns-clause-slots g c =
     rw (← c.self.view_is) (pair_slots-cleared c.clear.new.self.slots _ c.clear.ensures.slots
-    ∙ ap (λ n. replicate n empty) (sym (length-pair_slots c.self.inside.table.slots)))
+    ∙ ap (λ n. replicate n empty) (sym (length-pair_slots c.self.inside.chain.table.slots)))
 
 pub returns-clause-order : goal.returns-clause-order
 returns-clause-order g c =

@@ -21,7 +21,7 @@ invariant_of-self-2 g c =
     let renumbers = rw (← c.as_slice.ensures.value) at c.in_ok-links.ensures.renumbered in
     let chain = c.rewrite.ensures.chain _ _ c.self.invariant renumbers in
     IsWhole-shown g.met.N.LinkType.laws
-    (IsWhole-moved renumbers c.rewrite.new.table.slots c.rewrite.ensures.pairs c.self.invariant
+    (IsWhole-moved renumbers c.rewrite.new.self.table.slots c.rewrite.ensures.pairs c.self.invariant
     c.in_ok-links.ensures.entries chain)
 
 pub returns-clause-pairs : goal.returns-clause-pairs
@@ -29,21 +29,21 @@ returns-clause-pairs g c =
     let renumbers = rw (← c.as_slice.ensures.value) at c.in_ok-links.ensures.renumbered in
     let chain = c.rewrite.ensures.chain _ _ c.self.invariant renumbers in
     let order = whole_order g.met.N.LinkType.laws
-    (IsWhole-moved renumbers c.rewrite.new.table.slots c.rewrite.ensures.pairs c.self.invariant
+    (IsWhole-moved renumbers c.rewrite.new.self.table.slots c.rewrite.ensures.pairs c.self.invariant
     c.in_ok-links.ensures.entries chain) in
     rw (← c.self.view_is)
-    (ap (entries_in (pair_slots c.rewrite.new.table.slots)) order
-    ∙ pairs-moved renumbers c.rewrite.new.table.slots c.rewrite.ensures.pairs c.self.invariant)
+    (ap (entries_in (pair_slots c.rewrite.new.self.table.slots)) order
+    ∙ pairs-moved renumbers c.rewrite.new.self.table.slots c.rewrite.ensures.pairs c.self.invariant)
 
 pub returns-clause-room : goal.returns-clause-room
 returns-clause-room g c =
-    let marks = same_marks c.renumber_entries.new.table.slots c.rewrite.new.table.slots c.rewrite.ensures.pairs in
-    rw (← c.self.view_is, marks_of-pair_slots c.rewrite.new.table.slots, marks, ← c.self.invariant.count)
+    let marks = same_marks c.renumber_entries.new.table.slots c.rewrite.new.self.table.slots c.rewrite.ensures.pairs in
+    rw (← c.self.view_is, marks_of-pair_slots c.rewrite.new.self.table.slots, marks, ← c.self.invariant.count)
     c.in_ok-links.ensures.room
 
 pub returns-clause-fits : goal.returns-clause-fits
 returns-clause-fits g c =
-    let slots = c.rewrite.new.table.slots in let hasher = c.args.hasher.now in
+    let slots = c.rewrite.new.self.table.slots in let hasher = c.args.hasher.now in
     let told = hash_by g.K.Hash.hash_input g.S.BuildHasher g.S.Hasher.Hasher hasher in
     let same : told ≡ g.S.KeyHasher.hash_of hasher = λ i k. sym (g.met.S.KeyHasher.by_builder hasher k) i in
     subst (λ hash_of. KeysFit hash_of (pair_slots slots)) same
@@ -51,5 +51,5 @@ returns-clause-fits g c =
 
 pub returns-clause-linked : goal.returns-clause-linked
 returns-clause-linked g c =
-    let marks = same_marks c.renumber_entries.new.table.slots c.rewrite.new.table.slots c.rewrite.ensures.pairs in
+    let marks = same_marks c.renumber_entries.new.table.slots c.rewrite.new.self.table.slots c.rewrite.ensures.pairs in
     IsLinked-view g.met.N.LinkType.laws (invariant_of-self-2 g c) (rw marks c.renumber_entries.ensures.table)

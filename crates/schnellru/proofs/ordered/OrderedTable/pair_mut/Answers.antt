@@ -19,11 +19,11 @@ returns g c = (
   ),
   record {
     writes_back = tt;
-    pair = rw (← c.self.view_is) (entry_at-pair_slots c.self.inside.table.slots c.args.b
+    pair = rw (← c.self.view_is) (entry_at-pair_slots c.self.inside.chain.table.slots c.args.b
         ∙ ap (option_map pair_of) c.get_mut.ensures.entry);
     fits = λ hash_of fits last same.
         KeysFit-refilled hash_of c.args.self.now.slots c.args.b (pair_of c.get_mut.result.now) last c.requires
-        (rw (← c.self.view_is) (entry_at-pair_slots c.self.inside.table.slots c.args.b
+        (rw (← c.self.view_is) (entry_at-pair_slots c.self.inside.chain.table.slots c.args.b
         ∙ ap (option_map pair_of) c.get_mut.ensures.entry)) same fits;
     linked = λ last.
         rw (← c.self.view_is) (IsLinked-refilled g.met.N.LinkType.laws c.self.invariant c.args.b c.get_mut.result.now

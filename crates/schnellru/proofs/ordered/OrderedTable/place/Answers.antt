@@ -10,59 +10,59 @@ use Rattle.schnellru.proofs.Chains.WholeChains.{whole_order, IsWhole-shown, IsLi
 use Rattle.schnellru.proofs.Chains.WholeChains.{IsChain-placed, IsWhole-placed}
 use Rattle.schnellru.proofs.ordered.OrderedTable.place.Goals as goal
 
-pub link_placed-link-requires-clause-chained : goal.link_placed-link-requires-clause-chained
-link_placed-link-requires-clause-chained g c =
+pub link_placed-requires-clause-chained : goal.link_placed-requires-clause-chained
+link_placed-requires-clause-chained g c =
     let placed = c.in-Ok.ensures.placed in
-    let within = fills_within c.self.inside.table.slots c.args.hash c.in-Ok.b placed.first c.in-Ok.ensures.may_fill in (
+    let within = fills_within c.self.inside.chain.table.slots c.args.hash c.in-Ok.b placed.first c.in-Ok.ensures.may_fill in (
       _,
       IsChain-placed g.met.N.LinkType.laws c.self.invariant placed within,
       placed_absent g.met.N.LinkType.laws c.self.invariant placed within,
     )
 
-pub link_placed-link-requires-clause-newer : goal.link_placed-link-requires-clause-newer
-link_placed-link-requires-clause-newer g c =
+pub link_placed-requires-clause-newer : goal.link_placed-requires-clause-newer
+link_placed-requires-clause-newer g c =
     let placed = c.in-Ok.ensures.placed in
-    let within = fills_within c.self.inside.table.slots c.args.hash c.in-Ok.b placed.first c.in-Ok.ensures.may_fill in
-    let there = entry_at-placed c.self.inside.table c.try_place.new.self c.args.hash _ c.in-Ok.b placed within in
+    let within = fills_within c.self.inside.chain.table.slots c.args.hash c.in-Ok.b placed.first c.in-Ok.ensures.may_fill in
+    let there = entry_at-placed c.self.inside.chain.table c.try_place.new.self c.args.hash _ c.in-Ok.b placed within in
     ap (option_map (λ x. x.newer)) there ∙ ap Some c.MAX.ensures
 
-pub link_placed-link-requires-clause-older : goal.link_placed-link-requires-clause-older
-link_placed-link-requires-clause-older g c =
+pub link_placed-requires-clause-older : goal.link_placed-requires-clause-older
+link_placed-requires-clause-older g c =
     let placed = c.in-Ok.ensures.placed in
-    let within = fills_within c.self.inside.table.slots c.args.hash c.in-Ok.b placed.first c.in-Ok.ensures.may_fill in
-    let there = entry_at-placed c.self.inside.table c.try_place.new.self c.args.hash _ c.in-Ok.b placed within in
+    let within = fills_within c.self.inside.chain.table.slots c.args.hash c.in-Ok.b placed.first c.in-Ok.ensures.may_fill in
+    let there = entry_at-placed c.self.inside.chain.table c.try_place.new.self c.args.hash _ c.in-Ok.b placed within in
     ap (option_map (λ x. x.older)) there
 
 pub invariant_of-self : goal.invariant_of-self
 invariant_of-self g c =
     let placed = c.in-Ok.ensures.placed in
-    let within = fills_within c.self.inside.table.slots c.args.hash c.in-Ok.b placed.first c.in-Ok.ensures.may_fill in
-    let chain = c.link_placed-link.ensures.chain _ (IsChain-placed g.met.N.LinkType.laws c.self.invariant placed within)
+    let within = fills_within c.self.inside.chain.table.slots c.args.hash c.in-Ok.b placed.first c.in-Ok.ensures.may_fill in
+    let chain = c.link_placed.ensures.chain _ (IsChain-placed g.met.N.LinkType.laws c.self.invariant placed within)
     (placed_absent g.met.N.LinkType.laws c.self.invariant placed within) in
     IsWhole-shown g.met.N.LinkType.laws (IsWhole-placed g.met.N.LinkType.laws c.self.invariant placed within
-    c.link_placed-link.ensures.pairs chain)
+    c.link_placed.ensures.pairs chain)
 
 pub returns-in-Ok-clause-placed : goal.returns-in-Ok-clause-placed
 returns-in-Ok-clause-placed g c =
     let placed = c.in-Ok.ensures.placed in
-    let within = fills_within c.self.inside.table.slots c.args.hash c.in-Ok.b placed.first c.in-Ok.ensures.may_fill in
-    let chain = c.link_placed-link.ensures.chain _ (IsChain-placed g.met.N.LinkType.laws c.self.invariant placed within)
+    let within = fills_within c.self.inside.chain.table.slots c.args.hash c.in-Ok.b placed.first c.in-Ok.ensures.may_fill in
+    let chain = c.link_placed.ensures.chain _ (IsChain-placed g.met.N.LinkType.laws c.self.invariant placed within)
     (placed_absent g.met.N.LinkType.laws c.self.invariant placed within) in
     let order = whole_order g.met.N.LinkType.laws (IsWhole-placed g.met.N.LinkType.laws c.self.invariant placed within
-    c.link_placed-link.ensures.pairs chain) in
+    c.link_placed.ensures.pairs chain) in
     rw (← c.self.view_is) (
       c.in-Ok.b,
       record {
-        first = rw (marks_of-pair_slots c.self.inside.table.slots) placed.first;
-        may = rw (marks_of-pair_slots c.self.inside.table.slots) c.in-Ok.ensures.may_fill;
-        slots = c.link_placed-link.ensures.pairs ∙ ap pair_slots placed.slots
-            ∙ pair_slots-set c.self.inside.table.slots c.in-Ok.b _;
+        first = rw (marks_of-pair_slots c.self.inside.chain.table.slots) placed.first;
+        may = rw (marks_of-pair_slots c.self.inside.chain.table.slots) c.in-Ok.ensures.may_fill;
+        slots = c.link_placed.ensures.pairs ∙ ap pair_slots placed.slots
+            ∙ pair_slots-set c.self.inside.chain.table.slots c.in-Ok.b _;
         order = order;
-        placings = c.link_placed-link.ensures.placings ∙ placed.placings;
+        placings = c.link_placed.ensures.placings ∙ placed.placings;
         room = rw (
-          c.link_placed-link.ensures.pairs,
+          c.link_placed.ensures.pairs,
           marks_of-pair_slots c.try_place.new.self.slots,
-          marks_of-pair_slots c.self.inside.table.slots,
+          marks_of-pair_slots c.self.inside.chain.table.slots,
         ) c.in-Ok.ensures.room;
       },
     )
@@ -70,20 +70,20 @@ returns-in-Ok-clause-placed g c =
 pub returns-in-Ok-clause-fits : goal.returns-in-Ok-clause-fits
 returns-in-Ok-clause-fits g c hash_of fits same =
     let placed = c.in-Ok.ensures.placed in
-    let within = fills_within c.self.inside.table.slots c.args.hash c.in-Ok.b placed.first c.in-Ok.ensures.may_fill in
+    let within = fills_within c.self.inside.chain.table.slots c.args.hash c.in-Ok.b placed.first c.in-Ok.ensures.may_fill in
     let before = rw (← c.self.view_is) at fits in
-    let slots = ap pair_slots placed.slots ∙ pair_slots-set c.self.inside.table.slots c.in-Ok.b _ in
+    let slots = ap pair_slots placed.slots ∙ pair_slots-set c.self.inside.chain.table.slots c.in-Ok.b _ in
     let after = rw slots at
     (Fits-pair_slots c.try_place.new.self.slots _
-    (c.in-Ok.ensures.fits _ (Fits-entries c.self.inside.table.slots _ before))) in
-    rw (c.link_placed-link.ensures.pairs, slots)
-    (KeysFit-placed hash_of (pair_slots c.self.inside.table.slots) c.in-Ok.b c.args.hash c.args.pair
-    (rw (length-pair_slots c.self.inside.table.slots) within) same after)
+    (c.in-Ok.ensures.fits _ (Fits-entries c.self.inside.chain.table.slots _ before))) in
+    rw (c.link_placed.ensures.pairs, slots)
+    (KeysFit-placed hash_of (pair_slots c.self.inside.chain.table.slots) c.in-Ok.b c.args.hash c.args.pair
+    (rw (length-pair_slots c.self.inside.chain.table.slots) within) same after)
 
 pub returns-in-Ok-clause-linked : goal.returns-in-Ok-clause-linked
 returns-in-Ok-clause-linked g c =
-    let marks = same_marks c.try_place.new.self.slots c.link_placed-link.new.table.slots
-    c.link_placed-link.ensures.pairs in
+    let marks = same_marks c.try_place.new.self.slots c.link_placed.new.self.table.slots
+    c.link_placed.ensures.pairs in
     IsLinked-view g.met.N.LinkType.laws (invariant_of-self g c) (rw marks c.try_place.ensures.table)
 
 pub returns-in-Err-clause-linked : goal.returns-in-Err-clause-linked
@@ -93,4 +93,4 @@ returns-in-Err-clause-linked g c =
 
 pub returns-in-Err-clause-no_place : goal.returns-in-Err-clause-no_place
 returns-in-Err-clause-no_place g c = rw
-    (← c.self.view_is, marks_of-pair_slots c.self.inside.table.slots) c.in-Err.ensures.no_place
+    (← c.self.view_is, marks_of-pair_slots c.self.inside.chain.table.slots) c.in-Err.ensures.no_place

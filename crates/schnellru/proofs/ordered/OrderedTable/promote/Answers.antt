@@ -29,14 +29,14 @@ pub link_newest-requires-clause-chained : goal.link_newest-requires-clause-chain
 link_newest-requires-clause-chained g c =
     let full = rw (← c.self.view_is) at c.requires in
     let there = inside g.met.N.LinkType.laws c.self.invariant c.args.b full in
-    (_, (_, c.unlink.ensures.chain _ c.self.invariant.chain there, λ w. (without_in c.args.b c.args.b _ w).1 refl))
+    (_, c.unlink.ensures.chain _ c.self.invariant.chain there, λ w. (without_in c.args.b c.args.b _ w).1 refl)
 
 pub invariant_of-self : goal.invariant_of-self
 invariant_of-self g c =
     let full = rw (← c.self.view_is) at c.requires in
     let there = inside g.met.N.LinkType.laws c.self.invariant c.args.b full in
     let left = c.unlink.ensures.chain _ c.self.invariant.chain there in
-    let chain = c.link_newest.ensures.chain _ _ left (λ w. (without_in c.args.b c.args.b _ w).1 refl) in
+    let chain = c.link_newest.ensures.chain _ left (λ w. (without_in c.args.b c.args.b _ w).1 refl) in
     IsWhole-shown g.met.N.LinkType.laws (IsWhole-promoted g.met.N.LinkType.laws c.self.invariant c.args.b
     (full_entry g.met.N.LinkType.laws c.self.invariant c.args.b full) (c.link_newest.ensures.pairs
     ∙ c.unlink.ensures.pairs) chain)
@@ -46,7 +46,7 @@ returns-clause-order g c =
     let full = rw (← c.self.view_is) at c.requires in
     let there = inside g.met.N.LinkType.laws c.self.invariant c.args.b full in
     let left = c.unlink.ensures.chain _ c.self.invariant.chain there in
-    let chain = c.link_newest.ensures.chain _ _ left (λ w. (without_in c.args.b c.args.b _ w).1 refl) in
+    let chain = c.link_newest.ensures.chain _ left (λ w. (without_in c.args.b c.args.b _ w).1 refl) in
     rw (← c.self.view_is) (whole_order g.met.N.LinkType.laws
     (IsWhole-promoted g.met.N.LinkType.laws c.self.invariant c.args.b
     (full_entry g.met.N.LinkType.laws c.self.invariant c.args.b full) (c.link_newest.ensures.pairs
@@ -54,6 +54,6 @@ returns-clause-order g c =
 
 pub returns-clause-linked : goal.returns-clause-linked
 returns-clause-linked g c =
-    let marks = same_marks c.self.inside.table.slots c.link_newest.new.table.slots (c.link_newest.ensures.pairs
+    let marks = same_marks c.self.inside.chain.table.slots c.link_newest.new.self.table.slots (c.link_newest.ensures.pairs
     ∙ c.unlink.ensures.pairs) in
     IsLinked-view g.met.N.LinkType.laws (invariant_of-self g c) (rw marks c.get.ensures.table)

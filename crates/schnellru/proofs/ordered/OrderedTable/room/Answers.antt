@@ -6,7 +6,7 @@ use Rattle.schnellru.proofs.ordered.OrderedTable.room.Goals as goal
 
 pub returns-clause-room : goal.returns-clause-room
 returns-clause-room g c = rw (← c.self.view_is)
-    (c.room.ensures.value ∙ ap room (sym (marks_of-pair_slots c.self.inside.table.slots)))
+    (c.room.ensures.value ∙ ap room (sym (marks_of-pair_slots c.self.inside.chain.table.slots)))
 
 pub returns-clause-linked : goal.returns-clause-linked
 returns-clause-linked g c = rw (← c.self.view_is)

@@ -1,52 +1,54 @@
-use Rattle.schnellru.proofs.OrderedTables.PairSlots.{same_marks}
+use Rattle.std.proofs.Common.{ap, ◌∙◌}
+use Rattle.std.specs.Prelude.{option_map}
+use Rattle.schnellru.proofs.OrderedTables.PairSlots.{same_marks, pair_of, entry_at-pair_slots}
 use Rattle.schnellru.proofs.OrderedTables.TakenEntries.{taken_removes, taken_room, taken_fits, taken_whole, taken_order}
 use Rattle.schnellru.proofs.Chains.LinkWrites.{IsGap-taken}
 use Rattle.schnellru.proofs.Chains.WholeChains.{IsLinked-view}
-use Rattle.schnellru.proofs.Chains.LinkReads.{full_entry, inside}
+use Rattle.schnellru.proofs.Chains.LinkReads.{full_entry, inside, none_older}
 use Rattle.schnellru.proofs.ordered.OrderedTable.take.Goals as goal
+
+pub link_or_max-requires : goal.link_or_max-requires
+link_or_max-requires g c last = none_older g.met.N.LinkType.laws c.self.invariant c.args.b
+    (rw (← c.self.view_is) at (c.requires.last last)) _ c.take-newer.ensures.entry
 
 pub close_gap-requires : goal.close_gap-requires
 close_gap-requires g c =
-    let there = inside g.met.N.LinkType.laws c.self.invariant c.args.b (rw (← c.self.view_is) at c.requires) in (
+    let there = inside g.met.N.LinkType.laws c.self.invariant c.args.b (rw (← c.self.view_is) at c.requires.full) in
+    rw c.link_or_max.ensures (
       _,
       c.args.b,
-      IsGap-taken g.met.N.LinkType.laws c.self.invariant.chain c.args.b there _ c.take-newer.ensures.entry _
-          c.take-newer.ensures.removed,
+      IsGap-taken g.met.N.LinkType.laws c.self.invariant.chain c.args.b there _
+          c.take-newer.ensures.entry _ c.take-newer.ensures.removed,
     )
 
 pub invariant_of-self : goal.invariant_of-self
 invariant_of-self g c =
-    let shown = rw (← c.self.view_is) at c.requires in
-    let there = inside g.met.N.LinkType.laws c.self.invariant c.args.b shown in
-    taken_whole _ _ _ c.args.b c.take-newer.ensures.removed c.close_gap.ensures.pairs g.met.N.LinkType.laws c.self.invariant
-    (full_entry g.met.N.LinkType.laws c.self.invariant c.args.b shown)
-    (c.close_gap.ensures.chain _ c.args.b (IsGap-taken g.met.N.LinkType.laws c.self.invariant.chain c.args.b there _
-    c.take-newer.ensures.entry _ c.take-newer.ensures.removed))
+    let laws = g.met.N.LinkType.laws in let removed = c.take-newer.ensures.removed in
+    let shown = rw (← c.self.view_is) at c.requires.full in
+    let gap = IsGap-taken laws c.self.invariant.chain c.args.b (inside laws c.self.invariant c.args.b shown) _
+    c.take-newer.ensures.entry _ removed in
+    taken_whole _ _ _ c.args.b removed c.close_gap.ensures.pairs laws c.self.invariant
+    (full_entry laws c.self.invariant c.args.b shown)
+    (c.close_gap.ensures.chain _ c.args.b (rw c.link_or_max.ensures gap))
 
-pub returns-clause-removed : goal.returns-clause-removed
-returns-clause-removed g c = rw (← c.self.view_is)
-    (taken_removes _ _ _ c.args.b c.take-newer.ensures.removed c.close_gap.ensures.pairs)
-
-pub returns-clause-order : goal.returns-clause-order
-returns-clause-order g c =
-    let shown = rw (← c.self.view_is) at c.requires in
-    let there = inside g.met.N.LinkType.laws c.self.invariant c.args.b shown in
-    rw (← c.self.view_is) (taken_order _ _ _ c.args.b c.take-newer.ensures.removed c.close_gap.ensures.pairs g.met.N.LinkType.laws
-    c.self.invariant (full_entry g.met.N.LinkType.laws c.self.invariant c.args.b shown)
-    (c.close_gap.ensures.chain _ c.args.b (IsGap-taken g.met.N.LinkType.laws c.self.invariant.chain c.args.b there _
-    c.take-newer.ensures.entry _ c.take-newer.ensures.removed)))
-
-pub returns-clause-room : goal.returns-clause-room
-returns-clause-room g c = rw (← c.self.view_is)
-    (taken_room _ _ _ c.args.b c.take-newer.ensures.removed c.close_gap.ensures.pairs c.take-newer.ensures.room)
-
-pub returns-clause-fits : goal.returns-clause-fits
-returns-clause-fits g c = rw (← c.self.view_is)
-    (taken_fits _ _ _ c.args.b c.take-newer.ensures.removed c.close_gap.ensures.pairs
-    (full_entry g.met.N.LinkType.laws c.self.invariant c.args.b (rw (← c.self.view_is) at c.requires))
-    c.take-newer.ensures.fits)
-
-pub returns-clause-linked : goal.returns-clause-linked
-returns-clause-linked g c = IsLinked-view g.met.N.LinkType.laws (invariant_of-self g c)
-    (rw (same_marks c.take-newer.new.self.slots c.close_gap.new.table.slots c.close_gap.ensures.pairs)
-    c.take-newer.ensures.table)
+pub returns : goal.returns
+returns g c =
+    let laws = g.met.N.LinkType.laws in let whole = c.self.invariant in
+    let removed = c.take-newer.ensures.removed in let same = c.close_gap.ensures.pairs in
+    let shown = rw (← c.self.view_is) at c.requires.full in
+    let full = full_entry laws whole c.args.b shown in
+    let gap = IsGap-taken laws whole.chain c.args.b (inside laws whole c.args.b shown) _ c.take-newer.ensures.entry _
+    removed in
+    let chain = c.close_gap.ensures.chain _ c.args.b (rw c.link_or_max.ensures gap) in
+    let same_placings = c.close_gap.ensures.placings ∙ c.take-newer.ensures.placings in
+    rw (← c.self.view_is) (record {
+      pair = entry_at-pair_slots _ c.args.b ∙ ap (option_map pair_of) c.take-newer.ensures.entry;
+      removed = taken_removes _ _ _ c.args.b removed same;
+      order = taken_order _ _ _ c.args.b removed same laws whole full chain;
+      placings = same_placings;
+      room = taken_room _ _ _ c.args.b removed same c.take-newer.ensures.room;
+      fits = taken_fits _ _ _ c.args.b removed same full c.take-newer.ensures.fits;
+      linked = IsLinked-view laws (invariant_of-self g c)
+          (rw (same_marks c.take-newer.new.self.slots c.close_gap.new.self.table.slots same)
+          c.take-newer.ensures.table);
+    })

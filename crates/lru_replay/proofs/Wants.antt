@@ -1,0 +1,63 @@
+-- What a reply says of memory, of each kind of reply.
+use Rattle.std.proofs.Common.{◌≡◌, Bool, true, false, List, ◌∷◌, Result, Ok, Err, refl}
+use Rattle.std.specs.Prelude.{is_err}
+use Rattle.std.specs.declared.alloc.AllocError.{AllocError}
+use Rattle.schnellru.proofs.CallerLemmas.{is_memory}
+use Rattle.schnellru.specs.declared.map.reserve.ReserveError.{ReserveError}
+use Rattle.schnellru.specs.declared.map.reserve.ReserveError.TheVariants.{TooLarge, Refused, Memory}
+use Rattle.lru_replay.specs.Replies.{Reply, given, reserved, shrunk, insert_reply, made_reply}
+use Rattle.lru_replay.specs.Replies.{Want, found_all, lacks, lacks_beside, want_of}
+
+pub head_same : {x y : Want} {xs ys : List Want} → x ∷ xs ≡ y ∷ ys → x ≡ y
+head_same e = cc
+
+pub tail_same : {x y : Want} {xs ys : List Want} → x ∷ xs ≡ y ∷ ys → xs ≡ ys
+tail_same e = cc
+
+-- whether not all memory was found
+abbrev pub is_short : Want → Bool
+is_short found_all = false
+is_short lacks = true
+is_short lacks_beside = true
+
+-- whether the answer tells nothing else
+abbrev pub is_alone : Want → Bool
+is_alone found_all = false
+is_alone lacks = true
+is_alone lacks_beside = false
+
+abbrev pub wants_memory : {K V : Type 0} → Reply K V → Bool
+wants_memory reply = is_short (want_of reply)
+
+pub given_wants : {K V : Type 0} (result : Result Bool AllocError) (out : List (K × V))
+    → wants_memory (given result out) ≡ is_err result
+given_wants (Ok b) out = refl
+given_wants (Err e) out = refl
+
+pub given_tells : {K V : Type 0} (result : Result Bool AllocError) (out : List (K × V))
+    → is_alone (want_of (given result out)) ≡ false
+given_tells (Ok b) out = refl
+given_tells (Err e) out = refl
+
+pub insert_wants : (K V : Type 0) (result : Result Bool AllocError) → wants_memory {K = K} {V = V} (insert_reply result)
+    ≡ is_err result
+insert_wants K V (Ok b) = refl
+insert_wants K V (Err e) = refl
+
+pub made_wants : {K V : Type 0} (result : Result Bool AllocError) (pairs : List (K × V))
+    → wants_memory (made_reply result pairs) ≡ is_err result
+made_wants (Ok true) pairs = refl
+made_wants (Ok false) pairs = refl
+made_wants (Err e) pairs = refl
+
+pub reserved_wants : (K V : Type 0) (result : Result (Unit {0}) ReserveError)
+    → wants_memory {K = K} {V = V} (reserved result) ≡ is_memory result
+reserved_wants K V (Ok u) = refl
+reserved_wants K V (Err TooLarge) = refl
+reserved_wants K V (Err Refused) = refl
+reserved_wants K V (Err Memory) = refl
+
+pub shrunk_wants : (K V : Type 0) (result : Result Bool AllocError)
+    → wants_memory {K = K} {V = V} (shrunk result) ≡ is_err result
+shrunk_wants K V (Ok b) = refl
+shrunk_wants K V (Err e) = refl

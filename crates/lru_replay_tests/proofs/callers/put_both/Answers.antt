@@ -1,0 +1,20 @@
+use Rattle.std.proofs.Common.{◌≤◌, length, Result, Ok, Err, IfOk, OnOk}
+use Rattle.std.specs.List.{AllByRecursion}
+use Rattle.lru_replay.specs.CallRuns.{SetsNoLimiter}
+use Rattle.lru_replay.proofs.CallRuns.{run_holds}
+use Rattle.lru_replay_tests.proofs.callers.put_both.Goals as goal
+
+follows : {T E : Type 0} {P : T → Type 0} {Q : Type 0} (result : Result T E) → ((value : T) → P value → Q)
+    → IfOk result P → OnOk result Q
+follows (Ok value) f holds = f value holds
+follows (Err error) f holds = tt
+
+pub returns : goal.returns
+returns c =
+    let old = c.args.map.now in let new = c.run_calls.new.map in let calls = c.in_ok-calls.calls.items in
+    let none : AllByRecursion SetsNoLimiter calls = rw c.in_ok-calls.ensures.items (tt, (tt, tt)) in
+    let law = c.calls_keep_the_length.ensures.length in
+    follows c.run_calls.result (λ answers run.
+    run_holds _ (λ st. length st.pairs ≤ old.limiter) old calls _ new c.requires
+    (law old new calls _ run none c.requires))
+    c.run_calls.ensures.run

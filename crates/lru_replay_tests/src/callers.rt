@@ -1,0 +1,34 @@
+//! A caller of a run, whose contract follows from a law on runs: the code of docs/CALLING.md.
+ghost use Rattle.std.specs.Prelude.{◌≤◌, length, OnOk};
+
+use lru_replay::{Answer, Call, laws, run_calls};
+use schnellru::{ByLength, LruMap, RandomState};
+use std::alloc::{AllocError, Global};
+use std::test::Fail;
+
+/// Inserts two pairs by a list of calls, into a map that is within its length, and leaves it so.
+fn put_both(
+    alloc: Global,
+    map: &mut LruMap<u64, u64>,
+    first: (u64, u64),
+    second: (u64, u64),
+) -> Result<Vec<Answer<u64, u64>>, AllocError>
+    requires { length map.old.pairs ≤ map.old.limiter }
+    ensures { OnOk result (length map.new.pairs ≤ map.old.limiter) }
+{
+    laws::calls_keep_the_length::<u64, u64, RandomState>();
+    let calls = vec![in alloc;
+        Call::Insert(first.0, first.1),
+        Call::Insert(second.0, second.1),
+    ]?;
+    run_calls(alloc, map, calls)
+}
+
+#[test]
+fn a_run_keeps_the_length(rt: HostRuntime) -> Result<(), Fail> {
+    let mut map = LruMap::new(rt.alloc(), ByLength::new(1), [1, 2, 3, 4], 16);
+    let answers = put_both(rt.alloc(), &mut map, (1, 10), (2, 20))?;
+    assert!(rt; answers.as_slice() == [Answer::Flag(true), Answer::Flag(true)].as_slice());
+    assert_eq!(rt; (map.len(), map.peek(&2).copied()), (1, Some(20)));
+    Ok(())
+}

@@ -1,0 +1,156 @@
+-- What one reference changes of a curve.
+use Rattle.std.proofs.Common.{◌≡◌, ℕ, zero, suc, ◌+◌, ◌≤◌, ◌<◌, Bool, true, false, cond, List, [], ◌∷◌, ◌++◌, length, take}
+use Rattle.std.proofs.Common.{set, sum, get_or, Some, None, refl, sym, ap, ◌∙◌, arith}
+use Rattle.std.specs.Prelude.{nat_eq, nat_le, String}
+use Rattle.std.specs.Global.{Global}
+use Rattle.std.specs.Prelude.{Result, Ok, Err, OnOk, OnErr}
+use Rattle.std.specs.Set.{remove_key}
+use Rattle.std.proofs.lemmas.Bool.{eqb-true, lt-leb}
+use Rattle.std.proofs.lemmas.List.{take_all, length-set}
+use Rattle.std.proofs.lemmas.List.Sums.{sum_by-cons}
+use Rattle.std.proofs.lemmas.Map.Made.{length-remove_key}
+use Rattle.recency.specs.Recency.{is_in, since, distance, misses}
+use Rattle.recency.proofs.Lists.{is_in_recency, since_recency}
+use Rattle.lru_trace.specs.Counted.{Counted, IsOf, number_in}
+use Rattle.lru_trace.specs.Slots.{position}
+use Rattle.lru_trace.proofs.Logs.{without_none}
+use Rattle.lru_trace.proofs.Numbered.{named_on, counted, position_within, some_same}
+
+-- a key is at a place of a list exactly if it is in the list
+pub position_some : (key d : ℕ) (xs : List ℕ) → position key xs ≡ Some d
+    → (is_in nat_eq key xs ≡ true) × (length (since nat_eq key xs) ≡ d)
+position_some key d xs e = go (is_in nat_eq key xs) refl e
+  where
+    go : (b : Bool) → is_in nat_eq key xs ≡ b → cond b (Some (length (since nat_eq key xs))) None ≡ Some d
+        → (is_in nat_eq key xs ≡ true) × (length (since nat_eq key xs) ≡ d)
+    go true is e = (is, some_same (length (since nat_eq key xs)) d e)
+    go false is e = absurd cc
+
+pub position_none : (key : ℕ) (xs : List ℕ) → position key xs ≡ None → is_in nat_eq key xs ≡ false
+position_none key xs e = go (is_in nat_eq key xs) refl e
+  where
+    go : (b : Bool) → is_in nat_eq key xs ≡ b → cond b (Some (length (since nat_eq key xs))) None ≡ None
+        → is_in nat_eq key xs ≡ false
+    go true is e = absurd cc
+    go false is e = is
+
+-- how long the recency list is after a reference
+pub found_length : (key d : ℕ) (xs : List ℕ) → position key xs ≡ Some d
+    → (length (key ∷ remove_key (nat_eq key) xs) ≡ length xs) × (d < length xs)
+found_length key d xs e =
+    let is = position_some key d xs e in (
+      omega (arith, length-remove_key (nat_eq key) xs is.0),
+      omega (arith, is.1, position_within key xs is.0),
+    )
+
+pub first_length : (key : ℕ) (xs : List ℕ) → position key xs ≡ None
+    → length (key ∷ remove_key (nat_eq key) xs) ≡ length xs + 1
+first_length key xs e =
+    let same = ap length (without_none key xs (position_none key xs e)) in
+    omega (arith, same)
+
+pub sum_more : (n : ℕ) (xs : List ℕ) → sum (take n (xs ++ 0 ∷ [])) ≡ sum (take n xs)
+sum_more zero xs = refl
+sum_more (suc zero) [] = refl
+sum_more (suc (suc n)) [] = refl
+sum_more (suc n) (x ∷ xs) =
+    sum_by-cons (λ y. y) x (take n (xs ++ 0 ∷ [])) ∙ ap (λ m. x + m) (sum_more n xs)
+    ∙ sym (sum_by-cons (λ y. y) x (take n xs))
+
+pub entry_few : (xs : List ℕ) (i : ℕ) → get_or xs i 0 ≤ sum xs
+entry_few [] i = omega arith
+entry_few (x ∷ xs) zero = let a = sum_by-cons (λ y. y) x xs in omega (arith, a)
+entry_few (x ∷ xs) (suc i) = let a = sum_by-cons (λ y. y) x xs in omega (arith, a, entry_few xs i)
+
+pub sum_counted : (xs : List ℕ) (d : ℕ) → d < length xs → sum (set xs d (get_or xs d 0 + 1)) ≡ sum xs + 1
+sum_counted xs d h =
+    let more = set xs d (get_or xs d 0 + 1) in
+    let all = counted d (length xs) xs h in
+    let left : take (length xs) more ≡ more = take_all (length xs) more (omega (arith, length-set xs d (get_or xs d 0 + 1))) in
+    let right : take (length xs) xs ≡ xs = take_all (length xs) xs (omega arith) in
+    let small : cond {A = ℕ} (nat_le (length xs) d) 0 1 ≡ 1 = rw (lt-leb (length xs) d h) refl in
+    omega (arith, ap sum left, ap sum right, all, small)
+
+exact : (a b : ℕ) → nat_eq a b ≡ true → a ≡ b
+exact = eqb-true
+
+module _ {past : List (List ℕ)} {v : Counted} (of : IsOf past v) where
+  -- more names
+  pub of_names : (names : List (String Global × ℕ))
+      → ((x : List ℕ) (n : ℕ) → number_in v.names x ≡ Some n → number_in names x ≡ Some n)
+      → IsOf past (record v { names = names })
+  of_names names keeps = record {
+    numbers = of.numbers;
+    named = named_on (number_in v.names) (number_in names) keeps past of.numbers of.named;
+    order = of.order;
+    hits = of.hits;
+    all = of.all;
+  }
+
+  -- more counts of 0
+  pub of_counts : (counts : List ℕ) → ((n : ℕ) → sum (take n counts) ≡ sum (take n v.counts))
+      → IsOf past (record v { counts = counts })
+  of_counts counts same = record {
+    numbers = of.numbers;
+    named = of.named;
+    order = of.order;
+    hits = λ n. ap (λ m. misses nat_eq n of.numbers + m) (same n) ∙ of.hits n;
+    all = of.all;
+  }
+
+  module _ (key : List ℕ) (number : ℕ) (is : number_in v.names key ≡ Some number) where
+    is_in_trace : is_in nat_eq number v.recency ≡ is_in nat_eq number of.numbers
+    is_in_trace = ap (is_in nat_eq number) of.order ∙ is_in_recency exact number of.numbers
+
+    -- a reference to a key that was referenced
+    pub of_found : (d : ℕ) → position number v.recency ≡ Some d → d < length v.counts
+        → IsOf (key ∷ past) (record v {
+          recency = number ∷ remove_key (nat_eq number) v.recency;
+          counts = set v.counts d (get_or v.counts d 0 + 1);
+          references = v.references + 1;
+        })
+    of_found d at_place within =
+        let there = position_some number d v.recency at_place in
+        let inside = sym is_in_trace ∙ there.0 in
+        let far : distance nat_eq number of.numbers ≡ d =
+        ap length (sym (since_recency exact number of.numbers) ∙ sym (ap (since nat_eq number) of.order)) ∙ there.1 in
+        record {
+          numbers = number ∷ of.numbers;
+          named = λ i. is i ∷ of.named i;
+          order = ap (λ xs. number ∷ remove_key (nat_eq number) xs) of.order;
+          hits = λ n. rw (inside, far) (omega (arith, of.hits n, counted d n v.counts within, split (nat_le n d)));
+          all = omega (arith, of.all);
+        }
+      where
+        split : (b : Bool) → cond {A = ℕ} b 1 0 + cond {A = ℕ} b 0 1 ≡ 1
+        split true = omega arith
+        split false = omega arith
+
+    -- the first reference to a key
+    pub of_first : position number v.recency ≡ None
+        → IsOf (key ∷ past) (record v {
+          recency = number ∷ remove_key (nat_eq number) v.recency;
+          references = v.references + 1;
+        })
+    of_first at_place =
+        let outside = sym is_in_trace ∙ position_none number v.recency at_place in
+        record {
+          numbers = number ∷ of.numbers;
+          named = λ i. is i ∷ of.named i;
+          order = ap (λ xs. number ∷ remove_key (nat_eq number) xs) of.order;
+          hits = λ n. rw outside (omega (arith, of.hits n));
+          all = omega (arith, of.all);
+        }
+
+-- clauses on a result
+pub on_ok : {A E P Q : Type 0} (r : Result A E) → (P → Q) → OnOk r P → OnOk r Q
+on_ok (Ok x) f p = f p
+on_ok (Err e) f p = tt
+
+pub on_err : {A E P Q : Type 0} (r : Result A E) → (P → Q) → OnErr r P → OnErr r Q
+on_err (Ok x) f p = tt
+on_err (Err e) f p = f p
+
+pub always_err : {A E P : Type 0} (r : Result A E) → P → OnErr r P
+always_err (Ok x) p = tt
+always_err (Err e) p = p

@@ -1,0 +1,5 @@
+pub mod Logs
+pub mod NodeSums
+pub mod Numbered
+pub mod CurveSteps
+pub mod ReadLines

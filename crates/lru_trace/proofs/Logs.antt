@@ -1,0 +1,329 @@
+-- The log of a trace: the keys in its slots, and what one reference changes.
+use Rattle.std.proofs.Common.{◌≡◌, ℕ, suc, ◌+◌, ◌≤◌, ◌<◌, Bool, true, false, cond, List, [], ◌∷◌, ◌++◌}
+use Rattle.std.proofs.Common.{length, get_or, set, take, drop, sum, Option, Some, None, refl, sym, ap, ◌∙◌, arith}
+use Rattle.std.proofs.Common.{inl, inr}
+use Rattle.std.specs.Prelude.{is_some, unwrap_or, nat_eq, ◌||◌, Vec}
+use Rattle.std.specs.Option.{option_to_list}
+use Rattle.std.specs.Set.{remove_key}
+use Rattle.std.proofs.lemmas.Bool.{cases_lt, cases_eq, cases_order, eq-eqb, eqb-true, or_parts}
+use Rattle.std.proofs.lemmas.Grind.{get_or-set_at}
+use Rattle.std.proofs.lemmas.List.{append_assoc, append-nil, length-append, take-append-drop, drop_more, set_split}
+use Rattle.std.proofs.lemmas.List.{take_more, length-take, get_or-take, length_push, get_or-drop, get_or_past, get_or-set_other, get_or_push, get_or_append_left, length-set}
+use Rattle.std.proofs.lemmas.List.Folds.{list_any-append}
+use Rattle.std.proofs.lemmas.List.Sums.{sum_by-cons}
+use Rattle.recency.specs.Recency.{is_in, since}
+use Rattle.lru_trace.specs.Slots.{position, newest, IsLog}
+
+some_same : {A : Type 0} (d x y : A) → Some x ≡ Some y → x ≡ y
+some_same d x y e = ap (λ o. unwrap_or o d) e
+
+clash : {b : Bool} {A : Type 0} → b ≡ false → b ≡ true → A
+clash e h = absurd cc
+
+not_none : {A B : Type 0} (x : A) → None ≡ Some x → B
+not_none x e = absurd cc
+
+pub newest_append : (xs ys : List (Option ℕ)) → newest (xs ++ ys) ≡ newest ys ++ newest xs
+newest_append [] ys = sym (append-nil (newest ys))
+newest_append (x ∷ xs) ys =
+    ap (λ zs. zs ++ option_to_list x) (newest_append xs ys)
+    ∙ append_assoc (newest ys) (newest xs) (option_to_list x)
+
+pub newest_push : (xs : List (Option ℕ)) (key : ℕ) → newest (xs ++ Some key ∷ []) ≡ key ∷ newest xs
+newest_push xs key = newest_append xs (Some key ∷ [])
+
+-- a key that is in no slot
+pub newest_absent : (key : ℕ) (xs : List (Option ℕ)) → ((i : ℕ) → get_or xs i None ≡ Some key → ⊥)
+    → is_in nat_eq key (newest xs) ≡ false
+newest_absent key [] none = refl
+newest_absent key (x ∷ xs) none =
+    list_any-append (nat_eq key) (newest xs) (option_to_list x)
+    ∙ ap (λ b. b || is_in nat_eq key (option_to_list x)) (newest_absent key xs (λ i. none (suc i)))
+    ∙ go x (none 0)
+  where
+    go : (o : Option ℕ) → (o ≡ Some key → ⊥) → is_in nat_eq key (option_to_list o) ≡ false
+    go None h = refl
+    go (Some k) h = test (nat_eq key k) refl
+      where
+        test : (b : Bool) → nat_eq key k ≡ b → (b || false) ≡ false
+        test false e = refl
+        test true e = absurd (h (ap Some (sym (eqb-true key k e))))
+
+-- the keys behind and before the slot of a key
+pub newest_split : (xs : List (Option ℕ)) (slot key : ℕ) → slot < length xs → get_or xs slot None ≡ Some key
+    → newest xs ≡ newest (drop (slot + 1) xs) ++ key ∷ newest (take slot xs)
+newest_split xs slot key within is =
+    ap newest (sym (take-append-drop slot xs) ∙ ap (λ ys. take slot xs ++ ys) (drop_more xs slot None within
+    ∙ ap (λ o. o ∷ drop (slot + 1) xs) is))
+    ∙ newest_append (take slot xs) (Some key ∷ drop (slot + 1) xs)
+    ∙ append_assoc (newest (drop (slot + 1) xs)) (key ∷ []) (newest (take slot xs))
+
+pub newest_freed : (xs : List (Option ℕ)) (slot : ℕ) → slot < length xs
+    → newest (set xs slot None) ≡ newest (drop (slot + 1) xs) ++ newest (take slot xs)
+newest_freed xs slot within =
+    ap newest (set_split xs slot None within ∙ ap (λ n. take slot xs ++ None ∷ drop n xs) (let e : suc slot ≡ slot + 1 = omega arith in e))
+    ∙ newest_append (take slot xs) (None ∷ drop (slot + 1) xs)
+    ∙ ap (λ ys. ys ++ newest (take slot xs)) (append-nil (newest (drop (slot + 1) xs)))
+
+module _ (key : ℕ) where
+  self : nat_eq key key ≡ true
+  self = eq-eqb key key refl
+
+  -- a key that comes once
+  pub is_in_middle : (xs ys : List ℕ) → is_in nat_eq key (xs ++ key ∷ ys) ≡ true
+  is_in_middle [] ys = rw self refl
+  is_in_middle (x ∷ xs) ys = go (nat_eq key x) (is_in_middle xs ys)
+    where
+      go : (b : Bool) → is_in nat_eq key (xs ++ key ∷ ys) ≡ true → (b || is_in nat_eq key (xs ++ key ∷ ys)) ≡ true
+      go true ih = refl
+      go false ih = ih
+
+  pub since_middle : (xs ys : List ℕ) → is_in nat_eq key xs ≡ false → since nat_eq key (xs ++ key ∷ ys) ≡ xs
+  since_middle [] ys e = rw self refl
+  since_middle (x ∷ xs) ys e =
+      let parts = or_parts (nat_eq key x) (is_in nat_eq key xs) e in
+      rw parts.0 (ap (λ zs. x ∷ zs) (since_middle xs ys parts.1))
+
+  pub without_middle : (xs ys : List ℕ) → is_in nat_eq key xs ≡ false
+      → remove_key (nat_eq key) (xs ++ key ∷ ys) ≡ xs ++ ys
+  without_middle [] ys e = rw self refl
+  without_middle (x ∷ xs) ys e =
+      let parts = or_parts (nat_eq key x) (is_in nat_eq key xs) e in
+      rw parts.0 (ap (λ zs. x ∷ zs) (without_middle xs ys parts.1))
+
+  pub without_none : (xs : List ℕ) → is_in nat_eq key xs ≡ false → remove_key (nat_eq key) xs ≡ xs
+  without_none [] e = refl
+  without_none (x ∷ xs) e =
+      let parts = or_parts (nat_eq key x) (is_in nat_eq key xs) e in
+      rw parts.0 (ap (λ zs. x ∷ zs) (without_none xs parts.1))
+
+-- as many slots are marked as contain keys
+pub count_marks : (marks : List ℕ) (log : List (Option ℕ))
+    → ((i : ℕ) → get_or marks i 0 ≡ cond (is_some (get_or log i None)) 1 0) → sum marks ≡ length (newest log)
+count_marks [] [] h = refl
+count_marks [] (x ∷ xs) h =
+    let ih = count_marks [] xs (λ i. h (suc i)) in
+    let joined = length-append (newest xs) (option_to_list x) in
+    omega (arith, ih, joined, go x (h 0))
+  where
+    go : (o : Option ℕ) → 0 ≡ cond {A = ℕ} (is_some o) 1 0 → 0 ≡ length (option_to_list o)
+    go None e = refl
+    go (Some k) e = e
+count_marks (m ∷ ms) [] h =
+    let ih = count_marks ms [] (λ i. h (suc i)) in
+    let whole = sum_by-cons (λ x. x) m ms in
+    omega (arith, whole, ih, h 0)
+count_marks (m ∷ ms) (x ∷ xs) h =
+    let ih = count_marks ms xs (λ i. h (suc i)) in
+    let one = go x in
+    let joined = length-append (newest xs) (option_to_list x) in
+    let whole = sum_by-cons (λ x. x) m ms in
+    omega (arith, whole, ih, one, joined, h 0)
+  where
+    go : (o : Option ℕ) → cond (is_some o) 1 0 ≡ length (option_to_list o)
+    go None = refl
+    go (Some k) = refl
+
+erased : (xs : List (Option ℕ)) (i j : ℕ) → j ≡ i → get_or (set xs i None) j None ≡ None
+erased xs i j same = elim (cases_lt i (length xs)) [
+  | inl h ↦ get_or-set_at xs i j None None same h
+  | inr h ↦ get_or_past (set xs i None) j None (omega (arith, same, h, length-set xs i None))
+]
+
+erased_mark : (xs : List ℕ) (i j : ℕ) → j ≡ i → get_or (set xs i 0) j 0 ≡ 0
+erased_mark xs i j same = elim (cases_lt i (length xs)) [
+  | inl h ↦ get_or-set_at xs i j 0 0 same h
+  | inr h ↦ get_or_past (set xs i 0) j 0 (omega (arith, same, h, length-set xs i 0))
+]
+
+taken_within : (n : ℕ) (xs : List (Option ℕ)) (i key : ℕ) → get_or (take n xs) i None ≡ Some key → i < n
+taken_within n xs i key e = elim (cases_lt i n) [
+  | inl h ↦ h
+  | inr h ↦ not_none key (sym (get_or_past (take n xs) i None (omega (arith, h, length-take n xs))) ∙ e)
+]
+
+-- no slot contains more than one key
+pub newest_few : (xs : List (Option ℕ)) → length (newest xs) ≤ length xs
+newest_few [] = omega arith
+newest_few (x ∷ xs) = omega (arith, newest_few xs, length-append (newest xs) (option_to_list x), go x)
+  where
+    go : (o : Option ℕ) → length (option_to_list o) ≤ 1
+    go None = omega arith
+    go (Some k) = omega arith
+
+module _ {Z : Type 0} {levels : ℕ} {log : Vec (Option ℕ) Z} {slots : List (Option ℕ)} {marks : List ℕ}
+    (is : IsLog levels log slots marks) where
+  abbrev pub xs : List (Option ℕ)
+  xs = log.items
+
+  pub behind_slot : (slot : ℕ) → sum (drop (slot + 1) marks) ≡ length (newest (drop (slot + 1) log.items))
+  behind_slot slot = count_marks (drop (slot + 1) marks) (drop (slot + 1) log.items)
+      (λ i. get_or-drop (slot + 1) marks i 0 ∙ is.marked (slot + 1 + i)
+      ∙ ap (λ o. cond (is_some o) 1 0) (sym (get_or-drop (slot + 1) log.items i None)))
+
+  -- a slot that contains a key is within
+  pub slot_within : (slot key : ℕ) → get_or log.items slot None ≡ Some key → slot < length log.items
+  slot_within slot key e = elim (cases_lt slot (length log.items)) [
+    | inl h ↦ h
+    | inr h ↦ not_none key (sym (get_or_past log.items slot None h) ∙ e)
+  ]
+
+  pub unreferenced : (key : ℕ) → get_or slots key None ≡ None → is_in nat_eq key (newest log.items) ≡ false
+  unreferenced key none = newest_absent key log.items (λ i e. not_none i (sym none ∙ is.back key i e))
+
+  module _ (key slot : ℕ) (at_slot : get_or slots key None ≡ Some slot) where
+    abbrev behind : List ℕ
+    behind = newest (drop (slot + 1) log.items)
+
+    pub slot_in : slot < length log.items
+    slot_in = slot_within slot key (is.found key slot at_slot)
+
+    not_behind : is_in nat_eq key behind ≡ false
+    not_behind = newest_absent key (drop (slot + 1) log.items) (λ i e.
+        let there = is.back key (slot + 1 + i) (sym (get_or-drop (slot + 1) log.items i None) ∙ e) in
+        let same = some_same 0 slot (slot + 1 + i) (sym at_slot ∙ there) in
+        absurd (omega (arith, same)))
+
+    whole : newest log.items ≡ behind ++ key ∷ newest (take slot log.items)
+    whole = newest_split log.items slot key slot_in (is.found key slot at_slot)
+
+    pub position_is : Some (sum (drop (slot + 1) marks)) ≡ position key (newest log.items)
+    position_is = rw (
+      whole,
+      is_in_middle key behind (newest (take slot log.items)),
+      since_middle key behind (newest (take slot log.items)) not_behind,
+    ) (ap Some (behind_slot slot))
+
+    pub taken_out : newest (set log.items slot None) ≡ remove_key (nat_eq key) (newest log.items)
+    taken_out = newest_freed log.items slot slot_in
+        ∙ sym (ap (remove_key (nat_eq key)) whole ∙ without_middle key behind (newest (take slot log.items)) not_behind)
+
+    -- what is left is a log again
+    pub freed_found : (k s : ℕ) → get_or (set slots key None) k None ≡ Some s → get_or (set log.items slot None) s None ≡ Some k
+    freed_found k s e = elim (cases_eq k key) [
+      | inl same ↦ not_none s (sym (erased slots key k same) ∙ e)
+      | inr other ↦
+          let there = is.found k s (sym (get_or-set_other slots key k None None other) ∙ e) in
+          get_or-set_other log.items slot s None None (λ same.
+          other (some_same 0 k key (sym there ∙ ap (λ j. get_or log.items j None) same ∙ is.found key slot at_slot)))
+          ∙ there
+    ]
+
+    pub freed_back : (k s : ℕ) → get_or (set log.items slot None) s None ≡ Some k → get_or (set slots key None) k None ≡ Some s
+    freed_back k s e = elim (cases_eq s slot) [
+      | inl same ↦ not_none k (sym (erased log.items slot s same) ∙ e)
+      | inr other ↦
+          let there = is.back k s (sym (get_or-set_other log.items slot s None None other) ∙ e) in
+          get_or-set_other slots key k None None (λ same.
+          other (some_same 0 s slot (sym there ∙ ap (λ j. get_or slots j None) same ∙ at_slot)))
+          ∙ there
+    ]
+
+    pub freed_marked : (s : ℕ) → get_or (set marks slot 0) s 0 ≡ cond (is_some (get_or (set log.items slot None) s None)) 1 0
+    freed_marked s = elim (cases_eq s slot) [
+      | inl same ↦ erased_mark marks slot s same ∙ ap (λ o. cond (is_some o) 1 0) (sym (erased log.items slot s same))
+      | inr other ↦ get_or-set_other marks slot s 0 0 other ∙ is.marked s
+          ∙ ap (λ o. cond (is_some o) 1 0) (sym (get_or-set_other log.items slot s None None other))
+    ]
+
+    pub freed_absent : is_in nat_eq key (newest (set log.items slot None)) ≡ false
+    freed_absent = newest_absent key (set log.items slot None) (λ i e.
+        not_none i (sym (erased slots key key refl) ∙ freed_back key i e))
+
+    pub is_marked : get_or marks slot 0 ≡ 1
+    is_marked = is.marked slot ∙ ap (λ o. cond (is_some o) 1 0) (is.found key slot at_slot)
+
+    referenced : is_in nat_eq key (newest log.items) ≡ true
+    referenced = rw whole (is_in_middle key behind (newest (take slot log.items)))
+
+  -- a key that is not there has no slot
+  pub no_slot : (key : ℕ) → is_in nat_eq key (newest log.items) ≡ false → get_or slots key None ≡ None
+  no_slot key absent = go (get_or slots key None) refl
+    where
+      go : (o : Option ℕ) → get_or slots key None ≡ o → o ≡ None
+      go None e = refl
+      go (Some s) e = clash absent (referenced key s e)
+
+  -- a key that is not there comes behind all others
+  module _ (key : ℕ) (within : key < length slots) (absent : is_in nat_eq key (newest log.items) ≡ false) where
+    abbrev more : List (Option ℕ)
+    more = log.items ++ Some key ∷ []
+
+    at_end : (s : ℕ) → s ≡ length log.items → get_or more s None ≡ Some key
+    at_end s e = get_or_push log.items (Some key) None s (sym e)
+
+    past_end : (s : ℕ) → length log.items < s → get_or more s None ≡ None
+    past_end s h = get_or_past more s None (omega (arith, h, length_push log.items (Some key)))
+
+    pub added_found : (k s : ℕ) → get_or (set slots key (Some (length log.items))) k None ≡ Some s → get_or more s None ≡ Some k
+    added_found k s e = elim (cases_eq k key) [
+      | inl same ↦
+          let here = some_same 0 (length log.items) s (sym (get_or-set_at slots key k (Some (length log.items)) None same within) ∙ e) in
+          at_end s (sym here) ∙ ap Some (sym same)
+      | inr other ↦
+          let there = is.found k s (sym (get_or-set_other slots key k (Some (length log.items)) None other) ∙ e) in
+          get_or_append_left log.items (Some key ∷ []) None s (slot_within s k there) ∙ there
+    ]
+
+    pub added_back : (k s : ℕ) → get_or more s None ≡ Some k → get_or (set slots key (Some (length log.items))) k None ≡ Some s
+    added_back k s e = elim (cases_order s (length log.items)) [
+      | inl here ↦
+          let same = some_same 0 k key (sym e ∙ at_end s here) in
+          get_or-set_at slots key k (Some (length log.items)) None same within ∙ ap Some (sym here)
+      | inr (inl before) ↦
+          let there = is.back k s (sym (get_or_append_left log.items (Some key ∷ []) None s before) ∙ e) in
+          get_or-set_other slots key k (Some (length log.items)) None (λ same.
+          not_none s (sym (no_slot key absent) ∙ ap (λ j. get_or slots j None) (sym same) ∙ there)) ∙ there
+      | inr (inr past) ↦ not_none k (sym (past_end s past) ∙ e)
+    ]
+
+    pub added_marked : length log.items < length marks → (s : ℕ)
+        → get_or (set marks (length log.items) 1) s 0 ≡ cond (is_some (get_or more s None)) 1 0
+    added_marked fits s = elim (cases_order s (length log.items)) [
+      | inl here ↦ get_or-set_at marks (length log.items) s 1 0 here fits ∙ ap (λ o. cond (is_some o) 1 0) (sym (at_end s here))
+      | inr (inl before) ↦
+          get_or-set_other marks (length log.items) s 1 0 (λ same. omega (arith, same, before)) ∙ is.marked s
+          ∙ ap (λ o. cond (is_some o) 1 0) (sym (get_or_append_left log.items (Some key ∷ []) None s before))
+      | inr (inr past) ↦
+          get_or-set_other marks (length log.items) s 1 0 (λ same. omega (arith, same, past)) ∙ is.marked s
+          ∙ ap (λ o. cond (is_some o) 1 0) (get_or_past log.items s None (omega (arith, past)) ∙ sym (past_end s past))
+    ]
+
+    pub is_free : get_or marks (length log.items) 0 ≡ 0
+    is_free = is.marked (length log.items)
+        ∙ ap (λ o. cond (is_some o) 1 0) (get_or_past log.items (length log.items) None (omega arith))
+
+  -- of the keys before a slot, none is in it
+  pub absent_before : (key slot : ℕ) → get_or log.items slot None ≡ Some key
+      → is_in nat_eq key (newest (take slot log.items)) ≡ false
+  absent_before key slot there = newest_absent key (take slot log.items) (λ i e.
+      let low = taken_within slot log.items i key e in
+      let same = some_same 0 i slot (sym (is.back key i (sym (get_or-take slot log.items i None low) ∙ e)) ∙ is.back key slot there) in
+      absurd (omega (arith, same, low)))
+
+  -- a key in a slot is one of the keys
+  pub key_within : (key slot : ℕ) → get_or log.items slot None ≡ Some key → key < length slots
+  key_within key slot there = elim (cases_lt key (length slots)) [
+    | inl h ↦ h
+    | inr h ↦ not_none slot (sym (get_or_past slots key None h) ∙ is.back key slot there)
+  ]
+
+  pub mark_few : (slot : ℕ) → get_or marks slot 0 ≤ 1
+  mark_few slot = rw (is.marked slot) (go (is_some (get_or log.items slot None)))
+    where
+      go : (b : Bool) → cond {A = ℕ} b 1 0 ≤ 1
+      go true = omega arith
+      go false = omega arith
+
+  pub all_marks : sum marks ≡ length (newest log.items)
+  all_marks = count_marks marks log.items is.marked
+
+-- one slot more
+pub newest_more : (xs : List (Option ℕ)) (i : ℕ) (o : Option ℕ) → i < length xs → get_or xs i None ≡ o
+    → newest (take (i + 1) xs) ≡ option_to_list o ++ newest (take i xs)
+newest_more xs i o h e =
+    ap newest (take_more xs i None h ∙ ap (λ x. take i xs ++ x ∷ []) e)
+    ∙ newest_append (take i xs) (o ∷ [])
+
+pub newest_taken : (xs : List (Option ℕ)) (i : ℕ) → length (newest (take i xs)) ≤ i
+newest_taken xs i = omega (arith, newest_few (take i xs), length-take i xs)

@@ -1,0 +1,263 @@
+-- A tree of sums: what the nodes behind one add up to, and what one leaf more or less changes.
+use Rattle.std.proofs.Common.{◌≡◌, ◌≢◌, ℕ, zero, suc, ◌+◌, ◌-◌, ◌*◌, ◌/◌, ◌%◌, ◌^◌, ◌≤◌, ◌<◌, List, length}
+use Rattle.std.proofs.Common.{get_or, set, drop, sum, replicate, refl, sym, ap, ◌∙◌, subst, arith, inl, inr}
+use Rattle.std.proofs.Math.Nat.{mod-eq_of_lt, pow-suc, mul-le-mul_right, le-mul_of_pos_right}
+use Rattle.std.proofs.Math.Pow.{pow_mono}
+use Rattle.std.proofs.lemmas.Bool.{cases_lt, cases_eq}
+use Rattle.std.proofs.lemmas.Grind.{get_or-set_at}
+use Rattle.std.proofs.lemmas.List.{length-set, get_or-set_other, get_or_past, drop_all, drop-drop, get_or-replicate, drop-set-add, drop-set-lt}
+use Rattle.std.proofs.lemmas.List.{length-replicate}
+use Rattle.std.proofs.lemmas.List.Sums.{sum_by-drop_more}
+use Rattle.std.proofs.lemmas.Nat.{pow_below}
+use Rattle.lru_trace.specs.Nodes.{IsTree}
+
+pub power_fits : (k : ℕ) → k < 60 → 1 * 2 ^ k % 18446744073709551616 ≡ 2 ^ k
+power_fits k h =
+    let e : 1 * 2 ^ k ≡ 2 ^ k = omega arith in
+    rw e (mod-eq_of_lt (omega (arith, pow_below k 60 h)))
+
+-- at each level there are twice as many nodes as above it
+pub power_down : (levels level : ℕ) → level < levels → 2 ^ (levels - level) ≡ 2 * 2 ^ (levels - (level + 1))
+power_down levels level h =
+    let e : levels - level ≡ suc (levels - (level + 1)) = omega (arith, h) in
+    rw e (omega (arith, pow-suc 2 (levels - (level + 1))))
+
+-- no level has more nodes than there are slots
+pub width_fits : (levels level : ℕ) → 2 ^ (levels - level) ≤ 2 ^ levels
+width_fits levels level = pow_mono (omega arith)
+
+-- the sum of n nodes from node a on
+abbrev pub span : List ℕ → ℕ → ℕ → ℕ
+span t a zero = 0
+span t a (suc n) = get_or t a 0 + span t (a + 1) n
+
+-- the sum of the nodes behind one, in a level of w nodes
+abbrev pub behind : List ℕ → ℕ → ℕ → ℕ
+behind t node w = span t (node + 1) (2 * w - 1 - node)
+
+pub span_all : (t : List ℕ) (n a : ℕ) → a + n ≡ length t → span t a n ≡ sum (drop a t)
+span_all t zero a e = sym (ap sum (drop_all a t (omega (arith, e))))
+span_all t (suc n) a e =
+    let one = sum_by-drop_more (λ x. x) t a 0 (omega (arith, e)) in
+    ap (λ m. get_or t a 0 + m) (span_all t n (a + 1) (omega (arith, e))) ∙ sym one
+
+module _ {slots levels : ℕ} {t : List ℕ} (tree : IsTree slots levels t) where
+  span_pairs : (n a : ℕ) → 0 < a → a + n ≤ slots → span t (2 * a) (2 * n) ≡ span t a n
+  span_pairs zero a some fits = refl
+  span_pairs (suc n) a some fits =
+      let twice : 2 * suc n ≡ suc (suc (2 * n)) = omega arith in
+      let on : 2 * a + 1 + 1 ≡ 2 * (a + 1) = omega arith in
+      let rest : span t (2 * a + 1 + 1) (2 * n) ≡ span t (a + 1) n =
+      ap (λ b. span t b (2 * n)) on ∙ span_pairs n (a + 1) (omega arith) (omega (arith, fits)) in
+      rw twice (omega (arith, rest, tree.sums a some (omega (arith, fits))))
+
+  -- at an even node its sibling is behind it, and what is behind its parent
+  pub behind_even : (v node : ℕ) → node % 2 ≡ 0 → node < 2 * (2 * v) → 2 * v ≤ slots
+      → behind t node (2 * v) ≡ get_or t (node + 1) 0 + behind t (node / 2) v
+  behind_even v node even within fits =
+      let k = node / 2 in
+      let is : node ≡ 2 * k = omega (arith, even) in
+      let count : 2 * (2 * v) - 1 - node ≡ suc (2 * (2 * v - 1 - k)) = omega (arith, is, within) in
+      let on : node + 1 + 1 ≡ 2 * (k + 1) = omega (arith, is) in
+      let rest : span t (node + 1 + 1) (2 * (2 * v - 1 - k)) ≡ span t (k + 1) (2 * v - 1 - k) =
+      ap (λ b. span t b (2 * (2 * v - 1 - k))) on
+      ∙ span_pairs (2 * v - 1 - k) (k + 1) (omega arith) (omega (arith, is, within, fits)) in
+      ap (span t (node + 1)) count ∙ ap (λ m. get_or t (node + 1) 0 + m) rest
+
+  pub behind_odd : (v node : ℕ) → node % 2 ≢ 0 → node < 2 * (2 * v) → 2 * v ≤ slots
+      → behind t node (2 * v) ≡ behind t (node / 2) v
+  behind_odd v node odd within fits =
+      let k = node / 2 in
+      let is : node ≡ 2 * k + 1 = omega (arith, odd) in
+      let count : 2 * (2 * v) - 1 - node ≡ 2 * (2 * v - 1 - k) = omega (arith, is, within) in
+      let on : node + 1 ≡ 2 * (k + 1) = omega (arith, is) in
+      ap (span t (node + 1)) count ∙ ap (λ b. span t b (2 * (2 * v - 1 - k))) on
+      ∙ span_pairs (2 * v - 1 - k) (k + 1) (omega arith) (omega (arith, is, within, fits))
+
+  leaf_span : (n a : ℕ) → slots ≤ a → span t a n ≤ n
+  leaf_span zero a h = omega arith
+  leaf_span (suc n) a h = omega (arith, tree.leaves a h, leaf_span n (a + 1) (omega (arith, h)))
+
+  -- what is behind a leaf
+  pub behind_leaf : (slot : ℕ) → slot < slots
+      → behind t (slots + slot) slots ≡ sum (drop (slot + 1) (drop slots t))
+  behind_leaf slot h =
+      span_all t (2 * slots - 1 - (slots + slot)) (slots + slot + 1) (omega (arith, tree.len, h))
+      ∙ ap (λ n. sum (drop n t)) (let e : slots + slot + 1 ≡ slots + (slot + 1) = omega arith in e)
+      ∙ ap sum (sym (drop-drop (slot + 1) slots t))
+
+  pub few_behind : (slot : ℕ) → slot < slots → behind t (slots + slot) slots ≤ slots
+  few_behind slot h =
+      omega (arith, leaf_span (2 * slots - 1 - (slots + slot)) (slots + slot + 1) (omega arith))
+
+pub behind_root : (t : List ℕ) (node : ℕ) → 1 ≤ node → node < 2 * 1 → behind t node 1 ≡ 0
+behind_root t node low high = ap (span t (node + 1)) (let e : 2 * 1 - 1 - node ≡ 0 = omega (arith, low) in e)
+
+-- Each node is the sum of its children, except that one lacks `up`, or has `down` too much.
+pub record IsOff (slots up down : ℕ) (t : List ℕ) (node : ℕ) : Type 0 where
+  pub len : length t ≡ 2 * slots
+  pub sums : (i : ℕ) → 0 < i → i < slots → i ≢ node → get_or t i 0 ≡ get_or t (2 * i) 0 + get_or t (2 * i + 1) 0
+  pub here : 0 < node → node < slots → get_or t node 0 + up ≡ get_or t (2 * node) 0 + get_or t (2 * node + 1) 0 + down
+  pub leaves : (i : ℕ) → slots ≤ i → get_or t i 0 ≤ 1
+
+module _ {slots up down : ℕ} where
+  -- the node is corrected, and now its parent is off
+  pub corrected : (t : List ℕ) (node v : ℕ) → IsOff slots up down t node → 0 < node → node < 2 * slots
+      → v + down ≡ get_or t node 0 + up → (slots ≤ node → v ≤ 1) → IsOff slots up down (set t node v) (node / 2)
+  corrected t node v off some within is few = record {
+    len = length-set t node v ∙ off.len;
+    sums = sums;
+    here = here;
+    leaves = λ i h. elim (cases_eq i node) [
+      | inl e ↦ rw (written i e) (few (omega (arith, h, e)))
+      | inr e ↦ rw (other i e) (off.leaves i h)
+    ];
+  }
+    where
+      written : (i : ℕ) → i ≡ node → get_or (set t node v) i 0 ≡ v
+      written i e = get_or-set_at t node i v 0 e (omega (arith, within, off.len))
+
+      other : (i : ℕ) → i ≢ node → get_or (set t node v) i 0 ≡ get_or t i 0
+      other i e = get_or-set_other t node i v 0 e
+
+      sums : (i : ℕ) → 0 < i → i < slots → i ≢ node / 2 → get_or (set t node v) i 0
+          ≡ get_or (set t node v) (2 * i) 0 + get_or (set t node v) (2 * i + 1) 0
+      sums i pos low apart =
+          let left = other (2 * i) (λ e. apart (omega (arith, e))) in
+          let right = other (2 * i + 1) (λ e. apart (omega (arith, e))) in
+          rw (left, right) (elim (cases_eq i node) [
+            | inl e ↦ rw (written i e) (let h = off.here some (omega (arith, e, low)) in
+                subst (λ j. v ≡ get_or t (2 * j) 0 + get_or t (2 * j + 1) 0) (sym e) (omega (arith, h, is)))
+            | inr e ↦ rw (other i e) (off.sums i pos low e)
+          ])
+
+      here : 0 < node / 2 → node / 2 < slots → get_or (set t node v) (node / 2) 0 + up
+          ≡ get_or (set t node v) (2 * (node / 2)) 0 + get_or (set t node v) (2 * (node / 2) + 1) 0 + down
+      here pos low =
+          let parent = other (node / 2) (λ e. omega (arith, e, some)) in
+          let whole = off.sums (node / 2) pos low (λ e. omega (arith, e, some)) in
+          rw (parent) (elim (cases_eq (2 * (node / 2)) node) [
+            | inl e ↦
+                let left = written (2 * (node / 2)) e in
+                let right = other (2 * (node / 2) + 1) (λ d. omega (arith, e, d)) in
+                let same : get_or t (2 * (node / 2)) 0 ≡ get_or t node 0 = ap (λ j. get_or t j 0) e in
+                rw (left, right) (omega (arith, whole, is, same))
+            | inr e ↦
+                let odd : 2 * (node / 2) + 1 ≡ node = omega (arith, e) in
+                let left = other (2 * (node / 2)) e in
+                let right = written (2 * (node / 2) + 1) odd in
+                let same : get_or t (2 * (node / 2) + 1) 0 ≡ get_or t node 0 = ap (λ j. get_or t j 0) odd in
+                rw (left, right) (omega (arith, whole, is, same))
+          ])
+
+  -- a tree is off nowhere, and what is off nowhere is a tree
+  pub off_leaf : {levels : ℕ} (t : List ℕ) (node : ℕ) → slots ≤ node → IsTree slots levels t → IsOff slots up down t node
+  off_leaf t node leaf tree = record {
+    len = tree.len;
+    sums = λ i pos low apart. tree.sums i pos low;
+    here = λ pos low. absurd (omega (arith, leaf, low));
+    leaves = tree.leaves;
+  }
+
+  pub tree_again : {levels : ℕ} (t : List ℕ) (node : ℕ) → node ≡ 0 → slots ≡ 2 ^ levels → IsOff slots up down t node
+      → IsTree slots levels t
+  tree_again t node none power off = record {
+    power = power;
+    len = off.len;
+    sums = λ i pos low. off.sums i pos low (λ e. omega (arith, e, none, pos));
+    leaves = off.leaves;
+  }
+
+leaf_in_node : (slots : ℕ) (t : List ℕ) → length t ≡ 2 * slots → ((i : ℕ) → slots ≤ i → get_or t i 0 ≤ 1)
+    → (i : ℕ) → slots ≤ i → get_or t i 0 * i ≤ 2 * slots
+leaf_in_node slots t len leaves i leaf = elim (cases_lt i (2 * slots)) [
+  | inl within ↦ small (get_or t i 0) (leaves i leaf) within
+  | inr past ↦ rw (get_or_past t i 0 (omega (arith, len, past))) (omega arith)
+]
+  where
+    small : (a : ℕ) → a ≤ 1 → i < 2 * slots → a * i ≤ 2 * slots
+    small zero h within = omega arith
+    small (suc zero) h within = omega (arith, within)
+    small (suc (suc a)) h within = absurd (omega (arith, h))
+
+halves : (slots i whole a b : ℕ) → whole ≤ a + b → a * (2 * i) ≤ 2 * slots → b * (2 * i + 1) ≤ 2 * slots
+    → whole * i ≤ 2 * slots
+halves slots i whole a b h left right =
+    let most : whole * i ≤ (a + b) * i = mul-le-mul_right i h in
+    let parts : (a + b) * i ≡ a * i + b * i = grind arith in
+    let first : a * (2 * i) ≡ 2 * (a * i) = grind arith in
+    let second : b * (2 * i + 1) ≡ 2 * (b * i) + b = grind arith in
+    omega (arith, most, parts, first, second, left, right)
+
+-- no node contains more than twice the number of slots
+pub few_in_node : (slots : ℕ) (t : List ℕ) → length t ≡ 2 * slots
+    → ((i : ℕ) → 0 < i → i < slots → get_or t i 0 ≤ get_or t (2 * i) 0 + get_or t (2 * i + 1) 0)
+    → ((i : ℕ) → slots ≤ i → get_or t i 0 ≤ 1) → (n i : ℕ) → 0 < i → slots ≤ i + n
+    → get_or t i 0 * i ≤ 2 * slots
+few_in_node slots t len sums leaves zero i pos deep = leaf_in_node slots t len leaves i (omega (arith, deep))
+few_in_node slots t len sums leaves (suc n) i pos deep =
+    let left = few_in_node slots t len sums leaves n (2 * i) (omega (arith, pos)) (omega (arith, deep, pos)) in
+    let right = few_in_node slots t len sums leaves n (2 * i + 1) (omega arith) (omega (arith, deep, pos)) in
+    elim (cases_lt i slots) [
+      | inl inner ↦ halves slots i (get_or t i 0) (get_or t (2 * i) 0) (get_or t (2 * i + 1) 0)
+          (sums i pos inner) left right
+      | inr leaf ↦ leaf_in_node slots t len leaves i leaf
+    ]
+
+-- no marks
+pub blank : (levels : ℕ) → IsTree (2 ^ levels) levels (replicate (2 * 2 ^ levels) 0)
+blank levels = record {
+  power = refl;
+  len = length-replicate (2 * 2 ^ levels) 0;
+  sums = λ i pos low. rw (zeros i, zeros (2 * i), zeros (2 * i + 1)) refl;
+  leaves = λ i h. rw (zeros i) (omega arith);
+}
+  where
+    zeros : (i : ℕ) → get_or {A = ℕ} (replicate (2 * 2 ^ levels) 0) i 0 ≡ 0
+    zeros i = elim (cases_lt i (2 * 2 ^ levels)) [
+      | inl h ↦ get_or-replicate (2 * 2 ^ levels) i 0 0 h
+      | inr h ↦ get_or_past (replicate (2 * 2 ^ levels) 0) i 0 (omega (arith, h, length-replicate {A = ℕ} (2 * 2 ^ levels) 0))
+    ]
+
+-- one leaf was written, and the nodes above it are corrected, from the leaf's parent on
+pub record Corrects (slots levels up down : ℕ) (marks : List ℕ) (t : List ℕ) (node : ℕ) : Type 0 where
+  pub power : slots ≡ 2 ^ levels
+  pub off : IsOff slots up down t node
+  pub inner : node < slots
+  pub leaves : drop slots t ≡ marks
+
+pub corrects_begins : {slots levels : ℕ} (up down : ℕ) (t : List ℕ) (slot v : ℕ) → IsTree slots levels t → slot < slots
+    → v ≤ 1 → v + down ≡ get_or t (slots + slot) 0 + up
+    → Corrects slots levels up down (set (drop slots t) slot v) (set t (slots + slot) v) ((slots + slot) / 2)
+corrects_begins {slots} {levels} up down t slot v tree h small is = record {
+  power = tree.power;
+  off = corrected t (slots + slot) v (off_leaf t (slots + slot) (omega arith) tree) (omega (arith, h)) (omega (arith, h))
+      is (λ _. small);
+  inner = omega (arith, h);
+  leaves = drop-set-add slots t slot v;
+}
+
+pub corrects_on : {slots levels up down : ℕ} {leaves : List ℕ} (t : List ℕ) (node v : ℕ)
+    → Corrects slots levels up down leaves t node → 0 < node → v + down ≡ get_or t node 0 + up
+    → Corrects slots levels up down leaves (set t node v) (node / 2)
+corrects_on {slots} t node v h some is = record {
+  power = h.power;
+  off = corrected t node v h.off some (omega (arith, h.inner)) is (λ leaf. absurd (omega (arith, leaf, h.inner)));
+  inner = omega (arith, h.inner);
+  leaves = drop-set-lt slots t node v h.inner ∙ h.leaves;
+}
+
+-- a count that is to rise fits
+pub rising_fits : {slots levels : ℕ} {leaves : List ℕ} (t : List ℕ) (node : ℕ) → Corrects slots levels 1 0 leaves t node
+    → 0 < node → get_or t node 0 ≤ 2 * slots
+rising_fits {slots} t node h some =
+    let all = few_in_node slots t h.off.len sums h.off.leaves slots node some (omega arith) in
+    let more : get_or t node 0 ≤ get_or t node 0 * node = le-mul_of_pos_right (get_or t node 0) some in
+    omega (arith, all, more)
+  where
+    sums : (i : ℕ) → 0 < i → i < slots → get_or t i 0 ≤ get_or t (2 * i) 0 + get_or t (2 * i + 1) 0
+    sums i pos low = elim (cases_eq i node) [
+      | inl e ↦ subst (λ j. get_or t j 0 ≤ get_or t (2 * j) 0 + get_or t (2 * j + 1) 0) (sym e)
+          (omega (arith, h.off.here some h.inner))
+      | inr e ↦ omega (arith, h.off.sums i pos low e)
+    ]

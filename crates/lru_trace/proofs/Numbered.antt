@@ -1,0 +1,193 @@
+-- A trace of texts and the trace of their numbers miss at the same references.
+use Rattle.std.proofs.Common.{◌≡◌, ℕ, zero, suc, ◌+◌, ◌≤◌, ◌<◌, Bool, true, false, cond, List, [], ◌∷◌, length, map, take, set, sum}
+use Rattle.std.proofs.Common.{get_or, Option, Some, None, refl, sym, ap, ◌∙◌, arith, inl, inr, ◌⊎◌}
+use Rattle.std.specs.Prelude.{unwrap_or, nat_eq, ◌||◌, nat_le, String}
+use Rattle.std.specs.Set.{remove_key}
+use Rattle.std.specs.Str.{bytes_eq}
+use Rattle.std.specs.Map.{update}
+use Rattle.std.specs.Global.{Global}
+use Rattle.std.proofs.lemmas.Bool.{cases_lt, eq-eqb, eqb-true, le-leb, lt-leb}
+use Rattle.std.proofs.lemmas.List.Sums.{sum_by-cons}
+use Rattle.std.proofs.lemmas.Slice.Eq.{bytes_eq-Decides}
+use Rattle.recency.specs.Recency.{is_in, since, recency, distance, misses}
+use Rattle.lru_trace.specs.Counted.{AreNumbered, number_in}
+
+pub some_same : {A : Type 0} (x y : A) → Some x ≡ Some y → x ≡ y
+some_same x y e = ap (λ o. unwrap_or o x) e
+
+not_none : {A B : Type 0} (x : A) → None ≡ Some x → B
+not_none x e = absurd cc
+
+-- the texts have these numbers
+abbrev pub Named : (List ℕ → Option ℕ) → List (List ℕ) → List ℕ → Type 0
+Named number [] [] = Unit {0}
+Named number [] (n ∷ ns) = ⊥
+Named number (x ∷ xs) [] = ⊥
+Named number (x ∷ xs) (n ∷ ns) = (number x ≡ Some n) × Named number xs ns
+
+abbrev first_of : {A : Type 0} → A → List A → A
+first_of x [] = x
+first_of x (y ∷ ys) = y
+
+abbrev rest_of : {A : Type 0} → List A → List A
+rest_of [] = []
+rest_of (y ∷ ys) = ys
+
+pub named_from : (number : List ℕ → Option ℕ) (xs : List (List ℕ)) (ns : List ℕ) → map number xs ≡ map Some ns
+    → Named number xs ns
+named_from number [] [] e = tt
+named_from number [] (n ∷ ns) e = absurd cc
+named_from number (x ∷ xs) [] e = absurd cc
+named_from number (x ∷ xs) (n ∷ ns) e = (ap (first_of None) e, named_from number xs ns (ap rest_of e))
+
+-- names that stay keep the numbers
+pub named_on : (number new : List ℕ → Option ℕ) → ((x : List ℕ) (n : ℕ) → number x ≡ Some n → new x ≡ Some n)
+    → (xs : List (List ℕ)) (ns : List ℕ) → map number xs ≡ map Some ns → map new xs ≡ map Some ns
+named_on number new keeps [] [] e = refl
+named_on number new keeps [] (n ∷ ns) e = absurd cc
+named_on number new keeps (x ∷ xs) [] e = absurd cc
+named_on number new keeps (x ∷ xs) (n ∷ ns) e =
+    λ i. keeps x n (ap (first_of None) e) i ∷ named_on number new keeps xs ns (ap rest_of e) i
+
+module _ (number : List ℕ → Option ℕ)
+    (apart : (a b : List ℕ) (n : ℕ) → number a ≡ Some n → number b ≡ Some n → a ≡ b) where
+  same_test : (a b : List ℕ) (m n : ℕ) → number a ≡ Some m → number b ≡ Some n → bytes_eq a b ≡ nat_eq m n
+  same_test a b m n d e = go (nat_eq m n) refl
+    where
+      go : (t : Bool) → nat_eq m n ≡ t → bytes_eq a b ≡ t
+      go true same = (bytes_eq-Decides a b).1 (apart a b m d (e ∙ ap Some (sym (eqb-true m n same))))
+      go false other = test (bytes_eq a b) refl
+        where
+          test : (t : Bool) → bytes_eq a b ≡ t → t ≡ false
+          test false h = refl
+          test true h =
+              let same : m ≡ n = some_same m n (sym d ∙ ap number ((bytes_eq-Decides a b).0 h) ∙ e) in
+              sym (eq-eqb m n same) ∙ other
+
+  is_in_named : (x : List ℕ) (n : ℕ) → number x ≡ Some n → (xs : List (List ℕ)) (ns : List ℕ) → Named number xs ns
+      → is_in bytes_eq x xs ≡ is_in nat_eq n ns
+  is_in_named x n e [] [] h = refl
+  is_in_named x n e [] (k ∷ ns) h = absurd h
+  is_in_named x n e (y ∷ xs) [] h = absurd h
+  is_in_named x n e (y ∷ xs) (k ∷ ns) h = rw (same_test x y n k e h.0, is_in_named x n e xs ns h.1) refl
+
+  since_named : (x : List ℕ) (n : ℕ) → number x ≡ Some n → (xs : List (List ℕ)) (ns : List ℕ) → Named number xs ns
+      → Named number (since bytes_eq x xs) (since nat_eq n ns)
+  since_named x n e [] [] h = tt
+  since_named x n e [] (k ∷ ns) h = absurd h
+  since_named x n e (y ∷ xs) [] h = absurd h
+  since_named x n e (y ∷ xs) (k ∷ ns) h =
+      rw (same_test x y n k e h.0) (go (nat_eq n k) (since_named x n e xs ns h.1))
+    where
+      go : (t : Bool) → Named number (since bytes_eq x xs) (since nat_eq n ns)
+          → Named number (cond t [] (y ∷ since bytes_eq x xs)) (cond t [] (k ∷ since nat_eq n ns))
+      go true later = tt
+      go false later = (h.0, later)
+
+  without_named : (x : List ℕ) (n : ℕ) → number x ≡ Some n → (xs : List (List ℕ)) (ns : List ℕ) → Named number xs ns
+      → Named number (remove_key (bytes_eq x) xs) (remove_key (nat_eq n) ns)
+  without_named x n e [] [] h = tt
+  without_named x n e [] (k ∷ ns) h = absurd h
+  without_named x n e (y ∷ xs) [] h = absurd h
+  without_named x n e (y ∷ xs) (k ∷ ns) h =
+      rw (same_test x y n k e h.0) (go (nat_eq n k) (without_named x n e xs ns h.1))
+    where
+      go : (t : Bool) → Named number (remove_key (bytes_eq x) xs) (remove_key (nat_eq n) ns)
+          → Named number (cond t xs (y ∷ remove_key (bytes_eq x) xs)) (cond t ns (k ∷ remove_key (nat_eq n) ns))
+      go true later = h.1
+      go false later = (h.0, later)
+
+  recency_named : (xs : List (List ℕ)) (ns : List ℕ) → Named number xs ns
+      → Named number (recency bytes_eq xs) (recency nat_eq ns)
+  recency_named [] [] h = tt
+  recency_named [] (k ∷ ns) h = absurd h
+  recency_named (y ∷ xs) [] h = absurd h
+  recency_named (y ∷ xs) (k ∷ ns) h =
+      (h.0, without_named y k h.0 (recency bytes_eq xs) (recency nat_eq ns) (recency_named xs ns h.1))
+
+  length_named : (xs : List (List ℕ)) (ns : List ℕ) → Named number xs ns → length xs ≡ length ns
+  length_named [] [] h = refl
+  length_named [] (k ∷ ns) h = absurd h
+  length_named (y ∷ xs) [] h = absurd h
+  length_named (y ∷ xs) (k ∷ ns) h = ap suc (length_named xs ns h.1)
+
+  -- so both traces miss alike
+  pub misses_named : (n : ℕ) (xs : List (List ℕ)) (ns : List ℕ) → Named number xs ns
+      → misses bytes_eq n xs ≡ misses nat_eq n ns
+  misses_named n [] [] h = refl
+  misses_named n [] (k ∷ ns) h = absurd h
+  misses_named n (y ∷ xs) [] h = absurd h
+  misses_named n (y ∷ xs) (k ∷ ns) h =
+      let far : distance bytes_eq y xs ≡ distance nat_eq k ns =
+      length_named (recency bytes_eq (since bytes_eq y xs)) (recency nat_eq (since nat_eq k ns))
+      (recency_named (since bytes_eq y xs) (since nat_eq k ns) (since_named y k h.0 xs ns h.1)) in
+      rw (misses_named n xs ns h.1, is_in_named y k h.0 xs ns h.1, far) refl
+
+-- the place of a key in a list is within the list
+pub position_within : (key : ℕ) (xs : List ℕ) → is_in nat_eq key xs ≡ true → length (since nat_eq key xs) < length xs
+position_within key [] e = absurd cc
+position_within key (x ∷ xs) e = go (nat_eq key x) e (position_within key xs)
+  where
+    go : (t : Bool) → (t || is_in nat_eq key xs) ≡ true
+        → (is_in nat_eq key xs ≡ true → length (since nat_eq key xs) < length xs)
+        → length (cond t [] (x ∷ since nat_eq key xs)) < suc (length xs)
+    go true e later = omega arith
+    go false e later = omega (arith, later e)
+
+-- one count more
+pub counted : (d n : ℕ) (counts : List ℕ) → d < length counts
+    → sum (take n (set counts d (get_or counts d 0 + 1))) ≡ sum (take n counts) + cond (nat_le n d) 0 1
+counted d zero counts h = rw (le-leb 0 d (omega arith)) refl
+counted d (suc n) [] h = absurd (omega (arith, h))
+counted zero (suc n) (x ∷ xs) h =
+    rw (lt-leb (suc n) 0 (omega arith))
+    (let a = sum_by-cons (λ y. y) (x + 1) (take n xs) in let b = sum_by-cons (λ y. y) x (take n xs) in omega (arith, a, b))
+counted (suc d) (suc n) (x ∷ xs) h =
+    let ih = counted d n xs (omega (arith, h)) in
+    let a = sum_by-cons (λ y. y) x (take n (set xs d (get_or xs d 0 + 1))) in
+    let b = sum_by-cons (λ y. y) x (take n xs) in
+    rw (go (cases_lt d n)) (omega (arith, ih, a, b))
+  where
+    go : (d < n) ⊎ (n ≤ d) → nat_le (suc n) (suc d) ≡ nat_le n d
+    go (inl few) = lt-leb (suc n) (suc d) (omega (arith, few)) ∙ sym (lt-leb n d few)
+    go (inr many) = le-leb (suc n) (suc d) (omega (arith, many)) ∙ sym (le-leb n d many)
+
+-- one name more
+module _ (old new : List (String Global × ℕ)) (key : List ℕ) (number : ℕ)
+    (after : (x : List ℕ) → number_in new x ≡ update bytes_eq (number_in old) key (Some number) x) where
+  pub found_more : number_in new key ≡ Some number
+  found_more = after key ∙ ap (λ b. cond b (Some number) (number_in old key)) ((bytes_eq-Decides key key).1 refl)
+
+  cases : (x : List ℕ) (n : ℕ) → number_in new x ≡ Some n
+      → ((key ≡ x) × (number ≡ n)) ⊎ (number_in old x ≡ Some n)
+  cases x n e = go (bytes_eq key x) refl (sym (after x) ∙ e)
+    where
+      go : (b : Bool) → bytes_eq key x ≡ b → cond b (Some number) (number_in old x) ≡ Some n
+          → ((key ≡ x) × (number ≡ n)) ⊎ (number_in old x ≡ Some n)
+      go true h e = inl ((bytes_eq-Decides key x).0 h, some_same number n e)
+      go false h e = inr e
+
+  pub kept_more : number_in old key ≡ None → (x : List ℕ) (n : ℕ) → number_in old x ≡ Some n → number_in new x ≡ Some n
+  kept_more absent x n e = go (bytes_eq key x) refl
+    where
+      go : (b : Bool) → bytes_eq key x ≡ b → number_in new x ≡ Some n
+      go true h = not_none n (sym absent ∙ ap (number_in old) ((bytes_eq-Decides key x).0 h) ∙ e)
+      go false h = after x ∙ ap (λ b. cond b (Some number) (number_in old x)) h ∙ e
+
+  pub numbered_more : AreNumbered old number → AreNumbered new (number + 1)
+  numbered_more is = record {
+    small = λ x n e. elim (cases x n e) [
+      | inl h ↦ omega (arith, h.1)
+      | inr h ↦ omega (arith, is.small x n h)
+    ];
+    apart = λ a b n d e. elim (cases a n d) [
+      | inl h ↦ elim (cases b n e) [
+        | inl k ↦ sym h.0 ∙ k.0
+        | inr k ↦ absurd (omega (arith, h.1, is.small b n k))
+      ]
+      | inr h ↦ elim (cases b n e) [
+        | inl k ↦ absurd (omega (arith, k.1, is.small a n h))
+        | inr k ↦ is.apart a b n h k
+      ]
+    ];
+  }

@@ -1,0 +1,20 @@
+use Rattle.std.proofs.Common.{◌≡◌, take, sum, length, min, sym, ap, ◌∙◌, subst, arith}
+use Rattle.std.proofs.lemmas.List.{take_all, take_min}
+use Rattle.lru_trace.specs.Counted.{IsOf, number_in}
+use Rattle.lru_trace.proofs.Numbered.{misses_named, named_from}
+use Rattle.lru_trace.proofs.curve.Curve.misses.Goals as goal
+
+pub returns : goal.returns
+returns c = λ past of.
+    let now : IsOf past _ = subst (IsOf past) (sym c.self.view_is) of in
+    let same = misses_named (number_in c.self.inside.numbers.entries) c.self.invariant.numbered.apart c.args.places past
+    now.numbers (named_from (number_in c.self.inside.numbers.entries) past now.numbers now.named) in
+    let hits = now.hits c.args.places in
+    let xs = c.deref.result.now in
+    let m : c.min-places.result ≡ min c.args.places (length xs) =
+    omega (arith, c.min-places.ensures, c.len.ensures, c.deref.ensures.len) in
+    let all : sum (take c.loop-count.count-index (take c.min-places.result xs)) ≡ sum (take c.args.places c.self.inside.counts.items) =
+    ap sum (take_all c.loop-count.count-index (take c.min-places.result xs) c.loop-count-test.false
+    ∙ ap (λ n. take n xs) m ∙ take_min c.args.places xs ∙ ap (take c.args.places) c.deref.ensures.value) in
+    let total : c.args.self.now.references ≡ c.self.inside.references = ap (λ v. v.references) (sym c.self.view_is) in
+    omega (arith, hits, same, all, total, c.loop-count.invariant)

@@ -1,0 +1,116 @@
+use Rattle.std.proofs.Common.{◌≡◌, ◌-◌, Some, None, length, get_or, refl, sym, ap, ◌∙◌, arith, nat_eq}
+use Rattle.std.specs.Prelude.{vec_len}
+use Rattle.std.proofs.lemmas.List.{length-set, get_or_read}
+use Rattle.std.specs.Set.{remove_key}
+use Rattle.recency.specs.Recency.{is_in}
+use Rattle.lru_trace.specs.Slots.{position, newest}
+use Rattle.lru_trace.proofs.Logs.{unreferenced, without_none, slot_in, position_is, taken_out, freed_found, freed_back}
+use Rattle.lru_trace.proofs.Logs.{freed_marked, freed_absent, is_marked}
+use Rattle.lru_trace.proofs.distances.Distances.take_out.Goals as goal
+
+pub returns-in_default-clause-result : goal.returns-in_default-clause-result
+returns-in_default-clause-result c =
+    let read = get_or_read c.self.inside.slots.items c.args.key c.index.result.now
+    (omega (arith, ap (λ r. r.keys) c.self.view_is, c.self.inside.slots.ok.0, c.requires)) c.index.ensures None in
+    let none = unreferenced c.self.invariant c.args.key (sym read ∙ c.in_default.is) in
+    let here : None ≡ position c.args.key (newest c.self.inside.log.items) = rw none refl in
+    here ∙ ap (λ r. position c.args.key r.recency) c.self.view_is
+
+pub returns-in_default-clause-after : goal.returns-in_default-clause-after
+returns-in_default-clause-after c =
+    let read = get_or_read c.self.inside.slots.items c.args.key c.index.result.now
+    (omega (arith, ap (λ r. r.keys) c.self.view_is, c.self.inside.slots.ok.0, c.requires)) c.index.ensures None in
+    let none = unreferenced c.self.invariant c.args.key (sym read ∙ c.in_default.is) in
+    let same : c.args.self.now.recency ≡ remove_key (nat_eq c.args.key) c.args.self.now.recency =
+    ap (λ r. r.recency) (sym c.self.view_is)
+    ∙ sym (without_none c.args.key (newest c.self.inside.log.items) none)
+    ∙ ap (λ r. remove_key (nat_eq c.args.key) r.recency) c.self.view_is in
+    ap (λ xs. record { recency = xs; keys = c.args.self.now.keys; room = c.args.self.now.room }) same
+
+pub marks_behind-behind-requires : goal.marks_behind-behind-requires
+marks_behind-behind-requires c =
+    let read = get_or_read c.self.inside.slots.items c.args.key c.index.result.now
+    (omega (arith, ap (λ r. r.keys) c.self.view_is, c.self.inside.slots.ok.0, c.requires)) c.index.ensures None in
+    let at_slot : get_or c.self.inside.slots.items c.args.key None ≡ Some c.in-Some.slot = sym read ∙ c.in-Some.is in
+    let within = slot_in c.self.invariant c.args.key c.in-Some.slot at_slot in
+    omega (arith, within, c.self.invariant.few, c.self.inside.log.ok.0)
+
+pub unmark-requires-clause-within : goal.unmark-requires-clause-within
+unmark-requires-clause-within c =
+    let read = get_or_read c.self.inside.slots.items c.args.key c.index.result.now
+    (omega (arith, ap (λ r. r.keys) c.self.view_is, c.self.inside.slots.ok.0, c.requires)) c.index.ensures None in
+    let at_slot : get_or c.self.inside.slots.items c.args.key None ≡ Some c.in-Some.slot = sym read ∙ c.in-Some.is in
+    let within = slot_in c.self.invariant c.args.key c.in-Some.slot at_slot in
+    omega (arith, within, c.self.invariant.few, c.self.inside.log.ok.0)
+
+pub unmark-requires-clause-marked : goal.unmark-requires-clause-marked
+unmark-requires-clause-marked c =
+    let read = get_or_read c.self.inside.slots.items c.args.key c.index.result.now
+    (omega (arith, ap (λ r. r.keys) c.self.view_is, c.self.inside.slots.ok.0, c.requires)) c.index.ensures None in
+    let at_slot : get_or c.self.inside.slots.items c.args.key None ≡ Some c.in-Some.slot = sym read ∙ c.in-Some.is in
+    is_marked c.self.invariant c.args.key c.in-Some.slot at_slot
+
+pub index_mut-requires : goal.index_mut-requires
+index_mut-requires c =
+    let read = get_or_read c.self.inside.slots.items c.args.key c.index.result.now
+    (omega (arith, ap (λ r. r.keys) c.self.view_is, c.self.inside.slots.ok.0, c.requires)) c.index.ensures None in
+    let at_slot : get_or c.self.inside.slots.items c.args.key None ≡ Some c.in-Some.slot = sym read ∙ c.in-Some.is in
+    let within = slot_in c.self.invariant c.args.key c.in-Some.slot at_slot in
+    omega (arith, within, c.self.inside.log.ok.0)
+
+pub invariant_of-self : goal.invariant_of-self
+invariant_of-self c =
+    let read = get_or_read c.self.inside.slots.items c.args.key c.index.result.now
+    (omega (arith, ap (λ r. r.keys) c.self.view_is, c.self.inside.slots.ok.0, c.requires)) c.index.ensures None in
+    let at_slot : get_or c.self.inside.slots.items c.args.key None ≡ Some c.in-Some.slot = sym read ∙ c.in-Some.is in
+    let is = c.self.invariant in
+    let key = c.args.key in
+    let slot = c.in-Some.slot in
+    let len = length-set c.self.inside.marks slot 0 in
+    rw (c.unmark.ensures) (record {
+      size = len ∙ is.size;
+      small = is.small;
+      room = omega (arith, len, is.room);
+      few = omega (arith, len, is.few);
+      found = freed_found is key slot at_slot;
+      back = freed_back is key slot at_slot;
+      marked = freed_marked is key slot at_slot;
+    })
+
+pub returns-clause-result : goal.returns-clause-result
+returns-clause-result c =
+    let read = get_or_read c.self.inside.slots.items c.args.key c.index.result.now
+    (omega (arith, ap (λ r. r.keys) c.self.view_is, c.self.inside.slots.ok.0, c.requires)) c.index.ensures None in
+    let at_slot : get_or c.self.inside.slots.items c.args.key None ≡ Some c.in-Some.slot = sym read ∙ c.in-Some.is in
+    ap Some c.marks_behind-behind.ensures
+    ∙ position_is c.self.invariant c.args.key c.in-Some.slot at_slot
+    ∙ ap (λ r. position c.args.key r.recency) c.self.view_is
+
+pub returns-clause-after : goal.returns-clause-after
+returns-clause-after c =
+    let read = get_or_read c.self.inside.slots.items c.args.key c.index.result.now
+    (omega (arith, ap (λ r. r.keys) c.self.view_is, c.self.inside.slots.ok.0, c.requires)) c.index.ensures None in
+    let at_slot : get_or c.self.inside.slots.items c.args.key None ≡ Some c.in-Some.slot = sym read ∙ c.in-Some.is in
+    let inside = c.self.inside in
+    let out = taken_out c.self.invariant c.args.key c.in-Some.slot at_slot
+    ∙ ap (λ r. remove_key (nat_eq c.args.key) r.recency) c.self.view_is in
+    let len : length c.unmark.new.self ≡ length inside.marks = ap length c.unmark.ensures ∙ length-set inside.marks c.in-Some.slot 0 in
+    λ i. record {
+      recency = out i;
+      keys = ap (λ r. r.keys) c.self.view_is i;
+      room = (ap (λ n. n - vec_len inside.log) len ∙ ap (λ r. r.room) c.self.view_is) i;
+    }
+
+pub returns-in_default-clause-absent : goal.returns-in_default-clause-absent
+returns-in_default-clause-absent c =
+    let read = get_or_read c.self.inside.slots.items c.args.key c.index.result.now
+    (omega (arith, ap (λ r. r.keys) c.self.view_is, c.self.inside.slots.ok.0, c.requires)) c.index.ensures None in
+    ap (λ r. is_in nat_eq c.args.key r.recency) (sym c.self.view_is)
+    ∙ unreferenced c.self.invariant c.args.key (sym read ∙ c.in_default.is)
+
+pub returns-clause-absent : goal.returns-clause-absent
+returns-clause-absent c =
+    let read = get_or_read c.self.inside.slots.items c.args.key c.index.result.now
+    (omega (arith, ap (λ r. r.keys) c.self.view_is, c.self.inside.slots.ok.0, c.requires)) c.index.ensures None in
+    let at_slot : get_or c.self.inside.slots.items c.args.key None ≡ Some c.in-Some.slot = sym read ∙ c.in-Some.is in
+    freed_absent c.self.invariant c.args.key c.in-Some.slot at_slot

@@ -1,0 +1,42 @@
+-- The curve of a trace, as its references are counted.
+use Rattle.std.specs.Prelude.{◌≡◌, ℕ, ◌+◌, ◌≤◌, ◌<◌, List, length, map, take, sum, Option, Some, nat_eq, String}
+use Rattle.std.specs.Global.{Global}
+use Rattle.std.specs.Map.{lookup}
+use Rattle.std.specs.Str.{bytes_eq}
+use Rattle.std.specs.String.{string_bytes}
+use Rattle.recency.specs.Recency.{recency, misses}
+use Rattle.lru_trace.specs.Slots.{Recent}
+
+pub record Counted : Type 0 where
+  -- the keys and their numbers
+  pub names : List (String Global × ℕ)
+  -- the numbers of the keys, the last referenced first
+  pub recency : List ℕ
+  -- how many references had each reuse distance
+  pub counts : List ℕ
+  pub references : ℕ
+
+-- the number of a key
+abbrev pub number_in : List (String Global × ℕ) → List ℕ → Option ℕ
+number_in names key = lookup (λ name. bytes_eq key (string_bytes name)) names
+
+-- no two keys have one number, and numbers are below n
+pub record AreNumbered (names : List (String Global × ℕ)) (n : ℕ) : Type 0 where
+  pub small : (key : List ℕ) (number : ℕ) → number_in names key ≡ Some number → number < n
+  pub apart : (a b : List ℕ) (number : ℕ) → number_in names a ≡ Some number → number_in names b ≡ Some number → a ≡ b
+
+-- the curve is that of the trace `past`, whose last reference comes first
+pub record IsOf (past : List (List ℕ)) (curve : Counted) : Type 0 where
+  pub numbers : List ℕ
+  pub named : map (number_in curve.names) past ≡ map Some numbers
+  pub order : curve.recency ≡ recency nat_eq numbers
+  pub hits : (n : ℕ) → misses nat_eq n numbers + sum (take n curve.counts) ≡ curve.references
+  pub all : curve.references ≡ length past
+
+-- what is true of every curve
+pub record IsCounted (names : List (String Global × ℕ)) (recent : Recent) (counts : List ℕ) (first references : ℕ)
+    : Type 0 where
+  pub numbered : AreNumbered names recent.keys
+  pub firsts : first ≡ length recent.recency
+  pub few : first ≤ length counts
+  pub total : sum counts ≤ references

@@ -1,0 +1,6 @@
+-- What the contracts of `lru_trace` cite.
+pub mod Nodes
+pub mod Slots
+pub mod Counted
+pub mod Lines
+pub mod Outcome

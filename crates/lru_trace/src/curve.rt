@@ -1,0 +1,160 @@
+//! The misses of a trace in LRU caches of every size.
+ghost use Rattle.std.specs.Prelude.{◌≡◌, ◌+◌, ◌-◌, ◌<◌, ◌≤◌, ◌^◌, ℕ, List, [], ◌∷◌, Some, IfOk, OnOk, OnErr, length, take, sum};
+ghost use Rattle.std.specs.Str.{bytes_eq};
+ghost use Rattle.recency.specs.Recency.{misses};
+ghost use Rattle.lru_trace.specs.Counted.{Counted, IsOf, number_in};
+
+use crate::distances::Distances;
+use std::alloc::{AllocError, Global};
+use std::collections::HashMap;
+use std::marker::Model;
+
+/// The misses of a trace in LRU caches of every size, counted in one pass.
+///
+/// A reference misses in a cache of n places if its reuse distance is at least n, or if it is the first to its key. So
+/// the curve counts how many references had each reuse distance. Its memory is in proportion to the number of keys.
+///
+/// ```
+/// let mut curve = Curve::new(alloc)?;
+/// for key in ["a", "b", "a", "c", "a"] {
+///     curve.refer(key)?;
+/// }
+/// assert_eq!(rt; curve.misses(1), 5);
+/// assert_eq!(rt; curve.misses(2), 3);
+/// ```
+#[derive(Drop)]
+pub struct Curve {
+    /// The number of each key.
+    numbers: HashMap<String, usize>,
+    distances: Distances,
+    /// How many references had each reuse distance.
+    counts: Vec<u64>,
+    /// How many references were the first to their key.
+    firsts: usize,
+    references: u64,
+    alloc: Global,
+}
+
+impl Model for Curve {
+    ghost use Rattle.lru_trace.specs.Counted.{Counted, IsCounted};
+
+    ghost Value = { Counted };
+
+    ghost view = { λ c. record {
+      names = c.numbers.entries;
+      recency = c.distances.recency;
+      counts = c.counts.items;
+      references = c.references;
+    } };
+
+    ghost invariant = { λ c. IsCounted c.numbers.entries c.distances c.counts.items c.firsts c.references };
+}
+
+impl Curve {
+    /// Makes the curve of a trace without references.
+    pub fn new(alloc: Global) -> Result<Self, AllocError>
+        ensures { IfOk result (IsOf []) }
+    {
+        Ok(Curve {
+            numbers: HashMap::new(alloc),
+            distances: Distances::new(alloc)?,
+            counts: Vec::new(alloc),
+            firsts: 0,
+            references: 0,
+            alloc,
+        })
+    }
+
+    /// Returns the number of a key, which is added if it is not there.
+    fn number_of(&mut self, key: &str) -> Result<usize, AllocError>
+        ensures number { IfOk result (λ number. number_in self.new.names key.now ≡ Some number) }
+        ensures others { (other : List ℕ) (number : ℕ) → number_in self.old.names other ≡ Some number →
+            number_in self.new.names other ≡ Some number }
+        ensures rest { self.new ≡ record self.old { names = self.new.names } }
+    {
+        if let Some(number) = self.numbers.get(key) {
+            return Ok(*number);
+        }
+        let name = String::from_str(self.alloc, key)?;
+        let number = self.distances.add_key()?;
+        let Ok(_) = self.numbers.insert(name, number) else {
+            return Err(AllocError);
+        };
+        Ok(number)
+    }
+
+    /// Makes a count for one reuse distance more, unless there is one to spare.
+    fn make_count(&mut self) -> Result<(), AllocError>
+        ensures spare { OnOk result (length self.new.recency < length self.new.counts) }
+        ensures rest { self.new ≡ record self.old { counts = self.new.counts } }
+        ensures hits { (n : ℕ) → sum (take n self.new.counts) ≡ sum (take n self.old.counts) }
+    {
+        if self.counts.len() == self.firsts {
+            self.counts.push(0)?;
+        }
+        Ok(())
+    }
+
+    /// Counts a reference to the key of this number.
+    fn count(&mut self, key: &str, number: usize) -> Result<(), AllocError>
+        requires fits { self.old.references < 2 ^ 64 - 1 }
+        requires number { number_in self.old.names key.now ≡ Some number }
+        requires spare { length self.old.recency < length self.old.counts }
+        ensures ok { OnOk result ((past : List (List ℕ)) → IsOf past self.old → IsOf (key.now ∷ past) self.new) }
+        ensures err { OnErr result (self.new ≡ self.old) }
+        ensures references { self.new.references ≤ self.old.references + 1 }
+    {
+        match self.distances.refer(number)? {
+            Some(distance) => self.counts[distance] += 1,
+            None => self.firsts += 1,
+        }
+        self.references += 1;
+        Ok(())
+    }
+
+    /// References a key.
+    ///
+    /// Cost: `O(log n)` expected for n keys, amortised over the references.
+    ///
+    /// # Errors
+    ///
+    /// `Err`: out of memory. The curve is still that of the trace before.
+    pub fn refer(&mut self, key: &str) -> Result<(), AllocError>
+        requires { self.old.references < 2 ^ 64 - 1 }
+        ensures ok { OnOk result ((past : List (List ℕ)) → IsOf past self.old → IsOf (key.now ∷ past) self.new) }
+        ensures err { OnErr result ((past : List (List ℕ)) → IsOf past self.old → IsOf past self.new) }
+        ensures references { self.new.references ≤ self.old.references + 1 }
+    {
+        let number = self.number_of(key)?;
+        self.make_count()?;
+        self.count(key, number)
+    }
+
+    /// Returns how many references there were.
+    pub fn references(&self) -> u64
+        ensures { result ≡ self.now.references }
+    {
+        self.references
+    }
+
+    /// Returns how many keys were referenced.
+    pub fn keys(&self) -> usize
+        ensures { result ≡ length self.now.recency }
+    {
+        self.firsts
+    }
+
+    /// Returns how many references miss in an LRU cache of this many places.
+    ///
+    /// Cost: `O(places)`, and at most in proportion to the number of keys.
+    pub fn misses(&self, places: usize) -> u64
+        ensures { (past : List (List ℕ)) → IsOf past self.now → result ≡ misses bytes_eq places past }
+    {
+        let mut misses = self.references;
+        let places = places.min(self.counts.len());
+        for count in &self.counts[..places] {
+            misses -= *count;
+        }
+        misses
+    }
+}

@@ -1,0 +1,48 @@
+//! How a trace ends, and the exit status of each end.
+ghost use Rattle.std.specs.Prelude.{◌≡◌};
+ghost use Rattle.lru_trace.specs.Outcome.{status_of};
+
+use std::alloc::AllocError;
+use thiserror::Error;
+
+/// How a trace ends if no read and no write fails.
+#[derive(Clone, Copy, Debug, PartialEq, Eq)]
+pub enum TraceEnd {
+    /// All lines were read, and the report was written.
+    Done,
+    /// The first line names no sizes, or there is no line.
+    NoSizes,
+}
+
+/// What cuts a trace off.
+#[derive(Clone, Copy, Debug, PartialEq, Eq, Error)]
+pub enum TraceError {
+    /// A read failed.
+    #[error("read failed")]
+    Read = 1,
+    /// A write or the flush failed.
+    #[error("write failed")]
+    Write = 2,
+    /// Out of memory.
+    #[error("no memory")]
+    Memory = 3,
+}
+
+impl From<AllocError> for TraceError {
+    fn from(_: AllocError) -> Self {
+        TraceError::Memory
+    }
+}
+
+/// Returns the exit status: 0 if the report was written, 1 if the first line names no sizes, 2 if a read or a write
+/// failed, and 3 if the program ran out of memory.
+pub fn status(end: &Result<TraceEnd, TraceError>) -> u8
+    ensures { result ≡ status_of end.now }
+{
+    match end {
+        Ok(TraceEnd::Done) => 0,
+        Ok(TraceEnd::NoSizes) => 1,
+        Err(TraceError::Read | TraceError::Write) => 2,
+        Err(TraceError::Memory) => 3,
+    }
+}

@@ -1,0 +1,5 @@
+//! Tests of `lru_trace` and `lru_theory`: the one pass beside a map for each size, and the examples.
+#![tactic(auto)]
+
+#[cfg(test)]
+mod curves;

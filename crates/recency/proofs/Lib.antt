@@ -1,0 +1,4 @@
+pub mod Affordable
+pub mod Bounds
+pub mod Inclusions
+pub mod Lists

@@ -1,0 +1,40 @@
+-- Calls on LRU caches of several sizes.
+--     eq        when two keys are equal
+use Rattle.std.specs.Prelude.{ℕ, ◌+◌, ◌-◌, ◌≤◌, Bool, if◌then◌else◌, List, [], ◌∷◌, length, take}
+use Rattle.std.specs.Set.{remove_key}
+use Rattle.recency.specs.Recency.{is_in}
+
+-- What a call does to the keys of a cache: it references a key, makes one the newest if it is there, removes one, removes
+-- all, or changes nothing.
+pub data KeyCall (K : Type 0) : Type 0 where
+  refers : K → KeyCall K
+  promotes : K → KeyCall K
+  removes : K → KeyCall K
+  clears : KeyCall K
+  looks : KeyCall K
+
+module _ {K : Type 0} (eq : K → K → Bool) (n : ℕ) where
+  -- the keys of an LRU cache of n places after a call, the newest first
+  abbrev pub after_call : KeyCall K → List K → List K
+  after_call (refers key) keys = take n (key ∷ remove_key (eq key) keys)
+  after_call (promotes key) keys = if is_in eq key keys then key ∷ remove_key (eq key) keys else keys
+  after_call (removes key) keys = remove_key (eq key) keys
+  after_call clears keys = []
+  after_call looks keys = keys
+
+  -- and after calls, one after another
+  abbrev pub after_calls : List (KeyCall K) → List K → List K
+  after_calls [] keys = keys
+  after_calls (call ∷ calls) keys = after_calls calls (after_call call keys)
+
+-- the elements of xs are among those of ys, in the same order
+pub data IsSubsequence {X : Type 0} : List X → List X → Type 0 where
+  none : (ys : List X) → IsSubsequence [] ys
+  both : (x : X) (xs ys : List X) → IsSubsequence xs ys → IsSubsequence (x ∷ xs) (x ∷ ys)
+  skips : (y : X) (xs ys : List X) → IsSubsequence xs ys → IsSubsequence xs (y ∷ ys)
+
+-- A cache of n places is included in one of m: its keys are among those of the larger cache, in the same order, and the
+-- larger cache contains at most m - n more.
+pub record IsIncluded {K : Type 0} (n m : ℕ) (small large : List K) : Type 0 where
+  pub keys : IsSubsequence small large
+  pub more : length large ≤ length small + (m - n)

@@ -1,0 +1,57 @@
+//! Traces of references to keys: recency lists, reuse distances, and how often an LRU cache of n places misses.
+//!
+//! The functions do nothing: their contracts are the theorems. `docs/THEORY.md` says each in words.
+#![tactic(auto)]
+
+ghost use Rattle.std.specs.Prelude.{◌≡◌, ℕ, ◌+◌, ◌-◌, ◌*◌, ◌≤◌, List, length, take, true};
+ghost use Rattle.recency.specs.Budgets.{cached_within, faults_within};
+ghost use Rattle.recency.specs.Recency.{IsExact, is_in, recency, misses, cached, faults};
+ghost use Rattle.recency.specs.Inclusion.{KeyCall, after_calls, IsIncluded, IsSubsequence};
+ghost use Rattle.recency.specs.Policies.{Served};
+
+/// An LRU cache of n places contains the n keys that were referenced last.
+pub fn a_cache_is_the_newest<K: Eq>()
+    ensures { (n : ℕ) (past : List K) → cached K.eq n past ≡ take n (recency K.eq past) }
+{}
+
+/// An LRU cache of n places misses exactly at the references whose reuse distance is at least n, and at the first to
+/// each key.
+pub fn faults_are_misses<K: Eq>()
+    ensures { (n : ℕ) (past : List K) → IsExact K.eq → faults K.eq n past ≡ misses K.eq n past }
+{}
+
+/// More places never mean more misses.
+pub fn more_places_never_miss_more<K: Eq>()
+    ensures { (n m : ℕ) (past : List K) → n ≤ m → misses K.eq m past ≤ misses K.eq n past }
+{}
+
+/// LRU is competitive. Take any demand policy with h places, one that knows the whole trace in advance, from any keys in
+/// its cache. If it misses m times, an LRU cache of k ≥ h places misses at most k / (k + 1 - h) * m + k times.
+pub fn lru_is_competitive<K: Eq>()
+    ensures { (k h : ℕ) (past first left : List K) (missed : ℕ) → IsExact K.eq → h ≤ k →
+        Served K.eq h first past missed left →
+        (k + 1 - h) * misses K.eq k past ≤ k * missed + (k + 1 - h) * k }
+{}
+
+/// After the same calls a smaller cache is included in a larger one, if it was before (`included`): its keys are among
+/// those of the larger cache, in the same order, and the larger cache contains at most m - n more. So what the smaller
+/// cache finds, the larger cache finds (`finds`). The calls may reference keys, make them the newest, remove them or look
+/// at them. Pops are left out.
+pub fn a_smaller_cache_is_included<K: Eq>()
+    ensures included { (n m : ℕ) (calls : List (KeyCall K)) (small large : List K) → n ≤ m →
+        IsIncluded n m small large →
+        IsIncluded n m (after_calls K.eq n calls small) (after_calls K.eq m calls large) }
+    ensures finds { (key : K) (small large : List K) → IsSubsequence small large →
+        is_in K.eq key small ≡ true → is_in K.eq key large ≡ true }
+{}
+
+/// A larger budget never means more misses. Of two LRU caches with limits of cost, the keys of the one with the smaller
+/// limit are the newest keys of the other (`front`), and it misses at least as often (`misses`). No key alone may cost
+/// more than the smaller limit.
+pub fn a_larger_budget_never_misses_more<K: Eq>()
+    ensures front { (cost : K → ℕ) (n m : ℕ) (past : List K) → n ≤ m →
+        cached_within K.eq cost n past
+        ≡ take (length (cached_within K.eq cost n past)) (cached_within K.eq cost m past) }
+    ensures misses { (cost : K → ℕ) (n m : ℕ) (past : List K) → n ≤ m →
+        faults_within K.eq cost m past ≤ faults_within K.eq cost n past }
+{}

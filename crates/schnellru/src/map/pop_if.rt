@@ -1,0 +1,69 @@
+//! Removing the oldest entry if a closure agrees.
+ghost use Rattle.std.specs.Prelude.{◌≡◌, Some};
+ghost use Rattle.std.specs.Borrow.{Bor};
+ghost use Rattle.schnellru.specs.Lists.{last};
+ghost use Rattle.schnellru.specs.Pops.{PopOldestIf, TryPopOldest, Says};
+
+use crate::map::LruMap;
+use lru_limits::{KeyHasher, Limiter};
+use std::hash::Hash;
+
+impl<K: Eq + Hash, V, L: Limiter<K, V>, S: KeyHasher<K>> LruMap<K, V, L, S> {
+    /// Removes and returns the oldest entry, as the limiter leaves it, if there is one and the closure returns true for
+    /// it. Otherwise nothing changes.
+    ///
+    /// With a time stamp in the value, `while map.pop_oldest_if(..).is_some() {}` removes what was not used for long.
+    ///
+    /// ```
+    /// assert_eq!(rt; map.pop_oldest_if(|key, _| *key == 9), None);
+    /// assert_eq!(rt; map.pop_oldest_if(|key, _| *key == 1), Some((1, 10)));
+    /// ```
+    ///
+    /// Cost: `O(1)`, and one call of the closure.
+    ///
+    /// After std's `Vec::pop_if`; schnellru has no such call.
+    pub fn pop_oldest_if<F: FnOnce(&K, &V) -> bool>(&mut self, accepts: F) -> Option<(K, V)>
+        requires { (key : Bor K) (value : Bor V) → last self.old.pairs ≡ Some (key.now, value.now)
+            → F.pre accepts key value }
+        ensures step { PopOldestIf L.rules (Says (F.post accepts)) self.old result self.new }
+    {
+        let (key, value) = self.peek_oldest()?;
+        if !accepts(key, value) {
+            return None;
+        }
+        self.pop_oldest()
+    }
+
+    /// Removes and returns the oldest entry, as the limiter leaves it, if there is one and the closure succeeds for it.
+    ///
+    /// A write-back cache writes the entry in the closure: the entry leaves only if it was written.
+    ///
+    /// ```
+    /// assert_eq!(rt; map.try_pop_oldest(|_, _| Err(7u8)), Err(7));
+    /// assert_eq!(rt; map.try_pop_oldest(|_, _| -> Result<(), u8> { Ok(()) }), Ok(Some((2, 20))));
+    /// ```
+    ///
+    /// Cost: `O(1)`, and one call of the closure.
+    ///
+    /// # Errors
+    ///
+    /// Returns the error of the closure. Then nothing has changed.
+    ///
+    /// schnellru has no such call.
+    pub fn try_pop_oldest<E, F: FnOnce(&K, &V) -> Result<(), E>>(
+        &mut self,
+        release: F,
+    ) -> Result<Option<(K, V)>, E>
+        requires { (key : Bor K) (value : Bor V) → last self.old.pairs ≡ Some (key.now, value.now)
+            → F.pre release key value }
+        ensures step { TryPopOldest L.rules (Says (F.post release)) self.old result self.new }
+    {
+        match self.peek_oldest() {
+            None => Ok(None),
+            Some((key, value)) => match release(key, value) {
+                Ok(()) => Ok(self.pop_oldest()),
+                Err(error) => Err(error),
+            },
+        }
+    }
+}

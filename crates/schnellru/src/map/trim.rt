@@ -1,0 +1,82 @@
+//! Bringing a map within its limit without an insert.
+ghost use Rattle.std.specs.Prelude.{◌≡◌, List};
+ghost use Rattle.schnellru.specs.State.{IsMap, IsWithin, Trims, contents};
+ghost use Rattle.schnellru.specs.HandedOver.{Takes, TrimHands};
+
+use crate::map::LruMap;
+use lru_limits::{KeyHasher, Limiter};
+use std::hash::Hash;
+use std::mem;
+
+impl<K: Eq + Hash + Drop, V: Drop, L: Limiter<K, V>, S: KeyHasher<K>> LruMap<K, V, L, S> {
+    /// Evicts the oldest entries while the limiter is over its limit.
+    ///
+    /// A limit that was lowered through `limiter_mut`, or an entry whose cost has risen, takes effect now.
+    ///
+    /// ```
+    /// *map.limiter_mut() = ByLength::new(1);
+    /// map.trim();
+    /// assert!(rt; map.len() == 1 && map.contains(&3));
+    /// ```
+    ///
+    /// Cost: `O(1)` for each entry that is evicted.
+    ///
+    /// After Guava's `Cache::cleanUp`; schnellru has no such call.
+    pub fn trim(&mut self)
+        ensures step { Trims L.rules self.old self.new }
+        ensures within { IsWithin L.rules (contents self.new) }
+        ensures map { IsMap K.eq self.new }
+    {
+        self.trim_with(&mut |_, _| {});
+    }
+
+    /// The same as `trim`, and passes each evicted entry to the callback, oldest first, as the limiter leaves it.
+    ///
+    /// ```
+    /// let mut evicted = 0u64;
+    /// *map.limiter_mut() = ByLength::new(1);
+    /// map.trim_with(&mut |key, _| evicted = evicted.wrapping_add(key));
+    /// assert_eq!(rt; evicted, 3);
+    /// ```
+    ///
+    /// Cost: as `trim`, with one call of the callback for each evicted entry.
+    pub fn trim_with<F: FnMut(K, V)>(&mut self, sink: &mut F)
+        requires callable { F.IsAlwaysCallable sink.old }
+        ensures step { Trims L.rules self.old self.new }
+        ensures within { IsWithin L.rules (contents self.new) }
+        ensures handed { (handed : List (K × V)) × Takes F.FnMut sink.old handed sink.new
+            × TrimHands L.rules self.old handed self.new }
+        ensures callable { F.IsAlwaysCallable sink.new }
+        ensures map { IsMap K.eq self.new }
+    {
+        if !self.is_empty() {
+            self.evict_over_limit(sink);
+        }
+        // Nothing at run time: it opens the map, whose invariant is the clause `map`.
+        let _ = &self.entries;
+    }
+
+    /// Sets another limiter, and evicts the oldest entries while it is over its limit. Returns the old limiter.
+    ///
+    /// The new limiter is not notified of the entries that are there. A limiter with a running total, such as `ByCost`,
+    /// must begin with the sum of their costs.
+    ///
+    /// ```
+    /// let old = map.set_limiter(ByLength::new(1));
+    /// assert!(rt; old.max_length() == 3 && map.len() == 1);
+    /// ```
+    ///
+    /// Cost: `O(1)` for each entry that is evicted.
+    ///
+    /// After `resize` of the crate `lru`; schnellru has no such call.
+    pub fn set_limiter(&mut self, limiter: L) -> L
+        ensures limiter { result ≡ self.old.limiter }
+        ensures step { Trims L.rules (record self.old { limiter = limiter }) self.new }
+        ensures within { IsWithin L.rules (contents self.new) }
+        ensures map { IsMap K.eq self.new }
+    {
+        let old = mem::replace(&mut self.limiter, limiter);
+        self.trim();
+        old
+    }
+}

@@ -1,0 +1,22 @@
+//! Prints how often LRU caches of each size miss at a trace, which it reads from standard input.
+#![tactic(auto)]
+
+use lru_trace::{status, trace};
+use std::io::{self, BufReader, BufWriter};
+use std::process::ExitCode;
+
+/// The exit status if there is no memory for a buffer, so that nothing was read.
+const NO_BUFFER: u8 = 3;
+
+fn main(rt: HostRuntime) -> ExitCode {
+    let Ok(mut reader) = BufReader::new(rt.alloc(), rt.reader()) else {
+        return ExitCode::from(NO_BUFFER);
+    };
+    let Ok(mut writer) = BufWriter::new(rt.alloc(), io::writer(&rt)) else {
+        return ExitCode::from(NO_BUFFER);
+    };
+    let end = trace(rt.alloc(), &mut reader, &mut writer);
+    // After a failed write the buffer still contains bytes. Its drop would write them again.
+    let (_output, _unwritten) = writer.into_parts();
+    ExitCode::from(status(&end))
+}
