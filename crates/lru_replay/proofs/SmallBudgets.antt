@@ -28,11 +28,11 @@ few_by_usage e n b c is of fits = elim (dec_lt 16 n) [
 ]
 
 module _ {K V H : Type 0} where
-  -- the table takes at most so many bytes, and each of its entries these
-  abbrev pub IsWithin : ℕ → ℕ → State K V ℕ H → Type 0
-  IsWithin e most st = UsesAtMost most st × (st.entry_bytes ≡ e)
+  -- the table takes at most `most` bytes, and an entry takes e bytes
+  abbrev pub KeepsBudget : ℕ → ℕ → State K V ℕ H → Type 0
+  KeepsBudget e most st = UsesAtMost most st × (st.entry_bytes ≡ e)
 
-  pub few_buckets : (st other : State K V ℕ H) → HasSmallBudget st → IsWithin st.entry_bytes st.limiter other
+  pub few_buckets : (st other : State K V ℕ H) → HasSmallBudget st → KeepsBudget st.entry_bytes st.limiter other
       → buckets other ≤ 16
   few_buckets st other small ((bytes, is, within), e) =
       few_by_usage st.entry_bytes (buckets other) bytes small.0 (ap (λ e. usage e (buckets other)) (sym e) ∙ is)
@@ -58,7 +58,7 @@ module _ {K V H : Type 0} where
           → AllByRecursion SetsNoLimiter calls → UsesAtMost old.limiter old → HasSmallBudget old
           → IsRun (CallStep rules offers eq hash_of) (λ st. buckets st ≤ 16) old calls replies new
       run_stays_small old calls replies new run none uses small =
-          let within = run_within rules offers eq hash_of (λ most. most) (IsWithin old.entry_bytes)
+          let within = run_within rules offers eq hash_of (λ most. most) (KeepsBudget old.entry_bytes)
           (λ st other run within. (law st other (unwritten st run) within.0, same_entry_bytes other st run ∙ within.1))
           (λ st other run. stays_so st other (unwritten st run))
           (CallStep rules offers eq hash_of) (λ st call. Unit {0}) call_kinds (λ most st key v known h. h)

@@ -99,8 +99,7 @@ module _ (rest : List ℕ) (some : nat_lt 0 (length (take_through 10 rest)) ≡ 
       go true = omega arith
       go false = omega arith
 
--- What was read of an input, where the rest is left: the curve is that of the keys that were read, and so many lines
--- spelled none.
+-- An input was read up to a rest. The curve counts the keys that were read, and `malformed` lines spelled no key.
 pub record ReadsFrom (input : List ℕ) (left : Option (List ℕ)) (first now : Counted) (malformed : ℕ) : Type 0 where
   pub rest : List ℕ
   pub known : left ≡ Some rest

@@ -25,7 +25,7 @@ pub record AreNumbered (names : List (String Global × ℕ)) (n : ℕ) : Type 0 
   pub small : (key : List ℕ) (number : ℕ) → number_in names key ≡ Some number → number < n
   pub apart : (a b : List ℕ) (number : ℕ) → number_in names a ≡ Some number → number_in names b ≡ Some number → a ≡ b
 
--- the curve is that of the trace `past`, whose last reference comes first
+-- this is the curve of the trace `past`, whose last reference comes first
 pub record IsOf (past : List (List ℕ)) (curve : Counted) : Type 0 where
   pub numbers : List ℕ
   pub named : map (number_in curve.names) past ≡ map Some numbers

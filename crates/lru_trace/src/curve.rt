@@ -118,7 +118,7 @@ impl Curve {
     ///
     /// # Errors
     ///
-    /// `Err`: out of memory. The curve is still that of the trace before.
+    /// `Err`: out of memory. The reference is not counted.
     pub fn refer(&mut self, key: &str) -> Result<(), AllocError>
         requires { self.old.references < 2 ^ 64 - 1 }
         ensures ok { OnOk result ((past : List (List ℕ)) → IsOf past self.old → IsOf (key.now ∷ past) self.new) }

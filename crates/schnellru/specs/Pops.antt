@@ -17,19 +17,19 @@ module _ {K V S H : Type 0} (rules : Rules K V S) where
   -- the oldest pair is removed and returned if the closure accepts it
   pub data PopOldestIf (says : K × V → Bool → Type 0) (old : State K V S H) (result : Option (K × V))
       (new : State K V S H) : Type 0 where
-    none : last old.pairs ≡ None → result ≡ None → new ≡ old →
+    empty : last old.pairs ≡ None → result ≡ None → new ≡ old →
         PopOldestIf says old result new
-    stays : (pair : K × V) → last old.pairs ≡ Some pair → says pair false →
+    rejected : (pair : K × V) → last old.pairs ≡ Some pair → says pair false →
         result ≡ None → new ≡ old →
         PopOldestIf says old result new
-    leaves : (pair : K × V) → last old.pairs ≡ Some pair → says pair true →
+    accepted : (pair : K × V) → last old.pairs ≡ Some pair → says pair true →
         PopOldest rules old result new →
         PopOldestIf says old result new
 
   -- the oldest pair is removed and returned if the closure succeeds
   pub data TryPopOldest {E : Type 0} (says : K × V → Result (Unit {0}) E → Type 0) (old : State K V S H)
       (result : Result (Option (K × V)) E) (new : State K V S H) : Type 0 where
-    empty : last old.pairs ≡ None → result ≡ Ok None → new ≡ old →
+    no_pair : last old.pairs ≡ None → result ≡ Ok None → new ≡ old →
         TryPopOldest says old result new
     failed : (pair : K × V) → last old.pairs ≡ Some pair → (e : E) → says pair (Err e) →
         result ≡ Err e → new ≡ old →

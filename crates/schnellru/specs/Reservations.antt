@@ -8,7 +8,7 @@ use Rattle.schnellru.specs.declared.map.reserve.ReserveError.{ReserveError}
 use Rattle.schnellru.specs.declared.map.reserve.ReserveError.TheVariants.{TooLarge, Refused, Memory}
 
 module _ {K V S H : Type 0} (n : ℕ) (st : State K V S H) where
-  -- n is more than the growth left, and the pairs with n more are a number of 64 bits
+  -- n is more than the growth left, and n more pairs are fewer than 2 ^ 64
   abbrev pub LacksRoomFor : Type 0
   LacksRoomFor = (room st < n) × (length st.pairs + n < 2 ^ 64)
 
@@ -19,7 +19,7 @@ module _ {K V S H : Type 0} (n : ℕ) (st : State K V S H) where
     -- or there is no such number of pairs, or no table for it,
     too_many : 2 ^ 64 ≤ length st.pairs + n → result ≡ Err TooLarge → ReservesNothing result
     no_such_table : LacksRoomFor → table_for n st ≡ no_table → result ≡ Err TooLarge → ReservesNothing result
-    -- or no memory to rehash the table, which without pairs needs none
+    -- or there is no memory to rehash the table; without pairs a rehash needs none
     no_memory_to_remake : LacksRoomFor → table_for n st ≡ same_table → 0 < length st.pairs → result ≡ Err Memory →
         ReservesNothing result
 
@@ -29,7 +29,7 @@ module _ {K V S H : Type 0} (rules : Rules K V S) where
   FailsToGrow bytes st result =
       (Grants rules bytes st × (result ≡ Err Memory)) ⊎ (Denies rules bytes st × (result ≡ Err Refused))
 
-  -- growth for n more; the pairs stay, and so do the counts
+  -- growth for n more pairs; the pairs and the counts stay
   pub data Reserve (n : ℕ) (old : State K V S H) (result : Result (Unit {0}) ReserveError)
       (new : State K V S H) : Type 0 where
     -- Nothing changes,

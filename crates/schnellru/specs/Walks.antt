@@ -32,7 +32,7 @@ module _ {K V L S N H : Type 0} {equal : equality.Ghosts K} {input : hashing.Gho
     {links : link_type.Ghosts N} {link_eq : equality.Ghosts N} {link_shown : debug.Ghosts N}
     {keyed : key_hasher.Ghosts S K H} {build : builder.Ghosts S H} {hash : hasher.Ghosts H}
     (walk : IterMut K V L S N H equal input limits links link_eq link_shown keyed build hash) where
-  -- the map as it is now, and the ghost name of the reference to it
+  -- the map now, and the ghost name of the reference to it
   abbrev pub walk_map : State K V L S
   walk_map = walk.map.now
 
@@ -50,7 +50,7 @@ module _ {K V L S N H : Type 0} {equal : equality.Ghosts K} {input : hashing.Gho
   abbrev pub walk_written : ℕ → V → MutBor (State K V L S)
   walk_written at w = record walk.map { now = record walk.map.now { pairs = set_value_at walk.map.now.pairs at w } }
 
-  -- the walk after it lent the first pair that was left, and w was written, or the last pair
+  -- the walk after it lent the first pair that was left, or the last, and w was written there
   abbrev pub walk_after_first : V → IterMut K V L S N H equal input limits links link_eq link_shown keyed build hash
   walk_after_first w = record walk {
     map = walk_written walk.start w;
@@ -95,7 +95,7 @@ module _ (K V L S N H : RattleType) (key : HashMembers K.Denot)
     abbrev pub lends_first : Bor K.Denot × MutBor V.Denot → Fml
     lends_first r = follows walk_row V walk.ghost_name r.1.ghost_name (λ w. walk_after_first walk.now w)
 
-    -- the last that was left is
+    -- the last pair that was left is lent until r ends, if there is one
     abbrev pub lends_next_back : Option (Bor K.Denot × MutBor V.Denot) → Fml
     lends_next_back r = follows_if walk_row V walk.ghost_name (lent_name r) (λ w. walk_after_last walk.now w) walk.now
 

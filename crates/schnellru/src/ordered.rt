@@ -364,7 +364,7 @@ fn bucket_of<N: LinkType>(link: N) -> Option<usize>
     }
 }
 
-// Returns the link, which is `MAX` if `max`. Then it is not read, if that is known when this is compiled.
+// Returns the link, which is `MAX` if `max`. If the compiler knows `max`, it drops the read of the link.
 #[inline(always)]
 fn link_or_max<N: LinkType>(link: N, max: bool) -> N
     requires { IsTrue max → link ≡ N.MAX }

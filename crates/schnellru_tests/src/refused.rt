@@ -141,7 +141,7 @@ fn expect<S: BuildHasher>(
     Ok(())
 }
 
-/// No form of insert gives up above some number of pairs, if there is memory.
+/// No form of insert fails above some number of pairs, if there is memory.
 #[test]
 fn inserts_of_many_pairs(rt: HostRuntime) -> Result<(), Fail> {
     for call in [

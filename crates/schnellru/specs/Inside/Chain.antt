@@ -64,8 +64,8 @@ module _ {K V N : Type 0} where
     pub others : (c : ℕ) → c ≢ b → entry_at new c ≡ entry_at old c
 
 module _ {K V N : Type 0} (number : N → ℕ) where
-  -- The entry at a link, if there is one, has another link of one kind now, and nothing else has changed. The kinds are
-  -- told by what they read of an entry.
+  -- The link `kind` of the entry at a link, if there is one, has been set to `to`. The link `other` of each entry, and
+  -- the links of all other entries, have stayed.
   pub record SetsLink (kind other : Entry K V N → N) (old new : List (Slot (Entry K V N))) (at to : N) : Type 0 where
     pub pairs : pair_slots new ≡ pair_slots old
     pub there : IsFull old (number at) → option_map kind (entry_at new (number at)) ≡ Some to
@@ -129,7 +129,7 @@ module _ {K V N : Type 0} (number : N → ℕ) (link : ℕ → N) (none : N) whe
     pub same : length slots ≡ length before
     pub others : (c : ℕ) → c ≢ b → bucket_at slots c ≡ bucket_at before c
 
-  -- the same of a chain: its links keep the order, or a bucket is to leave it
+  -- the links of a chain keep this order, or a bucket is to leave it
   abbrev pub KeepsOrder : Chain K V N → List ℕ → Type 0
   KeepsOrder chain = IsChain chain.table.slots chain.newest chain.oldest
 

@@ -30,6 +30,33 @@ impl<K: Eq + Hash + Drop, V: Drop, L: Limiter<K, V>, S: KeyHasher<K>> LruMap<K, 
         self.trim_with(&mut |_, _| {});
     }
 
+    /// Sets another limiter, and evicts the oldest entries while it is over its limit. Returns the old limiter.
+    ///
+    /// The new limiter is not notified of the entries that are there. A limiter with a running total, such as `ByCost`,
+    /// must begin with the sum of their costs.
+    ///
+    /// ```
+    /// let old = map.set_limiter(ByLength::new(1));
+    /// assert!(rt; old.max_length() == 3 && map.len() == 1);
+    /// ```
+    ///
+    /// Cost: `O(1)` for each entry that is evicted.
+    ///
+    /// After `resize` of the crate `lru`; schnellru has no such call.
+    pub fn set_limiter(&mut self, limiter: L) -> L
+        ensures limiter { result ≡ self.old.limiter }
+        ensures step { Trims L.rules (record self.old { limiter = limiter }) self.new }
+        ensures within { IsWithin L.rules (contents self.new) }
+        ensures map { IsMap K.eq self.new }
+    {
+        let old = mem::replace(&mut self.limiter, limiter);
+        self.trim();
+        old
+    }
+}
+
+// Nothing here requires `K: Drop` or `V: Drop`, so a body that forgets a pair does not compile.
+impl<K: Eq + Hash, V, L: Limiter<K, V>, S: KeyHasher<K>> LruMap<K, V, L, S> {
     /// The same as `trim`, and passes each evicted entry to the callback, oldest first, as the limiter leaves it.
     ///
     /// ```
@@ -54,29 +81,5 @@ impl<K: Eq + Hash + Drop, V: Drop, L: Limiter<K, V>, S: KeyHasher<K>> LruMap<K, 
         }
         // Nothing at run time: it opens the map, whose invariant is the clause `map`.
         let _ = &self.entries;
-    }
-
-    /// Sets another limiter, and evicts the oldest entries while it is over its limit. Returns the old limiter.
-    ///
-    /// The new limiter is not notified of the entries that are there. A limiter with a running total, such as `ByCost`,
-    /// must begin with the sum of their costs.
-    ///
-    /// ```
-    /// let old = map.set_limiter(ByLength::new(1));
-    /// assert!(rt; old.max_length() == 3 && map.len() == 1);
-    /// ```
-    ///
-    /// Cost: `O(1)` for each entry that is evicted.
-    ///
-    /// After `resize` of the crate `lru`; schnellru has no such call.
-    pub fn set_limiter(&mut self, limiter: L) -> L
-        ensures limiter { result ≡ self.old.limiter }
-        ensures step { Trims L.rules (record self.old { limiter = limiter }) self.new }
-        ensures within { IsWithin L.rules (contents self.new) }
-        ensures map { IsMap K.eq self.new }
-    {
-        let old = mem::replace(&mut self.limiter, limiter);
-        self.trim();
-        old
     }
 }
