@@ -18,6 +18,7 @@ pub mod MadeValues
 pub mod CallKinds
 pub mod SummedCalls
 pub mod CallLaws
+pub mod LineLaws
 pub mod OldestGone
 pub mod ListRuns
 pub mod AlikeRuns

@@ -1,6 +1,6 @@
 //! What is proved of runs of calls, in addition to what `run_calls` and `run_summing` say of each. The functions do
 //! nothing: their contracts are the theorems.
-ghost use Rattle.std.specs.Prelude.{◌≡◌, ℕ, ◌≤◌, ◌+◌, ◌*◌, Bool, length, List, map};
+ghost use Rattle.std.specs.Prelude.{◌≡◌, ℕ, ◌≤◌, ◌+◌, ◌*◌, Bool, length, List, map, nat_eq, Option};
 ghost use Rattle.std.specs.List.{AllByRecursion, IsDistinct};
 ghost use Rattle.schnellru.specs.Exact.{AlwaysGrants, HasTables, HasTableFor, IsDetermined, NeverLacks, LookAlike};
 ghost use Rattle.schnellru.specs.Lists.{keys_of, IsFront};
@@ -9,11 +9,14 @@ ghost use Rattle.schnellru.specs.Theorems.{PaysForMoves, UsesAtMost, IsSummed, o
 ghost use Rattle.lru_replay.specs.declared.calls.call.Call.{Call};
 ghost use Rattle.lru_replay.specs.CallRuns.{IsRun, CallStep, SummingStep, NamesAmong, SetsNoLimiter, HasPlainSearch};
 ghost use Rattle.lru_replay.specs.CallRuns.{HasSmallBudget};
+ghost use Rattle.lru_replay.specs.LineRuns.{LineStep};
 ghost use Rattle.lru_replay.specs.ListRuns.{ListCallStep, ListSummingStep};
+ghost use Rattle.lru_replay.specs.Maps.{Map};
 ghost use Rattle.lru_replay.specs.Replies.{Reply, want_of};
 
 use schnellru::{
-    ByCost, ByLength, ByMemoryUsage, Costed, Insertion, KeyHasher, Limiter, Summing, laws,
+    ByCost, ByLength, ByMemoryUsage, Costed, Insertion, KeyHasher, Limiter, RandomState, Summing,
+    laws,
 };
 use std::hash::Hash;
 
@@ -176,4 +179,24 @@ pub fn small_summing_is_alike<K: Eq + Hash, V, L: Summing<K, V, K>, S: KeyHasher
         (replies ≡ answers) × LookAlike new last }
 {
     laws::small_inserts_look_alike::<K, V, K, L, S>();
+}
+
+/// In a run of lines from a map, each line leaves a map: no two keys are equal, and inserts moved at most twice as many
+/// entries as they stored, plus those that shrinks rehashed.
+pub fn lines_keep_maps<L: Insertion<u64, u64, u64>>()
+    ensures maps { (told : L → Option ℕ) (old new : Map L) (lines texts : List (List ℕ)) →
+        IsRun (LineStep L.rules L.offers told) IsSized old lines texts new → IsMap nat_eq old →
+        IsRun (LineStep L.rules L.offers told) (IsMap nat_eq) old lines texts new }
+{
+    laws::calls_keep_maps::<u64, u64, u64, L, RandomState>();
+}
+
+/// In a run of lines under a limiter with a running total, as under `cost N`, the total is the sum of the costs after
+/// each line, if it was before: lines write nothing through a reference.
+pub fn lines_keep_sums<L: Summing<u64, u64, u64>>()
+    ensures sums { (told : L → Option ℕ) (old new : Map L) (lines texts : List (List ℕ)) →
+        IsRun (LineStep L.rules L.offers told) IsSized old lines texts new → IsSummed L.cost_of L.account old →
+        IsRun (LineStep L.rules L.offers told) (IsSummed L.cost_of L.account) old lines texts new }
+{
+    laws::calls_keep_sums::<u64, u64, u64, L, RandomState>();
 }

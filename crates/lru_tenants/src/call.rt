@@ -21,6 +21,10 @@ pub enum TenantCall<K, V> {
 }
 
 /// The answer to a call.
+///
+/// ```
+/// assert!(rt; answers.get(1) == Some(&TenantAnswer::Put(Ok(true))));
+/// ```
 #[derive(Debug, Drop, PartialEq)]
 pub enum TenantAnswer<V> {
     /// To `Open`.

@@ -3,7 +3,7 @@
 --     names i k           the inserted key i names the key k
 --     hash_of h k         the hash of the key k, by the hasher h
 --     makes v             the closure may return v
-use Rattle.std.specs.Prelude.{◌≡◌, ℕ, Bool, true, false, Some, None, Result, Ok, Err}
+use Rattle.std.specs.Prelude.{◌≡◌, ℕ, Bool, true, false, Some, None, Result, Ok, Err, OnErr}
 use Rattle.std.specs.declared.alloc.AllocError.{AllocError}
 use Rattle.lru_limits.specs.Rules.{Rules, Offers}
 use Rattle.schnellru.specs.Lists.{lookup, lookup_entry}
@@ -35,3 +35,12 @@ module _ {K V S H E : Type 0} where
   SaysNewest names (Ok true) new = IsNewest names new.pairs
   SaysNewest names (Ok false) new = lookup_entry names new.pairs ≡ None
   SaysNewest names (Err e) new = lookup_entry names new.pairs ≡ None
+
+module _ {K V S H I : Type 0} (rules : Rules K V S) (offers : Offers K V S I) (names : I → K → Bool)
+    (hash_of : H → K → ℕ) where
+  -- what such a get does, what its result says, and why it fails
+  pub record GetsOrInserts (makes : V → Type 0) (i : I) (old : State K V S H) (result : Result Bool AllocError)
+      (new : State K V S H) : Type 0 where
+    pub step : MakesNewest rules offers names hash_of makes i old result new
+    pub says : SaysNewest (names i) result new
+    pub lacks : OnErr result (LacksMemoryFor rules offers names hash_of makes i old new)

@@ -1,11 +1,12 @@
 -- The same as `GetOrInserts` with a closure that may fail.
-use Rattle.std.specs.Prelude.{◌≡◌, ℕ, Bool, true, Some, None, Result, Ok, Err}
+use Rattle.std.specs.Prelude.{◌≡◌, ℕ, Bool, true, Some, None, Result, Ok, Err, IsErrOf}
 use Rattle.std.specs.declared.alloc.AllocError.{AllocError}
 use Rattle.lru_limits.specs.Rules.{Rules, Offers}
 use Rattle.schnellru.specs.Lists.{lookup}
 use Rattle.schnellru.specs.State.{State}
 use Rattle.schnellru.specs.Calls.{promoted}
 use Rattle.schnellru.specs.Inserts.{Insert}
+use Rattle.schnellru.specs.GetOrInserts.{SaysNewest, LacksMemoryFor}
 use Rattle.schnellru.specs.declared.map.get_or_insert.GetOrInsertError.{GetOrInsertError}
 use Rattle.schnellru.specs.declared.map.get_or_insert.GetOrInsertError.TheVariants.{Memory, Caller}
 
@@ -28,3 +29,10 @@ module _ {K V S H I E : Type 0} (rules : Rules K V S) (offers : Offers K V S I) 
         (v : V) → makes (Ok v) → (flag : Result Bool AllocError) → Insert rules offers names hash_of i v old flag new →
         result ≡ or_memory flag →
         MakesNewestIfMade makes i old result new
+
+  -- what such a get does, what its result says, and why it runs out of memory
+  pub record GetsOrInsertsIfMade (makes : Result V E → Type 0) (i : I) (old : State K V S H)
+      (result : Result Bool (GetOrInsertError E)) (new : State K V S H) : Type 0 where
+    pub step : MakesNewestIfMade makes i old result new
+    pub says : SaysNewest (names i) result new
+    pub lacks : IsErrOf result Memory → LacksMemoryFor rules offers names hash_of (λ v. makes (Ok v)) i old new

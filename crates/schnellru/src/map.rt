@@ -214,6 +214,12 @@ impl<K: Eq + Hash, V, S: KeyHasher<K>> LruMap<K, V, ByMemoryUsage, S> {
     ///
     /// The budget limits `memory_usage`, which counts `entry_bytes` bytes an entry. Cost: `O(1)`, and no memory.
     ///
+    /// ```
+    /// let seeded = RandomState::with_seeds([5, 6, 7, 8]);
+    /// let map: LruMap<u64, u64, ByMemoryUsage> = LruMap::with_memory_budget_and_hasher(alloc, 84, seeded, 16);
+    /// assert_eq!(rt; map.limiter().max_memory_usage(), 84);
+    /// ```
+    ///
     /// After schnellru's `LruMap::with_memory_budget_and_hasher`.
     pub fn with_memory_budget_and_hasher(
         alloc: Global,

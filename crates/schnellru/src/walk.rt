@@ -22,11 +22,22 @@ mod positions;
 
 /// The iterator over a map under this limiter. A function over the iterators of all limiters takes a `Walk`.
 ///
+/// ```
+/// let mut walk = map.iter();
+/// ```
+///
 /// After schnellru's `Iter`.
 pub type Iter<'a, K, V, L> = Walk<'a, K, V, <L as Limiter<K, V>>::LinkType>;
 
 /// An iterator over the pairs of a map, newest first, from both ends. It depends on the map's limiter only by the type
 /// of its links.
+///
+/// ```
+/// let mut total = 0u64;
+/// for (key, value) in &map {
+///     total = total.wrapping_add(key.wrapping_mul(*value));
+/// }
+/// ```
 #[derive(Drop)]
 pub struct Walk<'a, K, V, N: LinkType> {
     entries: &'a OrderedTable<K, V, N>,

@@ -48,6 +48,11 @@ fn of_the_constructors(rt: HostRuntime) -> Result<(), Fail> {
         map.insert(n, n)?;
     }
     assert!(rt; map.len() == 3 && map.memory_usage() == 84 && map.peek(&1).is_none());
+    let seeded = RandomState::with_seeds([5, 6, 7, 8]);
+    let map: LruMap<u64, u64, ByMemoryUsage> = LruMap::with_memory_budget_and_hasher(
+        alloc, 84, seeded, 16,
+    );
+    assert_eq!(rt; map.limiter().max_memory_usage(), 84);
     let mut map: LruMap<u64, u64> = LruMap::with_limiter(alloc, ByLength::new(3));
     assert!(rt; map.insert(1, 10)?);
     assert_eq!(rt; map.memory_usage(), 4 * 24 + 4 + 16);
@@ -163,7 +168,12 @@ fn of_values_that_are_written(rt: HostRuntime) -> Result<(), Fail> {
         *value = 100;
     }
     assert_eq!(rt; walk.len(), 1);
+    if walk.len() > 0 {
+        let (_, value) = walk.lend_next();
+        *value = 200;
+    }
     drop(walk);
+    assert_eq!(rt; map.peek(&2), Some(&200));
     assert!(rt; map.peek_newest() == Some((&3, &300)));
     assert!(rt; map.peek_oldest() == Some((&1, &100)));
     if let Some(value) = map.peek_mut(&1) {

@@ -2,8 +2,8 @@
 ghost use Rattle.std.specs.Prelude.{◌≡◌, None, Ok, OnErr, IsErrOf};
 ghost use Rattle.schnellru.specs.Lists.{lookup};
 ghost use Rattle.schnellru.specs.State.{IsMap};
-ghost use Rattle.schnellru.specs.GetOrInserts.{MakesNewest, SaysNewest, LacksMemoryFor};
-ghost use Rattle.schnellru.specs.IfMade.{MakesNewestIfMade};
+ghost use Rattle.schnellru.specs.GetOrInserts.{MakesNewest, GetsOrInserts, SaysNewest, LacksMemoryFor};
+ghost use Rattle.schnellru.specs.IfMade.{MakesNewestIfMade, GetsOrInsertsIfMade};
 ghost use Rattle.std.specs.Borrow.{sem};
 ghost use Rattle.schnellru.specs.Lending.Answers.{kept_of};
 
@@ -132,7 +132,7 @@ impl<K: Eq + Hash + Drop, V: Drop, L: Limiter<K, V>, S: KeyHasher<K>> LruMap<K, 
         requires { lookup (I.names key) self.old.pairs ≡ None → F.pre make }
         ensures* writes_back { sem 𝓛 (lends_or K.row V.row L.row S.row L.LinkType.row S.Hasher.row K.Hash L.Limiter
             L.LinkType.LinkType.own L.LinkType.PartialEq L.LinkType.Debug S.KeyHasher S.Hasher.Hasher self.entry
-            (MakesNewest L.rules L.offers I.names S.hash_of (F.post make) key self.old) result) }
+            (GetsOrInserts L.rules L.offers I.names S.hash_of (F.post make) key self.old) result) }
     {
         match self.ensure_newest(key, make) {
             Ok(true) => Ok(self.newest_value_mut()),
@@ -170,7 +170,7 @@ impl<K: Eq + Hash + Drop, V: Drop, L: Limiter<K, V>, S: KeyHasher<K>> LruMap<K, 
         requires { lookup (I.names key) self.old.pairs ≡ None → F.pre make }
         ensures* writes_back { sem 𝓛 (lends_made K.row V.row L.row S.row L.LinkType.row S.Hasher.row K.Hash L.Limiter
             L.LinkType.LinkType.own L.LinkType.PartialEq L.LinkType.Debug S.KeyHasher S.Hasher.Hasher self.entry
-            (MakesNewest L.rules L.offers I.names S.hash_of (F.post make) key self.old) result) }
+            (GetsOrInserts L.rules L.offers I.names S.hash_of (F.post make) key self.old) result) }
     {
         let lent = self.lend_or_insert(key, make);
         kept_or(lent)
@@ -250,7 +250,7 @@ impl<K: Eq + Hash + Drop, V: Drop, L: Limiter<K, V>, S: KeyHasher<K>> LruMap<K, 
         requires { lookup (I.names key) self.old.pairs ≡ None → F.pre make }
         ensures* writes_back { sem 𝓛 (lends_or K.row V.row L.row S.row L.LinkType.row S.Hasher.row K.Hash L.Limiter
             L.LinkType.LinkType.own L.LinkType.PartialEq L.LinkType.Debug S.KeyHasher S.Hasher.Hasher self.entry
-            (MakesNewestIfMade L.rules L.offers I.names S.hash_of (F.post make) key self.old) result) }
+            (GetsOrInsertsIfMade L.rules L.offers I.names S.hash_of (F.post make) key self.old) result) }
     {
         match self.ensure_newest_fallible(key, make) {
             Ok(true) => Ok(self.newest_value_mut()),
@@ -282,7 +282,7 @@ impl<K: Eq + Hash + Drop, V: Drop, L: Limiter<K, V>, S: KeyHasher<K>> LruMap<K, 
         requires { lookup (I.names key) self.old.pairs ≡ None → F.pre make }
         ensures* writes_back { sem 𝓛 (lends_made K.row V.row L.row S.row L.LinkType.row S.Hasher.row K.Hash L.Limiter
             L.LinkType.LinkType.own L.LinkType.PartialEq L.LinkType.Debug S.KeyHasher S.Hasher.Hasher self.entry
-            (MakesNewestIfMade L.rules L.offers I.names S.hash_of (F.post make) key self.old) result) }
+            (GetsOrInsertsIfMade L.rules L.offers I.names S.hash_of (F.post make) key self.old) result) }
     {
         let lent = self.lend_or_insert_fallible(key, make);
         kept_or_error(lent)

@@ -11,6 +11,13 @@ use std::hash::Hash;
 /// The pairs that are left are those at the positions from `start` up to `end`, counted from the newest. `front` and
 /// `back` are the buckets of the first and the last of them, so a step reads one entry.
 ///
+/// ```
+/// let mut walk = map.iter_mut();
+/// if let Some((_, value)) = walk.next() {
+///     *value = 300;
+/// }
+/// ```
+///
 /// After schnellru's `IterMut`.
 #[derive(Drop)]
 pub struct IterMut<'a, K: Eq + Hash, V, L: Limiter<K, V>, S: KeyHasher<K>> {
@@ -32,6 +39,10 @@ impl<'a, K: Eq + Hash, V, L: Limiter<K, V>, S: KeyHasher<K>> IterMut<'a, K, V, L
     ghost use Rattle.schnellru.specs.Walks.{lends_next, lends_next_back, next_pair, next_back_pair};
 
     /// Returns how many pairs are left.
+    ///
+    /// ```
+    /// assert_eq!(rt; walk.len(), 1);
+    /// ```
     pub fn len(&self) -> usize
         ensures { result ≡ walk_end self.now - walk_start self.now }
     {
@@ -41,6 +52,13 @@ impl<'a, K: Eq + Hash, V, L: Limiter<K, V>, S: KeyHasher<K>> IterMut<'a, K, V, L
     /// Lends the newest pair that is left, its value for writing until the next call. `None` says that no pair is left.
     ///
     /// The prover carries no contract on this type of result into a caller's proof; write `len` and `lend_next` there.
+    ///
+    /// ```
+    /// if let Some((_, value)) = walk.next() {
+    ///     *value = 300;
+    /// }
+    /// ```
+    ///
     /// Cost: `O(1)`.
     pub fn next(&mut self) -> Option<(&K, &mut V)>
         ensures* writes_back { sem 𝓛 (lends_next K.row V.row L.row S.row L.LinkType.row S.Hasher.row K.Hash L.Limiter
@@ -55,6 +73,12 @@ impl<'a, K: Eq + Hash, V, L: Limiter<K, V>, S: KeyHasher<K>> IterMut<'a, K, V, L
     }
 
     /// Lends the oldest pair that is left, as `next` lends the newest.
+    ///
+    /// ```
+    /// if let Some((_, value)) = walk.next_back() {
+    ///     *value = 100;
+    /// }
+    /// ```
     pub fn next_back(&mut self) -> Option<(&K, &mut V)>
         ensures* writes_back { sem 𝓛
             (lends_next_back K.row V.row L.row S.row L.LinkType.row S.Hasher.row K.Hash L.Limiter
@@ -69,6 +93,13 @@ impl<'a, K: Eq + Hash, V, L: Limiter<K, V>, S: KeyHasher<K>> IterMut<'a, K, V, L
     }
 
     /// The same as `next`, if a pair is left.
+    ///
+    /// ```
+    /// if walk.len() > 0 {
+    ///     let (_, value) = walk.lend_next();
+    ///     *value = 200;
+    /// }
+    /// ```
     pub fn lend_next(&mut self) -> (&K, &mut V)
         requires some { walk_start self.old < walk_end self.old }
         ensures* writes_back { sem 𝓛 (lends_first K.row V.row L.row S.row L.LinkType.row S.Hasher.row K.Hash L.Limiter
@@ -87,7 +118,7 @@ impl<'a, K: Eq + Hash, V, L: Limiter<K, V>, S: KeyHasher<K>> IterMut<'a, K, V, L
         }
     }
 
-    /// The same as `next_back`, if a pair is left.
+    /// The same as `next_back`, if a pair is left. An example is at `lend_next`.
     pub fn lend_next_back(&mut self) -> (&K, &mut V)
         requires some { walk_start self.old < walk_end self.old }
         ensures* writes_back { sem 𝓛 (lends_last K.row V.row L.row S.row L.LinkType.row S.Hasher.row K.Hash L.Limiter

@@ -38,7 +38,7 @@ use Rattle.std.proofs.alloc.AllocError.TheLaws as AE_laws
 use Rattle.schnellru.specs.State.{State}
 use Rattle.schnellru.specs.Lending.Answers.{kept_of}
 use Rattle.schnellru.specs.Lending.Made.{lends_or, lends_made}
-use Rattle.schnellru.specs.GetOrInserts.{MakesNewest}
+use Rattle.schnellru.specs.GetOrInserts.{GetsOrInserts}
 use Rattle.schnellru.specs.contracts.map.LruMap as M'
 use Rattle.schnellru.specs.contracts.map.LruMap.get_or_insert as f
 use Rattle.schnellru.specs.contracts.map.LruMap.get_or_insert.F-FnOnce as closure
@@ -140,7 +140,7 @@ get_or_insert_spec 𝓤 𝓛 𝓜 𝓡 wired K V L S N H I F LK LV LL LS LN LH L
     let hashed : HasherMembers S.Denot K.Denot H.Denot =
     record { build_hasher = sB.build_hasher; hash_of = sK.hash_of } in
     let Step : Result Bool AllocError → State K.Denot V.Denot L.Denot S.Denot → Type 0 =
-    MakesNewest lL.rules lI.offers iL.names sK.hash_of ((closure.words K V L S N H I F fF).post mk)
+    GetsOrInserts lL.rules lI.offers iL.names sK.hash_of ((closure.words K V L S N H I F fF).post mk)
     k r.now in
     qed 𝓛 (raw (on_entry 𝓛 W.signature κs qs a y'.0.4) ∷ (raw (fact 𝓤 (κs.1.0 ⊑ K.lives)) ⊛
     raw (fact 𝓤 (κs.1.1.0 ⊑ V.lives)) ⊛ raw (fact 𝓤 (κs.1.1.1.0 ⊑ L.lives)) ⊛

@@ -38,7 +38,7 @@ use Rattle.schnellru.proofs.map.get_or_insert.GetOrInsertError.TheLaws as GE_law
 use Rattle.schnellru.specs.State.{State}
 use Rattle.schnellru.specs.Lending.Answers.{kept_of}
 use Rattle.schnellru.specs.Lending.Made.{lends_or, lends_made}
-use Rattle.schnellru.specs.IfMade.{MakesNewestIfMade}
+use Rattle.schnellru.specs.IfMade.{GetsOrInsertsIfMade}
 use Rattle.schnellru.specs.contracts.map.LruMap as M'
 use Rattle.schnellru.specs.contracts.map.LruMap.get_or_insert_fallible as f
 use Rattle.schnellru.specs.contracts.map.LruMap.get_or_insert_fallible.F-FnOnce as closure
@@ -132,7 +132,7 @@ get_or_insert_fallible_spec 𝓤 𝓛 𝓜 𝓡 wired K V L S N H I E F LK LV LL
     let hashed : HasherMembers S.Denot K.Denot H.Denot =
     record { build_hasher = sB.build_hasher; hash_of = sK.hash_of } in
     let Step : Result Bool (GetOrInsertError E.Denot) → State K.Denot V.Denot L.Denot S.Denot → Type 0 =
-    MakesNewestIfMade lL.rules lI.offers iL.names sK.hash_of ((closure.words K V L S N H I E F
+    GetsOrInsertsIfMade lL.rules lI.offers iL.names sK.hash_of ((closure.words K V L S N H I E F
     fF).post mk) k r.now in
     qed 𝓛 (raw (on_entry 𝓛 W.signature κs qs a y'.0.4) ∷ (raw (fact 𝓤 (κs.1.0 ⊑ K.lives)) ⊛
     raw (fact 𝓤 (κs.1.1.0 ⊑ V.lives)) ⊛ raw (fact 𝓤 (κs.1.1.1.0 ⊑ L.lives)) ⊛

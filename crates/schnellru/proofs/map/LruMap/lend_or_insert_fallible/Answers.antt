@@ -7,7 +7,11 @@ returns-in-Ok-true g c = (
     refl,
     λ w t. (
       c.ensure_newest_fallible.new.self,
-      rw c.in-Ok-true.field-0-test at c.in-Ok-true.ensures.step,
+      record {
+        step = rw c.in-Ok-true.field-0-test at c.in-Ok-true.ensures.step;
+        says = rw c.in-Ok-true.field-0-test at c.in-Ok-true.ensures.says;
+        lacks = rw c.in-Ok-true.field-0-test at c.in-Ok-true.ensures.lacks;
+      },
       c.newest_value_mut.ensures.value,
       refl,
     ),
@@ -18,9 +22,28 @@ returns-in-Ok-true g c = (
 
 pub returns-in-Ok-false : goal.returns-in-Ok-false
 returns-in-Ok-false g c = (
-  (refl, λ w t. absurd cc, rw c.in-Ok-false.field-0-test at c.in-Ok-false.ensures.step),
+  (
+    refl,
+    λ w t. absurd cc,
+    record {
+      step = rw c.in-Ok-false.field-0-test at c.in-Ok-false.ensures.step;
+      says = rw c.in-Ok-false.field-0-test at c.in-Ok-false.ensures.says;
+      lacks = rw c.in-Ok-false.field-0-test at c.in-Ok-false.ensures.lacks;
+    },
+  ),
   record { writes_back = tt },
 )
 
 pub returns-in-Err : goal.returns-in-Err
-returns-in-Err g c = ((refl, λ w t. absurd cc, c.in-Err.ensures.step), record { writes_back = tt })
+returns-in-Err g c = (
+  (
+    refl,
+    λ w t. absurd cc,
+    record {
+      step = c.in-Err.ensures.step;
+      says = c.in-Err.ensures.says;
+      lacks = c.in-Err.ensures.lacks;
+    },
+  ),
+  record { writes_back = tt },
+)

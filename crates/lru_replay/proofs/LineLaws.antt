@@ -1,0 +1,71 @@
+-- What each call of the map keeps, each line of a run keeps: lines write nothing through a reference.
+use Rattle.std.proofs.Common.{◌≡◌, ℕ, List, [], ◌∷◌, sym, subst, inl, inr, ◌⊎◌, Option}
+use Rattle.std.specs.Prelude.{nat_eq}
+use Rattle.lru_limits.specs.Rules.{Rules, Offers}
+use Rattle.schnellru.specs.Runs.{Step}
+use Rattle.schnellru.specs.State.{IsSized}
+use Rattle.lru_replay.specs.declared.calls.call.Call.{Call}
+use Rattle.lru_replay.specs.declared.calls.call.Call.TheVariants as calls
+use Rattle.lru_replay.specs.declared.lines.command.Command.{Command}
+use Rattle.lru_replay.specs.declared.lines.command.Command.TheVariants as commands
+use Rattle.lru_replay.specs.CallRuns.{IsRun}
+use Rattle.lru_replay.specs.Commands.{call_of}
+use Rattle.lru_replay.specs.LineRuns.{AnswersCommand, LineStep}
+use Rattle.lru_replay.specs.Maps.{Map, hash_of}
+use Rattle.lru_replay.specs.Replies.{Reply}
+use Rattle.lru_replay.proofs.CallKinds.{Kind, calls_map, stays, writes_value, sets_limiter, kind_of}
+
+-- the call neither writes a value nor sets a limiter
+abbrev KeepsHands : {S : Type 0} → Call ℕ ℕ S → Type 0
+KeepsHands (calls.Write k v) = ⊥
+KeepsHands (calls.SetLimiter s) = ⊥
+KeepsHands call = Unit {0}
+
+keeps_hands : {S : Type 0} (command : Command) → KeepsHands {S = S} (call_of command)
+keeps_hands (commands.Insert k v) = tt
+keeps_hands (commands.Put k v) = tt
+keeps_hands (commands.Get k) = tt
+keeps_hands (commands.Peek k) = tt
+keeps_hands (commands.Remove k) = tt
+keeps_hands (commands.Reserve n) = tt
+keeps_hands commands.Shrink = tt
+keeps_hands (commands.Drain n) = tt
+keeps_hands commands.PopOldest = tt
+keeps_hands commands.PopNewest = tt
+keeps_hands commands.Clear = tt
+keeps_hands commands.Stats = tt
+keeps_hands commands.List = tt
+
+module _ {S : Type 0} (rules : Rules ℕ ℕ S) (offers : Offers ℕ ℕ S ℕ) (told : S → Option ℕ) where
+  -- a line is a call of the map, or changes nothing
+  line_moves : (old : Map S) (line text : List ℕ) (new : Map S) → LineStep rules offers told old line text new
+      → Step rules offers nat_eq hash_of old new ⊎ (new ≡ old)
+  line_moves old line text new (inr (none, is, same)) = inr same
+  line_moves old line text new (inl (command, spells, (reply, answers, is))) = answered answers
+    where
+      moves : Kind rules offers nat_eq hash_of old new (call_of command)
+          → Step rules offers nat_eq hash_of old new ⊎ (new ≡ old)
+      moves (calls_map step) = inl step
+      moves (stays same) = inr same
+      moves (writes_value k v is same) = absurd (subst KeepsHands is (keeps_hands command))
+      moves (sets_limiter s is same) = absurd (subst KeepsHands is (keeps_hands command))
+
+      answered : AnswersCommand rules offers old command reply new
+          → Step rules offers nat_eq hash_of old new ⊎ (new ≡ old)
+      answered (inl step) = moves (kind_of (call_of command) reply (inl step))
+      answered (inr (stores, none, same)) = inr same
+
+  pub lines_keep : {Holds : Map S → Type 0}
+      → ((old new : Map S) → Step rules offers nat_eq hash_of old new → IsSized new → Holds old → Holds new)
+      → (old : Map S) (lines texts : List (List ℕ)) (new : Map S)
+      → IsRun (LineStep rules offers told) IsSized old lines texts new → Holds old
+      → IsRun (LineStep rules offers told) Holds old lines texts new
+  lines_keep law old [] [] new same holds = same
+  lines_keep law old [] (text ∷ texts) new none holds = absurd none
+  lines_keep law old (line ∷ lines) [] new none holds = absurd none
+  lines_keep {Holds} law old (line ∷ lines) (text ∷ texts) new (mid, step, sized, run) holds =
+      let after : Holds mid = elim (line_moves old line text mid step) [
+        | inl moves ↦ law old mid moves sized holds
+        | inr same ↦ subst Holds (sym same) holds
+      ] in
+      (mid, step, after, lines_keep law mid lines texts new run after)
