@@ -16,25 +16,25 @@ use Rattle.lru_replay.specs.Replies.{Reply}
 use Rattle.lru_replay.proofs.CallKinds.{Kind, calls_map, stays, writes_value, sets_limiter, kind_of}
 
 -- the call neither writes a value nor sets a limiter
-abbrev KeepsHands : {S : Type 0} → Call ℕ ℕ S → Type 0
-KeepsHands (calls.Write k v) = ⊥
-KeepsHands (calls.SetLimiter s) = ⊥
-KeepsHands call = Unit {0}
+abbrev WritesNothing : {S : Type 0} → Call ℕ ℕ S → Type 0
+WritesNothing (calls.Write k v) = ⊥
+WritesNothing (calls.SetLimiter s) = ⊥
+WritesNothing call = Unit {0}
 
-keeps_hands : {S : Type 0} (command : Command) → KeepsHands {S = S} (call_of command)
-keeps_hands (commands.Insert k v) = tt
-keeps_hands (commands.Put k v) = tt
-keeps_hands (commands.Get k) = tt
-keeps_hands (commands.Peek k) = tt
-keeps_hands (commands.Remove k) = tt
-keeps_hands (commands.Reserve n) = tt
-keeps_hands commands.Shrink = tt
-keeps_hands (commands.Drain n) = tt
-keeps_hands commands.PopOldest = tt
-keeps_hands commands.PopNewest = tt
-keeps_hands commands.Clear = tt
-keeps_hands commands.Stats = tt
-keeps_hands commands.List = tt
+writes_nothing : (S : Type 0) (command : Command) → WritesNothing {S = S} (call_of command)
+writes_nothing S (commands.Insert k v) = tt
+writes_nothing S (commands.Put k v) = tt
+writes_nothing S (commands.Get k) = tt
+writes_nothing S (commands.Peek k) = tt
+writes_nothing S (commands.Remove k) = tt
+writes_nothing S (commands.Reserve n) = tt
+writes_nothing S commands.Shrink = tt
+writes_nothing S (commands.Drain n) = tt
+writes_nothing S commands.PopOldest = tt
+writes_nothing S commands.PopNewest = tt
+writes_nothing S commands.Clear = tt
+writes_nothing S commands.Stats = tt
+writes_nothing S commands.List = tt
 
 module _ {S : Type 0} (rules : Rules ℕ ℕ S) (offers : Offers ℕ ℕ S ℕ) (told : S → Option ℕ) where
   -- a line is a call of the map, or changes nothing
@@ -47,8 +47,8 @@ module _ {S : Type 0} (rules : Rules ℕ ℕ S) (offers : Offers ℕ ℕ S ℕ) 
           → Step rules offers nat_eq hash_of old new ⊎ (new ≡ old)
       moves (calls_map step) = inl step
       moves (stays same) = inr same
-      moves (writes_value k v is same) = absurd (subst KeepsHands is (keeps_hands command))
-      moves (sets_limiter s is same) = absurd (subst KeepsHands is (keeps_hands command))
+      moves (writes_value k v is same) = absurd (subst WritesNothing is (writes_nothing S command))
+      moves (sets_limiter s is same) = absurd (subst WritesNothing is (writes_nothing S command))
 
       answered : AnswersCommand rules offers old command reply new
           → Step rules offers nat_eq hash_of old new ⊎ (new ≡ old)
