@@ -256,6 +256,15 @@ fn of_closures_that_may_fail(rt: HostRuntime) -> Result<(), Fail> {
     Ok(())
 }
 
+/// Inserts under a hash that was computed before.
+fn insert_five<S: KeyHasher<u64>>(
+    map: &mut LruMap<u64, u64, ByLength, S>,
+) -> Result<bool, AllocError> {
+    let hash = map.hasher().hash_named(&5);
+    let inserted = map.insert_hashed(hash, 5, 50, &mut |_, _| {})?;
+    Ok(inserted.kept)
+}
+
 #[test]
 fn of_keys_that_are_promoted_or_removed(rt: HostRuntime) -> Result<(), Fail> {
     let mut map = three(rt.alloc())?;
@@ -266,8 +275,7 @@ fn of_keys_that_are_promoted_or_removed(rt: HostRuntime) -> Result<(), Fail> {
     assert!(rt; map.peek_newest() == Some((&1, &10)));
     assert_eq!(rt; map.remove_entry(&1), Some((1, 10)));
     assert_eq!(rt; map.remove_entry(&1), None);
-    let hash = map.hasher().hash_named(&5);
-    assert!(rt; map.insert_hashed(hash, 5, 50, &mut |_, _| {})?.kept);
+    assert!(rt; insert_five(&mut map)?);
     assert_eq!(rt; map.into_iter().next_back(), Some((2, 20)));
     Ok(())
 }

@@ -103,7 +103,7 @@ impl<K: Eq + Hash, V, L: Limiter<K, V>, S: KeyHasher<K>> LruMap<K, V, L, S> {
     ///
     /// ```
     /// let hash = map.hasher().hash_named(&5);
-    /// assert!(rt; map.insert_hashed(hash, 5, 50, &mut |_, _| {})?.kept);
+    /// let inserted = map.insert_hashed(hash, 5, 50, &mut |_, _| {})?;
     /// ```
     ///
     /// After std's `HashMap::hasher`; schnellru has no such call.
