@@ -60,7 +60,7 @@ fn carry_out(table: &mut Table<(u64, u64)>, state: &RandomState, operation: u64,
     }
 }
 
-/// Carries out the operations on a table with room for so many entries.
+/// Carries out the operations on a table with growth left for `capacity` entries.
 fn run_on(alloc: Global, capacity: usize, operations: &[u64]) -> Result<u64, AllocError> {
     let Some(buckets) = buckets_for_capacity(capacity, 1 << 40) else {
         return Ok(0);
@@ -74,7 +74,7 @@ fn run_on(alloc: Global, capacity: usize, operations: &[u64]) -> Result<u64, All
     Ok(sum)
 }
 
-/// The sum of what the operations gave on a table, or 0 for want of memory.
+/// Returns the sum of the results of the operations on a table, or 0 if memory runs out.
 #[unsafe(no_mangle)]
 pub extern "C" fn rattle_table(alloc: Global, capacity: usize, operations: &[u64]) -> u64 {
     run_on(alloc, capacity, operations).unwrap_or(0)
@@ -104,7 +104,7 @@ fn carry_out_on_map(
     }
 }
 
-/// Carries out the operations on a map of at most so many pairs.
+/// Carries out the operations on a map of at most `length` pairs.
 fn run_on_map(alloc: Global, length: u32, operations: &[u64]) -> Result<u64, AllocError> {
     let mut map = LruMap::new(alloc, ByLength::new(length), [1, 2, 3, 4], 16);
     let mut sum = 0;
@@ -114,7 +114,7 @@ fn run_on_map(alloc: Global, length: u32, operations: &[u64]) -> Result<u64, All
     Ok(sum)
 }
 
-/// The sum of what the operations gave on a map, or 0 for want of memory.
+/// Returns the sum of the results of the operations on a map, or 0 if memory runs out.
 #[unsafe(no_mangle)]
 pub extern "C" fn rattle_map(alloc: Global, length: u32, operations: &[u64]) -> u64 {
     run_on_map(alloc, length, operations).unwrap_or(0)
@@ -134,7 +134,7 @@ fn grow(alloc: Global, count: u64) -> Result<u64, AllocError> {
     Ok(map.len() as u64)
 }
 
-/// How many pairs a map without a limit has after so many inserts, or 0 for want of memory.
+/// Returns how many pairs a map without a limit has after `pairs` inserts, or 0 if memory runs out.
 #[unsafe(no_mangle)]
 pub extern "C" fn rattle_map_growth(alloc: Global, count: u64) -> u64 {
     grow(alloc, count).unwrap_or(0)
@@ -151,7 +151,7 @@ fn filled(alloc: Global, count: u64) -> Result<Free, AllocError> {
     Ok(map)
 }
 
-/// Takes each pair out by its key and puts it back, so many times.
+/// Takes each pair out by its key and puts it back, in each of `rounds` rounds.
 fn remove_all(alloc: Global, count: u64, rounds: u64) -> Result<u64, AllocError> {
     let mut map = filled(alloc, count)?;
     let mut sum = 0u64;
@@ -165,13 +165,13 @@ fn remove_all(alloc: Global, count: u64, rounds: u64) -> Result<u64, AllocError>
     Ok(sum)
 }
 
-/// A sum over the values that so many rounds of removals took out, or 0 for want of memory.
+/// Returns a sum over the values that the removals took out, or 0 if memory runs out.
 #[unsafe(no_mangle)]
 pub extern "C" fn rattle_map_removals(alloc: Global, count: u64, rounds: u64) -> u64 {
     remove_all(alloc, count, rounds).unwrap_or(0)
 }
 
-/// Takes the oldest pair out and puts it back, once for each pair, so many times.
+/// Takes the oldest pair out and puts it back, once for each pair, in each of `rounds` rounds.
 fn pop_all(alloc: Global, count: u64, rounds: u64) -> Result<u64, AllocError> {
     let mut map = filled(alloc, count)?;
     let mut sum = 0u64;
@@ -185,13 +185,13 @@ fn pop_all(alloc: Global, count: u64, rounds: u64) -> Result<u64, AllocError> {
     Ok(sum)
 }
 
-/// A sum over the values that so many rounds of pops took out, or 0 for want of memory.
+/// Returns a sum over the values that the pops took out, or 0 if memory runs out.
 #[unsafe(no_mangle)]
 pub extern "C" fn rattle_map_pops(alloc: Global, count: u64, rounds: u64) -> u64 {
     pop_all(alloc, count, rounds).unwrap_or(0)
 }
 
-/// Walks over the pairs, newest first, so many times.
+/// Walks over the pairs, newest first, in each of `rounds` rounds.
 fn walk_all(alloc: Global, count: u64, rounds: u64) -> Result<u64, AllocError> {
     let map = filled(alloc, count)?;
     let mut sum = 0u64;
@@ -203,13 +203,13 @@ fn walk_all(alloc: Global, count: u64, rounds: u64) -> Result<u64, AllocError> {
     Ok(sum)
 }
 
-/// A sum over the values that so many walks gave, or 0 for want of memory.
+/// Returns a sum over the values of the walks, or 0 if memory runs out.
 #[unsafe(no_mangle)]
 pub extern "C" fn rattle_map_walks(alloc: Global, count: u64, rounds: u64) -> u64 {
     walk_all(alloc, count, rounds).unwrap_or(0)
 }
 
-/// Copies a map and drains the copy, so many times.
+/// Copies a map and drains the copy, in each of `rounds` rounds.
 fn drain_all(alloc: Global, count: u64, rounds: u64) -> Result<u64, AllocError> {
     let map = filled(alloc, count)?;
     let mut sum = 0u64;
@@ -222,13 +222,13 @@ fn drain_all(alloc: Global, count: u64, rounds: u64) -> Result<u64, AllocError> 
     Ok(sum)
 }
 
-/// A sum over the values that so many drains of copies gave, or 0 for want of memory.
+/// Returns a sum over the values of the drained copies, or 0 if memory runs out.
 #[unsafe(no_mangle)]
 pub extern "C" fn rattle_map_copies(alloc: Global, count: u64, rounds: u64) -> u64 {
     drain_all(alloc, count, rounds).unwrap_or(0)
 }
 
-/// Gets each key in a map of at most so many pairs, or inserts it with itself as its value.
+/// Gets each key in a map of at most `length` pairs, or inserts it with itself as its value.
 fn get_or_insert_all(alloc: Global, length: u32, keys: &[u64]) -> Result<u64, AllocError> {
     let mut map: LruMap<u64, u64> = LruMap::new(alloc, ByLength::new(length), [1, 2, 3, 4], 16);
     let mut sum = 0u64;
@@ -241,7 +241,7 @@ fn get_or_insert_all(alloc: Global, length: u32, keys: &[u64]) -> Result<u64, Al
     Ok(sum)
 }
 
-/// A sum over the values that were got, or 0 for want of memory.
+/// Returns a sum over the values of the gets, or 0 if memory runs out.
 #[unsafe(no_mangle)]
 pub extern "C" fn rattle_map_gets(alloc: Global, length: u32, keys: &[u64]) -> u64 {
     get_or_insert_all(alloc, length, keys).unwrap_or(0)
@@ -283,7 +283,7 @@ fn step_of_load(
     }
 }
 
-/// Carries out a load on a map of at most so many pairs, and goes over the pairs that are left.
+/// Carries out a load on a map of at most `length` pairs, and walks over the pairs that are left.
 fn run_load(alloc: Global, length: u32, kinds: &[u8], keys: &[u64]) -> Result<u64, AllocError> {
     let mut map = LruMap::new(alloc, ByLength::new(length), [1, 2, 3, 4], 32);
     let mut sum = 0u64;
@@ -300,7 +300,7 @@ fn run_load(alloc: Global, length: u32, kinds: &[u8], keys: &[u64]) -> Result<u6
     Ok(sum)
 }
 
-/// The sum of what a load gave, or 0 for want of memory.
+/// Returns the sum of the results of a load, or 0 if memory runs out.
 #[unsafe(no_mangle)]
 pub extern "C" fn rattle_load(alloc: Global, length: u32, kinds: &[u8], keys: &[u64]) -> u64 {
     run_load(alloc, length, kinds, keys).unwrap_or(0)

@@ -149,7 +149,7 @@ module _ {A : Type 0} where
         count_by-cons is_deleted (full held) rest,
       )
 
-  -- where no bucket is deleted, none is counted
+  -- if no bucket is deleted, none is counted
   pub deleted_count-none : (buckets : List (Bucket A)) → ((b : ℕ) → bucket_at buckets b ≢ deleted)
       → count_by is_deleted buckets ≡ 0
   deleted_count-none [] none = refl
@@ -159,7 +159,7 @@ module _ {A : Type 0} where
   deleted_count-none (full held ∷ rest) none =
       omega (arith, deleted_count-none rest (λ b. none (suc b)), count_by-cons is_deleted (full held) rest)
 
-  -- where fewer buckets are used than there are, one is empty
+  -- if fewer buckets are used than there are, one is empty
   pub some_empty : (buckets : List (Bucket A)) → count_by is_used buckets < length buckets → (b : ℕ)
       × (b < length buckets) × (bucket_at buckets b ≡ empty)
   some_empty [] p = absurd (omega arith)

@@ -1,4 +1,4 @@
--- The machine values of the parts of a block, and what the allocator asks of a block's size.
+-- The machine values of the parts of a block, and what the allocator requires of a block's size.
 use Rattle.std.proofs.Common.{◌≡◌, ℕ, zero, suc, ◌*◌, ◌^◌, ◌<◌, T, List, [], ◌∷◌, ◌++◌, refl, sym, ap, ◌∙◌, arith, lit<}
 use Rattle.std.proofs.Common.{suc-mul, zero-mul}
 use Rattle.std.specs.Mem.{type_size}

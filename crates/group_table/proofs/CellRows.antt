@@ -46,7 +46,7 @@ module _ (R : RattleType) where
   module _ {M : Type 1} {𝓤 : Ura M} (𝓛 : Logic 𝓤) where
     open 𝓛 use {H}
 
-    -- once a place holds p, so many bytes into the block, the row is whole again
+    -- once the place at this number of bytes into the block holds p, the row is whole again
     abbrev Row : ℕ → ℕ → List Held → ℕ → ℕ → Held → SProp 𝓤
     Row block o held b far p = wand 𝓤 (sem 𝓛 (place R block far p)) (sem 𝓛 (places R block o (slice_set held b p)))
 
@@ -130,7 +130,7 @@ module _ (R : RattleType) where
           (place_seen block o held b (b * size + o) refl near) $
           show ! (Seen start held b) (block, o) $ check ! (lies start b (length held) (block, o) e near few) $ done !))
 
-    -- room for so many entries is a row of places that hold none
+    -- memory for n entries is a row of n places that hold none
     pub of_room : (block n o : ℕ)
         → ent 𝓤 (H.room (ty_array τ n) block o) (sem 𝓛 (places R block o (replicate n None)))
     of_room block zero o = qed 𝓛 (‵ (froom (ty_array τ 0) block o) ∷ []) ∵ keep ! [] $ done !

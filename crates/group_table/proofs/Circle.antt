@@ -1,4 +1,4 @@
--- Places on a circle of so many buckets.
+-- Places on a circle of n buckets.
 use Rattle.std.proofs.Common.{◌≡◌, ℕ, ◌+◌, ◌-◌, ◌*◌, ◌/◌, ◌%◌, ◌<◌, ap, sym, ◌∙◌, arith}
 use Rattle.std.proofs.Math.Nat.{mod-add-mod, add-mod_right, add-mul-mod_self_left, mod-eq_of_lt, mod-lt, div-add-mod}
 use native.Mathlib.Decide.{dec_le}
@@ -12,7 +12,7 @@ distance n s b p q =
           (b + n - s, omega arith, ap (λ m. m % n) e ∙ add-mod_right b n ∙ mod-eq_of_lt q)
     ]
 
--- so many steps on, and round to the place again
+-- n steps on, and round to the place again
 pub way_round : (n x k : ℕ) → 0 < n → ((x + k) % n + (n - k % n)) % n ≡ x % n
 way_round n x k pos =
     let below = mod-lt k pos in
@@ -26,7 +26,7 @@ same_place n x y k b p q e f =
     sym (mod-eq_of_lt p) ∙ sym (way_round n x k (omega arith)) ∙ ap (λ j. (j + (n - k % n)) % n) (e ∙ sym f)
     ∙ way_round n y k (omega arith) ∙ mod-eq_of_lt q
 
--- what is the same after so many steps was so before
+-- what is equal after n steps was equal before
 pub mod_cancel : (n k x y : ℕ) → 0 < n → (k + x) % n ≡ (k + y) % n → x % n ≡ y % n
 mod_cancel n k x y pos e =
     let turn : (z : ℕ) → (z + k) % n ≡ (k + z) % n = λ z. let f : z + k ≡ k + z = omega arith in ap (λ j. j % n) f in

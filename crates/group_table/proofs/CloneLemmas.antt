@@ -37,7 +37,7 @@ module _ {T F : Type 0} (closure : Shared F (Bor T × Unit {0}) (Result T AllocE
   place_copies (x ∷ xs) (y ∷ ys) same each =
       (each 0 (omega arith), place_copies xs ys (omega arith) (λ b within. each (suc b) (omega arith)))
 
-  -- copies of the entries beside the same bytes are a copy of the table
+  -- copies of the entries with the same bytes are a copy of the table
   pub Copies-places : (bytes : List ℕ) (xs ys : List (Option T)) → AllZip (IsPlaceCopy closure f) xs ys
       → Copies closure f (slots_of bytes xs) (slots_of bytes ys)
   Copies-places bytes [] [] h = tt

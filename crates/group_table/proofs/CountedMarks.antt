@@ -1,4 +1,4 @@
--- When marks are a table's: that is told by how many there are, and how many are used and deleted.
+-- When bucket states are those of a table: their number, and the numbers of used and deleted ones, decide it.
 use Rattle.std.proofs.Common.{◌≡◌, ℕ, ◌+◌, ◌^◌, ◌<◌, ◌≤◌, List, length, ap, arith, inl, inr, subst, count_by}
 use Rattle.group_table.specs.Sizes.{full_capacity, IsBucketCount, IsPowerFromFour}
 use Rattle.group_table.specs.Bucket.{Mark, empty, bucket_at, is_full, is_used, is_deleted}
@@ -9,7 +9,7 @@ use Rattle.group_table.proofs.BucketLemmas.{some_empty, room_is, used_count-spli
 use Rattle.group_table.proofs.ProbeLemmas.{probed-lt, probed-meets}
 use Rattle.group_table.proofs.FirstFree.{first_free_there}
 
--- a table can have so many buckets, and they take what is used
+-- a table can have n buckets, and they take what is used
 module _ (marks : List Mark) (count : IsBucketCount (length marks))
     (within : count_by is_used marks ≤ full_capacity (length marks)) where
   power : 0 < length marks → IsPowerFromFour (length marks)
@@ -24,7 +24,7 @@ module _ (marks : List Mark) (count : IsBucketCount (length marks))
       let (c, first) = first_free_there marks hash (power pos) b below (ap is_full is) in
       (c, subst (λ n. n < length marks) first.there (probed-lt (length marks) hash first.step pos), first)
 
-  -- They are, where all can be addressed and none is deleted up to 16.
+  -- They are, if all can be addressed and none is deleted up to 16.
   pub IsTable-counted : length marks + 16 < 2 ^ 63 → (length marks ≤ 16 → count_by is_deleted marks ≡ 0) → IsTable marks
   IsTable-counted addressable none_deleted =
       let split = used_count-split marks in

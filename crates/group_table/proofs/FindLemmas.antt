@@ -1,4 +1,4 @@
--- What the code learns lane by lane and group by group of a search that asks a closure.
+-- What the code learns, lane by lane and group by group, of a search that calls a closure.
 use Rattle.std.proofs.Common.{◌≡◌, ◌≢◌, ℕ, ◌+◌, ◌%◌, ◌/◌, ◌<◌, ◌≤◌, min, Bool, true, false, cond, List, [], ◌∷◌, ◌++◌}
 use Rattle.std.proofs.Common.{length}
 use Rattle.std.proofs.Common.{get_or, Option, None, Some, refl, ap, sym, ◌∙◌, subst, arith, append_assoc}

@@ -1,5 +1,5 @@
 -- The first free bucket in the order of a search.
--- There is one where a bucket is free, and only one, and it is one of the table's.
+-- There is one if a bucket is free, and only one, and it is one of the table's.
 use Rattle.std.proofs.Common.{◌≡◌, ℕ, zero, suc, ◌<◌, Bool, true, false, List, [], ◌∷◌, length, refl, ap, sym, ◌∙◌}
 use Rattle.std.proofs.Common.{subst, arith, ◌⊎◌, inl, inr}
 use Rattle.std.proofs.lemmas.Bool.{false≢true}
@@ -54,7 +54,7 @@ module _ (marks : List Mark) (hash : ℕ) where
       next h false e = inr
           (probed (length marks) hash steps, record { step = steps; there = refl; free_there = e; full_before = h })
 
-  -- where some bucket is free, a search finds a first one
+  -- if some bucket is free, a search finds a first one
   pub first_free_there : IsPowerFromFour (length marks) → (b : ℕ) → b < length marks
       → is_full (bucket_at marks b) ≡ false → (c : ℕ) × IsFirstFree marks hash c
   first_free_there power b p free =

@@ -39,7 +39,7 @@ module _ (marks : List Mark) (b : ℕ) (m : Mark) (within : b < length marks) (s
     goes_on = λ before p. goes_past hash before (r.goes_on before p);
   }
 
--- a bucket is emptied only where each search that went past it ended in the same group
+-- a bucket is emptied only if each search that went past it ended in the same group
 module _ (marks : List Mark) (b : ℕ) (near : HasEmptyNeighbours marks b) where
   goes_on_past : (hash step : ℕ) → ((before : ℕ) → before / 16 < step / 16 → mark_probed marks hash before ≢ empty)
       → (before : ℕ) → before / 16 < step / 16
@@ -106,7 +106,7 @@ module _ {T : Type 0} where
   Fits-placed slots hash_of hash b entry p first fits =
       Fits-reached slots hash_of hash b entry p (Reaches-first (marks_of slots) hash b first) fits
 
-  -- hashes fit that are the same where a bucket is full
+  -- hashes fit that are the same if a bucket is full
   pub Fits-agree : (slots : List (Slot T)) (f g : ℕ → ℕ) → ((b : ℕ) → IsFull slots b → f b ≡ g b) → Fits slots f
       → Fits slots g
   Fits-agree slots f g agree fits = record {
@@ -141,7 +141,7 @@ module _ {T : Type 0} where
       (Reaches-set (marks_of old) b deleted (rw length-marks_of p)
       (λ e. empty_not_deleted {A = Unit {0}} deleted e refl)) fits)
 
-  -- where all buckets are empty, any hashes fit
+  -- if all buckets are empty, any hashes fit
   pub Fits-none : (slots : List (Slot T)) (hash_of : ℕ → ℕ) → ((b : ℕ) → bucket_at slots b ≡ empty) → Fits slots hash_of
   Fits-none slots hash_of none = record {
     tags = λ b held e. absurd (empty_not_full _ (none b) (ap is_full e));

@@ -81,13 +81,13 @@ module _ (T : Type 0) where
   pub Fits-fresh : (n : ℕ) (hash_of : ℕ → ℕ) → Fits {T = T} (replicate n empty) hash_of
   Fits-fresh n hash_of = Fits-none (replicate n empty) hash_of (λ b. copy_at n b empty)
 
--- where all buckets are empty, there is no entry
+-- if all buckets are empty, there is no entry
 pub entry_count-none : {T : Type 0} (slots : List (Slot T)) → ((b : ℕ) → bucket_at slots b ≡ empty)
     → entry_count slots ≡ 0
 entry_count-none slots none =
     ap entry_count (replicate-from slots empty empty (λ b within. none b)) ∙ none_counted is_full refl (length slots)
 
--- where no bucket is full, there is no entry
+-- if no bucket is full, there is no entry
 pub none_left : {T : Type 0} (control : List ℕ) (entries : List (Option T)) → IsLaidOut control entries
     → entry_count (slots_of control entries) ≡ 0 → entries ≡ replicate (length entries) None
 none_left {T} control entries laid_out none =

@@ -38,7 +38,7 @@ module _ {T : Type 0} (old gone placed now : List (Option T)) (b : ℕ) where
   waiting_by_none entry e f (inl s) = absurd (none-some entry (sym e ∙ sym s.stands ∙ f))
   waiting_by_none entry e f (inr w) = w
 
--- the control bytes tell how many places there are
+-- the number of control bytes gives the number of places
 module _ {T N : Type 0} {number : N → ℕ} {none : N} {IsGiven : (ℕ → ℕ) → Type 0} {whole now : List (Option T)}
     {control : List ℕ} {links : List N} {passed : ℕ}
     (half : IsHalfway number none IsGiven whole now control links passed) where

@@ -18,7 +18,7 @@ use Rattle.group_table.proofs.WriteLemmas.{byte_at-bucket, byte_at-between, byte
 use Rattle.group_table.proofs.Circle.{distance}
 use Rattle.group_table.proofs.FindLemmas.{refused_passed, refused_asked, AcceptsIn-from}
 
--- 16, or the buckets where there are more, is a multiple of the buckets
+-- 16, or the buckets if there are more, is a multiple of the buckets
 pub whole_rounds : (n : ℕ) → IsPowerFromFour n → (q : ℕ) × (max 16 n ≡ n * q)
 whole_rounds n power = elim (dec_lt n 16) [
   | yes p ↦ small power.0 power.1 p
@@ -114,7 +114,7 @@ module _ (n start : ℕ) where
         | inr w ↦ w
       ]
 
-      -- and then, where it is the first one, the first free bucket is the lowest of all
+      -- and then, if it is the first one, the first free bucket is the lowest of all
       pub free_before : (mask lane : ℕ) → IsMaskAt (λ byte. 128 ≤ byte) control start mask → lane < 16
           → ((i : ℕ) → HasLane mask i → lane ≤ i) → HasLane mask lane → get_or control ((start + lane) % n) 0 < 128
           → (all first : ℕ) → IsMaskOf (λ byte. 128 ≤ byte) control all → ((i : ℕ) → HasLane all i → first ≤ i)
@@ -191,7 +191,7 @@ repeated_bytes control entries laid_out pos = record { again = again; between = 
     between p q r = laid_out.bytes p (omega (arith, long))
         ∙ byte_at-between (slots_of control entries) p (omega (arith, same)) r
 
--- so many lanes were gone through, those of them with the tag were refused, and the mask holds the others
+-- n lanes were visited, the closure rejected those with the tag, and the mask contains the others
 pub record AsksLanes {T F : Type 0} (closure : Mut F (Bor T × Unit {0}) Bool) (control : List ℕ)
     (entries : List (Option T)) (tag start : ℕ) (f : F) (mask : ℕ) (g : F) : Type 0 where
   pub lanes : ℕ

@@ -34,7 +34,7 @@ module _ {T : Type 0} where
   slots_of-set (y ∷ bytes) (x ∷ entries) (suc b) byte e =
       ap (λ s. slot_of y x ∷ s) (slots_of-set bytes entries b byte e)
 
-  -- a byte below 128 tells of an entry, and one from there on of none
+  -- a byte below 128 means an entry, and any other byte means none
   pub some_by : (byte : ℕ) (place : Option T) → Agrees byte place → byte < 128 → IsSome place
   some_by byte (Some entry) a below = refl
   some_by byte None (inl e) below = absurd (omega arith)

@@ -61,7 +61,7 @@ module _ {T N : Type 0} (number : N → ℕ) (none : N) where
     linked_elsewhere : (k : ℕ) → k ≢ b → moved_to number none linked k ≡ moved_to number none links k
     linked_elsewhere k other = ap number (get_or-set_other links b k (link c) none other)
 
-    -- an entry of before stands in another bucket
+    -- an old entry is in another bucket
     apart_from : (k : ℕ) (x : T) → old k ≡ Some x → moved_to number none links k ≢ c
     apart_from k x e same =
         empty_not_full (bucket_at new c) joins.was_empty

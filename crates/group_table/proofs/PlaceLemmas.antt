@@ -112,7 +112,7 @@ module _ {T : Type 0} (control : List ℕ) (entries : List (Option T)) (r : ℕ)
             | inr h ↦ inr ((place_deleted h).0, spent_is ∙ ap (λ t. cond {A = ℕ} t 1 0) (ne_eqb read 255 h))
           ]
 
-      -- where the room is less than that, there is none, and the bucket is empty
+      -- if the room is less than that, there is none, and the bucket is empty
       pub no_place_left : r < spent → (r ≡ 0) × (bucket_at (slots_of control entries) b ≡ empty)
       no_place_left less =
           elim (cases_eq read 255) [

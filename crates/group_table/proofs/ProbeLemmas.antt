@@ -95,7 +95,7 @@ power_cases n power p =
       | no r ↦ let f : k ≡ 0 = omega arith in let g : n ≡ 4 * 2 ^ 0 = e ∙ ap (λ j. 4 * 2 ^ j) f in omega arith
     ]
 
--- a bucket is visited in one of the first steps, of which there are as many as buckets
+-- with n buckets, a bucket is visited in one of the first n steps
 abbrev pub IsMet : ℕ → ℕ → ℕ → Type 0
 IsMet n hash b = (s : ℕ) × (s < n) × (probed n hash s ≡ b)
 
@@ -140,7 +140,7 @@ probed-meets n hash b power p =
       | no q ↦ let w = power_cases n power (omega arith) in met_in_large w.0 n hash b w.1 p
     ]
 
--- where two steps come to one bucket, their lanes are one, and so are their groups
+-- if two steps come to one bucket, their lanes are one, and so are their groups
 apart_in_large : (m hash s t : ℕ) → s < 16 * 2 ^ m → t < 16 * 2 ^ m
     → probed (16 * 2 ^ m) hash s ≡ probed (16 * 2 ^ m) hash t → s ≡ t
 apart_in_large m hash s t p q e =
@@ -182,7 +182,7 @@ apart_in_small n hash s t l p q e =
     sym (mod-eq_of_lt p) ∙ mod_cancel n hash s t (omega arith)
     (sym (probed-small n hash s (omega arith)) ∙ e ∙ probed-small n hash t (omega arith)) ∙ mod-eq_of_lt q
 
--- in so many steps as there are buckets, no bucket is met twice
+-- in n steps over n buckets, no bucket is met twice
 pub probed-apart : (n hash s t : ℕ) → IsPowerFromFour n → s < n → t < n → probed n hash s ≡ probed n hash t → s ≡ t
 probed-apart n hash s t power p q e =
     elim (dec_lt n 16) [

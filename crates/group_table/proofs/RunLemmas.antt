@@ -1,4 +1,4 @@
--- Two runs of used buckets round a bucket tell whether every 16 neighbours hold an empty one.
+-- Two runs of used buckets round a bucket decide whether every 16 neighbours contain an empty one.
 use Rattle.std.proofs.Common.{◌≡◌, ◌≢◌, ℕ, ◌+◌, ◌-◌, ◌%◌, ◌<◌, ◌≤◌, List, get_or, refl, ap, sym, ◌∙◌, arith, nat_lt}
 use Rattle.std.proofs.Common.{MatchBool}
 use Rattle.std.proofs.Math.Nat.{mod-add-mod, mod-lt, mod-eq_of_lt}
@@ -38,7 +38,7 @@ module _ (control : List ℕ) (n b before after : ℕ) (pos : 0 < n) (bound : b 
         )
       ]
 
-  -- 16 neighbours that begin so many places before the bucket
+  -- 16 neighbours that begin n places before the bucket
   hemmed_at : (at : ℕ) → at < 16 → at ≤ before → 16 ≤ at + after → HemmedInBytes control n b
   hemmed_at at p q r =
       let d = distance n (at % n) b (mod-lt at pos) bound in
@@ -69,7 +69,7 @@ module _ (control : List ℕ) (n b before after : ℕ) (pos : 0 < n) (bound : b 
         ]
       ]
 
-  -- the sum of the two runs tells
+  -- the sum of the two runs decides it
   pub run_tells : get_or control b 0 ≢ 255 → MatchBool (nat_lt (before + after) 16) (EmptyNeighbourBytes control n b)
       (HemmedInBytes control n b)
   run_tells used =

@@ -1,4 +1,4 @@
--- What a bucket holds, and which buckets a search asks about.
+-- What a bucket contains, and which buckets a search visits.
 use Rattle.std.proofs.Common.{◌≡◌, ◌≢◌, ℕ, zero, suc, ◌+◌, ◌%◌, ◌<◌, ◌≤◌, Bool, true, false, cond, List, [], ◌∷◌, ◌++◌}
 use Rattle.std.proofs.Common.{length}
 use Rattle.std.proofs.Common.{map, refl, ap, sym, ◌∙◌, subst, arith, append_assoc, add-one, add-zero, eq-eqb, AllPairs}
@@ -93,7 +93,7 @@ module _ {T : Type 0} (slots : List (Slot T)) (hash : ℕ) where
       ∙ ap (λ xs. candidates slots hash s ++ xs)
       (sym (tagged_lanes-next slots (hash_tag hash) start lanes) ∙ ap (tagged_lanes slots (hash_tag hash) start) f)
 
-  -- each candidate stands once
+  -- each candidate is there once
   pub candidates-distinct : (steps : ℕ) → IsPowerFromFour (length slots) → steps ≤ length slots
       → AllPairs ◌≢◌ (candidates slots hash steps)
   candidates-distinct steps power p =

@@ -124,7 +124,7 @@ module _ {T N : Type 0} {number : N → ℕ} {none : N} {IsGiven : (ℕ → ℕ)
         (omega (arith, half.links_length, same_length, in_whole))
         (omega (arith, in_placed reached, half.placed_length, same_length, below)) joins half.moves
 
-    -- by what stands in each place then
+    -- by what is in each place then
     module _ (next : List (Option T)) (next_length : length next ≡ length whole)
         (counted : count_by is_some now_then ≡ count_by is_some next)
         (elsewhere : (k : ℕ) → k ≢ b → place_at next k ≡ place_at whole k)

@@ -42,7 +42,7 @@ module _ {T : Type 0} where
         → byte_at slots p ≡ byte_of (bucket_at slots (p - max 16 (length slots)))
     byte_at-again h q = rw (le-ltb p (length slots) h, le-ltb p 16 q)
 
-  -- a position keeps its byte where its bucket does
+  -- a position keeps its byte if its bucket does
   pub byte_at-same : (old new : List (Slot T)) → length new ≡ length old → (p : ℕ)
       → byte_of (bucket_at new p) ≡ byte_of (bucket_at old p)
       → (16 ≤ p → length old ≤ p → byte_of (bucket_at new (p - max 16 (length old))) ≡ byte_of

@@ -1,4 +1,4 @@
--- What stands in the buckets of a table: in full (slots), or less the tags and entries (marks).
+-- What is in the buckets of a table: in full (slots), or without tags and entries (marks, the bucket states).
 use Rattle.std.specs.Prelude.{ℕ, ◌-◌, if◌then◌else◌, Bool, true, false, List, length, map, count_by, slice_index_or}
 use Rattle.std.specs.Prelude.{nat_eq, Option, Some, None, IsTrue}
 use Rattle.group_table.specs.Sizes.{full_capacity}
@@ -38,7 +38,7 @@ module _ {A : Type 0} where
   is_used deleted = true
   is_used (full held) = true
 
-  -- what stands in a bucket
+  -- what is in a bucket
   abbrev pub bucket_at : List (Bucket A) → ℕ → Bucket A
   bucket_at buckets b = slice_index_or buckets b empty
 
@@ -63,7 +63,7 @@ module _ {A : Type 0} where
 unfoldable pub room : List Mark → ℕ
 room marks = full_capacity (length marks) - count_by is_used marks
 
--- what a bucket counts in the room: one where it is empty
+-- what a bucket counts in the room: one if it is empty
 abbrev pub room_at : List Mark → ℕ → ℕ
 room_at marks b = if is_used (bucket_at marks b) then 0 else 1
 

@@ -25,7 +25,7 @@ module _ {T : Type 0} where
     pub slots : new.slots ≡ slice_set old.slots b (filled hash entry)
     pub placings : new.placings ≡ count_up old.placings 1
 
-  -- the bucket is emptied where every 16 neighbours hold an empty one, and else it is deleted
+  -- the bucket is emptied if every 16 neighbours hold an empty one, and else it is deleted
   abbrev pub Removes : List (Slot T) → List (Slot T) → ℕ → Type 0
   Removes old new b =
       (HasEmptyNeighbours (marks_of old) b × (new ≡ slice_set old b empty))

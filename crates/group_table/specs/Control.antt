@@ -15,7 +15,7 @@ pub record IsCircle (control : List ℕ) : Type 0 where
   pub fits : length control < 2 ^ 63
   pub repeated : IsRepeated control (buckets_of control)
 
--- the bytes of any table, and the number of its last bucket, or 0 where there is none
+-- the bytes of any table, and the number of its last bucket, or 0 if there is none
 abbrev pub IsControl : List ℕ → ℕ → Type 0
 IsControl control last = ((control ≡ []) × (last ≡ 0)) ⊎ (IsCircle control × (last + 1 ≡ buckets_of control))
 

@@ -1,5 +1,5 @@
 -- What a width of links promises.
---     IsLinkType number link most eq      the laws of `LinkType`, where `MAX` is most
+--     IsLinkType number link most eq      the laws of `LinkType`, if `MAX` is most
 --     narrowest_most                      the number of `MAX` in the narrowest width
 --     numbers_are_links                   an unsigned number is a link that is its own number
 use Rattle.std.specs.Prelude.{◌≡◌, ◌≢◌, ◌≤◌, ◌<◌, ℕ, Bool, nat_eq, refl}

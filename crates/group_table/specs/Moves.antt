@@ -36,7 +36,7 @@ module _ {T N : Type 0} (number : N → ℕ) (none : N) (old : ℕ → Option T)
       → Fits new moved_hash_of
 
 module _ {T H : Type 0} (closure : Shared H (Bor T × Unit {0}) ℕ) (f : H) where
-  -- what the closure answers of the entry in a place is its hash
+  -- the closure returns the hash of the entry in a place
   abbrev pub GivesMovedHashes : List (Option T) → (ℕ → ℕ) → Type 0
   GivesMovedHashes old hash_of = (b hash : ℕ) (entry : T)
       → place_at old b ≡ Some entry → FnReturnsAt closure f entry hash → hash ≡ hash_of b

@@ -16,7 +16,7 @@ abbrev pub probed : ℕ → ℕ → ℕ → ℕ
 probed buckets hash step = (hash + 8 * (step / 16) * (step / 16 + 1) + step % 16) % buckets
 
 module _ (marks : List Mark) (hash : ℕ) where
-  -- what stands in the bucket that a search visits at a step
+  -- what is in the bucket that a search visits at a step
   abbrev pub mark_probed : ℕ → Mark
   mark_probed step = bucket_at marks (probed (length marks) hash step)
 

@@ -32,7 +32,7 @@ module _ {T N : Type 0} (number : N → ℕ) (none : N) where
       → ((b : ℕ) → IsFull old b → moved_hash_of (moved_to number none links b) ≡ hash_of b) → Fits new moved_hash_of
 
 module _ {T H : Type 0} (closure : Shared H (Bor T × Unit {0}) ℕ) (f : H) where
-  -- what the closure answers of the entry in a bucket is its hash
+  -- the closure returns the hash of the entry in a bucket
   abbrev pub GivesHashes : List (Slot T) → (ℕ → ℕ) → Type 0
   GivesHashes slots hash_of = (b hash : ℕ) (entry : T)
       → entry_at slots b ≡ Some entry → FnReturnsAt closure f entry hash → hash ≡ hash_of b

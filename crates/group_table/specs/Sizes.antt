@@ -23,7 +23,7 @@ first_power_from (suc tries) n power = if nat_le n power then power else first_p
 unfoldable pub least_power : ℕ → ℕ
 least_power n = first_power_from 64 n 1
 
--- n, where it is below the limit
+-- n, if it is below the limit
 abbrev pub below : ℕ → ℕ → Option ℕ
 below limit n = if nat_lt n limit then Some n else None
 

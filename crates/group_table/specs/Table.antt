@@ -4,7 +4,7 @@ use Rattle.group_table.specs.Sizes.{IsBucketCount, full_capacity}
 use Rattle.group_table.specs.Bucket.{Slot, Mark, empty, bucket_at, refilled, is_deleted, is_used, entry_count, room}
 use Rattle.group_table.specs.Probe.{probed, IsFirstFree}
 
--- what stands in each bucket, and how many placings the table has made
+-- what is in each bucket, and how many insertions the table has made
 pub record Table (T : Type 0) : Type 0 where
   pub slots : List (Slot T)
   pub placings : ℕ

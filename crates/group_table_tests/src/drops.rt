@@ -39,7 +39,7 @@ fn entries_are_dropped(rt: HostRuntime) -> Result<(), Fail> {
     Ok(())
 }
 
-// A copy asks its closure once about each entry. If one is refused, those that were made are dropped.
+// A copy calls its closure once for each entry. If the closure fails, those that were made are dropped.
 #[test]
 fn copies_are_dropped(rt: HostRuntime) -> Result<(), Fail> {
     let shared = Rc::new(rt.alloc(), 0u64)?;

@@ -1,4 +1,4 @@
-//! Insertions and removals, compared with the rules of docs/TABLE.md, and which entries a search asks about.
+//! Insertions and removals, compared with the rules of docs/TABLE.md, and for which entries a search calls its closure.
 use super::tables::{exchange, first_free, keys_of, table_of};
 use group_table::full_capacity;
 use std::test::Fail;

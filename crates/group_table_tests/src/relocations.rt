@@ -71,7 +71,7 @@ fn up_and_down(rt: HostRuntime) -> Result<(), Fail> {
     Ok(())
 }
 
-// A call may find no memory, so a body that gives up above some size is proved.
+// A call may run out of memory, so a body that returns an error above some size is proved.
 #[test]
 fn many_buckets(rt: HostRuntime) -> Result<(), Fail> {
     let mut table = table_of(rt.alloc(), 1 << 20)?;

@@ -8,7 +8,7 @@ use Rattle.std.specs.Int.{w64, from_le_bytes, bytes_low_first}
 use Rattle.std.specs.Int.Bits.{or_self, or_shifted_r}
 use Rattle.std.proofs.lemmas.Nat.{from_le_bytes-to_le_bytes_2, from_le_bytes-to_le_bytes_4, from_le_bytes-to_le_bytes_8}
 
--- the bytes of a number that fits in so many make that number
+-- the n bytes of a number that fits in n bytes make that number
 pub word-low_bytes_2 : (n : ℕ) → n < 2 ^ 16 → from_le_bytes w64 (bytes_low_first 0 2 n) ≡ n
 word-low_bytes_2 n fits = omega (arith, from_le_bytes-to_le_bytes_2 n fits)
 

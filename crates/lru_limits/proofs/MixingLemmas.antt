@@ -1,5 +1,5 @@
 -- What a write of the bytes of a number leaves.
---     written-le_bytes_N      where the number has N bytes
+--     written-le_bytes_N      if the number has N bytes
 --     number_writes           those that are one step
 use Rattle.std.proofs.Common.{◌≡◌, ◌<◌, ◌+◌, ◌*◌, ◌/◌, ◌%◌, ◌^◌, ℕ, ap, arith, ◌∙◌}
 use Rattle.std.specs.Hash.{le_bytes}

@@ -2,9 +2,9 @@
 --     Budget                 the two numbers
 --     can_add most sum c     the cost c is at most most, and the sum with it fits 64 bits
 --     charged b c            the sum with c added, if it can be
---     refunded b c           the sum with c taken off, or 0 where c is greater
+--     refunded b c           the sum with c taken off, or 0 if c is greater
 --     exchanged b k v w c d  what is left after the value v of cost c was to be replaced by w of cost d
---     by_cost, charges       the rules and the offers of the limiter, where a value has this cost
+--     by_cost, charges       the rules and the offers of the limiter, if a value has this cost
 --     charges-lawful, charges-sums      the laws of `Insertion` and of `Summing`
 use Rattle.std.specs.Prelude.{◌+◌, ◌-◌, ◌^◌, ◌&&◌, ℕ, Bool, true, nat_lt, nat_le, if◌then◌else◌, refl}
 use Rattle.std.specs.Cmp.{IsEquivalence}

@@ -1,14 +1,14 @@
 -- Words for limiters that store a pair as it came.
 --     plain over grants                    the rules of a limiter that never changes
 --     rules_at of to rules                 the rules of a limiter that contains another: of and to read and make it
---     hands_over admits                    its offers: an element is stored where admits says so, a new value always
+--     hands_over admits                    its offers: an element is stored if admits says so, a new value always
 --     HandsOver accepts s k v t given      the limiter stays s, which is t, and the pair is given exactly if accepted
 --     unmoved s k v                        a pair that left, and the limiter is now s
 --     answers s b                          the answer b on growth, and the limiter is now s
 --     replaces s k v w                     the new value is taken, and the limiter is now s
---     given-is, given-names                what a pair that was handed over is
+--     given-is, given-names                what a pair that was offered is
 --     hands_over-lawful                    the laws of `hands_over`
---     given-adds, refused-keeps, replaced-exchanges      what an account becomes, for a `Summing` of one's own
+--     given-adds, refused-keeps, replaced-exchanges      what a running total becomes, for a `Summing` of your own
 use Rattle.std.specs.Prelude.{◌≡◌, ◌≤◌, ◌+◌, ◌-◌, ℕ, Bool, true, false, Option, Some, None, IsTrue, if◌then◌else◌}
 use Rattle.std.specs.Prelude.{unwrap_or}
 use Rattle.std.specs.Cmp.{IsEquivalence}
@@ -73,7 +73,7 @@ hands_over-lawful eq e = record {
   keeps_key = λ s n k i v w named. e.refl k;
 }
 
--- Below, a limiter accepts or not; where it accepts, s becomes s', and elsewhere it stays s.
+-- Below, a limiter accepts or not; if it accepts, s becomes s', and elsewhere it stays s.
 
 -- A pair that is returned for storage adds its cost, if s' has that much more than s.
 pub given-adds : {K V S : Type 0} (cost : K → V → ℕ) (account : S → ℕ) (accepts : Bool) (s s' : S) (i : K) (v : V)

@@ -1,4 +1,4 @@
--- Texts where the keys are `String`s.
+-- Texts that name keys of the type `String`.
 --     names_text bytes k          whether the key k has these bytes
 --     names_text-lawful text      the laws of a look-up key that names the `String` of the bytes that text gives of it
 --     GivesText bytes v given     a pair is given to be stored whose key has these bytes, with the value v

@@ -89,14 +89,14 @@ module _ {K V S H : Type 0} (rules : Rules K V S) (offers : Offers K V S K) (eq 
 
   module _ (law : InsertsAlike) (determined : IsDetermined offers) (never : NeverLacks offers)
       (respects : (h : H) (k l : K) → IsTrue (eq k l) → hash_of h k ≡ hash_of h l) where
-    -- beside a list the offers leave as little open
+    -- with a list the offers leave nothing more open
     noting_determined : IsDetermined (noting_offers offers)
     noting_determined s n i v t u x y h k =
         let same = determined s.0 n i v t.0 u.0 x y h.0 k.0 in
         let list = h.1 ∙ sym k.1 in
         ((λ j. (same.0 j, list j)), same.1)
 
-    -- maps look alike whose limiters are beside the same list, and do without it
+    -- maps whose limiters come with the same list look alike, and do without it
     noted_alike : (list : List (K × V)) (st st' : State K V S H) → LookAlike st st'
         → LookAlike (noted list st) (noted list st')
     noted_alike list st st' alike =
@@ -118,7 +118,7 @@ module _ {K V S H : Type 0} (rules : Rules K V S) (offers : Offers K V S K) (eq 
       same_pairs : other.pairs ≡ old.pairs
       same_pairs = ap (λ st. st.pairs) alike.state
 
-      -- a call of which the shape tells all
+      -- a call that the shape determines
       told_by : (R : Shape K V S H → Reply K V) (F : Shape K V S H → Shape K V S H) → reply ≡ R (shape old)
           → shape new ≡ F (shape old) → answer ≡ R (shape other) → shape last ≡ F (shape other) → AreAlike
       told_by R F r n a l =
@@ -287,7 +287,7 @@ module _ {K V S H : Type 0} (rules : Rules K V S) (offers : Offers K V S K) (eq 
       step_alike wants (calls.SetLimiter s) plain (is, e) (is', e') = told_by (λ sh. done)
           (λ sh. record sh { bare = record sh.bare { limiter = s } }) is (ap shape e) is' (ap shape e')
 
-    -- what stores pairs and finds memory for them tells more than a want
+    -- a call that stores pairs and finds memory for them returns more than a lack of memory
     stored_tells : (old new : State K V S H) (call : Call K V S) (reply : Reply K V) → StoresPairs call
         → ReplyStep rules offers eq hash_of old call reply new → is_alone (want_of reply) ≡ false
     stored_tells old new (calls.InsertWith k v) reply stores (result, out, h, is) =

@@ -34,7 +34,7 @@ module _ {S C R : Type 0} (IsStep : S → C → R → S → Type 0) (Holds : S �
   run_holds a (call ∷ calls) (reply ∷ replies) b holds (mid, step, after, run) =
       run_holds mid calls replies b after run
 
-  -- where each call has a step, each list of calls has a run
+  -- if each call has a step, each list of calls has a run
   pub some_run : ((a : S) → Holds a → (call : C) → (reply : R) × (b : S) × IsStep a call reply b × Holds b)
       → (a : S) → Holds a → (calls : List C) → (replies : List R) × (b : S) × IsRun IsStep Holds a calls replies b
   some_run step a holds [] = ([], a, refl)

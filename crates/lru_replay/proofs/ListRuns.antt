@@ -56,7 +56,7 @@ module _ {K V S H : Type 0} (rules : Rules K V S) (offers : Offers K V S K) (eq 
       reserve_same n result (reserved l count bytes t g r m) = ap contents m.state ∙ asked_same bytes
       reserve_same n result (asked_only l count bytes t f e) = ap contents e ∙ asked_same bytes
 
-    -- beside a list the limiter permits as much
+    -- with a list the limiter permits the same
     noting_grants : AlwaysGrants (noting rules)
     noting_grants s bytes = ((grants s.0 bytes).0, ap (λ t. (t, s.1)) (grants s.0 bytes).1)
 
@@ -137,7 +137,7 @@ module _ {K V S H : Type 0} {rules : Rules K V S} {offers : Offers K V S K} {eq 
     | inr same ↦ ap (λ st. st.hasher) same
   ]
 
-  -- where each call is one on a list, a run is
+  -- if each call is one on a list, a run is
   module _ (IsListStep : (K → ℕ) → Contents K V S → Call K V S → Reply K V → Contents K V S → Type 0)
       (in_list : (old new : State K V S H) → HasTables old → (call : Call K V S) (reply : Reply K V)
       → IsStep old call reply new → IsListStep (hash_of old.hasher) (contents old) call reply (contents new)) where

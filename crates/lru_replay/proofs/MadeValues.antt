@@ -1,4 +1,4 @@
--- A get that inserts, whose closure answers one value.
+-- A get that inserts, whose closure returns one value.
 use Rattle.std.proofs.Common.{◌≡◌, ℕ, Bool, Result, Ok, subst}
 use Rattle.std.specs.declared.alloc.AllocError.{AllocError}
 use Rattle.lru_limits.specs.Rules.{Rules, Offers}

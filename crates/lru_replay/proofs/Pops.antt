@@ -1,4 +1,4 @@
--- Pops at one end of a map, one after another: so many as there are pairs do what more of them do.
+-- Pops at one end of a map, one after another: with n pairs, n pops do what more pops do.
 use Rattle.std.proofs.Common.{◌≡◌, ℕ, zero, suc, ◌-◌, ◌<◌, ◌≤◌, List, [], ◌∷◌, ◌++◌, length, option_to_list}
 use Rattle.std.proofs.Common.{refl, sym, ap, ◌∙◌, arith, append_assoc}
 use Rattle.std.proofs.lemmas.List.{append-nil}
@@ -10,7 +10,7 @@ use Rattle.schnellru.specs.Drains.{pops_first, newest_given, oldest_given}
 use Rattle.schnellru.proofs.CallerLemmas.{length-without_last}
 
 module _ {K V S : Type 0} where
-  -- one takes a pair out, which it gives; many does so so many times, and all is what they give
+  -- one takes a pair out and returns it; many does so n times, and all is what they return
   pub record ArePops (one : Contents K V S → Contents K V S) (gives : Contents K V S → List (K × V))
       (many : ℕ → Contents K V S → Contents K V S) (all : ℕ → Contents K V S → List (K × V)) : Type 0 where
     pub none : (c : Contents K V S) → many 0 c ≡ c
@@ -18,7 +18,7 @@ module _ {K V S : Type 0} where
     pub nothing : (c : Contents K V S) → all 0 c ≡ []
     pub given : (n : ℕ) (c : Contents K V S) → all (suc n) c ≡ gives c ++ all n (one c)
     pub shorter : (c : Contents K V S) → length (one c).pairs ≡ length c.pairs - 1
-    -- where there is no pair, nothing changes
+    -- if there is no pair, nothing changes
     pub still : (c : Contents K V S) → length c.pairs ≤ 0 → one c ≡ c
     pub without : (c : Contents K V S) → length c.pairs ≤ 0 → gives c ≡ []
 
@@ -44,7 +44,7 @@ module _ {K V S : Type 0} {one : Contents K V S → Contents K V S} {gives : Con
   length-many (suc n) c = omega
       (arith, ap (λ d. length d.pairs) (p.more n c), length-many n (one c), p.shorter c)
 
-  -- where there is no pair, nothing is taken
+  -- if there is no pair, nothing is taken
   none_left : (n : ℕ) (c : Contents K V S) → length c.pairs ≤ 0 → many n c ≡ c
   none_left zero c few = p.none c
   none_left (suc n) c few = p.more n c ∙ ap (many n) (p.still c few) ∙ none_left n c few
@@ -54,7 +54,7 @@ module _ {K V S : Type 0} {one : Contents K V S → Contents K V S} {gives : Con
   nothing_given (suc n) c few =
       p.given n c ∙ ap (λ l. l ++ all n (one c)) (p.without c few) ∙ ap (all n) (p.still c few) ∙ nothing_given n c few
 
-  -- so as many as there are pairs do what more of them do
+  -- so with n pairs, n pops do what more pops do
   pub many_enough : (n k : ℕ) (c : Contents K V S) → k ≤ n → (k < n → length c.pairs ≤ k) → many k c ≡ many n c
   many_enough zero zero c most enough = refl
   many_enough zero (suc k) c most enough = absurd (omega arith)

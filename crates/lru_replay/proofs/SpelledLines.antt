@@ -1,4 +1,4 @@
--- Whether a line says something can be told: what it may say is read off it, and spelled again.
+-- It is decided whether a line says something: what it may say is read off it, and spelled again.
 use Rattle.std.proofs.Common.{◌≡◌, ℕ, ◌<◌, ◌^◌, Bool, true, false, List, [], ◌∷◌, ◌++◌, drop, refl, ap, ◌∙◌, subst, inl}
 use Rattle.std.proofs.Common.{inr, arith, ◌⊎◌, decimal, ◌==◌, if◌then◌else◌}
 use Rattle.std.proofs.lemmas.Bool.{ne_eqb}
@@ -52,13 +52,13 @@ guesses line = commands.Insert (digits_value 10 (front_word (drop 7 line))) (dig
 abbrev pub Spelled : List ℕ → Type 0
 Spelled line = (command : Command) × SpellsCommand line command
 
--- What can be told of two facts can be told of both.
+-- If two facts are decided, both together are.
 both_or : {P Q : Type 0} → P ⊎ (P → ⊥) → Q ⊎ (Q → ⊥) → (P × Q) ⊎ ((P × Q) → ⊥)
 both_or (inl p) (inl q) = inl (p, q)
 both_or (inl p) (inr q) = inr (λ h. q h.1)
 both_or (inr p) q = inr (λ h. p h.0)
 
--- What a test decides can be told.
+-- What a test decides is decided.
 told : {P : Type 0} (r : Bool) → Decides r P → P ⊎ (P → ⊥)
 told true d = inl (d.0 refl)
 told false d = inr (not_from_Decides false d refl)
@@ -132,7 +132,7 @@ guessed line P all commands.List s = all.1.1.1.1.1.1.1.1.1.0
 guessed line P all commands.Stats s = all.1.1.1.1.1.1.1.1.1.1.0
 guessed line P all commands.Shrink s = all.1.1.1.1.1.1.1.1.1.1.1.0
 
--- something of a list has a property that can be told, or nothing has
+-- an item of a list has a property that is decided, or none has
 any_of : {X : Type 0} (P : X → Type 0) → ((x : X) → P x ⊎ (P x → ⊥)) → (xs : List X) → ((x : X) × P x)
     ⊎ AllByRecursion (λ x. P x → ⊥) xs
 any_of {X} P tell [] = inr tt

@@ -1,4 +1,4 @@
--- Calls that keep the cost keep the account the sum of the costs.
+-- Calls that keep the cost keep the running total the sum of the costs.
 use Rattle.std.proofs.Common.{ℕ, Bool, sym, ◌∙◌, subst}
 use Rattle.lru_limits.specs.Rules.{Rules, Offers}
 use Rattle.schnellru.proofs.CallerLemmas.{sum-set}

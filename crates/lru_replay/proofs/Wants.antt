@@ -20,7 +20,7 @@ is_short found_all = false
 is_short lacks = true
 is_short lacks_beside = true
 
--- whether the answer tells nothing else
+-- whether the answer says nothing else
 abbrev pub is_alone : Want → Bool
 is_alone found_all = false
 is_alone lacks = true

@@ -61,21 +61,21 @@ module _ {K V S : Type 0} where
   SetsNoLimiter call = Unit {0}
 
 module _ {K V S : Type 0} (eq : K → K → Bool) (cost : K → V → ℕ) (account : S → ℕ) where
-  -- a write keeps the cost of its pair, and another limiter has the same account
+  -- a write keeps the cost of its pair, and another limiter has the same running total
   abbrev pub KeepsCost : Contents K V S → Call K V S → Type 0
   KeepsCost old (calls.Write key v) =
       MatchOption (lookup_entry (eq key) old.pairs) (Unit {0}) (λ there. cost there.0 v ≡ cost there.0 there.1)
   KeepsCost old (calls.SetLimiter s) = account s ≡ account old.limiter
   KeepsCost old call = Unit {0}
 
-  -- a step that keeps the cost, or one that would not is told so, and nothing changes
+  -- a step that keeps the cost, or the reply that the cost differs, and nothing changes
   abbrev pub StepIfKept : {A : Type 0} → (A → Contents K V S) → (A → Call K V S → Reply K V → A → Type 0) → A
       → Call K V S → Reply K V → A → Type 0
   StepIfKept of IsStep old call reply new = (KeepsCost (of old) call × IsStep old call reply new)
       ⊎ ((KeepsCost (of old) call → ⊥) × (reply ≡ cost_differs) × (new ≡ old))
 
 module _ {K V S H : Type 0} (eq : K → K → Bool) (cost : K → V → ℕ) (account : S → ℕ) where
-  -- it is a map, and its account is the sum of the costs, if that of the map first is
+  -- it is a map, and its running total is the sum of the costs, if it was so of the first map
   pub record IsSummedFrom (first st : State K V S H) : Type 0 where
     pub map : IsMap eq st
     pub sum : IsSummed cost account first → IsSummed cost account st
@@ -87,7 +87,7 @@ module _ {K V S H : Type 0} (rules : Rules K V S) (offers : Offers K V S K) (eq 
   CallStep = StepIfMemory (ReplyStep rules offers eq hash_of)
 
   module _ (cost : K → V → ℕ) (account : S → ℕ) where
-    -- a step of a map that keeps the cost, or one that would not is told so
+    -- a step of a map that keeps the cost, or the reply that the cost differs
     abbrev pub SummingStep : State K V S H → Call K V S → Reply K V → State K V S H → Type 0
     SummingStep = StepIfKept eq cost account contents CallStep
 

@@ -4,11 +4,11 @@ use Rattle.std.specs.Prelude.{ℕ, Option, Some, None}
 use Rattle.lru_limits.specs.Rules.{Rules, Offers}
 use Rattle.lru_limits.specs.Budget.{Budget, by_cost, charges}
 
--- more costs than the limit are over it, where a value's cost is itself, and any growth is permitted
+-- more costs than the limit are over it, if a value's cost is itself, and any growth is permitted
 abbrev pub cost_rules : Rules ℕ ℕ Budget
 cost_rules = by_cost (λ value. value)
 
--- pairs are stored as they come, where their cost alone is within the limit and the sum can be told
+-- pairs are stored as they come, if their cost alone is within the limit and the sum has 64 bits
 abbrev pub cost_offers : Offers ℕ ℕ Budget ℕ
 cost_offers = charges (λ value. value)
 

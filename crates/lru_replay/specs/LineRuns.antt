@@ -46,7 +46,7 @@ module _ {S : Type 0} (rules : Rules ℕ ℕ S) (offers : Offers ℕ ℕ S ℕ) 
   AnswersLine before line after old new result =
       (text : List ℕ) × LineStep before line text after × Writes old new result (fed text)
 
-  -- A run over the lines, where each line leaves a map whose table is sound. The text is that of each line with a line
+  -- A run over the lines, in which each line leaves a map whose table is sound. The text is that of each line with a line
   -- feed, one after another.
   abbrev pub IsLineRun : Map S → List (List ℕ) → List ℕ → Map S → Type 0
   IsLineRun old lines text new =

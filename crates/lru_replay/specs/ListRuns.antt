@@ -1,4 +1,4 @@
--- Calls on a list of pairs under a limiter, newest first: what each says and leaves where there is no table.
+-- Calls on a list of pairs under a limiter, newest first: what each says and leaves if there is no table.
 --     rules, offers, eq   as in `Steps`
 --     hash_of k           the hash of the key k
 use Rattle.std.specs.Prelude.{◌≡◌, ℕ, ◌++◌, Bool, List, [], Option, Some, None, Result, MatchOption, is_some, length}
@@ -26,21 +26,21 @@ module _ {K V S : Type 0} (eq : K → K → Bool) where
   abbrev pub fronted : K → Contents K V S → Contents K V S
   fronted key c = record c { pairs = front (eq key) c.pairs }
 
-  -- so it does where its value was found
+  -- so it does if its value was found
   abbrev pub fronted_if : Option V → K → Contents K V S → Contents K V S
   fronted_if (Some v) key c = fronted key c
   fronted_if None key c = c
 
--- without pairs, and the limiter is told of the clear
+-- without pairs, and the limiter is notified of the clear
 abbrev pub emptied : {K V S : Type 0} → Rules K V S → Contents K V S → Contents K V S
 emptied rules c = record { pairs = []; limiter = rules.on_cleared c.limiter }
 
--- the same pairs, with the limiter beside a list
+-- the same pairs, and the limiter with a list
 abbrev pub beside : {K V S : Type 0} → List (K × V) → Contents K V S → Contents K V (S × List (K × V))
 beside list c = record { pairs = c.pairs; limiter = (c.limiter, list) }
 
 module _ {K V S : Type 0} (rules : Rules K V S) (offers : Offers K V S K) (eq : K → K → Bool) (hash_of : K → ℕ) where
-  -- From the list c, the call may say this and leave d. A table alone tells what room is reserved, whether it shrinks,
+  -- From the list c, the call may say this and leave d. Only a table says what growth is reserved, whether it shrinks,
   -- and all figures but the number of pairs, so of these nothing is said.
   abbrev pub ListStep : Contents K V S → Call K V S → Reply K V → Contents K V S → Type 0
   ListStep c (calls.Insert key v) reply d = (result : Result Bool AllocError)

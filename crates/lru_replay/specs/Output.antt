@@ -1,4 +1,4 @@
--- What is written: the text of a reply, or a beginning of it where a write fails.
+-- What is written: the text of a reply, or a beginning of it if a write fails.
 use Rattle.std.specs.Prelude.{◌≡◌, ℕ, Bool, true, false, List, [], ◌∷◌, ◌++◌, Option, Some, None, Result, Ok, Err}
 use Rattle.std.specs.Prelude.{decimal, codes, ◌==◌, if◌then◌else◌}
 use Rattle.std.specs.declared.alloc.AllocError.{AllocError}
@@ -16,7 +16,7 @@ use Rattle.lru_replay.specs.Replies.{no_memory, cost_differs}
 abbrev pub Fails : ReplayError → Option (List ℕ) → Option (List ℕ) → List ℕ → Type 0
 Fails e old new text = (e ≡ errors.Write) × (part : List ℕ) × IsFront part text × Appends old new part
 
--- the text was written, or a beginning of it where a write failed
+-- the text was written, or a beginning of it if a write failed
 abbrev pub Writes : {A : Type 0} → Option (List ℕ) → Option (List ℕ) → Result A ReplayError → List ℕ → Type 0
 Writes old new (Ok _) text = Appends old new text
 Writes old new (Err e) text = Fails e old new text
@@ -74,7 +74,7 @@ shrink_text (Err e) = codes "no memory"
 abbrev pub named_text : List ℕ → ℕ → List ℕ
 named_text name n = name ++ decimal n
 
--- as ` cost 3` after the figures, and nothing where no cost is kept
+-- as ` cost 3` after the figures, and nothing if no cost is kept
 abbrev pub cost_text : Option ℕ → List ℕ
 cost_text None = []
 cost_text (Some cost) = named_text (codes " cost ") cost
@@ -90,7 +90,7 @@ figures_text figures = named_text (codes "len ") figures.len ++ (named_text (cod
     ++ (named_text (codes " memory ") figures.memory ++ (named_text (codes " moved ") figures.moved
     ++ placed_text figures.placed figures.shrunk)))
 
--- A reply, where the limiter keeps this cost, if any. No line is told that a cost differs.
+-- A reply, if the limiter keeps this cost, or none. No line has the reply that a cost differs.
 abbrev pub reply_text : Option ℕ → Reply ℕ ℕ → List ℕ
 reply_text cost (flag there) = flag_text there
 reply_text cost (given result out) = insert_text result ++ rest_text out
@@ -108,6 +108,6 @@ reply_text cost cost_differs = []
 abbrev pub bad_text : List ℕ
 bad_text = codes "bad"
 
--- what is written where no limiter is named
+-- what is written if no limiter is named
 abbrev pub no_limiter_text : List ℕ
 no_limiter_text = codes "no limiter" ++ 10 ∷ []

@@ -11,7 +11,7 @@ use Rattle.lru_replay.specs.declared.lines.figures.Figures.{Figures}
 pub data Reply (K V : Type 0) : Type 0 where
   -- whether the key of an insertion or of a write is there now
   flag : Bool → Reply K V
-  -- how an insert ended, and what it handed over, in that order
+  -- how an insert ended, and what it passed to its callback, in that order
   given : Result Bool AllocError → List (K × V) → Reply K V
   -- the value of a key, if it is there
   value : Option V → Reply K V
@@ -31,17 +31,17 @@ pub data Reply (K V : Type 0) : Type 0 where
   -- a sum would change by it, so it is not done
   cost_differs : Reply K V
 
--- what a reply tells of memory
+-- what a reply says of memory
 pub data Want : Type 0 where
   -- that all was found
   found_all : Want
   -- that some was not, and no more
   lacks : Want
-  -- that some was not, and the pairs that were handed over
+  -- that memory ran out, and the pairs that were passed to the callback
   lacks_beside : Want
 
 module _ {K V : Type 0} where
-  -- what it tells of memory
+  -- what it says of memory
   abbrev pub want_of : Reply K V → Want
   want_of no_memory = lacks
   want_of (reserved (Err Memory)) = lacks
@@ -80,7 +80,7 @@ module _ {K V : Type 0} where
   insert_reply (Ok there) = flag there
   insert_reply (Err e) = no_memory
 
-  -- how a get that inserts says its answer, where these are the pairs after it
+  -- how a get that inserts says its answer, if these are the pairs after it
   abbrev pub made_reply : Result Bool AllocError → List (K × V) → Reply K V
   made_reply (Ok true) pairs = value (newest_value pairs)
   made_reply (Ok false) pairs = value None

@@ -24,7 +24,7 @@ use Rattle.lru_replay.specs.Replies.{Reply, flag, given, value, pair, listed, re
 use Rattle.lru_replay.specs.Replies.{insert_reply, made_reply}
 
 module _ {K V : Type 0} (eq : K → K → Bool) (hash_of : K → ℕ) where
-  -- What a search by a hash finds of a key: its pair, whose hash has the tag of the hash, or nothing, where the key is
+  -- What a search by a hash finds of a key: its pair, whose hash has the tag of the hash, or nothing, if the key is
   -- not there or has another hash.
   pub data FindsByHash (hash : ℕ) (key : K) (pairs : List (K × V)) (result : Option V) : Type 0 where
     found : (there : K × V) → lookup_entry (eq key) pairs ≡ Some there → hash_tag (hash_of there.0) ≡ hash_tag hash
@@ -33,7 +33,7 @@ module _ {K V : Type 0} (eq : K → K → Bool) (hash_of : K → ℕ) where
         → result ≡ None → FindsByHash hash key pairs result
 
 module _ {K V S H : Type 0} (eq : K → K → Bool) where
-  -- the pair of the key comes first, where its value was found
+  -- the pair of the key comes first, if its value was found
   abbrev pub promoted_if : Option V → K → State K V S H → State K V S H
   promoted_if (Some v) key st = promoted (eq key) st
   promoted_if None key st = st

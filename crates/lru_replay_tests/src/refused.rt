@@ -146,7 +146,7 @@ fn text_of(met: usize) -> &'static [u8] {
     }
 }
 
-/// A `put` asks for memory for the pairs that leave before it inserts: for one pair here, and then for a table of 4
+/// A `put` allocates memory for the pairs that leave before it inserts: for one pair here, and then for a table of 4
 /// buckets. The memory for one pair serves the second line too, until two are needed.
 fn text_of_puts(met: usize) -> &'static [u8] {
     match met {

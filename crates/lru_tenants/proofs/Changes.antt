@@ -37,7 +37,7 @@ module _ {K V : Type 0} where
       same other true e = ap (λ n. tenant n cache) (sym (eqb-true name other e))
       same other false e = refl
 
-  -- so it does where the table of tenants has another map at its name, or none
+  -- so it does if the table of tenants has another map at its name, or none
   pub leaves-updated : {S : Type 0} (name : ℕ) (left : Option (Tenant K V)) (seed : List ℕ) (entry_bytes : ℕ)
       (old new : HashMap ℕ (Tenant K V) S) → UpdatesBy nat_eq (nat_eq name) old new left
       → Leaves name left (cache_of old seed entry_bytes) (cache_of new seed entry_bytes)
@@ -58,7 +58,7 @@ module _ {K V R : Type 0} (name : ℕ) (Does : Option (Tenant K V) → R → Opt
       → Leaves name left old new → On name Does old answer new
   on-from old new was left is does leaves = (left, subst (λ t. Does t answer left) (sym is) does, leaves)
 
-  -- where it stays, so does the cache
+  -- if it stays, so does the cache
   pub on-same : (cache : Cache K V) (was : Option (Tenant K V)) → tenant name cache ≡ was → Does was answer was
       → On name Does cache answer cache
   on-same cache was is does =

@@ -17,7 +17,7 @@ module _ {K V Q : Type 0} {names : Q → K → Bool} {eq : K → K → Bool} {qu
     within = is.within;
   }
 
--- what a get answers and leaves of a tenant that is open
+-- what a get returns, and what it leaves of a tenant that is open
 pub gets-open : {K V : Type 0} (names : K → Bool) (was : Option (Tenant K V)) (map left : Tenant K V) (found : Option V)
     → was ≡ Some map → found ≡ lookup names map.pairs → left ≡ promoted names map
     → Gets names was (Ok found) (Some left)

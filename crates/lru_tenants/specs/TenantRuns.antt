@@ -30,19 +30,19 @@ module _ {K V : Type 0} where
   named (calls.Cost name) = name
   named (calls.Close name) = name
 
--- how a put says what an insert answers
+-- how a put returns what an insert returns
 abbrev pub put_answer : Result Bool AllocError → Result Bool TenantError
 put_answer (Ok there) = Ok there
 put_answer (Err e) = Err Memory
 
 -- what each call may answer, and what it leaves of its tenant; `None` is a tenant that is not open
 module _ {K V : Type 0} where
-  -- one that is not open opens with this map, where there is memory
+  -- one that is not open opens with this map, if there is memory
   abbrev pub Opens : Tenant K V → Option (Tenant K V) → Result (Unit {0}) TenantError → Option (Tenant K V) → Type 0
   Opens fresh None answer new = ((answer ≡ Ok tt) × (new ≡ Some fresh)) ⊎ ((answer ≡ Err Memory) × (new ≡ None))
   Opens fresh (Some map) answer new = (answer ≡ Err AlreadyOpen) × (new ≡ Some map)
 
-  -- what a get by what names a key answers
+  -- what a get by what names a key returns
   abbrev pub got : (K → Bool) → Option (Tenant K V) → Result (Option V) TenantError
   got names None = Err NotOpen
   got names (Some map) = Ok (lookup names map.pairs)

@@ -38,7 +38,7 @@ pub fn run_tenants<K: Copy + Eq + Hash + Drop, V: Copy + Costed + Drop>(
     ensures tenants { AreTenants K.eq V.cost cache.new }
     ensures unmade { OnErr result (cache.new ≡ cache.old) }
 {
-    // Nothing at run time: it tells the proof what holds of the tenants.
+    // Nothing at run time: it shows the proof what holds of the tenants.
     let _len = cache.len();
     let mut answers = Vec::with_capacity(alloc, calls.len())?;
     for call in calls {
@@ -57,7 +57,7 @@ fn make_tenant_call<K: Copy + Eq + Hash + Drop, V: Copy + Costed + Drop>(
     ensures tenants { AreTenants K.eq V.cost cache.new }
 {
     let answer = answer_to(cache, call);
-    // Nothing at run time: it tells the proof what holds of the tenants.
+    // Nothing at run time: it shows the proof what holds of the tenants.
     let _len = cache.len();
     answer
 }

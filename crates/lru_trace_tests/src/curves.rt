@@ -1,4 +1,4 @@
-//! The curve of a trace, beside maps that make its references.
+//! The curve of a trace, compared with maps that make its references.
 use lru_theory::misses_on_map;
 use lru_trace::{Curve, TraceError};
 use std::test::Fail;

@@ -5,7 +5,7 @@ use schnellru::{MoveReport, ReserveError};
 use std::alloc::AllocError;
 use std::fmt::Write;
 
-/// The call that the line spells: any call of a run, by the names of the program's lines where it has them.
+/// The call that the line spells: any call of a run, by the names of the program's lines if it has them.
 pub fn call_of<L: Spelled>(line: &str) -> Option<Call<u64, u64, L>> {
     let (word, rest) = line.split_once(' ').unwrap_or((line, ""));
     match word {

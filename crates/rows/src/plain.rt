@@ -24,7 +24,7 @@ pub struct Plain {
     pub pairs: Vec<(u64, u64)>,
     /// The sum of the values.
     pub cost: u64,
-    /// What a map of them tells of its table, under a limit by memory.
+    /// What a map of these pairs returns about its table, under a limit by memory.
     pub table: Table,
 }
 

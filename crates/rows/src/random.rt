@@ -6,7 +6,7 @@ use test_helpers::Random;
 /// A hash whose top 7 bits are those of no key.
 const OTHER_TAG: u64 = 1 << 57;
 
-/// How calls are drawn.
+/// How random calls are chosen.
 #[derive(Clone, Copy)]
 pub struct Bounds {
     /// Keys are below this.

@@ -1,4 +1,4 @@
-//! Random calls, as lines of the program and as lists of calls, beside a plain list of pairs.
+//! Random calls, as lines of the program and as lists of calls, compared with a plain list of pairs.
 use crate::calls::write_answers;
 use crate::expected::agrees;
 use crate::plain::{Limit, Plain};

@@ -1,14 +1,14 @@
 -- For who proves a caller of a map. With HandingLemmas, the only lemmas of this crate that another crate cites.
 --     read_back            a get through which nothing is written brings the pair to the front, and no more
 --     promoted-summed      and keeps the sum of the costs
---     promoted-absent      where nothing is found, nothing comes to the front
---     written-absent       where nothing is found, a write changes nothing
+--     promoted-absent      if nothing is found, nothing comes to the front
+--     written-absent       if nothing is found, a write changes nothing
 --     written-found        after a value was written through a get, a look-up finds it
 --     read-all             what holds of each pair holds of each after a get through which nothing is written
 --     hands_over-keeps     a limiter that stores pairs as they come keeps their values
 --     hands_over-determined, charges-determined      it leaves nothing open, nor does the limiter by a cost
 --     hands_over-finds, charges-finds                and both find the memory that they ask for
---     plain-grants, by_cost-grants                   where a limiter permits every growth
+--     plain-grants, by_cost-grants                   if a limiter permits every growth
 --     plain-changes_none, by_cost-changes_none       limiters that change no pair as it leaves
 --     hands_over-accepts, charges-accepts            when they accept a pair of a new key
 --     stored_key-same      a key that equals no other key is stored as it came
@@ -19,10 +19,10 @@
 --     given-found          a search by a hash with a closure that tests a key gives the pair of that key
 --     given-tag            and only one whose hash has the tag of the hash
 --     given-promoted       one through which nothing is written brings that pair to the front, and no more
---     none-found           where it gives none, no pair of that key has the hash
+--     none-found           if it gives none, no pair of that key has the hash
 --     sum-set              a write that keeps the cost of its pair keeps the sum of the costs
 --     empty_is_sized       a map without pairs and buckets has a sound table
---     has_tables           there are tables for the pairs of a map, where links and bytes reach one for many more
+--     has_tables           there are tables for the pairs of a map, if links and bytes reach one for many more
 --     Shape, shape         a map, but for which of its buckets are full; `same_shape` and `look_alike` say so
 --     left_shape, cleared_shape, reserve_is      what calls make of it in tables of up to 16 buckets
 --     shrinks_look_alike   two shrinks of maps of one shape answer alike, and leave such maps
@@ -199,7 +199,7 @@ hands_over-keeps admits = record {
   replaced = λ s n k i v w. refl;
 }
 
--- it leaves nothing open, and finds the memory that it asks for
+-- it leaves nothing open, and does not run out of memory
 pub hands_over-determined : {K V S : Type 0} (admits : S → K → V → Bool) → IsDetermined (hands_over admits)
 hands_over-determined admits = λ s n i v t u given other h k. (h.limiter ∙ sym k.limiter, h.pair ∙ sym k.pair)
 

@@ -130,7 +130,7 @@ abbrev pub IsDetermined : {K V S I : Type 0} → Offers K V S I → Type 0
 IsDetermined {K} {V} {S} {I} offers = (s : S) (n : ℕ) (i : I) (v : V) (t u : S) (given other : Option (K × V)) →
     offers.on_insert s n i v t given → offers.on_insert s n i v u other → (t ≡ u) × (given ≡ other)
 
--- an offer finds the memory that it asks for
+-- an offer does not run out of memory
 abbrev pub NeverLacks : {K V S I : Type 0} → Offers K V S I → Type 0
 NeverLacks {V = V} {S = S} {I = I} offers = (s : S) (n : ℕ) (i : I) (v : V) → offers.may_lack s n i v → ⊥
 
@@ -154,6 +154,6 @@ pub record HasTableFor {K V S H : Type 0} (n : ℕ) (st : State K V S H) : Type 
   pub usable : usage st.entry_bytes count ≡ Some bytes
   pub takes : n ≤ full_capacity count
 
--- there is a table for one pair more, and for as many as there are
+-- there is a table for the pairs, and for one pair more
 abbrev pub HasTables : {K V S H : Type 0} → State K V S H → Type 0
 HasTables st = (table_for 1 st ≢ no_table) × (table_for 0 st ≢ no_table)

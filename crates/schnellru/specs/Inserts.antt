@@ -93,7 +93,7 @@ module _ {K V S I : Type 0} (rules : Rules K V S) (offers : Offers K V S I) (nam
           PlacesNew rules hash_of pair (record old { limiter = s }) result new →
           Insert i v old result new
 
-    -- the table may run out of memory: there is no growth left, and no buckets or a pair besides the new one, where s
+    -- the table may run out of memory: there is no growth left, and no buckets or a pair besides the new one, if s
     -- is the limiter after it accepted that
     pub record IsShort (i : I) (v : V) (old : State K V S H) : Type 0 where
       pub no_room : room old ≡ 0

@@ -45,9 +45,9 @@ pub record IsNewest {K V : Type 0} (names : K → Bool) (pairs : List (K × V)) 
   pub first : pairs ≡ pair ∷ rest
   pub named : names pair.0 ≡ true
 
--- what an insert leaves of the pairs, where names accepts the inserted key
+-- what an insert leaves of the pairs, if names accepts the inserted key
 pub data GivesUp {K V : Type 0} (names : K → Bool) (refuses : K × V → Type 0) (old new : List (K × V)) : Type 0 where
-  -- the oldest are evicted, as many as it takes, and the new pair is the newest
+  -- the oldest are evicted until there is room, and the new pair is the newest
   behind : (newest : K × V) → names newest.0 ≡ true → IsFront new (newest ∷ without names old) →
       GivesUp names refuses old new
   -- the oldest are evicted, and no pair is stored, nor was the key there

@@ -1,4 +1,4 @@
-//! Searches by a hash, with closures that count: a search asks nothing more after it has its answer.
+//! Searches by a hash, with closures that count: a search calls its closure no more after it has its answer.
 use schnellru::{LruMap, UnlimitedCompact};
 use std::cell::Cell;
 use std::test::Fail;

@@ -15,7 +15,7 @@ use std::alloc::{AllocError, Global};
 use std::hash::Hash;
 use std::test::Fail;
 
-/// Puts a value under a key, and answers whether the key is there then. A look-up gives the value, if it is.
+/// Puts a value under a key, and returns whether the key is there then. If it is, a look-up returns the value.
 fn put(map: &mut LruMap<u64, u64>, key: u64, value: u64) -> Result<bool, AllocError>
     ensures { result ≡ Ok true → lookup (nat_eq key) map.new.pairs ≡ Some value }
 {
@@ -47,7 +47,7 @@ fn touch(map: &mut LruMap<u64, u64>, key: u64) -> bool
     map.promote(&key)
 }
 
-/// Writes a value under a key that is there, and answers whether it is. A look-up gives the value then.
+/// Writes a value under a key that is there, and returns whether it is. Then a look-up returns the value.
 fn overwrite(map: &mut LruMap<u64, u64>, key: u64, value: u64) -> bool
     ensures { result ≡ true → lookup (nat_eq key) map.new.pairs ≡ Some value }
 {
@@ -60,8 +60,8 @@ fn overwrite(map: &mut LruMap<u64, u64>, key: u64, value: u64) -> bool
     }
 }
 
-/// What the closure answers at a key, from the map if the key is there. Each pair of the map has to be an answer of the
-/// closure's, and is one then.
+/// Returns what the closure returns at a key, from the map if the key is there. Each pair of the map must be a key with
+/// what the closure returns for it, and is one afterwards.
 fn memo<F: Fn(u64) -> u64>(
     map: &mut LruMap<u64, u64>,
     answers: F,

@@ -93,8 +93,8 @@ fn new_map<'a>(
     LruMap::new(alloc, Storing(limiter), [1, 2, 3, 4], 16)
 }
 
-/// An insert of a new key asks once after it placed the pair, and once before if there are pairs. One of a key that is
-/// there asks once. A clear is reported after the values were dropped.
+/// An insert of a new key queries the limiter once after it stored the pair, and once before if there are pairs. An
+/// insert of a key that is there queries once. A clear is reported after the values were dropped.
 #[test]
 fn the_limiter_is_asked_once(rt: HostRuntime) -> Result<(), Fail> {
     let (asked, lives, value) = (Cell::new(0), Cell::new(0), Rc::new(rt.alloc(), 0u64)?);

@@ -1,5 +1,5 @@
 //! The order in which an insert calls its limiter and its sink. A contract says what each callback is given, and not
-//! what is called in between: each pair is passed to the sink right after the limiter was told that it left, as the
+//! what is called in between: each pair is passed to the sink right after the limiter was notified that it left, as the
 //! limiter left it, and before the limiter is called again.
 ghost use Rattle.std.specs.Prelude.{◌≡◌, true, nat_lt, nat_le, nat_eq};
 ghost use Rattle.std.specs.Cmp.{nat_eq_equiv};

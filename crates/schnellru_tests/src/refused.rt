@@ -93,12 +93,12 @@ struct Case<'a> {
     stay: (u64, u64),
     refused: Figures,
     met: Figures,
-    /// How many pairs the limiter was told of, and how often it was asked, after each refusal and after the call that
+    /// How many pairs the limiter was notified of, and how often it was queried, after each refusal and after the call that
     /// is met.
     told: &'a [(u32, u32)],
 }
 
-/// What is found after each try: whether it was refused and the pairs stay, the figures, and what the limiter was told.
+/// What is found after each try: whether it was refused and the pairs stay, the figures, and what the limiter was notified of.
 type Found = Vec<(bool, Figures, (u32, u32))>;
 
 /// Makes the call while each request in turn is refused, and then once with memory. Returns nothing if memory has no
@@ -159,7 +159,7 @@ fn inserts_of_many_pairs(rt: HostRuntime) -> Result<(), Fail> {
     Ok(())
 }
 
-/// A first table, and a growth: the limiter is asked and told of the new pair each time.
+/// A first table, and a growth: the limiter is queried and notified of the new pair each time.
 #[test]
 fn inserts_that_need_a_table(rt: HostRuntime) -> Result<(), Fail> {
     for call in INSERTS {
@@ -276,7 +276,7 @@ fn reservations_and_shrinks(rt: HostRuntime) -> Result<(), Fail> {
     Ok(())
 }
 
-/// An account is charged for the new pair, and the charge is taken off if the growth runs out of memory. The links have
+/// A running total is charged for the new pair, and the charge is taken off if the growth runs out of memory. The links have
 /// 8 bytes, so an entry has 32.
 #[test]
 fn an_account_in_a_growth(rt: HostRuntime) -> Result<(), Fail> {

@@ -1,5 +1,5 @@
 //! Keys and values of no bytes and of 4 KiB, and maps of many pairs. The contracts hold for every type and size. These
-//! tests show that such values are laid out and copied well, and that no call gives up above some size.
+//! tests show that such values are laid out and copied well, and that no call fails above some size.
 use schnellru::{LruMap, UnlimitedCompact};
 use std::test::Fail;
 use test_helpers::{figures, insert_all, map_of, remove_all, report};

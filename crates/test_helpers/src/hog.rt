@@ -58,7 +58,7 @@ impl Hog {
         self.held.len() < MOST
     }
 
-    /// How many blocks are held beside the spare ones.
+    /// How many blocks are held, without the spare ones.
     pub fn blocks(&self) -> usize {
         self.held.len()
     }

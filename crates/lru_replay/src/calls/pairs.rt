@@ -57,7 +57,7 @@ pub fn insert_and_keep<K: Eq + Hash + Drop, V: Drop, L: Insertion<K, V, K>, S: K
         S.hash_of key value map.old answer.0 answer.1.items map.new) }
     ensures unchanged { OnErr result (map.new ≡ map.old) }
 {
-    // Nothing at run time: it tells the proof that there is space for all that the callback gets.
+    // Nothing at run time: it shows the proof that there is space for all that the callback gets.
     inserts_hand_over_few::<K, V, K, L, S>();
     let mut out = Vec::with_capacity(alloc, map.len() + 1)?;
     let done = map.insert_with(key, value, &mut |key, value| keep(&mut out, (key, value)));

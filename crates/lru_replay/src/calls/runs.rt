@@ -70,7 +70,7 @@ where
     ensures map { IsMap K.eq map.new }
 {
     let answer = answer_to(alloc, map, call);
-    // Nothing at run time: it tells the proof that what holds of every map holds.
+    // Nothing at run time: it shows the proof that what holds of every map holds.
     let _len = map.len();
     answer
 }

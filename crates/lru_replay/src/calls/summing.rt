@@ -89,7 +89,7 @@ where
     ensures yes { result ≡ true → KeepsCost K.eq L.cost_of L.account (contents map.now) call.now }
     ensures no { result ≡ false → KeepsCost K.eq L.cost_of L.account (contents map.now) call.now → ⊥ }
 {
-    // Nothing at run time: it tells the proof that what holds of every map holds.
+    // Nothing at run time: it shows the proof that what holds of every map holds.
     let _len = map.len();
     match call {
         Call::Write(key, value) => match map.peek_key_value(key) {

@@ -10,7 +10,7 @@ use std::marker::Model;
 /// The bytes of the longest line with a meaning: `insert` with two numbers of 20 digits.
 const LONGEST: usize = 48;
 
-/// How many bytes of a line are held: one more than the longest line with a meaning, to tell longer lines from it.
+/// How many bytes of a line are held: one more than the longest line with a meaning, so that longer lines are noticed.
 const HELD: usize = LONGEST + 1;
 
 /// The first `HELD` bytes of a line.
@@ -73,7 +73,7 @@ impl Line {
         self.len += 1;
     }
 
-    /// Adds bytes at the end, as many as fit.
+    /// Adds the bytes that fit at the end.
     fn extend(&mut self, piece: &[u8])
         requires { length self.old ≤ HELD }
         ensures { self.new ≡ take HELD (self.old ++ piece.now) }

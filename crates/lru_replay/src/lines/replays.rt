@@ -83,7 +83,7 @@ fn answer_line<L: Insertion<u64, u64, u64> + TellsCost, W: Write>(
     write_bytes(writer, b"\n")
 }
 
-/// Does nothing at run time: it tells the proof that the table is sound, as the table of every map is.
+/// Does nothing at run time: it shows the proof that the table is sound, as the table of every map is.
 fn learn<L: Insertion<u64, u64, u64>>(map: &LruMap<u64, u64, L>)
     ensures { IsSized map.now }
 {

@@ -1,4 +1,4 @@
--- Orders of distinct buckets: what stands in them, and the neighbours of a bucket by recursion from the first on.
+-- Orders of distinct buckets: what is in them, and the neighbours of a bucket by recursion from the first on.
 use Rattle.std.proofs.Common.{◌≡◌, ◌≢◌, ℕ, zero, suc, ◌+◌, ◌<◌, cond, List, [], ◌∷◌, length, get_or, Option, Some, None}
 use Rattle.std.proofs.Common.{◌⊎◌, inl, inr, refl, ap, sym, ◌∙◌, subst, arith, eq-eqb, ne_eqb, false}
 use Rattle.std.proofs.lemmas.Bool.{cases_eq}
@@ -43,7 +43,7 @@ pub distinct_cons : (c : ℕ) (cs : List ℕ) → (Contains cs c → ⊥) → Al
 distinct_cons c cs absent d = AllPairs-cons ◌≢◌ c cs
     (λ k e p same. absent (subst (Contains cs) (sym same) (Contains-get_or cs k e p))) d
 
--- the bucket before one, and the last one, where prev stands before the first
+-- the bucket before one, and the last one, if prev stands before the first
 abbrev pub before_from : Option ℕ → ℕ → List ℕ → Option ℕ
 before_from prev b [] = None
 before_from prev b (c ∷ cs) = cond (nat_eq c b) prev (before_from (Some c) b cs)
@@ -79,7 +79,7 @@ pub last_is : (order : List ℕ) → last_bucket order ≡ last_from None order
 last_is [] = refl
 last_is (c ∷ cs) = last_is_tail c cs
 
--- where the first bucket is this one, prev stands before it, and else prev stands before none but the first
+-- if the first bucket is this one, prev stands before it, and else prev stands before none but the first
 pub before_first : (prev : Option ℕ) (x : ℕ) (cs : List ℕ) → first_bucket cs ≡ Some x → before_from prev x cs ≡ prev
 before_first prev x [] e = absurd (none-some x e)
 before_first prev x (d ∷ ds) e = rw (eq-eqb d x (same_Some d x e)) refl

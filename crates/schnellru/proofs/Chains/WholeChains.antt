@@ -88,7 +88,7 @@ module _ {N : Type 0} {number : N → ℕ} {link : ℕ → N} {none : N} {eq : N
     count = entry_count-pair_slots slots ∙ whole.count;
   }
 
-  -- a chain stays where its entries stay
+  -- a chain stays if its entries stay
   pub IsChain-kept : (old new : List (Slot (Entry K V N))) (newest oldest : N) (order : List ℕ) → length new
       ≡ length old
       → ((b : ℕ) → Contains order b → bucket_at new b ≡ bucket_at old b)

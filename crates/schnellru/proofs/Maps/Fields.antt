@@ -1,4 +1,4 @@
--- What a map has beside its entries, from its fields.
+-- What a map has besides its entries, from its fields.
 use Rattle.std.proofs.Common.{ℕ}
 use Rattle.schnellru.specs.Inside.Holds.{Beside}
 use Rattle.schnellru.specs.declared.map.LruMap.TheInside.{Inside}

@@ -33,7 +33,7 @@ module _ {K V S : Type 0} (rules : Rules K V S) where
   pops-more zero c = refl
   pops-more (suc n) c = pops-more n (pop rules c)
 
-  -- where the limiter is not over, none leaves
+  -- if the limiter is not over, none leaves
   pub trim-within : (c : Contents K V S) → rules.is_over_the_limit c.limiter (length c.pairs) ≡ false → trim rules c ≡ c
   unfolding trim
   trim-within c within = go (length c.pairs) within
@@ -42,12 +42,12 @@ module _ {K V S : Type 0} (rules : Rules K V S) where
       go zero e = refl
       go (suc n) e = rw e refl
 
-  -- nor does any where there is none
+  -- nor does any if there is none
   pub trim-empty : (c : Contents K V S) → length c.pairs ≡ 0 → trim rules c ≡ c
   unfolding trim
   trim-empty c none = ap (λ n. trim_from rules n c) none
 
-  -- where the limiter is over, the oldest leaves first
+  -- if the limiter is over, the oldest leaves first
   pub trim-over : (c : Contents K V S) → 0 < length c.pairs → rules.is_over_the_limit c.limiter (length c.pairs) ≡ true
       → trim rules c ≡ trim rules (pop rules c)
   unfolding trim
@@ -93,7 +93,7 @@ module _ {K V S H : Type 0} where
   }
 
 module _ {K V S H : Type 0} (rules : Rules K V S) where
-  -- one more leaves, after so many did
+  -- one more leaves, after n did
   pub leaves_more : (n : ℕ) (old before new : State K V S H) → Leaves old (pops rules n (contents old)) before
       → Leaves before (pop rules (contents before)) new → Leaves old (pops rules (suc n) (contents old)) new
   leaves_more n old before new first last =

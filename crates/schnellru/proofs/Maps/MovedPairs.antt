@@ -26,7 +26,7 @@ module _ {K V S H : Type 0} (t u : OrderedTable K V) (count : ℕ) (linked : IsL
     };
   }
 
-  -- where the table is at most half full then, what holds of every map holds
+  -- if the table is at most half full then, what holds of every map holds
   pub moves_holds : (eq : K → K → Bool) (hash_of : H → K → ℕ) → Holds eq hash_of t beside
       → KeysFit (hash_of beside.hasher) u.slots → count < beside.max
       → ((bytes : ℕ) × (usage beside.entry_bytes count ≡ Some bytes)) → 2 * length (pairs_of t) ≤ full_capacity count

@@ -1,4 +1,4 @@
--- What holds of a map, where its limiter is beside a list of what was handed over.
+-- What holds of a map if its limiter comes with a list of what was passed to the callback.
 use Rattle.std.proofs.Common.{◌≡◌, ℕ, ◌+◌, true, List, [], ◌∷◌, ◌++◌, length, Option, Some, None, refl, ap, ◌∙◌}
 use Rattle.std.proofs.Common.{arith}
 use Rattle.std.proofs.lemmas.Option.{same_Some}
@@ -93,7 +93,7 @@ module _ {K V S H : Type 0} (rules : Rules K V S) (before : List (K × V)) (old 
     room = noted_room before (before ++ pair ∷ []) old new step.state.room;
   }
 
--- where the limiter would be over, way is made
+-- if the limiter would be over, way is made
 pub make_room-over : {K V S : Type 0} (rules : Rules K V S) (c : Contents K V S) →
     rules.is_over_the_limit c.limiter (length c.pairs + 1) ≡ true → make_room rules c ≡ pop rules c
 make_room-over rules c over = rw over refl
@@ -111,7 +111,7 @@ noted_turned_away {K} {V} {S} {H} rules before old new pair left s is told e =
     (noted_told rules before old.limiter left (Some pair) e)
 
 module _ {K V S : Type 0} (before : List (K × V)) (by : Replaced K V S) (b : ℕ) (old new : OrderedTable K V) (l : S) where
-  -- what was left of a replacement, where the limiter is beside a list
+  -- what was left of a replacement, if the limiter comes with a list
   abbrev pub noted_by : Replaced K V (S × List (K × V))
   noted_by = record {
     limiter = (by.limiter, before);
@@ -129,7 +129,7 @@ module _ {K V S : Type 0} (before : List (K × V)) (by : Replaced K V S) (b : �
     told = ap (λ s. (s, before)) is.told;
   }
 
-  -- the pair that was given up goes to the list
+  -- the pair that was evicted goes to the list
   pub noted_given_up : (rules : Rules K V S) → IsGivenUp rules by b old new l →
       let told = rules.on_removed by.limiter by.key by.old_value in
       IsGivenUp (noting rules) noted_by b old new (l, before ++ (told.key, told.value) ∷ [])

@@ -31,7 +31,7 @@ module _ {K V S H : Type 0} (st : State K V S H) (ok : IsSized st) where
   none_without_buckets none = nil_from_length st.pairs
       (omega (arith, fits st ok, full_capacity-at_most (buckets st), none))
 
-  -- and with pairs there are buckets, as many as a table can have
+  -- and with pairs there are buckets, in a number that a table can have
   pub power_with_pairs : 0 < length st.pairs → IsPowerFromFour (buckets st)
   power_with_pairs some = go ok.table.count
     where

@@ -25,7 +25,7 @@ unfolding buckets_for
 none_needed max count is = sym (same_Some 0 count is)
 
 module _ {K V S H : Type 0} (beside : Beside S H) (t : OrderedTable K V) (linked : IsLinked t) where
-  -- so many buckets are needed for the pairs of a map, from the figures of its linked table
+  -- how many buckets the pairs of a map need, by the figures of its linked table
   pub needs : {most pairs : ℕ} {need : Option ℕ} → most ≡ beside.max → pairs ≡ length t.order
       → need ≡ buckets_for most pairs → buckets_for beside.max (length (pairs_of t)) ≡ need
   needs {most} {pairs} is_max is_pairs is =

@@ -11,13 +11,13 @@ use Rattle.schnellru.proofs.Maps.NotedStates.{takes_more, noted_pop}
 
 module _ {K V S H F : Type 0} (rules : Rules K V S) (closure : Mut F (K × (V × Unit {0})) (Unit {0}))
     (old : State K V S H) (sink : F) where
-  -- what left was handed over, and as much as was to leave of the old map is still to leave
+  -- what left was passed to the callback, and what is still to leave is what was to leave of the old map
   abbrev pub IsTrimmedTo : State K V S H → F → Type 0
   IsTrimmedTo st f = Hands closure sink f (λ before after.
       Leaves (noted before old) (contents (noted after st)) (noted after st)
       × (trim (noting rules) (contents (noted before old)) ≡ trim (noting rules) (contents (noted after st))))
 
-  -- where the limiter is over, the oldest leaves
+  -- if the limiter is over, the oldest leaves
   pub trims_more : (st u : State K V S H) (f g : F) (pair : K × V) → 0 < length st.pairs
       → rules.is_over_the_limit st.limiter (length st.pairs) ≡ true → PopOldest rules st (Some pair) u
       → Called closure f (pair.0, (pair.1, tt)) tt g → IsTrimmedTo st f → IsTrimmedTo u g

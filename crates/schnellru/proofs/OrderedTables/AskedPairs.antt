@@ -1,4 +1,4 @@
--- A search of the linked table that asks a closure about pairs.
+-- A search of the linked table that calls a closure with pairs.
 use Rattle.std.proofs.Common.{◌≡◌, ℕ, Bool, true, false, List, [], ◌∷◌, refl, arith, ap, sym, ◌∙◌}
 use Rattle.std.specs.Prelude.{option_map, filter, map, cond}
 use Rattle.std.specs.List.{FoldsTo, range_with_len}
@@ -44,7 +44,7 @@ module _ {K V N W F : Type 0} (closure : Mut F (Bor K × (Bor V × Unit {0})) Bo
     (asker : Mut W (Bor (Entry K V N) × Unit {0}) Bool) (state : W → F)
     (asks : (w : W) (x : Entry K V N) (r : Bool) (u : W) → CalledAt asker w x r u
     → Asks closure (state w) (pair_of x) r (state u)) (slots : List (Slot (Entry K V N))) where
-  -- a call about an entry asks about its pair
+  -- a call with an entry is a call with its pair
   pub answers_pair : (w : W) (b : ℕ) (r : Bool) (u : W) → Answers asker slots w b r u
       → AnswersPair closure (pair_slots slots) (state w) b r (state u)
   answers_pair w b r u a = record {

@@ -112,7 +112,7 @@ module _ {K V : Type 0} (t : OrderedTable K V) (linked : IsLinked t) where
   pub shorter : (b : ℕ) → IsFull t.slots b → suc (length (without_bucket b t.order)) ≡ length t.order
   shorter b h = omega (arith, length-without b t.order linked.distinct (linked.all b h))
 
-  -- where no bucket has a named key, no pair is named
+  -- if no bucket has a named key, no pair is named
   pub none_named : (names : K → Bool) → ((b : ℕ) (p : K × V) → entry_at t.slots b ≡ Some p → names p.0 ≡ false)
       → lookup_entry names (pairs_of t) ≡ None
   none_named names h = none_found names (pairs_of t) (go t.order (all_full t.slots t.order linked.only))

@@ -1,4 +1,4 @@
--- The pairs that a search by a hash asks about are candidates of the map.
+-- The pairs with which a search by a hash calls its closure are candidates of the map.
 use Rattle.std.proofs.Common.{◌≡◌, ◌≢◌, ℕ, zero, suc, Bool, true, false, List, [], ◌∷◌, ◌++◌, Option, Some, None}
 use Rattle.std.proofs.Common.{refl, sym, ap, ◌∙◌, subst, arith, inl, inr}
 use Rattle.std.specs.Prelude.{Contains, AllPairs, option_to_list, filter, cond}

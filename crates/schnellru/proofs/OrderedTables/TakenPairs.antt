@@ -1,4 +1,4 @@
--- A pair was taken out of its bucket, and the limiter was told.
+-- A pair was taken out of its bucket, and the limiter was notified.
 use Rattle.std.proofs.Common.{◌≡◌, ℕ, suc, Bool, Option, Some, None, option_map, length, refl, sym, ap, ◌∙◌, subst}
 use Rattle.std.specs.Cmp.{IsEquivalence}
 use Rattle.group_table.proofs.ChangeLemmas.{length-removed}
@@ -23,7 +23,7 @@ module _ {K V S : Type 0} (rules : Rules K V S) (t u : OrderedTable K V) (b : �
   pub taken_pairs : pairs_of u ≡ entries_in t.slots (without_bucket b t.order)
   taken_pairs = ap (entries_in u.slots) out.order ∙ removed-entries t.slots u.slots b out.slots t.order
 
-  -- where that is the pair that was to leave, the answer and the limiter are those that it leaves
+  -- if that is the pair that was to leave, the answer and the limiter are those that it leaves
   module _ (pair : Option (K × V)) (is : pair ≡ Some out.pair) where
     pub taken_left : Some result ≡ left_of rules limiter pair
     taken_left = out.left ∙ ap (left_of rules limiter) (sym is)

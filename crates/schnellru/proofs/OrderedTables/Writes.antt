@@ -19,7 +19,7 @@ use Rattle.schnellru.proofs.OrderedTables.BucketPairs.{cut_here, cut_pairs, unna
 use Rattle.schnellru.proofs.Maps.HeldMaps.{alike_holds}
 
 module _ {K V : Type 0} (t : OrderedTable K V) (b : ℕ) (q : K × V) where
-  -- the pair that is written comes first, where its bucket does
+  -- the pair that is written comes first, if its bucket does
   pub written_first : IsFull t.slots b → (order : List ℕ) → entries_in (with_pair t b q).slots
       (b ∷ without_bucket b order) ≡ q ∷ entries_in t.slots (without_bucket b order)
   written_first h order =

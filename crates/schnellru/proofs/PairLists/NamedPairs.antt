@@ -28,7 +28,7 @@ module _ {K V : Type 0} (names : K → Bool) where
     cut_without (x ∷ xs) ys h = rw h.0 (ap (λ l. x ∷ l) (cut_without xs ys h.1))
 
   module _ {eq : K → K → Bool} (laws : IsEquivalence eq) (one : (x y : K) → names x ≡ true → names y ≡ eq x y) where
-    -- where one is, those before it are not
+    -- if one is, those before it are not
     pub others_unnamed : (xs ys : List (K × V)) (p : K × V) → names p.0 ≡ true → AreDistinct eq (xs ++ p ∷ ys)
         → NoneNamed names xs
     unfolding IsDistinct

@@ -16,7 +16,7 @@ pub least_power_upper : (n : ℕ) → 0 < n → least_power n < 2 * n
 unfolding least_power
 least_power_upper n h = first_power_upper 64 n 1 (omega arith)
 
--- what so many pairs need
+-- the buckets that n pairs need
 IsNeed : ℕ → ℕ → Type 0
 IsNeed c n = ((c < 4) × (n ≤ 4)) ⊎ ((4 ≤ c) × (c < 8) × (n ≡ 8))
     ⊎ ((8 ≤ c) × (n < 2 * (8 * c / 7)) × ((j : ℕ) × (n ≡ 2 ^ j)))

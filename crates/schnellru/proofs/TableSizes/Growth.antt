@@ -56,7 +56,7 @@ buckets_shape max c n = pick (c == 0) (nat_lt c 4) (nat_lt c 8) (nat_lt (8 * c) 
         inr (s.0, sym ((cond_some _ _ _ h).1) ∙ s.1)
     pick false false false false h = inl (grind arith)
 
--- the pairs that fill a table of twice as many buckets need at least so many
+-- the pairs that fill a table of 2 n buckets need at least that number
 buckets_double_large : (b max n : ℕ) → 16 ≤ b → (b / 8 * 8 ≡ b) → buckets_for max (full_capacity (2 * b)) ≡ Some n
     → 2 * b ≤ n
 unfolding buckets_for full_capacity
@@ -148,7 +148,7 @@ usage_bytes e n bytes some h = go (n == 0) (nat_le (bytes_of e n) (2 ^ 63 - 16))
     go false true z le h = (ap (λ o. unwrap_or o (bytes_of e n)) h, le refl)
     go false false z le h = absurd cc
 
--- a new table has the usage that is told of it
+-- a new table has the usage that is computed for it
 pub target_usage : (max e b c n bytes : ℕ) → target max e b c ≡ new_table n bytes → usage e n ≡ Some bytes
 unfolding target
 target_usage max e b c n bytes = from (buckets_for max c)
@@ -318,7 +318,7 @@ first_target-count max e n bytes = go (nat_lt 4 max)
     go true h = by (usage e 4) h
     go false h = absurd (grind arith)
 
--- a table of the same size is kept where at most half of it is needed
+-- a table of the same size is kept if at most half of it is needed
 pub target-same : (max e b c : ℕ) → target max e b c ≡ same_table → c ≤ full_capacity b / 2
 unfolding target
 target-same max e b c = from (buckets_for max c)

@@ -12,6 +12,6 @@ module _ {K V S H : Type 0} (st : State K V S H) (ok : IsSized st) where
   pub exact : buckets st ≤ 16 → length st.pairs + room st ≡ full_capacity (buckets st)
   exact small = omega (arith, ok.table.exact small, ok.taken)
 
-  -- where there are buckets, they are as many as a table can have
+  -- if there are buckets, their number is one that a table can have
   pub own_count : 0 < buckets st → IsPowerFromFour (buckets st)
   own_count some = elim ok.table.count [ inl none ↦ absurd (omega (arith, none, some)) | inr power ↦ power ]

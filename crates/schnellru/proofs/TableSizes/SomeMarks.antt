@@ -14,7 +14,7 @@ use Rattle.schnellru.specs.Sizes.{usage}
 use Rattle.schnellru.specs.State.{State, buckets, IsSized}
 use Rattle.schnellru.proofs.TableSizes.Growth.{full_capacity-at_most}
 
--- so many full buckets, then so many deleted ones, and then so many empty ones
+-- this number of full buckets, then of deleted ones, and then of empty ones
 abbrev pub row : ℕ → ℕ → ℕ → List Mark
 row fulls deletions empties = replicate fulls (full tt) ++ (replicate deletions deleted ++ replicate empties empty)
 
@@ -50,7 +50,7 @@ count-row p f d e =
 
 module _ {K V S H : Type 0} (old : State K V S H) (ok : IsSized old) (pairs : List (K × V)) (d : ℕ)
     (within : length pairs + d ≤ full_capacity (buckets old)) where
-  -- of old's buckets one is full for each of these pairs, so many are deleted, and the others are empty
+  -- of the old buckets one is full for each of these pairs, n are deleted, and the others are empty
   abbrev pub marked : List Mark
   marked = row (length pairs) d (buckets old - length pairs - d)
 

@@ -58,7 +58,7 @@ module _ {K V H : Type 0} (cost : V → ℕ) (names : K → K → Bool) (hash_of
     abbrev Within : Type 0
     Within = new.limiter.cost ≤ old.limiter.limit
 
-    -- where no greater sum is left, it is within the limit
+    -- if no greater sum is left, it is within the limit
     less : total value_cost new.pairs ≤ total value_cost old.pairs → Within
     less h = omega (arith, was, is, same, within, total-is value_cost new.pairs, total-is value_cost old.pairs, h)
 

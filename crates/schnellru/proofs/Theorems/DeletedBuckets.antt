@@ -1,4 +1,4 @@
--- A deleted bucket serves where it is the first free one that a search finds.
+-- A deleted bucket serves if it is the first free one that a search finds.
 use Rattle.std.proofs.Common.{◌≡◌, ℕ, ◌+◌, ◌<◌, inl, inr, length, sym, ap, ◌∙◌, subst, arith}
 use Rattle.group_table.specs.Sizes.{IsBucketCount}
 use Rattle.group_table.proofs.SizeLemmas.{power_pos}
@@ -26,7 +26,7 @@ module _ {K V S H : Type 0} (rules : Rules K V S) (hash_of : H → K → ℕ) (p
   of_deleted p new (inl f) = absurd (not_both p f.0)
   of_deleted p new (inr f) = omega (arith, f.2, no_room)
 
-  -- with no room, where the first free bucket is a deleted one, it is filled
+  -- with no room, if the first free bucket is a deleted one, it is filled
   pub deleted_serves : FirstFreeIs deleted (hash_of old.hasher pair.0) old → (outcome : Outcome) (new : State K V S H)
       → Place rules hash_of pair old outcome new
       → (outcome ≡ placed) × IsPlaced pair (buckets old) 0 0 old new

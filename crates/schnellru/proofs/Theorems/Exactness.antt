@@ -23,7 +23,7 @@ use Rattle.schnellru.specs.Exact.{ending_there, ending_new, IsEnding, EndsBy, En
 use Rattle.schnellru.specs.Exact.{IsDetermined}
 
 module _ {K V S H : Type 0} (rules : Rules K V S) (pair : K × V) where
-  -- The pair, the pairs and the limiter are as they are to be, where memory is not short.
+  -- The pair, the pairs and the limiter are as they are to be, if memory is not short.
   abbrev pub LandsAs : Landing K V S → Outcome → State K V S H → Type 0
   LandsAs l placed new = l ≡ record { there = true; left = contents new }
   LandsAs l refused new = l ≡ record { there = false; left = contents new }
@@ -162,7 +162,7 @@ module _ {K V S I : Type 0} (rules : Rules K V S) (offers : Offers K V S I) (nam
       let d = determined old.limiter (length old.pairs) i v h.0 k.0 h.1 k.1 h.2 k.2 in
       alike (ending_new rules offers names land i v old k.0 k.1) (rw (← d.0, ← d.1) h.3) k.3
 
-  -- Two inserts of the same, where each pair lands alike, end alike.
+  -- Two inserts of the same, if each pair lands alike, end alike.
   pub inserts_alike : EndsIfLanded rules offers names land i v old result new
       → EndsIfLanded rules offers names land i v old other others → EndsAlike result other new others
   inserts_alike h k = ends_alike (lookup_entry (names i) old.pairs) h k

@@ -60,7 +60,7 @@ module _ {K V : Type 0} where
       go true f h = h
       go false f h = f h
 
-  -- where there is no such pair, all are others
+  -- if there is no such pair, all are others
   pub without_none : (names : K → Bool) (xs : List (K × V)) → lookup_entry names xs ≡ None → without names xs ≡ xs
   without_none names [] h = refl
   without_none names (x ∷ xs) h = go (names x.0) (without_none names xs) h
@@ -139,7 +139,7 @@ module _ {K V S H I : Type 0} {rules : Rules K V S} {offers : Offers K V S I} {n
     {hash_of : H → K → ℕ} {eq : K → K → Bool} {query_input : I → List (List ℕ)} {key_input : K → List (List ℕ)}
     (looks_up : IsLookup names eq query_input key_input)
     (laws : IsInsertion names eq offers) (i : I) (v : V) (old : State K V S H) where
-  -- Inserts give up pairs from the old end alone, save one whose replacement is refused.
+  -- Inserts evict pairs from the old end alone, except one whose new value is rejected.
   pub insert_gives_up : (result : Result Bool AllocError) (new : State K V S H)
       → Insert rules offers names hash_of i v old result new
       → GivesUp (names i) (λ pair. (replacement rules offers names pair i v (contents old)).taken ≡ false) old.pairs

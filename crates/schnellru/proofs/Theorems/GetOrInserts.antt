@@ -42,14 +42,14 @@ module _ {K V S H : Type 0} (rules : Rules K V S) (names : K → Bool) (new : St
   says_newest (Ok false) s = s
   says_newest (Err e) s = s
 
-  -- the same where the error is one of two
+  -- the same if the error is one of two
   says_or_memory : (E : Type 0) (flag : Result Bool AllocError) → SaysWhether rules names flag new
       → SaysNewest {E = GetOrInsertError E} names (or_memory flag) new
   says_or_memory E (Ok true) s = s.0
   says_or_memory E (Ok false) s = s
   says_or_memory E (Err e) s = s
 
--- where there is no value, there is no pair
+-- if there is no value, there is no pair
 no_pair : {K V : Type 0} (names : K → Bool) (xs : List (K × V)) → lookup names xs ≡ None → lookup_entry names xs ≡ None
 no_pair {K} {V} names xs none = go (lookup_entry names xs) (sym (lookup-entry names xs) ∙ none)
   where

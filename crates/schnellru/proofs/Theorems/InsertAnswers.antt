@@ -62,8 +62,8 @@ module _ {K V S : Type 0} (rules : Rules K V S) where
       go (inr t) = record { pair = n.pair; rest = t.0; first = t.2; named = n.named }
 
 module _ {K V S H : Type 0} (rules : Rules K V S) (hash_of : H → K → ℕ) (pair : K × V) (old : State K V S H) where
-  -- the new pair is the newest, where it is placed; no pair is left where it is refused, and the oldest may have gone
-  -- where memory lacks
+  -- the new pair is the newest, if it is placed; no pair is left if it is refused, and the oldest may have gone
+  -- if memory lacks
   abbrev pub Comes : Outcome → State K V S H → Type 0
   Comes placed new = (rest : List (K × V)) × (new.pairs ≡ pair ∷ rest)
   Comes refused new = new.pairs ≡ []
@@ -81,7 +81,7 @@ module _ {K V S H : Type 0} (rules : Rules K V S) (hash_of : H → K → ℕ) (p
       end no_memory mid f l = front_trans _ (front_same (ap (λ st. st.pairs) l)) f
 
 module _ {K V S H : Type 0} (rules : Rules K V S) (names : K → Bool) where
-  -- after a trimming that answers whether a pair is left
+  -- after a trimming that returns whether a pair is left
   trimmed_says : (mid : State K V S H) (c : Contents K V S) (result : Result Bool AllocError) (new : State K V S H)
       → Leaves mid (trim rules c) new
       → result ≡ Ok (not (is_empty new.pairs)) → IsNewest names c.pairs → SaysWhether rules names result new
@@ -178,7 +178,7 @@ module _ {K V S H I : Type 0} {rules : Rules K V S} {offers : Offers K V S I} {n
 
 module _ {K V S H I : Type 0} (rules : Rules K V S) (offers : Offers K V S I) (names : I → K → Bool) (i : I) (v : V)
     (old : State K V S H) where
-  -- where the limiter keeps values, the key is found with its own
+  -- if the limiter keeps values, the key is found with its own
   pub insert_found : KeepsValues offers → (new : State K V S H) → IsNewest (names i) new.pairs
       → IfSome (first new.pairs) (Stores rules offers names i v old) → lookup (names i) new.pairs ≡ Some v
   insert_found keeps new n h = rw n.first (rw n.named (ap Some (value n.pair (rw n.first at h))))

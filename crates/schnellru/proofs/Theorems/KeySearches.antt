@@ -42,7 +42,7 @@ module _ {K V F : Type 0} {closure : Mut F (Bor K × (Bor V × Unit {0})) Bool} 
         let accepted = subst (λ j. Asks closure j pair true given.last) same given.accepted in
         sym (asks-test pair true given.last accepted).0
 
-    -- where none is given, no pair of the hash passes
+    -- if none is given, no pair of the hash passes
     none-fails : GivesNoneByHash eq hash_of all hash closure f → (pair : K × V) → Contains all pair
         → hash_of pair.0 ≡ hash → test pair.0 ≡ false
     none-fails none pair there same =
@@ -98,7 +98,7 @@ module _ {K V F : Type 0} {eq : K → K → Bool} (laws : IsEquivalence eq) (key
   given-found distinct pair given = there-found laws key all distinct pair (given-there pair given)
       (given-passes (eq key) tests pair given)
 
-  -- or none, where the key is not there or has another hash.
+  -- or none, if the key is not there or has another hash.
   pub none-found : GivesNoneByHash eq hash_of all hash closure f → (pair : K × V)
       → lookup_entry (eq key) all ≡ Some pair → hash_of pair.0 ≡ hash → ⊥
   none-found none pair is same =

@@ -42,7 +42,7 @@ module _ {K V S H : Type 0} (rules : Rules K V S) (hash_of : H → K → ℕ) (p
 module _ {K V S H I : Type 0} {rules : Rules K V S} {offers : Offers K V S I} {names : I → K → Bool}
     {hash_of : H → K → ℕ} {i : I} {v : V} {old : State K V S H} {result : Result Bool AllocError}
     {new : State K V S H} where
-  -- Want of memory is the limiter's own, or the table's.
+  -- The limiter ran out of memory, or the table did.
   pub err_is : IsErr result → Insert rules offers names hash_of i v old result new
       → LacksMemory rules offers names hash_of i v old new
   err_is h (replaced pair found y r l) = ok-not_err result (rw r refl) h

@@ -107,7 +107,7 @@ length-total : {X : Type 0} (xs : List X) → total (λ _. 1) xs ≡ length xs
 length-total [] = refl
 length-total (x ∷ xs) = omega (arith, length-total xs)
 
--- where the limiter is not over with at most its number of pairs, no more are left
+-- if the limiter is not over with at most its number of pairs, no more are left
 length_at_most : {K V H : Type 0} (rules : Rules K V ℕ) (old new : State K V ℕ H)
     → ((n : ℕ) → rules.is_over_the_limit old.limiter n ≡ false → n ≤ old.limiter) → new.limiter ≡ old.limiter
     → IsWithin rules (contents new) ⊎ (total (λ _. 1) new.pairs ≤ total (λ _. 1) old.pairs)
@@ -119,7 +119,7 @@ length_at_most rules old new within same (inl (inr e)) few = within (length new.
 length_at_most rules old new within same (inr e) few =
     omega (arith, e, few, length-total old.pairs, length-total new.pairs)
 
--- where it grants no more bytes than its number, a table uses no more
+-- if it grants no more bytes than its number, a table uses no more
 pub uses_at_most : {K V H : Type 0} (rules : Rules K V ℕ) (P : ℕ → Type 0) (more anew : ℕ) (old new : State K V ℕ H)
     → ((bytes : ℕ) → (rules.on_grow old.limiter bytes).allowed ≡ true → bytes ≤ old.limiter)
     → ((s : ℕ) → P s → s ≡ old.limiter) → Tables rules P more anew old new → UsesAtMost old.limiter old

@@ -1,5 +1,5 @@
 -- The moves that calls make of the pairs and the limiter. What each move keeps, every call keeps.
---     KeepsWay rules R                      the moves that make way
+--     KeepsWay rules R                      the moves that make room
 --     Keeps rules names R                   and all that need no offers
 --     KeepsOffers rules offers names R      and those of an insert
 use Rattle.std.proofs.Common.{◌≡◌, ℕ, zero, suc, ◌+◌, Bool, true, false, cond, List, [], ◌∷◌, length, Some, None}
@@ -26,7 +26,7 @@ module _ {K V S : Type 0} (rules : Rules K V S) where
   pub record KeepsWay (R : Contents K V S → Contents K V S → Type 0) : Type 0 where
     pub self : (c : Contents K V S) → R c c
     pub trans : {a b c : Contents K V S} → R a b → R b c → R a c
-    -- the limiter is asked for a table of so many bytes
+    -- the limiter is queried for a table of this number of bytes
     pub asked : (bytes : ℕ) (c : Contents K V S) → R c (asks bytes c)
     -- the oldest pair leaves
     pub popped : (c : Contents K V S) → R c (pop rules c)

@@ -1,4 +1,4 @@
--- Moved and potential together stay at most twice what was placed, and what shrinks placed anew.
+-- Moved entries and potential together are at most twice the stored entries, plus those that shrinks rehashed.
 use Rattle.std.proofs.Common.{ℕ, ◌+◌, ◌-◌, ◌*◌, ◌^◌, ◌<◌, ◌≤◌, Bool, inl, inr, ap, arith}
 use native.Mathlib.Decide.{dec_lt}
 use Rattle.group_table.specs.Sizes.{full_capacity}
@@ -11,7 +11,7 @@ use Rattle.schnellru.proofs.Theorems.TableGrowth.{Tables, IsNextCount, Changes}
 use Rattle.schnellru.proofs.PairLists.DistinctKeys.{AreDistinct}
 
 module _ {K V S H : Type 0} where
-  -- where the count of shrinks has stopped, no count of moves is above it
+  -- if the count of shrinks has stopped, no count of moves is above it
   pub paid_ahead : (st : State K V S H) → st.moved < 2 ^ 64
       → (st.shrunk < 2 ^ 64 - 1 → st.moved + potential st ≤ 2 * st.placed + st.shrunk) → IsPaid st
   paid_ahead st moved ahead = record { moved = go (dec_lt st.shrunk (2 ^ 64 - 1)); ahead = ahead }
@@ -20,7 +20,7 @@ module _ {K V S H : Type 0} where
       go (yes lt) = omega (arith, ahead lt)
       go (no ge) = omega (arith, moved, ge)
 
-  -- a change that pays for its moves keeps the bound, where counts that cannot rise are as large as they can be
+  -- a change that pays for its moves keeps the bound, if counts that cannot rise are as large as they can be
   pub paid_after : {anew : ℕ} (old new : State K V S H) → PaysForMoves anew old new → new.moved < 2 ^ 64
       → buckets new < 2 ^ 63 → IsPaid old → IsPaid new
   paid_after {anew} old new p moved addressable paid = paid_ahead new moved
@@ -60,7 +60,7 @@ module _ {K V S H : Type 0} where
         addressable (inl few) = omega (arith, few, ok.table.addressable)
         addressable (inr p) = omega (arith, usage_addressable old.entry_bytes (buckets new) p.bytes p.usable)
 
--- and what holds of a map holds after it, where the table is sound
+-- and what holds of a map holds after it, if the table is sound
 pub stays_map : {K V S H : Type 0} {eq : K → K → Bool} (rules : Rules K V S) (more anew : ℕ) (old new : State K V S H)
     → Changes rules (λ c d. AreDistinct eq c.pairs → AreDistinct eq d.pairs) more anew old new → IsMap eq old
     → IsSized new

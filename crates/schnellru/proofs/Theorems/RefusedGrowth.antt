@@ -1,4 +1,4 @@
--- Which pairs a placing keeps where growth is refused, and where it is not.
+-- Which pairs an insertion keeps if growth is refused, and if it is not.
 use Rattle.std.proofs.Common.{◌≡◌, ◌≢◌, ℕ, suc, ◌+◌, ◌-◌, ◌/◌, ◌<◌, ◌≤◌, ◌⊎◌, inl, inr, ◌∷◌, length}
 use Rattle.std.proofs.Common.{refl, sym, ap, ◌∙◌, arith}
 use Rattle.std.proofs.lemmas.Bool.{true≢false}
@@ -23,7 +23,7 @@ module _ {K V S H : Type 0} (rules : Rules K V S) (hash_of : H → K → ℕ) (p
     pub one : buckets old ≤ 16 → new.pairs ≡ pair ∷ without_last old.pairs
     pub same_table : buckets new ≡ buckets old
 
-  -- the pair is placed beside all others, by a deleted bucket where growth is refused
+  -- the pair is stored with all others, in a deleted bucket if growth is refused
   pub record KeepsAll (new : State K V S H) : Type 0 where
     pub pairs : new.pairs ≡ pair ∷ old.pairs
     pub large : IsRefusedGrowth rules old → 16 < buckets old
@@ -53,7 +53,7 @@ module _ {K V S H : Type 0} (rules : Rules K V S) (hash_of : H → K → ℕ) (p
       same : new_table count bytes ≡ new_table count' bytes' → bytes ≡ bytes'
       same h = grind arith
 
-  -- after so many of the oldest left, so many are left
+  -- how many are left after n of the oldest left
   pub left_length : (n : ℕ) (mid left : State K V S H) → CannotGrow rules old mid
       → OldestLeave rules (hash_of old.hasher pair.0) n mid left
       → length left.pairs ≡ length old.pairs - n
@@ -61,7 +61,7 @@ module _ {K V S H : Type 0} (rules : Rules K V S) (hash_of : H → K → ℕ) (p
       ap (λ st. length st.pairs) gone.is ∙ length-pops rules n (contents mid)
       ∙ ap (λ st. length st.pairs - n) (known_is rules old mid c)
 
-  -- growth is refused, so many of the oldest leave, and the pair is placed beside the others
+  -- growth is refused, n of the oldest are evicted, and the pair is stored with the others
   gives_way : LacksRoom old → full_capacity (buckets old) / 2 < length old.pairs + 1 → (mid : State K V S H)
       → CannotGrow rules old mid → (n : ℕ) → (buckets old ≤ 16 → n ≡ 1)
       → (left : State K V S H) → OldestLeave rules (hash_of old.hasher pair.0) n mid left → (new : State K V S H)
@@ -80,7 +80,7 @@ module _ {K V S H : Type 0} (rules : Rules K V S) (hash_of : H → K → ℕ) (p
     },
   )
 
-  -- a pair is placed beside all others, or growth is refused and the oldest give way
+  -- a pair is stored with all others, or growth is refused and the oldest are evicted
   pub place_keeps : (outcome : Outcome) (new : State K V S H) → outcome ≡ placed
       → Place rules hash_of pair old outcome new → KeepsAll new ⊎ (IsRefusedGrowth rules old × GivesWay new)
   place_keeps outcome new q (in_bucket l f s o n) = inl (record { pairs = ap (λ st. st.pairs) n.state; large = large s })
@@ -107,7 +107,7 @@ module _ {K V S H : Type 0} (rules : Rules K V S) (hash_of : H → K → ℕ) (p
       gives_way (some, b.no_bucket.no_room) b.above_half mid c n one left gone new
       (λ taken. omega (arith, half, taken)) (ap (λ st. st.pairs) p.state) p.table
 
-  -- where memory lacks after that, one fewer than half are left at the least
+  -- if memory lacks after that, one fewer than half are left at the least
   pub place_lacks_half : IsRefusedGrowth rules old → (outcome : Outcome) (new : State K V S H) → outcome ≡ no_memory
       → Place rules hash_of pair old outcome new
       → full_capacity (buckets old) / 2 ≤ length new.pairs + 1
@@ -122,7 +122,7 @@ module _ {K V S H : Type 0} (rules : Rules K V S) (hash_of : H → K → ℕ) (p
   place_lacks_half refusal outcome new q (not_grown b mid c (rehashes some n pos one half left gone m)) =
       omega (arith, ap length (left_if left new _ _ _ outcome q m), left_length n mid left c gone, half)
 
-  -- where memory lacks, all pairs are left, or growth was refused
+  -- if memory lacks, all pairs are left, or growth was refused
   pub place_lacks_keeps : (outcome : Outcome) (new : State K V S H) → outcome ≡ no_memory
       → Place rules hash_of pair old outcome new → (new.pairs ≡ old.pairs) ⊎ IsRefusedGrowth rules old
   place_lacks_keeps outcome new q (in_bucket l f s o n) = placed-not_no_memory (sym o ∙ q)

@@ -28,7 +28,7 @@ use Rattle.schnellru.proofs.Theorems.CallChanges.{reserve_changes, makes_newest_
 use Rattle.schnellru.proofs.Theorems.Shrinks.{shrink_changes, shrink_pays, shrink_kept}
 
 module _ {K V S H : Type 0} where
-  -- what moves is paid for, also what is placed anew
+  -- moves are paid for, also those of entries that are rehashed
   abbrev pub Pays : State K V S H → State K V S H → Type 0
   Pays old new = (anew : ℕ) × PlacesAnew anew old new × PaysForMoves anew old new
 
@@ -53,7 +53,7 @@ module _ {K V S H I : Type 0} {rules : Rules K V S} {offers : Offers K V S I} {n
         let c = shrink_changes rules R k.keeps.way old result new h in (0, c.0, c.1)
     step_changes old new (trims h) = (_, _, trim_changes k.keeps old new h)
 
-    -- and what is written, where that keeps what is to be kept
+    -- and what is written, if that keeps what is to be kept
     pub any_changes : ((c : Contents K V S) (test : K → Bool) (value : V)
         → R c (record { pairs = set_value test c.pairs value; limiter = c.limiter }))
         → ((c : Contents K V S) (s : S) → R c (record { pairs = c.pairs; limiter = s }))

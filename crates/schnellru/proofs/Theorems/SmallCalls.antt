@@ -37,7 +37,7 @@ module _ {K V S H : Type 0} (rules : Rules K V S) where
       let spare = room_cleared (buckets st) in
       (λ j. record { count = count j; spare = spare j; bare = (clears (shape st)).bare })
 
--- all pairs moved into a table of so many buckets
+-- all pairs moved into a table of n buckets
 abbrev moved_to : {K V S H : Type 0} → ℕ → Shape K V S H → Shape K V S H
 moved_to count sh = record {
   count = count;
@@ -64,7 +64,7 @@ module _ {K V S H : Type 0} (rules : Rules K V S) (n : ℕ) (lacks : Bool) where
       cond g.allowed (cond lacks (Err Memory, relimited g.limiter sh) (Ok tt, moved_to count (relimited g.limiter sh)))
       (Err Refused, relimited g.limiter sh)
 
-  -- what a reservation answers and makes of a shape, where memory is short or not
+  -- what a reservation returns and makes of a shape, if memory runs out or not
   abbrev pub reserve_in : Shape K V S H → Result (Unit {0}) ReserveError × Shape K V S H
   reserve_in sh =
       if nat_lt (length sh.bare.pairs + n) (2 ^ 64) then
@@ -97,8 +97,7 @@ module _ {K V S H : Type 0} (rules : Rules K V S) (n : ℕ) (old : State K V S H
       ∙ rw (t, d, r) (ap (λ st. (Err Refused, shape st)) (sym e))
 
 module _ {K V S H : Type 0} where
-  -- what a shrink into so many buckets, if the pairs need so many, tells and makes of a shape, where memory is short or
-  -- not
+  -- what a shrink into the buckets that the pairs need returns and makes of a shape, if memory runs out or not
   abbrev shrink_to : Option ℕ → Bool → Shape K V S H → Option Bool × Shape K V S H
   shrink_to None lacks sh = (Some false, sh)
   shrink_to (Some count) lacks sh =
@@ -122,7 +121,7 @@ module _ {K V S H : Type 0} where
   shrink_is old result new (no_memory_to_shrink count l some r e) =
       rw (l.0, lt-ltb count (buckets old) l.1, r, told_err result r) (ap (λ st. (None, shape st)) (sym e))
 
-  -- two shrinks of maps that look alike, where both find memory or neither does
+  -- two shrinks of maps that look alike, if both find memory or neither does
   pub shrinks_look_alike : (old other new last : State K V S H) → LookAlike old other
       → (result answer : Result Bool AllocError) → is_err result ≡ is_err answer → Shrink old result new
       → Shrink other answer last → (result ≡ answer) × LookAlike new last

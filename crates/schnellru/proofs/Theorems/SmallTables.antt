@@ -46,7 +46,7 @@ module _ {K V S H : Type 0} where
   abbrev pub relimited : S → Shape K V S H → Shape K V S H
   relimited s sh = record sh { bare = record sh.bare { limiter = s } }
 
-  -- with these contents, where what left gave its room back
+  -- with these contents, if what left gave its room back
   abbrev pub with_left : Contents K V S → Shape K V S H → Shape K V S H
   with_left c sh = record {
     count = sh.count;
@@ -61,7 +61,7 @@ module _ {K V S H : Type 0} where
       (arith, l.room.exact small, ap (λ st. length st.pairs) l.is) in
       (λ j. record { count = l.room.table j; spare = spare j; bare = record (l.is j) { marks = []; places = [] } })
 
-  -- with a pair placed in a table of so many buckets, with so much room left, after so many moves
+  -- with a pair stored in a table with these numbers of buckets, of growth left, and of moves
   abbrev landed : K × V → Shape K V S H → ℕ → ℕ → ℕ → Shape K V S H
   landed pair sh count spare moves = record {
     count = count;
@@ -85,13 +85,13 @@ module _ {K V S H : Type 0} where
   fills_one hash old new small (inl (first, r)) = r
   fills_one hash old new small (inr (first, large, r)) = absurd (omega (arith, small, large))
 
--- whether it is want of memory
+-- whether memory ran out
 abbrev pub lacks_memory : Outcome → Bool
 lacks_memory no_memory = true
 lacks_memory placed = false
 lacks_memory refused = false
 
--- What a placing makes of a shape, where memory is short or not.
+-- What an insertion makes of a shape, if memory runs out or not.
 module _ {K V S H : Type 0} (rules : Rules K V S) (pair : K × V) (lacks : Bool) where
   abbrev turned : Shape K V S H → Shape K V S H
   turned sh = relimited (rules.on_removed sh.bare.limiter pair.0 pair.1).limiter sh
@@ -241,7 +241,7 @@ pub told_err : (result : Result Bool AllocError) → is_err result ≡ true → 
 told_err (Ok a) e = absurd (grind (arith, e))
 told_err (Err d) e = refl
 
--- What an insert tells and makes of a shape, where memory is short or not.
+-- What an insert returns and makes of a shape, if memory runs out or not.
 module _ {K V S H : Type 0} (rules : Rules K V S) where
   abbrev trimmed : Contents K V S → Shape K V S H → Option Bool × Shape K V S H
   trimmed c sh = let d = trim rules c in (Some (not (is_empty d.pairs)), with_left d sh)

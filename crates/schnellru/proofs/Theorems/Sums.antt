@@ -1,4 +1,4 @@
--- The account stays the sum of the costs.
+-- The running total stays the sum of the costs.
 use Rattle.std.proofs.Common.{◌≡◌, ℕ, ◌+◌, ◌≤◌, ◌++◌, Bool, true, false, cond, List, [], ◌∷◌, length, Option, Some}
 use Rattle.std.proofs.Common.{None, refl, sym, ap, ◌∙◌, subst, arith, sum_by, MatchOption}
 use Rattle.std.specs.Map.{set_value}
@@ -90,11 +90,11 @@ module _ {K V : Type 0} (cost : K × V → ℕ) (names : K → Bool) (v : V) whe
 
 module _ {K V S I : Type 0} {rules : Rules K V S} {offers : Offers K V S I} {cost : K → V → ℕ}
     {account : S → ℕ} (laws : IsAccount rules offers cost account) where
-  -- the account is the sum over the pairs
+  -- the running total is the sum over the pairs
   abbrev Holds : Contents K V S → Type 0
   Holds c = account c.limiter ≡ total (λ p. cost p.0 p.1) c.pairs
 
-  -- what is told of what goes is taken off
+  -- the cost of a pair that leaves is taken off
   told_holds : (xs ys : List (K × V)) (o : Option (K × V)) (s : S) → IsSplit (λ p. cost p.0 p.1) xs o ys → account s
       ≡ total (λ p. cost p.0 p.1) xs → account (told_of rules o s) ≡ total (λ p. cost p.0 p.1) ys
   told_holds xs ys None s h e = e ∙ ap (total (λ p. cost p.0 p.1)) (sym h)
@@ -125,7 +125,7 @@ module _ {K V S I : Type 0} {rules : Rules K V S} {offers : Offers K V S I} {cos
     exchanged = exchanged_holds names;
   }
 
-  -- what makes these moves keeps the account the sum of the costs
+  -- what makes these moves keeps the running total the sum of the costs
   pub stays_summed : {H : Type 0} (old new : State K V S H) → (Holds (contents old) → Holds (contents new))
       → IsSummed cost account old → IsSummed cost account new
   stays_summed old new r h = r (h ∙ omega (arith, total-is (λ p. cost p.0 p.1) old.pairs))

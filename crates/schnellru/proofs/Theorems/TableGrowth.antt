@@ -101,7 +101,7 @@ module _ {K V S H : Type 0} where
   }
 
 module _ {K V S : Type 0} (rules : Rules K V S) (P : S → Type 0) where
-  -- there can be a table of so many buckets, and a limiter of which P holds permits it
+  -- there can be a table of n buckets, and a limiter with the property P permits it
   pub record IsPermitted (entry_bytes count : ℕ) : Type 0 where
     pub bytes : ℕ
     pub usable : usage entry_bytes count ≡ Some bytes
@@ -110,11 +110,11 @@ module _ {K V S : Type 0} (rules : Rules K V S) (P : S → Type 0) where
     pub granted : (rules.on_grow limiter bytes).allowed ≡ true
 
 module _ {K V S H : Type 0} (rules : Rules K V S) (P : S → Type 0) where
-  -- the table has no more buckets than before, or as many as such a limiter permits
+  -- the table has no more buckets than before, or such a limiter permits their number
   abbrev pub IsNextCount : State K V S H → ℕ → Type 0
   IsNextCount old count = (count ≤ buckets old) ⊎ IsPermitted rules P old.entry_bytes count
 
-  -- what a call makes of the table, for so many pairs more, where shrinks place so many anew
+  -- what a call makes of the table, with this number of pairs more, if shrinks rehash this number
   pub record Tables (more anew : ℕ) (old new : State K V S H) : Type 0 where
     pub hasher : new.hasher ≡ old.hasher
     pub max : new.max ≡ old.max

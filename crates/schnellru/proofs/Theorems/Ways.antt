@@ -43,7 +43,7 @@ module _ {K V S H : Type 0} (rules : Rules K V S) (P : S → Type 0) (pair : K �
   Lands refused mid new = (mid.pairs ≡ []) × (new ≡ turned_away rules pair mid)
   Lands no_memory mid new = new ≡ turned_away rules pair mid
 
-  -- a placing makes way for the pair, and then it lands
+  -- an insertion makes room for the pair, and then stores it
   pub record MakesWay (R : Contents K V S → Contents K V S → Type 0) (outcome : Outcome)
       (new : State K V S H) : Type 0 where
     pub mid : State K V S H
@@ -116,7 +116,7 @@ module _ {K V S H : Type 0} (rules : Rules K V S) (R : Contents K V S → Conten
   known mid (no_target t e) = rw e (self, self_calm old)
   known mid (denied count bytes t d e) = rw e (k.asked bytes (contents old), limiter_calm old _)
 
-  -- Placing a pair makes way for it first.
+  -- Storing a pair makes room for it first.
   pub place_lands : (outcome : Outcome) (new : State K V S H) → Place rules hash_of pair old outcome new
       → Ends outcome new
   place_lands outcome new (in_bucket l f s o n) = fills outcome new _ o n (λ ok. spends s)
@@ -198,7 +198,7 @@ module _ {K V S H : Type 0} (rules : Rules K V S) (R : Contents K V S → Conten
   place_tables outcome new p = let m = place_lands outcome new p in
       lands_tables rules P pair old outcome m.mid new m.calm m.lands
 
--- where the pair is placed, there are pairs
+-- if the pair is placed, there are pairs
 pub placed_some : {K V S H : Type 0} (rules : Rules K V S) (hash_of : H → K → ℕ) (pair : K × V)
     (old new : State K V S H) → Place rules hash_of pair old placed new → 0 < length new.pairs
 placed_some rules hash_of pair old new p =
@@ -230,7 +230,7 @@ module _ {K V S Q : Type 0} (rules : Rules K V S) (names : Q → K → Bool) (R 
 module _ {K V S H I : Type 0} {rules : Rules K V S} {offers : Offers K V S I} {names : I → K → Bool}
     {R : Contents K V S → Contents K V S → Type 0} (k : KeepsOffers rules offers names R) (i : I) (v : V)
     (old : State K V S H) where
-  -- what a replacement leaves, where this value of the two stays
+  -- what a replacement leaves, if this value of the two stays
   exchanges : (pair : K × V) (w : V) → kept_value (replacement rules offers names pair i v (contents old)) ≡ w
       → R (contents old) (exchange rules offers names pair i v (contents old))
       → R (contents old) (record {

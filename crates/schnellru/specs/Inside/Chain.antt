@@ -94,7 +94,7 @@ module _ {N : Type 0} (number : N → ℕ) (none : N) (links : List N) where
     pub older_there : older_at new b ≡ option_map moved_link (older_at old b)
     pub others : (c : ℕ) → c ≢ b → entry_at new c ≡ entry_at old c
 
--- the end of a chain is another now, where a link is that of no entry, and else stays
+-- the end of a chain is another now, if a link is that of no entry, and else stays
 pub record SetsEnd {N : Type 0} (none old new at to : N) : Type 0 where
   pub ends : at ≡ none → new ≡ to
   pub stays : at ≢ none → new ≡ old

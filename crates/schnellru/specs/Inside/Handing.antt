@@ -1,17 +1,17 @@
--- What is handed over by a part of a call. No public clause cites this module.
+-- What a part of a call passes to the callback. No public clause cites this module.
 use Rattle.std.specs.Prelude.{List}
 use Rattle.std.specs.Fn.{Mut, Called}
 use Rattle.lru_limits.specs.Rules.{Rules, Replaced}
 use Rattle.schnellru.specs.HandedOver.{Takes}
 
 module _ {K V F : Type 0} (closure : Mut F (K × (V × Unit {0})) (Unit {0})) where
-  -- After what was handed over before, the sink, as f, was handed more, and is then g: what is stated of the lists of
-  -- all that was handed over before and after.
+  -- The callback was f after the pairs that were passed before, got more, and is then g. This is stated of the lists of
+  -- all pairs that were passed before and after.
   abbrev pub Hands : F → F → (List (K × V) → List (K × V) → Type 0) → Type 0
   Hands f g step = (first : F) (before : List (K × V)) → Takes closure first before f → (after : List (K × V))
       × Takes closure first after g × step before after
 
-  -- of a pair whose replacement is refused, what the limiter leaves is handed over
+  -- if a replacement is rejected, the callback gets what the limiter leaves of the pair
   abbrev pub HandsGivenUp : {S : Type 0} → Rules K V S → Replaced K V S → F → F → Type 0
   HandsGivenUp rules by f g = let told = rules.on_removed by.limiter by.key by.old_value in
       Called closure f (told.key, (told.value, tt)) tt g

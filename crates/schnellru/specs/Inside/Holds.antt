@@ -4,7 +4,7 @@ use Rattle.group_table.specs.Bucket.{marks_of}
 use Rattle.schnellru.specs.State.{State, IsMap}
 use Rattle.schnellru.specs.Inside.OrderedTable.{OrderedTable, IsLinked, KeysFit, pairs_of}
 
--- what a map has beside its entries
+-- what a map has besides its entries
 pub record Beside (S H : Type 0) : Type 0 where
   pub limiter : S
   pub hasher : H

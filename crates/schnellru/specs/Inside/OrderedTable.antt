@@ -54,7 +54,7 @@ module _ {K V : Type 0} where
   -- what holds of every table whose buckets are linked
   pub record IsLinked (t : OrderedTable K V) : Type 0 where
     pub table : IsTable (marks_of t.slots)
-    -- each full bucket stands once in the order, and no other
+    -- each full bucket is once in the order, and no other bucket is
     pub distinct : AllPairs ◌≢◌ t.order
     pub all : (b : ℕ) → IsFull t.slots b → Contains t.order b
     pub only : (b : ℕ) → Contains t.order b → IsFull t.slots b

@@ -1,4 +1,4 @@
--- What becomes of a pair in a bucket: it is replaced, given up, or taken out. No public clause cites this module.
+-- What becomes of a pair in a bucket: it is replaced, evicted, or taken out. No public clause cites this module.
 use Rattle.std.specs.Prelude.{◌≡◌, ℕ, ◌+◌, ◌∷◌, Some}
 use Rattle.group_table.specs.Bucket.{marks_of, entry_at, room as room_of, room_at}
 use Rattle.group_table.specs.Change.{Removes}
@@ -23,7 +23,7 @@ pub record IsGivenUp {K V S : Type 0} (rules : Rules K V S) (by : Replaced K V S
   pub room : room_of (marks_of new.slots) ≡ room_of (marks_of old.slots) + room_at (marks_of new.slots) b
   pub told : limiter ≡ (rules.on_removed by.limiter by.key by.old_value).limiter
 
--- The pair in a bucket left, the limiter was told, and what it left of the pair is answered.
+-- The pair in a bucket left, the limiter was notified, and what it left of the pair is returned.
 pub record IsTakenOut {K V S : Type 0} (rules : Rules K V S) (b : ℕ) (old new : OrderedTable K V) (limiter : S)
     (result : K × V) (after : S) : Type 0 where
   pub pair : K × V

@@ -6,13 +6,13 @@ use Rattle.schnellru.specs.declared.map.get_or_insert.NotLent.TheVariants.{NotKe
 use mathlib.Core.Option as maybe
 
 module _ {V E : Type 0} where
-  -- the answer where it is no error that the key is not there
+  -- the answer if it is no error that the key is not there
   abbrev pub kept_of : Result (MutBor V) (NotLent E) → Result (Option (MutBor V)) E
   kept_of (Ok x) = Ok (Some x)
   kept_of (Err NotKept) = Ok None
   kept_of (Err (Failed e)) = Err e
 
-  -- the answer that tells whether a value is lent
+  -- the result that says whether a value is lent
   abbrev pub is_kept : Result (Option (MutBor V)) E → Result Bool E
   is_kept (Ok o) = Ok (is_some o)
   is_kept (Err e) = Err e

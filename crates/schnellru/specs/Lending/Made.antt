@@ -21,7 +21,7 @@ module _ (K V L S N H : RattleType) (key : HashMembers K.Denot)
     (hashed : HasherMembers S.Denot K.Denot H.Denot) (hash : hasher.Ghosts H.Denot)
     (m : MutBor (State K.Denot V.Denot L.Denot S.Denot)) {E : Type 0}
     (Step : Result Bool E → State K.Denot V.Denot L.Denot S.Denot → Type 0) where
-  -- it was made n, whose newest value is lent, where w is left
+  -- it was made a map whose newest value is lent, and is n after w was written there
   abbrev pub Made : Result (Option (MutBor V.Denot)) E → State K.Denot V.Denot L.Denot S.Denot → V.Denot → Type 0
   Made r n w = (made : State K.Denot V.Denot L.Denot S.Denot) × Step (is_kept r) made
       × (newest_value made.pairs ≡ value_lent r)
@@ -31,7 +31,7 @@ module _ (K V L S N H : RattleType) (key : HashMembers K.Denot)
   lends_or r = LendsSoOk (map_row K V L S N H key limits links link_eq link_shown hashed hash) V m r
       (λ n w. Made (kept_of r) n w) (λ n. Step (is_kept (kept_of r)) n)
 
-  -- the same for an answer that has no error where the key is not there
+  -- the same for an answer that has no error if the key is not there
   abbrev pub lends_made : Result (Option (MutBor V.Denot)) E → Fml
   lends_made r = follows_so (map_row K V L S N H key limits links link_eq link_shown hashed hash) V m.ghost_name
       (name_lent r)

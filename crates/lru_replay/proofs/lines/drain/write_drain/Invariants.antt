@@ -1,4 +1,4 @@
--- So many pairs were taken out and written.
+-- This number of pairs was taken out and written.
 use Rattle.std.proofs.Common.{◌≡◌, ℕ, not, List}
 use Rattle.schnellru.specs.Lists.{is_empty}
 use Rattle.schnellru.specs.State.{contents, Leaves}

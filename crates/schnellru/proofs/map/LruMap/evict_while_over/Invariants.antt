@@ -1,4 +1,4 @@
--- The limiter is over, and there are pairs. What left was handed over, and as much as was to leave is still to leave.
+-- The limiter is over, and there are pairs. What left was passed to the callback, and the rest is still to leave.
 use Rattle.std.proofs.Common.{◌≡◌, ◌<◌, true, length}
 use denote.Param.Always.{always_mut}
 use Rattle.schnellru.proofs.Maps.Trims.{IsTrimmedTo}

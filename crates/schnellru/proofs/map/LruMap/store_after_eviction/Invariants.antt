@@ -1,4 +1,4 @@
--- Some of the oldest have left and were handed over. At least half of what the table takes is left, and the pair has no
+-- Some of the oldest have left and were passed to the callback. At least half of what the table takes is left, and the pair has no
 -- place yet.
 use Rattle.std.proofs.Common.{◌≡◌, ℕ, ◌/◌, length}
 use denote.Param.Always.{always_mut}
