@@ -7,8 +7,9 @@ ghost use Rattle.lru_trace.specs.Lines.{is_key, trace_of, malformed_in};
 
 use crate::curve::Curve;
 use crate::outcome::TraceError;
+use crate::progress::Progress;
 use std::alloc::Global;
-use std::io::BufRead;
+use std::io::{BufRead, Write};
 
 /// The most bytes of a key.
 const LONGEST_KEY: usize = 64;
@@ -73,17 +74,18 @@ pub fn sizes_of(alloc: Global, line: &[u8]) -> Result<Option<Vec<usize>>, TraceE
 }
 
 /// References the key of each line that is left, and returns how many lines spell no key. A key is text of 1 to 64
-/// bytes. `line` is a buffer, whose bytes are not used.
+/// bytes. `line` is a buffer, whose bytes are not used. The number of lines is written to `progress` after each million.
 ///
 /// The curve is new. If the reader reports its bytes, the call leaves the curve of the trace that the lines spell.
 ///
 /// # Errors
 ///
 /// `Read`: a read failed, or there were 2 ^ 64 - 2 lines. `Memory`: there was none for a line or a key.
-pub fn read_keys<R: BufRead>(
+pub fn read_keys<R: BufRead, P: Write>(
     reader: &mut R,
     line: &mut Vec<u8>,
     curve: &mut Curve,
+    progress: &mut Progress<P>,
 ) -> Result<u64, TraceError>
     requires { curve.old.references ≡ 0 }
     ensures curve { IfOk result (λ malformed. IfSome (R.remaining reader.old)
@@ -92,7 +94,8 @@ pub fn read_keys<R: BufRead>(
         (λ input. malformed ≡ malformed_in input)) }
 {
     let mut malformed = 0;
-    for _line in 0..u64::MAX - 1 {
+    for lines in 0..u64::MAX - 1 {
+        progress.note(lines);
         if !read_line(reader, line)? {
             return Ok(malformed);
         }

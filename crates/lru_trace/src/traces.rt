@@ -2,6 +2,7 @@
 use crate::curve::Curve;
 use crate::lines::{read_keys, read_line, sizes_of};
 use crate::outcome::{TraceEnd, TraceError};
+use crate::progress::Progress;
 use crate::report::write_report;
 use std::alloc::Global;
 use std::io::{BufRead, Write};
@@ -9,7 +10,8 @@ use std::io::{BufRead, Write};
 /// Reads a trace, and writes how often LRU caches of each size miss at it.
 ///
 /// The first line names sizes, and each other line is a key that is referenced: text of 1 to 64 bytes. Other lines are
-/// counted as malformed. `docs/TRACE.md` shows the report.
+/// counted as malformed. `docs/TRACE.md` shows the report. The number of lines is written to `progress` after each
+/// million.
 ///
 /// Cost: `O(log n)` expected for each line and n keys. The memory is in proportion to the number of keys and the
 /// longest line.
@@ -17,10 +19,11 @@ use std::io::{BufRead, Write};
 /// # Errors
 ///
 /// `Read`, `Write` or `Memory`: a read failed, a write or the flush failed, or there was no memory.
-pub fn trace<R: BufRead, W: Write>(
+pub fn trace<R: BufRead, W: Write, P: Write>(
     alloc: Global,
     reader: &mut R,
     writer: &mut W,
+    progress: &mut Progress<P>,
 ) -> Result<TraceEnd, TraceError> {
     let mut line = Vec::new(alloc);
     let _there = read_line(reader, &mut line)?;
@@ -28,7 +31,7 @@ pub fn trace<R: BufRead, W: Write>(
         return Ok(TraceEnd::NoSizes);
     };
     let mut curve = Curve::new(alloc)?;
-    let malformed = read_keys(reader, &mut line, &mut curve)?;
+    let malformed = read_keys(reader, &mut line, &mut curve, progress)?;
     write_report(alloc, writer, &curve, malformed, &sizes)?;
     match writer.flush() {
         Ok(()) => Ok(TraceEnd::Done),

@@ -1,8 +1,9 @@
-//! Prints how often LRU caches of each size miss at a trace, which it reads from standard input.
+//! Prints how often LRU caches of each size miss at a trace, which it reads from standard input. If standard error is a
+//! terminal, it shows the progress there.
 #![tactic(auto)]
 
-use lru_trace::{status, trace};
-use std::io::{self, BufReader, BufWriter};
+use lru_trace::{Progress, status, trace};
+use std::io::{self, BufReader, BufWriter, IsTerminal};
 use std::process::ExitCode;
 
 /// The exit status if there is no memory for a buffer, so that nothing was read.
@@ -15,7 +16,14 @@ fn main(rt: HostRuntime) -> ExitCode {
     let Ok(mut writer) = BufWriter::new(rt.alloc(), io::writer(&rt)) else {
         return ExitCode::from(NO_BUFFER);
     };
-    let end = trace(rt.alloc(), &mut reader, &mut writer);
+    let errors = rt.stderr();
+    let waiting = if errors.is_terminal() {
+        Some(errors)
+    } else {
+        None
+    };
+    let mut progress = Progress::new(rt.alloc(), waiting);
+    let end = trace(rt.alloc(), &mut reader, &mut writer, &mut progress);
     // After a failed write the buffer still contains bytes. Its drop would write them again.
     let (_output, _unwritten) = writer.into_parts();
     ExitCode::from(status(&end))

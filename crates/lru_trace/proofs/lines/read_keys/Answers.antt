@@ -10,21 +10,21 @@ use Rattle.lru_trace.proofs.lines.read_keys.Goals as goal
 pub returns-then-not-branch-clause-curve : goal.returns-then-not-branch-clause-curve
 returns-then-not-branch-clause-curve g c =
     let read = c.in_ok-read_line.ensures in
-    (reads_all (g.R.Read.remaining c.args.reader.now) (g.R.Read.remaining c.loop-line.reader)
-    (g.R.Read.remaining c.read_line.new.reader) c.args.curve.now c.loop-line.curve c.loop-line.malformed
-    c.read_line.new.line.items read.line read.rest c.loop-line.invariant.2 (sym read.there ∙ c.if-not-branch.true)).0
+    (reads_all (g.R.Read.remaining c.args.reader.now) (g.R.Read.remaining c.loop-lines.reader)
+    (g.R.Read.remaining c.read_line.new.reader) c.args.curve.now c.loop-lines.curve c.loop-lines.malformed
+    c.read_line.new.line.items read.line read.rest c.loop-lines.invariant.2 (sym read.there ∙ c.if-not-branch.true)).0
 
 pub returns-then-not-branch-clause-malformed : goal.returns-then-not-branch-clause-malformed
 returns-then-not-branch-clause-malformed g c =
     let read = c.in_ok-read_line.ensures in
-    (reads_all (g.R.Read.remaining c.args.reader.now) (g.R.Read.remaining c.loop-line.reader)
-    (g.R.Read.remaining c.read_line.new.reader) c.args.curve.now c.loop-line.curve c.loop-line.malformed
-    c.read_line.new.line.items read.line read.rest c.loop-line.invariant.2 (sym read.there ∙ c.if-not-branch.true)).1
+    (reads_all (g.R.Read.remaining c.args.reader.now) (g.R.Read.remaining c.loop-lines.reader)
+    (g.R.Read.remaining c.read_line.new.reader) c.args.curve.now c.loop-lines.curve c.loop-lines.malformed
+    c.read_line.new.line.items read.line read.rest c.loop-lines.invariant.2 (sym read.there ∙ c.if-not-branch.true)).1
 
-pub loop-line-preserved : goal.loop-line-preserved
-loop-line-preserved g c =
+pub loop-lines-preserved : goal.loop-lines-preserved
+loop-lines-preserved g c =
     let read = c.in_ok-read_line.ensures in
-    let inv = c.loop-line.invariant in
+    let inv = c.loop-lines.invariant in
     let bytes = c.read_line.new.line.items in
     let some : nat_lt 0 (length bytes) ≡ true = sym read.there ∙ c.if-not-branch.false in
     elim c.match-key_of.branch [
@@ -32,13 +32,13 @@ loop-line-preserved g c =
           let is = w.in-Some.ensures in
           let key : is_key (strip_last 10 bytes) ≡ true = ap (λ b. is_key (strip_last 10 b)) (sym c.deref.ensures.value) ∙ is.1 in
           let name = is.0 ∙ ap (strip_last 10) c.deref.ensures.value in
-          let follows = subst (λ k. (past : List (List ℕ)) → IsOf past c.loop-line.curve → IsOf (k ∷ past) w.refer.new.self) name
+          let follows = subst (λ k. (past : List (List ℕ)) → IsOf past c.loop-lines.curve → IsOf (k ∷ past) w.refer.new.self) name
           w.in_ok-refer-in-Some.ensures.ok in
           rw (w.curve-is, w.malformed-is) (
             omega (arith, inv.0),
             omega (arith, inv.1, w.refer.ensures.references),
-            reads_key (g.R.Read.remaining c.args.reader.now) (g.R.Read.remaining c.loop-line.reader)
-                (g.R.Read.remaining c.read_line.new.reader) c.args.curve.now c.loop-line.curve c.loop-line.malformed bytes
+            reads_key (g.R.Read.remaining c.args.reader.now) (g.R.Read.remaining c.loop-lines.reader)
+                (g.R.Read.remaining c.read_line.new.reader) c.args.curve.now c.loop-lines.curve c.loop-lines.malformed bytes
                 read.line read.rest w.refer.new.self inv.2 some key follows,
           )
       | in-None w ↦
@@ -46,8 +46,8 @@ loop-line-preserved g c =
           rw (w.curve-is, w.malformed-is) (
             omega (arith, inv.0),
             omega (arith, inv.1),
-            reads_other (g.R.Read.remaining c.args.reader.now) (g.R.Read.remaining c.loop-line.reader)
-                (g.R.Read.remaining c.read_line.new.reader) c.args.curve.now c.loop-line.curve c.loop-line.malformed bytes
+            reads_other (g.R.Read.remaining c.args.reader.now) (g.R.Read.remaining c.loop-lines.reader)
+                (g.R.Read.remaining c.read_line.new.reader) c.args.curve.now c.loop-lines.curve c.loop-lines.malformed bytes
                 read.line read.rest inv.2 some none,
           )
     ]
