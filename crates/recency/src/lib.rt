@@ -46,8 +46,8 @@ pub fn a_smaller_cache_is_included<K: Eq>()
 {}
 
 /// A larger budget never means more misses. Of two LRU caches with limits of cost, the keys of the one with the smaller
-/// limit are the newest keys of the other (`front`), and it misses at least as often (`misses`). No key alone may cost
-/// more than the smaller limit.
+/// limit are the newest keys of the other (`front`), and it misses at least as often (`misses`). The definitions are those
+/// of LRU caches if no key alone costs more than the smaller limit.
 pub fn a_larger_budget_never_misses_more<K: Eq>()
     ensures front { (cost : K → ℕ) (n m : ℕ) (past : List K) → n ≤ m →
         cached_within K.eq cost n past
