@@ -1,21 +1,11 @@
 //! Calls that are refused memory, and memory that a closed tenant gives back.
 use lru_tenants::{TenantAnswer, TenantCache, TenantCall, TenantError, run_tenants};
 use schnellru::Costed;
-use std::alloc::{AllocError, Global};
+use std::alloc::Global;
 use std::mem::size_of;
 use std::rc::Rc;
 use std::test::Fail;
 use test_helpers::Hog;
-
-// Takes all memory, and leaves memory for `requests` requests.
-fn hog_that_meets(alloc: Global, requests: usize) -> Result<Hog, AllocError> {
-    let sizes = vec![in alloc; 8192; requests]?;
-    let mut hog = Hog::new(alloc, sizes.as_slice())?;
-    for _ in 0..requests {
-        hog.release();
-    }
-    Ok(hog)
-}
 
 // A cache of these tenants from 1 on. The first one has pairs of the keys from 1 on.
 fn cache_of(alloc: Global, tenants: u64, pairs: u64) -> Result<TenantCache<u64, u64>, TenantError> {
@@ -48,7 +38,7 @@ fn each_request_is_refused(rt: HostRuntime) -> Result<(), Fail> {
             for requests in 0..8usize {
                 let (tenants, pairs) = if opens { (size, 0) } else { (1, size) };
                 let mut cache = cache_of(rt.alloc(), tenants, pairs)?;
-                let hog = hog_that_meets(rt.alloc(), requests)?;
+                let hog = Hog::but(rt.alloc(), requests)?;
                 let first = call(&mut cache, opens);
                 // If memory has no end, nothing is refused.
                 refused = refused.wrapping_add((first.is_err() || !hog.took_all()) as u32);
@@ -112,7 +102,7 @@ fn open_and_close(
 fn a_closed_tenant_gives_its_memory_back(rt: HostRuntime) -> Result<(), Fail> {
     let shared = Rc::new(rt.alloc(), 0u64)?;
     let mut cache = TenantCache::new(rt.alloc(), [1, 2, 3, 4], 16);
-    let hog = hog_that_meets(rt.alloc(), 4)?;
+    let hog = Hog::but(rt.alloc(), 4)?;
     let mut closed = 0u32;
     for _ in 0..1000u32 {
         let result = open_and_close(&mut cache, shared.clone()?, Share(shared.clone()?));

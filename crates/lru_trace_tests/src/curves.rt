@@ -1,6 +1,6 @@
 //! The curve of a trace, compared with maps that make its references.
 use lru_theory::misses_on_map;
-use lru_trace::{Curve, Progress, TraceEnd, TraceError, trace};
+use lru_trace::{Curve, TraceError};
 use std::test::Fail;
 
 #[test]
@@ -51,26 +51,5 @@ fn of_the_errors(rt: HostRuntime) -> Result<(), Fail> {
     ] {
         assert_eq!(rt; format!(in rt.alloc(); "{error}")?.as_str(), text);
     }
-    Ok(())
-}
-
-/// Two million and one empty lines: each is malformed, and each counts for the progress.
-#[test]
-fn of_the_progress(rt: HostRuntime) -> Result<(), Fail> {
-    let alloc = rt.alloc();
-    let mut input = vec![in alloc; b'1', b'\n']?;
-    input.resize(2_000_003, b'\n')?;
-    let mut report = Vec::new(alloc);
-    let mut shown = Vec::new(alloc);
-    let mut progress = Progress::new(alloc, Some(&mut shown));
-    let end = trace(alloc, &mut input.as_slice(), &mut report, &mut progress);
-    assert_eq!(rt; end, Ok(TraceEnd::Done));
-    drop(progress);
-    assert_eq!(rt;
-        shown.as_slice(),
-        b"1000000 lines\n2000000 lines\n".as_slice()
-    );
-    let malformed = b"references 0 keys 0 malformed 2000001\n";
-    assert!(rt; report.starts_with(malformed));
     Ok(())
 }

@@ -45,8 +45,9 @@ fn a_hasher_is_built_for_each_key_that_moves(rt: HostRuntime) -> Result<(), Fail
     assert!(rt; insert(&mut map, 1990)? && get(&mut map, 1991).is_some());
     assert!(rt; map.peek(&1992).is_some() && map.remove(&1993).is_some());
     assert!(rt; map.ensure_newest(1994, || 0)? && map.ensure_newest(1993, || 0)?);
+    assert!(rt; map.contains(&1994) && map.promote(&1994) && map.remove_entry(&1994).is_some());
     let made = map.ensure_newest_fallible(1995, || Ok::<u64, u64>(0));
-    assert_eq!(rt; (made, builds.get().wrapping_sub(before)), (Ok(true), 7));
+    assert_eq!(rt; (made, builds.get().wrapping_sub(before)), (Ok(true), 10));
     Ok(())
 }
 
@@ -94,7 +95,7 @@ fn new_map<'a>(
 }
 
 /// An insert of a new key queries the limiter once after it stored the pair, and once before if there are pairs. An
-/// insert of a key that is there queries once. A clear is reported after the values were dropped.
+/// insert of a key that is there queries once, as does a trim. A clear is reported after the values were dropped.
 #[test]
 fn the_limiter_is_asked_once(rt: HostRuntime) -> Result<(), Fail> {
     let (asked, lives, value) = (Cell::new(0), Cell::new(0), Rc::new(rt.alloc(), 0u64)?);
@@ -106,8 +107,10 @@ fn the_limiter_is_asked_once(rt: HostRuntime) -> Result<(), Fail> {
     let other = value.clone()?;
     assert!(rt; map.ensure_newest(1, move || other)? && map.remove(&2).is_some());
     assert_eq!(rt; asked.get(), 8);
+    map.trim();
     map.clear();
-    assert_eq!(rt; (lives.get(), asked.get()), (1, 8));
+    map.trim();
+    assert_eq!(rt; (lives.get(), asked.get()), (1, 9));
     Ok(())
 }
 

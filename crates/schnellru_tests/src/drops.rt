@@ -23,8 +23,9 @@ fn random_insert<'a, L: Insertion<Live<'a>, Live<'a>, Live<'a>>>(
     lives: &'a Lives,
 ) -> Result<(), AllocError> {
     let (key, value) = (lives.key(random.below(40)), lives.value(random.below(12)));
-    match random.below(7) {
+    match random.below(8) {
         0 => drop(map.insert(key, value)?),
+        7 => drop(map.insert_full(key, value, &mut |key, value| drop((key, value)))?),
         1 => drop(map.insert_with(key, value, &mut |key, value| drop((key, value)))?),
         2 => drop(map.get_or_insert(key, move || value)?.is_some()),
         3 => drop(
@@ -113,4 +114,27 @@ fn keys_and_values_are_dropped_once(rt: HostRuntime) -> Result<(), Fail> {
     expect_balance(&rt, Unlimited, &lives)?;
     expect_balance(&rt, UnlimitedCompact, &lives)?;
     expect_balance(&rt, Storing(ByLength::new(3)), &lives)
+}
+
+/// What a trim and another limiter evict is dropped, and so are a closure that is not called, and what a walk by value
+/// has left.
+#[test]
+fn what_trims_evict_is_dropped(rt: HostRuntime) -> Result<(), Fail> {
+    let lives = Lives::new();
+    let mut map = LruMap::new(rt.alloc(), ByLength::new(20), [1, 2, 3, 4], 16);
+    for n in 0..20u64 {
+        map.insert(lives.key(n), lives.value(n))?;
+    }
+    *map.limiter_mut() = ByLength::new(12);
+    map.trim();
+    assert_eq!(rt; (lives.keys.get(), lives.values.get()), (12, 12));
+    map.set_limiter(ByLength::new(5));
+    drop(map.remove_entry(&lives.key(19)));
+    assert_eq!(rt; (lives.keys.get(), lives.values.get()), (4, 4));
+    drop(map.into_iter().next());
+    let mut none: Map<ByLength> = LruMap::new(rt.alloc(), ByLength::new(1), [1, 2, 3, 4], 16);
+    let value = lives.value(0);
+    drop(none.pop_oldest_if(move |key, _| *key == value));
+    assert_eq!(rt; (lives.keys.get(), lives.values.get()), (0, 0));
+    Ok(())
 }

@@ -48,6 +48,16 @@ impl Hog {
         Ok(Hog { held, spare })
     }
 
+    /// Takes all memory but `blocks` blocks of 8,192 bytes, so that this number of small requests is met.
+    pub fn but(alloc: Global, blocks: usize) -> Result<Hog, AllocError> {
+        let sizes = vec![in alloc; 8192; blocks]?;
+        let mut hog = Hog::new(alloc, sizes.as_slice())?;
+        for _ in 0..blocks {
+            hog.release();
+        }
+        Ok(hog)
+    }
+
     /// Gives the next spare block back, so that one more request is met.
     pub fn release(&mut self) {
         drop(self.spare.pop());
