@@ -10,6 +10,7 @@ fn of_the_cache(rt: HostRuntime) -> Result<(), Fail> {
     assert_eq!(rt; cache.put(1, 7, 2), Ok(true));
     assert_eq!(rt; cache.cost(1), Ok(2));
     assert_eq!(rt; cache.open(1, 5), Err(TenantError::AlreadyOpen));
+    assert_eq!(rt; (cache.open(2, u64::MAX), cache.close(2)), (Ok(()), Ok(0)));
     assert_eq!(rt; (cache.len(), cache.close(1), cache.len()), (1, Ok(1), 0));
     Ok(())
 }

@@ -117,3 +117,23 @@ fn a_closed_tenant_gives_its_memory_back(rt: HostRuntime) -> Result<(), Fail> {
     );
     Ok(())
 }
+
+// A list that finds no memory for its answers is freed: the one block that is left serves each of a hundred lists.
+#[test]
+fn a_list_without_answers_is_freed(rt: HostRuntime) -> Result<(), Fail> {
+    let alloc = rt.alloc();
+    let mut cache: TenantCache<u64, u64> = TenantCache::new(alloc, [1, 2, 3, 4], 16);
+    let mut hog = Hog::new(alloc, &[size_of::<TenantCall<u64, u64>>()])?;
+    hog.release();
+    let (mut lists, mut made) = (0u32, 0u32);
+    for _ in 0..100u32 {
+        if let Ok(calls) = vec![in alloc; TenantCall::Cost(1)] {
+            lists = lists.wrapping_add(1);
+            made = made.wrapping_add(run_tenants(alloc, &mut cache, calls).is_ok() as u32);
+        }
+    }
+    let all = hog.took_all();
+    drop(hog);
+    assert!(rt; lists == 100 && (made == 0 || !all));
+    Ok(())
+}

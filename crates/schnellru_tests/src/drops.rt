@@ -133,8 +133,9 @@ fn what_trims_evict_is_dropped(rt: HostRuntime) -> Result<(), Fail> {
     assert_eq!(rt; (lives.keys.get(), lives.values.get()), (4, 4));
     drop(map.into_iter().next());
     let mut none: Map<ByLength> = LruMap::new(rt.alloc(), ByLength::new(1), [1, 2, 3, 4], 16);
-    let value = lives.value(0);
+    let (value, other) = (lives.value(0), lives.value(0));
     drop(none.pop_oldest_if(move |key, _| *key == value));
+    drop(none.try_pop_oldest(move |key, _| if *key == other { Ok(()) } else { Err(0u8) }));
     assert_eq!(rt; (lives.keys.get(), lives.values.get()), (0, 0));
     Ok(())
 }
