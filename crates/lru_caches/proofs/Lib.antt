@@ -1,2 +1,3 @@
 pub mod PageLists
 pub mod Blocks
+pub mod StoredAnswers
