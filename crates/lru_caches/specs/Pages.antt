@@ -1,7 +1,8 @@
 -- A page cache: which blocks it shows.
 --     blocks device n     the block of this number on the device
-use Rattle.std.specs.Prelude.{◌≡◌, ◌≢◌, ℕ, List, nat_eq, Some, is_some, IsTrue, unwrap_or, option_map}
-use Rattle.std.specs.Map.{lookup}
+use Rattle.std.specs.Prelude.{◌≡◌, ◌≢◌, ℕ, List, ◌∷◌, take, nat_eq, Some, is_some, IsTrue, unwrap_or, option_map}
+use Rattle.std.specs.Map.{lookup, keys_of}
+use Rattle.schnellru.specs.Lists.{without}
 use Rattle.lru_caches.specs.declared.page_cache.pages.Page.{Page}
 
 -- what a contract sees of a cache
@@ -31,6 +32,15 @@ module _ {B D : Type 0} (blocks : D → ℕ → B) where
   abbrev pub AreClean : ℕ → List (ℕ × Page B) → D → Type 0
   AreClean round pages device = (n : ℕ) (page : Page B) → lookup (nat_eq n) pages ≡ Some page →
       page.round ≢ round → page.block ≡ blocks device n
+
+module _ {B D : Type 0} where
+  -- the numbers of the cached pages, newest first
+  abbrev pub numbers : Cached B D → List ℕ
+  numbers cache = keys_of cache.pages
+
+  -- these after a use of a page: its number, and then the newest others, up to the capacity
+  abbrev pub numbers_after : ℕ → Cached B D → List ℕ
+  numbers_after n cache = take cache.capacity (n ∷ keys_of (without (nat_eq n) cache.pages))
 
 -- the cache has a page of this number
 abbrev pub IsCached : {B D : Type 0} → ℕ → Cached B D → Type 0

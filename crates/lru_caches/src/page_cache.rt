@@ -1,6 +1,6 @@
 //! `PageCache`. A contract sees a cache as its pages, newest first, and its device.
 ghost use Rattle.std.specs.Prelude.{◌≡◌, ◌≢◌, ◌≤◌, ℕ, [], length, max, IsTrue, ◌↔◌, IfOk, IfErr, OnOk, OnErr, IsOk};
-ghost use Rattle.lru_caches.specs.Pages.{shown, ShowsTheSame, IsCached};
+ghost use Rattle.lru_caches.specs.Pages.{shown, ShowsTheSame, IsCached, numbers, numbers_after};
 
 use crate::device::BlockDevice;
 use crate::page_cache::pages::{
@@ -23,7 +23,7 @@ pub enum PageError<E> {
     /// The device failed, with this error.
     #[error("the device failed")]
     Device(E),
-    /// Out of memory for one page more.
+    /// Out of memory for one page more, or there are 1,879,048,192 pages, the most that the table links.
     #[error("no memory")]
     Memory,
 }
@@ -34,9 +34,9 @@ pub enum PageError<E> {
 /// then, and goes to the device when it is evicted or flushed. So the cache shows a block at each number, which is the
 /// cached page, or else the block of the device.
 ///
-/// No call loses a page: whichever call of the device fails, the cache shows the same blocks as before. A cache cannot be
-/// dropped either, because its dirty pages would be lost: the check rejects code that lets a cache go. Call `close`, or
-/// `discard`.
+/// No call loses a page: whichever call of the device fails, the cache shows the same blocks as before. A cache cannot
+/// be dropped either, because its dirty pages would be lost: the check rejects code that lets a cache go. Call `close`,
+/// or `discard`.
 ///
 /// ```
 /// let mut cache = PageCache::new(alloc, disk, 2);
@@ -72,8 +72,9 @@ impl<B: Copy, D: BlockDevice<B>> Model for PageCache<B, D> {
 impl<B: Copy, D: BlockDevice<B>> PageCache<B, D> {
     /// Makes an empty cache of a device, for at most `capacity` pages, or for one page if that is 0.
     ///
-    /// The hasher of block numbers has known seeds. So whoever may choose the numbers can choose some that collide. Cost:
-    /// `O(1)`, and no memory.
+    /// The hasher of block numbers has known seeds. So whoever chooses the numbers can choose some that collide.
+    ///
+    /// Cost: `O(1)`, and no memory.
     ///
     /// ```
     /// let mut cache = PageCache::new(alloc, disk, 2);
@@ -123,7 +124,7 @@ impl<B: Copy, D: BlockDevice<B>> PageCache<B, D> {
     /// Cost: `O(1)`.
     ///
     /// ```
-    /// assert_eq!(rt; cache.device().blocks, [10, 11, 12]);
+    /// assert_eq!(rt; cache.device().blocks, [10, 11, 12, 13]);
     /// ```
     pub fn device(&self) -> &D
         ensures { result.now ≡ self.now.device }
@@ -133,8 +134,8 @@ impl<B: Copy, D: BlockDevice<B>> PageCache<B, D> {
 
     /// Returns a block, and makes its page the newest.
     ///
-    /// A cached page is returned without the device. Otherwise the block is read from the device and cached. If the cache
-    /// is full, the oldest page is evicted for it, after the page was written to the device if it is dirty.
+    /// A cached page is returned without the device. Otherwise the block is read from the device and cached. If the
+    /// cache is full, the oldest page is evicted for it, after that page was written to the device if it is dirty.
     ///
     /// ```
     /// assert_eq!(rt; cache.read(1), Ok(20));
@@ -144,13 +145,15 @@ impl<B: Copy, D: BlockDevice<B>> PageCache<B, D> {
     ///
     /// # Errors
     ///
-    /// `Device`: the read failed, or the write of the oldest page, which stays cached then. `Memory`: out of memory for one
-    /// page more. No error comes if the page is cached.
+    /// `Device`: the read failed, or the write of the oldest page. `Memory`: out of memory for one page more; the oldest
+    /// page may have been evicted. There is no error if the page is cached.
     pub fn read(&mut self, n: u64) -> Result<B, PageError<D::Error>>
         ensures block { IfOk result (λ block. block ≡ shown D.blocks self.old n) }
         ensures keeps { ShowsTheSame D.blocks self.old self.new }
         ensures cached { OnOk result (IsCached n self.new) }
-        ensures hit { IsCached n self.old → IsOk result × (self.new.device ≡ self.old.device) }
+        ensures order { OnOk result (numbers self.new ≡ numbers_after n self.old) }
+        ensures hit { IsCached n self.old → IsOk result }
+        ensures untouched { IsCached n self.old → self.new.device ≡ self.old.device }
         ensures capacity { self.new.capacity ≡ self.old.capacity }
     {
         if let Some(block) = cached_block(&mut self.map, n) {
@@ -180,7 +183,9 @@ impl<B: Copy, D: BlockDevice<B>> PageCache<B, D> {
         ensures others { (m : ℕ) → m ≢ n → shown D.blocks self.new m ≡ shown D.blocks self.old m }
         ensures failed { OnErr result (ShowsTheSame D.blocks self.old self.new) }
         ensures cached { OnOk result (IsCached n self.new) }
-        ensures hit { IsCached n self.old → IsOk result × (self.new.device ≡ self.old.device) }
+        ensures order { OnOk result (numbers self.new ≡ numbers_after n self.old) }
+        ensures hit { IsCached n self.old → IsOk result }
+        ensures untouched { IsCached n self.old → self.new.device ≡ self.old.device }
         ensures capacity { self.new.capacity ≡ self.old.capacity }
     {
         let page = Page {
@@ -199,7 +204,7 @@ impl<B: Copy, D: BlockDevice<B>> PageCache<B, D> {
     ///
     /// ```
     /// assert_eq!(rt; cache.flush(), Ok(()));
-    /// assert_eq!(rt; cache.device().blocks, [10, 20, 12]);
+    /// assert_eq!(rt; cache.device().blocks, [10, 20, 12, 13]);
     /// ```
     ///
     /// Cost: `O(len)`, and a write of the device for each dirty page.
@@ -223,7 +228,7 @@ impl<B: Copy, D: BlockDevice<B>> PageCache<B, D> {
     ///
     /// ```
     /// match cache.close() {
-    ///     Ok(disk) => assert_eq!(rt; disk.blocks, [10, 20, 12]),
+    ///     Ok(disk) => assert_eq!(rt; disk.blocks, [10, 20, 12, 13]),
     ///     Err(unclosed) => cache = unclosed.cache,
     /// }
     /// ```

@@ -1,7 +1,8 @@
 //! The steps of a page cache, over its map of pages and its device.
 ghost use Rattle.std.specs.Prelude.{◌≡◌, ◌≢◌, ◌≤◌, ◌<◌, ◌-◌, ℕ, ◌∷◌, length, nat_eq, None, Some, option_map, is_some};
-ghost use Rattle.std.specs.Prelude.{true, false, OnOk, OnErr};
-ghost use Rattle.std.specs.Map.{lookup};
+ghost use Rattle.std.specs.Prelude.{true, false, take, IsSome, OnOk, OnErr};
+ghost use Rattle.std.specs.Map.{lookup, keys_of};
+ghost use Rattle.schnellru.specs.Lists.{without};
 ghost use Rattle.lru_caches.specs.Pages.{block_at, AreClean};
 
 use crate::device::BlockDevice;
@@ -22,6 +23,8 @@ pub(super) fn cached_block<B: Copy>(map: &mut Pages<B>, n: u64) -> Option<B>
     ensures block { result ≡ option_map (λ page. page.block) (lookup (nat_eq n) map.old.pairs) }
     ensures same { (m : ℕ) → lookup (nat_eq m) map.new.pairs ≡ lookup (nat_eq m) map.old.pairs }
     ensures len { length map.new.pairs ≡ length map.old.pairs }
+    ensures used { IsSome result → keys_of map.new.pairs ≡ n ∷ keys_of (without (nat_eq n) map.old.pairs) }
+    ensures stays { result ≡ None → map.new.pairs ≡ map.old.pairs }
 {
     match map.get(&n) {
         Some(page) => Some(page.block),
@@ -36,6 +39,7 @@ pub(super) fn overwrite<B: Copy>(map: &mut Pages<B>, n: u64, page: Page<B>) -> b
     ensures others { (m : ℕ) → m ≢ n → lookup (nat_eq m) map.new.pairs ≡ lookup (nat_eq m) map.old.pairs }
     ensures stays { result ≡ false → map.new.pairs ≡ map.old.pairs }
     ensures len { length map.new.pairs ≡ length map.old.pairs }
+    ensures used { result ≡ true → keys_of map.new.pairs ≡ n ∷ keys_of (without (nat_eq n) map.old.pairs) }
 {
     match map.get(&n) {
         Some(place) => {
@@ -62,6 +66,7 @@ pub(super) fn make_room<B: Copy, D: BlockDevice<B>>(
     ensures absent { (n : ℕ) → lookup (nat_eq n) map.old.pairs ≡ None → lookup (nat_eq n) map.new.pairs ≡ None }
     ensures within { length map.new.pairs ≤ capacity }
     ensures room { OnOk result (length map.new.pairs < capacity) }
+    ensures newest { OnOk result (map.new.pairs ≡ take (capacity - 1) map.old.pairs) }
 {
     if map.len() < capacity {
         return Ok(());
@@ -83,6 +88,7 @@ fn evict_oldest<B: Copy, D: BlockDevice<B>>(
     ensures absent { (n : ℕ) → lookup (nat_eq n) map.old.pairs ≡ None → lookup (nat_eq n) map.new.pairs ≡ None }
     ensures at_most { length map.new.pairs ≤ length map.old.pairs }
     ensures left { OnOk result (length map.new.pairs ≡ length map.old.pairs - 1) }
+    ensures newest { OnOk result (map.new.pairs ≡ take (length map.old.pairs - 1) map.old.pairs) }
 {
     // Nothing at run time: it tells the proof that no two pages have one number.
     let _ = map.len();

@@ -3,6 +3,7 @@ use Rattle.std.specs.Map.{lookup}
 use Rattle.std.specs.Map.Iter.{deref_pair}
 use Rattle.schnellru.specs.Lists.{without_last}
 use Rattle.schnellru.proofs.CallerLemmas.{length-without_last}
+use Rattle.lru_caches.proofs.PageOrder.{without_last-take}
 use Rattle.lru_caches.proofs.PageLists.{ends_with, no_last, last_found, absent_left}
 use Rattle.lru_caches.proofs.Blocks.{shown-written_back, clean-written_back, shown-removed, clean-removed}
 use Rattle.lru_caches.proofs.page_cache.pages.evict_oldest.Goals as goal
@@ -60,9 +61,10 @@ returns-clause-shows g c = λ m.
     let is = ends_with pages (n, page) (sym c.in-Some.ensures) in
     let there = last_found pages n page c.len.ensures.map.distinct (sym c.in-Some.ensures) in
     let device = c.write_back.new.device in
+    let others = c.write_back.ensures.others in
     shown-removed g.D.BlockDevice.blocks pages c.pop_oldest.new.self.pairs device n page
     (is ∙ ap (λ l. l ++ (n, page) ∷ []) (sym left)) c.in_ok-write_back.ensures.written m
-    ∙ shown-written_back g.D.BlockDevice.blocks pages c.args.device.now device n page there c.write_back.ensures.others m
+    ∙ shown-written_back g.D.BlockDevice.blocks pages c.args.device.now device n page there others m
 
 pub returns-clause-absent : goal.returns-clause-absent
 returns-clause-absent g c = λ m none.
@@ -76,8 +78,19 @@ returns-clause-absent g c = λ m none.
 
 pub returns-clause-at_most : goal.returns-clause-at_most
 returns-clause-at_most g c =
-    omega (arith, ap (λ st. length st.pairs) c.pop_oldest.ensures.step.state.is, length-without_last c.args.map.now.pairs)
+    let is = ap (λ st. length st.pairs) c.pop_oldest.ensures.step.state.is in
+    omega (arith, is, length-without_last c.args.map.now.pairs)
 
 pub returns-clause-left : goal.returns-clause-left
 returns-clause-left g c =
     ap (λ st. length st.pairs) c.pop_oldest.ensures.step.state.is ∙ length-without_last c.args.map.now.pairs
+
+pub returns-clause-newest : goal.returns-clause-newest
+returns-clause-newest g c =
+    ap (λ st. st.pairs) c.pop_oldest.ensures.step.state.is ∙ without_last-take c.args.map.now.pairs
+
+pub returns-in_default-clause-newest : goal.returns-in_default-clause-newest
+returns-in_default-clause-newest g c =
+    let pages = c.args.map.now.pairs in
+    let none = sym c.peek_oldest.ensures ∙ ap (option_map deref_pair) c.in_default.is in
+    no_last pages none ∙ without_last-take pages
