@@ -1,0 +1,4 @@
+pub mod PageLists
+pub mod PageOrder
+pub mod Blocks
+pub mod StoredAnswers

@@ -1,0 +1,160 @@
+-- Look-ups of numbers in lists of pairs, after a pair was moved, written or removed.
+use Rattle.std.proofs.Common.{◌≡◌, ◌≢◌, ℕ, suc, Bool, true, false, cond, nat_eq, List, [], ◌∷◌, ◌++◌, length, Option}
+use Rattle.std.proofs.Common.{Some, None, refl, sym, ap, ◌∙◌, subst, arith}
+use Rattle.std.proofs.lemmas.Bool.{eqb-true, eqb-false}
+use Rattle.std.proofs.lemmas.Map.{length-set_value}
+use Rattle.std.proofs.lemmas.Option.{none-some}
+use Rattle.std.proofs.lemmas.Cmp.{nat_eq_equiv}
+use Rattle.std.proofs.lemmas.List.Elements.{Contains-push}
+use Rattle.std.proofs.lemmas.Map.Views.{lookup-from_Contains}
+use Rattle.std.specs.List.{Contains, IsDistinct}
+use Rattle.std.specs.Map.{lookup, set_value, keys_of}
+use Rattle.schnellru.specs.Lists.{lookup_entry, without, after, front, last, without_last}
+use Rattle.schnellru.proofs.CallerLemmas.{found_named}
+
+-- a test of two numbers, as they are equal or not
+pub differ : (m n : ℕ) → m ≢ n → nat_eq m n ≡ false
+differ m n apart = go (nat_eq m n) refl
+  where
+    go : (b : Bool) → nat_eq m n ≡ b → b ≡ false
+    go true e = absurd (apart (eqb-true m n e))
+    go false e = refl
+
+module _ {X : Type 0} where
+  -- a look-up that finds no value finds no pair
+  pub no_entry : (test : ℕ → Bool) (xs : List (ℕ × X)) → lookup test xs ≡ None → lookup_entry test xs ≡ None
+  no_entry test [] none = refl
+  no_entry test (x ∷ xs) none = go (test x.0) none (no_entry test xs)
+    where
+      go : (b : Bool) → cond b (Some x.1) (lookup test xs) ≡ None
+          → (lookup test xs ≡ None → lookup_entry test xs ≡ None) → cond b (Some x) (lookup_entry test xs) ≡ None
+      go true e later = absurd (none-some x.1 (sym e))
+      go false e later = later e
+
+  -- other numbers are found as before after the pair of n was removed,
+  others_without : (m n : ℕ) → m ≢ n → (xs : List (ℕ × X))
+      → lookup (nat_eq m) (without (nat_eq n) xs) ≡ lookup (nat_eq m) xs
+  others_without m n apart [] = refl
+  others_without m n apart (x ∷ xs) = go (nat_eq n x.0) refl (others_without m n apart xs)
+    where
+      go : (b : Bool) → nat_eq n x.0 ≡ b → lookup (nat_eq m) (without (nat_eq n) xs) ≡ lookup (nat_eq m) xs
+          → lookup (nat_eq m) (cond b xs (x ∷ without (nat_eq n) xs)) ≡ lookup (nat_eq m) (x ∷ xs)
+      go true e later =
+          let other = subst (λ k. nat_eq m k ≡ false) (eqb-true n x.0 e) (differ m n apart) in
+          ap (λ b. cond b (Some x.1) (lookup (nat_eq m) xs)) (sym other)
+      go false e later = ap (cond (nat_eq m x.0) (Some x.1)) later
+
+  -- moved to the front
+  others_front : (m n : ℕ) → m ≢ n → (xs : List (ℕ × X))
+      → lookup (nat_eq m) (front (nat_eq n) xs) ≡ lookup (nat_eq m) xs
+  others_front m n apart xs = go (lookup_entry (nat_eq n) xs) refl
+    where
+      go : (o : Option (ℕ × X)) → lookup_entry (nat_eq n) xs ≡ o
+          → lookup (nat_eq m) (after o (without (nat_eq n) xs)) ≡ lookup (nat_eq m) xs
+      go None e = others_without m n apart xs
+      go (Some p) e =
+          let named = eqb-true n p.0 (found_named (nat_eq n) xs p e) in
+          let other = subst (λ k. nat_eq m k ≡ false) named (differ m n apart) in
+          ap (λ b. cond b (Some p.1) (lookup (nat_eq m) (without (nat_eq n) xs))) other
+          ∙ others_without m n apart xs
+
+  -- or written
+  others_set : (m n : ℕ) → m ≢ n → (xs : List (ℕ × X)) (w : X)
+      → lookup (nat_eq m) (set_value (nat_eq n) xs w) ≡ lookup (nat_eq m) xs
+  others_set m n apart [] w = refl
+  others_set m n apart (x ∷ xs) w = go (nat_eq n x.0) refl (others_set m n apart xs w)
+    where
+      go : (b : Bool) → nat_eq n x.0 ≡ b → lookup (nat_eq m) (set_value (nat_eq n) xs w) ≡ lookup (nat_eq m) xs
+          → lookup (nat_eq m) (cond b ((x.0, w) ∷ xs) (x ∷ set_value (nat_eq n) xs w)) ≡ lookup (nat_eq m) (x ∷ xs)
+      go true e later =
+          let other = subst (λ k. nat_eq m k ≡ false) (eqb-true n x.0 e) (differ m n apart) in
+          ap (λ b. cond b (Some w) (lookup (nat_eq m) xs)) other
+          ∙ ap (λ b. cond b (Some x.1) (lookup (nat_eq m) xs)) (sym other)
+      go false e later = ap (cond (nat_eq m x.0) (Some x.1)) later
+
+  pub others_written : (m n : ℕ) → m ≢ n → (xs : List (ℕ × X)) (w : X)
+      → lookup (nat_eq m) (set_value (nat_eq n) (front (nat_eq n) xs) w) ≡ lookup (nat_eq m) xs
+  others_written m n apart xs w = others_set m n apart (front (nat_eq n) xs) w ∙ others_front m n apart xs
+
+  -- such a write leaves the number of pairs
+  length-after : (o : Option (ℕ × X)) (x : ℕ × X) (xs : List (ℕ × X))
+      → length (after o (x ∷ xs)) ≡ suc (length (after o xs))
+  length-after None x xs = refl
+  length-after (Some p) x xs = refl
+
+  length-front : (test : ℕ → Bool) (xs : List (ℕ × X)) → length (front test xs) ≡ length xs
+  length-front test [] = refl
+  length-front test (x ∷ xs) = go (test x.0) (length-front test xs)
+    where
+      go : (b : Bool) → length (front test xs) ≡ length xs
+          → length (after (cond b (Some x) (lookup_entry test xs)) (cond b xs (x ∷ without test xs))) ≡ suc (length xs)
+      go true later = refl
+      go false later = length-after (lookup_entry test xs) x (without test xs) ∙ ap suc later
+
+  pub length-written : (test : ℕ → Bool) (xs : List (ℕ × X)) (w : X)
+      → length (set_value test (front test xs) w) ≡ length xs
+  length-written test xs w = length-set_value test (front test xs) w ∙ length-front test xs
+
+  -- a list ends with its last pair
+  pub ends_with : (xs : List (ℕ × X)) (x : ℕ × X) → last xs ≡ Some x → xs ≡ without_last xs ++ x ∷ []
+  ends_with [] x e = absurd (none-some x e)
+  ends_with (y ∷ []) x e = let same : y ≡ x = grind arith in ap (λ z. z ∷ []) same
+  ends_with (y ∷ z ∷ zs) x e = ap (λ l. y ∷ l) (ends_with (z ∷ zs) x e)
+
+  -- which is found, if no two pairs have one number
+  pub last_found : (xs : List (ℕ × X)) (n : ℕ) (v : X) → IsDistinct nat_eq (keys_of xs) → last xs ≡ Some (n, v)
+      → lookup (nat_eq n) xs ≡ Some v
+  last_found xs n v distinct e =
+      let among = subst (λ l. Contains l (n, v)) (sym (ends_with xs (n, v) e))
+      (Contains-push (without_last xs) (n, v)) in
+      lookup-from_Contains nat_eq_equiv n v xs distinct among
+
+  -- a list without a last pair is empty
+  pub no_last : (xs : List (ℕ × X)) → last xs ≡ None → xs ≡ without_last xs
+  no_last [] e = refl
+  no_last (y ∷ []) e = absurd (none-some y (sym e))
+  no_last (y ∷ z ∷ zs) e = ap (λ l. y ∷ l) (no_last (z ∷ zs) e)
+
+  -- what is found is found in a longer list
+  pub found_longer : (test : ℕ → Bool) (xs rest : List (ℕ × X)) (v : X) → lookup test xs ≡ Some v
+      → lookup test (xs ++ rest) ≡ Some v
+  found_longer test [] rest v e = absurd (none-some v e)
+  found_longer test (x ∷ xs) rest v e = go (test x.0) e (found_longer test xs rest v)
+    where
+      go : (b : Bool) → cond b (Some x.1) (lookup test xs) ≡ Some v
+          → (lookup test xs ≡ Some v → lookup test (xs ++ rest) ≡ Some v)
+          → cond b (Some x.1) (lookup test (xs ++ rest)) ≡ Some v
+      go true e later = e
+      go false e later = later e
+
+  -- what is not found in a list is found as in the rest
+  pub found_behind : (test : ℕ → Bool) (xs rest : List (ℕ × X)) → lookup test xs ≡ None
+      → lookup test (xs ++ rest) ≡ lookup test rest
+  found_behind test [] rest e = refl
+  found_behind test (x ∷ xs) rest e = go (test x.0) e (found_behind test xs rest)
+    where
+      go : (b : Bool) → cond b (Some x.1) (lookup test xs) ≡ None
+          → (lookup test xs ≡ None → lookup test (xs ++ rest) ≡ lookup test rest)
+          → cond b (Some x.1) (lookup test (xs ++ rest)) ≡ lookup test rest
+      go true e later = absurd (none-some x.1 (sym e))
+      go false e later = later e
+
+  -- a pair that is moved to the front, and written with the value that it has, is found as before
+  pub read_same : (n : ℕ) (xs : List (ℕ × X)) (v : X) → lookup (nat_eq n) xs ≡ Some v
+      → lookup (nat_eq n) (set_value (nat_eq n) (front (nat_eq n) xs) v) ≡ Some v
+      → (m : ℕ) → lookup (nat_eq m) (set_value (nat_eq n) (front (nat_eq n) xs) v) ≡ lookup (nat_eq m) xs
+  read_same n xs v was is m = go (nat_eq m n) refl
+    where
+      go : (b : Bool) → nat_eq m n ≡ b
+          → lookup (nat_eq m) (set_value (nat_eq n) (front (nat_eq n) xs) v) ≡ lookup (nat_eq m) xs
+      go true e = subst (λ k. lookup (nat_eq k) (set_value (nat_eq n) (front (nat_eq n) xs) v) ≡ lookup (nat_eq k) xs)
+          (sym (eqb-true m n e)) (is ∙ sym was)
+      go false e = others_written m n (eqb-false m n e) xs v
+
+  -- what is not found is not found in a list without the last pair
+  pub absent_left : (test : ℕ → Bool) (xs rest : List (ℕ × X)) → lookup test (xs ++ rest) ≡ None → lookup test xs ≡ None
+  absent_left test xs rest none = go (lookup test xs) refl
+    where
+      go : (o : Option X) → lookup test xs ≡ o → o ≡ None
+      go None e = refl
+      go (Some v) e = absurd (none-some v (sym none ∙ found_longer test xs rest v e))

@@ -1,0 +1,19 @@
+use Rattle.std.proofs.Common.{nat_eq, sym}
+use Rattle.schnellru.proofs.CallerLemmas.{written-found}
+use Rattle.lru_caches.proofs.PageOrder.{keys-written}
+use Rattle.lru_caches.proofs.PageLists.{others_written, length-written}
+use Rattle.lru_caches.proofs.page_cache.pages.overwrite.Goals as goal
+
+pub returns-in-Some-clause-written : goal.returns-in-Some-clause-written
+returns-in-Some-clause-written g c = λ _.
+    written-found (nat_eq c.args.n) c.args.map.now c.in-Some.place.now c.args.page (sym c.in-Some.ensures.value)
+
+pub returns-in-Some-clause-others : goal.returns-in-Some-clause-others
+returns-in-Some-clause-others g c = λ m apart. others_written m c.args.n apart c.args.map.now.pairs c.args.page
+
+pub returns-in-Some-clause-len : goal.returns-in-Some-clause-len
+returns-in-Some-clause-len g c = length-written (nat_eq c.args.n) c.args.map.now.pairs c.args.page
+
+pub returns-in-Some-clause-used : goal.returns-in-Some-clause-used
+returns-in-Some-clause-used g c = λ _.
+    keys-written c.args.n c.args.map.now.pairs c.in-Some.place.now c.args.page (sym c.in-Some.ensures.value)

@@ -1,0 +1,39 @@
+//! What a device is: numbered blocks that are read and written one at a time.
+ghost use Rattle.std.specs.Prelude.{◌≡◌, ◌≢◌, ℕ, IfOk, OnOk};
+
+/// A device of numbered blocks, such as a disk or a file. Any call may fail.
+///
+/// The impl defines `blocks`, the block that a read of each number returns, and the prover checks that its code reads
+/// and writes these. If a device lacks a number, its calls fail there, and its block there is any value.
+///
+/// ```
+/// let mut disk = Disk { blocks: [10, 11, 12, 13], calls_left: &Cell::new(2) };
+/// assert_eq!(rt; disk.write(1, &20), Ok(()));
+/// assert_eq!(rt; disk.read(1), Ok(20));
+/// assert_eq!(rt; disk.read(1), Err(DiskError));
+/// ```
+pub trait BlockDevice<B> {
+    /// Why a call fails.
+    type Error;
+
+    /// The block of each number.
+    ghost blocks: { Self → ℕ → B };
+
+    /// Returns a block.
+    ///
+    /// # Errors
+    ///
+    /// The device failed. No block has changed.
+    fn read(&mut self, n: u64) -> Result<B, Self::Error>
+        ensures block { IfOk result (λ block. block ≡ blocks self.old n) }
+        ensures keeps { (m : ℕ) → blocks self.new m ≡ blocks self.old m };
+
+    /// Replaces a block.
+    ///
+    /// # Errors
+    ///
+    /// The device failed. That block may be anything then, and no other block has changed.
+    fn write(&mut self, n: u64, block: &B) -> Result<(), Self::Error>
+        ensures written { OnOk result (blocks self.new n ≡ block.now) }
+        ensures others { (m : ℕ) → m ≢ n → blocks self.new m ≡ blocks self.old m };
+}

@@ -1,0 +1,113 @@
+//! `Memo`. A contract sees a memo as its stored answers and its function.
+ghost use Rattle.std.specs.Prelude.{◌≡◌, [], length, IfSome};
+ghost use Rattle.std.specs.Map.{lookup};
+ghost use Rattle.schnellru.specs.Theorems.{KeepsValues};
+ghost use Rattle.lru_caches.specs.Answers.{IsAnswer, AreAnswers};
+
+use schnellru::{Insertion, LruMap, RandomState, laws};
+use std::alloc::Global;
+use std::hash::Hash;
+use std::marker::Model;
+
+/// A function that remembers its newest results, as many as a limiter lets it.
+///
+/// ```
+/// let mut squares = Memo::new(alloc, ByLength::new(100), |n: u64| n.wrapping_mul(n));
+/// assert_eq!(rt; (squares.answer(3), squares.answer(3), squares.len()), (9, 9, 1));
+/// ```
+#[derive(Drop)]
+pub struct Memo<K: Copy + Eq + Hash, V: Copy, F, L: Insertion<K, V, K>> {
+    map: LruMap<K, V, L>,
+    function: F,
+}
+
+impl<K: Copy + Eq + Hash, V: Copy, F, L: Insertion<K, V, K>> Model for Memo<K, V, F, L> {
+    ghost use Rattle.schnellru.specs.Theorems.{KeepsValues};
+    ghost use Rattle.lru_caches.specs.Answers.{Remembered};
+
+    ghost Value = { Remembered K V F };
+
+    ghost view = { λ m. record { known = m.map.pairs; function = m.function } };
+
+    ghost invariant = { λ m. KeepsValues L.offers };
+}
+
+impl<K: Copy + Eq + Hash, V: Copy, F: Fn(K) -> V, L: Insertion<K, V, K>> Memo<K, V, F, L> {
+    /// Makes a memo of a function, with no results yet.
+    ///
+    /// The limiter has to store values as they come, as all limiters of `schnellru` do. The hasher of keys has known
+    /// seeds. Cost: `O(1)`, and no memory.
+    ///
+    /// ```
+    /// let mut squares = Memo::new(alloc, ByLength::new(100), |n: u64| n.wrapping_mul(n));
+    /// ```
+    pub fn new(alloc: Global, limiter: L, function: F) -> Self
+        requires { KeepsValues L.offers }
+        ensures empty { result.known ≡ [] }
+        ensures known { AreAnswers K.eq (F.post result.function) result.known }
+        ensures function { result.function ≡ function }
+    {
+        Memo {
+            map: LruMap::with_limiter(alloc, limiter),
+            function,
+        }
+    }
+
+    /// Returns what the function returns at a key: the stored result, or else that of a call, which is stored.
+    ///
+    /// If the memo runs out of memory or its limiter rejects the result, the result is not stored, and returned all the
+    /// same. Of keys that are equal, but that the function tells apart, each may get the result of another.
+    ///
+    /// A caller proves the clauses `callable` and `known` from what `new`, or the call before, ensures.
+    ///
+    /// ```
+    /// assert_eq!(rt; squares.answer(3), 9);
+    /// ```
+    ///
+    /// Cost: that of a get, and if the result is not stored, of a call of the function and an insert.
+    pub fn answer(&mut self, key: K) -> V
+        requires callable { F.IsAlwaysCallable self.old.function }
+        requires known { AreAnswers K.eq (F.post self.old.function) self.old.known }
+        ensures answer { IsAnswer K.eq (F.post self.old.function) key result }
+        ensures stored { IfSome (lookup (K.eq key) self.old.known) (λ value. result ≡ value) }
+        ensures known { AreAnswers K.eq (F.post self.new.function) self.new.known }
+        ensures function { self.new.function ≡ self.old.function }
+    {
+        remembered(&mut self.map, &self.function, key)
+    }
+
+    /// Returns how many results are stored.
+    ///
+    /// Cost: `O(1)`.
+    ///
+    /// ```
+    /// assert_eq!(rt; squares.len(), 1);
+    /// ```
+    pub fn len(&self) -> usize
+        ensures { result ≡ length self.now.known }
+    {
+        self.map.len()
+    }
+}
+
+// Returns the stored answer at a key, or else stores what the function returns.
+fn remembered<K: Copy + Eq + Hash, V: Copy, F: Fn(K) -> V, L: Insertion<K, V, K>>(
+    map: &mut LruMap<K, V, L>,
+    function: &F,
+    key: K,
+) -> V
+    requires callable { F.IsAlwaysCallable function.now }
+    requires keeps { KeepsValues L.offers }
+    requires known { AreAnswers K.eq (F.post function.now) map.old.pairs }
+    ensures answer { IsAnswer K.eq (F.post function.now) key result }
+    ensures stored { IfSome (lookup (K.eq key) map.old.pairs) (λ value. result ≡ value) }
+    ensures known { AreAnswers K.eq (F.post function.now) map.new.pairs }
+{
+    laws::inserts_give_up_the_oldest::<K, V, K, L, RandomState>();
+    if let Some(value) = map.get(&key) {
+        return *value;
+    }
+    let value = function(key);
+    let _ = map.insert(key, value);
+    value
+}

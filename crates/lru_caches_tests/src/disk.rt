@@ -1,0 +1,54 @@
+//! A device in memory that fails.
+ghost use Rattle.std.specs.Prelude.{slice_index};
+
+use lru_caches::BlockDevice;
+use std::cell::Cell;
+
+/// The disk lacks the block, or does not work.
+#[derive(Clone, Copy, Debug, PartialEq)]
+pub struct DiskError;
+
+/// A disk of four blocks that works for a number of calls. A write that fails leaves 99 in its block.
+#[derive(Drop)]
+pub struct Disk<'a> {
+    pub blocks: [u64; 4],
+    pub calls_left: &'a Cell<u64>,
+}
+
+impl Disk<'_> {
+    // Counts a call, and returns whether the disk works.
+    fn works(&self) -> bool {
+        match self.calls_left.get().checked_sub(1) {
+            Some(left) => {
+                self.calls_left.set(left);
+                true
+            }
+            None => false,
+        }
+    }
+}
+
+impl BlockDevice<u64> for Disk<'_> {
+    type Error = DiskError;
+
+    ghost blocks = { λ disk n. slice_index disk.blocks n };
+
+    fn read(&mut self, n: u64) -> Result<u64, DiskError> {
+        if n >= 4 || !self.works() {
+            return Err(DiskError);
+        }
+        Ok(self.blocks[n as usize])
+    }
+
+    fn write(&mut self, n: u64, block: &u64) -> Result<(), DiskError> {
+        if n >= 4 {
+            return Err(DiskError);
+        }
+        if !self.works() {
+            self.blocks[n as usize] = 99;
+            return Err(DiskError);
+        }
+        self.blocks[n as usize] = *block;
+        Ok(())
+    }
+}

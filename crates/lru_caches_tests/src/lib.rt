@@ -1,0 +1,11 @@
+//! Tests of what no clause of `lru_caches` says, through its public calls.
+#![tactic(auto)]
+
+#[cfg(test)]
+mod disk;
+#[cfg(test)]
+mod examples;
+#[cfg(test)]
+mod failures;
+#[cfg(test)]
+mod memos;
