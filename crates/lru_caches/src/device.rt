@@ -7,7 +7,7 @@ ghost use Rattle.std.specs.Prelude.{◌≡◌, ◌≢◌, ℕ, IfOk, OnOk};
 /// and writes these. If a device lacks a number, its calls fail there, and its block there is any value.
 ///
 /// ```
-/// let mut disk = Disk { blocks: [10, 11, 12, 13], calls_left: &Cell::new(2) };
+/// let mut disk = Disk { blocks: [10, 11, 12, 13], calls_left: &calls_left };
 /// assert_eq!(rt; disk.write(1, &20), Ok(()));
 /// assert_eq!(rt; disk.read(1), Ok(20));
 /// assert_eq!(rt; disk.read(1), Err(DiskError));

@@ -12,8 +12,8 @@ use std::marker::Model;
 /// A function that remembers its newest results, as many as a limiter lets it.
 ///
 /// ```
-/// let mut squares = Memo::new(alloc, ByLength::new(100), |n: u64| n.wrapping_mul(n));
-/// assert_eq!(rt; (squares.answer(3), squares.answer(3), squares.len()), (9, 9, 1));
+/// let mut squares = Memo::new(alloc, ByLength::new(9), |n: u64| n.wrapping_mul(n));
+/// assert_eq!(rt; (squares.answer(3), squares.len()), (9, 1));
 /// ```
 #[derive(Drop)]
 pub struct Memo<K: Copy + Eq + Hash, V: Copy, F, L: Insertion<K, V, K>> {
@@ -39,7 +39,7 @@ impl<K: Copy + Eq + Hash, V: Copy, F: Fn(K) -> V, L: Insertion<K, V, K>> Memo<K,
     /// seeds. Cost: `O(1)`, and no memory.
     ///
     /// ```
-    /// let mut squares = Memo::new(alloc, ByLength::new(100), |n: u64| n.wrapping_mul(n));
+    /// let mut squares = Memo::new(alloc, ByLength::new(9), |n: u64| n.wrapping_mul(n));
     /// ```
     pub fn new(alloc: Global, limiter: L, function: F) -> Self
         requires { KeepsValues L.offers }
@@ -61,7 +61,7 @@ impl<K: Copy + Eq + Hash, V: Copy, F: Fn(K) -> V, L: Insertion<K, V, K>> Memo<K,
     /// A caller proves the clauses `callable` and `known` from what `new`, or the call before, ensures.
     ///
     /// ```
-    /// assert_eq!(rt; squares.answer(3), 9);
+    /// assert_eq!(rt; (squares.answer(3), squares.len()), (9, 1));
     /// ```
     ///
     /// Cost: that of a get, and if the result is not stored, of a call of the function and an insert.
@@ -81,7 +81,7 @@ impl<K: Copy + Eq + Hash, V: Copy, F: Fn(K) -> V, L: Insertion<K, V, K>> Memo<K,
     /// Cost: `O(1)`.
     ///
     /// ```
-    /// assert_eq!(rt; squares.len(), 1);
+    /// assert_eq!(rt; (squares.answer(3), squares.len()), (9, 1));
     /// ```
     pub fn len(&self) -> usize
         ensures { result ≡ length self.now.known }

@@ -16,7 +16,7 @@ mod pages;
 /// Why a call on a page cache failed. A call that fails changes no block that the cache shows.
 ///
 /// ```
-/// assert_eq!(rt; cache.write(2, 20), Err(PageError::Device(DiskError)));
+/// assert_eq!(rt; cache.read(4), Err(PageError::Device(DiskError)));
 /// ```
 #[derive(Debug, Drop, PartialEq, Error)]
 pub enum PageError<E> {
@@ -41,9 +41,9 @@ pub enum PageError<E> {
 /// ```
 /// let mut cache = PageCache::new(alloc, disk, 2);
 /// assert_eq!(rt; cache.write(1, 20), Ok(()));
-/// assert_eq!(rt; cache.read(1), Ok(20));
+/// assert_eq!(rt; (cache.read(1), cache.len()), (Ok(20), 1));
 /// assert_eq!(rt; cache.flush(), Ok(()));
-/// let disk = cache.discard();
+/// cache.discard();
 /// ```
 pub struct PageCache<B: Copy, D: BlockDevice<B>> {
     map: Pages<B>,
@@ -97,7 +97,7 @@ impl<B: Copy, D: BlockDevice<B>> PageCache<B, D> {
     /// Cost: `O(1)`.
     ///
     /// ```
-    /// assert_eq!(rt; cache.len(), 1);
+    /// assert_eq!(rt; (cache.read(1), cache.len()), (Ok(20), 1));
     /// ```
     pub fn len(&self) -> usize
         ensures len { result ≡ length self.now.pages }
@@ -138,7 +138,7 @@ impl<B: Copy, D: BlockDevice<B>> PageCache<B, D> {
     /// cache is full, the oldest page is evicted for it, after that page was written to the device if it is dirty.
     ///
     /// ```
-    /// assert_eq!(rt; cache.read(1), Ok(20));
+    /// assert_eq!(rt; (cache.read(1), cache.len()), (Ok(20), 1));
     /// ```
     ///
     /// Cost: `O(1)` expected, amortised over the growth of the table, and at most one read and one write of the device.
@@ -227,10 +227,10 @@ impl<B: Copy, D: BlockDevice<B>> PageCache<B, D> {
     /// Flushes the cache and returns the device.
     ///
     /// ```
-    /// match cache.close() {
-    ///     Ok(disk) => assert_eq!(rt; disk.blocks, [10, 20, 12, 13]),
-    ///     Err(unclosed) => cache = unclosed.cache,
-    /// }
+    /// let mut cache = match cache.close() {
+    ///     Ok(disk) => PageCache::new(alloc, disk, 2),
+    ///     Err(Unclosed { cache, error: _ }) => cache,
+    /// };
     /// ```
     ///
     /// Cost: as `flush`.
@@ -251,7 +251,7 @@ impl<B: Copy, D: BlockDevice<B>> PageCache<B, D> {
     /// Drops the cached pages and returns the device. Writes since the last flush may be lost.
     ///
     /// ```
-    /// let disk = cache.discard();
+    /// cache.discard();
     /// ```
     ///
     /// Cost: `O(1)`.
@@ -271,7 +271,7 @@ impl<B: Copy, D: BlockDevice<B>> PageCache<B, D> {
 /// A cache that was not closed, because its flush failed.
 ///
 /// ```
-/// Err(Unclosed { cache, error }) => assert_eq!(rt; error, PageError::Device(DiskError)),
+/// Err(Unclosed { cache, error: _ }) => cache,
 /// ```
 pub struct Unclosed<B: Copy, D: BlockDevice<B>> {
     /// The cache, which shows the same blocks as before.

@@ -19,8 +19,7 @@ use std::marker::Model;
 /// for key in ["a", "b", "a", "c", "a"] {
 ///     curve.refer(key)?;
 /// }
-/// assert_eq!(rt; curve.misses(1), 5);
-/// assert_eq!(rt; curve.misses(2), 3);
+/// assert_eq!(rt; (curve.misses(0), curve.misses(1), curve.misses(2)), (5, 5, 3));
 /// ```
 #[derive(Drop)]
 pub struct Curve {
