@@ -1,4 +1,5 @@
 //! The examples of the docs of `lru_caches`, the error texts, and each call once.
+use crate::callers::copy_block;
 use crate::disk::{Disk, DiskError};
 use lru_caches::{BlockDevice, PageCache, PageError, Unclosed};
 use std::cell::Cell;
@@ -22,9 +23,13 @@ fn of_the_page_cache(rt: HostRuntime) {
         (cache.read(2), cache.read(3), cache.len()),
         (Ok(12), Ok(13), 2)
     );
+    assert_eq!(rt;
+        (copy_block(&mut cache, 1, 0), cache.read(0)),
+        (Ok(()), Ok(20))
+    );
     assert_eq!(rt; cache.read(4), Err(PageError::Device(DiskError)));
     match cache.close() {
-        Ok(disk) => assert_eq!(rt; disk.blocks, [10, 20, 12, 13]),
+        Ok(disk) => assert_eq!(rt; disk.blocks, [20, 20, 12, 13]),
         Err(Unclosed { cache, error }) => {
             assert_eq!(rt;
                 (cache.discard().blocks, error),
