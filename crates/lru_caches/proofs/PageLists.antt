@@ -1,6 +1,6 @@
 -- Look-ups of numbers in lists of pairs, after a pair was moved, written or removed.
-use Rattle.std.proofs.Common.{◌≡◌, ◌≢◌, ℕ, suc, Bool, true, false, cond, nat_eq, List, [], ◌∷◌, ◌++◌, length, Option}
-use Rattle.std.proofs.Common.{Some, None, refl, sym, ap, ◌∙◌, subst, arith}
+use Rattle.std.proofs.Common.{◌≡◌, ◌≢◌, ℕ, Bool, true, false, cond, nat_eq, List, [], ◌∷◌, ◌++◌, length, Option}
+use Rattle.std.proofs.Common.{Some, None, refl, sym, ap, ◌∙◌, subst, arith, ne_eqb}
 use Rattle.std.proofs.lemmas.Bool.{eqb-true, eqb-false}
 use Rattle.std.proofs.lemmas.Map.{length-set_value}
 use Rattle.std.proofs.lemmas.Option.{none-some}
@@ -10,27 +10,9 @@ use Rattle.std.proofs.lemmas.Map.Views.{lookup-from_Contains}
 use Rattle.std.specs.List.{Contains, IsDistinct}
 use Rattle.std.specs.Map.{lookup, set_value, keys_of}
 use Rattle.schnellru.specs.Lists.{lookup_entry, without, after, front, last, without_last}
-use Rattle.schnellru.proofs.CallerLemmas.{found_named}
-
--- a test of two numbers, as they are equal or not
-pub differ : (m n : ℕ) → m ≢ n → nat_eq m n ≡ false
-differ m n apart = go (nat_eq m n) refl
-  where
-    go : (b : Bool) → nat_eq m n ≡ b → b ≡ false
-    go true e = absurd (apart (eqb-true m n e))
-    go false e = refl
+use Rattle.schnellru.proofs.CallerLemmas.{found_named, length-front_pairs}
 
 module _ {X : Type 0} where
-  -- a look-up that finds no value finds no pair
-  pub no_entry : (test : ℕ → Bool) (xs : List (ℕ × X)) → lookup test xs ≡ None → lookup_entry test xs ≡ None
-  no_entry test [] none = refl
-  no_entry test (x ∷ xs) none = go (test x.0) none (no_entry test xs)
-    where
-      go : (b : Bool) → cond b (Some x.1) (lookup test xs) ≡ None
-          → (lookup test xs ≡ None → lookup_entry test xs ≡ None) → cond b (Some x) (lookup_entry test xs) ≡ None
-      go true e later = absurd (none-some x.1 (sym e))
-      go false e later = later e
-
   -- other numbers are found as before after the pair of n was removed,
   others_without : (m n : ℕ) → m ≢ n → (xs : List (ℕ × X))
       → lookup (nat_eq m) (without (nat_eq n) xs) ≡ lookup (nat_eq m) xs
@@ -40,7 +22,7 @@ module _ {X : Type 0} where
       go : (b : Bool) → nat_eq n x.0 ≡ b → lookup (nat_eq m) (without (nat_eq n) xs) ≡ lookup (nat_eq m) xs
           → lookup (nat_eq m) (cond b xs (x ∷ without (nat_eq n) xs)) ≡ lookup (nat_eq m) (x ∷ xs)
       go true e later =
-          let other = subst (λ k. nat_eq m k ≡ false) (eqb-true n x.0 e) (differ m n apart) in
+          let other = subst (λ k. nat_eq m k ≡ false) (eqb-true n x.0 e) (ne_eqb m n apart) in
           ap (λ b. cond b (Some x.1) (lookup (nat_eq m) xs)) (sym other)
       go false e later = ap (cond (nat_eq m x.0) (Some x.1)) later
 
@@ -54,7 +36,7 @@ module _ {X : Type 0} where
       go None e = others_without m n apart xs
       go (Some p) e =
           let named = eqb-true n p.0 (found_named (nat_eq n) xs p e) in
-          let other = subst (λ k. nat_eq m k ≡ false) named (differ m n apart) in
+          let other = subst (λ k. nat_eq m k ≡ false) named (ne_eqb m n apart) in
           ap (λ b. cond b (Some p.1) (lookup (nat_eq m) (without (nat_eq n) xs))) other
           ∙ others_without m n apart xs
 
@@ -67,7 +49,7 @@ module _ {X : Type 0} where
       go : (b : Bool) → nat_eq n x.0 ≡ b → lookup (nat_eq m) (set_value (nat_eq n) xs w) ≡ lookup (nat_eq m) xs
           → lookup (nat_eq m) (cond b ((x.0, w) ∷ xs) (x ∷ set_value (nat_eq n) xs w)) ≡ lookup (nat_eq m) (x ∷ xs)
       go true e later =
-          let other = subst (λ k. nat_eq m k ≡ false) (eqb-true n x.0 e) (differ m n apart) in
+          let other = subst (λ k. nat_eq m k ≡ false) (eqb-true n x.0 e) (ne_eqb m n apart) in
           ap (λ b. cond b (Some w) (lookup (nat_eq m) xs)) other
           ∙ ap (λ b. cond b (Some x.1) (lookup (nat_eq m) xs)) (sym other)
       go false e later = ap (cond (nat_eq m x.0) (Some x.1)) later
@@ -77,23 +59,9 @@ module _ {X : Type 0} where
   others_written m n apart xs w = others_set m n apart (front (nat_eq n) xs) w ∙ others_front m n apart xs
 
   -- such a write leaves the number of pairs
-  length-after : (o : Option (ℕ × X)) (x : ℕ × X) (xs : List (ℕ × X))
-      → length (after o (x ∷ xs)) ≡ suc (length (after o xs))
-  length-after None x xs = refl
-  length-after (Some p) x xs = refl
-
-  length-front : (test : ℕ → Bool) (xs : List (ℕ × X)) → length (front test xs) ≡ length xs
-  length-front test [] = refl
-  length-front test (x ∷ xs) = go (test x.0) (length-front test xs)
-    where
-      go : (b : Bool) → length (front test xs) ≡ length xs
-          → length (after (cond b (Some x) (lookup_entry test xs)) (cond b xs (x ∷ without test xs))) ≡ suc (length xs)
-      go true later = refl
-      go false later = length-after (lookup_entry test xs) x (without test xs) ∙ ap suc later
-
   pub length-written : (test : ℕ → Bool) (xs : List (ℕ × X)) (w : X)
       → length (set_value test (front test xs) w) ≡ length xs
-  length-written test xs w = length-set_value test (front test xs) w ∙ length-front test xs
+  length-written test xs w = length-set_value test (front test xs) w ∙ length-front_pairs test xs
 
   -- a list ends with its last pair
   pub ends_with : (xs : List (ℕ × X)) (x : ℕ × X) → last xs ≡ Some x → xs ≡ without_last xs ++ x ∷ []

@@ -1,6 +1,6 @@
 -- The order of the numbers in lists of pairs.
 use Rattle.std.proofs.Common.{◌≡◌, ◌≤◌, ◌<◌, ◌-◌, ℕ, suc, Bool, true, false, cond, nat_eq, List, [], ◌∷◌, length, take}
-use Rattle.std.proofs.Common.{Option, Some, None, refl, sym, ap, ◌∙◌, arith}
+use Rattle.std.proofs.Common.{Option, Some, None, option_map, refl, sym, ap, ◌∙◌, arith}
 use Rattle.std.proofs.lemmas.Bool.{eqb-true}
 use Rattle.std.proofs.lemmas.List.{take-map, take_all}
 use Rattle.std.proofs.lemmas.Map.{keys-set_value}
@@ -8,29 +8,9 @@ use Rattle.std.proofs.lemmas.Map.Entries.{length-keys_of}
 use Rattle.std.proofs.lemmas.Option.{none-some}
 use Rattle.std.specs.Map.{lookup, set_value, keys_of}
 use Rattle.schnellru.specs.Lists.{lookup_entry, without, after, front, without_last}
-use Rattle.schnellru.proofs.CallerLemmas.{found_named}
+use Rattle.schnellru.proofs.CallerLemmas.{found_named, lookup-entry, no_pair, without_none}
 
 module _ {X : Type 0} where
-  -- a pair that is not there is not removed
-  without_absent : (test : ℕ → Bool) (xs : List (ℕ × X)) → lookup test xs ≡ None → without test xs ≡ xs
-  without_absent test [] none = refl
-  without_absent test (x ∷ xs) none = go (test x.0) none (without_absent test xs)
-    where
-      go : (b : Bool) → cond b (Some x.1) (lookup test xs) ≡ None → (lookup test xs ≡ None → without test xs ≡ xs)
-          → cond b xs (x ∷ without test xs) ≡ x ∷ xs
-      go true e later = absurd (none-some x.1 (sym e))
-      go false e later = ap (λ l. x ∷ l) (later e)
-
-  -- a look-up that finds no pair finds no value
-  no_value : (test : ℕ → Bool) (xs : List (ℕ × X)) → lookup_entry test xs ≡ None → lookup test xs ≡ None
-  no_value test [] none = refl
-  no_value test (x ∷ xs) none = go (test x.0) none (no_value test xs)
-    where
-      go : (b : Bool) → cond b (Some x) (lookup_entry test xs) ≡ None
-          → (lookup_entry test xs ≡ None → lookup test xs ≡ None) → cond b (Some x.1) (lookup test xs) ≡ None
-      go true e later = absurd (none-some x (sym e))
-      go false e later = later e
-
   -- a pair that is found and written comes first
   pub keys-written : (n : ℕ) (xs : List (ℕ × X)) (v w : X) → lookup (nat_eq n) xs ≡ Some v
       → keys_of (set_value (nat_eq n) (front (nat_eq n) xs) w) ≡ n ∷ keys_of (without (nat_eq n) xs)
@@ -38,7 +18,7 @@ module _ {X : Type 0} where
     where
       go : (o : Option (ℕ × X)) → lookup_entry (nat_eq n) xs ≡ o
           → keys_of (after o (without (nat_eq n) xs)) ≡ n ∷ keys_of (without (nat_eq n) xs)
-      go None e = absurd (none-some v (sym (no_value (nat_eq n) xs e) ∙ found))
+      go None e = absurd (none-some v (sym (lookup-entry (nat_eq n) xs ∙ ap (option_map (λ p. p.1)) e) ∙ found))
       go (Some p) e =
           ap (λ k. k ∷ keys_of (without (nat_eq n) xs)) (sym (eqb-true n p.0 (found_named (nat_eq n) xs p e)))
 
@@ -65,5 +45,5 @@ module _ {X : Type 0} where
   used_new capacity n v xs left new none some is added =
       let one : capacity ≡ suc (capacity - 1) = omega (arith, some) in
       ap keys_of added ∙ ap (λ l. n ∷ keys_of l) is ∙ ap (λ l. n ∷ l) (sym (take-map (λ p. p.0) (capacity - 1) xs))
-      ∙ ap (λ l. n ∷ take (capacity - 1) (keys_of l)) (sym (without_absent (nat_eq n) xs none))
+      ∙ ap (λ l. n ∷ take (capacity - 1) (keys_of l)) (sym (without_none (nat_eq n) xs (no_pair (nat_eq n) xs none)))
       ∙ ap (λ k. take k (n ∷ keys_of (without (nat_eq n) xs))) (sym one)

@@ -16,7 +16,7 @@ pub record Cached (B D : Type 0) : Type 0 where
   pub device : D
 
 module _ {B D : Type 0} (blocks : D → ℕ → B) where
-  -- the block of the cached page of this number, or else that of the device
+  -- the block of the cached page of this number, or else the device's block
   abbrev pub block_at : List (ℕ × Page B) → D → ℕ → B
   block_at pages device n = unwrap_or (option_map (λ page. page.block) (lookup (nat_eq n) pages)) (blocks device n)
 

@@ -9,7 +9,7 @@ use std::alloc::Global;
 use std::hash::Hash;
 use std::marker::Model;
 
-/// A function that remembers its newest results, as many as a limiter lets it.
+/// A function that remembers its newest results, up to a limit.
 ///
 /// ```
 /// let mut squares = Memo::new(alloc, ByLength::new(9), |n: u64| n.wrapping_mul(n));
@@ -53,10 +53,10 @@ impl<K: Copy + Eq + Hash, V: Copy, F: Fn(K) -> V, L: Insertion<K, V, K>> Memo<K,
         }
     }
 
-    /// Returns what the function returns at a key: the stored result, or else that of a call, which is stored.
+    /// Returns what the function returns at a key: the stored result, or else the result of a call, which is stored.
     ///
-    /// If the memo runs out of memory or its limiter rejects the result, the result is not stored, and returned all the
-    /// same. Of keys that are equal, but that the function tells apart, each may get the result of another.
+    /// If the memo runs out of memory or its limiter rejects the result, the result is returned without being stored. If
+    /// the function returns different results at equal keys, each key may get the result of another.
     ///
     /// A caller proves the clauses `callable` and `known` from what `new`, or the call before, ensures.
     ///
@@ -64,7 +64,7 @@ impl<K: Copy + Eq + Hash, V: Copy, F: Fn(K) -> V, L: Insertion<K, V, K>> Memo<K,
     /// assert_eq!(rt; (squares.answer(3), squares.len()), (9, 1));
     /// ```
     ///
-    /// Cost: that of a get, and if the result is not stored, of a call of the function and an insert.
+    /// Cost: a get, and if no result is stored, a call of the function and an insert.
     pub fn answer(&mut self, key: K) -> V
         requires callable { F.IsAlwaysCallable self.old.function }
         requires known { AreAnswers K.eq (F.post self.old.function) self.old.known }

@@ -34,9 +34,8 @@ pub enum PageError<E> {
 /// then, and goes to the device when it is evicted or flushed. So the cache shows a block at each number, which is the
 /// cached page, or else the block of the device.
 ///
-/// No call loses a page: whichever call of the device fails, the cache shows the same blocks as before. A cache cannot
-/// be dropped either, because its dirty pages would be lost: the check rejects code that lets a cache go. Call `close`,
-/// or `discard`.
+/// No call loses a page: whichever call of the device fails, the cache shows the same blocks as before. Code that drops
+/// or forgets a cache does not compile, because its dirty pages would be lost. Call `close` or `discard`.
 ///
 /// ```
 /// let mut cache = PageCache::new(alloc, disk, 2);

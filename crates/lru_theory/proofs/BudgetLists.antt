@@ -1,4 +1,4 @@
--- Lists of keys under a limit of cost, each with its value: what leaves, and what a call finds.
+-- Lists of keys, each with its value: what a call finds, and what leaves under a limit of cost.
 use Rattle.std.proofs.Common.{◌≡◌, ℕ, zero, suc, ◌+◌, ◌-◌, ◌<◌, Bool, true, false, cond, List, [], ◌∷◌, length, map}
 use Rattle.std.proofs.Common.{Some, None, refl, sym, ap, ◌∙◌, subst, arith, inl, inr}
 use Rattle.std.specs.Prelude.{unwrap_or}
@@ -6,6 +6,7 @@ use Rattle.std.specs.Set.{remove_key}
 use Rattle.std.proofs.lemmas.Bool.{lt-ltb, le-ltb, lt-leb, le-leb, cases_lt}
 use Rattle.std.proofs.lemmas.List.{length-map}
 use Rattle.lru_limits.specs.Budget.{Budget, by_cost}
+use Rattle.schnellru.proofs.CallerLemmas.{length-without_last}
 use Rattle.schnellru.specs.Lists.{last, without_last, lookup_entry, without, keys_of}
 use Rattle.schnellru.specs.State.{Contents, told_of, pop, trim, trim_from}
 use Rattle.recency.specs.Budgets.{affordable}
@@ -23,68 +24,12 @@ fewer cost n (x ∷ y ∷ keys) over = elim (cases_lt n (cost x)) [
       (ap (λ ks. x ∷ ks) (fewer cost (n - cost x) (y ∷ keys) (omega (arith, over, cheap))))
 ]
 
-length-without_last : {X : Type 0} (x : X) (xs : List X) → length (without_last (x ∷ xs)) ≡ length xs
-length-without_last x [] = refl
-length-without_last x (y ∷ ys) = ap suc (length-without_last y ys)
-
-module _ {K V : Type 0} (cost : V → ℕ) (value_of : K → V) (n : ℕ) where
+module _ {K V : Type 0} (cost : V → ℕ) (value_of : K → V) where
   abbrev pub key_cost : K → ℕ
   key_cost key = cost (value_of key)
 
   abbrev pub pair_of : K → K × V
   pair_of key = (key, value_of key)
-
-  abbrev pub spending : ℕ → Budget
-  spending sum = record { limit = n; cost = sum }
-
-  -- these keys with their values, and what they cost
-  abbrev pub holding : List K → Contents K V Budget
-  holding keys = record { pairs = map pair_of keys; limiter = spending (spent key_cost keys) }
-
-  told_last : (more : ℕ) (key : K) (keys : List K)
-      → told_of (by_cost cost) (last (map pair_of (key ∷ keys))) (spending (more + spent key_cost (key ∷ keys)))
-      ≡ spending (more + spent key_cost (without_last (key ∷ keys)))
-  told_last more key [] = ap spending (omega arith)
-  told_last more key (next ∷ keys) =
-      ap (λ sum. told_of (by_cost cost) (last (map pair_of (next ∷ keys))) (spending sum)) (omega arith)
-      ∙ told_last (more + key_cost key) next keys
-      ∙ ap spending (omega arith)
-
-  taken_last : (keys : List K) → without_last (map pair_of keys) ≡ map pair_of (without_last keys)
-  taken_last [] = refl
-  taken_last (x ∷ []) = refl
-  taken_last (x ∷ y ∷ keys) = ap (λ ps. pair_of x ∷ ps) (taken_last (y ∷ keys))
-
-  -- the oldest leaves
-  pub popped : (more sum rest : ℕ) (key : K) (keys : List K) → sum ≡ more + spent key_cost (key ∷ keys)
-      → rest ≡ more + spent key_cost (without_last (key ∷ keys))
-      → pop (by_cost cost) (record { pairs = map pair_of (key ∷ keys); limiter = spending sum })
-      ≡ record { pairs = map pair_of (without_last (key ∷ keys)); limiter = spending rest }
-  popped more sum rest key keys before after = λ i. record {
-    pairs = taken_last (key ∷ keys) i;
-    limiter = (ap (λ s. told_of (by_cost cost) (last (map pair_of (key ∷ keys))) (spending s)) before
-        ∙ told_last more key keys ∙ ap spending (sym after)) i;
-  }
-
-  trimmed_from : (count : ℕ) (keys : List K) → length keys ≡ count
-      → trim_from (by_cost cost) count (holding keys) ≡ holding (affordable key_cost n keys)
-  trimmed_from zero [] e = refl
-  trimmed_from zero (x ∷ keys) e = absurd (omega (arith, e))
-  trimmed_from (suc count) [] e = absurd (omega (arith, e))
-  trimmed_from (suc count) (x ∷ keys) e = elim (cases_lt n (spent key_cost (x ∷ keys))) [
-    | inl over ↦ rw (lt-ltb n (spent key_cost (x ∷ keys)) over)
-        (ap (trim_from (by_cost cost) count) (popped 0 (spent key_cost (x ∷ keys)) (spent key_cost (without_last (x ∷ keys))) x keys
-        (omega arith) (omega arith))
-        ∙ trimmed_from count (without_last (x ∷ keys)) (length-without_last x keys ∙ omega (arith, e))
-        ∙ ap holding (fewer key_cost n (x ∷ keys) over))
-    | inr within ↦ rw (le-ltb n (spent key_cost (x ∷ keys)) within)
-        (ap holding (sym (affords_all key_cost n (x ∷ keys) within)))
-  ]
-
-  -- the oldest leave while they cost too much
-  pub trimmed_is : (keys : List K) → trim (by_cost cost) (holding keys) ≡ holding (affordable key_cost n keys)
-  unfolding trim
-  trimmed_is keys = trimmed_from (length (map pair_of keys)) keys (sym (length-map keys pair_of))
 
   -- what is found is a key with its value
   pub found_is : (test : K → Bool) (keys : List K) (p : K × V) → lookup_entry test (map pair_of keys) ≡ Some p
@@ -138,3 +83,56 @@ module _ {K V : Type 0} (cost : V → ℕ) (value_of : K → V) (n : ℕ) where
   pub keys_held : (keys : List K) → keys_of (map pair_of keys) ≡ keys
   keys_held [] = refl
   keys_held (x ∷ keys) = ap (λ ks. x ∷ ks) (keys_held keys)
+
+  module _ (n : ℕ) where
+    abbrev pub spending : ℕ → Budget
+    spending sum = record { limit = n; cost = sum }
+
+    -- these keys with their values, and what they cost
+    abbrev pub holding : List K → Contents K V Budget
+    holding keys = record { pairs = map pair_of keys; limiter = spending (spent key_cost keys) }
+
+    told_last : (more : ℕ) (key : K) (keys : List K)
+        → told_of (by_cost cost) (last (map pair_of (key ∷ keys))) (spending (more + spent key_cost (key ∷ keys)))
+        ≡ spending (more + spent key_cost (without_last (key ∷ keys)))
+    told_last more key [] = ap spending (omega arith)
+    told_last more key (next ∷ keys) =
+        ap (λ sum. told_of (by_cost cost) (last (map pair_of (next ∷ keys))) (spending sum)) (omega arith)
+        ∙ told_last (more + key_cost key) next keys
+        ∙ ap spending (omega arith)
+
+    taken_last : (keys : List K) → without_last (map pair_of keys) ≡ map pair_of (without_last keys)
+    taken_last [] = refl
+    taken_last (x ∷ []) = refl
+    taken_last (x ∷ y ∷ keys) = ap (λ ps. pair_of x ∷ ps) (taken_last (y ∷ keys))
+
+    -- the oldest leaves
+    pub popped : (more sum rest : ℕ) (key : K) (keys : List K) → sum ≡ more + spent key_cost (key ∷ keys)
+        → rest ≡ more + spent key_cost (without_last (key ∷ keys))
+        → pop (by_cost cost) (record { pairs = map pair_of (key ∷ keys); limiter = spending sum })
+        ≡ record { pairs = map pair_of (without_last (key ∷ keys)); limiter = spending rest }
+    popped more sum rest key keys before after = λ i. record {
+      pairs = taken_last (key ∷ keys) i;
+      limiter = (ap (λ s. told_of (by_cost cost) (last (map pair_of (key ∷ keys))) (spending s)) before
+          ∙ told_last more key keys ∙ ap spending (sym after)) i;
+    }
+
+    trimmed_from : (count : ℕ) (keys : List K) → length keys ≡ count
+        → trim_from (by_cost cost) count (holding keys) ≡ holding (affordable key_cost n keys)
+    trimmed_from zero [] e = refl
+    trimmed_from zero (x ∷ keys) e = absurd (omega (arith, e))
+    trimmed_from (suc count) [] e = absurd (omega (arith, e))
+    trimmed_from (suc count) (x ∷ keys) e = elim (cases_lt n (spent key_cost (x ∷ keys))) [
+      | inl over ↦ rw (lt-ltb n (spent key_cost (x ∷ keys)) over)
+          (ap (trim_from (by_cost cost) count) (popped 0 (spent key_cost (x ∷ keys)) (spent key_cost (without_last (x ∷ keys))) x keys
+          (omega arith) (omega arith))
+          ∙ trimmed_from count (without_last (x ∷ keys)) (omega (arith, length-without_last (x ∷ keys), e))
+          ∙ ap holding (fewer key_cost n (x ∷ keys) over))
+      | inr within ↦ rw (le-ltb n (spent key_cost (x ∷ keys)) within)
+          (ap holding (sym (affords_all key_cost n (x ∷ keys) within)))
+    ]
+
+    -- the oldest leave while they cost too much
+    pub trimmed_is : (keys : List K) → trim (by_cost cost) (holding keys) ≡ holding (affordable key_cost n keys)
+    unfolding trim
+    trimmed_is keys = trimmed_from (length (map pair_of keys)) keys (sym (length-map keys pair_of))

@@ -38,7 +38,10 @@ accepted false s more key v t given e h = absurd cc
 module _ {K V : Type 0} (cost : V → ℕ) (value_of : K → V) (n : ℕ) (fits : n < 2 ^ 63) {eq : K → K → Bool}
     (exact : IsExact eq) where
   abbrev costs : K → ℕ
-  costs = key_cost cost value_of n
+  costs = key_cost cost value_of
+
+  abbrev pair : K → K × V
+  pair = pair_of cost value_of
 
   abbrev Left : Type 0
   Left = Contents K V Budget
@@ -56,52 +59,52 @@ module _ {K V : Type 0} (cost : V → ℕ) (value_of : K → V) (n : ℕ) (fits 
   module _ (key : K) (keys : List K) (cheap : costs key ≤ n) (few : spent costs keys ≤ n) where
     -- these keys with the new one in front
     in_front : (c : Left) (sum : ℕ) → c ≡ record {
-      pairs = pair_of cost value_of n key ∷ map (pair_of cost value_of n)
+      pairs = pair key ∷ map pair
           (remove_key (eq key) keys);
       limiter = spending cost value_of n sum;
     }
         → sum ≡ costs key + spent costs (remove_key (eq key) keys) → trim (by_cost cost) c ≡ held (left_by key keys)
     in_front c sum e same =
         ap (trim (by_cost cost)) (e ∙ ap (λ s. record {
-          pairs = pair_of cost value_of n key ∷ map (pair_of cost value_of n) (remove_key (eq key) keys);
+          pairs = pair key ∷ map pair (remove_key (eq key) keys);
           limiter = spending cost value_of n s;
         }) same)
         ∙ trimmed_is cost value_of n (key ∷ remove_key (eq key) keys)
 
     -- the key is there
-    there_ends : (p : K × V) → lookup_entry (eq key) (map (pair_of cost value_of n) keys) ≡ Some p
+    there_ends : (p : K × V) → lookup_entry (eq key) (map pair keys) ≡ Some p
         → (ending_there (by_cost cost) (charges cost) eq (lands (by_cost cost)) key (value_of key) (held keys) p).left
         ≡ held (left_by key keys)
     there_ends p found =
-        let same : pair_of cost value_of n key ≡ p =
-        ap (pair_of cost value_of n) (exact key p.0 (found_named (eq key) (map (pair_of cost value_of n) keys) p found))
-        ∙ found_is cost value_of n (eq key) keys p found in
-        let all = spent_without cost value_of n eq exact key keys p found in
+        let same : pair key ≡ p =
+        ap pair (exact key p.0 (found_named (eq key) (map pair keys) p found))
+        ∙ found_is cost value_of (eq key) keys p found in
+        let all = spent_without cost value_of eq exact key keys p found in
         subst (λ q. (ending_there (by_cost cost) (charges cost) eq (lands (by_cost cost)) key (value_of key)
         (held keys) q).left ≡ held (left_by key keys)) same
         (rw (can (spent costs keys - costs key) (costs key) (omega (arith, few)) cheap)
         (in_front _ (spent costs keys - costs key + costs key)
         (λ i. record {
-          pairs = pair_of cost value_of n key ∷ without_is cost value_of n (eq key) keys i;
+          pairs = pair key ∷ without_is cost value_of (eq key) keys i;
           limiter = spending cost value_of n (spent costs keys - costs key + costs key);
         }) (omega (arith, all))))
 
   -- a new pair, before room is made for it
   abbrev offering : K → List K → Left
   offering key keys = record {
-    pairs = map (pair_of cost value_of n) keys;
+    pairs = map pair keys;
     limiter = spending cost value_of n (spent costs keys + costs key);
   }
 
   -- these contents with a pair in front
   abbrev onto : K → Left → Left
-  onto key c = record { pairs = pair_of cost value_of n key ∷ c.pairs; limiter = c.limiter }
+  onto key c = record { pairs = pair key ∷ c.pairs; limiter = c.limiter }
 
   fits_in : (key : K) (keys : List K)
       → trim (by_cost cost) (onto key (offering key keys)) ≡ held (affordable costs n (key ∷ keys))
   fits_in key keys =
       ap (λ sum. trim (by_cost cost) (record {
-        pairs = map (pair_of cost value_of n) (key ∷ keys);
+        pairs = map pair (key ∷ keys);
         limiter = spending cost value_of n sum;
       })) (omega arith)
       ∙ trimmed_is cost value_of n (key ∷ keys)
@@ -128,9 +131,9 @@ module _ {K V : Type 0} (cost : V → ℕ) (value_of : K → V) (n : ℕ) (fits 
   insert_holds key keys flag new cheap few (not_offered none lacks err same) = absurd lacks
   insert_holds key keys flag new cheap few (not_placed none s pair gives err same) = clash err
   insert_holds key keys flag new cheap few (ends h) =
-      go (lookup_entry (eq key) (map (pair_of cost value_of n) keys)) refl h
+      go (lookup_entry (eq key) (map pair keys)) refl h
     where
-      go : (o : Option (K × V)) → lookup_entry (eq key) (map (pair_of cost value_of n) keys) ≡ o
+      go : (o : Option (K × V)) → lookup_entry (eq key) (map pair keys) ≡ o
           → EndsBy (by_cost cost) (charges cost) eq (lands (by_cost cost)) key (value_of key) (held keys) o (Ok flag) new
           → new ≡ held (left_by key keys)
       go (Some p) found h = h.1 ∙ there_ends key keys cheap few p found
@@ -142,22 +145,22 @@ module _ {K V : Type 0} (cost : V → ℕ) (value_of : K → V) (n : ℕ) (fits 
           ∙ (λ i. (ending_new (by_cost cost) (charges cost) eq (lands (by_cost cost)) key (value_of key) (held keys)
           (is.0 i) (is.1 i)).left)
           ∙ room_made key keys cheap
-          ∙ ap (λ ks. held (affordable costs n (key ∷ ks))) (sym (none_removed cost value_of n (eq key) keys none))
+          ∙ ap (λ ks. held (affordable costs n (key ∷ ks))) (sym (none_removed cost value_of (eq key) keys none))
 
   -- a key that is there comes first
   fronted_holds : (key : K) (keys : List K) (p : K × V) → spent costs keys ≤ n
-      → lookup_entry (eq key) (map (pair_of cost value_of n) keys) ≡ Some p
+      → lookup_entry (eq key) (map pair keys) ≡ Some p
       → record (held keys) {
-        pairs = after (lookup_entry (eq key) (map (pair_of cost value_of n) keys))
-            (without (eq key) (map (pair_of cost value_of n) keys));
+        pairs = after (lookup_entry (eq key) (map pair keys))
+            (without (eq key) (map pair keys));
       } ≡ held (left_by key keys)
   fronted_holds key keys p few found =
-      let same : p ≡ pair_of cost value_of n key = sym
-      (ap (pair_of cost value_of n) (exact key p.0 (found_named (eq key) (map (pair_of cost value_of n) keys) p found))
-      ∙ found_is cost value_of n (eq key) keys p found) in
-      let all = spent_without cost value_of n eq exact key keys p found in
+      let same : p ≡ pair key = sym
+      (ap pair (exact key p.0 (found_named (eq key) (map pair keys) p found))
+      ∙ found_is cost value_of (eq key) keys p found) in
+      let all = spent_without cost value_of eq exact key keys p found in
       (λ i. record {
-        pairs = after ((found ∙ ap Some same) i) (without_is cost value_of n (eq key) keys i);
+        pairs = after ((found ∙ ap Some same) i) (without_is cost value_of (eq key) keys i);
         limiter = spending cost value_of n (all i);
       })
       ∙ ap held (sym (affords_all costs n (key ∷ remove_key (eq key) keys) (omega (arith, all, few))))
@@ -166,21 +169,21 @@ module _ {K V : Type 0} (cost : V → ℕ) (value_of : K → V) (n : ℕ) (fits 
     -- a reference that found memory
     call_holds : (call : Call K V Budget) (key : K) (keys : List K) (reply : Reply K V) (new : Left)
         → ListCallStep (by_cost cost) (charges cost) eq hash_of (held keys) call reply new
-        → offered call ≡ Some (pair_of cost value_of n key) → want_of reply ≡ found_all → costs key ≤ n
+        → offered call ≡ Some (pair key) → want_of reply ≡ found_all → costs key ≤ n
         → spent costs keys ≤ n → new ≡ held (left_by key keys)
     call_holds (calls.Insert at v) key keys reply new (inl (Ok flag, h, is)) e found cheap few =
         insert_holds key keys flag new cheap few
         (subst (λ p. InsertsInList (by_cost cost) (charges cost) eq p.0 p.1 (held keys) (Ok flag) new)
-        (some_same (at, v) (pair_of cost value_of n key) e) h)
+        (some_same (at, v) (pair key) e) h)
     call_holds (calls.Insert at v) key keys reply new (inl (Err x, h, is)) e found cheap few =
         absurd (lacking (sym (ap want_of is) ∙ found))
     call_holds (calls.Insert at v) key keys reply new (inr (none, is, same)) e found cheap few = absurd none
     call_holds (calls.GetOrInsert at v) key keys reply new (inr (none, is, same)) e found cheap few = absurd none
     call_holds (calls.GetOrInsert at v) key keys reply new (inl h) e found cheap few =
         got (subst (λ p. ListCallStep (by_cost cost) (charges cost) eq hash_of (held keys) (calls.GetOrInsert p.0 p.1)
-        reply new) (some_same (at, v) (pair_of cost value_of n key) e) (inl h))
+        reply new) (some_same (at, v) (pair key) e) (inl h))
       where
-        made : (o : Option V) → lookup (eq key) (map (pair_of cost value_of n) keys) ≡ o
+        made : (o : Option V) → lookup (eq key) (map pair keys) ≡ o
             → MatchOption o
             ((result : Result Bool AllocError)
             × InsertsInList (by_cost cost) (charges cost) eq key (value_of key) (held keys) result new
@@ -190,12 +193,12 @@ module _ {K V : Type 0} (cost : V → ℕ) (value_of : K → V) (n : ℕ) (fits 
         made None none (Ok flag, h, is) = insert_holds key keys flag new cheap few h
         made None none (Err x, h, is) = absurd (lacking (sym (ap want_of is) ∙ found))
         made (Some w) there (is, same) =
-            let p = value_there (eq key) (map (pair_of cost value_of n) keys) w there in
+            let p = value_there (eq key) (map pair keys) w there in
             same ∙ fronted_holds key keys p.0 few p.1
 
         got : ListCallStep (by_cost cost) (charges cost) eq hash_of (held keys) (calls.GetOrInsert key (value_of key))
             reply new → new ≡ held (left_by key keys)
-        got (inl h) = made (lookup (eq key) (map (pair_of cost value_of n) keys)) refl h
+        got (inl h) = made (lookup (eq key) (map pair keys)) refl h
         got (inr (none, is, same)) = absurd none
     call_holds call key keys reply new step e found cheap few = absurd (nothing e)
 
@@ -205,20 +208,20 @@ module _ {K V : Type 0} (cost : V → ℕ) (value_of : K → V) (n : ℕ) (fits 
     within (key ∷ past) = affords_within costs n (key ∷ remove_key (eq key) (cached_within eq costs n past))
 
     -- a run of references
-    pub run_holds : (Holds : Left → Type 0) (past : List K) (old : Left) (calls : List (Call K V Budget))
+    pub run_leaves : (Holds : Left → Type 0) (past : List K) (old : Left) (calls : List (Call K V Budget))
         (replies : List (Reply K V)) (new : Left) (keys : List K)
         → IsRun (ListCallStep (by_cost cost) (charges cost) eq hash_of) Holds old calls replies new
-        → map offered calls ≡ map (λ key. Some (pair_of cost value_of n key)) keys → FoundMemory replies
+        → map offered calls ≡ map (λ key. Some (pair key)) keys → FoundMemory replies
         → AllByRecursion (λ key. costs key ≤ n) keys → old ≡ held (cached_within eq costs n past)
         → new ≡ held (cached_within eq costs n (reverse keys ++ past))
-    run_holds Holds past old [] [] new [] same is found small e = same ∙ e
-    run_holds Holds past old [] [] new (key ∷ keys) same is found small e = absurd cc
-    run_holds Holds past old [] (reply ∷ replies) new keys run is found small e = absurd run
-    run_holds Holds past old (call ∷ calls) [] new keys run is found small e = absurd run
-    run_holds Holds past old (call ∷ calls) (reply ∷ replies) new [] run is found small e = absurd cc
-    run_holds Holds past old (call ∷ calls) (reply ∷ replies) new (key ∷ keys) (mid, step, held_mid, run) is found small e =
+    run_leaves Holds past old [] [] new [] same is found small e = same ∙ e
+    run_leaves Holds past old [] [] new (key ∷ keys) same is found small e = absurd cc
+    run_leaves Holds past old [] (reply ∷ replies) new keys run is found small e = absurd run
+    run_leaves Holds past old (call ∷ calls) [] new keys run is found small e = absurd run
+    run_leaves Holds past old (call ∷ calls) (reply ∷ replies) new [] run is found small e = absurd cc
+    run_leaves Holds past old (call ∷ calls) (reply ∷ replies) new (key ∷ keys) (mid, step, held_mid, run) is found small e =
         let here = call_holds call key (cached_within eq costs n past) reply mid
         (subst (λ c. ListCallStep (by_cost cost) (charges cost) eq hash_of c call reply mid) e step)
         (ap (head_of (offered call)) is) found.0 small.0 (within past) in
-        run_holds Holds (key ∷ past) mid calls replies new keys run (ap tail_of is) found.1 small.1 here
+        run_leaves Holds (key ∷ past) mid calls replies new keys run (ap tail_of is) found.1 small.1 here
         ∙ ap (λ ks. held (cached_within eq costs n ks)) (sym (reversed key keys past))

@@ -75,15 +75,6 @@ module _ {K V : Type 0} where
       go true e later = (x, refl)
       go false e later = later e
 
-  value_absent : (test : K → Bool) (xs : List (K × V)) → lookup test xs ≡ None → lookup_entry test xs ≡ None
-  value_absent test [] e = refl
-  value_absent test (x ∷ xs) e = go (test x.0) e (value_absent test xs)
-    where
-      go : (b : Bool) → cond b (Some x.1) (lookup test xs) ≡ None
-          → (lookup test xs ≡ None → lookup_entry test xs ≡ None) → cond b (Some x) (lookup_entry test xs) ≡ None
-      go true e later = absurd (grind (arith, e))
-      go false e later = later e
-
   -- the key under which a pair is stored is the inserted key
   stored_same : (eq : K → K → Bool) → IsExact eq → (key : K) (xs : List (K × V)) → stored_key (eq key) key xs ≡ key
   stored_same eq exact key xs = go (lookup_entry (eq key) xs) refl

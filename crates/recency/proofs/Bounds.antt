@@ -186,7 +186,7 @@ module _ {K : Type 0} {eq : K → K → Bool} (exact : IsExact eq) where
           let same = is_in_without exact x key other (turned key x e) in
           rw same (omega (arith, ih))
 
-  -- of keys that come once, as many are outside of a list as it is shorter
+  -- of n different keys, at least n - m are outside of a list of m keys
   pigeonhole : (other xs : List K) → Apart eq xs → length xs ≤ outside eq other xs + length other
   pigeonhole other [] h = omega arith
   pigeonhole other (x ∷ xs) h =

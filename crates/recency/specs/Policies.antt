@@ -14,7 +14,7 @@ module _ {K : Type 0} (eq : K → K → Bool) (places : ℕ) where
     replaces : is_in eq key old ≡ false → (evicted : K) → length (remove_key (eq evicted) old) + 1 ≤ places →
         Serves key old 1 (key ∷ remove_key (eq evicted) old)
 
-  -- Such a policy served the trace from this cache, missed so often, and left that cache.
+  -- Such a policy began with a cache, served the trace, missed this number of times, and left a cache.
   pub data Served (first : List K) : List K → ℕ → List K → Type 0 where
     begins : length first ≤ places → Served first [] 0 first
     goes_on : (key : K) (past : List K) (missed miss : ℕ) (old new : List K) → Served first past missed old →

@@ -31,15 +31,19 @@
 --     value_removed        of an entry that is removed, the value may be returned alone
 --     nothing_written      a run of calls is one of calls and writes
 --     any_step_same        no call changes what builds the hashers, how far links reach, and what a bucket takes
+--     lookup-entry, no_pair      a look-up returns the value of the pair that is found, and none if no pair is
+--     without_none         if no pair is named, the others are all
+--     length-front_pairs   a pair that is brought to the front leaves the number of pairs
 pub use Rattle.schnellru.proofs.Theorems.KeySearches.{given-found, given-tag, none-found}
 pub use Rattle.schnellru.proofs.Maps.EmptyMaps.{empty_is_sized}
 pub use Rattle.schnellru.proofs.Maps.LeavingPairs.{leaves_trans, length-without_first, length-without_last}
-pub use Rattle.schnellru.proofs.Maps.Promotions.{promoted_sized, promoted_is_map}
+pub use Rattle.schnellru.proofs.Maps.Promotions.{promoted_sized, promoted_is_map, length-front_pairs}
 pub use Rattle.schnellru.proofs.Maps.SomeInsert.{some_insert}
 pub use Rattle.schnellru.proofs.Maps.SomePlace.{some_leave}
 pub use Rattle.schnellru.proofs.Maps.SomeReservation.{cleared_sized, some_reservation}
 pub use Rattle.schnellru.proofs.Maps.SomeShrink.{some_shrink}
-pub use Rattle.schnellru.proofs.Theorems.Fronts.{found_named}
+pub use Rattle.schnellru.proofs.Theorems.Fronts.{found_named, without_none}
+pub use Rattle.schnellru.proofs.PairLists.NamedPairs.{lookup-entry, no_pair}
 pub use Rattle.schnellru.proofs.Theorems.Limits.{length-without}
 pub use Rattle.schnellru.proofs.OrderedTables.TakenPairs.{value_removed}
 pub use Rattle.schnellru.proofs.TableSizes.ReachedTables.{has_tables}
@@ -74,8 +78,6 @@ use Rattle.schnellru.specs.Calls.{promoted, written}
 use Rattle.schnellru.specs.Exact.{IsDetermined, NeverLacks, AlwaysGrants}
 use Rattle.schnellru.specs.Theorems.{SaysWhether, Stores, KeepsValues, IsSummed, GivesUp, behind, with_none}
 use Rattle.schnellru.specs.Theorems.{without_one}
-use Rattle.schnellru.proofs.Theorems.Fronts.{found_named, without_none}
-use Rattle.schnellru.proofs.PairLists.NamedPairs.{lookup-entry}
 use Rattle.schnellru.proofs.Theorems.InsertAnswers.{insert_found}
 use Rattle.schnellru.proofs.Theorems.Sums.{total-is, total-front}
 

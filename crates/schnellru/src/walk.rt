@@ -110,7 +110,7 @@ impl<'a, K, V, N: LinkType> ExactSizeIterator for Walk<'a, K, V, N> {
 
 impl<'a, K, V, N: LinkType> FusedIterator for Walk<'a, K, V, N> {}
 
-/// The clone gives the pairs that are left of the walk. Cost: `O(1)`, and no memory.
+/// The clone returns the pairs that the walk has left. Cost: `O(1)`, and no memory.
 impl<'a, K, V, N: LinkType> Clone for Walk<'a, K, V, N> {
     ghost is_clone = { λ s r. r ≡ s };
 

@@ -90,7 +90,7 @@ fn evict_oldest<B: Copy, D: BlockDevice<B>>(
     ensures left { OnOk result (length map.new.pairs ≡ length map.old.pairs - 1) }
     ensures newest { OnOk result (map.new.pairs ≡ take (length map.old.pairs - 1) map.old.pairs) }
 {
-    // Nothing at run time: it tells the proof that no two pages have one number.
+    // Nothing at run time: it shows the proof that no two pages have one number.
     let _ = map.len();
     let Some((n, page)) = map.peek_oldest() else {
         return Ok(());

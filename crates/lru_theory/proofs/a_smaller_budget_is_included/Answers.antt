@@ -8,7 +8,7 @@ use Rattle.recency.specs.Budgets.{cached_within}
 use Rattle.recency.specs.Recency.{IsExact}
 use Rattle.lru_theory.specs.BudgetReferences.{BudgetReferences, offered}
 use Rattle.lru_theory.proofs.BudgetLists.{keys_held}
-use Rattle.lru_theory.proofs.BudgetSteps.{run_holds}
+use Rattle.lru_theory.proofs.BudgetSteps.{run_leaves}
 use Rattle.lru_theory.proofs.a_smaller_budget_is_included.Goals as goal
 
 pub returns : goal.returns
@@ -29,11 +29,11 @@ returns g c =
     subst (λ m. HasTableFor m old) (omega (arith, many, ap length r.empty)) r.tables in
     let whole = runs.reached old new r.calls r.replies tables r.map r.run in
     let listed = runs.exact old new r.calls r.replies (λ s bytes. (refl, refl)) whole.0 whole.1 in
-    let left = run_holds cost value_of n r.fits exact (hash_of old.hasher) _ [] (contents old) r.calls r.replies
+    let left = run_leaves cost value_of n r.fits exact (hash_of old.hasher) _ [] (contents old) r.calls r.replies
     (contents new) keys listed r.named r.memory r.small
     (λ i. record { pairs = r.empty i; limiter = record { limit = n; cost = r.unspent i } }) in
     ap (λ c. keys_of c.pairs) left
-    ∙ keys_held cost value_of n (cached_within eq (λ key. cost (value_of key)) n (reverse keys ++ []))
+    ∙ keys_held cost value_of (cached_within eq (λ key. cost (value_of key)) n (reverse keys ++ []))
     ∙ ap (cached_within eq (λ key. cost (value_of key)) n) (append-nil (reverse keys)) in
     record {
       keys = contains;

@@ -93,7 +93,7 @@ module _ {K V S H : Type 0} (rules : Rules K V S) (before : List (K × V)) (old 
     room = noted_room before (before ++ pair ∷ []) old new step.state.room;
   }
 
--- if the limiter would be over, way is made
+-- if the limiter would be over, room is made
 pub make_room-over : {K V S : Type 0} (rules : Rules K V S) (c : Contents K V S) →
     rules.is_over_the_limit c.limiter (length c.pairs + 1) ≡ true → make_room rules c ≡ pop rules c
 make_room-over rules c over = rw over refl

@@ -1,5 +1,7 @@
 -- Pairs with distinct keys, cut at the one whose key is named.
-use Rattle.std.proofs.Common.{◌≡◌, Bool, true, false, List, [], ◌∷◌, ◌++◌, Some, refl, ap, ◌∙◌, arith, cond, option_map}
+use Rattle.std.proofs.Common.{◌≡◌, Bool, true, false, List, [], ◌∷◌, ◌++◌, Option, Some, None, refl, sym, ap, ◌∙◌, arith}
+use Rattle.std.proofs.Common.{cond, option_map}
+use Rattle.std.proofs.lemmas.Option.{none-some}
 use Rattle.std.specs.Cmp.{IsEquivalence}
 use Rattle.std.specs.List.{IsDistinct}
 use Rattle.std.proofs.lemmas.List.Elements.{Contains-append_right}
@@ -16,6 +18,14 @@ lookup-entry names (x ∷ xs) = go (names x.0) (lookup-entry names xs)
         → cond y (Some x.1) (lookup names xs) ≡ option_map (λ p. p.1) (cond y (Some x) (lookup_entry names xs))
     go true h = refl
     go false h = h
+
+-- if there is no value, there is no pair
+pub no_pair : {K V : Type 0} (names : K → Bool) (xs : List (K × V)) → lookup names xs ≡ None → lookup_entry names xs ≡ None
+no_pair {K} {V} names xs none = go (lookup_entry names xs) (sym (lookup-entry names xs) ∙ none)
+  where
+    go : (o : Option (K × V)) → option_map (λ p. p.1) o ≡ None → o ≡ None
+    go None e = refl
+    go (Some pair) e = absurd (none-some pair.1 (sym e))
 
 module _ {K V : Type 0} (names : K → Bool) where
   module _ (p : K × V) (named : names p.0 ≡ true) where

@@ -23,7 +23,7 @@ use Rattle.schnellru.specs.Exact.{ending_there, ending_new, IsEnding, EndsBy, En
 use Rattle.schnellru.specs.Exact.{IsDetermined}
 
 module _ {K V S H : Type 0} (rules : Rules K V S) (pair : K × V) where
-  -- The pair, the pairs and the limiter are as they are to be, if memory is not short.
+  -- The pair, the pairs and the limiter are as the list says, if memory does not run out.
   abbrev pub LandsAs : Landing K V S → Outcome → State K V S H → Type 0
   LandsAs l placed new = l ≡ record { there = true; left = contents new }
   LandsAs l refused new = l ≡ record { there = false; left = contents new }

@@ -71,7 +71,7 @@ module _ {K V : Type 0} where
       go false f h = ap (λ l. x ∷ l) (f h)
 
 module _ {K V S : Type 0} (rules : Rules K V S) where
-  -- way is made from the old end
+  -- room is made from the old end
   pub front_way : KeepsWay rules (λ c d. IsFront d.pairs c.pairs)
   front_way = record {
     self = λ c. front_self c.pairs;

@@ -14,7 +14,7 @@ use Rattle.schnellru.specs.IfMade.{MakesNewestIfMade, or_memory}
 use Rattle.schnellru.specs.declared.map.get_or_insert.GetOrInsertError.{GetOrInsertError}
 use Rattle.schnellru.proofs.PairLists.DistinctKeys.{AreDistinct}
 use Rattle.schnellru.proofs.Theorems.Fronts.{found_named}
-use Rattle.schnellru.proofs.PairLists.NamedPairs.{lookup-entry}
+use Rattle.schnellru.proofs.PairLists.NamedPairs.{lookup-entry, no_pair}
 use Rattle.schnellru.proofs.Theorems.InsertAnswers.{insert_says}
 use Rattle.schnellru.proofs.Theorems.LackOfMemory.{err_is}
 use Rattle.schnellru.proofs.Maps.Outcomes.{ok-not_err}
@@ -48,14 +48,6 @@ module _ {K V S H : Type 0} (rules : Rules K V S) (names : K → Bool) (new : St
   says_or_memory E (Ok true) s = s.0
   says_or_memory E (Ok false) s = s
   says_or_memory E (Err e) s = s
-
--- if there is no value, there is no pair
-no_pair : {K V : Type 0} (names : K → Bool) (xs : List (K × V)) → lookup names xs ≡ None → lookup_entry names xs ≡ None
-no_pair {K} {V} names xs none = go (lookup_entry names xs) (sym (lookup-entry names xs) ∙ none)
-  where
-    go : (o : Option (K × V)) → option_map (λ p. p.1) o ≡ None → o ≡ None
-    go None e = refl
-    go (Some pair) e = absurd (none-some pair.1 (sym e))
 
 module _ {K V S H I : Type 0} {rules : Rules K V S} {offers : Offers K V S I} {names : I → K → Bool}
     {hash_of : H → K → ℕ} {eq : K → K → Bool} {query_input : I → List (List ℕ)} {key_input : K → List (List ℕ)}

@@ -63,7 +63,7 @@ module _ {K V S : Type 0} (rules : Rules K V S) where
 
 module _ {K V S H : Type 0} (rules : Rules K V S) (hash_of : H → K → ℕ) (pair : K × V) (old : State K V S H) where
   -- the new pair is the newest, if it is placed; no pair is left if it is refused, and the oldest may have gone
-  -- if memory lacks
+  -- if memory runs out
   abbrev pub Comes : Outcome → State K V S H → Type 0
   Comes placed new = (rest : List (K × V)) × (new.pairs ≡ pair ∷ rest)
   Comes refused new = new.pairs ≡ []

@@ -123,7 +123,7 @@ module _ {K V S : Type 0} (rules : Rules K V S) (R : Contents K V S → Contents
 
 module _ {K V S Q : Type 0} (rules : Rules K V S) (names : Q → K → Bool) (R : Contents K V S → Contents K V S → Type 0)
     (k : Keeps rules names R) where
-  -- way is made behind a pair in hand
+  -- room is made behind a pair in hand
   pub way_behind : (pair : K × V) → KeepsWay rules (λ c d. R (behind pair c) (behind pair d))
   way_behind pair = record {
     self = λ c. k.way.self (behind pair c);

@@ -107,7 +107,7 @@ module _ {K V S H : Type 0} (rules : Rules K V S) (hash_of : H → K → ℕ) (p
       gives_way (some, b.no_bucket.no_room) b.above_half mid c n one left gone new
       (λ taken. omega (arith, half, taken)) (ap (λ st. st.pairs) p.state) p.table
 
-  -- if memory lacks after that, one fewer than half are left at the least
+  -- if memory runs out after that, at least one fewer than half are left
   pub place_lacks_half : IsRefusedGrowth rules old → (outcome : Outcome) (new : State K V S H) → outcome ≡ no_memory
       → Place rules hash_of pair old outcome new
       → full_capacity (buckets old) / 2 ≤ length new.pairs + 1
@@ -122,7 +122,7 @@ module _ {K V S H : Type 0} (rules : Rules K V S) (hash_of : H → K → ℕ) (p
   place_lacks_half refusal outcome new q (not_grown b mid c (rehashes some n pos one half left gone m)) =
       omega (arith, ap length (left_if left new _ _ _ outcome q m), left_length n mid left c gone, half)
 
-  -- if memory lacks, all pairs are left, or growth was refused
+  -- if memory runs out, all pairs are left, or growth was refused
   pub place_lacks_keeps : (outcome : Outcome) (new : State K V S H) → outcome ≡ no_memory
       → Place rules hash_of pair old outcome new → (new.pairs ≡ old.pairs) ⊎ IsRefusedGrowth rules old
   place_lacks_keeps outcome new q (in_bucket l f s o n) = placed-not_no_memory (sym o ∙ q)

@@ -127,8 +127,8 @@ impl<K: Eq + Hash, V, L: Limiter<K, V>, S: KeyHasher<K>> LruMap<K, V, L, S> {
     /// The same as `insert_with`, and returns the value that the map does not keep, if the key is there: the old one, or
     /// the new one if the limiter rejects it. It is as the limiter leaves it.
     ///
-    /// So no value is dropped: an entry that leaves or cannot be stored is passed to the callback. A new element that
-    /// `on_insert` rejects belongs to the limiter, which drops it.
+    /// The map drops no value: an entry that leaves or cannot be stored is passed to the callback. Only a new element that
+    /// `on_insert` rejects is dropped, by the limiter.
     ///
     /// ```
     /// let inserted = map.insert_full(1, 11, &mut |_, _| {})?;

@@ -11,7 +11,7 @@ use std::mem;
 impl<K: Eq + Hash + Drop, V: Drop, L: Limiter<K, V>, S: KeyHasher<K>> LruMap<K, V, L, S> {
     /// Evicts the oldest entries while the limiter is over its limit.
     ///
-    /// A limit that was lowered through `limiter_mut`, or an entry whose cost has risen, takes effect now.
+    /// So a limit that was lowered through `limiter_mut` takes effect now.
     ///
     /// ```
     /// *map.limiter_mut() = ByLength::new(1);

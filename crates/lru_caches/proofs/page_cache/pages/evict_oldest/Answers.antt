@@ -1,4 +1,5 @@
 use Rattle.std.proofs.Common.{◌++◌, ◌∷◌, [], arith, length, nat_eq, option_map, sym, ap, ◌∙◌}
+use Rattle.std.proofs.lemmas.Result.{err_from_is_err_and}
 use Rattle.std.specs.Map.{lookup}
 use Rattle.std.specs.Map.Iter.{deref_pair}
 use Rattle.schnellru.specs.Lists.{without_last}
@@ -20,74 +21,50 @@ returns-in_default-clause-left g c =
     let none = sym c.peek_oldest.ensures ∙ ap (option_map deref_pair) c.in_default.is in
     ap length (no_last pages none) ∙ length-without_last pages
 
-pub returns-in_err-write_back-clause-clean : goal.returns-in_err-write_back-clause-clean
-returns-in_err-write_back-clause-clean g c =
+pub returns-in_err-write_back : goal.returns-in_err-write_back
+returns-in_err-write_back g c =
     let pages = c.args.map.now.pairs in
     let n = c.in-Some.n.now in
     let page = c.in-Some.page.now in
     let there = last_found pages n page c.len.ensures.map.distinct (sym c.in-Some.ensures) in
-    clean-written_back g.D.BlockDevice.blocks pages c.args.device.now c.write_back.new.device n page there
-    c.write_back.ensures.others c.args.round c.write_back.ensures.clean c.requires
+    let wrote = c.write_back.ensures in
+    let failed = err_from_is_err_and c.from_residual.result c.from_residual.ensures.1 in
+    rw failed.1 (record {
+      clean = clean-written_back g.D.BlockDevice.blocks pages c.args.device.now c.write_back.new.device n page there
+          wrote.others c.args.round wrote.clean c.requires;
+      shows = shown-written_back g.D.BlockDevice.blocks pages c.args.device.now c.write_back.new.device n page there
+          wrote.others;
+      absent = λ m none. none;
+      at_most = omega arith;
+      left = tt;
+      newest = tt;
+    })
 
-pub returns-in_err-write_back-clause-shows : goal.returns-in_err-write_back-clause-shows
-returns-in_err-write_back-clause-shows g c =
+pub returns : goal.returns
+returns g c =
     let pages = c.args.map.now.pairs in
     let n = c.in-Some.n.now in
     let page = c.in-Some.page.now in
     let there = last_found pages n page c.len.ensures.map.distinct (sym c.in-Some.ensures) in
-    shown-written_back g.D.BlockDevice.blocks pages c.args.device.now c.write_back.new.device n page there
-    c.write_back.ensures.others
-
-pub returns-clause-clean : goal.returns-clause-clean
-returns-clause-clean g c =
-    let pages = c.args.map.now.pairs in
-    let n = c.in-Some.n.now in
-    let page = c.in-Some.page.now in
+    let wrote = c.write_back.ensures in
+    let old = c.args.device.now in
+    let new = c.write_back.new.device in
     let left = ap (λ st. st.pairs) c.pop_oldest.ensures.step.state.is in
     let is = ends_with pages (n, page) (sym c.in-Some.ensures) in
-    let there = last_found pages n page c.len.ensures.map.distinct (sym c.in-Some.ensures) in
-    let device = c.write_back.new.device in
-    clean-removed g.D.BlockDevice.blocks c.args.round pages c.pop_oldest.new.self.pairs ((n, page) ∷ []) device
-    (is ∙ ap (λ l. l ++ (n, page) ∷ []) (sym left))
-    (clean-written_back g.D.BlockDevice.blocks pages c.args.device.now device n page there c.write_back.ensures.others
-    c.args.round c.write_back.ensures.clean c.requires)
-
-pub returns-clause-shows : goal.returns-clause-shows
-returns-clause-shows g c = λ m.
-    let pages = c.args.map.now.pairs in
-    let n = c.in-Some.n.now in
-    let page = c.in-Some.page.now in
-    let left = ap (λ st. st.pairs) c.pop_oldest.ensures.step.state.is in
-    let is = ends_with pages (n, page) (sym c.in-Some.ensures) in
-    let there = last_found pages n page c.len.ensures.map.distinct (sym c.in-Some.ensures) in
-    let device = c.write_back.new.device in
-    let others = c.write_back.ensures.others in
-    shown-removed g.D.BlockDevice.blocks pages c.pop_oldest.new.self.pairs device n page
-    (is ∙ ap (λ l. l ++ (n, page) ∷ []) (sym left)) c.in_ok-write_back.ensures.written m
-    ∙ shown-written_back g.D.BlockDevice.blocks pages c.args.device.now device n page there others m
-
-pub returns-clause-absent : goal.returns-clause-absent
-returns-clause-absent g c = λ m none.
-    let pages = c.args.map.now.pairs in
-    let left = ap (λ st. st.pairs) c.pop_oldest.ensures.step.state.is in
-    let n = c.in-Some.n.now in
-    let page = c.in-Some.page.now in
-    let is = ends_with pages (n, page) (sym c.in-Some.ensures) in
-    ap (lookup (nat_eq m)) left
-    ∙ absent_left (nat_eq m) (without_last pages) ((n, page) ∷ []) (sym (ap (lookup (nat_eq m)) is) ∙ none)
-
-pub returns-clause-at_most : goal.returns-clause-at_most
-returns-clause-at_most g c =
-    let is = ap (λ st. length st.pairs) c.pop_oldest.ensures.step.state.is in
-    omega (arith, is, length-without_last c.args.map.now.pairs)
-
-pub returns-clause-left : goal.returns-clause-left
-returns-clause-left g c =
-    ap (λ st. length st.pairs) c.pop_oldest.ensures.step.state.is ∙ length-without_last c.args.map.now.pairs
-
-pub returns-clause-newest : goal.returns-clause-newest
-returns-clause-newest g c =
-    ap (λ st. st.pairs) c.pop_oldest.ensures.step.state.is ∙ without_last-take c.args.map.now.pairs
+    let ends = is ∙ ap (λ l. l ++ (n, page) ∷ []) (sym left) in
+    record {
+      clean = clean-removed g.D.BlockDevice.blocks c.args.round pages c.pop_oldest.new.self.pairs ((n, page) ∷ []) new ends
+          (clean-written_back g.D.BlockDevice.blocks pages old new n page there wrote.others c.args.round wrote.clean
+          c.requires);
+      shows = λ m. shown-removed g.D.BlockDevice.blocks pages c.pop_oldest.new.self.pairs new n page ends
+          c.in_ok-write_back.ensures.written m
+          ∙ shown-written_back g.D.BlockDevice.blocks pages old new n page there wrote.others m;
+      absent = λ m none. ap (lookup (nat_eq m)) left
+          ∙ absent_left (nat_eq m) (without_last pages) ((n, page) ∷ []) (sym (ap (lookup (nat_eq m)) is) ∙ none);
+      at_most = omega (arith, ap length left, length-without_last pages);
+      left = ap length left ∙ length-without_last pages;
+      newest = left ∙ without_last-take pages;
+    }
 
 pub returns-in_default-clause-newest : goal.returns-in_default-clause-newest
 returns-in_default-clause-newest g c =

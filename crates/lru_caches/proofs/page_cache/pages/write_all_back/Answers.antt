@@ -3,6 +3,7 @@ use Rattle.std.proofs.lemmas.Cmp.{nat_eq_equiv}
 use Rattle.std.proofs.lemmas.List.Elements.{All-head, All-tail, All-contains_itself}
 use Rattle.std.proofs.lemmas.Map.Views.{lookup-from_Contains}
 use Rattle.std.specs.List.{All, Contains}
+use Rattle.std.proofs.lemmas.Result.{err_from_is_err_and}
 use Rattle.std.specs.Map.{lookup}
 use Rattle.lru_caches.proofs.Blocks.{shown-written_back, clean-written_back, shown-absent, written-more}
 use Rattle.lru_caches.proofs.page_cache.pages.write_all_back.Goals as goal
@@ -53,8 +54,8 @@ loop-n-preserved g c =
           (λ m none. h.written m (ap (lookup (nat_eq m)) c.in-Some.ensures.steps ∙ none));
     }
 
-pub returns-in_err-write_back-clause-clean : goal.returns-in_err-write_back-clause-clean
-returns-in_err-write_back-clause-clean g c =
+pub returns-in_err-write_back : goal.returns-in_err-write_back
+returns-in_err-write_back g c =
     let pages = c.args.map.now.pairs in
     let n = c.in-Some.n.now in
     let page = c.in-Some.page.now in
@@ -62,17 +63,12 @@ returns-in_err-write_back-clause-clean g c =
     let among = All-head (Contains pages) (n, page) c.next.new.self
     (subst (All (Contains pages)) c.in-Some.ensures.steps h.among) in
     let there = lookup-from_Contains nat_eq_equiv n page pages c.iter-n-items.ensures.map.distinct among in
-    clean-written_back g.D.BlockDevice.blocks pages c.loop-n.device c.write_back.new.device n page there
-    c.write_back.ensures.others c.args.round c.write_back.ensures.clean h.clean
-
-pub returns-in_err-write_back-clause-shows : goal.returns-in_err-write_back-clause-shows
-returns-in_err-write_back-clause-shows g c = λ m.
-    let pages = c.args.map.now.pairs in
-    let n = c.in-Some.n.now in
-    let page = c.in-Some.page.now in
-    let h = c.loop-n.invariant in
-    let among = All-head (Contains pages) (n, page) c.next.new.self
-    (subst (All (Contains pages)) c.in-Some.ensures.steps h.among) in
-    let there = lookup-from_Contains nat_eq_equiv n page pages c.iter-n-items.ensures.map.distinct among in
-    shown-written_back g.D.BlockDevice.blocks pages c.loop-n.device c.write_back.new.device n page there
-    c.write_back.ensures.others m ∙ h.shows m
+    let wrote = c.write_back.ensures in
+    let failed = err_from_is_err_and c.from_residual.result c.from_residual.ensures.1 in
+    rw failed.1 (record {
+      clean = clean-written_back g.D.BlockDevice.blocks pages c.loop-n.device c.write_back.new.device n page there
+          wrote.others c.args.round wrote.clean h.clean;
+      shows = λ m. shown-written_back g.D.BlockDevice.blocks pages c.loop-n.device c.write_back.new.device n page there
+          wrote.others m ∙ h.shows m;
+      written = tt;
+    })
