@@ -1,12 +1,14 @@
--- The limiter by a cost: its limit, and the sum of the costs that it keeps.
+-- The limiters by a cost: their limit, and the sum of the costs that they keep.
 --     Budget                 the two numbers
 --     can_add most sum c     the cost c is at most most, and the sum with it fits 64 bits
 --     charged b c            the sum with c added, if it can be
 --     refunded b c           the sum with c taken off, or 0 if c is greater
 --     exchanged b k v w c d  what is left after the value v of cost c was to be replaced by w of cost d
---     by_cost, charges       the rules and the offers of the limiter, if a value has this cost
---     charges-lawful, charges-sums      the laws of `Insertion` and of `Summing`
-use Rattle.std.specs.Prelude.{◌+◌, ◌-◌, ◌^◌, ◌&&◌, ℕ, Bool, true, nat_lt, nat_le, if◌then◌else◌, refl}
+--     by_weight, weighs      the rules and the offers of a limiter, if a pair has this cost
+--     by_cost, charges       those, if a value has this cost
+--     pair_cost o k v        the cost of a pair whose key costs k and whose value costs v, with the overhead o
+--     weighs-lawful, weighs-sums, charges-lawful, charges-sums      the laws of `Insertion` and of `Summing`
+use Rattle.std.specs.Prelude.{◌+◌, ◌-◌, ◌^◌, ◌&&◌, ℕ, min, Bool, true, nat_lt, nat_le, if◌then◌else◌, refl}
 use Rattle.std.specs.Cmp.{IsEquivalence}
 use Rattle.lru_limits.specs.Rules.{Replaced, Rules, Offers}
 use Rattle.lru_limits.specs.Laws.{IsInsertion, IsAccount}
@@ -34,39 +36,58 @@ exchanged b k v w c d = record {
   new_value = w;
 }
 
-module _ {K V : Type 0} (cost : V → ℕ) where
-  abbrev pub by_cost : Rules K V Budget
-  by_cost = record {
+module _ {K V : Type 0} (weight : K → V → ℕ) where
+  abbrev pub by_weight : Rules K V Budget
+  by_weight = record {
     is_over_the_limit = λ b n. nat_lt b.limit b.cost;
-    on_removed = λ b k v. record { limiter = refunded b (cost v); key = k; value = v };
+    on_removed = λ b k v. record { limiter = refunded b (weight k v); key = k; value = v };
     on_cleared = λ b. record b { cost = 0 };
     on_grow = λ b bytes. answers b true;
   }
 
-  abbrev pub charges : Offers K V Budget K
-  charges = record {
-    on_insert = λ b n k v t given. HandsOver (can_add b.limit b.cost (cost v)) (charged b (cost v)) k v t given;
+  abbrev pub weighs : Offers K V Budget K
+  weighs = record {
+    on_insert = λ b n k v t given. HandsOver (can_add b.limit b.cost (weight k v)) (charged b (weight k v)) k v t given;
     may_lack = λ b n k v. ⊥;
-    on_replace = λ b n k i v w. exchanged b k v w (cost v) (cost w);
+    on_replace = λ b n k i v w. exchanged b k v w (weight k v) (weight k w);
+  }
+
+module _ {K V : Type 0} (cost : V → ℕ) where
+  abbrev pub by_cost : Rules K V Budget
+  by_cost = by_weight (λ k v. cost v)
+
+  abbrev pub charges : Offers K V Budget K
+  charges = weighs (λ k v. cost v)
+
+-- the cost of a pair, or the greatest number of 64 bits if that is less
+abbrev pub pair_cost : ℕ → ℕ → ℕ → ℕ
+pair_cost overhead k v = min (k + v + overhead) (2 ^ 64 - 1)
+
+module _ {K V : Type 0} (weight : K → V → ℕ) where
+  pub weighs-lawful : (eq : K → K → Bool) → IsEquivalence eq → IsInsertion eq eq (weighs weight)
+  weighs-lawful eq e = record {
+    names_given = λ b n i v t k w given. given-names eq e.refl given;
+    keeps_key = λ b n k i v w named. e.refl k;
+  }
+
+  pub weighs-sums : IsAccount (by_weight weight) (weighs weight) weight (λ b. b.cost)
+  weighs-sums = record {
+    adds = λ b n i v t k w. given-adds weight (λ b. b.cost) (can_add b.limit b.cost (weight i v)) b
+        (record b { cost = b.cost + weight i v }) i v t k w refl;
+    refuses = λ b n i v t. refused-keeps (λ b. b.cost) (can_add b.limit b.cost (weight i v)) b
+        (record b { cost = b.cost + weight i v }) i v t;
+    exchanges = λ b n k i v w. replaced-exchanges weight (λ b. b.cost)
+        (can_add b.limit (b.cost - weight k v) (weight k w)) b
+        (record b { cost = b.cost - weight k v + weight k w }) k v w refl;
+    takes_off = λ b k v enough. refl;
+    empties = λ b. refl;
+    keeps = λ b n. refl;
   }
 
 pub charges-lawful : {K V : Type 0} (eq : K → K → Bool) → IsEquivalence eq → (cost : V → ℕ)
     → IsInsertion eq eq (charges cost)
-charges-lawful eq e cost = record {
-  names_given = λ b n i v t k w given. given-names eq e.refl given;
-  keeps_key = λ b n k i v w named. e.refl k;
-}
+charges-lawful eq e cost = weighs-lawful (λ k v. cost v) eq e
 
 pub charges-sums : {K V : Type 0} (cost : V → ℕ) → IsAccount (by_cost {K = K} cost) (charges cost) (λ k v. cost v)
     (λ b. b.cost)
-charges-sums cost = record {
-  adds = λ b n i v t k w. given-adds (λ k v. cost v) (λ b. b.cost) (can_add b.limit b.cost (cost v)) b
-      (record b { cost = b.cost + cost v }) i v t k w refl;
-  refuses = λ b n i v t. refused-keeps (λ b. b.cost) (can_add b.limit b.cost (cost v)) b
-      (record b { cost = b.cost + cost v }) i v t;
-  exchanges = λ b n k i v w. replaced-exchanges (λ k v. cost v) (λ b. b.cost)
-      (can_add b.limit (b.cost - cost v) (cost w)) b (record b { cost = b.cost - cost v + cost w }) k v w refl;
-  takes_off = λ b k v enough. refl;
-  empties = λ b. refl;
-  keeps = λ b n. refl;
-}
+charges-sums cost = weighs-sums (λ k v. cost v)

@@ -1,12 +1,15 @@
-//! Costs, limiters with a running total of them, and the limiter by cost.
-ghost use Rattle.std.specs.Prelude.{◌≡◌, ℕ, string_len, vec_len};
+//! Costs, limiters with a running total of them, and two limiters by cost.
+ghost use Rattle.std.specs.Prelude.{◌≡◌, ◌+◌, ℕ, Some, None, if◌then◌else◌, string_len, vec_len};
+ghost use Rattle.lru_limits.specs.Budget.{can_add};
 ghost use Rattle.lru_limits.specs.Laws.{IsAccount};
 
 mod by_cost;
+mod by_weight;
 
 use crate::keys::LookupKey;
 use crate::limiter::Insertion;
 pub use by_cost::ByCost;
+pub use by_weight::ByWeight;
 use std::hash::Hash;
 
 /// A value with a cost. A whole number costs itself, a text its bytes, and a vector the number of its items.
@@ -128,4 +131,16 @@ pub trait Summing<K: Eq + Hash, V, I: LookupKey<K>>: Insertion<K, V, I> {
 
     /// What each callback does to the running total.
     ghost laws: { IsAccount Self.rules Self.offers cost_of account };
+}
+
+// Returns the sum with this cost added, if the cost alone is within the limit and the sum fits.
+#[inline]
+fn sum_with(limit: u64, sum: u64, cost: u64) -> Option<u64>
+    ensures { result ≡ (if can_add limit sum cost then Some (sum + cost) else None) }
+{
+    if cost <= limit {
+        sum.checked_add(cost)
+    } else {
+        None
+    }
 }

@@ -6,11 +6,12 @@
 --     written-found        after a value was written through a get, a look-up finds it
 --     read-all             what holds of each pair holds of each after a get through which nothing is written
 --     hands_over-keeps     a limiter that stores pairs as they come keeps their values
---     hands_over-determined, charges-determined      it leaves nothing open, nor does the limiter by a cost
---     hands_over-finds, charges-finds                and both find the memory that they ask for
---     plain-grants, by_cost-grants                   if a limiter permits every growth
---     plain-changes_none, by_cost-changes_none       limiters that change no pair as it leaves
---     hands_over-accepts, charges-accepts            when they accept a pair of a new key
+--     weighs-keeps, charges-keeps      so do the limiters by a cost
+--     hands_over-determined, weighs-determined, charges-determined      these limiters leave nothing open
+--     hands_over-finds, weighs-finds, charges-finds                     and find the memory that they ask for
+--     plain-grants, by_weight-grants, by_cost-grants                    if a limiter permits every growth
+--     plain-changes_none, by_weight-changes_none, by_cost-changes_none  limiters that change no pair as it leaves
+--     hands_over-accepts, weighs-accepts, charges-accepts               when they accept a pair of a new key
 --     stored_key-same      a key that equals no other key is stored as it came
 --     stored-came          and so is the pair, by a limiter that stores pairs as they come
 --     inserted-found       under such a limiter, after an insert that answered true, a look-up finds the value
@@ -50,8 +51,9 @@ pub use Rattle.schnellru.proofs.TableSizes.ReachedTables.{has_tables}
 pub use Rattle.schnellru.proofs.TableSizes.Growth.{usage_bytes}
 pub use Rattle.schnellru.proofs.Theorems.RunLimits.{nothing_written}
 pub use Rattle.schnellru.proofs.Theorems.Runs.{any_step_same}
-pub use Rattle.schnellru.proofs.Theorems.StoringLimiters.{plain-changes_none, by_cost-changes_none}
-pub use Rattle.schnellru.proofs.Theorems.StoringLimiters.{hands_over-accepts, charges-accepts, stored_key-same}
+pub use Rattle.schnellru.proofs.Theorems.StoringLimiters.{plain-changes_none, by_weight-changes_none}
+pub use Rattle.schnellru.proofs.Theorems.StoringLimiters.{by_cost-changes_none, hands_over-accepts, weighs-accepts}
+pub use Rattle.schnellru.proofs.Theorems.StoringLimiters.{charges-accepts, stored_key-same}
 pub use Rattle.schnellru.proofs.Theorems.StoringLimiters.{stored-came}
 pub use Rattle.schnellru.proofs.Theorems.Sums.{sum-set}
 pub use Rattle.schnellru.proofs.Theorems.SmallTables.{Shape, shape, same_shape, look_alike, with_left, left_shape}
@@ -69,7 +71,7 @@ use Rattle.std.proofs.lemmas.Map.Steps.{set_value_same}
 use Rattle.std.proofs.lemmas.Option.{none-some}
 use Rattle.std.specs.declared.alloc.AllocError.{AllocError}
 use Rattle.lru_limits.specs.Rules.{Rules, Offers}
-use Rattle.lru_limits.specs.Budget.{by_cost, charges}
+use Rattle.lru_limits.specs.Budget.{by_weight, weighs, by_cost, charges, can_add}
 use Rattle.lru_limits.specs.Stores.{plain, hands_over, given-is}
 use Rattle.schnellru.specs.Lists.{first, without_first, lookup, lookup_entry, without, after, front}
 use Rattle.schnellru.specs.Lists.{place_of, other_places, front_places}
@@ -208,20 +210,40 @@ hands_over-determined admits = λ s n i v t u given other h k. (h.limiter ∙ sy
 pub hands_over-finds : {K V S : Type 0} (admits : S → K → V → Bool) → NeverLacks (hands_over admits)
 hands_over-finds admits = λ s n i v lacks. lacks
 
--- and so does the limiter by a cost
-pub charges-determined : {K V : Type 0} (cost : V → ℕ) → IsDetermined (charges {K = K} cost)
-charges-determined cost = λ s n i v t u given other h k. (h.limiter ∙ sym k.limiter, h.pair ∙ sym k.pair)
+-- and so do the limiters by a cost
+module _ {K V : Type 0} (weight : K → V → ℕ) where
+  pub weighs-keeps : KeepsValues (weighs weight)
+  weighs-keeps = record {
+    given = λ b n i v t k w h. ap (λ p. p.1) (given-is (can_add b.limit b.cost (weight i v)) _ i v t (k, w) h);
+    replaced = λ b n k i v w. refl;
+  }
 
-pub charges-finds : {K V : Type 0} (cost : V → ℕ) → NeverLacks (charges {K = K} cost)
-charges-finds cost = λ s n i v lacks. lacks
+  pub weighs-determined : IsDetermined (weighs weight)
+  weighs-determined = λ s n i v t u given other h k. (h.limiter ∙ sym k.limiter, h.pair ∙ sym k.pair)
+
+  pub weighs-finds : NeverLacks (weighs weight)
+  weighs-finds = λ s n i v lacks. lacks
+
+module _ {K V : Type 0} (cost : V → ℕ) where
+  pub charges-keeps : KeepsValues (charges {K = K} cost)
+  charges-keeps = weighs-keeps (λ k v. cost v)
+
+  pub charges-determined : IsDetermined (charges {K = K} cost)
+  charges-determined = weighs-determined (λ k v. cost v)
+
+  pub charges-finds : NeverLacks (charges {K = K} cost)
+  charges-finds = weighs-finds (λ k v. cost v)
 
 -- those permit every growth that answer true
 pub plain-grants : (K V : Type 0) {S : Type 0} (over : S → ℕ → Bool)
     → AlwaysGrants (plain {K = K} {V = V} over (λ _ _. true))
 plain-grants K V over = λ s bytes. (refl, refl)
 
+pub by_weight-grants : {K V : Type 0} (weight : K → V → ℕ) → AlwaysGrants (by_weight weight)
+by_weight-grants weight = λ s bytes. (refl, refl)
+
 pub by_cost-grants : (K : Type 0) {V : Type 0} (cost : V → ℕ) → AlwaysGrants (by_cost {K = K} cost)
-by_cost-grants K cost = λ s bytes. (refl, refl)
+by_cost-grants K {V} cost = by_weight-grants (λ (k : K) (v : V). cost v)
 
 module _ {K V S H I : Type 0} {offers : Offers K V S I} {v : V} (keeps : KeepsValues offers)
     (rules : Rules K V S) (names : I → K → Bool) (i : I) (old new : State K V S H) where

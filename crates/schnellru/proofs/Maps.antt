@@ -4,6 +4,7 @@ pub mod Promotions
 pub mod Fields
 pub mod NotedStates
 pub mod Trims
+pub mod Retains
 pub mod HeldMaps
 pub mod Reservations
 pub mod ClearedMaps

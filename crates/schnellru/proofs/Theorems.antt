@@ -20,6 +20,7 @@ pub mod Limits
 pub mod RefusedGrowth
 pub mod CallChanges
 pub mod Shrinks
+pub mod RetainedPairs
 pub mod Runs
 pub mod AddedPairs
 pub mod OtherPairs

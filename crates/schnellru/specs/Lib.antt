@@ -20,3 +20,4 @@ pub mod Drains
 pub mod Clones
 pub mod Runs
 pub mod Walks
+pub mod Retains

@@ -2,15 +2,16 @@
 --     rules, offers       what the limiter says (`Rules`, `Offers` of `lru_limits`)
 --     names i k           the key i, as a call gets it, names the key k
 --     hash_of h k         the hash of the key k, by the hasher h
-use Rattle.std.specs.Prelude.{◌≡◌, ◌⊎◌, ℕ, Bool, true, List, Option, Result}
+use Rattle.std.specs.Prelude.{◌≡◌, ◌⊎◌, ℕ, Bool, true, false, List, Option, Result, Contains, map}
 use Rattle.std.specs.declared.alloc.AllocError.{AllocError}
 use Rattle.lru_limits.specs.Rules.{Rules, Offers}
-use Rattle.schnellru.specs.State.{State, IsSized, Trims}
+use Rattle.schnellru.specs.State.{State, IsSized, Leaves, Trims}
 use Rattle.schnellru.specs.Calls.{promoted, written, Remove, PopOldest, PopNewest, cleared}
 use Rattle.schnellru.specs.Drains.{Drained}
 use Rattle.schnellru.specs.GetOrInserts.{MakesNewest}
 use Rattle.schnellru.specs.Inserts.{Insert}
 use Rattle.schnellru.specs.Reservations.{Reserve}
+use Rattle.schnellru.specs.Retains.{retained}
 use Rattle.schnellru.specs.Shrinks.{Shrink}
 use Rattle.schnellru.specs.declared.map.reserve.ReserveError.{ReserveError}
 
@@ -36,6 +37,8 @@ module _ {K V S H I : Type 0} (rules : Rules K V S) (offers : Offers K V S I) (n
     reserves : (n : ℕ) (result : Result (Unit {0}) ReserveError) → Reserve rules n old result new → Step old new
     shrinks : (result : Result Bool AllocError) → Shrink old result new → Step old new
     trims : Trims rules old new → Step old new
+    retains : (asked : List ((K × V) × Bool)) → map (λ one. one.0) asked ≡ old.pairs
+        → Leaves old (retained rules asked old.limiter) new → Step old new
 
   -- the same, or a value is written through a reference, or another limiter is
   pub data AnyStep (old new : State K V S H) : Type 0 where
@@ -47,13 +50,15 @@ module _ {K V S H I : Type 0} (rules : Rules K V S) (offers : Offers K V S I) (n
   abbrev pub StepOrWrite : State K V S H → State K V S H → Type 0
   StepOrWrite old new = Step old new ⊎ ((test : K → Bool) × (value : V) × (new ≡ written test value old))
 
-  -- the call names keys that pass the test alone, and does not pop the newest pair
+  -- the call names, or rejects in a retain, keys that pass the test alone, and does not pop the newest pair
   abbrev pub NamesOnly : (test : K → Bool) → (old new : State K V S H) → AnyStep old new → Type 0
   NamesOnly test old new (calls (inserts key value result h)) = AreAmong (names key) test
   NamesOnly test old new (calls (makes_newest value key result h)) = AreAmong (names key) test
   NamesOnly test old new (calls (gets key e)) = AreAmong (names key) test
   NamesOnly test old new (calls (removes named result h)) = AreAmong named test
   NamesOnly test old new (calls (pops_newest result h)) = ⊥
+  NamesOnly test old new (calls (retains asked each h)) =
+      (pair : K × V) → Contains asked (pair, false) → test pair.0 ≡ true
   NamesOnly test old new (writes named value e) = AreAmong named test
   NamesOnly test old new step = Unit {0}
 

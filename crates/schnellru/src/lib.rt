@@ -13,8 +13,8 @@ mod sizes;
 mod walk;
 
 pub use lru_limits::{
-    ByCost, ByLength, ByMemoryUsage, Costed, DefaultHasher, Insertion, KeyHasher, Limiter,
-    LinkType, LookupKey, RandomState, Storing, Summing, Unlimited, UnlimitedCompact,
+    ByCost, ByLength, ByMemoryUsage, ByWeight, Costed, DefaultHasher, Insertion, KeyHasher,
+    Limiter, LinkType, LookupKey, RandomState, Storing, Summing, Unlimited, UnlimitedCompact,
 };
 pub use map::get_or_insert::GetOrInsertError;
 pub use map::insert::Inserted;

@@ -24,6 +24,7 @@ mod replace;
 pub(crate) mod report;
 pub(crate) mod reserve;
 mod resize;
+mod retain;
 mod shrink;
 mod store;
 mod trim;

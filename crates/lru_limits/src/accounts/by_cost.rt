@@ -1,8 +1,8 @@
 //! The limiter by the sum of the costs of the values.
-ghost use Rattle.std.specs.Prelude.{◌≡◌, ◌+◌, Some, None, if◌then◌else◌};
-ghost use Rattle.lru_limits.specs.Budget.{can_add, by_cost, charges, charges-lawful, charges-sums};
+ghost use Rattle.std.specs.Prelude.{◌≡◌};
+ghost use Rattle.lru_limits.specs.Budget.{by_cost, charges, charges-lawful, charges-sums};
 
-use crate::accounts::{Costed, Summing};
+use crate::accounts::{Costed, Summing, sum_with};
 use crate::keys::LookupKey;
 use crate::limiter::{Insertion, Limiter};
 use std::alloc::{AllocError, Global};
@@ -50,6 +50,23 @@ impl ByCost {
         ByCost { limit, cost: 0 }
     }
 
+    /// Returns the same limiter with another limit. The sum stays.
+    ///
+    /// `map.set_limiter(map.limiter().with_limit(n))` sets the limit of a map, and evicts what is over it.
+    ///
+    /// ```
+    /// let lower = limiter.with_limit(1);
+    /// assert_eq!(rt; (lower.limit(), lower.cost()), (1, 2));
+    /// ```
+    pub fn with_limit(&self, limit: u64) -> ByCost
+        ensures { result ≡ record self.now { limit = limit } }
+    {
+        ByCost {
+            limit,
+            cost: self.cost,
+        }
+    }
+
     /// Returns the limit.
     ///
     /// ```
@@ -70,18 +87,6 @@ impl ByCost {
         ensures { result ≡ self.now.cost }
     {
         self.cost
-    }
-
-    // Returns the sum with this cost added, if the cost alone is within the limit and the sum fits.
-    #[inline]
-    fn sum_with(&self, sum: u64, cost: u64) -> Option<u64>
-        ensures { result ≡ (if can_add self.now.limit sum cost then Some (sum + cost) else None) }
-    {
-        if cost <= self.limit {
-            sum.checked_add(cost)
-        } else {
-            None
-        }
     }
 }
 
@@ -122,7 +127,7 @@ impl<K: Eq + Hash + Drop, V: Costed + Drop> Insertion<K, V, K> for ByCost {
         key: K,
         value: V,
     ) -> Result<Option<(K, V)>, AllocError> {
-        match self.sum_with(self.cost, value.cost()) {
+        match sum_with(self.limit, self.cost, value.cost()) {
             Some(sum) => {
                 self.cost = sum;
                 Ok(Some((key, value)))
@@ -141,7 +146,7 @@ impl<K: Eq + Hash + Drop, V: Costed + Drop> Insertion<K, V, K> for ByCost {
         new_value: &mut V,
     ) -> bool {
         let without_old = self.cost.saturating_sub(old_value.cost());
-        match self.sum_with(without_old, new_value.cost()) {
+        match sum_with(self.limit, without_old, new_value.cost()) {
             Some(sum) => {
                 self.cost = sum;
                 true

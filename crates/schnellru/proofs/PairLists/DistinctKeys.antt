@@ -42,6 +42,11 @@ module _ {K V : Type 0} (P : K → Type 0) where
   all_front [] rest h = tt
   all_front (x ∷ xs) rest h = (h.0, all_front xs rest h.1)
 
+  all_between : (newer older : List (K × V)) (pair : K × V) → AllByRecursion P (keys_of (newer ++ pair ∷ older))
+      → AllByRecursion P (keys_of (newer ++ older))
+  all_between [] older pair h = h.1
+  all_between (x ∷ newer) older pair h = (h.0, all_between newer older pair h.1)
+
   all_without : (names : K → Bool) (xs : List (K × V)) → AllByRecursion P (keys_of xs)
       → AllByRecursion P (keys_of (without names xs))
   all_without names [] h = tt
@@ -81,6 +86,13 @@ module _ {K V : Type 0} (eq : K → K → Bool) where
       go : (b : Bool) → AreDistinct (without names xs) → AreDistinct (cond b xs (x ∷ without names xs))
       go true r = d.1
       go false r = (all_without (λ y. eq x.0 y ≡ false) names xs d.0, r)
+
+  distinct_between : (newer older : List (K × V)) (pair : K × V) → AreDistinct (newer ++ pair ∷ older)
+      → AreDistinct (newer ++ older)
+  unfolding IsDistinct
+  distinct_between [] older pair d = d.1
+  distinct_between (x ∷ newer) older pair d =
+      (all_between (λ y. eq x.0 y ≡ false) newer older pair d.0, distinct_between newer older pair d.1)
 
   module _ (names : K → Bool) (one : (x y : K) → names x ≡ true → names y ≡ eq x y) where
     -- the others are not named
@@ -127,6 +139,7 @@ module _ {K V S Q : Type 0} {rules : Rules K V S} {names : Q → K → Bool} {eq
       popped = λ c. distinct_front eq _ c.pairs (front_without_last c.pairs);
     };
     left = λ test c. distinct_without eq test c.pairs;
+    dropped = λ newer older pair s. distinct_between eq newer older pair;
     first = λ q c. distinct_first eq (names q) (looks_up.one q) c.pairs;
     cleared = λ c d. none_distinct eq;
   }

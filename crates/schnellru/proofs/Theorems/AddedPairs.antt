@@ -7,7 +7,7 @@ use Rattle.schnellru.specs.GetOrInserts.{got, inserted}
 use Rattle.schnellru.specs.Lists.{without}
 use Rattle.schnellru.specs.Reservations.{Reserve, unchanged, remade, reserved, asked_only}
 use Rattle.schnellru.specs.Runs.{Step, inserts, makes_newest, gets, removes, pops_oldest, pops_newest, drains, clears}
-use Rattle.schnellru.specs.Runs.{reserves, shrinks, trims, AnyStep, calls, writes, sets_limiter}
+use Rattle.schnellru.specs.Runs.{reserves, shrinks, trims, retains, AnyStep, calls, writes, sets_limiter}
 use Rattle.schnellru.specs.State.{State, contents}
 use Rattle.schnellru.specs.Theorems.{GivesUp, behind, with_none, without_one}
 use Rattle.schnellru.specs.declared.map.reserve.ReserveError.{ReserveError}
@@ -15,6 +15,7 @@ use Rattle.schnellru.proofs.Maps.LeavingPairs.{length-without_first, length-with
 use Rattle.schnellru.proofs.Maps.Promotions.{length-front_pairs}
 use Rattle.schnellru.proofs.Theorems.Fronts.{insert_gives_up, front_trim, length-front}
 use Rattle.schnellru.proofs.Theorems.Limits.{length-without}
+use Rattle.schnellru.proofs.Theorems.RetainedPairs.{length-retained}
 use Rattle.schnellru.proofs.Theorems.Shrinks.{shrunk_list}
 
 gives_up_adds : {K V : Type 0} (names : K → Bool) (refuses : K × V → Type 0) (xs ys : List (K × V))
@@ -57,6 +58,12 @@ module _ {K V S H I : Type 0} {rules : Rules K V S} {offers : Offers K V S I} {n
     arith,
     ap (λ st. length st.pairs) h.is,
     length-front _ old.pairs (front_trim rules (contents old)),
+  )
+  step_adds (retains asked each h) = omega (
+    arith,
+    ap (λ st. length st.pairs) h.is,
+    length-retained rules asked old.limiter,
+    ap length each,
   )
 
   pub any_adds : AnyStep rules offers names hash_of old new → length new.pairs ≤ length old.pairs + 1

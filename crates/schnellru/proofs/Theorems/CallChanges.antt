@@ -1,6 +1,7 @@
 -- What each call but an insert and a shrink changes of a map.
 use Rattle.std.proofs.Common.{◌≡◌, ℕ, zero, suc, ◌+◌, ◌≤◌, inl, inr, Bool, true, List, [], ◌∷◌, length, replicate}
 use Rattle.std.proofs.Common.{Option, Result, refl, sym, ap, subst, arith}
+use Rattle.std.specs.Prelude.{map}
 use Rattle.std.specs.List.{count_by}
 use Rattle.std.proofs.lemmas.List.{length-replicate}
 use Rattle.std.proofs.lemmas.Map.{length-set_value}
@@ -8,12 +9,13 @@ use Rattle.std.specs.declared.alloc.AllocError.{AllocError}
 use Rattle.group_table.specs.Sizes.{full_capacity, IsBucketCount}
 use Rattle.group_table.specs.Bucket.{Mark, empty, is_used, room as room_of}
 use Rattle.lru_limits.specs.Rules.{Rules, Offers}
-use Rattle.schnellru.specs.State.{State, buckets, Contents, contents, MovesTo, Trims}
+use Rattle.schnellru.specs.State.{State, buckets, Contents, contents, MovesTo, Leaves, Trims}
 use Rattle.schnellru.specs.Calls.{promoted, written, pop_first, Remove, PopOldest, PopNewest, cleared}
 use Rattle.schnellru.specs.Place.{asked}
 use Rattle.schnellru.specs.declared.map.reserve.ReserveError.{ReserveError}
 use Rattle.schnellru.specs.Drains.{pops_first, Drained}
 use Rattle.schnellru.specs.GetOrInserts.{MakesNewest, got, inserted}
+use Rattle.schnellru.specs.Retains.{retained}
 use Rattle.schnellru.specs.Reservations.{Reserve, unchanged, remade, reserved, asked_only}
 use Rattle.schnellru.proofs.TableSizes.Growth.{full_capacity-at_most, full_capacity-double, target_doubles}
 use Rattle.schnellru.proofs.TableSizes.Growth.{target_usage}
@@ -23,6 +25,7 @@ use Rattle.schnellru.proofs.Theorems.TableGrowth.{Calm, IsNextCount, Reaches, Ch
 use Rattle.schnellru.proofs.Theorems.TableGrowth.{leaves_calm, calm_trans, calm_changes, leaves_changes}
 use Rattle.schnellru.proofs.Theorems.Ways.{insert_changes}
 use Rattle.schnellru.proofs.Maps.Promotions.{length-front_pairs}
+use Rattle.schnellru.proofs.Theorems.RetainedPairs.{retained_keeps}
 
 module _ {K V S Q : Type 0} {rules : Rules K V S} {names : Q → K → Bool} {R : Contents K V S → Contents K V S → Type 0}
     (k : Keeps rules names R) where
@@ -100,6 +103,11 @@ module _ {K V S H Q : Type 0} {rules : Rules K V S} {names : Q → K → Bool}
 
   pub trim_changes : (new : State K V S H) → Trims rules old new → Changes rules R 0 0 old new
   trim_changes new h = leaves_changes rules R 0 old _ new h (trim_keeps rules R k.way (contents old))
+
+  pub retain_changes : (asked : List ((K × V) × Bool)) (new : State K V S H) → map (λ one. one.0) asked ≡ old.pairs
+      → Leaves old (retained rules asked old.limiter) new → Changes rules R 0 0 old new
+  retain_changes asked new each h =
+      leaves_changes rules R 0 old _ new h (retained_keeps rules names R k asked (contents old) each)
 
   pub pop_newest_changes : (result : Option (K × V)) (new : State K V S H) → PopNewest rules old result new
       → Changes rules R 0 0 old new

@@ -5,7 +5,7 @@ use Rattle.std.proofs.lemmas.Bool.{false≢true, true≢false, not-true}
 use Rattle.std.specs.Prelude.{IsErr, Some, IfSome, option_map}
 use Rattle.std.specs.declared.alloc.AllocError.{AllocError}
 use Rattle.std.proofs.lemmas.List.{nil_from_length}
-use Rattle.schnellru.proofs.PairLists.Emptiness.{empty-length, is_empty-none}
+use Rattle.schnellru.proofs.PairLists.Emptiness.{empty-length}
 use Rattle.lru_limits.specs.Rules.{Rules, Offers}
 use Rattle.lru_limits.specs.Laws.{IsLookup, IsInsertion}
 use Rattle.schnellru.specs.Lists.{is_empty, first, IsFront, lookup, lookup_entry, without}

@@ -59,6 +59,7 @@ module _ {K V S : Type 0} {over grants : S → ℕ → Bool} {admits : S → K �
         popped = λ c. told_plain over grants (last c.pairs) c.limiter;
       };
       left = λ test c. told_plain over grants (lookup_entry test c.pairs) c.limiter;
+      dropped = λ newer older pair s. refl;
       first = λ q c. refl;
       cleared = λ c. refl;
     };

@@ -2,13 +2,13 @@
 --     KeepsWay rules R                      the moves that make room
 --     Keeps rules names R                   and all that need no offers
 --     KeepsOffers rules offers names R      and those of an insert
-use Rattle.std.proofs.Common.{◌≡◌, ℕ, zero, suc, ◌+◌, Bool, true, false, cond, List, [], ◌∷◌, length, Some, None}
+use Rattle.std.proofs.Common.{◌≡◌, ℕ, zero, suc, ◌+◌, Bool, true, false, cond, List, [], ◌∷◌, ◌++◌, length, Some, None}
 use Rattle.std.proofs.Common.{Result, sym, ap, subst}
 use Rattle.std.specs.declared.alloc.AllocError.{AllocError}
 use Rattle.lru_limits.specs.Rules.{Rules, Offers}
 use Rattle.lru_limits.specs.Laws.{kept_value}
 use Rattle.schnellru.specs.Lists.{front, lookup_entry, without}
-use Rattle.schnellru.specs.State.{State, Contents, contents, Leaves, pop, pops, trim, trim_from}
+use Rattle.schnellru.specs.State.{State, Contents, contents, Leaves, told_of, pop, pops, trim, trim_from}
 use Rattle.schnellru.specs.Place.{Outcome, placed, refused, no_memory}
 use Rattle.schnellru.specs.Calls.{removal}
 use Rattle.schnellru.specs.Inserts.{make_room, Settles}
@@ -35,6 +35,10 @@ module _ {K V S : Type 0} (rules : Rules K V S) where
     pub way : KeepsWay R
     -- the first pair leaves whose key passes a test
     pub left : (test : K → Bool) (c : Contents K V S) → R c (removal rules test c)
+    -- a pair leaves that stands between others
+    pub dropped : (newer older : List (K × V)) (pair : K × V) (s : S)
+        → R (record { pairs = newer ++ pair ∷ older; limiter = s })
+        (record { pairs = newer ++ older; limiter = told_of rules (Some pair) s })
     -- the named pair comes first
     pub first : (q : Q) (c : Contents K V S) → R c (record { pairs = front (names q) c.pairs; limiter = c.limiter })
     -- all pairs leave
@@ -63,6 +67,7 @@ pub keeps_any : {K V S Q : Type 0} {rules : Rules K V S} {names : Q → K → Bo
 keeps_any = record {
   way = record { self = λ c. tt; trans = λ p q. tt; asked = λ bytes c. tt; popped = λ c. tt };
   left = λ test c. tt;
+  dropped = λ newer older pair s. tt;
   first = λ q c. tt;
   cleared = λ c. tt;
 }

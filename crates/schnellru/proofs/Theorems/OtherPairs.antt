@@ -1,6 +1,7 @@
 -- Of the pairs whose keys no call names, those that are left are the newest.
 use Rattle.std.proofs.Common.{◌≡◌, ℕ, Bool, true, false, cond, not, List, [], ◌∷◌, Option, Some, None}
 use Rattle.std.proofs.Common.{refl, sym, ap, ◌∙◌, subst}
+use Rattle.std.specs.Prelude.{Contains, map}
 use Rattle.std.specs.Map.{set_value}
 use Rattle.std.proofs.lemmas.List.Elements.{filter-append}
 use Rattle.lru_limits.specs.Laws.{IsLookup, IsInsertion}
@@ -8,13 +9,15 @@ use Rattle.lru_limits.specs.Rules.{Rules, Offers}
 use Rattle.schnellru.specs.GetOrInserts.{got, inserted}
 use Rattle.schnellru.specs.Lists.{IsFront, lookup_entry, without, front, after}
 use Rattle.schnellru.specs.Runs.{inserts, makes_newest, gets, removes, pops_oldest, pops_newest, drains, clears}
-use Rattle.schnellru.specs.Runs.{reserves, shrinks, trims, AnyStep, calls, writes, sets_limiter, AreAmong, NamesOnly, StepAmong}
+use Rattle.schnellru.specs.Runs.{reserves, shrinks, trims, retains, AnyStep, calls, writes, sets_limiter, AreAmong, NamesOnly, StepAmong}
 use Rattle.schnellru.specs.Runs.{Run, ends, goes_on}
+use Rattle.schnellru.specs.Retains.{retained}
 use Rattle.schnellru.specs.State.{State, contents}
 use Rattle.schnellru.specs.Theorems.{GivesUp, behind, with_none, without_one, others}
 use Rattle.schnellru.proofs.Theorems.AddedPairs.{reserve_stays}
 use Rattle.schnellru.proofs.Theorems.Fronts.{insert_gives_up, front_same, front_self, front_trans, front_trim, front_without_last}
 use Rattle.schnellru.proofs.Theorems.Fronts.{found_named}
+use Rattle.schnellru.proofs.Chains.Orders.{Contains-here, Contains-later}
 use Rattle.schnellru.proofs.Theorems.Shrinks.{shrunk_list}
 
 module _ {K V : Type 0} (test : K → Bool) where
@@ -31,6 +34,16 @@ module _ {K V : Type 0} (test : K → Bool) where
   -- a pair whose key passes the test is none of the others
   others_behind : (pair : K × V) (xs : List (K × V)) → test pair.0 ≡ true → others test (pair ∷ xs) ≡ others test xs
   others_behind pair xs passes = rw passes refl
+
+  others_retained : {S : Type 0} (rules : Rules K V S) (asked : List ((K × V) × Bool)) (s : S)
+      → ((pair : K × V) → Contains asked (pair, false) → test pair.0 ≡ true)
+      → others test (retained rules asked s).pairs ≡ others test (map (λ one. one.0) asked)
+  others_retained rules [] s passes = refl
+  others_retained rules ((pair, true) ∷ older) s passes = ap (λ l. cond (not (test pair.0)) (pair ∷ l) l)
+      (others_retained rules older s (λ p w. passes p (Contains-later (pair, true) (p, false) older w)))
+  others_retained rules ((pair, false) ∷ older) s passes =
+      others_retained rules older s (λ p w. passes p (Contains-later (pair, false) (p, false) older w))
+      ∙ sym (others_behind pair (map (λ one. one.0) older) (passes pair (Contains-here (pair, false) older)))
 
   module _ (names : K → Bool) (among : AreAmong names test) where
     others_without : (xs : List (K × V)) → others test (without names xs) ≡ others test xs
@@ -102,6 +115,9 @@ module _ {K V S H I : Type 0} {rules : Rules K V S} {offers : Offers K V S I} {n
   step_gives_up old new (calls (trims h)) among =
       front_trans _ (others_same test new.pairs _ (ap (λ st. st.pairs) h.is))
       (front_others test _ old.pairs (front_trim rules (contents old)))
+  step_gives_up old new (calls (retains asked each h)) among =
+      front_same (ap (λ st. others test st.pairs) h.is ∙ others_retained test rules asked old.limiter among
+      ∙ ap (others test) each)
   step_gives_up old new (writes named value e) among =
       front_same (ap (λ st. others test st.pairs) e ∙ others_written test named among old.pairs value)
   step_gives_up old new (sets_limiter s e) among = others_same test new.pairs old.pairs (ap (λ st. st.pairs) e)

@@ -1,5 +1,5 @@
 -- An insert under a limiter with a list is one under the limiter alone.
-use Rattle.std.proofs.Common.{◌≡◌, ℕ, zero, suc, ◌+◌, Bool, true, false, List, length, Option, Some, None, Result, refl}
+use Rattle.std.proofs.Common.{◌≡◌, ℕ, zero, suc, ◌+◌, Bool, true, false, List, [], ◌∷◌, length, Option, Some, None, Result, refl}
 use Rattle.std.proofs.Common.{ap, ◌∙◌, subst}
 use Rattle.std.specs.Prelude.{if◌then◌else◌}
 use Rattle.std.specs.declared.alloc.AllocError.{AllocError}
@@ -12,6 +12,9 @@ use Rattle.schnellru.specs.Place.{Outcome, placed, refused, no_memory, IsPlaced,
 use Rattle.schnellru.specs.Inserts.{Insert, replaced, given_up, no_memory_to_admit, not_admitted, admitted, make_room}
 use Rattle.schnellru.specs.Inserts.{Settles, PlacesNew}
 use Rattle.schnellru.specs.HandedOver.{noting, noting_offers, noted}
+use Rattle.schnellru.specs.Retains.{retained, Retains, RetainHands}
+use Rattle.std.specs.Borrow.{Bor}
+use Rattle.std.specs.Fn.{Mut}
 
 module _ {K V S : Type 0} where
   -- without the list
@@ -195,3 +198,25 @@ pub plain_trims : {K V S H : Type 0} (rules : Rules K V S) (before after : List 
     → Trims (noting rules) (noted before old) (noted after new) → Trims rules old new
 plain_trims rules before after old new step = plain_leaves (noted before old) (noted after new) _
     (trim rules (contents old)) (plain_trim rules (contents (noted before old))) step
+
+-- and so is a retain
+module _ {K V S : Type 0} (rules : Rules K V S) where
+  plain_retained : (asked : List ((K × V) × Bool)) (s : S × List (K × V))
+      → plain_contents (retained (noting rules) asked s) ≡ retained rules asked s.0
+  plain_retained [] s = refl
+  plain_retained ((pair, true) ∷ older) s =
+      ap {A = Contents K V S} {B = Contents K V S} (λ c. record { pairs = pair ∷ c.pairs; limiter = c.limiter })
+      (plain_retained older s)
+  plain_retained ((pair, false) ∷ older) s = ap {A = Contents K V S} {B = Contents K V S}
+      (λ c. record { pairs = c.pairs; limiter = told_of rules (Some pair) c.limiter }) (plain_retained older s)
+
+  pub plain_retains : {H F : Type 0} (closure : Mut F (Bor K × (Bor V × Unit {0})) Bool) (f : F) (handed : List (K × V))
+      (old new : State K V S H) → RetainHands rules closure f old handed new → Retains closure rules f old new
+  plain_retains closure f handed old new step = record {
+    asked = step.asked;
+    each = step.each;
+    last = step.last;
+    answers = step.answers;
+    state = plain_leaves (noted [] old) (noted handed new) _ (retained rules step.asked old.limiter)
+        (plain_retained step.asked (old.limiter, [])) step.state;
+  }

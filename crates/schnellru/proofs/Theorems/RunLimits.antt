@@ -7,7 +7,7 @@ use Rattle.lru_limits.specs.Limiters.{length_rules, length_offers, memory_rules,
 use Rattle.schnellru.specs.State.{State, contents}
 use Rattle.schnellru.specs.GetOrInserts.{got, inserted}
 use Rattle.schnellru.specs.Runs.{Step, inserts, makes_newest, gets, removes, pops_oldest, pops_newest, drains, clears}
-use Rattle.schnellru.specs.Runs.{reserves, shrinks, trims, StepOrWrite, Run, ends, goes_on}
+use Rattle.schnellru.specs.Runs.{reserves, shrinks, trims, retains, StepOrWrite, Run, ends, goes_on}
 use Rattle.schnellru.specs.Theorems.{UsesAtMost}
 use Rattle.schnellru.proofs.Maps.LeavingPairs.{length-without_first, length-without_last}
 use Rattle.schnellru.proofs.Maps.Promotions.{length-front_pairs}
@@ -15,6 +15,7 @@ use Rattle.schnellru.proofs.Theorems.Fronts.{front_trim, length-front}
 use Rattle.schnellru.proofs.Theorems.Limits.{keeps_limiter, uses_at_most, length-without, by_length_stays}
 use Rattle.schnellru.proofs.Theorems.Reservations.{reserved_list}
 use Rattle.schnellru.proofs.Theorems.Runs.{step_changes}
+use Rattle.schnellru.proofs.Theorems.RetainedPairs.{length-retained}
 use Rattle.schnellru.proofs.Theorems.Shrinks.{shrunk_list}
 
 module _ {K V S H : Type 0} (rules : Rules K V S) (offers : Offers K V S K) (names : K → K → Bool)
@@ -65,6 +66,12 @@ module _ {K V H : Type 0} (names : K → K → Bool) (hash_of : H → K → ℕ)
       arith,
       ap (λ st. length st.pairs) h.is,
       length-front _ old.pairs (front_trim length_rules (contents old)),
+    ))
+    step_stays_short (retains asked each h) = fewer (omega (
+      arith,
+      ap (λ st. length st.pairs) h.is,
+      length-retained length_rules asked old.limiter,
+      ap length each,
     ))
 
   pub run_stays_short : (new old : State K V ℕ H)

@@ -10,7 +10,7 @@ use Rattle.schnellru.specs.Lists.{keys_of}
 use Rattle.schnellru.specs.State.{State, Contents, contents, IsSized, IsMap}
 use Rattle.schnellru.specs.Calls.{promoted, written, cleared}
 use Rattle.schnellru.specs.Runs.{Step, inserts, makes_newest, gets, removes, pops_oldest, pops_newest, drains, clears}
-use Rattle.schnellru.specs.Runs.{reserves, shrinks, trims}
+use Rattle.schnellru.specs.Runs.{reserves, shrinks, trims, retains}
 use Rattle.schnellru.specs.Runs.{AnyStep, calls, writes, sets_limiter, Run, ends, goes_on}
 use Rattle.schnellru.specs.Shrinks.{PlacesAnew}
 use Rattle.schnellru.specs.Theorems.{PaysForMoves, IsSummed}
@@ -23,7 +23,7 @@ use Rattle.schnellru.proofs.Theorems.Ways.{insert_changes}
 use Rattle.schnellru.proofs.Theorems.PaidMoves.{stays_map}
 use Rattle.schnellru.proofs.Theorems.Sums.{keeps_sums, stays_summed}
 use Rattle.schnellru.proofs.Theorems.CallChanges.{promoted_changes, remove_changes, pop_oldest_changes}
-use Rattle.schnellru.proofs.Theorems.CallChanges.{pop_newest_changes, cleared_changes, drain_changes, trim_changes}
+use Rattle.schnellru.proofs.Theorems.CallChanges.{pop_newest_changes, cleared_changes, drain_changes, trim_changes, retain_changes}
 use Rattle.schnellru.proofs.Theorems.CallChanges.{reserve_changes, makes_newest_changes, written_changes, set_changes}
 use Rattle.schnellru.proofs.Theorems.Shrinks.{shrink_changes, shrink_pays, shrink_kept}
 
@@ -52,6 +52,7 @@ module _ {K V S H I : Type 0} {rules : Rules K V S} {offers : Offers K V S I} {n
     step_changes old new (shrinks result h) =
         let c = shrink_changes rules R k.keeps.way old result new h in (0, c.0, c.1)
     step_changes old new (trims h) = (_, _, trim_changes k.keeps old new h)
+    step_changes old new (retains asked each h) = (_, _, retain_changes k.keeps old asked new each h)
 
     -- and what is written, if that keeps what is to be kept
     pub any_changes : ((c : Contents K V S) (test : K → Bool) (value : V)
@@ -103,6 +104,8 @@ module _ {K V S H I : Type 0} {rules : Rules K V S} {offers : Offers K V S I} {n
       rw (shrink_kept old (Err e) new (λ same. absurd cc) h) (none old old (pays_self old ok.shrunk))
   any_pays old new (calls (trims h)) ok =
       none old new ((trim_changes stay_any old new h).tables.pays (bounded_of old ok))
+  any_pays old new (calls (retains asked each h)) ok =
+      none old new ((retain_changes {rules = rules} stay_any old asked new each h).tables.pays (bounded_of old ok))
   any_pays old new (writes test value e) ok = rw e
       (none old (written test value old) ((written_changes rules (λ c d. Unit {0}) old test value tt).tables.pays (bounded_of old ok)))
   any_pays old new (sets_limiter s e) ok = rw e

@@ -5,7 +5,7 @@ use Rattle.std.proofs.Common.{◌∙◌}
 use Rattle.std.specs.Prelude.{option_map, unwrap_or}
 use Rattle.std.proofs.lemmas.Bool.{le-ltb}
 use Rattle.lru_limits.specs.Rules.{Rules}
-use Rattle.lru_limits.specs.Budget.{Budget, by_cost, charges, can_add}
+use Rattle.lru_limits.specs.Budget.{Budget, by_weight, weighs, by_cost, charges, can_add}
 use Rattle.lru_limits.specs.Stores.{plain, hands_over, given-is}
 use Rattle.schnellru.specs.Lists.{lookup_entry}
 use Rattle.schnellru.specs.State.{State, Contents}
@@ -13,12 +13,15 @@ use Rattle.schnellru.specs.Theorems.{Stores, left, given}
 use Rattle.schnellru.specs.Kept.{ChangesNoPair, AcceptsNew, stored_key}
 use Rattle.schnellru.proofs.Theorems.Fronts.{found_named}
 
--- a limiter that ignores its notifications changes no pair, nor does `ByCost`
+-- a limiter that ignores its notifications changes no pair, nor do `ByWeight` and `ByCost`
 pub plain-changes_none : {K V S : Type 0} (over grants : S → ℕ → Bool) → ChangesNoPair (plain {K = K} {V = V} over grants)
 plain-changes_none over grants = record { key = λ s k v. refl; value = λ s k v. refl }
 
+pub by_weight-changes_none : {K V : Type 0} (weight : K → V → ℕ) → ChangesNoPair (by_weight weight)
+by_weight-changes_none weight = record { key = λ s k v. refl; value = λ s k v. refl }
+
 pub by_cost-changes_none : {K V : Type 0} (cost : V → ℕ) → ChangesNoPair (by_cost {K = K} cost)
-by_cost-changes_none cost = record { key = λ s k v. refl; value = λ s k v. refl }
+by_cost-changes_none cost = by_weight-changes_none (λ k v. cost v)
 
 module _ {K V S : Type 0} (rules : Rules K V S) (admits : S → K → V → Bool) (eq : K → K → Bool) (key : K)
     (value : V) where
@@ -34,19 +37,25 @@ module _ {K V S : Type 0} (rules : Rules K V S) (admits : S → K → V → Bool
     );
   }
 
--- `ByCost` accepts a pair whose cost fits
-pub charges-accepts : {K V : Type 0} (cost : V → ℕ) (eq : K → K → Bool) (key : K) (value : V)
-    (c : Contents K V Budget) → can_add c.limiter.limit c.limiter.cost (cost value) ≡ true
-    → c.limiter.cost + cost value ≤ c.limiter.limit
-    → AcceptsNew (by_cost cost) (charges cost) eq key value c (key, value)
-charges-accepts cost eq key value c fits within = record {
+-- `ByWeight` and `ByCost` accept a pair whose cost fits
+pub weighs-accepts : {K V : Type 0} (weight : K → V → ℕ) (eq : K → K → Bool) (key : K) (value : V)
+    (c : Contents K V Budget) → can_add c.limiter.limit c.limiter.cost (weight key value) ≡ true
+    → c.limiter.cost + weight key value ≤ c.limiter.limit
+    → AcceptsNew (by_weight weight) (weighs weight) eq key value c (key, value)
+weighs-accepts weight eq key value c fits within = record {
   finds = λ lacks. lacks;
   gives = λ s given n.
       let charged = rw fits at n.limiter in (
         n.pair ∙ ap (λ b. cond b (Some (key, value)) None) fits,
-        rw charged (le-ltb c.limiter.limit (c.limiter.cost + cost value) within),
+        rw charged (le-ltb c.limiter.limit (c.limiter.cost + weight key value) within),
       );
 }
+
+pub charges-accepts : {K V : Type 0} (cost : V → ℕ) (eq : K → K → Bool) (key : K) (value : V)
+    (c : Contents K V Budget) → can_add c.limiter.limit c.limiter.cost (cost value) ≡ true
+    → c.limiter.cost + cost value ≤ c.limiter.limit
+    → AcceptsNew (by_cost cost) (charges cost) eq key value c (key, value)
+charges-accepts cost = weighs-accepts (λ k v. cost v)
 
 -- a key that equals no other key is stored as it came
 pub stored_key-same : {K V : Type 0} (names : K → Bool) (key : K) (pairs : List (K × V))

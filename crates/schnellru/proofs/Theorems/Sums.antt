@@ -50,6 +50,9 @@ module _ {X : Type 0} (f : X → ℕ) where
       more None e h = absurd (last_some y ys e)
       more (Some z) e h = omega (arith, h)
 
+  pub split_between : (newer older : List X) (x : X) → IsSplit (newer ++ x ∷ older) (Some x) (newer ++ older)
+  split_between newer older x = omega (arith, total-append newer (x ∷ older), total-append newer older)
+
 module _ {K V : Type 0} (cost : K × V → ℕ) (names : K → Bool) where
   pub split_named : (xs : List (K × V)) → IsSplit cost xs (lookup_entry names xs) (without names xs)
   split_named [] = refl
@@ -117,6 +120,7 @@ module _ {K V S I : Type 0} {rules : Rules K V S} {offers : Offers K V S I} {cos
         popped = λ c. told_holds c.pairs _ _ c.limiter (split_last _ c.pairs);
       };
       left = λ test c. told_holds c.pairs _ _ c.limiter (split_named _ test c.pairs);
+      dropped = λ newer older pair s. told_holds (newer ++ pair ∷ older) _ (Some pair) s (split_between _ newer older pair);
       first = λ q c h. h ∙ sym (total-front _ (names q) c.pairs);
       cleared = λ c h. laws.empties c.limiter;
     };

@@ -3,6 +3,7 @@
 
 ghost use Rattle.std.specs.Prelude.{◌≡◌, ℕ, ◌+◌, ◌≤◌, Bool, length};
 ghost use Rattle.std.specs.List.{IsDistinct};
+ghost use Rattle.lru_limits.specs.Budget.{Budget};
 ghost use Rattle.schnellru.specs.Lists.{keys_of, IsFront};
 ghost use Rattle.schnellru.specs.State.{State, IsSized, IsMap};
 ghost use Rattle.schnellru.specs.Runs.{Step, AnyStep, StepAmong};
@@ -10,7 +11,8 @@ ghost use Rattle.schnellru.specs.Shrinks.{PlacesAnew};
 ghost use Rattle.schnellru.specs.Theorems.{PaysForMoves, UsesAtMost, IsSummed, others};
 
 use lru_limits::{
-    ByCost, ByLength, ByMemoryUsage, Costed, Insertion, KeyHasher, Limiter, LookupKey, Summing,
+    ByCost, ByLength, ByMemoryUsage, ByWeight, Costed, Insertion, KeyHasher, Limiter, LookupKey,
+    Summing,
 };
 use std::hash::Hash;
 
@@ -78,6 +80,24 @@ pub fn calls_keep_the_cost<K: Eq + Hash + Drop, V: Costed + Drop, S: KeyHasher<K
     ensures cost { (old new : State K V ByCost S) →
         Step ⟦<ByCost as Limiter<K, V>>⟧.rules ⟦<ByCost as Insertion<K, V, K>>⟧.offers K.eq S.hash_of old new →
         IsSummed ⟦<ByCost as Summing<K, V, K>>⟧.cost_of ⟦<ByCost as Summing<K, V, K>>⟧.account old →
+        old.limiter.cost ≤ old.limiter.limit → new.limiter.cost ≤ old.limiter.limit }
+{}
+
+/// The same with `ByWeight`.
+pub fn calls_keep_the_weight<
+    K: Costed + Eq + Hash + Drop,
+    V: Costed + Drop,
+    S: KeyHasher<K>,
+    const OVERHEAD: u64,
+>()
+    ensures limit { (old new : State K V Budget S) →
+        Step ⟦<ByWeight<OVERHEAD> as Limiter<K, V>>⟧.rules ⟦<ByWeight<OVERHEAD> as Insertion<K, V, K>>⟧.offers K.eq
+        S.hash_of old new → new.limiter.limit ≡ old.limiter.limit }
+    ensures cost { (old new : State K V Budget S) →
+        Step ⟦<ByWeight<OVERHEAD> as Limiter<K, V>>⟧.rules ⟦<ByWeight<OVERHEAD> as Insertion<K, V, K>>⟧.offers K.eq
+        S.hash_of old new →
+        IsSummed ⟦<ByWeight<OVERHEAD> as Summing<K, V, K>>⟧.cost_of
+        ⟦<ByWeight<OVERHEAD> as Summing<K, V, K>>⟧.account old →
         old.limiter.cost ≤ old.limiter.limit → new.limiter.cost ≤ old.limiter.limit }
 {}
 

@@ -1,13 +1,15 @@
 //! What is proved of runs: calls, one after another. Each law is the law of one call (`calls`), by induction.
 
 ghost use Rattle.std.specs.Prelude.{◌≡◌, ℕ, ◌≤◌, Bool, length};
+ghost use Rattle.lru_limits.specs.Budget.{Budget};
 ghost use Rattle.schnellru.specs.Lists.{IsFront};
 ghost use Rattle.schnellru.specs.State.{State, IsSized, IsMap, empty_map};
 ghost use Rattle.schnellru.specs.Runs.{Step, StepOrWrite, AnyStep, StepAmong, Run};
 ghost use Rattle.schnellru.specs.Theorems.{PaysForMoves, UsesAtMost, IsSummed, others};
 
 use lru_limits::{
-    ByCost, ByLength, ByMemoryUsage, Costed, Insertion, KeyHasher, Limiter, LookupKey, Summing,
+    ByCost, ByLength, ByMemoryUsage, ByWeight, Costed, Insertion, KeyHasher, Limiter, LookupKey,
+    Summing,
 };
 use std::hash::Hash;
 
@@ -90,6 +92,24 @@ pub fn runs_keep_the_cost<K: Eq + Hash + Drop, V: Costed + Drop, S: KeyHasher<K>
         old.limiter.cost ≤ old.limiter.limit → new.limiter.cost ≤ old.limiter.limit }
     ensures limit { (old new : State K V ByCost S) →
         Run (Step ⟦<ByCost as Limiter<K, V>>⟧.rules ⟦<ByCost as Insertion<K, V, K>>⟧.offers K.eq
+        S.hash_of) new old → new.limiter.limit ≡ old.limiter.limit }
+{}
+
+/// The same with `ByWeight`.
+pub fn runs_keep_the_weight<
+    K: Costed + Eq + Hash + Drop,
+    V: Costed + Drop,
+    S: KeyHasher<K>,
+    const OVERHEAD: u64,
+>()
+    ensures cost { (old new : State K V Budget S) →
+        Run (Step ⟦<ByWeight<OVERHEAD> as Limiter<K, V>>⟧.rules ⟦<ByWeight<OVERHEAD> as Insertion<K, V, K>>⟧.offers K.eq
+        S.hash_of) new old →
+        IsSummed ⟦<ByWeight<OVERHEAD> as Summing<K, V, K>>⟧.cost_of
+        ⟦<ByWeight<OVERHEAD> as Summing<K, V, K>>⟧.account old →
+        old.limiter.cost ≤ old.limiter.limit → new.limiter.cost ≤ old.limiter.limit }
+    ensures limit { (old new : State K V Budget S) →
+        Run (Step ⟦<ByWeight<OVERHEAD> as Limiter<K, V>>⟧.rules ⟦<ByWeight<OVERHEAD> as Insertion<K, V, K>>⟧.offers K.eq
         S.hash_of) new old → new.limiter.limit ≡ old.limiter.limit }
 {}
 

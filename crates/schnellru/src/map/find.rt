@@ -1,6 +1,6 @@
 // What every look-up begins with: the search for a key. And what is done then: its pair is promoted, or taken out.
-ghost use Rattle.std.specs.Prelude.{◌≡◌, Bool, Some, None, IfSome, IfNone, IsTrue, Contains};
-ghost use Rattle.schnellru.specs.Lists.{lookup_entry, place_of};
+ghost use Rattle.std.specs.Prelude.{◌≡◌, ℕ, ◌<◌, Bool, List, Some, None, IfSome, IfNone, IsTrue, Contains, length};
+ghost use Rattle.schnellru.specs.Lists.{lookup_entry, place_of, last, without_last, after};
 ghost use Rattle.schnellru.specs.State.{IsMap};
 ghost use Rattle.schnellru.specs.Calls.{promoted, RemoveEntry};
 
@@ -52,6 +52,19 @@ impl<K: Eq + Hash, V, L: Limiter<K, V>, S: KeyHasher<K>> LruMap<K, V, L, S> {
             place_of names self.old.pairs self.old.places ≡ Some b → self.new ≡ promoted names self.old }
         ensures there { Contains self.new.places b }
     {
+        self.entries.promote(b);
+    }
+
+    // Makes the oldest pair the newest.
+    #[inline]
+    pub(super) fn promote_oldest(&mut self)
+        requires { 0 < length self.old.pairs }
+        ensures { (places : List ℕ) × (self.new ≡ record self.old {
+          pairs = after (last self.old.pairs) (without_last self.old.pairs);
+          places = places;
+        }) }
+    {
+        let b = self.entries.oldest();
         self.entries.promote(b);
     }
 

@@ -33,7 +33,7 @@ impl<K: Eq + Hash + Drop, V: Drop, L: Limiter<K, V>, S: KeyHasher<K>> LruMap<K, 
     /// Sets another limiter, and evicts the oldest entries while it is over its limit. Returns the old limiter.
     ///
     /// The new limiter is not notified of the entries that are there. A limiter with a running total, such as `ByCost`,
-    /// must begin with the sum of their costs.
+    /// must begin with the sum of their costs, as `map.limiter().with_limit(n)` does.
     ///
     /// ```
     /// let old = map.set_limiter(ByLength::new(1));
@@ -49,9 +49,7 @@ impl<K: Eq + Hash + Drop, V: Drop, L: Limiter<K, V>, S: KeyHasher<K>> LruMap<K, 
         ensures within { IsWithin L.rules (contents self.new) }
         ensures map { IsMap K.eq self.new }
     {
-        let old = mem::replace(&mut self.limiter, limiter);
-        self.trim();
-        old
+        self.set_limiter_with(limiter, &mut |_, _| {})
     }
 }
 
@@ -81,5 +79,29 @@ impl<K: Eq + Hash, V, L: Limiter<K, V>, S: KeyHasher<K>> LruMap<K, V, L, S> {
         }
         // Nothing at run time: it opens the map, whose invariant is the clause `map`.
         let _ = &self.entries;
+    }
+    /// The same as `set_limiter`, and passes each evicted entry to the callback, oldest first, as the new limiter leaves
+    /// it.
+    ///
+    /// ```
+    /// let mut evicted = 0u64;
+    /// map.set_limiter_with(ByLength::new(1), &mut |key, _| evicted = evicted.wrapping_add(key));
+    /// assert_eq!(rt; evicted, 3);
+    /// ```
+    ///
+    /// Cost: as `set_limiter`, with one call of the callback for each evicted entry.
+    pub fn set_limiter_with<F: FnMut(K, V)>(&mut self, limiter: L, sink: &mut F) -> L
+        requires callable { F.IsAlwaysCallable sink.old }
+        ensures limiter { result ≡ self.old.limiter }
+        ensures step { Trims L.rules (record self.old { limiter = limiter }) self.new }
+        ensures within { IsWithin L.rules (contents self.new) }
+        ensures handed { (handed : List (K × V)) × Takes F.FnMut sink.old handed sink.new
+            × TrimHands L.rules (record self.old { limiter = limiter }) handed self.new }
+        ensures callable { F.IsAlwaysCallable sink.new }
+        ensures map { IsMap K.eq self.new }
+    {
+        let old = mem::replace(&mut self.limiter, limiter);
+        self.trim_with(sink);
+        old
     }
 }

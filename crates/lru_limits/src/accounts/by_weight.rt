@@ -1,0 +1,177 @@
+//! The limiter by the sum of the costs of keys, values and entries.
+ghost use Rattle.std.specs.Prelude.{◌≡◌};
+ghost use Rattle.lru_limits.specs.Budget.{pair_cost, by_weight, weighs, weighs-lawful, weighs-sums};
+
+use crate::accounts::{Costed, Summing, sum_with};
+use crate::keys::LookupKey;
+use crate::limiter::{Insertion, Limiter};
+use std::alloc::{AllocError, Global};
+use std::hash::Hash;
+use std::marker::Model;
+
+/// Limits the sum of the costs of the entries: of each key, of its value, and `OVERHEAD` for the entry itself. A
+/// contract sees it as its limit and that sum.
+///
+/// So entries without cost of their own cannot fill the memory. It rejects what [`crate::ByCost`] rejects: an element or
+/// a replacement that costs more than the limit alone, or that would take the sum past `u64::MAX`. An entry costs at
+/// most `u64::MAX`.
+///
+/// ```
+/// let mut limiter: ByWeight<16> = ByWeight::new(100);
+/// assert!(rt; limiter.on_insert(alloc, 0, 1u64, 2u64)?.is_some());
+/// assert!(rt; limiter.on_insert(alloc, 1, 80u64, 5u64)?.is_none());
+/// assert_eq!(rt; limiter.cost(), 19);
+/// ```
+///
+/// Cost: each callback reads the cost of each key and value that it gets once, and takes no memory.
+#[derive(Clone, Copy, Debug)]
+pub struct ByWeight<const OVERHEAD: u64> {
+    limit: u64,
+    cost: u64,
+}
+
+impl<const OVERHEAD: u64> Model for ByWeight<OVERHEAD> {
+    ghost use Rattle.lru_limits.specs.Budget.{Budget};
+
+    ghost Value = { Budget };
+
+    ghost view = { λ b. record { limit = b.limit; cost = b.cost } };
+
+    ghost inverse = { λ b. record { limit = b.limit; cost = b.cost } };
+}
+
+impl<const OVERHEAD: u64> ByWeight<OVERHEAD> {
+    /// Makes a limiter with this limit. Its sum is 0 so far.
+    ///
+    /// ```
+    /// let mut limiter: ByWeight<16> = ByWeight::new(100);
+    /// ```
+    pub fn new(limit: u64) -> ByWeight<OVERHEAD>
+        ensures { result ≡ record { limit = limit; cost = 0 } }
+    {
+        ByWeight { limit, cost: 0 }
+    }
+
+    /// Returns the limit.
+    ///
+    /// ```
+    /// assert_eq!(rt; limiter.limit(), 100);
+    /// ```
+    pub fn limit(&self) -> u64
+        ensures { result ≡ self.now.limit }
+    {
+        self.limit
+    }
+
+    /// Returns the sum of the costs so far.
+    ///
+    /// ```
+    /// assert_eq!(rt; limiter.cost(), 19);
+    /// ```
+    pub fn cost(&self) -> u64
+        ensures { result ≡ self.now.cost }
+    {
+        self.cost
+    }
+}
+
+// Returns the cost of a pair.
+#[inline]
+fn cost_of_pair<K: Costed, V: Costed>(overhead: u64, key: &K, value: &V) -> u64
+    ensures { result ≡ pair_cost overhead (K.cost key.now) (V.cost value.now) }
+{
+    key.cost()
+        .saturating_add(value.cost())
+        .saturating_add(overhead)
+}
+
+impl<K: Costed, V: Costed, const OVERHEAD: u64> Limiter<K, V> for ByWeight<OVERHEAD> {
+    type LinkType = usize;
+
+    ghost rules = { by_weight (λ k v. pair_cost OVERHEAD (K.cost k) (V.cost v)) };
+
+    #[inline]
+    fn is_over_the_limit(&self, _length: usize) -> bool {
+        self.cost > self.limit
+    }
+
+    #[inline]
+    fn on_removed(&mut self, key: &mut K, value: &mut V) {
+        let cost = cost_of_pair(OVERHEAD, &*key, &*value);
+        self.cost = self.cost.saturating_sub(cost);
+    }
+
+    #[inline]
+    fn on_cleared(&mut self) {
+        self.cost = 0;
+    }
+
+    #[inline]
+    fn on_grow(&mut self, _new_memory_usage: usize) -> bool {
+        true
+    }
+}
+
+impl<K: Costed + Eq + Hash + Drop, V: Costed + Drop, const OVERHEAD: u64> Insertion<K, V, K>
+    for ByWeight<OVERHEAD> {
+    ghost offers = { weighs (λ k v. pair_cost OVERHEAD (K.cost k) (V.cost v)) };
+
+    #[inline]
+    fn on_insert(
+        &mut self,
+        _alloc: Global,
+        _length: usize,
+        key: K,
+        value: V,
+    ) -> Result<Option<(K, V)>, AllocError> {
+        let cost = cost_of_pair(OVERHEAD, &key, &value);
+        match sum_with(self.limit, self.cost, cost) {
+            Some(sum) => {
+                self.cost = sum;
+                Ok(Some((key, value)))
+            }
+            None => Ok(None),
+        }
+    }
+
+    #[inline]
+    fn on_replace(
+        &mut self,
+        _length: usize,
+        old_key: &mut K,
+        _new_key: K,
+        old_value: &mut V,
+        new_value: &mut V,
+    ) -> bool {
+        let old_cost = cost_of_pair(OVERHEAD, &*old_key, &*old_value);
+        let new_cost = cost_of_pair(OVERHEAD, &*old_key, &*new_value);
+        match sum_with(self.limit, self.cost.saturating_sub(old_cost), new_cost) {
+            Some(sum) => {
+                self.cost = sum;
+                true
+            }
+            None => false,
+        }
+    }
+
+    ghost laws = { weighs-lawful (λ k v. pair_cost OVERHEAD (K.cost k) (V.cost v)) K.eq K.Eq.laws };
+}
+
+impl<K: Costed + Eq + Hash + Drop, V: Costed + Drop, const OVERHEAD: u64> Summing<K, V, K>
+    for ByWeight<OVERHEAD> {
+    ghost cost_of = { λ k v. pair_cost OVERHEAD (K.cost k) (V.cost v) };
+
+    ghost account = { λ b. b.cost };
+
+    #[inline]
+    fn cost_of(key: &K, value: &V) -> u64 {
+        cost_of_pair(OVERHEAD, key, value)
+    }
+
+    #[inline]
+    fn account(&self) -> u64 {
+        self.cost
+    }
+
+    ghost laws = { weighs-sums (λ k v. pair_cost OVERHEAD (K.cost k) (V.cost v)) };
+}

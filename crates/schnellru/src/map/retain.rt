@@ -1,0 +1,87 @@
+//! Removing the entries that a closure rejects.
+ghost use Rattle.std.specs.Prelude.{◌≡◌, ◌<◌, length, Some, List};
+ghost use Rattle.schnellru.specs.ByHash.{Asks};
+ghost use Rattle.schnellru.specs.HandedOver.{Takes};
+ghost use Rattle.schnellru.specs.Lists.{last};
+ghost use Rattle.schnellru.specs.Retains.{Retains, RetainHands};
+ghost use Rattle.schnellru.specs.State.{IsMap};
+
+use crate::map::LruMap;
+use lru_limits::{KeyHasher, Limiter};
+use std::hash::Hash;
+
+impl<K: Eq + Hash + Drop, V: Drop, L: Limiter<K, V>, S: KeyHasher<K>> LruMap<K, V, L, S> {
+    /// Removes the entries for which the closure returns false. The others keep their order.
+    ///
+    /// The closure is called with each entry once, oldest first. The limiter is notified of each removal, before the
+    /// closure is called again.
+    ///
+    /// ```
+    /// map.retain(|_, value| *value > 10);
+    /// assert!(rt; map.len() == 2 && !map.contains(&1));
+    /// ```
+    ///
+    /// Cost: `O(n)` for n entries, each of which becomes the newest for a moment.
+    ///
+    /// After std's `HashMap::retain`; schnellru has no such call.
+    pub fn retain<F: FnMut(&K, &V) -> bool>(&mut self, keep: F)
+        requires callable { F.IsAlwaysCallable keep }
+        ensures step { Retains F.FnMut L.rules keep self.old self.new }
+        ensures map { IsMap K.eq self.new }
+    {
+        self.retain_with(keep, &mut |_, _| {});
+    }
+}
+
+// Nothing here requires `K: Drop` or `V: Drop`, so a body that forgets a pair does not compile.
+impl<K: Eq + Hash, V, L: Limiter<K, V>, S: KeyHasher<K>> LruMap<K, V, L, S> {
+    /// The same as `retain`, and passes each removed entry to the callback, oldest first, as the limiter leaves it.
+    ///
+    /// ```
+    /// let mut removed = 0u64;
+    /// map.retain_with(|key, _| *key != 2, &mut |key, _| removed = removed.wrapping_add(key));
+    /// assert_eq!(rt; removed, 2);
+    /// ```
+    ///
+    /// Cost: as `retain`, with one call of the callback for each removed entry.
+    pub fn retain_with<F: FnMut(&K, &V) -> bool, G: FnMut(K, V)>(
+        &mut self,
+        mut keep: F,
+        sink: &mut G,
+    )
+        requires keep { F.IsAlwaysCallable keep }
+        requires callable { G.IsAlwaysCallable sink.old }
+        ensures step { Retains F.FnMut L.rules keep self.old self.new }
+        ensures handed { (handed : List (K × V)) × Takes G.FnMut sink.old handed sink.new
+            × RetainHands L.rules F.FnMut keep self.old handed self.new }
+        ensures callable { G.IsAlwaysCallable sink.new }
+        ensures map { IsMap K.eq self.new }
+    {
+        let mut left = self.len();
+        'pairs: while left > 0 {
+            left -= 1;
+            if self.oldest_passes(&mut keep) {
+                self.promote_oldest();
+            } else {
+                let (key, value) = self.take_oldest();
+                sink(key, value);
+            }
+        }
+        // Nothing at run time: it opens the map, whose invariant is the clause `map`.
+        let _ = &self.entries;
+    }
+
+    // Returns what the closure returns for the oldest pair.
+    #[inline]
+    fn oldest_passes<F: FnMut(&K, &V) -> bool>(&self, keep: &mut F) -> bool
+        requires some { 0 < length self.now.pairs }
+        requires callable { F.IsAlwaysCallable keep.old }
+        ensures asked { (pair : K × V) × (last self.now.pairs ≡ Some pair) × Asks F.FnMut keep.old pair result keep.new }
+        ensures callable { F.IsAlwaysCallable keep.new }
+    {
+        match self.peek_oldest() {
+            Some((key, value)) => keep(key, value),
+            None => unreachable!(),
+        }
+    }
+}
