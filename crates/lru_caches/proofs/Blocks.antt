@@ -6,7 +6,8 @@ use Rattle.std.proofs.lemmas.Option.{none-some}
 use Rattle.std.specs.Map.{lookup}
 use Rattle.lru_caches.specs.declared.page_cache.pages.Page.{Page}
 use Rattle.lru_caches.specs.Pages.{block_at, AreClean}
-use Rattle.lru_caches.proofs.PageLists.{found_longer, found_behind}
+use Rattle.lru_caches.proofs.PageLists.{found_longer}
+use Rattle.lru_caches.proofs.TurnedEntries.{found_behind}
 
 module _ {B : Type 0} where
   -- the block of a page, if there is one, or else this one

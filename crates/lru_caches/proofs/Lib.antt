@@ -2,3 +2,4 @@ pub mod PageLists
 pub mod PageOrder
 pub mod Blocks
 pub mod StoredAnswers
+pub mod TurnedEntries

@@ -95,18 +95,6 @@ module _ {X : Type 0} where
       go true e later = e
       go false e later = later e
 
-  -- what is not found in a list is found as in the rest
-  pub found_behind : (test : ℕ → Bool) (xs rest : List (ℕ × X)) → lookup test xs ≡ None
-      → lookup test (xs ++ rest) ≡ lookup test rest
-  found_behind test [] rest e = refl
-  found_behind test (x ∷ xs) rest e = go (test x.0) e (found_behind test xs rest)
-    where
-      go : (b : Bool) → cond b (Some x.1) (lookup test xs) ≡ None
-          → (lookup test xs ≡ None → lookup test (xs ++ rest) ≡ lookup test rest)
-          → cond b (Some x.1) (lookup test (xs ++ rest)) ≡ lookup test rest
-      go true e later = absurd (none-some x.1 (sym e))
-      go false e later = later e
-
   -- a pair that is moved to the front, and written with the value that it has, is found as before
   pub read_same : (n : ℕ) (xs : List (ℕ × X)) (v : X) → lookup (nat_eq n) xs ≡ Some v
       → lookup (nat_eq n) (set_value (nat_eq n) (front (nat_eq n) xs) v) ≡ Some v

@@ -1,2 +1,4 @@
 pub mod Pages
 pub mod Answers
+pub mod Ordered
+pub mod OrderedLending

@@ -2,13 +2,19 @@
 //!
 //! [`PageCache`] keeps the blocks of a [`BlockDevice`] that were used last, writes them back when they are evicted or
 //! flushed, and loses no block that was written to it, whichever call of the device fails. [`Memo`] is a function that
-//! remembers its newest results.
+//! remembers its newest results, and [`Loader`] one that may fail. [`OrderedMap`] is a hash map in the order of
+//! insertion.
 #![tactic(auto)]
 
+mod append;
 mod device;
 mod memo;
+mod ordered_map;
 mod page_cache;
 
 pub use device::BlockDevice;
 pub use memo::Memo;
+pub use memo::loader::Loader;
+pub use ordered_map::OrderedMap;
+pub use ordered_map::entries::Entries;
 pub use page_cache::{PageCache, PageError, Unclosed};

@@ -9,6 +9,8 @@ use std::alloc::Global;
 use std::hash::Hash;
 use std::marker::Model;
 
+pub(crate) mod loader;
+
 /// A function that remembers its newest results, up to a limit.
 ///
 /// ```

@@ -5,9 +5,10 @@ ghost use Rattle.std.specs.Map.{lookup, keys_of};
 ghost use Rattle.schnellru.specs.Lists.{without};
 ghost use Rattle.lru_caches.specs.Pages.{block_at, AreClean};
 
+use crate::append::append;
 use crate::device::BlockDevice;
 use crate::page_cache::PageError;
-use schnellru::{LruMap, RandomState, UnlimitedCompact, laws};
+use schnellru::{LruMap, UnlimitedCompact};
 
 // A cached block. It is dirty if it was written in the present round of the cache.
 #[derive(Clone, Copy)]
@@ -149,15 +150,8 @@ pub(super) fn add_page<B: Copy, E>(
     ensures added { OnOk result (map.new.pairs ≡ (n, page) ∷ map.old.pairs) }
     ensures stay { OnErr result (map.new.pairs ≡ map.old.pairs) }
 {
-    laws::reservations_make_room::<u64, Page<B>, UnlimitedCompact, RandomState>();
-    laws::reservations_keep_the_list::<u64, Page<B>, UnlimitedCompact, RandomState>();
-    laws::inserts_with_room_are_exact::<u64, Page<B>, u64, UnlimitedCompact, RandomState>();
-    let _ = map.len();
-    match map.try_reserve(1) {
-        Ok(()) => {
-            let _ = map.insert(n, page);
-            Ok(())
-        }
+    match append(map, n, page) {
+        Ok(()) => Ok(()),
         Err(_) => Err(PageError::Memory),
     }
 }

@@ -1,0 +1,189 @@
+-- Lists of entries that are turned round: their keys, what a key finds, removes or writes there, and their ends.
+use Rattle.std.proofs.Common.{◌≡◌, Bool, true, false, cond, List, [], ◌∷◌, ◌++◌, reverse, Option, Some, None, refl}
+use Rattle.std.proofs.Common.{sym, ap, ◌∙◌, subst}
+use Rattle.std.proofs.lemmas.List.{reverse-append, reverse-reverse, append-nil, map-append}
+use Rattle.std.proofs.lemmas.List.Sorted.{IsPermutation-reverse}
+use Rattle.std.proofs.lemmas.Map.Keys.{IsDistinct-head, IsDistinct-tail, IsDistinct-IsPermutation}
+use Rattle.std.proofs.lemmas.Option.{none-some}
+use Rattle.std.specs.Cmp.{IsEquivalence}
+use Rattle.std.specs.List.{AllByRecursion, IsDistinct}
+use Rattle.std.specs.Prelude.{is_some, if◌then◌else◌}
+use Rattle.std.specs.Map.{lookup, set_value, keys_of}
+use Rattle.lru_caches.specs.Ordered.{put}
+use Rattle.schnellru.specs.Lists.{without, first, without_first, last, without_last}
+
+module _ {X : Type 0} where
+  -- the first comes last, and the last first
+  reverse-cons : (x : X) (xs : List X) → reverse (x ∷ xs) ≡ reverse xs ++ x ∷ []
+  reverse-cons x xs = reverse-append (x ∷ []) xs
+
+  pub reverse-push : (xs : List X) (x : X) → reverse (xs ++ x ∷ []) ≡ x ∷ reverse xs
+  reverse-push xs x = reverse-append xs (x ∷ [])
+
+  -- so it is at the ends
+  last-push : (xs : List X) (x : X) → last (xs ++ x ∷ []) ≡ Some x
+  last-push [] x = refl
+  last-push (y ∷ []) x = refl
+  last-push (y ∷ z ∷ zs) x = last-push (z ∷ zs) x
+
+  without_last-push : (xs : List X) (x : X) → without_last (xs ++ x ∷ []) ≡ xs
+  without_last-push [] x = refl
+  without_last-push (y ∷ []) x = refl
+  without_last-push (y ∷ z ∷ zs) x = ap (λ l. y ∷ l) (without_last-push (z ∷ zs) x)
+
+  pub last-reverse : (xs : List X) → last (reverse xs) ≡ first xs
+  last-reverse [] = refl
+  last-reverse (x ∷ xs) = ap last (reverse-cons x xs) ∙ last-push (reverse xs) x
+
+  without_last-reverse : (xs : List X) → without_last (reverse xs) ≡ reverse (without_first xs)
+  without_last-reverse [] = refl
+  without_last-reverse (x ∷ xs) = ap without_last (reverse-cons x xs) ∙ without_last-push (reverse xs) x
+
+  pub first-reverse : (xs : List X) → first (reverse xs) ≡ last xs
+  first-reverse xs = sym (last-reverse (reverse xs)) ∙ ap last (reverse-reverse xs)
+
+  pub without_first-reverse : (xs : List X) → without_first (reverse xs) ≡ reverse (without_last xs)
+  without_first-reverse xs =
+      sym (reverse-reverse (without_first (reverse xs))) ∙ ap reverse (sym (without_last-reverse (reverse xs)))
+      ∙ ap (λ l. reverse (without_last l)) (reverse-reverse xs)
+
+module _ {K X : Type 0} where
+  keys-reverse : (xs : List (K × X)) → keys_of (reverse xs) ≡ reverse (keys_of xs)
+  keys-reverse [] = refl
+  keys-reverse (x ∷ xs) =
+      ap keys_of (reverse-cons x xs) ∙ map-append (λ (p : K × X). p.0) (reverse xs) (x ∷ [])
+      ∙ ap (λ l. l ++ x.0 ∷ []) (keys-reverse xs) ∙ sym (reverse-cons x.0 (keys_of xs))
+
+  -- distinct keys stay so
+  pub distinct-reverse : {eq : K → K → Bool} → IsEquivalence eq → (xs : List (K × X)) → IsDistinct eq (keys_of xs)
+      → IsDistinct eq (keys_of (reverse xs))
+  distinct-reverse {eq} laws xs h = subst (IsDistinct eq) (sym (keys-reverse xs))
+      (IsDistinct-IsPermutation eq laws.symm (keys_of xs) (reverse (keys_of xs)) (IsPermutation-reverse (keys_of xs)) h)
+
+module _ {K X : Type 0} (test : K → Bool) where
+  -- a search for a key passes by entries of other keys
+  pub found_behind : (xs rest : List (K × X)) → lookup test xs ≡ None → lookup test (xs ++ rest) ≡ lookup test rest
+  found_behind [] rest e = refl
+  found_behind (x ∷ xs) rest e = go (test x.0) e (found_behind xs rest)
+    where
+      go : (b : Bool) → cond b (Some x.1) (lookup test xs) ≡ None
+          → (lookup test xs ≡ None → lookup test (xs ++ rest) ≡ lookup test rest)
+          → cond b (Some x.1) (lookup test (xs ++ rest)) ≡ lookup test rest
+      go true e later = absurd (none-some x.1 (sym e))
+      go false e later = later e
+
+  without_behind : (xs rest : List (K × X)) → lookup test xs ≡ None → without test (xs ++ rest) ≡ xs ++ without test rest
+  without_behind [] rest e = refl
+  without_behind (x ∷ xs) rest e = go (test x.0) e (without_behind xs rest)
+    where
+      go : (b : Bool) → cond b (Some x.1) (lookup test xs) ≡ None
+          → (lookup test xs ≡ None → without test (xs ++ rest) ≡ xs ++ without test rest)
+          → cond b (xs ++ rest) (x ∷ without test (xs ++ rest)) ≡ x ∷ xs ++ without test rest
+      go true e later = absurd (none-some x.1 (sym e))
+      go false e later = ap (λ l. x ∷ l) (later e)
+
+  set_behind : (xs rest : List (K × X)) (w : X) → lookup test xs ≡ None
+      → set_value test (xs ++ rest) w ≡ xs ++ set_value test rest w
+  set_behind [] rest w e = refl
+  set_behind (x ∷ xs) rest w e = go (test x.0) e (set_behind xs rest w)
+    where
+      go : (b : Bool) → cond b (Some x.1) (lookup test xs) ≡ None
+          → (lookup test xs ≡ None → set_value test (xs ++ rest) w ≡ xs ++ set_value test rest w)
+          → cond b ((x.0, w) ∷ (xs ++ rest)) (x ∷ set_value test (xs ++ rest) w) ≡ x ∷ xs ++ set_value test rest w
+      go true e later = absurd (none-some x.1 (sym e))
+      go false e later = ap (λ l. x ∷ l) (later e)
+
+  -- and it ends before an entry of another key
+  module _ (x : K × X) (other : test x.0 ≡ false) where
+    found_before : (xs : List (K × X)) → lookup test (xs ++ x ∷ []) ≡ lookup test xs
+    found_before [] = ap (λ b. cond b (Some x.1) None) other
+    found_before (y ∷ ys) = ap (cond (test y.0) (Some y.1)) (found_before ys)
+
+    without_before : (xs : List (K × X)) → without test (xs ++ x ∷ []) ≡ without test xs ++ x ∷ []
+    without_before [] = ap (λ b. cond b [] (x ∷ [])) other
+    without_before (y ∷ ys) = go (test y.0) (without_before ys)
+      where
+        go : (b : Bool) → without test (ys ++ x ∷ []) ≡ without test ys ++ x ∷ []
+            → cond b (ys ++ x ∷ []) (y ∷ without test (ys ++ x ∷ [])) ≡ cond b ys (y ∷ without test ys) ++ x ∷ []
+        go true later = refl
+        go false later = ap (λ l. y ∷ l) later
+
+    set_before : (xs : List (K × X)) (w : X) → set_value test (xs ++ x ∷ []) w ≡ set_value test xs w ++ x ∷ []
+    set_before [] w = ap (λ b. cond b ((x.0, w) ∷ []) (x ∷ [])) other
+    set_before (y ∷ ys) w = go (test y.0) (set_before ys w)
+      where
+        go : (b : Bool) → set_value test (ys ++ x ∷ []) w ≡ set_value test ys w ++ x ∷ []
+            → cond b ((y.0, w) ∷ (ys ++ x ∷ [])) (y ∷ set_value test (ys ++ x ∷ []) w)
+            ≡ cond b ((y.0, w) ∷ ys) (y ∷ set_value test ys w) ++ x ∷ []
+        go true later = refl
+        go false later = ap (λ l. y ∷ l) later
+
+-- a test of one key, up to equality, and a list with distinct keys
+module _ {K X : Type 0} {eq : K → K → Bool} (test : K → Bool)
+    (one : (x y : K) → test x ≡ true → test y ≡ eq x y) where
+  none_more : (x : K) (xs : List (K × X)) → test x ≡ true → AllByRecursion (λ y. eq x y ≡ false) (keys_of xs)
+      → lookup test xs ≡ None
+  none_more x [] named h = refl
+  none_more x (y ∷ ys) named h =
+      ap (λ b. cond b (Some y.1) (lookup test ys)) (one x y.0 named ∙ h.0) ∙ none_more x ys named h.1
+
+  -- the key finds the same value in the list that is turned round
+  pub lookup-reverse : (xs : List (K × X)) → IsDistinct eq (keys_of xs)
+      → lookup test (reverse xs) ≡ lookup test xs
+  lookup-reverse [] d = refl
+  lookup-reverse (x ∷ xs) d = ap (lookup test) (reverse-cons x xs)
+      ∙ go (test x.0) refl (lookup-reverse xs (IsDistinct-tail eq x.0 (keys_of xs) d))
+    where
+      go : (b : Bool) → test x.0 ≡ b → lookup test (reverse xs) ≡ lookup test xs
+          → lookup test (reverse xs ++ x ∷ []) ≡ cond b (Some x.1) (lookup test xs)
+      go true e later =
+          let none = later ∙ none_more x.0 xs e (IsDistinct-head eq x.0 (keys_of xs) d) in
+          found_behind test (reverse xs) (x ∷ []) none ∙ ap (λ b. cond b (Some x.1) None) e
+      go false e later = found_before test x e (reverse xs) ∙ later
+
+  -- it is removed there,
+  pub without-reverse : (xs : List (K × X)) → IsDistinct eq (keys_of xs)
+      → without test (reverse xs) ≡ reverse (without test xs)
+  without-reverse [] d = refl
+  without-reverse (x ∷ xs) d = ap (without test) (reverse-cons x xs)
+      ∙ go (test x.0) refl (without-reverse xs (IsDistinct-tail eq x.0 (keys_of xs) d))
+    where
+      go : (b : Bool) → test x.0 ≡ b → without test (reverse xs) ≡ reverse (without test xs)
+          → without test (reverse xs ++ x ∷ []) ≡ reverse (cond b xs (x ∷ without test xs))
+      go true e later =
+          let tail = IsDistinct-tail eq x.0 (keys_of xs) d in
+          let none = lookup-reverse xs tail ∙ none_more x.0 xs e (IsDistinct-head eq x.0 (keys_of xs) d) in
+          without_behind test (reverse xs) (x ∷ []) none
+          ∙ ap (λ b. reverse xs ++ cond b [] (x ∷ [])) e ∙ append-nil (reverse xs)
+      go false e later = without_before test x e (reverse xs) ∙ ap (λ l. l ++ x ∷ []) later
+          ∙ sym (reverse-cons x (without test xs))
+
+  -- and written
+  pub set-reverse : (xs : List (K × X)) (w : X) → IsDistinct eq (keys_of xs)
+      → set_value test (reverse xs) w ≡ reverse (set_value test xs w)
+  set-reverse [] w d = refl
+  set-reverse (x ∷ xs) w d = ap (λ l. set_value test l w) (reverse-cons x xs)
+      ∙ go (test x.0) refl (set-reverse xs w (IsDistinct-tail eq x.0 (keys_of xs) d))
+    where
+      go : (b : Bool) → test x.0 ≡ b → set_value test (reverse xs) w ≡ reverse (set_value test xs w)
+          → set_value test (reverse xs ++ x ∷ []) w ≡ reverse (cond b ((x.0, w) ∷ xs) (x ∷ set_value test xs w))
+      go true e later =
+          let tail = IsDistinct-tail eq x.0 (keys_of xs) d in
+          let none = lookup-reverse xs tail ∙ none_more x.0 xs e (IsDistinct-head eq x.0 (keys_of xs) d) in
+          set_behind test (reverse xs) (x ∷ []) w none
+          ∙ ap (λ b. reverse xs ++ cond b ((x.0, w) ∷ []) (x ∷ [])) e ∙ sym (reverse-cons (x.0, w) xs)
+      go false e later = set_before test x e (reverse xs) w ∙ ap (λ l. l ++ x ∷ []) later
+          ∙ sym (reverse-cons x (set_value test xs w))
+
+  -- so an insert writes the value of a key that is there, and adds a new one in front before the list is turned round
+  module _ (xs : List (K × X)) (d : IsDistinct eq (keys_of xs)) (k : K) (w : X) where
+    put-as : (o : Option X) → lookup test xs ≡ o
+        → (if is_some o then set_value test (reverse xs) w else reverse xs ++ (k, w) ∷ []) ≡ put test (k, w) (reverse xs)
+    put-as o e = ap (λ p. if is_some p then set_value test (reverse xs) w else reverse xs ++ (k, w) ∷ [])
+        (sym (lookup-reverse xs d ∙ e))
+
+    pub put-there : (v : X) → lookup test xs ≡ Some v → reverse (set_value test xs w) ≡ put test (k, w) (reverse xs)
+    put-there v e = sym (set-reverse xs w d) ∙ put-as (Some v) e
+
+    pub put-new : lookup test xs ≡ None → reverse ((k, w) ∷ xs) ≡ put test (k, w) (reverse xs)
+    put-new e = reverse-cons (k, w) xs ∙ put-as None e

@@ -1,0 +1,20 @@
+use Rattle.std.proofs.Common.{◌∷◌, ap, ◌∙◌}
+use Rattle.schnellru.specs.State.{contents}
+use Rattle.schnellru.specs.Lists.{lookup_entry}
+use Rattle.schnellru.proofs.CallerLemmas.{no_pair}
+use Rattle.lru_caches.proofs.append.append.Goals as goal
+
+pub returns-in-Ok-clause-added : goal.returns-in-Ok-clause-added
+returns-in-Ok-clause-added g c =
+    let key = c.args.key in
+    let value = c.args.value in
+    let eq = g.K.PartialEq.eq in
+    let mid = c.try_reserve.new.self in
+    let reserved = c.in-Ok.ensures.step in
+    let stay = (c.reservations_keep_the_list.ensures 1 c.args.map.now _ mid reserved).0 in
+    let room = c.reservations_make_room.ensures 1 c.args.map.now mid c.len.ensures.map.sized reserved in
+    let absent = ap (lookup_entry (eq key)) stay ∙ no_pair (eq key) c.args.map.now.pairs c.requires.new in
+    let accepts = c.requires.accepts key value (contents mid) in
+    let law = c.inserts_with_room_are_exact.ensures.added key value (key, value) mid in
+    (law c.insert.result c.insert.new.self room absent accepts c.insert.ensures.step).pairs
+    ∙ ap (λ pairs. (key, value) ∷ pairs) stay

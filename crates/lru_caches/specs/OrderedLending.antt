@@ -1,0 +1,19 @@
+-- What an ordered map ends as, once a reference to one of its values has ended.
+use Rattle.std.specs.Prelude.{Bool, List, Option}
+use Rattle.std.specs.Borrow.{Fml, RattleType, MutBor, LendsIf}
+use Rattle.std.specs.HashMap.Lent.{HashMembers}
+use Rattle.std.specs.Map.{set_value}
+use Rattle.std.specs.declared.hash.Hasher as hasher
+use Rattle.lru_limits.specs.Hashing.{HasherMembers}
+use Rattle.lru_caches.specs.contracts.ordered_map.OrderedMap.{the_row}
+
+module _ (K V S H : RattleType) (key : HashMembers K.Denot)
+    (hashed : HasherMembers S.Denot K.Denot H.Denot) (hash : hasher.Ghosts H.Denot) where
+  -- the map's type, as the logic holds it
+  abbrev pub map_row : RattleType
+  map_row = the_row K V S H (record { eq = key.eq }) (record { hash_input = key.hash_input })
+      (record { hash_of = hashed.hash_of }) (record { build_hasher = hashed.build_hasher }) hash
+
+  -- it has the last value written through r at the key that is named, and at `None` it stays as it is
+  abbrev pub lends_value : MutBor (List (K.Denot × V.Denot)) → (K.Denot → Bool) → Option (MutBor V.Denot) → Fml
+  lends_value m names r = LendsIf map_row V m r (λ last. set_value names m.now last) m.now

@@ -1,0 +1,135 @@
+//! `Loader`. A contract sees a loader as its stored values and its function.
+ghost use Rattle.std.specs.Prelude.{◌≡◌, [], length, None, Ok, IfOk, IfSome, OnErr};
+ghost use Rattle.std.specs.Map.{lookup};
+ghost use Rattle.schnellru.specs.Theorems.{KeepsValues};
+ghost use Rattle.lru_caches.specs.Answers.{IsAnswer, AreAnswers, loads};
+
+use schnellru::{Insertion, LruMap, RandomState, laws};
+use std::alloc::Global;
+use std::hash::Hash;
+use std::marker::Model;
+
+/// A memo of a function that may fail, such as a read of a file. It remembers the newest values that were loaded, up to
+/// a limit, and no failure.
+///
+/// The function may borrow what it reads by `&`.
+///
+/// ```
+/// let disk = [10, 11, 12];
+/// let mut blocks = Loader::new(alloc, ByLength::new(9), |n: usize| disk.get(n).copied().ok_or(n));
+/// assert_eq!(rt; (blocks.load(1), blocks.len()), (Ok(11), 1));
+/// assert_eq!(rt; (blocks.load(3), blocks.len()), (Err(3), 1));
+/// ```
+#[derive(Drop)]
+pub struct Loader<K: Copy + Eq + Hash, V: Copy, F, L: Insertion<K, V, K>> {
+    map: LruMap<K, V, L>,
+    function: F,
+}
+
+impl<K: Copy + Eq + Hash, V: Copy, F, L: Insertion<K, V, K>> Model for Loader<K, V, F, L> {
+    ghost use Rattle.schnellru.specs.Theorems.{KeepsValues};
+    ghost use Rattle.lru_caches.specs.Answers.{Remembered};
+
+    ghost Value = { Remembered K V F };
+
+    ghost view = { λ m. record { known = m.map.pairs; function = m.function } };
+
+    ghost invariant = { λ m. KeepsValues L.offers };
+}
+
+impl<K: Copy + Eq + Hash, V: Copy, E, F: Fn(K) -> Result<V, E>, L: Insertion<K, V, K>> Loader<
+    K,
+    V,
+    F,
+    L,
+> {
+    /// Makes a loader by a function, with no values yet.
+    ///
+    /// The limiter has to store values as they come, as all limiters of `schnellru` do. The hasher of keys has known
+    /// seeds. Cost: `O(1)`, and no memory.
+    ///
+    /// ```
+    /// let mut blocks = Loader::new(alloc, ByLength::new(9), |n: usize| disk.get(n).copied().ok_or(n));
+    /// ```
+    pub fn new(alloc: Global, limiter: L, function: F) -> Self
+        requires { KeepsValues L.offers }
+        ensures empty { result.known ≡ [] }
+        ensures known { AreAnswers K.eq (loads (F.post result.function)) result.known }
+        ensures function { result.function ≡ function }
+    {
+        Loader {
+            map: LruMap::with_limiter(alloc, limiter),
+            function,
+        }
+    }
+
+    /// Returns the stored value of a key, or else the result of a call of the function. A value that was loaded is
+    /// stored.
+    ///
+    /// If the loader runs out of memory or its limiter rejects the value, the value is returned without being stored.
+    ///
+    /// A caller proves the clauses `callable` and `known` from what `new`, or the call before, ensures.
+    ///
+    /// ```
+    /// assert_eq!(rt; (blocks.load(1), blocks.len()), (Ok(11), 1));
+    /// ```
+    ///
+    /// Cost: a get, and if no value is stored, a call of the function and an insert.
+    ///
+    /// # Errors
+    ///
+    /// The function failed, with this error. The stored values stay. There is no error if a value is stored.
+    pub fn load(&mut self, key: K) -> Result<V, E>
+        requires callable { F.IsAlwaysCallable self.old.function }
+        requires known { AreAnswers K.eq (loads (F.post self.old.function)) self.old.known }
+        ensures value { IfOk result (IsAnswer K.eq (loads (F.post self.old.function)) key) }
+        ensures stored { IfSome (lookup (K.eq key) self.old.known) (λ value. result ≡ Ok value) }
+        ensures loaded { lookup (K.eq key) self.old.known ≡ None → F.post self.old.function key result }
+        ensures failed { OnErr result (self.new.known ≡ self.old.known) }
+        ensures known { AreAnswers K.eq (loads (F.post self.new.function)) self.new.known }
+        ensures function { self.new.function ≡ self.old.function }
+    {
+        loaded(&mut self.map, &self.function, key)
+    }
+
+    /// Returns how many values are stored.
+    ///
+    /// Cost: `O(1)`.
+    ///
+    /// ```
+    /// assert_eq!(rt; (blocks.load(3), blocks.len()), (Err(3), 1));
+    /// ```
+    pub fn len(&self) -> usize
+        ensures { result ≡ length self.now.known }
+    {
+        self.map.len()
+    }
+}
+
+// Returns the stored value of a key, or else stores what the function returns.
+fn loaded<K: Copy + Eq + Hash, V: Copy, E, F: Fn(K) -> Result<V, E>, L: Insertion<K, V, K>>(
+    map: &mut LruMap<K, V, L>,
+    function: &F,
+    key: K,
+) -> Result<V, E>
+    requires callable { F.IsAlwaysCallable function.now }
+    requires keeps { KeepsValues L.offers }
+    requires known { AreAnswers K.eq (loads (F.post function.now)) map.old.pairs }
+    ensures value { IfOk result (IsAnswer K.eq (loads (F.post function.now)) key) }
+    ensures stored { IfSome (lookup (K.eq key) map.old.pairs) (λ value. result ≡ Ok value) }
+    ensures loaded { lookup (K.eq key) map.old.pairs ≡ None → F.post function.now key result }
+    ensures failed { OnErr result (map.new.pairs ≡ map.old.pairs) }
+    ensures known { AreAnswers K.eq (loads (F.post function.now)) map.new.pairs }
+{
+    laws::inserts_give_up_the_oldest::<K, V, K, L, RandomState>();
+    if let Some(value) = map.get(&key) {
+        return Ok(*value);
+    }
+    match function(key) {
+        Ok(value) => {
+            let _ = map.insert(key, value);
+            Ok(value)
+        }
+        Err(error) => Err(error),
+    }
+}

@@ -1,0 +1,289 @@
+//! `OrderedMap`. A contract sees a map as the list of its entries, oldest first.
+ghost use Rattle.std.specs.Prelude.{◌≡◌, ◌<◌, ◌^◌, [], length, is_some, IsSome, IsOk, IfOk, OnOk, OnErr, option_map};
+ghost use Rattle.std.specs.Borrow.{sem};
+ghost use Rattle.std.specs.List.{IsDistinct};
+ghost use Rattle.std.specs.Map.{lookup, keys_of};
+ghost use Rattle.std.specs.Map.Iter.{ShowsInOrder, ShowsInReverse, deref_pair};
+ghost use Rattle.std.specs.Option.{option_copied, option_copied_mut};
+ghost use Rattle.schnellru.specs.Lists.{is_empty, first, last, without_first, without};
+ghost use Rattle.lru_caches.specs.Ordered.{put};
+
+use crate::append::append;
+use crate::ordered_map::entries::Entries;
+use schnellru::{DEFAULT_ENTRY_BYTES, KeyHasher, LookupKey, LruMap, RandomState, Unlimited};
+use std::alloc::{AllocError, Global};
+use std::hash::Hash;
+use std::marker::Model;
+use std::mem;
+
+pub(crate) mod entries;
+
+/// A hash map whose entries are in the order of insertion, oldest first.
+///
+/// An insert of a key that is there keeps the key's place. A removal keeps the order of the other entries, and takes
+/// `O(1)`. The map evicts nothing: if its table cannot grow, an insert fails and changes nothing.
+///
+/// ```
+/// let mut map: OrderedMap<u64, u64> = OrderedMap::new(alloc);
+/// assert_eq!(rt; (map.insert(1, 10)?, map.insert(2, 20)?), (None, None));
+/// assert_eq!(rt; map.insert(1, 11)?, Some(10));
+/// assert!(rt; map.first() == Some((&1, &11)) && map.last() == Some((&2, &20)));
+/// ```
+#[derive(Drop)]
+pub struct OrderedMap<K: Eq + Hash, V, S: KeyHasher<K> = RandomState> {
+    map: LruMap<K, V, Unlimited, S>,
+}
+
+impl<K: Eq + Hash, V, S: KeyHasher<K>> Model for OrderedMap<K, V, S> {
+    ghost use Rattle.std.specs.Prelude.{List, reverse};
+
+    ghost Value = { List (K × V) };
+
+    ghost view = { λ m. reverse m.map.pairs };
+}
+
+impl<K: Eq + Hash, V> OrderedMap<K, V, RandomState> {
+    /// Makes an empty map with the default hasher.
+    ///
+    /// The seeds of that hasher are 1, 2, 3 and 4, so everyone knows its hashes. If strangers choose the keys, call
+    /// `with_hasher` with seeds that nobody can guess. Cost: `O(1)`, and no memory.
+    ///
+    /// ```
+    /// let mut map: OrderedMap<u64, u64> = OrderedMap::new(alloc);
+    /// ```
+    ///
+    /// After std's `HashMap::new`.
+    pub fn new(alloc: Global) -> Self
+        ensures { result ≡ [] }
+    {
+        OrderedMap::with_hasher(alloc, RandomState::default())
+    }
+}
+
+impl<K: Eq + Hash, V, S: KeyHasher<K>> OrderedMap<K, V, S> {
+    ghost use Rattle.lru_caches.specs.OrderedLending.{lends_value};
+
+    /// Makes an empty map with this hasher. Cost: `O(1)`, and no memory.
+    ///
+    /// ```
+    /// let seeded = RandomState::with_seeds([5, 6, 7, 8]);
+    /// let map: OrderedMap<u64, u64> = OrderedMap::with_hasher(alloc, seeded);
+    /// assert!(rt; map.is_empty());
+    /// ```
+    ///
+    /// After std's `HashMap::with_hasher`.
+    pub fn with_hasher(alloc: Global, hasher: S) -> Self
+        ensures { result ≡ [] }
+    {
+        // The limiter permits every growth, so the bytes of an entry bound no map that memory can hold.
+        OrderedMap {
+            map: LruMap::with_hasher(alloc, Unlimited, hasher, DEFAULT_ENTRY_BYTES),
+        }
+    }
+
+    /// Returns the number of entries. No two keys are equal.
+    ///
+    /// ```
+    /// assert_eq!(rt; map.len(), 2);
+    /// ```
+    ///
+    /// Cost: `O(1)`.
+    pub fn len(&self) -> usize
+        ensures len { result ≡ length self.now }
+        ensures distinct { IsDistinct K.eq (keys_of self.now) }
+    {
+        self.map.len()
+    }
+
+    /// Returns whether there are no entries.
+    ///
+    /// ```
+    /// assert!(rt; map.is_empty());
+    /// ```
+    ///
+    /// Cost: `O(1)`.
+    pub fn is_empty(&self) -> bool
+        ensures { result ≡ is_empty self.now }
+    {
+        self.map.is_empty()
+    }
+
+    /// Returns whether a key is in the map.
+    ///
+    /// `String` keys are looked up by a `&str`, as `map.contains(&"a")`. Cost: `O(1)` expected.
+    ///
+    /// ```
+    /// assert!(rt; map.contains(&1) && !map.contains(&9));
+    /// ```
+    ///
+    /// After indexmap's `IndexMap::contains_key`.
+    pub fn contains<Q: LookupKey<K>>(&self, key: &Q) -> bool
+        ensures { result ≡ is_some (lookup (Q.names key.now) self.now) }
+    {
+        distinct(&self.map);
+        self.map.contains(key)
+    }
+
+    /// Returns the value of a key.
+    ///
+    /// ```
+    /// assert_eq!(rt; (map.get(&1), map.get(&9)), (Some(&11), None));
+    /// ```
+    ///
+    /// Cost: `O(1)` expected.
+    ///
+    /// After indexmap's `IndexMap::get`.
+    pub fn get<Q: LookupKey<K>>(&self, key: &Q) -> Option<&V>
+        ensures { option_copied result ≡ lookup (Q.names key.now) self.now }
+    {
+        distinct(&self.map);
+        self.map.peek(key)
+    }
+
+    /// Lends the value of a key for writing. The order stays.
+    ///
+    /// ```
+    /// if let Some(value) = map.get_mut(&2) {
+    ///     *value = 22;
+    /// }
+    /// assert_eq!(rt; map.get(&2), Some(&22));
+    /// ```
+    ///
+    /// Cost: `O(1)` expected.
+    ///
+    /// After indexmap's `IndexMap::get_mut`.
+    pub fn get_mut<Q: LookupKey<K>>(&mut self, key: &Q) -> Option<&mut V>
+        ensures* writes_back { sem 𝓛 (lends_value K.row V.row S.row S.Hasher.row K.Hash S.KeyHasher S.Hasher.Hasher
+            self.entry (Q.names key.now) result) }
+        ensures value { option_copied_mut result ≡ lookup (Q.names key.now) self.old }
+    {
+        distinct(&self.map);
+        self.map.peek_mut(key)
+    }
+
+    /// Returns the oldest entry.
+    ///
+    /// ```
+    /// assert!(rt; map.first() == Some((&1, &11)) && map.last() == Some((&2, &20)));
+    /// ```
+    ///
+    /// Cost: `O(1)`.
+    ///
+    /// After indexmap's `IndexMap::first`.
+    pub fn first(&self) -> Option<(&K, &V)>
+        ensures { option_map deref_pair result ≡ first self.now }
+    {
+        self.map.peek_oldest()
+    }
+
+    /// Returns the newest entry.
+    ///
+    /// ```
+    /// assert!(rt; map.first() == Some((&1, &11)) && map.last() == Some((&2, &20)));
+    /// ```
+    ///
+    /// Cost: `O(1)`.
+    ///
+    /// After indexmap's `IndexMap::last`.
+    pub fn last(&self) -> Option<(&K, &V)>
+        ensures { option_map deref_pair result ≡ last self.now }
+    {
+        self.map.peek_newest()
+    }
+
+    /// Removes and returns the oldest entry, if there is one.
+    ///
+    /// ```
+    /// assert_eq!(rt; map.pop_first(), Some((1, 11)));
+    /// ```
+    ///
+    /// Cost: `O(1)`.
+    ///
+    /// After std's `BTreeMap::pop_first`.
+    pub fn pop_first(&mut self) -> Option<(K, V)>
+        ensures first { result ≡ first self.old }
+        ensures rest { self.new ≡ without_first self.old }
+    {
+        self.map.pop_oldest()
+    }
+
+    /// Returns an iterator over the entries, oldest first.
+    ///
+    /// ```
+    /// for (key, value) in map.iter() {
+    ///     total = total.wrapping_add(key.wrapping_mul(*value));
+    /// }
+    /// ```
+    ///
+    /// Cost: `O(1)`, and so is each step from either end.
+    ///
+    /// After indexmap's `IndexMap::iter`.
+    pub fn iter(&self) -> Entries<'_, K, V>
+        ensures rest { result ≡ self.now }
+        ensures runs { ShowsInOrder (deref_pair {K = K} {X = V}) }
+        ensures runs_back { ShowsInReverse (deref_pair {K = K} {X = V}) }
+        ensures distinct { IsDistinct K.eq (keys_of self.now) }
+        ensures fits { length self.now < 2 ^ 64 }
+    {
+        Entries::new(self.map.iter())
+    }
+}
+
+impl<K: Eq + Hash + Drop, V: Drop, S: KeyHasher<K>> OrderedMap<K, V, S> {
+    /// Inserts a key with a value as the newest entry. If the key is there, its entry keeps its key and its place, and
+    /// the old value is returned.
+    ///
+    /// ```
+    /// assert_eq!(rt; (map.insert(1, 10)?, map.insert(2, 20)?), (None, None));
+    /// assert_eq!(rt; map.insert(1, 11)?, Some(10));
+    /// ```
+    ///
+    /// Cost: `O(1)` expected, amortised over the inserts. An insert that grows the table moves all entries.
+    ///
+    /// # Errors
+    ///
+    /// An `Err` says that the map ran out of memory for a new key, or that no larger table can be numbered. Nothing has
+    /// changed.
+    ///
+    /// After indexmap's `IndexMap::insert`.
+    pub fn insert(&mut self, key: K, value: V) -> Result<Option<V>, AllocError>
+        ensures old { IfOk result (λ was. was ≡ lookup (K.eq key) self.old) }
+        ensures entries { OnOk result (self.new ≡ put (K.eq key) (key, value) self.old) }
+        ensures failed { OnErr result (self.new ≡ self.old) }
+        ensures there { IsSome (lookup (K.eq key) self.old) → IsOk result }
+    {
+        distinct(&self.map);
+        if let Some(place) = self.map.peek_mut(&key) {
+            return Ok(Some(mem::replace(place, value)));
+        }
+        append(&mut self.map, key, value)?;
+        Ok(None)
+    }
+}
+
+impl<K: Eq + Hash + Drop, V, S: KeyHasher<K>> OrderedMap<K, V, S> {
+    /// Removes a key, and returns its value. The other entries keep their order.
+    ///
+    /// ```
+    /// assert_eq!(rt; (map.remove(&2), map.remove(&2)), (Some(22), None));
+    /// ```
+    ///
+    /// Cost: `O(1)` expected.
+    ///
+    /// After indexmap's `IndexMap::shift_remove`, which takes `O(len)`.
+    pub fn remove<Q: LookupKey<K>>(&mut self, key: &Q) -> Option<V>
+        ensures value { result ≡ lookup (Q.names key.now) self.old }
+        ensures entries { self.new ≡ without (Q.names key.now) self.old }
+    {
+        distinct(&self.map);
+        self.map.remove(key)
+    }
+}
+
+// Nothing at run time: it shows a proof that no two keys are equal.
+#[inline]
+fn distinct<K: Eq + Hash, V, S: KeyHasher<K>>(map: &LruMap<K, V, Unlimited, S>)
+    ensures { IsDistinct K.eq (keys_of map.now.pairs) }
+{
+    let _ = map.len();
+}
