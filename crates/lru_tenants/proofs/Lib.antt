@@ -1,3 +1,4 @@
 pub mod Changes
+pub mod Pops
 pub mod Gets
 pub mod OwnRuns

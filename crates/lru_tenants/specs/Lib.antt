@@ -2,3 +2,4 @@
 pub mod Cache
 pub mod TenantRuns
 pub mod Lending
+pub mod Others

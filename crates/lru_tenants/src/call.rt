@@ -1,5 +1,5 @@
 //! The calls of a run on a cache, and their answers.
-use crate::cache::TenantError;
+use crate::error::TenantError;
 
 /// A call of a run. Each names its tenant.
 ///
@@ -7,17 +7,17 @@ use crate::cache::TenantError;
 /// let calls = vec![in alloc; TenantCall::Open(1, 3), TenantCall::Put(1, 7, 1), TenantCall::Get(2, 7)]?;
 /// ```
 #[derive(Debug, Drop)]
-pub enum TenantCall<K, V> {
+pub enum TenantCall<N, K, V> {
     /// `open`: opens the tenant with this budget.
-    Open(u64, u64),
+    Open(N, u64),
     /// `put`: inserts the key with the value, as the newest entry of the tenant.
-    Put(u64, K, V),
+    Put(N, K, V),
     /// `get`: returns the tenant's value of the key, and makes its entry the newest.
-    Get(u64, K),
+    Get(N, K),
     /// `cost`: returns the sum of the costs of the tenant's values.
-    Cost(u64),
+    Cost(N),
     /// `close`: drops the tenant's entries and closes the tenant.
-    Close(u64),
+    Close(N),
 }
 
 /// The answer to a call.

@@ -6,8 +6,13 @@
 
 mod cache;
 mod call;
+mod error;
+mod laws;
 mod runs;
+mod tenant;
 
-pub use cache::{TenantCache, TenantError};
+pub use cache::TenantCache;
 pub use call::{TenantAnswer, TenantCall};
+pub use error::TenantError;
+pub use laws::calls_of_others_leave_a_tenant;
 pub use runs::run_tenants;

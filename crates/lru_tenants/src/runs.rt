@@ -1,11 +1,12 @@
 //! Lists of calls on a cache.
-ghost use Rattle.std.specs.Prelude.{◌≡◌, ℕ, IfOk};
+ghost use Rattle.std.specs.Prelude.{◌≡◌, IfOk};
 ghost use Rattle.std.specs.Result.{OnErr};
 ghost use Rattle.lru_tenants.specs.Cache.{tenant, fresh, AreTenants};
 ghost use Rattle.lru_tenants.specs.TenantRuns.{named, hash_of, Gets, On, TenantStep, IsOwnRun};
 
-use crate::cache::{TenantCache, TenantError};
+use crate::cache::TenantCache;
 use crate::call::{TenantAnswer, TenantCall};
+use crate::error::TenantError;
 use schnellru::Costed;
 use std::alloc::{AllocError, Global};
 use std::hash::Hash;
@@ -26,15 +27,15 @@ use std::hash::Hash;
 /// # Errors
 ///
 /// `Err` says that there was no memory for the answers. No call was made then.
-pub fn run_tenants<K: Copy + Eq + Hash + Drop, V: Copy + Costed + Drop>(
+pub fn run_tenants<N: Copy + Eq + Hash + Drop, K: Copy + Eq + Hash + Drop, V: Copy + Costed + Drop>(
     alloc: Global,
-    cache: &mut TenantCache<K, V>,
-    calls: Vec<TenantCall<K, V>>,
+    cache: &mut TenantCache<N, K, V>,
+    calls: Vec<TenantCall<N, K, V>>,
 ) -> Result<Vec<TenantAnswer<V>>, AllocError>
     // Each tenant's own calls and answers are a run from what it was before, and its cost stays within its budget.
-    ensures own { IfOk result (λ answers. (name : ℕ) →
-        IsOwnRun K.eq V.cost (hash_of K.hash_input) (fresh cache.old) name (tenant name cache.old) calls.items
-        answers.items (tenant name cache.new)) }
+    ensures own { IfOk result (λ answers. (name : N) →
+        IsOwnRun K.eq V.cost (hash_of K.hash_input) (fresh cache.old) (λ n. N.eq n name) (tenant (N.eq name) cache.old)
+        calls.items answers.items (tenant (N.eq name) cache.new)) }
     ensures tenants { AreTenants K.eq V.cost cache.new }
     ensures unmade { OnErr result (cache.new ≡ cache.old) }
 {
@@ -48,11 +49,12 @@ pub fn run_tenants<K: Copy + Eq + Hash + Drop, V: Copy + Costed + Drop>(
 }
 
 /// Carries out a call.
-fn make_tenant_call<K: Copy + Eq + Hash + Drop, V: Copy + Costed + Drop>(
-    cache: &mut TenantCache<K, V>,
-    call: TenantCall<K, V>,
-) -> TenantAnswer<V>
-    ensures step { On (named call) (TenantStep K.eq V.cost (hash_of K.hash_input) (fresh cache.old) call) cache.old
+fn make_tenant_call<
+    N: Copy + Eq + Hash + Drop,
+    K: Copy + Eq + Hash + Drop,
+    V: Copy + Costed + Drop,
+>(cache: &mut TenantCache<N, K, V>, call: TenantCall<N, K, V>) -> TenantAnswer<V>
+    ensures step { On N.eq (named call) (TenantStep K.eq V.cost (hash_of K.hash_input) (fresh cache.old) call) cache.old
         result cache.new }
     ensures tenants { AreTenants K.eq V.cost cache.new }
 {
@@ -63,29 +65,29 @@ fn make_tenant_call<K: Copy + Eq + Hash + Drop, V: Copy + Costed + Drop>(
 }
 
 /// Returns the answer to a call.
-fn answer_to<K: Copy + Eq + Hash + Drop, V: Copy + Costed + Drop>(
-    cache: &mut TenantCache<K, V>,
-    call: TenantCall<K, V>,
+fn answer_to<N: Copy + Eq + Hash + Drop, K: Copy + Eq + Hash + Drop, V: Copy + Costed + Drop>(
+    cache: &mut TenantCache<N, K, V>,
+    call: TenantCall<N, K, V>,
 ) -> TenantAnswer<V>
-    ensures { On (named call) (TenantStep K.eq V.cost (hash_of K.hash_input) (fresh cache.old) call) cache.old
+    ensures { On N.eq (named call) (TenantStep K.eq V.cost (hash_of K.hash_input) (fresh cache.old) call) cache.old
         result cache.new }
 {
     match call {
         TenantCall::Open(name, budget) => TenantAnswer::Opened(cache.open(name, budget)),
-        TenantCall::Put(name, key, value) => TenantAnswer::Put(cache.put(name, key, value)),
-        TenantCall::Get(name, key) => TenantAnswer::Got(get(cache, name, &key)),
-        TenantCall::Cost(name) => TenantAnswer::Cost(cache.cost(name)),
-        TenantCall::Close(name) => TenantAnswer::Closed(cache.close(name)),
+        TenantCall::Put(name, key, value) => TenantAnswer::Put(cache.put(&name, key, value)),
+        TenantCall::Get(name, key) => TenantAnswer::Got(get(cache, &name, &key)),
+        TenantCall::Cost(name) => TenantAnswer::Cost(cache.cost(&name)),
+        TenantCall::Close(name) => TenantAnswer::Closed(cache.close(&name)),
     }
 }
 
 /// Returns a tenant's value of a key, and makes its entry the newest.
-fn get<K: Eq + Hash, V: Copy + Costed>(
-    cache: &mut TenantCache<K, V>,
-    name: u64,
+fn get<N: Eq + Hash, K: Eq + Hash, V: Copy + Costed>(
+    cache: &mut TenantCache<N, K, V>,
+    name: &N,
     key: &K,
 ) -> Result<Option<V>, TenantError>
-    ensures { On name (Gets (K.eq key.now)) cache.old result cache.new }
+    ensures { On N.eq name.now (Gets (K.eq key.now)) cache.old result cache.new }
 {
     match cache.get(name, key) {
         Ok(value) => Ok(value.copied()),

@@ -1,4 +1,4 @@
-use Rattle.std.proofs.Common.{subst, Some, None, sym, refl, ◌∙◌, ap, is_some, nat_eq}
+use Rattle.std.proofs.Common.{subst, Some, None, sym, refl, ◌∙◌, ap, is_some}
 use Rattle.std.proofs.lemmas.Map.Views.{All-values-set_value}
 use Rattle.schnellru.specs.Calls.{promoted, written}
 use Rattle.schnellru.specs.Lists.{lookup}
@@ -13,25 +13,25 @@ pub invariant_of-self-in-Some-get : goal.invariant_of-self-in-Some-get
 invariant_of-self-in-Some-get g c =
     let names = g.Q.LookupKey.names c.args.key.now in
     let left = written names c.in-Some-get.value.now (promoted names c.in-Some.map.now) in
-    let was = found-all (IsTenant g.K.PartialEq.eq g.V.Costed.cost) (nat_eq c.args.name) c.self.inside.tenants
+    let was = found-all (IsTenant g.K.PartialEq.eq g.V.Costed.cost) (g.N.PartialEq.eq c.args.name.now) c.self.inside.tenants
     c.in-Some.map.now (sym c.in-Some.ensures.value) c.self.invariant.0 in
     let back = read_back names c.in-Some.map.now c.in-Some-get.value.now (sym c.in-Some-get.ensures.value) in
     let is = subst (IsTenant g.K.PartialEq.eq g.V.Costed.cost) (sym back)
     (promoted_is_tenant g.met.Q.LookupKey.laws c.args.key.now g.V.Costed.cost c.in-Some.map.now was) in
     let writes = c.get_mut.follows.holds left in (
       rw (writes.0)
-          (All-values-set_value (nat_eq c.args.name) (IsTenant g.K.PartialEq.eq g.V.Costed.cost)
+          (All-values-set_value (g.N.PartialEq.eq c.args.name.now) (IsTenant g.K.PartialEq.eq g.V.Costed.cost)
           c.self.inside.tenants.entries left c.self.invariant.0 is),
       writes.5 ∙ c.self.invariant.1,
     )
 
 pub invariant_of-self-in-None : goal.invariant_of-self-in-None
 invariant_of-self-in-None g c =
-    let was = found-all (IsTenant g.K.PartialEq.eq g.V.Costed.cost) (nat_eq c.args.name) c.self.inside.tenants
+    let was = found-all (IsTenant g.K.PartialEq.eq g.V.Costed.cost) (g.N.PartialEq.eq c.args.name.now) c.self.inside.tenants
     c.in-Some.map.now (sym c.in-Some.ensures.value) c.self.invariant.0 in
     let writes = c.get_mut.follows.holds c.in-Some.map.now in (
       rw (writes.0)
-          (All-values-set_value (nat_eq c.args.name) (IsTenant g.K.PartialEq.eq g.V.Costed.cost)
+          (All-values-set_value (g.N.PartialEq.eq c.args.name.now) (IsTenant g.K.PartialEq.eq g.V.Costed.cost)
           c.self.inside.tenants.entries c.in-Some.map.now c.self.invariant.0 was),
       writes.5 ∙ c.self.invariant.1,
     )
@@ -43,7 +43,7 @@ returns-in-Some-get g c =
     let writes = c.get_mut.follows.holds left in
     let there = sym c.in-Some.ensures.value in
     let found = c.in-Some-get.ensures.value in
-    let gets = gets-open names (lookup (nat_eq c.args.name) c.self.inside.tenants.entries) c.in-Some.map.now left
+    let gets = gets-open names (lookup (g.N.PartialEq.eq c.args.name.now) c.self.inside.tenants.entries) c.in-Some.map.now left
     (Some c.in-Some-get.value.now) there found
     (read_back names c.in-Some.map.now c.in-Some-get.value.now (sym found)) in
     rw (← c.self.view_is) (
@@ -53,7 +53,7 @@ returns-in-Some-get g c =
         (
           Some left,
           gets,
-          leaves-updated c.args.name (Some left) c.self.inside.seed c.self.inside.entry_bytes c.self.inside.tenants
+          leaves-updated g.N.PartialEq.eq c.args.name.now (Some left) c.self.inside.seed c.self.inside.entry_bytes c.self.inside.tenants
               (c.get_mut.follows.lender left) (writes.3 (ap is_some there)),
         ),
       ),
@@ -67,7 +67,7 @@ returns-in-None g c =
     let writes = c.get_mut.follows.holds left in
     let there = sym c.in-Some.ensures.value in
     let found = c.in-None.ensures.value in
-    let gets = gets-open names (lookup (nat_eq c.args.name) c.self.inside.tenants.entries) left left None there found
+    let gets = gets-open names (lookup (g.N.PartialEq.eq c.args.name.now) c.self.inside.tenants.entries) left left None there found
     (sym (promoted-absent names left (sym found))) in
     rw (← c.self.view_is) (
       (
@@ -76,7 +76,7 @@ returns-in-None g c =
         (
           Some left,
           gets,
-          leaves-updated c.args.name (Some left) c.self.inside.seed c.self.inside.entry_bytes c.self.inside.tenants
+          leaves-updated g.N.PartialEq.eq c.args.name.now (Some left) c.self.inside.seed c.self.inside.entry_bytes c.self.inside.tenants
               (c.get_mut.follows.lender left) (writes.3 (ap is_some there)),
         ),
       ),

@@ -1,20 +1,20 @@
-use Rattle.std.proofs.Common.{inl, inr, Some, None, Ok, Err, sym, refl, ◌∙◌, ap, nat_eq}
+use Rattle.std.proofs.Common.{inl, inr, Some, None, Ok, Err, sym, refl, ◌∙◌, ap}
 use Rattle.std.proofs.lemmas.Map.Views.{All-values-PutsEntry}
 use Rattle.lru_tenants.specs.Cache.{tenant, fresh, IsTenant}
 use Rattle.lru_tenants.specs.TenantRuns.{Opens}
-use Rattle.lru_tenants.specs.declared.cache.TenantError.TheVariants.{Memory}
+use Rattle.lru_tenants.specs.declared.error.TenantError.TheVariants.{Memory}
 use Rattle.lru_tenants.proofs.Changes.{cache_of, on-same, on-from, leaves-updated, open-again, absent-from}
 use Rattle.lru_tenants.proofs.cache.TenantCache.open.Goals as goal
 
 pub returns-then-contains_key-clause-opens : goal.returns-then-contains_key-clause-opens
 returns-then-contains_key-clause-opens g c =
     let cache = cache_of c.self.inside.tenants c.self.inside.seed c.self.inside.entry_bytes in
-    rw (← c.self.view_is) (open-again c.args.name (fresh cache c.args.budget) cache
+    rw (← c.self.view_is) (open-again g.met.N.Eq.laws c.args.name (fresh cache c.args.budget) cache
     (sym c.contains_key.ensures ∙ c.if-contains_key.true))
 
 pub invariant_of-self : goal.invariant_of-self
 invariant_of-self g c = (
-  All-values-PutsEntry nat_eq (IsTenant g.K.PartialEq.eq g.V.Costed.cost) c.self.inside.tenants
+  All-values-PutsEntry g.N.PartialEq.eq (IsTenant g.K.PartialEq.eq g.V.Costed.cost) c.self.inside.tenants
       c.insert.new.self c.args.name c.fresh-map.result c.in-Ok.field-0 c.in-Ok.ensures.entries
       c.self.invariant.0 c.fresh-map.ensures.tenant,
   c.insert.ensures.hasher ∙ c.self.invariant.1,
@@ -22,7 +22,7 @@ invariant_of-self g c = (
 
 pub returns-in-Ok-clause-tenants : goal.returns-in-Ok-clause-tenants
 returns-in-Ok-clause-tenants g c =
-    All-values-PutsEntry nat_eq (IsTenant g.K.PartialEq.eq g.V.Costed.cost) c.self.inside.tenants c.insert.new.self
+    All-values-PutsEntry g.N.PartialEq.eq (IsTenant g.K.PartialEq.eq g.V.Costed.cost) c.self.inside.tenants c.insert.new.self
     c.args.name c.fresh-map.result c.in-Ok.field-0 c.in-Ok.ensures.entries c.self.invariant.0 c.fresh-map.ensures.tenant
 
 pub returns-in-Ok-clause-opens : goal.returns-in-Ok-clause-opens
@@ -31,9 +31,9 @@ returns-in-Ok-clause-opens g c =
     let is = c.fresh-map.ensures.map ∙ ap (λ k. fresh k c.args.budget) (sym c.self.view_is) in
     rw (← c.self.view_is) (on-from c.args.name (Opens (fresh cache c.args.budget)) (Ok tt) cache
     (cache_of c.insert.new.self c.self.inside.seed c.self.inside.entry_bytes) None (Some c.fresh-map.result)
-    (absent-from (tenant c.args.name cache) (sym c.contains_key.ensures ∙ c.if-contains_key.false))
+    (absent-from (tenant (g.N.PartialEq.eq c.args.name) cache) (sym c.contains_key.ensures ∙ c.if-contains_key.false))
     (inl (refl, ap Some is))
-    (leaves-updated c.args.name (Some c.fresh-map.result) c.self.inside.seed c.self.inside.entry_bytes
+    (leaves-updated g.N.PartialEq.eq c.args.name (Some c.fresh-map.result) c.self.inside.seed c.self.inside.entry_bytes
     c.self.inside.tenants c.insert.new.self c.in-Ok.ensures.updates))
 
 pub invariant_of-self-2 : goal.invariant_of-self-2
@@ -43,7 +43,7 @@ pub returns-clause-opens : goal.returns-clause-opens
 returns-clause-opens g c =
     let cache = cache_of c.self.inside.tenants c.self.inside.seed c.self.inside.entry_bytes in
     rw (c.in-Err.ensures.err, ← c.self.view_is) (on-same c.args.name (Opens (fresh cache c.args.budget)) (Err Memory)
-    cache None c.in-Err.ensures.absent (inr (refl, refl)))
+    g.met.N.Eq.laws cache None c.in-Err.ensures.absent (inr (refl, refl)))
 
 pub returns-clause-tenants : goal.returns-clause-tenants
 returns-clause-tenants g c =

@@ -1,0 +1,53 @@
+use Rattle.std.proofs.Common.{[], None, sym, refl, ◌∙◌}
+use Rattle.lru_tenants.specs.TenantRuns.{hash_of, Puts, PutHands, PassesOn}
+use Rattle.lru_tenants.proofs.Changes.{cache_of, on-same, all-written, on-written}
+use Rattle.lru_tenants.proofs.cache.TenantCache.put_with.Goals as goal
+
+pub returns-clause-tenants : goal.returns-clause-tenants
+returns-clause-tenants g c = let u = c.insert.new.map in
+    all-written g.N.PartialEq.eq g.K.PartialEq.eq g.V.Costed.cost c.args.name.now c.self.inside.seed
+    c.self.inside.entry_bytes c.self.inside.tenants (c.get_mut.follows.lender u) c.in-Some.own.now u
+    (sym c.in-Some.ensures.value) (c.get_mut.follows.holds u) c.self.invariant.0 c.insert.ensures.tenant
+
+pub invariant_of-self-2 : goal.invariant_of-self-2
+invariant_of-self-2 g c =
+    (returns-clause-tenants g c, (c.get_mut.follows.holds c.insert.new.map).5 ∙ c.self.invariant.1)
+
+pub returns-clause-puts : goal.returns-clause-puts
+returns-clause-puts g c = let u = c.insert.new.map in
+    rw (← c.self.view_is) (on-written g.N.PartialEq.eq g.K.PartialEq.eq g.V.Costed.cost c.args.name.now
+    c.self.inside.seed c.self.inside.entry_bytes c.self.inside.tenants (c.get_mut.follows.lender u) c.in-Some.own.now u
+    (sym c.in-Some.ensures.value) (c.get_mut.follows.holds u)
+    (Puts g.K.PartialEq.eq g.V.Costed.cost (hash_of g.K.Hash.hash_input) c.args.key c.args.value) c.put_answer.result (
+      u,
+      record {
+        result = c.insert.result;
+        inserts = c.insert.ensures.inserts;
+        budget = c.insert.ensures.budget;
+        said = c.put_answer.ensures;
+      },
+      refl,
+    ))
+
+pub returns-clause-handed : goal.returns-clause-handed
+returns-clause-handed g c = let u = c.insert.new.map in
+    let (handed, takes, hands) = c.insert.ensures.handed in
+    rw (← c.self.view_is) (
+      handed,
+      takes,
+      on-written g.N.PartialEq.eq g.K.PartialEq.eq g.V.Costed.cost c.args.name.now
+          c.self.inside.seed c.self.inside.entry_bytes c.self.inside.tenants (c.get_mut.follows.lender u) c.in-Some.own.now u
+          (sym c.in-Some.ensures.value) (c.get_mut.follows.holds u)
+          (PassesOn (PutHands g.K.PartialEq.eq g.V.Costed.cost (hash_of g.K.Hash.hash_input) c.args.key c.args.value)) handed
+          (record { left = u; result = c.insert.result; inserts = hands; is = refl }),
+    )
+
+pub returns-in_default-clause-handed : goal.returns-in_default-clause-handed
+returns-in_default-clause-handed g c =
+    rw (c.get_mut.follows.holds-at-none, ← c.self.view_is) (
+      [],
+      refl,
+      on-same c.args.name.now (PassesOn (PutHands g.K.PartialEq.eq g.V.Costed.cost (hash_of g.K.Hash.hash_input) c.args.key c.args.value)) []
+          g.met.N.Eq.laws (cache_of c.self.inside.tenants c.self.inside.seed c.self.inside.entry_bytes) None
+          (sym c.in_default.ensures.value) (refl, refl),
+    )

@@ -1,0 +1,41 @@
+use Rattle.std.proofs.Common.{◌≡◌, ◌<◌, ◌∷◌, [], ◌++◌, length, reverse, refl, sym, ap, ◌∙◌, subst, arith, append-nil}
+use Rattle.std.proofs.lemmas.List.{append_assoc, length-append}
+use Rattle.std.proofs.lemmas.Fn.{FoldsTo-push}
+use Rattle.std.specs.Fn.{Called}
+use denote.Param.Always.{mut_next}
+use Rattle.schnellru.specs.HandedOver.{Takes}
+use Rattle.lru_tenants.proofs.Pops.{popped-last, popped-reverse, popped-none}
+use Rattle.lru_tenants.proofs.tenant.empty.Goals as goal
+
+pub pops-smaller : goal.pops-smaller
+pops-smaller g c =
+    let st = c.pops.map in let new = c.pop_oldest.new.self in
+    let pair : g.row.K.Denot × g.row.V.Denot = (c.in-Some.key, c.in-Some.value) in
+    omega (
+      arith,
+      ap length (popped-last g.V.Costed.cost st new pair c.in-Some.ensures.step),
+      length-append new.pairs (pair ∷ []),
+    )
+
+pub pops-preserved : goal.pops-preserved
+pops-preserved g c =
+    let st = c.pops.map in let new = c.pop_oldest.new.self in let key = c.in-Some.key in let value = c.in-Some.value in
+    let (handed, takes, all) = c.pops.invariant.handed in record {
+      callable = mut_next g.F.FnMut c.pops.sink (key, (value, tt)) tt c.sink.new.self c.sink.new.self c.sink.ensures
+          refl c.pops.invariant.callable;
+      handed = (
+        handed ++ (key, value) ∷ [],
+        FoldsTo-push (λ p x q. Called g.F.FnMut p (x.0, (x.1, tt)) tt q) c.args.sink.now handed c.pops.sink
+            (key, value) c.sink.new.self takes c.sink.ensures,
+        append_assoc handed ((key, value) ∷ []) (reverse new.pairs)
+            ∙ ap (λ l. handed ++ l)
+            (sym (popped-reverse g.V.Costed.cost st new (key, value) c.in-Some.ensures.step)) ∙ all,
+      );
+    }
+
+pub returns-clause-handed : goal.returns-clause-handed
+returns-clause-handed g c =
+    let (handed, takes, all) = c.pops.invariant.handed in
+    subst (λ l. Takes g.F.FnMut c.args.sink.now l c.pops.sink) (sym (append-nil handed)
+    ∙ ap (λ l. handed ++ reverse l)
+    (sym (popped-none g.V.Costed.cost c.pops.map c.pop_oldest.new.self c.in_default.ensures.step)) ∙ all) takes

@@ -1,0 +1,14 @@
+use Rattle.std.proofs.Common.{◌≤◌, sym, subst}
+use Rattle.schnellru.specs.Runs.Step.{removes}
+use Rattle.lru_tenants.proofs.tenant.remove.Goals as goal
+
+pub returns-clause-tenant : goal.returns-clause-tenant
+returns-clause-tenant g c =
+    let old = c.args.map.now in let new = c.remove-value.new.self in
+    let step = removes (g.Q.LookupKey.names c.args.key.now) c.remove-value.result c.remove-value.ensures.step in
+    record {
+      map = c.len-len.ensures.map;
+      sum = c.calls_keep_sums.ensures old new step c.requires.sum;
+      within = subst (λ n. new.limiter.cost ≤ n) (sym (c.calls_keep_the_cost.ensures.limit old new step))
+          (c.calls_keep_the_cost.ensures.cost old new step c.requires.sum c.requires.within);
+    }

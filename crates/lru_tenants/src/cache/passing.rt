@@ -1,0 +1,114 @@
+//! Calls that pass what leaves a tenant to a callback.
+ghost use Rattle.std.specs.Prelude.{List};
+ghost use Rattle.lru_limits.specs.Budget.{by_cost};
+ghost use Rattle.schnellru.specs.HandedOver.{Takes};
+ghost use Rattle.schnellru.specs.State.{Trims};
+ghost use Rattle.lru_tenants.specs.Cache.{with_budget, AreTenants};
+ghost use Rattle.lru_tenants.specs.TenantRuns.{hash_of, IfOpen, PassesOn, Puts, PutHands, BudgetHands, Closes, CloseHands, On};
+
+use crate::cache::{TenantCache, put_answer};
+use crate::error::TenantError;
+use crate::tenant::{empty, insert, set_budget};
+use schnellru::Costed;
+use std::hash::Hash;
+
+impl<N: Eq + Hash + Drop, K: Eq + Hash + Drop, V: Costed + Drop> TenantCache<N, K, V> {
+    /// The same as `put`, and passes each entry that leaves to the callback: the evicted entries, oldest first, the
+    /// entry whose new value is rejected, and the new entry if there is no memory for it.
+    ///
+    /// ```
+    /// let mut left = 0u64;
+    /// assert_eq!(rt; cache.put_with(&1, 8, 3, &mut |key, _| left = key), Ok(true));
+    /// assert_eq!(rt; left, 7);
+    /// ```
+    ///
+    /// Cost: as `put`, with one call of the callback for each entry that it gets.
+    ///
+    /// # Errors
+    ///
+    /// As `put`.
+    pub fn put_with<F: FnMut(K, V)>(
+        &mut self,
+        name: &N,
+        key: K,
+        value: V,
+        sink: &mut F,
+    ) -> Result<bool, TenantError>
+        requires callable { F.IsAlwaysCallable sink.old }
+        ensures puts { On N.eq name.now (Puts K.eq V.cost (hash_of K.hash_input) key value) self.old result self.new }
+        ensures handed { (handed : List (K × V)) × Takes F.FnMut sink.old handed sink.new × On N.eq name.now
+            (PassesOn (PutHands K.eq V.cost (hash_of K.hash_input) key value)) self.old handed self.new }
+        ensures callable { F.IsAlwaysCallable sink.new }
+        ensures tenants { AreTenants K.eq V.cost self.new }
+    {
+        let Some(own) = self.tenants.get_mut(name) else {
+            return Err(TenantError::NotOpen);
+        };
+        put_answer(insert(own, key, value, sink))
+    }
+
+    /// The same as `set_budget`, and passes each evicted entry to the callback, oldest first.
+    ///
+    /// ```
+    /// let mut evicted = 0u64;
+    /// assert_eq!(rt; cache.set_budget_with(&1, 2, &mut |key, _| evicted = key), Ok(()));
+    /// assert_eq!(rt; evicted, 8);
+    /// ```
+    ///
+    /// Cost: as `set_budget`, with one call of the callback for each evicted entry.
+    ///
+    /// # Errors
+    ///
+    /// As `set_budget`.
+    pub fn set_budget_with<F: FnMut(K, V)>(
+        &mut self,
+        name: &N,
+        budget: u64,
+        sink: &mut F,
+    ) -> Result<(), TenantError>
+        requires callable { F.IsAlwaysCallable sink.old }
+        ensures sets { On N.eq name.now (IfOpen (λ old done new. Trims (by_cost V.cost) (with_budget budget old) new))
+            self.old result self.new }
+        ensures handed { (handed : List (K × V)) × Takes F.FnMut sink.old handed sink.new × On N.eq name.now
+            (PassesOn (BudgetHands V.cost budget)) self.old handed self.new }
+        ensures callable { F.IsAlwaysCallable sink.new }
+        ensures tenants { AreTenants K.eq V.cost self.new }
+    {
+        let Some(own) = self.tenants.get_mut(name) else {
+            return Err(TenantError::NotOpen);
+        };
+        set_budget(own, budget, sink);
+        Ok(())
+    }
+
+    /// The same as `close`, and passes each entry to the callback, oldest first.
+    ///
+    /// ```
+    /// let mut last = 0u64;
+    /// assert_eq!(rt; cache.close_with(&1, &mut |key, _| last = key), Ok(1));
+    /// assert_eq!(rt; last, 9);
+    /// ```
+    ///
+    /// Cost: `O(1)` for each entry, with one call of the callback.
+    ///
+    /// # Errors
+    ///
+    /// `NotOpen`: nothing has changed.
+    pub fn close_with<F: FnMut(K, V)>(
+        &mut self,
+        name: &N,
+        sink: &mut F,
+    ) -> Result<usize, TenantError>
+        requires callable { F.IsAlwaysCallable sink.old }
+        ensures closes { On N.eq name.now Closes self.old result self.new }
+        ensures handed { (handed : List (K × V)) × Takes F.FnMut sink.old handed sink.new × On N.eq name.now
+            (PassesOn CloseHands) self.old handed self.new }
+        ensures callable { F.IsAlwaysCallable sink.new }
+        ensures tenants { AreTenants K.eq V.cost self.new }
+    {
+        let Some(mut map) = self.tenants.remove(name) else {
+            return Err(TenantError::NotOpen);
+        };
+        Ok(empty(&mut map, sink))
+    }
+}

@@ -1,0 +1,20 @@
+//! Why a call on a tenant failed.
+use thiserror::Error;
+
+/// Why a call on a tenant failed.
+///
+/// ```
+/// assert_eq!(rt; cache.open(1, 5), Err(TenantError::AlreadyOpen));
+/// ```
+#[derive(Clone, Copy, Debug, PartialEq, Eq, Error)]
+pub enum TenantError {
+    /// The tenant is open already.
+    #[error("already open")]
+    AlreadyOpen = 1,
+    /// The tenant is not open.
+    #[error("not open")]
+    NotOpen = 2,
+    /// Out of memory.
+    #[error("no memory")]
+    Memory = 3,
+}
