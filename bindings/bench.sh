@@ -1,0 +1,36 @@
+#!/usr/bin/env bash
+# Times the Rust crate of bindings/rust beside schnellru, and beside the same map inside Rattle, where no call crosses to C.
+#
+# bindings/bench.sh SCHNELLRU [ROUNDS]: the folder of a checkout of schnellru 0.2.4, which cargo builds. It proves the two
+# static libraries first. Each load is on keys twice as many as the maximum length; a time is the best of the rounds.
+set -euo pipefail
+checkout=$(realpath "$1")
+rounds=${2:-9}
+cd "$(dirname "$0")"
+out=$(mktemp -d)
+trap 'rm -rf "$out"' EXIT
+kit=$(dirname "$(dirname "$(readlink -f "$(command -v rt)")")")
+for crate in lru_c bench_layers; do
+    (cd "../crates/$crate" && rt lib) >"$out/log" 2>&1 || { cat "$out/log"; exit 1; }
+    cp "../crates/$crate/out/lib$crate.a" "$out"
+done
+cp "$kit/c/liblibc_c.a" "$out"
+mkdir -p "$out/mix/src"
+cp bench/mix.rs "$out/mix/src/main.rs"
+cat >"$out/mix/Cargo.toml" <<EOF
+[package]
+name = "mix"
+version = "0.1.0"
+edition = "2021"
+[dependencies]
+schnellru = { path = "$checkout" }
+jeerdurian = { path = "$PWD/rust" }
+[profile.release]
+lto = "fat"
+codegen-units = 1
+EOF
+if [ -d "$checkout/../.cargo" ]; then cp -r "$checkout/../.cargo" "$out/mix"; fi
+export JEERDURIAN_LIB=$out CARGO_TARGET_DIR=$out/target
+export RUSTFLAGS="-C target-cpu=x86-64-v2 -L native=$out -l static=bench_layers"
+(cd "$out/mix" && cargo build --release --offline) >"$out/log" 2>&1 || { cat "$out/log"; exit 1; }
+"$out/target/release/mix" "$rounds"

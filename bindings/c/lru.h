@@ -1,0 +1,157 @@
+/* A map from numbers to numbers that remembers the order of use and evicts the least recently used entries.
+ *
+ * Link liblru_c.a and after it liblibc_c.a, the kit's C runtime, through which the map calls malloc, realloc and
+ * free. docs/FROM_C.md shows how.
+ *
+ * What is proved. Each function meets its contract in crates/lru_c/src/exports.rt, for every input: it is safe, it
+ * ends, and it does to the map what the comment here says, unless the comment says "tested". A map is a list of
+ * entries with distinct keys, the most recently used first. Nothing is proved of what C and its compiler do.
+ *
+ * What the caller must guarantee, since nothing checks it:
+ * - A handle is LRU_NONE, or what the last call left in it. Nothing writes its field, and no copy of a handle is
+ *   used besides it. A handle may be moved, as by memcpy, if the old place is not used any more.
+ * - No pointer is null. A handle is writable and aligned, and two pointers of one call do not overlap.
+ * - There is one call on a handle at a time, and the calls on a handle come from one thread.
+ * - No call comes from a signal handler, or from the forked child of a process with threads.
+ * - malloc, realloc and free belong together, and align a block of n bytes to each power of two up to 16 that
+ *   divides n.
+ *
+ * A handle without a map is fine for every call. Except for lru_new, the call changes nothing, and returns that there
+ * is nothing. So a call after lru_free and a second lru_free are harmless. A handle that is lost without lru_free leaks its map.
+ *
+ * No call ends the process. A call that runs out of memory says so in its result, and leaves a map that works.
+ * Running out of memory evicts nothing by itself.
+ */
+#ifndef LRU_H
+#define LRU_H
+
+#include <stdbool.h>
+#include <stddef.h>
+#include <stdint.h>
+
+#ifdef __cplusplus
+extern "C" {
+#endif
+
+/* The version of these functions and structs. Compare it with lru_abi_version() if the library is not built with the
+ * program. It rises when a program that was compiled before would break. */
+#define LRU_ABI_VERSION 1u
+uint32_t lru_abi_version(void);
+
+/* A handle: the address of a map on the heap, or null. Begin with LRU_NONE. */
+struct lru {
+    void *map;
+};
+
+#define LRU_NONE {NULL}
+
+/* A value, if `found`. Otherwise `value` is 0 (tested). */
+struct lru_found {
+    uint64_t value;
+    bool found;
+};
+
+/* An entry, if `found`. Otherwise `key` and `value` are 0 (tested). */
+struct lru_pair {
+    uint64_t key;
+    uint64_t value;
+    bool found;
+};
+
+/* An entry, as lru_copy_newest writes it. */
+struct lru_entry {
+    uint64_t key;
+    uint64_t value;
+};
+
+/* What an insert did. */
+struct lru_inserted {
+    uint64_t evicted_key;   /* the oldest entry, if `evicted`; otherwise 0 (tested) */
+    uint64_t evicted_value;
+    uint64_t old_value;     /* the old value of the key, if `replaced`; otherwise 0 (tested) */
+    bool evicted;           /* whether the oldest entry was evicted to make room */
+    bool replaced;          /* whether the key was there */
+    bool kept;              /* whether the key is in the map now */
+    bool failed;            /* whether the map ran out of memory; then the key is not there */
+};
+
+/* Makes an empty map of at most `max_length` entries, and returns whether there was memory. A map that the handle
+ * had is dropped in either case. The seeds are those of the hasher: if strangers choose the keys, take four numbers
+ * that nobody can guess. The table takes memory at the first insert. */
+bool lru_new(struct lru *lru, uint32_t max_length, const uint64_t seeds[4]);
+
+/* Drops the map, and gives back its memory. The handle has no map then. Returning the memory is tested. */
+void lru_free(struct lru *lru);
+
+/* Makes `copy` a copy of the map: the same entries in the same order, maximum length, seeds and capacity. Returns
+ * whether there was a map, and memory for the copy. A map that `copy` had is dropped in either case; `lru` stays as
+ * it is. */
+bool lru_clone(struct lru *lru, struct lru *copy);
+
+/* Inserts a key with a value, as the newest entry. A key that is there gets the new value, and the old one is
+ * returned. If the map is full, the oldest entry is evicted first, and returned. One insert evicts at most one
+ * entry, unless max_length is above 939,524,096 (tested). If the map runs out of memory, `failed` is set, and the
+ * key, which was new, is not there; an evicted entry would have been evicted by a successful insert too. If
+ * max_length is 0, nothing is inserted, and nothing has failed. */
+struct lru_inserted lru_insert(struct lru *lru, uint64_t key, uint64_t value);
+
+/* Returns the value of a key, and makes its entry the newest. */
+struct lru_found lru_get(struct lru *lru, uint64_t key);
+
+/* Returns the value of a key. Nothing changes. */
+struct lru_found lru_peek(struct lru *lru, uint64_t key);
+
+/* Returns whether the key is there. Nothing changes. */
+bool lru_contains(struct lru *lru, uint64_t key);
+
+/* Makes the entry of a key the newest. Returns whether the key is there. */
+bool lru_promote(struct lru *lru, uint64_t key);
+
+/* Removes the entry of a key, and returns its value. */
+struct lru_found lru_remove(struct lru *lru, uint64_t key);
+
+/* Removes the oldest entry, and returns it. */
+struct lru_pair lru_pop_oldest(struct lru *lru);
+
+/* Returns the oldest entry. Nothing changes. */
+struct lru_pair lru_peek_oldest(struct lru *lru);
+
+/* Returns the newest entry. Nothing changes. */
+struct lru_pair lru_peek_newest(struct lru *lru);
+
+/* Copies the newest entries into `entries`, the newest first: all of them, or `count` if there are more. Returns
+ * how many it copied. The other places of `entries` and the map stay as they are. `entries` points to `count`
+ * entries that have been written before, and is not null, even if `count` is 0. */
+size_t lru_copy_newest(struct lru *lru, struct lru_entry *entries, size_t count);
+
+/* Returns the number of entries. */
+size_t lru_len(struct lru *lru);
+
+/* Returns the maximum length. */
+uint32_t lru_max_length(struct lru *lru);
+
+/* Sets the maximum length, and evicts the oldest entries beyond it. To see them, call lru_pop_oldest before. */
+void lru_set_max_length(struct lru *lru, uint32_t max_length);
+
+/* Removes all entries. The map keeps the memory of its table. */
+void lru_clear(struct lru *lru);
+
+/* Returns the number of entries that the table holds for sure without taking memory. */
+size_t lru_capacity(struct lru *lru);
+
+/* Returns the number of bytes of the table. */
+size_t lru_memory_usage(struct lru *lru);
+
+/* Makes the table large enough for `additional` more entries. Returns whether it is: false says that there was no
+ * memory, or that no table is as large. The entries stay in any case. */
+bool lru_reserve(struct lru *lru, size_t additional);
+
+/* Shrinks the table to as few buckets as hold the entries. Returns false, and changes nothing, if there was no
+ * memory for the smaller table. */
+bool lru_shrink(struct lru *lru);
+
+#ifdef __cplusplus
+}
+#endif
+
+#endif

@@ -1,0 +1,55 @@
+#!/usr/bin/env bash
+# Proves and builds crates/lru_c, and runs the tests of the C header and of the Rust crate. It prints one line.
+#
+# It needs rt and a compiler of C. With clang, 10,000,000 random calls are compared with a plain list under the address
+# sanitizer; with valgrind, 160,000; with cargo, the Rust crate is tested. What is missing is named in the line.
+set -euo pipefail
+cd "$(dirname "$0")"
+out=$(mktemp -d)
+trap 'rm -rf "$out"' EXIT
+kit=$(dirname "$(dirname "$(readlink -f "$(command -v rt)")")")
+quiet() { "$@" >"$out/log" 2>&1 || { cat "$out/log"; echo "failed: $*"; exit 1; }; }
+has() { command -v "$1" >/dev/null; }
+
+build() { (cd ../crates/lru_c && rt lib); }
+quiet build
+cp ../crates/lru_c/out/liblru_c.a "$kit/c/liblibc_c.a" "$out"
+libraries=("$out/liblru_c.a" "$out/liblibc_c.a")
+flags=(-O2 -g -Wall -Wextra -Wpedantic -Werror)
+wrapped=-Wl,--wrap=malloc
+done=() missing=()
+
+for compiler in gcc clang; do
+    has "$compiler" || { missing+=("$compiler"); continue; }
+    quiet "$compiler" -std=c11 "${flags[@]}" c/example.c "${libraries[@]}" -o "$out/example"
+    quiet "$out/example"
+    quiet "$compiler" -std=c11 "${flags[@]}" c/random_calls.c "${libraries[@]}" "$wrapped" -o "$out/random_calls"
+    quiet "$out/random_calls" 100000
+    done+=("$compiler")
+done
+for compiler in g++ clang++; do
+    has "$compiler" || { missing+=("$compiler"); continue; }
+    quiet "$compiler" -std=c++17 "${flags[@]}" -c c/header.cpp -o "$out/header.o"
+    done+=("$compiler")
+done
+if has clang; then
+    quiet clang -std=c11 "${flags[@]}" -fsanitize=address,undefined c/random_calls.c "${libraries[@]}" "$wrapped" \
+        -o "$out/sanitized"
+    quiet "$out/sanitized" 625000
+    done+=("address sanitizer")
+fi
+if has valgrind && [ -x "$out/random_calls" ]; then
+    quiet valgrind -q --leak-check=full --error-exitcode=9 "$out/random_calls" 10000
+    done+=(valgrind)
+else
+    missing+=(valgrind)
+fi
+if has cargo; then
+    rust() { (cd rust && JEERDURIAN_LIB=$out CARGO_TARGET_DIR=$out/target cargo test --offline); }
+    quiet rust
+    done+=(cargo)
+else
+    missing+=(cargo)
+fi
+list() { local IFS=,; echo "${*//,/}" | sed 's/,/, /g'; }
+echo "bindings: passed with $(list "${done[@]}")${missing:+; missing: $(list "${missing[@]}")}"

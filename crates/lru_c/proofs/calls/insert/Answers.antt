@@ -1,0 +1,24 @@
+use Rattle.std.proofs.Common.{sym, ◌∙◌, Ok, Err}
+use Rattle.lru_c.proofs.calls.insert.Goals as goal
+
+pub returns-in-Ok : goal.returns-in-Ok
+returns-in-Ok c = let (handed, evicted, step) = c.in-Ok.ensures.handed in record {
+  result = Ok c.in-Ok.inserted.kept;
+  handed = handed;
+  step = step;
+  evicted = c.as_inserted.ensures.evicted ∙ evicted;
+  replaced = c.as_inserted.ensures.replaced ∙ c.in-Ok.ensures.replaced;
+  kept = c.as_inserted.ensures.rest.0;
+  failed = c.as_inserted.ensures.rest.1;
+}
+
+pub returns-in-Err : goal.returns-in-Err
+returns-in-Err c = let (handed, evicted, step) = c.in-Err.ensures.handed in record {
+  result = Err c.in-Err.field-0;
+  handed = handed;
+  step = step;
+  evicted = c.as_inserted-in-Err.ensures.evicted ∙ evicted;
+  replaced = c.as_inserted-in-Err.ensures.replaced ∙ sym c.in-Err.ensures.lacks;
+  kept = c.as_inserted-in-Err.ensures.rest.0;
+  failed = c.as_inserted-in-Err.ensures.rest.1;
+}

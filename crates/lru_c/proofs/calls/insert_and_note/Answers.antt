@@ -1,0 +1,31 @@
+use Rattle.std.proofs.Common.{rules, refl, sym, ap, ◌∙◌, nat_eq, Result, Ok, Err, IfOk, OnErr}
+use Rattle.std.specs.Prelude.{option_map}
+use Rattle.schnellru.proofs.CallerLemmas.{lookup-entry}
+use Rattle.lru_c.proofs.NotedPairs.{noted_first}
+use Rattle.lru_c.proofs.calls.insert_and_note.Goals as goal
+
+pub returns-clause-handed : goal.returns-clause-handed
+returns-clause-handed c =
+    let (handed, takes, step) = c.insert_full.ensures.handed in
+    let notes = noted_first (λ f. f.1.now) (λ f. f.0) _
+    (λ f pair g called. record { key = search rules; notes = record { place = search rules; pair = search rules } })
+    c.args.key handed _ _ takes refl c.requires in
+    (handed, search (rules, notes.place, notes.pair), step)
+
+if_ok : {T E : Type 0} {P Q : T → Type 0} (result : Result T E) → ((value : T) → P value → Q value) → IfOk result P
+    → IfOk result Q
+if_ok (Ok value) f holds = f value holds
+if_ok (Err error) f holds = tt
+
+on_err : {T E : Type 0} {P Q : Type 0} (result : Result T E) → (P → Q) → OnErr result P → OnErr result Q
+on_err (Ok value) f holds = tt
+on_err (Err error) f holds = f holds
+
+pub returns-clause-replaced : goal.returns-clause-replaced
+returns-clause-replaced c = if_ok c.insert_full.result (λ inserted unkept.
+    unkept ∙ sym (lookup-entry (nat_eq c.args.key) c.args.map.now.pairs)) c.insert_full.ensures.unkept
+
+pub returns-clause-lacks : goal.returns-clause-lacks
+returns-clause-lacks c = on_err c.insert_full.result (λ lacks.
+    lookup-entry (nat_eq c.args.key) c.args.map.now.pairs ∙ ap (option_map
+    (λ p. p.1)) lacks.0) c.insert_full.ensures.lacks

@@ -1,0 +1,8 @@
+use Rattle.std.proofs.Common.{rules}
+use Rattle.lru_c.specs.Answers.{within}
+use Rattle.lru_c.proofs.exports.lru_reserve.Goals as goal
+
+pub returns-in-Some : goal.returns-in-Some
+returns-in-Some c =
+    within c.deref_mut.result.now c.try_reserve.new.self (search rules) (search rules)
+    (c.try_reserve.result, search rules, c.try_reserve.ensures.step)

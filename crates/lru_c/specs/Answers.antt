@@ -1,0 +1,71 @@
+-- What the calls of C return.
+use Rattle.std.specs.Prelude.{◌≡◌, ℕ, suc, Bool, false, Option, None, Some, Result, Ok, Err, List, [], ◌∷◌}
+use Rattle.std.specs.Prelude.{if◌then◌else◌, is_err, nat_eq}
+use Rattle.std.specs.declared.alloc.AllocError.{AllocError}
+use Rattle.lru_limits.specs.Limiters.{length_rules, length_offers}
+use Rattle.schnellru.specs.HandedOver.{InsertHands}
+use Rattle.schnellru.specs.Lists.{lookup}
+use Rattle.lru_c.specs.Handle.{Map, hash_of}
+use Rattle.lru_c.specs.declared.answers.Entry.{Entry}
+use Rattle.lru_c.specs.declared.answers.Found.{Found}
+use Rattle.lru_c.specs.declared.answers.Inserted.{Inserted}
+use Rattle.lru_c.specs.declared.answers.Pair.{Pair}
+
+-- the value, if there is one
+abbrev pub found_value : Found → Option ℕ
+found_value answer = if answer.found then Some answer.value else None
+
+-- the pair, if there is one
+abbrev pub found_pair : Pair → Option (ℕ × ℕ)
+found_pair answer = if answer.found then Some (answer.key, answer.value) else None
+
+-- the evicted pair, if there is one
+abbrev pub evicted_pair : Inserted → Option (ℕ × ℕ)
+evicted_pair answer = if answer.evicted then Some (answer.evicted_key, answer.evicted_value) else None
+
+-- the old value, if there is one
+abbrev pub replaced_value : Inserted → Option ℕ
+replaced_value answer = if answer.replaced then Some answer.old_value else None
+
+-- the slots after the pairs were copied into them, as many as fit
+abbrev pub filled : List (ℕ × ℕ) → List Entry → List Entry
+filled [] slots = slots
+filled (pair ∷ pairs) [] = []
+filled (pair ∷ pairs) (slot ∷ slots) = record { key = pair.0; value = pair.1 } ∷ filled pairs slots
+
+-- how many pairs fit into the slots
+abbrev pub fitting : List (ℕ × ℕ) → List Entry → ℕ
+fitting [] slots = 0
+fitting (pair ∷ pairs) [] = 0
+fitting (pair ∷ pairs) (slot ∷ slots) = suc (fitting pairs slots)
+
+-- a pair of another key is noted, unless one was noted before
+abbrev pub noting_other : ℕ → Option (ℕ × ℕ) → ℕ × ℕ → Option (ℕ × ℕ)
+noting_other key None pair = if nat_eq key pair.0 then None else Some pair
+noting_other key (Some noted) pair = Some noted
+
+-- the first pair of another key
+abbrev pub first_other : ℕ → List (ℕ × ℕ) → Option (ℕ × ℕ)
+first_other key [] = None
+first_other key (pair ∷ pairs) = if nat_eq key pair.0 then first_other key pairs else Some pair
+
+-- the insert returned true
+abbrev pub is_kept : Result Bool AllocError → Bool
+is_kept (Ok kept) = kept
+is_kept (Err error) = false
+
+-- An insert: of the pairs that leave, the first of another key is returned, and of the inserted key the old value.
+pub record Inserts (key value : ℕ) (old : Map) (answer : Inserted) (new : Map) : Type 0 where
+  pub result : Result Bool AllocError
+  pub handed : List (ℕ × ℕ)
+  pub step : InsertHands length_rules length_offers nat_eq hash_of key value old result handed new
+  pub evicted : evicted_pair answer ≡ first_other key handed
+  pub replaced : replaced_value answer ≡ lookup (nat_eq key) old.pairs
+  pub kept : answer.kept ≡ is_kept result
+  pub failed : answer.failed ≡ is_err result
+
+-- A call on a handle. Without a map nothing changes, and the call returns nothing. A map makes this step.
+pub data OnMap (returns_nothing : Type 0) (step : Map → Map → Type 0) (old new : Option Map) : Type 0 where
+  without : old ≡ None → new ≡ None → returns_nothing → OnMap returns_nothing step old new
+  within : (before after : Map) → old ≡ Some before → new ≡ Some after → step before after →
+      OnMap returns_nothing step old new

@@ -1,0 +1,51 @@
+-- What a handle owns.
+use Rattle.std.specs.Prelude.{ℕ, Option, None, Some}
+use Rattle.std.specs.Borrow.{Fml, RattleType, u32, u64}
+use Rattle.std.specs.Box.Ownership.{box_owns}
+use Rattle.std.specs.declared.alloc.Global.{Global}
+use Rattle.std.specs.contracts.impls.GlobalAllocator.TheImpl as heap
+use Rattle.std.specs.contracts.option.Option as option
+use Rattle.std.specs.contracts.prelude.U32Debug.TheImpl as u32_debug
+use Rattle.std.specs.contracts.prelude.U32PartialEq.TheImpl as u32_eq
+use Rattle.std.specs.contracts.prelude.U64Hash.TheImpl as u64_hash
+use Rattle.std.specs.contracts.prelude.U64PartialEq.TheImpl as u64_eq
+use base.Fml.{feq}
+use denote.RawPtr.{Ptr, null_ptr}
+use Rattle.group_table.specs.contracts.link.U32LinkType.TheImpl as u32_link
+use Rattle.lru_limits.specs.Hashing.{hash_by}
+use Rattle.lru_limits.specs.Mixing.{Mixer}
+use Rattle.lru_limits.specs.contracts.hasher.DefaultHasher as default_hasher
+use Rattle.lru_limits.specs.contracts.hasher.DefaultHasherHasher.TheImpl as default_hashes
+use Rattle.lru_limits.specs.contracts.hasher.RandomState as random_state
+use Rattle.lru_limits.specs.contracts.hasher.RandomStateBuildHasher.TheImpl as random_builds
+use Rattle.lru_limits.specs.contracts.limiters.by_length.ByLength as by_length
+use Rattle.lru_limits.specs.contracts.limiters.by_length.ByLengthLimiter.TheImpl as length_limits
+use Rattle.schnellru.specs.State.{State}
+use Rattle.schnellru.specs.contracts.map.LruMap as lru_map
+
+-- a map of numbers under a maximum length, as contracts see it
+abbrev pub Map : Type 0
+Map = State ℕ ℕ ℕ Mixer
+
+-- the hash of a key
+abbrev pub hash_of : Mixer → ℕ → ℕ
+hash_of = hash_by u64_hash.ghosts.hash_input random_builds.ghosts default_hashes.ghosts
+
+-- the type `LruMap<u64, u64>`, as the logic holds it
+abbrev pub map_row : RattleType
+map_row = lru_map.the_row u64 u64 by_length.the_row random_state.the_row u32 default_hasher.the_row u64_eq.ghosts
+    u64_hash.ghosts (length_limits.ghosts u64 u64) u32_link.ghosts u32_eq.ghosts u32_debug.ghosts
+    (record { hash_of = hash_of }) random_builds.ghosts default_hashes.ghosts
+
+-- the type `Option<LruMap<u64, u64>>`
+abbrev pub maybe_row : RattleType
+maybe_row = option.the_row map_row
+
+-- the allocator `Global`, all values of which are the same
+abbrev pub c_heap : Global
+c_heap = record { memory = record { seal = tt } }
+
+-- the null pointer, or the memory of a boxed map
+abbrev pub owns_map : Ptr → Option Map → Fml
+owns_map start None = feq Ptr start null_ptr
+owns_map start (Some map) = box_owns (heap.ghosts.dealloc_token c_heap) map_row start map

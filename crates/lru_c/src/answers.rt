@@ -1,0 +1,124 @@
+//! What the calls return to C: plain structs, since an `Option` cannot cross.
+ghost use Rattle.std.specs.Prelude.{◌≡◌};
+ghost use Rattle.lru_c.specs.Answers.{found_value, found_pair, evicted_pair, replaced_value, noting_other};
+
+/// A value, if there is one.
+#[repr(C)]
+#[derive(Drop)]
+pub struct Found {
+    /// The value, or 0.
+    pub value: u64,
+    /// Whether there is one.
+    pub found: bool,
+}
+
+/// An entry, if there is one.
+#[repr(C)]
+#[derive(Drop)]
+pub struct Pair {
+    /// The key, or 0.
+    pub key: u64,
+    /// The value, or 0.
+    pub value: u64,
+    /// Whether there is one.
+    pub found: bool,
+}
+
+/// An entry.
+#[repr(C)]
+#[derive(Clone, Copy)]
+pub struct Entry {
+    /// The key.
+    pub key: u64,
+    /// The value.
+    pub value: u64,
+}
+
+/// What an insert did.
+///
+/// No field is a struct, since copies of padding between fields are slow.
+#[repr(C)]
+#[derive(Drop)]
+pub struct Inserted {
+    /// The key of the evicted entry, or 0.
+    pub evicted_key: u64,
+    /// The value of the evicted entry, or 0.
+    pub evicted_value: u64,
+    /// The old value of the key, or 0.
+    pub old_value: u64,
+    /// Whether the insert evicted an entry.
+    pub evicted: bool,
+    /// Whether the key was there.
+    pub replaced: bool,
+    /// Whether the key is in the map.
+    pub kept: bool,
+    /// Whether the map ran out of memory.
+    pub failed: bool,
+}
+
+/// Returns the value for C.
+#[inline]
+pub fn as_found(value: Option<u64>) -> Found
+    ensures { found_value result ≡ value }
+{
+    match value {
+        Some(value) => Found { value, found: true },
+        None => Found {
+            value: 0,
+            found: false,
+        },
+    }
+}
+
+/// Returns the entry for C.
+#[inline]
+pub fn as_pair(entry: Option<(u64, u64)>) -> Pair
+    ensures { found_pair result ≡ entry }
+{
+    match entry {
+        Some((key, value)) => Pair {
+            key,
+            value,
+            found: true,
+        },
+        None => Pair {
+            key: 0,
+            value: 0,
+            found: false,
+        },
+    }
+}
+
+/// Returns for C what an insert did.
+#[inline]
+pub fn as_inserted(
+    evicted: Option<(u64, u64)>,
+    old_value: Option<u64>,
+    kept: bool,
+    failed: bool,
+) -> Inserted
+    ensures evicted { evicted_pair result ≡ evicted }
+    ensures replaced { replaced_value result ≡ old_value }
+    ensures rest { (result.kept ≡ kept) × (result.failed ≡ failed) }
+{
+    let (evicted_key, evicted_value) = evicted.unwrap_or((0, 0));
+    Inserted {
+        evicted_key,
+        evicted_value,
+        old_value: old_value.unwrap_or(0),
+        evicted: evicted.is_some(),
+        replaced: old_value.is_some(),
+        kept,
+        failed,
+    }
+}
+
+/// Notes an entry of another key, unless one is noted.
+#[inline]
+pub fn note_other(noted: &mut Option<(u64, u64)>, inserted: u64, key: u64, value: u64)
+    ensures { noted.new ≡ noting_other inserted noted.old (key, value) }
+{
+    if noted.is_none() && inserted != key {
+        *noted = Some((key, value));
+    }
+}

@@ -1,0 +1,130 @@
+//! The calls on a map that return structs for C.
+ghost use Rattle.std.specs.Prelude.{◌≡◌, ℕ, nat_eq, List, None, IfOk, OnErr, IfSome};
+ghost use Rattle.lru_limits.specs.Limiters.{length_rules, length_offers};
+ghost use Rattle.schnellru.specs.Calls.{Remove, PopOldest, promoted};
+ghost use Rattle.schnellru.specs.Lists.{lookup, first, last};
+ghost use Rattle.schnellru.specs.HandedOver.{InsertHands};
+ghost use Rattle.schnellru.specs.Inserts.{kept_of};
+ghost use Rattle.lru_c.specs.Answers.{found_value, found_pair, filled, fitting, first_other, Inserts};
+ghost use Rattle.lru_c.specs.Handle.{hash_of};
+
+use crate::answers::{Entry, Found, Inserted, Pair, as_found, as_inserted, as_pair, note_other};
+use crate::handle::Map;
+use std::alloc::{AllocError, Global};
+
+/// Inserts a value, and returns which entry was evicted and which value was replaced.
+#[inline]
+pub fn insert(map: &mut Map, key: u64, value: u64) -> Inserted
+    ensures { Inserts key value map.old result map.new }
+{
+    let mut evicted = None;
+    match insert_and_note(map, key, value, &mut evicted) {
+        Ok(inserted) => as_inserted(evicted, inserted.unkept, inserted.kept, false),
+        Err(_) => as_inserted(evicted, None, false, true),
+    }
+}
+
+// Inserts a value, and notes the first entry of another key that leaves.
+#[inline]
+fn insert_and_note(
+    map: &mut Map,
+    key: u64,
+    value: u64,
+    evicted: &mut Option<(u64, u64)>,
+) -> Result<schnellru::Inserted<u64>, AllocError>
+    requires { evicted.old ≡ None }
+    ensures handed { (handed : List (ℕ × ℕ)) × (evicted.new ≡ first_other key handed)
+        × InsertHands length_rules length_offers nat_eq hash_of key value map.old (kept_of result) handed map.new }
+    ensures replaced { IfOk result (λ inserted. inserted.unkept ≡ lookup (nat_eq key) map.old.pairs) }
+    ensures lacks { OnErr result (lookup (nat_eq key) map.old.pairs ≡ None) }
+{
+    map.insert_full(key, value, &mut |k, v| note_other(evicted, key, k, v))
+}
+
+/// Returns the value of a key, whose entry becomes the newest.
+#[inline]
+pub fn get(map: &mut Map, key: u64) -> Found
+    ensures value { found_value result ≡ lookup (nat_eq key) map.old.pairs }
+    ensures promoted { map.new ≡ promoted (nat_eq key) map.old }
+{
+    match map.get(&key) {
+        Some(value) => as_found(Some(*value)),
+        None => as_found(None),
+    }
+}
+
+/// Returns the value of a key. The order stays.
+#[inline]
+pub fn peek(map: &Map, key: u64) -> Found
+    ensures { found_value result ≡ lookup (nat_eq key) map.now.pairs }
+{
+    as_found(map.peek(&key).copied())
+}
+
+/// Removes the entry of a key, and returns its value.
+#[inline]
+pub fn remove(map: &mut Map, key: u64) -> Found
+    ensures { Remove length_rules (nat_eq key) map.old (found_value result) map.new }
+{
+    as_found(map.remove(&key))
+}
+
+/// Removes the oldest entry, and returns it.
+#[inline]
+pub fn pop_oldest(map: &mut Map) -> Pair
+    ensures { PopOldest length_rules map.old (found_pair result) map.new }
+{
+    as_pair(map.pop_oldest())
+}
+
+/// Returns the oldest entry. The order stays.
+#[inline]
+pub fn peek_oldest(map: &Map) -> Pair
+    ensures { found_pair result ≡ last map.now.pairs }
+{
+    match map.peek_oldest() {
+        Some((key, value)) => as_pair(Some((*key, *value))),
+        None => as_pair(None),
+    }
+}
+
+/// Returns the newest entry. The order stays.
+#[inline]
+pub fn peek_newest(map: &Map) -> Pair
+    ensures { found_pair result ≡ first map.now.pairs }
+{
+    match map.peek_newest() {
+        Some((key, value)) => as_pair(Some((*key, *value))),
+        None => as_pair(None),
+    }
+}
+
+/// Returns a copy of the map, or none if there was no memory.
+pub fn copied(alloc: Global, map: &Map) -> Option<Box<Map>>
+    ensures { IfSome result (λ copy. copy.value ≡ map.now) }
+{
+    match map.clone() {
+        Ok(copy) => Box::new(alloc, copy).ok(),
+        Err(_) => None,
+    }
+}
+
+/// Copies the newest entries, the newest first, as many as fit. Returns how many it copied.
+pub fn copy_entries(map: &Map, entries: &mut [Entry]) -> usize
+    ensures filled { entries.new ≡ filled map.now.pairs entries.old }
+    ensures count { result ≡ fitting map.now.pairs entries.old }
+{
+    let mut rest = map.iter();
+    let mut count = 0;
+    while count < entries.len() {
+        let Some((key, value)) = rest.next() else {
+            return count;
+        };
+        entries[count] = Entry {
+            key: *key,
+            value: *value,
+        };
+        count += 1;
+    }
+    count
+}

@@ -1,0 +1,368 @@
+//! The functions that C calls. `bindings/c/lru.h` declares them, without `alloc`, which passes nothing.
+//!
+//! A call on a handle without a map changes nothing, and returns that there is nothing.
+ghost use Rattle.std.specs.Prelude.{◌≡◌, ◌+◌, nat_eq, length, is_some, is_ok, Some, None, Result, Bool, true, false, ⊤};
+ghost use Rattle.std.specs.declared.alloc.AllocError.{AllocError};
+ghost use Rattle.lru_limits.specs.Limiters.{length_rules};
+ghost use Rattle.lru_limits.specs.Mixing.{seeded};
+ghost use Rattle.schnellru.specs.Calls.{Remove, PopOldest, promoted, cleared};
+ghost use Rattle.schnellru.specs.Lists.{lookup, first, last};
+ghost use Rattle.schnellru.specs.Reservations.{Reserve};
+ghost use Rattle.schnellru.specs.Shrinks.{Shrink};
+ghost use Rattle.schnellru.specs.Sizes.{links_of_32_bits, usage};
+ghost use Rattle.schnellru.specs.State.{empty_map, buckets, contents, room, Trims, IsWithin};
+ghost use Rattle.schnellru.specs.declared.map.reserve.ReserveError.{ReserveError};
+ghost use Rattle.lru_c.specs.Answers.{found_value, found_pair, evicted_pair, replaced_value, filled, fitting};
+ghost use Rattle.lru_c.specs.Answers.{Inserts, OnMap};
+
+use crate::answers::{Entry, Found, Inserted, Pair, as_found, as_inserted, as_pair};
+use crate::calls::{
+    copied, copy_entries, get, insert, peek, peek_newest, peek_oldest, pop_oldest, remove,
+};
+use crate::handle::Lru;
+use schnellru::{ByLength, LruMap};
+use std::alloc::Global;
+
+// A bucket contains a key, a value and two links of 32 bits.
+const ENTRY_BYTES: usize = 24;
+
+/// Returns the version of these functions and structs, `LRU_ABI_VERSION` of `lru.h`.
+#[unsafe(no_mangle)]
+pub extern "C" fn lru_abi_version() -> u32
+    ensures { result ≡ 1 }
+{
+    1
+}
+
+/// Makes an empty map of at most `max_length` entries, whose hasher has these seeds. Returns whether there was memory.
+///
+/// A map that the handle had is dropped.
+#[unsafe(no_mangle)]
+pub extern "C" fn lru_new(alloc: Global, lru: &mut Lru, max_length: u32, seeds: &[u64; 4]) -> bool
+    ensures made { result ≡ true → lru.new.map ≡ Some (empty_map max_length (seeded seeds.now) 24 links_of_32_bits) }
+    ensures failed { result ≡ false → lru.new.map ≡ None }
+{
+    lru.take(alloc);
+    let map = LruMap::new(alloc, ByLength::new(max_length), *seeds, ENTRY_BYTES);
+    match Box::new(alloc, map) {
+        Ok(map) => {
+            lru.put(map);
+            true
+        }
+        Err(_) => false,
+    }
+}
+
+/// Drops the map. The handle has none then.
+#[unsafe(no_mangle)]
+pub extern "C" fn lru_free(alloc: Global, lru: &mut Lru)
+    ensures { lru.new.map ≡ None }
+{
+    lru.take(alloc);
+}
+
+/// Inserts a key with a value, as the newest entry.
+#[unsafe(no_mangle)]
+pub extern "C" fn lru_insert(alloc: Global, lru: &mut Lru, key: u64, value: u64) -> Inserted
+    ensures { OnMap ((evicted_pair result ≡ None) × (replaced_value result ≡ None)
+        × (result.kept ≡ false) × (result.failed ≡ false))
+        (λ old new. Inserts key value old result new) lru.old.map lru.new.map }
+{
+    match lru.take(alloc) {
+        Some(mut map) => {
+            let answer = insert(&mut map, key, value);
+            lru.put(map);
+            answer
+        }
+        None => as_inserted(None, None, false, false),
+    }
+}
+
+/// Returns the value of a key, whose entry becomes the newest.
+#[unsafe(no_mangle)]
+pub extern "C" fn lru_get(alloc: Global, lru: &mut Lru, key: u64) -> Found
+    ensures { OnMap (found_value result ≡ None)
+        (λ old new. (found_value result ≡ lookup (nat_eq key) old.pairs) × (new ≡ promoted (nat_eq key) old))
+        lru.old.map lru.new.map }
+{
+    match lru.take(alloc) {
+        Some(mut map) => {
+            let answer = get(&mut map, key);
+            lru.put(map);
+            answer
+        }
+        None => as_found(None),
+    }
+}
+
+/// Returns the value of a key. The map stays as it is.
+#[unsafe(no_mangle)]
+pub extern "C" fn lru_peek(alloc: Global, lru: &mut Lru, key: u64) -> Found
+    ensures { OnMap (found_value result ≡ None)
+        (λ old new. (found_value result ≡ lookup (nat_eq key) old.pairs) × (new ≡ old)) lru.old.map lru.new.map }
+{
+    match lru.take(alloc) {
+        Some(map) => {
+            let answer = peek(&map, key);
+            lru.put(map);
+            answer
+        }
+        None => as_found(None),
+    }
+}
+
+/// Returns whether the key is in the map, which stays as it is.
+#[unsafe(no_mangle)]
+pub extern "C" fn lru_contains(alloc: Global, lru: &mut Lru, key: u64) -> bool
+    ensures { OnMap (result ≡ false)
+        (λ old new. (result ≡ is_some (lookup (nat_eq key) old.pairs)) × (new ≡ old)) lru.old.map lru.new.map }
+{
+    match lru.take(alloc) {
+        Some(map) => {
+            let answer = map.contains(&key);
+            lru.put(map);
+            answer
+        }
+        None => false,
+    }
+}
+
+/// Makes the entry of a key the newest. Returns whether there is one.
+#[unsafe(no_mangle)]
+pub extern "C" fn lru_promote(alloc: Global, lru: &mut Lru, key: u64) -> bool
+    ensures { OnMap (result ≡ false)
+        (λ old new. (result ≡ is_some (lookup (nat_eq key) old.pairs)) × (new ≡ promoted (nat_eq key) old))
+        lru.old.map lru.new.map }
+{
+    match lru.take(alloc) {
+        Some(mut map) => {
+            let answer = map.promote(&key);
+            lru.put(map);
+            answer
+        }
+        None => false,
+    }
+}
+
+/// Removes the entry of a key, and returns its value.
+#[unsafe(no_mangle)]
+pub extern "C" fn lru_remove(alloc: Global, lru: &mut Lru, key: u64) -> Found
+    ensures { OnMap (found_value result ≡ None)
+        (λ old new. Remove length_rules (nat_eq key) old (found_value result) new) lru.old.map lru.new.map }
+{
+    match lru.take(alloc) {
+        Some(mut map) => {
+            let answer = remove(&mut map, key);
+            lru.put(map);
+            answer
+        }
+        None => as_found(None),
+    }
+}
+
+/// Removes the oldest entry, and returns it.
+#[unsafe(no_mangle)]
+pub extern "C" fn lru_pop_oldest(alloc: Global, lru: &mut Lru) -> Pair
+    ensures { OnMap (found_pair result ≡ None)
+        (λ old new. PopOldest length_rules old (found_pair result) new) lru.old.map lru.new.map }
+{
+    match lru.take(alloc) {
+        Some(mut map) => {
+            let answer = pop_oldest(&mut map);
+            lru.put(map);
+            answer
+        }
+        None => as_pair(None),
+    }
+}
+
+/// Returns the oldest entry. The map stays as it is.
+#[unsafe(no_mangle)]
+pub extern "C" fn lru_peek_oldest(alloc: Global, lru: &mut Lru) -> Pair
+    ensures { OnMap (found_pair result ≡ None)
+        (λ old new. (found_pair result ≡ last old.pairs) × (new ≡ old)) lru.old.map lru.new.map }
+{
+    match lru.take(alloc) {
+        Some(map) => {
+            let answer = peek_oldest(&map);
+            lru.put(map);
+            answer
+        }
+        None => as_pair(None),
+    }
+}
+
+/// Returns the newest entry. The map stays as it is.
+#[unsafe(no_mangle)]
+pub extern "C" fn lru_peek_newest(alloc: Global, lru: &mut Lru) -> Pair
+    ensures { OnMap (found_pair result ≡ None)
+        (λ old new. (found_pair result ≡ first old.pairs) × (new ≡ old)) lru.old.map lru.new.map }
+{
+    match lru.take(alloc) {
+        Some(map) => {
+            let answer = peek_newest(&map);
+            lru.put(map);
+            answer
+        }
+        None => as_pair(None),
+    }
+}
+
+/// Copies the newest entries, the newest first, as many as fit. Returns how many it copied. The map stays as it is.
+#[unsafe(no_mangle)]
+pub extern "C" fn lru_copy_newest(alloc: Global, lru: &mut Lru, entries: &mut [Entry]) -> usize
+    ensures { OnMap ((result ≡ 0) × (entries.new ≡ entries.old))
+        (λ old new. (result ≡ fitting old.pairs entries.old) × (entries.new ≡ filled old.pairs entries.old)
+        × (new ≡ old)) lru.old.map lru.new.map }
+{
+    match lru.take(alloc) {
+        Some(map) => {
+            let answer = copy_entries(&map, entries);
+            lru.put(map);
+            answer
+        }
+        None => 0,
+    }
+}
+
+/// Returns the number of entries.
+#[unsafe(no_mangle)]
+pub extern "C" fn lru_len(alloc: Global, lru: &mut Lru) -> usize
+    ensures { OnMap (result ≡ 0) (λ old new. (result ≡ length old.pairs) × (new ≡ old)) lru.old.map lru.new.map }
+{
+    match lru.take(alloc) {
+        Some(map) => {
+            let answer = map.len();
+            lru.put(map);
+            answer
+        }
+        None => 0,
+    }
+}
+
+/// Returns the most entries that the map has.
+#[unsafe(no_mangle)]
+pub extern "C" fn lru_max_length(alloc: Global, lru: &mut Lru) -> u32
+    ensures { OnMap (result ≡ 0) (λ old new. (result ≡ old.limiter) × (new ≡ old)) lru.old.map lru.new.map }
+{
+    match lru.take(alloc) {
+        Some(map) => {
+            let answer = map.limiter().max_length();
+            lru.put(map);
+            answer
+        }
+        None => 0,
+    }
+}
+
+/// Returns the number of entries that the table holds without taking memory.
+#[unsafe(no_mangle)]
+pub extern "C" fn lru_capacity(alloc: Global, lru: &mut Lru) -> usize
+    ensures { OnMap (result ≡ 0)
+        (λ old new. (result ≡ length old.pairs + room old) × (new ≡ old)) lru.old.map lru.new.map }
+{
+    match lru.take(alloc) {
+        Some(map) => {
+            let answer = map.guaranteed_capacity();
+            lru.put(map);
+            answer
+        }
+        None => 0,
+    }
+}
+
+/// Returns the number of bytes of the table.
+#[unsafe(no_mangle)]
+pub extern "C" fn lru_memory_usage(alloc: Global, lru: &mut Lru) -> usize
+    ensures { OnMap (result ≡ 0)
+        (λ old new. (usage old.entry_bytes (buckets old) ≡ Some result) × (new ≡ old)) lru.old.map lru.new.map }
+{
+    match lru.take(alloc) {
+        Some(map) => {
+            let answer = map.memory_usage();
+            lru.put(map);
+            answer
+        }
+        None => 0,
+    }
+}
+
+/// Removes all entries. The map keeps the memory of its table.
+#[unsafe(no_mangle)]
+pub extern "C" fn lru_clear(alloc: Global, lru: &mut Lru)
+    ensures { OnMap ⊤ (λ old new. new ≡ cleared length_rules old) lru.old.map lru.new.map }
+{
+    if let Some(mut map) = lru.take(alloc) {
+        map.clear();
+        lru.put(map);
+    }
+}
+
+/// Makes the table large enough for `additional` more entries. Returns whether it is.
+#[unsafe(no_mangle)]
+pub extern "C" fn lru_reserve(alloc: Global, lru: &mut Lru, additional: usize) -> bool
+    ensures { OnMap (result ≡ false) (λ old new. (done : Result (Unit {0}) ReserveError) × (result ≡ is_ok done)
+        × Reserve length_rules additional old done new) lru.old.map lru.new.map }
+{
+    match lru.take(alloc) {
+        Some(mut map) => {
+            let answer = map.try_reserve(additional).is_ok();
+            lru.put(map);
+            answer
+        }
+        None => false,
+    }
+}
+
+/// Shrinks the table to as few buckets as hold the entries. Returns false if there was no memory for that.
+#[unsafe(no_mangle)]
+pub extern "C" fn lru_shrink(alloc: Global, lru: &mut Lru) -> bool
+    ensures { OnMap (result ≡ false) (λ old new. (done : Result Bool AllocError) × (result ≡ is_ok done)
+        × Shrink old done new) lru.old.map lru.new.map }
+{
+    match lru.take(alloc) {
+        Some(mut map) => {
+            let answer = map.shrink_to_fit().is_ok();
+            lru.put(map);
+            answer
+        }
+        None => false,
+    }
+}
+
+/// Sets the most entries that the map may have, and evicts the oldest entries beyond it.
+#[unsafe(no_mangle)]
+pub extern "C" fn lru_set_max_length(alloc: Global, lru: &mut Lru, max_length: u32)
+    ensures { OnMap ⊤ (λ old new. Trims length_rules (record old { limiter = max_length }) new
+        × IsWithin length_rules (contents new)) lru.old.map lru.new.map }
+{
+    if let Some(mut map) = lru.take(alloc) {
+        map.set_limiter(ByLength::new(max_length));
+        lru.put(map);
+    }
+}
+
+/// Makes a copy of the map: the same entries in the same order, with the same maximum length, seeds and capacity.
+/// Returns whether there was a map, and memory for the copy.
+///
+/// A map that the handle of the copy had is dropped.
+#[unsafe(no_mangle)]
+pub extern "C" fn lru_clone(alloc: Global, lru: &mut Lru, copy: &mut Lru) -> bool
+    ensures kept { lru.new.map ≡ lru.old.map }
+    ensures made { result ≡ true → copy.new.map ≡ lru.old.map }
+    ensures failed { result ≡ false → copy.new.map ≡ None }
+{
+    copy.take(alloc);
+    let Some(map) = lru.take(alloc) else {
+        return false;
+    };
+    let made = copied(alloc, &map);
+    lru.put(map);
+    match made {
+        Some(made) => {
+            copy.put(made);
+            true
+        }
+        None => false,
+    }
+}

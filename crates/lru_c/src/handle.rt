@@ -1,0 +1,89 @@
+//! What C keeps of a map.
+ghost use Rattle.std.specs.Prelude.{◌≡◌, None, Some, option_map};
+ghost use Rattle.lru_c.specs.Handle.{maybe_row, owns_map};
+
+use crate::raw_box::RawBox;
+use schnellru::LruMap;
+use std::alloc::Global;
+use std::marker::{Model, PhantomData};
+use std::mem::replace;
+use std::ptr::null_mut;
+
+/// The map of a handle.
+pub type Map = LruMap<u64, u64>;
+
+/// A handle: a map on the heap, or none. C sees an address, which is null if there is no map.
+///
+/// Nothing drops a handle, since its map cannot be freed without an allocator. Each call takes the map out and puts it
+/// back.
+#[repr(C)]
+pub struct Lru {
+    start: *mut u8,
+    pub ghost map: { maybe_row.Denot } by { maybe_row.coded },
+}
+
+impl Model for Lru {
+    ghost also_owns = { λ lru. owns_map lru.start lru.map };
+}
+
+impl Lru {
+    // Returns a handle without a map.
+    fn vacant() -> Lru
+        ensures { result.map ≡ None }
+    {
+        Lru { start: null_mut() }
+    }
+
+    // Forgets a handle without a map.
+    fn forget(self)
+        requires { self.map ≡ None }
+    {
+        let Lru { start: _ } = self;
+    }
+
+    // Returns a handle of the map.
+    fn from_raw(map: RawBox<Map, Global>) -> Lru
+        ensures { result.map ≡ Some map.value }
+    {
+        let RawBox { start, mark: _ } = map;
+        Lru {
+            start: start as *mut u8,
+        }
+    }
+
+    // Returns the map of the handle.
+    fn into_raw(self) -> Option<RawBox<Map, Global>>
+        ensures { option_map (λ map. map.value) result ≡ self.map }
+    {
+        let Lru { start } = self;
+        if start.is_null() {
+            None
+        } else {
+            Some(RawBox {
+                start: start as *mut Map,
+                mark: PhantomData,
+            })
+        }
+    }
+
+    /// Takes the map out of the handle.
+    #[inline]
+    pub fn take(&mut self, alloc: Global) -> Option<Box<Map>>
+        ensures map { option_map (λ map. map.value) result ≡ self.old.map }
+        ensures none { self.new.map ≡ None }
+    {
+        match replace(self, Lru::vacant()).into_raw() {
+            Some(map) => Some(map.into_box(alloc)),
+            None => None,
+        }
+    }
+
+    /// Puts a map into a handle that has none.
+    #[inline]
+    pub fn put(&mut self, map: Box<Map>)
+        requires { self.old.map ≡ None }
+        ensures { self.new.map ≡ Some map.value }
+    {
+        replace(self, Lru::from_raw(RawBox::from_box(map))).forget();
+    }
+}
