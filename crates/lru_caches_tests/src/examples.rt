@@ -1,7 +1,8 @@
 //! The examples of the docs of `lru_caches`, the error texts, and each call once.
-use crate::callers::copy_block;
+use crate::callers::{copy_block, overwrite};
 use crate::disk::{Disk, DiskError};
-use lru_caches::{BlockDevice, PageCache, PageError, Unclosed};
+use lru_caches::{BlockDevice, Loader, OrderedMap, PageCache, PageError, Unclosed};
+use schnellru::{ByLength, RandomState};
 use std::cell::Cell;
 use std::test::Fail;
 
@@ -49,6 +50,51 @@ fn of_the_device(rt: HostRuntime) {
     assert_eq!(rt; disk.write(1, &20), Ok(()));
     assert_eq!(rt; disk.read(1), Ok(20));
     assert_eq!(rt; disk.read(1), Err(DiskError));
+}
+
+#[test]
+fn of_the_ordered_map(rt: HostRuntime) -> Result<(), Fail> {
+    let alloc = rt.alloc();
+    let seeded = RandomState::with_seeds([5, 6, 7, 8]);
+    let map: OrderedMap<u64, u64> = OrderedMap::with_hasher(alloc, seeded);
+    assert!(rt; map.is_empty());
+    let mut map: OrderedMap<u64, u64> = OrderedMap::new(alloc);
+    assert_eq!(rt; (map.insert(1, 10)?, map.insert(2, 20)?), (None, None));
+    assert_eq!(rt; map.insert(1, 11)?, Some(10));
+    assert!(rt; map.contains(&1) && !map.contains(&9));
+    assert_eq!(rt; (map.get(&1), map.get(&9)), (Some(&11), None));
+    assert_eq!(rt; map.len(), 2);
+    assert!(rt; map.first() == Some((&1, &11)) && map.last() == Some((&2, &20)));
+    let mut entries = map.iter();
+    assert_eq!(rt;
+        (entries.len(), entries.next(), entries.next_back()),
+        (2, Some((&1, &11)), Some((&2, &20)))
+    );
+    if let Some(value) = map.get_mut(&2) {
+        *value = 22;
+    }
+    assert_eq!(rt; map.get(&2), Some(&22));
+    let mut total = 0u64;
+    for (key, value) in map.iter() {
+        total = total.wrapping_add(key.wrapping_mul(*value));
+    }
+    assert_eq!(rt; (overwrite(&mut map, 1, 11), total), (true, 55));
+    assert_eq!(rt; (map.remove(&2), map.remove(&2)), (Some(22), None));
+    assert_eq!(rt; map.pop_first(), Some((1, 11)));
+    Ok(())
+}
+
+#[test]
+fn of_the_loader(rt: HostRuntime) {
+    let alloc = rt.alloc();
+    let disk = [10, 11, 12];
+    let mut blocks = Loader::new(
+        alloc,
+        ByLength::new(9),
+        |n: usize| disk.get(n).copied().ok_or(n),
+    );
+    assert_eq!(rt; (blocks.load(1), blocks.len()), (Ok(11), 1));
+    assert_eq!(rt; (blocks.load(3), blocks.len()), (Err(3), 1));
 }
 
 #[test]

@@ -11,3 +11,5 @@ mod examples;
 mod failures;
 #[cfg(test)]
 mod memos;
+#[cfg(test)]
+mod ordered;

@@ -1,6 +1,6 @@
 //! The ends of the limiter by a cost, and the costs of the types that have one.
 use super::bounds::{cost_of_both, offer_and_remove};
-use lru_limits::{ByCost, Insertion, Limiter};
+use lru_limits::{ByCost, ByWeight, Insertion, Limiter};
 use std::test::Fail;
 use test_helpers::Weighed;
 
@@ -44,5 +44,8 @@ fn costs_of_values(rt: HostRuntime) -> Result<(), Fail> {
     assert_eq!(rt; costs, [255, 65_535, 4_294_967_296, 15, u64::MAX, 4, 6, 3]);
     let mut limiter = ByCost::new(5);
     assert_eq!(rt; offer_and_remove(&mut limiter, rt.alloc(), 2u64, text)?, 0);
+    let key = String::from_str(rt.alloc(), "key")?;
+    let mut limiter: ByWeight<16> = ByWeight::new(22);
+    assert_eq!(rt; offer_and_remove(&mut limiter, rt.alloc(), key, items)?, 0);
     Ok(())
 }

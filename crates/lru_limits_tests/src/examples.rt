@@ -1,7 +1,7 @@
 //! The examples of the docs of public items.
 use lru_limits::{
-    ByCost, ByLength, ByMemoryUsage, Costed, Insertion, KeyHasher, Limiter, LookupKey, RandomState,
-    Storing, Summing, Unlimited, UnlimitedCompact,
+    ByCost, ByLength, ByMemoryUsage, ByWeight, Costed, Insertion, KeyHasher, Limiter, LookupKey,
+    RandomState, Storing, Summing, Unlimited, UnlimitedCompact,
 };
 use std::hash::{BuildHasher, Hash, Hasher};
 use std::test::Fail;
@@ -40,6 +40,13 @@ fn of_limiters(rt: HostRuntime) -> Result<(), Fail> {
     assert!(rt; limiter.on_insert(alloc, 1, 2u64, 4u64)?.is_none());
     assert_eq!(rt; limiter.cost(), 2);
     assert_eq!(rt; Summing::<u64, u64, u64>::account(&limiter), 2);
+    let lower = limiter.with_limit(1);
+    assert_eq!(rt; (lower.limit(), lower.cost()), (1, 2));
+    let mut limiter: ByWeight<16> = ByWeight::new(100);
+    assert_eq!(rt; limiter.limit(), 100);
+    assert!(rt; limiter.on_insert(alloc, 0, 1u64, 2u64)?.is_some());
+    assert!(rt; limiter.on_insert(alloc, 1, 80u64, 5u64)?.is_none());
+    assert_eq!(rt; limiter.cost(), 19);
     Ok(())
 }
 

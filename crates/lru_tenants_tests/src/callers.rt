@@ -7,12 +7,13 @@ use std::test::Fail;
 
 /// Puts a value for one tenant. Every other tenant's map stays as it is.
 fn put_beside(
-    cache: &mut TenantCache<u64, u64>,
-    name: u64,
+    cache: &mut TenantCache<u64, u64, u64>,
+    name: &u64,
     key: u64,
     value: u64,
 ) -> Result<bool, TenantError>
-    ensures { (other : ℕ) → nat_eq name other ≡ false → tenant other cache.new ≡ tenant other cache.old }
+    ensures { (other : ℕ) → nat_eq name.now other ≡ false →
+        tenant (nat_eq other) cache.new ≡ tenant (nat_eq other) cache.old }
 {
     cache.put(name, key, value)
 }
@@ -22,7 +23,7 @@ fn a_put_beside_others(rt: HostRuntime) -> Result<(), Fail> {
     let mut cache = TenantCache::new(rt.alloc(), [1, 2, 3, 4], 16);
     assert_eq!(rt; cache.open(1, 3), Ok(()));
     assert_eq!(rt; cache.open(2, 3), Ok(()));
-    assert_eq!(rt; put_beside(&mut cache, 1, 7, 2), Ok(true));
-    assert_eq!(rt; (cache.cost(1), cache.cost(2)), (Ok(2), Ok(0)));
+    assert_eq!(rt; put_beside(&mut cache, &1, 7, 2), Ok(true));
+    assert_eq!(rt; (cache.cost(&1), cache.cost(&2)), (Ok(2), Ok(0)));
     Ok(())
 }

@@ -4,14 +4,55 @@ use std::test::Fail;
 
 #[test]
 fn of_the_cache(rt: HostRuntime) -> Result<(), Fail> {
-    let mut cache: TenantCache<u64, u64> = TenantCache::new(rt.alloc(), [1, 2, 3, 4], 16);
+    let mut cache: TenantCache<u64, u64, u64> = TenantCache::new(rt.alloc(), [1, 2, 3, 4], 16);
     assert!(rt; cache.is_empty());
     assert_eq!(rt; cache.open(1, 3), Ok(()));
-    assert_eq!(rt; cache.put(1, 7, 2), Ok(true));
-    assert_eq!(rt; cache.cost(1), Ok(2));
+    assert_eq!(rt; cache.put(&1, 7, 2), Ok(true));
+    assert_eq!(rt; cache.cost(&1), Ok(2));
+    assert_eq!(rt; cache.peek(&1, &7), Ok(Some(&2)));
+    assert_eq!(rt; cache.entries(&1), Ok(1));
+    assert_eq!(rt; cache.budget(&1), Ok(3));
+    assert_eq!(rt;
+        (cache.remove(&1, &7), cache.remove(&1, &7)),
+        (Ok(Some(2)), Ok(None))
+    );
+    assert_eq!(rt; cache.put(&1, 7, 2), Ok(true));
+    assert_eq!(rt; (cache.set_budget(&1, 1), cache.cost(&1)), (Ok(()), Ok(0)));
+    assert_eq!(rt;
+        (cache.clear(&1), cache.entries(&1), cache.cost(&1)),
+        (Ok(()), Ok(0), Ok(0))
+    );
     assert_eq!(rt; cache.open(1, 5), Err(TenantError::AlreadyOpen));
-    assert_eq!(rt; (cache.open(2, u64::MAX), cache.close(2)), (Ok(()), Ok(0)));
-    assert_eq!(rt; (cache.len(), cache.close(1), cache.len()), (1, Ok(1), 0));
+    assert_eq!(rt; (cache.open(2, u64::MAX), cache.close(&2)), (Ok(()), Ok(0)));
+    assert_eq!(rt; (cache.len(), cache.close(&1), cache.len()), (1, Ok(0), 0));
+    Ok(())
+}
+
+#[test]
+fn of_calls_that_pass_entries(rt: HostRuntime) -> Result<(), Fail> {
+    let mut cache = TenantCache::new(rt.alloc(), [1, 2, 3, 4], 16);
+    assert_eq!(rt; cache.open(1, 3), Ok(()));
+    assert_eq!(rt; cache.put(&1, 7, 2), Ok(true));
+    let mut left = 0u64;
+    assert_eq!(rt;
+        cache.put_with(&1, 8, 3, &mut |key, _| left = key),
+        Ok(true)
+    );
+    assert_eq!(rt; left, 7);
+    let mut evicted = 0u64;
+    assert_eq!(rt;
+        cache.set_budget_with(&1, 2, &mut |key, _| evicted = key),
+        Ok(())
+    );
+    assert_eq!(rt; evicted, 8);
+    assert_eq!(rt; cache.put(&1, 9, 1u64), Ok(true));
+    let mut last = 0u64;
+    assert_eq!(rt; cache.close_with(&1, &mut |key, _| last = key), Ok(1));
+    assert_eq!(rt; last, 9);
+    assert_eq!(rt;
+        cache.put_with(&1, 9, 1, &mut |_, _| {}),
+        Err(TenantError::NotOpen)
+    );
     Ok(())
 }
 
@@ -31,11 +72,14 @@ fn of_the_errors(rt: HostRuntime) -> Result<(), Fail> {
 #[test]
 fn of_keys_that_are_texts(rt: HostRuntime) -> Result<(), Fail> {
     let alloc = rt.alloc();
-    let mut pages: TenantCache<String, String> = TenantCache::new(alloc, [1, 2, 3, 4], 64);
+    let mut pages: TenantCache<u64, String, String> = TenantCache::new(alloc, [1, 2, 3, 4], 64);
     assert_eq!(rt; pages.open(1, 10), Ok(()));
     let page = String::from_str(alloc, "hello")?;
-    assert_eq!(rt; pages.put(1, String::from_str(alloc, "a")?, page), Ok(true));
-    let page = pages.get(1, &"a")?.ok_or("no page")?;
+    assert_eq!(rt;
+        pages.put(&1, String::from_str(alloc, "a")?, page),
+        Ok(true)
+    );
+    let page = pages.get(&1, &"a")?.ok_or("no page")?;
     assert_eq!(rt; page.as_str(), "hello");
     Ok(())
 }
@@ -43,7 +87,7 @@ fn of_keys_that_are_texts(rt: HostRuntime) -> Result<(), Fail> {
 #[test]
 fn of_runs(rt: HostRuntime) -> Result<(), Fail> {
     let alloc = rt.alloc();
-    let mut cache: TenantCache<u64, u64> = TenantCache::new(alloc, [1, 2, 3, 4], 16);
+    let mut cache: TenantCache<u64, u64, u64> = TenantCache::new(alloc, [1, 2, 3, 4], 16);
     let calls = vec![in alloc;
         TenantCall::Open(1, 3),
         TenantCall::Put(1, 7, 1),

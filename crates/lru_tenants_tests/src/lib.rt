@@ -10,4 +10,6 @@ mod memory;
 #[cfg(test)]
 mod random;
 #[cfg(test)]
+mod responses;
+#[cfg(test)]
 mod rows;

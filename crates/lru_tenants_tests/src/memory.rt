@@ -1,30 +1,34 @@
 //! Calls that are refused memory, and memory that a closed tenant gives back.
 use lru_tenants::{TenantAnswer, TenantCache, TenantCall, TenantError, run_tenants};
 use schnellru::Costed;
-use std::alloc::Global;
+use std::alloc::{AllocError, Global};
 use std::mem::size_of;
 use std::rc::Rc;
 use std::test::Fail;
 use test_helpers::Hog;
 
 // A cache of these tenants from 1 on. The first one has pairs of the keys from 1 on.
-fn cache_of(alloc: Global, tenants: u64, pairs: u64) -> Result<TenantCache<u64, u64>, TenantError> {
+fn cache_of(
+    alloc: Global,
+    tenants: u64,
+    pairs: u64,
+) -> Result<TenantCache<u64, u64, u64>, TenantError> {
     let mut cache = TenantCache::new(alloc, [1, 2, 3, 4], 16);
     for name in 1..=tenants {
         cache.open(name, 1000)?;
     }
     for key in 1..=pairs {
-        cache.put(1, key, 1)?;
+        cache.put(&1, key, 1)?;
     }
     Ok(cache)
 }
 
 // Opens one more tenant, or puts one more pair.
-fn call(cache: &mut TenantCache<u64, u64>, opens: bool) -> Result<(), TenantError> {
+fn call(cache: &mut TenantCache<u64, u64, u64>, opens: bool) -> Result<(), TenantError> {
     if opens {
         return cache.open(1000, 5);
     }
-    cache.put(1, 1000, 1)?;
+    cache.put(&1, 1000, 1)?;
     Ok(())
 }
 
@@ -60,7 +64,7 @@ fn each_request_is_refused(rt: HostRuntime) -> Result<(), Fail> {
 fn a_list_takes_the_memory_of_its_answers(rt: HostRuntime) -> Result<(), Fail> {
     let alloc = rt.alloc();
     for is_met in [false, true] {
-        let mut cache: TenantCache<u64, u64> = TenantCache::new(alloc, [1, 2, 3, 4], 16);
+        let mut cache: TenantCache<u64, u64, u64> = TenantCache::new(alloc, [1, 2, 3, 4], 16);
         let calls = vec![in alloc; TenantCall::Cost(1)]?;
         let mut hog = Hog::new(alloc, &[size_of::<TenantAnswer<u64>>()])?;
         if is_met {
@@ -85,36 +89,45 @@ impl Costed for Share {
     }
 }
 
-// Opens a tenant, gives it a pair, and closes it.
+// Opens a tenant, gives it a pair for each key, and closes it.
 fn open_and_close(
-    cache: &mut TenantCache<Rc<u64>, Share>,
-    key: Rc<u64>,
-    value: Share,
+    cache: &mut TenantCache<u64, Rc<u64>, Share>,
+    keys: &[Rc<u64>],
 ) -> Result<usize, TenantError> {
     cache.open(2, 5)?;
-    cache.put(2, key, value)?;
-    cache.close(2)
+    for key in keys {
+        let copy: Result<Rc<u64>, AllocError> = key.clone();
+        let value: Result<Rc<u64>, AllocError> = key.clone();
+        let (Ok(copy), Ok(value)) = (copy, value) else {
+            return Err(TenantError::Memory);
+        };
+        cache.put(&2, copy, Share(value))?;
+    }
+    cache.close(&2)
 }
 
-// A thousand tenants are opened and closed, one after another, with memory for a few. A put to a tenant that is not open
-// drops its key and its value.
+// A thousand tenants of three pairs are opened and closed, one after another, with memory for a few. A put to a tenant
+// that is not open drops its key and its value.
 #[test]
 fn a_closed_tenant_gives_its_memory_back(rt: HostRuntime) -> Result<(), Fail> {
-    let shared = Rc::new(rt.alloc(), 0u64)?;
+    let mut keys = Vec::new(rt.alloc());
+    for n in 0..3u64 {
+        keys.push(Rc::new(rt.alloc(), n)?)?;
+    }
     let mut cache = TenantCache::new(rt.alloc(), [1, 2, 3, 4], 16);
     let hog = Hog::but(rt.alloc(), 4)?;
     let mut closed = 0u32;
     for _ in 0..1000u32 {
-        let result = open_and_close(&mut cache, shared.clone()?, Share(shared.clone()?));
-        closed = closed.wrapping_add((result == Ok(1)) as u32);
+        let result = open_and_close(&mut cache, keys.as_slice());
+        closed = closed.wrapping_add((result == Ok(3)) as u32);
     }
     drop(hog);
-    let refused = cache.put(2, shared.clone()?, Share(shared.clone()?));
-    assert_eq!(rt; refused, Err(TenantError::NotOpen));
-    assert_eq!(rt;
-        (closed, cache.len(), Rc::strong_count(&shared)),
-        (1000, 0, 1)
-    );
+    for key in &keys {
+        let refused = cache.put(&2, key.clone()?, Share(key.clone()?));
+        assert_eq!(rt; refused, Err(TenantError::NotOpen));
+        assert_eq!(rt; Rc::strong_count(key), 1);
+    }
+    assert_eq!(rt; (closed, cache.len()), (1000, 0));
     Ok(())
 }
 
@@ -122,8 +135,8 @@ fn a_closed_tenant_gives_its_memory_back(rt: HostRuntime) -> Result<(), Fail> {
 #[test]
 fn a_list_without_answers_is_freed(rt: HostRuntime) -> Result<(), Fail> {
     let alloc = rt.alloc();
-    let mut cache: TenantCache<u64, u64> = TenantCache::new(alloc, [1, 2, 3, 4], 16);
-    let mut hog = Hog::new(alloc, &[size_of::<TenantCall<u64, u64>>()])?;
+    let mut cache: TenantCache<u64, u64, u64> = TenantCache::new(alloc, [1, 2, 3, 4], 16);
+    let mut hog = Hog::new(alloc, &[size_of::<TenantCall<u64, u64, u64>>()])?;
     hog.release();
     let (mut lists, mut made) = (0u32, 0u32);
     for _ in 0..100u32 {

@@ -186,13 +186,18 @@ fn answers_are_remembered(rt: HostRuntime) -> Result<(), Fail> {
 }
 
 #[test]
-fn laws_are_cited(rt: HostRuntime) -> Result<(), Fail> {
-    let mut short = LruMap::new(rt.alloc(), ByLength::new(1), [1, 2, 3, 4], 16);
-    assert!(rt; put_within(&mut short, 1, 10)?);
-    let mut costs = LruMap::new(rt.alloc(), ByCost::new(10), [1, 2, 3, 4], 16);
-    assert!(rt; exchange(&mut costs, 1, 2, 7)?);
-    assert!(rt; exchange(&mut costs, 2, 3, 9)?);
-    assert_eq!(rt; costs.limiter().cost(), 9);
+fn the_length_is_kept(rt: HostRuntime) -> Result<(), Fail> {
+    let mut map = LruMap::new(rt.alloc(), ByLength::new(1), [1, 2, 3, 4], 16);
+    assert!(rt; put_within(&mut map, 1, 10)?);
+    Ok(())
+}
+
+#[test]
+fn the_sum_is_kept(rt: HostRuntime) -> Result<(), Fail> {
+    let mut map = LruMap::new(rt.alloc(), ByCost::new(10), [1, 2, 3, 4], 16);
+    assert!(rt; exchange(&mut map, 1, 2, 7)?);
+    assert!(rt; exchange(&mut map, 2, 3, 9)?);
+    assert_eq!(rt; map.limiter().cost(), 9);
     Ok(())
 }
 
@@ -204,7 +209,12 @@ fn pairs_are_kept(rt: HostRuntime) -> Result<(), Fail> {
     let mut shown = 0u64;
     assert!(rt; put_and_show(&mut map, 3, 30, &mut |key: u64, _: u64| shown = key)?);
     assert_eq!(rt; (shown, map.len()), (1, 2));
-    let mut all = LruMap::new(rt.alloc(), UnlimitedCompact, [1, 2, 3, 4], 24);
-    assert_eq!(rt; put_and_keep_all(&mut all, 1, 10), Ok(()));
+    Ok(())
+}
+
+#[test]
+fn all_pairs_are_kept(rt: HostRuntime) -> Result<(), Fail> {
+    let mut map = LruMap::new(rt.alloc(), UnlimitedCompact, [1, 2, 3, 4], 24);
+    assert_eq!(rt; put_and_keep_all(&mut map, 1, 10), Ok(()));
     Ok(())
 }

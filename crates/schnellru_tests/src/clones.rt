@@ -5,12 +5,12 @@ ghost use Rattle.lru_limits.specs.Limiters.{no_rules};
 
 use super::live::{Live, Lives};
 use schnellru::{DefaultHasher, Limiter, LruMap, RandomState, Storing, UnlimitedCompact};
-use std::alloc::AllocError;
+use std::alloc::{AllocError, Global};
 use std::cell::Cell;
 use std::hash::BuildHasher;
 use std::rc::Rc;
 use std::test::Fail;
-use test_helpers::{figures, get, insert_all, map_of, pairs};
+use test_helpers::{figures, get, insert_all, map_of, pairs, peek, report, reserve};
 
 /// A copy of seven pairs takes 14 clones. If one of them is refused, no other is asked for, and what was made is
 /// dropped.
@@ -42,23 +42,17 @@ fn each_key_and_value_is_cloned_once(rt: HostRuntime) -> Result<(), Fail> {
 #[test]
 fn a_copy_equals_its_source(rt: HostRuntime) -> Result<(), Fail> {
     let mut map = map_of(rt.alloc(), UnlimitedCompact);
-    assert_eq!(rt; insert_all(&mut map, 1..=15)?, 15);
-    assert_eq!(rt; (map.remove(&7), get(&mut map, 3)), (Some(70), Some(30)));
-    assert_eq!(rt; map.try_reserve(100), Ok(()));
+    insert_all(&mut map, 1..=15)?;
+    map.remove(&7);
+    get(&mut map, 3);
+    reserve(&mut map, 100)?;
     let copy = map.clone()?;
-    let same = pairs(rt.alloc(), &copy)? == pairs(rt.alloc(), &map)?;
-    let report = copy.move_report();
+    assert!(rt; pairs(rt.alloc(), &copy)? == pairs(rt.alloc(), &map)?);
     assert_eq!(rt;
-        (
-            same,
-            figures(&copy),
-            report.moved,
-            report.placed,
-            report.shrunk
-        ),
-        (true, (14, 224, 4368), 24, 15, 0)
+        (figures(&copy), report(&copy)),
+        ((14, 224, 4368), (24, 15))
     );
-    assert!(rt; (1..=15u64).all(|n| copy.peek(&n) == map.peek(&n)));
+    assert!(rt; (1..=15u64).all(|n| peek(&copy, n) == peek(&map, n)));
     Ok(())
 }
 
@@ -114,6 +108,38 @@ impl BuildHasher for Holding<'_> {
     }
 }
 
+type Held<'a> = LruMap<Live<'a>, Live<'a>, Storing<Holding<'a>>, Holding<'a>>;
+
+fn clonable<'a>(held: &Rc<u64>, clones: &'a Cell<u64>) -> Result<Holding<'a>, AllocError> {
+    Ok(Holding {
+        state: RandomState::default(),
+        held: held.clone()?,
+        clones,
+    })
+}
+
+/// A map of one pair.
+fn map_held<'a>(
+    alloc: Global,
+    limiter: Holding<'a>,
+    hasher: Holding<'a>,
+    lives: &'a Lives,
+) -> Result<Held<'a>, AllocError> {
+    let mut map: Held = LruMap::with_hasher(alloc, Storing(limiter), hasher, 16);
+    map.insert(lives.key(1), lives.value(1))?;
+    Ok(map)
+}
+
+/// How many live of the limiters and of the hashers, with those outside of maps, and of the keys and of the values.
+fn live(limiter: &Rc<u64>, hasher: &Rc<u64>, lives: &Lives) -> [u64; 4] {
+    [
+        Rc::strong_count(limiter) as u64,
+        Rc::strong_count(hasher) as u64,
+        lives.keys.get(),
+        lives.values.get(),
+    ]
+}
+
 /// The limiter and the hasher are cloned once each, after the pairs. If one refuses, the copies made so far are dropped.
 /// Both are dropped with their map.
 #[test]
@@ -121,43 +147,26 @@ fn a_limiter_or_a_hasher_that_refuses(rt: HostRuntime) -> Result<(), Fail> {
     let alloc = rt.alloc();
     let (limiter, hasher, lives) = (Cell::new(0u64), Cell::new(0u64), Lives::new());
     let (of_limiter, of_hasher) = (Rc::new(alloc, 0u64)?, Rc::new(alloc, 0u64)?);
-    let holding = |held: Rc<u64>, clones| Holding {
-        state: RandomState::default(),
-        held,
-        clones,
-    };
-    let mut map: LruMap<Live, Live, Storing<Holding>, Holding> = LruMap::with_hasher(
-        alloc,
-        Storing(holding(of_limiter.clone()?, &limiter)),
-        holding(of_hasher.clone()?, &hasher),
-        16,
-    );
-    map.insert(lives.key(1), lives.value(1))?;
+    let first = clonable(&of_limiter, &limiter)?;
+    let map = map_held(alloc, first, clonable(&of_hasher, &hasher)?, &lives)?;
     lives.clones.set(100);
-    for (of_the_limiter, of_the_hasher) in [(0u64, 2u64), (2, 0), (0, 0)] {
+    let one = [2, 2, 1, 1];
+    for (of_the_limiter, of_the_hasher, expected) in [
+        (0u64, 2u64, (false, one)),
+        (2, 0, (false, one)),
+        (0, 0, (false, one)),
+        (2, 2, (true, [3, 3, 2, 2])),
+    ] {
         limiter.set(of_the_limiter);
         hasher.set(of_the_hasher);
-        assert!(rt; map.clone().is_err());
-        let counts = (Rc::strong_count(&of_limiter), Rc::strong_count(&of_hasher));
-        assert_eq!(rt;
-            (counts, lives.keys.get(), lives.values.get()),
-            ((2, 2), 1, 1)
-        );
+        let copy = map.clone();
+        let found = (copy.is_ok(), live(&of_limiter, &of_hasher, &lives));
+        drop(copy);
+        assert_eq!(rt; found, expected);
+        assert_eq!(rt; live(&of_limiter, &of_hasher, &lives), one);
     }
-    limiter.set(2);
-    hasher.set(2);
-    let copy = map.clone()?;
+    drop(map);
     assert_eq!(rt; (limiter.get(), hasher.get()), (1, 1));
-    let counts = (Rc::strong_count(&of_limiter), Rc::strong_count(&of_hasher));
-    assert_eq!(rt;
-        (counts, lives.keys.get(), lives.values.get()),
-        ((3, 3), 2, 2)
-    );
-    drop((map, copy));
-    let counts = (Rc::strong_count(&of_limiter), Rc::strong_count(&of_hasher));
-    assert_eq!(rt;
-        (counts, lives.keys.get(), lives.values.get()),
-        ((1, 1), 0, 0)
-    );
+    assert_eq!(rt; live(&of_limiter, &of_hasher, &lives), [1, 1, 0, 0]);
     Ok(())
 }

@@ -7,16 +7,21 @@ use std::alloc::{AllocError, Global};
 use std::cell::Cell;
 use std::rc::Rc;
 use std::test::Fail;
-use test_helpers::{Counted, Sum, get, insert};
+use test_helpers::{Counted, Sum, get, insert, insert_all, peek, report};
 
 type Map<'a> = LruMap<u64, u64, UnlimitedCompact, Counted<'a, Sum>>;
 
 /// How many hashers a call builds beyond one for its key and one for each pair that it moves, as the report counts them.
 fn surplus(map: &mut Map, builds: &Cell<u64>, key: u64) -> Result<u64, AllocError> {
-    let (before, moved) = (builds.get(), map.move_report().moved);
+    let (before, (moved, _)) = (builds.get(), report(map));
     insert(map, key)?;
-    let needed = map.move_report().moved.wrapping_sub(moved).wrapping_add(1);
+    let needed = report(map).0.wrapping_sub(moved).wrapping_add(1);
     Ok(builds.get().wrapping_sub(before).wrapping_sub(needed))
+}
+
+fn counted(alloc: Global, builds: &Cell<u64>) -> Map<'_> {
+    let state = Sum(0);
+    LruMap::with_hasher(alloc, UnlimitedCompact, Counted { state, builds }, 16)
 }
 
 /// The report counts each move, and nothing moves that it does not count: in growth, and in rehashes, to which removals
@@ -24,16 +29,12 @@ fn surplus(map: &mut Map, builds: &Cell<u64>, key: u64) -> Result<u64, AllocErro
 #[test]
 fn a_hasher_is_built_for_each_key_that_moves(rt: HostRuntime) -> Result<(), Fail> {
     let builds = Cell::new(0u64);
-    let hasher = Counted {
-        state: Sum(0),
-        builds: &builds,
-    };
-    let mut map: Map = LruMap::with_hasher(rt.alloc(), UnlimitedCompact, hasher, 16);
+    let mut map = counted(rt.alloc(), &builds);
     let mut moved_without_growth = 0u64;
     for key in 0..2000u64 {
-        let (bytes, moved) = (map.memory_usage(), map.move_report().moved);
+        let (bytes, (moved, _)) = (map.memory_usage(), report(&map));
         assert_eq!(rt; surplus(&mut map, &builds, key)?, 0, "{key}");
-        if bytes == map.memory_usage() && moved < map.move_report().moved {
+        if bytes == map.memory_usage() && moved < report(&map).0 {
             moved_without_growth = moved_without_growth.saturating_add(1);
         }
         if key >= 40 {
@@ -41,13 +42,28 @@ fn a_hasher_is_built_for_each_key_that_moves(rt: HostRuntime) -> Result<(), Fail
         }
     }
     assert!(rt; moved_without_growth > 0);
-    let before = builds.get();
-    assert!(rt; insert(&mut map, 1990)? && get(&mut map, 1991).is_some());
-    assert!(rt; map.peek(&1992).is_some() && map.remove(&1993).is_some());
-    assert!(rt; map.ensure_newest(1994, || 0)? && map.ensure_newest(1993, || 0)?);
-    assert!(rt; map.contains(&1994) && map.promote(&1994) && map.remove_entry(&1994).is_some());
-    let made = map.ensure_newest_fallible(1995, || Ok::<u64, u64>(0));
-    assert_eq!(rt; (made, builds.get().wrapping_sub(before)), (Ok(true), 10));
+    Ok(())
+}
+
+#[test]
+fn a_call_hashes_its_key_once(rt: HostRuntime) -> Result<(), Fail> {
+    let builds = Cell::new(0u64);
+    let mut map = counted(rt.alloc(), &builds);
+    insert_all(&mut map, 1..=6)?;
+    builds.set(0);
+    let is_found = [
+        insert(&mut map, 1) == Ok(true),
+        get(&mut map, 2).is_some(),
+        peek(&map, 3).is_some(),
+        map.remove(&4).is_some(),
+        map.ensure_newest(5, || 0) == Ok(true),
+        map.ensure_newest(4, || 0) == Ok(true),
+        map.contains(&5),
+        map.promote(&5),
+        map.remove_entry(&5).is_some(),
+        map.ensure_newest_fallible(7, || Ok::<u64, u64>(0)) == Ok(true),
+    ];
+    assert_eq!(rt; (is_found, builds.get()), ([true; 10], 10));
     Ok(())
 }
 
@@ -80,12 +96,14 @@ impl Limiter<u64, Rc<u64>> for Asked<'_> {
     }
 }
 
+type Asking<'a> = LruMap<u64, Rc<u64>, Storing<Asked<'a>>>;
+
 fn new_map<'a>(
     alloc: Global,
     asked: &'a Cell<u64>,
     value: &'a Rc<u64>,
     lives: &'a Cell<usize>,
-) -> LruMap<u64, Rc<u64>, Storing<Asked<'a>>> {
+) -> Asking<'a> {
     let limiter = Asked {
         asked,
         value,
@@ -94,23 +112,44 @@ fn new_map<'a>(
     LruMap::new(alloc, Storing(limiter), [1, 2, 3, 4], 16)
 }
 
+/// Inserts a copy of the value, and returns whether it is stored.
+fn is_stored(map: &mut Asking, key: u64, value: &Rc<u64>) -> bool {
+    match value.clone() {
+        Ok(value) => map.insert(key, value) == Ok(true),
+        Err(_) => false,
+    }
+}
+
 /// An insert of a new key queries the limiter once after it stored the pair, and once before if there are pairs. An
-/// insert of a key that is there queries once, as does a trim. A clear is reported after the values were dropped.
+/// insert of a key that is there queries once.
 #[test]
 fn the_limiter_is_asked_once(rt: HostRuntime) -> Result<(), Fail> {
     let (asked, lives, value) = (Cell::new(0), Cell::new(0), Rc::new(rt.alloc(), 0u64)?);
     let mut map = new_map(rt.alloc(), &asked, &value, &lives);
     for (key, wanted) in [(1u64, 1u64), (2, 3), (3, 5), (2, 6), (4, 8)] {
-        assert!(rt; map.insert(key, value.clone()?)?);
-        assert_eq!(rt; asked.get(), wanted, "{key}");
+        let found = (is_stored(&mut map, key, &value), asked.get());
+        assert_eq!(rt; found, (true, wanted), "{key}");
     }
+    Ok(())
+}
+
+/// A trim queries the limiter once, if there are pairs. A clear is reported after the values were dropped.
+#[test]
+fn a_clear_is_reported_last(rt: HostRuntime) -> Result<(), Fail> {
+    let (asked, lives, value) = (Cell::new(0), Cell::new(0), Rc::new(rt.alloc(), 0u64)?);
+    let mut map = new_map(rt.alloc(), &asked, &value, &lives);
+    let are_stored = is_stored(&mut map, 1, &value) && is_stored(&mut map, 2, &value);
     let other = value.clone()?;
-    assert!(rt; map.ensure_newest(1, move || other)? && map.remove(&2).is_some());
-    assert_eq!(rt; asked.get(), 8);
+    let is_there = map.ensure_newest(1, move || other) == Ok(true);
+    let is_removed = map.remove(&2).is_some();
+    assert_eq!(rt;
+        (are_stored, is_there, is_removed, asked.get()),
+        (true, true, true, 3)
+    );
     map.trim();
     map.clear();
     map.trim();
-    assert_eq!(rt; (lives.get(), asked.get()), (1, 9));
+    assert_eq!(rt; (lives.get(), asked.get()), (1, 4));
     Ok(())
 }
 

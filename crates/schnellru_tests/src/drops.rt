@@ -16,13 +16,21 @@ fn fails(_value: Live<'_>) -> Result<Live<'_>, u8> {
     Err(0)
 }
 
+/// A random value. The greatest one and any other that is not 0 have no sum of 64 bits.
+fn random_value<'a>(random: &mut Random, lives: &'a Lives) -> Live<'a> {
+    match random.below(12) {
+        11 => lives.value(u64::MAX),
+        number => lives.value(number),
+    }
+}
+
 /// Makes a random call that inserts. Each closure owns its value, also if it is not called, or fails.
 fn random_insert<'a, L: Insertion<Live<'a>, Live<'a>, Live<'a>>>(
     map: &mut Map<'a, L>,
     random: &mut Random,
     lives: &'a Lives,
 ) -> Result<(), AllocError> {
-    let (key, value) = (lives.key(random.below(40)), lives.value(random.below(12)));
+    let (key, value) = (lives.key(random.below(40)), random_value(random, lives));
     match random.below(8) {
         0 => drop(map.insert(key, value)?),
         7 => drop(map.insert_full(key, value, &mut |key, value| drop((key, value)))?),
@@ -59,26 +67,32 @@ fn random_call<'a, L: Limiter<Live<'a>, Live<'a>> + Clone + Drop>(
         3..=5 => drop(map.shrink_to_fit().is_ok()),
         6..=9 => drop(map.try_reserve(random.below(60) as usize).is_ok()),
         10..=13 => {
-            lives.clones.set(random.below(40));
+            lives
+                .clones
+                .set(random.below(40).wrapping_mul(random.below(3000)));
             drop(map.clone());
         }
         14..=20 => drop(map.remove(&key)),
         21..=24 => drop(map.pop_oldest()),
         25..=28 => drop(map.pop_newest()),
         _ => if let Some(value) = map.get(&key) {
-            *value = lives.value(random.below(12));
+            *value = random_value(random, lives);
         },
     }
 }
 
-/// Makes random calls on a map. After each the keys and values that live are those of the map.
+/// Makes random calls on a map of this many pairs. After each the keys and values that live are those of the map.
 fn balances<'a, L: Insertion<Live<'a>, Live<'a>, Live<'a>> + Clone + Drop>(
     alloc: Global,
     limiter: L,
     lives: &'a Lives,
+    pairs: u64,
 ) -> Result<bool, AllocError> {
-    let mut random = Random::new(1);
+    let mut random = Random::new(pairs.wrapping_add(1));
     let mut map = LruMap::new(alloc, limiter, [1, 2, 3, 4], 16);
+    for n in 0..pairs {
+        map.insert(lives.key(n), lives.value(0))?;
+    }
     for _ in 0..20_000u32 {
         if random.below(3) == 0 {
             random_call(&mut map, &mut random, lives);
@@ -97,45 +111,66 @@ fn expect_balance<'a, L: Insertion<Live<'a>, Live<'a>, Live<'a>> + Clone + Drop>
     rt: &(impl Abort + AllocGlobal),
     limiter: L,
     lives: &'a Lives,
+    pairs: u64,
 ) -> Result<(), Fail> {
-    assert!(rt; balances(rt.alloc(), limiter, lives)?);
-    assert_eq!(rt; (lives.keys.get(), lives.values.get()), (0, 0));
+    assert!(rt; balances(rt.alloc(), limiter, lives, pairs)?);
+    assert_eq!(rt; live(lives), (0, 0));
     Ok(())
 }
 
 #[test]
 fn keys_and_values_are_dropped_once(rt: HostRuntime) -> Result<(), Fail> {
     let lives = Lives::new();
-    expect_balance(&rt, ByLength::new(20), &lives)?;
-    expect_balance(&rt, ByLength::new(0), &lives)?;
-    expect_balance(&rt, ByMemoryUsage::new(560), &lives)?;
-    expect_balance(&rt, ByMemoryUsage::new(83), &lives)?;
-    expect_balance(&rt, ByCost::new(10), &lives)?;
-    expect_balance(&rt, Unlimited, &lives)?;
-    expect_balance(&rt, UnlimitedCompact, &lives)?;
-    expect_balance(&rt, Storing(ByLength::new(3)), &lives)
+    expect_balance(&rt, ByLength::new(20), &lives, 0)?;
+    expect_balance(&rt, ByLength::new(0), &lives, 0)?;
+    expect_balance(&rt, ByMemoryUsage::new(560), &lives, 0)?;
+    expect_balance(&rt, ByMemoryUsage::new(83), &lives, 0)?;
+    expect_balance(&rt, ByCost::new(10), &lives, 0)?;
+    expect_balance(&rt, ByCost::new(u64::MAX), &lives, 0)?;
+    expect_balance(&rt, Unlimited, &lives, 0)?;
+    expect_balance(&rt, UnlimitedCompact, &lives, 0)?;
+    expect_balance(&rt, Storing(ByLength::new(3)), &lives, 0)
 }
 
-/// What a trim and another limiter evict is dropped, and so are a closure that is not called, and what a walk by value
-/// has left.
+/// The same with maps of 10,000 pairs and more, until a random call takes all out.
+#[test]
+fn many_keys_and_values_are_dropped_once(rt: HostRuntime) -> Result<(), Fail> {
+    let lives = Lives::new();
+    for pairs in 10_000..10_008u64 {
+        expect_balance(&rt, ByLength::new(10_000), &lives, pairs)?;
+    }
+    Ok(())
+}
+
+fn live(lives: &Lives) -> (u64, u64) {
+    (lives.keys.get(), lives.values.get())
+}
+
+/// What a trim and another limiter evict is dropped, and so is what a walk by value has left.
 #[test]
 fn what_trims_evict_is_dropped(rt: HostRuntime) -> Result<(), Fail> {
     let lives = Lives::new();
-    let mut map = LruMap::new(rt.alloc(), ByLength::new(20), [1, 2, 3, 4], 16);
-    for n in 0..20u64 {
+    let mut map = LruMap::new(rt.alloc(), ByLength::new(20_000), [1, 2, 3, 4], 16);
+    for n in 0..20_000u64 {
         map.insert(lives.key(n), lives.value(n))?;
     }
-    *map.limiter_mut() = ByLength::new(12);
+    *map.limiter_mut() = ByLength::new(12_000);
     map.trim();
-    assert_eq!(rt; (lives.keys.get(), lives.values.get()), (12, 12));
-    map.set_limiter(ByLength::new(5));
-    drop(map.remove_entry(&lives.key(19)));
-    assert_eq!(rt; (lives.keys.get(), lives.values.get()), (4, 4));
+    assert_eq!(rt; live(&lives), (12_000, 12_000));
+    map.set_limiter(ByLength::new(5000));
+    drop(map.remove_entry(&lives.key(19_999)));
+    assert_eq!(rt; live(&lives), (4999, 4999));
     drop(map.into_iter().next());
+    assert_eq!(rt; live(&lives), (0, 0));
+    Ok(())
+}
+
+#[test]
+fn closures_that_are_not_called_are_dropped(rt: HostRuntime) {
+    let lives = Lives::new();
     let mut none: Map<ByLength> = LruMap::new(rt.alloc(), ByLength::new(1), [1, 2, 3, 4], 16);
     let (value, other) = (lives.value(0), lives.value(0));
     drop(none.pop_oldest_if(move |key, _| *key == value));
     drop(none.try_pop_oldest(move |key, _| if *key == other { Ok(()) } else { Err(0u8) }));
-    assert_eq!(rt; (lives.keys.get(), lives.values.get()), (0, 0));
-    Ok(())
+    assert_eq!(rt; live(&lives), (0, 0));
 }

@@ -1,7 +1,7 @@
 //! The examples of the README and of the public items' documents.
 use schnellru::{
-    ByLength, ByMemoryUsage, GetOrInsertError, KeyHasher, LruMap, MoveReport, RandomState,
-    ReserveError, Unlimited, UnlimitedCompact,
+    ByLength, ByMemoryUsage, ByWeight, GetOrInsertError, KeyHasher, LruMap, MoveReport,
+    RandomState, ReserveError, Unlimited, UnlimitedCompact,
 };
 use std::alloc::{AllocError, Global};
 use std::hash::BuildHasher;
@@ -29,17 +29,20 @@ fn of_the_map(rt: HostRuntime) -> Result<(), Fail> {
 }
 
 #[test]
-fn of_the_constructors(rt: HostRuntime) -> Result<(), Fail> {
-    let alloc = rt.alloc();
+fn of_a_map_with_a_hasher(rt: HostRuntime) {
     let map: LruMap<u64, u32> = LruMap::with_hasher(
-        alloc,
+        rt.alloc(),
         ByLength::new(3),
         RandomState::default(),
         32,
     );
     assert!(rt; map.is_empty() && map.memory_usage() == 0);
+}
+
+#[test]
+fn of_a_map_with_a_budget(rt: HostRuntime) -> Result<(), Fail> {
     let mut map: LruMap<u64, u64, ByMemoryUsage> = LruMap::with_memory_budget(
-        alloc,
+        rt.alloc(),
         84,
         [1, 2, 3, 4],
         16,
@@ -48,16 +51,28 @@ fn of_the_constructors(rt: HostRuntime) -> Result<(), Fail> {
         map.insert(n, n)?;
     }
     assert!(rt; map.len() == 3 && map.memory_usage() == 84 && map.peek(&1).is_none());
+    Ok(())
+}
+
+#[test]
+fn of_a_map_with_a_budget_and_a_hasher(rt: HostRuntime) {
     let seeded = RandomState::with_seeds([5, 6, 7, 8]);
     let map: LruMap<u64, u64, ByMemoryUsage> = LruMap::with_memory_budget_and_hasher(
-        alloc, 84, seeded, 16,
+        rt.alloc(),
+        84,
+        seeded,
+        16,
     );
     assert_eq!(rt; map.limiter().max_memory_usage(), 84);
-    let mut map: LruMap<u64, u64> = LruMap::with_limiter(alloc, ByLength::new(3));
-    assert!(rt; map.insert(1, 10)?);
-    assert_eq!(rt; map.memory_usage(), 4 * 24 + 4 + 16);
     let usage = LruMap::<u64, u64, UnlimitedCompact>::memory_usage_for_memory_budget(512, 16);
     assert_eq!(rt; usage, 288);
+}
+
+#[test]
+fn of_a_map_with_a_limiter(rt: HostRuntime) -> Result<(), Fail> {
+    let mut map: LruMap<u64, u64> = LruMap::with_limiter(rt.alloc(), ByLength::new(3));
+    assert!(rt; map.insert(1, 10)?);
+    assert_eq!(rt; map.memory_usage(), 4 * 24 + 4 + 16);
     Ok(())
 }
 
@@ -75,10 +90,15 @@ fn of_inserts_and_the_limiter(rt: HostRuntime) -> Result<(), Fail> {
 }
 
 #[test]
-fn of_inserts_that_hand_over(rt: HostRuntime) -> Result<(), Fail> {
+fn of_inserts_that_return_a_value(rt: HostRuntime) -> Result<(), Fail> {
     let mut map = three(rt.alloc())?;
     let inserted = map.insert_full(1, 11, &mut |_, _| {})?;
     assert_eq!(rt; (inserted.kept, inserted.unkept), (true, Some(10)));
+    Ok(())
+}
+
+#[test]
+fn of_inserts_with_a_callback(rt: HostRuntime) -> Result<(), Fail> {
     let mut map = three(rt.alloc())?;
     let mut left = None;
     map.insert_with(4, 40, &mut |key, value| left = Some((key, value)))?;
@@ -107,15 +127,21 @@ fn of_reservations_and_what_they_make_room_for(rt: HostRuntime) -> Result<(), Fa
     assert_eq!(rt; (map.guaranteed_capacity(), map.len()), (7, 0));
     assert_eq!(rt; map.get_or_insert(1, || 10)?.copied(), Some(10));
     assert_eq!(rt; map.get_or_insert(1, || 20)?.copied(), Some(10));
+    assert_eq!(rt; map.shrink_to_fit(), Ok(true));
+    assert_eq!(rt; (map.len(), map.guaranteed_capacity()), (1, 3));
+    assert_eq!(rt; map.shrink_to_fit(), Ok(false));
+    Ok(())
+}
+
+#[test]
+fn of_values_that_are_counted(rt: HostRuntime) -> Result<(), Fail> {
+    let mut map = three(rt.alloc())?;
     if map.ensure_newest(1, || 0)? {
         if let Some(count) = map.newest_mut() {
             *count = count.saturating_add(1);
         }
     }
     assert_eq!(rt; map.peek(&1), Some(&11));
-    assert_eq!(rt; map.shrink_to_fit(), Ok(true));
-    assert_eq!(rt; (map.len(), map.guaranteed_capacity()), (1, 3));
-    assert_eq!(rt; map.shrink_to_fit(), Ok(false));
     Ok(())
 }
 
@@ -180,6 +206,12 @@ fn of_values_that_are_written(rt: HostRuntime) -> Result<(), Fail> {
         *value = 10;
     }
     assert!(rt; map.peek_oldest() == Some((&1, &10)));
+    Ok(())
+}
+
+#[test]
+fn of_copies(rt: HostRuntime) -> Result<(), Fail> {
+    let map = three(rt.alloc())?;
     let mut copy = map.clone()?;
     assert_eq!(rt; copy.remove(&1), Some(10));
     assert_eq!(rt; (copy.len(), map.len()), (2, 3));
@@ -221,13 +253,16 @@ fn of_seeds(rt: HostRuntime) -> Result<(), Fail> {
 }
 
 #[test]
-fn of_refused_reservations(rt: HostRuntime) {
-    let alloc = rt.alloc();
-    let mut map: LruMap<u64, u64, Unlimited> = LruMap::new(alloc, Unlimited, [1, 2, 3, 4], 16);
+fn of_failed_reservations(rt: HostRuntime) {
+    let mut map: LruMap<u64, u64, Unlimited> = LruMap::new(rt.alloc(), Unlimited, [1, 2, 3, 4], 16);
     assert_eq!(rt; map.try_reserve(usize::MAX), Err(ReserveError::TooLarge));
     assert_eq!(rt; map.try_reserve(1 << 50), Err(ReserveError::Memory));
+}
+
+#[test]
+fn of_refused_reservations(rt: HostRuntime) {
     let mut map: LruMap<u64, u64, ByMemoryUsage> = LruMap::with_memory_budget(
-        alloc,
+        rt.alloc(),
         84,
         [1, 2, 3, 4],
         16,
@@ -244,6 +279,12 @@ fn of_closures_that_may_fail(rt: HostRuntime) -> Result<(), Fail> {
     assert!(rt; map.peek(&4).is_none());
     assert!(rt; map.ensure_newest_fallible(4, || Ok::<u64, u8>(40))?);
     assert!(rt; map.peek_newest() == Some((&4, &40)));
+    Ok(())
+}
+
+#[test]
+fn of_gets_that_may_fail(rt: HostRuntime) -> Result<(), Fail> {
+    let mut map = three(rt.alloc())?;
     assert!(rt; map.get_or_insert_fallible(5, || Err(7u8)).is_err());
     let error = map.get_or_insert_fallible(5, || Err(7u8)).err();
     assert_eq!(rt; error, Some(GetOrInsertError::Caller(7)));
@@ -266,13 +307,19 @@ fn insert_five<S: KeyHasher<u64>>(
 }
 
 #[test]
-fn of_keys_that_are_promoted_or_removed(rt: HostRuntime) -> Result<(), Fail> {
+fn of_keys_that_are_promoted(rt: HostRuntime) -> Result<(), Fail> {
     let mut map = three(rt.alloc())?;
     assert!(rt; map.contains(&1) && !map.contains(&9));
     assert!(rt; map.keys().next() == Some(&3) && map.keys().next_back() == Some(&1));
     assert!(rt; map.values().next() == Some(&30) && map.values().len() == 3);
     assert!(rt; map.promote(&1) && !map.promote(&9));
     assert!(rt; map.peek_newest() == Some((&1, &10)));
+    Ok(())
+}
+
+#[test]
+fn of_entries_that_are_removed(rt: HostRuntime) -> Result<(), Fail> {
+    let mut map = three(rt.alloc())?;
     assert_eq!(rt; map.remove_entry(&1), Some((1, 10)));
     assert_eq!(rt; map.remove_entry(&1), None);
     assert!(rt; insert_five(&mut map)?);
@@ -283,14 +330,24 @@ fn of_keys_that_are_promoted_or_removed(rt: HostRuntime) -> Result<(), Fail> {
 #[test]
 fn of_trims(rt: HostRuntime) -> Result<(), Fail> {
     let mut map = three(rt.alloc())?;
+    *map.limiter_mut() = ByLength::new(1);
+    map.trim();
+    assert!(rt; map.len() == 1 && map.contains(&3));
+    Ok(())
+}
+
+#[test]
+fn of_trims_with_a_callback(rt: HostRuntime) -> Result<(), Fail> {
+    let mut map = three(rt.alloc())?;
     let mut evicted = 0u64;
     *map.limiter_mut() = ByLength::new(1);
     map.trim_with(&mut |key, _| evicted = evicted.wrapping_add(key));
     assert_eq!(rt; evicted, 3);
-    let mut map = three(rt.alloc())?;
-    *map.limiter_mut() = ByLength::new(1);
-    map.trim();
-    assert!(rt; map.len() == 1 && map.contains(&3));
+    Ok(())
+}
+
+#[test]
+fn of_another_limiter(rt: HostRuntime) -> Result<(), Fail> {
     let mut map = three(rt.alloc())?;
     let old = map.set_limiter(ByLength::new(1));
     assert!(rt; old.max_length() == 3 && map.len() == 1);
@@ -309,5 +366,16 @@ fn of_pops_on_a_condition(rt: HostRuntime) -> Result<(), Fail> {
         map.try_pop_oldest(|_, _| -> Result<(), u8> { Ok(()) }),
         Ok(Some((2, 20)))
     );
+    Ok(())
+}
+
+#[test]
+fn of_weights(rt: HostRuntime) -> Result<(), Fail> {
+    let alloc = rt.alloc();
+    let mut map: LruMap<u64, u64, ByWeight<16>> = LruMap::with_limiter(alloc, ByWeight::new(40));
+    for key in 1..=3 {
+        assert!(rt; map.insert(key, 0)?);
+    }
+    assert!(rt; !map.contains(&1) && map.limiter().cost() == 16 + 2 + 16 + 3);
     Ok(())
 }

@@ -34,29 +34,48 @@ fn a_text_becomes_a_key_once(rt: HostRuntime) -> Result<(), Fail> {
     Ok(())
 }
 
+/// The same, inserted as `String`s.
+fn strings_of(alloc: Global, texts: &[&str]) -> Result<Texts, AllocError> {
+    let mut map: Texts = LruMap::new(alloc, Counting::default(), [1, 2, 3, 4], 16);
+    for text in texts {
+        map.insert(String::from_str(alloc, text)?, 1)?;
+    }
+    Ok(map)
+}
+
 #[test]
 fn look_ups_by_texts(rt: HostRuntime) -> Result<(), Fail> {
-    let alloc = rt.alloc();
-    let mut map: Texts = LruMap::new(alloc, Counting::default(), [1, 2, 3, 4], 16);
-    for (key, value) in [("1", 1), ("2", 2), ("3", 3)] {
-        assert!(rt; map.insert(String::from_str(alloc, key)?, value)?);
-    }
-    assert_eq!(rt;
-        (map.peek(&"2").copied(), map.get(&"2").copied()),
-        (Some(2), Some(2))
-    );
-    for (key, value, lent) in [("2", 20, 2), ("4", 40, 40)] {
-        let key = String::from_str(alloc, key)?;
+    let mut map = strings_of(rt.alloc(), &["1", "2", "3"])?;
+    let found = [
+        map.peek(&"1").is_some(),
+        map.get(&"2").is_some(),
+        map.remove(&"3").is_some(),
+        map.remove(&"7").is_some(),
+    ];
+    assert_eq!(rt; found, [true, true, true, false]);
+    assert!(rt; has_keys(&map, &["2", "1"]));
+    Ok(())
+}
+
+#[test]
+fn gets_that_insert_strings(rt: HostRuntime) -> Result<(), Fail> {
+    let mut map = strings_of(rt.alloc(), &["1", "2", "3"])?;
+    for (text, value, lent) in [("2", 20, 1), ("4", 40, 40)] {
+        let key = String::from_str(rt.alloc(), text)?;
         assert_eq!(rt; map.get_or_insert(key, || value)?.copied(), Some(lent));
     }
-    for (key, value, lent) in [("2", 200, 2), ("6", 6, 6)] {
-        assert_eq!(rt;
-            map.get_or_insert(InsertKey(key), || value)?.copied(),
-            Some(lent)
-        );
+    assert!(rt; has_keys(&map, &["4", "2", "3", "1"]));
+    Ok(())
+}
+
+#[test]
+fn gets_that_insert_texts(rt: HostRuntime) -> Result<(), Fail> {
+    let mut map = strings_of(rt.alloc(), &["1", "2", "3"])?;
+    for (text, value, lent) in [("2", 20, 1), ("6", 6, 6)] {
+        let key = InsertKey(text);
+        assert_eq!(rt; map.get_or_insert(key, || value)?.copied(), Some(lent));
     }
-    assert!(rt; has_keys(&map, &["6", "2", "4", "3", "1"]));
-    assert_eq!(rt; (map.remove(&"3"), map.remove(&"7")), (Some(3), None));
+    assert!(rt; has_keys(&map, &["6", "2", "3", "1"]));
     assert_eq!(rt; (map.limiter().inserts, map.limiter().replacements), (1, 0));
     Ok(())
 }

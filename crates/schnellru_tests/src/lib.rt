@@ -28,6 +28,8 @@ mod order_of_calls;
 #[cfg(test)]
 mod refused;
 #[cfg(test)]
+mod retains;
+#[cfg(test)]
 mod sizes;
 #[cfg(test)]
 mod texts;

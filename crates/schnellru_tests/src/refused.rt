@@ -1,14 +1,13 @@
 //! Calls whose requests for memory are refused in turn, until one is met. No clause says that memory is there, or how
 //! much a call takes. What a refused call leaves is a clause; these tests show it for each request.
-use super::keys::{has_keys, texts_of};
+use super::keys::{Texts, has_keys, texts_of};
 use schnellru::{GetOrInsertError, Insertion, LruMap, ReserveError, Storing, UnlimitedCompact};
 use std::alloc::{AllocError, Global};
 use std::hash::BuildHasher;
-use std::process::Abort;
 use std::test::Fail;
 use test_helpers::{
     Hog, InsertKey, LastByte, OF_HASH_28, Within, counts_down, figures, get, insert, insert_all,
-    is_list, map_of, remove_all, report, three_costs,
+    is_list, map_of, remove_all, report, reserve, shrink, three_costs,
 };
 
 /// The bytes of a first table of 4 buckets with entries of 24 bytes: its control bytes, 16 more, and its entries.
@@ -98,58 +97,51 @@ struct Case<'a> {
     told: &'a [(u32, u32)],
 }
 
-/// What is found after each try: whether it was refused and the pairs stay, the figures, and what the limiter was notified of.
-type Found = Vec<(bool, Figures, (u32, u32))>;
+impl Case<'_> {
+    /// Whether the try of this number, counted from 0, ended as expected.
+    fn is_as_expected<S: BuildHasher>(
+        &self,
+        map: &LruMap<u64, u64, Storing<Within>, S>,
+        i: usize,
+        was_refused: bool,
+    ) -> bool {
+        let limiter = map.limiter().0;
+        let is_told = self.told.get(i) == Some(&(limiter.removed, limiter.asked));
+        let found = (figures(map), report(map));
+        if i < self.requests.len() {
+            let stays = counts_down(map, self.stay.0, self.stay.1);
+            was_refused && stays && is_told && found == self.refused
+        } else {
+            !was_refused && is_told && found == self.met
+        }
+    }
+}
 
-/// Makes the call while each request in turn is refused, and then once with memory. Returns nothing if memory has no
-/// end.
-fn refuse_each<S: BuildHasher>(
+/// Makes the call while each request in turn is refused, and then once with memory. Returns the number of the first try
+/// that does not end as expected, unless memory has no end.
+fn first_fault<S: BuildHasher>(
     alloc: Global,
     map: &mut LruMap<u64, u64, Storing<Within>, S>,
     case: Case,
-) -> Result<Option<Found>, AllocError> {
+) -> Result<Option<usize>, AllocError> {
     insert_all(map, 1..=case.len)?;
     remove_all(map, case.removed.0..=case.removed.1);
-    let mut found = Vec::with_capacity(alloc, case.requests.len().saturating_add(1))?;
+    let mut fault = None;
     let mut hog = Hog::new(alloc, case.requests)?;
-    for _ in 0..=case.requests.len() {
-        let refused = is_refused(map, case.call, case.pair);
-        let stays = counts_down(map, case.stay.0, case.stay.1);
-        let limiter = map.limiter().0;
-        let told = (limiter.removed, limiter.asked);
-        found.push((refused && stays, (figures(map), report(map)), told))?;
+    for i in 0..=case.requests.len() {
+        let was_refused = is_refused(map, case.call, case.pair);
+        if fault.is_none() && !case.is_as_expected(map, i, was_refused) {
+            fault = Some(i);
+        }
         hog.release();
     }
-    Ok(if hog.took_all() { Some(found) } else { None })
-}
-
-fn expect<S: BuildHasher>(
-    rt: &(impl Abort + AllocGlobal),
-    map: &mut LruMap<u64, u64, Storing<Within>, S>,
-    case: Case,
-) -> Result<(), Fail> {
-    let Some(found) = refuse_each(rt.alloc(), map, case)? else {
-        return Ok(());
-    };
-    let mut expected = Vec::new(rt.alloc());
-    for (i, told) in case.told.iter().enumerate() {
-        let is_refused = i < case.requests.len();
-        let figures = if is_refused { case.refused } else { case.met };
-        expected.push((is_refused, figures, *told))?;
-    }
-    assert_eq!(rt; found, expected);
-    Ok(())
+    Ok(if hog.took_all() { fault } else { None })
 }
 
 /// No form of insert fails above some number of pairs, if there is memory.
 #[test]
 fn inserts_of_many_pairs(rt: HostRuntime) -> Result<(), Fail> {
-    for call in [
-        Taking::GetOrInsert,
-        Taking::GetOrInsertFallible,
-        Taking::EnsureNewest,
-        Taking::EnsureNewestFallible,
-    ] {
+    for call in INSERTS {
         let mut map = map_of(rt.alloc(), UnlimitedCompact);
         for key in 0..100_000u64 {
             assert!(rt; !is_refused(&mut map, call, (key, key)));
@@ -188,7 +180,8 @@ fn inserts_that_need_a_table(rt: HostRuntime) -> Result<(), Fail> {
         };
         for case in [first, growth] {
             let limiter = Storing(Within::new(case.most));
-            expect(&rt, &mut map_of(rt.alloc(), limiter), case)?;
+            let fault = first_fault(rt.alloc(), &mut map_of(rt.alloc(), limiter), case)?;
+            assert_eq!(rt; fault, None, "{} pairs", case.len);
         }
     }
     Ok(())
@@ -212,7 +205,8 @@ fn inserts_that_need_a_rehash(rt: HostRuntime) -> Result<(), Fail> {
         };
         let limiter = Storing(Within::new(case.most));
         let mut map = LruMap::with_hasher(rt.alloc(), limiter, LastByte(0), 16);
-        expect(&rt, &mut map, case)?;
+        let fault = first_fault(rt.alloc(), &mut map, case)?;
+        assert_eq!(rt; fault, None, "{} pairs", case.len);
     }
     Ok(())
 }
@@ -271,7 +265,8 @@ fn reservations_and_shrinks(rt: HostRuntime) -> Result<(), Fail> {
     for case in [first, larger, rehash, shrink] {
         let limiter = Storing(Within::new(case.most));
         let mut map = LruMap::with_hasher(rt.alloc(), limiter, LastByte(0), 16);
-        expect(&rt, &mut map, case)?;
+        let fault = first_fault(rt.alloc(), &mut map, case)?;
+        assert_eq!(rt; fault, None, "{} pairs", case.len);
     }
     Ok(())
 }
@@ -325,64 +320,79 @@ fn keys_that_are_made(rt: HostRuntime) -> Result<(), Fail> {
     Ok(())
 }
 
+/// Whether the map can be copied, and the copy has these keys.
+fn is_copied(map: &Texts, keys: &[&str]) -> bool {
+    match map.clone() {
+        Ok(copy) => has_keys(&copy, keys),
+        Err(_) => false,
+    }
+}
+
 /// A copy of three texts takes control bytes, entries, and a byte for each text.
 #[test]
 fn copies(rt: HostRuntime) -> Result<(), Fail> {
     let map = texts_of(rt.alloc(), &["1", "2", "3"])?;
-    let mut refused = 0u32;
+    let mut made = [false; 6];
     let mut hog = Hog::new(rt.alloc(), &[20, 160, 1, 1, 1])?;
-    for _ in 0..5u32 {
-        if map.clone().is_err() {
-            refused = refused.wrapping_add(1);
-        }
+    for n in 0..6usize {
+        made[n] = is_copied(&map, &["3", "2", "1"]);
         hog.release();
     }
-    let is_made = match map.clone() {
-        Ok(copy) => has_keys(&copy, &["3", "2", "1"]),
-        Err(_) => false,
-    };
     let all = hog.took_all();
     drop(hog);
-    assert!(rt; !all || (refused == 5 && is_made));
+    assert!(rt; !all || made == [false, false, false, false, false, true]);
     assert!(rt; has_keys(&map, &["3", "2", "1"]));
     Ok(())
 }
 
-/// What calls return while no memory is left.
-fn calls_without_memory<L: Insertion<u64, u64, u64>, S: BuildHasher>(
+/// Whether calls that need no memory succeed while none is left.
+fn succeed_without_memory<L: Insertion<u64, u64, u64>, S: BuildHasher>(
     map: &mut LruMap<u64, u64, L, S>,
 ) -> bool {
     let inserted = insert_all(map, 1..=7) == Ok(7) && insert_all(map, 1..=7) == Ok(7);
     let found = get(map, 3) == Some(30) && map.remove(&3) == Some(30);
     let back = map.pop_oldest() == Some((1, 10)) && insert(map, 1) == Ok(true);
     let made = map.get_or_insert(3, || 30).is_ok() && map.ensure_newest(3, || 30) == Ok(true);
-    let enough = map.try_reserve(0) == Ok(()) && map.shrink_to_fit() == Ok(false);
-    let refused = insert(map, 8).is_err() && map.try_reserve(1) == Err(ReserveError::Memory);
-    let too_large = map.try_reserve(usize::MAX) == Err(ReserveError::TooLarge);
+    let enough = reserve(map, 0) == Ok(()) && shrink(map) == Ok(false);
+    inserted && found && back && made && enough
+}
+
+/// Whether a full table is refused more memory, and is given back when it is empty.
+fn is_refused_and_given_back<L: Insertion<u64, u64, u64>, S: BuildHasher>(
+    map: &mut LruMap<u64, u64, L, S>,
+) -> bool {
+    let refused = insert(map, 8).is_err() && reserve(map, 1) == Err(ReserveError::Memory);
+    let too_large = reserve(map, usize::MAX) == Err(ReserveError::TooLarge);
     map.clear();
-    let given_back = map.shrink_to_fit() == Ok(true) && map.shrink_to_fit() == Ok(false);
-    inserted && found && back && made && enough && refused && too_large && given_back
+    refused && too_large && shrink(map) == Ok(true) && shrink(map) == Ok(false)
 }
 
 /// Inserts while there is growth left, look-ups, removals, reservations that are met already, and shrinks of no pairs
-/// take no memory. Nor does the rehash of an emptied table.
+/// take no memory.
 #[test]
 fn calls_that_take_no_memory(rt: HostRuntime) -> Result<(), Fail> {
-    let alloc = rt.alloc();
-    let mut map = map_of(alloc, UnlimitedCompact);
-    assert_eq!(rt; map.try_reserve(7), Ok(()));
-    let mut emptied = LruMap::with_hasher(alloc, Storing(Within::new(560)), LastByte(0), 16);
-    insert_all(&mut emptied, 1..=27)?;
-    remove_all(&mut emptied, 1..=27);
-    let hog = Hog::new(alloc, &[])?;
-    let calls = calls_without_memory(&mut map);
-    let refused = emptied.try_reserve(29);
-    let rehashed = emptied.try_reserve(14);
+    let mut map = map_of(rt.alloc(), UnlimitedCompact);
+    reserve(&mut map, 7)?;
+    let hog = Hog::new(rt.alloc(), &[])?;
+    let succeed = succeed_without_memory(&mut map) && is_refused_and_given_back(&mut map);
     let all = hog.took_all();
     drop(hog);
-    assert!(rt; calls || !all);
+    assert!(rt; succeed || !all);
+    Ok(())
+}
+
+/// Nor does the rehash of an emptied table.
+#[test]
+fn a_rehash_of_no_pairs_takes_no_memory(rt: HostRuntime) -> Result<(), Fail> {
+    let limiter = Storing(Within::new(560));
+    let mut map = LruMap::with_hasher(rt.alloc(), limiter, LastByte(0), 16);
+    insert_all(&mut map, 1..=27)?;
+    remove_all(&mut map, 1..=27);
+    let hog = Hog::new(rt.alloc(), &[])?;
+    let (refused, rehashed) = (reserve(&mut map, 29), reserve(&mut map, 14));
+    drop(hog);
     assert_eq!(rt;
-        (refused, rehashed, figures(&emptied)),
+        (refused, rehashed, figures(&map)),
         (Err(ReserveError::Refused), Ok(()), (0, 28, 560))
     );
     Ok(())

@@ -1,13 +1,13 @@
 //! Keys and values of no bytes and of 4 KiB, and maps of many pairs. The contracts hold for every type and size. These
 //! tests show that such values are laid out and copied well, and that no call fails above some size.
-use schnellru::{LruMap, UnlimitedCompact};
+use schnellru::{ByCost, Insertion, LruMap, UnlimitedCompact};
+use std::alloc::Global;
 use std::test::Fail;
-use test_helpers::{figures, insert_all, map_of, remove_all, report};
+use test_helpers::{figures, insert_all, map_of, peek, remove_all, report, reserve, shrink};
 
 #[test]
-fn keys_and_values_of_no_bytes(rt: HostRuntime) -> Result<(), Fail> {
-    let alloc = rt.alloc();
-    let mut map: LruMap<(), u64, UnlimitedCompact> = LruMap::default(alloc);
+fn keys_of_no_bytes(rt: HostRuntime) -> Result<(), Fail> {
+    let mut map: LruMap<(), u64, UnlimitedCompact> = LruMap::default(rt.alloc());
     for n in 1..=5u64 {
         assert!(rt; map.insert((), n)?);
     }
@@ -15,8 +15,13 @@ fn keys_and_values_of_no_bytes(rt: HostRuntime) -> Result<(), Fail> {
         (map.len(), map.remove(&()), map.pop_oldest()),
         (1, Some(5), None)
     );
+    Ok(())
+}
+
+#[test]
+fn values_of_no_bytes(rt: HostRuntime) -> Result<(), Fail> {
     let mut map: LruMap<u64, (), UnlimitedCompact> = LruMap::new(
-        alloc,
+        rt.alloc(),
         UnlimitedCompact,
         [1, 2, 3, 4],
         0,
@@ -25,23 +30,31 @@ fn keys_and_values_of_no_bytes(rt: HostRuntime) -> Result<(), Fail> {
         assert!(rt; map.insert(n, ())?);
     }
     assert_eq!(rt; (figures(&map), report(&map)), ((7, 7, 24), (3, 7)));
-    assert!(rt; map.get(&1).is_some());
     assert_eq!(rt;
-        (map.pop_oldest(), map.pop_newest()),
-        (Some((2, ())), Some((1, ())))
+        (map.promote(&1), map.pop_oldest(), map.pop_newest()),
+        (true, Some((2, ())), Some((1, ())))
     );
-    let mut map: LruMap<(), (), UnlimitedCompact> = LruMap::default(alloc);
+    Ok(())
+}
+
+#[test]
+fn pairs_of_no_bytes(rt: HostRuntime) -> Result<(), Fail> {
+    let mut map: LruMap<(), (), UnlimitedCompact> = LruMap::default(rt.alloc());
     assert!(rt; map.insert((), ())? && map.insert((), ())?);
     assert_eq!(rt; (map.iter().len(), map.drain().next()), (1, Some(((), ()))));
     Ok(())
 }
 
-/// 4 KiB.
 type Page = [u8; 4096];
 
 /// A page with this number in each byte.
 fn page(n: u8) -> Page {
     [n; 4096]
+}
+
+/// Whether the page of this number is there, with its value.
+fn has_page(map: &LruMap<Page, Page, UnlimitedCompact>, n: u8) -> bool {
+    map.peek(&page(n)) == Some(&page(n.wrapping_add(100)))
 }
 
 #[test]
@@ -56,34 +69,52 @@ fn keys_and_values_of_4_kib(rt: HostRuntime) -> Result<(), Fail> {
         assert!(rt; map.insert(page(n), page(n.wrapping_add(100)))?);
     }
     assert_eq!(rt; (map.len(), report(&map)), (15, (24, 15)));
-    assert!(rt; (1..=15u8).all(|n| map.peek(&page(n)) == Some(&page(n.wrapping_add(100)))));
-    assert!(rt; map.peek(&page(16)).is_none() && map.remove(&page(7)) == Some(page(107)));
+    assert!(rt; (1..=15u8).all(|n| has_page(&map, n)) && !has_page(&map, 16));
+    assert!(rt; map.remove(&page(7)) == Some(page(107)));
     assert!(rt; map.pop_oldest() == Some((page(1), page(101))));
     Ok(())
 }
 
-const MANY: u64 = 1_000_000;
+/// Fills a table of `n` pairs, replaces half of them by twice as many, copies the table, shrinks it, reserves space and
+/// drains it. Returns the capacity after each step, the length of the copy, and how many pairs the drain passes.
+fn capacities<L: Insertion<u64, u64, u64> + Clone + Drop>(
+    alloc: Global,
+    limiter: L,
+    n: u64,
+) -> Result<[usize; 6], Fail> {
+    let mut map = map_of(alloc, limiter);
+    let mut found = [0usize; 6];
+    insert_all(&mut map, 1..=n)?;
+    found[0] = map.guaranteed_capacity();
+    remove_all(&mut map, 1..=n / 2);
+    insert_all(&mut map, n..=n.saturating_mul(2))?;
+    found[1] = map.guaranteed_capacity();
+    let copy = map.clone()?;
+    found[2] = if peek(&copy, n) == peek(&map, n) {
+        copy.len()
+    } else {
+        0
+    };
+    drop(copy);
+    remove_all(&mut map, n..=n.saturating_mul(2));
+    shrink(&mut map)?;
+    found[3] = map.guaranteed_capacity();
+    reserve(&mut map, n as usize)?;
+    found[4] = map.guaranteed_capacity();
+    found[5] = map.drain().count();
+    Ok(found)
+}
 
-/// A table of 2^21 buckets is filled, copied, enlarged and shrunk, and its pairs are drained.
+/// Tables of 2^21 buckets with links of 32 bits, and of 2^18 with links of 64 bits.
 #[test]
 fn many_pairs(rt: HostRuntime) -> Result<(), Fail> {
-    let mut map = map_of(rt.alloc(), UnlimitedCompact);
-    assert_eq!(rt; insert_all(&mut map, 1..=MANY)?, MANY);
-    assert_eq!(rt; map.guaranteed_capacity(), 1_835_008);
-    let copy = map.clone()?;
     assert_eq!(rt;
-        (copy.len(), copy.peek(&MANY).copied()),
-        (1_000_000, Some(10_000_000))
+        capacities(rt.alloc(), UnlimitedCompact, 917_504)?,
+        [917_504, 1_835_008, 1_376_256, 458_752, 1_835_008, 458_751]
     );
-    drop(copy);
-    remove_all(&mut map, 1..=500_000);
-    assert_eq!(rt; map.try_reserve(2_000_000), Ok(()));
-    assert_eq!(rt; (map.len(), map.shrink_to_fit()), (500_000, Ok(true)));
-    assert_eq!(rt; map.guaranteed_capacity(), 917_504);
-    let mut drained = 0u64;
-    for _ in map.drain() {
-        drained = drained.wrapping_add(1);
-    }
-    assert_eq!(rt; drained, 500_000);
+    assert_eq!(rt;
+        capacities(rt.alloc(), ByCost::new(u64::MAX), 114_688)?,
+        [114_688, 229_376, 172_032, 57_344, 229_376, 57_343]
+    );
     Ok(())
 }

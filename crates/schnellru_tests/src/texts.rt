@@ -14,18 +14,15 @@ fn debug(rt: HostRuntime) -> Result<(), Fail> {
 
 #[test]
 fn refusals(rt: HostRuntime) -> Result<(), Fail> {
-    let alloc = rt.alloc();
-    for (error, number, text) in [
-        (ReserveError::TooLarge, 1u8, "too large"),
-        (ReserveError::Refused, 2, "refused"),
-        (ReserveError::Memory, 3, "no memory"),
-    ] {
-        let shown = format!(in alloc; "{error}")?;
-        assert_eq!(rt; (error as u8, shown.as_str()), (number, text));
-    }
+    let (large, refused) = (ReserveError::TooLarge, ReserveError::Refused);
+    let none = ReserveError::Memory;
     let failed: GetOrInsertError<u8> = GetOrInsertError::Caller(1);
     let memory: GetOrInsertError<u8> = GetOrInsertError::Memory;
-    let text = format!(in alloc; "{failed}, {memory}")?;
-    assert_eq!(rt; text.as_str(), "the closure failed, no memory");
+    let text = format!(in rt.alloc(); "{large}, {refused}, {none}; {failed}, {memory}")?;
+    assert_eq!(rt;
+        text.as_str(),
+        "too large, refused, no memory; the closure failed, no memory"
+    );
+    assert_eq!(rt; [large as u8, refused as u8, none as u8], [1, 2, 3]);
     Ok(())
 }

@@ -1,5 +1,5 @@
 //! Maps from numbers to numbers, and what a test looks at in them.
-use schnellru::{ByCost, Insertion, Limiter, LruMap, RandomState};
+use schnellru::{ByCost, Insertion, Limiter, LruMap, RandomState, ReserveError};
 use std::alloc::{AllocError, Global};
 use std::hash::{BuildHasher, Hash};
 use std::ops::RangeInclusive;
@@ -48,6 +48,29 @@ pub fn get<L: Limiter<u64, u64>, S: BuildHasher>(
     map.get(&key).copied()
 }
 
+/// The value of a key, whose pair stays in its place.
+pub fn peek<L: Limiter<u64, u64>, S: BuildHasher>(
+    map: &LruMap<u64, u64, L, S>,
+    key: u64,
+) -> Option<u64> {
+    map.peek(&key).copied()
+}
+
+/// Makes space for this many more pairs.
+pub fn reserve<L: Limiter<u64, u64>, S: BuildHasher>(
+    map: &mut LruMap<u64, u64, L, S>,
+    n: usize,
+) -> Result<(), ReserveError> {
+    map.try_reserve(n)
+}
+
+/// Moves the pairs into as few buckets as hold them, and returns whether that are fewer.
+pub fn shrink<L: Limiter<u64, u64>, S: BuildHasher>(
+    map: &mut LruMap<u64, u64, L, S>,
+) -> Result<bool, AllocError> {
+    map.shrink_to_fit()
+}
+
 /// The pairs, newest first.
 pub fn pairs<L: Limiter<u64, u64>, S: BuildHasher>(
     alloc: Global,
@@ -58,21 +81,6 @@ pub fn pairs<L: Limiter<u64, u64>, S: BuildHasher>(
         pairs.push((*key, *value))?;
     }
     Ok(pairs)
-}
-
-/// The keys of the newest and of the oldest pair.
-pub fn ends<L: Limiter<u64, u64>, S: BuildHasher>(
-    map: &LruMap<u64, u64, L, S>,
-) -> (Option<u64>, Option<u64>) {
-    let mut newest = None;
-    let mut oldest = None;
-    for (key, _) in map.iter() {
-        if newest.is_none() {
-            newest = Some(*key);
-        }
-        oldest = Some(*key);
-    }
-    (newest, oldest)
 }
 
 /// Whether the pairs are those of the numbers from the newest down to the oldest one.

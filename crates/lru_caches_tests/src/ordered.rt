@@ -1,0 +1,23 @@
+//! An ordered map that runs out of memory.
+use lru_caches::OrderedMap;
+use std::test::Fail;
+use test_helpers::Hog;
+
+// The table of three entries is full. A new key fails and changes nothing, and a key that is there needs no memory.
+#[test]
+fn an_ordered_map_runs_out_of_memory(rt: HostRuntime) -> Result<(), Fail> {
+    let mut map = OrderedMap::new(rt.alloc());
+    for n in 0..3u64 {
+        map.insert(n, 10)?;
+    }
+    let hog = Hog::new(rt.alloc(), &[])?;
+    let refused = map.insert(3, 13).is_err();
+    let replaced = map.insert(1, 11);
+    let all = hog.took_all();
+    drop(hog);
+    assert_eq!(rt; replaced, Ok(Some(10)));
+    assert!(rt; (refused || !all) && map.contains(&3) != refused);
+    map.insert(3, 13)?;
+    assert!(rt; map.first() == Some((&0, &10)) && map.last() == Some((&3, &13)) && map.len() == 4);
+    Ok(())
+}
