@@ -1,6 +1,6 @@
 #!/usr/bin/env python3
 """Runs the gate from nothing, and prints the processor minutes that each crate takes: its proof, its tests, its must-fail
-edits, and its runs. `bench/gate_times.py [COMMAND ..]` runs another command in place of `rt ci --anew`.
+edits, and its runs. `bench/gate_times.py [COMMAND ..]` runs another command in place of `rt ci`.
 
 It reads the processor time of each process below the command every half second, so the last half second of a process is
 not counted."""
@@ -66,7 +66,7 @@ def look(top, times, parts):
 
 def main():
     begin = time.time()
-    gate = subprocess.Popen(sys.argv[1:] or ["rt", "ci", "--anew"])
+    gate = subprocess.Popen(sys.argv[1:] or ["rt", "ci"])
     times, parts = {}, {}
     while gate.poll() is None:
         look(gate.pid, times, parts)
