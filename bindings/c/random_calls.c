@@ -1,6 +1,6 @@
 /* Compares random calls on a map with a plain list. Ends with 1 at the first difference.
  *
- * random_calls CALLS: so many calls for each of eight maximum lengths, twice; in the second pass each third call of
+ * random_calls CALLS: that number of calls for each of eight maximum lengths, twice; in the second pass each third call of
  * malloc is refused. It is linked with --wrap=malloc. */
 #include "lru.h"
 #include <stdio.h>
