@@ -50,7 +50,7 @@ module _ {K V S H I : Type 0} (rules : Rules K V S) (offers : Offers K V S I) (n
   abbrev pub StepOrWrite : State K V S H → State K V S H → Type 0
   StepOrWrite old new = Step old new ⊎ ((test : K → Bool) × (value : V) × (new ≡ written test value old))
 
-  -- the call names, or rejects in a retain, keys that pass the test alone, and does not pop the newest pair
+  -- The call names only keys that pass the test, and does not pop the newest pair. A retain names those that it rejects.
   abbrev pub NamesOnly : (test : K → Bool) → (old new : State K V S H) → AnyStep old new → Type 0
   NamesOnly test old new (calls (inserts key value result h)) = AreAmong (names key) test
   NamesOnly test old new (calls (makes_newest value key result h)) = AreAmong (names key) test

@@ -117,8 +117,8 @@ pub fn calls_add_one_pair<
 /// A call evicts from the old end alone: of the pairs whose keys it does not name, those that it leaves are the newest,
 /// in their order. Only `pop_newest` takes from the other end, and is left out.
 ///
-/// A call names the key that it inserts, looks up or removes, or whose value it writes. An insert may remove the pair
-/// of that key too: if its replacement is rejected.
+/// A call names the key that it inserts, looks up or removes, or whose value it writes, and a retain names the keys that
+/// its closure rejects. An insert may remove the pair of its key, too, if the replacement is rejected.
 pub fn calls_give_up_the_oldest<
     K: Eq + Hash,
     V,
