@@ -87,8 +87,8 @@ impl<T> Table<T> {
     /// Makes a table of `buckets` empty buckets: none, or a power of two from 4 on, and with 16 more at most
     /// `isize::MAX`.
     ///
-    /// It takes a byte for each bucket and 16 more for the control bytes, and the bytes of a `T` for each bucket for
-    /// the entries, each in one request. It takes time O(buckets). No buckets take no memory.
+    /// It takes the bytes of a `T` for each bucket for the entries, and then a byte for each bucket and 16 more for the
+    /// control bytes, each in one request. It takes time O(buckets). No buckets take no memory.
     ///
     /// # Errors
     ///
@@ -105,8 +105,15 @@ impl<T> Table<T> {
         if buckets == 0 {
             return Ok(Table::new(alloc));
         }
-        let control = Control::with_buckets(alloc, buckets)?;
+        // The entries first, so that a table too large for the memory is refused before a byte is written.
         let entries = Entries::with_places(alloc, buckets)?;
+        let control = match Control::with_buckets(alloc, buckets) {
+            Ok(control) => control,
+            Err(error) => {
+                entries.free(buckets);
+                return Err(error);
+            }
+        };
         Ok(Table {
             control,
             entries,

@@ -92,10 +92,10 @@ fn many_buckets(rt: HostRuntime) -> Result<(), Fail> {
 #[test]
 fn each_request_is_refused(rt: HostRuntime) -> Result<(), Fail> {
     // The buckets, the entries that are left of a full table, the buckets to which they are moved, and the requests:
-    // control bytes and entries of 16 buckets, and links if there are entries; for a rehash links and control bytes.
+    // entries and control bytes of 16 buckets, and links if there are entries; for a rehash links and control bytes.
     let rows: [(usize, usize, usize, &[usize]); 4] = [
-        (8, 7, 16, &[32, 128, 32]),
-        (8, 0, 16, &[32, 128]),
+        (8, 7, 16, &[128, 32, 32]),
+        (8, 0, 16, &[128, 32]),
         (8, 7, 8, &[32, 24]),
         (32, 14, 32, &[128, 48]),
     ];

@@ -12,20 +12,20 @@ counts n (inr power) some = inr (power, refl)
 pub invariant_of-result : goal.invariant_of-result
 invariant_of-result g c =
     let n = c.args.buckets in
-    rw (c.in_ok-control.ensures, c.in_ok-entries.ensures, c.full_capacity.ensures) (
+    rw (c.in-Ok.ensures, c.in_ok-entries.ensures, c.full_capacity.ensures) (
       IsValid-fresh g.row.T.Denot n (n + 16) (counts n c.requires.count c.if-buckets-eq0.false) c.requires.addressable,
       sym (entry_count-fresh g.row.T.Denot n (n + 16) (omega arith)),
     )
 
 pub returns-clause-slots : goal.returns-clause-slots
 returns-clause-slots g c =
-    rw (c.in_ok-control.ensures, c.in_ok-entries.ensures)
+    rw (c.in-Ok.ensures, c.in_ok-entries.ensures)
     (slots_of-fresh g.row.T.Denot c.args.buckets (c.args.buckets + 16) (omega arith))
 
 pub returns-clause-table : goal.returns-clause-table
 returns-clause-table g c =
     let n = c.args.buckets in
-    rw (c.in_ok-control.ensures, c.in_ok-entries.ensures)
+    rw (c.in-Ok.ensures, c.in_ok-entries.ensures)
     (IsTable-by _ _ _
     (IsValid-fresh g.row.T.Denot n (n + 16) (counts n c.requires.count c.if-buckets-eq0.false)
     c.requires.addressable))
