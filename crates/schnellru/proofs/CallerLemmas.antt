@@ -1,7 +1,7 @@
 -- For who proves a caller of a map. With HandingLemmas, the only lemmas of this crate that another crate cites.
 --     read_back            a get through which nothing is written brings the pair to the front, and no more
 --     promoted-summed      and keeps the sum of the costs
---     promoted-absent      if nothing is found, nothing comes to the front
+--     promoted-absent, demoted-absent      if nothing is found, nothing comes to the front, or to the back
 --     written-absent       if nothing is found, a write changes nothing
 --     written-found        after a value was written through a get, a look-up finds it
 --     read-all             what holds of each pair holds of each after a get through which nothing is written
@@ -62,7 +62,8 @@ pub use Rattle.schnellru.proofs.Theorems.SmallCalls.{clears, cleared_shape, is_m
 pub use Rattle.schnellru.proofs.Theorems.SmallCalls.{shrinks_look_alike}
 use Rattle.std.proofs.Common.{◌≡◌, ℕ, Bool, true, false, cond, List, [], ◌∷◌, ◌++◌, refl, sym, ap, ◌∙◌, subst}
 use Rattle.std.proofs.Common.{Option, Some, None, Result, Ok, Err}
-use Rattle.std.specs.Prelude.{IfSome, option_map, unwrap_or}
+use Rattle.std.proofs.lemmas.List.{append-nil}
+use Rattle.std.specs.Prelude.{IfSome, option_map, unwrap_or, option_to_list}
 use Rattle.std.specs.Cmp.{IsEquivalence}
 use Rattle.std.specs.List.{All}
 use Rattle.std.specs.Map.{set_value}
@@ -73,10 +74,10 @@ use Rattle.std.specs.declared.alloc.AllocError.{AllocError}
 use Rattle.lru_limits.specs.Rules.{Rules, Offers}
 use Rattle.lru_limits.specs.Budget.{by_weight, weighs, by_cost, charges, can_add}
 use Rattle.lru_limits.specs.Stores.{plain, hands_over, given-is}
-use Rattle.schnellru.specs.Lists.{first, without_first, lookup, lookup_entry, without, after, front}
-use Rattle.schnellru.specs.Lists.{place_of, other_places, front_places}
+use Rattle.schnellru.specs.Lists.{first, without_first, lookup, lookup_entry, without, after, front, back}
+use Rattle.schnellru.specs.Lists.{place_of, other_places, front_places, back_places}
 use Rattle.schnellru.specs.State.{State}
-use Rattle.schnellru.specs.Calls.{promoted, written}
+use Rattle.schnellru.specs.Calls.{promoted, demoted, written}
 use Rattle.schnellru.specs.Exact.{IsDetermined, NeverLacks, AlwaysGrants}
 use Rattle.schnellru.specs.Theorems.{SaysWhether, Stores, KeepsValues, IsSummed, GivesUp, behind, with_none}
 use Rattle.schnellru.specs.Theorems.{without_one}
@@ -94,38 +95,51 @@ module _ {K V : Type 0} (names : K → Bool) where
           ap (λ b. cond b (Some p.1) (lookup names (without names xs))) (found_named names xs p e)
           ∙ sym (lookup-entry names xs ∙ ap (option_map (λ p. p.1)) e)
 
-  front-none : (xs : List (K × V)) → lookup names xs ≡ None → front names xs ≡ xs
-  front-none xs none = go (lookup_entry names xs) refl
-    where
-      go : (o : Option (K × V)) → lookup_entry names xs ≡ o → after o (without names xs) ≡ xs
-      go None e = without_none names xs e
-      go (Some p) e = absurd (none-some p.1 (sym none ∙ lookup-entry names xs ∙ ap (option_map (λ p. p.1)) e))
+  -- nothing is found
+  module _ (xs : List (K × V)) (none : lookup names xs ≡ None) where
+    no_entry : lookup_entry names xs ≡ None
+    no_entry = go (lookup_entry names xs) refl
+      where
+        go : (o : Option (K × V)) → lookup_entry names xs ≡ o → o ≡ None
+        go None e = refl
+        go (Some p) e = absurd (none-some p.1 (sym none ∙ lookup-entry names xs ∙ ap (option_map (λ p. p.1)) e))
 
-  places-none : (xs : List (K × V)) (places : List ℕ) → lookup names xs ≡ None → front_places names xs places ≡ places
-  places-none xs places none =
-      (λ i. after (of_none xs places none i) (other_places names xs places)) ∙ others xs places none
-    where
-      of_none : (xs : List (K × V)) (places : List ℕ) → lookup names xs ≡ None → place_of names xs places ≡ None
-      of_none [] places none = refl
-      of_none (x ∷ xs) [] none = refl
-      of_none (x ∷ xs) (b ∷ places) none = go (names x.0) none (λ h. of_none xs places h)
-        where
-          go : (y : Bool) → cond y (Some x.1) (lookup names xs) ≡ None
-              → (lookup names xs ≡ None → place_of names xs places ≡ None)
-              → cond y (Some b) (place_of names xs places) ≡ None
-          go true e r = absurd cc
-          go false e r = r e
+    front-none : front names xs ≡ xs
+    front-none = ap (λ o. after o (without names xs)) no_entry ∙ without_none names xs no_entry
 
-      others : (xs : List (K × V)) (places : List ℕ) → lookup names xs ≡ None → other_places names xs places ≡ places
-      others [] places none = refl
-      others (x ∷ xs) [] none = refl
-      others (x ∷ xs) (b ∷ places) none = go (names x.0) none (λ h. others xs places h)
-        where
-          go : (y : Bool) → cond y (Some x.1) (lookup names xs) ≡ None
-              → (lookup names xs ≡ None → other_places names xs places ≡ places)
-              → cond y places (b ∷ other_places names xs places) ≡ b ∷ places
-          go true e r = absurd cc
-          go false e r = ap (λ bs. b ∷ bs) (r e)
+    back-none : back names xs ≡ xs
+    back-none = ap (λ o. without names xs ++ option_to_list o) no_entry ∙ append-nil (without names xs)
+        ∙ without_none names xs no_entry
+
+  no_place : (xs : List (K × V)) (places : List ℕ) → lookup names xs ≡ None → place_of names xs places ≡ None
+  no_place [] places none = refl
+  no_place (x ∷ xs) [] none = refl
+  no_place (x ∷ xs) (b ∷ places) none = go (names x.0) none (λ h. no_place xs places h)
+    where
+      go : (y : Bool) → cond y (Some x.1) (lookup names xs) ≡ None
+          → (lookup names xs ≡ None → place_of names xs places ≡ None)
+          → cond y (Some b) (place_of names xs places) ≡ None
+      go true e r = absurd cc
+      go false e r = r e
+
+  all_others : (xs : List (K × V)) (places : List ℕ) → lookup names xs ≡ None → other_places names xs places ≡ places
+  all_others [] places none = refl
+  all_others (x ∷ xs) [] none = refl
+  all_others (x ∷ xs) (b ∷ places) none = go (names x.0) none (λ h. all_others xs places h)
+    where
+      go : (y : Bool) → cond y (Some x.1) (lookup names xs) ≡ None
+          → (lookup names xs ≡ None → other_places names xs places ≡ places)
+          → cond y places (b ∷ other_places names xs places) ≡ b ∷ places
+      go true e r = absurd cc
+      go false e r = ap (λ bs. b ∷ bs) (r e)
+
+  module _ (xs : List (K × V)) (places : List ℕ) (none : lookup names xs ≡ None) where
+    front_places-none : front_places names xs places ≡ places
+    front_places-none = (λ i. after (no_place xs places none i) (all_others xs places none i))
+
+    back_places-none : back_places names xs places ≡ places
+    back_places-none = (λ i. all_others xs places none i ++ option_to_list (no_place xs places none i))
+        ∙ append-nil places
 
   set-none : (xs : List (K × V)) (w : V) → lookup names xs ≡ None → set_value names xs w ≡ xs
   set-none [] w none = refl
@@ -277,7 +291,11 @@ module _ {K V S H : Type 0} (names : K → Bool) (st : State K V S H) where
 
   pub promoted-absent : lookup names st.pairs ≡ None → promoted names st ≡ st
   promoted-absent none = λ i.
-      record st { pairs = front-none names st.pairs none i; places = places-none names st.pairs st.places none i }
+      record st { pairs = front-none names st.pairs none i; places = front_places-none names st.pairs st.places none i }
+
+  pub demoted-absent : lookup names st.pairs ≡ None → demoted names st ≡ st
+  demoted-absent none = λ i.
+      record st { pairs = back-none names st.pairs none i; places = back_places-none names st.pairs st.places none i }
 
   pub written-absent : (value : V) → lookup names st.pairs ≡ None → written names value st ≡ st
   written-absent value none = ap (λ pairs. record st { pairs = pairs }) (set-none names st.pairs value none)

@@ -4,3 +4,4 @@ pub mod LinkWrites
 pub mod WholeChains
 pub mod LinkReads
 pub mod MovedChain
+pub mod LastBuckets

@@ -3,6 +3,7 @@ pub mod Outcomes
 pub mod Promotions
 pub mod Fields
 pub mod NotedStates
+pub mod Offers
 pub mod Trims
 pub mod Retains
 pub mod HeldMaps

@@ -8,6 +8,7 @@ pub mod Landings
 pub mod Searches
 pub mod Writes
 pub mod NewestPair
+pub mod LastPair
 pub mod PairSlots
 pub mod KeyHashes
 pub mod Relocations

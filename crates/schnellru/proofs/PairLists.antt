@@ -1,4 +1,5 @@
 pub mod DistinctKeys
 pub mod NamedPairs
+pub mod SetEntries
 pub mod NamedPlaces
 pub mod Emptiness

@@ -5,13 +5,18 @@ use Rattle.std.specs.Prelude.{◌≡◌, Bool, [], Option, Some, None, option_ma
 use Rattle.std.specs.Map.{set_value}
 use Rattle.group_table.specs.Bucket.{empty}
 use Rattle.lru_limits.specs.Rules.{Rules}
-use Rattle.schnellru.specs.Lists.{first, last, without_first, lookup, lookup_entry, without, front, front_places}
+use Rattle.schnellru.specs.Lists.{first, last, without_first, lookup, lookup_entry, without, front, front_places, back}
+use Rattle.schnellru.specs.Lists.{back_places}
 use Rattle.schnellru.specs.State.{State, buckets, Contents, contents, Leaves, told_of, pop}
 
 module _ {K V S H : Type 0} where
   -- the pair of the named key comes first
   abbrev pub promoted : (K → Bool) → State K V S H → State K V S H
   promoted names st = record st { pairs = front names st.pairs; places = front_places names st.pairs st.places }
+
+  -- the pair of the named key comes last
+  abbrev pub demoted : (K → Bool) → State K V S H → State K V S H
+  demoted names st = record st { pairs = back names st.pairs; places = back_places names st.pairs st.places }
 
   -- the named key has this value
   abbrev pub written : (K → Bool) → V → State K V S H → State K V S H

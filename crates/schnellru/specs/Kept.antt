@@ -2,7 +2,7 @@
 --     rules, offers       what the limiter says (`Rules`, `Offers` of `lru_limits`)
 --     names i k           the inserted key i names the key k
 use Rattle.std.specs.Prelude.{◌≡◌, ℕ, ◌+◌, ◌-◌, ◌≤◌, ◌<◌, Bool, true, false, not, List, [], ◌∷◌, ◌++◌, length, reverse}
-use Rattle.std.specs.Prelude.{take, nat_lt, Option, Some, None, unwrap_or, option_map, Result, Ok, IsOk, IsErr, OnOk}
+use Rattle.std.specs.Prelude.{take, fold, nat_lt, Option, Some, None, unwrap_or, option_map, Result, Ok, IsOk, IsErr, OnOk}
 use Rattle.std.specs.Prelude.{OnErr}
 use Rattle.std.specs.declared.alloc.AllocError.{AllocError}
 use Rattle.lru_limits.specs.Rules.{Rules, Offers}
@@ -84,6 +84,11 @@ module _ {K V S I : Type 0} (rules : Rules K V S) (offers : Offers K V S I) (nam
 -- the stored key that is named, if there is one, and else the inserted key
 abbrev pub stored_key : {K V : Type 0} → (K → Bool) → K → List (K × V) → K
 stored_key names key pairs = unwrap_or (option_map (λ pair. pair.0) (lookup_entry names pairs)) key
+
+-- what is left of these pairs, newest first, at most n, after others were inserted one after another
+abbrev pub newest_after : {K V : Type 0} → (K → K → Bool) → ℕ → List (K × V) → List (K × V) → List (K × V)
+newest_after eq most inserted old = fold
+    (λ left pair. take most ((stored_key (eq pair.0) pair.0 left, pair.1) ∷ without (eq pair.0) left)) old inserted
 
 -- What an insert leaves with a maximum length: the new pair first, and then the newest of the others, up to that
 -- length. Out of memory, it leaves those others alone.

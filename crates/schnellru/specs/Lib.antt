@@ -5,6 +5,7 @@ pub mod Place
 pub mod Calls
 pub mod Pops
 pub mod Inserts
+pub mod Extends
 pub mod HandedOver
 pub mod Reservations
 pub mod Shrinks
@@ -21,3 +22,4 @@ pub mod Clones
 pub mod Runs
 pub mod Walks
 pub mod Retains
+pub mod Updates

@@ -1,6 +1,6 @@
 -- Words on lists of pairs, newest first.
 use Rattle.std.specs.Prelude.{◌≡◌, ℕ, zero, suc, Bool, true, false, if◌then◌else◌, List, [], ◌∷◌, ◌++◌, Option, Some}
-use Rattle.std.specs.Prelude.{None, slice_get}
+use Rattle.std.specs.Prelude.{None, slice_get, option_to_list}
 pub use Rattle.std.specs.Map.{lookup, lookup_entry, remove_entry as without, keys_of}
 
 module _ {X : Type 0} where
@@ -50,6 +50,10 @@ module _ {K V : Type 0} where
   abbrev pub front : (K → Bool) → List (K × V) → List (K × V)
   front names pairs = after (lookup_entry names pairs) (without names pairs)
 
+  -- the others in their order, and then the pair of the named key
+  abbrev pub back : (K → Bool) → List (K × V) → List (K × V)
+  back names pairs = without names pairs ++ option_to_list (lookup_entry names pairs)
+
   -- among the places of the pairs, that of the named one
   abbrev pub place_of : (K → Bool) → List (K × V) → List ℕ → Option ℕ
   place_of names [] places = None
@@ -65,6 +69,15 @@ module _ {K V : Type 0} where
   -- that of the named pair first, and then the others in their order
   abbrev pub front_places : (K → Bool) → List (K × V) → List ℕ → List ℕ
   front_places names pairs places = after (place_of names pairs places) (other_places names pairs places)
+
+  -- those of the others in their order, and then that of the named pair
+  abbrev pub back_places : (K → Bool) → List (K × V) → List ℕ → List ℕ
+  back_places names pairs places = other_places names pairs places ++ option_to_list (place_of names pairs places)
+
+  -- with this pair in place of that of the named key
+  abbrev pub set_entry : (K → Bool) → K × V → List (K × V) → List (K × V)
+  set_entry names entry [] = []
+  set_entry names entry (pair ∷ pairs) = if names pair.0 then entry ∷ pairs else pair ∷ set_entry names entry pairs
 
   -- the value of the first pair
   abbrev pub newest_value : List (K × V) → Option V

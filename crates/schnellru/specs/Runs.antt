@@ -6,13 +6,15 @@ use Rattle.std.specs.Prelude.{◌≡◌, ◌⊎◌, ℕ, Bool, true, false, List
 use Rattle.std.specs.declared.alloc.AllocError.{AllocError}
 use Rattle.lru_limits.specs.Rules.{Rules, Offers}
 use Rattle.schnellru.specs.State.{State, IsSized, Leaves, Trims}
-use Rattle.schnellru.specs.Calls.{promoted, written, Remove, PopOldest, PopNewest, cleared}
+use Rattle.schnellru.specs.Calls.{promoted, demoted, written, Remove, PopOldest, PopNewest, cleared}
 use Rattle.schnellru.specs.Drains.{Drained}
 use Rattle.schnellru.specs.GetOrInserts.{MakesNewest}
 use Rattle.schnellru.specs.Inserts.{Insert}
 use Rattle.schnellru.specs.Reservations.{Reserve}
 use Rattle.schnellru.specs.Retains.{retained}
 use Rattle.schnellru.specs.Shrinks.{Shrink}
+use Rattle.schnellru.specs.Updates.{Update}
+use Rattle.schnellru.specs.declared.map.update.Updated.{Updated}
 use Rattle.schnellru.specs.declared.map.reserve.ReserveError.{ReserveError}
 
 -- each key that is named passes the test
@@ -28,7 +30,10 @@ module _ {K V S H I : Type 0} (rules : Rules K V S) (offers : Offers K V S I) (n
         → Insert rules offers names hash_of key value old result new → Step old new
     makes_newest : (value : V) (key : I) (result : Result Bool AllocError) →
         MakesNewest rules offers names hash_of (λ made. made ≡ value) key old result new → Step old new
+    updates : (key : I) (value : V) (result : Updated V) → Update rules offers names key value old result new
+        → Step old new
     gets : (key : I) → new ≡ promoted (names key) old → Step old new
+    demotes : (key : I) → new ≡ demoted (names key) old → Step old new
     removes : (test : K → Bool) (result : Option V) → Remove rules test old result new → Step old new
     pops_oldest : (result : Option (K × V)) → PopOldest rules old result new → Step old new
     pops_newest : (result : Option (K × V)) → PopNewest rules old result new → Step old new
@@ -54,7 +59,9 @@ module _ {K V S H I : Type 0} (rules : Rules K V S) (offers : Offers K V S I) (n
   abbrev pub NamesOnly : (test : K → Bool) → (old new : State K V S H) → AnyStep old new → Type 0
   NamesOnly test old new (calls (inserts key value result h)) = AreAmong (names key) test
   NamesOnly test old new (calls (makes_newest value key result h)) = AreAmong (names key) test
+  NamesOnly test old new (calls (updates key value result h)) = AreAmong (names key) test
   NamesOnly test old new (calls (gets key e)) = AreAmong (names key) test
+  NamesOnly test old new (calls (demotes key e)) = AreAmong (names key) test
   NamesOnly test old new (calls (removes named result h)) = AreAmong named test
   NamesOnly test old new (calls (pops_newest result h)) = ⊥
   NamesOnly test old new (calls (retains asked each h)) =

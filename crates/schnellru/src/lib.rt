@@ -20,6 +20,7 @@ pub use map::get_or_insert::GetOrInsertError;
 pub use map::insert::Inserted;
 pub use map::report::MoveReport;
 pub use map::reserve::ReserveError;
+pub use map::update::Updated;
 pub use map::{DEFAULT_ENTRY_BYTES, LruMap};
 pub use walk::drain::Drain;
 pub use walk::into_iter::IntoIter;

@@ -13,14 +13,16 @@ use std::marker::Model;
 
 mod by_hash;
 mod clone;
+mod equal;
+mod extend;
 mod figures;
 mod find;
 pub(crate) mod get_or_insert;
 pub(crate) mod insert;
 mod leave;
 mod look_up;
+mod offer;
 mod pop_if;
-mod replace;
 pub(crate) mod report;
 pub(crate) mod reserve;
 mod resize;
@@ -28,6 +30,7 @@ mod retain;
 mod shrink;
 mod store;
 mod trim;
+pub(crate) mod update;
 
 /// The bytes of an entry that `LruMap::default` assumes.
 pub const DEFAULT_ENTRY_BYTES: usize = 32;

@@ -2,7 +2,7 @@
 //!
 //! Each entry has links to its newer and its older neighbour, so a promotion or a removal walks nowhere. A contract
 //! sees an `OrderedTable` as its `slots` and the `order` of the full ones.
-ghost use Rattle.std.specs.Prelude.{◌≡◌, ◌≢◌, ℕ, ◌+◌, ◌^◌, ◌<◌, ◌≤◌, false, [], ◌∷◌, length, Some, None, IfSome};
+ghost use Rattle.std.specs.Prelude.{◌≡◌, ◌≢◌, ℕ, ◌+◌, ◌^◌, ◌<◌, ◌≤◌, false, [], ◌∷◌, ◌++◌, length, Some, None, IfSome};
 ghost use Rattle.std.specs.Prelude.{IfNone, IfOk, IfErr, OnOk, OnErr, IsOk, IsTrue, replicate, slice_set};
 ghost use Rattle.std.specs.Borrow.{sem};
 ghost use Rattle.group_table.specs.Sizes.{IsBucketCount, full_capacity};
@@ -210,6 +210,21 @@ impl<K, V, N: LinkType> OrderedTable<K, V, N> {
         }
         self.chain.unlink(b);
         self.chain.link_newest(b);
+    }
+
+    // Makes the pair in a full bucket the oldest.
+    pub(crate) fn demote(&mut self, b: usize)
+        requires { IsFull self.old.slots b }
+        ensures slots { self.new.slots ≡ self.old.slots }
+        ensures order { self.new.order ≡ without_bucket b self.old.order ++ b ∷ [] }
+        ensures placings { self.new.placings ≡ self.old.placings }
+        ensures linked { IsLinked self.new }
+    {
+        if self.chain.table.get(b).older == N::MAX {
+            return;
+        }
+        self.chain.unlink(b);
+        self.chain.link_oldest(b);
     }
 
     // Takes the pair out of a full bucket. If that is known to be the oldest (`last`), its older link is not read.

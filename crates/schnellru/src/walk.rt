@@ -1,5 +1,5 @@
 //! Walking the pairs of a map in their order of use.
-ghost use Rattle.std.specs.Prelude.{◌≡◌, ◌<◌, ◌^◌, length, Some, IfSome, ⊤};
+ghost use Rattle.std.specs.Prelude.{◌≡◌, ◌<◌, ◌^◌, length, slice_get, position, option_map, Some, IfSome, ⊤};
 ghost use Rattle.std.specs.Iterator.{at_most, UpTo};
 ghost use Rattle.std.specs.Iterator.SizeHint.{IsWithinCount};
 ghost use Rattle.std.specs.Map.Iter.{ShowsInOrder, ShowsInReverse, TakesFirst, TakesLast, deref_pair};
@@ -8,8 +8,9 @@ ghost use Rattle.schnellru.specs.State.{IsMap};
 use crate::map::LruMap;
 use crate::ordered::OrderedTable;
 use group_table::LinkType;
-use lru_limits::{KeyHasher, Limiter};
+use lru_limits::{KeyHasher, Limiter, LookupKey};
 use std::alloc::AllocError;
+use std::fmt;
 use std::hash::Hash;
 use std::iter::FusedIterator;
 use std::marker::Model;
@@ -126,6 +127,19 @@ impl<'a, K, V, N: LinkType> Clone for Walk<'a, K, V, N> {
     }
 }
 
+/// Shows the pairs that are left, newest first, as `[(2, 20), (1, 10)]`.
+impl<'a, K: fmt::Debug, V: fmt::Debug, N: LinkType> fmt::Debug for Walk<'a, K, V, N> {
+    fn fmt<W: fmt::Write>(&self, f: &mut fmt::Formatter<W>) -> fmt::Result {
+        let left = Walk {
+            entries: self.entries,
+            front: self.front,
+            back: self.back,
+            left: self.left,
+        };
+        f.debug_list().entries(left).finish()
+    }
+}
+
 impl<K: Eq + Hash, V, L: Limiter<K, V>, S: KeyHasher<K>> LruMap<K, V, L, S> {
     /// Returns an iterator over the pairs, newest first. The order stays.
     ///
@@ -151,6 +165,36 @@ impl<K: Eq + Hash, V, L: Limiter<K, V>, S: KeyHasher<K>> LruMap<K, V, L, S> {
             back: self.entries.last(),
             left: self.entries.len(),
         }
+    }
+
+    /// Returns the entry at this index in the order of use, counted from 0, the newest. The order stays.
+    ///
+    /// ```
+    /// assert!(rt; map.get_index(0) == Some((&3, &30)) && map.get_index(3).is_none());
+    /// ```
+    ///
+    /// Cost: `O(index)`.
+    ///
+    /// After `get_index` of the crate `indexmap`; schnellru has no such call.
+    pub fn get_index(&self, index: usize) -> Option<(&K, &V)>
+        ensures { option_map deref_pair result ≡ slice_get self.now.pairs index }
+    {
+        self.iter().nth(index)
+    }
+
+    /// Returns the index of a key in the order of use, counted from 0, the newest. The order stays.
+    ///
+    /// ```
+    /// assert_eq!(rt; (map.get_index_of(&1), map.get_index_of(&9)), (Some(2), None));
+    /// ```
+    ///
+    /// Cost: `O(n)` for n entries. `contains` says whether the key is there in `O(1)`.
+    ///
+    /// After `get_index_of` of the crate `indexmap`; schnellru has no such call.
+    pub fn get_index_of<Q: LookupKey<K>>(&self, key: &Q) -> Option<usize>
+        ensures { result ≡ position (λ pair. Q.names key.now pair.0) self.now.pairs }
+    {
+        self.iter().position(|(stored, _)| key.is_key(stored))
     }
 }
 

@@ -1,18 +1,19 @@
 -- What holds of a map if its limiter comes with a list of what was passed to the callback.
-use Rattle.std.proofs.Common.{◌≡◌, ℕ, ◌+◌, true, List, [], ◌∷◌, ◌++◌, length, Option, Some, None, refl, ap, ◌∙◌}
-use Rattle.std.proofs.Common.{arith}
+use Rattle.std.proofs.Common.{◌≡◌, ℕ, ◌+◌, Bool, true, false, List, [], ◌∷◌, ◌++◌, length, Option, Some, None, refl, ap, ◌∙◌}
+use Rattle.std.proofs.Common.{arith, sym, subst}
+use Rattle.std.proofs.lemmas.Bool.{true≢false, false≢true}
 use Rattle.std.proofs.lemmas.Option.{same_Some}
 use Rattle.std.proofs.lemmas.Fn.{FoldsTo-push}
 use Rattle.std.specs.Fn.{Mut, Called}
-use Rattle.lru_limits.specs.Rules.{Rules, Replaced}
-use Rattle.schnellru.specs.Lists.{last}
+use Rattle.lru_limits.specs.Rules.{Rules, Offers, Replaced, Told}
+use Rattle.schnellru.specs.Lists.{last, without, set_entry}
 use Rattle.schnellru.specs.State.{State, Contents, IsSized, FreesRoom, Leaves, contents, told_of, pop}
 use Rattle.schnellru.specs.Calls.{PopOldest, left_of}
 use Rattle.schnellru.specs.Place.{IsPlaced, HasNoBucket, IsOutgrown, turned_away}
-use Rattle.schnellru.specs.Inserts.{make_room}
-use Rattle.schnellru.specs.HandedOver.{noting, noted, Takes}
-use Rattle.schnellru.specs.Inside.OrderedTable.{OrderedTable}
-use Rattle.schnellru.specs.Inside.Steps.{IsReplaced, IsGivenUp}
+use Rattle.schnellru.specs.Inserts.{make_room, replacement}
+use Rattle.schnellru.specs.HandedOver.{noting, noting_offers, noted, Takes}
+use Rattle.schnellru.specs.Inside.Handing.{Hands, HandsGivenUp}
+use Rattle.schnellru.specs.Inside.Steps.{IsOffered}
 
 -- the sink was handed one pair more
 pub takes_more : {K V F : Type 0} (closure : Mut F (K × (V × Unit {0})) (Unit {0})) (first : F) (before : List (K × V))
@@ -63,6 +64,13 @@ module _ {K V S H : Type 0} where
     untouched = frees.untouched;
   }
 
+  pub noted_leaves : (before after : List (K × V)) (old new : State K V S H) (left : Contents K V S) → Leaves old left new
+      → Leaves (noted before old) (record { pairs = left.pairs; limiter = (left.limiter, after) }) (noted after new)
+  noted_leaves before after old new left leaves = record {
+    is = ap (noted after) leaves.is;
+    room = noted_room before after old new leaves.room;
+  }
+
 module _ {K V S : Type 0} (rules : Rules K V S) (before : List (K × V)) (s : S) (pair : K × V) where
   -- the pair that was answered goes to the list
   pub noted_told : (was : Option (K × V)) → Some pair ≡ left_of rules s was
@@ -110,33 +118,51 @@ noted_turned_away {K} {V} {S} {H} rules before old new pair left s is told e =
     ∙ ap {A = S × List (K × V)} {B = State K V (S × List (K × V)) H} (λ t. record (noted before old) { limiter = t })
     (noted_told rules before old.limiter left (Some pair) e)
 
-module _ {K V S : Type 0} (before : List (K × V)) (by : Replaced K V S) (b : ℕ) (old new : OrderedTable K V) (l : S) where
-  -- what was left of a replacement, if the limiter comes with a list
-  abbrev pub noted_by : Replaced K V (S × List (K × V))
-  noted_by = record {
-    limiter = (by.limiter, before);
-    taken = by.taken;
-    key = by.key;
-    old_value = by.old_value;
-    new_value = by.new_value;
-  }
+-- what the limiter was offered
+module _ {K V S H I F : Type 0} (closure : Mut F (K × (V × Unit {0})) (Unit {0})) (rules : Rules K V S)
+    (offers : Offers K V S I) (names : I → K → Bool) (i : I) (v : V) (old new : State K V S H) (result : Bool × V) (f g : F)
+    (offer : IsOffered rules offers names i v old result new) (accepted : result.0 ≡ true → g ≡ f)
+    (rejected : result.0 ≡ false
+    → HandsGivenUp closure rules (replacement rules offers names offer.pair i v (contents old)) f g) where
+  -- if it rejected that, the pair goes to the list
+  pub noted_offer : Hands closure f g (λ before after. IsOffered (noting rules) (noting_offers offers) names i v
+      (noted before old) result (noted after new))
+  noted_offer first before taken = go result.0 refl
+    where
+      by : Replaced K V S
+      by = replacement rules offers names offer.pair i v (contents old)
 
-  pub noted_replaced : IsReplaced by b old new l → IsReplaced noted_by b old new (l, before)
-  noted_replaced is = record {
-    slots = is.slots;
-    order = is.order;
-    placings = is.placings;
-    told = ap (λ s. (s, before)) is.told;
-  }
+      told : Told K V S
+      told = rules.on_removed by.limiter by.key by.old_value
 
-  -- the pair that was evicted goes to the list
-  pub noted_given_up : (rules : Rules K V S) → IsGivenUp rules by b old new l →
-      let told = rules.on_removed by.limiter by.key by.old_value in
-      IsGivenUp (noting rules) noted_by b old new (l, before ++ (told.key, told.value) ∷ [])
-  noted_given_up rules is = let told = rules.on_removed by.limiter by.key by.old_value in record {
-    slots = is.slots;
-    order = is.order;
-    placings = is.placings;
-    room = is.room;
-    told = ap (λ s. (s, before ++ (told.key, told.value) ∷ [])) is.told;
-  }
+      with_list : (after : List (K × V)) → (result.0 ≡ true → before ≡ after)
+          → (result.0 ≡ false → before ++ (told.key, told.value) ∷ [] ≡ after)
+          → IsOffered (noting rules) (noting_offers offers) names i v (noted before old) result (noted after new)
+      with_list after same more = record {
+        pair = offer.pair;
+        there = offer.there;
+        taken = offer.taken;
+        unkept = offer.unkept;
+        accepted = λ e. subst (λ l. Leaves (noted before old) (record {
+          pairs = set_entry (names i) (by.key, by.new_value) old.pairs;
+          limiter = (by.limiter, l);
+        }) (noted after new)) (sym (same e)) (noted_leaves before after old new _ (offer.accepted e));
+        place = offer.place;
+        rejected = λ e. subst (λ l. Leaves (noted before old) (record {
+          pairs = without (names i) old.pairs;
+          limiter = (told.limiter, l);
+        }) (noted after new)) (sym (more e)) (noted_leaves before after old new _ (offer.rejected e));
+      }
+
+      go : (y : Bool) → result.0 ≡ y → (after : List (K × V)) × Takes closure first after g
+          × IsOffered (noting rules) (noting_offers offers) names i v (noted before old) result (noted after new)
+      go true e = (
+        before,
+        subst (Takes closure first before) (sym (accepted e)) taken,
+        with_list before (λ _. refl) (λ no. absurd (true≢false (sym e ∙ no))),
+      )
+      go false e = (
+        before ++ (told.key, told.value) ∷ [],
+        takes_more closure first before f (told.key, told.value) g taken (rejected e),
+        with_list _ (λ yes. absurd (false≢true (sym e ∙ yes))) (λ _. refl),
+      )

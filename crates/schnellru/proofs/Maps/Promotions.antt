@@ -1,14 +1,14 @@
--- A pair comes first, or has another value: what holds of a map goes on to hold.
+-- A pair comes first, or last, or has another value: what holds of a map goes on to hold.
 use Rattle.std.proofs.Common.{◌≡◌, ℕ, Bool, List, [], ◌∷◌, length, Option, refl, sym, subst, ◌∙◌, arith}
 use Rattle.std.specs.Cmp.{IsEquivalence}
 use Rattle.std.specs.List.{IsDistinct}
 use Rattle.std.proofs.lemmas.Map.{length-set_value, keys-set_value}
 use Rattle.lru_limits.specs.Laws.{IsLookup}
-use Rattle.schnellru.specs.Lists.{front}
+use Rattle.schnellru.specs.Lists.{front, back}
 use Rattle.schnellru.specs.State.{State, IsSized, IsMap}
 use Rattle.schnellru.specs.Calls.{Get, found, absent, promoted, written}
 use Rattle.schnellru.proofs.PairLists.DistinctKeys.{distinct_first}
-use Rattle.schnellru.proofs.Theorems.Sums.{total, total-front}
+use Rattle.schnellru.proofs.Theorems.Sums.{total, total-front, total-back}
 
 module _ {K V : Type 0} (names : K → Bool) where
   total-one : (xs : List (K × V)) → total (λ _. 1) xs ≡ length xs
@@ -17,6 +17,9 @@ module _ {K V : Type 0} (names : K → Bool) where
 
   pub length-front_pairs : (xs : List (K × V)) → length (front names xs) ≡ length xs
   length-front_pairs xs = sym (total-one (front names xs)) ∙ total-front (λ _. 1) names xs ∙ total-one xs
+
+  pub length-back_pairs : (xs : List (K × V)) → length (back names xs) ≡ length xs
+  length-back_pairs xs = sym (total-one (back names xs)) ∙ total-back (λ _. 1) names xs ∙ total-one xs
 
 module _ {K V S H : Type 0} (st : State K V S H) where
   -- a table is as sound with as many pairs

@@ -1,22 +1,23 @@
 -- A pair in a bucket of a linked table, after the limiter wrote to it.
-use Rattle.std.proofs.Common.{◌≡◌, ℕ, suc, ◌+◌, Bool, true, ◌∷◌, ◌++◌, Some, sym, ap, ◌∙◌, subst, arith, length}
+use Rattle.std.proofs.Common.{◌≡◌, ℕ, suc, ◌+◌, Bool, true, false, refl, ◌∷◌, ◌++◌, Some, sym, ap, ◌∙◌, subst, arith, length}
 use Rattle.std.specs.Prelude.{option_to_list}
 use Rattle.std.specs.Cmp.{IsEquivalence}
 use Rattle.std.proofs.lemmas.List.{length-set}
 use Rattle.std.proofs.lemmas.Option.{same_Some}
-use Rattle.group_table.specs.Bucket.{bucket_at, entry_at, refilled, marks_of, room, room_at}
+use Rattle.group_table.specs.Bucket.{IsFull, bucket_at, entry_at, refilled, marks_of, room, room_at}
 use Rattle.group_table.specs.Change.{Removes}
 use Rattle.group_table.proofs.ChangeLemmas.{length-removed}
 use Rattle.group_table.proofs.RefillLemmas.{entry_at-refilled, marks_of-refilled}
 use Rattle.group_table.proofs.SearchLemmas.{full_by_entry}
 use Rattle.lru_limits.specs.Rules.{Rules, Replaced}
-use Rattle.schnellru.specs.Lists.{without}
+use Rattle.schnellru.specs.Lists.{without, set_entry}
 use Rattle.schnellru.specs.Inside.OrderedTable.{OrderedTable, IsLinked, KeysFit, with_pair, without_bucket, pairs_of, entries_in}
 use Rattle.schnellru.specs.State.{State, Leaves}
 use Rattle.schnellru.specs.Inside.Holds.{Beside, state_of, Holds}
 use Rattle.schnellru.specs.Inside.Steps.{IsReplaced, IsGivenUp, IsTakenOut}
-use Rattle.schnellru.proofs.PairLists.DistinctKeys.{AreDistinct, distinct_newest, distinct_without}
+use Rattle.schnellru.proofs.PairLists.DistinctKeys.{AreDistinct, distinct_set, distinct_without}
 use Rattle.schnellru.proofs.OrderedTables.OrderCuts.{entries-apart, without_lacks}
+use Rattle.schnellru.proofs.OrderedTables.Writes.{set_pairs}
 use Rattle.schnellru.proofs.OrderedTables.BucketPairs.{pairs-length, shorter, others_are, removed-entries}
 use Rattle.schnellru.proofs.Maps.HeldMaps.{frees_room, leaves_holds}
 
@@ -73,23 +74,21 @@ module _ {K V S H : Type 0} (by : Replaced K V S) (old new : OrderedTable K V) (
   fewer : suc (length (without_bucket b old.order)) ≡ length old.order
   fewer = shorter old first b (full_by_entry (bucket_at old.slots b) was there)
 
-  -- the pair as it was left is the newest, and the others are as they were
+  -- the pair as it was left is at its place
   module _ (step : IsReplaced by b old new l) where
-    pub replaced_pairs : pairs_of new ≡ (by.key, by.new_value) ∷ without names (pairs_of old)
-    replaced_pairs = ap (entries_in new.slots) step.order
-        ∙ ap (λ s. entries_in s (b ∷ without_bucket b old.order)) step.slots
-        ∙ ap (λ o. option_to_list o ++ entries_in (with_pair old b (by.key, by.new_value)).slots
-        (without_bucket b old.order))
-        (entry_at-refilled old.slots b (by.key, by.new_value) (full_by_entry (bucket_at old.slots b) was there))
-        ∙ ap (λ xs. (by.key, by.new_value) ∷ xs) (others (by.key, by.new_value))
+    replaced_pairs : pairs_of new ≡ set_entry names (by.key, by.new_value) (pairs_of old)
+    replaced_pairs = (λ i. entries_in (step.slots i) (step.order i))
+        ∙ set_pairs old first b was there names laws one named distinct (by.key, by.new_value)
 
-    pub replaced_leaves : Leaves before
-        (record { pairs = (by.key, by.new_value) ∷ without names (pairs_of old); limiter = by.limiter }) after
+    pub replaced_leaves : Leaves before (record {
+      pairs = set_entry names (by.key, by.new_value) (pairs_of old);
+      limiter = by.limiter;
+    }) after
     replaced_leaves =
         let marks = ap marks_of step.slots ∙ marks_of-refilled old.slots b (by.key, by.new_value) in
         let lengths : length (pairs_of new)
         ≡ length (pairs_of old) = omega
-        (arith, pairs-length old first, pairs-length new next, ap length step.order, fewer) in record {
+        (arith, pairs-length old first, pairs-length new next, ap length step.order) in record {
           is = λ i. record (state_of new (record beside { limiter = step.told i })) {
             pairs = replaced_pairs i;
             placings = step.placings i;
@@ -103,12 +102,12 @@ module _ {K V S H : Type 0} (by : Replaced K V S) (old new : OrderedTable K V) (
           };
         }
 
-    pub replaced_holds : (hash_of : H → K → ℕ) → names by.key ≡ true → Holds eq hash_of old beside
+    replaced_holds : (hash_of : H → K → ℕ) → names by.key ≡ true → Holds eq hash_of old beside
         → KeysFit (hash_of beside.hasher) new.slots → Holds eq hash_of new (record beside { limiter = l })
     replaced_holds hash_of kept holds fits = leaves_holds beside eq hash_of old new _ l holds next fits
         (ap length step.slots ∙ length-set old.slots b _) replaced_leaves
         (subst (AreDistinct eq) (sym replaced_pairs)
-        (distinct_newest eq names one (by.key, by.new_value) (pairs_of old) kept distinct))
+        (distinct_set eq names one laws (by.key, by.new_value) kept (pairs_of old) distinct))
 
   -- the pair left, and the others are as they were
   module _ (rules : Rules K V S) (step : IsGivenUp rules by b old new l) where
@@ -135,8 +134,19 @@ module _ {K V S H : Type 0} (by : Replaced K V S) (old new : OrderedTable K V) (
           ∙ fewer) step.room beside (record beside { limiter = l });
     }
 
-    pub given_up_holds : (hash_of : H → K → ℕ) → Holds eq hash_of old beside
+    given_up_holds : (hash_of : H → K → ℕ) → Holds eq hash_of old beside
         → KeysFit (hash_of beside.hasher) new.slots → Holds eq hash_of new (record beside { limiter = l })
     given_up_holds hash_of holds fits = leaves_holds beside eq hash_of old new _ l holds next fits given_up_length
         given_up_leaves
         (subst (AreDistinct eq) (sym given_up_pairs) (distinct_without eq names (pairs_of old) distinct))
+
+  -- one or the other
+  module _ (rules : Rules K V S) (accepts : Bool) (replaced : accepts ≡ true → IsReplaced by b old new l)
+      (given_up : accepts ≡ false → IsGivenUp rules by b old new l) where
+    pub offered_holds : (hash_of : H → K → ℕ) → names by.key ≡ true → Holds eq hash_of old beside
+        → KeysFit (hash_of beside.hasher) new.slots → Holds eq hash_of new (record beside { limiter = l })
+    offered_holds hash_of kept holds fits = go accepts refl
+      where
+        go : (y : Bool) → accepts ≡ y → Holds eq hash_of new (record beside { limiter = l })
+        go true e = replaced_holds (replaced e) hash_of kept holds fits
+        go false e = given_up_holds rules (given_up e) hash_of holds fits

@@ -9,7 +9,7 @@ use Rattle.std.proofs.lemmas.Map.{keys-set_value}
 use Rattle.group_table.specs.Bucket.{IsFull, bucket_at, entry_at, refilled}
 use Rattle.group_table.proofs.RefillLemmas.{entry_at-refilled, marks_of-refilled}
 use Rattle.group_table.proofs.SearchLemmas.{full_by_entry}
-use Rattle.schnellru.specs.Lists.{keys_of}
+use Rattle.schnellru.specs.Lists.{keys_of, set_entry}
 use Rattle.schnellru.specs.Inside.OrderedTable.{OrderedTable, IsLinked, KeysFit, pairs_of, entries_in, without_bucket, with_pair}
 use Rattle.schnellru.specs.Inside.Holds.{Beside, state_of, Holds}
 use Rattle.schnellru.specs.Calls.{written}
@@ -28,30 +28,43 @@ module _ {K V : Type 0} (t : OrderedTable K V) (b : ℕ) (q : K × V) where
       ∙ ap (λ l. q ∷ l) (entries-apart t.slots b (refilled (bucket_at t.slots b) q) (without_bucket b order)
       (without_lacks b order))
 
--- a value is written at the first pair that is named
-set_end : {K V : Type 0} (names : K → Bool) (p : K × V) → names p.0 ≡ true → (w : V) (xs ys : List (K × V))
-    → NoneNamed names xs
-    → set_value names (xs ++ p ∷ ys) w ≡ xs ++ (p.0, w) ∷ ys
-set_end names p named w [] ys h = ap (λ y. cond y ((p.0, w) ∷ ys) (p ∷ set_value names ys w)) named
-set_end names p named w (x ∷ xs) ys h = ap
-    (λ y. cond y ((x.0, w) ∷ (xs ++ p ∷ ys)) (x ∷ set_value names (xs ++ p ∷ ys) w)) h.0
-    ∙ ap (λ l. x ∷ l) (set_end names p named w xs ys h.1)
+module _ {K V : Type 0} (names : K → Bool) (p : K × V) (named : names p.0 ≡ true) where
+  -- the first pair that is named is written
+  set_end : (q : K × V) (xs ys : List (K × V)) → NoneNamed names xs → set_entry names q (xs ++ p ∷ ys) ≡ xs ++ q ∷ ys
+  set_end q [] ys h = ap (λ y. cond y (q ∷ ys) (p ∷ set_entry names q ys)) named
+  set_end q (x ∷ xs) ys h = ap (λ y. cond y (q ∷ (xs ++ p ∷ ys)) (x ∷ set_entry names q (xs ++ p ∷ ys))) h.0
+      ∙ ap (λ l. x ∷ l) (set_end q xs ys h.1)
+
+  -- or its value
+  value_end : (w : V) (xs ys : List (K × V)) → NoneNamed names xs → set_value names (xs ++ p ∷ ys) w
+      ≡ xs ++ (p.0, w) ∷ ys
+  value_end w [] ys h = ap (λ y. cond y ((p.0, w) ∷ ys) (p ∷ set_value names ys w)) named
+  value_end w (x ∷ xs) ys h = ap
+      (λ y. cond y ((x.0, w) ∷ (xs ++ p ∷ ys)) (x ∷ set_value names (xs ++ p ∷ ys) w)) h.0
+      ∙ ap (λ l. x ∷ l) (value_end w xs ys h.1)
 
 -- the pair of the named key is in the bucket b of t, and stays at its place
 module _ {K V : Type 0} (t : OrderedTable K V) (linked : IsLinked t) (b : ℕ) (p : K × V) (there : entry_at t.slots b ≡ Some p)
     (names : K → Bool) {eq : K → K → Bool} (laws : IsEquivalence eq) (one : (x y : K) → names x ≡ true → names y
     ≡ eq x y) (named : names p.0 ≡ true)
     (distinct : AreDistinct eq (pairs_of t)) where
-  pub kept_pairs : (w : V) → pairs_of (with_pair t b (p.0, w)) ≡ set_value names (pairs_of t) w
-  kept_pairs w =
-      let cut = cut_here t linked b p there in let s = refilled (bucket_at t.slots b) (p.0, w) in
-      entries-cut (with_pair t b (p.0, w)).slots cut (p.0, w)
-      (entry_at-refilled t.slots b (p.0, w) (full_by_entry (bucket_at t.slots b) p there))
-      ∙ (λ i. entries-apart t.slots b s cut.before cut.none_before i ++ (p.0, w)
+  cut_set : (q : K × V) → pairs_of (with_pair t b q)
+      ≡ entries_in t.slots (cut_here t linked b p there).before ++ q ∷ entries_in t.slots (cut_here t linked b p there).after
+  cut_set q = let cut = cut_here t linked b p there in let s = refilled (bucket_at t.slots b) q in
+      entries-cut (with_pair t b q).slots cut q
+      (entry_at-refilled t.slots b q (full_by_entry (bucket_at t.slots b) p there))
+      ∙ (λ i. entries-apart t.slots b s cut.before cut.none_before i ++ q
       ∷ entries-apart t.slots b s cut.after cut.none_after i)
+
+  pub set_pairs : (q : K × V) → pairs_of (with_pair t b q) ≡ set_entry names q (pairs_of t)
+  set_pairs q = cut_set q
+      ∙ sym (ap (set_entry names q) (cut_pairs t linked b p there names laws one distinct named)
+      ∙ set_end names p named q _ _ (unnamed t linked b p there names laws one distinct named))
+
+  pub kept_pairs : (w : V) → pairs_of (with_pair t b (p.0, w)) ≡ set_value names (pairs_of t) w
+  kept_pairs w = cut_set (p.0, w)
       ∙ sym (ap (λ l. set_value names l w) (cut_pairs t linked b p there names laws one distinct named)
-      ∙ set_end names p named w (entries_in t.slots cut.before) (entries_in t.slots cut.after)
-      (unnamed t linked b p there names laws one distinct named))
+      ∙ value_end names p named w _ _ (unnamed t linked b p there names laws one distinct named))
 
   module _ {S H : Type 0} (beside : Beside S H) (w : V) where
     pub kept_state : state_of (with_pair t b (p.0, w)) beside ≡ written names w (state_of t beside)

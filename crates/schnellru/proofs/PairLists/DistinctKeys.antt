@@ -1,15 +1,16 @@
 -- The keys of the pairs stay distinct, and a pair is found if its key is named.
 use Rattle.std.proofs.Common.{◌≡◌, ℕ, Bool, true, false, cond, List, [], ◌∷◌, ◌++◌, length, Option, Some, None, refl}
 use Rattle.std.proofs.Common.{sym, ◌∙◌, subst, arith, zero, suc}
-use Rattle.std.specs.Prelude.{Contains}
+use Rattle.std.specs.Prelude.{Contains, option_to_list}
+use Rattle.std.proofs.lemmas.List.{append-nil}
 use Rattle.std.specs.Cmp.{IsEquivalence}
 use Rattle.std.specs.List.{IsDistinct, AllByRecursion, AllZip}
 use Rattle.lru_limits.specs.Rules.{Rules, Offers}
 use Rattle.lru_limits.specs.Laws.{IsLookup, IsInsertion, kept_value}
-use Rattle.schnellru.specs.Lists.{IsFront, after, front, lookup_entry, without, keys_of}
+use Rattle.schnellru.specs.Lists.{IsFront, after, front, back, lookup_entry, without, set_entry, keys_of}
 use Rattle.schnellru.specs.State.{Contents}
 use Rattle.schnellru.proofs.Theorems.Fronts.{front_without_last, without_none, found_named}
-use Rattle.schnellru.proofs.Theorems.Moves.{Keeps, KeepsOffers, exchange}
+use Rattle.schnellru.proofs.Theorems.Moves.{Keeps, KeepsOffers, exchange, rewrite}
 
 module _ {K V : Type 0} (names : K → Bool) where
   -- none of the keys is named
@@ -46,6 +47,21 @@ module _ {K V : Type 0} (P : K → Type 0) where
       → AllByRecursion P (keys_of (newer ++ older))
   all_between [] older pair h = h.1
   all_between (x ∷ newer) older pair h = (h.0, all_between newer older pair h.1)
+
+  all_push : (xs : List (K × V)) (pair : K × V) → AllByRecursion P (keys_of xs) → P pair.0
+      → AllByRecursion P (keys_of (xs ++ pair ∷ []))
+  all_push [] pair h p = (p, tt)
+  all_push (x ∷ xs) pair h p = (h.0, all_push xs pair h.1 p)
+
+  all_set : (names : K → Bool) (pair : K × V) (xs : List (K × V)) → P pair.0 → AllByRecursion P (keys_of xs)
+      → AllByRecursion P (keys_of (set_entry names pair xs))
+  all_set names pair [] p h = tt
+  all_set names pair (x ∷ xs) p h = go (names x.0) (all_set names pair xs p h.1)
+    where
+      go : (b : Bool) → AllByRecursion P (keys_of (set_entry names pair xs))
+          → AllByRecursion P (keys_of (cond b (pair ∷ xs) (x ∷ set_entry names pair xs)))
+      go true r = (p, h.1)
+      go false r = (h.0, r)
 
   all_without : (names : K → Bool) (xs : List (K × V)) → AllByRecursion P (keys_of xs)
       → AllByRecursion P (keys_of (without names xs))
@@ -123,13 +139,51 @@ module _ {K V : Type 0} (eq : K → K → Bool) where
         go None e = subst AreDistinct (sym (without_none names xs e)) d
         go (Some pair) e = distinct_newest pair xs (found_named names xs pair e) d
 
+    -- or after them
+    distinct_oldest : IsEquivalence eq → (oldest : K × V) → names oldest.0 ≡ true → (xs : List (K × V))
+        → NoneNamed names xs → AreDistinct xs → AreDistinct (xs ++ oldest ∷ [])
+    unfolding IsDistinct
+    distinct_oldest laws oldest named [] none d = (tt, tt)
+    distinct_oldest laws oldest named (x ∷ xs) none d = (
+      all_push (λ k. eq x.0 k ≡ false) xs oldest d.0
+          (laws.symm x.0 oldest.0 ∙ sym (one oldest.0 x.0 named) ∙ none.0),
+      distinct_oldest laws oldest named xs none.1 d.1,
+    )
+
+    pub distinct_last : IsEquivalence eq → (xs : List (K × V)) → AreDistinct xs → AreDistinct (back names xs)
+    distinct_last laws xs d = go (lookup_entry names xs) refl
+      where
+        go : (o : Option (K × V)) → lookup_entry names xs ≡ o → AreDistinct (without names xs ++ option_to_list o)
+        go None e = subst AreDistinct (sym (append-nil (without names xs))) (distinct_without names xs d)
+        go (Some pair) e = distinct_oldest laws pair (found_named names xs pair e) (without names xs)
+            (others_unnamed xs d) (distinct_without names xs d)
+
+    -- or another in its place
+    pub distinct_set : IsEquivalence eq → (pair : K × V) → names pair.0 ≡ true → (xs : List (K × V)) → AreDistinct xs
+        → AreDistinct (set_entry names pair xs)
+    unfolding IsDistinct
+    distinct_set laws pair named [] d = tt
+    distinct_set laws pair named (x ∷ xs) d = go (names x.0) refl (distinct_set laws pair named xs d.1)
+      where
+        go : (b : Bool) → names x.0 ≡ b → AreDistinct (set_entry names pair xs)
+            → AreDistinct (cond b (pair ∷ xs) (x ∷ set_entry names pair xs))
+        go true e r = (
+          all_map (λ y. eq x.0 y ≡ false) (λ y. eq pair.0 y ≡ false) (keys_of xs)
+              (λ y h. sym (one pair.0 y named) ∙ one x.0 y e ∙ h) d.0,
+          d.1,
+        )
+        go false e r = (
+          all_set (λ k. eq x.0 k ≡ false) names pair xs (laws.symm x.0 pair.0 ∙ sym (one pair.0 x.0 named) ∙ e) d.0,
+          r,
+        )
+
     -- without the named pair none is named
     pub absent_without : (xs : List (K × V)) → AreDistinct xs → lookup_entry names (without names xs) ≡ None
     absent_without xs d = none_found names (without names xs) (others_unnamed xs d)
 
 module _ {K V S Q : Type 0} {rules : Rules K V S} {names : Q → K → Bool} {eq : K → K → Bool}
     {query_input : Q → List (List ℕ)} {key_input : K → List (List ℕ)}
-    (looks_up : IsLookup names eq query_input key_input) where
+    (equivalence : IsEquivalence eq) (looks_up : IsLookup names eq query_input key_input) where
   pub keeps_distinct : Keeps rules names (λ c d. AreDistinct eq c.pairs → AreDistinct eq d.pairs)
   keeps_distinct = record {
     way = record {
@@ -141,6 +195,7 @@ module _ {K V S Q : Type 0} {rules : Rules K V S} {names : Q → K → Bool} {eq
     left = λ test c. distinct_without eq test c.pairs;
     dropped = λ newer older pair s. distinct_between eq newer older pair;
     first = λ q c. distinct_first eq (names q) (looks_up.one q) c.pairs;
+    last = λ q c. distinct_last eq (names q) (looks_up.one q) equivalence c.pairs;
     cleared = λ c d. none_distinct eq;
   }
 
@@ -152,23 +207,36 @@ module _ {K V S I : Type 0} (rules : Rules K V S) (offers : Offers K V S I) (nam
   came_distinct i pair xs a n d = subst (λ ys. AreDistinct eq (pair ∷ ys)) (without_none (names i) xs a)
       (distinct_newest eq (names i) (looks_up.one i) pair xs n d)
 
+  still_named : (i : I) (v : V) (c : Contents K V S) (pair : K × V) → lookup_entry (names i) c.pairs ≡ Some pair
+      → names i (offers.on_replace c.limiter (length c.pairs) pair.0 i pair.1 v).key ≡ true
+  still_named i v c pair found = let n = found_named (names i) c.pairs pair found in
+      looks_up.one i pair.0 (offers.on_replace c.limiter (length c.pairs) pair.0 i pair.1 v).key n
+      ∙ laws.keeps_key c.limiter (length c.pairs) pair.0 i pair.1 v n
+
   exchanged_distinct : (i : I) (v : V) (c : Contents K V S) (pair : K × V) → lookup_entry (names i) c.pairs ≡ Some pair
       → AreDistinct eq c.pairs → AreDistinct eq (exchange rules offers names pair i v c).pairs
   exchanged_distinct i v c pair found = let r = offers.on_replace c.limiter (length c.pairs) pair.0 i pair.1 v in
-      let n = found_named (names i) c.pairs pair found in
-      distinct_newest eq (names i) (looks_up.one i) (r.key, kept_value r) c.pairs (looks_up.one i pair.0 r.key n
-      ∙ laws.keeps_key c.limiter (length c.pairs) pair.0 i pair.1 v n)
+      distinct_newest eq (names i) (looks_up.one i) (r.key, kept_value r) c.pairs (still_named i v c pair found)
+
+  rewritten_distinct : IsEquivalence eq → (i : I) (v : V) (c : Contents K V S) (pair : K × V)
+      → lookup_entry (names i) c.pairs ≡ Some pair → AreDistinct eq c.pairs
+      → AreDistinct eq (rewrite rules offers names pair i v c).pairs
+  rewritten_distinct equivalence i v c pair found =
+      let r = offers.on_replace c.limiter (length c.pairs) pair.0 i pair.1 v in
+      distinct_set eq (names i) (looks_up.one i) equivalence (r.key, kept_value r) (still_named i v c pair found) c.pairs
 
 module _ {K V S I : Type 0} {rules : Rules K V S} {offers : Offers K V S I} {names : I → K → Bool} {eq : K → K → Bool}
     {query_input : I → List (List ℕ)} {key_input : K → List (List ℕ)}
-    (looks_up : IsLookup names eq query_input key_input) (laws : IsInsertion names eq offers) where
+    (equivalence : IsEquivalence eq) (looks_up : IsLookup names eq query_input key_input)
+    (laws : IsInsertion names eq offers) where
   pub offers_distinct : KeepsOffers rules offers names (λ c d. AreDistinct eq c.pairs → AreDistinct eq d.pairs)
   offers_distinct = record {
-    keeps = keeps_distinct looks_up;
+    keeps = keeps_distinct equivalence looks_up;
     came = λ i v c s pair a n. came_distinct rules offers names looks_up laws i pair c.pairs a
         (laws.names_given c.limiter (length c.pairs) i v s pair.0 pair.1 n);
     turned_down = λ i v c s n d. d;
     exchanged = exchanged_distinct rules offers names looks_up laws;
+    rewritten = rewritten_distinct rules offers names looks_up laws equivalence;
   }
 
 -- keys that equal distinct ones, one by one, are distinct

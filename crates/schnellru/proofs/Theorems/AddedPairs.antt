@@ -6,15 +6,15 @@ use Rattle.lru_limits.specs.Rules.{Rules, Offers}
 use Rattle.schnellru.specs.GetOrInserts.{got, inserted}
 use Rattle.schnellru.specs.Lists.{without}
 use Rattle.schnellru.specs.Reservations.{Reserve, unchanged, remade, reserved, asked_only}
-use Rattle.schnellru.specs.Runs.{Step, inserts, makes_newest, gets, removes, pops_oldest, pops_newest, drains, clears}
+use Rattle.schnellru.specs.Runs.{Step, inserts, makes_newest, updates, gets, demotes, removes, pops_oldest, pops_newest, drains, clears}
 use Rattle.schnellru.specs.Runs.{reserves, shrinks, trims, retains, AnyStep, calls, writes, sets_limiter}
 use Rattle.schnellru.specs.State.{State, contents}
 use Rattle.schnellru.specs.Theorems.{GivesUp, behind, with_none, without_one}
 use Rattle.schnellru.specs.declared.map.reserve.ReserveError.{ReserveError}
 use Rattle.schnellru.proofs.Maps.LeavingPairs.{length-without_first, length-without_last}
-use Rattle.schnellru.proofs.Maps.Promotions.{length-front_pairs}
+use Rattle.schnellru.proofs.Maps.Promotions.{length-front_pairs, length-back_pairs}
 use Rattle.schnellru.proofs.Theorems.Fronts.{insert_gives_up, front_trim, length-front}
-use Rattle.schnellru.proofs.Theorems.Limits.{length-without}
+use Rattle.schnellru.proofs.Theorems.Limits.{length-without, length-update}
 use Rattle.schnellru.proofs.Theorems.RetainedPairs.{length-retained}
 use Rattle.schnellru.proofs.Theorems.Shrinks.{shrunk_list}
 
@@ -43,7 +43,9 @@ module _ {K V S H I : Type 0} {rules : Rules K V S} {offers : Offers K V S I} {n
       omega (arith, ap (λ st. length st.pairs) e, length-front_pairs (names key) old.pairs)
   step_adds (makes_newest value key result (inserted none v made h)) =
       gives_up_adds (names key) _ old.pairs new.pairs (insert_gives_up looks_up laws key v old result new h)
+  step_adds (updates key value result h) = omega (arith, length-update result h)
   step_adds (gets key e) = omega (arith, ap (λ st. length st.pairs) e, length-front_pairs (names key) old.pairs)
+  step_adds (demotes key e) = omega (arith, ap (λ st. length st.pairs) e, length-back_pairs (names key) old.pairs)
   step_adds (removes test result h) = omega
       (arith, ap (λ st. length st.pairs) h.state.is, length-without test old.pairs)
   step_adds (pops_oldest result h) = omega

@@ -10,7 +10,7 @@ use Rattle.group_table.specs.Sizes.{full_capacity, IsBucketCount}
 use Rattle.group_table.specs.Bucket.{Mark, empty, is_used, room as room_of}
 use Rattle.lru_limits.specs.Rules.{Rules, Offers}
 use Rattle.schnellru.specs.State.{State, buckets, Contents, contents, MovesTo, Leaves, Trims}
-use Rattle.schnellru.specs.Calls.{promoted, written, pop_first, Remove, PopOldest, PopNewest, cleared}
+use Rattle.schnellru.specs.Calls.{promoted, demoted, written, pop_first, Remove, PopOldest, PopNewest, cleared}
 use Rattle.schnellru.specs.Place.{asked}
 use Rattle.schnellru.specs.declared.map.reserve.ReserveError.{ReserveError}
 use Rattle.schnellru.specs.Drains.{pops_first, Drained}
@@ -24,7 +24,7 @@ use Rattle.schnellru.proofs.Theorems.Moves.{KeepsWay, Keeps, KeepsOffers, leaves
 use Rattle.schnellru.proofs.Theorems.TableGrowth.{Calm, IsNextCount, Reaches, Changes, self_calm, limiter_calm}
 use Rattle.schnellru.proofs.Theorems.TableGrowth.{leaves_calm, calm_trans, calm_changes, leaves_changes}
 use Rattle.schnellru.proofs.Theorems.Ways.{insert_changes}
-use Rattle.schnellru.proofs.Maps.Promotions.{length-front_pairs}
+use Rattle.schnellru.proofs.Maps.Promotions.{length-front_pairs, length-back_pairs}
 use Rattle.schnellru.proofs.Theorems.RetainedPairs.{retained_keeps}
 
 module _ {K V S Q : Type 0} {rules : Rules K V S} {names : Q → K → Bool} {R : Contents K V S → Contents K V S → Type 0}
@@ -92,6 +92,10 @@ module _ {K V S H Q : Type 0} {rules : Rules K V S} {names : Q → K → Bool}
   pub promoted_changes : (q : Q) → Changes rules R 0 0 old (promoted (names q) old)
   promoted_changes q = calm_changes rules R 0 old _ (pairs_calm rules old _ _ (length-front_pairs (names q) old.pairs))
       (k.first q (contents old))
+
+  pub demoted_changes : (q : Q) → Changes rules R 0 0 old (demoted (names q) old)
+  demoted_changes q = calm_changes rules R 0 old _ (pairs_calm rules old _ _ (length-back_pairs (names q) old.pairs))
+      (k.last q (contents old))
 
   pub remove_changes : (test : K → Bool) (result : Option V) (new : State K V S H) → Remove rules test old result new
       → Changes rules R 0 0 old new

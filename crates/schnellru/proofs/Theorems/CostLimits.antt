@@ -7,17 +7,17 @@ use Rattle.lru_limits.specs.Budget.{Budget, by_weight, weighs, weighs-sums}
 use Rattle.schnellru.specs.GetOrInserts.{got, inserted}
 use Rattle.schnellru.specs.Lists.{last, without_first, without_last, lookup_entry}
 use Rattle.schnellru.specs.State.{State, contents, IsWithin, told_of}
-use Rattle.schnellru.specs.Runs.{Step, inserts, makes_newest, gets, removes, pops_oldest, pops_newest, drains, clears}
+use Rattle.schnellru.specs.Runs.{Step, inserts, makes_newest, updates, gets, demotes, removes, pops_oldest, pops_newest, drains, clears}
 use Rattle.schnellru.specs.Runs.{reserves, shrinks, trims, retains, Run, ends, goes_on}
 use Rattle.schnellru.specs.Theorems.{IsSummed}
 use Rattle.schnellru.proofs.Theorems.Fronts.{front_trim}
-use Rattle.schnellru.proofs.Theorems.Limits.{insert_within, total-without}
+use Rattle.schnellru.proofs.Theorems.Limits.{insert_within, update_within, total-without}
 use Rattle.schnellru.proofs.Theorems.Moves.{KeepsOffers}
 use Rattle.schnellru.proofs.Theorems.Reservations.{reserved_list}
 use Rattle.schnellru.proofs.Theorems.Runs.{step_changes, step_summed}
 use Rattle.schnellru.proofs.Theorems.RetainedPairs.{total-retained}
 use Rattle.schnellru.proofs.Theorems.Shrinks.{shrunk_list}
-use Rattle.schnellru.proofs.Theorems.Sums.{total, total-is, total-front, total-least, split-least, split_last}
+use Rattle.schnellru.proofs.Theorems.Sums.{total, total-is, total-front, total-back, total-least, split-least, split_last}
 
 told_limit : {K V : Type 0} (weight : K → V → ℕ) (pair : Option (K × V)) (b : Budget)
     → (told_of (by_weight weight) pair b).limit ≡ b.limit
@@ -43,11 +43,13 @@ keeps_limit weight = record {
     left = λ test c. told_limit weight (lookup_entry test c.pairs) c.limiter;
     dropped = λ newer older pair s. refl;
     first = λ q c. refl;
+    last = λ q c. refl;
     cleared = λ c. refl;
   };
   came = λ i v c s pair a offer. ap (λ b. b.limit) offer.limiter ∙ charged_limit c.limiter _ _ refl;
   turned_down = λ i v c s offer. ap (λ b. b.limit) offer.limiter ∙ charged_limit c.limiter _ _ refl;
   exchanged = λ i v c pair found. charged_limit c.limiter _ _ refl;
+  rewritten = λ i v c pair found. charged_limit c.limiter _ _ refl;
 }
 
 module _ {K V H : Type 0} (weight : K → V → ℕ) (names : K → K → Bool) (hash_of : H → K → ℕ) where
@@ -78,8 +80,11 @@ module _ {K V H : Type 0} (weight : K → V → ℕ) (names : K → K → Bool) 
     step_within (makes_newest v k result (got w e r step)) = less
         (omega (arith, ap (λ st. total pair_weight st.pairs) step, total-front pair_weight (names k) old.pairs))
     step_within (makes_newest v k result (inserted e w m step)) = ended (insert_within pair_weight step)
+    step_within (updates k v result h) = ended (update_within pair_weight result h)
     step_within (gets k e) = less
         (omega (arith, ap (λ st. total pair_weight st.pairs) e, total-front pair_weight (names k) old.pairs))
+    step_within (demotes k e) = less
+        (omega (arith, ap (λ st. total pair_weight st.pairs) e, total-back pair_weight (names k) old.pairs))
     step_within (removes test result h) = less
         (omega (arith, ap (λ st. total pair_weight st.pairs) h.state.is, total-without pair_weight test old.pairs))
     step_within (pops_oldest result h) = less

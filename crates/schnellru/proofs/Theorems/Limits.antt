@@ -7,16 +7,20 @@ use Rattle.lru_limits.specs.Rules.{Rules, Offers}
 use Rattle.lru_limits.specs.Stores.{plain, hands_over}
 use Rattle.lru_limits.specs.Limiters.{length_rules, length_offers}
 use Rattle.schnellru.specs.Sizes.{usage}
-use Rattle.schnellru.specs.Lists.{last, lookup_entry, without}
+use Rattle.schnellru.specs.Lists.{last, lookup_entry, without, set_entry}
 use Rattle.schnellru.specs.State.{State, buckets, contents, IsWithin, told_of}
 use Rattle.schnellru.specs.Place.{Outcome, placed, refused, no_memory}
 use Rattle.schnellru.specs.Inserts.{Insert, replaced, given_up, no_memory_to_admit, not_admitted, admitted, Settles}
+use Rattle.schnellru.specs.Inserts.{replacement}
 use Rattle.schnellru.specs.Theorems.{UsesAtMost}
+use Rattle.schnellru.specs.Updates.{Update, updated, rejected, not_there, with_updated}
+use Rattle.schnellru.specs.declared.map.update.Updated.{Updated}
+use Rattle.schnellru.proofs.PairLists.SetEntries.{length-set_entry}
 use Rattle.schnellru.proofs.TableSizes.Budgets.{usage_fewer}
 use Rattle.schnellru.proofs.Theorems.Moves.{KeepsOffers, left_are}
 use Rattle.schnellru.proofs.Theorems.TableGrowth.{Tables, IsNextCount}
 use Rattle.schnellru.proofs.Theorems.Ways.{insert_changes}
-use Rattle.schnellru.proofs.Theorems.Fronts.{front_make_room}
+use Rattle.schnellru.proofs.Theorems.Fronts.{front_make_room, front_trim, length-front}
 use Rattle.schnellru.proofs.Theorems.Sums.{total, total-least, split-least, split_named}
 use Rattle.schnellru.proofs.Theorems.InsertAnswers.{trim_ends, Comes, place_comes}
 
@@ -61,11 +65,13 @@ module _ {K V S : Type 0} {over grants : S → ℕ → Bool} {admits : S → K �
       left = λ test c. told_plain over grants (lookup_entry test c.pairs) c.limiter;
       dropped = λ newer older pair s. refl;
       first = λ q c. refl;
+      last = λ q c. refl;
       cleared = λ c. refl;
     };
     came = λ i v c s pair a offer. offer.limiter;
     turned_down = λ i v c s offer. offer.limiter;
     exchanged = λ i v c pair found. refl;
+    rewritten = λ i v c pair found. refl;
   }
 
 module _ {K V : Type 0} (f : K × V → ℕ) where
@@ -102,6 +108,33 @@ module _ {K V : Type 0} (f : K × V → ℕ) where
         settled refused b h = inr (omega (arith, ap (λ st. total f st.pairs) h.1, ap (total f) b))
         settled no_memory b h = inr
             (omega (arith, ap (λ st. total f st.pairs) h.1, total-least f _ ready.pairs b, fewer))
+
+-- no greater total is left by an update either, or the limiter is not over
+pub update_within : {K V S H I : Type 0} (f : K × V → ℕ) {rules : Rules K V S} {offers : Offers K V S I}
+    {names : I → K → Bool} {i : I} {v : V} {old new : State K V S H} (result : Updated V)
+    → Update rules offers names i v old result new
+    → IsWithin rules (contents new) ⊎ (total f new.pairs ≤ total f old.pairs)
+update_within f {rules} {new = new} result (updated pair found y r l) = inl
+    (subst (IsWithin rules) (sym (left_are _ _ new l)) (trim_ends rules _))
+update_within f {names = names} {i} {old = old} result (rejected pair found y r l) = inr
+    (omega (arith, ap (λ st. total f st.pairs) l.is, total-without f (names i) old.pairs))
+update_within f result (not_there a r e) = inr (omega (arith, ap (λ st. total f st.pairs) e))
+
+-- an update leaves no more pairs
+pub length-update : {K V S H I : Type 0} {rules : Rules K V S} {offers : Offers K V S I} {names : I → K → Bool} {i : I}
+    {v : V} {old new : State K V S H} (result : Updated V) → Update rules offers names i v old result new
+    → length new.pairs ≤ length old.pairs
+length-update {rules = rules} {offers} {names} {i} {v} {old} result (updated pair found y r l) =
+    let by = replacement rules offers names pair i v (contents old) in omega (
+      arith,
+      ap (λ st. length st.pairs) l.is,
+      length-front _ (set_entry (names i) (by.key, by.new_value) old.pairs)
+          (front_trim rules (with_updated rules offers names pair i v (contents old))),
+      length-set_entry (names i) (by.key, by.new_value) old.pairs,
+    )
+length-update {names = names} {i} {old = old} result (rejected pair found y r l) =
+    omega (arith, ap (λ st. length st.pairs) l.is, length-without (names i) old.pairs)
+length-update result (not_there a r e) = omega (arith, ap (λ st. length st.pairs) e)
 
 -- the number of pairs is a total
 length-total : {X : Type 0} (xs : List X) → total (λ _. 1) xs ≡ length xs

@@ -7,7 +7,7 @@ use Rattle.std.proofs.Common.{Result, sym, ap, subst}
 use Rattle.std.specs.declared.alloc.AllocError.{AllocError}
 use Rattle.lru_limits.specs.Rules.{Rules, Offers}
 use Rattle.lru_limits.specs.Laws.{kept_value}
-use Rattle.schnellru.specs.Lists.{front, lookup_entry, without}
+use Rattle.schnellru.specs.Lists.{front, back, lookup_entry, set_entry, without}
 use Rattle.schnellru.specs.State.{State, Contents, contents, Leaves, told_of, pop, pops, trim, trim_from}
 use Rattle.schnellru.specs.Place.{Outcome, placed, refused, no_memory}
 use Rattle.schnellru.specs.Calls.{removal}
@@ -41,6 +41,8 @@ module _ {K V S : Type 0} (rules : Rules K V S) where
         (record { pairs = newer ++ older; limiter = told_of rules (Some pair) s })
     -- the named pair comes first
     pub first : (q : Q) (c : Contents K V S) → R c (record { pairs = front (names q) c.pairs; limiter = c.limiter })
+    -- or last
+    pub last : (q : Q) (c : Contents K V S) → R c (record { pairs = back (names q) c.pairs; limiter = c.limiter })
     -- all pairs leave
     pub cleared : (c : Contents K V S) → R c (record { pairs = []; limiter = rules.on_cleared c.limiter })
 
@@ -49,6 +51,11 @@ module _ {K V S I : Type 0} (rules : Rules K V S) (offers : Offers K V S I) (nam
   abbrev pub exchange : K × V → I → V → Contents K V S → Contents K V S
   exchange pair i v c = let r = offers.on_replace c.limiter (length c.pairs) pair.0 i pair.1 v in
       record { pairs = (r.key, kept_value r) ∷ without (names i) c.pairs; limiter = r.limiter }
+
+  -- or in its place
+  abbrev pub rewrite : K × V → I → V → Contents K V S → Contents K V S
+  rewrite pair i v c = let r = offers.on_replace c.limiter (length c.pairs) pair.0 i pair.1 v in
+      record { pairs = set_entry (names i) (r.key, kept_value r) c.pairs; limiter = r.limiter }
 
   pub record KeepsOffers (R : Contents K V S → Contents K V S → Type 0) : Type 0 where
     pub keeps : Keeps rules names R
@@ -61,6 +68,8 @@ module _ {K V S I : Type 0} (rules : Rules K V S) (offers : Offers K V S I) (nam
         → offers.on_insert c.limiter (length c.pairs) i v s None → R c (record { pairs = c.pairs; limiter = s })
     pub exchanged : (i : I) (v : V) (c : Contents K V S) (pair : K × V) → lookup_entry (names i) c.pairs ≡ Some pair
         → R c (exchange pair i v c)
+    pub rewritten : (i : I) (v : V) (c : Contents K V S) (pair : K × V) → lookup_entry (names i) c.pairs ≡ Some pair
+        → R c (rewrite pair i v c)
 
 -- nothing is to be kept
 pub keeps_any : {K V S Q : Type 0} {rules : Rules K V S} {names : Q → K → Bool} → Keeps rules names (λ c d. Unit {0})
@@ -69,6 +78,7 @@ keeps_any = record {
   left = λ test c. tt;
   dropped = λ newer older pair s. tt;
   first = λ q c. tt;
+  last = λ q c. tt;
   cleared = λ c. tt;
 }
 
@@ -80,6 +90,7 @@ keeps_nothing = record {
   came = λ i v c s pair a n. tt;
   turned_down = λ i v c s n. tt;
   exchanged = λ i v c pair found. tt;
+  rewritten = λ i v c pair found. tt;
 }
 
 -- what left left these

@@ -3,6 +3,7 @@ use Rattle.std.proofs.Common.{◌≡◌, ◌≢◌, ℕ, zero, suc, ◌+◌, ◌
 use Rattle.std.proofs.Common.{◌∷◌, length, take, Option, Some, None, Result, Ok, Err, refl, sym, ap, ◌∙◌, subst, arith}
 use Rattle.std.proofs.lemmas.Bool.{lt-ltb, le-ltb}
 use Rattle.std.proofs.lemmas.List.{take_all, length-take, nil_from_length}
+use Rattle.std.proofs.lemmas.List.Sums.{fold_push}
 use Rattle.std.proofs.lemmas.Map.{length-set_value}
 use Rattle.std.proofs.lemmas.Option.{none-some}
 use Rattle.std.specs.Prelude.{not, IsErr, nat_lt, option_map, unwrap_or}
@@ -19,8 +20,9 @@ use Rattle.schnellru.specs.Exact.{InsertsInList, ends, not_offered, not_placed, 
 use Rattle.schnellru.specs.Exact.{lands}
 use Rattle.group_table.specs.Sizes.{IsBucketCount}
 use Rattle.schnellru.specs.Calls.{written}
-use Rattle.schnellru.specs.Runs.{Step, calls}
-use Rattle.schnellru.specs.Kept.{stored_key, LeavesTheNewest, KeepsToLength}
+use Rattle.schnellru.specs.Extends.{InsertsAll, no_insert, one_insert_more}
+use Rattle.schnellru.specs.Runs.{Step, calls, inserts}
+use Rattle.schnellru.specs.Kept.{stored_key, newest_after, LeavesTheNewest, KeepsToLength}
 use Rattle.schnellru.proofs.Maps.LeavingPairs.{trim-within}
 use Rattle.schnellru.proofs.Maps.Promotions.{written_sized}
 use Rattle.schnellru.proofs.PairLists.Emptiness.{is_empty-some}
@@ -217,3 +219,24 @@ keeps_written names value old keeps = record {
   entry = keeps.entry;
   sized = written_sized old names value keeps.sized;
 }
+
+-- after a list of inserts
+module _ {K V H : Type 0} (eq : K → K → Bool) (old : State K V ℕ H) (keeps : KeepsToLength old) where
+  pub record LeavesNewestOf (inserted : List (K × V)) (new : State K V ℕ H) : Type 0 where
+    pub keeps_on : KeepsToLength new
+    pub limiter : new.limiter ≡ old.limiter
+    pub pairs : new.pairs ≡ newest_after eq old.limiter inserted old.pairs
+
+  pub leaves_newest_of : {hash_of : H → K → ℕ} (inserted : List (K × V)) (new : State K V ℕ H)
+      → InsertsAll length_rules length_offers eq hash_of old inserted new → LeavesNewestOf inserted new
+  leaves_newest_of inserted new no_insert = record { keeps_on = keeps; limiter = refl; pairs = refl }
+  leaves_newest_of _ _ (one_insert_more {pairs} {before} run key value kept new step sized) =
+      let was = leaves_newest_of pairs before run in
+      let call = inserts key value (Ok kept) step in
+      record {
+        keeps_on = keeps_on eq before new was.keeps_on sized call;
+        limiter = (step_changes keeps_limiter before new call).2.moves ∙ was.limiter;
+        pairs = (leaves_newest eq key value before (Ok kept) new was.keeps_on step).newest
+            ∙ (λ j. take (was.limiter j) ((stored_key (eq key) key (was.pairs j), value) ∷ without (eq key) (was.pairs j)))
+            ∙ sym (fold_push _ old.pairs pairs (key, value));
+      }

@@ -1,14 +1,15 @@
 -- Of the pairs whose keys no call names, those that are left are the newest.
-use Rattle.std.proofs.Common.{◌≡◌, ℕ, Bool, true, false, cond, not, List, [], ◌∷◌, Option, Some, None}
+use Rattle.std.proofs.Common.{◌≡◌, ℕ, Bool, true, false, cond, not, List, [], ◌∷◌, ◌++◌, Option, Some, None}
 use Rattle.std.proofs.Common.{refl, sym, ap, ◌∙◌, subst}
-use Rattle.std.specs.Prelude.{Contains, map}
+use Rattle.std.specs.Prelude.{Contains, map, option_to_list}
 use Rattle.std.specs.Map.{set_value}
 use Rattle.std.proofs.lemmas.List.Elements.{filter-append}
+use Rattle.std.proofs.lemmas.List.{append-nil}
 use Rattle.lru_limits.specs.Laws.{IsLookup, IsInsertion}
 use Rattle.lru_limits.specs.Rules.{Rules, Offers}
 use Rattle.schnellru.specs.GetOrInserts.{got, inserted}
-use Rattle.schnellru.specs.Lists.{IsFront, lookup_entry, without, front, after}
-use Rattle.schnellru.specs.Runs.{inserts, makes_newest, gets, removes, pops_oldest, pops_newest, drains, clears}
+use Rattle.schnellru.specs.Lists.{IsFront, lookup_entry, without, set_entry, front, back, after}
+use Rattle.schnellru.specs.Runs.{inserts, makes_newest, updates, gets, demotes, removes, pops_oldest, pops_newest, drains, clears}
 use Rattle.schnellru.specs.Runs.{reserves, shrinks, trims, retains, AnyStep, calls, writes, sets_limiter, AreAmong, NamesOnly, StepAmong}
 use Rattle.schnellru.specs.Runs.{Run, ends, goes_on}
 use Rattle.schnellru.specs.Retains.{retained}
@@ -16,7 +17,8 @@ use Rattle.schnellru.specs.State.{State, contents}
 use Rattle.schnellru.specs.Theorems.{GivesUp, behind, with_none, without_one, others}
 use Rattle.schnellru.proofs.Theorems.AddedPairs.{reserve_stays}
 use Rattle.schnellru.proofs.Theorems.Fronts.{insert_gives_up, front_same, front_self, front_trans, front_trim, front_without_last}
-use Rattle.schnellru.proofs.Theorems.Fronts.{found_named}
+use Rattle.schnellru.proofs.Theorems.Fronts.{found_named, replaced_named}
+use Rattle.schnellru.specs.Updates.{updated, rejected, not_there, with_updated}
 use Rattle.schnellru.proofs.Chains.Orders.{Contains-here, Contains-later}
 use Rattle.schnellru.proofs.Theorems.Shrinks.{shrunk_list}
 
@@ -63,6 +65,26 @@ module _ {K V : Type 0} (test : K → Bool) where
         go None e = refl
         go (Some pair) e = others_behind pair (without names xs) (among pair.0 (found_named names xs pair e))
 
+    others_back : (xs : List (K × V)) → others test (back names xs) ≡ others test xs
+    others_back xs = filter-append (λ (pair : K × V). not (test pair.0)) (without names xs)
+        (option_to_list (lookup_entry names xs))
+        ∙ ap (λ l. others test (without names xs) ++ l) (go (lookup_entry names xs) refl)
+        ∙ append-nil (others test (without names xs)) ∙ others_without xs
+      where
+        go : (found : Option (K × V)) → lookup_entry names xs ≡ found → others test (option_to_list found) ≡ []
+        go None e = refl
+        go (Some pair) e = others_behind pair [] (among pair.0 (found_named names xs pair e))
+
+    others_set : (q : K × V) → names q.0 ≡ true → (xs : List (K × V))
+        → others test (set_entry names q xs) ≡ others test xs
+    others_set q named [] = refl
+    others_set q named (x ∷ xs) = go (names x.0) refl (others_set q named xs)
+      where
+        go : (b : Bool) → names x.0 ≡ b → others test (set_entry names q xs) ≡ others test xs
+            → others test (cond b (q ∷ xs) (x ∷ set_entry names q xs)) ≡ others test (x ∷ xs)
+        go true e h = others_behind q xs (among q.0 named) ∙ sym (others_behind x xs (among x.0 e))
+        go false e h = ap (λ l. cond (not (test x.0)) (x ∷ l) l) h
+
     others_written : (xs : List (K × V)) (value : V) → others test (set_value names xs value) ≡ others test xs
     others_written [] value = refl
     others_written (x ∷ xs) value = go (names x.0) refl (others_written xs value)
@@ -94,8 +116,19 @@ module _ {K V S H I : Type 0} {rules : Rules K V S} {offers : Offers K V S I} {n
   step_gives_up old new (calls (makes_newest value key result (inserted none v made h))) among =
       gives_up_others test (names key) among _ old.pairs new.pairs
       (insert_gives_up looks_up laws key v old result new h)
+  step_gives_up old new (calls (updates key value result (updated pair found y r l))) among =
+      subst (IsFront (others test new.pairs)) (others_set test (names key) among _
+      (replaced_named rules offers names looks_up laws key value old pair found) old.pairs)
+      (front_trans _ (others_same test new.pairs _ (ap (λ st. st.pairs) l.is))
+      (front_others test _ _ (front_trim rules (with_updated rules offers names pair key value (contents old)))))
+  step_gives_up old new (calls (updates key value result (rejected pair found y r l))) among =
+      front_same (ap (λ st. others test st.pairs) l.is ∙ others_without test (names key) among old.pairs)
+  step_gives_up old new (calls (updates key value result (not_there a r e))) among =
+      others_same test new.pairs old.pairs (ap (λ st. st.pairs) e)
   step_gives_up old new (calls (gets key e)) among =
       front_same (ap (λ st. others test st.pairs) e ∙ others_front test (names key) among old.pairs)
+  step_gives_up old new (calls (demotes key e)) among =
+      front_same (ap (λ st. others test st.pairs) e ∙ others_back test (names key) among old.pairs)
   step_gives_up old new (calls (removes named result h)) among =
       front_same (ap (λ st. others test st.pairs) h.state.is ∙ others_without test named among old.pairs)
   step_gives_up old new (calls (pops_oldest result h)) among =

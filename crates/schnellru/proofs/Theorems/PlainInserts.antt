@@ -13,6 +13,8 @@ use Rattle.schnellru.specs.Inserts.{Insert, replaced, given_up, no_memory_to_adm
 use Rattle.schnellru.specs.Inserts.{Settles, PlacesNew}
 use Rattle.schnellru.specs.HandedOver.{noting, noting_offers, noted}
 use Rattle.schnellru.specs.Retains.{retained, Retains, RetainHands}
+use Rattle.schnellru.specs.Updates.{Update, updated, rejected, not_there}
+use Rattle.schnellru.specs.declared.map.update.Updated.{Updated}
 use Rattle.std.specs.Borrow.{Bor}
 use Rattle.std.specs.Fn.{Mut}
 
@@ -192,6 +194,18 @@ module _ {K V S H I : Type 0} {rules : Rules K V S} {offers : Offers K V S I} {n
       → Insert (noting rules) (noting_offers offers) names hash_of i v (noted before old) result (noted after new)
       → Insert rules offers names hash_of i v old result new
   plain_insert {before} {after} {old} {new} step = plain_insert_of (noted before old) (noted after new) step
+
+-- and so is an update
+module _ {K V S H I : Type 0} {rules : Rules K V S} {offers : Offers K V S I} {names : I → K → Bool} {i : I} {v : V}
+    {result : Updated V} where
+  pub plain_update : {before after : List (K × V)} {old new : State K V S H}
+      → Update (noting rules) (noting_offers offers) names i v (noted before old) result (noted after new)
+      → Update rules offers names i v old result new
+  plain_update {before} {after} {old} {new} (updated pair there taken r leaves) = updated pair there taken r
+      (plain_leaves (noted before old) (noted after new) _ _ (plain_trim rules _) leaves)
+  plain_update {before} {after} {old} {new} (rejected pair there untaken r leaves) = rejected pair there untaken r
+      (plain_leaves (noted before old) (noted after new) _ _ refl leaves)
+  plain_update (not_there none r e) = not_there none r (ap plain e)
 
 -- and so is a trim
 pub plain_trims : {K V S H : Type 0} (rules : Rules K V S) (before after : List (K × V)) (old new : State K V S H)

@@ -1,5 +1,6 @@
 -- What each move keeps, every step keeps, and so does every run.
 use Rattle.std.proofs.Common.{◌≡◌, ℕ, Bool, true, false, List, length, Ok, Err, inl, inr, refl, subst}
+use Rattle.std.specs.Cmp.{IsEquivalence}
 use Rattle.std.specs.List.{IsDistinct}
 use Rattle.std.specs.Map.{set_value}
 use Rattle.std.proofs.lemmas.Map.{keys-set_value}
@@ -8,8 +9,8 @@ use Rattle.lru_limits.specs.Rules.{Rules, Offers}
 use Rattle.lru_limits.specs.Laws.{IsLookup, IsInsertion, IsAccount}
 use Rattle.schnellru.specs.Lists.{keys_of}
 use Rattle.schnellru.specs.State.{State, Contents, contents, IsSized, IsMap}
-use Rattle.schnellru.specs.Calls.{promoted, written, cleared}
-use Rattle.schnellru.specs.Runs.{Step, inserts, makes_newest, gets, removes, pops_oldest, pops_newest, drains, clears}
+use Rattle.schnellru.specs.Calls.{promoted, demoted, written, cleared}
+use Rattle.schnellru.specs.Runs.{Step, inserts, makes_newest, updates, gets, demotes, removes, pops_oldest, pops_newest, drains, clears}
 use Rattle.schnellru.specs.Runs.{reserves, shrinks, trims, retains}
 use Rattle.schnellru.specs.Runs.{AnyStep, calls, writes, sets_limiter, Run, ends, goes_on}
 use Rattle.schnellru.specs.Shrinks.{PlacesAnew}
@@ -19,10 +20,10 @@ use Rattle.schnellru.proofs.Theorems.Moves.{KeepsOffers, keeps_nothing, keeps_an
 use Rattle.schnellru.proofs.Theorems.Removals.{stay_any}
 use Rattle.schnellru.proofs.Theorems.TableGrowth.{Changes}
 use Rattle.schnellru.proofs.Theorems.Potential.{pays_self, pays_trans, bounded_of}
-use Rattle.schnellru.proofs.Theorems.Ways.{insert_changes}
+use Rattle.schnellru.proofs.Theorems.Ways.{insert_changes, update_changes}
 use Rattle.schnellru.proofs.Theorems.PaidMoves.{stays_map}
 use Rattle.schnellru.proofs.Theorems.Sums.{keeps_sums, stays_summed}
-use Rattle.schnellru.proofs.Theorems.CallChanges.{promoted_changes, remove_changes, pop_oldest_changes}
+use Rattle.schnellru.proofs.Theorems.CallChanges.{promoted_changes, demoted_changes, remove_changes, pop_oldest_changes}
 use Rattle.schnellru.proofs.Theorems.CallChanges.{pop_newest_changes, cleared_changes, drain_changes, trim_changes, retain_changes}
 use Rattle.schnellru.proofs.Theorems.CallChanges.{reserve_changes, makes_newest_changes, written_changes, set_changes}
 use Rattle.schnellru.proofs.Theorems.Shrinks.{shrink_changes, shrink_pays, shrink_kept}
@@ -42,7 +43,9 @@ module _ {K V S H I : Type 0} {rules : Rules K V S} {offers : Offers K V S I} {n
         × (anew : ℕ) × Changes rules R more anew old new
     step_changes old new (inserts key value result h) = (_, _, insert_changes k key value old result new h)
     step_changes old new (makes_newest value key result h) = (_, _, makes_newest_changes k h)
+    step_changes old new (updates key value result h) = (_, _, update_changes k key value old result new h)
     step_changes old new (gets key e) = rw e (_, _, promoted_changes k.keeps old key)
+    step_changes old new (demotes key e) = rw e (_, _, demoted_changes k.keeps old key)
     step_changes old new (removes test result h) = (_, _, remove_changes k.keeps old test result new h)
     step_changes old new (pops_oldest result h) = (_, _, pop_oldest_changes k.keeps old result new h)
     step_changes old new (pops_newest result h) = (_, _, pop_newest_changes k.keeps old result new h)
@@ -83,8 +86,12 @@ module _ {K V S H I : Type 0} {rules : Rules K V S} {offers : Offers K V S I} {n
       none old new ((insert_changes keeps_nothing key value old result new h).tables.pays (bounded_of old ok))
   any_pays old new (calls (makes_newest value key result h)) ok =
       none old new ((makes_newest_changes keeps_nothing h).tables.pays (bounded_of old ok))
+  any_pays old new (calls (updates key value result h)) ok =
+      none old new ((update_changes keeps_nothing key value old result new h).tables.pays (bounded_of old ok))
   any_pays old new (calls (gets key e)) ok = rw e
       (none old (promoted (names key) old) ((promoted_changes {rules = rules} {names = names} keeps_any old key).tables.pays (bounded_of old ok)))
+  any_pays old new (calls (demotes key e)) ok = rw e
+      (none old (demoted (names key) old) ((demoted_changes {rules = rules} {names = names} keeps_any old key).tables.pays (bounded_of old ok)))
   any_pays old new (calls (removes test result h)) ok =
       none old new ((remove_changes stay_any old test result new h).tables.pays (bounded_of old ok))
   any_pays old new (calls (pops_oldest result h)) ok =
@@ -129,18 +136,18 @@ module _ {K V S H I : Type 0} {rules : Rules K V S} {offers : Offers K V S I} {n
   run_summed laws new old r = stays_summed laws old new (run_keeps (keeps_sums laws names) new old r)
 
   module _ {eq : K → K → Bool} {query_input : I → List (List ℕ)} {key_input : K → List (List ℕ)}
-      (looks_up : IsLookup names eq query_input key_input)
+      (equivalence : IsEquivalence eq) (looks_up : IsLookup names eq query_input key_input)
       (laws : IsInsertion names eq offers) where
     pub any_distinct : (old new : State K V S H) → AnyStep rules offers names hash_of old new
         → IsDistinct eq (keys_of old.pairs) → IsDistinct eq (keys_of new.pairs)
-    any_distinct old new s = (any_changes (offers_distinct looks_up laws)
+    any_distinct old new s = (any_changes (offers_distinct equivalence looks_up laws)
         (λ c test value d. subst (IsDistinct eq) (sym (keys-set_value test c.pairs value)) d)
         (λ c s d. d) old new s).2.moves
 
     pub any_is_map : (old new : State K V S H) → AnyStep rules offers names hash_of old new → IsMap eq old → IsSized new
         → IsMap eq new
     any_is_map old new s =
-        let changed = any_changes (offers_distinct looks_up laws)
+        let changed = any_changes (offers_distinct equivalence looks_up laws)
         (λ c test value d. subst (IsDistinct eq) (sym (keys-set_value test c.pairs value)) d)
         (λ c s d. d) old new s in
         stays_map rules changed.0 changed.1 old new changed.2

@@ -1,14 +1,16 @@
 -- The running total stays the sum of the costs.
 use Rattle.std.proofs.Common.{◌≡◌, ℕ, ◌+◌, ◌≤◌, ◌++◌, Bool, true, false, cond, List, [], ◌∷◌, length, Option, Some}
 use Rattle.std.proofs.Common.{None, refl, sym, ap, ◌∙◌, subst, arith, sum_by, MatchOption}
+use Rattle.std.specs.Prelude.{option_to_list}
 use Rattle.std.specs.Map.{set_value}
 use Rattle.std.proofs.lemmas.List.Recursion.{is_sum_by}
 use Rattle.lru_limits.specs.Rules.{Rules, Offers}
-use Rattle.lru_limits.specs.Laws.{IsAccount}
+use Rattle.std.proofs.lemmas.Option.{none-some}
+use Rattle.lru_limits.specs.Laws.{IsAccount, kept_value}
 use Rattle.schnellru.specs.Theorems.{IsSummed}
-use Rattle.schnellru.specs.Lists.{IsFront, last, without_last, after, front, lookup_entry, without}
+use Rattle.schnellru.specs.Lists.{IsFront, last, without_last, after, front, back, lookup_entry, set_entry, without}
 use Rattle.schnellru.specs.State.{State, Contents, contents, told_of}
-use Rattle.schnellru.proofs.Theorems.Moves.{KeepsOffers, exchange}
+use Rattle.schnellru.proofs.Theorems.Moves.{KeepsOffers, exchange, rewrite}
 
 module _ {X : Type 0} (f : X → ℕ) where
   -- the sum of f over the list
@@ -71,6 +73,27 @@ module _ {K V : Type 0} (cost : K × V → ℕ) (names : K → Bool) where
       go None ys h = ap (total cost) h
       go (Some x) ys h = omega (arith, h)
 
+  pub total-back : (xs : List (K × V)) → total cost (back names xs) ≡ total cost xs
+  total-back xs = go (lookup_entry names xs) (without names xs) (split_named xs)
+    where
+      go : (o : Option (K × V)) (ys : List (K × V)) → IsSplit cost xs o ys
+          → total cost (ys ++ option_to_list o) ≡ total cost xs
+      go None ys h = omega (arith, total-append cost ys [], ap (total cost) h)
+      go (Some x) ys h = omega (arith, total-append cost ys (x ∷ []), h)
+
+  -- the others, and the pair that is written
+  pub total-set_entry : (q pair : K × V) (xs : List (K × V)) → lookup_entry names xs ≡ Some pair
+      → total cost (set_entry names q xs) ≡ cost q + total cost (without names xs)
+  total-set_entry q pair [] found = absurd (none-some pair found)
+  total-set_entry q pair (x ∷ xs) found = go (names x.0) found (total-set_entry q pair xs)
+    where
+      go : (b : Bool) → cond b (Some x) (lookup_entry names xs) ≡ Some pair
+          → (lookup_entry names xs ≡ Some pair → total cost (set_entry names q xs) ≡ cost q + total cost (without names xs))
+          → total cost (cond b (q ∷ xs) (x ∷ set_entry names q xs))
+          ≡ cost q + total cost (cond b xs (x ∷ without names xs))
+      go true e h = omega arith
+      go false e h = omega (arith, h e)
+
 module _ {K V : Type 0} (cost : K × V → ℕ) (names : K → Bool) (v : V) where
   -- the value v in place of that of the named pair keeps its cost
   abbrev KeepsPair : List (K × V) → Type 0
@@ -110,6 +133,12 @@ module _ {K V S I : Type 0} {rules : Rules K V S} {offers : Offers K V S I} {cos
       (split_named (λ p. cost p.0 p.1) (names i) c.pairs) in
       let r = laws.exchanges c.limiter (length c.pairs) pair.0 i pair.1 v (omega arith) in omega arith
 
+  rewritten_holds : (names : I → K → Bool) (i : I) (v : V) (c : Contents K V S) (pair : K × V)
+      → lookup_entry (names i) c.pairs ≡ Some pair → Holds c → Holds (rewrite rules offers names pair i v c)
+  rewritten_holds names i v c pair found h = let by = offers.on_replace c.limiter (length c.pairs) pair.0 i pair.1 v in
+      exchanged_holds names i v c pair found h
+      ∙ sym (total-set_entry (λ p. cost p.0 p.1) (names i) (by.key, kept_value by) pair c.pairs found)
+
   pub keeps_sums : (names : I → K → Bool) → KeepsOffers rules offers names (λ c d. Holds c → Holds d)
   keeps_sums names = record {
     keeps = record {
@@ -122,11 +151,13 @@ module _ {K V S I : Type 0} {rules : Rules K V S} {offers : Offers K V S I} {cos
       left = λ test c. told_holds c.pairs _ _ c.limiter (split_named _ test c.pairs);
       dropped = λ newer older pair s. told_holds (newer ++ pair ∷ older) _ (Some pair) s (split_between _ newer older pair);
       first = λ q c h. h ∙ sym (total-front _ (names q) c.pairs);
+      last = λ q c h. h ∙ sym (total-back _ (names q) c.pairs);
       cleared = λ c h. laws.empties c.limiter;
     };
     came = λ i v c s pair a n h. let r = laws.adds c.limiter (length c.pairs) i v s pair.0 pair.1 n in omega arith;
     turned_down = λ i v c s n h. laws.refuses c.limiter (length c.pairs) i v s n ∙ h;
     exchanged = exchanged_holds names;
+    rewritten = rewritten_holds names;
   }
 
   -- what makes these moves keeps the running total the sum of the costs

@@ -6,7 +6,7 @@ use Rattle.group_table.specs.Sizes.{full_capacity, IsBucketCount}
 use Rattle.group_table.specs.Change.{count_up}
 use Rattle.lru_limits.specs.Rules.{Rules, Offers}
 use Rattle.lru_limits.specs.Laws.{kept_value}
-use Rattle.schnellru.specs.Lists.{without}
+use Rattle.schnellru.specs.Lists.{without, set_entry}
 use Rattle.schnellru.specs.State.{State, buckets, room, potential, Contents, contents}
 use Rattle.schnellru.specs.Sizes.{target, new_table}
 use Rattle.schnellru.specs.Place.{Place, in_bucket, rehashed, grown, not_grown, FillsBucket}
@@ -14,12 +14,14 @@ use Rattle.schnellru.specs.Place.{nothing_to_evict, finds_bucket, rehashes, Outc
 use Rattle.schnellru.specs.Place.{IsPlaced}
 use Rattle.schnellru.specs.Place.{asked, turned_away, IsPlacedIfMemory, CannotGrow, no_target, denied}
 use Rattle.schnellru.specs.Inserts.{Insert, replaced, given_up, no_memory_to_admit, not_admitted, admitted, replacement}
+use Rattle.schnellru.specs.Updates.{Update, updated, rejected, not_there}
+use Rattle.schnellru.specs.declared.map.update.Updated.{Updated}
 use Rattle.schnellru.proofs.Maps.LeavingPairs.{length-pops, oldest_leaves, known_is}
 use Rattle.schnellru.proofs.TableSizes.Growth.{full_capacity-4, full_capacity-at_most, full_capacity-double, target_doubles}
 use Rattle.schnellru.proofs.TableSizes.Growth.{target_usage, first_target-count}
 use Rattle.schnellru.proofs.TableSizes.Doubling.{target_small}
 use Rattle.schnellru.proofs.Theorems.Potential.{IsBounded, pays_placing}
-use Rattle.schnellru.proofs.Theorems.Moves.{KeepsWay, Keeps, KeepsOffers, behind, exchange, leaves_keep, pops_keep}
+use Rattle.schnellru.proofs.Theorems.Moves.{KeepsWay, Keeps, KeepsOffers, behind, exchange, rewrite, leaves_keep, pops_keep}
 use Rattle.schnellru.proofs.Theorems.Moves.{trim_keeps, make_room_keeps, settles_keep, way_behind}
 use Rattle.schnellru.proofs.Theorems.TableGrowth.{settles_calm, Calm, Tables, IsNextCount, Changes, self_calm}
 use Rattle.schnellru.proofs.Theorems.TableGrowth.{limiter_calm, leaves_calm, calm_trans, calm_tables, calm_then}
@@ -244,7 +246,35 @@ module _ {K V S H I : Type 0} {rules : Rules K V S} {offers : Offers K V S I} {n
         limiter = (replacement rules offers names pair i v (contents old)).limiter;
       })) e r
 
-  -- what each move keeps, an insert keeps
+  -- the same with the pair in its place
+  rewrites : (pair : K × V) (w : V) → kept_value (replacement rules offers names pair i v (contents old)) ≡ w
+      → R (contents old) (rewrite rules offers names pair i v (contents old))
+      → R (contents old) (record {
+        pairs = set_entry (names i) ((replacement rules offers names pair i v (contents old)).key, w) old.pairs;
+        limiter = (replacement rules offers names pair i v (contents old)).limiter;
+      })
+  rewrites pair w e r = subst
+      (λ x. R (contents old)
+      (record {
+        pairs = set_entry (names i) ((replacement rules offers names pair i v (contents old)).key, x) old.pairs;
+        limiter = (replacement rules offers names pair i v (contents old)).limiter;
+      })) e r
+
+  -- what each move keeps, an update keeps
+  pub update_changes : (result : Updated V) (new : State K V S H) → Update rules offers names i v old result new
+      → Changes rules R 0 0 old new
+  update_changes result new (updated pair found y r l) =
+      leaves_changes rules R 0 old _ new l
+      (k.keeps.way.trans (rewrites pair _ (rw y refl) (k.rewritten i v (contents old) pair found))
+      (trim_keeps rules R k.keeps.way _))
+  update_changes result new (rejected pair found y r l) =
+      leaves_changes rules R 0 old _ new l
+      (k.keeps.way.trans (exchanges pair _ (rw y refl) (k.exchanged i v (contents old) pair found))
+      (k.keeps.left (λ _. true) _))
+  update_changes result new (not_there a r e) = rw e
+      (calm_changes rules R 0 old old (self_calm old) (k.keeps.way.self (contents old)))
+
+  -- and so does an insert
   pub insert_changes : {hash_of : H → K → ℕ} (result : Result Bool AllocError) (new : State K V S H)
       → Insert rules offers names hash_of i v old result new → Changes rules R 1 0 old new
   insert_changes result new (replaced pair found y r l) =

@@ -1,20 +1,23 @@
 -- What becomes of a pair in a bucket: it is replaced, evicted, or taken out. No public clause cites this module.
-use Rattle.std.specs.Prelude.{◌≡◌, ℕ, ◌+◌, ◌∷◌, Some}
+use Rattle.std.specs.Prelude.{◌≡◌, ℕ, ◌+◌, Bool, true, false, Some}
 use Rattle.group_table.specs.Bucket.{marks_of, entry_at, room as room_of, room_at}
 use Rattle.group_table.specs.Change.{Removes}
-use Rattle.lru_limits.specs.Rules.{Rules, Replaced}
-use Rattle.schnellru.specs.State.{told_of}
+use Rattle.lru_limits.specs.Rules.{Rules, Offers, Replaced}
+use Rattle.schnellru.specs.Lists.{lookup_entry}
+use Rattle.schnellru.specs.State.{State, Leaves, contents, told_of}
 use Rattle.schnellru.specs.Calls.{left_of}
+use Rattle.schnellru.specs.Inserts.{replacement, unkept_of, with_given_up}
+use Rattle.schnellru.specs.Updates.{with_updated}
 use Rattle.schnellru.specs.Inside.OrderedTable.{OrderedTable, with_pair, without_bucket}
 
--- The limiter took the new value for the pair in a bucket, and the pair is the newest.
+-- The limiter accepted the new value for the pair in a bucket, which keeps its place.
 pub record IsReplaced {K V S : Type 0} (by : Replaced K V S) (b : ℕ) (old new : OrderedTable K V) (limiter : S) : Type 0 where
   pub slots : new.slots ≡ (with_pair old b (by.key, by.new_value)).slots
-  pub order : new.order ≡ b ∷ without_bucket b old.order
+  pub order : new.order ≡ old.order
   pub placings : new.placings ≡ old.placings
   pub told : limiter ≡ by.limiter
 
--- The limiter refused it, and the pair left.
+-- The limiter rejected it, and the pair left.
 pub record IsGivenUp {K V S : Type 0} (rules : Rules K V S) (by : Replaced K V S) (b : ℕ) (old new : OrderedTable K V)
     (limiter : S) : Type 0 where
   pub slots : Removes (with_pair old b (by.key, by.old_value)).slots new.slots b
@@ -34,3 +37,16 @@ pub record IsTakenOut {K V S : Type 0} (rules : Rules K V S) (b : ℕ) (old new 
   pub order : new.order ≡ without_bucket b old.order
   pub placings : new.placings ≡ old.placings
   pub room : room_of (marks_of new.slots) ≡ room_of (marks_of old.slots) + room_at (marks_of new.slots) b
+
+-- The limiter was offered a new value for the pair of the key, in a map. It said whether it accepts, and the value that
+-- the pair does not have then is returned besides.
+pub record IsOffered {K V S H I : Type 0} (rules : Rules K V S) (offers : Offers K V S I) (names : I → K → Bool) (i : I)
+    (v : V) (old : State K V S H) (result : Bool × V) (new : State K V S H) : Type 0 where
+  pub pair : K × V
+  pub there : lookup_entry (names i) old.pairs ≡ Some pair
+  pub taken : (replacement rules offers names pair i v (contents old)).taken ≡ result.0
+  pub unkept : result.1 ≡ unkept_of (replacement rules offers names pair i v (contents old))
+  pub accepted : result.0 ≡ true → Leaves old (with_updated rules offers names pair i v (contents old)) new
+  -- it is in the same bucket
+  pub place : result.0 ≡ true → new.places ≡ old.places
+  pub rejected : result.0 ≡ false → Leaves old (with_given_up rules offers names pair i v (contents old)) new

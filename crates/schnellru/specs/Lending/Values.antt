@@ -1,7 +1,7 @@
 -- What a map ends as, once a reference into it has ended.
-use Rattle.std.specs.Prelude.{◌≡◌, ℕ, Bool, Option, Some, OnSome, IfNone}
+use Rattle.std.specs.Prelude.{◌≡◌, ℕ, Bool, Option, Some, OnSome, IfNone, ⊤}
 use Rattle.std.specs.Option.{option_copied_mut}
-use Rattle.std.specs.Borrow.{Fml, RattleType, Bor, MutBor, follows, Lends, LendsIf, LendsSo}
+use Rattle.std.specs.Borrow.{Fml, RattleType, Bor, MutBor, follows, follows_so, Lends, LendsIf, LendsSo}
 use Rattle.std.specs.declared.cmp.PartialEq as equality
 use Rattle.std.specs.declared.fmt.Debug as debug
 use Rattle.std.specs.HashMap.Lent.{HashMembers}
@@ -13,6 +13,7 @@ use Rattle.schnellru.specs.Lists.{set_newest, set_value_at}
 use Rattle.schnellru.specs.State.{State}
 use Rattle.schnellru.specs.Calls.{written}
 use Rattle.schnellru.specs.contracts.map.LruMap.{the_row}
+use mathlib.Core.Option.{none}
 
 module _ (K V L S N H : RattleType) (key : HashMembers K.Denot)
     (limits : limiter.Ghosts L.Denot K.Denot V.Denot N.Denot)
@@ -29,6 +30,10 @@ module _ (K V L S N H : RattleType) (key : HashMembers K.Denot)
     -- as it is
     abbrev pub lends_value : (K.Denot → Bool) → State K.Denot V.Denot L.Denot S.Denot → Option (MutBor V.Denot) → Fml
     lends_value names base r = LendsIf map_row V m r (λ last. written names last base) m.now
+
+    -- it ends as this map, of which a part was lent for reading
+    abbrev pub ends_as : State K.Denot V.Denot L.Denot S.Denot → Fml
+    ends_as last = follows_so map_row map_row m.ghost_name none (λ _ _. ⊤) (λ n. n ≡ last)
 
     -- It ends as turned makes it of a pair that is given, with the last value written through r at that pair's key. At
     -- `None` it stays as it is.

@@ -15,7 +15,8 @@ ghost use Rattle.schnellru.specs.Runs.{Step};
 ghost use Rattle.schnellru.specs.Theorems.{Stores};
 ghost use Rattle.schnellru.specs.Exact.{InsertsInList};
 ghost use Rattle.schnellru.specs.Kept.{ChangesNoPair, LosesNothing, AcceptsNew, IsAdded, LeavesTheNewest};
-ghost use Rattle.schnellru.specs.Kept.{KeepsToLength};
+ghost use Rattle.schnellru.specs.Kept.{KeepsToLength, newest_after};
+ghost use Rattle.schnellru.specs.Extends.{InsertsAll};
 
 use lru_limits::{ByLength, Insertion, KeyHasher, Limiter, LookupKey};
 use std::hash::Hash;
@@ -73,7 +74,7 @@ pub fn inserts_with_room_are_exact<
 
 /// With `ByLength` an insert leaves its pair first, under the key that is stored, and then the newest others, up to
 /// `max_length` pairs. The premise is that the map keeps to its length (`maps_keep_to_their_length`), or that growth is
-/// left in its table.
+/// left in its table. So do the inserts of a list, such as those of `try_extend` (`lists`).
 pub fn inserts_leave_the_newest<K: Eq + Hash + Drop, V: Drop, S: KeyHasher<K>>()
     ensures newest { (key : K) (value : V) (old : State K V ByLength S) (result : Result Bool AllocError)
         (new : State K V ByLength S) →
@@ -87,6 +88,11 @@ pub fn inserts_leave_the_newest<K: Eq + Hash + Drop, V: Drop, S: KeyHasher<K>>()
         Insert ⟦<ByLength as Limiter<K, V>>⟧.rules ⟦<ByLength as Insertion<K, V, K>>⟧.offers K.eq S.hash_of key value
         old result new →
         LeavesTheNewest K.eq old.limiter key value old.pairs result new.pairs }
+    ensures lists { (inserted : List (K × V)) (old new : State K V ByLength S) →
+        KeepsToLength old →
+        InsertsAll ⟦<ByLength as Limiter<K, V>>⟧.rules ⟦<ByLength as Insertion<K, V, K>>⟧.offers K.eq S.hash_of old
+        inserted new →
+        new.pairs ≡ newest_after K.eq old.limiter inserted old.pairs }
 {}
 
 /// A new map with `ByLength` keeps to its length, if that is at most 939,524,096 and an entry has fewer than 2 ^ 32 - 1

@@ -2,7 +2,7 @@
 ghost use Rattle.std.specs.Prelude.{◌≡◌, ℕ, ◌<◌, Bool, List, Some, None, IfSome, IfNone, IsTrue, Contains, length};
 ghost use Rattle.schnellru.specs.Lists.{lookup_entry, place_of, last, without_last, after};
 ghost use Rattle.schnellru.specs.State.{IsMap};
-ghost use Rattle.schnellru.specs.Calls.{promoted, RemoveEntry};
+ghost use Rattle.schnellru.specs.Calls.{promoted, demoted, RemoveEntry};
 
 use crate::map::LruMap;
 use crate::map::leave::take_out;
@@ -53,6 +53,16 @@ impl<K: Eq + Hash, V, L: Limiter<K, V>, S: KeyHasher<K>> LruMap<K, V, L, S> {
         ensures there { Contains self.new.places b }
     {
         self.entries.promote(b);
+    }
+
+    // Makes the pair in a bucket the oldest.
+    #[inline]
+    pub(super) fn demote_at(&mut self, b: usize)
+        requires { Contains self.old.places b }
+        ensures { (names : K → Bool) → ((x y : K) → IsTrue (names x) → names y ≡ K.eq x y) →
+            place_of names self.old.pairs self.old.places ≡ Some b → self.new ≡ demoted names self.old }
+    {
+        self.entries.demote(b);
     }
 
     // Makes the oldest pair the newest.

@@ -11,7 +11,6 @@ ghost use Rattle.schnellru.specs.HandedOver.{noting, noting_offers, noted, Takes
 ghost use Rattle.schnellru.specs.Inside.Handing.{Hands};
 
 use crate::map::LruMap;
-use crate::map::replace::replace;
 use lru_limits::{Insertion, KeyHasher, Limiter, LookupKey};
 use std::alloc::AllocError;
 use std::hash::Hash;
@@ -242,20 +241,14 @@ impl<K: Eq + Hash, V, L: Limiter<K, V>, S: KeyHasher<K>> LruMap<K, V, L, S> {
     {
         match self.find_hashed(hash, &key) {
             Some(b) => {
-                let (accepted, unkept) = replace(
-                    &mut self.entries,
-                    &mut self.limiter,
-                    b,
-                    key,
-                    value,
-                    sink,
-                );
+                let (accepted, unkept) = self.offer_at(b, key, value, sink);
                 if !accepted {
                     return Ok(Inserted {
                         kept: false,
                         unkept: Some(unkept),
                     });
                 }
+                self.promote_at(b);
                 let kept = self.evict_over_limit(sink);
                 Ok(Inserted {
                     kept,

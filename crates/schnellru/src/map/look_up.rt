@@ -5,14 +5,14 @@ ghost use Rattle.std.specs.Borrow.{sem};
 ghost use Rattle.std.specs.Map.Iter.{deref_pair};
 ghost use Rattle.schnellru.specs.Lists.{lookup, lookup_entry, first, last, newest_value};
 ghost use Rattle.schnellru.specs.State.{State, IsMap};
-ghost use Rattle.schnellru.specs.Calls.{Get, promoted, written};
+ghost use Rattle.schnellru.specs.Calls.{Get, promoted, demoted, written};
 
 use crate::map::LruMap;
 use lru_limits::{KeyHasher, Limiter, LookupKey};
 use std::hash::Hash;
 
 impl<K: Eq + Hash, V, L: Limiter<K, V>, S: KeyHasher<K>> LruMap<K, V, L, S> {
-    ghost use Rattle.schnellru.specs.Lending.Values.{lends_value, lends_newest, lends_newest_value};
+    ghost use Rattle.schnellru.specs.Lending.Values.{lends_value, lends_newest, lends_newest_value, ends_as};
 
     /// Lends the value of a key for writing, and makes its entry the newest. The limiter is not notified of what is
     /// written.
@@ -44,6 +44,33 @@ impl<K: Eq + Hash, V, L: Limiter<K, V>, S: KeyHasher<K>> LruMap<K, V, L, S> {
         Some(&mut self.entries.pair_mut(b).value)
     }
 
+    /// Returns the entry of a key, and makes it the newest.
+    ///
+    /// The returned key is the stored one, which may differ from the equal one that is looked up. `None` says that the key
+    /// is not there, and nothing has changed.
+    ///
+    /// ```
+    /// assert!(rt; map.get_key_value(&1) == Some((&1, &10)));
+    /// assert!(rt; map.peek_newest() == Some((&1, &10)));
+    /// ```
+    ///
+    /// Cost: `O(1)` expected.
+    ///
+    /// After `get_key_value` of the crate `lru`; schnellru has no such call.
+    #[inline]
+    pub fn get_key_value<Q: LookupKey<K>>(&mut self, key: &Q) -> Option<(&K, &V)>
+        ensures* leaves { sem 𝓛 (ends_as K.row V.row L.row S.row L.LinkType.row S.Hasher.row K.Hash L.Limiter
+            L.LinkType.LinkType.own L.LinkType.PartialEq L.LinkType.Debug S.KeyHasher S.Hasher.Hasher
+            self.entry (promoted (Q.names key.now) self.old)) }
+        ensures value { option_map deref_pair result ≡ lookup_entry (Q.names key.now) self.old.pairs }
+        ensures map { IsMap K.eq (promoted (Q.names key.now) self.old) }
+    {
+        let b = self.find(key)?;
+        self.promote_at(b);
+        let pair = self.pair_in(b);
+        Some((&pair.key, &pair.value))
+    }
+
     /// Makes the entry of a key the newest, and returns whether the key is there. If it is not, nothing has changed.
     ///
     /// ```
@@ -63,6 +90,34 @@ impl<K: Eq + Hash, V, L: Limiter<K, V>, S: KeyHasher<K>> LruMap<K, V, L, S> {
         match self.find(key) {
             Some(b) => {
                 self.promote_at(b);
+                // Nothing at run time: it opens the map, whose invariant is the clause `map`.
+                let _ = &self.entries;
+                true
+            }
+            None => false,
+        }
+    }
+
+    /// Makes the entry of a key the oldest, and returns whether the key is there. If it is not, nothing has changed.
+    ///
+    /// The oldest entry is the next one to be evicted.
+    ///
+    /// ```
+    /// assert!(rt; map.demote(&3) && !map.demote(&9));
+    /// assert!(rt; map.peek_oldest() == Some((&3, &30)));
+    /// ```
+    ///
+    /// Cost: `O(1)` expected.
+    ///
+    /// After `demote` of the crate `lru`; schnellru has no such call.
+    pub fn demote<Q: LookupKey<K>>(&mut self, key: &Q) -> bool
+        ensures there { result ≡ is_some (lookup (Q.names key.now) self.old.pairs) }
+        ensures demoted { self.new ≡ demoted (Q.names key.now) self.old }
+        ensures map { IsMap K.eq self.new }
+    {
+        match self.find(key) {
+            Some(b) => {
+                self.demote_at(b);
                 // Nothing at run time: it opens the map, whose invariant is the clause `map`.
                 let _ = &self.entries;
                 true

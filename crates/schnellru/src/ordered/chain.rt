@@ -1,5 +1,5 @@
 //! `Chain`: a table whose entries have links to their neighbours. Each change of the order changes a few entries.
-ghost use Rattle.std.specs.Prelude.{◌≡◌, ◌≢◌, ◌⊎◌, ◌<◌, ◌≤◌, ℕ, ◌∷◌, List, Some, Contains, map, length};
+ghost use Rattle.std.specs.Prelude.{◌≡◌, ◌≢◌, ◌⊎◌, ◌<◌, ◌≤◌, ℕ, [], ◌∷◌, ◌++◌, List, Some, Contains, map, length};
 ghost use Rattle.group_table.specs.Bucket.{Slot, IsFull};
 ghost use Rattle.group_table.specs.Relocation.{Renumbers, moved_to};
 ghost use Rattle.schnellru.specs.Inside.OrderedTable.{without_bucket};
@@ -63,6 +63,23 @@ impl<K, V, N: LinkType> Chain<K, V, N> {
         self.newest = link;
     }
 
+    // Puts a bucket that is in no chain at the end of this chain, which is not empty.
+    pub(crate) fn link_oldest(&mut self, b: usize)
+        requires full { IsFull self.old.table.slots b }
+        requires some { self.old.oldest ≢ N.MAX }
+        requires chained { OutOfChain N.number N.link N.MAX self.old b }
+        ensures pairs { pair_slots self.new.table.slots ≡ pair_slots self.old.table.slots }
+        ensures placings { self.new.table.placings ≡ self.old.table.placings }
+        ensures chain { (order : List ℕ) → KeepsOrder N.number N.link N.MAX self.old order → (Contains order b → ⊥) →
+            KeepsOrder N.number N.link N.MAX self.new (order ++ b ∷ []) }
+    {
+        let last = self.oldest;
+        let link = N::from_usize(b);
+        set_links(&mut self.table, b, last, N::MAX);
+        write_older(&mut self.table, last, link);
+        self.oldest = link;
+    }
+
     // Puts a bucket whose entry already has the links of a newest one in front of the chain, or makes it the only one.
     // The link to the newest before is passed, because the caller has read it for that entry.
     pub(crate) fn link_placed(&mut self, first: N, b: usize)
@@ -111,7 +128,7 @@ impl<K, V, N: LinkType> Chain<K, V, N> {
         if at == N::MAX {
             self.newest = to;
         } else {
-            self.table.get_mut(at.into_usize()).older = to;
+            write_older(&mut self.table, at, to);
         }
     }
 
@@ -145,6 +162,16 @@ fn write_newer<K, V, N: LinkType>(table: &mut Table<Entry<K, V, N>>, at: N, to: 
     ensures placings { table.new.placings ≡ table.old.placings }
 {
     table.get_mut(at.into_usize()).newer = to;
+}
+
+// Writes the older link of the entry at a link that leads to a full bucket.
+#[inline]
+fn write_older<K, V, N: LinkType>(table: &mut Table<Entry<K, V, N>>, at: N, to: N)
+    requires { IsFull table.old.slots (N.number at) }
+    ensures slots { SetsOlder N.number table.old.slots table.new.slots at to }
+    ensures placings { table.new.placings ≡ table.old.placings }
+{
+    table.get_mut(at.into_usize()).older = to;
 }
 
 // Sets both links of the entry in a full bucket.

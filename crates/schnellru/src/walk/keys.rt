@@ -1,5 +1,5 @@
 //! Walking the keys or the values of a map in their order of use.
-ghost use Rattle.std.specs.Prelude.{◌≡◌, length, Some, IfSome};
+ghost use Rattle.std.specs.Prelude.{◌≡◌, length, Some, IfSome, ⊤};
 ghost use Rattle.std.specs.Iterator.{at_most, UpTo};
 ghost use Rattle.std.specs.Iterator.SizeHint.{IsWithinCount};
 ghost use Rattle.std.specs.Map.{keys_of, values_of};
@@ -9,6 +9,7 @@ use crate::map::LruMap;
 use crate::walk::Walk;
 use group_table::LinkType;
 use lru_limits::{KeyHasher, Limiter};
+use std::alloc::AllocError;
 use std::hash::Hash;
 use std::iter::FusedIterator;
 use std::marker::Model;
@@ -75,6 +76,19 @@ impl<'a, K, V, N: LinkType> ExactSizeIterator for Keys<'a, K, V, N> {
 
 impl<'a, K, V, N: LinkType> FusedIterator for Keys<'a, K, V, N> {}
 
+/// The clone returns the keys that are left. Cost: `O(1)`, and no memory.
+impl<'a, K, V, N: LinkType> Clone for Keys<'a, K, V, N> {
+    ghost is_clone = { λ s r. r ≡ s };
+
+    ghost is_infallible = { λ _. ⊤ };
+
+    fn clone(&self) -> Result<Keys<'a, K, V, N>, AllocError> {
+        Ok(Keys {
+            walk: self.walk.clone()?,
+        })
+    }
+}
+
 /// An iterator over the values of a map, newest first, from both ends.
 ///
 /// ```
@@ -136,6 +150,19 @@ impl<'a, K, V, N: LinkType> ExactSizeIterator for Values<'a, K, V, N> {
 }
 
 impl<'a, K, V, N: LinkType> FusedIterator for Values<'a, K, V, N> {}
+
+/// The clone returns the values that are left. Cost: `O(1)`, and no memory.
+impl<'a, K, V, N: LinkType> Clone for Values<'a, K, V, N> {
+    ghost is_clone = { λ s r. r ≡ s };
+
+    ghost is_infallible = { λ _. ⊤ };
+
+    fn clone(&self) -> Result<Values<'a, K, V, N>, AllocError> {
+        Ok(Values {
+            walk: self.walk.clone()?,
+        })
+    }
+}
 
 impl<K: Eq + Hash, V, L: Limiter<K, V>, S: KeyHasher<K>> LruMap<K, V, L, S> {
     /// Returns an iterator over the keys, newest first. The order stays.

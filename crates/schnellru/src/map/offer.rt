@@ -1,21 +1,47 @@
-//! Replacing the value of a key that is there, over the table and the limiter.
+//! Offering the limiter a new value for a key that is there.
 ghost use Rattle.std.specs.Prelude.{◌≡◌, ℕ, true, false, length, Some, IsTrue};
 ghost use Rattle.group_table.specs.Bucket.{entry_at};
 ghost use Rattle.schnellru.specs.Inside.OrderedTable.{IsLinked, KeysFit};
 ghost use Rattle.schnellru.specs.Inserts.{unkept_of};
-ghost use Rattle.schnellru.specs.Inside.Steps.{IsReplaced, IsGivenUp};
-ghost use Rattle.schnellru.specs.Inside.Handing.{HandsGivenUp};
+ghost use Rattle.schnellru.specs.Lists.{place_of};
+ghost use Rattle.schnellru.specs.HandedOver.{noting, noting_offers, noted};
+ghost use Rattle.schnellru.specs.Inside.Steps.{IsReplaced, IsGivenUp, IsOffered};
+ghost use Rattle.schnellru.specs.Inside.Handing.{Hands, HandsGivenUp};
 
+use crate::map::LruMap;
 use crate::map::leave::take_out;
 use crate::ordered::OrderedTable;
-use lru_limits::{Insertion, Limiter, LookupKey};
+use lru_limits::{Insertion, KeyHasher, Limiter, LookupKey};
 use std::hash::Hash;
 use std::mem;
 
-// Offers the limiter a new value for the pair in a bucket. If it accepts, the pair gets the value and becomes the
-// newest. If not, the pair is removed and passed to the callback. Returns whether it accepted, and the value of the two
-// that the pair does not have.
-pub(super) fn replace<K: Eq + Hash, V, I: LookupKey<K>, L: Insertion<K, V, I>, F: FnMut(K, V)>(
+impl<K: Eq + Hash, V, L: Limiter<K, V>, S: KeyHasher<K>> LruMap<K, V, L, S> {
+    // Offers the limiter a new value for the pair in a bucket. If it accepts, the pair gets the value and keeps its place.
+    // If not, the pair is removed and passed to the callback. Returns whether it accepted, and the value of the two that
+    // the pair does not have.
+    #[inline]
+    pub(super) fn offer_at<I: LookupKey<K>, F: FnMut(K, V)>(
+        &mut self,
+        b: usize,
+        key: I,
+        value: V,
+        sink: &mut F,
+    ) -> (bool, V)
+    where
+        L: Insertion<K, V, I>,
+        requires callable { F.IsAlwaysCallable sink.old }
+        requires found { place_of (I.names key) self.old.pairs self.old.places ≡ Some b }
+        ensures handed { Hands F.FnMut sink.old sink.new (λ before after. IsOffered (noting L.rules)
+            (noting_offers L.offers) I.names key value (noted before self.old) result (noted after self.new)) }
+        ensures callable { F.IsAlwaysCallable sink.new }
+    {
+        offer(&mut self.entries, &mut self.limiter, b, key, value, sink)
+    }
+}
+
+// The same, over the table and the limiter.
+#[inline]
+pub(super) fn offer<K: Eq + Hash, V, I: LookupKey<K>, L: Insertion<K, V, I>, F: FnMut(K, V)>(
     entries: &mut OrderedTable<K, V, L::LinkType>,
     limiter: &mut L,
     b: usize,
@@ -48,9 +74,7 @@ pub(super) fn replace<K: Eq + Hash, V, I: LookupKey<K>, L: Insertion<K, V, I>, F
     let pair = entries.pair_mut(b);
     let taken = limiter.on_replace(length, &mut pair.key, key, &mut pair.value, &mut value);
     if taken {
-        let old = mem::replace(&mut pair.value, value);
-        entries.promote(b);
-        (true, old)
+        (true, mem::replace(&mut pair.value, value))
     } else {
         let (key, old) = take_out(entries, limiter, b, false);
         sink(key, old);

@@ -4,7 +4,7 @@ use Rattle.std.proofs.lemmas.Option.{same_Some}
 use Rattle.schnellru.specs.Inside.Steps.{IsGivenUp}
 use Rattle.schnellru.specs.Inside.Handing.{HandsGivenUp}
 use Rattle.schnellru.proofs.OrderedTables.Replacements.{gives_up, left_as_told}
-use Rattle.schnellru.proofs.map.replace.replace.Goals as goal
+use Rattle.schnellru.proofs.map.offer.offer.Goals as goal
 
 pub returns-else-taken-clause-given_up : goal.returns-else-taken-clause-given_up
 returns-else-taken-clause-given_up g c = λ refusal pair there.

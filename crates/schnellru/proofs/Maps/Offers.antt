@@ -1,0 +1,87 @@
+-- The limiter was offered a new value for a pair.
+use Rattle.std.proofs.Common.{◌≡◌, ℕ, ◌<◌, Bool, true, false, List, [], ◌∷◌, length, Some, refl, option_map, ap, sym, ◌∙◌, subst, arith}
+use Rattle.lru_limits.specs.Rules.{Rules, Offers}
+use Rattle.std.proofs.lemmas.Option.{none-some}
+use Rattle.schnellru.specs.Calls.{promoted}
+use Rattle.schnellru.specs.Inserts.{replacement, with_replaced, unkept_of, unkept_value}
+use Rattle.schnellru.specs.Inside.Steps.{IsOffered}
+use Rattle.schnellru.specs.Lists.{lookup_entry, front, set_entry, place_of}
+use Rattle.schnellru.specs.State.{State, Contents, Leaves, contents}
+use Rattle.schnellru.proofs.Maps.Promotions.{length-front_pairs}
+use Rattle.schnellru.proofs.PairLists.SetEntries.{length-set_entry, place-set_entry, front-set_entry}
+
+-- if a pair comes to the front, what left left
+promoted_leaves : {K V S H : Type 0} (names : K → Bool) (old mid : State K V S H) (left : Contents K V S)
+    → Leaves old left mid
+    → Leaves old (record { pairs = front names left.pairs; limiter = left.limiter }) (promoted names mid)
+promoted_leaves names old mid left leaves =
+    let as_many = length-front_pairs names mid.pairs in let room = leaves.room in record {
+      is = λ i. record (promoted names mid) {
+        pairs = front names (leaves.is i).pairs;
+        limiter = (leaves.is i).limiter;
+        hasher = (leaves.is i).hasher;
+        placings = (leaves.is i).placings;
+        moved = (leaves.is i).moved;
+        placed = (leaves.is i).placed;
+        shrunk = (leaves.is i).shrunk;
+        entry_bytes = (leaves.is i).entry_bytes;
+        max = (leaves.is i).max;
+      };
+      room = record {
+        table = room.table;
+        keeps = room.keeps;
+        at_most = omega (arith, room.at_most, as_many);
+        exact = λ small. omega (arith, room.exact small, as_many);
+        untouched = λ e. room.untouched (sym as_many ∙ e);
+      };
+    }
+
+module _ {K V S H I : Type 0} {rules : Rules K V S} {offers : Offers K V S I} {names : I → K → Bool} {i : I} {v : V}
+    {old new : State K V S H} {result : Bool × V} (offer : IsOffered rules offers names i v old result new) where
+  -- what is returned is the value that the map does not have then
+  pub offered_unkept : Some result.1 ≡ unkept_value rules offers names i v (contents old)
+  offered_unkept = ap Some offer.unkept
+      ∙ ap (option_map (λ pair. unkept_of (replacement rules offers names pair i v (contents old)))) (sym offer.there)
+
+  -- the old one, if the limiter accepts
+  pub offered_old : result.0 ≡ true → result.1 ≡ (replacement rules offers names offer.pair i v (contents old)).old_value
+  offered_old e = offer.unkept ∙ rw (offer.taken ∙ e) refl
+
+  -- and else the new one
+  pub offered_new : result.0 ≡ false → result.1 ≡ (replacement rules offers names offer.pair i v (contents old)).new_value
+  offered_new e = offer.unkept ∙ rw (offer.taken ∙ e) refl
+
+  -- there is a pair
+  pub offered_any : result.0 ≡ true → 0 < length new.pairs
+  offered_any e = let r = replacement rules offers names offer.pair i v (contents old) in omega (
+    arith,
+    ap (λ st. length st.pairs) (offer.accepted e).is,
+    length-set_entry (names i) (r.key, r.new_value) old.pairs,
+    some old.pairs offer.there,
+  )
+    where
+      some : (xs : List (K × V)) → lookup_entry (names i) xs ≡ Some offer.pair → 0 < length xs
+      some [] h = absurd (none-some offer.pair h)
+      some (x ∷ xs) h = omega arith
+
+  module _ (accepted : result.0 ≡ true)
+      (named : names i (replacement rules offers names offer.pair i v (contents old)).key ≡ true) where
+    -- the pair is in the same bucket
+    pub offered_place : (b : ℕ) → place_of (names i) old.pairs old.places ≡ Some b
+        → place_of (names i) new.pairs new.places ≡ Some b
+    offered_place b at = (λ j. place_of (names i) ((offer.accepted accepted).is j).pairs (offer.place accepted j))
+        ∙ place-set_entry (names i) _ named old.pairs old.places ∙ at
+
+    -- and may come to the front
+    module _ (next : State K V S H) (is : next ≡ promoted (names i) new) where
+      pub offered_front : Leaves old (with_replaced rules offers names offer.pair i v (contents old)) next
+      offered_front = subst (Leaves old _) (sym is)
+          (subst (λ pairs. Leaves old (record {
+            pairs = pairs;
+            limiter = (replacement rules offers names offer.pair i v (contents old)).limiter;
+          }) (promoted (names i) new))
+          (front-set_entry (names i) _ named old.pairs offer.pair offer.there)
+          (promoted_leaves (names i) old new _ (offer.accepted accepted)))
+
+      pub offered_some : 0 < length next.pairs
+      offered_some = omega (arith, ap (λ st. length st.pairs) offered_front.is)

@@ -1,0 +1,27 @@
+use Rattle.group_table.specs.Bucket.{bucket_at}
+use Rattle.group_table.proofs.SearchLemmas.{entry_by_full}
+use Rattle.schnellru.proofs.OrderedTables.LastPair.{demoted_state, demoted_holds}
+use Rattle.schnellru.proofs.OrderedTables.Searches.{pair_of_place}
+use Rattle.schnellru.proofs.map.LruMap.demote_at.Goals as goal
+
+pub demote-requires : goal.demote-requires
+demote-requires g c = c.self.invariant.linked.only c.args.b (rw (← c.self.view_is) at c.requires)
+
+pub invariant_of-self : goal.invariant_of-self
+invariant_of-self g c =
+    let m = c.self.inside in let t = m.entries in let holds = c.self.invariant in let e = c.demote.ensures in
+    let laws = g.met.K.Eq.laws in
+    let (p, there) = entry_by_full (bucket_at t.slots c.args.b)
+    (holds.linked.only c.args.b (rw (← c.self.view_is) at c.requires)) in
+    demoted_holds t c.demote.new.self holds.linked c.args.b p there e.slots e.order e.placings
+    (g.K.PartialEq.eq p.0) laws (λ x y h. laws.congr p.0 x y h) (laws.refl p.0) holds.map.distinct _
+    g.S.KeyHasher.hash_of holds e.linked
+
+pub returns : goal.returns
+returns g c = λ names one at.
+    let m = c.self.inside in let t = m.entries in let holds = c.self.invariant in let e = c.demote.ensures in
+    let laws = g.met.K.Eq.laws in
+    let (p, there, named) = pair_of_place t holds.linked names laws one holds.map.distinct c.args.b
+    (rw (← c.self.view_is) at at) in
+    rw (← c.self.view_is) (demoted_state t c.demote.new.self holds.linked c.args.b p there e.slots e.order e.placings
+    names laws one named holds.map.distinct _)

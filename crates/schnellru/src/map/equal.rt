@@ -1,0 +1,43 @@
+//! Equal maps.
+
+use crate::map::LruMap;
+use lru_limits::{KeyHasher, Limiter};
+use std::hash::Hash;
+
+/// Maps are equal if they have equal entries in the same order of use. Their limiters, hashers and tables may differ.
+///
+/// ```
+/// let other = map.clone()?;
+/// assert!(rt; map == other);
+/// ```
+///
+/// Cost: `O(n)` for n entries.
+///
+/// After std's `Vec`; schnellru has no such impl.
+impl<K: Eq + Hash, V: PartialEq, L: Limiter<K, V>, S: KeyHasher<K>> PartialEq
+    for LruMap<K, V, L, S> {
+    ghost use Rattle.std.specs.Prelude.{◌&&◌};
+    ghost use Rattle.std.specs.Cmp.{and_per, on_per};
+    ghost use Rattle.std.specs.Cmp.Lexicographic.{pointwise, lists_per};
+
+    ghost eq = { λ a b. pointwise (λ p q. K.eq p.0 q.0 && V.eq p.1 q.1) a.pairs b.pairs };
+
+    ghost laws = { on_per (λ m. m.pairs) (lists_per
+        (and_per (on_per (λ p. p.0) K.PartialEq.laws) (on_per (λ p. p.1) V.laws))) };
+
+    fn eq(&self, other: &Self) -> bool {
+        let mut theirs = other.iter();
+        let mut ours = self.iter();
+        'entries: while let Some((key, value)) = ours.next() {
+            match theirs.next() {
+                Some((other_key, other_value)) => {
+                    if *key != *other_key || *value != *other_value {
+                        return false;
+                    }
+                }
+                None => return false,
+            }
+        }
+        theirs.next().is_none()
+    }
+}

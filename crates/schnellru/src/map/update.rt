@@ -1,0 +1,110 @@
+//! Replacing a value, with the entry in its place.
+ghost use Rattle.std.specs.Prelude.{List};
+ghost use Rattle.schnellru.specs.HandedOver.{noting, noting_offers, noted, Takes};
+ghost use Rattle.schnellru.specs.Inside.Handing.{Hands};
+ghost use Rattle.schnellru.specs.State.{IsMap};
+ghost use Rattle.schnellru.specs.Updates.{Update, UpdateHands};
+
+use crate::map::LruMap;
+use lru_limits::{Insertion, KeyHasher, Limiter, LookupKey};
+use std::hash::Hash;
+
+/// What an update did, with the value that the map does not have then.
+///
+/// ```
+/// assert_eq!(rt; map.update(1, 11), Updated::Replaced(10));
+/// ```
+#[derive(Clone, Copy, Debug, Drop, PartialEq, Eq)]
+pub enum Updated<V> {
+    /// The entry had this value, and has the new one.
+    Replaced(V),
+    /// The limiter rejected this new value, and the entry was removed.
+    Rejected(V),
+    /// The key is not there. This is the new value.
+    Absent(V),
+}
+
+impl<K: Eq + Hash + Drop, V: Drop, L: Limiter<K, V>, S: KeyHasher<K>> LruMap<K, V, L, S> {
+    /// Offers the limiter a new value for a key that is there. The entry keeps its place in the order of use.
+    ///
+    /// If the limiter accepts the value, the oldest entries are evicted then while it is over its limit; the updated
+    /// entry is one of these if it is old enough. If the limiter rejects the value, the entry is removed. If the key is
+    /// not there, nothing changes.
+    ///
+    /// ```
+    /// assert_eq!(rt; map.update(1, 11), Updated::Replaced(10));
+    /// assert!(rt; map.peek_oldest() == Some((&1, &11)) && map.update(9, 90) == Updated::Absent(90));
+    /// ```
+    ///
+    /// Cost: `O(1)` expected, and `O(1)` for each entry that is evicted.
+    ///
+    /// After `LinkedHashMap::replace` of the crate `hashlink`; schnellru has no such call.
+    pub fn update<I: LookupKey<K> + Drop>(&mut self, key: I, value: V) -> Updated<V>
+    where
+        L: Insertion<K, V, I>,
+        ensures step { Update L.rules L.offers I.names key value self.old result self.new }
+        ensures map { IsMap K.eq self.new }
+    {
+        self.update_with(key, value, &mut |_, _| {})
+    }
+}
+
+// Nothing here requires `K: Drop` or `V: Drop`, so a body that forgets a pair does not compile.
+impl<K: Eq + Hash, V, L: Limiter<K, V>, S: KeyHasher<K>> LruMap<K, V, L, S> {
+    /// The same as `update`, and passes each entry that leaves to the callback, as the limiter leaves it: the evicted
+    /// entries, oldest first, or the entry whose new value is rejected.
+    ///
+    /// ```
+    /// let mut left = None;
+    /// map.update_with(2, 21, &mut |key, value| left = Some((key, value)));
+    /// assert!(rt; left.is_none() && map.peek(&2) == Some(&21));
+    /// ```
+    ///
+    /// Cost: as `update`, with one call of the callback for each entry that it gets.
+    pub fn update_with<I: LookupKey<K> + Drop, F: FnMut(K, V)>(
+        &mut self,
+        key: I,
+        value: V,
+        sink: &mut F,
+    ) -> Updated<V>
+    where
+        L: Insertion<K, V, I>,
+        requires callable { F.IsAlwaysCallable sink.old }
+        ensures step { Update L.rules L.offers I.names key value self.old result self.new }
+        ensures handed { (handed : List (K × V)) × Takes F.FnMut sink.old handed sink.new
+            × UpdateHands L.rules L.offers I.names key value self.old result handed self.new }
+        ensures callable { F.IsAlwaysCallable sink.new }
+        ensures map { IsMap K.eq self.new }
+    {
+        let updated = self.update_entry(key, value, sink);
+        // Nothing at run time: it opens the map, whose invariant is the clause `map`.
+        let _ = &self.entries;
+        updated
+    }
+
+    // The same, of all that was passed to the callback.
+    fn update_entry<I: LookupKey<K> + Drop, F: FnMut(K, V)>(
+        &mut self,
+        key: I,
+        value: V,
+        sink: &mut F,
+    ) -> Updated<V>
+    where
+        L: Insertion<K, V, I>,
+        requires callable { F.IsAlwaysCallable sink.old }
+        ensures handed { Hands F.FnMut sink.old sink.new (λ before after. Update (noting L.rules)
+            (noting_offers L.offers) I.names key value (noted before self.old) result (noted after self.new)) }
+        ensures callable { F.IsAlwaysCallable sink.new }
+    {
+        let b = match self.find(&key) {
+            Some(b) => b,
+            None => return Updated::Absent(value),
+        };
+        let (accepted, unkept) = self.offer_at(b, key, value, sink);
+        if !accepted {
+            return Updated::Rejected(unkept);
+        }
+        self.evict_over_limit(sink);
+        Updated::Replaced(unkept)
+    }
+}

@@ -1,0 +1,39 @@
+#!/usr/bin/env python3
+"""Tries the edits of this folder: `edits/try.py [CRATE ..]`. The prover must refuse each.
+
+These edits take too long for the gate, so whoever changes a contract or a body that one of them names tries them by
+hand. The script puts the edits of a crate into its folder `must-fail`, runs `rt must-fail CRATE` at the top, and takes
+them out again. It begins with what `rt check` kept, so run that first. Without words it tries the edits of each crate."""
+import pathlib
+import shutil
+import subprocess
+import sys
+
+HERE = pathlib.Path(__file__).resolve().parent
+TOP = HERE.parent
+
+
+def status_of(crate):
+    """Tries the edits of a crate, and returns the status of the command."""
+    folder = TOP / "crates" / crate / "must-fail"
+    was_there = folder.exists()
+    folder.mkdir(exist_ok=True)
+    names = [it.name for it in sorted((HERE / crate).glob("*.edit"))]
+    try:
+        for name in names:
+            shutil.copy(HERE / crate / name, folder / name)
+        return subprocess.run(["rt", "must-fail", crate], cwd=TOP).returncode
+    finally:
+        for name in names:
+            (folder / name).unlink(missing_ok=True)
+        if not was_there:
+            folder.rmdir()
+
+
+def main():
+    crates = sys.argv[1:] or sorted(it.name for it in HERE.iterdir() if it.is_dir())
+    sys.exit(max([status_of(crate) for crate in crates], default=0))
+
+
+if __name__ == "__main__":
+    main()
