@@ -1,5 +1,5 @@
 -- In tables of up to 16 buckets two runs of the same calls are alike.
-use Rattle.std.proofs.Common.{◌≡◌, ℕ, ◌≤◌, Bool, true, false, List, [], ◌∷◌, ◌++◌, Option, Some, None, Result, Ok, Err}
+use Rattle.std.proofs.Common.{◌≡◌, ℕ, ◌+◌, ◌-◌, ◌≤◌, Bool, true, false, List, [], ◌∷◌, ◌++◌, Option, Some, None, Result, Ok, Err}
 use Rattle.std.proofs.Common.{refl, sym, ap, ◌∙◌, subst, inl, inr, ◌⊎◌, map, length, arith, option_map}
 use Rattle.std.specs.Prelude.{is_err, is_some, IsTrue}
 use Rattle.std.specs.List.{AllByRecursion}
@@ -18,24 +18,27 @@ use Rattle.schnellru.specs.Exact.{IsDetermined, NeverLacks, LookAlike}
 use Rattle.schnellru.specs.GetOrInserts.{MakesNewest, got, inserted}
 use Rattle.schnellru.specs.HandedOver.{noting, noting_offers, noted}
 use Rattle.schnellru.specs.Inserts.{Insert}
-use Rattle.schnellru.specs.Lists.{first, last as last_of, front, lookup, lookup_entry, newest_value}
+use Rattle.schnellru.specs.Lists.{first, last as last_of, front, back, lookup, lookup_entry, newest_value}
 use Rattle.schnellru.specs.Reservations.{Reserve}
 use Rattle.schnellru.specs.Runs.{AnyStep}
 use Rattle.schnellru.specs.Shrinks.{Shrink}
 use Rattle.schnellru.specs.Sizes.{usage}
 use Rattle.schnellru.specs.State.{State, buckets, contents, pop, pops, trim}
+use Rattle.schnellru.specs.Updates.{Update, updated as accepts, rejected, not_there}
 use Rattle.schnellru.specs.declared.map.reserve.ReserveError.{ReserveError}
+use Rattle.schnellru.specs.declared.map.update.Updated.{Updated}
 use Rattle.schnellru.specs.declared.map.reserve.ReserveError.TheVariants.{TooLarge, Refused, Memory}
 use Rattle.lru_replay.specs.CallRuns.{IsRun, CallStep, SummingStep, KeepsCost, HasPlainSearch, StoresPairs}
 use Rattle.lru_replay.specs.Figures.{IsFigures}
-use Rattle.lru_replay.specs.Replies.{Reply, flag, given, value, pair, listed, reserved, shrunk, stats, done, no_memory}
+use Rattle.lru_replay.specs.Replies.{Reply, flag, given, updated, value, pair, listed, reserved, shrunk, stats, done, no_memory}
 use Rattle.lru_replay.specs.Replies.{insert_reply, made_reply, cost_differs, Want, found_all, lacks, lacks_beside}
 use Rattle.lru_replay.specs.Replies.{want_of}
 use Rattle.lru_replay.specs.Steps.{ReplyStep, FindsByHash, found, not_found, promoted_if}
 use Rattle.lru_replay.specs.declared.calls.call.Call.{Call}
 use Rattle.lru_replay.specs.declared.calls.call.Call.TheVariants as calls
 use Rattle.lru_replay.specs.declared.lines.figures.Figures.{Figures}
-use Rattle.lru_replay.proofs.ListRuns.{same_hasher}
+use Rattle.lru_replay.specs.ListRuns.{updated_in_list}
+use Rattle.lru_replay.proofs.ListRuns.{same_hasher, update_is}
 use Rattle.lru_replay.proofs.Wants.{head_same, tail_same, is_alone, is_short, wants_memory, given_wants, given_tells}
 use Rattle.lru_replay.proofs.Wants.{insert_wants, made_wants, reserved_wants, shrunk_wants}
 
@@ -53,6 +56,16 @@ found_alike eq hash_of respects hash key pairs plain result other (not_found n r
     let own = respects key q.0 (found_named (eq key) pairs q f) in
     absurd (n q f (sym own ∙ plain (ap hash_tag own ∙ u)))
 found_alike eq hash_of respects hash key pairs plain result other (not_found n r) (not_found m s) = r ∙ sym s
+
+-- what an update makes of the shape
+update_shape : {K V S H : Type 0} {rules : Rules K V S} {offers : Offers K V S K} {eq : K → K → Bool} {key : K} {v : V}
+    {result : Updated V} (old new : State K V S H) → buckets old ≤ 16 → Update rules offers eq key v old result new
+    → shape new ≡ with_left (updated_in_list rules offers eq key v (contents old)).1 (shape old)
+update_shape old new small (accepts there e y r l) = rw e (rw y (left_shape old _ new small l))
+update_shape old new small (rejected there e y r l) = rw e (rw y (left_shape old _ new small l))
+update_shape old new small (not_there none r e) =
+    let spare : (shape old).spare ≡ (shape old).spare + length old.pairs - length old.pairs = omega arith in
+    rw none (ap shape e ∙ ap (λ n. record (shape old) { spare = n }) spare)
 
 -- two maps of one shape have the same figures
 figures_alike : {K V S H : Type 0} (old other : State K V S H) (a b : Figures) → LookAlike old other
@@ -216,6 +229,11 @@ module _ {K V S H : Type 0} (rules : Rules K V S) (offers : Offers K V S K) (eq 
       step_alike wants (calls.InsertWith k v) plain h h' = handed_alike wants k v h h'
       step_alike wants (calls.GetOrInsert k v) plain (result, h, is) (result', h', is') =
           made_alike wants k v result result' h h' is is'
+      step_alike wants (calls.Update k v) plain (result, h, is) (result', h', is') = told_by
+          (λ sh. updated (updated_in_list rules offers eq k v (contents sh.bare)).0)
+          (λ sh. with_left (updated_in_list rules offers eq k v (contents sh.bare)).1 sh)
+          (is ∙ ap updated (update_is h).0) (update_shape old new small h)
+          (is' ∙ ap updated (update_is h').0) (update_shape other last small_other h')
       step_alike wants (calls.Get k) plain (is, e) (is', e') = told_by (λ sh. value (lookup (eq k) sh.bare.pairs))
           (λ sh. record sh { bare = record sh.bare { pairs = front (eq k) sh.bare.pairs } }) is (ap shape e) is'
           (ap shape e')
@@ -226,6 +244,10 @@ module _ {K V S H : Type 0} (rules : Rules K V S) (offers : Offers K V S K) (eq 
       step_alike wants (calls.Promote k) plain (is, e) (is', e') =
           told_by (λ sh. flag (is_some (lookup (eq k) sh.bare.pairs)))
           (λ sh. record sh { bare = record sh.bare { pairs = front (eq k) sh.bare.pairs } }) is (ap shape e) is'
+          (ap shape e')
+      step_alike wants (calls.Demote k) plain (is, e) (is', e') =
+          told_by (λ sh. flag (is_some (lookup (eq k) sh.bare.pairs)))
+          (λ sh. record sh { bare = record sh.bare { pairs = back (eq k) sh.bare.pairs } }) is (ap shape e) is'
           (ap shape e')
       step_alike wants (calls.GetByHash hash k) plain (result, h, is, e) (result', h', is', e') =
           get_alike k result result' (search_alike hash k result result' plain h h') is is' e e'

@@ -4,7 +4,7 @@ use Rattle.lru_limits.specs.Rules.{Rules, Offers}
 use Rattle.schnellru.proofs.CallerLemmas.{value_removed}
 use Rattle.schnellru.proofs.HandingLemmas.{plain_insert}
 use Rattle.schnellru.specs.Calls.{written}
-use Rattle.schnellru.specs.Runs.{Step, inserts, makes_newest, gets, removes, pops_oldest, pops_newest, drains, clears}
+use Rattle.schnellru.specs.Runs.{Step, inserts, makes_newest, updates, gets, demotes, removes, pops_oldest, pops_newest, drains, clears}
 use Rattle.schnellru.specs.Runs.{reserves, shrinks, trims, AnyStep, calls as any_call, writes, sets_limiter as sets}
 use Rattle.schnellru.specs.State.{State}
 use Rattle.lru_replay.specs.CallRuns.{CallStep}
@@ -28,10 +28,12 @@ module _ {K V S H : Type 0} {rules : Rules K V S} {offers : Offers K V S K} {eq 
   step_kind (calls.Insert k v) reply (result, h, is) = calls_map (inserts k v result h)
   step_kind (calls.InsertWith k v) reply (result, out, h, is) = calls_map (inserts k v result (plain_insert h))
   step_kind (calls.GetOrInsert k v) reply (result, h, is) = calls_map (makes_newest v k result h)
+  step_kind (calls.Update k v) reply (result, h, is) = calls_map (updates k v result h)
   step_kind (calls.Get k) reply (is, e) = calls_map (gets k e)
   step_kind (calls.Peek k) reply (is, e) = stays e
   step_kind (calls.Contains k) reply (is, e) = stays e
   step_kind (calls.Promote k) reply (is, e) = calls_map (gets k e)
+  step_kind (calls.Demote k) reply (is, e) = calls_map (demotes k e)
   step_kind (calls.GetByHash hash k) reply (Some w, h, is, e) = calls_map (gets k e)
   step_kind (calls.GetByHash hash k) reply (None, h, is, e) = stays e
   step_kind (calls.PeekByHash hash k) reply (result, h, is, e) = stays e

@@ -16,10 +16,12 @@ use Rattle.schnellru.specs.Reservations.{Reserve, unchanged, remade, reserved, a
 use Rattle.schnellru.specs.Runs.{AnyStep}
 use Rattle.schnellru.specs.Sizes.{usage}
 use Rattle.schnellru.specs.State.{State, Contents, contents, IsMap}
+use Rattle.schnellru.specs.Updates.{Update, updated, rejected, not_there}
+use Rattle.schnellru.specs.declared.map.update.Updated.{Updated}
 use Rattle.schnellru.specs.declared.map.reserve.ReserveError.{ReserveError}
 use Rattle.lru_replay.specs.CallRuns.{IsRun, CallStep, SummingStep}
-use Rattle.lru_replay.specs.ListRuns.{ListStep, ListCallStep, ListSummingStep, beside, emptied}
-use Rattle.lru_replay.specs.Replies.{Reply, value, pair, listed, made_reply}
+use Rattle.lru_replay.specs.ListRuns.{ListStep, ListCallStep, ListSummingStep, beside, emptied, updated_in_list}
+use Rattle.lru_replay.specs.Replies.{Reply, updated as says_updated, value, pair, listed, made_reply}
 use Rattle.lru_replay.specs.Steps.{ReplyStep}
 use Rattle.lru_replay.specs.declared.calls.call.Call.{Call}
 use Rattle.lru_replay.specs.declared.calls.call.Call.TheVariants as calls
@@ -35,6 +37,15 @@ newest_found names others (x ∷ xs) w found = go (names x.0) found (newest_foun
         → newest_value (after (cond b (Some x) (lookup_entry names xs)) others) ≡ Some w
     go true found later = found
     go false found later = later found
+
+-- what an update does to the list
+pub update_is : {K V S H : Type 0} {rules : Rules K V S} {offers : Offers K V S K} {eq : K → K → Bool} {key : K} {v : V}
+    {old new : State K V S H} {result : Updated V} → Update rules offers eq key v old result new
+    → (result ≡ (updated_in_list rules offers eq key v (contents old)).0)
+    × (contents new ≡ (updated_in_list rules offers eq key v (contents old)).1)
+update_is (updated there found y r l) = rw found (rw y (r, ap contents l.is))
+update_is (rejected there found y r l) = rw found (rw y (r, ap contents l.is))
+update_is (not_there none r e) = rw none (r, ap contents e)
 
 module _ {K V S H : Type 0} (rules : Rules K V S) (offers : Offers K V S K) (eq : K → K → Bool)
     (hash_of : H → K → ℕ) where
@@ -84,15 +95,22 @@ module _ {K V S H : Type 0} (rules : Rules K V S) (offers : Offers K V S K) (eq 
         is,
       )
 
+      updates_in_list : (key : K) (v : V) (result : Updated V) (reply : Reply K V)
+          → Update rules offers eq key v old result new → reply ≡ says_updated result
+          → ListStep rules offers eq (hash_of old.hasher) (contents old) (calls.Update key v) reply (contents new)
+      updates_in_list key v result reply step is = let (r, left) = update_is step in (is ∙ ap says_updated r, left)
+
       in_list : (call : Call K V S) (reply : Reply K V) → ReplyStep rules offers eq hash_of old call reply new
           → ListStep rules offers eq (hash_of old.hasher) (contents old) call reply (contents new)
       in_list (calls.Insert k v) reply (result, h, is) = (result, law k v old result new grants tables h, is)
       in_list (calls.InsertWith k v) reply (result, out, h, is) = (result, out, handed_in_list k v result out h, is)
       in_list (calls.GetOrInsert k v) reply (result, h, is) = made_in_list k v result reply h is
+      in_list (calls.Update k v) reply (result, h, is) = updates_in_list k v result reply h is
       in_list (calls.Get k) reply (is, e) = (is, ap contents e)
       in_list (calls.Peek k) reply (is, e) = (is, ap contents e)
       in_list (calls.Contains k) reply (is, e) = (is, ap contents e)
       in_list (calls.Promote k) reply (is, e) = (is, ap contents e)
+      in_list (calls.Demote k) reply (is, e) = (is, ap contents e)
       in_list (calls.GetByHash hash k) reply (Some w, h, is, e) = (Some w, h, is, ap contents e)
       in_list (calls.GetByHash hash k) reply (None, h, is, e) = (None, h, is, ap contents e)
       in_list (calls.PeekByHash hash k) reply (result, h, is, e) = (result, h, is, ap contents e)

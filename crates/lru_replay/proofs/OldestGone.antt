@@ -4,7 +4,7 @@ use Rattle.std.specs.List.{AllByRecursion}
 use Rattle.lru_limits.specs.Rules.{Rules, Offers}
 use Rattle.schnellru.proofs.CallerLemmas.{value_removed}
 use Rattle.schnellru.proofs.HandingLemmas.{plain_insert}
-use Rattle.schnellru.specs.Runs.{inserts, makes_newest, gets, removes, pops_oldest, drains, clears, reserves, shrinks, trims}
+use Rattle.schnellru.specs.Runs.{inserts, makes_newest, updates, gets, demotes, removes, pops_oldest, drains, clears, reserves, shrinks, trims}
 use Rattle.schnellru.specs.Runs.{calls as any_call, writes, sets_limiter, StepAmong, Run, ends, goes_on}
 use Rattle.schnellru.specs.State.{State, IsMap}
 use Rattle.lru_replay.specs.CallRuns.{IsRun, CallStep, SummingStep, NamesAmong}
@@ -26,10 +26,12 @@ module _ {K V S H : Type 0} (rules : Rules K V S) (offers : Offers K V S K) (eq 
       inl (any_call (inserts k v result (plain_insert h)), among)
   step_among old new (calls.GetOrInsert k v) reply (result, h, is) among =
       inl (any_call (makes_newest v k result h), among)
+  step_among old new (calls.Update k v) reply (result, h, is) among = inl (any_call (updates k v result h), among)
   step_among old new (calls.Get k) reply (is, e) among = inl (any_call (gets k e), among)
   step_among old new (calls.Peek k) reply (is, e) among = inr e
   step_among old new (calls.Contains k) reply (is, e) among = inr e
   step_among old new (calls.Promote k) reply (is, e) among = inl (any_call (gets k e), among)
+  step_among old new (calls.Demote k) reply (is, e) among = inl (any_call (demotes k e), among)
   step_among old new (calls.GetByHash hash k) reply (Some w, h, is, e) among = inl (any_call (gets k e), among)
   step_among old new (calls.GetByHash hash k) reply (None, h, is, e) among = inr e
   step_among old new (calls.PeekByHash hash k) reply (result, h, is, e) among = inr e

@@ -46,8 +46,10 @@ module _ {K V S : Type 0} where
   NamesAmong eq test (calls.Insert key v) = AreAmong (eq key) test
   NamesAmong eq test (calls.InsertWith key v) = AreAmong (eq key) test
   NamesAmong eq test (calls.GetOrInsert key v) = AreAmong (eq key) test
+  NamesAmong eq test (calls.Update key v) = AreAmong (eq key) test
   NamesAmong eq test (calls.Get key) = AreAmong (eq key) test
   NamesAmong eq test (calls.Promote key) = AreAmong (eq key) test
+  NamesAmong eq test (calls.Demote key) = AreAmong (eq key) test
   NamesAmong eq test (calls.GetByHash hash key) = AreAmong (eq key) test
   NamesAmong eq test (calls.Write key v) = AreAmong (eq key) test
   NamesAmong eq test (calls.Remove key) = AreAmong (eq key) test

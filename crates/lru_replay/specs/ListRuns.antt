@@ -2,7 +2,7 @@
 --     rules, offers, eq   as in `Steps`
 --     hash_of k           the hash of the key k
 use Rattle.std.specs.Prelude.{◌≡◌, ℕ, ◌++◌, Bool, List, [], Option, Some, None, Result, MatchOption, is_some, length}
-use Rattle.std.specs.Prelude.{option_map}
+use Rattle.std.specs.Prelude.{option_map, unwrap_or, if◌then◌else◌}
 use Rattle.std.specs.Map.{set_value}
 use Rattle.std.specs.declared.alloc.AllocError.{AllocError}
 use Rattle.lru_limits.specs.Rules.{Rules, Offers}
@@ -10,14 +10,18 @@ use Rattle.schnellru.specs.Calls.{left_of, removal, pop_first}
 use Rattle.schnellru.specs.Drains.{pops_first, newest_given, oldest_given}
 use Rattle.schnellru.specs.Exact.{InsertsInList}
 use Rattle.schnellru.specs.HandedOver.{noting, noting_offers}
-use Rattle.schnellru.specs.Lists.{first, last, front, lookup, lookup_entry}
+use Rattle.schnellru.specs.Inserts.{replacement, with_given_up}
+use Rattle.schnellru.specs.Lists.{first, last, front, back, lookup, lookup_entry}
 use Rattle.schnellru.specs.State.{Contents, pop, pops, trim}
+use Rattle.schnellru.specs.Updates.{with_updated}
 use Rattle.schnellru.specs.declared.map.reserve.ReserveError.{ReserveError}
+use Rattle.schnellru.specs.declared.map.update.Updated.{Updated}
+use Rattle.schnellru.specs.declared.map.update.Updated.TheVariants.{Replaced, Rejected, Absent}
 use Rattle.lru_replay.specs.declared.calls.call.Call.{Call}
 use Rattle.lru_replay.specs.declared.calls.call.Call.TheVariants as calls
 use Rattle.lru_replay.specs.declared.lines.figures.Figures.{Figures}
 use Rattle.lru_replay.specs.CallRuns.{StepIfMemory, StepIfKept}
-use Rattle.lru_replay.specs.Replies.{Reply, flag, given, value, pair, listed, reserved, shrunk, stats, done}
+use Rattle.lru_replay.specs.Replies.{Reply, flag, given, updated, value, pair, listed, reserved, shrunk, stats, done}
 use Rattle.lru_replay.specs.Replies.{insert_reply, made_reply}
 use Rattle.lru_replay.specs.Steps.{FindsByHash}
 
@@ -26,10 +30,26 @@ module _ {K V S : Type 0} (eq : K → K → Bool) where
   abbrev pub fronted : K → Contents K V S → Contents K V S
   fronted key c = record c { pairs = front (eq key) c.pairs }
 
-  -- so it does if its value was found
+  -- the pair of the key comes last
+  abbrev pub backed : K → Contents K V S → Contents K V S
+  backed key c = record c { pairs = back (eq key) c.pairs }
+
+  -- it comes first if its value was found
   abbrev pub fronted_if : Option V → K → Contents K V S → Contents K V S
   fronted_if (Some v) key c = fronted key c
   fronted_if None key c = c
+
+module _ {K V S : Type 0} (rules : Rules K V S) (offers : Offers K V S K) (eq : K → K → Bool) (key : K) (v : V)
+    (c : Contents K V S) where
+  -- what an update of this pair does, and what it leaves
+  abbrev pub updates_pair : K × V → Updated V × Contents K V S
+  updates_pair there = let r = replacement rules offers eq there key v c in
+      if r.taken then (Replaced r.old_value, trim rules (with_updated rules offers eq there key v c))
+      else (Rejected r.new_value, with_given_up rules offers eq there key v c)
+
+  -- or of the key, if it is there
+  abbrev pub updated_in_list : Updated V × Contents K V S
+  updated_in_list = unwrap_or (option_map updates_pair (lookup_entry (eq key) c.pairs)) (Absent v, c)
 
 -- without pairs, and the limiter is notified of the clear
 abbrev pub emptied : {K V S : Type 0} → Rules K V S → Contents K V S → Contents K V S
@@ -52,11 +72,15 @@ module _ {K V S : Type 0} (rules : Rules K V S) (offers : Offers K V S K) (eq : 
       ((result : Result Bool AllocError) × InsertsInList rules offers eq key v c result d
       × (reply ≡ made_reply result d.pairs))
       (λ there. (reply ≡ value (Some there)) × (d ≡ fronted eq key c))
+  ListStep c (calls.Update key v) reply d =
+      (reply ≡ updated (updated_in_list rules offers eq key v c).0) × (d ≡ (updated_in_list rules offers eq key v c).1)
   ListStep c (calls.Get key) reply d = (reply ≡ value (lookup (eq key) c.pairs)) × (d ≡ fronted eq key c)
   ListStep c (calls.Peek key) reply d = (reply ≡ value (lookup (eq key) c.pairs)) × (d ≡ c)
   ListStep c (calls.Contains key) reply d = (reply ≡ flag (is_some (lookup (eq key) c.pairs))) × (d ≡ c)
   ListStep c (calls.Promote key) reply d =
       (reply ≡ flag (is_some (lookup (eq key) c.pairs))) × (d ≡ fronted eq key c)
+  ListStep c (calls.Demote key) reply d =
+      (reply ≡ flag (is_some (lookup (eq key) c.pairs))) × (d ≡ backed eq key c)
   ListStep c (calls.GetByHash hash key) reply d = (result : Option V)
       × FindsByHash eq hash_of hash key c.pairs result × (reply ≡ value result) × (d ≡ fronted_if eq result key c)
   ListStep c (calls.PeekByHash hash key) reply d = (result : Option V)

@@ -9,7 +9,7 @@ use Rattle.schnellru.specs.declared.map.reserve.ReserveError.TheVariants.{TooLar
 use Rattle.lru_replay.specs.declared.lines.figures.Figures.{Figures}
 use Rattle.lru_replay.specs.declared.lines.outcome.ReplayError.{ReplayError}
 use Rattle.lru_replay.specs.declared.lines.outcome.ReplayError.TheVariants as errors
-use Rattle.lru_replay.specs.Replies.{Reply, flag, given, value, pair, listed, reserved, shrunk, stats, done}
+use Rattle.lru_replay.specs.Replies.{Reply, flag, given, updated, value, pair, listed, reserved, shrunk, stats, done}
 use Rattle.lru_replay.specs.Replies.{no_memory, cost_differs}
 
 -- a write failed, and a beginning of the text was written
@@ -90,10 +90,11 @@ figures_text figures = named_text (codes "len ") figures.len ++ (named_text (cod
     ++ (named_text (codes " memory ") figures.memory ++ (named_text (codes " moved ") figures.moved
     ++ placed_text figures.placed figures.shrunk)))
 
--- A reply, if the limiter keeps this cost, or none. No line has the reply that a cost differs.
+-- A reply, if the limiter keeps this cost, or none. No line has the reply to an update, or that a cost differs.
 abbrev pub reply_text : Option ℕ → Reply ℕ ℕ → List ℕ
 reply_text cost (flag there) = flag_text there
 reply_text cost (given result out) = insert_text result ++ rest_text out
+reply_text cost (updated result) = []
 reply_text cost (value v) = value_text v
 reply_text cost (pair left) = left_text left
 reply_text cost (listed pairs) = pairs_text pairs

@@ -4,6 +4,7 @@ use Rattle.std.specs.declared.alloc.AllocError.{AllocError}
 use Rattle.schnellru.specs.Lists.{newest_value}
 use Rattle.schnellru.specs.declared.map.reserve.ReserveError.{ReserveError}
 use Rattle.schnellru.specs.declared.map.reserve.ReserveError.TheVariants.{Memory}
+use Rattle.schnellru.specs.declared.map.update.Updated.{Updated}
 use Rattle.lru_replay.specs.declared.calls.call.Answer.{Answer}
 use Rattle.lru_replay.specs.declared.calls.call.Answer.TheVariants as answers
 use Rattle.lru_replay.specs.declared.lines.figures.Figures.{Figures}
@@ -13,6 +14,8 @@ pub data Reply (K V : Type 0) : Type 0 where
   flag : Bool → Reply K V
   -- how an insert ended, and what it passed to its callback, in that order
   given : Result Bool AllocError → List (K × V) → Reply K V
+  -- what an update did
+  updated : Updated V → Reply K V
   -- the value of a key, if it is there
   value : Option V → Reply K V
   -- a pair, if there is one
@@ -53,6 +56,7 @@ module _ {K V : Type 0} where
   abbrev pub said : Answer K V → Reply K V
   said (answers.Flag b) = flag b
   said (answers.Given result out) = given result out.items
+  said (answers.Updated result) = updated result
   said (answers.Value v) = value v
   said (answers.Pair p) = pair p
   said (answers.Pairs ps) = listed ps.items

@@ -6,7 +6,7 @@ use Rattle.std.specs.Prelude.{◌≡◌, ℕ, Bool, List, Option, Some, None, Re
 use Rattle.std.specs.declared.alloc.AllocError.{AllocError}
 use Rattle.group_table.specs.Probe.{hash_tag}
 use Rattle.lru_limits.specs.Rules.{Rules, Offers}
-use Rattle.schnellru.specs.Calls.{promoted, written, Remove, RemoveEntry, PopOldest, PopNewest, cleared}
+use Rattle.schnellru.specs.Calls.{promoted, demoted, written, Remove, RemoveEntry, PopOldest, PopNewest, cleared}
 use Rattle.schnellru.specs.Drains.{Drained}
 use Rattle.schnellru.specs.GetOrInserts.{MakesNewest}
 use Rattle.schnellru.specs.HandedOver.{InsertHands}
@@ -15,12 +15,14 @@ use Rattle.schnellru.specs.Lists.{first, last, lookup, lookup_entry}
 use Rattle.schnellru.specs.Reservations.{Reserve}
 use Rattle.schnellru.specs.Shrinks.{Shrink}
 use Rattle.schnellru.specs.State.{State, Trims}
+use Rattle.schnellru.specs.Updates.{Update}
+use Rattle.schnellru.specs.declared.map.update.Updated.{Updated}
 use Rattle.schnellru.specs.declared.map.reserve.ReserveError.{ReserveError}
 use Rattle.lru_replay.specs.declared.calls.call.Call.{Call}
 use Rattle.lru_replay.specs.declared.calls.call.Call.TheVariants as calls
 use Rattle.lru_replay.specs.declared.lines.figures.Figures.{Figures}
 use Rattle.lru_replay.specs.Figures.{IsFigures}
-use Rattle.lru_replay.specs.Replies.{Reply, flag, given, value, pair, listed, reserved, shrunk, stats, done}
+use Rattle.lru_replay.specs.Replies.{Reply, flag, given, updated, value, pair, listed, reserved, shrunk, stats, done}
 use Rattle.lru_replay.specs.Replies.{insert_reply, made_reply}
 
 module _ {K V : Type 0} (eq : K → K → Bool) (hash_of : K → ℕ) where
@@ -49,6 +51,8 @@ module _ {K V S H : Type 0} (rules : Rules K V S) (offers : Offers K V S K) (eq 
   ReplyStep old (calls.GetOrInsert key v) reply new = (result : Result Bool AllocError)
       × MakesNewest rules offers eq hash_of (λ made. made ≡ v) key old result new
       × (reply ≡ made_reply result new.pairs)
+  ReplyStep old (calls.Update key v) reply new = (result : Updated V)
+      × Update rules offers eq key v old result new × (reply ≡ updated result)
   ReplyStep old (calls.Get key) reply new =
       (reply ≡ value (lookup (eq key) old.pairs)) × (new ≡ promoted (eq key) old)
   ReplyStep old (calls.Peek key) reply new = (reply ≡ value (lookup (eq key) old.pairs)) × (new ≡ old)
@@ -56,6 +60,8 @@ module _ {K V S H : Type 0} (rules : Rules K V S) (offers : Offers K V S K) (eq 
       (reply ≡ flag (is_some (lookup (eq key) old.pairs))) × (new ≡ old)
   ReplyStep old (calls.Promote key) reply new =
       (reply ≡ flag (is_some (lookup (eq key) old.pairs))) × (new ≡ promoted (eq key) old)
+  ReplyStep old (calls.Demote key) reply new =
+      (reply ≡ flag (is_some (lookup (eq key) old.pairs))) × (new ≡ demoted (eq key) old)
   ReplyStep old (calls.GetByHash hash key) reply new = (result : Option V)
       × FindsByHash eq (hash_of old.hasher) hash key old.pairs result × (reply ≡ value result)
       × (new ≡ promoted_if eq result key old)

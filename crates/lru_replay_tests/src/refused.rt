@@ -77,7 +77,7 @@ fn lists_of_calls(rt: HostRuntime) -> Result<(), Fail> {
     for met in 0..=6usize {
         let mut map = seven(alloc, UnlimitedCompact)?;
         let calls = calls(alloc)?;
-        let hog = hog_that_meets(alloc, &[ANSWERS, 32, 384, 32, LIST, LIST], met)?;
+        let hog = hog_that_meets(alloc, &[ANSWERS, 384, 32, 32, LIST, LIST], met)?;
         let answers = run_calls(alloc, &mut map, calls).ok();
         let all = hog.took_all();
         drop(hog);
@@ -93,7 +93,7 @@ fn lists_of_calls_under_a_sum(rt: HostRuntime) -> Result<(), Fail> {
     for met in 0..=6usize {
         let mut map = seven(alloc, ByCost::new(1000))?;
         let calls = calls(alloc)?;
-        let hog = hog_that_meets(alloc, &[ANSWERS, 32, 512, 64, LIST, LIST], met)?;
+        let hog = hog_that_meets(alloc, &[ANSWERS, 512, 32, 64, LIST, LIST], met)?;
         let answers = run_summing(alloc, &mut map, calls).ok();
         let all = hog.took_all();
         drop(hog);
@@ -132,7 +132,7 @@ const INPUT: &[u8] =
     b"compact\ninsert 1 10\ninsert 2 20\ninsert 3 30\ninsert 4 40\nlist\nreserve 1\nstats\n";
 
 /// The requests of a table of 4 buckets, and of one of 8.
-const TABLES: [usize; 5] = [20, 96, 24, 192, 16];
+const TABLES: [usize; 5] = [96, 20, 192, 24, 16];
 
 /// A line that runs out of memory says so. What was not inserted is not in the list.
 fn text_of(met: usize) -> &'static [u8] {
@@ -163,7 +163,7 @@ fn lines(rt: HostRuntime) -> Result<(), Fail> {
     }
     for met in 0..=3usize {
         let puts = b"compact\nput 1 10\nput 2 20\nlist\n";
-        expect_lines(&rt, puts.as_slice(), &[16, 20, 96], met, text_of_puts(met))?;
+        expect_lines(&rt, puts.as_slice(), &[16, 96, 20], met, text_of_puts(met))?;
     }
     Ok(())
 }

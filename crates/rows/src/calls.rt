@@ -1,7 +1,7 @@
 //! Calls on a map, as lines spell them, and the text of their answers.
 use crate::limiters::Spelled;
 use lru_replay::{Answer, Call};
-use schnellru::{MoveReport, ReserveError};
+use schnellru::{MoveReport, ReserveError, Updated};
 use std::alloc::AllocError;
 use std::fmt::Write;
 
@@ -14,6 +14,7 @@ pub fn call_of<L: Spelled>(line: &str) -> Option<Call<u64, u64, L>> {
         "peek" => Some(Call::Peek(number(rest)?)),
         "contains" => Some(Call::Contains(number(rest)?)),
         "promote" => Some(Call::Promote(number(rest)?)),
+        "demote" => Some(Call::Demote(number(rest)?)),
         "remove" => Some(Call::Remove(number(rest)?)),
         "remove-entry" => Some(Call::RemoveEntry(number(rest)?)),
         "reserve" => Some(Call::Reserve(number(rest)? as usize)),
@@ -45,6 +46,7 @@ fn call_of_pair<L>(word: &str, (first, second): (u64, u64)) -> Option<Call<u64, 
     match word {
         "insert" => Some(Call::Insert(first, second)),
         "put" => Some(Call::InsertWith(first, second)),
+        "update" => Some(Call::Update(first, second)),
         "get-or-insert" => Some(Call::GetOrInsert(first, second)),
         "get-by-hash" => Some(Call::GetByHash(first, second)),
         "peek-by-hash" => Some(Call::PeekByHash(first, second)),
@@ -79,6 +81,9 @@ pub fn write_answers(out: &mut String, answers: &[Answer<u64, u64>]) -> Result<(
 pub fn write_answer(out: &mut String, answer: &Answer<u64, u64>) -> Result<(), AllocError> {
     match answer {
         Answer::Flag(flag) => write!(out, "{flag}"),
+        Answer::Updated(Updated::Replaced(value)) => write!(out, "replaced {value}"),
+        Answer::Updated(Updated::Rejected(value)) => write!(out, "rejected {value}"),
+        Answer::Updated(Updated::Absent(value)) => write!(out, "absent {value}"),
         Answer::Value(Some(value)) => write!(out, "{value}"),
         Answer::Pair(Some((key, value))) => write!(out, "{key}:{value}"),
         Answer::Value(None) | Answer::Pair(None) => out.push_str("none"),

@@ -70,6 +70,7 @@ impl Plain {
                 }
                 Answer::Value(self.get(*key)?)
             }
+            Call::Update(key, value) => Answer::Updated(self.update(*key, *value, &mut out)?),
             Call::Get(key) => Answer::Value(self.get(*key)?),
             Call::Peek(key) => Answer::Value(self.value(*key)),
             Call::GetByHash(hash, key) => Answer::Value(self.get_by_hash(*hash, *key)?),
@@ -77,6 +78,7 @@ impl Plain {
             Call::Write(key, value) => self.write_or_refuse(*key, *value),
             Call::Contains(key) => Answer::Flag(self.value(*key).is_some()),
             Call::Promote(key) => Answer::Flag(self.get(*key)?.is_some()),
+            Call::Demote(key) => Answer::Flag(self.demote(*key)?),
             Call::Remove(key) => Answer::Value(self.remove(*key)),
             Call::RemoveEntry(key) => Answer::Pair(self.remove_entry(*key)),
             _ => return Ok(None),

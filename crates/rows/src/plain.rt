@@ -1,5 +1,6 @@
 //! A plain list of pairs under a limit, which carries out calls as the documents of the map describe them.
 use crate::table::Table;
+use schnellru::Updated;
 use std::alloc::{AllocError, Global};
 
 /// What limits the list.
@@ -96,6 +97,42 @@ impl Plain {
         Ok(value)
     }
 
+    /// Makes the pair of the key the oldest, and returns whether the key is there.
+    pub fn demote(&mut self, key: u64) -> Result<bool, AllocError> {
+        let pair = self.remove_entry(key);
+        if let Some(pair) = pair {
+            self.put(0, pair)?;
+        }
+        Ok(pair.is_some())
+    }
+
+    /// Gives a key that is there another value in its place, and evicts what is over the limit then.
+    pub fn update(
+        &mut self,
+        key: u64,
+        value: u64,
+        left: &mut Vec<(u64, u64)>,
+    ) -> Result<Updated<u64>, AllocError> {
+        let Some(at) = self.position(key) else {
+            return Ok(Updated::Absent(value));
+        };
+        let Some(old) = self.take(at) else {
+            return Ok(Updated::Absent(value));
+        };
+        if !self.is_replaced(old, value, left)? {
+            return Ok(Updated::Rejected(value));
+        }
+        self.put(at, (key, value))?;
+        self.trim(left)?;
+        Ok(Updated::Replaced(old.1))
+    }
+
+    fn put(&mut self, at: usize, pair: (u64, u64)) -> Result<(), AllocError> {
+        self.cost = self.cost.saturating_add(pair.1);
+        self.pairs.insert(at.min(self.pairs.len()), pair)?;
+        Ok(())
+    }
+
     /// Writes the value of a key that is there, and returns whether it is.
     pub fn write(&mut self, key: u64, value: u64) -> bool {
         let mut found = false;
@@ -155,12 +192,17 @@ impl Plain {
             return Ok(false);
         }
         self.push((key, value))?;
+        self.trim(left)?;
+        Ok(!self.pairs.is_empty())
+    }
+
+    fn trim(&mut self, left: &mut Vec<(u64, u64)>) -> Result<(), AllocError> {
         for _ in 0..self.pairs.len() {
             if self.is_over(self.len(), self.cost) {
                 self.evict(left)?;
             }
         }
-        Ok(!self.pairs.is_empty())
+        Ok(())
     }
 
     /// Whether the value takes the place of the old one. If not, the old pair leaves.

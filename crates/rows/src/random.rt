@@ -48,7 +48,7 @@ pub fn random_call<L>(random: &mut Random, bounds: Bounds) -> Call<u64, u64, L> 
 /// A random call that has no line.
 fn other_call<L>(random: &mut Random, key: u64, value: u64) -> Call<u64, u64, L> {
     let hash = sum_of_bytes(key);
-    match random.below(12) {
+    match random.below(14) {
         0 => Call::PeekOldest,
         1 => Call::PeekNewest,
         2 => Call::GetByHash(hash.wrapping_add(OTHER_TAG), key),
@@ -60,6 +60,8 @@ fn other_call<L>(random: &mut Random, key: u64, value: u64) -> Call<u64, u64, L>
         8 => Call::Promote(key),
         9 => Call::RemoveEntry(key),
         10 => Call::Trim,
+        11 => Call::Demote(key),
+        12 => Call::Update(key, value),
         _ => Call::GetOrInsert(key, value),
     }
 }

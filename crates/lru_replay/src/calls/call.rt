@@ -1,5 +1,5 @@
 //! The calls of a run, and their answers.
-use schnellru::{MoveReport, ReserveError};
+use schnellru::{MoveReport, ReserveError, Updated};
 use std::alloc::AllocError;
 
 /// A call of a run. `docs/RUNS.md` says what each returns.
@@ -15,6 +15,8 @@ pub enum Call<K, V, L> {
     InsertWith(K, V),
     /// `get_or_insert`: returns the value of the key, which is inserted with this value if it is not there.
     GetOrInsert(K, V),
+    /// `update`: gives a key that is there this value, and its pair keeps its place.
+    Update(K, V),
     /// `get`: returns the value of the key, and makes its pair the newest.
     Get(K),
     /// `peek`: returns the value of the key.
@@ -23,6 +25,8 @@ pub enum Call<K, V, L> {
     Contains(K),
     /// `promote`: returns whether the key is there, and makes its pair the newest.
     Promote(K),
+    /// `demote`: returns whether the key is there, and makes its pair the oldest.
+    Demote(K),
     /// `get_by_hash`, with a closure that accepts this key alone.
     GetByHash(u64, K),
     /// `peek_by_hash`, with a closure that accepts this key alone.
@@ -71,7 +75,7 @@ pub enum Call<K, V, L> {
 /// ```
 #[derive(Debug, Drop, PartialEq)]
 pub enum Answer<K, V> {
-    /// To `Insert`, `Write`, `Contains` and `Promote`: whether the key is in the map.
+    /// To `Insert`, `Write`, `Contains`, `Promote` and `Demote`: whether the key is in the map.
     Flag(bool),
     /// To `InsertWith`: what the insert returned, and what it passed to its callback.
     Given {
@@ -80,6 +84,8 @@ pub enum Answer<K, V> {
         /// The pairs that the callback got, in that order.
         out: Vec<(K, V)>,
     },
+    /// To `Update`: what the update did.
+    Updated(Updated<V>),
     /// To `GetOrInsert`, `Get`, `Peek`, `Remove` and the searches by a hash: the value, if there is one.
     Value(Option<V>),
     /// To the pops, the peeks at an end and `RemoveEntry`: the pair, if there is one.
