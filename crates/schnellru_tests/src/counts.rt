@@ -2,7 +2,7 @@
 ghost use Rattle.std.specs.Prelude.{◌≡◌};
 ghost use Rattle.lru_limits.specs.Limiters.{no_rules};
 
-use schnellru::{ByLength, Limiter, LruMap, Storing, UnlimitedCompact};
+use schnellru::{ByLength, Limiter, LruMap, Storing, UnlimitedCompact, Updated};
 use std::alloc::{AllocError, Global};
 use std::cell::Cell;
 use std::rc::Rc;
@@ -62,8 +62,11 @@ fn a_call_hashes_its_key_once(rt: HostRuntime) -> Result<(), Fail> {
         map.promote(&5),
         map.remove_entry(&5).is_some(),
         map.ensure_newest_fallible(7, || Ok::<u64, u64>(0)) == Ok(true),
+        map.demote(&6),
+        map.update(6, 0) == Updated::Replaced(60),
+        map.get_key_value(&6).is_some(),
     ];
-    assert_eq!(rt; (is_found, builds.get()), ([true; 10], 10));
+    assert_eq!(rt; (is_found, builds.get()), ([true; 13], 13));
     Ok(())
 }
 

@@ -31,7 +31,7 @@ fn random_insert<'a, L: Insertion<Live<'a>, Live<'a>, Live<'a>>>(
     lives: &'a Lives,
 ) -> Result<(), AllocError> {
     let (key, value) = (lives.key(random.below(40)), random_value(random, lives));
-    match random.below(8) {
+    match random.below(10) {
         0 => drop(map.insert(key, value)?),
         7 => drop(map.insert_full(key, value, &mut |key, value| drop((key, value)))?),
         1 => drop(map.insert_with(key, value, &mut |key, value| drop((key, value)))?),
@@ -45,6 +45,8 @@ fn random_insert<'a, L: Insertion<Live<'a>, Live<'a>, Live<'a>>>(
             map.ensure_newest_fallible(key, move || Ok::<Live, u8>(value))
                 .is_ok(),
         ),
+        8 => drop(map.update(key, value)),
+        9 => map.try_extend([(key, value)])?,
         _ => drop(
             map.ensure_newest_fallible(key, move || fails(value))
                 .is_ok(),
@@ -74,7 +76,8 @@ fn random_call<'a, L: Limiter<Live<'a>, Live<'a>> + Clone + Drop>(
         }
         14..=20 => drop(map.remove(&key)),
         21..=24 => drop(map.pop_oldest()),
-        25..=28 => drop(map.pop_newest()),
+        25..=27 => drop(map.pop_newest()),
+        28 => drop(map.demote(&key)),
         _ => if let Some(value) = map.get(&key) {
             *value = random_value(random, lives);
         },

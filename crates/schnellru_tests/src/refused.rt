@@ -1,7 +1,7 @@
 //! Calls whose requests for memory are refused in turn, until one is met. No clause says that memory is there, or how
 //! much a call takes. What a refused call leaves is a clause; these tests show it for each request.
 use super::keys::{Texts, has_keys, texts_of};
-use schnellru::{GetOrInsertError, Insertion, LruMap, ReserveError, Storing, UnlimitedCompact};
+use schnellru::{GetOrInsertError, Insertion, LruMap, ReserveError, Storing, UnlimitedCompact, Updated};
 use std::alloc::{AllocError, Global};
 use std::hash::BuildHasher;
 use std::test::Fail;
@@ -10,17 +10,17 @@ use test_helpers::{
     is_list, map_of, remove_all, report, reserve, shrink, three_costs,
 };
 
-/// The bytes of a first table of 4 buckets with entries of 24 bytes: its control bytes, 16 more, and its entries.
-const FIRST_TABLE: [usize; 2] = [20, 96];
+/// The bytes of a first table of 4 buckets with entries of 24 bytes: its entries, and its control bytes with 16 more.
+const FIRST_TABLE: [usize; 2] = [96, 20];
 
 /// Of a table of 16 buckets, and of the links of the 8 before.
-const GROWTH: [usize; 3] = [32, 384, 32];
+const GROWTH: [usize; 3] = [384, 32, 32];
 
 /// Of the links of 32 buckets, and of fresh control bytes for them.
 const REHASH: [usize; 2] = [128, 48];
 
 /// Of a table of 8 buckets, and of the links of the 32 before.
-const SHRINK: [usize; 3] = [24, 192, 128];
+const SHRINK: [usize; 3] = [192, 24, 128];
 
 /// A call that may take memory.
 #[derive(Clone, Copy)]
@@ -31,17 +31,19 @@ enum Taking {
     GetOrInsertFallible,
     EnsureNewest,
     EnsureNewestFallible,
+    TryExtend,
     Reserve(usize),
     Shrink,
 }
 
-const INSERTS: [Taking; 6] = [
+const INSERTS: [Taking; 7] = [
     Taking::Insert,
     Taking::InsertWith,
     Taking::GetOrInsert,
     Taking::GetOrInsertFallible,
     Taking::EnsureNewest,
     Taking::EnsureNewestFallible,
+    Taking::TryExtend,
 ];
 
 /// Makes the call, with this pair if it inserts one, and returns whether it ran out of memory.
@@ -65,6 +67,7 @@ fn is_refused<L: Insertion<u64, u64, u64>, S: BuildHasher>(
         Taking::EnsureNewestFallible => is_memory(
             &map.ensure_newest_fallible(key, || Ok(value)).err(),
         ),
+        Taking::TryExtend => map.try_extend([(key, value)]).is_err(),
         Taking::Reserve(n) => map.try_reserve(n) == Err(ReserveError::Memory),
         Taking::Shrink => map.shrink_to_fit().is_err(),
     }
@@ -277,7 +280,7 @@ fn reservations_and_shrinks(rt: HostRuntime) -> Result<(), Fail> {
 fn an_account_in_a_growth(rt: HostRuntime) -> Result<(), Fail> {
     let mut map = three_costs(rt.alloc())?;
     let mut found = [(false, false, 0u64); 4];
-    let mut hog = Hog::new(rt.alloc(), &[24, 256, 32])?;
+    let mut hog = Hog::new(rt.alloc(), &[256, 24, 32])?;
     for n in 0..4usize {
         let refused = map.insert(4, 4).is_err();
         let stays = is_list(&map, &[(3, 3), (2, 2), (1, 1)]);
@@ -297,7 +300,7 @@ fn an_account_in_a_growth(rt: HostRuntime) -> Result<(), Fail> {
 fn keys_that_are_made(rt: HostRuntime) -> Result<(), Fail> {
     let mut map = texts_of(rt.alloc(), &["1", "2", "3"])?;
     let mut found = [(false, false, 0u32); 5];
-    let mut hog = Hog::new(rt.alloc(), &[1, 24, 8 * 40, 16])?;
+    let mut hog = Hog::new(rt.alloc(), &[1, 8 * 40, 24, 16])?;
     for n in 0..5usize {
         let refused = map.insert(InsertKey("9"), 9).is_err();
         found[n] = (
@@ -351,10 +354,11 @@ fn succeed_without_memory<L: Insertion<u64, u64, u64>, S: BuildHasher>(
 ) -> bool {
     let inserted = insert_all(map, 1..=7) == Ok(7) && insert_all(map, 1..=7) == Ok(7);
     let found = get(map, 3) == Some(30) && map.remove(&3) == Some(30);
-    let back = map.pop_oldest() == Some((1, 10)) && insert(map, 1) == Ok(true);
+    let updated = map.demote(&4) && map.update(5, 50) == Updated::Replaced(50);
+    let back = map.pop_oldest() == Some((4, 40)) && insert(map, 4) == Ok(true);
     let made = map.get_or_insert(3, || 30).is_ok() && map.ensure_newest(3, || 30) == Ok(true);
     let enough = reserve(map, 0) == Ok(()) && shrink(map) == Ok(false);
-    inserted && found && back && made && enough
+    inserted && found && updated && back && made && enough
 }
 
 /// Whether a full table is refused more memory, and is given back when it is empty.
