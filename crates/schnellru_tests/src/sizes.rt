@@ -75,9 +75,8 @@ fn keys_and_values_of_4_kib(rt: HostRuntime) -> Result<(), Fail> {
     Ok(())
 }
 
-/// Fills a table of `n` pairs, replaces three quarters of them, for which the table is rehashed, and inserts more. Copies
-/// the table, shrinks it, reserves space and drains it. Returns the capacity after each step, the length of the copy, and
-/// how many pairs the drain passes.
+/// Fills a table of `n` pairs, replaces half of them by twice as many, copies the table, shrinks it, reserves space and
+/// drains it. Returns the capacity after each step, the length of the copy, and how many pairs the drain passes.
 fn capacities<L: Insertion<u64, u64, u64> + Clone + Drop>(
     alloc: Global,
     limiter: L,
@@ -86,12 +85,8 @@ fn capacities<L: Insertion<u64, u64, u64> + Clone + Drop>(
     let mut map = map_of(alloc, limiter);
     let mut found = [0usize; 6];
     insert_all(&mut map, 1..=n)?;
-    let moved = report(&map).0;
-    remove_all(&mut map, 1..=n / 4 * 3);
-    insert_all(&mut map, n.saturating_add(1)..=n.saturating_add(n / 4 * 3))?;
-    if moved < report(&map).0 {
-        found[0] = map.guaranteed_capacity();
-    }
+    found[0] = map.guaranteed_capacity();
+    remove_all(&mut map, 1..=n / 2);
     insert_all(&mut map, n..=n.saturating_mul(2))?;
     found[1] = map.guaranteed_capacity();
     let copy = map.clone()?;
@@ -115,11 +110,11 @@ fn capacities<L: Insertion<u64, u64, u64> + Clone + Drop>(
 fn many_pairs(rt: HostRuntime) -> Result<(), Fail> {
     assert_eq!(rt;
         capacities(rt.alloc(), UnlimitedCompact, 917_504)?,
-        [917_504, 1_835_008, 1_146_880, 229_376, 1_835_008, 229_375]
+        [917_504, 1_835_008, 1_376_256, 458_752, 1_835_008, 458_751]
     );
     assert_eq!(rt;
         capacities(rt.alloc(), ByCost::new(u64::MAX), 114_688)?,
-        [114_688, 229_376, 143_360, 28_672, 229_376, 28_671]
+        [114_688, 229_376, 172_032, 57_344, 229_376, 57_343]
     );
     Ok(())
 }
