@@ -2,7 +2,7 @@
 --     both_rules a b      a map is over the limit if either says so, may grow if both permit it, and both are notified
 --     both_terms a b      a pair is accepted if both accept it, and then both store it
 --     both-sums           a running total of the first limiter is one of both
-use Rattle.std.specs.Prelude.{◌≡◌, ◌≤◌, ◌+◌, ◌-◌, ◌&&◌, ◌||◌, ℕ, Bool, true, false, Option, Some, None, IsTrue}
+use Rattle.std.specs.Prelude.{◌≡◌, ◌≤◌, ◌+◌, ◌-◌, ◌&&◌, ◌||◌, ℕ, Bool, true, false, Some, None, IsTrue}
 use Rattle.std.specs.Prelude.{if◌then◌else◌, refl}
 use Rattle.std.proofs.Common.{ap, sym, ◌∙◌, subst, arith}
 use Rattle.lru_limits.specs.declared.limiters.both.Both.{Both}
