@@ -20,4 +20,5 @@ pub use memo::Memo;
 pub use memo::loader::Loader;
 pub use ordered_map::OrderedMap;
 pub use ordered_map::entries::Entries;
+pub use ordered_map::keys::{Keys, Values};
 pub use page_cache::{PageCache, PageError, Unclosed};
