@@ -3,3 +3,4 @@ pub mod PageOrder
 pub mod Blocks
 pub mod StoredAnswers
 pub mod TurnedEntries
+pub mod RetainedEntries

@@ -8,13 +8,13 @@ use Rattle.std.proofs.lemmas.Option.{none-some}
 use Rattle.std.specs.Cmp.{IsEquivalence}
 use Rattle.std.specs.List.{AllByRecursion, IsDistinct}
 use Rattle.std.specs.Prelude.{is_some, if◌then◌else◌}
-use Rattle.std.specs.Map.{lookup, set_value, keys_of}
+use Rattle.std.specs.Map.{lookup, lookup_entry, set_value, keys_of}
 use Rattle.lru_caches.specs.Ordered.{put}
 use Rattle.schnellru.specs.Lists.{without, first, without_first, last, without_last}
 
 module _ {X : Type 0} where
   -- the first comes last, and the last first
-  reverse-cons : (x : X) (xs : List X) → reverse (x ∷ xs) ≡ reverse xs ++ x ∷ []
+  pub reverse-cons : (x : X) (xs : List X) → reverse (x ∷ xs) ≡ reverse xs ++ x ∷ []
   reverse-cons x xs = reverse-append (x ∷ []) xs
 
   pub reverse-push : (xs : List X) (x : X) → reverse (xs ++ x ∷ []) ≡ x ∷ reverse xs
@@ -35,7 +35,7 @@ module _ {X : Type 0} where
   last-reverse [] = refl
   last-reverse (x ∷ xs) = ap last (reverse-cons x xs) ∙ last-push (reverse xs) x
 
-  without_last-reverse : (xs : List X) → without_last (reverse xs) ≡ reverse (without_first xs)
+  pub without_last-reverse : (xs : List X) → without_last (reverse xs) ≡ reverse (without_first xs)
   without_last-reverse [] = refl
   without_last-reverse (x ∷ xs) = ap without_last (reverse-cons x xs) ∙ without_last-push (reverse xs) x
 
@@ -93,11 +93,26 @@ module _ {K X : Type 0} (test : K → Bool) where
       go true e later = absurd (none-some x.1 (sym e))
       go false e later = ap (λ l. x ∷ l) (later e)
 
+  entry_behind : (xs rest : List (K × X)) → lookup_entry test xs ≡ None
+      → lookup_entry test (xs ++ rest) ≡ lookup_entry test rest
+  entry_behind [] rest e = refl
+  entry_behind (x ∷ xs) rest e = go (test x.0) e (entry_behind xs rest)
+    where
+      go : (b : Bool) → cond b (Some x) (lookup_entry test xs) ≡ None
+          → (lookup_entry test xs ≡ None → lookup_entry test (xs ++ rest) ≡ lookup_entry test rest)
+          → cond b (Some x) (lookup_entry test (xs ++ rest)) ≡ lookup_entry test rest
+      go true e later = absurd (none-some x (sym e))
+      go false e later = later e
+
   -- and it ends before an entry of another key
   module _ (x : K × X) (other : test x.0 ≡ false) where
     found_before : (xs : List (K × X)) → lookup test (xs ++ x ∷ []) ≡ lookup test xs
     found_before [] = ap (λ b. cond b (Some x.1) None) other
     found_before (y ∷ ys) = ap (cond (test y.0) (Some y.1)) (found_before ys)
+
+    entry_before : (xs : List (K × X)) → lookup_entry test (xs ++ x ∷ []) ≡ lookup_entry test xs
+    entry_before [] = ap (λ b. cond b (Some x) None) other
+    entry_before (y ∷ ys) = ap (cond (test y.0) (Some y)) (entry_before ys)
 
     without_before : (xs : List (K × X)) → without test (xs ++ x ∷ []) ≡ without test xs ++ x ∷ []
     without_before [] = ap (λ b. cond b [] (x ∷ [])) other
@@ -127,7 +142,27 @@ module _ {K X : Type 0} {eq : K → K → Bool} (test : K → Bool)
   none_more x (y ∷ ys) named h =
       ap (λ b. cond b (Some y.1) (lookup test ys)) (one x y.0 named ∙ h.0) ∙ none_more x ys named h.1
 
-  -- the key finds the same value in the list that is turned round
+  no_more : (x : K) (xs : List (K × X)) → test x ≡ true → AllByRecursion (λ y. eq x y ≡ false) (keys_of xs)
+      → lookup_entry test xs ≡ None
+  no_more x [] named h = refl
+  no_more x (y ∷ ys) named h =
+      ap (λ b. cond b (Some y) (lookup_entry test ys)) (one x y.0 named ∙ h.0) ∙ no_more x ys named h.1
+
+  -- the key finds the same entry in the list that is turned round,
+  pub entry-reverse : (xs : List (K × X)) → IsDistinct eq (keys_of xs)
+      → lookup_entry test (reverse xs) ≡ lookup_entry test xs
+  entry-reverse [] d = refl
+  entry-reverse (x ∷ xs) d = ap (lookup_entry test) (reverse-cons x xs)
+      ∙ go (test x.0) refl (entry-reverse xs (IsDistinct-tail eq x.0 (keys_of xs) d))
+    where
+      go : (b : Bool) → test x.0 ≡ b → lookup_entry test (reverse xs) ≡ lookup_entry test xs
+          → lookup_entry test (reverse xs ++ x ∷ []) ≡ cond b (Some x) (lookup_entry test xs)
+      go true e later =
+          let none = later ∙ no_more x.0 xs e (IsDistinct-head eq x.0 (keys_of xs) d) in
+          entry_behind test (reverse xs) (x ∷ []) none ∙ ap (λ b. cond b (Some x) None) e
+      go false e later = entry_before test x e (reverse xs) ∙ later
+
+  -- and so the same value
   pub lookup-reverse : (xs : List (K × X)) → IsDistinct eq (keys_of xs)
       → lookup test (reverse xs) ≡ lookup test xs
   lookup-reverse [] d = refl

@@ -1,20 +1,24 @@
 //! Caches above the verified LRU map.
 //!
 //! [`PageCache`] keeps the blocks of a [`BlockDevice`] that were used last, writes them back when they are evicted or
-//! flushed, and loses no block that was written to it, whichever call of the device fails. [`Memo`] is a function that
+//! flushed, and loses no block that was written to it, whichever call of the device fails. [`FileDevice`] is a device
+//! over a file. [`Memo`] is a function that
 //! remembers its newest results, and [`Loader`] one that may fail. [`OrderedMap`] is a hash map in the order of
 //! insertion.
 #![tactic(auto)]
 
 mod append;
 mod device;
+mod file_device;
 mod memo;
 mod ordered_map;
 mod page_cache;
 
 pub use device::BlockDevice;
+pub use file_device::{FileDevice, FileError};
 pub use memo::Memo;
 pub use memo::loader::Loader;
 pub use ordered_map::OrderedMap;
 pub use ordered_map::entries::Entries;
+pub use ordered_map::keys::{Keys, Values};
 pub use page_cache::{PageCache, PageError, Unclosed};

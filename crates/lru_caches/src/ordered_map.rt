@@ -2,14 +2,17 @@
 ghost use Rattle.std.specs.Prelude.{◌≡◌, ◌<◌, ◌^◌, [], length, is_some, IsSome, IsOk, IfOk, OnOk, OnErr, option_map};
 ghost use Rattle.std.specs.Borrow.{sem};
 ghost use Rattle.std.specs.List.{IsDistinct};
-ghost use Rattle.std.specs.Map.{lookup, keys_of};
-ghost use Rattle.std.specs.Map.Iter.{ShowsInOrder, ShowsInReverse, deref_pair};
+ghost use Rattle.std.specs.List.Retain.{IsFiltered};
+ghost use Rattle.std.specs.Map.{lookup, keys_of, values_of};
+ghost use Rattle.std.specs.Map.Iter.{ShowsInOrder, ShowsInReverse, deref_pair, deref};
 ghost use Rattle.std.specs.Option.{option_copied, option_copied_mut};
-ghost use Rattle.schnellru.specs.Lists.{is_empty, first, last, without_first, without};
+ghost use Rattle.schnellru.specs.ByHash.{Asks};
+ghost use Rattle.schnellru.specs.Lists.{is_empty, first, last, without_first, without_last, without, lookup_entry};
 ghost use Rattle.lru_caches.specs.Ordered.{put};
 
 use crate::append::append;
 use crate::ordered_map::entries::Entries;
+use crate::ordered_map::keys::{Keys, Values};
 use schnellru::{DEFAULT_ENTRY_BYTES, KeyHasher, LookupKey, LruMap, RandomState, Unlimited};
 use std::alloc::{AllocError, Global};
 use std::hash::Hash;
@@ -17,6 +20,7 @@ use std::marker::Model;
 use std::mem;
 
 pub(crate) mod entries;
+pub(crate) mod keys;
 
 /// A hash map whose entries are in the order of insertion, oldest first.
 ///
@@ -110,14 +114,14 @@ impl<K: Eq + Hash, V, S: KeyHasher<K>> OrderedMap<K, V, S> {
 
     /// Returns whether a key is in the map.
     ///
-    /// `String` keys are looked up by a `&str`, as `map.contains(&"a")`. Cost: `O(1)` expected.
+    /// `String` keys are looked up by a `&str`, as `map.contains_key(&"a")`. Cost: `O(1)` expected.
     ///
     /// ```
-    /// assert!(rt; map.contains(&1) && !map.contains(&9));
+    /// assert!(rt; map.contains_key(&1) && !map.contains_key(&9));
     /// ```
     ///
-    /// After indexmap's `IndexMap::contains_key`.
-    pub fn contains<Q: LookupKey<K>>(&self, key: &Q) -> bool
+    /// After std's `HashMap::contains_key`.
+    pub fn contains_key<Q: LookupKey<K>>(&self, key: &Q) -> bool
         ensures { result ≡ is_some (lookup (Q.names key.now) self.now) }
     {
         distinct(&self.map);
@@ -207,6 +211,72 @@ impl<K: Eq + Hash, V, S: KeyHasher<K>> OrderedMap<K, V, S> {
         self.map.pop_oldest()
     }
 
+    /// Removes and returns the newest entry, if there is one.
+    ///
+    /// ```
+    /// assert_eq!(rt; map.pop_last(), Some((3, 30)));
+    /// ```
+    ///
+    /// Cost: `O(1)`.
+    ///
+    /// After std's `BTreeMap::pop_last`.
+    pub fn pop_last(&mut self) -> Option<(K, V)>
+        ensures last { result ≡ last self.old }
+        ensures rest { self.new ≡ without_last self.old }
+    {
+        self.map.pop_newest()
+    }
+
+    /// Removes a key, and returns the stored key and its value. The other entries keep their order.
+    ///
+    /// ```
+    /// assert_eq!(rt; (map.remove_entry(&3), map.remove_entry(&3)), (Some((3, 30)), None));
+    /// ```
+    ///
+    /// Cost: `O(1)` expected.
+    ///
+    /// After std's `HashMap::remove_entry`.
+    pub fn remove_entry<Q: LookupKey<K>>(&mut self, key: &Q) -> Option<(K, V)>
+        ensures entry { result ≡ lookup_entry (Q.names key.now) self.old }
+        ensures entries { self.new ≡ without (Q.names key.now) self.old }
+    {
+        distinct(&self.map);
+        self.map.remove_entry(key)
+    }
+
+    /// Returns an iterator over the keys, oldest first.
+    ///
+    /// ```
+    /// assert!(rt; map.keys().next() == Some(&1) && map.values().next_back() == Some(&20));
+    /// ```
+    ///
+    /// Cost: `O(1)`, and so is each step from either end.
+    ///
+    /// After std's `HashMap::keys`.
+    pub fn keys(&self) -> Keys<'_, K, V>
+        ensures rest { result ≡ keys_of self.now }
+        ensures distinct { IsDistinct K.eq (keys_of self.now) }
+        ensures runs { ShowsInOrder (deref {X = K}) }
+    {
+        Keys::new(self.iter())
+    }
+
+    /// Returns an iterator over the values, by the order of their keys, oldest first.
+    ///
+    /// ```
+    /// assert!(rt; map.keys().next() == Some(&1) && map.values().next_back() == Some(&20));
+    /// ```
+    ///
+    /// Cost: `O(1)`, and so is each step from either end.
+    ///
+    /// After std's `HashMap::values`.
+    pub fn values(&self) -> Values<'_, K, V>
+        ensures rest { result ≡ values_of self.now }
+        ensures runs { ShowsInOrder (deref {X = V}) }
+    {
+        Values::new(self.iter())
+    }
+
     /// Returns an iterator over the entries, oldest first.
     ///
     /// ```
@@ -277,6 +347,43 @@ impl<K: Eq + Hash + Drop, V, S: KeyHasher<K>> OrderedMap<K, V, S> {
     {
         distinct(&self.map);
         self.map.remove(key)
+    }
+}
+
+impl<K: Eq + Hash + Drop, V: Drop, S: KeyHasher<K>> OrderedMap<K, V, S> {
+    /// Removes the entries for which the closure returns false. The others keep their order.
+    ///
+    /// The closure is called with each entry once, oldest first.
+    ///
+    /// ```
+    /// map.retain(|key, value| *key == 1 || *value > 30);
+    /// assert_eq!(rt; (map.len(), map.contains_key(&1)), (1, true));
+    /// ```
+    ///
+    /// Cost: `O(len)`.
+    ///
+    /// After std's `HashMap::retain`.
+    pub fn retain<F: FnMut(&K, &V) -> bool>(&mut self, keep: F)
+        requires callable { F.IsAlwaysCallable keep }
+        ensures kept { IsFiltered (Asks F.FnMut) keep self.old self.new }
+    {
+        self.map.retain(keep);
+    }
+
+    /// Drops all entries. The table keeps its memory.
+    ///
+    /// ```
+    /// map.clear();
+    /// assert!(rt; map.is_empty());
+    /// ```
+    ///
+    /// Cost: `O(buckets)`, even if there are few entries.
+    ///
+    /// After std's `HashMap::clear`.
+    pub fn clear(&mut self)
+        ensures { self.new ≡ [] }
+    {
+        self.map.clear();
     }
 }
 

@@ -61,7 +61,7 @@ fn of_the_ordered_map(rt: HostRuntime) -> Result<(), Fail> {
     let mut map: OrderedMap<u64, u64> = OrderedMap::new(alloc);
     assert_eq!(rt; (map.insert(1, 10)?, map.insert(2, 20)?), (None, None));
     assert_eq!(rt; map.insert(1, 11)?, Some(10));
-    assert!(rt; map.contains(&1) && !map.contains(&9));
+    assert!(rt; map.contains_key(&1) && !map.contains_key(&9));
     assert_eq!(rt; (map.get(&1), map.get(&9)), (Some(&11), None));
     assert_eq!(rt; map.len(), 2);
     assert!(rt; map.first() == Some((&1, &11)) && map.last() == Some((&2, &20)));
@@ -81,6 +81,26 @@ fn of_the_ordered_map(rt: HostRuntime) -> Result<(), Fail> {
     assert_eq!(rt; (overwrite(&mut map, 1, 11), total), (true, 55));
     assert_eq!(rt; (map.remove(&2), map.remove(&2)), (Some(22), None));
     assert_eq!(rt; map.pop_first(), Some((1, 11)));
+    Ok(())
+}
+
+#[test]
+fn of_the_ordered_map_as_a_list(rt: HostRuntime) -> Result<(), Fail> {
+    let mut map: OrderedMap<u64, u64> = OrderedMap::new(rt.alloc());
+    for (key, value) in [(1, 10), (2, 20), (3, 30)] {
+        map.insert(key, value)?;
+    }
+    assert_eq!(rt; map.pop_last(), Some((3, 30)));
+    assert!(rt; map.keys().next() == Some(&1) && map.values().next_back() == Some(&20));
+    map.insert(3, 30)?;
+    assert_eq!(rt;
+        (map.remove_entry(&3), map.remove_entry(&3)),
+        (Some((3, 30)), None)
+    );
+    map.retain(|key, value| *key == 1 || *value > 30);
+    assert_eq!(rt; (map.len(), map.contains_key(&1)), (1, true));
+    map.clear();
+    assert!(rt; map.is_empty());
     Ok(())
 }
 

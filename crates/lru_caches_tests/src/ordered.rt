@@ -16,7 +16,7 @@ fn an_ordered_map_runs_out_of_memory(rt: HostRuntime) -> Result<(), Fail> {
     let all = hog.took_all();
     drop(hog);
     assert_eq!(rt; replaced, Ok(Some(10)));
-    assert!(rt; (refused || !all) && map.contains(&3) != refused);
+    assert!(rt; (refused || !all) && map.contains_key(&3) != refused);
     map.insert(3, 13)?;
     assert!(rt; map.first() == Some((&0, &10)) && map.last() == Some((&3, &13)) && map.len() == 4);
     Ok(())

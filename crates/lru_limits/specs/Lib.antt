@@ -7,3 +7,5 @@ pub mod Keys
 pub mod Budget
 pub mod Mixing
 pub mod Hashing
+pub mod Admissions
+pub mod Both

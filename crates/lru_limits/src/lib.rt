@@ -4,6 +4,7 @@
 //! - [`KeyHasher`]: a hasher of keys. Each `BuildHasher` is one; contracts name the hash of a key by it.
 //! - [`Limiter`] and [`Insertion`]: when a map is over its limit, and what happens to an element that is offered to it.
 //! - [`ByLength`], [`ByMemoryUsage`], [`Unlimited`], [`UnlimitedCompact`]: limiters that look at no element.
+//! - [`Both`]: two limiters for one map, which say in advance what they accept by [`Admission`].
 //! - [`Storing`]: an adapter for a limiter of your own that stores each pair as it comes.
 //! - [`Costed`], [`Summing`], [`ByCost`], [`ByWeight`]: limiters with a running total of the costs of the elements.
 //! - [`RandomState`] and [`DefaultHasher`]: the hasher, with four seeds.
@@ -12,16 +13,18 @@
 #![tactic(auto)]
 
 pub mod accounts;
+pub mod admission;
 pub mod hasher;
 pub mod keys;
 pub mod limiter;
 pub mod limiters;
 
 pub use accounts::{ByCost, ByWeight, Costed, Summing};
+pub use admission::Admission;
 pub use group_table::LinkType;
 pub use hasher::{DefaultHasher, RandomState};
 pub use keys::{KeyHasher, LookupKey};
 pub use limiter::{Insertion, Limiter};
 pub use limiters::{
-    ByLength, ByMemoryUsage, Storing, Unlimited, UnlimitedCompact, limiters_fix_their_links,
+    Both, ByLength, ByMemoryUsage, Storing, Unlimited, UnlimitedCompact, limiters_fix_their_links,
 };

@@ -6,12 +6,14 @@ use crate::accounts::{ByCost, Costed};
 use crate::limiter::Limiter;
 use group_table::LinkType;
 
+mod both;
 mod by_length;
 mod by_memory_usage;
 mod storing;
 mod unlimited;
 mod unlimited_compact;
 
+pub use both::Both;
 pub use by_length::ByLength;
 pub use by_memory_usage::ByMemoryUsage;
 pub use storing::Storing;

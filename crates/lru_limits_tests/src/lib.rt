@@ -2,6 +2,8 @@
 #![tactic(auto)]
 
 #[cfg(test)]
+mod both;
+#[cfg(test)]
 mod bounds;
 #[cfg(test)]
 mod by_text_length;

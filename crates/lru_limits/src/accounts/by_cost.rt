@@ -1,8 +1,10 @@
 //! The limiter by the sum of the costs of the values.
 ghost use Rattle.std.specs.Prelude.{◌≡◌};
+ghost use Rattle.lru_limits.specs.Admissions.{budget_terms, weighs-terms};
 ghost use Rattle.lru_limits.specs.Budget.{by_cost, charges, charges-lawful, charges-sums};
 
 use crate::accounts::{Costed, Summing, sum_with};
+use crate::admission::Admission;
 use crate::keys::LookupKey;
 use crate::limiter::{Insertion, Limiter};
 use std::alloc::{AllocError, Global};
@@ -174,4 +176,36 @@ impl<K: Eq + Hash + Drop, V: Costed + Drop> Summing<K, V, K> for ByCost {
     }
 
     ghost laws = { charges-sums V.cost };
+}
+
+impl<K: Eq + Hash + Drop, V: Costed + Drop> Admission<K, V> for ByCost {
+    ghost terms = { budget_terms (λ _ v. V.cost v) };
+
+    #[inline]
+    fn accepts(&self, _length: usize, _key: &K, value: &V) -> bool {
+        sum_with(self.limit, self.cost, value.cost()).is_some()
+    }
+
+    #[inline]
+    fn on_stored(&mut self, _length: usize, _key: &K, value: &V) {
+        if let Some(sum) = sum_with(self.limit, self.cost, value.cost()) {
+            self.cost = sum;
+        }
+    }
+
+    #[inline]
+    fn accepts_in_place(&self, _length: usize, _key: &K, old_value: &V, new_value: &V) -> bool {
+        let without_old = self.cost.saturating_sub(old_value.cost());
+        sum_with(self.limit, without_old, new_value.cost()).is_some()
+    }
+
+    #[inline]
+    fn on_replaced(&mut self, _length: usize, _key: &K, old_value: &V, new_value: &V) {
+        let without_old = self.cost.saturating_sub(old_value.cost());
+        if let Some(sum) = sum_with(self.limit, without_old, new_value.cost()) {
+            self.cost = sum;
+        }
+    }
+
+    ghost laws = { weighs-terms (λ _ v. V.cost v) };
 }

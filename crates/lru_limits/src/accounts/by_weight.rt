@@ -1,8 +1,10 @@
 //! The limiter by the sum of the costs of keys, values and entries.
 ghost use Rattle.std.specs.Prelude.{◌≡◌};
+ghost use Rattle.lru_limits.specs.Admissions.{budget_terms, weighs-terms};
 ghost use Rattle.lru_limits.specs.Budget.{pair_cost, by_weight, weighs, weighs-lawful, weighs-sums};
 
 use crate::accounts::{Costed, Summing, sum_with};
+use crate::admission::Admission;
 use crate::keys::LookupKey;
 use crate::limiter::{Insertion, Limiter};
 use std::alloc::{AllocError, Global};
@@ -174,4 +176,41 @@ impl<K: Costed + Eq + Hash + Drop, V: Costed + Drop, const OVERHEAD: u64> Summin
     }
 
     ghost laws = { weighs-sums (λ k v. pair_cost OVERHEAD (K.cost k) (V.cost v)) };
+}
+
+impl<K: Costed + Eq + Hash + Drop, V: Costed + Drop, const OVERHEAD: u64> Admission<K, V>
+    for ByWeight<OVERHEAD> {
+    ghost terms = { budget_terms (λ k v. pair_cost OVERHEAD (K.cost k) (V.cost v)) };
+
+    #[inline]
+    fn accepts(&self, _length: usize, key: &K, value: &V) -> bool {
+        let cost = cost_of_pair(OVERHEAD, key, value);
+        sum_with(self.limit, self.cost, cost).is_some()
+    }
+
+    #[inline]
+    fn on_stored(&mut self, _length: usize, key: &K, value: &V) {
+        let cost = cost_of_pair(OVERHEAD, key, value);
+        if let Some(sum) = sum_with(self.limit, self.cost, cost) {
+            self.cost = sum;
+        }
+    }
+
+    #[inline]
+    fn accepts_in_place(&self, _length: usize, key: &K, old_value: &V, new_value: &V) -> bool {
+        let old_cost = cost_of_pair(OVERHEAD, key, old_value);
+        let new_cost = cost_of_pair(OVERHEAD, key, new_value);
+        sum_with(self.limit, self.cost.saturating_sub(old_cost), new_cost).is_some()
+    }
+
+    #[inline]
+    fn on_replaced(&mut self, _length: usize, key: &K, old_value: &V, new_value: &V) {
+        let old_cost = cost_of_pair(OVERHEAD, key, old_value);
+        let new_cost = cost_of_pair(OVERHEAD, key, new_value);
+        if let Some(sum) = sum_with(self.limit, self.cost.saturating_sub(old_cost), new_cost) {
+            self.cost = sum;
+        }
+    }
+
+    ghost laws = { weighs-terms (λ k v. pair_cost OVERHEAD (K.cost k) (V.cost v)) };
 }

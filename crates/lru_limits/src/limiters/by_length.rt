@@ -1,8 +1,10 @@
 //! The limiter by the number of pairs.
-ghost use Rattle.std.specs.Prelude.{◌≡◌};
+ghost use Rattle.std.specs.Prelude.{◌≡◌, nat_lt};
+ghost use Rattle.lru_limits.specs.Admissions.{never_changes, hands_over-terms};
 ghost use Rattle.lru_limits.specs.Limiters.{length_rules, length_offers};
 ghost use Rattle.lru_limits.specs.Stores.{hands_over-lawful};
 
+use crate::admission::Admission;
 use crate::keys::LookupKey;
 use crate::limiter::{Insertion, Limiter};
 use std::alloc::{AllocError, Global};
@@ -124,4 +126,26 @@ impl<K: Eq + Hash + Drop, V: Drop> Insertion<K, V, K> for ByLength {
     }
 
     ghost laws = { hands_over-lawful K.eq K.Eq.laws };
+}
+
+impl<K: Eq + Hash + Drop, V: Drop> Admission<K, V> for ByLength {
+    ghost terms = { never_changes (λ most _ _. nat_lt 0 most) };
+
+    #[inline]
+    fn accepts(&self, _length: usize, _key: &K, _value: &V) -> bool {
+        self.max_length > 0
+    }
+
+    #[inline]
+    fn on_stored(&mut self, _length: usize, _key: &K, _value: &V) {}
+
+    #[inline]
+    fn accepts_in_place(&self, _length: usize, _key: &K, _old_value: &V, _new_value: &V) -> bool {
+        true
+    }
+
+    #[inline]
+    fn on_replaced(&mut self, _length: usize, _key: &K, _old_value: &V, _new_value: &V) {}
+
+    ghost laws = { hands_over-terms (λ most _ _. nat_lt 0 most) };
 }

@@ -1,8 +1,10 @@
 //! The limiter by the size of the table.
-ghost use Rattle.std.specs.Prelude.{◌≡◌};
+ghost use Rattle.std.specs.Prelude.{◌≡◌, true};
+ghost use Rattle.lru_limits.specs.Admissions.{never_changes, hands_over-terms};
 ghost use Rattle.lru_limits.specs.Limiters.{memory_rules, all_offers};
 ghost use Rattle.lru_limits.specs.Stores.{hands_over-lawful};
 
+use crate::admission::Admission;
 use crate::keys::LookupKey;
 use crate::limiter::{Insertion, Limiter};
 use std::alloc::{AllocError, Global};
@@ -118,4 +120,26 @@ impl<K: Eq + Hash + Drop, V> Insertion<K, V, K> for ByMemoryUsage {
     }
 
     ghost laws = { hands_over-lawful K.eq K.Eq.laws };
+}
+
+impl<K: Eq + Hash + Drop, V> Admission<K, V> for ByMemoryUsage {
+    ghost terms = { never_changes (λ _ _ _. true) };
+
+    #[inline]
+    fn accepts(&self, _length: usize, _key: &K, _value: &V) -> bool {
+        true
+    }
+
+    #[inline]
+    fn on_stored(&mut self, _length: usize, _key: &K, _value: &V) {}
+
+    #[inline]
+    fn accepts_in_place(&self, _length: usize, _key: &K, _old_value: &V, _new_value: &V) -> bool {
+        true
+    }
+
+    #[inline]
+    fn on_replaced(&mut self, _length: usize, _key: &K, _old_value: &V, _new_value: &V) {}
+
+    ghost laws = { hands_over-terms (λ _ _ _. true) };
 }

@@ -1,7 +1,10 @@
 //! An adapter for limiters that store each pair as it comes.
+ghost use Rattle.std.specs.Prelude.{true};
+ghost use Rattle.lru_limits.specs.Admissions.{never_changes, hands_over-terms};
 ghost use Rattle.lru_limits.specs.Limiters.{all_offers};
 ghost use Rattle.lru_limits.specs.Stores.{rules_at, hands_over-lawful};
 
+use crate::admission::Admission;
 use crate::keys::LookupKey;
 use crate::limiter::{Insertion, Limiter};
 use std::alloc::{AllocError, Global};
@@ -72,4 +75,26 @@ impl<K: Eq + Hash + Drop, V, L: Limiter<K, V>> Insertion<K, V, K> for Storing<L>
     }
 
     ghost laws = { hands_over-lawful K.eq K.Eq.laws };
+}
+
+impl<K: Eq + Hash + Drop, V, L: Limiter<K, V>> Admission<K, V> for Storing<L> {
+    ghost terms = { never_changes (λ _ _ _. true) };
+
+    #[inline]
+    fn accepts(&self, _length: usize, _key: &K, _value: &V) -> bool {
+        true
+    }
+
+    #[inline]
+    fn on_stored(&mut self, _length: usize, _key: &K, _value: &V) {}
+
+    #[inline]
+    fn accepts_in_place(&self, _length: usize, _key: &K, _old_value: &V, _new_value: &V) -> bool {
+        true
+    }
+
+    #[inline]
+    fn on_replaced(&mut self, _length: usize, _key: &K, _old_value: &V, _new_value: &V) {}
+
+    ghost laws = { hands_over-terms (λ _ _ _. true) };
 }

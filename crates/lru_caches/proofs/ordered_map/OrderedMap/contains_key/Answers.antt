@@ -1,6 +1,6 @@
 use Rattle.std.proofs.Common.{is_some, sym, ap, ◌∙◌}
 use Rattle.lru_caches.proofs.TurnedEntries.{lookup-reverse}
-use Rattle.lru_caches.proofs.ordered_map.OrderedMap.contains.Goals as goal
+use Rattle.lru_caches.proofs.ordered_map.OrderedMap.contains_key.Goals as goal
 
 pub returns : goal.returns
 returns g c =

@@ -1,0 +1,151 @@
+//! A device over a file. A contract sees a device as the list of its blocks.
+ghost use Rattle.std.specs.Prelude.{◌≡◌, ◌<◌, ◌^◌, [], length, IfOk};
+ghost use Rattle.std.specs.List.{slice_index_or};
+
+use crate::device::BlockDevice;
+use std::alloc::Global;
+use std::io::{Read, Seek, SeekFrom, Write};
+use std::marker::Model;
+use thiserror::Error;
+
+/// Why a call on a file device failed.
+///
+/// ```
+/// assert!(rt; matches!(device.read(9), Err(FileError::NoBlock)));
+/// ```
+#[derive(Clone, Copy, Debug, PartialEq, Error)]
+pub enum FileError {
+    /// A seek, a read or a write of the file failed.
+    #[error("the file failed")]
+    File,
+    /// The device has no block of this number.
+    #[error("no such block")]
+    NoBlock,
+    /// The file has another block than the one that it was given.
+    #[error("the file has changed")]
+    Changed,
+    /// Out of memory for a copy of the blocks.
+    #[error("no memory")]
+    Memory,
+}
+
+/// A device of the blocks of a file, of `N` bytes each, that checks what it reads.
+///
+/// Nothing is proved of the bytes that an operating system returns. So the device keeps a copy of each block in memory,
+/// and a read fails if the file's block differs. After a failed write the reads of that block may fail, until a write of
+/// it succeeds.
+///
+/// ```
+/// let mut device: FileDevice<File, 8> = FileDevice::new(alloc, file, 4)?;
+/// ```
+#[derive(Drop)]
+pub struct FileDevice<F, const N: usize> {
+    file: F,
+    copies: Vec<[u8; N]>,
+}
+
+impl<F, const N: usize> Model for FileDevice<F, N> {
+    ghost use Rattle.std.specs.Prelude.{ℕ, List};
+
+    ghost Value = { List (List ℕ) };
+
+    ghost view = { λ device. device.copies.items };
+}
+
+impl<F: Read + Write + Seek, const N: usize> FileDevice<F, N> {
+    /// Makes a device of the first `count` blocks of a file, and reads these.
+    ///
+    /// Cost: `O(count * N)`, and the memory of that many bytes.
+    ///
+    /// # Errors
+    ///
+    /// `File`: the file failed, or has fewer blocks. `Memory`: out of memory for the copy.
+    pub fn new(alloc: Global, mut file: F, count: u64) -> Result<Self, FileError>
+    where
+        F: Drop,
+        requires { N < 2 ^ 63 }
+        ensures { IfOk result (λ device. length device ≡ count) }
+    {
+        let mut copies = Vec::new(alloc);
+        for n in 0..count {
+            let block = read_block(&mut file, n)?;
+            if copies.push(block).is_err() {
+                return Err(FileError::Memory);
+            }
+        }
+        Ok(FileDevice { file, copies })
+    }
+
+    /// Returns the number of blocks.
+    ///
+    /// Cost: `O(1)`.
+    ///
+    /// ```
+    /// assert_eq!(rt; device.len(), 4);
+    /// ```
+    pub fn len(&self) -> usize
+        ensures { result ≡ length self.now }
+    {
+        self.copies.len()
+    }
+}
+
+impl<F: Read + Write + Seek, const N: usize> BlockDevice<[u8; N]> for FileDevice<F, N> {
+    type Error = FileError;
+
+    ghost blocks = { λ device n. slice_index_or device n [] };
+
+    fn read(&mut self, n: u64) -> Result<[u8; N], FileError> {
+        let copy = match self.copies.get(n as usize) {
+            Some(copy) => *copy,
+            None => return Err(FileError::NoBlock),
+        };
+        let block: [u8; N] = read_block(&mut self.file, n)?;
+        if block == copy {
+            Ok(copy)
+        } else {
+            Err(FileError::Changed)
+        }
+    }
+
+    fn write(&mut self, n: u64, block: &[u8; N]) -> Result<(), FileError> {
+        let Some(copy) = self.copies.get_mut(n as usize) else {
+            return Err(FileError::NoBlock);
+        };
+        write_block(&mut self.file, n, block)?;
+        *copy = *block;
+        Ok(())
+    }
+}
+
+// Moves to the block of this number.
+fn seek_to<F: Seek>(file: &mut F, n: u64, size: usize) -> Result<(), FileError> {
+    let at = n.checked_mul(size as u64).ok_or(FileError::NoBlock)?;
+    match file.seek(SeekFrom::Start(at)) {
+        Ok(_) => Ok(()),
+        Err(_) => Err(FileError::File),
+    }
+}
+
+// Reads a block of the file.
+fn read_block<F: Read + Seek, const N: usize>(file: &mut F, n: u64) -> Result<[u8; N], FileError> {
+    seek_to(file, n, N)?;
+    let mut block = [0u8; N];
+    match file.read_exact(&mut block) {
+        Ok(()) => Ok(block),
+        Err(_) => Err(FileError::File),
+    }
+}
+
+// Writes a block to the file.
+fn write_block<F: Write + Seek, const N: usize>(
+    file: &mut F,
+    n: u64,
+    block: &[u8; N],
+) -> Result<(), FileError> {
+    seek_to(file, n, N)?;
+    match file.write_all(block) {
+        Ok(()) => Ok(()),
+        Err(_) => Err(FileError::File),
+    }
+}

@@ -1,0 +1,109 @@
+//! The lines of a session, and what they print.
+use crate::command::{BLOCKS, Block, Command, block_of, command_of};
+use crate::counted::Counted;
+use lru_caches::{FileDevice, FileError, PageCache, PageError, Unclosed};
+use std::fs::File;
+use std::{io, str};
+
+type Cache = PageCache<Block, Counted<FileDevice<File, 16>>>;
+
+/// A cache, and how often the block of a line was cached, or not.
+pub struct Session {
+    cache: Cache,
+    hits: u64,
+    misses: u64,
+}
+
+/// The text of a block, without the spaces at its end.
+pub fn text_of(block: &[u8]) -> &str {
+    str::from_utf8(block).unwrap_or("?").trim_end()
+}
+
+/// Prints why a call failed.
+fn print_error(rt: &impl Print, error: PageError<FileError>) -> io::Result<()> {
+    match error {
+        PageError::Device(error) => println!(rt; "error: {error}"),
+        PageError::Memory => println!(rt; "error: no memory"),
+    }
+}
+
+impl Session {
+    pub fn new(cache: Cache) -> Session {
+        Session {
+            cache,
+            hits: 0,
+            misses: 0,
+        }
+    }
+
+    /// Counts a use of a block.
+    fn count(&mut self, n: u64) {
+        if self.cache.contains(n) {
+            self.hits = self.hits.saturating_add(1);
+        } else {
+            self.misses = self.misses.saturating_add(1);
+        }
+    }
+
+    fn read(&mut self, rt: &impl Print, n: u64) -> io::Result<()> {
+        self.count(n);
+        match self.cache.read(n) {
+            Ok(block) => println!(rt; "{n}: {}", text_of(&block)),
+            Err(error) => print_error(rt, error),
+        }
+    }
+
+    fn write(&mut self, rt: &impl Print, n: u64, text: &str) -> io::Result<()> {
+        // The cache would accept a page that the device lacks, and keep it: no write of it could succeed.
+        if n >= BLOCKS {
+            return print_error(rt, PageError::Device(FileError::NoBlock));
+        }
+        self.count(n);
+        match self.cache.write(n, block_of(text)) {
+            Ok(()) => println!(rt; "written"),
+            Err(error) => print_error(rt, error),
+        }
+    }
+
+    fn flush(&mut self, rt: &impl Print) -> io::Result<()> {
+        match self.cache.flush() {
+            Ok(()) => println!(rt; "flushed"),
+            Err(error) => print_error(rt, error),
+        }
+    }
+
+    fn stats(&self, rt: &impl Print) -> io::Result<()> {
+        let writes = self.cache.device().writes();
+        println!(rt;
+            "hits {}, misses {}, write-backs {writes}",
+            self.hits, self.misses
+        )
+    }
+
+    /// Does what a line asks for, and prints the answer.
+    pub fn answer(&mut self, rt: &impl Print, line: &str) -> io::Result<()> {
+        match command_of(line) {
+            Some(Command::Read(n)) => self.read(rt, n),
+            Some(Command::Write(n, text)) => self.write(rt, n, text),
+            Some(Command::Flush) => self.flush(rt),
+            Some(Command::Stats) => self.stats(rt),
+            None => println!(rt; "no command"),
+        }
+    }
+
+    /// Closes the cache, and returns whether all its pages were written.
+    pub fn close(self) -> bool {
+        let Session {
+            cache,
+            hits: _,
+            misses: _,
+        } = self;
+        match cache.close() {
+            Ok(_) => true,
+            Err(Unclosed { cache, error: _ }) => {
+                cache.discard();
+                false
+            }
+        }
+    }
+}
