@@ -5,5 +5,6 @@ pub mod Limiters
 pub mod Texts
 pub mod Keys
 pub mod Budget
+pub mod Budgeted
 pub mod Mixing
 pub mod Hashing
