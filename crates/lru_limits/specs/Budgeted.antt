@@ -21,6 +21,11 @@ pub record IsBudgeted {K V S : Type 0} (rules : Rules K V S) (offers : Offers K 
   -- the entry of a new key is stored as it is, if it is accepted
   pub gives : (s : S) (n : ℕ) (k : K) (v : V) (t : S) (given : Option (K × V)) → offers.on_insert s n k v t given
       → given ≡ (if accepts s k v then Some (k, v) else None)
+  -- no key and no value is changed
+  pub leaves : (s : S) (k : K) (v : V)
+      → ((rules.on_removed s k v).key ≡ k) × ((rules.on_removed s k v).value ≡ v)
+  pub replaces : (s : S) (n : ℕ) (k i : K) (v w : V) → let r = offers.on_replace s n k i v w in
+      (r.old_value ≡ v) × (r.new_value ≡ w)
   -- a limiter that is made has its budget, and the running total 0
   pub made_budget : (b : ℕ) → budget (made b) ≡ b
   pub made_empty : (b : ℕ) → account (made b) ≡ 0
@@ -45,6 +50,8 @@ weighs-budgeted weight = record {
   cleared = λ b. refl;
   grown = λ b n. refl;
   gives = λ b n k v t given offer. offer.pair;
+  leaves = λ b k v. (refl, refl);
+  replaces = λ b n k i v w. (refl, refl);
   made_budget = λ limit. refl;
   made_empty = λ limit. refl;
   set_budget = λ limit b. refl;
