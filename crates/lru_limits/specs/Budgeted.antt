@@ -4,7 +4,9 @@
 --     weighs-budgeted    the laws of `ByWeight` and of `ByCost`
 use Rattle.std.specs.Prelude.{◌≡◌, ◌+◌, ◌-◌, ℕ, Bool, true, false, Option, Some, None, if◌then◌else◌, nat_lt, refl}
 use Rattle.std.proofs.Common.{ap, ◌∙◌}
+use Rattle.std.proofs.lemmas.Bool.{true≢false}
 use Rattle.lru_limits.specs.Rules.{Rules, Offers}
+use Rattle.lru_limits.specs.Stores.{HandsOver}
 use Rattle.lru_limits.specs.Budget.{Budget, can_add, by_weight, weighs}
 
 pub record IsBudgeted {K V S : Type 0} (rules : Rules K V S) (offers : Offers K V S K) (account budget : S → ℕ)
@@ -21,6 +23,9 @@ pub record IsBudgeted {K V S : Type 0} (rules : Rules K V S) (offers : Offers K 
   -- the entry of a new key is stored as it is, if it is accepted
   pub gives : (s : S) (n : ℕ) (k : K) (v : V) (t : S) (given : Option (K × V)) → offers.on_insert s n k v t given
       → given ≡ (if accepts s k v then Some (k, v) else None)
+  -- else none is stored, and the limiter stays; an offer never runs out of memory
+  pub refuses : (s : S) (n : ℕ) (k : K) (v : V) → accepts s k v ≡ false → offers.on_insert s n k v s None
+  pub finds : (s : S) (n : ℕ) (k : K) (v : V) → offers.may_lack s n k v → ⊥
   -- no key and no value is changed
   pub leaves : (s : S) (k : K) (v : V)
       → ((rules.on_removed s k v).key ≡ k) × ((rules.on_removed s k v).value ≡ v)
@@ -38,6 +43,11 @@ either_limit : (b c : Budget) (accepts : Bool) → c.limit ≡ b.limit
 either_limit b c true same = same
 either_limit b c false same = refl
 
+kept-out : {K V : Type 0} (b c : Budget) (k : K) (v : V) (accepts : Bool) → accepts ≡ false
+    → HandsOver accepts (if accepts then c else b) k v b None
+kept-out b c k v true refused = absurd (true≢false refused)
+kept-out b c k v false refused = record { limiter = refl; pair = refl }
+
 pub weighs-budgeted : {K V : Type 0} (weight : K → V → ℕ) → IsBudgeted (by_weight weight) (weighs weight) (λ b. b.cost)
     (λ b. b.limit) (λ b k v. can_add b.limit b.cost (weight k v)) (λ limit. record { limit = limit; cost = 0 }) (λ limit b. record b { limit = limit })
 weighs-budgeted weight = record {
@@ -50,6 +60,8 @@ weighs-budgeted weight = record {
   cleared = λ b. refl;
   grown = λ b n. refl;
   gives = λ b n k v t given offer. offer.pair;
+  refuses = λ b n k v refused. kept-out b _ k v (can_add b.limit b.cost (weight k v)) refused;
+  finds = λ b n k v lacks. lacks;
   leaves = λ b k v. (refl, refl);
   replaces = λ b n k i v w. (refl, refl);
   made_budget = λ limit. refl;
