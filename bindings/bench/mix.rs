@@ -1,4 +1,5 @@
-//! Times loads on three maps of numbers, and checks that they return the same. bindings/bench.sh builds it.
+//! Times a load on one of three maps of numbers: schnellru, this library, or the map inside Rattle. bindings/bench.sh
+//! builds and runs it.
 use std::hint::black_box;
 use std::time::Instant;
 
@@ -72,28 +73,19 @@ fn operations(kinds: [u64; 2], length: u32) -> Vec<u64> {
     filling.chain(random).collect()
 }
 
+// Times one load on one map: the best of the rounds. Prints the nanoseconds of an operation, and the sum of the results.
 fn main() {
-    let rounds: usize = std::env::args().nth(1).and_then(|word| word.parse().ok()).unwrap_or(9);
+    let words: Vec<usize> = std::env::args().skip(1).filter_map(|word| word.parse().ok()).collect();
+    let [map, load, length, rounds] = words[..] else {
+        panic!("mix MAP LOAD LENGTH ROUNDS");
+    };
     let maps: [fn(u32, &[u64]) -> u64; 3] = [crate_map, library, inside];
-    println!("load, maximum length: ns of schnellru; this library and the map inside Rattle, as ratios");
-    for (load, kinds) in LOADS {
-        for length in [1_000, 50_000] {
-            let operations = operations(kinds, length);
-            let (mut best, mut sums) = ([f64::MAX; 3], [0; 3]);
-            for _ in 0..rounds {
-                for (i, map) in maps.iter().enumerate() {
-                    let start = Instant::now();
-                    sums[i] = black_box(*map)(length, &operations);
-                    best[i] = best[i].min(start.elapsed().as_nanos() as f64 / operations.len() as f64);
-                }
-            }
-            assert!(sums[0] == sums[1] && sums[1] == sums[2], "the maps differ: {sums:?}");
-            println!(
-                "{load}, {length}: {:.1}; {:.2}, {:.2}",
-                best[0],
-                best[1] / best[0],
-                best[2] / best[0]
-            );
-        }
+    let operations = operations(LOADS[load].1, length as u32);
+    let (mut best, mut sum) = (f64::MAX, 0);
+    for _ in 0..rounds {
+        let start = Instant::now();
+        sum = black_box(maps[map])(length as u32, &operations);
+        best = best.min(start.elapsed().as_nanos() as f64 / operations.len() as f64);
     }
+    println!("{best:.2} {sum} {}", LOADS[load].0);
 }
