@@ -6,6 +6,9 @@ use std::alloc::Global;
 use std::cell::Cell;
 use test_helpers::Random;
 
+/// The caches have fewer pages than this.
+const CAPACITIES: usize = 5;
+
 type Cache<'a> = PageCache<u64, Disk<'a>>;
 
 // Makes a random call. Returns whether the result is what an array gives. A call that fails changes no block.
@@ -27,26 +30,35 @@ fn agrees(cache: &mut Cache, model: &mut [u64; BLOCKS], random: &mut Random) -> 
     }
 }
 
-/// Returns how many random calls agree. The disk fails at a random call, and is repaired then.
-pub fn calls_that_agree(alloc: Global) -> u64 {
+// Returns how many random calls agree on a cache of this capacity, whose disk fails now and then.
+fn count(alloc: Global, capacity: usize) -> u64 {
     let calls_left = Cell::new(0);
     let disk = Disk {
         blocks: [0; BLOCKS],
         calls_left: &calls_left,
     };
     let (mut model, mut random, mut count) = ([0; BLOCKS], Random::new(1), 0u64);
-    let mut cache = PageCache::new(alloc, disk, 3);
-    for _ in 0..CALLS {
+    let mut cache = PageCache::new(alloc, disk, capacity);
+    for _ in 0..CALLS / CAPACITIES as u64 {
         if calls_left.get() == 0 {
             calls_left.set(random.below(12));
         }
-        let right = agrees(&mut cache, &mut model, &mut random) && cache.len() <= 3;
+        let right = agrees(&mut cache, &mut model, &mut random) && cache.len() <= capacity.max(1);
         count = count.saturating_add(right as u64);
     }
     calls_left.set(u64::MAX);
-    let flushed = cache.flush().is_ok() && cache.device().blocks == model;
+    let is_flushed = cache.flush().is_ok() && cache.device().blocks == model;
     cache.discard();
-    if flushed { count } else { 0 }
+    if is_flushed { count } else { 0 }
+}
+
+/// Returns how many random calls agree. The disk fails at a random call, and is repaired before the next one.
+pub fn calls_that_agree(alloc: Global) -> u64 {
+    let mut sum = 0u64;
+    for capacity in 0..CAPACITIES {
+        sum = sum.saturating_add(count(alloc, capacity));
+    }
+    sum
 }
 
 /// Writes three blocks through a cache of two pages, whose disk fails at the write-back that the third one needs.
