@@ -1,8 +1,9 @@
 #!/usr/bin/env bash
 # Proves and builds crates/lru_c, and runs the tests of the C header and of the Rust crate. It prints one line.
 #
-# It needs rt and a compiler of C. With clang, 10,000,000 random calls are compared with a plain list under the address
-# sanitizer; with valgrind, 160,000; with cargo, the Rust crate is tested. What is missing is named in the line.
+# It needs rt and a compiler of C. With clang, 10,000,000 random calls on each kind of map are compared with a plain list
+# under the address sanitizer; with valgrind, 160,000; with cargo, the Rust crate is tested. What is missing is named in
+# the line.
 set -euo pipefail
 cd "$(dirname "$0")"
 out=$(mktemp -d)
@@ -23,8 +24,10 @@ for compiler in gcc clang; do
     has "$compiler" || { missing+=("$compiler"); continue; }
     quiet "$compiler" -std=c11 "${flags[@]}" c/example.c "${libraries[@]}" -o "$out/example"
     quiet "$out/example"
-    quiet "$compiler" -std=c11 "${flags[@]}" c/random_calls.c "${libraries[@]}" "$wrapped" -o "$out/random_calls"
-    quiet "$out/random_calls" 100000
+    for name in random_calls random_bytes; do
+        quiet "$compiler" -std=c11 "${flags[@]}" "c/$name.c" "${libraries[@]}" "$wrapped" -o "$out/$name"
+        quiet "$out/$name" 100000
+    done
     done+=("$compiler")
 done
 for compiler in g++ clang++; do
@@ -33,13 +36,17 @@ for compiler in g++ clang++; do
     done+=("$compiler")
 done
 if has clang; then
-    quiet clang -std=c11 "${flags[@]}" -fsanitize=address,undefined c/random_calls.c "${libraries[@]}" "$wrapped" \
-        -o "$out/sanitized"
-    quiet "$out/sanitized" 625000
+    for name in random_calls random_bytes; do
+        quiet clang -std=c11 "${flags[@]}" -fsanitize=address,undefined "c/$name.c" "${libraries[@]}" "$wrapped" \
+            -o "$out/sanitized"
+        quiet "$out/sanitized" 625000
+    done
     done+=("address sanitizer")
 fi
 if has valgrind && [ -x "$out/random_calls" ]; then
-    quiet valgrind -q --leak-check=full --error-exitcode=9 "$out/random_calls" 10000
+    for name in random_calls random_bytes; do
+        quiet valgrind -q --leak-check=full --error-exitcode=9 "$out/$name" 10000
+    done
     done+=(valgrind)
 else
     missing+=(valgrind)

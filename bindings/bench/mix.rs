@@ -7,8 +7,16 @@ extern "C" {
     fn rattle_map(length: u32, operations: *const u64, count: usize) -> u64;
 }
 
-// The two lowest bits of an operation: 0 is an insert, 2 a get, 3 a peek. The others are the key.
-const LOADS: [(&str, [u64; 2]); 4] = [("mix", [0, 2]), ("insert", [0, 0]), ("get", [2, 2]), ("peek", [3, 3])];
+// The two lowest bits of an operation: 0 is an insert, 1 a put, 2 a get, 3 a peek. The others are the key. schnellru and
+// the map inside Rattle have no put: they insert.
+const LOADS: [(&str, [u64; 2]); 6] = [
+    ("half inserts, half gets", [0, 2]),
+    ("half puts, half gets", [1, 2]),
+    ("insert", [0, 0]),
+    ("put", [1, 1]),
+    ("get", [2, 2]),
+    ("peek", [3, 3]),
+];
 
 fn crate_map(length: u32, operations: &[u64]) -> u64 {
     let limiter = schnellru::ByLength::new(length);
@@ -17,7 +25,7 @@ fn crate_map(length: u32, operations: &[u64]) -> u64 {
     for operation in operations {
         let key = operation >> 2;
         match operation & 3 {
-            0 => drop(map.insert(key, *operation)),
+            0 | 1 => drop(map.insert(key, *operation)),
             2 => {
                 sum = map
                     .get(&key)
@@ -36,6 +44,7 @@ fn library(length: u32, operations: &[u64]) -> u64 {
         let key = operation >> 2;
         match operation & 3 {
             0 => drop(map.insert(key, *operation).expect("memory")),
+            1 => drop(map.put(key, *operation).expect("memory")),
             2 => {
                 sum = map
                     .get(key)

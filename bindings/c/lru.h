@@ -1,23 +1,27 @@
-/* A map from numbers to numbers that remembers the order of use and evicts the least recently used entries.
+/* Maps that remember the order of use and evict the least recently used entries: `struct lru`, from numbers to numbers
+ * under a maximum length, and `struct lru_bytes`, from byte strings to byte strings under a budget of bytes.
  *
  * Link liblru_c.a and after it liblibc_c.a, the kit's C runtime, through which the map calls malloc, realloc and
  * free. docs/FROM_C.md shows how.
  *
- * What is proved. Each function meets its contract in crates/lru_c/src/exports.rt, for every input: it is safe, it
- * ends, and it does to the map what the comment here says, unless the comment says "tested". A map is a list of
+ * What is proved. Each function meets its contract in crates/lru_c/src/exports.rt or crates/lru_c/src/bytes/exports.rt,
+ * for every input: it is safe, it ends, and it does to the map what the comment here says, unless the comment says
+ * "tested". A map is a list of
  * entries with distinct keys, the most recently used first. Nothing is proved of what C and its compiler do.
  *
  * What the caller must guarantee, since nothing checks it:
  * - A handle is LRU_NONE, or what the last call left in it. Nothing writes its field, and no copy of a handle is
  *   used besides it. A handle may be moved, as by memcpy, if the old place is not used any more.
- * - No pointer is null. A handle is writable and aligned, and two pointers of one call do not overlap.
+ * - No pointer is null, even if its length is 0. A handle is writable and aligned. A pointer with a length points to
+ *   that number of elements, which have been written before. What a call writes overlaps nothing else of the call.
  * - There is one call on a handle at a time, and the calls on a handle come from one thread.
  * - No call comes from a signal handler, or from the forked child of a process with threads.
  * - malloc, realloc and free belong together, and align a block of n bytes to each power of two up to 16 that
  *   divides n.
  *
- * A handle without a map is fine for every call. Except for lru_new, the call changes nothing, and returns that there
- * is nothing. So a call after lru_free and a second lru_free are harmless. A handle that is lost without lru_free leaks its map.
+ * A handle without a map is fine for every call. Except for lru_new and lru_bytes_new, the call changes nothing, and
+ * returns that there is nothing. So a call after lru_free and a second lru_free are harmless. A handle that is lost
+ * without lru_free or lru_bytes_free leaks its map.
  *
  * No call ends the process. A call that runs out of memory says so in its result, and leaves a map that works.
  * Running out of memory evicts nothing by itself.
@@ -34,8 +38,8 @@ extern "C" {
 #endif
 
 /* The version of these functions and structs. Compare it with lru_abi_version() if the library is not built with the
- * program. It rises when a program that was compiled before would break. */
-#define LRU_ABI_VERSION 1u
+ * program. It rises with each change of them. */
+#define LRU_ABI_VERSION 2u
 uint32_t lru_abi_version(void);
 
 /* A handle: the address of a map on the heap, or null. Begin with LRU_NONE. */
@@ -75,6 +79,12 @@ struct lru_inserted {
     bool failed;            /* whether the map ran out of memory; then the key is not there */
 };
 
+/* What lru_put and lru_bytes_put return. */
+#define LRU_STORED 0u        /* the key is there, and has the value */
+#define LRU_REJECTED 1u      /* the key is not there: no such entry fits the maximum length or the budget */
+#define LRU_OUT_OF_MEMORY 2u /* there was no memory */
+#define LRU_NO_MAP 3u        /* the handle has no map */
+
 /* Makes an empty map of at most `max_length` entries, and returns whether there was memory. A map that the handle
  * had is dropped in either case. The seeds are those of the hasher: if strangers choose the keys, take four numbers
  * that nobody can guess. The table takes memory at the first insert. */
@@ -94,6 +104,10 @@ bool lru_clone(struct lru *lru, struct lru *copy);
  * key, which was new, is not there; an evicted entry would have been evicted by a successful insert too. If
  * max_length is 0, nothing is inserted, and nothing has failed. */
 struct lru_inserted lru_insert(struct lru *lru, uint64_t key, uint64_t value);
+
+/* The same as lru_insert, but returns only LRU_STORED, LRU_REJECTED if max_length is 0, LRU_OUT_OF_MEMORY, or LRU_NO_MAP.
+ * It costs less. Do not call it if you own what the values point to: nothing says which entry was evicted. */
+uint32_t lru_put(struct lru *lru, uint64_t key, uint64_t value);
 
 /* Returns the value of a key, and makes its entry the newest. */
 struct lru_found lru_get(struct lru *lru, uint64_t key);
@@ -120,8 +134,7 @@ struct lru_pair lru_peek_oldest(struct lru *lru);
 struct lru_pair lru_peek_newest(struct lru *lru);
 
 /* Copies the newest entries into `entries`, the newest first: all of them, or `count` if there are more. Returns
- * how many it copied. The other places of `entries` and the map stay as they are. `entries` points to `count`
- * entries that have been written before, and is not null, even if `count` is 0. */
+ * how many it copied. The other places of `entries` and the map stay as they are. */
 size_t lru_copy_newest(struct lru *lru, struct lru_entry *entries, size_t count);
 
 /* Returns the number of entries. */
@@ -149,6 +162,83 @@ bool lru_reserve(struct lru *lru, size_t additional);
 /* Shrinks the table to as few buckets as hold the entries. Returns false, and changes nothing, if there was no
  * memory for the smaller table. */
 bool lru_shrink(struct lru *lru);
+
+/* A handle of a map from byte strings to byte strings: the address of a map on the heap, or null. Begin with LRU_NONE.
+ *
+ * Each call copies bytes in or out, so a caller never holds a pointer into the map. A key or a value may have length 0,
+ * and may contain any bytes. Only lru_bytes_new and lru_bytes_put take memory. */
+struct lru_bytes {
+    void *map;
+};
+
+/* What an entry weighs besides the bytes of its key and its value: its bytes in the table. What malloc adds to each
+ * block is not counted, nor are empty buckets. */
+#define LRU_BYTES_OVERHEAD 64u
+
+/* A value, if `found`. Otherwise `len` is 0. */
+struct lru_value {
+    size_t len;
+    bool found;
+};
+
+/* The oldest entry, if `found`. Otherwise the lengths are 0. */
+struct lru_popped {
+    size_t key_len;
+    size_t value_len;
+    bool found;
+    bool removed; /* whether both were copied, and the entry was removed */
+};
+
+/* Makes an empty map whose entries weigh at most `budget` together, and returns whether there was memory. A map that
+ * the handle had is dropped in either case. The seeds are those of the hasher, as for lru_new. */
+bool lru_bytes_new(struct lru_bytes *lru, uint64_t budget, const uint64_t seeds[4]);
+
+/* Drops the map, and gives back its memory. The handle has no map then. Returning the memory is tested. */
+void lru_bytes_free(struct lru_bytes *lru);
+
+/* Inserts a copy of the value under a copy of the key, as the newest entry, in place of the old value of the key. Then
+ * the oldest entries are evicted while the entries together weigh more than the budget. To see them, call
+ * lru_bytes_pop_oldest before.
+ *
+ * LRU_REJECTED: the entry alone weighs more than the budget (tested). Then the value is not read, and the entry of the
+ * key is removed, so no old value stays under the key. LRU_OUT_OF_MEMORY: all memory is taken first, so the entries and
+ * their order are as they were. */
+uint32_t lru_bytes_put(struct lru_bytes *lru, const uint8_t *key, size_t key_len, const uint8_t *value,
+                       size_t value_len);
+
+/* Copies the value of a key to the front of `buffer` if it has at most `size` bytes, and makes its entry the newest.
+ * Returns the length of the value: if it is above `size`, nothing is copied, and a larger buffer is needed. The other
+ * bytes of `buffer` stay as they are. */
+struct lru_value lru_bytes_get(struct lru_bytes *lru, const uint8_t *key, size_t key_len, uint8_t *buffer,
+                               size_t size);
+
+/* The same as lru_bytes_get, but the order stays. */
+struct lru_value lru_bytes_peek(struct lru_bytes *lru, const uint8_t *key, size_t key_len, uint8_t *buffer,
+                                size_t size);
+
+/* Returns whether the key is there. Nothing changes. */
+bool lru_bytes_contains(struct lru_bytes *lru, const uint8_t *key, size_t key_len);
+
+/* Removes the entry of a key. Returns whether there was one. */
+bool lru_bytes_remove(struct lru_bytes *lru, const uint8_t *key, size_t key_len);
+
+/* Copies the key and the value of the oldest entry to the fronts of `key` and `value`, and removes the entry, if the key
+ * has at most `key_size` bytes and the value at most `value_size`. Returns both lengths. If one does not fit, nothing
+ * changes. */
+struct lru_popped lru_bytes_pop_oldest(struct lru_bytes *lru, uint8_t *key, size_t key_size, uint8_t *value,
+                                       size_t value_size);
+
+/* Returns the number of entries. */
+size_t lru_bytes_len(struct lru_bytes *lru);
+
+/* Returns what the entries weigh together, by the count that the map keeps. */
+uint64_t lru_bytes_cost(struct lru_bytes *lru);
+
+/* Returns the budget. */
+uint64_t lru_bytes_budget(struct lru_bytes *lru);
+
+/* Removes all entries. The map keeps the memory of its table. */
+void lru_bytes_clear(struct lru_bytes *lru);
 
 #ifdef __cplusplus
 }

@@ -3,20 +3,9 @@
  * random_calls CALLS: that number of calls for each of eight maximum lengths, twice; in the second pass each third call of
  * malloc is refused. It is linked with --wrap=malloc. */
 #include "lru.h"
-#include <stdio.h>
+#include "testing.h"
 #include <stdlib.h>
 #include <string.h>
-
-static unsigned long fail_each, asked, refused;
-void *__real_malloc(size_t size);
-void *__wrap_malloc(size_t size) {
-    asked++;
-    if (fail_each && asked % fail_each == 0) {
-        refused++;
-        return NULL;
-    }
-    return __real_malloc(size);
-}
 
 enum { MOST = 64 };
 
@@ -59,15 +48,6 @@ static bool same(struct lru_pair a, struct lru_pair b) {
     return a.found == b.found && a.key == b.key && a.value == b.value;
 }
 
-static uint64_t state = 88172645463325252u;
-static uint64_t next(void) {
-    state ^= state << 13;
-    state ^= state >> 7;
-    return state ^= state << 17;
-}
-
-#define CHECK(c) do { if (!(c)) { fprintf(stderr, "%s, line %d\n", #c, __LINE__); return false; } } while (0)
-
 static bool try_insert(struct lru *lru, struct list *list, uint64_t key, uint64_t value) {
     int i = find(list, key);
     struct lru_pair evicted = i < 0 && list->most && list->len == list->most ? at(list, 0) : at(list, list->len);
@@ -79,6 +59,17 @@ static bool try_insert(struct lru *lru, struct list *list, uint64_t key, uint64_
     if (i >= 0) drop(list, i);
     if (evicted.found) drop(list, 0);
     if (in.kept) add(list, key, value);
+    return true;
+}
+
+static bool try_put(struct lru *lru, struct list *list, uint64_t key, uint64_t value) {
+    int i = find(list, key);
+    uint32_t code = lru_put(lru, key, value);
+    if (code == LRU_OUT_OF_MEMORY) CHECK(fail_each && i < 0);
+    else CHECK(code == (list->most ? LRU_STORED : LRU_REJECTED));
+    if (i >= 0) drop(list, i);
+    else if (list->most && list->len == list->most) drop(list, 0);
+    if (code == LRU_STORED) add(list, key, value);
     return true;
 }
 
@@ -160,7 +151,7 @@ static bool try_nothing(struct lru *lru) {
     struct lru_pair none = {0, 0, false};
     struct lru_entry entry = {3, 4};
     struct lru_inserted in = lru_insert(lru, 1, 2);
-    CHECK(!in.kept && !in.failed && !in.evicted && !in.replaced);
+    CHECK(!in.kept && !in.failed && !in.evicted && !in.replaced && lru_put(lru, 1, 2) == LRU_NO_MAP);
     CHECK(!lru_get(lru, 1).found && !lru_peek(lru, 1).found && !lru_remove(lru, 1).found);
     CHECK(!lru_contains(lru, 1) && !lru_promote(lru, 1) && !lru_reserve(lru, 1) && !lru_shrink(lru));
     CHECK(same(lru_pop_oldest(lru), none) && same(lru_peek_oldest(lru), none) && same(lru_peek_newest(lru), none));
@@ -183,7 +174,8 @@ static bool run(uint32_t most, long calls) {
     for (long n = 0; n < calls; n++) {
         unsigned kind = (unsigned)(next() % 100);
         uint64_t key = next() % (2 * MOST);
-        if (kind < 45) CHECK(try_insert(&lru, &list, key, next()));
+        if (kind < 30) CHECK(try_insert(&lru, &list, key, next()));
+        else if (kind < 45) CHECK(try_put(&lru, &list, key, next()));
         else if (kind < 90) CHECK(try_key(&lru, &list, kind % 5, key));
         else if (kind < 96) {
             CHECK(same(lru_pop_oldest(&lru), at(&list, 0)));

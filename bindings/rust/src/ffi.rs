@@ -54,7 +54,43 @@ pub(crate) struct Inserted {
     pub(crate) failed: bool,
 }
 
-pub(crate) const ABI_VERSION: u32 = 1;
+#[repr(C)]
+pub(crate) struct BytesHandle {
+    map: *mut u8,
+}
+
+impl BytesHandle {
+    pub(crate) const NONE: BytesHandle = BytesHandle {
+        map: std::ptr::null_mut(),
+    };
+}
+
+#[repr(C)]
+pub(crate) struct Value {
+    len: usize,
+    found: bool,
+}
+
+impl Value {
+    // The length of the value.
+    pub(crate) fn get(self) -> Option<usize> {
+        self.found.then_some(self.len)
+    }
+}
+
+#[repr(C)]
+pub(crate) struct Popped {
+    pub(crate) key_len: usize,
+    pub(crate) value_len: usize,
+    pub(crate) found: bool,
+    pub(crate) removed: bool,
+}
+
+pub(crate) const BYTES_OVERHEAD: u64 = 64;
+pub(crate) const STORED: u32 = 0;
+pub(crate) const REJECTED: u32 = 1;
+
+pub(crate) const ABI_VERSION: u32 = 2;
 
 extern "C" {
     pub(crate) fn lru_abi_version() -> u32;
@@ -62,6 +98,7 @@ extern "C" {
     pub(crate) fn lru_free(lru: *mut Handle);
     pub(crate) fn lru_clone(lru: *mut Handle, copy: *mut Handle) -> bool;
     pub(crate) fn lru_insert(lru: *mut Handle, key: u64, value: u64) -> Inserted;
+    pub(crate) fn lru_put(lru: *mut Handle, key: u64, value: u64) -> u32;
     pub(crate) fn lru_get(lru: *mut Handle, key: u64) -> Found;
     pub(crate) fn lru_peek(lru: *mut Handle, key: u64) -> Found;
     pub(crate) fn lru_contains(lru: *mut Handle, key: u64) -> bool;
@@ -79,4 +116,41 @@ extern "C" {
     pub(crate) fn lru_memory_usage(lru: *mut Handle) -> usize;
     pub(crate) fn lru_reserve(lru: *mut Handle, additional: usize) -> bool;
     pub(crate) fn lru_shrink(lru: *mut Handle) -> bool;
+
+    pub(crate) fn lru_bytes_new(lru: *mut BytesHandle, budget: u64, seeds: *const [u64; 4]) -> bool;
+    pub(crate) fn lru_bytes_free(lru: *mut BytesHandle);
+    pub(crate) fn lru_bytes_put(
+        lru: *mut BytesHandle,
+        key: *const u8,
+        key_len: usize,
+        value: *const u8,
+        value_len: usize,
+    ) -> u32;
+    pub(crate) fn lru_bytes_get(
+        lru: *mut BytesHandle,
+        key: *const u8,
+        key_len: usize,
+        buffer: *mut u8,
+        size: usize,
+    ) -> Value;
+    pub(crate) fn lru_bytes_peek(
+        lru: *mut BytesHandle,
+        key: *const u8,
+        key_len: usize,
+        buffer: *mut u8,
+        size: usize,
+    ) -> Value;
+    pub(crate) fn lru_bytes_contains(lru: *mut BytesHandle, key: *const u8, key_len: usize) -> bool;
+    pub(crate) fn lru_bytes_remove(lru: *mut BytesHandle, key: *const u8, key_len: usize) -> bool;
+    pub(crate) fn lru_bytes_pop_oldest(
+        lru: *mut BytesHandle,
+        key: *mut u8,
+        key_size: usize,
+        value: *mut u8,
+        value_size: usize,
+    ) -> Popped;
+    pub(crate) fn lru_bytes_len(lru: *mut BytesHandle) -> usize;
+    pub(crate) fn lru_bytes_cost(lru: *mut BytesHandle) -> u64;
+    pub(crate) fn lru_bytes_budget(lru: *mut BytesHandle) -> u64;
+    pub(crate) fn lru_bytes_clear(lru: *mut BytesHandle);
 }

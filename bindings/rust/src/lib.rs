@@ -1,4 +1,5 @@
-//! A map from numbers to numbers that remembers the order of use and evicts the least recently used entries.
+//! Maps that remember the order of use and evict the least recently used entries: [`Lru`], from numbers to numbers under
+//! a maximum length, and [`LruBytes`], from byte strings to byte strings under a budget of bytes.
 //!
 //! The map is written and proved in Rattle; this crate calls it through C. `docs/FROM_C.md` of the repository says how
 //! the library is built, and what is trusted. The variable `JEERDURIAN_LIB` names the folder of its two archives.
@@ -15,8 +16,10 @@
 //! ```
 #![warn(missing_docs)]
 
+mod bytes;
 mod ffi;
 
+pub use bytes::{BytesIntoIter, LruBytes};
 use ffi::Handle;
 use std::cell::UnsafeCell;
 use std::collections::hash_map::RandomState;
@@ -42,7 +45,7 @@ pub struct Lru {
 // trusted, and not proved.
 unsafe impl Send for Lru {}
 
-/// The library ran out of memory. The map is as it was.
+/// The library ran out of memory.
 #[derive(Clone, Copy, Debug, PartialEq, Eq)]
 pub struct OutOfMemory;
 
@@ -80,6 +83,20 @@ pub struct Inserted {
     pub evicted: Option<(u64, u64)>,
 }
 
+// Four numbers that nobody can guess.
+fn random_seeds() -> [u64; 4] {
+    let seed = || RandomState::new().build_hasher().finish();
+    [seed(), seed(), seed(), seed()]
+}
+
+fn check_version() {
+    assert_eq!(
+        unsafe { ffi::lru_abi_version() },
+        ffi::ABI_VERSION,
+        "another version of liblru_c.a"
+    );
+}
+
 impl Lru {
     /// Makes an empty map of at most `max_length` entries, with random seeds.
     ///
@@ -93,8 +110,7 @@ impl Lru {
     ///
     /// There is no memory for the map, which takes about a hundred bytes. The first insert takes memory for entries.
     pub fn new(max_length: u32) -> Result<Lru, OutOfMemory> {
-        let seed = || RandomState::new().build_hasher().finish();
-        Lru::with_seeds(max_length, [seed(), seed(), seed(), seed()])
+        Lru::with_seeds(max_length, random_seeds())
     }
 
     /// Makes an empty map whose hasher has these seeds. Maps with equal seeds that get equal calls are alike.
@@ -113,11 +129,7 @@ impl Lru {
     ///
     /// Panics if the library has another version of its functions than this crate declares.
     pub fn with_seeds(max_length: u32, seeds: [u64; 4]) -> Result<Lru, OutOfMemory> {
-        assert_eq!(
-            unsafe { ffi::lru_abi_version() },
-            ffi::ABI_VERSION,
-            "another version of liblru_c.a"
-        );
+        check_version();
         let lru = Lru {
             handle: UnsafeCell::new(Handle::NONE),
         };
@@ -154,6 +166,26 @@ impl Lru {
             replaced: done.replaced.then_some(done.old_value),
             evicted,
         })
+    }
+
+    /// The same as [`insert`](Lru::insert), but returns only whether the key is there. It costs less.
+    ///
+    /// ```
+    /// # let mut map = jeerdurian::Lru::new(1)?;
+    /// assert!(map.put(1, 10)? && map.put(2, 20)?);
+    /// assert_eq!((map.get(1), map.get(2)), (None, Some(20)));
+    /// # Ok::<(), jeerdurian::OutOfMemory>(())
+    /// ```
+    ///
+    /// # Errors
+    ///
+    /// The map ran out of memory for a new key, which is not there. If the map was full, the oldest entry was evicted.
+    pub fn put(&mut self, key: u64, value: u64) -> Result<bool, OutOfMemory> {
+        match unsafe { ffi::lru_put(self.at(), key, value) } {
+            ffi::STORED => Ok(true),
+            ffi::REJECTED => Ok(false),
+            _ => Err(OutOfMemory),
+        }
     }
 
     /// Returns the value of a key, and makes its entry the newest.

@@ -51,7 +51,11 @@ impl List {
 fn step(map: &mut Lru, list: &mut List, most: u32, random: &mut Random) -> Result<(), InsertError> {
     let (key, value) = (random.below(100), random.below(1 << 60));
     match random.below(10) {
-        0..=3 => assert_eq!(map.insert(key, value)?, list.insert(most as usize, key, value)),
+        0 => {
+            let stored = map.put(key, value).map_err(|_| InsertError { evicted: None })?;
+            assert_eq!(stored, list.insert(most as usize, key, value).kept);
+        }
+        1..=3 => assert_eq!(map.insert(key, value)?, list.insert(most as usize, key, value)),
         4 => assert_eq!(map.get(key), list.get(key)),
         5 => assert_eq!(map.promote(key), list.get(key).is_some()),
         6 => assert_eq!(map.remove(key), list.take(key)),

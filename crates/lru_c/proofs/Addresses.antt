@@ -1,15 +1,17 @@
 -- What a `RawBox` and a handle are in memory: an address, and in a `RawBox` a mark without bytes.
-use Rattle.std.proofs.Common.{ℕ, ◌≡◌, List, [], ◌∷◌, ◌++◌, T, refl, ◌∙◌, ap, lit<}
+use Rattle.std.proofs.Common.{ℕ, ◌≡◌, List, [], ◌∷◌, ◌++◌, T, refl, ◌∙◌, lit<}
 use Rattle.std.specs.declared.alloc.Allocator.{Ghosts}
 use seplogic.Ra.Ura.{Ura}
 use base.Logic.{ent, emp, never, fst∗, guard_i}
 use base.Fml.{Fml}
 use contract.Monad.{fact_use}
 use mir.Raw.{raw as bare}
+use mir.Syntax.{Sym}
 use mir.Val.{Val, vstruct, vcons, vnil, of_list, has_ty, WT}
 use types.Logic.{Logic, sem}
 use types.Kit.{Item, Goal, Seq, ‵, given, ◌$◌, move, fsplit, fjoin, feq_l, use1, learn}
 use denote.Laws.{Is}
+use denote.Builtin.{RawPtr}
 use denote.Memory.{lone}
 use denote.Param.{layout}
 use denote.RattleType.{RattleType}
@@ -20,8 +22,7 @@ use denote.Struct.Struct.{Struct}
 use Rattle.std.specs.Prelude.{Option, None, Some}
 use Rattle.std.proofs.GlobalToken.{dealloc_token-Testable}
 use Rattle.std.specs.contracts.impls.GlobalAllocator.TheImpl.{ghosts}
-use Rattle.lru_c.specs.Handle.{Map, map_row, owns_map, c_heap}
-use Rattle.lru_c.specs.contracts.handle.Lru as lru
+use Rattle.lru_c.specs.Handle.{owns_boxed, c_heap}
 use Rattle.lru_c.specs.contracts.raw_box.RawBox as raw_box
 
 abbrev pub address_val : Ptr → Val
@@ -30,28 +31,26 @@ address_val p = vstruct (vcons (ptr_val p) vnil)
 abbrev pub marked_val : Ptr → Val
 marked_val p = vstruct (vcons (ptr_val p) (vcons (vstruct vnil) vnil))
 
--- the fields of a handle
-abbrev pub Address : RattleType
-Address = Struct (shape lru.the_type)
-
-pub address_good : (p : Ptr) → T (has_ty (layout lru.the_row) (address_val p)) × WT (address_val p)
-address_good (block_ptr b o) = (tt, (tt, tt))
-address_good null_ptr = (tt, (record { fits = lit< tt }, tt))
-
 pub ptr_good : (p : Ptr) → T (has_ty mir.Syntax.ty_ptr (ptr_val p)) × WT (ptr_val p)
 ptr_good (block_ptr b o) = (tt, tt)
 ptr_good null_ptr = (tt, record { fits = lit< tt })
 
-pub address_told : (x : lru.the_row.Denot) (vs : List Val) → Is lru.the_row x vs → vs ≡ address_val x.start ∷ []
-address_told x vs is = is.0.1.0 ∙ ap (λ (ws : List Val). vstruct (of_list (ws ++ [])) ∷ []) is.0.1.1.0
+module _ (name : Sym) where
+  -- the fields of a handle of this name
+  abbrev pub Address : RattleType
+  Address = Struct (record { name = name; args = []; types = []; fields = RawPtr ∷ [] })
 
-pub address_made : {M : Type 1} {𝓤 : Ura M} (𝓛 : Logic 𝓤) (p : Ptr)
-    → ent 𝓤 (emp 𝓤) (sem 𝓛 (Address.own_val (p, tt) (address_val p ∷ [])))
-address_made 𝓛 p =
-    makes_shadow 𝓛 (Address.own_val (p, tt) (address_val p ∷ [])) (λ vss. (tt, (tt, tt))) (
-      (ptr_val p ∷ [], tt),
-      (refl, (refl, tt)),
-    )
+  pub address_good : (p : Ptr) → T (has_ty (layout Address) (address_val p)) × WT (address_val p)
+  address_good (block_ptr b o) = (tt, (tt, tt))
+  address_good null_ptr = (tt, (record { fits = lit< tt }, tt))
+
+  pub address_made : {M : Type 1} {𝓤 : Ura M} (𝓛 : Logic 𝓤) (p : Ptr)
+      → ent 𝓤 (emp 𝓤) (sem 𝓛 (Address.own_val (p, tt) (address_val p ∷ [])))
+  address_made 𝓛 p =
+      makes_shadow 𝓛 (Address.own_val (p, tt) (address_val p ∷ [])) (λ vss. (tt, (tt, tt))) (
+        (ptr_val p ∷ [], tt),
+        (refl, (refl, tt)),
+      )
 
 module _ (R Z : RattleType) (g : Ghosts Z.Denot) where
   -- the fields of a `RawBox`
@@ -88,19 +87,20 @@ module _ (R Z : RattleType) (g : Ghosts Z.Denot) where
         ),
       )
 
-module _ {M : Type 1} {𝓤 : Ura M} {𝓛 : Logic 𝓤} {K : Type 0} {Γ : List (Item 𝓤)} {G : Goal 𝓤 𝓛.H} where
+module _ {M : Type 1} {𝓤 : Ura M} {𝓛 : Logic 𝓤} {K : Type 0} {Γ : List (Item 𝓤)} {G : Goal 𝓤 𝓛.H}
+    (row : RattleType) where
   -- a handle has the null pointer and no map, or the address of a map, which may be compared with null
-  pub null_or_box : K → (start : Ptr) (map : Option Map)
+  pub null_or_box : K → (start : Ptr) (map : Option row.Denot)
       → (map ≡ None → start ≡ null_ptr → Seq K 𝓛 Γ G)
-      → ((m : Map) (block o : ℕ) → map ≡ Some m → start ≡ block_ptr block o → Testable (block_ptr block o)
-      → Seq K 𝓛 (‵ (owns_map (block_ptr block o) (Some m)) ∷ Γ) G)
-      → Seq K 𝓛 (‵ (owns_map start map) ∷ Γ) G
+      → ((m : row.Denot) (block o : ℕ) → map ≡ Some m → start ≡ block_ptr block o → Testable (block_ptr block o)
+      → Seq K 𝓛 (‵ (owns_boxed row (block_ptr block o) (Some m)) ∷ Γ) G)
+      → Seq K 𝓛 (‵ (owns_boxed row start map) ∷ Γ) G
   null_or_box t start None none some = feq_l t (λ null. none refl null)
   null_or_box t start (Some m) none some =
-      let token : Ptr → Fml = ghosts.dealloc_token c_heap (bare (lone map_row.mir)) in
-      in_a_block t start (λ p. owns_map p (Some m)) (fst∗ 𝓤 (never 𝓤) (sem 𝓛 (token null_ptr))) (λ block o starts.
+      let token : Ptr → Fml = ghosts.dealloc_token c_heap (bare (lone row.mir)) in
+      in_a_block t start (λ p. owns_boxed row p (Some m)) (fst∗ 𝓤 (never 𝓤) (sem 𝓛 (token null_ptr))) (λ block o starts.
       let p = block_ptr block o in
       fsplit t $ move t (1 ∷ []) $
       use1 𝓛 (given (Testable p) (‵ (token p))) (fact_use 𝓤 (Testable p)
-      (dealloc_token-Testable 𝓛 c_heap (bare (lone map_row.mir)) p) (guard_i 𝓤 (Testable p) (sem 𝓛 (token p)))) $
+      (dealloc_token-Testable 𝓛 c_heap (bare (lone row.mir)) p) (guard_i 𝓤 (Testable p) (sem 𝓛 (token p)))) $
       learn t (λ testable. move t (1 ∷ 0 ∷ []) $ fjoin t $ some m block o refl starts testable))

@@ -1,5 +1,5 @@
 -- What the calls of C return.
-use Rattle.std.specs.Prelude.{◌≡◌, ℕ, suc, Bool, false, Option, None, Some, Result, Ok, Err, List, [], ◌∷◌}
+use Rattle.std.specs.Prelude.{◌≡◌, ℕ, suc, Bool, true, false, Option, None, Some, Result, Ok, Err, List, [], ◌∷◌}
 use Rattle.std.specs.Prelude.{if◌then◌else◌, is_err, nat_eq}
 use Rattle.std.specs.declared.alloc.AllocError.{AllocError}
 use Rattle.lru_limits.specs.Limiters.{length_rules, length_offers}
@@ -54,6 +54,12 @@ abbrev pub is_kept : Result Bool AllocError → Bool
 is_kept (Ok kept) = kept
 is_kept (Err error) = false
 
+-- what a put returns: the key is there, or not, or there was no memory
+abbrev pub put_code : Result Bool AllocError → ℕ
+put_code (Ok true) = 0
+put_code (Ok false) = 1
+put_code (Err error) = 2
+
 -- An insert: of the pairs that leave, the first of another key is returned, and of the inserted key the old value.
 pub record Inserts (key value : ℕ) (old : Map) (answer : Inserted) (new : Map) : Type 0 where
   pub result : Result Bool AllocError
@@ -65,7 +71,7 @@ pub record Inserts (key value : ℕ) (old : Map) (answer : Inserted) (new : Map)
   pub failed : answer.failed ≡ is_err result
 
 -- A call on a handle. Without a map nothing changes, and the call returns nothing. A map makes this step.
-pub data OnMap (returns_nothing : Type 0) (step : Map → Map → Type 0) (old new : Option Map) : Type 0 where
+pub data OnMap {M : Type 0} (returns_nothing : Type 0) (step : M → M → Type 0) (old new : Option M) : Type 0 where
   without : old ≡ None → new ≡ None → returns_nothing → OnMap returns_nothing step old new
-  within : (before after : Map) → old ≡ Some before → new ≡ Some after → step before after →
+  within : (before after : M) → old ≡ Some before → new ≡ Some after → step before after →
       OnMap returns_nothing step old new

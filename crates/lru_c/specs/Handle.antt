@@ -45,7 +45,7 @@ maybe_row = option.the_row map_row
 abbrev pub c_heap : Global
 c_heap = record { memory = record { seal = tt } }
 
--- the null pointer, or the memory of a boxed map
-abbrev pub owns_map : Ptr → Option Map → Fml
-owns_map start None = feq Ptr start null_ptr
-owns_map start (Some map) = box_owns (heap.ghosts.dealloc_token c_heap) map_row start map
+-- the null pointer, or the memory of a boxed value
+abbrev pub owns_boxed : (row : RattleType) → Ptr → Option row.Denot → Fml
+owns_boxed row start None = feq Ptr start null_ptr
+owns_boxed row start (Some value) = box_owns (heap.ghosts.dealloc_token c_heap) row start value

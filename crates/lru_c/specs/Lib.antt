@@ -1,2 +1,4 @@
 pub mod Answers
+pub mod Bytes
+pub mod BytesHandle
 pub mod Handle

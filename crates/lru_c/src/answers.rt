@@ -1,6 +1,17 @@
 //! What the calls return to C: plain structs, since an `Option` cannot cross.
 ghost use Rattle.std.specs.Prelude.{◌≡◌};
-ghost use Rattle.lru_c.specs.Answers.{found_value, found_pair, evicted_pair, replaced_value, noting_other};
+ghost use Rattle.lru_c.specs.Answers.{found_value, found_pair, evicted_pair, replaced_value, noting_other, put_code};
+
+use std::alloc::AllocError;
+
+/// What a put returns if the key is in the map, with the value.
+pub const STORED: u32 = 0;
+/// What a put returns if the limiter rejected the entry. The key is not in the map.
+pub const REJECTED: u32 = 1;
+/// What a put returns if there was no memory.
+pub const OUT_OF_MEMORY: u32 = 2;
+/// What a put returns if the handle has no map.
+pub const NO_MAP: u32 = 3;
 
 /// A value, if there is one.
 #[repr(C)]
@@ -110,6 +121,18 @@ pub fn as_inserted(
         replaced: old_value.is_some(),
         kept,
         failed,
+    }
+}
+
+/// Returns for C what a put did.
+#[inline]
+pub fn as_code(done: Result<bool, AllocError>) -> u32
+    ensures { result ≡ put_code done }
+{
+    match done {
+        Ok(true) => STORED,
+        Ok(false) => REJECTED,
+        Err(_) => OUT_OF_MEMORY,
     }
 }
 

@@ -3,9 +3,10 @@
 //! A call on a handle without a map changes nothing, and returns that there is nothing.
 ghost use Rattle.std.specs.Prelude.{◌≡◌, ◌+◌, nat_eq, length, is_some, is_ok, Some, None, Result, Bool, true, false, ⊤};
 ghost use Rattle.std.specs.declared.alloc.AllocError.{AllocError};
-ghost use Rattle.lru_limits.specs.Limiters.{length_rules};
+ghost use Rattle.lru_limits.specs.Limiters.{length_rules, length_offers};
 ghost use Rattle.lru_limits.specs.Mixing.{seeded};
 ghost use Rattle.schnellru.specs.Calls.{Remove, PopOldest, promoted, cleared};
+ghost use Rattle.schnellru.specs.Inserts.{Insert};
 ghost use Rattle.schnellru.specs.Lists.{lookup, first, last};
 ghost use Rattle.schnellru.specs.Reservations.{Reserve};
 ghost use Rattle.schnellru.specs.Shrinks.{Shrink};
@@ -13,9 +14,12 @@ ghost use Rattle.schnellru.specs.Sizes.{links_of_32_bits, usage};
 ghost use Rattle.schnellru.specs.State.{empty_map, buckets, contents, room, Trims, IsWithin};
 ghost use Rattle.schnellru.specs.declared.map.reserve.ReserveError.{ReserveError};
 ghost use Rattle.lru_c.specs.Answers.{found_value, found_pair, evicted_pair, replaced_value, filled, fitting};
-ghost use Rattle.lru_c.specs.Answers.{Inserts, OnMap};
+ghost use Rattle.lru_c.specs.Answers.{Inserts, OnMap, put_code};
+ghost use Rattle.lru_c.specs.Handle.{hash_of};
 
-use crate::answers::{Entry, Found, Inserted, Pair, as_found, as_inserted, as_pair};
+use crate::answers::{
+    Entry, Found, Inserted, NO_MAP, Pair, as_code, as_found, as_inserted, as_pair,
+};
 use crate::calls::{
     copied, copy_entries, get, insert, peek, peek_newest, peek_oldest, pop_oldest, remove,
 };
@@ -29,9 +33,9 @@ const ENTRY_BYTES: usize = 24;
 /// Returns the version of these functions and structs, `LRU_ABI_VERSION` of `lru.h`.
 #[unsafe(no_mangle)]
 pub extern "C" fn lru_abi_version() -> u32
-    ensures { result ≡ 1 }
+    ensures { result ≡ 2 }
 {
-    1
+    2
 }
 
 /// Makes an empty map of at most `max_length` entries, whose hasher has these seeds. Returns whether there was memory.
@@ -75,6 +79,22 @@ pub extern "C" fn lru_insert(alloc: Global, lru: &mut Lru, key: u64, value: u64)
             answer
         }
         None => as_inserted(None, None, false, false),
+    }
+}
+
+/// Inserts a key with a value, as the newest entry. Returns whether it is there, and not what left.
+#[unsafe(no_mangle)]
+pub extern "C" fn lru_put(alloc: Global, lru: &mut Lru, key: u64, value: u64) -> u32
+    ensures { OnMap (result ≡ 3) (λ old new. (done : Result Bool AllocError) × (result ≡ put_code done)
+        × Insert length_rules length_offers nat_eq hash_of key value old done new) lru.old.map lru.new.map }
+{
+    match lru.take(alloc) {
+        Some(mut map) => {
+            let answer = as_code(map.insert(key, value));
+            lru.put(map);
+            answer
+        }
+        None => NO_MAP,
     }
 }
 

@@ -1,6 +1,6 @@
 //! What C keeps of a map.
 ghost use Rattle.std.specs.Prelude.{◌≡◌, None, Some, option_map};
-ghost use Rattle.lru_c.specs.Handle.{maybe_row, owns_map};
+ghost use Rattle.lru_c.specs.Handle.{map_row, maybe_row, owns_boxed};
 
 use crate::raw_box::RawBox;
 use schnellru::LruMap;
@@ -23,7 +23,7 @@ pub struct Lru {
 }
 
 impl Model for Lru {
-    ghost also_owns = { λ lru. owns_map lru.start lru.map };
+    ghost also_owns = { λ lru. owns_boxed map_row lru.start lru.map };
 }
 
 impl Lru {

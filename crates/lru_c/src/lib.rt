@@ -5,6 +5,7 @@
 #![tactic(auto)]
 
 mod answers;
+mod bytes;
 mod calls;
 mod exports;
 mod handle;

@@ -5,6 +5,7 @@ pub mod Limiters
 pub mod Texts
 pub mod Keys
 pub mod Budget
+pub mod Budgeted
 pub mod Mixing
 pub mod Hashing
 pub mod Admissions

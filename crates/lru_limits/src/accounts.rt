@@ -3,11 +3,13 @@ ghost use Rattle.std.specs.Prelude.{◌≡◌, ◌+◌, ℕ, Some, None, if◌th
 ghost use Rattle.lru_limits.specs.Budget.{can_add};
 ghost use Rattle.lru_limits.specs.Laws.{IsAccount};
 
+mod budgeted;
 mod by_cost;
 mod by_weight;
 
 use crate::keys::LookupKey;
 use crate::limiter::Insertion;
+pub use budgeted::Budgeted;
 pub use by_cost::ByCost;
 pub use by_weight::ByWeight;
 use std::hash::Hash;

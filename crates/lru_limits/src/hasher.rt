@@ -26,7 +26,7 @@ const REST_FACTOR: u64 = 0xa54f_f53a_5f1d_36f1;
 /// let state = RandomState::with_seeds([5, 6, 7, 8]);
 /// assert_eq!(rt; state.hash_one(&"a"), state.hash_one(&key));
 /// ```
-#[derive(Clone, Drop)]
+#[derive(Clone, Copy)]
 pub struct RandomState {
     state: u64,
     word_key: u64,

@@ -7,6 +7,7 @@
 //! - [`Both`]: two limiters for one map, which say in advance what they accept by [`Admission`].
 //! - [`Storing`]: an adapter for a limiter of your own that stores each pair as it comes.
 //! - [`Costed`], [`Summing`], [`ByCost`], [`ByWeight`]: limiters with a running total of the costs of the elements.
+//! - [`Budgeted`]: such a limiter, made from a budget that can be changed.
 //! - [`RandomState`] and [`DefaultHasher`]: the hasher, with four seeds.
 //!
 //! `docs/LIMITERS.md` shows how to write a limiter and a look-up key of your own.
@@ -19,7 +20,7 @@ pub mod keys;
 pub mod limiter;
 pub mod limiters;
 
-pub use accounts::{ByCost, ByWeight, Costed, Summing};
+pub use accounts::{Budgeted, ByCost, ByWeight, Costed, Summing};
 pub use admission::Admission;
 pub use group_table::LinkType;
 pub use hasher::{DefaultHasher, RandomState};

@@ -2,21 +2,21 @@
 -- it may leave.
 use Rattle.std.proofs.Common.{ℕ, zero, suc, ◌+◌, ◌≤◌}
 use Rattle.std.proofs.Common.{[], ◌++◌, length, option_map, inl, inr, refl, arith}
-use Rattle.std.specs.Prelude.{nat_eq}
+use Rattle.std.specs.Prelude.{nat_eq, is_some}
 use Rattle.lru_limits.specs.Rules.{Rules, Offers}
 use Rattle.schnellru.specs.Lists.{lookup, lookup_entry, first, last}
-use Rattle.schnellru.specs.Calls.{promoted, removal, pop_first, cleared, left_of}
+use Rattle.schnellru.specs.Calls.{promoted, demoted, removal, pop_first, cleared, left_of}
 use Rattle.schnellru.specs.State.{Contents, room, contents, IsSized, pop}
 use Rattle.schnellru.specs.Drains.{pops_first, newest_given}
-use Rattle.schnellru.proofs.CallerLemmas.{promoted_sized, cleared_sized, some_insert, some_leave, some_reservation}
-use Rattle.schnellru.proofs.CallerLemmas.{some_shrink, length-without, length-without_first, length-without_last}
+use Rattle.schnellru.proofs.CallerLemmas.{promoted_sized, demoted_sized, cleared_sized, some_insert, some_leave}
+use Rattle.schnellru.proofs.CallerLemmas.{some_reservation, some_shrink, length-without, length-without_first, length-without_last}
 use Rattle.lru_replay.specs.declared.lines.command.Command.{Command}
 use Rattle.lru_replay.specs.declared.lines.command.Command.TheVariants as commands
 use Rattle.lru_replay.specs.declared.lines.figures.Figures.{Figures}
 use Rattle.lru_replay.specs.Limits.{AlwaysOffers}
 use Rattle.lru_replay.specs.LineRuns.{AnswersCommand}
 use Rattle.lru_replay.specs.Maps.{Map, hash_of}
-use Rattle.lru_replay.specs.Replies.{Reply, value, pair, listed, reserved, shrunk, stats, done, no_memory}
+use Rattle.lru_replay.specs.Replies.{Reply, flag, value, pair, listed, reserved, shrunk, stats, done, no_memory}
 use Rattle.lru_replay.specs.Replies.{insert_reply}
 
 module _ {S : Type 0} (rules : Rules ℕ ℕ S) (offers : Offers ℕ ℕ S ℕ) (offered : AlwaysOffers offers) (old : Map S)
@@ -75,6 +75,19 @@ module _ {S : Type 0} (rules : Rules ℕ ℕ S) (offers : Offers ℕ ℕ S ℕ) 
   )
   some_step (commands.Peek k) = (value (lookup (nat_eq k) old.pairs), old, inl (refl, refl), ok)
   some_step (commands.Remove k) = some_removal k
+  some_step (commands.Contains k) = (flag (is_some (lookup (nat_eq k) old.pairs)), old, inl (refl, refl), ok)
+  some_step (commands.Promote k) = (
+    flag (is_some (lookup (nat_eq k) old.pairs)),
+    promoted (nat_eq k) old,
+    inl (refl, refl),
+    promoted_sized old (nat_eq k) ok,
+  )
+  some_step (commands.Demote k) = (
+    flag (is_some (lookup (nat_eq k) old.pairs)),
+    demoted (nat_eq k) old,
+    inl (refl, refl),
+    demoted_sized old (nat_eq k) ok,
+  )
   some_step (commands.Reserve n) = let (result, new, is, after) = some_reservation rules n old ok in
       (reserved result, new, inl (result, is, refl), after)
   some_step commands.Shrink = let (result, new, is, after) = some_shrink old ok in

@@ -47,7 +47,9 @@ guesses line = commands.Insert (digits_value 10 (front_word (drop 7 line))) (dig
     ∷ commands.Remove (digits_value 10 (drop 7 line)) ∷ commands.Reserve (digits_value 10 (drop 8 line))
     ∷ commands.Drain (digits_value 10 (drop 6 line)) ∷ commands.PopOldest ∷ commands.PopNewest ∷ commands.Clear
     ∷ commands.List ∷ commands.Stats ∷ commands.Shrink
-    ∷ commands.Put (digits_value 10 (front_word (drop 4 line))) (digits_value 10 (after_word (drop 4 line))) ∷ []
+    ∷ commands.Put (digits_value 10 (front_word (drop 4 line))) (digits_value 10 (after_word (drop 4 line)))
+    ∷ commands.Contains (digits_value 10 (drop 9 line)) ∷ commands.Promote (digits_value 10 (drop 8 line))
+    ∷ commands.Demote (digits_value 10 (drop 7 line)) ∷ []
 
 abbrev pub Spelled : List ℕ → Type 0
 Spelled line = (command : Command) × SpellsCommand line command
@@ -72,6 +74,9 @@ fits_command (commands.Put k v) = both_or (lt_or k (2 ^ 64)) (lt_or v (2 ^ 64))
 fits_command (commands.Get k) = lt_or k (2 ^ 64)
 fits_command (commands.Peek k) = lt_or k (2 ^ 64)
 fits_command (commands.Remove k) = lt_or k (2 ^ 64)
+fits_command (commands.Contains k) = lt_or k (2 ^ 64)
+fits_command (commands.Promote k) = lt_or k (2 ^ 64)
+fits_command (commands.Demote k) = lt_or k (2 ^ 64)
 fits_command (commands.Reserve n) = lt_or n (2 ^ 64)
 fits_command (commands.Drain n) = lt_or n (2 ^ 64)
 fits_command command = inl tt
@@ -125,6 +130,12 @@ guessed line P all (commands.Reserve n) (fits, is) = subst (λ n. P (commands.Re
     (ap (λ l. digits_value 10 (drop 8 l)) is ∙ value_of_decimal n fits) all.1.1.1.1.0
 guessed line P all (commands.Drain n) (fits, is) = subst (λ n. P (commands.Drain n))
     (ap (λ l. digits_value 10 (drop 6 l)) is ∙ value_of_decimal n fits) all.1.1.1.1.1.0
+guessed line P all (commands.Contains k) (fits, is) = subst (λ n. P (commands.Contains n))
+    (ap (λ l. digits_value 10 (drop 9 l)) is ∙ value_of_decimal k fits) all.1.1.1.1.1.1.1.1.1.1.1.1.1.0
+guessed line P all (commands.Promote k) (fits, is) = subst (λ n. P (commands.Promote n))
+    (ap (λ l. digits_value 10 (drop 8 l)) is ∙ value_of_decimal k fits) all.1.1.1.1.1.1.1.1.1.1.1.1.1.1.0
+guessed line P all (commands.Demote k) (fits, is) = subst (λ n. P (commands.Demote n))
+    (ap (λ l. digits_value 10 (drop 7 l)) is ∙ value_of_decimal k fits) all.1.1.1.1.1.1.1.1.1.1.1.1.1.1.1.0
 guessed line P all commands.PopOldest s = all.1.1.1.1.1.1.0
 guessed line P all commands.PopNewest s = all.1.1.1.1.1.1.1.0
 guessed line P all commands.Clear s = all.1.1.1.1.1.1.1.1.0

@@ -10,8 +10,8 @@ use Rattle.std.specs.List.Sorted.{IsPermutation}
 use Rattle.std.specs.Map.{remove_entry, values_of}
 use Rattle.std.proofs.lemmas.Map.Views.{All-map-remove_entry, All-map-IsPermutation, IfSome-lookup_from_All, All-values-set_value}
 use Rattle.std.specs.Prelude.{IfSome}
-use Rattle.lru_limits.specs.Mixing.{seeded}
-use Rattle.lru_tenants.specs.Cache.{Cache, Tenant, tenant, Leaves, IsTenant}
+use Rattle.lru_tenants.specs.Cache.{Cache, tenant, Leaves}
+use Rattle.schnellru.specs.State.{State}
 use Rattle.lru_tenants.specs.TenantRuns.{Opens, On}
 use Rattle.lru_tenants.specs.declared.error.TenantError.TheVariants.{AlreadyOpen}
 
@@ -19,20 +19,20 @@ pub absent-from : {X : Type 0} (found : Option X) → is_some found ≡ false �
 absent-from None absent = refl
 absent-from (Some x) absent = absurd (true≢false absent)
 
-module _ {N K V : Type 0} where
+module _ {N K V L S : Type 0} where
   -- the cache of these tenants
-  abbrev pub cache_of : {S : Type 0} → HashMap N (Tenant K V) S → List ℕ → ℕ → Cache N K V
-  cache_of tenants seed entry_bytes =
-      record { tenants = tenants.entries; hasher = seeded seed; entry_bytes = entry_bytes }
+  abbrev pub cache_of : HashMap N (State K V L S) S → S → ℕ → Cache N K V L S
+  cache_of tenants hasher entry_bytes =
+      record { tenants = tenants.entries; hasher = hasher; entry_bytes = entry_bytes }
 
   module _ {eq : N → N → Bool} (laws : IsEquivalence eq) where
     -- equal names are those of one tenant
-    pub same-tenant : (name other : N) → eq name other ≡ true → (cache : Cache N K V)
+    pub same-tenant : (name other : N) → eq name other ≡ true → (cache : Cache N K V L S)
         → tenant (eq name) cache ≡ tenant (eq other) cache
     same-tenant name other e cache = ap (λ named. tenant named cache) (λ i n. laws.congr name other n e i)
 
     -- a cache that stays leaves the tenant as it is
-    pub leaves-same : (name : N) (cache : Cache N K V) → Leaves eq name (tenant (eq name) cache) cache cache
+    pub leaves-same : (name : N) (cache : Cache N K V L S) → Leaves eq name (tenant (eq name) cache) cache cache
     leaves-same name cache = record {
       tenants = λ other. same other (eq name other) refl;
       hasher = refl;
@@ -45,10 +45,10 @@ module _ {N K V : Type 0} where
         same other false e = refl
 
   -- so it does if the table of tenants has another map at its name, or none
-  pub leaves-updated : {S : Type 0} (eq : N → N → Bool) (name : N) (left : Option (Tenant K V)) (seed : List ℕ)
-      (entry_bytes : ℕ) (old new : HashMap N (Tenant K V) S) → UpdatesBy eq (eq name) old new left
-      → Leaves eq name left (cache_of old seed entry_bytes) (cache_of new seed entry_bytes)
-  leaves-updated eq name left seed entry_bytes old new updates =
+  pub leaves-updated : (eq : N → N → Bool) (name : N) (left : Option (State K V L S)) (hasher : S)
+      (entry_bytes : ℕ) (old new : HashMap N (State K V L S) S) → UpdatesBy eq (eq name) old new left
+      → Leaves eq name left (cache_of old hasher entry_bytes) (cache_of new hasher entry_bytes)
+  leaves-updated eq name left hasher entry_bytes old new updates =
       record { tenants = updates.0; hasher = refl; entry_bytes = refl }
 
 -- what holds of each value holds of each after a removal
@@ -58,26 +58,26 @@ module _ {K X S : Type 0} (P : X → Type 0) where
   kept-removed test old new all is = All-map-IsPermutation (λ e. e.1) P (remove_entry test old.entries) new.entries is
       (All-map-remove_entry test (λ e. e.1) P old.entries all)
 
-module _ {N K V R : Type 0} {eq : N → N → Bool} (name : N) (Does : Option (Tenant K V) → R → Option (Tenant K V) → Type 0)
+module _ {N K V L S R : Type 0} {eq : N → N → Bool} (name : N) (Does : Option (State K V L S) → R → Option (State K V L S) → Type 0)
     (answer : R) where
   -- what is done to the tenant is done to the cache, by what the tenant is before
-  pub on-from : (old new : Cache N K V) (was left : Option (Tenant K V)) → tenant (eq name) old ≡ was
+  pub on-from : (old new : Cache N K V L S) (was left : Option (State K V L S)) → tenant (eq name) old ≡ was
       → Does was answer left → Leaves eq name left old new → On eq name Does old answer new
   on-from old new was left is does leaves = (left, subst (λ t. Does t answer left) (sym is) does, leaves)
 
   -- if it stays, so does the cache
-  pub on-same : IsEquivalence eq → (cache : Cache N K V) (was : Option (Tenant K V)) → tenant (eq name) cache ≡ was
+  pub on-same : IsEquivalence eq → (cache : Cache N K V L S) (was : Option (State K V L S)) → tenant (eq name) cache ≡ was
       → Does was answer was → On eq name Does cache answer cache
   on-same laws cache was is does = on-from cache cache was was is does
       (subst (λ t. Leaves eq name t cache cache) is (leaves-same laws name cache))
 
 -- a tenant that is open is not opened
-pub open-again : {N K V : Type 0} {eq : N → N → Bool} → IsEquivalence eq → (name : N) (fresh : Tenant K V)
-    (cache : Cache N K V) → is_some (tenant (eq name) cache) ≡ true
+pub open-again : {N K V L S : Type 0} {eq : N → N → Bool} → IsEquivalence eq → (name : N) (fresh : State K V L S)
+    (cache : Cache N K V L S) → is_some (tenant (eq name) cache) ≡ true
     → On eq name (Opens fresh) cache (Err AlreadyOpen) cache
-open-again {N} {K} {V} {eq} laws name fresh cache there = go (tenant (eq name) cache) refl there
+open-again {N} {K} {V} {L} {S} {eq} laws name fresh cache there = go (tenant (eq name) cache) refl there
   where
-    go : (was : Option (Tenant K V)) → tenant (eq name) cache ≡ was → is_some was ≡ true
+    go : (was : Option (State K V L S)) → tenant (eq name) cache ≡ was → is_some was ≡ true
         → On eq name (Opens fresh) cache (Err AlreadyOpen) cache
     go (Some map) is found = on-same name (Opens fresh) (Err AlreadyOpen) laws cache (Some map) is (refl, refl)
     go None is found = absurd (true≢false (sym found))
@@ -88,30 +88,33 @@ pub found-all : {K X S : Type 0} (P : X → Type 0) (test : K → Bool) (map : H
 found-all P test map x found all = subst (λ o. IfSome o P) found (IfSome-lookup_from_All P test map.entries all)
 
 -- the table of tenants is written at a tenant that is open
-module _ {N K V S : Type 0} (names : N → N → Bool) (eq : K → K → Bool) (cost : V → ℕ) (name : N) (seed : List ℕ)
-    (entry_bytes : ℕ) (old new : HashMap N (Tenant K V) S) (was left : Tenant K V)
-    (there : get_by (names name) old ≡ Some was) (writes : WritesThrough names (names name) old left new) where
-  pub all-written : All (IsTenant eq cost) (values old) → IsTenant eq cost left → All (IsTenant eq cost) (values new)
-  all-written all is = subst (λ entries. All (IsTenant eq cost) (values_of entries)) (sym writes.0)
-      (All-values-set_value (names name) (IsTenant eq cost) old.entries left all is)
+module _ {N K V L S : Type 0} (names : N → N → Bool) where
+  module _ (Holds : State K V L S → Type 0) (name : N) (old new : HashMap N (State K V L S) S) where
+    pub all-written : (was left : State K V L S) → WritesThrough names (names name) old left new
+        → All Holds (values old) → Holds left → All Holds (values new)
+    all-written was left writes all is = subst (λ entries. All Holds (values_of entries)) (sym writes.0)
+        (All-values-set_value (names name) Holds old.entries left all is)
 
-  pub on-written : {R : Type 0} (Does : Option (Tenant K V) → R → Option (Tenant K V) → Type 0) (answer : R)
-      → Does (Some was) answer (Some left)
-      → On names name Does (cache_of old seed entry_bytes) answer (cache_of new seed entry_bytes)
-  on-written Does answer does =
-      on-from name Does answer (cache_of old seed entry_bytes) (cache_of new seed entry_bytes) (Some was) (Some left)
-      there does (leaves-updated names name (Some left) seed entry_bytes old new (writes.3 (ap is_some there)))
+    -- a tenant is removed from the table, or there is none
+    pub all-removed : All Holds (values old)
+        → IsPermutation (remove_entry (names name) old.entries) new.entries → All Holds (values new)
+    all-removed all is = kept-removed Holds (names name) old new all is
 
--- a tenant is removed from the table, or there is none
-module _ {N K V S : Type 0} (names : N → N → Bool) (eq : K → K → Bool) (cost : V → ℕ) (name : N) (seed : List ℕ)
-    (entry_bytes : ℕ) (old new : HashMap N (Tenant K V) S) where
-  pub all-removed : All (IsTenant eq cost) (values old)
-      → IsPermutation (remove_entry (names name) old.entries) new.entries → All (IsTenant eq cost) (values new)
-  all-removed all is = kept-removed (IsTenant eq cost) (names name) old new all is
+  module _ (name : N) (hasher : S) (entry_bytes : ℕ) (old new : HashMap N (State K V L S) S) where
+    pub on-written : (was left : State K V L S) → get_by (names name) old ≡ Some was
+        → WritesThrough names (names name) old left new → {R : Type 0}
+        (Does : Option (State K V L S) → R → Option (State K V L S) → Type 0) (answer : R)
+        → Does (Some was) answer (Some left)
+        → On names name Does (cache_of old hasher entry_bytes) answer (cache_of new hasher entry_bytes)
+    on-written was left there writes Does answer does =
+        on-from name Does answer (cache_of old hasher entry_bytes) (cache_of new hasher entry_bytes) (Some was)
+        (Some left) there does
+        (leaves-updated names name (Some left) hasher entry_bytes old new (writes.3 (ap is_some there)))
 
-  pub on-removed : {R : Type 0} (Does : Option (Tenant K V) → R → Option (Tenant K V) → Type 0) (answer : R)
-      (was : Option (Tenant K V)) → get_by (names name) old ≡ was → UpdatesBy names (names name) old new None
-      → Does was answer None → On names name Does (cache_of old seed entry_bytes) answer (cache_of new seed entry_bytes)
-  on-removed Does answer was is updates does =
-      on-from name Does answer (cache_of old seed entry_bytes) (cache_of new seed entry_bytes) was None is does
-      (leaves-updated names name None seed entry_bytes old new updates)
+    pub on-removed : {R : Type 0} (Does : Option (State K V L S) → R → Option (State K V L S) → Type 0) (answer : R)
+        (was : Option (State K V L S)) → get_by (names name) old ≡ was → UpdatesBy names (names name) old new None
+        → Does was answer None
+        → On names name Does (cache_of old hasher entry_bytes) answer (cache_of new hasher entry_bytes)
+    on-removed Does answer was is updates does =
+        on-from name Does answer (cache_of old hasher entry_bytes) (cache_of new hasher entry_bytes) was None is does
+        (leaves-updated names name None hasher entry_bytes old new updates)

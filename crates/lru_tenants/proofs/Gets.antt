@@ -4,21 +4,24 @@ use Rattle.lru_limits.specs.Laws.{IsLookup}
 use Rattle.schnellru.specs.Calls.{promoted}
 use Rattle.schnellru.specs.Lists.{lookup}
 use Rattle.schnellru.proofs.CallerLemmas.{promoted_is_map, promoted-summed}
-use Rattle.lru_tenants.specs.Cache.{Tenant, IsTenant}
+use Rattle.schnellru.specs.State.{State}
+use Rattle.lru_tenants.specs.Cache.{IsTenant}
 use Rattle.lru_tenants.specs.TenantRuns.{Gets}
 
-module _ {K V Q : Type 0} {names : Q → K → Bool} {eq : K → K → Bool} {query_input : Q → List (List ℕ)}
+module _ {K V L S Q : Type 0} {names : Q → K → Bool} {eq : K → K → Bool} {query_input : Q → List (List ℕ)}
     {key_input : K → List (List ℕ)} (looks_up : IsLookup names eq query_input key_input) (q : Q)
-    (cost : V → ℕ) where
-  pub promoted_is_tenant : (map : Tenant K V) → IsTenant eq cost map → IsTenant eq cost (promoted (names q) map)
+    (cost : K → V → ℕ) (account budget : L → ℕ) where
+  pub promoted_is_tenant : (map : State K V L S) → IsTenant eq cost account budget map
+      → IsTenant eq cost account budget (promoted (names q) map)
   promoted_is_tenant map is = record {
     map = promoted_is_map looks_up q map is.map;
-    sum = promoted-summed (names q) map (λ k v. cost v) (λ b. b.cost) is.sum;
+    sum = promoted-summed (names q) map cost account is.sum;
     within = is.within;
   }
 
 -- what a get returns, and what it leaves of a tenant that is open
-pub gets-open : {K V : Type 0} (names : K → Bool) (was : Option (Tenant K V)) (map left : Tenant K V) (found : Option V)
+pub gets-open : {K V L S : Type 0} (names : K → Bool) (was : Option (State K V L S)) (map left : State K V L S)
+    (found : Option V)
     → was ≡ Some map → found ≡ lookup names map.pairs → left ≡ promoted names map
     → Gets names was (Ok found) (Some left)
 gets-open names was map left found is value turned =

@@ -1,3 +1,4 @@
+pub mod BudgetSteps
 pub mod Changes
 pub mod Pops
 pub mod Gets

@@ -1,21 +1,51 @@
 -- What a cache ends as, once a value that was lent of it has been given back.
-use Rattle.std.specs.Prelude.{Option, Result, Ok, Err, ⊤}
+use Rattle.std.specs.Prelude.{ℕ, Bool, Option, Result, Ok, Err, ⊤}
 use Rattle.std.specs.Borrow.{Fml, RattleType, Bor, MutBor, follows_so}
 use Rattle.std.specs.HashMap.Lent.{HashMembers}
 use Rattle.std.specs.Option.{option_copied}
-use Rattle.lru_limits.specs.declared.accounts.Costed as costed
+use Rattle.std.specs.declared.cmp.PartialEq as equality
+use Rattle.std.specs.declared.fmt.Debug as debug
+use Rattle.std.specs.declared.hash.Hasher as hasher
+use Rattle.group_table.specs.declared.link.LinkType as link_type
+use Rattle.lru_limits.specs.Hashing.{HasherMembers}
+use Rattle.lru_limits.specs.Rules.{Rules, Offers}
 use Rattle.lru_tenants.specs.Cache.{Cache}
 use Rattle.lru_tenants.specs.contracts.cache.TenantCache.{the_row}
 use mathlib.Core.Option.{none}
 
-module _ (N K V : RattleType) (name : HashMembers N.Denot) (key : HashMembers K.Denot) (costs : costed.Ghosts V.Denot) where
+-- what `L.Budgeted` gives a clause
+abbrev pub BudgetMembers : Type 0 → Type 0 → Type 0 → Type 1
+BudgetMembers K V L = record {
+  rules : Rules K V L;
+  offers : Offers K V L K;
+  cost_of : K → V → ℕ;
+  account : L → ℕ;
+  budget_of : L → ℕ;
+  accepts_new : L → K → V → Bool;
+  made : ℕ → L;
+  rebudgeted : ℕ → L → L;
+}
+
+module _ (N K V L S M H : RattleType) (name : HashMembers N.Denot) (key : HashMembers K.Denot)
+    (limits : BudgetMembers K.Denot V.Denot L.Denot)
+    (links : link_type.Ghosts M.Denot) (link_eq : equality.Ghosts M.Denot) (link_shown : debug.Ghosts M.Denot)
+    (hashed : HasherMembers S.Denot K.Denot H.Denot) (hash : hasher.Ghosts H.Denot) where
   -- the cache's type, as the logic holds it
   abbrev pub cache_row : RattleType
-  cache_row = the_row N K V (record { eq = name.eq }) (record { hash_input = name.hash_input }) (record {})
-      (record { eq = key.eq }) (record { hash_input = key.hash_input }) costs
+  cache_row = the_row N K V L S M H (record { eq = name.eq }) (record { hash_input = name.hash_input })
+      (record { eq = key.eq }) (record { hash_input = key.hash_input })
+      (record {
+        budget_of = limits.budget_of;
+        accepts_new = limits.accepts_new;
+        made = limits.made;
+        rebudgeted = limits.rebudgeted;
+      }) (record { cost_of = limits.cost_of; account = limits.account }) (record { offers = limits.offers })
+      (record { rules = limits.rules }) links link_eq link_shown
+      (record { hash_of = hashed.hash_of }) (record { build_hasher = hashed.build_hasher }) hash
 
   -- it ends as one of which this holds
-  abbrev pub ends_so : MutBor (Cache N.Denot K.Denot V.Denot) → (Cache N.Denot K.Denot V.Denot → Type 0) → Fml
+  abbrev pub ends_so : MutBor (Cache N.Denot K.Denot V.Denot L.Denot S.Denot)
+      → (Cache N.Denot K.Denot V.Denot L.Denot S.Denot → Type 0) → Fml
   ends_so m Ends = follows_so cache_row cache_row m.ghost_name none (λ _ _. ⊤) Ends
 
 -- the answer, with the value that is lent

@@ -1,17 +1,41 @@
-//! A law about calls on a cache. A caller that needs it calls the function, which does nothing.
-ghost use Rattle.std.specs.Prelude.{◌≡◌};
+//! Laws about calls. A caller that needs one calls the function, which does nothing.
+ghost use Rattle.std.specs.Prelude.{◌≡◌, ◌≤◌};
+ghost use Rattle.schnellru.specs.Runs.{Step};
+ghost use Rattle.schnellru.specs.State.{State};
+ghost use Rattle.schnellru.specs.Theorems.{IsSummed};
 ghost use Rattle.lru_tenants.specs.Cache.{Cache, tenant};
 ghost use Rattle.lru_tenants.specs.Others.{CallsOfOthers};
 
-use schnellru::Costed;
+use lru_limits::Budgeted;
+use schnellru::KeyHasher;
 use std::hash::Hash;
 
 /// Any number of calls that name other tenants leave a tenant's map as it is, for names, keys and values of any types.
 ///
 /// ```
-/// calls_of_others_leave_a_tenant::<u64, String, String>();
+/// calls_of_others_leave_a_tenant::<u64, String, String, ByCost, RandomState>();
 /// ```
-pub fn calls_of_others_leave_a_tenant<N: Eq + Hash, K: Eq + Hash, V: Costed>()
-    ensures { (name : N) (old new : Cache N K V) → CallsOfOthers N.eq name new old →
+pub fn calls_of_others_leave_a_tenant<
+    N: Eq + Hash,
+    K: Eq + Hash,
+    V,
+    L: Budgeted<K, V>,
+    S: KeyHasher<K>,
+>()
+    ensures { (name : N) (old new : Cache N K V L S) → CallsOfOthers N.eq name new old →
         tenant (N.eq name) new ≡ tenant (N.eq name) old }
+{}
+
+/// With any limiter that has a budget, each call on a map leaves the budget as it is, and a running total of at most the
+/// budget, if that held before and the total was the sum of the costs.
+///
+/// ```
+/// calls_keep_the_budget::<u64, u64, ByCost, RandomState>();
+/// ```
+pub fn calls_keep_the_budget<K: Eq + Hash, V, L: Budgeted<K, V>, S: KeyHasher<K>>()
+    ensures budget { (old new : State K V L S) →
+        Step L.rules L.offers K.eq S.hash_of old new → L.budget_of new.limiter ≡ L.budget_of old.limiter }
+    ensures total { (old new : State K V L S) →
+        Step L.rules L.offers K.eq S.hash_of old new → IsSummed L.cost_of L.account old →
+        L.account old.limiter ≤ L.budget_of old.limiter → L.account new.limiter ≤ L.budget_of new.limiter }
 {}

@@ -2,12 +2,13 @@
 ghost use Rattle.std.specs.Prelude.{◌≡◌, IfOk};
 ghost use Rattle.std.specs.Result.{OnErr};
 ghost use Rattle.lru_tenants.specs.Cache.{tenant, fresh, AreTenants};
-ghost use Rattle.lru_tenants.specs.TenantRuns.{named, hash_of, Gets, On, TenantStep, IsOwnRun};
+ghost use Rattle.lru_tenants.specs.TenantRuns.{named, Gets, On, TenantStep, IsOwnRun};
 
 use crate::cache::TenantCache;
 use crate::call::{TenantAnswer, TenantCall};
 use crate::error::TenantError;
-use schnellru::Costed;
+use lru_limits::Budgeted;
+use schnellru::KeyHasher;
 use std::alloc::{AllocError, Global};
 use std::hash::Hash;
 
@@ -27,16 +28,23 @@ use std::hash::Hash;
 /// # Errors
 ///
 /// `Err` says that there was no memory for the answers. No call was made then.
-pub fn run_tenants<N: Copy + Eq + Hash + Drop, K: Copy + Eq + Hash + Drop, V: Copy + Costed + Drop>(
+pub fn run_tenants<
+    N: Copy + Eq + Hash + Drop,
+    K: Copy + Eq + Hash + Drop,
+    V: Copy + Drop,
+    L: Budgeted<K, V> + Drop,
+    S: KeyHasher<K> + Copy,
+>(
     alloc: Global,
-    cache: &mut TenantCache<N, K, V>,
+    cache: &mut TenantCache<N, K, V, L, S>,
     calls: Vec<TenantCall<N, K, V>>,
 ) -> Result<Vec<TenantAnswer<V>>, AllocError>
     // Each tenant's own calls and answers are a run from what it was before, and its cost stays within its budget.
     ensures own { IfOk result (λ answers. (name : N) →
-        IsOwnRun K.eq V.cost (hash_of K.hash_input) (fresh cache.old) (λ n. N.eq n name) (tenant (N.eq name) cache.old)
-        calls.items answers.items (tenant (N.eq name) cache.new)) }
-    ensures tenants { AreTenants K.eq V.cost cache.new }
+        IsOwnRun L.rules L.offers L.cost_of L.account L.budget_of K.eq S.hash_of
+        (fresh L.made (L.LinkType.number L.LinkType.MAX) cache.old) (λ n. N.eq n name)
+        (tenant (N.eq name) cache.old) calls.items answers.items (tenant (N.eq name) cache.new)) }
+    ensures tenants { AreTenants K.eq L.cost_of L.account L.budget_of cache.new }
     ensures unmade { OnErr result (cache.new ≡ cache.old) }
 {
     // Nothing at run time: it shows the proof what holds of the tenants.
@@ -52,11 +60,13 @@ pub fn run_tenants<N: Copy + Eq + Hash + Drop, K: Copy + Eq + Hash + Drop, V: Co
 fn make_tenant_call<
     N: Copy + Eq + Hash + Drop,
     K: Copy + Eq + Hash + Drop,
-    V: Copy + Costed + Drop,
->(cache: &mut TenantCache<N, K, V>, call: TenantCall<N, K, V>) -> TenantAnswer<V>
-    ensures step { On N.eq (named call) (TenantStep K.eq V.cost (hash_of K.hash_input) (fresh cache.old) call) cache.old
-        result cache.new }
-    ensures tenants { AreTenants K.eq V.cost cache.new }
+    V: Copy + Drop,
+    L: Budgeted<K, V> + Drop,
+    S: KeyHasher<K> + Copy,
+>(cache: &mut TenantCache<N, K, V, L, S>, call: TenantCall<N, K, V>) -> TenantAnswer<V>
+    ensures step { On N.eq (named call) (TenantStep L.rules L.offers L.cost_of L.account L.budget_of K.eq S.hash_of
+        (fresh L.made (L.LinkType.number L.LinkType.MAX) cache.old) call) cache.old result cache.new }
+    ensures tenants { AreTenants K.eq L.cost_of L.account L.budget_of cache.new }
 {
     let answer = answer_to(cache, call);
     // Nothing at run time: it shows the proof what holds of the tenants.
@@ -65,12 +75,15 @@ fn make_tenant_call<
 }
 
 /// Returns the answer to a call.
-fn answer_to<N: Copy + Eq + Hash + Drop, K: Copy + Eq + Hash + Drop, V: Copy + Costed + Drop>(
-    cache: &mut TenantCache<N, K, V>,
-    call: TenantCall<N, K, V>,
-) -> TenantAnswer<V>
-    ensures { On N.eq (named call) (TenantStep K.eq V.cost (hash_of K.hash_input) (fresh cache.old) call) cache.old
-        result cache.new }
+fn answer_to<
+    N: Copy + Eq + Hash + Drop,
+    K: Copy + Eq + Hash + Drop,
+    V: Copy + Drop,
+    L: Budgeted<K, V> + Drop,
+    S: KeyHasher<K> + Copy,
+>(cache: &mut TenantCache<N, K, V, L, S>, call: TenantCall<N, K, V>) -> TenantAnswer<V>
+    ensures { On N.eq (named call) (TenantStep L.rules L.offers L.cost_of L.account L.budget_of K.eq S.hash_of
+        (fresh L.made (L.LinkType.number L.LinkType.MAX) cache.old) call) cache.old result cache.new }
 {
     match call {
         TenantCall::Open(name, budget) => TenantAnswer::Opened(cache.open(name, budget)),
@@ -82,8 +95,8 @@ fn answer_to<N: Copy + Eq + Hash + Drop, K: Copy + Eq + Hash + Drop, V: Copy + C
 }
 
 /// Returns a tenant's value of a key, and makes its entry the newest.
-fn get<N: Eq + Hash, K: Eq + Hash, V: Copy + Costed>(
-    cache: &mut TenantCache<N, K, V>,
+fn get<N: Eq + Hash, K: Eq + Hash, V: Copy, L: Budgeted<K, V>, S: KeyHasher<K> + Copy>(
+    cache: &mut TenantCache<N, K, V, L, S>,
     name: &N,
     key: &K,
 ) -> Result<Option<V>, TenantError>

@@ -1,5 +1,5 @@
 //! The examples of the docs of `lru_tenants`, the error texts, and each call once.
-use lru_tenants::{TenantAnswer, TenantCache, TenantCall, TenantError, run_tenants};
+use lru_tenants::{ByWeight, TenantAnswer, TenantCache, TenantCall, TenantError, run_tenants};
 use std::test::Fail;
 
 #[test]
@@ -9,6 +9,7 @@ fn of_the_cache(rt: HostRuntime) -> Result<(), Fail> {
     assert_eq!(rt; cache.open(1, 3), Ok(()));
     assert_eq!(rt; cache.put(&1, 7, 2), Ok(true));
     assert_eq!(rt; cache.cost(&1), Ok(2));
+    assert_eq!(rt; cache.names().next(), Some(&1));
     assert_eq!(rt; cache.peek(&1, &7), Ok(Some(&2)));
     assert_eq!(rt; cache.entries(&1), Ok(1));
     assert_eq!(rt; cache.budget(&1), Ok(3));
@@ -53,6 +54,22 @@ fn of_calls_that_pass_entries(rt: HostRuntime) -> Result<(), Fail> {
         cache.put_with(&1, 9, 1, &mut |_, _| {}),
         Err(TenantError::NotOpen)
     );
+    Ok(())
+}
+
+#[test]
+fn of_weights(rt: HostRuntime) -> Result<(), Fail> {
+    let alloc = rt.alloc();
+    let mut weighed: TenantCache<u64, u64, u64, ByWeight<16>, _> = TenantCache::with_hasher(
+        alloc,
+        std::collections::hash_map::RandomState::new(&rt)?,
+        48,
+    );
+    assert_eq!(rt;
+        (weighed.open(1, 40), weighed.put(&1, 7, 2)),
+        (Ok(()), Ok(true))
+    );
+    assert_eq!(rt; weighed.cost(&1), Ok(25));
     Ok(())
 }
 

@@ -8,8 +8,6 @@ mod examples;
 #[cfg(test)]
 mod memory;
 #[cfg(test)]
-mod random;
-#[cfg(test)]
 mod responses;
 #[cfg(test)]
 mod rows;

@@ -37,7 +37,10 @@ pub fn random_call<L>(random: &mut Random, bounds: Bounds) -> Call<u64, u64, L> 
         192..=319 => Call::PopOldest,
         320..=447 => Call::PopNewest,
         448..=703 => Call::Remove(key),
-        704..=1215 => Call::Peek(key),
+        704..=1119 => Call::Peek(key),
+        1120..=1151 => Call::Contains(key),
+        1152..=1183 => Call::Promote(key),
+        1184..=1215 => Call::Demote(key),
         1216..=1727 => Call::Get(key),
         1728..=2047 if !bounds.only_lines => other_call(random, key, value),
         2048..=3071 => Call::InsertWith(key, value),
@@ -48,7 +51,7 @@ pub fn random_call<L>(random: &mut Random, bounds: Bounds) -> Call<u64, u64, L> 
 /// A random call that has no line.
 fn other_call<L>(random: &mut Random, key: u64, value: u64) -> Call<u64, u64, L> {
     let hash = sum_of_bytes(key);
-    match random.below(14) {
+    match random.below(11) {
         0 => Call::PeekOldest,
         1 => Call::PeekNewest,
         2 => Call::GetByHash(hash.wrapping_add(OTHER_TAG), key),
@@ -56,12 +59,9 @@ fn other_call<L>(random: &mut Random, key: u64, value: u64) -> Call<u64, u64, L>
         4 => Call::GetByHash(hash, key),
         5 => Call::PeekByHash(hash, key),
         6 => Call::Write(key, value),
-        7 => Call::Contains(key),
-        8 => Call::Promote(key),
-        9 => Call::RemoveEntry(key),
-        10 => Call::Trim,
-        11 => Call::Demote(key),
-        12 => Call::Update(key, value),
+        7 => Call::RemoveEntry(key),
+        8 => Call::Trim,
+        9 => Call::Update(key, value),
         _ => Call::GetOrInsert(key, value),
     }
 }

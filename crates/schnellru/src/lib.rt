@@ -13,8 +13,9 @@ mod sizes;
 mod walk;
 
 pub use lru_limits::{
-    ByCost, ByLength, ByMemoryUsage, ByWeight, Costed, DefaultHasher, Insertion, KeyHasher,
-    Limiter, LinkType, LookupKey, RandomState, Storing, Summing, Unlimited, UnlimitedCompact,
+    Admission, Both, Budgeted, ByCost, ByLength, ByMemoryUsage, ByWeight, Costed, DefaultHasher,
+    Insertion, KeyHasher, Limiter, LinkType, LookupKey, RandomState, Storing, Summing, Unlimited,
+    UnlimitedCompact,
 };
 pub use map::get_or_insert::GetOrInsertError;
 pub use map::insert::Inserted;

@@ -1,13 +1,13 @@
 //! Each key and each value is dropped once: none twice, and none is forgotten. No clause says when a value is dropped.
 use super::live::{Live, Lives};
 use schnellru::{
-    ByCost, ByLength, ByMemoryUsage, Insertion, Limiter, LruMap, Storing, Unlimited,
+    ByCost, ByLength, ByMemoryUsage, ByWeight, Insertion, Limiter, LruMap, Storing, Unlimited,
     UnlimitedCompact,
 };
 use std::alloc::{AllocError, Global};
 use std::process::Abort;
 use std::test::Fail;
-use test_helpers::Random;
+use test_helpers::{Hog, Random};
 
 type Map<'a, L> = LruMap<Live<'a>, Live<'a>, L>;
 
@@ -130,6 +130,7 @@ fn keys_and_values_are_dropped_once(rt: HostRuntime) -> Result<(), Fail> {
     expect_balance(&rt, ByMemoryUsage::new(83), &lives, 0)?;
     expect_balance(&rt, ByCost::new(10), &lives, 0)?;
     expect_balance(&rt, ByCost::new(u64::MAX), &lives, 0)?;
+    expect_balance(&rt, ByWeight::<1>::new(200), &lives, 0)?;
     expect_balance(&rt, Unlimited, &lives, 0)?;
     expect_balance(&rt, UnlimitedCompact, &lives, 0)?;
     expect_balance(&rt, Storing(ByLength::new(3)), &lives, 0)
@@ -165,6 +166,20 @@ fn what_trims_evict_is_dropped(rt: HostRuntime) -> Result<(), Fail> {
     assert_eq!(rt; live(&lives), (4999, 4999));
     drop(map.into_iter().next());
     assert_eq!(rt; live(&lives), (0, 0));
+    Ok(())
+}
+
+/// What an extend could not insert is dropped, with what its iterator has left.
+#[test]
+fn what_an_extend_leaves_is_dropped(rt: HostRuntime) -> Result<(), Fail> {
+    let lives = Lives::new();
+    let mut map: Map<Unlimited> = LruMap::new(rt.alloc(), Unlimited, [1, 2, 3, 4], 16);
+    let hog = Hog::new(rt.alloc(), &[])?;
+    let entries = [1, 2, 3].map(|n: u64| (lives.key(n), lives.value(n)));
+    let is_refused = map.try_extend(entries).is_err();
+    let all = hog.took_all();
+    drop(hog);
+    assert!(rt; !all || (is_refused && live(&lives) == (0, 0)));
     Ok(())
 }
 

@@ -384,7 +384,10 @@ fn of_weights(rt: HostRuntime) -> Result<(), Fail> {
 fn of_the_order_of_entries(rt: HostRuntime) -> Result<(), Fail> {
     let mut map = three(rt.alloc())?;
     assert!(rt; map.get_index(0) == Some((&3, &30)) && map.get_index(3).is_none());
-    assert_eq!(rt; (map.get_index_of(&1), map.get_index_of(&9)), (Some(2), None));
+    assert_eq!(rt;
+        (map.get_index_of(&1), map.get_index_of(&9)),
+        (Some(2), None)
+    );
     assert!(rt; map.get_key_value(&1) == Some((&1, &10)));
     assert!(rt; map.demote(&3) && !map.demote(&9));
     assert!(rt; map.peek_oldest() == Some((&3, &30)));

@@ -11,12 +11,17 @@ const SPARE: usize = 1 << 16;
 
 const CYCLES: u32 = 5000;
 
-/// A table that grows, is reserved, shrunk and copied, and is given back by a shrink of no pairs. Returns nothing if memory
-/// runs out, as the functions below.
-fn grown_and_shrunk(map: &mut LruMap<u64, u64, UnlimitedCompact>) -> Option<()> {
-    insert_all(map, 1..=30).ok()?;
-    reserve(map, 40).ok()?;
-    remove_all(map, 1..=25);
+/// The same for maps of 400 pairs, and a cycle that loses 600 bytes.
+const LARGE_SPARE: usize = 120_000;
+
+const LARGE_CYCLES: u32 = 200;
+
+/// A table of `n` pairs that grows, is reserved, shrunk and copied, and is given back by a shrink of no pairs. Returns
+/// nothing if memory runs out, as the functions below.
+fn grown_and_shrunk(map: &mut LruMap<u64, u64, UnlimitedCompact>, n: u64) -> Option<()> {
+    insert_all(map, 1..=n).ok()?;
+    reserve(map, n as usize).ok()?;
+    remove_all(map, 6..=n);
     shrink(map).ok()?;
     copied(map)?;
     map.clear();
@@ -70,11 +75,25 @@ fn calls_give_their_memory_back(rt: HostRuntime) -> Result<(), Fail> {
     hog.release();
     let mut made = 0u32;
     for _ in 0..CYCLES {
-        let is_made = grown_and_shrunk(&mut map).is_some() && dropped(alloc) == Some(true);
+        let is_made = grown_and_shrunk(&mut map, 30).is_some() && dropped(alloc) == Some(true);
         made = made.wrapping_add(is_made as u32);
     }
     drop(hog);
     assert_eq!(rt; made, CYCLES);
+    Ok(())
+}
+
+#[test]
+fn calls_on_large_maps_give_their_memory_back(rt: HostRuntime) -> Result<(), Fail> {
+    let mut map = map_of(rt.alloc(), UnlimitedCompact);
+    let mut hog = Hog::new(rt.alloc(), &[LARGE_SPARE])?;
+    hog.release();
+    let mut made = 0u32;
+    for _ in 0..LARGE_CYCLES {
+        made = made.wrapping_add(grown_and_shrunk(&mut map, 400).is_some() as u32);
+    }
+    drop(hog);
+    assert_eq!(rt; made, LARGE_CYCLES);
     Ok(())
 }
 

@@ -1,7 +1,9 @@
 //! Calls whose requests for memory are refused in turn, until one is met. No clause says that memory is there, or how
 //! much a call takes. What a refused call leaves is a clause; these tests show it for each request.
 use super::keys::{Texts, has_keys, texts_of};
-use schnellru::{GetOrInsertError, Insertion, LruMap, ReserveError, Storing, UnlimitedCompact, Updated};
+use schnellru::{
+    GetOrInsertError, Insertion, LruMap, ReserveError, Storing, UnlimitedCompact, Updated,
+};
 use std::alloc::{AllocError, Global};
 use std::hash::BuildHasher;
 use std::test::Fail;
@@ -331,12 +333,12 @@ fn is_copied(map: &Texts, keys: &[&str]) -> bool {
     }
 }
 
-/// A copy of three texts takes control bytes, entries, and a byte for each text.
+/// A copy of three texts takes entries, control bytes, and a byte for each text.
 #[test]
 fn copies(rt: HostRuntime) -> Result<(), Fail> {
     let map = texts_of(rt.alloc(), &["1", "2", "3"])?;
     let mut made = [false; 6];
-    let mut hog = Hog::new(rt.alloc(), &[20, 160, 1, 1, 1])?;
+    let mut hog = Hog::new(rt.alloc(), &[160, 20, 1, 1, 1])?;
     for n in 0..6usize {
         made[n] = is_copied(&map, &["3", "2", "1"]);
         hog.release();

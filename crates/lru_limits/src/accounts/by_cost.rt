@@ -1,9 +1,10 @@
 //! The limiter by the sum of the costs of the values.
 ghost use Rattle.std.specs.Prelude.{◌≡◌};
 ghost use Rattle.lru_limits.specs.Admissions.{budget_terms, weighs-terms};
-ghost use Rattle.lru_limits.specs.Budget.{by_cost, charges, charges-lawful, charges-sums};
+ghost use Rattle.lru_limits.specs.Budget.{can_add, by_cost, charges, charges-lawful, charges-sums};
+ghost use Rattle.lru_limits.specs.Budgeted.{weighs-budgeted};
 
-use crate::accounts::{Costed, Summing, sum_with};
+use crate::accounts::{Budgeted, Costed, Summing, sum_with};
 use crate::admission::Admission;
 use crate::keys::LookupKey;
 use crate::limiter::{Insertion, Limiter};
@@ -208,4 +209,36 @@ impl<K: Eq + Hash + Drop, V: Costed + Drop> Admission<K, V> for ByCost {
     }
 
     ghost laws = { weighs-terms (λ _ v. V.cost v) };
+}
+
+impl<K: Eq + Hash + Drop, V: Costed + Drop> Budgeted<K, V> for ByCost {
+    ghost budget_of = { λ b. b.limit };
+
+    ghost accepts_new = { λ b k v. can_add b.limit b.cost (V.cost v) };
+
+    ghost made = { λ limit. record { limit = limit; cost = 0 } };
+
+    ghost rebudgeted = { λ limit b. record b { limit = limit } };
+
+    #[inline]
+    fn with_budget(budget: u64) -> ByCost {
+        ByCost::new(budget)
+    }
+
+    #[inline]
+    fn budget(&self) -> u64 {
+        self.limit
+    }
+
+    #[inline]
+    fn set_budget(&mut self, budget: u64) {
+        self.limit = budget;
+    }
+
+    #[inline]
+    fn has_room_for(&self, _key: &K, value: &V) -> bool {
+        sum_with(self.limit, self.cost, value.cost()).is_some()
+    }
+
+    ghost laws = { weighs-budgeted (λ _ v. V.cost v) };
 }

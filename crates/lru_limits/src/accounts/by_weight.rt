@@ -1,9 +1,10 @@
 //! The limiter by the sum of the costs of keys, values and entries.
 ghost use Rattle.std.specs.Prelude.{◌≡◌};
 ghost use Rattle.lru_limits.specs.Admissions.{budget_terms, weighs-terms};
-ghost use Rattle.lru_limits.specs.Budget.{pair_cost, by_weight, weighs, weighs-lawful, weighs-sums};
+ghost use Rattle.lru_limits.specs.Budget.{can_add, pair_cost, by_weight, weighs, weighs-lawful, weighs-sums};
+ghost use Rattle.lru_limits.specs.Budgeted.{weighs-budgeted};
 
-use crate::accounts::{Costed, Summing, sum_with};
+use crate::accounts::{Budgeted, Costed, Summing, sum_with};
 use crate::admission::Admission;
 use crate::keys::LookupKey;
 use crate::limiter::{Insertion, Limiter};
@@ -52,6 +53,23 @@ impl<const OVERHEAD: u64> ByWeight<OVERHEAD> {
         ensures { result ≡ record { limit = limit; cost = 0 } }
     {
         ByWeight { limit, cost: 0 }
+    }
+
+    /// Returns the same limiter with another limit. The sum stays.
+    ///
+    /// `map.set_limiter(map.limiter().with_limit(n))` sets the limit of a map, and evicts what is over it.
+    ///
+    /// ```
+    /// let lower = limiter.with_limit(10);
+    /// assert_eq!(rt; (lower.limit(), lower.cost()), (10, 19));
+    /// ```
+    pub fn with_limit(&self, limit: u64) -> ByWeight<OVERHEAD>
+        ensures { result ≡ record self.now { limit = limit } }
+    {
+        ByWeight {
+            limit,
+            cost: self.cost,
+        }
     }
 
     /// Returns the limit.
@@ -213,4 +231,37 @@ impl<K: Costed + Eq + Hash + Drop, V: Costed + Drop, const OVERHEAD: u64> Admiss
     }
 
     ghost laws = { weighs-terms (λ k v. pair_cost OVERHEAD (K.cost k) (V.cost v)) };
+}
+
+impl<K: Costed + Eq + Hash + Drop, V: Costed + Drop, const OVERHEAD: u64> Budgeted<K, V>
+    for ByWeight<OVERHEAD> {
+    ghost budget_of = { λ b. b.limit };
+
+    ghost accepts_new = { λ b k v. can_add b.limit b.cost (pair_cost OVERHEAD (K.cost k) (V.cost v)) };
+
+    ghost made = { λ limit. record { limit = limit; cost = 0 } };
+
+    ghost rebudgeted = { λ limit b. record b { limit = limit } };
+
+    #[inline]
+    fn with_budget(budget: u64) -> ByWeight<OVERHEAD> {
+        ByWeight::new(budget)
+    }
+
+    #[inline]
+    fn budget(&self) -> u64 {
+        self.limit
+    }
+
+    #[inline]
+    fn set_budget(&mut self, budget: u64) {
+        self.limit = budget;
+    }
+
+    #[inline]
+    fn has_room_for(&self, key: &K, value: &V) -> bool {
+        sum_with(self.limit, self.cost, cost_of_pair(OVERHEAD, key, value)).is_some()
+    }
+
+    ghost laws = { weighs-budgeted (λ k v. pair_cost OVERHEAD (K.cost k) (V.cost v)) };
 }

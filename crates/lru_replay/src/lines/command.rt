@@ -1,6 +1,6 @@
 //! What a line says: a command, which is a call on the map, or, the first line, what limits the map.
 ghost use Rattle.std.specs.Prelude.{◌≡◌, ◌≢◌, ℕ, List, ◌++◌, IfSome, IfNone, true, false};
-ghost use Rattle.lru_replay.specs.Grammar.{SpellsCommand, IsPlain, SpellsLimit, SpellsPair, SpellsNumber};
+ghost use Rattle.lru_replay.specs.Grammar.{SpellsCommand, IsOfKey, IsPlain, SpellsLimit, SpellsPair, SpellsNumber};
 ghost use Rattle.lru_replay.specs.Grammar.{StartsAsNumber};
 
 use crate::lines::bytes::index_of;
@@ -18,6 +18,12 @@ pub enum Command {
     Peek(u64),
     /// `remove K`: removes the key, and returns its value.
     Remove(u64),
+    /// `contains K`: returns whether the key is there.
+    Contains(u64),
+    /// `promote K`: returns whether the key is there, and makes its pair the newest.
+    Promote(u64),
+    /// `demote K`: returns whether the key is there, and makes its pair the oldest.
+    Demote(u64),
     /// `pop-oldest`: removes and returns the oldest pair.
     PopOldest,
     /// `pop-newest`: removes and returns the newest pair.
@@ -107,6 +113,25 @@ pub fn command_of(line: &[u8]) -> Option<Command>
         let (key, value) = number_pair(rest)?;
         return Some(Command::Put(key, value));
     }
+    if let Some(rest) = after(line, b"reserve ") {
+        let n = number(rest)?;
+        return Some(Command::Reserve(n));
+    }
+    if let Some(rest) = after(line, b"drain ") {
+        let n = number(rest)?;
+        return Some(Command::Drain(n));
+    }
+    match key_command_of(line) {
+        Some(command) => Some(command),
+        None => plain_command_of(line),
+    }
+}
+
+/// Returns the command that the line spells by a word and a key.
+fn key_command_of(line: &[u8]) -> Option<Command>
+    ensures some { IfSome result (λ command. SpellsCommand line.now command) }
+    ensures none { IfNone result ((command : Command) → IsOfKey command → SpellsCommand line.now command → ⊥) }
+{
     if let Some(rest) = after(line, b"get ") {
         let key = number(rest)?;
         return Some(Command::Get(key));
@@ -119,15 +144,19 @@ pub fn command_of(line: &[u8]) -> Option<Command>
         let key = number(rest)?;
         return Some(Command::Remove(key));
     }
-    if let Some(rest) = after(line, b"reserve ") {
-        let n = number(rest)?;
-        return Some(Command::Reserve(n));
+    if let Some(rest) = after(line, b"contains ") {
+        let key = number(rest)?;
+        return Some(Command::Contains(key));
     }
-    if let Some(rest) = after(line, b"drain ") {
-        let n = number(rest)?;
-        return Some(Command::Drain(n));
+    if let Some(rest) = after(line, b"promote ") {
+        let key = number(rest)?;
+        return Some(Command::Promote(key));
     }
-    plain_command_of(line)
+    if let Some(rest) = after(line, b"demote ") {
+        let key = number(rest)?;
+        return Some(Command::Demote(key));
+    }
+    None
 }
 
 /// Returns the command that the line spells by one word alone.

@@ -19,7 +19,7 @@ use crate::lines::figures::{TellsCost, figures_of};
 use crate::lines::line::{Ending, Line, read_line};
 use crate::lines::outcome::{ReplayEnd, ReplayError};
 use crate::lines::output::{
-    write_bytes, write_cost, write_figures, write_insert, write_left, write_pairs,
+    write_bytes, write_cost, write_figures, write_flag, write_insert, write_left, write_pairs,
     write_reservation, write_shrink, write_value,
 };
 use crate::lines::put::write_put;
@@ -48,6 +48,9 @@ fn answer_command<L: Insertion<u64, u64, u64> + TellsCost, W: Write>(
         Some(Command::Get(key)) => write_value(writer, get(map, &key)),
         Some(Command::Peek(key)) => write_value(writer, map.peek(&key).copied()),
         Some(Command::Remove(key)) => write_value(writer, map.remove(&key)),
+        Some(Command::Contains(key)) => write_flag(writer, map.contains(&key)),
+        Some(Command::Promote(key)) => write_flag(writer, map.promote(&key)),
+        Some(Command::Demote(key)) => write_flag(writer, map.demote(&key)),
         Some(Command::PopOldest) => write_left(writer, map.pop_oldest()),
         Some(Command::PopNewest) => write_left(writer, map.pop_newest()),
         Some(Command::Reserve(n)) => write_reservation(writer, map.try_reserve(n as usize)),

@@ -1,18 +1,24 @@
 //! Calls that pass what leaves a tenant to a callback.
 ghost use Rattle.std.specs.Prelude.{List};
-ghost use Rattle.lru_limits.specs.Budget.{by_cost};
 ghost use Rattle.schnellru.specs.HandedOver.{Takes};
 ghost use Rattle.schnellru.specs.State.{Trims};
-ghost use Rattle.lru_tenants.specs.Cache.{with_budget, AreTenants};
-ghost use Rattle.lru_tenants.specs.TenantRuns.{hash_of, IfOpen, PassesOn, Puts, PutHands, BudgetHands, Closes, CloseHands, On};
+ghost use Rattle.lru_tenants.specs.Cache.{with_limiter, AreTenants};
+ghost use Rattle.lru_tenants.specs.TenantRuns.{IfOpen, PassesOn, Puts, PutHands, BudgetHands, Closes, CloseHands, On};
 
 use crate::cache::{TenantCache, put_answer};
 use crate::error::TenantError;
 use crate::tenant::{empty, insert, set_budget};
-use schnellru::Costed;
+use lru_limits::Budgeted;
+use schnellru::KeyHasher;
 use std::hash::Hash;
 
-impl<N: Eq + Hash + Drop, K: Eq + Hash + Drop, V: Costed + Drop> TenantCache<N, K, V> {
+impl<
+    N: Eq + Hash + Drop,
+    K: Eq + Hash + Drop,
+    V: Drop,
+    L: Budgeted<K, V> + Drop,
+    S: KeyHasher<K> + Copy,
+> TenantCache<N, K, V, L, S> {
     /// The same as `put`, and passes each entry that leaves to the callback: the evicted entries, oldest first, the
     /// entry whose new value is rejected, and the new entry if there is no memory for it.
     ///
@@ -35,11 +41,11 @@ impl<N: Eq + Hash + Drop, K: Eq + Hash + Drop, V: Costed + Drop> TenantCache<N, 
         sink: &mut F,
     ) -> Result<bool, TenantError>
         requires callable { F.IsAlwaysCallable sink.old }
-        ensures puts { On N.eq name.now (Puts K.eq V.cost (hash_of K.hash_input) key value) self.old result self.new }
+        ensures puts { On N.eq name.now (Puts L.rules L.offers L.budget_of K.eq S.hash_of key value) self.old result self.new }
         ensures handed { (handed : List (K × V)) × Takes F.FnMut sink.old handed sink.new × On N.eq name.now
-            (PassesOn (PutHands K.eq V.cost (hash_of K.hash_input) key value)) self.old handed self.new }
+            (PassesOn (PutHands L.rules L.offers L.budget_of K.eq S.hash_of key value)) self.old handed self.new }
         ensures callable { F.IsAlwaysCallable sink.new }
-        ensures tenants { AreTenants K.eq V.cost self.new }
+        ensures tenants { AreTenants K.eq L.cost_of L.account L.budget_of self.new }
     {
         let Some(own) = self.tenants.get_mut(name) else {
             return Err(TenantError::NotOpen);
@@ -67,12 +73,12 @@ impl<N: Eq + Hash + Drop, K: Eq + Hash + Drop, V: Costed + Drop> TenantCache<N, 
         sink: &mut F,
     ) -> Result<(), TenantError>
         requires callable { F.IsAlwaysCallable sink.old }
-        ensures sets { On N.eq name.now (IfOpen (λ old done new. Trims (by_cost V.cost) (with_budget budget old) new))
+        ensures sets { On N.eq name.now (IfOpen (λ old done new. Trims L.rules (with_limiter (L.rebudgeted budget old.limiter) old) new))
             self.old result self.new }
         ensures handed { (handed : List (K × V)) × Takes F.FnMut sink.old handed sink.new × On N.eq name.now
-            (PassesOn (BudgetHands V.cost budget)) self.old handed self.new }
+            (PassesOn (BudgetHands L.rules (L.rebudgeted budget))) self.old handed self.new }
         ensures callable { F.IsAlwaysCallable sink.new }
-        ensures tenants { AreTenants K.eq V.cost self.new }
+        ensures tenants { AreTenants K.eq L.cost_of L.account L.budget_of self.new }
     {
         let Some(own) = self.tenants.get_mut(name) else {
             return Err(TenantError::NotOpen);
@@ -104,7 +110,7 @@ impl<N: Eq + Hash + Drop, K: Eq + Hash + Drop, V: Costed + Drop> TenantCache<N, 
         ensures handed { (handed : List (K × V)) × Takes F.FnMut sink.old handed sink.new × On N.eq name.now
             (PassesOn CloseHands) self.old handed self.new }
         ensures callable { F.IsAlwaysCallable sink.new }
-        ensures tenants { AreTenants K.eq V.cost self.new }
+        ensures tenants { AreTenants K.eq L.cost_of L.account L.budget_of self.new }
     {
         let Some(mut map) = self.tenants.remove(name) else {
             return Err(TenantError::NotOpen);

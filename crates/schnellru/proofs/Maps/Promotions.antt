@@ -6,7 +6,7 @@ use Rattle.std.proofs.lemmas.Map.{length-set_value, keys-set_value}
 use Rattle.lru_limits.specs.Laws.{IsLookup}
 use Rattle.schnellru.specs.Lists.{front, back}
 use Rattle.schnellru.specs.State.{State, IsSized, IsMap}
-use Rattle.schnellru.specs.Calls.{Get, found, absent, promoted, written}
+use Rattle.schnellru.specs.Calls.{Get, found, absent, promoted, demoted, written}
 use Rattle.schnellru.proofs.PairLists.DistinctKeys.{distinct_first}
 use Rattle.schnellru.proofs.Theorems.Sums.{total, total-front, total-back}
 
@@ -37,6 +37,9 @@ module _ {K V S H : Type 0} (st : State K V S H) where
 
   pub promoted_sized : (names : K → Bool) → IsSized st → IsSized (promoted names st)
   promoted_sized names ok = sized_with _ _ (length-front_pairs names st.pairs) ok
+
+  pub demoted_sized : (names : K → Bool) → IsSized st → IsSized (demoted names st)
+  demoted_sized names ok = sized_with _ _ (length-back_pairs names st.pairs) ok
 
   pub written_sized : (names : K → Bool) (value : V) → IsSized st → IsSized (written names value st)
   written_sized names value ok = sized_with _ _ (length-set_value names st.pairs value) ok

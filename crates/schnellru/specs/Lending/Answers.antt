@@ -1,4 +1,4 @@
--- What is lent of a map that may have been inserted into.
+-- What a get that inserts a key returns: the value that it lends, or why there is none.
 use Rattle.std.specs.Prelude.{◌≡◌, Bool, true, Option, Some, None, Result, Ok, Err, is_some}
 use Rattle.std.specs.Borrow.{GName, MutBor}
 use Rattle.schnellru.specs.declared.map.get_or_insert.NotLent.{NotLent}

@@ -1,5 +1,5 @@
--- What a map ends as that was made another and lends the value of its newest pair then. Step says what it was made, and
--- whether there is a value to lend.
+-- A get that inserts a key lends the value of the newest pair. Step says which map the get made, and whether there is a
+-- value to lend.
 use Rattle.std.specs.Prelude.{◌≡◌, Bool, Option, Result}
 use Rattle.std.specs.Borrow.{Fml, RattleType, MutBor, LendsSoOk, follows_so}
 use Rattle.std.specs.declared.cmp.PartialEq as equality
@@ -21,7 +21,7 @@ module _ (K V L S N H : RattleType) (key : HashMembers K.Denot)
     (hashed : HasherMembers S.Denot K.Denot H.Denot) (hash : hasher.Ghosts H.Denot)
     (m : MutBor (State K.Denot V.Denot L.Denot S.Denot)) {E : Type 0}
     (Step : Result Bool E → State K.Denot V.Denot L.Denot S.Denot → Type 0) where
-  -- it was made a map whose newest value is lent, and is n after w was written there
+  -- the get made a map whose newest value is lent, and the map is n once w was written there
   abbrev pub Made : Result (Option (MutBor V.Denot)) E → State K.Denot V.Denot L.Denot S.Denot → V.Denot → Type 0
   Made r n w = (made : State K.Denot V.Denot L.Denot S.Denot) × Step (is_kept r) made
       × (newest_value made.pairs ≡ value_lent r)

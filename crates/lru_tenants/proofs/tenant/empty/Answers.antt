@@ -7,13 +7,16 @@ use Rattle.schnellru.specs.HandedOver.{Takes}
 use Rattle.lru_tenants.proofs.Pops.{popped-last, popped-reverse, popped-none}
 use Rattle.lru_tenants.proofs.tenant.empty.Goals as goal
 
+pub pops-init : goal.pops-init
+pops-init g c = record { callable = c.requires.callable; handed = ([], refl, refl) }
+
 pub pops-smaller : goal.pops-smaller
 pops-smaller g c =
     let st = c.pops.map in let new = c.pop_oldest.new.self in
     let pair : g.row.K.Denot × g.row.V.Denot = (c.in-Some.key, c.in-Some.value) in
     omega (
       arith,
-      ap length (popped-last g.V.Costed.cost st new pair c.in-Some.ensures.step),
+      ap length (popped-last g.L.Limiter.rules g.met.L.Budgeted.laws.leaves st new pair c.in-Some.ensures.step),
       length-append new.pairs (pair ∷ []),
     )
 
@@ -29,7 +32,7 @@ pops-preserved g c =
             (key, value) c.sink.new.self takes c.sink.ensures,
         append_assoc handed ((key, value) ∷ []) (reverse new.pairs)
             ∙ ap (λ l. handed ++ l)
-            (sym (popped-reverse g.V.Costed.cost st new (key, value) c.in-Some.ensures.step)) ∙ all,
+            (sym (popped-reverse g.L.Limiter.rules g.met.L.Budgeted.laws.leaves st new (key, value) c.in-Some.ensures.step)) ∙ all,
       );
     }
 
@@ -38,4 +41,4 @@ returns-clause-handed g c =
     let (handed, takes, all) = c.pops.invariant.handed in
     subst (λ l. Takes g.F.FnMut c.args.sink.now l c.pops.sink) (sym (append-nil handed)
     ∙ ap (λ l. handed ++ reverse l)
-    (sym (popped-none g.V.Costed.cost c.pops.map c.pop_oldest.new.self c.in_default.ensures.step)) ∙ all) takes
+    (sym (popped-none g.L.Limiter.rules g.met.L.Budgeted.laws.leaves c.pops.map c.pop_oldest.new.self c.in_default.ensures.step)) ∙ all) takes

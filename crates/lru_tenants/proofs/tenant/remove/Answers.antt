@@ -1,4 +1,3 @@
-use Rattle.std.proofs.Common.{◌≤◌, sym, subst}
 use Rattle.schnellru.specs.Runs.Step.{removes}
 use Rattle.lru_tenants.proofs.tenant.remove.Goals as goal
 
@@ -9,6 +8,5 @@ returns-clause-tenant g c =
     record {
       map = c.len-len.ensures.map;
       sum = c.calls_keep_sums.ensures old new step c.requires.sum;
-      within = subst (λ n. new.limiter.cost ≤ n) (sym (c.calls_keep_the_cost.ensures.limit old new step))
-          (c.calls_keep_the_cost.ensures.cost old new step c.requires.sum c.requires.within);
+      within = c.calls_keep_the_budget.ensures.total old new step c.requires.sum c.requires.within;
     }

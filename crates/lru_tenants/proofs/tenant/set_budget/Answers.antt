@@ -1,22 +1,24 @@
-use Rattle.std.proofs.Common.{◌≡◌, ◌∙◌, ◌≤◌, false, ap, arith, inl, inr, sum_by}
-use Rattle.std.proofs.lemmas.Bool.Decides.{nat_tests}
-use Rattle.lru_limits.specs.Budget.{Budget}
+use Rattle.std.proofs.Common.{◌≡◌, ◌∙◌, false, ap, subst, arith, inl, inr, sum_by}
 use Rattle.schnellru.specs.Runs.Step.{trims}
-use Rattle.lru_tenants.specs.Cache.{with_budget}
+use Rattle.schnellru.specs.State.{Trims}
+use Rattle.lru_tenants.specs.Cache.{with_limiter}
+use Rattle.lru_tenants.proofs.BudgetSteps.{not_over}
 use Rattle.lru_tenants.proofs.tenant.set_budget.Goals as goal
 
 pub returns-clause-tenant : goal.returns-clause-tenant
 returns-clause-tenant g c =
-    let new = c.set_limiter_with.new.self in
-    let limiter = c.with_limit-limiter.ensures ∙ ap {A = Budget} {B = Budget} (λ b. record b { limit = c.args.budget })
-    c.limiter.ensures in
-    let sum = c.calls_keep_sums.ensures (with_budget c.args.budget c.args.map.now) new
-    (trims (rw limiter at c.set_limiter_with.ensures.step)) c.requires.tenant.sum in
+    let new = c.trim_with.new.self in
+    let laws = g.met.L.Budgeted.laws in
+    let old = with_limiter (g.L.Budgeted.rebudgeted c.args.budget c.args.map.now.limiter) c.args.map.now in
+    let limiter = c.set_budget.ensures ∙ ap (g.L.Budgeted.rebudgeted c.args.budget) c.limiter_mut.ensures.value in
+    let step = subst (λ l. Trims g.L.Limiter.rules (with_limiter l c.args.map.now) new) limiter c.trim_with.ensures.step in
+    let sum = c.calls_keep_sums.ensures old new (trims step)
+    (laws.set_keeps c.args.budget c.args.map.now.limiter ∙ c.requires.tenant.sum) in
     record {
-      map = c.set_limiter_with.ensures.map;
+      map = c.trim_with.ensures.map;
       sum = sum;
-      within = elim c.set_limiter_with.ensures.within [
-        | inl none ↦ omega (arith, sum, ap (sum_by (λ p. g.V.Costed.cost p.1)) none)
-        | inr not_over ↦ grind (arith, nat_tests)
+      within = elim c.trim_with.ensures.within [
+        | inl none ↦ omega (arith, sum, ap (sum_by (λ p. g.L.Summing.cost_of p.0 p.1)) none)
+        | inr within ↦ not_over laws new.limiter _ within
       ];
     }

@@ -20,6 +20,7 @@ use Rattle.std.specs.contracts.impls.GlobalAllocator.TheImpl.{ghosts}
 use Rattle.std.specs.contracts.alloc.Global as global
 use Rattle.lru_c.specs.Handle.{Map, map_row}
 use Rattle.lru_c.specs.contracts.raw_box.RawBox as raw_box
+use Rattle.lru_c.specs.contracts.handle.Lru as lru
 use Rattle.lru_c.specs.contracts.handle.Lru.from_raw as f
 use Rattle.lru_c.proofs.Addresses.{Address, address_val, address_good, address_made, marked_val, marked_good}
 use Rattle.lru_c.proofs.Addresses.{marked_told, ptr_good}
@@ -48,9 +49,9 @@ from_raw_spec 𝓤 𝓛 𝓜 𝓡 wired =
     alloc_all ! (λ l. pass_all ! refl (marked_good map_row global.the_row ghosts b.start, tt) $
     sets ! (of_opd ! (get_in ! (fld ! refl (stop !)) (sub ! 0 refl (whole !)))) refl (ptr_good b.start) $
     sets ! (of_opd ! (get ! refl)) refl (ptr_good b.start) $
-    sets ! (agg ! (and_then ! (get ! refl) (no_more !))) refl (address_good b.start) $
+    sets ! (agg ! (and_then ! (get ! refl) (no_more !))) refl (address_good lru.the_type.name b.start) $
     returns ! (look_at ! 0 refl) $ free_all ! refl $
-    use0 𝓛 (‵ (Address.own_val (b.start, tt) (address_val b.start ∷ []))) (address_made 𝓛 b.start) $ fjoin ! $
+    use0 𝓛 (‵ ((Address lru.the_type.name).own_val (b.start, tt) (address_val b.start ∷ []))) (address_made lru.the_type.name 𝓛 b.start) $ fjoin ! $
     use0 𝓛 (raw (fact 𝓤 (Given (Some b.value)))) (fact_i 𝓤 (Given (Some b.value)) (emp 𝓤) refl) $
     nothing ! $ nothing ! $ fjoin ! $ keep ! (3 ∷ 0 ∷ 2 ∷ 1 ∷ []) $
     by ! (leaves 𝓛 f.ended stays said y (address_val b.start) (record { start = b.start; map = Some b.value })

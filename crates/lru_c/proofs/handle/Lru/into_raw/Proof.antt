@@ -1,12 +1,13 @@
 -- `into_raw` compares the address with null.
-use Rattle.std.proofs.Common.{◌≡◌, T, [], ◌∷◌, refl, sym, lit<}
+use Rattle.std.proofs.Common.{◌≡◌, T, List, [], ◌∷◌, ◌++◌, refl, sym, ap, ◌∙◌, lit<}
 use Rattle.std.specs.Prelude.{Option, None, Some}
-use mir.Val.{Val, vcons, vnil, has_ty, WT}
+use mir.Val.{Val, vstruct, vcons, vnil, of_list, has_ty, WT}
 use base.Logic.{SProp, emp}
 use base.Fml.{ftrue}
 use contract.Monad.{fact, fact_i}
 use contract.Running.{tables}
 use denote.Exit.{yes}
+use denote.Laws.{Is}
 use denote.Param.{layout}
 use denote.RawPtr.{Ptr, block_ptr, null_ptr, tests_null}
 use denote.RattleType.{RattleType, owns}
@@ -28,10 +29,13 @@ use Rattle.lru_c.specs.Handle.{Map, map_row, c_heap}
 use Rattle.lru_c.specs.contracts.handle.Lru as lru
 use Rattle.lru_c.specs.contracts.raw_box.RawBox as raw_box
 use Rattle.lru_c.specs.contracts.handle.Lru.into_raw as f
-use Rattle.lru_c.proofs.Addresses.{Marked, address_val, address_good, address_told, marked_val, marked_good}
+use Rattle.lru_c.proofs.Addresses.{Marked, address_val, address_good, marked_val, marked_good}
 use Rattle.lru_c.proofs.Addresses.{marked_made, ptr_good, null_or_box}
 use Rattle.lru_c.proofs.handle.Lru.into_raw.Statement.{statement}
 use Rattle.lru_c.proofs.handle.Lru.into_raw.Code as code
+
+address_told : (x : lru.the_row.Denot) (vs : List Val) → Is lru.the_row x vs → vs ≡ address_val x.start ∷ []
+address_told x vs is = is.0.1.0 ∙ ap (λ (ws : List Val). vstruct (of_list (ws ++ [])) ∷ []) is.0.1.1.0
 
 abbrev stays : Stays f.ended.signature.params f.ended.kept
 stays = (stay_dropped (plain (λ _. lru.the_row)) yes, tt)
@@ -54,12 +58,12 @@ into_raw_spec 𝓤 𝓛 𝓜 𝓡 wired =
     qed 𝓛 ((‵ ftrue ⊛ ‵ (owns (types_at f.signature.params κs) args y.0.4)) ∷ raw (emp 𝓤) ∷ []) ∵
     split ! $ move ! (1 ∷ []) $ fsplit ! $ fsplit ! $ keep ! (1 ∷ 3 ∷ []) $
     let Run : Ptr → SProp 𝓤 = λ p. WpFn 𝓤 𝓛.H 𝓣.C 𝓣.Λ fn (address_val p ∷ []) Post in
-    null_or_box ! h.start h.map
+    null_or_box map_row ! h.start h.map
     (λ none null.
     regoal ! (λ p. prop (Run p)) null refl $
     let v : Val = live 0 vnil in
     enter ! 𝓣.C 𝓣.Λ fn (address_val null_ptr ∷ []) Post $
-    alloc_all ! (λ l. pass_all ! refl (address_good null_ptr, tt) $ let Ev = env fn.locals l in
+    alloc_all ! (λ l. pass_all ! refl (address_good lru.the_type.name null_ptr, tt) $ let Ev = env fn.locals l in
     sets ! (of_opd ! (get_in ! (fld ! refl (stop !)) (sub ! 0 refl (whole !)))) refl (ptr_good null_ptr) $
     sets ! (bin ! (get ! refl) (lit ! tt) tt) refl (tt, tt) $
     first ! $ branches ! (get ! refl) (λ is_null.
@@ -79,7 +83,7 @@ into_raw_spec 𝓤 𝓛 𝓜 𝓡 wired =
     let v : Val = live 1 (vcons w vnil) in
     let boxed : Boxed.Denot = record { start = p; mark = record {}; value = map; alloc = c_heap } in
     enter ! 𝓣.C 𝓣.Λ fn (address_val p ∷ []) Post $
-    alloc_all ! (λ l. pass_all ! refl (address_good p, tt) $ let Ev = env fn.locals l in
+    alloc_all ! (λ l. pass_all ! refl (address_good lru.the_type.name p, tt) $ let Ev = env fn.locals l in
     sets ! (of_opd ! (get_in ! (fld ! refl (stop !)) (sub ! 0 refl (whole !)))) refl (ptr_good p) $
     sets ! (bin ! (get ! refl) (lit ! tt) (tests_null p testable)) refl (tt, tt) $
     first ! $ branches ! (get ! refl) (λ is_null. absurd is_null) (λ not_null.

@@ -14,6 +14,7 @@ use types.ByLocal.{alloc_all, pass_all, free_all, look_at, sets}
 use types.Part.{agg}
 use Rattle.std.proofs.raw_atomic.Walks.{proved, leaves}
 use Rattle.lru_c.specs.Handle.{Map}
+use Rattle.lru_c.specs.contracts.handle.Lru as lru
 use Rattle.lru_c.specs.contracts.handle.Lru.vacant as f
 use Rattle.lru_c.proofs.Addresses.{Address, address_val, address_good, address_made}
 use Rattle.lru_c.proofs.handle.Lru.vacant.Statement.{statement}
@@ -33,9 +34,9 @@ vacant_spec 𝓤 𝓛 𝓜 𝓡 wired =
     let NoMap : Option Map → Type 0 = λ map. map ≡ None in
     qed 𝓛 ((‵ ftrue ⊛ ‵ ftrue) ∷ raw (emp 𝓤) ∷ []) ∵ split ! $ keep ! (0 ∷ 1 ∷ []) $
     enter ! 𝓣.C 𝓣.Λ code.function [] Post $ alloc_all ! (λ l. pass_all ! refl tt $
-    sets ! (agg ! (and_then ! (lit ! tt) (no_more !))) refl (address_good null_ptr) $
+    sets ! (agg ! (and_then ! (lit ! tt) (no_more !))) refl (address_good lru.the_type.name null_ptr) $
     feq_i ! Ptr null_ptr null_ptr refl $
-    use0 𝓛 (‵ (Address.own_val (null_ptr, tt) (address_val null_ptr ∷ []))) (address_made 𝓛 null_ptr) $ fjoin ! $
+    use0 𝓛 (‵ ((Address lru.the_type.name).own_val (null_ptr, tt) (address_val null_ptr ∷ []))) (address_made lru.the_type.name 𝓛 null_ptr) $ fjoin ! $
     use0 𝓛 (raw (fact 𝓤 (NoMap None))) (fact_i 𝓤 (NoMap None) (emp 𝓤) refl) $
     returns ! (look_at ! 0 refl) $ free_all ! refl $
     keep ! (2 ∷ 3 ∷ 1 ∷ 0 ∷ []) $

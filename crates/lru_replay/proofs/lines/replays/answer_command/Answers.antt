@@ -4,9 +4,9 @@ use Rattle.std.specs.Prelude.{nat_eq}
 use Rattle.schnellru.specs.Lists.{lookup}
 use Rattle.lru_replay.specs.declared.lines.command.Command.TheVariants as commands
 use Rattle.lru_replay.specs.Grammar.{SpellsCommand}
-use Rattle.lru_replay.specs.Output.{Writes, bad_text, cost_text, figures_text, insert_text, left_text, pairs_text}
-use Rattle.lru_replay.specs.Output.{reply_text, reservation_text, shrink_text, value_text}
-use Rattle.lru_replay.specs.Replies.{value, pair, listed, reserved, shrunk, stats, done, insert_reply}
+use Rattle.lru_replay.specs.Output.{Writes, bad_text, cost_text, figures_text, flag_text, insert_text, left_text}
+use Rattle.lru_replay.specs.Output.{pairs_text, reply_text, reservation_text, shrink_text, value_text}
+use Rattle.lru_replay.specs.Replies.{flag, value, pair, listed, reserved, shrunk, stats, done, insert_reply}
 use Rattle.lru_replay.proofs.WrittenTexts.{writes_after, failed_front, inserted_text}
 use Rattle.lru_replay.proofs.lines.replays.answer_command.Goals as goal
 
@@ -55,6 +55,36 @@ returns-in-Some-Remove g c =
       value_text result,
       inl (commands.Remove c.in-Some-Remove.key, spells, (value result, inl (_, c.remove.ensures.step, refl), refl)),
       c.write_value-in-Some-Remove.ensures,
+    )
+
+pub returns-in-Some-Contains : goal.returns-in-Some-Contains
+returns-in-Some-Contains g c =
+    let spells = subst (SpellsCommand c.args.line.now) c.in-Some-Contains.field-0-is c.in-Some-Contains.ensures.some in
+    let result = c.contains.result in
+    let is = ap flag c.contains.ensures in (
+      flag_text result,
+      inl (commands.Contains c.in-Some-Contains.key, spells, (flag result, inl (is, refl), refl)),
+      c.write_flag.ensures,
+    )
+
+pub returns-in-Some-Promote : goal.returns-in-Some-Promote
+returns-in-Some-Promote g c =
+    let spells = subst (SpellsCommand c.args.line.now) c.in-Some-Promote.field-0-is c.in-Some-Promote.ensures.some in
+    let result = c.promote.result in
+    let is = ap flag c.promote.ensures.there in (
+      flag_text result,
+      inl (commands.Promote c.in-Some-Promote.key, spells, (flag result, inl (is, c.promote.ensures.promoted), refl)),
+      c.write_flag-in-Some-Promote.ensures,
+    )
+
+pub returns-in-Some-Demote : goal.returns-in-Some-Demote
+returns-in-Some-Demote g c =
+    let spells = subst (SpellsCommand c.args.line.now) c.in-Some-Demote.field-0-is c.in-Some-Demote.ensures.some in
+    let result = c.demote.result in
+    let is = ap flag c.demote.ensures.there in (
+      flag_text result,
+      inl (commands.Demote c.in-Some-Demote.key, spells, (flag result, inl (is, c.demote.ensures.demoted), refl)),
+      c.write_flag-in-Some-Demote.ensures,
     )
 
 pub returns-in-Some-PopOldest : goal.returns-in-Some-PopOldest

@@ -1,11 +1,12 @@
-use Rattle.std.proofs.Common.{subst, Some, None, sym, refl, ◌∙◌, ap, is_some}
+use Rattle.std.proofs.Common.{subst, Some, None, Err, sym, refl, ◌∙◌, ap, is_some}
 use Rattle.std.proofs.lemmas.Map.Views.{All-values-set_value}
 use Rattle.schnellru.specs.Calls.{promoted, written}
 use Rattle.schnellru.specs.Lists.{lookup}
 use Rattle.schnellru.proofs.CallerLemmas.{read_back, promoted-absent}
 use Rattle.lru_tenants.specs.Cache.{IsTenant}
-use Rattle.lru_tenants.proofs.Changes.{leaves-updated}
-use Rattle.lru_tenants.proofs.Changes.{found-all}
+use Rattle.lru_tenants.specs.TenantRuns.{got, Gets}
+use Rattle.lru_tenants.specs.declared.error.TenantError.TheVariants.{NotOpen}
+use Rattle.lru_tenants.proofs.Changes.{cache_of, found-all, leaves-updated, on-same}
 use Rattle.lru_tenants.proofs.Gets.{promoted_is_tenant, gets-open}
 use Rattle.lru_tenants.proofs.cache.TenantCache.get.Goals as goal
 
@@ -13,25 +14,25 @@ pub invariant_of-self-in-Some-get : goal.invariant_of-self-in-Some-get
 invariant_of-self-in-Some-get g c =
     let names = g.Q.LookupKey.names c.args.key.now in
     let left = written names c.in-Some-get.value.now (promoted names c.in-Some.map.now) in
-    let was = found-all (IsTenant g.K.PartialEq.eq g.V.Costed.cost) (g.N.PartialEq.eq c.args.name.now) c.self.inside.tenants
+    let was = found-all (IsTenant g.K.PartialEq.eq g.L.Summing.cost_of g.L.Summing.account g.L.Budgeted.budget_of) (g.N.PartialEq.eq c.args.name.now) c.self.inside.tenants
     c.in-Some.map.now (sym c.in-Some.ensures.value) c.self.invariant.0 in
     let back = read_back names c.in-Some.map.now c.in-Some-get.value.now (sym c.in-Some-get.ensures.value) in
-    let is = subst (IsTenant g.K.PartialEq.eq g.V.Costed.cost) (sym back)
-    (promoted_is_tenant g.met.Q.LookupKey.laws c.args.key.now g.V.Costed.cost c.in-Some.map.now was) in
+    let is = subst (IsTenant g.K.PartialEq.eq g.L.Summing.cost_of g.L.Summing.account g.L.Budgeted.budget_of) (sym back)
+    (promoted_is_tenant g.met.Q.LookupKey.laws c.args.key.now g.L.Summing.cost_of g.L.Summing.account g.L.Budgeted.budget_of c.in-Some.map.now was) in
     let writes = c.get_mut.follows.holds left in (
       rw (writes.0)
-          (All-values-set_value (g.N.PartialEq.eq c.args.name.now) (IsTenant g.K.PartialEq.eq g.V.Costed.cost)
+          (All-values-set_value (g.N.PartialEq.eq c.args.name.now) (IsTenant g.K.PartialEq.eq g.L.Summing.cost_of g.L.Summing.account g.L.Budgeted.budget_of)
           c.self.inside.tenants.entries left c.self.invariant.0 is),
       writes.5 ∙ c.self.invariant.1,
     )
 
 pub invariant_of-self-in-None : goal.invariant_of-self-in-None
 invariant_of-self-in-None g c =
-    let was = found-all (IsTenant g.K.PartialEq.eq g.V.Costed.cost) (g.N.PartialEq.eq c.args.name.now) c.self.inside.tenants
+    let was = found-all (IsTenant g.K.PartialEq.eq g.L.Summing.cost_of g.L.Summing.account g.L.Budgeted.budget_of) (g.N.PartialEq.eq c.args.name.now) c.self.inside.tenants
     c.in-Some.map.now (sym c.in-Some.ensures.value) c.self.invariant.0 in
     let writes = c.get_mut.follows.holds c.in-Some.map.now in (
       rw (writes.0)
-          (All-values-set_value (g.N.PartialEq.eq c.args.name.now) (IsTenant g.K.PartialEq.eq g.V.Costed.cost)
+          (All-values-set_value (g.N.PartialEq.eq c.args.name.now) (IsTenant g.K.PartialEq.eq g.L.Summing.cost_of g.L.Summing.account g.L.Budgeted.budget_of)
           c.self.inside.tenants.entries c.in-Some.map.now c.self.invariant.0 was),
       writes.5 ∙ c.self.invariant.1,
     )
@@ -53,7 +54,7 @@ returns-in-Some-get g c =
         (
           Some left,
           gets,
-          leaves-updated g.N.PartialEq.eq c.args.name.now (Some left) c.self.inside.seed c.self.inside.entry_bytes c.self.inside.tenants
+          leaves-updated g.N.PartialEq.eq c.args.name.now (Some left) c.self.inside.hasher c.self.inside.entry_bytes c.self.inside.tenants
               (c.get_mut.follows.lender left) (writes.3 (ap is_some there)),
         ),
       ),
@@ -76,9 +77,23 @@ returns-in-None g c =
         (
           Some left,
           gets,
-          leaves-updated g.N.PartialEq.eq c.args.name.now (Some left) c.self.inside.seed c.self.inside.entry_bytes c.self.inside.tenants
+          leaves-updated g.N.PartialEq.eq c.args.name.now (Some left) c.self.inside.hasher c.self.inside.entry_bytes c.self.inside.tenants
               (c.get_mut.follows.lender left) (writes.3 (ap is_some there)),
         ),
       ),
       record { leaves = tt; value = gets.0 },
+    )
+
+pub returns-in_default : goal.returns-in_default
+returns-in_default g c =
+    let names = g.Q.LookupKey.names c.args.key.now in
+    let none = sym c.in_default.ensures.value in
+    rw (c.get_mut.follows.holds-at-none, ← c.self.view_is) (
+      (
+        refl,
+        λ _. tt,
+        on-same c.args.name.now (Gets names) (Err NotOpen) g.met.N.Eq.laws
+            (cache_of c.self.inside.tenants c.self.inside.hasher c.self.inside.entry_bytes) None none (refl, refl),
+      ),
+      record { leaves = tt; value = sym (ap (got names) none) },
     )

@@ -8,13 +8,13 @@ use Rattle.lru_tenants.proofs.cache.TenantCache.open.Goals as goal
 
 pub returns-then-contains_key-clause-opens : goal.returns-then-contains_key-clause-opens
 returns-then-contains_key-clause-opens g c =
-    let cache = cache_of c.self.inside.tenants c.self.inside.seed c.self.inside.entry_bytes in
-    rw (← c.self.view_is) (open-again g.met.N.Eq.laws c.args.name (fresh cache c.args.budget) cache
+    let cache = cache_of c.self.inside.tenants c.self.inside.hasher c.self.inside.entry_bytes in
+    rw (← c.self.view_is) (open-again g.met.N.Eq.laws c.args.name (fresh g.L.Budgeted.made (g.L.LinkType.LinkType.number g.L.LinkType.LinkType.MAX) cache c.args.budget) cache
     (sym c.contains_key.ensures ∙ c.if-contains_key.true))
 
 pub invariant_of-self : goal.invariant_of-self
 invariant_of-self g c = (
-  All-values-PutsEntry g.N.PartialEq.eq (IsTenant g.K.PartialEq.eq g.V.Costed.cost) c.self.inside.tenants
+  All-values-PutsEntry g.N.PartialEq.eq (IsTenant g.K.PartialEq.eq g.L.Summing.cost_of g.L.Summing.account g.L.Budgeted.budget_of) c.self.inside.tenants
       c.insert.new.self c.args.name c.fresh-map.result c.in-Ok.field-0 c.in-Ok.ensures.entries
       c.self.invariant.0 c.fresh-map.ensures.tenant,
   c.insert.ensures.hasher ∙ c.self.invariant.1,
@@ -22,18 +22,18 @@ invariant_of-self g c = (
 
 pub returns-in-Ok-clause-tenants : goal.returns-in-Ok-clause-tenants
 returns-in-Ok-clause-tenants g c =
-    All-values-PutsEntry g.N.PartialEq.eq (IsTenant g.K.PartialEq.eq g.V.Costed.cost) c.self.inside.tenants c.insert.new.self
+    All-values-PutsEntry g.N.PartialEq.eq (IsTenant g.K.PartialEq.eq g.L.Summing.cost_of g.L.Summing.account g.L.Budgeted.budget_of) c.self.inside.tenants c.insert.new.self
     c.args.name c.fresh-map.result c.in-Ok.field-0 c.in-Ok.ensures.entries c.self.invariant.0 c.fresh-map.ensures.tenant
 
 pub returns-in-Ok-clause-opens : goal.returns-in-Ok-clause-opens
 returns-in-Ok-clause-opens g c =
-    let cache = cache_of c.self.inside.tenants c.self.inside.seed c.self.inside.entry_bytes in
-    let is = c.fresh-map.ensures.map ∙ ap (λ k. fresh k c.args.budget) (sym c.self.view_is) in
-    rw (← c.self.view_is) (on-from c.args.name (Opens (fresh cache c.args.budget)) (Ok tt) cache
-    (cache_of c.insert.new.self c.self.inside.seed c.self.inside.entry_bytes) None (Some c.fresh-map.result)
+    let cache = cache_of c.self.inside.tenants c.self.inside.hasher c.self.inside.entry_bytes in
+    let is = c.fresh-map.ensures.map ∙ ap (λ k. fresh g.L.Budgeted.made (g.L.LinkType.LinkType.number g.L.LinkType.LinkType.MAX) k c.args.budget) (sym c.self.view_is) in
+    rw (← c.self.view_is) (on-from c.args.name (Opens (fresh g.L.Budgeted.made (g.L.LinkType.LinkType.number g.L.LinkType.LinkType.MAX) cache c.args.budget)) (Ok tt) cache
+    (cache_of c.insert.new.self c.self.inside.hasher c.self.inside.entry_bytes) None (Some c.fresh-map.result)
     (absent-from (tenant (g.N.PartialEq.eq c.args.name) cache) (sym c.contains_key.ensures ∙ c.if-contains_key.false))
     (inl (refl, ap Some is))
-    (leaves-updated g.N.PartialEq.eq c.args.name (Some c.fresh-map.result) c.self.inside.seed c.self.inside.entry_bytes
+    (leaves-updated g.N.PartialEq.eq c.args.name (Some c.fresh-map.result) c.self.inside.hasher c.self.inside.entry_bytes
     c.self.inside.tenants c.insert.new.self c.in-Ok.ensures.updates))
 
 pub invariant_of-self-2 : goal.invariant_of-self-2
@@ -41,8 +41,8 @@ invariant_of-self-2 g c = (rw (c.in-Err.ensures.err) c.self.invariant.0, c.inser
 
 pub returns-clause-opens : goal.returns-clause-opens
 returns-clause-opens g c =
-    let cache = cache_of c.self.inside.tenants c.self.inside.seed c.self.inside.entry_bytes in
-    rw (c.in-Err.ensures.err, ← c.self.view_is) (on-same c.args.name (Opens (fresh cache c.args.budget)) (Err Memory)
+    let cache = cache_of c.self.inside.tenants c.self.inside.hasher c.self.inside.entry_bytes in
+    rw (c.in-Err.ensures.err, ← c.self.view_is) (on-same c.args.name (Opens (fresh g.L.Budgeted.made (g.L.LinkType.LinkType.number g.L.LinkType.LinkType.MAX) cache c.args.budget)) (Err Memory)
     g.met.N.Eq.laws cache None c.in-Err.ensures.absent (inr (refl, refl)))
 
 pub returns-clause-tenants : goal.returns-clause-tenants

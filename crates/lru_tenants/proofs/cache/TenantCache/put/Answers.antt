@@ -1,12 +1,13 @@
 use Rattle.std.proofs.Common.{sym, refl, ◌∙◌}
-use Rattle.lru_tenants.specs.TenantRuns.{hash_of, Puts}
+use Rattle.lru_tenants.specs.Cache.{IsTenant}
+use Rattle.lru_tenants.specs.TenantRuns.{Puts}
 use Rattle.lru_tenants.proofs.Changes.{all-written, on-written}
 use Rattle.lru_tenants.proofs.cache.TenantCache.put.Goals as goal
 
 pub returns-clause-tenants : goal.returns-clause-tenants
 returns-clause-tenants g c = let u = c.insert.new.map in
-    all-written g.N.PartialEq.eq g.K.PartialEq.eq g.V.Costed.cost c.args.name.now c.self.inside.seed c.self.inside.entry_bytes
-    c.self.inside.tenants (c.get_mut.follows.lender u) c.in-Some.own.now u (sym c.in-Some.ensures.value)
+    all-written g.N.PartialEq.eq (IsTenant g.K.PartialEq.eq g.L.Summing.cost_of g.L.Summing.account g.L.Budgeted.budget_of) c.args.name.now
+    c.self.inside.tenants (c.get_mut.follows.lender u) c.in-Some.own.now u
     (c.get_mut.follows.holds u) c.self.invariant.0 c.insert.ensures.tenant
 
 pub invariant_of-self-2 : goal.invariant_of-self-2
@@ -15,10 +16,10 @@ invariant_of-self-2 g c =
 
 pub returns-clause-puts : goal.returns-clause-puts
 returns-clause-puts g c = let u = c.insert.new.map in
-    rw (← c.self.view_is) (on-written g.N.PartialEq.eq g.K.PartialEq.eq g.V.Costed.cost c.args.name.now c.self.inside.seed
+    rw (← c.self.view_is) (on-written g.N.PartialEq.eq c.args.name.now c.self.inside.hasher
     c.self.inside.entry_bytes c.self.inside.tenants (c.get_mut.follows.lender u) c.in-Some.own.now u
     (sym c.in-Some.ensures.value) (c.get_mut.follows.holds u)
-    (Puts g.K.PartialEq.eq g.V.Costed.cost (hash_of g.K.Hash.hash_input) c.args.key c.args.value) c.put_answer.result (
+    (Puts g.L.Limiter.rules g.L.Insertion.offers g.L.Budgeted.budget_of g.K.PartialEq.eq g.S.KeyHasher.hash_of c.args.key c.args.value) c.put_answer.result (
       u,
       record {
         result = c.insert.result;

@@ -1,13 +1,13 @@
 use Rattle.std.proofs.Common.{[], None, sym, refl, ◌∙◌}
-use Rattle.lru_tenants.specs.TenantRuns.{hash_of, Puts, PutHands, PassesOn}
+use Rattle.lru_tenants.specs.Cache.{IsTenant}
+use Rattle.lru_tenants.specs.TenantRuns.{Puts, PutHands, PassesOn}
 use Rattle.lru_tenants.proofs.Changes.{cache_of, on-same, all-written, on-written}
 use Rattle.lru_tenants.proofs.cache.TenantCache.put_with.Goals as goal
 
 pub returns-clause-tenants : goal.returns-clause-tenants
 returns-clause-tenants g c = let u = c.insert.new.map in
-    all-written g.N.PartialEq.eq g.K.PartialEq.eq g.V.Costed.cost c.args.name.now c.self.inside.seed
-    c.self.inside.entry_bytes c.self.inside.tenants (c.get_mut.follows.lender u) c.in-Some.own.now u
-    (sym c.in-Some.ensures.value) (c.get_mut.follows.holds u) c.self.invariant.0 c.insert.ensures.tenant
+    all-written g.N.PartialEq.eq (IsTenant g.K.PartialEq.eq g.L.Summing.cost_of g.L.Summing.account g.L.Budgeted.budget_of) c.args.name.now c.self.inside.tenants (c.get_mut.follows.lender u) c.in-Some.own.now u
+    (c.get_mut.follows.holds u) c.self.invariant.0 c.insert.ensures.tenant
 
 pub invariant_of-self-2 : goal.invariant_of-self-2
 invariant_of-self-2 g c =
@@ -15,10 +15,10 @@ invariant_of-self-2 g c =
 
 pub returns-clause-puts : goal.returns-clause-puts
 returns-clause-puts g c = let u = c.insert.new.map in
-    rw (← c.self.view_is) (on-written g.N.PartialEq.eq g.K.PartialEq.eq g.V.Costed.cost c.args.name.now
-    c.self.inside.seed c.self.inside.entry_bytes c.self.inside.tenants (c.get_mut.follows.lender u) c.in-Some.own.now u
+    rw (← c.self.view_is) (on-written g.N.PartialEq.eq c.args.name.now
+    c.self.inside.hasher c.self.inside.entry_bytes c.self.inside.tenants (c.get_mut.follows.lender u) c.in-Some.own.now u
     (sym c.in-Some.ensures.value) (c.get_mut.follows.holds u)
-    (Puts g.K.PartialEq.eq g.V.Costed.cost (hash_of g.K.Hash.hash_input) c.args.key c.args.value) c.put_answer.result (
+    (Puts g.L.Limiter.rules g.L.Insertion.offers g.L.Budgeted.budget_of g.K.PartialEq.eq g.S.KeyHasher.hash_of c.args.key c.args.value) c.put_answer.result (
       u,
       record {
         result = c.insert.result;
@@ -35,10 +35,10 @@ returns-clause-handed g c = let u = c.insert.new.map in
     rw (← c.self.view_is) (
       handed,
       takes,
-      on-written g.N.PartialEq.eq g.K.PartialEq.eq g.V.Costed.cost c.args.name.now
-          c.self.inside.seed c.self.inside.entry_bytes c.self.inside.tenants (c.get_mut.follows.lender u) c.in-Some.own.now u
+      on-written g.N.PartialEq.eq c.args.name.now
+          c.self.inside.hasher c.self.inside.entry_bytes c.self.inside.tenants (c.get_mut.follows.lender u) c.in-Some.own.now u
           (sym c.in-Some.ensures.value) (c.get_mut.follows.holds u)
-          (PassesOn (PutHands g.K.PartialEq.eq g.V.Costed.cost (hash_of g.K.Hash.hash_input) c.args.key c.args.value)) handed
+          (PassesOn (PutHands g.L.Limiter.rules g.L.Insertion.offers g.L.Budgeted.budget_of g.K.PartialEq.eq g.S.KeyHasher.hash_of c.args.key c.args.value)) handed
           (record { left = u; result = c.insert.result; inserts = hands; is = refl }),
     )
 
@@ -47,7 +47,7 @@ returns-in_default-clause-handed g c =
     rw (c.get_mut.follows.holds-at-none, ← c.self.view_is) (
       [],
       refl,
-      on-same c.args.name.now (PassesOn (PutHands g.K.PartialEq.eq g.V.Costed.cost (hash_of g.K.Hash.hash_input) c.args.key c.args.value)) []
-          g.met.N.Eq.laws (cache_of c.self.inside.tenants c.self.inside.seed c.self.inside.entry_bytes) None
+      on-same c.args.name.now (PassesOn (PutHands g.L.Limiter.rules g.L.Insertion.offers g.L.Budgeted.budget_of g.K.PartialEq.eq g.S.KeyHasher.hash_of c.args.key c.args.value)) []
+          g.met.N.Eq.laws (cache_of c.self.inside.tenants c.self.inside.hasher c.self.inside.entry_bytes) None
           (sym c.in_default.ensures.value) (refl, refl),
     )

@@ -1,15 +1,15 @@
 use Rattle.std.proofs.Common.{sym, refl, ◌∙◌}
-use Rattle.lru_limits.specs.Budget.{by_cost}
 use Rattle.schnellru.specs.State.{Trims}
-use Rattle.lru_tenants.specs.Cache.{with_budget}
+use Rattle.lru_tenants.specs.Cache.{with_limiter}
+use Rattle.lru_tenants.specs.Cache.{IsTenant}
 use Rattle.lru_tenants.specs.TenantRuns.{IfOpen}
 use Rattle.lru_tenants.proofs.Changes.{all-written, on-written}
 use Rattle.lru_tenants.proofs.cache.TenantCache.set_budget.Goals as goal
 
 pub returns-clause-tenants : goal.returns-clause-tenants
 returns-clause-tenants g c = let u = c.set_budget.new.map in
-    all-written g.N.PartialEq.eq g.K.PartialEq.eq g.V.Costed.cost c.args.name.now c.self.inside.seed c.self.inside.entry_bytes
-    c.self.inside.tenants (c.get_mut.follows.lender u) c.in-Some.own.now u (sym c.in-Some.ensures.value)
+    all-written g.N.PartialEq.eq (IsTenant g.K.PartialEq.eq g.L.Summing.cost_of g.L.Summing.account g.L.Budgeted.budget_of) c.args.name.now
+    c.self.inside.tenants (c.get_mut.follows.lender u) c.in-Some.own.now u
     (c.get_mut.follows.holds u) c.self.invariant.0 c.set_budget.ensures.tenant
 
 pub invariant_of-self-2 : goal.invariant_of-self-2
@@ -18,8 +18,8 @@ invariant_of-self-2 g c =
 
 pub returns-clause-sets : goal.returns-clause-sets
 returns-clause-sets g c = let u = c.set_budget.new.map in
-    rw (← c.self.view_is) (on-written g.N.PartialEq.eq g.K.PartialEq.eq g.V.Costed.cost c.args.name.now c.self.inside.seed
+    rw (← c.self.view_is) (on-written g.N.PartialEq.eq c.args.name.now c.self.inside.hasher
     c.self.inside.entry_bytes c.self.inside.tenants (c.get_mut.follows.lender u) c.in-Some.own.now u
     (sym c.in-Some.ensures.value) (c.get_mut.follows.holds u)
-    (IfOpen (λ old done new. Trims (by_cost g.V.Costed.cost) (with_budget c.args.budget old) new)) _
+    (IfOpen (λ old done new. Trims g.L.Limiter.rules (with_limiter (g.L.Budgeted.rebudgeted c.args.budget old.limiter) old) new)) _
     (tt, u, c.set_budget.ensures.trims, refl, refl))

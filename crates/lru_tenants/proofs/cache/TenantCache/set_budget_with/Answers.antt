@@ -1,16 +1,15 @@
 use Rattle.std.proofs.Common.{[], None, sym, refl, ◌∙◌}
-use Rattle.lru_limits.specs.Budget.{by_cost}
 use Rattle.schnellru.specs.State.{Trims}
-use Rattle.lru_tenants.specs.Cache.{with_budget}
+use Rattle.lru_tenants.specs.Cache.{with_limiter}
+use Rattle.lru_tenants.specs.Cache.{IsTenant}
 use Rattle.lru_tenants.specs.TenantRuns.{IfOpen, BudgetHands, PassesOn}
 use Rattle.lru_tenants.proofs.Changes.{cache_of, on-same, all-written, on-written}
 use Rattle.lru_tenants.proofs.cache.TenantCache.set_budget_with.Goals as goal
 
 pub returns-clause-tenants : goal.returns-clause-tenants
 returns-clause-tenants g c = let u = c.set_budget.new.map in
-    all-written g.N.PartialEq.eq g.K.PartialEq.eq g.V.Costed.cost c.args.name.now c.self.inside.seed
-    c.self.inside.entry_bytes c.self.inside.tenants (c.get_mut.follows.lender u) c.in-Some.own.now u
-    (sym c.in-Some.ensures.value) (c.get_mut.follows.holds u) c.self.invariant.0 c.set_budget.ensures.tenant
+    all-written g.N.PartialEq.eq (IsTenant g.K.PartialEq.eq g.L.Summing.cost_of g.L.Summing.account g.L.Budgeted.budget_of) c.args.name.now c.self.inside.tenants (c.get_mut.follows.lender u) c.in-Some.own.now u
+    (c.get_mut.follows.holds u) c.self.invariant.0 c.set_budget.ensures.tenant
 
 pub invariant_of-self-2 : goal.invariant_of-self-2
 invariant_of-self-2 g c =
@@ -18,10 +17,10 @@ invariant_of-self-2 g c =
 
 pub returns-clause-sets : goal.returns-clause-sets
 returns-clause-sets g c = let u = c.set_budget.new.map in
-    rw (← c.self.view_is) (on-written g.N.PartialEq.eq g.K.PartialEq.eq g.V.Costed.cost c.args.name.now
-    c.self.inside.seed c.self.inside.entry_bytes c.self.inside.tenants (c.get_mut.follows.lender u) c.in-Some.own.now u
+    rw (← c.self.view_is) (on-written g.N.PartialEq.eq c.args.name.now
+    c.self.inside.hasher c.self.inside.entry_bytes c.self.inside.tenants (c.get_mut.follows.lender u) c.in-Some.own.now u
     (sym c.in-Some.ensures.value) (c.get_mut.follows.holds u)
-    (IfOpen (λ old done new. Trims (by_cost g.V.Costed.cost) (with_budget c.args.budget old) new)) _
+    (IfOpen (λ old done new. Trims g.L.Limiter.rules (with_limiter (g.L.Budgeted.rebudgeted c.args.budget old.limiter) old) new)) _
     (tt, u, c.set_budget.ensures.trims, refl, refl))
 
 pub returns-clause-handed : goal.returns-clause-handed
@@ -30,10 +29,10 @@ returns-clause-handed g c = let u = c.set_budget.new.map in
     rw (← c.self.view_is) (
       handed,
       takes,
-      on-written g.N.PartialEq.eq g.K.PartialEq.eq g.V.Costed.cost c.args.name.now
-          c.self.inside.seed c.self.inside.entry_bytes c.self.inside.tenants (c.get_mut.follows.lender u) c.in-Some.own.now u
+      on-written g.N.PartialEq.eq c.args.name.now
+          c.self.inside.hasher c.self.inside.entry_bytes c.self.inside.tenants (c.get_mut.follows.lender u) c.in-Some.own.now u
           (sym c.in-Some.ensures.value) (c.get_mut.follows.holds u)
-          (PassesOn (BudgetHands g.V.Costed.cost c.args.budget)) handed (record { left = u; trims = hands; is = refl }),
+          (PassesOn (BudgetHands g.L.Limiter.rules (g.L.Budgeted.rebudgeted c.args.budget))) handed (record { left = u; trims = hands; is = refl }),
     )
 
 pub returns-in_default-clause-handed : goal.returns-in_default-clause-handed
@@ -41,7 +40,7 @@ returns-in_default-clause-handed g c =
     rw (c.get_mut.follows.holds-at-none, ← c.self.view_is) (
       [],
       refl,
-      on-same c.args.name.now (PassesOn (BudgetHands g.V.Costed.cost c.args.budget)) []
-          g.met.N.Eq.laws (cache_of c.self.inside.tenants c.self.inside.seed c.self.inside.entry_bytes) None
+      on-same c.args.name.now (PassesOn (BudgetHands g.L.Limiter.rules (g.L.Budgeted.rebudgeted c.args.budget))) []
+          g.met.N.Eq.laws (cache_of c.self.inside.tenants c.self.inside.hasher c.self.inside.entry_bytes) None
           (sym c.in_default.ensures.value) (refl, refl),
     )

@@ -1,0 +1,223 @@
+/* Compares random calls on a map of byte strings with a plain list. Ends with 1 at the first difference.
+ *
+ * random_bytes CALLS: that number of calls for each of eight budgets, twice; in the second pass each third call of malloc
+ * is refused. It is linked with --wrap=malloc. */
+#include "lru.h"
+#include "testing.h"
+#include <stdlib.h>
+#include <string.h>
+
+enum { LONGEST_KEY = 3, LONGEST = 300, MOST = 85, SPARE = 4 };
+
+struct text {
+    uint8_t bytes[LONGEST];
+    size_t len;
+};
+
+/* Entries, the oldest first. There are 85 keys: those of at most three of four bytes. */
+struct list {
+    struct text key[MOST + 1], value[MOST + 1];
+    size_t len;
+    uint64_t budget;
+};
+
+static bool equal(const struct text *a, const struct text *b) {
+    return a->len == b->len && !memcmp(a->bytes, b->bytes, a->len);
+}
+
+static int find(const struct list *list, const struct text *key) {
+    for (size_t i = 0; i < list->len; i++)
+        if (equal(&list->key[i], key)) return (int)i;
+    return -1;
+}
+
+static void drop(struct list *list, int i) {
+    size_t later = --list->len - (size_t)i;
+    memmove(&list->key[i], &list->key[i + 1], later * sizeof *list->key);
+    memmove(&list->value[i], &list->value[i + 1], later * sizeof *list->value);
+}
+
+static void add(struct list *list, struct text key, struct text value) {
+    list->key[list->len] = key;
+    list->value[list->len++] = value;
+}
+
+static uint64_t weight(const struct text *key, const struct text *value) {
+    return LRU_BYTES_OVERHEAD + key->len + value->len;
+}
+
+static uint64_t cost(const struct list *list) {
+    uint64_t sum = 0;
+    for (size_t i = 0; i < list->len; i++) sum += weight(&list->key[i], &list->value[i]);
+    return sum;
+}
+
+static struct text random_text(size_t longest, const char *letters) {
+    struct text text = {.len = next() % (longest + 1)};
+    for (size_t i = 0; i < text.len; i++) text.bytes[i] = (uint8_t)letters[next() % 4];
+    return text;
+}
+
+static struct text random_key(void) { return random_text(LONGEST_KEY, "\0a\xff\n"); }
+
+static struct text random_value(void) { return random_text(next() % 8 ? 40 : LONGEST, "\0xy\x80"); }
+
+/* A buffer of `size` bytes, with bytes before and behind it that no call may write. */
+struct buffer {
+    uint8_t *block;
+    size_t size;
+};
+
+static struct buffer buffer_of(size_t size) {
+    struct buffer buffer = {__real_malloc(size + 2 * SPARE), size};
+    if (!buffer.block) abort();
+    memset(buffer.block, 0xa5, size + 2 * SPARE);
+    return buffer;
+}
+
+/* Whether the buffer begins with the text, if there is one, and nothing else was written. Frees the buffer. */
+static bool holds(struct buffer buffer, const struct text *text) {
+    size_t len = text ? text->len : 0;
+    bool good = !len || !memcmp(buffer.block + SPARE, text->bytes, len);
+    for (size_t i = 0; i < buffer.size + 2 * SPARE; i++)
+        if (i < SPARE || i >= SPARE + len) good = good && buffer.block[i] == 0xa5;
+    free(buffer.block);
+    return good;
+}
+
+static bool try_put(struct lru_bytes *lru, struct list *list, struct text key, struct text value) {
+    int i = find(list, &key);
+    uint32_t code = lru_bytes_put(lru, key.bytes, key.len, value.bytes, value.len);
+    if (code == LRU_OUT_OF_MEMORY) {
+        CHECK(fail_each && weight(&key, &value) <= list->budget);
+        return true;
+    }
+    CHECK(code == (weight(&key, &value) > list->budget ? LRU_REJECTED : LRU_STORED));
+    if (i >= 0) drop(list, i);
+    if (code == LRU_STORED) add(list, key, value);
+    while (cost(list) > list->budget) drop(list, 0);
+    return true;
+}
+
+/* Values and keys longer than any memory: nothing behind their first bytes is read. */
+static bool try_huge(struct lru_bytes *lru, struct list *list, struct text key) {
+    int i = find(list, &key);
+    bool all = list->budget == UINT64_MAX;
+    uint32_t code = lru_bytes_put(lru, key.bytes, key.len, key.bytes, SIZE_MAX / 2 - next() % 100);
+    CHECK(code == (all ? LRU_OUT_OF_MEMORY : LRU_REJECTED));
+    if (!all && i >= 0) drop(list, i);
+    CHECK(lru_bytes_put(lru, key.bytes, SIZE_MAX / 2 - next() % 100, key.bytes, key.len) == code);
+    return true;
+}
+
+static bool try_read(struct lru_bytes *lru, struct list *list, bool promotes, struct text key) {
+    int i = find(list, &key);
+    size_t len = i < 0 ? 0 : list->value[i].len;
+    struct buffer buffer = buffer_of(next() % 2 ? len + next() % 3 : next() % (len + 1));
+    uint8_t *start = buffer.block + SPARE;
+    struct lru_value got = promotes ? lru_bytes_get(lru, key.bytes, key.len, start, buffer.size)
+                                    : lru_bytes_peek(lru, key.bytes, key.len, start, buffer.size);
+    CHECK(got.found == (i >= 0) && got.len == len);
+    CHECK(holds(buffer, i >= 0 && len <= buffer.size ? &list->value[i] : NULL));
+    if (i < 0 || !promotes) return true;
+    struct text value = list->value[i];
+    drop(list, i);
+    add(list, key, value);
+    return true;
+}
+
+static bool try_pop(struct lru_bytes *lru, struct list *list) {
+    size_t key_len = list->len ? list->key[0].len : 0, value_len = list->len ? list->value[0].len : 0;
+    struct buffer key = buffer_of(next() % 4 ? key_len + next() % 3 : next() % (key_len + 1));
+    struct buffer value = buffer_of(next() % 4 ? value_len + next() % 3 : next() % (value_len + 1));
+    bool fits = list->len && key_len <= key.size && value_len <= value.size;
+    struct lru_popped popped =
+        lru_bytes_pop_oldest(lru, key.block + SPARE, key.size, value.block + SPARE, value.size);
+    CHECK(popped.found == (list->len > 0) && popped.removed == fits);
+    CHECK(popped.key_len == key_len && popped.value_len == value_len);
+    CHECK(holds(key, fits ? &list->key[0] : NULL));
+    CHECK(holds(value, fits ? &list->value[0] : NULL));
+    if (fits) drop(list, 0);
+    return true;
+}
+
+static bool try_call(struct lru_bytes *lru, struct list *list, const uint64_t seeds[4]) {
+    struct text key = random_key();
+    int i = find(list, &key);
+    unsigned kind = (unsigned)(next() % 1000);
+    if (kind < 450) return try_put(lru, list, key, random_value());
+    if (kind < 800) return try_read(lru, list, kind < 650, key);
+    if (kind < 850) {
+        CHECK(lru_bytes_contains(lru, key.bytes, key.len) == (i >= 0));
+    } else if (kind < 900) {
+        CHECK(lru_bytes_remove(lru, key.bytes, key.len) == (i >= 0));
+        if (i >= 0) drop(list, i);
+    } else if (kind < 980) {
+        return try_pop(lru, list);
+    } else if (kind < 990) {
+        return try_huge(lru, list, key);
+    } else if (kind < 992) {
+        lru_bytes_clear(lru);
+        list->len = 0;
+    } else if (kind == 999) {
+        while (!lru_bytes_new(lru, list->budget, seeds)) CHECK(fail_each && !lru->map);
+        list->len = 0;
+    }
+    return true;
+}
+
+static bool try_nothing(struct lru_bytes *lru) {
+    struct buffer key = buffer_of(1), value = buffer_of(1);
+    struct lru_value got = lru_bytes_get(lru, key.block, 1, value.block + SPARE, 1);
+    struct lru_value seen = lru_bytes_peek(lru, key.block, 1, value.block + SPARE, 1);
+    struct lru_popped popped = lru_bytes_pop_oldest(lru, key.block + SPARE, 1, value.block + SPARE, 1);
+    CHECK(!got.found && !got.len && !seen.found && !seen.len);
+    CHECK(!popped.found && !popped.removed && !popped.key_len && !popped.value_len);
+    CHECK(lru_bytes_put(lru, key.block, 1, value.block, 1) == LRU_NO_MAP);
+    CHECK(!lru_bytes_contains(lru, key.block, 1) && !lru_bytes_remove(lru, key.block, 1));
+    CHECK(!lru_bytes_len(lru) && !lru_bytes_cost(lru) && !lru_bytes_budget(lru));
+    CHECK(holds(key, NULL) && holds(value, NULL));
+    lru_bytes_clear(lru);
+    lru_bytes_free(lru);
+    CHECK(!lru->map);
+    return true;
+}
+
+/* Calls on two maps in turn, so that no map sees the entries of the other. */
+static bool run(uint64_t budget, long calls) {
+    static struct list lists[2];
+    struct lru_bytes maps[2] = {LRU_NONE, LRU_NONE};
+    uint64_t seeds[4] = {next(), next(), next(), next()};
+    for (int i = 0; i < 2; i++) {
+        CHECK(try_nothing(&maps[i]));
+        lists[i].len = 0;
+        lists[i].budget = budget;
+        while (!lru_bytes_new(&maps[i], budget, seeds)) CHECK(fail_each && !maps[i].map);
+    }
+    for (long n = 0; n < calls; n++) {
+        struct lru_bytes *lru = &maps[n % 2];
+        struct list *list = &lists[n % 2];
+        CHECK(try_call(lru, list, seeds));
+        CHECK(lru_bytes_len(lru) == list->len && lru_bytes_cost(lru) == cost(list));
+        CHECK(lru_bytes_budget(lru) == budget);
+    }
+    for (int i = 0; i < 2; i++) {
+        while (lists[i].len) CHECK(try_pop(&maps[i], &lists[i]));
+        lru_bytes_free(&maps[i]);
+        CHECK(try_nothing(&maps[i]));
+    }
+    return true;
+}
+
+int main(int count, char **words) {
+    static const uint64_t budgets[] = {0, 63, 64, 100, 500, 2000, 5000, UINT64_MAX};
+    long calls = count > 1 ? atol(words[1]) : 100000;
+    if (lru_abi_version() != LRU_ABI_VERSION) return 1;
+    for (int pass = 0; pass < 2; pass++) {
+        fail_each = pass ? 3 : 0;
+        for (size_t i = 0; i < sizeof budgets / sizeof *budgets; i++)
+            if (!run(budgets[i], calls)) return 1;
+    }
+    printf("%ld calls, %lu of %lu requests for memory refused\n", 16 * calls, refused, asked);
+    return refused ? 0 : 1;
+}

@@ -1,0 +1,32 @@
+/* What the random calls share: random numbers, requests for memory that are refused, and a check that ends a test. */
+#ifndef TESTING_H
+#define TESTING_H
+
+#include <stdbool.h>
+#include <stddef.h>
+#include <stdint.h>
+#include <stdio.h>
+
+/* If fail_each is not 0, each such request is refused; so is any of more than 2^40 bytes. Linked with --wrap=malloc. */
+static unsigned long fail_each, asked, refused;
+void *__real_malloc(size_t size);
+void *__wrap_malloc(size_t size);
+void *__wrap_malloc(size_t size) {
+    asked++;
+    if ((fail_each && asked % fail_each == 0) || size > (size_t)1 << 40) {
+        refused++;
+        return NULL;
+    }
+    return __real_malloc(size);
+}
+
+static uint64_t state = 88172645463325252u;
+static uint64_t next(void) {
+    state ^= state << 13;
+    state ^= state >> 7;
+    return state ^= state << 17;
+}
+
+#define CHECK(c) do { if (!(c)) { fprintf(stderr, "%s, line %d\n", #c, __LINE__); return false; } } while (0)
+
+#endif

@@ -1,0 +1,127 @@
+-- The map from byte strings to byte strings, and what its calls do.
+--     names_bytes bytes k        the key k has these bytes
+--     weight key value           what an entry weighs whose key and value have these lengths
+--     poured bytes buffer        the buffer, after the bytes were copied to its front, if they fit
+use Rattle.std.specs.Prelude.{◌≡◌, ◌++◌, ◌<◌, ◌≤◌, ◌&&◌, ℕ, Bool, true, false, List, length, drop, Option, Some, None}
+use Rattle.std.specs.Prelude.{nat_le, vec_len, if◌then◌else◌, Ok}
+use Rattle.std.proofs.Common.{ap}
+use Rattle.std.specs.Cmp.Lexicographic.{bytes_decides, nat_list_eq_equiv}
+use Rattle.std.specs.Hash as fed
+use Rattle.std.specs.Str.{bytes_eq}
+use Rattle.std.specs.declared.alloc.Global.{Global}
+use Rattle.std.specs.declared.vec.Vec.{Vec}
+use Rattle.lru_limits.specs.Budget.{Budget, pair_cost, by_weight, weighs}
+use Rattle.lru_limits.specs.Hashing.{hash_by}
+use Rattle.lru_limits.specs.Laws.{IsLookup}
+use Rattle.lru_limits.specs.Mixing.{Mixer}
+use Rattle.lru_limits.specs.Rules.{Rules, Offers}
+use Rattle.lru_limits.specs.contracts.hasher.DefaultHasherHasher.TheImpl as default_hashes
+use Rattle.lru_limits.specs.contracts.hasher.RandomStateBuildHasher.TheImpl as random_builds
+use Rattle.schnellru.specs.Calls.{Remove, PopOldest}
+use Rattle.schnellru.specs.Inserts.{Insert}
+use Rattle.schnellru.specs.Lists.{last}
+use Rattle.schnellru.specs.Reservations.{Reserve}
+use Rattle.schnellru.specs.State.{State}
+use Rattle.lru_c.specs.declared.bytes.answers.Popped.{Popped}
+use Rattle.lru_c.specs.declared.bytes.answers.Value.{Value}
+
+abbrev pub Bytes : Type 0
+Bytes = Vec ℕ Global
+
+-- a map of byte strings under a budget, as contracts see it
+abbrev pub BytesMap : Type 0
+BytesMap = State Bytes Bytes Budget Mixer
+
+abbrev pub same_bytes : Bytes → Bytes → Bool
+same_bytes x y = bytes_eq x.items y.items
+
+abbrev pub names_bytes : List ℕ → Bytes → Bool
+names_bytes bytes k = bytes_eq bytes k.items
+
+-- the laws of a look-up key with these bytes
+pub names_bytes-lawful : {Q : Type 0} (bytes : Q → List ℕ) → IsLookup (λ q k. names_bytes (bytes q) k) same_bytes
+    (λ q. fed.slice fed.u8 (bytes q)) (λ k. fed.slice fed.u8 k.items)
+names_bytes-lawful bytes = record {
+  writes = λ q k named. ap (fed.slice fed.u8) ((bytes_decides (bytes q) k.items).0 named);
+  one = λ q x y. nat_list_eq_equiv.congr (bytes q) x.items y.items;
+}
+
+-- what a key writes to a hasher, and its hash
+abbrev pub input_of_bytes : Bytes → List (List ℕ)
+input_of_bytes k = fed.slice fed.u8 k.items
+
+abbrev pub hash_of_bytes : Mixer → Bytes → ℕ
+hash_of_bytes = hash_by input_of_bytes random_builds.ghosts default_hashes.ghosts
+
+-- 64 bytes for the entry, and those of its key and its value
+abbrev pub weight : ℕ → ℕ → ℕ
+weight key value = pair_cost 64 key value
+
+-- what the limiter says
+abbrev pub bytes_rules : Rules Bytes Bytes Budget
+bytes_rules = by_weight (λ k v. weight (vec_len k) (vec_len v))
+
+abbrev pub bytes_offers : Offers Bytes Bytes Budget Bytes
+bytes_offers = weighs (λ k v. weight (vec_len k) (vec_len v))
+
+abbrev pub poured : List ℕ → List ℕ → List ℕ
+poured bytes buffer = if nat_le (length bytes) (length buffer) then bytes ++ drop (length bytes) buffer else buffer
+
+-- the buffer, after a value was copied, if there is one
+abbrev pub poured_from : Option Bytes → List ℕ → List ℕ
+poured_from None buffer = buffer
+poured_from (Some value) buffer = poured value.items buffer
+
+-- the length of a value, if there is one
+abbrev pub answer_of : Option Bytes → Value
+answer_of None = record { len = 0; found = false }
+answer_of (Some value) = record { len = length value.items; found = true }
+
+-- a look-up that finds this value: its length is returned, and it is copied into the buffer if it fits
+abbrev pub Reads : Option Bytes → Value → List ℕ → List ℕ → Type 0
+Reads value answer buffer left = (answer ≡ answer_of value) × (left ≡ poured_from value buffer)
+
+-- no entry
+abbrev pub no_entry : Popped
+no_entry = record { key_len = 0; value_len = 0; found = false; removed = false }
+
+-- the lengths of an entry, and whether it was removed
+abbrev pub lengths_of : Bytes × Bytes → Bool → Popped
+lengths_of pair removed =
+    record { key_len = length pair.0.items; value_len = length pair.1.items; found = true; removed = removed }
+
+-- the key and the value fit into these buffers
+abbrev pub fits : Bytes × Bytes → List ℕ → List ℕ → Bool
+fits pair key value = nat_le (length pair.0.items) (length key) && nat_le (length pair.1.items) (length value)
+
+-- The oldest entry is removed and copied into two buffers, if it fits. Otherwise its lengths alone are returned.
+pub data Pops (old : BytesMap) (answer : Popped) (key key_left value value_left : List ℕ)
+    (new : BytesMap) : Type 0 where
+  none : last old.pairs ≡ None → answer ≡ no_entry → key_left ≡ key → value_left ≡ value → new ≡ old →
+      Pops old answer key key_left value value_left new
+  too_long : (pair : Bytes × Bytes) → last old.pairs ≡ Some pair → fits pair key value ≡ false →
+      answer ≡ lengths_of pair false → key_left ≡ key → value_left ≡ value → new ≡ old →
+      Pops old answer key key_left value value_left new
+  removed : (pair : Bytes × Bytes) → last old.pairs ≡ Some pair → fits pair key value ≡ true →
+      answer ≡ lengths_of pair true → key_left ≡ poured pair.0.items key → value_left ≡ poured pair.1.items value →
+      PopOldest bytes_rules old (Some pair) new → Pops old answer key key_left value value_left new
+
+-- A put, and what it returns.
+pub data Puts (key value : List ℕ) (old : BytesMap) (code : ℕ) (new : BytesMap) : Type 0 where
+  -- The key alone is over the budget, and so cannot be there: nothing changes.
+  too_long : old.limiter.limit < length key → code ≡ 1 → new ≡ old → Puts key value old code new
+  -- The entry alone is over the budget: it is not stored, and the key is removed.
+  too_heavy : old.limiter.limit < weight (length key) (length value) → code ≡ 1 →
+      (value_gone : Option Bytes) → Remove bytes_rules (names_bytes key) old value_gone new →
+      Puts key value old code new
+  -- There is no memory: the entries stay.
+  no_memory : weight (length key) (length value) ≤ old.limiter.limit → code ≡ 2 →
+      new.pairs ≡ old.pairs → new.limiter ≡ old.limiter →
+      Puts key value old code new
+  -- Copies are inserted into the map, after its table was made large enough.
+  inserted : weight (length key) (length value) ≤ old.limiter.limit →
+      (ready : BytesMap) → Reserve bytes_rules 1 old (Ok tt) ready →
+      (k v : Bytes) → k.items ≡ key → v.items ≡ value →
+      (kept : Bool) → code ≡ (if kept then 0 else 1) →
+      Insert bytes_rules bytes_offers same_bytes hash_of_bytes k v ready (Ok kept) new →
+      Puts key value old code new

@@ -1,0 +1,137 @@
+//! The calls on a map of byte strings that copy bytes in or out.
+ghost use Rattle.std.specs.Prelude.{◌≡◌, ◌&&◌, length, Some, option_map, nat_le};
+ghost use Rattle.schnellru.specs.Calls.{promoted};
+ghost use Rattle.schnellru.specs.Lists.{lookup, last};
+ghost use Rattle.lru_c.specs.Bytes.{names_bytes, weight, poured, Reads, Puts, Pops};
+
+use crate::answers::{OUT_OF_MEMORY, REJECTED, STORED};
+use crate::bytes::answers::{Popped, Value, no_value, nothing_popped};
+use crate::bytes::handle::{BytesMap, OVERHEAD};
+use crate::bytes::keys::Named;
+use lru_limits::ByWeight;
+use schnellru::{RandomState, laws};
+use std::alloc::Global;
+
+// Returns what an entry with a key and a value of these lengths weighs.
+#[inline]
+fn weight_of(key: usize, value: usize) -> u64
+    ensures { result ≡ weight key value }
+{
+    (key as u64)
+        .saturating_add(value as u64)
+        .saturating_add(OVERHEAD)
+}
+
+/// Inserts a copy of the value under a copy of the key. Takes all memory before it changes an entry.
+pub fn put(alloc: Global, map: &mut BytesMap, key: &[u8], value: &[u8]) -> u32
+    ensures { Puts key.now value.now map.old result map.new }
+{
+    let limit = map.limiter().limit();
+    if key.len() as u64 > limit {
+        return REJECTED;
+    }
+    if weight_of(key.len(), value.len()) > limit {
+        map.remove(&Named(key));
+        return REJECTED;
+    }
+    let Ok(own_key) = Vec::from_slice(alloc, key) else {
+        return OUT_OF_MEMORY;
+    };
+    let Ok(own_value) = Vec::from_slice(alloc, value) else {
+        return OUT_OF_MEMORY;
+    };
+    laws::reservations_keep_the_list::<Vec<u8>, Vec<u8>, ByWeight<64>, RandomState>();
+    laws::reservations_make_room::<Vec<u8>, Vec<u8>, ByWeight<64>, RandomState>();
+    let _ = map.len();
+    if map.try_reserve(1).is_err() {
+        return OUT_OF_MEMORY;
+    }
+    match map.insert(own_key, own_value) {
+        Ok(true) => STORED,
+        Ok(false) => REJECTED,
+        Err(_) => unreachable!(),
+    }
+}
+
+// Copies the bytes to the front of the buffer, if they fit.
+#[inline]
+fn pour(bytes: &[u8], buffer: &mut [u8])
+    ensures { buffer.new ≡ poured bytes.now buffer.old }
+{
+    if bytes.len() <= buffer.len() {
+        buffer[..bytes.len()].copy_from_slice(bytes);
+    }
+}
+
+// Copies a value to the front of the buffer, if it fits, and returns its length.
+fn read(value: &Vec<u8>, buffer: &mut [u8]) -> Value
+    ensures { Reads (Some value.now) result buffer.old buffer.new }
+{
+    let bytes = value.as_slice();
+    pour(bytes, buffer);
+    Value {
+        len: bytes.len(),
+        found: true,
+    }
+}
+
+/// Copies the value of a key to the front of the buffer, if it fits, and makes its entry the newest.
+pub fn get(map: &mut BytesMap, key: &[u8], buffer: &mut [u8]) -> Value
+    ensures value { Reads (lookup (names_bytes key.now) map.old.pairs) result buffer.old buffer.new }
+    ensures promoted { map.new ≡ promoted (names_bytes key.now) map.old }
+{
+    match map.get(&Named(key)) {
+        Some(value) => read(&*value, buffer),
+        None => no_value(),
+    }
+}
+
+/// Copies the value of a key to the front of the buffer, if it fits. The order stays.
+pub fn peek(map: &BytesMap, key: &[u8], buffer: &mut [u8]) -> Value
+    ensures { Reads (lookup (names_bytes key.now) map.now.pairs) result buffer.old buffer.new }
+{
+    match map.peek(&Named(key)) {
+        Some(value) => read(value, buffer),
+        None => no_value(),
+    }
+}
+
+/// Removes the oldest entry and copies it to the front of the buffers, if it fits. Returns its lengths.
+pub fn pop_oldest(map: &mut BytesMap, key: &mut [u8], value: &mut [u8]) -> Popped
+    ensures { Pops map.old result key.old key.new value.old value.new map.new }
+{
+    let Some((key_len, value_len)) = oldest_lengths(map) else {
+        return nothing_popped();
+    };
+    let removed = both_fit(key_len, value_len, key.len(), value.len());
+    if removed {
+        if let Some((own_key, own_value)) = map.pop_oldest() {
+            pour(own_key.as_slice(), key);
+            pour(own_value.as_slice(), value);
+        }
+    }
+    Popped {
+        key_len,
+        value_len,
+        found: true,
+        removed,
+    }
+}
+
+// Returns whether a key and a value of these lengths fit into buffers of these sizes.
+#[inline]
+fn both_fit(key: usize, value: usize, key_size: usize, value_size: usize) -> bool
+    ensures { result ≡ (nat_le key key_size && nat_le value value_size) }
+{
+    key <= key_size && value <= value_size
+}
+
+// Returns the lengths of the key and the value of the oldest entry.
+fn oldest_lengths(map: &BytesMap) -> Option<(usize, usize)>
+    ensures { result ≡ option_map (λ pair. (length pair.0.items, length pair.1.items)) (last map.now.pairs) }
+{
+    match map.peek_oldest() {
+        Some((key, value)) => Some((key.as_slice().len(), value.as_slice().len())),
+        None => None,
+    }
+}

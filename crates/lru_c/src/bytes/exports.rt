@@ -1,0 +1,228 @@
+//! The functions that C calls on a map of byte strings. `bindings/c/lru.h` declares them, without `alloc`.
+//!
+//! A call on a handle without a map changes nothing, and returns that there is nothing.
+ghost use Rattle.std.specs.Prelude.{◌≡◌, nat_eq, length, is_some, Option, Some, None, true, false, ⊤};
+ghost use Rattle.lru_limits.specs.Mixing.{seeded};
+ghost use Rattle.schnellru.specs.Calls.{Remove, promoted, cleared};
+ghost use Rattle.schnellru.specs.Lists.{lookup};
+ghost use Rattle.schnellru.specs.Sizes.{links_of_64_bits};
+ghost use Rattle.schnellru.specs.State.{empty_map};
+ghost use Rattle.lru_c.specs.Answers.{OnMap};
+ghost use Rattle.lru_c.specs.Bytes.{Bytes, names_bytes, bytes_rules, no_entry, Reads, Puts, Pops};
+
+use crate::answers::NO_MAP;
+use crate::bytes::answers::{Popped, Value, no_value, nothing_popped};
+use crate::bytes::calls::{get, peek, pop_oldest, put};
+use crate::bytes::handle::{BytesMap, LruBytes};
+use crate::bytes::keys::Named;
+use lru_limits::ByWeight;
+use schnellru::LruMap;
+use std::alloc::Global;
+
+// A bucket contains two vectors of 24 bytes and two links of 64 bits.
+const ENTRY_BYTES: usize = 64;
+
+/// Makes an empty map whose entries weigh at most `budget` bytes, and whose hasher has these seeds. Returns whether
+/// there was memory.
+///
+/// A map that the handle had is dropped.
+#[unsafe(no_mangle)]
+pub extern "C" fn lru_bytes_new(
+    alloc: Global,
+    lru: &mut LruBytes,
+    budget: u64,
+    seeds: &[u64; 4],
+) -> bool
+    ensures made { result ≡ true → lru.new.map ≡
+        Some (empty_map (record { limit = budget; cost = 0 }) (seeded seeds.now) 64 links_of_64_bits) }
+    ensures failed { result ≡ false → lru.new.map ≡ None }
+{
+    lru.take(alloc);
+    let map: BytesMap = LruMap::new(alloc, ByWeight::new(budget), *seeds, ENTRY_BYTES);
+    match Box::new(alloc, map) {
+        Ok(map) => {
+            lru.put(map);
+            true
+        }
+        Err(_) => false,
+    }
+}
+
+/// Drops the map. The handle has none then.
+#[unsafe(no_mangle)]
+pub extern "C" fn lru_bytes_free(alloc: Global, lru: &mut LruBytes)
+    ensures { lru.new.map ≡ None }
+{
+    lru.take(alloc);
+}
+
+/// Inserts a copy of the value under a copy of the key, as the newest entry, and evicts the oldest entries while the map
+/// is over its budget.
+#[unsafe(no_mangle)]
+pub extern "C" fn lru_bytes_put(alloc: Global, lru: &mut LruBytes, key: &[u8], value: &[u8]) -> u32
+    ensures { OnMap (result ≡ 3) (λ old new. Puts key.now value.now old result new) lru.old.map lru.new.map }
+{
+    match lru.take(alloc) {
+        Some(mut map) => {
+            let answer = put(alloc, &mut map, key, value);
+            lru.put(map);
+            answer
+        }
+        None => NO_MAP,
+    }
+}
+
+/// Copies the value of a key into the buffer, if it fits, and makes its entry the newest. Returns the length.
+#[unsafe(no_mangle)]
+pub extern "C" fn lru_bytes_get(
+    alloc: Global,
+    lru: &mut LruBytes,
+    key: &[u8],
+    buffer: &mut [u8],
+) -> Value
+    ensures { OnMap (Reads None result buffer.old buffer.new)
+        (λ old new. Reads (lookup (names_bytes key.now) old.pairs) result buffer.old buffer.new
+        × (new ≡ promoted (names_bytes key.now) old)) lru.old.map lru.new.map }
+{
+    match lru.take(alloc) {
+        Some(mut map) => {
+            let answer = get(&mut map, key, buffer);
+            lru.put(map);
+            answer
+        }
+        None => no_value(),
+    }
+}
+
+/// Copies the value of a key into the buffer, if it fits. Returns the length. The map stays as it is.
+#[unsafe(no_mangle)]
+pub extern "C" fn lru_bytes_peek(
+    alloc: Global,
+    lru: &mut LruBytes,
+    key: &[u8],
+    buffer: &mut [u8],
+) -> Value
+    ensures { OnMap (Reads None result buffer.old buffer.new)
+        (λ old new. Reads (lookup (names_bytes key.now) old.pairs) result buffer.old buffer.new × (new ≡ old))
+        lru.old.map lru.new.map }
+{
+    match lru.take(alloc) {
+        Some(map) => {
+            let answer = peek(&map, key, buffer);
+            lru.put(map);
+            answer
+        }
+        None => no_value(),
+    }
+}
+
+/// Returns whether the key is in the map, which stays as it is.
+#[unsafe(no_mangle)]
+pub extern "C" fn lru_bytes_contains(alloc: Global, lru: &mut LruBytes, key: &[u8]) -> bool
+    ensures { OnMap (result ≡ false)
+        (λ old new. (result ≡ is_some (lookup (names_bytes key.now) old.pairs)) × (new ≡ old))
+        lru.old.map lru.new.map }
+{
+    match lru.take(alloc) {
+        Some(map) => {
+            let answer = map.contains(&Named(key));
+            lru.put(map);
+            answer
+        }
+        None => false,
+    }
+}
+
+/// Removes the entry of a key. Returns whether there was one.
+#[unsafe(no_mangle)]
+pub extern "C" fn lru_bytes_remove(alloc: Global, lru: &mut LruBytes, key: &[u8]) -> bool
+    ensures { OnMap (result ≡ false) (λ old new. (value : Option Bytes) × (result ≡ is_some value)
+        × Remove bytes_rules (names_bytes key.now) old value new) lru.old.map lru.new.map }
+{
+    match lru.take(alloc) {
+        Some(mut map) => {
+            let answer = map.remove(&Named(key)).is_some();
+            lru.put(map);
+            answer
+        }
+        None => false,
+    }
+}
+
+/// Copies the key and the value of the oldest entry into the buffers, and removes the entry, if both fit. Returns their
+/// lengths. If one does not fit, nothing changes.
+#[unsafe(no_mangle)]
+pub extern "C" fn lru_bytes_pop_oldest(
+    alloc: Global,
+    lru: &mut LruBytes,
+    key: &mut [u8],
+    value: &mut [u8],
+) -> Popped
+    ensures { OnMap ((result ≡ no_entry) × (key.new ≡ key.old) × (value.new ≡ value.old))
+        (λ old new. Pops old result key.old key.new value.old value.new new) lru.old.map lru.new.map }
+{
+    match lru.take(alloc) {
+        Some(mut map) => {
+            let answer = pop_oldest(&mut map, key, value);
+            lru.put(map);
+            answer
+        }
+        None => nothing_popped(),
+    }
+}
+
+/// Returns the number of entries.
+#[unsafe(no_mangle)]
+pub extern "C" fn lru_bytes_len(alloc: Global, lru: &mut LruBytes) -> usize
+    ensures { OnMap (result ≡ 0) (λ old new. (result ≡ length old.pairs) × (new ≡ old)) lru.old.map lru.new.map }
+{
+    match lru.take(alloc) {
+        Some(map) => {
+            let answer = map.len();
+            lru.put(map);
+            answer
+        }
+        None => 0,
+    }
+}
+
+/// Returns the sum of the weights of the entries.
+#[unsafe(no_mangle)]
+pub extern "C" fn lru_bytes_cost(alloc: Global, lru: &mut LruBytes) -> u64
+    ensures { OnMap (result ≡ 0) (λ old new. (result ≡ old.limiter.cost) × (new ≡ old)) lru.old.map lru.new.map }
+{
+    match lru.take(alloc) {
+        Some(map) => {
+            let answer = map.limiter().cost();
+            lru.put(map);
+            answer
+        }
+        None => 0,
+    }
+}
+
+/// Returns the budget.
+#[unsafe(no_mangle)]
+pub extern "C" fn lru_bytes_budget(alloc: Global, lru: &mut LruBytes) -> u64
+    ensures { OnMap (result ≡ 0) (λ old new. (result ≡ old.limiter.limit) × (new ≡ old)) lru.old.map lru.new.map }
+{
+    match lru.take(alloc) {
+        Some(map) => {
+            let answer = map.limiter().limit();
+            lru.put(map);
+            answer
+        }
+        None => 0,
+    }
+}
+
+/// Removes all entries. The map keeps the memory of its table.
+#[unsafe(no_mangle)]
+pub extern "C" fn lru_bytes_clear(alloc: Global, lru: &mut LruBytes)
+    ensures { OnMap ⊤ (λ old new. new ≡ cleared bytes_rules old) lru.old.map lru.new.map }
+{
+    if let Some(mut map) = lru.take(alloc) {
+        map.clear();
+        lru.put(map);
+    }
+}

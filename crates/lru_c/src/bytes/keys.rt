@@ -1,0 +1,19 @@
+//! What a byte string is looked up by.
+ghost use Rattle.lru_c.specs.Bytes.{names_bytes, names_bytes-lawful};
+
+use lru_limits::LookupKey;
+
+/// Bytes that name the `Vec` of the same bytes, so that a look-up copies nothing.
+#[derive(Clone, Copy, PartialEq, Eq, Hash)]
+pub struct Named<'a>(pub &'a [u8]);
+
+impl LookupKey<Vec<u8>> for Named<'_> {
+    ghost names = { λ q k. names_bytes q.0.now k };
+
+    ghost laws = { names_bytes-lawful (λ q. q.0.now) };
+
+    #[inline]
+    fn is_key(&self, key: &Vec<u8>) -> bool {
+        self.0 == key.as_slice()
+    }
+}

@@ -1,0 +1,150 @@
+//! Calls that read of a tenant.
+ghost use Rattle.std.specs.Prelude.{◌≡◌, length};
+ghost use Rattle.std.specs.Borrow.{sem};
+ghost use Rattle.std.specs.Map.{keys_of};
+ghost use Rattle.std.specs.Map.Iter.{ShowsInOrder, deref};
+ghost use Rattle.lru_tenants.specs.Cache.{tenant, AreTenants};
+ghost use Rattle.lru_tenants.specs.TenantRuns.{read_of, got, Gets, Costs, On};
+ghost use Rattle.lru_tenants.specs.Lending.{read};
+
+use crate::cache::TenantCache;
+use crate::error::TenantError;
+use lru_limits::Budgeted;
+use schnellru::{KeyHasher, LookupKey, LruMap};
+use std::collections::hash_map::Keys;
+use std::hash::Hash;
+
+impl<N: Eq + Hash, K: Eq + Hash, V, L: Budgeted<K, V>, S: KeyHasher<K> + Copy> TenantCache<
+    N,
+    K,
+    V,
+    L,
+    S,
+> {
+    ghost use Rattle.lru_tenants.specs.Lending.{ends_so};
+
+    /// Returns a tenant's value of a key, and makes its entry the tenant's newest.
+    ///
+    /// `String` keys are looked up by a `&str`, as `cache.get(&1, &"a")`. The value is lent for reading alone, so its
+    /// cost stays.
+    ///
+    /// ```
+    /// let page = pages.get(&1, &"a")?.ok_or("no page")?;
+    /// assert_eq!(rt; page.as_str(), "hello");
+    /// ```
+    ///
+    /// Cost: `O(1)` expected.
+    ///
+    /// # Errors
+    ///
+    /// `NotOpen`: nothing has changed.
+    pub fn get<Q: LookupKey<K>>(&mut self, name: &N, key: &Q) -> Result<Option<&V>, TenantError>
+        ensures* leaves { sem 𝓛 (ends_so N.row K.row V.row L.row S.row L.LinkType.row S.Hasher.row N.Hash K.Hash
+            L.Budgeted L.LinkType.LinkType.own L.LinkType.PartialEq L.LinkType.Debug S.KeyHasher S.Hasher.Hasher self.entry
+            (On N.eq name.now (Gets (Q.names key.now)) self.old (read result))) }
+        ensures value { read result ≡ got (Q.names key.now) (tenant (N.eq name.now) self.old) }
+    {
+        let Some(map) = self.tenants.get_mut(name) else {
+            return Err(TenantError::NotOpen);
+        };
+        match map.get(key) {
+            Some(value) => Ok(Some(&*value)),
+            None => Ok(None),
+        }
+    }
+
+    /// Returns a tenant's value of a key. The order stays.
+    ///
+    /// ```
+    /// assert_eq!(rt; cache.peek(&1, &7), Ok(Some(&2)));
+    /// ```
+    ///
+    /// Cost: `O(1)` expected.
+    ///
+    /// # Errors
+    ///
+    /// `NotOpen`.
+    pub fn peek<Q: LookupKey<K>>(&self, name: &N, key: &Q) -> Result<Option<&V>, TenantError>
+        ensures { read result ≡ got (Q.names key.now) (tenant (N.eq name.now) self.now) }
+    {
+        let Some(map) = self.tenants.get(name) else {
+            return Err(TenantError::NotOpen);
+        };
+        Ok(map.peek(key))
+    }
+
+    /// Returns how many entries a tenant has.
+    ///
+    /// ```
+    /// assert_eq!(rt; cache.entries(&1), Ok(1));
+    /// ```
+    ///
+    /// Cost: `O(1)` expected.
+    ///
+    /// # Errors
+    ///
+    /// `NotOpen`.
+    pub fn entries(&self, name: &N) -> Result<usize, TenantError>
+        ensures { result ≡ read_of (λ map. length map.pairs) (tenant (N.eq name.now) self.now) }
+    {
+        let Some(map) = self.tenants.get(name) else {
+            return Err(TenantError::NotOpen);
+        };
+        Ok(map.len())
+    }
+
+    /// Returns the budget of a tenant.
+    ///
+    /// ```
+    /// assert_eq!(rt; cache.budget(&1), Ok(3));
+    /// ```
+    ///
+    /// Cost: `O(1)` expected.
+    ///
+    /// # Errors
+    ///
+    /// `NotOpen`.
+    pub fn budget(&self, name: &N) -> Result<u64, TenantError>
+        ensures { result ≡ read_of (λ map. L.budget_of map.limiter) (tenant (N.eq name.now) self.now) }
+    {
+        let Some(map) = self.tenants.get(name) else {
+            return Err(TenantError::NotOpen);
+        };
+        Ok(map.limiter().budget())
+    }
+
+    /// Returns the sum of the costs of a tenant's entries.
+    ///
+    /// ```
+    /// assert_eq!(rt; cache.cost(&1), Ok(2));
+    /// ```
+    ///
+    /// Cost: `O(1)` expected.
+    ///
+    /// # Errors
+    ///
+    /// `NotOpen`.
+    pub fn cost(&self, name: &N) -> Result<u64, TenantError>
+        ensures costs { On N.eq name.now (Costs L.account) self.now result self.now }
+        ensures tenants { AreTenants K.eq L.cost_of L.account L.budget_of self.now }
+    {
+        let Some(map) = self.tenants.get(name) else {
+            return Err(TenantError::NotOpen);
+        };
+        Ok(map.limiter().account())
+    }
+
+    /// Returns the names of the open tenants, in an order that means nothing.
+    ///
+    /// ```
+    /// assert_eq!(rt; cache.names().next(), Some(&1));
+    /// ```
+    ///
+    /// Cost: `O(1)`, and `O(1)` for each name.
+    pub fn names(&self) -> Keys<'_, N, LruMap<K, V, L, S>>
+        ensures names { result ≡ keys_of self.now.tenants }
+        ensures runs { ShowsInOrder (deref {X = N}) }
+    {
+        self.tenants.keys()
+    }
+}
