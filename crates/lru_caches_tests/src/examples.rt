@@ -1,9 +1,12 @@
 //! The examples of the docs of `lru_caches`, the error texts, and each call once.
 use crate::callers::{copy_block, overwrite};
 use crate::disk::{Disk, DiskError};
-use lru_caches::{BlockDevice, Loader, OrderedMap, PageCache, PageError, Unclosed};
+use lru_caches::{
+    BlockDevice, FileDevice, FileError, Loader, OrderedMap, PageCache, PageError, Unclosed,
+};
 use schnellru::{ByLength, RandomState};
 use std::cell::Cell;
+use std::io::Cursor;
 use std::test::Fail;
 
 #[test]
@@ -50,6 +53,18 @@ fn of_the_device(rt: HostRuntime) {
     assert_eq!(rt; disk.write(1, &20), Ok(()));
     assert_eq!(rt; disk.read(1), Ok(20));
     assert_eq!(rt; disk.read(1), Err(DiskError));
+}
+
+#[test]
+fn of_the_file_device(rt: HostRuntime) -> Result<(), Fail> {
+    let alloc = rt.alloc();
+    let file = Cursor::new(Vec::from_array(alloc, *b"zeroone.two.")?);
+    let mut device: FileDevice<_, 4> = FileDevice::new(alloc, file, 3)?;
+    assert_eq!(rt; device.len(), 3);
+    assert_eq!(rt; device.write(1, b"uno."), Ok(()));
+    assert_eq!(rt; device.read(1), Ok(*b"uno."));
+    assert_eq!(rt; device.read(9), Err(FileError::NoBlock));
+    Ok(())
 }
 
 #[test]
