@@ -24,10 +24,6 @@ fn of_the_page_cache(rt: HostRuntime) {
     assert_eq!(rt; cache.flush(), Ok(()));
     assert_eq!(rt; cache.device().blocks, [10, 20, 12, 13]);
     assert_eq!(rt;
-        (cache.read(2), cache.read(3), cache.len()),
-        (Ok(12), Ok(13), 2)
-    );
-    assert_eq!(rt;
         (copy_block(&mut cache, 1, 0), cache.read(0)),
         (Ok(()), Ok(20))
     );
