@@ -11,7 +11,7 @@ use thiserror::Error;
 /// Why a call on a file device failed.
 ///
 /// ```
-/// assert!(rt; matches!(device.read(9), Err(FileError::NoBlock)));
+/// assert_eq!(rt; device.read(9), Err(FileError::NoBlock));
 /// ```
 #[derive(Clone, Copy, Debug, PartialEq, Error)]
 pub enum FileError {
@@ -36,7 +36,9 @@ pub enum FileError {
 /// it succeeds.
 ///
 /// ```
-/// let mut device: FileDevice<File, 8> = FileDevice::new(alloc, file, 4)?;
+/// let mut device: FileDevice<_, 4> = FileDevice::new(alloc, file, 3)?;
+/// assert_eq!(rt; device.write(1, b"uno."), Ok(()));
+/// assert_eq!(rt; device.read(1), Ok(*b"uno."));
 /// ```
 #[derive(Drop)]
 pub struct FileDevice<F, const N: usize> {
@@ -54,6 +56,10 @@ impl<F, const N: usize> Model for FileDevice<F, N> {
 
 impl<F: Read + Write + Seek, const N: usize> FileDevice<F, N> {
     /// Makes a device of the first `count` blocks of a file, and reads these.
+    ///
+    /// ```
+    /// let mut device: FileDevice<_, 4> = FileDevice::new(alloc, file, 3)?;
+    /// ```
     ///
     /// Cost: `O(count * N)`, and the memory of that many bytes.
     ///
@@ -81,7 +87,7 @@ impl<F: Read + Write + Seek, const N: usize> FileDevice<F, N> {
     /// Cost: `O(1)`.
     ///
     /// ```
-    /// assert_eq!(rt; device.len(), 4);
+    /// assert_eq!(rt; device.len(), 3);
     /// ```
     pub fn len(&self) -> usize
         ensures { result ≡ length self.now }

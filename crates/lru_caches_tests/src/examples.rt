@@ -1,9 +1,12 @@
 //! The examples of the docs of `lru_caches`, the error texts, and each call once.
 use crate::callers::{copy_block, overwrite};
 use crate::disk::{Disk, DiskError};
-use lru_caches::{BlockDevice, Loader, OrderedMap, PageCache, PageError, Unclosed};
+use lru_caches::{
+    BlockDevice, FileDevice, FileError, Loader, OrderedMap, PageCache, PageError, Unclosed,
+};
 use schnellru::{ByLength, RandomState};
 use std::cell::Cell;
+use std::io::Cursor;
 use std::test::Fail;
 
 #[test]
@@ -20,10 +23,6 @@ fn of_the_page_cache(rt: HostRuntime) {
     assert_eq!(rt; cache.device().blocks, [10, 11, 12, 13]);
     assert_eq!(rt; cache.flush(), Ok(()));
     assert_eq!(rt; cache.device().blocks, [10, 20, 12, 13]);
-    assert_eq!(rt;
-        (cache.read(2), cache.read(3), cache.len()),
-        (Ok(12), Ok(13), 2)
-    );
     assert_eq!(rt;
         (copy_block(&mut cache, 1, 0), cache.read(0)),
         (Ok(()), Ok(20))
@@ -50,6 +49,18 @@ fn of_the_device(rt: HostRuntime) {
     assert_eq!(rt; disk.write(1, &20), Ok(()));
     assert_eq!(rt; disk.read(1), Ok(20));
     assert_eq!(rt; disk.read(1), Err(DiskError));
+}
+
+#[test]
+fn of_the_file_device(rt: HostRuntime) -> Result<(), Fail> {
+    let alloc = rt.alloc();
+    let file = Cursor::new(Vec::from_array(alloc, *b"zeroone.two.")?);
+    let mut device: FileDevice<_, 4> = FileDevice::new(alloc, file, 3)?;
+    assert_eq!(rt; device.len(), 3);
+    assert_eq!(rt; device.write(1, b"uno."), Ok(()));
+    assert_eq!(rt; device.read(1), Ok(*b"uno."));
+    assert_eq!(rt; device.read(9), Err(FileError::NoBlock));
+    Ok(())
 }
 
 #[test]

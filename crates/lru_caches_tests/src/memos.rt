@@ -4,25 +4,6 @@ use schnellru::ByLength;
 use std::cell::Cell;
 use test_helpers::Hog;
 
-// The greatest length, how often the function is called, and how many results are stored then.
-const LENGTHS: [(u32, u64, usize); 4] = [(0, 5, 0), (1, 5, 1), (2, 3, 2), (3, 3, 3)];
-
-#[test]
-fn a_memo_calls_its_function_if_it_has_to(rt: HostRuntime) {
-    for (most, calls, stored) in LENGTHS {
-        let count = Cell::new(0u64);
-        let square = |n: u64| {
-            count.set(count.get().wrapping_add(1));
-            n.wrapping_mul(n)
-        };
-        let mut squares = Memo::new(rt.alloc(), ByLength::new(most), square);
-        let first = (squares.answer(3), squares.answer(4), squares.answer(3));
-        let last = (squares.answer(5), squares.answer(3));
-        assert_eq!(rt; (first, last), ((9, 16, 9), (25, 9)));
-        assert_eq!(rt; (count.get(), squares.len()), (calls, stored));
-    }
-}
-
 #[test]
 fn a_memo_returns_a_result_that_it_cannot_store(rt: HostRuntime) {
     let mut squares = Memo::new(rt.alloc(), ByLength::new(9), |n: u64| n.wrapping_mul(n));
