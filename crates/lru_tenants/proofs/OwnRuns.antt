@@ -26,8 +26,8 @@ module _ {N K V L S : Type 0} {names : N → N → Bool} (laws : IsEquivalence n
   own-append old [] [] mid more others new same rest = subst (λ t. Own t more others new) same rest
   own-append old [] (answer ∷ answers) mid more others new none rest = absurd none
   own-append old (call ∷ calls) [] mid more others new none rest = absurd none
-  own-append old (call ∷ calls) (answer ∷ answers) mid more others new (inl (is, (next, step, holds, run))) rest =
-      inl (is, (next, step, holds, own-append next calls answers mid more others new run rest))
+  own-append old (call ∷ calls) (answer ∷ answers) mid more others new (inl (is, (next, holds, run))) rest =
+      inl (is, (next, holds, own-append next calls answers mid more others new run rest))
   own-append old (call ∷ calls) (answer ∷ answers) mid more others new (inr (other, run)) rest =
       inr (other, own-append old calls answers mid more others new run rest)
 
@@ -45,9 +45,11 @@ module _ {N K V L S : Type 0} {names : N → N → Bool} (laws : IsEquivalence n
             e,
             (
               left,
-              subst (λ t. TenantStep rules offers cost account budget eq hash_of fresh call t answer left)
-                  (same-tenant laws (named call) name e old) step,
-              subst (λ t. IfSome t (IsTenant eq cost account budget)) now holds,
+              (
+                subst (λ t. TenantStep rules offers cost account budget eq hash_of fresh call t answer left)
+                    (same-tenant laws (named call) name e old) step,
+                subst (λ t. IfSome t (IsTenant eq cost account budget)) now holds,
+              ),
               now,
             ),
           )

@@ -1,5 +1,7 @@
 -- What the contracts of `lru_tenants` cite.
 pub mod Cache
+pub mod Isolation
 pub mod TenantRuns
 pub mod Lending
 pub mod Others
+pub mod GetOrPuts

@@ -12,6 +12,7 @@ use Rattle.schnellru.specs.Inserts.{Insert}
 use Rattle.schnellru.specs.Lists.{lookup}
 use Rattle.schnellru.specs.State.{State}
 use Rattle.lru_tenants.specs.Cache.{Cache, tenant, with_limiter, Leaves, IsTenant}
+use Rattle.lru_tenants.specs.Isolation.{OwnRun}
 use Rattle.lru_tenants.specs.declared.error.TenantError.{TenantError}
 use Rattle.lru_tenants.specs.declared.error.TenantError.TheVariants.{AlreadyOpen, NotOpen, Memory}
 use Rattle.lru_tenants.specs.declared.call.TenantAnswer.{TenantAnswer}
@@ -129,13 +130,9 @@ module _ {N K V L S : Type 0} (rules : Rules K V L) (offers : Offers K V L K) (c
   TenantStep (calls.Close name) old answer new = (result : Result ℕ TenantError)
       × Closes old result new × (answer ≡ answers.Closed result)
 
-  -- The calls that name the tenant, and their answers, take it from old to new. Calls of others leave it as it is.
+  -- The calls that name the tenant, and their answers, take it from old to new, within its budget after each. Calls of
+  -- others leave it as it is.
   abbrev pub IsOwnRun : (N → Bool) → Option (State K V L S) → List (TenantCall N K V) → List (TenantAnswer V)
       → Option (State K V L S) → Type 0
-  IsOwnRun own old [] [] new = new ≡ old
-  IsOwnRun own old (call ∷ calls) (answer ∷ answers) new =
-      ((own (named call) ≡ true) × ((mid : Option (State K V L S)) × TenantStep call old answer mid
-      × IfSome mid (IsTenant eq cost account budget_of) × IsOwnRun own mid calls answers new))
-      ⊎ ((own (named call) ≡ false) × IsOwnRun own old calls answers new)
-  IsOwnRun own old [] (answer ∷ answers) new = ⊥
-  IsOwnRun own old (call ∷ calls) [] new = ⊥
+  IsOwnRun = OwnRun named (λ call old answer new. TenantStep call old answer new
+      × IfSome new (IsTenant eq cost account budget_of))

@@ -18,6 +18,7 @@ use std::collections::HashMap;
 use std::hash::Hash;
 use std::marker::Model;
 
+mod get_or_put;
 mod passing;
 mod reading;
 

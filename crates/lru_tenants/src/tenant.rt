@@ -1,9 +1,12 @@
 //! What calls do to the map of a tenant. Each keeps what holds of it: the running total is the sum of the costs, and
 //! within the budget.
-ghost use Rattle.std.specs.Prelude.{◌≡◌, List, length, reverse};
+ghost use Rattle.std.specs.Prelude.{◌≡◌, List, length, reverse, None, option_map};
+ghost use Rattle.std.specs.Option.{option_copied};
 ghost use Rattle.schnellru.specs.Calls.{Remove, cleared};
+ghost use Rattle.schnellru.specs.GetOrInserts.{MakesNewest};
 ghost use Rattle.schnellru.specs.HandedOver.{Takes, InsertHands, TrimHands};
 ghost use Rattle.schnellru.specs.Inserts.{Insert};
+ghost use Rattle.schnellru.specs.Lists.{lookup, first};
 ghost use Rattle.schnellru.specs.State.{Trims};
 ghost use Rattle.lru_tenants.specs.Cache.{IsTenant, with_limiter};
 
@@ -35,6 +38,37 @@ pub(crate) fn insert<
     laws::calls_keep_sums::<K, V, K, L, S>();
     calls_keep_the_budget::<K, V, L, S>();
     map.insert_with(key, value, sink)
+}
+
+// A get that inserts the key if it is not there.
+pub(crate) fn get_or_insert<
+    K: Eq + Hash + Drop,
+    V: Drop,
+    L: Budgeted<K, V>,
+    S: KeyHasher<K>,
+    F: FnOnce() -> V,
+>(map: &mut LruMap<K, V, L, S>, key: K, make: F) -> Result<bool, AllocError>
+    requires tenant { IsTenant K.eq L.cost_of L.account L.budget_of map.old }
+    requires callable { lookup (K.eq key) map.old.pairs ≡ None → F.pre make }
+    ensures step { MakesNewest L.rules L.offers K.eq S.hash_of (F.post make) key map.old result map.new }
+    ensures budget { L.budget_of map.new.limiter ≡ L.budget_of map.old.limiter }
+    ensures tenant { IsTenant K.eq L.cost_of L.account L.budget_of map.new }
+{
+    laws::calls_keep_sums::<K, V, K, L, S>();
+    calls_keep_the_budget::<K, V, L, S>();
+    map.ensure_newest(key, make)
+}
+
+// The value of the newest pair.
+pub(crate) fn newest<K: Eq + Hash, V, L: Budgeted<K, V>, S: KeyHasher<K>>(
+    map: &LruMap<K, V, L, S>,
+) -> Option<&V>
+    ensures { option_copied result ≡ option_map (λ pair. pair.1) (first map.now.pairs) }
+{
+    match map.peek_newest() {
+        Some((_, value)) => Some(value),
+        None => None,
+    }
 }
 
 // A removal of a key.

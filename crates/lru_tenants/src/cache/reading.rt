@@ -1,7 +1,7 @@
 //! Calls that read of a tenant.
-ghost use Rattle.std.specs.Prelude.{◌≡◌, length};
+ghost use Rattle.std.specs.Prelude.{◌≡◌, ◌≤◌, length, sum_by};
 ghost use Rattle.std.specs.Borrow.{sem};
-ghost use Rattle.std.specs.Map.{keys_of};
+ghost use Rattle.std.specs.Map.{keys_of, values_of};
 ghost use Rattle.std.specs.Map.Iter.{ShowsInOrder, deref};
 ghost use Rattle.lru_tenants.specs.Cache.{tenant, AreTenants};
 ghost use Rattle.lru_tenants.specs.TenantRuns.{read_of, got, Gets, Costs, On};
@@ -132,6 +132,24 @@ impl<N: Eq + Hash, K: Eq + Hash, V, L: Budgeted<K, V>, S: KeyHasher<K> + Copy> T
             return Err(TenantError::NotOpen);
         };
         Ok(map.limiter().account())
+    }
+
+    /// Returns the sum of the costs of the entries of all tenants. It is at most the sum of their budgets.
+    ///
+    /// ```
+    /// assert_eq!(rt; cache.total_cost(), 2);
+    /// ```
+    ///
+    /// Cost: `O(1)` for each tenant.
+    pub fn total_cost(&self) -> u128
+        ensures total { result ≡ sum_by (λ map. L.account map.limiter) (values_of self.now.tenants) }
+        ensures within { result ≤ sum_by (λ map. L.budget_of map.limiter) (values_of self.now.tenants) }
+    {
+        let mut sum = 0u128;
+        for map in self.tenants.values() {
+            sum += map.limiter().account() as u128;
+        }
+        sum
     }
 
     /// Returns the names of the open tenants, in an order that means nothing.

@@ -1,0 +1,21 @@
+-- The sum over all tenants.
+use Rattle.std.proofs.Common.{◌≡◌, ◌≤◌, ◌+◌, ℕ, List, [], ◌∷◌, map, refl, sym, ap, ◌∙◌, arith, sum_by}
+use Rattle.std.specs.List.{All}
+use Rattle.std.proofs.lemmas.List.Sums.{sum_by-cons}
+use Rattle.std.proofs.lemmas.List.Elements.{All-head, All-tail}
+
+pub mapped : {X Y : Type 0} (f : Y → ℕ) (g : X → Y) (xs : List X) → sum_by f (map g xs) ≡ sum_by (λ x. f (g x)) xs
+mapped f g [] = refl
+mapped f g (x ∷ xs) = sum_by-cons f (g x) (map g xs) ∙ ap (λ n. f (g x) + n) (mapped f g xs)
+    ∙ sym (sum_by-cons (λ y. f (g y)) x xs)
+
+-- if each term is at most another, so is the sum
+pub at-most : {X : Type 0} (f g : X → ℕ) (xs : List X) → All (λ x. f x ≤ g x) xs → sum_by f xs ≤ sum_by g xs
+at-most f g [] all = omega arith
+at-most f g (x ∷ xs) all = omega (
+  arith,
+  sum_by-cons f x xs,
+  sum_by-cons g x xs,
+  All-head (λ x. f x ≤ g x) x xs all,
+  at-most f g xs (All-tail (λ x. f x ≤ g x) x xs all),
+)

@@ -1,0 +1,18 @@
+use Rattle.lru_tenants.proofs.BudgetSteps.{made-step}
+use Rattle.lru_tenants.proofs.tenant.get_or_insert.Goals as goal
+
+pub returns-clause-budget : goal.returns-clause-budget
+returns-clause-budget g c =
+    let old = c.args.map.now in let new = c.ensure_newest.new.self in
+    c.calls_keep_the_budget.ensures.budget old new
+    (made-step c.args.key old new c.ensure_newest.result c.ensure_newest.ensures.step)
+
+pub returns-clause-tenant : goal.returns-clause-tenant
+returns-clause-tenant g c =
+    let old = c.args.map.now in let new = c.ensure_newest.new.self in
+    let step = made-step c.args.key old new c.ensure_newest.result c.ensure_newest.ensures.step in
+    record {
+      map = c.ensure_newest.ensures.map;
+      sum = c.calls_keep_sums.ensures old new step c.requires.tenant.sum;
+      within = c.calls_keep_the_budget.ensures.total old new step c.requires.tenant.sum c.requires.tenant.within;
+    }

@@ -1,0 +1,64 @@
+//! Getting a value, which is put if its key is not there.
+ghost use Rattle.std.specs.Prelude.{◌≡◌, None, IfSome};
+ghost use Rattle.std.specs.Borrow.{sem};
+ghost use Rattle.schnellru.specs.Lists.{lookup};
+ghost use Rattle.lru_tenants.specs.Cache.{tenant};
+ghost use Rattle.lru_tenants.specs.GetOrPuts.{GetsOrPuts};
+ghost use Rattle.lru_tenants.specs.TenantRuns.{On};
+ghost use Rattle.lru_tenants.specs.Lending.{read};
+
+use crate::cache::TenantCache;
+use crate::error::TenantError;
+use crate::tenant::{get_or_insert, newest};
+use lru_limits::Budgeted;
+use schnellru::KeyHasher;
+use std::hash::Hash;
+
+impl<
+    N: Eq + Hash + Drop,
+    K: Eq + Hash + Drop,
+    V: Drop,
+    L: Budgeted<K, V> + Drop,
+    S: KeyHasher<K> + Copy,
+> TenantCache<N, K, V, L, S> {
+    ghost use Rattle.lru_tenants.specs.Lending.{ends_so};
+
+    /// Returns a tenant's value of a key. If the key is not there, puts it with the value that the closure returns.
+    ///
+    /// If the key is there, the closure is not called, and its entry becomes the tenant's newest. The tenant and the key
+    /// are looked up once. `None` says that the new entry is not there, as `false` says it of `put`.
+    ///
+    /// ```
+    /// assert_eq!(rt; cache.get_or_put(&1, 7, || 2), Ok(Some(&2)));
+    /// assert_eq!(rt; cache.get_or_put(&1, 7, || 3), Ok(Some(&2)));
+    /// ```
+    ///
+    /// Cost: as `get` if the key is there, else as `put`.
+    ///
+    /// # Errors
+    ///
+    /// As `put`. `make` was called before `Memory`.
+    pub fn get_or_put<F: FnOnce() -> V>(
+        &mut self,
+        name: &N,
+        key: K,
+        make: F,
+    ) -> Result<Option<&V>, TenantError>
+        requires { IfSome (tenant (N.eq name.now) self.old) (λ map. lookup (K.eq key) map.pairs ≡ None → F.pre make) }
+        ensures* leaves { sem 𝓛 (ends_so N.row K.row V.row L.row S.row L.LinkType.row S.Hasher.row N.Hash K.Hash
+            L.Budgeted L.LinkType.LinkType.own L.LinkType.PartialEq L.LinkType.Debug S.KeyHasher S.Hasher.Hasher self.entry
+            (On N.eq name.now (GetsOrPuts L.rules L.offers L.budget_of K.eq S.hash_of (F.post make) key) self.old
+            (read result))) }
+    {
+        let Some(own) = self.tenants.get_mut(name) else {
+            return Err(TenantError::NotOpen);
+        };
+        let Ok(there) = get_or_insert(own, key, make) else {
+            return Err(TenantError::Memory);
+        };
+        if !there {
+            return Ok(None);
+        }
+        Ok(newest(own))
+    }
+}
