@@ -6,8 +6,8 @@
  *
  * What is proved. Each function meets its contract in crates/lru_c/src/exports.rt or crates/lru_c/src/bytes/exports.rt,
  * for every input: it is safe, it ends, and it does to the map what the comment here says, unless the comment says
- * "tested". A map is a list of
- * entries with distinct keys, the most recently used first. Nothing is proved of what C and its compiler do.
+ * "tested". A map is a list of entries with distinct keys, the most recently used first. Nothing is proved of what C and
+ * its compiler do.
  *
  * What the caller must guarantee, since nothing checks it:
  * - A handle is LRU_NONE, or what the last call left in it. Nothing writes its field, and no copy of a handle is
