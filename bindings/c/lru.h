@@ -6,8 +6,8 @@
  *
  * What is proved. Each function meets its contract in crates/lru_c/src/exports.rt or crates/lru_c/src/bytes/exports.rt,
  * for every input: it is safe, it ends, and it does to the map what the comment here says, unless the comment says
- * "tested". A map is a list of
- * entries with distinct keys, the most recently used first. Nothing is proved of what C and its compiler do.
+ * "tested". A map is a list of entries with distinct keys, the most recently used first. Nothing is proved of what C
+ * and its compiler do.
  *
  * What the caller must guarantee, since nothing checks it:
  * - A handle is LRU_NONE, or what the last call left in it. Nothing writes its field, and no copy of a handle is
@@ -105,8 +105,9 @@ bool lru_clone(struct lru *lru, struct lru *copy);
  * max_length is 0, nothing is inserted, and nothing has failed. */
 struct lru_inserted lru_insert(struct lru *lru, uint64_t key, uint64_t value);
 
-/* The same as lru_insert, but returns only LRU_STORED, LRU_REJECTED if max_length is 0, LRU_OUT_OF_MEMORY, or LRU_NO_MAP.
- * It costs less. Do not call it if you own what the values point to: nothing says which entry was evicted. */
+/* The same as lru_insert, but returns only LRU_STORED, LRU_REJECTED if max_length is 0, LRU_OUT_OF_MEMORY, or
+ * LRU_NO_MAP. It costs less. Do not call it if you own what the values point to: nothing says which entry was
+ * evicted. */
 uint32_t lru_put(struct lru *lru, uint64_t key, uint64_t value);
 
 /* Returns the value of a key, and makes its entry the newest. */
@@ -222,9 +223,9 @@ bool lru_bytes_contains(struct lru_bytes *lru, const uint8_t *key, size_t key_le
 /* Removes the entry of a key. Returns whether there was one. */
 bool lru_bytes_remove(struct lru_bytes *lru, const uint8_t *key, size_t key_len);
 
-/* Copies the key and the value of the oldest entry to the fronts of `key` and `value`, and removes the entry, if the key
- * has at most `key_size` bytes and the value at most `value_size`. Returns both lengths. If one does not fit, nothing
- * changes. */
+/* Copies the key and the value of the oldest entry to the fronts of `key` and `value`, and removes the entry, if the
+ * key has at most `key_size` bytes and the value at most `value_size`. Returns both lengths. If one does not fit,
+ * nothing changes. */
 struct lru_popped lru_bytes_pop_oldest(struct lru_bytes *lru, uint8_t *key, size_t key_size, uint8_t *value,
                                        size_t value_size);
 

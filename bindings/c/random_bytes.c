@@ -1,7 +1,7 @@
 /* Compares random calls on a map of byte strings with a plain list. Ends with 1 at the first difference.
  *
- * random_bytes CALLS: that number of calls for each of eight budgets, twice; in the second pass each third call of malloc
- * is refused. It is linked with --wrap=malloc. */
+ * random_bytes CALLS: that number of calls for each of eight budgets, twice; in the second pass each third call of
+ * malloc is refused. It is linked with --wrap=malloc. */
 #include "lru.h"
 #include "testing.h"
 #include <stdlib.h>

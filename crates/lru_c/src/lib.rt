@@ -1,7 +1,9 @@
-//! The map for programs in C and in Rust: numbers of 64 bits under numbers of 64 bits.
+//! Maps for programs in C and in Rust: from numbers of 64 bits to numbers of 64 bits, and from byte strings to byte
+//! strings.
 //!
-//! [`exports`] has the functions that `bindings/c/lru.h` declares. A [`Lru`](handle::Lru) is what C keeps: the address
-//! of a map on the heap, or null. `docs/FROM_C.md` says how a program is built and linked.
+//! [`exports`] and [`bytes::exports`] have the functions that `bindings/c/lru.h` declares. A [`Lru`](handle::Lru) or a
+//! [`LruBytes`](bytes::handle::LruBytes) is what C keeps: the address of a map on the heap, or null. `docs/FROM_C.md`
+//! says how a program is built and linked.
 #![tactic(auto)]
 
 mod answers;
