@@ -1,7 +1,7 @@
 //! The examples of the docs of public items.
 use lru_limits::{
-    Budgeted, ByCost, ByLength, ByMemoryUsage, ByWeight, Costed, Insertion, KeyHasher, Limiter, LookupKey,
-    RandomState, Storing, Summing, Unlimited, UnlimitedCompact,
+    Budgeted, ByCost, ByLength, ByMemoryUsage, ByWeight, Costed, Insertion, KeyHasher, Limiter,
+    LookupKey, RandomState, Storing, Summing, Unlimited, UnlimitedCompact,
 };
 use std::hash::{BuildHasher, Hash, Hasher};
 use std::test::Fail;
