@@ -1,7 +1,7 @@
 //! The examples of the docs of public items.
 use lru_limits::{
-    ByCost, ByLength, ByMemoryUsage, ByWeight, Costed, Insertion, KeyHasher, Limiter, LookupKey,
-    RandomState, Storing, Summing, Unlimited, UnlimitedCompact,
+    Budgeted, ByCost, ByLength, ByMemoryUsage, ByWeight, Costed, Insertion, KeyHasher, Limiter,
+    LookupKey, RandomState, Storing, Summing, Unlimited, UnlimitedCompact,
 };
 use std::hash::{BuildHasher, Hash, Hasher};
 use std::test::Fail;
@@ -47,6 +47,11 @@ fn of_limiters(rt: HostRuntime) -> Result<(), Fail> {
     assert!(rt; limiter.on_insert(alloc, 0, 1u64, 2u64)?.is_some());
     assert!(rt; limiter.on_insert(alloc, 1, 80u64, 5u64)?.is_none());
     assert_eq!(rt; limiter.cost(), 19);
+    let lower = limiter.with_limit(10);
+    assert_eq!(rt; (lower.limit(), lower.cost()), (10, 19));
+    let mut limiter = <ByCost as Budgeted<u64, u64>>::with_budget(3);
+    Budgeted::<u64, u64>::set_budget(&mut limiter, 5);
+    assert_eq!(rt; Budgeted::<u64, u64>::budget(&limiter), 5);
     Ok(())
 }
 

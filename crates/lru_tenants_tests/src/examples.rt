@@ -9,6 +9,7 @@ fn of_the_cache(rt: HostRuntime) -> Result<(), Fail> {
     assert_eq!(rt; cache.open(1, 3), Ok(()));
     assert_eq!(rt; cache.put(&1, 7, 2), Ok(true));
     assert_eq!(rt; cache.cost(&1), Ok(2));
+    assert_eq!(rt; cache.total_cost(), 2);
     assert_eq!(rt; cache.names().next(), Some(&1));
     assert_eq!(rt; cache.peek(&1, &7), Ok(Some(&2)));
     assert_eq!(rt; cache.entries(&1), Ok(1));
@@ -70,6 +71,15 @@ fn of_weights(rt: HostRuntime) -> Result<(), Fail> {
         (Ok(()), Ok(true))
     );
     assert_eq!(rt; weighed.cost(&1), Ok(25));
+    Ok(())
+}
+
+#[test]
+fn of_values_made(rt: HostRuntime) -> Result<(), Fail> {
+    let mut cache: TenantCache<u64, u64, u64> = TenantCache::new(rt.alloc(), [1, 2, 3, 4], 16);
+    assert_eq!(rt; cache.open(1, 3), Ok(()));
+    assert_eq!(rt; cache.get_or_put(&1, 7, || 2), Ok(Some(&2)));
+    assert_eq!(rt; cache.get_or_put(&1, 7, || 3), Ok(Some(&2)));
     Ok(())
 }
 

@@ -8,6 +8,4 @@ mod examples;
 #[cfg(test)]
 mod memory;
 #[cfg(test)]
-mod responses;
-#[cfg(test)]
 mod rows;
