@@ -1,5 +1,6 @@
 //! `Memo`. A contract sees a memo as its stored answers and its function.
 ghost use Rattle.std.specs.Prelude.{◌≡◌, [], length, IfSome};
+ghost use Rattle.std.specs.Borrow.{Bor};
 ghost use Rattle.std.specs.Map.{lookup};
 ghost use Rattle.schnellru.specs.Theorems.{KeepsValues};
 ghost use Rattle.lru_caches.specs.Answers.{IsAnswer, AreAnswers};
@@ -18,12 +19,12 @@ pub(crate) mod loader;
 /// assert_eq!(rt; (squares.answer(3), squares.len()), (9, 1));
 /// ```
 #[derive(Drop)]
-pub struct Memo<K: Copy + Eq + Hash, V: Copy, F, L: Insertion<K, V, K>> {
+pub struct Memo<K: Copy + Eq + Hash, V, F, L: Insertion<K, V, K>> {
     map: LruMap<K, V, L>,
     function: F,
 }
 
-impl<K: Copy + Eq + Hash, V: Copy, F, L: Insertion<K, V, K>> Model for Memo<K, V, F, L> {
+impl<K: Copy + Eq + Hash, V, F, L: Insertion<K, V, K>> Model for Memo<K, V, F, L> {
     ghost use Rattle.schnellru.specs.Theorems.{KeepsValues};
     ghost use Rattle.lru_caches.specs.Answers.{Remembered};
 
@@ -34,7 +35,7 @@ impl<K: Copy + Eq + Hash, V: Copy, F, L: Insertion<K, V, K>> Model for Memo<K, V
     ghost invariant = { λ m. KeepsValues L.offers };
 }
 
-impl<K: Copy + Eq + Hash, V: Copy, F: Fn(K) -> V, L: Insertion<K, V, K>> Memo<K, V, F, L> {
+impl<K: Copy + Eq + Hash, V, F: Fn(K) -> V, L: Insertion<K, V, K>> Memo<K, V, F, L> {
     /// Makes a memo of a function, with no results yet.
     ///
     /// The limiter has to store values as they come, as all limiters of `schnellru` do. The hasher of keys has known
@@ -55,6 +56,21 @@ impl<K: Copy + Eq + Hash, V: Copy, F: Fn(K) -> V, L: Insertion<K, V, K>> Memo<K,
         }
     }
 
+    /// Returns how many results are stored.
+    ///
+    /// Cost: `O(1)`.
+    ///
+    /// ```
+    /// assert_eq!(rt; (squares.answer(3), squares.len()), (9, 1));
+    /// ```
+    pub fn len(&self) -> usize
+        ensures { result ≡ length self.now.known }
+    {
+        self.map.len()
+    }
+}
+
+impl<K: Copy + Eq + Hash, V: Copy, F: Fn(K) -> V, L: Insertion<K, V, K>> Memo<K, V, F, L> {
     /// Returns what the function returns at a key: the stored result, or else the result of a call, which is stored.
     ///
     /// If the memo runs out of memory or its limiter rejects the result, the result is returned without being stored. If
@@ -77,18 +93,31 @@ impl<K: Copy + Eq + Hash, V: Copy, F: Fn(K) -> V, L: Insertion<K, V, K>> Memo<K,
     {
         remembered(&mut self.map, &self.function, key)
     }
+}
 
-    /// Returns how many results are stored.
+impl<K: Copy + Eq + Hash, V: Drop, F: Fn(K) -> V, L: Insertion<K, V, K>> Memo<K, V, F, L> {
+    /// Lends a closure what `answer` would return, and returns what the closure returns. The values need not be `Copy`.
     ///
-    /// Cost: `O(1)`.
+    /// The closure is called once. It is lent a result also if that is not stored.
     ///
     /// ```
-    /// assert_eq!(rt; (squares.answer(3), squares.len()), (9, 1));
+    /// let mut blocks = Memo::new(alloc, ByLength::new(9), |n: usize| vec![in alloc; 7u8; n].ok());
+    /// assert_eq!(rt; (blocks.answer_with(3, |block| block.is_some()), blocks.len()), (true, 1));
     /// ```
-    pub fn len(&self) -> usize
-        ensures { result ≡ length self.now.known }
+    ///
+    /// Cost: as `answer`, and a call of the closure.
+    pub fn answer_with<R, U: FnOnce(&V) -> R>(&mut self, key: K, read: U) -> R
+        requires callable { F.IsAlwaysCallable self.old.function }
+        requires readable { (value : Bor V) → U.pre read value }
+        requires known { AreAnswers K.eq (F.post self.old.function) self.old.known }
+        ensures answer { (value : Bor V) × IsAnswer K.eq (F.post self.old.function) key value.now
+            × U.post read value result }
+        ensures stored { IfSome (lookup (K.eq key) self.old.known)
+            (λ value. (shown : Bor V) × (shown.now ≡ value) × U.post read shown result) }
+        ensures known { AreAnswers K.eq (F.post self.new.function) self.new.known }
+        ensures function { self.new.function ≡ self.old.function }
     {
-        self.map.len()
+        read_remembered(&mut self.map, &self.function, key, read)
     }
 }
 
@@ -112,4 +141,32 @@ fn remembered<K: Copy + Eq + Hash, V: Copy, F: Fn(K) -> V, L: Insertion<K, V, K>
     let value = function(key);
     let _ = map.insert(key, value);
     value
+}
+
+// Lends the stored answer at a key to the closure, or else what the function returns, which is stored.
+fn read_remembered<
+    K: Copy + Eq + Hash,
+    V: Drop,
+    F: Fn(K) -> V,
+    L: Insertion<K, V, K>,
+    R,
+    U: FnOnce(&V) -> R,
+>(map: &mut LruMap<K, V, L>, function: &F, key: K, read: U) -> R
+    requires callable { F.IsAlwaysCallable function.now }
+    requires readable { (value : Bor V) → U.pre read value }
+    requires keeps { KeepsValues L.offers }
+    requires known { AreAnswers K.eq (F.post function.now) map.old.pairs }
+    ensures answer { (value : Bor V) × IsAnswer K.eq (F.post function.now) key value.now × U.post read value result }
+    ensures stored { IfSome (lookup (K.eq key) map.old.pairs)
+        (λ value. (shown : Bor V) × (shown.now ≡ value) × U.post read shown result) }
+    ensures known { AreAnswers K.eq (F.post function.now) map.new.pairs }
+{
+    laws::inserts_give_up_the_oldest::<K, V, K, L, RandomState>();
+    if let Some(value) = map.get(&key) {
+        return read(&*value);
+    }
+    let value = function(key);
+    let result = read(&value);
+    let _ = map.insert(key, value);
+    result
 }

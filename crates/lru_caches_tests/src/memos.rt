@@ -38,3 +38,21 @@ fn a_loader_reads_through(rt: HostRuntime) {
     );
     assert_eq!(rt; calls_left.get(), 6);
 }
+
+#[test]
+fn a_memo_lends_results_that_are_not_copied(rt: HostRuntime) {
+    let alloc = rt.alloc();
+    let mut blocks = Memo::new(
+        alloc,
+        ByLength::new(9),
+        |n: usize| vec![in alloc; 7u8; n].ok(),
+    );
+    assert_eq!(rt;
+        (blocks.answer_with(3, |block| block.is_some()), blocks.len()),
+        (true, 1)
+    );
+    assert_eq!(rt;
+        (blocks.answer_with(3, |block| block.is_some()), blocks.len()),
+        (true, 1)
+    );
+}

@@ -1,0 +1,45 @@
+use Rattle.std.proofs.Common.{◌≡◌, refl, sym, subst}
+use Rattle.std.specs.Borrow.{Bor}
+use Rattle.std.specs.Prelude.{IfSome}
+use Rattle.schnellru.proofs.CallerLemmas.{read-all, inserted-all, inserted-only}
+use Rattle.lru_caches.specs.Answers.{IsAnswer}
+use Rattle.lru_caches.proofs.StoredAnswers.{found_answer, inserted_answer}
+use Rattle.lru_caches.proofs.memo.read_remembered.Goals as goal
+
+pub returns-in-Some-clause-answer : goal.returns-in-Some-clause-answer
+returns-in-Some-clause-answer g c = (
+  _,
+  found_answer g.K.PartialEq.eq g.met.K.Eq.laws (goal.F-post g c.args.function.now) c.args.key c.args.map.now.pairs
+      c.in-Some.value.now c.requires.known (sym c.in-Some.ensures.value),
+  c.read.ensures,
+)
+
+pub returns-in-Some-clause-stored : goal.returns-in-Some-clause-stored
+returns-in-Some-clause-stored g c = subst
+    (λ found. IfSome found (λ value. (shown : Bor g.row.V.Denot) × (shown.now ≡ value)
+    × goal.U-post g c.args.read shown c.read.result)) c.in-Some.ensures.value (_, refl, c.read.ensures)
+
+pub returns-in-Some-clause-known : goal.returns-in-Some-clause-known
+returns-in-Some-clause-known g c =
+    let eq = g.K.PartialEq.eq in
+    read-all (eq c.args.key) c.args.map.now (λ p. IsAnswer eq (goal.F-post g c.args.function.now) p.0 p.1)
+    c.in-Some.value.now (sym c.in-Some.ensures.value) c.requires.known
+
+pub returns-clause-answer : goal.returns-clause-answer
+returns-clause-answer g c =
+    (_, (c.args.key, g.met.K.Eq.laws.refl c.args.key, c.function-value.ensures), c.read-result.ensures)
+
+pub returns-clause-known : goal.returns-clause-known
+returns-clause-known g c =
+    let eq = g.K.PartialEq.eq in
+    let key = c.args.key in
+    let value = c.function-value.result in
+    let post = goal.F-post g c.args.function.now in
+    let old = c.args.map.now in
+    let new = c.insert.new.self in
+    let insert = c.insert.ensures in
+    let gives_up = c.inserts_give_up_the_oldest.ensures key value old c.insert.result new insert.step in
+    let only = inserted-only c.requires.keeps _ eq key old new c.insert.result insert.says insert.stores in
+    inserted-all (λ p. IsAnswer eq post p.0 p.1) (eq key) old.pairs new.pairs gives_up c.requires.known
+    (λ p named found. inserted_answer eq g.met.K.Eq.laws post key p.0 value p.1 c.function-value.ensures named
+    (only p.1 found))
