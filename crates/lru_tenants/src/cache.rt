@@ -301,11 +301,11 @@ impl<
 }
 
 // What a put returns if the insert into the map of its tenant returns this.
-pub(super) fn put_answer(inserted: Result<bool, AllocError>) -> Result<bool, TenantError>
+pub(super) fn put_answer<R>(inserted: Result<R, AllocError>) -> Result<R, TenantError>
     ensures { result ≡ put_answer inserted }
 {
     match inserted {
-        Ok(there) => Ok(there),
+        Ok(inserted) => Ok(inserted),
         Err(_) => Err(TenantError::Memory),
     }
 }

@@ -59,6 +59,18 @@ fn of_calls_that_pass_entries(rt: HostRuntime) -> Result<(), Fail> {
 }
 
 #[test]
+fn of_values_that_come_back(rt: HostRuntime) -> Result<(), Fail> {
+    let mut cache: TenantCache<u64, u64, u64> = TenantCache::new(rt.alloc(), [1, 2, 3, 4], 16);
+    assert_eq!(rt; (cache.open(1, 3), cache.put(&1, 7, 2)), (Ok(()), Ok(true)));
+    let replaced = cache.put_full(&1, 7, 3, &mut |_, _| {})?;
+    assert_eq!(rt; (replaced.kept, replaced.unkept), (true, Some(2)));
+    let rejected = cache.put_full(&1, 8, 9, &mut |_, _| {})?;
+    assert_eq!(rt; (rejected.kept, rejected.unkept), (false, Some(9)));
+    assert_eq!(rt; (cache.entries(&1), cache.cost(&1)), (Ok(1), Ok(3)));
+    Ok(())
+}
+
+#[test]
 fn of_weights(rt: HostRuntime) -> Result<(), Fail> {
     let alloc = rt.alloc();
     let mut weighed: TenantCache<u64, u64, u64, ByWeight<16>, _> = TenantCache::with_hasher(

@@ -1,4 +1,4 @@
-use Rattle.std.proofs.Common.{◌≡◌, ◌∙◌, false, ap, subst, arith, inl, inr, sum_by}
+use Rattle.std.proofs.Common.{◌∙◌, ap, subst, arith, inl, inr, sum_by}
 use Rattle.schnellru.specs.Runs.Step.{trims}
 use Rattle.schnellru.specs.State.{Trims}
 use Rattle.lru_tenants.specs.Cache.{with_limiter}
