@@ -165,6 +165,7 @@ pub(crate) fn set_budget<
     ensures handed { (handed : List (K × V)) × Takes F.FnMut sink.old handed sink.new
         × TrimHands L.rules (with_limiter (L.rebudgeted budget map.old.limiter) map.old) handed map.new }
     ensures callable { F.IsAlwaysCallable sink.new }
+    ensures budget { L.budget_of map.new.limiter ≡ budget }
     ensures tenant { IsTenant K.eq L.cost_of L.account L.budget_of map.new }
 {
     laws::calls_keep_sums::<K, V, K, L, S>();

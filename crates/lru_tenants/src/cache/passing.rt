@@ -1,9 +1,9 @@
 //! Calls that pass what leaves a tenant to a callback.
-ghost use Rattle.std.specs.Prelude.{◌≡◌, List, Some, true, false, Ok, IfOk, IfSome};
+ghost use Rattle.std.specs.Prelude.{◌≡◌, ◌+◌, List, Some, true, false, Ok, IfOk, IfSome};
 ghost use Rattle.schnellru.specs.HandedOver.{Takes};
 ghost use Rattle.schnellru.specs.Inserts.{kept_of};
 ghost use Rattle.schnellru.specs.State.{Trims};
-ghost use Rattle.lru_tenants.specs.Cache.{tenant, with_limiter, AreTenants};
+ghost use Rattle.lru_tenants.specs.Cache.{tenant, budgets, with_limiter, AreTenants};
 ghost use Rattle.lru_tenants.specs.PutFulls.{comes_back, rejects};
 ghost use Rattle.lru_tenants.specs.TenantRuns.{IfOpen, PassesOn, Puts, PutHands, BudgetHands, Closes, CloseHands, On};
 
@@ -118,6 +118,8 @@ impl<
         requires callable { F.IsAlwaysCallable sink.old }
         ensures sets { On N.eq name.now (IfOpen (λ old done new. Trims L.rules (with_limiter (L.rebudgeted budget old.limiter) old) new))
             self.old result self.new }
+        ensures total { IfSome (tenant (N.eq name.now) self.old) (λ map.
+            budgets L.budget_of self.new + L.budget_of map.limiter ≡ budgets L.budget_of self.old + budget) }
         ensures handed { (handed : List (K × V)) × Takes F.FnMut sink.old handed sink.new × On N.eq name.now
             (PassesOn (BudgetHands L.rules (L.rebudgeted budget))) self.old handed self.new }
         ensures callable { F.IsAlwaysCallable sink.new }
