@@ -137,7 +137,7 @@ impl<N: Eq + Hash, K: Eq + Hash, V, L: Budgeted<K, V>, S: KeyHasher<K> + Copy> T
     /// Returns the sum of the costs of the entries of all tenants. It is at most the sum of their budgets.
     ///
     /// ```
-    /// assert_eq!(rt; cache.total_cost(), 2);
+    /// assert_eq!(rt; (cache.total_cost(), cache.total_budget()), (2, 3));
     /// ```
     ///
     /// Cost: `O(1)` for each tenant.
@@ -155,7 +155,7 @@ impl<N: Eq + Hash, K: Eq + Hash, V, L: Budgeted<K, V>, S: KeyHasher<K> + Copy> T
     /// Returns the sum of the budgets of all tenants.
     ///
     /// ```
-    /// assert_eq!(rt; cache.total_budget(), 3);
+    /// assert_eq!(rt; (cache.total_cost(), cache.total_budget()), (2, 3));
     /// ```
     ///
     /// Cost: `O(1)` for each tenant.
