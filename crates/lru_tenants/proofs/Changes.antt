@@ -1,7 +1,6 @@
 -- What a call leaves of the tenant that it names is what it leaves of the cache.
-use Rattle.std.proofs.Common.{◌≡◌, ℕ, Bool, true, false, cond, List, Option, Some, None, is_some, Err, sym, ap}
-use Rattle.std.proofs.Common.{refl}
-use Rattle.std.proofs.Common.{subst}
+use Rattle.std.proofs.Common.{◌≡◌, ℕ, Bool, true, false, cond, Option, Some, None, is_some, Err, sym, ap}
+use Rattle.std.proofs.Common.{refl, subst, ◌∙◌}
 use Rattle.std.proofs.lemmas.Bool.{true≢false}
 use Rattle.std.specs.Cmp.{IsEquivalence}
 use Rattle.std.specs.HashMap.{HashMap, UpdatesBy, WritesThrough, values, get_by}
@@ -99,6 +98,13 @@ module _ {N K V L S : Type 0} (names : N → N → Bool) where
     pub all-removed : All Holds (values old)
         → IsPermutation (remove_entry (names name) old.entries) new.entries → All Holds (values new)
     all-removed all is = kept-removed Holds (names name) old new all is
+
+  -- it has what is written
+  pub tenant-written : IsEquivalence names → (name : N) (old new : HashMap N (State K V L S) S)
+      (was left : State K V L S) → get_by (names name) old ≡ Some was → WritesThrough names (names name) old left new
+      → get_by (names name) new ≡ Some left
+  tenant-written laws name old new was left there writes = (writes.3 (ap is_some there)).0 name
+      ∙ ap (λ b. cond b (Some left) (get_by (names name) old)) (laws.refl name)
 
   module _ (name : N) (hasher : S) (entry_bytes : ℕ) (old new : HashMap N (State K V L S) S) where
     pub on-written : (was left : State K V L S) → get_by (names name) old ≡ Some was

@@ -1,5 +1,5 @@
 -- A run of calls on a cache, for one tenant.
-use Rattle.std.proofs.Common.{◌≡◌, Bool, cond, List, [], ◌∷◌, Option, ap, ◌∙◌}
+use Rattle.std.proofs.Common.{◌≡◌, Bool, List, [], ◌∷◌, Option, ap, ◌∙◌}
 use Rattle.schnellru.specs.State.{State}
 use Rattle.lru_tenants.specs.Cache.{Cache, tenant}
 use Rattle.lru_tenants.specs.Isolation.{CacheRun, last_left}

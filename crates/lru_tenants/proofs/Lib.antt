@@ -5,3 +5,4 @@ pub mod Gets
 pub mod Isolations
 pub mod OwnRuns
 pub mod TotalCosts
+pub mod PutFulls

@@ -1,5 +1,6 @@
 -- The sum over all tenants.
-use Rattle.std.proofs.Common.{◌≡◌, ◌≤◌, ◌+◌, ℕ, List, [], ◌∷◌, map, refl, sym, ap, ◌∙◌, arith, sum_by}
+use Rattle.std.proofs.Common.{◌≡◌, ◌≤◌, ◌+◌, ℕ, List, [], ◌∷◌, Option, None, map, refl, sym, ap, ◌∙◌, arith, sum_by}
+use Rattle.std.specs.Option.{option_map, unwrap_or}
 use Rattle.std.specs.List.{All}
 use Rattle.std.proofs.lemmas.List.Sums.{sum_by-cons}
 use Rattle.std.proofs.lemmas.List.Elements.{All-head, All-tail}
@@ -19,3 +20,9 @@ at-most f g (x ∷ xs) all = omega (
   All-head (λ x. f x ≤ g x) x xs all,
   at-most f g xs (All-tail (λ x. f x ≤ g x) x xs all),
 )
+
+-- a sum with one term more, if nothing was replaced
+pub opened : {X : Type 0} (f : X → ℕ) (old : Option X) (new was own budget : ℕ) → old ≡ None
+    → new + unwrap_or (option_map f old) 0 ≡ was + own → own ≡ budget → new ≡ was + budget
+opened f old new was own budget none sum is =
+    omega (arith, ap (λ o. unwrap_or (option_map f o) 0) none, sum, is)

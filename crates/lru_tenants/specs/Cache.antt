@@ -1,5 +1,5 @@
 -- A cache of tenants: a map for each that is open.
-use Rattle.std.specs.Prelude.{◌≡◌, ℕ, ◌≤◌, Bool, List, cond, Option}
+use Rattle.std.specs.Prelude.{◌≡◌, ℕ, ◌≤◌, Bool, List, cond, Option, sum_by}
 use Rattle.std.specs.List.{All}
 use Rattle.std.specs.Map.{values_of}
 use Rattle.schnellru.specs.Lists.{lookup}
@@ -45,3 +45,7 @@ module _ {N K V L S : Type 0} where
   -- it holds of each
   abbrev pub AreTenants : (K → K → Bool) → (K → V → ℕ) → (L → ℕ) → (L → ℕ) → Cache N K V L S → Type 0
   AreTenants eq cost account budget cache = All (IsTenant eq cost account budget) (values_of cache.tenants)
+
+  -- the sum of the budgets of all tenants
+  abbrev pub budgets : (L → ℕ) → Cache N K V L S → ℕ
+  budgets budget cache = sum_by (λ map. budget map.limiter) (values_of cache.tenants)

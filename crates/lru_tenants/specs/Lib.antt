@@ -5,3 +5,4 @@ pub mod TenantRuns
 pub mod Lending
 pub mod Others
 pub mod GetOrPuts
+pub mod PutFulls

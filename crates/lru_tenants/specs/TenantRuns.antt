@@ -2,7 +2,7 @@
 --     rules, offers       what the limiter says (`Rules`, `Offers` of `lru_limits`)
 --     fresh budget        the empty map with which a tenant opens
 --     hash_of h k         the hash of the key k, by the hasher h
-use Rattle.std.specs.Prelude.{◌≡◌, ◌⊎◌, ℕ, Bool, true, false, List, [], ◌∷◌, length, reverse, Option, Some, None, option_map, IfSome}
+use Rattle.std.specs.Prelude.{◌≡◌, ◌⊎◌, ℕ, Bool, List, [], length, reverse, Option, Some, None, option_map, IfSome}
 use Rattle.std.specs.Prelude.{Result, Ok, Err}
 use Rattle.std.specs.declared.alloc.AllocError.{AllocError}
 use Rattle.lru_limits.specs.Rules.{Rules, Offers}
@@ -30,8 +30,8 @@ module _ {N K V : Type 0} where
   named (calls.Close name) = name
 
 -- how a put returns what an insert returns
-abbrev pub put_answer : Result Bool AllocError → Result Bool TenantError
-put_answer (Ok there) = Ok there
+abbrev pub put_answer : {R : Type 0} → Result R AllocError → Result R TenantError
+put_answer (Ok inserted) = Ok inserted
 put_answer (Err e) = Err Memory
 
 -- what each call may answer, and what it leaves of its tenant; `None` is a tenant that is not open

@@ -1,12 +1,12 @@
 //! `TenantCache`. A contract sees a cache as its open tenants, each with its map.
-ghost use Rattle.std.specs.Prelude.{◌≡◌, [], length};
+ghost use Rattle.std.specs.Prelude.{◌≡◌, ◌+◌, [], length, Ok, IfSome};
 ghost use Rattle.std.specs.List.{IsDistinct};
 ghost use Rattle.std.specs.Map.{keys_of};
 ghost use Rattle.lru_limits.specs.Mixing.{seeded};
 ghost use Rattle.schnellru.specs.Calls.{Remove, cleared};
 ghost use Rattle.schnellru.specs.Lists.{is_empty};
 ghost use Rattle.schnellru.specs.State.{Trims};
-ghost use Rattle.lru_tenants.specs.Cache.{tenant, fresh, with_limiter, IsTenant, AreTenants};
+ghost use Rattle.lru_tenants.specs.Cache.{tenant, budgets, fresh, with_limiter, IsTenant, AreTenants};
 ghost use Rattle.lru_tenants.specs.TenantRuns.{put_answer, IfOpen, Opens, Puts, Closes, On};
 
 use crate::error::TenantError;
@@ -21,6 +21,7 @@ use std::marker::Model;
 mod get_or_put;
 mod passing;
 mod reading;
+mod totals;
 
 /// A cache for many tenants, each with a name. Each tenant has a map, limited by a budget of its own.
 ///
@@ -165,6 +166,7 @@ impl<
     pub fn open(&mut self, name: N, budget: u64) -> Result<(), TenantError>
         ensures opens { On N.eq name (Opens (fresh L.made (L.LinkType.number L.LinkType.MAX) self.old budget))
             self.old result self.new }
+        ensures total { result ≡ Ok tt → budgets L.budget_of self.new ≡ budgets L.budget_of self.old + budget }
         ensures tenants { AreTenants K.eq L.cost_of L.account L.budget_of self.new }
     {
         if self.tenants.contains_key(&name) {
@@ -269,6 +271,8 @@ impl<
     pub fn set_budget(&mut self, name: &N, budget: u64) -> Result<(), TenantError>
         ensures sets { On N.eq name.now (IfOpen (λ old done new. Trims L.rules (with_limiter (L.rebudgeted budget old.limiter) old) new)) self.old
             result self.new }
+        ensures total { IfSome (tenant (N.eq name.now) self.old) (λ map.
+            budgets L.budget_of self.new + L.budget_of map.limiter ≡ budgets L.budget_of self.old + budget) }
         ensures tenants { AreTenants K.eq L.cost_of L.account L.budget_of self.new }
     {
         let Some(own) = self.tenants.get_mut(name) else {
@@ -301,11 +305,11 @@ impl<
 }
 
 // What a put returns if the insert into the map of its tenant returns this.
-pub(super) fn put_answer(inserted: Result<bool, AllocError>) -> Result<bool, TenantError>
+pub(super) fn put_answer<R>(inserted: Result<R, AllocError>) -> Result<R, TenantError>
     ensures { result ≡ put_answer inserted }
 {
     match inserted {
-        Ok(there) => Ok(there),
+        Ok(inserted) => Ok(inserted),
         Err(_) => Err(TenantError::Memory),
     }
 }

@@ -19,3 +19,4 @@ pub use laws::{
 };
 pub use lru_limits::{Budgeted, ByCost, ByWeight, Costed};
 pub use runs::run_tenants;
+pub use schnellru::Inserted;

@@ -1,18 +1,19 @@
 //! What calls do to the map of a tenant. Each keeps what holds of it: the running total is the sum of the costs, and
 //! within the budget.
-ghost use Rattle.std.specs.Prelude.{◌≡◌, List, length, reverse, None, option_map};
+ghost use Rattle.std.specs.Prelude.{◌≡◌, true, false, List, length, reverse, Some, None, option_map, Ok, IfOk};
 ghost use Rattle.std.specs.Option.{option_copied};
 ghost use Rattle.schnellru.specs.Calls.{Remove, cleared};
 ghost use Rattle.schnellru.specs.GetOrInserts.{MakesNewest};
 ghost use Rattle.schnellru.specs.HandedOver.{Takes, InsertHands, TrimHands};
-ghost use Rattle.schnellru.specs.Inserts.{Insert};
+ghost use Rattle.schnellru.specs.Inserts.{Insert, kept_of};
 ghost use Rattle.schnellru.specs.Lists.{lookup, first};
 ghost use Rattle.schnellru.specs.State.{Trims};
 ghost use Rattle.lru_tenants.specs.Cache.{IsTenant, with_limiter};
+ghost use Rattle.lru_tenants.specs.PutFulls.{comes_back, rejects};
 
 use crate::laws::calls_keep_the_budget;
 use lru_limits::Budgeted;
-use schnellru::{KeyHasher, LookupKey, LruMap, laws};
+use schnellru::{Inserted, KeyHasher, LookupKey, LruMap, laws};
 use std::alloc::AllocError;
 use std::hash::Hash;
 
@@ -38,6 +39,49 @@ pub(crate) fn insert<
     laws::calls_keep_sums::<K, V, K, L, S>();
     calls_keep_the_budget::<K, V, L, S>();
     map.insert_with(key, value, sink)
+}
+
+// An insert that returns the value that the map does not keep, a rejected one too.
+pub(crate) fn insert_full<
+    K: Eq + Hash + Drop,
+    V: Drop,
+    L: Budgeted<K, V>,
+    S: KeyHasher<K>,
+    F: FnMut(K, V),
+>(map: &mut LruMap<K, V, L, S>, key: K, value: V, sink: &mut F) -> Result<Inserted<V>, AllocError>
+    requires tenant { IsTenant K.eq L.cost_of L.account L.budget_of map.old }
+    requires callable { F.IsAlwaysCallable sink.old }
+    ensures inserts { Insert L.rules L.offers K.eq S.hash_of key value map.old (kept_of result) map.new }
+    ensures unkept { IfOk result (λ inserted. inserted.unkept
+        ≡ comes_back L.accepts_new K.eq key value L.rules L.offers map.old) }
+    ensures rejects { rejects L.accepts_new K.eq key value map.old ≡ true →
+        (result ≡ Ok (record { kept = false; unkept = Some value })) × (map.new ≡ map.old) }
+    ensures handed { (handed : List (K × V)) × Takes F.FnMut sink.old handed sink.new
+        × InsertHands L.rules L.offers K.eq S.hash_of key value map.old (kept_of result) handed map.new }
+    ensures callable { F.IsAlwaysCallable sink.new }
+    ensures budget { L.budget_of map.new.limiter ≡ L.budget_of map.old.limiter }
+    ensures tenant { IsTenant K.eq L.cost_of L.account L.budget_of map.new }
+{
+    if rejects(map, &key, &value) {
+        return Ok(Inserted {
+            kept: false,
+            unkept: Some(value),
+        });
+    }
+    laws::calls_keep_sums::<K, V, K, L, S>();
+    calls_keep_the_budget::<K, V, L, S>();
+    map.insert_full(key, value, sink)
+}
+
+// Whether the limiter rejects an entry of a new key. The key is looked up only if it does.
+fn rejects<K: Eq + Hash, V, L: Budgeted<K, V>, S: KeyHasher<K>>(
+    map: &LruMap<K, V, L, S>,
+    key: &K,
+    value: &V,
+) -> bool
+    ensures { result ≡ rejects L.accepts_new K.eq key.now value.now map.now }
+{
+    !map.limiter().has_room_for(key, value) && !map.contains(key)
 }
 
 // A get that inserts the key if it is not there.
@@ -121,6 +165,7 @@ pub(crate) fn set_budget<
     ensures handed { (handed : List (K × V)) × Takes F.FnMut sink.old handed sink.new
         × TrimHands L.rules (with_limiter (L.rebudgeted budget map.old.limiter) map.old) handed map.new }
     ensures callable { F.IsAlwaysCallable sink.new }
+    ensures budget { L.budget_of map.new.limiter ≡ budget }
     ensures tenant { IsTenant K.eq L.cost_of L.account L.budget_of map.new }
 {
     laws::calls_keep_sums::<K, V, K, L, S>();

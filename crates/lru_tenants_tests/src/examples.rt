@@ -9,7 +9,7 @@ fn of_the_cache(rt: HostRuntime) -> Result<(), Fail> {
     assert_eq!(rt; cache.open(1, 3), Ok(()));
     assert_eq!(rt; cache.put(&1, 7, 2), Ok(true));
     assert_eq!(rt; cache.cost(&1), Ok(2));
-    assert_eq!(rt; cache.total_cost(), 2);
+    assert_eq!(rt; (cache.total_cost(), cache.total_budget()), (2, 3));
     assert_eq!(rt; cache.names().next(), Some(&1));
     assert_eq!(rt; cache.peek(&1, &7), Ok(Some(&2)));
     assert_eq!(rt; cache.entries(&1), Ok(1));
@@ -59,6 +59,32 @@ fn of_calls_that_pass_entries(rt: HostRuntime) -> Result<(), Fail> {
 }
 
 #[test]
+fn of_values_that_come_back(rt: HostRuntime) -> Result<(), Fail> {
+    let mut cache: TenantCache<u64, u64, u64> = TenantCache::new(rt.alloc(), [1, 2, 3, 4], 16);
+    assert_eq!(rt; (cache.open(1, 3), cache.put(&1, 7, 2)), (Ok(()), Ok(true)));
+    let replaced = cache.put_full(&1, 7, 3, &mut |_, _| {})?;
+    assert_eq!(rt; (replaced.kept, replaced.unkept), (true, Some(2)));
+    let rejected = cache.put_full(&1, 8, 9, &mut |_, _| {})?;
+    assert_eq!(rt; (rejected.kept, rejected.unkept), (false, Some(9)));
+    assert_eq!(rt; (cache.entries(&1), cache.cost(&1)), (Ok(1), Ok(3)));
+    Ok(())
+}
+
+#[test]
+fn of_totals(rt: HostRuntime) -> Result<(), Fail> {
+    let mut cache: TenantCache<u64, u64, u64> = TenantCache::new(rt.alloc(), [1, 2, 3, 4], 16);
+    assert_eq!(rt; cache.open_within(1, 3, 5), Ok(()));
+    assert_eq!(rt; cache.open_within(2, 3, 5), Err(TenantError::OverTotal));
+    assert_eq!(rt;
+        cache.set_budget_within(&1, 6, 5),
+        Err(TenantError::OverTotal)
+    );
+    assert_eq!(rt; cache.set_budget_within(&1, 5, 5), Ok(()));
+    assert_eq!(rt; (cache.len(), cache.total_budget()), (1, 5));
+    Ok(())
+}
+
+#[test]
 fn of_weights(rt: HostRuntime) -> Result<(), Fail> {
     let alloc = rt.alloc();
     let mut weighed: TenantCache<u64, u64, u64, ByWeight<16>, _> = TenantCache::with_hasher(
@@ -89,6 +115,7 @@ fn of_the_errors(rt: HostRuntime) -> Result<(), Fail> {
         (TenantError::AlreadyOpen, "already open", 1),
         (TenantError::NotOpen, "not open", 2),
         (TenantError::Memory, "no memory", 3),
+        (TenantError::OverTotal, "over the total", 4),
     ] {
         assert_eq!(rt; format!(in rt.alloc(); "{error}")?.as_str(), text);
         assert_eq!(rt; error as u8, number);

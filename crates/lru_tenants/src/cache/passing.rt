@@ -1,15 +1,17 @@
 //! Calls that pass what leaves a tenant to a callback.
-ghost use Rattle.std.specs.Prelude.{List};
+ghost use Rattle.std.specs.Prelude.{◌≡◌, ◌+◌, List, Some, true, false, Ok, IfOk, IfSome};
 ghost use Rattle.schnellru.specs.HandedOver.{Takes};
+ghost use Rattle.schnellru.specs.Inserts.{kept_of};
 ghost use Rattle.schnellru.specs.State.{Trims};
-ghost use Rattle.lru_tenants.specs.Cache.{with_limiter, AreTenants};
+ghost use Rattle.lru_tenants.specs.Cache.{tenant, budgets, with_limiter, AreTenants};
+ghost use Rattle.lru_tenants.specs.PutFulls.{comes_back, rejects};
 ghost use Rattle.lru_tenants.specs.TenantRuns.{IfOpen, PassesOn, Puts, PutHands, BudgetHands, Closes, CloseHands, On};
 
 use crate::cache::{TenantCache, put_answer};
 use crate::error::TenantError;
-use crate::tenant::{empty, insert, set_budget};
+use crate::tenant::{empty, insert, insert_full, set_budget};
 use lru_limits::Budgeted;
-use schnellru::KeyHasher;
+use schnellru::{Inserted, KeyHasher};
 use std::hash::Hash;
 
 impl<
@@ -53,6 +55,47 @@ impl<
         put_answer(insert(own, key, value, sink))
     }
 
+    /// The same as `put_with`, and returns the value that the tenant does not keep: the old value of the key, or the new
+    /// value if the limiter rejects it.
+    ///
+    /// If a new key's entry is rejected, the tenant stays as it is, and the key is dropped.
+    ///
+    /// ```
+    /// let replaced = cache.put_full(&1, 7, 3, &mut |_, _| {})?;
+    /// assert_eq!(rt; (replaced.kept, replaced.unkept), (true, Some(2)));
+    /// let rejected = cache.put_full(&1, 8, 9, &mut |_, _| {})?;
+    /// assert_eq!(rt; (rejected.kept, rejected.unkept), (false, Some(9)));
+    /// ```
+    ///
+    /// Cost: as `put_with`, with a second look-up of a key if the limiter has no room for its entry.
+    ///
+    /// # Errors
+    ///
+    /// As `put`. After `NotOpen` key and value are dropped; after `Memory` the callback got both.
+    pub fn put_full<F: FnMut(K, V)>(
+        &mut self,
+        name: &N,
+        key: K,
+        value: V,
+        sink: &mut F,
+    ) -> Result<Inserted<V>, TenantError>
+        requires callable { F.IsAlwaysCallable sink.old }
+        ensures puts { On N.eq name.now (Puts L.rules L.offers L.budget_of K.eq S.hash_of key value) self.old (kept_of result) self.new }
+        ensures unkept { IfOk result (λ inserted. IfSome (tenant (N.eq name.now) self.old) (λ map. inserted.unkept
+            ≡ comes_back L.accepts_new K.eq key value L.rules L.offers map)) }
+        ensures rejects { IfSome (tenant (N.eq name.now) self.old) (λ map. rejects L.accepts_new K.eq key value map ≡ true →
+            (result ≡ Ok (record { kept = false; unkept = Some value })) × (tenant (N.eq name.now) self.new ≡ Some map)) }
+        ensures handed { (handed : List (K × V)) × Takes F.FnMut sink.old handed sink.new × On N.eq name.now
+            (PassesOn (PutHands L.rules L.offers L.budget_of K.eq S.hash_of key value)) self.old handed self.new }
+        ensures callable { F.IsAlwaysCallable sink.new }
+        ensures tenants { AreTenants K.eq L.cost_of L.account L.budget_of self.new }
+    {
+        let Some(own) = self.tenants.get_mut(name) else {
+            return Err(TenantError::NotOpen);
+        };
+        put_answer(insert_full(own, key, value, sink))
+    }
+
     /// The same as `set_budget`, and passes each evicted entry to the callback, oldest first.
     ///
     /// ```
@@ -75,6 +118,8 @@ impl<
         requires callable { F.IsAlwaysCallable sink.old }
         ensures sets { On N.eq name.now (IfOpen (λ old done new. Trims L.rules (with_limiter (L.rebudgeted budget old.limiter) old) new))
             self.old result self.new }
+        ensures total { IfSome (tenant (N.eq name.now) self.old) (λ map.
+            budgets L.budget_of self.new + L.budget_of map.limiter ≡ budgets L.budget_of self.old + budget) }
         ensures handed { (handed : List (K × V)) × Takes F.FnMut sink.old handed sink.new × On N.eq name.now
             (PassesOn (BudgetHands L.rules (L.rebudgeted budget))) self.old handed self.new }
         ensures callable { F.IsAlwaysCallable sink.new }

@@ -3,7 +3,7 @@ ghost use Rattle.std.specs.Prelude.{◌≡◌, ◌≤◌, length, sum_by};
 ghost use Rattle.std.specs.Borrow.{sem};
 ghost use Rattle.std.specs.Map.{keys_of, values_of};
 ghost use Rattle.std.specs.Map.Iter.{ShowsInOrder, deref};
-ghost use Rattle.lru_tenants.specs.Cache.{tenant, AreTenants};
+ghost use Rattle.lru_tenants.specs.Cache.{tenant, budgets, AreTenants};
 ghost use Rattle.lru_tenants.specs.TenantRuns.{read_of, got, Gets, Costs, On};
 ghost use Rattle.lru_tenants.specs.Lending.{read};
 
@@ -137,7 +137,7 @@ impl<N: Eq + Hash, K: Eq + Hash, V, L: Budgeted<K, V>, S: KeyHasher<K> + Copy> T
     /// Returns the sum of the costs of the entries of all tenants. It is at most the sum of their budgets.
     ///
     /// ```
-    /// assert_eq!(rt; cache.total_cost(), 2);
+    /// assert_eq!(rt; (cache.total_cost(), cache.total_budget()), (2, 3));
     /// ```
     ///
     /// Cost: `O(1)` for each tenant.
@@ -148,6 +148,24 @@ impl<N: Eq + Hash, K: Eq + Hash, V, L: Budgeted<K, V>, S: KeyHasher<K> + Copy> T
         let mut sum = 0u128;
         for map in self.tenants.values() {
             sum += map.limiter().account() as u128;
+        }
+        sum
+    }
+
+    /// Returns the sum of the budgets of all tenants.
+    ///
+    /// ```
+    /// assert_eq!(rt; (cache.total_cost(), cache.total_budget()), (2, 3));
+    /// ```
+    ///
+    /// Cost: `O(1)` for each tenant.
+    pub fn total_budget(&self) -> u128
+        ensures total { result ≡ budgets L.budget_of self.now }
+        ensures tenants { AreTenants K.eq L.cost_of L.account L.budget_of self.now }
+    {
+        let mut sum = 0u128;
+        for map in self.tenants.values() {
+            sum += map.limiter().budget() as u128;
         }
         sum
     }

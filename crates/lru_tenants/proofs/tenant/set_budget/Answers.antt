@@ -1,4 +1,4 @@
-use Rattle.std.proofs.Common.{◌≡◌, ◌∙◌, false, ap, subst, arith, inl, inr, sum_by}
+use Rattle.std.proofs.Common.{◌∙◌, ap, subst, arith, inl, inr, sum_by}
 use Rattle.schnellru.specs.Runs.Step.{trims}
 use Rattle.schnellru.specs.State.{Trims}
 use Rattle.lru_tenants.specs.Cache.{with_limiter}
@@ -22,3 +22,12 @@ returns-clause-tenant g c =
         | inr within ↦ not_over laws new.limiter _ within
       ];
     }
+
+pub returns-clause-budget : goal.returns-clause-budget
+returns-clause-budget g c =
+    let new = c.trim_with.new.self in
+    let old = with_limiter (g.L.Budgeted.rebudgeted c.args.budget c.args.map.now.limiter) c.args.map.now in
+    let limiter = c.set_budget.ensures ∙ ap (g.L.Budgeted.rebudgeted c.args.budget) c.limiter_mut.ensures.value in
+    let step = subst (λ l. Trims g.L.Limiter.rules (with_limiter l c.args.map.now) new) limiter c.trim_with.ensures.step in
+    c.calls_keep_the_budget.ensures.budget old new (trims step)
+    ∙ g.met.L.Budgeted.laws.set_budget c.args.budget c.args.map.now.limiter

@@ -1,5 +1,7 @@
 use Rattle.std.proofs.Common.{inl, inr, Some, None, Ok, Err, sym, refl, ◌∙◌, ap}
 use Rattle.std.proofs.lemmas.Map.Views.{All-values-PutsEntry}
+use Rattle.std.proofs.lemmas.Map.Entries.{sum_by_puts_entry}
+use Rattle.lru_tenants.proofs.TotalCosts.{opened}
 use Rattle.lru_tenants.specs.Cache.{tenant, fresh, IsTenant}
 use Rattle.lru_tenants.specs.TenantRuns.{Opens}
 use Rattle.lru_tenants.specs.declared.error.TenantError.TheVariants.{Memory}
@@ -48,3 +50,14 @@ returns-clause-opens g c =
 pub returns-clause-tenants : goal.returns-clause-tenants
 returns-clause-tenants g c =
     rw (c.in-Err.ensures.err) c.self.invariant.0
+
+pub returns-in-Ok-clause-total : goal.returns-in-Ok-clause-total
+returns-in-Ok-clause-total g c =
+    let cache = cache_of c.self.inside.tenants c.self.inside.hasher c.self.inside.entry_bytes in
+    let absent = absent-from (tenant (g.N.PartialEq.eq c.args.name) cache) (sym c.contains_key.ensures ∙ c.if-contains_key.false) in
+    let none = c.in-Ok.ensures.old ∙ absent in
+    let sum = sum_by_puts_entry (λ map. g.L.Budgeted.budget_of map.limiter) g.N.PartialEq.eq c.self.inside.tenants c.insert.new.self
+    c.args.name c.fresh-map.result c.in-Ok.field-0 c.in-Ok.ensures.old c.in-Ok.ensures.entries in
+    let own = ap (λ map. g.L.Budgeted.budget_of map.limiter) c.fresh-map.ensures.map
+    ∙ g.met.L.Budgeted.laws.made_budget c.args.budget in
+    rw (← c.self.view_is) (λ ok. opened _ _ _ _ _ _ none sum own)

@@ -1,5 +1,8 @@
-use Rattle.std.proofs.Common.{sym, refl, ◌∙◌}
-use Rattle.schnellru.specs.State.{Trims}
+use Rattle.std.proofs.Common.{◌≡◌, ◌+◌, sym, refl, ◌∙◌, ap, subst, sum_by}
+use Rattle.std.specs.Map.{values_of}
+use Rattle.std.specs.Prelude.{IfSome}
+use Rattle.std.proofs.lemmas.Map.Entries.{sum_by-set_value}
+use Rattle.schnellru.specs.State.{State, Trims}
 use Rattle.lru_tenants.specs.Cache.{with_limiter}
 use Rattle.lru_tenants.specs.Cache.{IsTenant}
 use Rattle.lru_tenants.specs.TenantRuns.{IfOpen}
@@ -23,3 +26,13 @@ returns-clause-sets g c = let u = c.set_budget.new.map in
     (sym c.in-Some.ensures.value) (c.get_mut.follows.holds u)
     (IfOpen (λ old done new. Trims g.L.Limiter.rules (with_limiter (g.L.Budgeted.rebudgeted c.args.budget old.limiter) old) new)) _
     (tt, u, c.set_budget.ensures.trims, refl, refl))
+
+pub returns-clause-total : goal.returns-clause-total
+returns-clause-total g c = let u = c.set_budget.new.map in
+    let there = sym c.in-Some.ensures.value in
+    let f = λ (map : State g.row.K.Denot g.row.V.Denot g.row.L.Denot g.row.S.Denot). g.L.Budgeted.budget_of map.limiter in
+    let sum = ap (λ entries. sum_by f (values_of entries) + f c.in-Some.own.now) (c.get_mut.follows.holds u).0
+    ∙ sum_by-set_value f (g.N.PartialEq.eq c.args.name.now) c.self.inside.tenants.entries c.in-Some.own.now u there
+    ∙ ap (λ n. sum_by f (values_of c.self.inside.tenants.entries) + n) c.set_budget.ensures.budget in
+    rw (← c.self.view_is) (subst (λ o. IfSome o (λ map. sum_by f (values_of (c.get_mut.follows.lender u).entries) + f map
+    ≡ sum_by f (values_of c.self.inside.tenants.entries) + c.args.budget)) c.in-Some.ensures.value sum)

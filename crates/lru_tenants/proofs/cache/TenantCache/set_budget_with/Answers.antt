@@ -1,5 +1,8 @@
-use Rattle.std.proofs.Common.{[], None, sym, refl, ◌∙◌}
-use Rattle.schnellru.specs.State.{Trims}
+use Rattle.std.proofs.Common.{◌≡◌, ◌+◌, [], None, sym, refl, ◌∙◌, ap, subst, sum_by}
+use Rattle.std.specs.Map.{values_of}
+use Rattle.std.specs.Prelude.{IfSome}
+use Rattle.std.proofs.lemmas.Map.Entries.{sum_by-set_value}
+use Rattle.schnellru.specs.State.{State, Trims}
 use Rattle.lru_tenants.specs.Cache.{with_limiter}
 use Rattle.lru_tenants.specs.Cache.{IsTenant}
 use Rattle.lru_tenants.specs.TenantRuns.{IfOpen, BudgetHands, PassesOn}
@@ -44,3 +47,13 @@ returns-in_default-clause-handed g c =
           g.met.N.Eq.laws (cache_of c.self.inside.tenants c.self.inside.hasher c.self.inside.entry_bytes) None
           (sym c.in_default.ensures.value) (refl, refl),
     )
+
+pub returns-clause-total : goal.returns-clause-total
+returns-clause-total g c = let u = c.set_budget.new.map in
+    let there = sym c.in-Some.ensures.value in
+    let f = λ (map : State g.row.K.Denot g.row.V.Denot g.row.L.Denot g.row.S.Denot). g.L.Budgeted.budget_of map.limiter in
+    let sum = ap (λ entries. sum_by f (values_of entries) + f c.in-Some.own.now) (c.get_mut.follows.holds u).0
+    ∙ sum_by-set_value f (g.N.PartialEq.eq c.args.name.now) c.self.inside.tenants.entries c.in-Some.own.now u there
+    ∙ ap (λ n. sum_by f (values_of c.self.inside.tenants.entries) + n) c.set_budget.ensures.budget in
+    rw (← c.self.view_is) (subst (λ o. IfSome o (λ map. sum_by f (values_of (c.get_mut.follows.lender u).entries) + f map
+    ≡ sum_by f (values_of c.self.inside.tenants.entries) + c.args.budget)) c.in-Some.ensures.value sum)

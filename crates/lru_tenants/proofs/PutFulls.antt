@@ -1,0 +1,31 @@
+-- What comes back from a put.
+use Rattle.std.proofs.Common.{◌≡◌, ◌&&◌, Bool, true, false, not, Option, Some, None, is_some, Result, Ok, Err, refl, sym, subst}
+use Rattle.std.proofs.lemmas.Bool.{true≢false}
+use Rattle.std.specs.Prelude.{option_map}
+use Rattle.std.specs.declared.alloc.AllocError.{AllocError}
+use Rattle.schnellru.proofs.PairLists.NamedPairs.{lookup-entry}
+use Rattle.schnellru.specs.Inserts.{kept_of}
+use Rattle.schnellru.specs.Lists.{lookup_entry}
+use Rattle.schnellru.specs.State.{State}
+use Rattle.schnellru.specs.declared.map.insert.Inserted.{Inserted}
+use Rattle.lru_tenants.specs.PutFulls.{rejects}
+use Rattle.lru_tenants.specs.TenantRuns.{put_answer}
+
+-- an entry that is rejected has a new key
+module _ {K V L S : Type 0} (accepts : L → K → V → Bool) (eq : K → K → Bool) (key : K) (value : V) where
+  pub is-rejected : (map : State K V L S) → rejects accepts eq key value map ≡ true
+      → (accepts map.limiter key value ≡ false) × (lookup_entry (eq key) map.pairs ≡ None)
+  is-rejected map is = go (accepts map.limiter key value) (lookup_entry (eq key) map.pairs)
+      (subst (λ o. (not (accepts map.limiter key value) && not (is_some o)) ≡ true) (lookup-entry (eq key) map.pairs) is)
+    where
+      go : (a : Bool) (found : Option (K × V)) → (not a && not (is_some (option_map (λ p. p.1) found))) ≡ true
+          → (a ≡ false) × (found ≡ None)
+      go false None e = (refl, refl)
+      go false (Some p) e = absurd (true≢false (sym e))
+      go true found e = absurd (true≢false (sym e))
+
+-- a put says of the key and of the value what the insert says
+pub kept-answer : {V : Type 0} (result : Result (Inserted V) AllocError)
+    → kept_of (put_answer result) ≡ put_answer (kept_of result)
+kept-answer (Ok inserted) = refl
+kept-answer (Err e) = refl

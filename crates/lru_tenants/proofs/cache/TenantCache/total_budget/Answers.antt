@@ -1,0 +1,17 @@
+use Rattle.std.proofs.Common.{sym, ap, ◌∙◌, sum_by}
+use Rattle.std.specs.HashMap.{values}
+use Rattle.std.specs.Map.Iter.{deref}
+use Rattle.std.proofs.lemmas.Iterator.Consumers.{YieldsList-from_rest, YieldsList-end}
+use Rattle.lru_tenants.proofs.TotalCosts.{mapped}
+use Rattle.lru_tenants.proofs.cache.TenantCache.total_budget.Goals as goal
+
+pub returns-clause-total : goal.returns-clause-total
+returns-clause-total g c =
+    let road = YieldsList-from_rest {shows = deref} {s = c.into_iter-map-iterator.result} (values c.self.inside.tenants)
+    (c.into_iter-map-iterator.ensures.into_iter_gives ∙ c.values-map-items.ensures.rest) in
+    let all = (YieldsList-end road c.loop-map.yielded c.loop-map.map-iterator c.loop-map.yielded_by c.next.result
+    c.next.new.self c.in-None.is c.next.ensures.steps).0 in
+    let total = c.loop-map.invariant.total
+    ∙ sym (mapped (λ map. g.L.Budgeted.budget_of map.limiter) deref c.loop-map.yielded)
+    ∙ ap (sum_by (λ map. g.L.Budgeted.budget_of map.limiter)) all in
+    rw (← c.self.view_is) total

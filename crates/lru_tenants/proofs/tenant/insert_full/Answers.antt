@@ -1,0 +1,38 @@
+use Rattle.std.proofs.Common.{[], refl, sym, ◌∙◌}
+use Rattle.schnellru.specs.Inserts.{not_admitted}
+use Rattle.schnellru.specs.Runs.Step.{inserts}
+use Rattle.lru_tenants.proofs.PutFulls.{is-rejected}
+use Rattle.lru_tenants.proofs.tenant.insert_full.Goals as goal
+
+pub returns-then-rejects-clause-inserts : goal.returns-then-rejects-clause-inserts
+returns-then-rejects-clause-inserts g c =
+    let map = c.args.map.now in
+    let (refused, new) = is-rejected g.L.Budgeted.accepts_new g.K.PartialEq.eq c.args.key c.args.value map
+    (sym c.rejects.ensures ∙ c.if-rejects.true) in
+    not_admitted new map.limiter (g.met.L.Budgeted.laws.refuses map.limiter _ c.args.key c.args.value refused) refl refl
+
+pub returns-then-rejects-clause-handed : goal.returns-then-rejects-clause-handed
+returns-then-rejects-clause-handed g c =
+    let map = c.args.map.now in
+    let (refused, new) = is-rejected g.L.Budgeted.accepts_new g.K.PartialEq.eq c.args.key c.args.value map
+    (sym c.rejects.ensures ∙ c.if-rejects.true) in (
+      [],
+      refl,
+      not_admitted new (map.limiter, [])
+          (g.met.L.Budgeted.laws.refuses map.limiter _ c.args.key c.args.value refused, refl) refl refl,
+    )
+
+pub returns-clause-budget : goal.returns-clause-budget
+returns-clause-budget g c =
+    let step = inserts c.args.key c.args.value _ c.insert_full.ensures.step in
+    c.calls_keep_the_budget.ensures.budget c.args.map.now c.insert_full.new.self step
+
+pub returns-clause-tenant : goal.returns-clause-tenant
+returns-clause-tenant g c =
+    let old = c.args.map.now in let new = c.insert_full.new.self in
+    let step = inserts c.args.key c.args.value _ c.insert_full.ensures.step in
+    record {
+      map = c.insert_full.ensures.map;
+      sum = c.calls_keep_sums.ensures old new step c.requires.tenant.sum;
+      within = c.calls_keep_the_budget.ensures.total old new step c.requires.tenant.sum c.requires.tenant.within;
+    }
