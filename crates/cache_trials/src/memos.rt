@@ -10,7 +10,7 @@ use std::cell::Cell;
 use test_helpers::Random;
 
 /// The memos remember fewer results than this.
-const LENGTHS: u32 = 5;
+const LENGTHS: u32 = 20;
 
 // The keys of the newest results, newest first. Unused places have a key that no call has.
 type Keys = [u64; LENGTHS as usize];
@@ -40,7 +40,7 @@ fn count<F: Fn(u64) -> u64>(
 {
     let (mut keys, mut random, mut count) = ([u64::MAX; LENGTHS as usize], Random::new(3), 0u64);
     for _ in 0..CALLS / LENGTHS as u64 {
-        let key = random.below(9);
+        let key = random.below(30);
         calls.set(0);
         let result = memo.answer(key);
         let expected_calls = if use_key(&mut keys, length, key) {

@@ -91,5 +91,9 @@ pub fn calls_that_agree(alloc: Global) -> Result<u64, AllocError> {
         let right = calls_agree(&mut map, &mut list, &mut random)? && are_same(&map, &list);
         count = count.saturating_add(right as u64);
     }
+    // An ordered map finds memory for many keys.
+    for key in 0..100_000u64 {
+        map.insert(key, key)?;
+    }
     Ok(count)
 }

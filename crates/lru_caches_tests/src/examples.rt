@@ -60,6 +60,9 @@ fn of_the_file_device(rt: HostRuntime) -> Result<(), Fail> {
     assert_eq!(rt; device.write(1, b"uno."), Ok(()));
     assert_eq!(rt; device.read(1), Ok(*b"uno."));
     assert_eq!(rt; device.read(9), Err(FileError::NoBlock));
+    let file = Cursor::new(vec![in alloc; 0u8; 40_000]?);
+    let many: FileDevice<_, 4> = FileDevice::new(alloc, file, 10_000)?;
+    assert_eq!(rt; many.len(), 10_000);
     Ok(())
 }
 

@@ -89,12 +89,12 @@ impl Costed for Share {
     }
 }
 
-// Opens a tenant, gives it a pair for each key, and closes it.
+// Opens a tenant, gives it a pair for each key, of which two stay and then one, and closes it.
 fn open_and_close(
     cache: &mut TenantCache<u64, Rc<u64>, Share>,
     keys: &[Rc<u64>],
 ) -> Result<usize, TenantError> {
-    cache.open(2, 5)?;
+    cache.open(2, 2)?;
     for key in keys {
         let copy: Result<Rc<u64>, AllocError> = key.clone();
         let value: Result<Rc<u64>, AllocError> = key.clone();
@@ -103,11 +103,12 @@ fn open_and_close(
         };
         cache.put(&2, copy, Share(value))?;
     }
+    cache.set_budget(&2, 1)?;
     cache.close(&2)
 }
 
-// A thousand tenants of three pairs are opened and closed, one after another, with memory for a few. A put to a tenant
-// that is not open drops its key and its value.
+// A thousand tenants that evict are opened and closed, one after another, with memory for a few. Calls on a tenant that is
+// not open drop what they got.
 #[test]
 fn a_closed_tenant_gives_its_memory_back(rt: HostRuntime) -> Result<(), Fail> {
     let mut keys = Vec::new(rt.alloc());
@@ -119,15 +120,28 @@ fn a_closed_tenant_gives_its_memory_back(rt: HostRuntime) -> Result<(), Fail> {
     let mut closed = 0u32;
     for _ in 0..1000u32 {
         let result = open_and_close(&mut cache, keys.as_slice());
-        closed = closed.wrapping_add((result == Ok(3)) as u32);
+        closed = closed.wrapping_add((result == Ok(1)) as u32);
     }
     drop(hog);
     for key in &keys {
         let refused = cache.put(&2, key.clone()?, Share(key.clone()?));
         assert_eq!(rt; refused, Err(TenantError::NotOpen));
+        let passing = cache.put_with(&2, key.clone()?, Share(key.clone()?), &mut |_, _| {});
+        let value = Share(key.clone()?);
+        assert!(rt; passing.is_err() && cache.get_or_put(&2, key.clone()?, move || value).is_err());
         assert_eq!(rt; Rc::strong_count(key), 1);
     }
     assert_eq!(rt; (closed, cache.len()), (1000, 0));
+    Ok(())
+}
+
+#[test]
+fn names_are_dropped(rt: HostRuntime) -> Result<(), Fail> {
+    let name = Rc::new(rt.alloc(), 1u64)?;
+    let mut cache: TenantCache<Rc<u64>, u64, u64> = TenantCache::new(rt.alloc(), [1, 2, 3, 4], 16);
+    assert_eq!(rt; cache.open(name.clone()?, 2), Ok(()));
+    assert_eq!(rt; cache.open(name.clone()?, 2), Err(TenantError::AlreadyOpen));
+    assert_eq!(rt; (cache.close(&name), Rc::strong_count(&name)), (Ok(0), 1));
     Ok(())
 }
 

@@ -47,5 +47,10 @@ fn worked_calls(rt: HostRuntime) -> Result<(), Fail> {
     let answers = run_tenants(alloc, &mut cache, calls)?;
     assert_eq!(rt; answers.as_slice(), wanted.as_slice());
     assert!(rt; run_tenants(alloc, &mut cache, Vec::new(alloc))?.is_empty());
+    let mut calls = Vec::new(alloc);
+    for _ in 0..100_000u32 {
+        calls.push(TenantCall::Cost(1))?;
+    }
+    assert_eq!(rt; run_tenants(alloc, &mut cache, calls)?.len(), 100_000);
     Ok(())
 }

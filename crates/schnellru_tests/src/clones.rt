@@ -127,6 +127,7 @@ fn map_held<'a>(
 ) -> Result<Held<'a>, AllocError> {
     let mut map: Held = LruMap::with_hasher(alloc, Storing(limiter), hasher, 16);
     map.insert(lives.key(1), lives.value(1))?;
+    map.insert(lives.key(2), lives.value(2))?;
     Ok(map)
 }
 
@@ -141,7 +142,7 @@ fn live(limiter: &Rc<u64>, hasher: &Rc<u64>, lives: &Lives) -> [u64; 4] {
 }
 
 /// The limiter and the hasher are cloned once each, after the pairs. If one refuses, the copies made so far are dropped.
-/// Both are dropped with their map.
+/// Both are dropped with the walk that takes their map apart.
 #[test]
 fn a_limiter_or_a_hasher_that_refuses(rt: HostRuntime) -> Result<(), Fail> {
     let alloc = rt.alloc();
@@ -150,12 +151,12 @@ fn a_limiter_or_a_hasher_that_refuses(rt: HostRuntime) -> Result<(), Fail> {
     let first = clonable(&of_limiter, &limiter)?;
     let map = map_held(alloc, first, clonable(&of_hasher, &hasher)?, &lives)?;
     lives.clones.set(100);
-    let one = [2, 2, 1, 1];
+    let one = [2, 2, 2, 2];
     for (of_the_limiter, of_the_hasher, expected) in [
         (0u64, 2u64, (false, one)),
         (2, 0, (false, one)),
         (0, 0, (false, one)),
-        (2, 2, (true, [3, 3, 2, 2])),
+        (2, 2, (true, [3, 3, 4, 4])),
     ] {
         limiter.set(of_the_limiter);
         hasher.set(of_the_hasher);
@@ -165,7 +166,7 @@ fn a_limiter_or_a_hasher_that_refuses(rt: HostRuntime) -> Result<(), Fail> {
         assert_eq!(rt; found, expected);
         assert_eq!(rt; live(&of_limiter, &of_hasher, &lives), one);
     }
-    drop(map);
+    assert_eq!(rt; map.into_iter().count(), 2);
     assert_eq!(rt; (limiter.get(), hasher.get()), (1, 1));
     assert_eq!(rt; live(&of_limiter, &of_hasher, &lives), [1, 1, 0, 0]);
     Ok(())

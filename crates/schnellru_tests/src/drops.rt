@@ -1,8 +1,8 @@
 //! Each key and each value is dropped once: none twice, and none is forgotten. No clause says when a value is dropped.
 use super::live::{Live, Lives};
 use schnellru::{
-    ByCost, ByLength, ByMemoryUsage, ByWeight, Insertion, Limiter, LruMap, Storing, Unlimited,
-    UnlimitedCompact,
+    Both, ByCost, ByLength, ByMemoryUsage, ByWeight, Insertion, Limiter, LruMap, Storing,
+    Unlimited, UnlimitedCompact,
 };
 use std::alloc::{AllocError, Global};
 use std::process::Abort;
@@ -131,6 +131,7 @@ fn keys_and_values_are_dropped_once(rt: HostRuntime) -> Result<(), Fail> {
     expect_balance(&rt, ByCost::new(10), &lives, 0)?;
     expect_balance(&rt, ByCost::new(u64::MAX), &lives, 0)?;
     expect_balance(&rt, ByWeight::<1>::new(200), &lives, 0)?;
+    expect_balance(&rt, Both(ByCost::new(10), ByLength::new(20)), &lives, 0)?;
     expect_balance(&rt, Unlimited, &lives, 0)?;
     expect_balance(&rt, UnlimitedCompact, &lives, 0)?;
     expect_balance(&rt, Storing(ByLength::new(3)), &lives, 0)
@@ -150,7 +151,7 @@ fn live(lives: &Lives) -> (u64, u64) {
     (lives.keys.get(), lives.values.get())
 }
 
-/// What a trim and another limiter evict is dropped, and so is what a walk by value has left.
+/// What an update, a trim and another limiter evict is dropped, and so is what a walk by value has left.
 #[test]
 fn what_trims_evict_is_dropped(rt: HostRuntime) -> Result<(), Fail> {
     let lives = Lives::new();
@@ -158,6 +159,9 @@ fn what_trims_evict_is_dropped(rt: HostRuntime) -> Result<(), Fail> {
     for n in 0..20_000u64 {
         map.insert(lives.key(n), lives.value(n))?;
     }
+    *map.limiter_mut() = ByLength::new(16_000);
+    drop(map.update(lives.key(19_999), lives.value(0)));
+    assert_eq!(rt; live(&lives), (16_000, 16_000));
     *map.limiter_mut() = ByLength::new(12_000);
     map.trim();
     assert_eq!(rt; live(&lives), (12_000, 12_000));
@@ -174,12 +178,15 @@ fn what_trims_evict_is_dropped(rt: HostRuntime) -> Result<(), Fail> {
 fn what_an_extend_leaves_is_dropped(rt: HostRuntime) -> Result<(), Fail> {
     let lives = Lives::new();
     let mut map: Map<Unlimited> = LruMap::new(rt.alloc(), Unlimited, [1, 2, 3, 4], 16);
+    for n in 0..3u64 {
+        map.insert(lives.key(n), lives.value(n))?;
+    }
     let hog = Hog::new(rt.alloc(), &[])?;
-    let entries = [1, 2, 3].map(|n: u64| (lives.key(n), lives.value(n)));
+    let entries = [7, 8, 9].map(|n: u64| (lives.key(n), lives.value(n)));
     let is_refused = map.try_extend(entries).is_err();
     let all = hog.took_all();
     drop(hog);
-    assert!(rt; !all || (is_refused && live(&lives) == (0, 0)));
+    assert!(rt; !all || (is_refused && live(&lives) == (3, 3)));
     Ok(())
 }
 
@@ -188,7 +195,10 @@ fn closures_that_are_not_called_are_dropped(rt: HostRuntime) {
     let lives = Lives::new();
     let mut none: Map<ByLength> = LruMap::new(rt.alloc(), ByLength::new(1), [1, 2, 3, 4], 16);
     let (value, other) = (lives.value(0), lives.value(0));
+    let (asked, kept) = (lives.value(0), lives.value(0));
     drop(none.pop_oldest_if(move |key, _| *key == value));
     drop(none.try_pop_oldest(move |key, _| if *key == other { Ok(()) } else { Err(0u8) }));
+    assert!(rt; none.peek_by_hash(7, move |key, _| *key == asked).is_none());
+    none.retain(move |key, _| *key == kept);
     assert_eq!(rt; live(&lives), (0, 0));
 }

@@ -58,8 +58,8 @@ fn entries_are_asked_in_order(rt: HostRuntime) -> Result<(), Fail> {
 #[test]
 fn what_a_retain_removes_is_dropped(rt: HostRuntime) -> Result<(), Fail> {
     let lives = Lives::new();
-    let mut map = LruMap::new(rt.alloc(), ByLength::new(100), [1, 2, 3, 4], 16);
-    for n in 0..100u64 {
+    let mut map = LruMap::new(rt.alloc(), ByLength::new(20_000), [1, 2, 3, 4], 16);
+    for n in 0..20_000u64 {
         map.insert(lives.key(n), lives.value(n))?;
     }
     let mut turn = false;
@@ -69,7 +69,7 @@ fn what_a_retain_removes_is_dropped(rt: HostRuntime) -> Result<(), Fail> {
     });
     assert_eq!(rt;
         (map.len(), lives.keys.get(), lives.values.get()),
-        (50, 50, 50)
+        (10_000, 10_000, 10_000)
     );
     map.retain_with(|_, _| false, &mut |key, value| drop((key, value)));
     assert_eq!(rt;
