@@ -1,14 +1,14 @@
 //! The examples of the README and of the public items' documents.
 use schnellru::{
     ByLength, ByMemoryUsage, ByWeight, GetOrInsertError, KeyHasher, LruMap, MoveReport,
-    RandomState, ReserveError, Unlimited, UnlimitedCompact, Updated,
+    RandomState, ReserveError, Unlimited, UnlimitedCompact,
 };
 use std::alloc::{AllocError, Global};
 use std::hash::BuildHasher;
 use std::test::Fail;
 
 /// A map of the pairs (1, 10), (2, 20) and (3, 30), and of at most three pairs.
-fn three(alloc: Global) -> Result<LruMap<u64, u64>, AllocError> {
+pub(crate) fn three(alloc: Global) -> Result<LruMap<u64, u64>, AllocError> {
     let mut map = LruMap::new(alloc, ByLength::new(3), [1, 2, 3, 4], 16);
     for n in 1..=3u64 {
         map.insert(n, n.wrapping_mul(10))?;
@@ -377,32 +377,5 @@ fn of_weights(rt: HostRuntime) -> Result<(), Fail> {
         assert!(rt; map.insert(key, 0)?);
     }
     assert!(rt; !map.contains(&1) && map.limiter().cost() == 16 + 2 + 16 + 3);
-    Ok(())
-}
-
-#[test]
-fn of_the_order_of_entries(rt: HostRuntime) -> Result<(), Fail> {
-    let mut map = three(rt.alloc())?;
-    assert!(rt; map.get_index(0) == Some((&3, &30)) && map.get_index(3).is_none());
-    assert_eq!(rt;
-        (map.get_index_of(&1), map.get_index_of(&9)),
-        (Some(2), None)
-    );
-    assert!(rt; map.get_key_value(&1) == Some((&1, &10)));
-    assert!(rt; map.demote(&3) && !map.demote(&9));
-    assert!(rt; map.peek_oldest() == Some((&3, &30)));
-    map.try_extend([(4, 40), (5, 50)])?;
-    assert!(rt; map.peek_newest() == Some((&5, &50)));
-    Ok(())
-}
-
-#[test]
-fn of_updates(rt: HostRuntime) -> Result<(), Fail> {
-    let mut map = three(rt.alloc())?;
-    assert_eq!(rt; map.update(1, 11), Updated::Replaced(10));
-    assert!(rt; map.peek_oldest() == Some((&1, &11)) && map.update(9, 90) == Updated::Absent(90));
-    let mut left = None;
-    map.update_with(2, 21, &mut |key, value| left = Some((key, value)));
-    assert!(rt; left.is_none() && map.peek(&2) == Some(&21));
     Ok(())
 }

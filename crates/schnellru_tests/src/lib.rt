@@ -24,6 +24,8 @@ mod leaks;
 #[cfg(test)]
 mod live;
 #[cfg(test)]
+mod no_memory;
+#[cfg(test)]
 mod order_of_calls;
 #[cfg(test)]
 mod refused;
@@ -33,5 +35,7 @@ mod retains;
 mod sizes;
 #[cfg(test)]
 mod texts;
+#[cfg(test)]
+mod updates;
 #[cfg(test)]
 mod walks;

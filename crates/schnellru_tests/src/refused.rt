@@ -1,15 +1,13 @@
 //! Calls whose requests for memory are refused in turn, until one is met. No clause says that memory is there, or how
 //! much a call takes. What a refused call leaves is a clause; these tests show it for each request.
 use super::keys::{Texts, has_keys, texts_of};
-use schnellru::{
-    GetOrInsertError, Insertion, LruMap, ReserveError, Storing, UnlimitedCompact, Updated,
-};
+use schnellru::{GetOrInsertError, Insertion, LruMap, ReserveError, Storing, UnlimitedCompact};
 use std::alloc::{AllocError, Global};
 use std::hash::BuildHasher;
 use std::test::Fail;
 use test_helpers::{
-    Hog, InsertKey, LastByte, OF_HASH_28, Within, counts_down, figures, get, insert, insert_all,
-    is_list, map_of, remove_all, report, reserve, shrink, three_costs,
+    Hog, InsertKey, LastByte, OF_HASH_28, Within, counts_down, figures, insert, insert_all,
+    is_list, map_of, remove_all, report, shrink, three_costs,
 };
 
 /// The bytes of a first table of 4 buckets with entries of 24 bytes: its entries, and its control bytes with 16 more.
@@ -347,59 +345,5 @@ fn copies(rt: HostRuntime) -> Result<(), Fail> {
     drop(hog);
     assert!(rt; !all || made == [false, false, false, false, false, true]);
     assert!(rt; has_keys(&map, &["3", "2", "1"]));
-    Ok(())
-}
-
-/// Whether calls that need no memory succeed while none is left.
-fn succeed_without_memory<L: Insertion<u64, u64, u64>, S: BuildHasher>(
-    map: &mut LruMap<u64, u64, L, S>,
-) -> bool {
-    let inserted = insert_all(map, 1..=7) == Ok(7) && insert_all(map, 1..=7) == Ok(7);
-    let found = get(map, 3) == Some(30) && map.remove(&3) == Some(30);
-    let updated = map.demote(&4) && map.update(5, 50) == Updated::Replaced(50);
-    let back = map.pop_oldest() == Some((4, 40)) && insert(map, 4) == Ok(true);
-    let made = map.get_or_insert(3, || 30).is_ok() && map.ensure_newest(3, || 30) == Ok(true);
-    let enough = reserve(map, 0) == Ok(()) && shrink(map) == Ok(false);
-    inserted && found && updated && back && made && enough
-}
-
-/// Whether a full table is refused more memory, and is given back when it is empty.
-fn is_refused_and_given_back<L: Insertion<u64, u64, u64>, S: BuildHasher>(
-    map: &mut LruMap<u64, u64, L, S>,
-) -> bool {
-    let refused = insert(map, 8).is_err() && reserve(map, 1) == Err(ReserveError::Memory);
-    let too_large = reserve(map, usize::MAX) == Err(ReserveError::TooLarge);
-    map.clear();
-    refused && too_large && shrink(map) == Ok(true) && shrink(map) == Ok(false)
-}
-
-/// Inserts while there is growth left, look-ups, removals, reservations that are met already, and shrinks of no pairs
-/// take no memory.
-#[test]
-fn calls_that_take_no_memory(rt: HostRuntime) -> Result<(), Fail> {
-    let mut map = map_of(rt.alloc(), UnlimitedCompact);
-    reserve(&mut map, 7)?;
-    let hog = Hog::new(rt.alloc(), &[])?;
-    let succeed = succeed_without_memory(&mut map) && is_refused_and_given_back(&mut map);
-    let all = hog.took_all();
-    drop(hog);
-    assert!(rt; succeed || !all);
-    Ok(())
-}
-
-/// Nor does the rehash of an emptied table.
-#[test]
-fn a_rehash_of_no_pairs_takes_no_memory(rt: HostRuntime) -> Result<(), Fail> {
-    let limiter = Storing(Within::new(560));
-    let mut map = LruMap::with_hasher(rt.alloc(), limiter, LastByte(0), 16);
-    insert_all(&mut map, 1..=27)?;
-    remove_all(&mut map, 1..=27);
-    let hog = Hog::new(rt.alloc(), &[])?;
-    let (refused, rehashed) = (reserve(&mut map, 29), reserve(&mut map, 14));
-    drop(hog);
-    assert_eq!(rt;
-        (refused, rehashed, figures(&map)),
-        (Err(ReserveError::Refused), Ok(()), (0, 28, 560))
-    );
     Ok(())
 }

@@ -1,0 +1,61 @@
+//! Calls that take no memory succeed while none is left. No clause says that memory is there, or how much a call takes.
+use schnellru::{Insertion, LruMap, ReserveError, Storing, UnlimitedCompact, Updated};
+use std::hash::BuildHasher;
+use std::test::Fail;
+use test_helpers::{
+    Hog, LastByte, Within, figures, get, insert, insert_all, map_of, remove_all, reserve, shrink,
+};
+
+/// Whether calls that need no memory succeed while none is left.
+fn succeed_without_memory<L: Insertion<u64, u64, u64>, S: BuildHasher>(
+    map: &mut LruMap<u64, u64, L, S>,
+) -> bool {
+    let inserted = insert_all(map, 1..=7) == Ok(7) && insert_all(map, 1..=7) == Ok(7);
+    let found = get(map, 3) == Some(30) && map.remove(&3) == Some(30);
+    let updated = map.demote(&4) && map.update(5, 50) == Updated::Replaced(50);
+    let back = map.pop_oldest() == Some((4, 40)) && insert(map, 4) == Ok(true);
+    let made = map.get_or_insert(3, || 30).is_ok() && map.ensure_newest(3, || 30) == Ok(true);
+    let enough = reserve(map, 0) == Ok(()) && shrink(map) == Ok(false);
+    inserted && found && updated && back && made && enough
+}
+
+/// Whether a full table is refused more memory, and is given back when it is empty.
+fn is_refused_and_given_back<L: Insertion<u64, u64, u64>, S: BuildHasher>(
+    map: &mut LruMap<u64, u64, L, S>,
+) -> bool {
+    let refused = insert(map, 8).is_err() && reserve(map, 1) == Err(ReserveError::Memory);
+    let too_large = reserve(map, usize::MAX) == Err(ReserveError::TooLarge);
+    map.clear();
+    refused && too_large && shrink(map) == Ok(true) && shrink(map) == Ok(false)
+}
+
+/// Inserts while there is growth left, look-ups, removals, reservations that are met already, and shrinks of no pairs
+/// take no memory.
+#[test]
+fn calls_that_take_no_memory(rt: HostRuntime) -> Result<(), Fail> {
+    let mut map = map_of(rt.alloc(), UnlimitedCompact);
+    reserve(&mut map, 7)?;
+    let hog = Hog::new(rt.alloc(), &[])?;
+    let succeed = succeed_without_memory(&mut map) && is_refused_and_given_back(&mut map);
+    let all = hog.took_all();
+    drop(hog);
+    assert!(rt; succeed || !all);
+    Ok(())
+}
+
+/// Nor does the rehash of an emptied table.
+#[test]
+fn a_rehash_of_no_pairs_takes_no_memory(rt: HostRuntime) -> Result<(), Fail> {
+    let limiter = Storing(Within::new(560));
+    let mut map = LruMap::with_hasher(rt.alloc(), limiter, LastByte(0), 16);
+    insert_all(&mut map, 1..=27)?;
+    remove_all(&mut map, 1..=27);
+    let hog = Hog::new(rt.alloc(), &[])?;
+    let (refused, rehashed) = (reserve(&mut map, 29), reserve(&mut map, 14));
+    drop(hog);
+    assert_eq!(rt;
+        (refused, rehashed, figures(&map)),
+        (Err(ReserveError::Refused), Ok(()), (0, 28, 560))
+    );
+    Ok(())
+}
