@@ -23,6 +23,7 @@ pub mod Shrinks
 pub mod RetainedPairs
 pub mod Runs
 pub mod AddedPairs
+pub mod AdmittedPairs
 pub mod OtherPairs
 pub mod RunLimits
 pub mod SmallTables

@@ -22,4 +22,5 @@ pub mod Clones
 pub mod Runs
 pub mod Walks
 pub mod Retains
+pub mod TryInserts
 pub mod Updates

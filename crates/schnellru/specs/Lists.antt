@@ -54,27 +54,27 @@ module _ {K V : Type 0} where
   abbrev pub back : (K → Bool) → List (K × V) → List (K × V)
   back names pairs = without names pairs ++ option_to_list (lookup_entry names pairs)
 
-  -- among the places of the pairs, that of the named one
+  -- the place of the pair of the named key, if the places are those of the pairs in order
   abbrev pub place_of : (K → Bool) → List (K × V) → List ℕ → Option ℕ
   place_of names [] places = None
   place_of names (pair ∷ pairs) [] = None
   place_of names (pair ∷ pairs) (b ∷ places) = if names pair.0 then Some b else place_of names pairs places
 
-  -- those of the others
+  -- the places of the other pairs
   abbrev pub other_places : (K → Bool) → List (K × V) → List ℕ → List ℕ
   other_places names [] places = places
   other_places names (pair ∷ pairs) [] = []
   other_places names (pair ∷ pairs) (b ∷ places) = if names pair.0 then places else b ∷ other_places names pairs places
 
-  -- that of the named pair first, and then the others in their order
+  -- the place of the named key's pair first, and then the other places in their order
   abbrev pub front_places : (K → Bool) → List (K × V) → List ℕ → List ℕ
   front_places names pairs places = after (place_of names pairs places) (other_places names pairs places)
 
-  -- those of the others in their order, and then that of the named pair
+  -- the other places in their order, and then the place of the named key's pair
   abbrev pub back_places : (K → Bool) → List (K × V) → List ℕ → List ℕ
   back_places names pairs places = other_places names pairs places ++ option_to_list (place_of names pairs places)
 
-  -- with this pair in place of that of the named key
+  -- this pair replaces the pair of the named key
   abbrev pub set_entry : (K → Bool) → K × V → List (K × V) → List (K × V)
   set_entry names entry [] = []
   set_entry names entry (pair ∷ pairs) = if names pair.0 then entry ∷ pairs else pair ∷ set_entry names entry pairs

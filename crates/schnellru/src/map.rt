@@ -30,6 +30,7 @@ mod retain;
 mod shrink;
 mod store;
 mod trim;
+mod try_insert;
 pub(crate) mod update;
 
 /// The bytes of an entry that `LruMap::default` assumes.

@@ -107,6 +107,18 @@ fn of_inserts_with_a_callback(rt: HostRuntime) -> Result<(), Fail> {
 }
 
 #[test]
+fn of_inserts_that_evict_nothing(rt: HostRuntime) -> Result<(), Fail> {
+    let mut map = three(rt.alloc())?;
+    assert_eq!(rt; map.try_insert(4, 40), Err((4, 40)));
+    map.pop_oldest();
+    assert_eq!(rt;
+        (map.try_insert(4, 40), map.try_insert(4, 41)),
+        (Ok(()), Err((4, 41)))
+    );
+    Ok(())
+}
+
+#[test]
 fn of_look_ups_and_removals(rt: HostRuntime) -> Result<(), Fail> {
     let mut map = three(rt.alloc())?;
     assert_eq!(rt; map.remove(&1), Some(10));

@@ -1,5 +1,5 @@
 //! Calls that take no memory succeed while none is left. No clause says that memory is there, or how much a call takes.
-use schnellru::{Insertion, LruMap, ReserveError, Storing, UnlimitedCompact, Updated};
+use schnellru::{Admission, LruMap, ReserveError, Storing, UnlimitedCompact, Updated};
 use std::hash::BuildHasher;
 use std::test::Fail;
 use test_helpers::{
@@ -7,26 +7,28 @@ use test_helpers::{
 };
 
 /// Whether calls that need no memory succeed while none is left.
-fn succeed_without_memory<L: Insertion<u64, u64, u64>, S: BuildHasher>(
+fn succeed_without_memory<L: Admission<u64, u64> + Copy, S: BuildHasher>(
     map: &mut LruMap<u64, u64, L, S>,
 ) -> bool {
     let inserted = insert_all(map, 1..=7) == Ok(7) && insert_all(map, 1..=7) == Ok(7);
     let found = get(map, 3) == Some(30) && map.remove(&3) == Some(30);
+    let added = map.try_insert(3, 30) == Ok(()) && map.remove(&3) == Some(30);
     let updated = map.demote(&4) && map.update(5, 50) == Updated::Replaced(50);
     let back = map.pop_oldest() == Some((4, 40)) && insert(map, 4) == Ok(true);
     let made = map.get_or_insert(3, || 30).is_ok() && map.ensure_newest(3, || 30) == Ok(true);
     let enough = reserve(map, 0) == Ok(()) && shrink(map) == Ok(false);
-    inserted && found && updated && back && made && enough
+    inserted && found && added && updated && back && made && enough
 }
 
 /// Whether a full table is refused more memory, and is given back when it is empty.
-fn is_refused_and_given_back<L: Insertion<u64, u64, u64>, S: BuildHasher>(
+fn is_refused_and_given_back<L: Admission<u64, u64> + Copy, S: BuildHasher>(
     map: &mut LruMap<u64, u64, L, S>,
 ) -> bool {
     let refused = insert(map, 8).is_err() && reserve(map, 1) == Err(ReserveError::Memory);
+    let given_back = map.try_insert(8, 80) == Err((8, 80)) && map.len() == 7;
     let too_large = reserve(map, usize::MAX) == Err(ReserveError::TooLarge);
     map.clear();
-    refused && too_large && shrink(map) == Ok(true) && shrink(map) == Ok(false)
+    refused && given_back && too_large && shrink(map) == Ok(true) && shrink(map) == Ok(false)
 }
 
 /// Inserts while there is growth left, look-ups, removals, reservations that are met already, and shrinks of no pairs

@@ -1,0 +1,23 @@
+use Rattle.std.proofs.Common.{subst}
+use Rattle.schnellru.specs.State.{IsMap}
+use Rattle.schnellru.proofs.Theorems.AdmittedPairs.{says}
+use Rattle.schnellru.proofs.map.LruMap.try_insert.Goals as goal
+
+pub returns : goal.returns
+returns g c =
+    let old : IsMap g.K.PartialEq.eq c.args.self.now = subst
+    (IsMap g.K.PartialEq.eq) c.self.view_is c.self.invariant.map in
+    let new : IsMap g.K.PartialEq.eq c.try_insert_hashed-inserted.new.self = subst
+    (IsMap g.K.PartialEq.eq) c.self-2.view_is c.self-2.invariant.map in
+    let step = c.try_insert_hashed-inserted.ensures in
+    let said = says g.L.Admission.terms g.L.Limiter.rules g.L.Insertion.offers g.K.PartialEq.eq g.S.KeyHasher.hash_of
+    g.met.L.Admission.laws c.args.key c.args.value c.args.self.now old.sized _ _ new.sized step in record {
+      step = step;
+      calls = said.calls;
+      added = said.added;
+      within = said.within;
+      returned = said.returned;
+      keeps = said.keeps;
+      unchanged = said.unchanged;
+      map = new;
+    }

@@ -1,0 +1,122 @@
+//! Inserting a new entry only if nothing has to leave for it.
+ghost use Rattle.std.specs.Prelude.{◌≡◌, ℕ, ◌∷◌, ◌<◌, true, false, None, Ok, OnOk, OnErr, IfErr, IsTrue, length};
+ghost use Rattle.schnellru.specs.Lists.{lookup_entry};
+ghost use Rattle.schnellru.specs.State.{IsMap, contents, room};
+ghost use Rattle.schnellru.specs.Inserts.{Insert};
+ghost use Rattle.schnellru.specs.Runs.{Step, Run};
+ghost use Rattle.schnellru.specs.TryInserts.{TryInsert, IsReady, IsUnready, has_place};
+
+use crate::map::LruMap;
+use lru_limits::{Admission, KeyHasher};
+use std::hash::Hash;
+
+impl<K: Eq + Hash + Drop, V: Drop, L: Admission<K, V> + Copy, S: KeyHasher<K>> LruMap<K, V, L, S> {
+    /// Inserts a new key with its value, as the newest entry, if nothing has to leave for it. Otherwise returns both.
+    ///
+    /// They come back if the key is there, if the limiter rejects the entry or would be over its limit with it, and if
+    /// the table has no growth left and cannot grow. No entry leaves, moves in the order of use, or changes its value.
+    ///
+    /// ```
+    /// assert_eq!(rt; map.try_insert(4, 40), Err((4, 40)));
+    /// map.pop_oldest();
+    /// assert_eq!(rt; (map.try_insert(4, 40), map.try_insert(4, 41)), (Ok(()), Err((4, 41))));
+    /// ```
+    ///
+    /// Cost: `O(1)` expected, amortised over the inserts, with one search for the key. Nothing is evicted, so an insert
+    /// that finds no growth left reserves some, as `try_reserve(1)` does.
+    ///
+    /// # Errors
+    ///
+    /// An `Err` returns the key and the value. If there was growth left, nothing has changed. If there was none, the
+    /// table may have more buckets, and the limiter keeps what it noted when it was asked for them.
+    ///
+    /// After std's `HashMap::try_insert`; schnellru has no such call.
+    pub fn try_insert(&mut self, key: K, value: V) -> Result<(), (K, V)>
+        ensures step { TryInsert L.terms L.rules key value self.old L.offers K.eq S.hash_of result self.new }
+        ensures calls { Run (Step L.rules L.offers K.eq S.hash_of) self.new self.old }
+        ensures added { OnOk result (self.new.pairs ≡ (key, value) ∷ self.old.pairs) }
+        ensures within { OnOk result (L.rules.is_over_the_limit self.new.limiter (length self.new.pairs) ≡ false) }
+        ensures returned { IfErr result (λ back. back ≡ (key, value)) }
+        ensures keeps { OnErr result (self.new.pairs ≡ self.old.pairs) }
+        ensures unchanged { 0 < room self.old → OnErr result (self.new ≡ self.old) }
+        ensures map { IsMap K.eq self.new }
+    {
+        let hash = self.hasher.hash_named(&key);
+        let inserted = self.try_insert_hashed(hash, key, value);
+        // Nothing at run time: it opens the map, whose invariant the clauses need.
+        let _ = &self.entries;
+        inserted
+    }
+
+    // The same for a key that has this hash.
+    fn try_insert_hashed(&mut self, hash: u64, key: K, value: V) -> Result<(), (K, V)>
+        requires hash { (k : K) → IsTrue (K.eq key k) → hash ≡ S.hash_of self.old.hasher k }
+        ensures { TryInsert L.terms L.rules key value self.old L.offers K.eq S.hash_of result self.new }
+    {
+        match self.find_hashed(hash, &key) {
+            Some(_) => Err((key, value)),
+            None => self.try_insert_new(hash, key, value),
+        }
+    }
+
+    // The same for a key that is not there.
+    fn try_insert_new(&mut self, hash: u64, key: K, value: V) -> Result<(), (K, V)>
+        requires hash { (k : K) → IsTrue (K.eq key k) → hash ≡ S.hash_of self.old.hasher k }
+        requires absent { lookup_entry (K.eq key) self.old.pairs ≡ None }
+        ensures { TryInsert L.terms L.rules key value self.old L.offers K.eq S.hash_of result self.new }
+    {
+        if !self.has_place_for(&key, &value) {
+            return Err((key, value));
+        }
+        if !self.get_ready_for(&key, &value) {
+            return Err((key, value));
+        }
+        self.add(hash, key, value);
+        Ok(())
+    }
+
+    // Makes sure that there is growth left for one entry more. Returns whether there is, and a place for this entry.
+    fn get_ready_for(&mut self, key: &K, value: &V) -> bool
+        requires place { has_place L.terms L.rules key.now value.now (contents self.old) ≡ true }
+        ensures ready { IsTrue result → IsReady L.rules self.old self.new }
+        ensures growth { IsTrue result → 0 < room self.new }
+        ensures place { IsTrue result → has_place L.terms L.rules key.now value.now (contents self.new) ≡ true }
+        ensures unready { result ≡ false → IsUnready L.terms L.rules key.now value.now self.old self.new }
+    {
+        if self.growth_left() > 0 {
+            return true;
+        }
+        match self.try_reserve(1) {
+            Ok(()) => self.has_place_for(key, value),
+            Err(_) => false,
+        }
+    }
+
+    // Returns whether the limiter accepts the entry of a new key, and is not over its limit with it.
+    fn has_place_for(&self, key: &K, value: &V) -> bool
+        ensures place { result ≡ has_place L.terms L.rules key.now value.now (contents self.now) }
+        ensures map { IsMap K.eq self.now }
+    {
+        let length = self.entries.len();
+        if !self.limiter.accepts(length, key, value) {
+            return false;
+        }
+        let mut limiter = self.limiter;
+        limiter.on_stored(length, key, value);
+        !limiter.is_over_the_limit(length + 1)
+    }
+
+    // Inserts a key that is new and has this hash, if there is growth left, and a place for the entry.
+    fn add(&mut self, hash: u64, key: K, value: V)
+        requires hash { (k : K) → IsTrue (K.eq key k) → hash ≡ S.hash_of self.old.hasher k }
+        requires absent { lookup_entry (K.eq key) self.old.pairs ≡ None }
+        requires room { 0 < room self.old }
+        requires place { has_place L.terms L.rules key value (contents self.old) ≡ true }
+        ensures { Insert L.rules L.offers K.eq S.hash_of key value self.old (Ok true) self.new }
+    {
+        match self.insert_new(hash, key, value, &mut |_, _| {}) {
+            Ok(_) => {}
+            Err(_) => unreachable!(),
+        }
+    }
+}
