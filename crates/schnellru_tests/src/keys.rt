@@ -3,28 +3,7 @@
 use schnellru::LruMap;
 use std::alloc::{AllocError, Global};
 use std::test::Fail;
-use test_helpers::{Counting, InsertKey};
-
-/// A map of texts, under a limiter that counts the keys that it makes of texts.
-pub(super) type Texts = LruMap<String, u32, Counting>;
-
-/// Whether the keys are these, newest first.
-pub(super) fn has_keys(map: &Texts, keys: &[&str]) -> bool {
-    map.len() == keys.len()
-        && map
-            .iter()
-            .zip(keys)
-            .all(|((key, _), text)| key.as_str() == *text)
-}
-
-/// A map of these texts, the last one newest.
-pub(super) fn texts_of(alloc: Global, texts: &[&str]) -> Result<Texts, AllocError> {
-    let mut map: Texts = LruMap::new(alloc, Counting::default(), [1, 2, 3, 4], 16);
-    for text in texts {
-        map.insert(InsertKey(text), 1)?;
-    }
-    Ok(map)
-}
+use test_helpers::{Counting, InsertKey, Texts, has_keys, texts_of};
 
 #[test]
 fn a_text_becomes_a_key_once(rt: HostRuntime) -> Result<(), Fail> {

@@ -3,6 +3,7 @@
 //! - [`Hog`]: takes all memory, so that the requests of others are refused.
 //! - [`LinkedBy`], [`Alternating`], [`Within`], [`Blanking`]: limiters of maps from numbers to numbers.
 //! - [`InsertKey`] and [`Counting`]: texts that become a `String` when they are stored, and a limiter that accepts them.
+//! - [`Texts`], [`texts_of`], [`has_keys`]: a map of these, and what a test looks at in it.
 //! - [`Weighed`]: a value with a cost of its own.
 //! - [`Random`]: random numbers, the same in each run.
 //! - [`LastByte`] with [`OF_HASH_28`], [`Sum`], [`Counted`]: hashers.
@@ -17,6 +18,7 @@ mod insert_key;
 mod limiters;
 mod maps;
 mod random;
+mod texts;
 mod weighed;
 
 pub use hashers::{Counted, LastByte, OF_HASH_28, Sum};
@@ -28,4 +30,5 @@ pub use maps::{
     report, reserve, shrink, three_costs,
 };
 pub use random::Random;
+pub use texts::{Texts, has_keys, texts_of};
 pub use weighed::Weighed;
