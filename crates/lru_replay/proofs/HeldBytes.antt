@@ -35,9 +35,16 @@ short_command (commands.Put k v) h = omega (
   short_number v h.1,
   length-append (decimal k) (32 ∷ decimal v),
 )
+short_command (commands.Update k v) h = omega (
+  arith,
+  short_number k h.0,
+  short_number v h.1,
+  length-append (decimal k) (32 ∷ decimal v),
+)
 short_command (commands.Get k) h = omega (arith, short_number k h)
 short_command (commands.Peek k) h = omega (arith, short_number k h)
 short_command (commands.Remove k) h = omega (arith, short_number k h)
+short_command (commands.RemoveEntry k) h = omega (arith, short_number k h)
 short_command (commands.Contains k) h = omega (arith, short_number k h)
 short_command (commands.Promote k) h = omega (arith, short_number k h)
 short_command (commands.Demote k) h = omega (arith, short_number k h)

@@ -8,7 +8,7 @@ use Rattle.schnellru.specs.Lists.{lookup, lookup_entry, first, last}
 use Rattle.schnellru.specs.Calls.{promoted, demoted, removal, pop_first, cleared, left_of}
 use Rattle.schnellru.specs.State.{Contents, room, contents, IsSized, pop}
 use Rattle.schnellru.specs.Drains.{pops_first, newest_given}
-use Rattle.schnellru.proofs.CallerLemmas.{promoted_sized, demoted_sized, cleared_sized, some_insert, some_leave}
+use Rattle.schnellru.proofs.CallerLemmas.{promoted_sized, demoted_sized, cleared_sized, some_insert, some_update, some_leave}
 use Rattle.schnellru.proofs.CallerLemmas.{some_reservation, some_shrink, length-without, length-without_first, length-without_last}
 use Rattle.lru_replay.specs.declared.lines.command.Command.{Command}
 use Rattle.lru_replay.specs.declared.lines.command.Command.TheVariants as commands
@@ -16,7 +16,7 @@ use Rattle.lru_replay.specs.declared.lines.figures.Figures.{Figures}
 use Rattle.lru_replay.specs.Limits.{AlwaysOffers}
 use Rattle.lru_replay.specs.LineRuns.{AnswersCommand}
 use Rattle.lru_replay.specs.Maps.{Map, hash_of}
-use Rattle.lru_replay.specs.Replies.{Reply, flag, value, pair, listed, reserved, shrunk, stats, done, no_memory}
+use Rattle.lru_replay.specs.Replies.{Reply, flag, updated, value, pair, listed, reserved, shrunk, stats, done, no_memory}
 use Rattle.lru_replay.specs.Replies.{insert_reply}
 
 module _ {S : Type 0} (rules : Rules ℕ ℕ S) (offers : Offers ℕ ℕ S ℕ) (offered : AlwaysOffers offers) (old : Map S)
@@ -32,6 +32,13 @@ module _ {S : Type 0} (rules : Rules ℕ ℕ S) (offers : Offers ℕ ℕ S ℕ) 
       let (new, leaves, sized, freed) = some_leave old (removal rules (nat_eq key) (contents old)) ok
       (length-without (nat_eq key) old.pairs) in
       (value result, new, inl (result, record { value = refl; state = leaves }, refl), sized)
+
+  some_entry_removal : (key : ℕ) → CanEnd (commands.RemoveEntry key)
+  some_entry_removal key =
+      let result = left_of rules old.limiter (lookup_entry (nat_eq key) old.pairs) in
+      let (new, leaves, sized, freed) = some_leave old (removal rules (nat_eq key) (contents old)) ok
+      (length-without (nat_eq key) old.pairs) in
+      (pair result, new, inl (result, record { pair = refl; state = leaves }, refl), sized)
 
   some_pop_oldest : CanEnd commands.PopOldest
   some_pop_oldest =
@@ -67,6 +74,8 @@ module _ {S : Type 0} (rules : Rules ℕ ℕ S) (offers : Offers ℕ ℕ S ℕ) 
       let (result, new, is, after) = some_insert rules offers nat_eq hash_of k v old ok offered in
       (insert_reply result, new, inl (result, is, refl), after)
   some_step (commands.Put k v) = (no_memory, old, inr (tt, refl, refl), ok)
+  some_step (commands.Update k v) = let (result, new, is, after) = some_update rules offers nat_eq k v old ok in
+      (updated result, new, inl (result, is, refl), after)
   some_step (commands.Get k) = (
     value (lookup (nat_eq k) old.pairs),
     promoted (nat_eq k) old,
@@ -75,6 +84,7 @@ module _ {S : Type 0} (rules : Rules ℕ ℕ S) (offers : Offers ℕ ℕ S ℕ) 
   )
   some_step (commands.Peek k) = (value (lookup (nat_eq k) old.pairs), old, inl (refl, refl), ok)
   some_step (commands.Remove k) = some_removal k
+  some_step (commands.RemoveEntry k) = some_entry_removal k
   some_step (commands.Contains k) = (flag (is_some (lookup (nat_eq k) old.pairs)), old, inl (refl, refl), ok)
   some_step (commands.Promote k) = (
     flag (is_some (lookup (nat_eq k) old.pairs)),

@@ -49,7 +49,8 @@ guesses line = commands.Insert (digits_value 10 (front_word (drop 7 line))) (dig
     ∷ commands.List ∷ commands.Stats ∷ commands.Shrink
     ∷ commands.Put (digits_value 10 (front_word (drop 4 line))) (digits_value 10 (after_word (drop 4 line)))
     ∷ commands.Contains (digits_value 10 (drop 9 line)) ∷ commands.Promote (digits_value 10 (drop 8 line))
-    ∷ commands.Demote (digits_value 10 (drop 7 line)) ∷ []
+    ∷ commands.Demote (digits_value 10 (drop 7 line)) ∷ commands.RemoveEntry (digits_value 10 (drop 13 line))
+    ∷ commands.Update (digits_value 10 (front_word (drop 7 line))) (digits_value 10 (after_word (drop 7 line))) ∷ []
 
 abbrev pub Spelled : List ℕ → Type 0
 Spelled line = (command : Command) × SpellsCommand line command
@@ -71,9 +72,11 @@ lt_or n limit = told (nat_lt n limit) (Decides-ltb n limit)
 fits_command : (command : Command) → FitsCommand command ⊎ (FitsCommand command → ⊥)
 fits_command (commands.Insert k v) = both_or (lt_or k (2 ^ 64)) (lt_or v (2 ^ 64))
 fits_command (commands.Put k v) = both_or (lt_or k (2 ^ 64)) (lt_or v (2 ^ 64))
+fits_command (commands.Update k v) = both_or (lt_or k (2 ^ 64)) (lt_or v (2 ^ 64))
 fits_command (commands.Get k) = lt_or k (2 ^ 64)
 fits_command (commands.Peek k) = lt_or k (2 ^ 64)
 fits_command (commands.Remove k) = lt_or k (2 ^ 64)
+fits_command (commands.RemoveEntry k) = lt_or k (2 ^ 64)
 fits_command (commands.Contains k) = lt_or k (2 ^ 64)
 fits_command (commands.Promote k) = lt_or k (2 ^ 64)
 fits_command (commands.Demote k) = lt_or k (2 ^ 64)
@@ -136,6 +139,15 @@ guessed line P all (commands.Promote k) (fits, is) = subst (λ n. P (commands.Pr
     (ap (λ l. digits_value 10 (drop 8 l)) is ∙ value_of_decimal k fits) all.1.1.1.1.1.1.1.1.1.1.1.1.1.1.0
 guessed line P all (commands.Demote k) (fits, is) = subst (λ n. P (commands.Demote n))
     (ap (λ l. digits_value 10 (drop 7 l)) is ∙ value_of_decimal k fits) all.1.1.1.1.1.1.1.1.1.1.1.1.1.1.1.0
+guessed line P all (commands.RemoveEntry k) (fits, is) = subst (λ n. P (commands.RemoveEntry n))
+    (ap (λ l. digits_value 10 (drop 13 l)) is ∙ value_of_decimal k fits) all.1.1.1.1.1.1.1.1.1.1.1.1.1.1.1.1.0
+guessed line P all (commands.Update k v) (fits, is) =
+    let rest : drop 7 line ≡ pair_spelling k v = ap (drop 7) is in
+    let key = first_number (drop 7 line) k v fits.0 fits.1 rest in
+    let value = second_number (drop 7 line) k v fits.0 fits.1 rest in
+    subst (λ n. P (commands.Update k n)) value
+    (subst (λ n. P (commands.Update n (digits_value 10 (after_word (drop 7 line))))) key
+    all.1.1.1.1.1.1.1.1.1.1.1.1.1.1.1.1.1.0)
 guessed line P all commands.PopOldest s = all.1.1.1.1.1.1.0
 guessed line P all commands.PopNewest s = all.1.1.1.1.1.1.1.0
 guessed line P all commands.Clear s = all.1.1.1.1.1.1.1.1.0

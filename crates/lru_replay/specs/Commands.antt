@@ -9,9 +9,11 @@ use Rattle.lru_replay.specs.declared.lines.command.Command.TheVariants as comman
 abbrev pub call_of : {S : Type 0} → Command → Call ℕ ℕ S
 call_of (commands.Insert k v) = calls.Insert k v
 call_of (commands.Put k v) = calls.InsertWith k v
+call_of (commands.Update k v) = calls.Update k v
 call_of (commands.Get k) = calls.Get k
 call_of (commands.Peek k) = calls.Peek k
 call_of (commands.Remove k) = calls.Remove k
+call_of (commands.RemoveEntry k) = calls.RemoveEntry k
 call_of (commands.Contains k) = calls.Contains k
 call_of (commands.Promote k) = calls.Promote k
 call_of (commands.Demote k) = calls.Demote k

@@ -6,6 +6,8 @@ use Rattle.std.specs.Io.KnownBytes.{Appends}
 use Rattle.schnellru.specs.Lists.{IsFront}
 use Rattle.schnellru.specs.declared.map.reserve.ReserveError.{ReserveError}
 use Rattle.schnellru.specs.declared.map.reserve.ReserveError.TheVariants.{TooLarge, Refused, Memory}
+use Rattle.schnellru.specs.declared.map.update.Updated.{Updated}
+use Rattle.schnellru.specs.declared.map.update.Updated.TheVariants.{Replaced, Rejected, Absent}
 use Rattle.lru_replay.specs.declared.lines.figures.Figures.{Figures}
 use Rattle.lru_replay.specs.declared.lines.outcome.ReplayError.{ReplayError}
 use Rattle.lru_replay.specs.declared.lines.outcome.ReplayError.TheVariants as errors
@@ -54,6 +56,12 @@ abbrev pub flag_text : Bool → List ℕ
 flag_text true = codes "true"
 flag_text false = codes "false"
 
+-- what an update did, and the value that the map does not have then
+abbrev pub updated_text : Updated ℕ → List ℕ
+updated_text (Replaced v) = codes "replaced " ++ decimal v
+updated_text (Rejected v) = codes "rejected " ++ decimal v
+updated_text (Absent v) = codes "absent " ++ decimal v
+
 -- whether the key is there, or that no memory was found
 abbrev pub insert_text : Result Bool AllocError → List ℕ
 insert_text (Ok there) = flag_text there
@@ -94,7 +102,7 @@ figures_text figures = named_text (codes "len ") figures.len ++ (named_text (cod
 abbrev pub reply_text : Option ℕ → Reply ℕ ℕ → List ℕ
 reply_text cost (flag there) = flag_text there
 reply_text cost (given result out) = insert_text result ++ rest_text out
-reply_text cost (updated result) = []
+reply_text cost (updated result) = updated_text result
 reply_text cost (value v) = value_text v
 reply_text cost (pair left) = left_text left
 reply_text cost (listed pairs) = pairs_text pairs

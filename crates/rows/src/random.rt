@@ -41,7 +41,9 @@ pub fn random_call<L>(random: &mut Random, bounds: Bounds) -> Call<u64, u64, L> 
         1120..=1151 => Call::Contains(key),
         1152..=1183 => Call::Promote(key),
         1184..=1215 => Call::Demote(key),
-        1216..=1727 => Call::Get(key),
+        1216..=1247 => Call::RemoveEntry(key),
+        1248..=1279 => Call::Update(key, value),
+        1280..=1727 => Call::Get(key),
         1728..=2047 if !bounds.only_lines => other_call(random, key, value),
         2048..=3071 => Call::InsertWith(key, value),
         _ => Call::Insert(key, value),
@@ -51,7 +53,7 @@ pub fn random_call<L>(random: &mut Random, bounds: Bounds) -> Call<u64, u64, L> 
 /// A random call that has no line.
 fn other_call<L>(random: &mut Random, key: u64, value: u64) -> Call<u64, u64, L> {
     let hash = sum_of_bytes(key);
-    match random.below(11) {
+    match random.below(9) {
         0 => Call::PeekOldest,
         1 => Call::PeekNewest,
         2 => Call::GetByHash(hash.wrapping_add(OTHER_TAG), key),
@@ -59,9 +61,7 @@ fn other_call<L>(random: &mut Random, key: u64, value: u64) -> Call<u64, u64, L>
         4 => Call::GetByHash(hash, key),
         5 => Call::PeekByHash(hash, key),
         6 => Call::Write(key, value),
-        7 => Call::RemoveEntry(key),
-        8 => Call::Trim,
-        9 => Call::Update(key, value),
+        7 => Call::Trim,
         _ => Call::GetOrInsert(key, value),
     }
 }

@@ -68,6 +68,8 @@ fn write_line<L>(out: &mut String, call: &Call<u64, u64, L>) -> Result<(), Alloc
         Call::Get(key) => writeln!(out, "get {key}"),
         Call::Peek(key) => writeln!(out, "peek {key}"),
         Call::Remove(key) => writeln!(out, "remove {key}"),
+        Call::RemoveEntry(key) => writeln!(out, "remove-entry {key}"),
+        Call::Update(key, value) => writeln!(out, "update {key} {value}"),
         Call::Contains(key) => writeln!(out, "contains {key}"),
         Call::Promote(key) => writeln!(out, "promote {key}"),
         Call::Demote(key) => writeln!(out, "demote {key}"),

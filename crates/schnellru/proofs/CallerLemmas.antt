@@ -40,6 +40,7 @@ pub use Rattle.schnellru.proofs.Maps.EmptyMaps.{empty_is_sized}
 pub use Rattle.schnellru.proofs.Maps.LeavingPairs.{leaves_trans, length-without_first, length-without_last}
 pub use Rattle.schnellru.proofs.Maps.Promotions.{promoted_sized, demoted_sized, promoted_is_map, length-front_pairs}
 pub use Rattle.schnellru.proofs.Maps.SomeInsert.{some_insert}
+pub use Rattle.schnellru.proofs.Maps.SomeUpdate.{some_update}
 pub use Rattle.schnellru.proofs.Maps.SomePlace.{some_leave}
 pub use Rattle.schnellru.proofs.Maps.SomeReservation.{cleared_sized, some_reservation}
 pub use Rattle.schnellru.proofs.Maps.SomeShrink.{some_shrink}

@@ -14,6 +14,7 @@ pub mod ShrunkMaps
 pub mod Placements
 pub mod SomePlace
 pub mod SomeInsert
+pub mod SomeUpdate
 pub mod SomeReservation
 pub mod SomeShrink
 pub mod EmptyMaps

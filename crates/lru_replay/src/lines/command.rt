@@ -12,12 +12,16 @@ pub enum Command {
     Insert(u64, u64),
     /// `put K V`: the same as `insert`, and returns the pairs that leave.
     Put(u64, u64),
+    /// `update K V`: replaces the value of a key that is there, in its place, and returns what it did.
+    Update(u64, u64),
     /// `get K`: returns the value of the key, and makes its pair the newest.
     Get(u64),
     /// `peek K`: returns the value of the key.
     Peek(u64),
     /// `remove K`: removes the key, and returns its value.
     Remove(u64),
+    /// `remove-entry K`: removes the key, and returns its pair.
+    RemoveEntry(u64),
     /// `contains K`: returns whether the key is there.
     Contains(u64),
     /// `promote K`: returns whether the key is there, and makes its pair the newest.
@@ -113,6 +117,10 @@ pub fn command_of(line: &[u8]) -> Option<Command>
         let (key, value) = number_pair(rest)?;
         return Some(Command::Put(key, value));
     }
+    if let Some(rest) = after(line, b"update ") {
+        let (key, value) = number_pair(rest)?;
+        return Some(Command::Update(key, value));
+    }
     if let Some(rest) = after(line, b"reserve ") {
         let n = number(rest)?;
         return Some(Command::Reserve(n));
@@ -143,6 +151,10 @@ fn key_command_of(line: &[u8]) -> Option<Command>
     if let Some(rest) = after(line, b"remove ") {
         let key = number(rest)?;
         return Some(Command::Remove(key));
+    }
+    if let Some(rest) = after(line, b"remove-entry ") {
+        let key = number(rest)?;
+        return Some(Command::RemoveEntry(key));
     }
     if let Some(rest) = after(line, b"contains ") {
         let key = number(rest)?;

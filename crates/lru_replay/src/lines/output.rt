@@ -2,11 +2,11 @@
 ghost use Rattle.std.specs.Prelude.{◌≡◌, ℕ, Bool, Option, [], ◌∷◌, ◌++◌, decimal};
 ghost use Rattle.lru_replay.specs.Output.{Writes, flag_text, value_text, left_text, pair_text, rest_text, pairs_text};
 ghost use Rattle.lru_replay.specs.Output.{reservation_text, shrink_text, figures_text, placed_text, cost_text};
-ghost use Rattle.lru_replay.specs.Output.{named_text, taken_text, insert_text};
+ghost use Rattle.lru_replay.specs.Output.{named_text, taken_text, insert_text, updated_text};
 
 use crate::lines::figures::Figures;
 use crate::lines::outcome::ReplayError;
-use schnellru::{LinkType, ReserveError, Walk};
+use schnellru::{LinkType, ReserveError, Updated, Walk};
 use std::alloc::AllocError;
 use std::io::{ErrorKind, Write};
 
@@ -125,6 +125,17 @@ pub fn write_shrink<W: Write>(
         Ok(true) => write_bytes(writer, b"ok"),
         Ok(false) => write_bytes(writer, b"kept"),
         Err(_) => write_bytes(writer, b"no memory"),
+    }
+}
+
+/// Writes what an update did, and the value that the map does not have then.
+pub fn write_updated<W: Write>(writer: &mut W, updated: Updated<u64>) -> Result<(), ReplayError>
+    ensures { Writes (W.contents writer.old) (W.contents writer.new) result (updated_text updated) }
+{
+    match updated {
+        Updated::Replaced(old) => write_named(writer, b"replaced ", old),
+        Updated::Rejected(new) => write_named(writer, b"rejected ", new),
+        Updated::Absent(new) => write_named(writer, b"absent ", new),
     }
 }
 

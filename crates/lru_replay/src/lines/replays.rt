@@ -20,7 +20,7 @@ use crate::lines::line::{Ending, Line, read_line};
 use crate::lines::outcome::{ReplayEnd, ReplayError};
 use crate::lines::output::{
     write_bytes, write_cost, write_figures, write_flag, write_insert, write_left, write_pairs,
-    write_reservation, write_shrink, write_value,
+    write_reservation, write_shrink, write_updated, write_value,
 };
 use crate::lines::put::write_put;
 use schnellru::{
@@ -45,9 +45,11 @@ fn answer_command<L: Insertion<u64, u64, u64> + TellsCost, W: Write>(
     match command_of(line) {
         Some(Command::Insert(key, value)) => write_insert(writer, map.insert(key, value)),
         Some(Command::Put(key, value)) => write_put(alloc, map, key, value, writer),
+        Some(Command::Update(key, value)) => write_updated(writer, map.update(key, value)),
         Some(Command::Get(key)) => write_value(writer, get(map, &key)),
         Some(Command::Peek(key)) => write_value(writer, map.peek(&key).copied()),
         Some(Command::Remove(key)) => write_value(writer, map.remove(&key)),
+        Some(Command::RemoveEntry(key)) => write_left(writer, map.remove_entry(&key)),
         Some(Command::Contains(key)) => write_flag(writer, map.contains(&key)),
         Some(Command::Promote(key)) => write_flag(writer, map.promote(&key)),
         Some(Command::Demote(key)) => write_flag(writer, map.demote(&key)),

@@ -5,8 +5,8 @@ use Rattle.schnellru.specs.Lists.{lookup}
 use Rattle.lru_replay.specs.declared.lines.command.Command.TheVariants as commands
 use Rattle.lru_replay.specs.Grammar.{SpellsCommand}
 use Rattle.lru_replay.specs.Output.{Writes, bad_text, cost_text, figures_text, flag_text, insert_text, left_text}
-use Rattle.lru_replay.specs.Output.{pairs_text, reply_text, reservation_text, shrink_text, value_text}
-use Rattle.lru_replay.specs.Replies.{flag, value, pair, listed, reserved, shrunk, stats, done, insert_reply}
+use Rattle.lru_replay.specs.Output.{pairs_text, reply_text, reservation_text, shrink_text, updated_text, value_text}
+use Rattle.lru_replay.specs.Replies.{flag, updated, value, pair, listed, reserved, shrunk, stats, done, insert_reply}
 use Rattle.lru_replay.proofs.WrittenTexts.{writes_after, failed_front, inserted_text}
 use Rattle.lru_replay.proofs.lines.replays.answer_command.Goals as goal
 
@@ -55,6 +55,33 @@ returns-in-Some-Remove g c =
       value_text result,
       inl (commands.Remove c.in-Some-Remove.key, spells, (value result, inl (_, c.remove.ensures.step, refl), refl)),
       c.write_value-in-Some-Remove.ensures,
+    )
+
+pub returns-in-Some-Update : goal.returns-in-Some-Update
+returns-in-Some-Update g c =
+    let spells = subst (SpellsCommand c.args.line.now) c.in-Some-Update.field-0-is c.in-Some-Update.ensures.some in
+    let result = c.update.result in (
+      updated_text result,
+      inl (
+        commands.Update c.in-Some-Update.key c.in-Some-Update.value,
+        spells,
+        (updated result, inl (result, c.update.ensures.step, refl), refl),
+      ),
+      c.write_updated.ensures,
+    )
+
+pub returns-in-Some-RemoveEntry : goal.returns-in-Some-RemoveEntry
+returns-in-Some-RemoveEntry g c =
+    let spells = subst (SpellsCommand c.args.line.now) c.in-Some-RemoveEntry.field-0-is
+    c.in-Some-RemoveEntry.ensures.some in
+    let result = c.remove_entry.result in (
+      left_text result,
+      inl (
+        commands.RemoveEntry c.in-Some-RemoveEntry.key,
+        spells,
+        (pair result, inl (result, c.remove_entry.ensures, refl), refl),
+      ),
+      c.write_left.ensures,
     )
 
 pub returns-in-Some-Contains : goal.returns-in-Some-Contains
