@@ -9,9 +9,9 @@ use Rattle.std.specs.List.Sorted.{IsPermutation}
 use Rattle.std.specs.Map.{remove_entry, values_of}
 use Rattle.std.proofs.lemmas.Map.Views.{All-map-remove_entry, All-map-IsPermutation, IfSome-lookup_from_All, All-values-set_value}
 use Rattle.std.specs.Prelude.{IfSome}
-use Rattle.lru_tenants.specs.Cache.{Cache, tenant, Leaves}
+use Rattle.lru_tenants.specs.Cache.{Cache, tenant, Leaves, On}
 use Rattle.schnellru.specs.State.{State}
-use Rattle.lru_tenants.specs.TenantRuns.{Opens, On}
+use Rattle.lru_tenants.specs.TenantRuns.{Opens}
 use Rattle.lru_tenants.specs.declared.error.TenantError.TheVariants.{AlreadyOpen}
 
 pub absent-from : {X : Type 0} (found : Option X) → is_some found ≡ false → found ≡ None
@@ -20,9 +20,9 @@ absent-from (Some x) absent = absurd (true≢false absent)
 
 module _ {N K V L S : Type 0} where
   -- the cache of these tenants
-  abbrev pub cache_of : HashMap N (State K V L S) S → S → ℕ → Cache N K V L S
-  cache_of tenants hasher entry_bytes =
-      record { tenants = tenants.entries; hasher = hasher; entry_bytes = entry_bytes }
+  abbrev pub cache_of : HashMap N (State K V L S) S → S → ℕ → Option ℕ → Cache N K V L S
+  cache_of tenants hasher entry_bytes limit =
+      record { tenants = tenants.entries; hasher = hasher; entry_bytes = entry_bytes; total_limit = limit }
 
   module _ {eq : N → N → Bool} (laws : IsEquivalence eq) where
     -- equal names are those of one tenant
@@ -36,6 +36,7 @@ module _ {N K V L S : Type 0} where
       tenants = λ other. same other (eq name other) refl;
       hasher = refl;
       entry_bytes = refl;
+      total_limit = refl;
     }
       where
         same : (other : N) (is : Bool) → eq name other ≡ is →
@@ -45,10 +46,10 @@ module _ {N K V L S : Type 0} where
 
   -- so it does if the table of tenants has another map at its name, or none
   pub leaves-updated : (eq : N → N → Bool) (name : N) (left : Option (State K V L S)) (hasher : S)
-      (entry_bytes : ℕ) (old new : HashMap N (State K V L S) S) → UpdatesBy eq (eq name) old new left
-      → Leaves eq name left (cache_of old hasher entry_bytes) (cache_of new hasher entry_bytes)
-  leaves-updated eq name left hasher entry_bytes old new updates =
-      record { tenants = updates.0; hasher = refl; entry_bytes = refl }
+      (entry_bytes : ℕ) (limit : Option ℕ) (old new : HashMap N (State K V L S) S) → UpdatesBy eq (eq name) old new left
+      → Leaves eq name left (cache_of old hasher entry_bytes limit) (cache_of new hasher entry_bytes limit)
+  leaves-updated eq name left hasher entry_bytes limit old new updates =
+      record { tenants = updates.0; hasher = refl; entry_bytes = refl; total_limit = refl }
 
 -- what holds of each value holds of each after a removal
 module _ {K X S : Type 0} (P : X → Type 0) where
@@ -72,13 +73,13 @@ module _ {N K V L S R : Type 0} {eq : N → N → Bool} (name : N) (Does : Optio
 
 -- a tenant that is open is not opened
 pub open-again : {N K V L S : Type 0} {eq : N → N → Bool} → IsEquivalence eq → (name : N) (fresh : State K V L S)
-    (cache : Cache N K V L S) → is_some (tenant (eq name) cache) ≡ true
-    → On eq name (Opens fresh) cache (Err AlreadyOpen) cache
-open-again {N} {K} {V} {L} {S} {eq} laws name fresh cache there = go (tenant (eq name) cache) refl there
+    (over : Bool) (cache : Cache N K V L S) → is_some (tenant (eq name) cache) ≡ true
+    → On eq name (Opens over fresh) cache (Err AlreadyOpen) cache
+open-again {N} {K} {V} {L} {S} {eq} laws name fresh over cache there = go (tenant (eq name) cache) refl there
   where
     go : (was : Option (State K V L S)) → tenant (eq name) cache ≡ was → is_some was ≡ true
-        → On eq name (Opens fresh) cache (Err AlreadyOpen) cache
-    go (Some map) is found = on-same name (Opens fresh) (Err AlreadyOpen) laws cache (Some map) is (refl, refl)
+        → On eq name (Opens over fresh) cache (Err AlreadyOpen) cache
+    go (Some map) is found = on-same name (Opens over fresh) (Err AlreadyOpen) laws cache (Some map) is (refl, refl)
     go None is found = absurd (true≢false (sym found))
 
 -- what holds of each value of a table holds of the one that is found
@@ -106,21 +107,21 @@ module _ {N K V L S : Type 0} (names : N → N → Bool) where
   tenant-written laws name old new was left there writes = (writes.3 (ap is_some there)).0 name
       ∙ ap (λ b. cond b (Some left) (get_by (names name) old)) (laws.refl name)
 
-  module _ (name : N) (hasher : S) (entry_bytes : ℕ) (old new : HashMap N (State K V L S) S) where
+  module _ (name : N) (hasher : S) (entry_bytes : ℕ) (limit : Option ℕ) (old new : HashMap N (State K V L S) S) where
     pub on-written : (was left : State K V L S) → get_by (names name) old ≡ Some was
         → WritesThrough names (names name) old left new → {R : Type 0}
         (Does : Option (State K V L S) → R → Option (State K V L S) → Type 0) (answer : R)
         → Does (Some was) answer (Some left)
-        → On names name Does (cache_of old hasher entry_bytes) answer (cache_of new hasher entry_bytes)
+        → On names name Does (cache_of old hasher entry_bytes limit) answer (cache_of new hasher entry_bytes limit)
     on-written was left there writes Does answer does =
-        on-from name Does answer (cache_of old hasher entry_bytes) (cache_of new hasher entry_bytes) (Some was)
+        on-from name Does answer (cache_of old hasher entry_bytes limit) (cache_of new hasher entry_bytes limit) (Some was)
         (Some left) there does
-        (leaves-updated names name (Some left) hasher entry_bytes old new (writes.3 (ap is_some there)))
+        (leaves-updated names name (Some left) hasher entry_bytes limit old new (writes.3 (ap is_some there)))
 
     pub on-removed : {R : Type 0} (Does : Option (State K V L S) → R → Option (State K V L S) → Type 0) (answer : R)
         (was : Option (State K V L S)) → get_by (names name) old ≡ was → UpdatesBy names (names name) old new None
         → Does was answer None
-        → On names name Does (cache_of old hasher entry_bytes) answer (cache_of new hasher entry_bytes)
+        → On names name Does (cache_of old hasher entry_bytes limit) answer (cache_of new hasher entry_bytes limit)
     on-removed Does answer was is updates does =
-        on-from name Does answer (cache_of old hasher entry_bytes) (cache_of new hasher entry_bytes) was None is does
-        (leaves-updated names name None hasher entry_bytes old new updates)
+        on-from name Does answer (cache_of old hasher entry_bytes limit) (cache_of new hasher entry_bytes limit) was None is does
+        (leaves-updated names name None hasher entry_bytes limit old new updates)

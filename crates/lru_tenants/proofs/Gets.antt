@@ -17,6 +17,7 @@ module _ {K V L S Q : Type 0} {names : Q → K → Bool} {eq : K → K → Bool}
     map = promoted_is_map looks_up q map is.map;
     sum = promoted-summed (names q) map cost account is.sum;
     within = is.within;
+    small = is.small;
   }
 
 -- what a get returns, and what it leaves of a tenant that is open

@@ -1,8 +1,8 @@
 pub mod BudgetSteps
 pub mod Changes
+pub mod Kept
 pub mod Pops
 pub mod Gets
-pub mod Isolations
 pub mod OwnRuns
 pub mod TotalCosts
 pub mod PutFulls

@@ -1,69 +1,83 @@
 -- A run of calls on a cache is a run of each tenant.
 use Rattle.std.proofs.Common.{◌≡◌, ℕ, Bool, true, false, cond, List, [], ◌∷◌, ◌++◌, Option, refl}
-use Rattle.std.proofs.Common.{length, arith, subst, inl, inr}
-use Rattle.std.specs.Prelude.{IfSome}
-use Rattle.std.proofs.lemmas.Map.Views.{IfSome-lookup_from_All}
+use Rattle.std.proofs.Common.{length, arith, subst, ap, ◌∙◌, inl, inr}
+use Rattle.std.specs.Prelude.{⊤}
 use Rattle.schnellru.specs.State.{State, empty_map}
 use Rattle.std.specs.Cmp.{IsEquivalence}
 use Rattle.lru_tenants.proofs.Changes.{same-tenant}
-use Rattle.lru_limits.specs.Rules.{Rules, Offers}
-use Rattle.lru_tenants.specs.Cache.{Cache, tenant, fresh, IsTenant, AreTenants}
-use Rattle.lru_tenants.specs.TenantRuns.{named, TenantStep, On, IsOwnRun}
-use Rattle.lru_tenants.specs.declared.call.TenantAnswer.{TenantAnswer}
-use Rattle.lru_tenants.specs.declared.call.TenantCall.{TenantCall}
+use Rattle.lru_tenants.specs.Cache.{Cache, tenant, fresh, Leaves}
+use Rattle.lru_tenants.specs.Isolation.{Did, CacheRun, Chain, OwnRun}
 
-module _ {N K V L S : Type 0} {names : N → N → Bool} (laws : IsEquivalence names) (rules : Rules K V L)
-    (offers : Offers K V L K) (cost : K → V → ℕ) (account budget : L → ℕ) (eq : K → K → Bool) (hash_of : S → K → ℕ)
-    (fresh : ℕ → State K V L S) (name : N) where
-  abbrev Own : Option (State K V L S) → List (TenantCall N K V) → List (TenantAnswer V) → Option (State K V L S) → Type 0
-  Own = IsOwnRun rules offers cost account budget eq hash_of fresh (λ n. names n name)
+-- each call of a run on the cache is one of the tenant, or leaves it as it is
+pub chain : {N K V L S : Type 0} {eq : N → N → Bool} → IsEquivalence eq → (name : N) (dids : List (Did N K V L S))
+    (old new : Cache N K V L S) → CacheRun eq old dids new
+    → Chain (λ n. eq n name) (tenant (eq name) old) dids (tenant (eq name) new)
+chain {eq = eq} laws name [] old new same = ap (tenant (eq name)) same
+chain {N} {K} {V} {L} {S} {eq} laws name (did ∷ more) old new (mid, found, leaves, run) =
+    go (chain laws name more mid new run) (eq did.name name) refl (leaves.tenants name)
+  where
+    go : Chain (λ n. eq n name) (tenant (eq name) mid) more (tenant (eq name) new) → (is : Bool)
+        → eq did.name name ≡ is → tenant (eq name) mid ≡ cond is did.left (tenant (eq name) old)
+        → Chain (λ n. eq n name) (tenant (eq name) old) (did ∷ more) (tenant (eq name) new)
+    go rest true e now = inl (
+      e,
+      found ∙ same-tenant laws did.name name e old,
+      subst (λ t. Chain (λ n. eq n name) t more (tenant (eq name) new)) now rest,
+    )
+    go rest false e now = inr (e, subst (λ t. Chain (λ n. eq n name) t more (tenant (eq name) new)) now rest)
 
-  -- a run of a tenant goes on by one from where it ends
-  pub own-append : (old : Option (State K V L S)) (calls : List (TenantCall N K V)) (answers : List (TenantAnswer V))
-      (mid : Option (State K V L S)) (more : List (TenantCall N K V)) (others : List (TenantAnswer V))
-      (new : Option (State K V L S)) → Own old calls answers mid → Own mid more others new
-      → Own old (calls ++ more) (answers ++ others) new
-  own-append old [] [] mid more others new same rest = subst (λ t. Own t more others new) same rest
-  own-append old [] (answer ∷ answers) mid more others new none rest = absurd none
-  own-append old (call ∷ calls) [] mid more others new none rest = absurd none
-  own-append old (call ∷ calls) (answer ∷ answers) mid more others new (inl (is, (next, holds, run))) rest =
-      inl (is, (next, holds, own-append next calls answers mid more others new run rest))
-  own-append old (call ∷ calls) (answer ∷ answers) mid more others new (inr (other, run)) rest =
-      inr (other, own-append old calls answers mid more others new run rest)
+-- a run on the cache goes on by one call
+pub run-push : {N K V L S : Type 0} (eq : N → N → Bool) (dids : List (Did N K V L S)) (old mid new : Cache N K V L S)
+    (name : N) (left : Option (State K V L S)) → CacheRun eq old dids mid → Leaves eq name left mid new
+    → CacheRun eq old (dids ++ record { name = name; found = tenant (eq name) mid; left = left } ∷ []) new
+run-push eq [] old mid new name left same leaves = (
+  new,
+  ap (tenant (eq name)) same,
+  subst (λ c. Leaves eq name left c new) same leaves,
+  refl,
+)
+run-push eq (did ∷ more) old mid new name left (next, found, step, run) leaves =
+    (next, found, step, run-push eq more next mid new name left run leaves)
 
-  -- a call on the cache is one of the tenant, or leaves it as it is
-  pub own-step : (old new : Cache N K V L S) (call : TenantCall N K V) (answer : TenantAnswer V)
-      → On names (named call) (TenantStep rules offers cost account budget eq hash_of fresh call) old answer new
-      → IfSome (tenant (names name) new) (IsTenant eq cost account budget)
-      → Own (tenant (names name) old) (call ∷ []) (answer ∷ []) (tenant (names name) new)
-  own-step old new call answer (left, step, leaves) holds = go (names (named call) name) refl (leaves.tenants name)
-    where
-      go : (is : Bool) → names (named call) name ≡ is → tenant (names name) new ≡ cond is left (tenant (names name) old)
-          → Own (tenant (names name) old) (call ∷ []) (answer ∷ []) (tenant (names name) new)
-      go true e now =
-          inl (
-            e,
-            (
-              left,
-              (
-                subst (λ t. TenantStep rules offers cost account budget eq hash_of fresh call t answer left)
-                    (same-tenant laws (named call) name e old) step,
-                subst (λ t. IfSome t (IsTenant eq cost account budget)) now holds,
-              ),
-              now,
-            ),
-          )
-      go false e now = inr (e, now)
+module _ {N K V L S C R : Type 0} (named : C → N)
+    (Does : C → Option (State K V L S) → R → Option (State K V L S) → Type 0) where
+  -- each call did what it may
+  abbrev pub AreSteps : List C → List R → List (Did N K V L S) → Type 0
+  AreSteps [] [] [] = ⊤
+  AreSteps (call ∷ calls) (answer ∷ answers) (did ∷ more) =
+      (did.name ≡ named call) × Does call did.found answer did.left × AreSteps calls answers more
+  AreSteps [] (answer ∷ answers) dids = ⊥
+  AreSteps (call ∷ calls) [] dids = ⊥
+  AreSteps [] [] (did ∷ more) = ⊥
+  AreSteps (call ∷ calls) (answer ∷ answers) [] = ⊥
 
-  -- and so a run of calls on the cache, with one more, is a run of the tenant
-  pub own-push : (first old new : Cache N K V L S) (calls : List (TenantCall N K V)) (answers : List (TenantAnswer V))
-      (call : TenantCall N K V) (answer : TenantAnswer V) → Own (tenant (names name) first) calls answers (tenant (names name) old)
-      → On names (named call) (TenantStep rules offers cost account budget eq hash_of fresh call) old answer new → AreTenants eq cost account budget new
-      → Own (tenant (names name) first) (calls ++ call ∷ []) (answers ++ answer ∷ []) (tenant (names name) new)
-  own-push first old new calls answers call answer run step all =
-      own-append (tenant (names name) first) calls answers (tenant (names name) old) (call ∷ []) (answer ∷ []) (tenant (names name) new) run
-      (own-step old new call answer step
-      (IfSome-lookup_from_All (IsTenant eq cost account budget) (names name) new.tenants all))
+  pub steps-push : (calls : List C) (answers : List R) (dids : List (Did N K V L S)) (call : C) (answer : R)
+      (found left : Option (State K V L S)) → AreSteps calls answers dids → Does call found answer left
+      → AreSteps (calls ++ call ∷ []) (answers ++ answer ∷ []) (dids ++ record { name = named call; found = found; left = left } ∷ [])
+  steps-push [] [] [] call answer found left steps does = (refl, does, tt)
+  steps-push (other ∷ calls) (said ∷ answers) (did ∷ more) call answer found left (is, step, steps) does =
+      (is, step, steps-push calls answers more call answer found left steps does)
+  steps-push [] (said ∷ answers) dids call answer found left steps does = absurd steps
+  steps-push (other ∷ calls) [] dids call answer found left steps does = absurd steps
+  steps-push [] [] (did ∷ more) call answer found left steps does = absurd steps
+  steps-push (other ∷ calls) (said ∷ answers) [] call answer found left steps does = absurd steps
+
+  -- so a tenant's own calls, with their answers, are a run of it
+  pub own-run : (own : N → Bool) (calls : List C) (answers : List R) (dids : List (Did N K V L S))
+      (old new : Option (State K V L S)) → AreSteps calls answers dids → Chain own old dids new
+      → OwnRun named Does own old calls answers new
+  own-run own [] [] [] old new steps same = same
+  own-run own (call ∷ calls) (answer ∷ answers) (did ∷ more) old new (is, does, steps) (inl (named, found, rest)) =
+      inl (
+        subst (λ n. own n ≡ true) is named,
+        (did.left, subst (λ t. Does call t answer did.left) found does, own-run own calls answers more did.left new steps rest),
+      )
+  own-run own (call ∷ calls) (answer ∷ answers) (did ∷ more) old new (is, does, steps) (inr (other, rest)) =
+      inr (subst (λ n. own n ≡ false) is other, own-run own calls answers more old new steps rest)
+  own-run own [] (said ∷ answers) dids old new steps chained = absurd steps
+  own-run own (other ∷ calls) [] dids old new steps chained = absurd steps
+  own-run own [] [] (did ∷ more) old new steps chained = absurd steps
+  own-run own (other ∷ calls) (said ∷ answers) [] old new steps chained = absurd steps
 
 -- caches whose hasher and bytes are the same open tenants with the same maps
 pub fresh-same : {N K V L S : Type 0} (made : ℕ → L) (max : ℕ) (old new : Cache N K V L S) → new.hasher ≡ old.hasher → new.entry_bytes ≡ old.entry_bytes

@@ -1,9 +1,11 @@
 -- The sum over all tenants.
-use Rattle.std.proofs.Common.{◌≡◌, ◌≤◌, ◌+◌, ℕ, List, [], ◌∷◌, Option, None, map, refl, sym, ap, ◌∙◌, arith, sum_by}
+use Rattle.std.proofs.Common.{◌≡◌, ◌≤◌, ◌+◌, ℕ, Bool, List, [], ◌∷◌, Option, None, map, refl, sym, ap, ◌∙◌, arith, sum_by}
 use Rattle.std.specs.Option.{option_map, unwrap_or}
 use Rattle.std.specs.List.{All}
 use Rattle.std.proofs.lemmas.List.Sums.{sum_by-cons}
-use Rattle.std.proofs.lemmas.List.Elements.{All-head, All-tail}
+use Rattle.std.proofs.lemmas.List.Elements.{All-head, All-tail, All-weaker}
+use Rattle.schnellru.specs.State.{State}
+use Rattle.lru_tenants.specs.Cache.{IsTenant}
 
 pub mapped : {X Y : Type 0} (f : Y → ℕ) (g : X → Y) (xs : List X) → sum_by f (map g xs) ≡ sum_by (λ x. f (g x)) xs
 mapped f g [] = refl
@@ -20,6 +22,14 @@ at-most f g (x ∷ xs) all = omega (
   All-head (λ x. f x ≤ g x) x xs all,
   at-most f g xs (All-tail (λ x. f x ≤ g x) x xs all),
 )
+
+-- so the costs of all tenants add up to at most their budgets
+pub costs-within : {K V L S : Type 0} {eq : K → K → Bool} {cost : K → V → ℕ} {account budget : L → ℕ}
+    (maps : List (State K V L S)) → All (IsTenant eq cost account budget) maps
+    → sum_by (λ map. account map.limiter) maps ≤ sum_by (λ map. budget map.limiter) maps
+costs-within {eq = eq} {cost = cost} {account = account} {budget = budget} maps all =
+    at-most (λ map. account map.limiter) (λ map. budget map.limiter) maps (All-weaker (IsTenant eq cost account budget)
+    (λ map. account map.limiter ≤ budget map.limiter) (λ map is. is.within) maps all)
 
 -- a sum with one term more, if nothing was replaced
 pub opened : {X : Type 0} (f : X → ℕ) (old : Option X) (new was own budget : ℕ) → old ≡ None

@@ -1,5 +1,6 @@
 -- A cache of tenants: a map for each that is open.
-use Rattle.std.specs.Prelude.{◌≡◌, ℕ, ◌≤◌, Bool, List, cond, Option, sum_by}
+use Rattle.std.specs.Prelude.{◌≡◌, ℕ, ◌≤◌, ◌<◌, ◌+◌, ◌-◌, ◌^◌, nat_lt, Bool, false, List, cond, Option, Some, None, sum_by}
+use Rattle.std.specs.Option.{option_map, unwrap_or}
 use Rattle.std.specs.List.{All}
 use Rattle.std.specs.Map.{values_of}
 use Rattle.schnellru.specs.Lists.{lookup}
@@ -17,6 +18,13 @@ pub record IsTenant {K V L S : Type 0} (eq : K → K → Bool) (cost : K → V �
   -- the running total is the sum of the costs, and within the budget
   pub sum : IsSummed cost account own
   pub within : account own.limiter ≤ budget own.limiter
+  -- the budget is a u64
+  pub small : budget own.limiter < 2 ^ 64
+
+-- a sum is above the limit, if there is one
+abbrev pub is_above : Option ℕ → ℕ → Bool
+is_above None sum = false
+is_above (Some limit) sum = nat_lt limit sum
 
 -- what a contract sees of a cache
 pub record Cache (N K V L S : Type 0) : Type 0 where
@@ -25,6 +33,8 @@ pub record Cache (N K V L S : Type 0) : Type 0 where
   -- what builds the hashers of names and keys, and the bytes of an entry
   pub hasher : S
   pub entry_bytes : ℕ
+  -- what the budgets of all tenants add up to at most, if there is a limit
+  pub total_limit : Option ℕ
 
 module _ {N K V L S : Type 0} where
   -- the map of the tenant whose name passes the test, if it is open
@@ -41,6 +51,13 @@ module _ {N K V L S : Type 0} where
     pub tenants : (other : N) → tenant (eq other) new ≡ cond (eq name other) left (tenant (eq other) old)
     pub hasher : new.hasher ≡ old.hasher
     pub entry_bytes : new.entry_bytes ≡ old.entry_bytes
+    pub total_limit : new.total_limit ≡ old.total_limit
+
+  -- what a call does to the tenant of a name it does to the cache, in which the others stay
+  abbrev pub On : {R : Type 0} → (N → N → Bool) → N → (Option (State K V L S) → R → Option (State K V L S) → Type 0)
+      → Cache N K V L S → R → Cache N K V L S → Type 0
+  On eq name Does old answer new =
+      (left : Option (State K V L S)) × Does (tenant (eq name) old) answer left × Leaves eq name left old new
 
   -- it holds of each
   abbrev pub AreTenants : (K → K → Bool) → (K → V → ℕ) → (L → ℕ) → (L → ℕ) → Cache N K V L S → Type 0
@@ -49,3 +66,12 @@ module _ {N K V L S : Type 0} where
   -- the sum of the budgets of all tenants
   abbrev pub budgets : (L → ℕ) → Cache N K V L S → ℕ
   budgets budget cache = sum_by (λ map. budget map.limiter) (values_of cache.tenants)
+
+  -- the same sum, once the tenant whose name passes the test has this budget
+  abbrev pub budgets_with : (L → ℕ) → (N → Bool) → ℕ → Cache N K V L S → ℕ
+  budgets_with budget named own cache =
+      budgets budget cache - unwrap_or (option_map (λ map. budget map.limiter) (tenant named cache)) 0 + own
+
+  -- that sum would be above the total limit, if there is one
+  abbrev pub is_over : (L → ℕ) → (N → Bool) → ℕ → Cache N K V L S → Bool
+  is_over budget named own cache = is_above cache.total_limit (budgets_with budget named own cache)

@@ -1,22 +1,28 @@
 -- Calls of any kind on a cache, one after another, and what they are to one tenant.
 --     named call                    the tenant that the call names
 --     Does call old answer new      what the call may do to that tenant, and what it may answer
-use Rattle.std.specs.Prelude.{◌≡◌, ◌⊎◌, Bool, true, false, if◌then◌else◌, List, [], ◌∷◌, Option}
+use Rattle.std.specs.Prelude.{◌≡◌, ◌⊎◌, Bool, true, false, List, [], ◌∷◌, Option}
 use Rattle.schnellru.specs.State.{State}
-use Rattle.lru_tenants.specs.Cache.{Cache, Leaves}
+use Rattle.lru_tenants.specs.Cache.{Cache, tenant, Leaves}
+
+-- what a call did: what it found of the tenant that it names, and what it left of it
+pub record Did (N K V L S : Type 0) : Type 0 where
+  pub name : N
+  pub found : Option (State K V L S)
+  pub left : Option (State K V L S)
 
 module _ {N K V L S : Type 0} where
-  -- calls that take the cache from old to new, each with the tenant that it names and what it leaves of that tenant;
-  -- it leaves the others as they are
-  abbrev pub CacheRun : (N → N → Bool) → Cache N K V L S → List (N × Option (State K V L S)) → Cache N K V L S → Type 0
-  CacheRun names old [] new = new ≡ old
-  CacheRun names old (call ∷ calls) new =
-      (mid : Cache N K V L S) × Leaves names call.0 call.1 old mid × CacheRun names mid calls new
+  -- Calls that take the cache from old to new. Each leaves the other tenants as they are.
+  abbrev pub CacheRun : (N → N → Bool) → Cache N K V L S → List (Did N K V L S) → Cache N K V L S → Type 0
+  CacheRun eq old [] new = new ≡ old
+  CacheRun eq old (did ∷ more) new = (mid : Cache N K V L S) × (did.found ≡ tenant (eq did.name) old)
+      × Leaves eq did.name did.left old mid × CacheRun eq mid more new
 
-  -- what the last call that names the tenant leaves of it, or what it was, if none does
-  abbrev pub last_left : (N → Bool) → Option (State K V L S) → List (N × Option (State K V L S)) → Option (State K V L S)
-  last_left own old [] = old
-  last_left own old (call ∷ calls) = last_left own (if own call.0 then call.1 else old) calls
+  -- Each call that names the tenant found what the one before it left. The last one left the new.
+  abbrev pub Chain : (N → Bool) → Option (State K V L S) → List (Did N K V L S) → Option (State K V L S) → Type 0
+  Chain own old [] new = new ≡ old
+  Chain own old (did ∷ more) new = ((own did.name ≡ true) × (did.found ≡ old) × Chain own did.left more new)
+      ⊎ ((own did.name ≡ false) × Chain own old more new)
 
 module _ {N K V L S C R : Type 0} (named : C → N)
     (Does : C → Option (State K V L S) → R → Option (State K V L S) → Type 0) where

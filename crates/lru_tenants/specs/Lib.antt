@@ -1,5 +1,6 @@
 -- What the contracts of `lru_tenants` cite.
 pub mod Cache
+pub mod Inside
 pub mod Isolation
 pub mod TenantRuns
 pub mod Lending

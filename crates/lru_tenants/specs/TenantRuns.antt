@@ -2,7 +2,7 @@
 --     rules, offers       what the limiter says (`Rules`, `Offers` of `lru_limits`)
 --     fresh budget        the empty map with which a tenant opens
 --     hash_of h k         the hash of the key k, by the hasher h
-use Rattle.std.specs.Prelude.{◌≡◌, ◌⊎◌, ℕ, Bool, List, [], length, reverse, Option, Some, None, option_map, IfSome}
+use Rattle.std.specs.Prelude.{◌≡◌, ◌⊎◌, ℕ, Bool, true, false, List, [], length, reverse, Option, Some, None, option_map, IfSome}
 use Rattle.std.specs.Prelude.{Result, Ok, Err}
 use Rattle.std.specs.declared.alloc.AllocError.{AllocError}
 use Rattle.lru_limits.specs.Rules.{Rules, Offers}
@@ -10,11 +10,11 @@ use Rattle.schnellru.specs.Calls.{promoted}
 use Rattle.schnellru.specs.HandedOver.{InsertHands, TrimHands}
 use Rattle.schnellru.specs.Inserts.{Insert}
 use Rattle.schnellru.specs.Lists.{lookup}
-use Rattle.schnellru.specs.State.{State}
-use Rattle.lru_tenants.specs.Cache.{Cache, tenant, with_limiter, Leaves, IsTenant}
+use Rattle.schnellru.specs.State.{State, Trims}
+use Rattle.lru_tenants.specs.Cache.{with_limiter, is_above, IsTenant}
 use Rattle.lru_tenants.specs.Isolation.{OwnRun}
 use Rattle.lru_tenants.specs.declared.error.TenantError.{TenantError}
-use Rattle.lru_tenants.specs.declared.error.TenantError.TheVariants.{AlreadyOpen, NotOpen, Memory}
+use Rattle.lru_tenants.specs.declared.error.TenantError.TheVariants.{AlreadyOpen, NotOpen, Memory, OverTotal}
 use Rattle.lru_tenants.specs.declared.call.TenantAnswer.{TenantAnswer}
 use Rattle.lru_tenants.specs.declared.call.TenantAnswer.TheVariants as answers
 use Rattle.lru_tenants.specs.declared.call.TenantCall.{TenantCall}
@@ -36,10 +36,20 @@ put_answer (Err e) = Err Memory
 
 -- what each call may answer, and what it leaves of its tenant; `None` is a tenant that is not open
 module _ {K V L S : Type 0} where
-  -- one that is not open opens with this map, if there is memory
-  abbrev pub Opens : State K V L S → Option (State K V L S) → Result (Unit {0}) TenantError → Option (State K V L S) → Type 0
-  Opens fresh None answer new = ((answer ≡ Ok tt) × (new ≡ Some fresh)) ⊎ ((answer ≡ Err Memory) × (new ≡ None))
-  Opens fresh (Some map) answer new = (answer ≡ Err AlreadyOpen) × (new ≡ Some map)
+  -- one that is not open opens with this map, if the total limit lets it and there is memory
+  abbrev pub Opens : Bool → State K V L S → Option (State K V L S) → Result (Unit {0}) TenantError
+      → Option (State K V L S) → Type 0
+  Opens over fresh (Some map) answer new = (answer ≡ Err AlreadyOpen) × (new ≡ Some map)
+  Opens true fresh None answer new = (answer ≡ Err OverTotal) × (new ≡ None)
+  Opens false fresh None answer new = ((answer ≡ Ok tt) × (new ≡ Some fresh)) ⊎ ((answer ≡ Err Memory) × (new ≡ None))
+
+  -- one that is open gets a budget, if the total limit lets it, and what is over it is evicted
+  abbrev pub SetsBudget : Rules K V L → (L → L) → Bool → Option (State K V L S) → Result (Unit {0}) TenantError
+      → Option (State K V L S) → Type 0
+  SetsBudget rules rebudgeted over None answer new = (answer ≡ Err NotOpen) × (new ≡ None)
+  SetsBudget rules rebudgeted true (Some map) answer new = (answer ≡ Err OverTotal) × (new ≡ Some map)
+  SetsBudget rules rebudgeted false (Some map) answer new = (left : State K V L S)
+      × Trims rules (with_limiter (rebudgeted map.limiter) map) left × (answer ≡ Ok tt) × (new ≡ Some left)
 
   -- what a get by what names a key returns
   abbrev pub got : (K → Bool) → Option (State K V L S) → Result (Option V) TenantError
@@ -73,12 +83,11 @@ module _ {K V L S : Type 0} where
   Costs account None answer new = (answer ≡ Err NotOpen) × (new ≡ None)
   Costs account (Some map) answer new = (answer ≡ Ok (account map.limiter)) × (new ≡ Some map)
 
-  -- its limiter gets a budget, and what is over it is passed on
-  pub record BudgetHands (rules : Rules K V L) (rebudgeted : L → L) (old : State K V L S) (handed : List (K × V))
-      (new : Option (State K V L S)) : Type 0 where
-    pub left : State K V L S
-    pub trims : TrimHands rules (with_limiter (rebudgeted old.limiter) old) handed left
-    pub is : new ≡ Some left
+  -- its limiter gets a budget, if the total limit lets it, and what is over it is passed on
+  abbrev pub BudgetHands : Rules K V L → (L → L) → Bool → State K V L S → List (K × V) → Option (State K V L S) → Type 0
+  BudgetHands rules rebudgeted true old handed new = (handed ≡ []) × (new ≡ Some old)
+  BudgetHands rules rebudgeted false old handed new = (left : State K V L S)
+      × TrimHands rules (with_limiter (rebudgeted old.limiter) old) handed left × (new ≡ Some left)
 
   -- it closes, and passes on its pairs, oldest first
   abbrev pub CloseHands : State K V L S → List (K × V) → Option (State K V L S) → Type 0
@@ -109,18 +118,13 @@ module _ {K V L S : Type 0} where
     Puts None answer new = (answer ≡ Err NotOpen) × (new ≡ None)
     Puts (Some map) answer new = (left : State K V L S) × PutsInto map answer left × (new ≡ Some left)
 
-  -- what a call does to the tenant of a name it does to the cache, in which the others stay
-  abbrev pub On : {N R : Type 0} → (N → N → Bool) → N → (Option (State K V L S) → R → Option (State K V L S) → Type 0)
-      → Cache N K V L S → R → Cache N K V L S → Type 0
-  On eq name Does old answer new =
-      (left : Option (State K V L S)) × Does (tenant (eq name) old) answer left × Leaves eq name left old new
-
 module _ {N K V L S : Type 0} (rules : Rules K V L) (offers : Offers K V L K) (cost : K → V → ℕ)
-    (account budget_of : L → ℕ) (eq : K → K → Bool) (hash_of : S → K → ℕ) (fresh : ℕ → State K V L S) where
-  -- the call may answer this and leave the tenant that it names so
+    (account budget_of : L → ℕ) (eq : K → K → Bool) (hash_of : S → K → ℕ) (fresh : ℕ → State K V L S)
+    (total_limit : Option ℕ) where
+  -- the call may answer this and leave the tenant that it names so; no call is over the total if there is no limit
   abbrev pub TenantStep : TenantCall N K V → Option (State K V L S) → TenantAnswer V → Option (State K V L S) → Type 0
-  TenantStep (calls.Open name budget) old answer new = (result : Result (Unit {0}) TenantError)
-      × Opens (fresh budget) old result new × (answer ≡ answers.Opened result)
+  TenantStep (calls.Open name budget) old answer new = (result : Result (Unit {0}) TenantError) × (sum : ℕ)
+      × Opens (is_above total_limit sum) (fresh budget) old result new × (answer ≡ answers.Opened result)
   TenantStep (calls.Put name key value) old answer new = (result : Result Bool TenantError)
       × Puts rules offers budget_of eq hash_of key value old result new × (answer ≡ answers.Put result)
   TenantStep (calls.Get name key) old answer new = (result : Result (Option V) TenantError)
@@ -130,9 +134,11 @@ module _ {N K V L S : Type 0} (rules : Rules K V L) (offers : Offers K V L K) (c
   TenantStep (calls.Close name) old answer new = (result : Result ℕ TenantError)
       × Closes old result new × (answer ≡ answers.Closed result)
 
-  -- The calls that name the tenant, and their answers, take it from old to new, within its budget after each. Calls of
-  -- others leave it as it is.
+  -- the same, and its cost is within its budget then
+  abbrev pub KeptStep : TenantCall N K V → Option (State K V L S) → TenantAnswer V → Option (State K V L S) → Type 0
+  KeptStep call old answer new = TenantStep call old answer new × IfSome new (IsTenant eq cost account budget_of)
+
+  -- The calls that name the tenant, and their answers, take it from old to new. Calls of others leave it as it is.
   abbrev pub IsOwnRun : (N → Bool) → Option (State K V L S) → List (TenantCall N K V) → List (TenantAnswer V)
       → Option (State K V L S) → Type 0
-  IsOwnRun = OwnRun named (λ call old answer new. TenantStep call old answer new
-      × IfSome new (IsTenant eq cost account budget_of))
+  IsOwnRun = OwnRun named KeptStep

@@ -1,19 +1,19 @@
 //! `TenantCache`. A contract sees a cache as its open tenants, each with its map.
-ghost use Rattle.std.specs.Prelude.{◌≡◌, ◌+◌, [], length, Ok, IfSome};
+ghost use Rattle.std.specs.Prelude.{◌≡◌, ◌+◌, [], length, Ok, None};
+ghost use Rattle.std.specs.Result.{OnErr};
 ghost use Rattle.std.specs.List.{IsDistinct};
 ghost use Rattle.std.specs.Map.{keys_of};
 ghost use Rattle.lru_limits.specs.Mixing.{seeded};
 ghost use Rattle.schnellru.specs.Calls.{Remove, cleared};
 ghost use Rattle.schnellru.specs.Lists.{is_empty};
-ghost use Rattle.schnellru.specs.State.{Trims};
-ghost use Rattle.lru_tenants.specs.Cache.{tenant, budgets, fresh, with_limiter, IsTenant, AreTenants};
-ghost use Rattle.lru_tenants.specs.TenantRuns.{put_answer, IfOpen, Opens, Puts, Closes, On};
+ghost use Rattle.lru_tenants.specs.Cache.{budgets, budgets_with, is_over, fresh, IsTenant, AreTenants, On};
+ghost use Rattle.lru_tenants.specs.TenantRuns.{IfOpen, Opens, SetsBudget, Puts, Closes};
 
 use crate::error::TenantError;
-use crate::tenant::{clear, insert, remove, set_budget};
+use crate::tenant::{clear, remove};
 use lru_limits::Budgeted;
 use schnellru::{ByCost, Costed, KeyHasher, LookupKey, LruMap, RandomState, laws};
-use std::alloc::{AllocError, Global};
+use std::alloc::Global;
 use std::collections::HashMap;
 use std::hash::Hash;
 use std::marker::Model;
@@ -23,10 +23,13 @@ mod passing;
 mod reading;
 mod totals;
 
+use totals::is_above;
+
 /// A cache for many tenants, each with a name. Each tenant has a map, limited by a budget of its own.
 ///
 /// The limiter `L` says what an entry costs: with `ByCost` its value alone, with `ByWeight<OVERHEAD>` its key and its
-/// value, and `OVERHEAD` for the entry itself. `S` hashes names and keys.
+/// value, and `OVERHEAD` for the entry itself. `S` hashes names and keys. The budgets of all tenants add up to at most the
+/// total limit, if `set_total_limit` set one.
 ///
 /// ```
 /// let mut cache: TenantCache<u64, u64, u64> = TenantCache::new(alloc, [1, 2, 3, 4], 16);
@@ -45,16 +48,16 @@ pub struct TenantCache<
     tenants: HashMap<N, LruMap<K, V, L, S>, S, Global>,
     hasher: S,
     entry_bytes: usize,
+    // The sum of the budgets of all tenants, and what it is at most.
+    budgets: u128,
+    total_limit: Option<u64>,
     alloc: Global,
 }
 
 impl<N: Eq + Hash, K: Eq + Hash, V, L: Budgeted<K, V>, S: KeyHasher<K> + Copy> Model
     for TenantCache<N, K, V, L, S> {
-    ghost use Rattle.std.specs.List.{All};
-    ghost use Rattle.std.specs.Prelude.{◌≡◌};
-    ghost use Rattle.std.specs.HashMap.{hasher_of};
-    ghost use Rattle.std.specs.Map.{values_of};
-    ghost use Rattle.lru_tenants.specs.Cache.{Cache, IsTenant};
+    ghost use Rattle.lru_tenants.specs.Cache.{Cache};
+    ghost use Rattle.lru_tenants.specs.Inside.{Holds};
 
     ghost Value = { Cache N K V L S };
 
@@ -62,14 +65,14 @@ impl<N: Eq + Hash, K: Eq + Hash, V, L: Budgeted<K, V>, S: KeyHasher<K> + Copy> M
       tenants = c.tenants.entries;
       hasher = c.hasher;
       entry_bytes = c.entry_bytes;
+      total_limit = c.total_limit;
     } };
 
-    ghost invariant = { λ c. All (IsTenant K.eq L.cost_of L.account L.budget_of) (values_of c.tenants.entries)
-        × (hasher_of c.tenants ≡ c.hasher) };
+    ghost invariant = { λ c. Holds K.eq L.cost_of L.account L.budget_of c.tenants c.hasher c.budgets c.total_limit };
 }
 
 impl<N: Eq + Hash, K: Eq + Hash + Drop, V: Costed + Drop> TenantCache<N, K, V> {
-    /// Makes a cache without tenants, whose entries cost what their values cost.
+    /// Makes a cache without tenants and without a total limit, whose entries cost what their values cost.
     ///
     /// The hashers of names and of all maps have these seeds, and each map counts `entry_bytes` bytes an entry, as
     /// `LruMap::new` does. If strangers choose names or keys, take seeds that nobody can guess. Cost: `O(1)`, and no
@@ -80,7 +83,7 @@ impl<N: Eq + Hash, K: Eq + Hash + Drop, V: Costed + Drop> TenantCache<N, K, V> {
     /// assert!(rt; cache.is_empty());
     /// ```
     pub fn new(alloc: Global, seed: [u64; 4], entry_bytes: usize) -> Self
-        ensures { result ≡ record { tenants = []; hasher = seeded seed; entry_bytes = entry_bytes } }
+        ensures { result ≡ record { tenants = []; hasher = seeded seed; entry_bytes = entry_bytes; total_limit = None } }
     {
         TenantCache::with_hasher(alloc, RandomState::with_seeds(seed), entry_bytes)
     }
@@ -93,7 +96,7 @@ impl<N: Eq + Hash, K: Eq + Hash, V, L: Budgeted<K, V>, S: KeyHasher<K> + Copy> T
     L,
     S,
 > {
-    /// Makes a cache without tenants, under any limiter with a budget, with this hasher of names and keys.
+    /// Makes a cache without tenants and without a total limit, under any limiter with a budget, with this hasher of names and keys.
     ///
     /// If strangers choose names or keys, take std's `RandomState::new(&rt)?`, whose hashes nobody can guess. Each map
     /// counts `entry_bytes` bytes an entry, as `LruMap::with_hasher` does. Cost: `O(1)`, and no memory.
@@ -105,12 +108,14 @@ impl<N: Eq + Hash, K: Eq + Hash, V, L: Budgeted<K, V>, S: KeyHasher<K> + Copy> T
     /// assert_eq!(rt; weighed.cost(&1), Ok(25));
     /// ```
     pub fn with_hasher(alloc: Global, hasher: S, entry_bytes: usize) -> Self
-        ensures { result ≡ record { tenants = []; hasher = hasher; entry_bytes = entry_bytes } }
+        ensures { result ≡ record { tenants = []; hasher = hasher; entry_bytes = entry_bytes; total_limit = None } }
     {
         TenantCache {
             tenants: HashMap::with_hasher(alloc, hasher),
             hasher,
             entry_bytes,
+            budgets: 0,
+            total_limit: None,
             alloc,
         }
     }
@@ -162,19 +167,30 @@ impl<
     ///
     /// # Errors
     ///
-    /// `AlreadyOpen`, or `Memory`: there was none for one tenant more. Both change nothing.
+    /// `AlreadyOpen`; `OverTotal`: the sum of all budgets would be above the total limit; or `Memory`: there was none for
+    /// one tenant more. All change nothing.
     pub fn open(&mut self, name: N, budget: u64) -> Result<(), TenantError>
-        ensures opens { On N.eq name (Opens (fresh L.made (L.LinkType.number L.LinkType.MAX) self.old budget))
-            self.old result self.new }
+        ensures opens { On N.eq name (Opens (is_over L.budget_of (N.eq name) budget self.old)
+            (fresh L.made (L.LinkType.number L.LinkType.MAX) self.old budget)) self.old result self.new }
         ensures total { result ≡ Ok tt → budgets L.budget_of self.new ≡ budgets L.budget_of self.old + budget }
+        ensures unchanged { OnErr result (self.new ≡ self.old) }
         ensures tenants { AreTenants K.eq L.cost_of L.account L.budget_of self.new }
     {
         if self.tenants.contains_key(&name) {
             return Err(TenantError::AlreadyOpen);
         }
+        // Fewer than 2^63 budgets of a u64 add up to less than 2^127.
+        let _len = self.tenants.len();
+        let sum = self.budgets + budget as u128;
+        if is_above(self.total_limit, sum) {
+            return Err(TenantError::OverTotal);
+        }
         let map = self.fresh(budget);
         match self.tenants.insert(name, map) {
-            Ok(_) => Ok(()),
+            Ok(_) => {
+                self.budgets = sum;
+                Ok(())
+            }
             Err(_) => Err(TenantError::Memory),
         }
     }
@@ -206,12 +222,10 @@ impl<
     /// left, as after an `Err` of `LruMap::insert`.
     pub fn put(&mut self, name: &N, key: K, value: V) -> Result<bool, TenantError>
         ensures puts { On N.eq name.now (Puts L.rules L.offers L.budget_of K.eq S.hash_of key value) self.old result self.new }
+        ensures total { budgets L.budget_of self.new ≡ budgets L.budget_of self.old }
         ensures tenants { AreTenants K.eq L.cost_of L.account L.budget_of self.new }
     {
-        let Some(own) = self.tenants.get_mut(name) else {
-            return Err(TenantError::NotOpen);
-        };
-        put_answer(insert(own, key, value, &mut |_, _| {}))
+        self.put_with(name, key, value, &mut |_, _| {})
     }
 
     /// Removes a key of a tenant. Returns its value. The tenant's other entries keep their order.
@@ -227,6 +241,7 @@ impl<
     /// `NotOpen`: nothing has changed.
     pub fn remove<Q: LookupKey<K>>(&mut self, name: &N, key: &Q) -> Result<Option<V>, TenantError>
         ensures removes { On N.eq name.now (IfOpen (Remove L.rules (Q.names key.now))) self.old result self.new }
+        ensures total { budgets L.budget_of self.new ≡ budgets L.budget_of self.old }
         ensures tenants { AreTenants K.eq L.cost_of L.account L.budget_of self.new }
     {
         let Some(own) = self.tenants.get_mut(name) else {
@@ -248,6 +263,7 @@ impl<
     /// `NotOpen`: nothing has changed.
     pub fn clear(&mut self, name: &N) -> Result<(), TenantError>
         ensures clears { On N.eq name.now (IfOpen (λ old done new. new ≡ cleared L.rules old)) self.old result self.new }
+        ensures total { budgets L.budget_of self.new ≡ budgets L.budget_of self.old }
         ensures tenants { AreTenants K.eq L.cost_of L.account L.budget_of self.new }
     {
         let Some(own) = self.tenants.get_mut(name) else {
@@ -267,19 +283,16 @@ impl<
     ///
     /// # Errors
     ///
-    /// `NotOpen`: nothing has changed.
+    /// `NotOpen`, or `OverTotal`: the sum of all budgets would be above the total limit. Both change nothing.
     pub fn set_budget(&mut self, name: &N, budget: u64) -> Result<(), TenantError>
-        ensures sets { On N.eq name.now (IfOpen (λ old done new. Trims L.rules (with_limiter (L.rebudgeted budget old.limiter) old) new)) self.old
-            result self.new }
-        ensures total { IfSome (tenant (N.eq name.now) self.old) (λ map.
-            budgets L.budget_of self.new + L.budget_of map.limiter ≡ budgets L.budget_of self.old + budget) }
+        ensures sets { On N.eq name.now (SetsBudget L.rules (L.rebudgeted budget) (is_over L.budget_of (N.eq name.now) budget self.old))
+            self.old result self.new }
+        ensures total { result ≡ Ok tt →
+            budgets L.budget_of self.new ≡ budgets_with L.budget_of (N.eq name.now) budget self.old }
+        ensures unchanged { OnErr result (self.new ≡ self.old) }
         ensures tenants { AreTenants K.eq L.cost_of L.account L.budget_of self.new }
     {
-        let Some(own) = self.tenants.get_mut(name) else {
-            return Err(TenantError::NotOpen);
-        };
-        set_budget(own, budget, &mut |_, _| {});
-        Ok(())
+        self.set_budget_with(name, budget, &mut |_, _| {})
     }
 
     /// Closes a tenant and drops its entries. Returns how many these were.
@@ -295,21 +308,13 @@ impl<
     /// `NotOpen`: nothing has changed.
     pub fn close(&mut self, name: &N) -> Result<usize, TenantError>
         ensures closes { On N.eq name.now Closes self.old result self.new }
+        ensures total { budgets L.budget_of self.new ≡ budgets_with L.budget_of (N.eq name.now) 0 self.old }
         ensures tenants { AreTenants K.eq L.cost_of L.account L.budget_of self.new }
     {
         let Some(map) = self.tenants.remove(name) else {
             return Err(TenantError::NotOpen);
         };
+        self.budgets -= map.limiter().budget() as u128;
         Ok(map.len())
-    }
-}
-
-// What a put returns if the insert into the map of its tenant returns this.
-pub(super) fn put_answer<R>(inserted: Result<R, AllocError>) -> Result<R, TenantError>
-    ensures { result ≡ put_answer inserted }
-{
-    match inserted {
-        Ok(inserted) => Ok(inserted),
-        Err(_) => Err(TenantError::Memory),
     }
 }

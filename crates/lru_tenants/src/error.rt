@@ -17,7 +17,7 @@ pub enum TenantError {
     /// Out of memory.
     #[error("no memory")]
     Memory = 3,
-    /// The sum of all budgets would be above the total.
-    #[error("over the total")]
+    /// The sum of all budgets would be above the total limit.
+    #[error("over the total limit")]
     OverTotal = 4,
 }

@@ -1,12 +1,14 @@
 //! Laws about calls. A caller that needs one calls the function, which does nothing.
-ghost use Rattle.std.specs.Prelude.{◌≡◌, ◌≤◌, List, Option};
+ghost use Rattle.std.specs.Prelude.{◌≡◌, ◌≤◌, List, Option, IfSome, sum_by};
+ghost use Rattle.std.specs.Map.{values_of};
 ghost use Rattle.schnellru.specs.Runs.{Step};
 ghost use Rattle.schnellru.specs.State.{State};
 ghost use Rattle.schnellru.specs.Theorems.{IsSummed};
 ghost use Rattle.lru_tenants.specs.Cache.{Cache, tenant};
-ghost use Rattle.lru_tenants.specs.Isolation.{CacheRun, last_left};
+ghost use Rattle.lru_tenants.specs.Isolation.{Did, CacheRun, Chain};
 ghost use Rattle.lru_tenants.specs.Others.{CallsOfOthers};
 
+use crate::cache::TenantCache;
 use lru_limits::Budgeted;
 use schnellru::KeyHasher;
 use std::hash::Hash;
@@ -27,9 +29,8 @@ pub fn calls_of_others_leave_a_tenant<
         tenant (N.eq name) new ≡ tenant (N.eq name) old }
 {}
 
-/// After any list of calls, for names, keys and values of any types, a tenant is what the last call that names it left, or
-/// what it was, if none does. So each call does its own to what the tenant's own call before left, whatever calls of
-/// others come between.
+/// In any list of calls of any kind, for names, keys and values of any types, each call finds of its tenant what the last
+/// call of that tenant left, whatever calls of others come between. `run_tenants` is one instance.
 ///
 /// The premise: each call leaves every tenant but the one that it names, as each clause with `On` says.
 ///
@@ -43,9 +44,8 @@ pub fn each_tenant_has_its_own_run<
     L: Budgeted<K, V>,
     S: KeyHasher<K>,
 >()
-    ensures { (name : N) (calls : List (N × Option (State K V L S))) (old new : Cache N K V L S) →
-        CacheRun N.eq old calls new →
-        tenant (N.eq name) new ≡ last_left (λ n. N.eq n name) (tenant (N.eq name) old) calls }
+    ensures { (name : N) (dids : List (Did N K V L S)) (old new : Cache N K V L S) → CacheRun N.eq old dids new →
+        Chain (λ n. N.eq n name) (tenant (N.eq name) old) dids (tenant (N.eq name) new) }
 {}
 
 /// With any limiter that has a budget, each call on a map leaves the budget as it is, and a running total of at most the
@@ -61,3 +61,24 @@ pub fn calls_keep_the_budget<K: Eq + Hash, V, L: Budgeted<K, V>, S: KeyHasher<K>
         Step L.rules L.offers K.eq S.hash_of old new → IsSummed L.cost_of L.account old →
         L.account old.limiter ≤ L.budget_of old.limiter → L.account new.limiter ≤ L.budget_of new.limiter }
 {}
+
+/// The costs of the entries of all tenants add up to at most the total limit, if there is one. It holds of every cache, so
+/// after any list of calls.
+///
+/// ```
+/// costs_are_within_the_total_limit(&cache);
+/// ```
+pub fn costs_are_within_the_total_limit<
+    N: Eq + Hash,
+    K: Eq + Hash,
+    V,
+    L: Budgeted<K, V>,
+    S: KeyHasher<K> + Copy,
+>(cache: &TenantCache<N, K, V, L, S>)
+    ensures { IfSome cache.now.total_limit
+        (λ limit. sum_by (λ map. L.account map.limiter) (values_of cache.now.tenants) ≤ limit) }
+{
+    // Nothing at run time: it shows the proof what holds of the tenants.
+    let _len = cache.len();
+    let _sum = cache.total_budget();
+}

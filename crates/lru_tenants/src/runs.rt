@@ -1,12 +1,14 @@
 //! Lists of calls on a cache.
-ghost use Rattle.std.specs.Prelude.{◌≡◌, IfOk};
+ghost use Rattle.std.specs.Prelude.{◌≡◌, ◌≤◌, IfOk, IfSome, sum_by};
+ghost use Rattle.std.specs.Map.{values_of};
 ghost use Rattle.std.specs.Result.{OnErr};
-ghost use Rattle.lru_tenants.specs.Cache.{tenant, fresh, AreTenants};
-ghost use Rattle.lru_tenants.specs.TenantRuns.{named, Gets, On, TenantStep, IsOwnRun};
+ghost use Rattle.lru_tenants.specs.Cache.{tenant, fresh, AreTenants, On};
+ghost use Rattle.lru_tenants.specs.TenantRuns.{named, Gets, TenantStep, IsOwnRun};
 
 use crate::cache::TenantCache;
 use crate::call::{TenantAnswer, TenantCall};
 use crate::error::TenantError;
+use crate::laws::{costs_are_within_the_total_limit, each_tenant_has_its_own_run};
 use lru_limits::Budgeted;
 use schnellru::KeyHasher;
 use std::alloc::{AllocError, Global};
@@ -14,7 +16,8 @@ use std::hash::Hash;
 
 /// Carries out the calls on the cache, one after another, and returns one answer for each.
 ///
-/// The answers to a tenant depend on its own calls alone, whatever calls of others come between.
+/// The answers to a tenant depend on its own calls alone, whatever calls of others come between. An `open` can also be
+/// `OverTotal`, if the cache has a total limit.
 ///
 /// ```
 /// let calls = vec![in alloc; TenantCall::Open(1, 3), TenantCall::Put(1, 7, 1), TenantCall::Get(2, 7)]?;
@@ -42,17 +45,21 @@ pub fn run_tenants<
     // Each tenant's own calls and answers are a run from what it was before, and its cost stays within its budget.
     ensures own { IfOk result (λ answers. (name : N) →
         IsOwnRun L.rules L.offers L.cost_of L.account L.budget_of K.eq S.hash_of
-        (fresh L.made (L.LinkType.number L.LinkType.MAX) cache.old) (λ n. N.eq n name)
+        (fresh L.made (L.LinkType.number L.LinkType.MAX) cache.old) cache.old.total_limit (λ n. N.eq n name)
         (tenant (N.eq name) cache.old) calls.items answers.items (tenant (N.eq name) cache.new)) }
     ensures tenants { AreTenants K.eq L.cost_of L.account L.budget_of cache.new }
+    ensures limit { IfOk result (λ answers. IfSome cache.new.total_limit
+        (λ limit. sum_by (λ map. L.account map.limiter) (values_of cache.new.tenants) ≤ limit)) }
     ensures unmade { OnErr result (cache.new ≡ cache.old) }
 {
+    each_tenant_has_its_own_run::<N, K, V, L, S>();
     // Nothing at run time: it shows the proof what holds of the tenants.
     let _len = cache.len();
     let mut answers = Vec::with_capacity(alloc, calls.len())?;
     for call in calls {
         answers.push_reserved(make_tenant_call(cache, call));
     }
+    costs_are_within_the_total_limit(cache);
     Ok(answers)
 }
 
@@ -65,7 +72,7 @@ fn make_tenant_call<
     S: KeyHasher<K> + Copy,
 >(cache: &mut TenantCache<N, K, V, L, S>, call: TenantCall<N, K, V>) -> TenantAnswer<V>
     ensures step { On N.eq (named call) (TenantStep L.rules L.offers L.cost_of L.account L.budget_of K.eq S.hash_of
-        (fresh L.made (L.LinkType.number L.LinkType.MAX) cache.old) call) cache.old result cache.new }
+        (fresh L.made (L.LinkType.number L.LinkType.MAX) cache.old) cache.old.total_limit call) cache.old result cache.new }
     ensures tenants { AreTenants K.eq L.cost_of L.account L.budget_of cache.new }
 {
     let answer = answer_to(cache, call);
@@ -83,7 +90,7 @@ fn answer_to<
     S: KeyHasher<K> + Copy,
 >(cache: &mut TenantCache<N, K, V, L, S>, call: TenantCall<N, K, V>) -> TenantAnswer<V>
     ensures { On N.eq (named call) (TenantStep L.rules L.offers L.cost_of L.account L.budget_of K.eq S.hash_of
-        (fresh L.made (L.LinkType.number L.LinkType.MAX) cache.old) call) cache.old result cache.new }
+        (fresh L.made (L.LinkType.number L.LinkType.MAX) cache.old) cache.old.total_limit call) cache.old result cache.new }
 {
     match call {
         TenantCall::Open(name, budget) => TenantAnswer::Opened(cache.open(name, budget)),

@@ -125,6 +125,7 @@ pub(crate) fn remove<
 >(map: &mut LruMap<K, V, L, S>, key: &Q) -> Option<V>
     requires { IsTenant K.eq L.cost_of L.account L.budget_of map.old }
     ensures removes { Remove L.rules (Q.names key.now) map.old result map.new }
+    ensures budget { L.budget_of map.new.limiter ≡ L.budget_of map.old.limiter }
     ensures tenant { IsTenant K.eq L.cost_of L.account L.budget_of map.new }
 {
     laws::calls_keep_maps::<K, V, K, L, S>();
@@ -142,6 +143,7 @@ pub(crate) fn clear<K: Eq + Hash + Drop, V: Drop, L: Budgeted<K, V>, S: KeyHashe
 )
     requires { IsTenant K.eq L.cost_of L.account L.budget_of map.old }
     ensures clears { map.new ≡ cleared L.rules map.old }
+    ensures budget { L.budget_of map.new.limiter ≡ L.budget_of map.old.limiter }
     ensures tenant { IsTenant K.eq L.cost_of L.account L.budget_of map.new }
 {
     laws::calls_keep_sums::<K, V, K, L, S>();

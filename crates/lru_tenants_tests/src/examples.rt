@@ -1,5 +1,8 @@
 //! The examples of the docs of `lru_tenants`, the error texts, and each call once.
-use lru_tenants::{ByWeight, TenantAnswer, TenantCache, TenantCall, TenantError, run_tenants};
+use lru_tenants::{
+    ByWeight, TenantAnswer, TenantCache, TenantCall, TenantError, costs_are_within_the_total_limit,
+    run_tenants,
+};
 use std::test::Fail;
 
 #[test]
@@ -12,6 +15,7 @@ fn of_the_cache(rt: HostRuntime) -> Result<(), Fail> {
     assert_eq!(rt; (cache.total_cost(), cache.total_budget()), (2, 3));
     assert_eq!(rt; cache.names().next(), Some(&1));
     assert_eq!(rt; cache.peek(&1, &7), Ok(Some(&2)));
+    assert_eq!(rt; cache.contains(&1, &7), Ok(true));
     assert_eq!(rt; cache.entries(&1), Ok(1));
     assert_eq!(rt; cache.budget(&1), Ok(3));
     assert_eq!(rt;
@@ -73,14 +77,11 @@ fn of_values_that_come_back(rt: HostRuntime) -> Result<(), Fail> {
 #[test]
 fn of_totals(rt: HostRuntime) -> Result<(), Fail> {
     let mut cache: TenantCache<u64, u64, u64> = TenantCache::new(rt.alloc(), [1, 2, 3, 4], 16);
-    assert_eq!(rt; cache.open_within(1, 3, 5), Ok(()));
-    assert_eq!(rt; cache.open_within(2, 3, 5), Err(TenantError::OverTotal));
-    assert_eq!(rt;
-        cache.set_budget_within(&1, 6, 5),
-        Err(TenantError::OverTotal)
-    );
-    assert_eq!(rt; cache.set_budget_within(&1, 5, 5), Ok(()));
-    assert_eq!(rt; (cache.len(), cache.total_budget()), (1, 5));
+    assert_eq!(rt; cache.open(1, 3), Ok(()));
+    assert_eq!(rt; cache.set_total_limit(Some(5)), Ok(()));
+    assert_eq!(rt; cache.open(2, 3), Err(TenantError::OverTotal));
+    assert_eq!(rt; cache.total_limit(), Some(5));
+    costs_are_within_the_total_limit(&cache);
     Ok(())
 }
 
@@ -115,7 +116,7 @@ fn of_the_errors(rt: HostRuntime) -> Result<(), Fail> {
         (TenantError::AlreadyOpen, "already open", 1),
         (TenantError::NotOpen, "not open", 2),
         (TenantError::Memory, "no memory", 3),
-        (TenantError::OverTotal, "over the total", 4),
+        (TenantError::OverTotal, "over the total limit", 4),
     ] {
         assert_eq!(rt; format!(in rt.alloc(); "{error}")?.as_str(), text);
         assert_eq!(rt; error as u8, number);

@@ -23,12 +23,16 @@ fn cache_of(
     Ok(cache)
 }
 
-// Opens one more tenant, or puts one more pair.
-fn call(cache: &mut TenantCache<u64, u64, u64>, opens: bool) -> Result<(), TenantError> {
-    if opens {
+// Opens one more tenant, puts one more pair, or makes one.
+fn call(cache: &mut TenantCache<u64, u64, u64>, kind: u32) -> Result<(), TenantError> {
+    if kind == 0 {
         return cache.open(1000, 5);
     }
-    cache.put(&1, 1000, 1)?;
+    if kind == 1 {
+        cache.put(&1, 1000, 1)?;
+        return Ok(());
+    }
+    cache.get_or_put(&1, 1000, || 1)?;
     Ok(())
 }
 
@@ -36,21 +40,21 @@ fn call(cache: &mut TenantCache<u64, u64, u64>, opens: bool) -> Result<(), Tenan
 // when there is memory again.
 #[test]
 fn each_request_is_refused(rt: HostRuntime) -> Result<(), Fail> {
-    for opens in [true, false] {
+    for kind in 0..3u32 {
         let mut refused = 0u32;
         for size in 0..=14u64 {
             for requests in 0..8usize {
-                let (tenants, pairs) = if opens { (size, 0) } else { (1, size) };
+                let (tenants, pairs) = if kind == 0 { (size, 0) } else { (1, size) };
                 let mut cache = cache_of(rt.alloc(), tenants, pairs)?;
                 let hog = Hog::but(rt.alloc(), requests)?;
-                let first = call(&mut cache, opens);
+                let first = call(&mut cache, kind);
                 // If memory has no end, nothing is refused.
                 refused = refused.wrapping_add((first.is_err() || !hog.took_all()) as u32);
                 drop(hog);
                 if first.is_ok() {
                     break;
                 }
-                let again = call(&mut cache, opens);
+                let again = call(&mut cache, kind);
                 assert_eq!(rt; (first, again), (Err(TenantError::Memory), Ok(())));
             }
         }
@@ -89,10 +93,11 @@ impl Costed for Share {
     }
 }
 
-// Opens a tenant, gives it a pair for each key, of which two stay and then one, and closes it.
+// Opens a tenant, gives it a pair for each key, of which two stay and then one, and closes it in one of two ways.
 fn open_and_close(
     cache: &mut TenantCache<u64, Rc<u64>, Share>,
     keys: &[Rc<u64>],
+    passes: bool,
 ) -> Result<usize, TenantError> {
     cache.open(2, 2)?;
     for key in keys {
@@ -104,6 +109,9 @@ fn open_and_close(
         cache.put(&2, copy, Share(value))?;
     }
     cache.set_budget(&2, 1)?;
+    if passes {
+        return cache.close_with(&2, &mut |_, _| {});
+    }
     cache.close(&2)
 }
 
@@ -118,8 +126,8 @@ fn a_closed_tenant_gives_its_memory_back(rt: HostRuntime) -> Result<(), Fail> {
     let mut cache = TenantCache::new(rt.alloc(), [1, 2, 3, 4], 16);
     let hog = Hog::but(rt.alloc(), 4)?;
     let mut closed = 0u32;
-    for _ in 0..1000u32 {
-        let result = open_and_close(&mut cache, keys.as_slice());
+    for n in 0..1000u32 {
+        let result = open_and_close(&mut cache, keys.as_slice(), n % 2 == 0);
         closed = closed.wrapping_add((result == Ok(1)) as u32);
     }
     drop(hog);

@@ -1,5 +1,8 @@
 //! A cache of responses that expire, with counts for each host.
-ghost use Rattle.std.specs.Prelude.{◌<◌, IfOk, IfSome};
+ghost use Rattle.std.specs.Prelude.{◌<◌, IfOk, IfSome, string_eq};
+ghost use Rattle.lru_limits.specs.Texts.{names_text};
+ghost use Rattle.lru_tenants.specs.Cache.{On};
+ghost use Rattle.responses.specs.LookUps.{LooksUp};
 
 use lru_tenants::{ByWeight, Costed, TenantCache, TenantError};
 use schnellru::RandomState;
@@ -42,13 +45,16 @@ fn fresh_response(
     now: u64,
 ) -> Result<Option<Response>, TenantError>
     ensures fresh { IfOk result (λ found. IfSome found (λ response. now < response.expires)) }
+    ensures finds { On string_eq host.now (LooksUp (names_text path.now) now) entries.old result entries.new }
 {
-    match entries.get(host, &path)? {
-        None => return Ok(None),
-        Some(response) => if now < response.expires {
-            return Ok(Some(*response));
-        },
+    let Some(response) = entries.get(host, &path)?.copied() else {
+        return Ok(None);
+    };
+    if now < response.expires {
+        return Ok(Some(response));
     }
+    // Nothing at run time: it shows the proof that no path is there twice.
+    let _len = entries.len();
     entries.remove(host, &path)?;
     Ok(None)
 }

@@ -2,9 +2,8 @@
 ghost use Rattle.std.specs.Prelude.{◌≡◌, None, IfSome};
 ghost use Rattle.std.specs.Borrow.{sem};
 ghost use Rattle.schnellru.specs.Lists.{lookup};
-ghost use Rattle.lru_tenants.specs.Cache.{tenant};
+ghost use Rattle.lru_tenants.specs.Cache.{tenant, On};
 ghost use Rattle.lru_tenants.specs.GetOrPuts.{GetsOrPuts};
-ghost use Rattle.lru_tenants.specs.TenantRuns.{On};
 ghost use Rattle.lru_tenants.specs.Lending.{read};
 
 use crate::cache::TenantCache;

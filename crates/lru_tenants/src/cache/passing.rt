@@ -1,17 +1,19 @@
 //! Calls that pass what leaves a tenant to a callback.
-ghost use Rattle.std.specs.Prelude.{◌≡◌, ◌+◌, List, Some, true, false, Ok, IfOk, IfSome};
+ghost use Rattle.std.specs.Prelude.{◌≡◌, List, Some, true, false, Ok, IfOk, IfSome};
+ghost use Rattle.std.specs.Result.{OnErr};
 ghost use Rattle.schnellru.specs.HandedOver.{Takes};
 ghost use Rattle.schnellru.specs.Inserts.{kept_of};
-ghost use Rattle.schnellru.specs.State.{Trims};
-ghost use Rattle.lru_tenants.specs.Cache.{tenant, budgets, with_limiter, AreTenants};
+ghost use Rattle.lru_tenants.specs.Cache.{tenant, budgets, budgets_with, is_over, AreTenants, On};
 ghost use Rattle.lru_tenants.specs.PutFulls.{comes_back, rejects};
-ghost use Rattle.lru_tenants.specs.TenantRuns.{IfOpen, PassesOn, Puts, PutHands, BudgetHands, Closes, CloseHands, On};
+ghost use Rattle.lru_tenants.specs.TenantRuns.{put_answer, PassesOn, Puts, PutHands, SetsBudget, BudgetHands, Closes, CloseHands};
 
-use crate::cache::{TenantCache, put_answer};
+use crate::cache::TenantCache;
+use crate::cache::totals::is_above;
 use crate::error::TenantError;
 use crate::tenant::{empty, insert, insert_full, set_budget};
 use lru_limits::Budgeted;
 use schnellru::{Inserted, KeyHasher};
+use std::alloc::AllocError;
 use std::hash::Hash;
 
 impl<
@@ -47,6 +49,7 @@ impl<
         ensures handed { (handed : List (K × V)) × Takes F.FnMut sink.old handed sink.new × On N.eq name.now
             (PassesOn (PutHands L.rules L.offers L.budget_of K.eq S.hash_of key value)) self.old handed self.new }
         ensures callable { F.IsAlwaysCallable sink.new }
+        ensures total { budgets L.budget_of self.new ≡ budgets L.budget_of self.old }
         ensures tenants { AreTenants K.eq L.cost_of L.account L.budget_of self.new }
     {
         let Some(own) = self.tenants.get_mut(name) else {
@@ -88,6 +91,7 @@ impl<
         ensures handed { (handed : List (K × V)) × Takes F.FnMut sink.old handed sink.new × On N.eq name.now
             (PassesOn (PutHands L.rules L.offers L.budget_of K.eq S.hash_of key value)) self.old handed self.new }
         ensures callable { F.IsAlwaysCallable sink.new }
+        ensures total { budgets L.budget_of self.new ≡ budgets L.budget_of self.old }
         ensures tenants { AreTenants K.eq L.cost_of L.account L.budget_of self.new }
     {
         let Some(own) = self.tenants.get_mut(name) else {
@@ -116,18 +120,27 @@ impl<
         sink: &mut F,
     ) -> Result<(), TenantError>
         requires callable { F.IsAlwaysCallable sink.old }
-        ensures sets { On N.eq name.now (IfOpen (λ old done new. Trims L.rules (with_limiter (L.rebudgeted budget old.limiter) old) new))
+        ensures sets { On N.eq name.now (SetsBudget L.rules (L.rebudgeted budget) (is_over L.budget_of (N.eq name.now) budget self.old))
             self.old result self.new }
-        ensures total { IfSome (tenant (N.eq name.now) self.old) (λ map.
-            budgets L.budget_of self.new + L.budget_of map.limiter ≡ budgets L.budget_of self.old + budget) }
+        ensures total { result ≡ Ok tt →
+            budgets L.budget_of self.new ≡ budgets_with L.budget_of (N.eq name.now) budget self.old }
+        ensures unchanged { OnErr result (self.new ≡ self.old) }
         ensures handed { (handed : List (K × V)) × Takes F.FnMut sink.old handed sink.new × On N.eq name.now
-            (PassesOn (BudgetHands L.rules (L.rebudgeted budget))) self.old handed self.new }
+            (PassesOn (BudgetHands L.rules (L.rebudgeted budget) (is_over L.budget_of (N.eq name.now) budget self.old)))
+            self.old handed self.new }
         ensures callable { F.IsAlwaysCallable sink.new }
         ensures tenants { AreTenants K.eq L.cost_of L.account L.budget_of self.new }
     {
+        // Fewer than 2^63 budgets of a u64 add up to less than 2^127.
+        let _len = self.tenants.len();
         let Some(own) = self.tenants.get_mut(name) else {
             return Err(TenantError::NotOpen);
         };
+        let sum = self.budgets - own.limiter().budget() as u128 + budget as u128;
+        if is_above(self.total_limit, sum) {
+            return Err(TenantError::OverTotal);
+        }
+        self.budgets = sum;
         set_budget(own, budget, sink);
         Ok(())
     }
@@ -152,6 +165,7 @@ impl<
     ) -> Result<usize, TenantError>
         requires callable { F.IsAlwaysCallable sink.old }
         ensures closes { On N.eq name.now Closes self.old result self.new }
+        ensures total { budgets L.budget_of self.new ≡ budgets_with L.budget_of (N.eq name.now) 0 self.old }
         ensures handed { (handed : List (K × V)) × Takes F.FnMut sink.old handed sink.new × On N.eq name.now
             (PassesOn CloseHands) self.old handed self.new }
         ensures callable { F.IsAlwaysCallable sink.new }
@@ -160,6 +174,17 @@ impl<
         let Some(mut map) = self.tenants.remove(name) else {
             return Err(TenantError::NotOpen);
         };
+        self.budgets -= map.limiter().budget() as u128;
         Ok(empty(&mut map, sink))
+    }
+}
+
+// What a put returns if the insert into the map of its tenant returns this.
+fn put_answer<R>(inserted: Result<R, AllocError>) -> Result<R, TenantError>
+    ensures { result ≡ put_answer inserted }
+{
+    match inserted {
+        Ok(inserted) => Ok(inserted),
+        Err(_) => Err(TenantError::Memory),
     }
 }

@@ -1,10 +1,11 @@
 //! Calls that read of a tenant.
-ghost use Rattle.std.specs.Prelude.{◌≡◌, ◌≤◌, length, sum_by};
+ghost use Rattle.std.specs.Prelude.{◌≡◌, length, is_some};
 ghost use Rattle.std.specs.Borrow.{sem};
-ghost use Rattle.std.specs.Map.{keys_of, values_of};
+ghost use Rattle.std.specs.Map.{keys_of};
 ghost use Rattle.std.specs.Map.Iter.{ShowsInOrder, deref};
-ghost use Rattle.lru_tenants.specs.Cache.{tenant, budgets, AreTenants};
-ghost use Rattle.lru_tenants.specs.TenantRuns.{read_of, got, Gets, Costs, On};
+ghost use Rattle.schnellru.specs.Lists.{lookup};
+ghost use Rattle.lru_tenants.specs.Cache.{tenant, AreTenants, On};
+ghost use Rattle.lru_tenants.specs.TenantRuns.{read_of, got, Gets, Costs};
 ghost use Rattle.lru_tenants.specs.Lending.{read};
 
 use crate::cache::TenantCache;
@@ -73,6 +74,26 @@ impl<N: Eq + Hash, K: Eq + Hash, V, L: Budgeted<K, V>, S: KeyHasher<K> + Copy> T
         Ok(map.peek(key))
     }
 
+    /// Returns whether a tenant has an entry of a key. The order stays.
+    ///
+    /// ```
+    /// assert_eq!(rt; cache.contains(&1, &7), Ok(true));
+    /// ```
+    ///
+    /// Cost: `O(1)` expected.
+    ///
+    /// # Errors
+    ///
+    /// `NotOpen`.
+    pub fn contains<Q: LookupKey<K>>(&self, name: &N, key: &Q) -> Result<bool, TenantError>
+        ensures { result ≡ read_of (λ map. is_some (lookup (Q.names key.now) map.pairs)) (tenant (N.eq name.now) self.now) }
+    {
+        let Some(map) = self.tenants.get(name) else {
+            return Err(TenantError::NotOpen);
+        };
+        Ok(map.contains(key))
+    }
+
     /// Returns how many entries a tenant has.
     ///
     /// ```
@@ -132,42 +153,6 @@ impl<N: Eq + Hash, K: Eq + Hash, V, L: Budgeted<K, V>, S: KeyHasher<K> + Copy> T
             return Err(TenantError::NotOpen);
         };
         Ok(map.limiter().account())
-    }
-
-    /// Returns the sum of the costs of the entries of all tenants. It is at most the sum of their budgets.
-    ///
-    /// ```
-    /// assert_eq!(rt; (cache.total_cost(), cache.total_budget()), (2, 3));
-    /// ```
-    ///
-    /// Cost: `O(1)` for each tenant.
-    pub fn total_cost(&self) -> u128
-        ensures total { result ≡ sum_by (λ map. L.account map.limiter) (values_of self.now.tenants) }
-        ensures within { result ≤ sum_by (λ map. L.budget_of map.limiter) (values_of self.now.tenants) }
-    {
-        let mut sum = 0u128;
-        for map in self.tenants.values() {
-            sum += map.limiter().account() as u128;
-        }
-        sum
-    }
-
-    /// Returns the sum of the budgets of all tenants.
-    ///
-    /// ```
-    /// assert_eq!(rt; (cache.total_cost(), cache.total_budget()), (2, 3));
-    /// ```
-    ///
-    /// Cost: `O(1)` for each tenant.
-    pub fn total_budget(&self) -> u128
-        ensures total { result ≡ budgets L.budget_of self.now }
-        ensures tenants { AreTenants K.eq L.cost_of L.account L.budget_of self.now }
-    {
-        let mut sum = 0u128;
-        for map in self.tenants.values() {
-            sum += map.limiter().budget() as u128;
-        }
-        sum
     }
 
     /// Returns the names of the open tenants, in an order that means nothing.

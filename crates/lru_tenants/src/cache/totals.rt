@@ -1,9 +1,8 @@
-//! Calls that keep the sum of all budgets within a total.
-ghost use Rattle.std.specs.Prelude.{◌≡◌, ◌+◌, ◌<◌, ◌≤◌, nat_lt, Ok, Err, None, IfSome};
-ghost use Rattle.schnellru.specs.State.{Trims};
-ghost use Rattle.lru_tenants.specs.Cache.{tenant, budgets, fresh, with_limiter, AreTenants};
-ghost use Rattle.lru_tenants.specs.TenantRuns.{IfOpen, Opens, On};
-ghost use Rattle.lru_tenants.specs.declared.error.TenantError.TheVariants.{OverTotal, NotOpen};
+//! The total limit, and the sums over all tenants.
+ghost use Rattle.std.specs.Prelude.{◌≡◌, ◌≤◌, true, false, Ok, Err, IfSome, sum_by};
+ghost use Rattle.std.specs.Map.{values_of};
+ghost use Rattle.lru_tenants.specs.Cache.{budgets, is_above, AreTenants};
+ghost use Rattle.lru_tenants.specs.declared.error.TenantError.TheVariants.{OverTotal};
 
 use crate::cache::TenantCache;
 use crate::error::TenantError;
@@ -11,89 +10,94 @@ use lru_limits::Budgeted;
 use schnellru::KeyHasher;
 use std::hash::Hash;
 
-impl<
-    N: Eq + Hash + Drop,
-    K: Eq + Hash + Drop,
-    V: Drop,
-    L: Budgeted<K, V> + Drop,
-    S: KeyHasher<K> + Copy,
-> TenantCache<N, K, V, L, S> {
-    /// The same as `open`, if the sum of all budgets stays within the total.
+impl<N: Eq + Hash, K: Eq + Hash, V, L: Budgeted<K, V>, S: KeyHasher<K> + Copy> TenantCache<
+    N,
+    K,
+    V,
+    L,
+    S,
+> {
+    /// Sets what the budgets of all tenants add up to at most, or that nothing limits their sum.
     ///
-    /// The cache keeps no total: the caller names it in each call. Only `open` and `set_budget`, and their forms, raise
-    /// the sum.
+    /// `open` and `set_budget` return `OverTotal` if the sum would be above the limit. A cache begins without a limit.
     ///
     /// ```
-    /// assert_eq!(rt; cache.open_within(1, 3, 5), Ok(()));
-    /// assert_eq!(rt; cache.open_within(2, 3, 5), Err(TenantError::OverTotal));
+    /// assert_eq!(rt; cache.set_total_limit(Some(5)), Ok(()));
+    /// assert_eq!(rt; cache.open(2, 3), Err(TenantError::OverTotal));
     /// ```
     ///
-    /// Cost: as `open`, and `O(1)` for each tenant.
+    /// Cost: `O(1)`.
     ///
     /// # Errors
     ///
-    /// `OverTotal`: the sum would be above the total, whether the tenant is open or not. Else as `open`. All change
-    /// nothing.
-    pub fn open_within(&mut self, name: N, budget: u64, total: u64) -> Result<(), TenantError>
-        ensures over { total < budgets L.budget_of self.old + budget →
+    /// `OverTotal`: the sum is above the limit. Nothing has changed, so the old limit stays.
+    pub fn set_total_limit(&mut self, limit: Option<u64>) -> Result<(), TenantError>
+        ensures over { is_above limit (budgets L.budget_of self.old) ≡ true →
             (result ≡ Err OverTotal) × (self.new ≡ self.old) }
-        ensures opens { budgets L.budget_of self.old + budget ≤ total →
-            On N.eq name (Opens (fresh L.made (L.LinkType.number L.LinkType.MAX) self.old budget)) self.old result self.new }
-        ensures within { result ≡ Ok tt → budgets L.budget_of self.new ≤ total }
-        ensures tenants { AreTenants K.eq L.cost_of L.account L.budget_of self.new }
+        ensures sets { is_above limit (budgets L.budget_of self.old) ≡ false →
+            (result ≡ Ok tt) × (self.new ≡ record self.old { total_limit = limit }) }
     {
-        if is_above(self.total_budget(), budget, total as u128) {
+        if is_above(limit, self.budgets) {
             return Err(TenantError::OverTotal);
         }
-        self.open(name, budget)
+        self.total_limit = limit;
+        Ok(())
     }
 
-    /// The same as `set_budget`, if the sum of all budgets is within the total then.
+    /// Returns what the budgets of all tenants add up to at most, if there is a limit.
     ///
     /// ```
-    /// assert_eq!(rt; cache.set_budget_within(&1, 6, 5), Err(TenantError::OverTotal));
-    /// assert_eq!(rt; cache.set_budget_within(&1, 5, 5), Ok(()));
+    /// assert_eq!(rt; cache.total_limit(), Some(5));
     /// ```
     ///
-    /// Cost: as `set_budget`, and `O(1)` for each tenant.
-    ///
-    /// # Errors
-    ///
-    /// `NotOpen`, or `OverTotal`: the sum would be above the total. Both change nothing.
-    pub fn set_budget_within(
-        &mut self,
-        name: &N,
-        budget: u64,
-        total: u64,
-    ) -> Result<(), TenantError>
-        ensures closed { tenant (N.eq name.now) self.old ≡ None → (result ≡ Err NotOpen) × (self.new ≡ self.old) }
-        ensures over { IfSome (tenant (N.eq name.now) self.old) (λ map.
-            total + L.budget_of map.limiter < budgets L.budget_of self.old + budget →
-            (result ≡ Err OverTotal) × (self.new ≡ self.old)) }
-        ensures sets { IfSome (tenant (N.eq name.now) self.old) (λ map.
-            budgets L.budget_of self.old + budget ≤ total + L.budget_of map.limiter →
-            On N.eq name.now (IfOpen (λ old done new. Trims L.rules (with_limiter (L.rebudgeted budget old.limiter) old) new))
-            self.old result self.new) }
-        ensures within { result ≡ Ok tt → budgets L.budget_of self.new ≤ total }
-        ensures tenants { AreTenants K.eq L.cost_of L.account L.budget_of self.new }
+    /// Cost: `O(1)`.
+    pub fn total_limit(&self) -> Option<u64>
+        ensures { result ≡ self.now.total_limit }
     {
-        let sum = self.total_budget();
-        let Ok(old) = self.budget(name) else {
-            return Err(TenantError::NotOpen);
-        };
-        if is_above(sum, budget, total as u128 + old as u128) {
-            return Err(TenantError::OverTotal);
+        self.total_limit
+    }
+
+    /// Returns the sum of the budgets of all tenants. It is at most the total limit, if there is one.
+    ///
+    /// ```
+    /// assert_eq!(rt; (cache.total_cost(), cache.total_budget()), (2, 3));
+    /// ```
+    ///
+    /// Cost: `O(1)`.
+    pub fn total_budget(&self) -> u128
+        ensures total { result ≡ budgets L.budget_of self.now }
+        ensures limit { IfSome self.now.total_limit (λ limit. result ≤ limit) }
+    {
+        self.budgets
+    }
+
+    /// Returns the sum of the costs of the entries of all tenants. It is at most the sum of their budgets, and so at most
+    /// the total limit, if there is one.
+    ///
+    /// ```
+    /// assert_eq!(rt; (cache.total_cost(), cache.total_budget()), (2, 3));
+    /// ```
+    ///
+    /// Cost: `O(1)` for each tenant.
+    pub fn total_cost(&self) -> u128
+        ensures total { result ≡ sum_by (λ map. L.account map.limiter) (values_of self.now.tenants) }
+        ensures within { result ≤ budgets L.budget_of self.now }
+        ensures limit { IfSome self.now.total_limit (λ limit. result ≤ limit) }
+    {
+        let mut sum = 0u128;
+        for map in self.tenants.values() {
+            sum += map.limiter().account() as u128;
         }
-        self.set_budget(name, budget)
+        sum
     }
 }
 
-// Whether a sum with a budget more is above this number.
-fn is_above(sum: u128, budget: u64, most: u128) -> bool
-    ensures { result ≡ nat_lt most (sum + budget) }
+// Whether a sum is above the limit, if there is one.
+pub(super) fn is_above(limit: Option<u64>, sum: u128) -> bool
+    ensures { result ≡ is_above limit sum }
 {
-    match most.checked_sub(budget as u128) {
-        Some(rest) => sum > rest,
-        None => true,
+    match limit {
+        Some(most) => sum > most as u128,
+        None => false,
     }
 }

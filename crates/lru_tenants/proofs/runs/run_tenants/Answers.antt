@@ -1,10 +1,25 @@
-use Rattle.std.proofs.Common.{◌≡◌, ◌++◌, ◌∷◌, [], arith, sym, ap, ◌∙◌, subst, length, append_assoc}
+use Rattle.std.proofs.Common.{cond, ◌≡◌, ◌++◌, ◌∷◌, [], arith, refl, sym, ap, ◌∙◌, subst, length, append_assoc}
 use Rattle.std.specs.Vec.Iter.{into_iter_items}
+use Rattle.std.specs.Prelude.{IfSome}
 use Rattle.std.proofs.lemmas.List.{append-nil, length-append}
-use Rattle.lru_tenants.specs.Cache.{tenant, fresh}
-use Rattle.lru_tenants.specs.TenantRuns.{named, On, TenantStep, IsOwnRun}
-use Rattle.lru_tenants.proofs.OwnRuns.{own-push, fresh-same, empty}
+use Rattle.std.proofs.lemmas.Map.Views.{IfSome-lookup_from_All}
+use Rattle.lru_tenants.specs.Cache.{tenant, fresh, IsTenant, On}
+use Rattle.lru_tenants.specs.TenantRuns.{named, TenantStep, KeptStep}
+use Rattle.lru_tenants.proofs.OwnRuns.{AreSteps, run-push, steps-push, own-run, fresh-same, empty}
 use Rattle.lru_tenants.proofs.runs.run_tenants.Goals as goal
+
+pub loop-call-init : goal.loop-call-init
+loop-call-init g c = record {
+  items = search;
+  left = search;
+  run = rw c.in_ok-answers.ensures.items ([], refl, tt);
+  tenants = c.len-len.ensures.tenants;
+  hasher = refl;
+  entry_bytes = refl;
+  total_limit = refl;
+  len = c.in_ok-answers.ensures.len;
+  capacity = omega (arith, c.in_ok-answers.ensures.capacity, c.len.ensures);
+}
 
 pub loop-call-preserved : goal.loop-call-preserved
 loop-call-preserved g c =
@@ -14,18 +29,29 @@ loop-call-preserved g c =
     let first = c.args.cache.now in
     let call = c.in-Some.call in
     let answer = c.make_tenant_call.result in
-    let step = subst (λ f. On g.N.PartialEq.eq (named call) (TenantStep g.L.Limiter.rules g.L.Insertion.offers g.L.Summing.cost_of g.L.Summing.account g.L.Budgeted.budget_of g.K.PartialEq.eq g.S.KeyHasher.hash_of f call) c.loop-call.cache answer
-    c.make_tenant_call.new.cache) (fresh-same made max first c.loop-call.cache h.hasher h.entry_bytes) c.make_tenant_call.ensures.step in
+    let new = c.make_tenant_call.new.cache in
+    let (dids, runs, steps) = h.run in
+    let step = subst (λ limit. On g.N.PartialEq.eq (named call) (TenantStep g.L.Limiter.rules g.L.Insertion.offers g.L.Summing.cost_of g.L.Summing.account g.L.Budgeted.budget_of g.K.PartialEq.eq g.S.KeyHasher.hash_of (fresh made max first) limit call) c.loop-call.cache answer new)
+    h.total_limit (subst (λ f. On g.N.PartialEq.eq (named call) (TenantStep g.L.Limiter.rules g.L.Insertion.offers g.L.Summing.cost_of g.L.Summing.account g.L.Budgeted.budget_of g.K.PartialEq.eq g.S.KeyHasher.hash_of f c.loop-call.cache.total_limit call) c.loop-call.cache answer
+    new) (fresh-same made max first c.loop-call.cache h.hasher h.entry_bytes) c.make_tenant_call.ensures.step) in
     record {
       items = append_assoc c.loop-call.yielded (call ∷ []) (into_iter_items c.next.new.self)
           ∙ ap (λ l. c.loop-call.yielded ++ l) (sym c.in-Some.ensures.steps.0) ∙ h.items;
       left = omega (arith, c.in-Some.ensures.steps.1, h.left, ap length c.in-Some.ensures.steps.0);
-      own = λ name. rw c.push_reserved.ensures.items (own-push g.met.N.Eq.laws g.L.Limiter.rules g.L.Insertion.offers g.L.Summing.cost_of g.L.Summing.account g.L.Budgeted.budget_of g.K.PartialEq.eq g.S.KeyHasher.hash_of (fresh made max first) name first
-          c.loop-call.cache c.make_tenant_call.new.cache c.loop-call.yielded c.loop-call.answers.items call answer
-          (h.own name) step c.make_tenant_call.ensures.tenants);
+      run = rw c.push_reserved.ensures.items (
+        dids ++ record { name = named call; found = tenant (g.N.PartialEq.eq (named call)) c.loop-call.cache; left = step.0 } ∷ [],
+        run-push g.N.PartialEq.eq dids first c.loop-call.cache new (named call) step.0 runs step.2,
+        steps-push named (KeptStep g.L.Limiter.rules g.L.Insertion.offers g.L.Summing.cost_of g.L.Summing.account g.L.Budgeted.budget_of g.K.PartialEq.eq g.S.KeyHasher.hash_of (fresh made max first) first.total_limit) c.loop-call.yielded c.loop-call.answers.items dids call answer _ step.0 steps (
+          step.1,
+          subst (λ t. IfSome t (IsTenant g.K.PartialEq.eq g.L.Summing.cost_of g.L.Summing.account g.L.Budgeted.budget_of))
+              (step.2.tenants (named call) ∙ ap (λ b. cond b step.0 (tenant (g.N.PartialEq.eq (named call)) c.loop-call.cache)) (g.met.N.Eq.laws.refl (named call)))
+              (IfSome-lookup_from_All (IsTenant g.K.PartialEq.eq g.L.Summing.cost_of g.L.Summing.account g.L.Budgeted.budget_of) (g.N.PartialEq.eq (named call)) new.tenants c.make_tenant_call.ensures.tenants),
+        ),
+      );
       tenants = c.make_tenant_call.ensures.tenants;
       hasher = step.2.hasher ∙ h.hasher;
       entry_bytes = step.2.entry_bytes ∙ h.entry_bytes;
+      total_limit = step.2.total_limit ∙ h.total_limit;
       len = omega (arith, c.push_reserved.ensures.len, h.len, length-append c.loop-call.yielded (call ∷ []));
       capacity = omega (arith, c.push_reserved.ensures.capacity, h.capacity);
     }
@@ -36,6 +62,8 @@ returns-clause-own g c =
     let none : length (into_iter_items c.loop-call.call-iterator) ≡ 0 = sym h.left ∙ c.in-None.ensures.steps.0 in
     let all = sym (append-nil c.loop-call.yielded)
     ∙ ap (λ l. c.loop-call.yielded ++ l) (sym (empty (into_iter_items c.loop-call.call-iterator) none)) ∙ h.items in
-    λ name. subst (λ calls. IsOwnRun g.L.Limiter.rules g.L.Insertion.offers g.L.Summing.cost_of g.L.Summing.account g.L.Budgeted.budget_of g.K.PartialEq.eq g.S.KeyHasher.hash_of
-    (fresh g.L.Budgeted.made (g.L.LinkType.LinkType.number g.L.LinkType.LinkType.MAX) c.args.cache.now) (λ n. g.N.PartialEq.eq n name) (tenant (g.N.PartialEq.eq name) c.args.cache.now) calls
-    c.loop-call.answers.items (tenant (g.N.PartialEq.eq name) c.loop-call.cache)) all (h.own name)
+    let (dids, runs, steps) = h.run in
+    let Does = KeptStep g.L.Limiter.rules g.L.Insertion.offers g.L.Summing.cost_of g.L.Summing.account g.L.Budgeted.budget_of g.K.PartialEq.eq g.S.KeyHasher.hash_of (fresh g.L.Budgeted.made (g.L.LinkType.LinkType.number g.L.LinkType.LinkType.MAX) c.args.cache.now) c.args.cache.now.total_limit in
+    let own = subst (λ calls. AreSteps named Does calls c.loop-call.answers.items dids) all steps in
+    λ name. own-run named Does (λ n. g.N.PartialEq.eq n name) _ _ dids _ _ own
+    (c.each_tenant_has_its_own_run.ensures name dids c.args.cache.now c.loop-call.cache runs)

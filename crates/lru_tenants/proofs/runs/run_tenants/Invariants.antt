@@ -1,20 +1,23 @@
 -- The calls so far are a run of each tenant.
-use Rattle.std.proofs.Common.{◌≡◌, ◌≤◌, ◌++◌, length, vec_len, vec_capacity}
+use Rattle.std.proofs.Common.{List, ◌≡◌, ◌≤◌, ◌++◌, length, vec_len, vec_capacity}
 use Rattle.std.specs.Vec.Iter.{into_iter_items, into_iter_len}
-use Rattle.lru_tenants.specs.Cache.{tenant, fresh, AreTenants}
-use Rattle.lru_tenants.specs.TenantRuns.{IsOwnRun}
+use Rattle.lru_tenants.specs.Cache.{fresh, AreTenants}
+use Rattle.lru_tenants.specs.Isolation.{Did, CacheRun}
+use Rattle.lru_tenants.proofs.OwnRuns.{AreSteps}
+use Rattle.lru_tenants.specs.TenantRuns.{named, KeptStep}
 use Rattle.lru_tenants.proofs.runs.run_tenants.Given as goal
 
 abbrev pub invariant-loop-call : goal.invariant-loop-call
 invariant-loop-call g l = record {
   items : l.yielded ++ into_iter_items l.call-iterator ≡ l.fn.calls.items;
   left : into_iter_len l.call-iterator ≡ length (into_iter_items l.call-iterator);
-  own : (name : g.row.N.Denot) → IsOwnRun g.L.Limiter.rules g.L.Insertion.offers g.L.Summing.cost_of g.L.Summing.account g.L.Budgeted.budget_of g.K.PartialEq.eq g.S.KeyHasher.hash_of
-      (fresh g.L.Budgeted.made (g.L.LinkType.LinkType.number g.L.LinkType.LinkType.MAX) l.fn.cache) (λ n. g.N.PartialEq.eq n name) (tenant (g.N.PartialEq.eq name) l.fn.cache) l.yielded
-      l.answers.items (tenant (g.N.PartialEq.eq name) l.cache);
+  run : (dids : List (Did g.row.N.Denot g.row.K.Denot g.row.V.Denot g.row.L.Denot g.row.S.Denot)) × CacheRun g.N.PartialEq.eq l.fn.cache dids l.cache
+      × AreSteps named (KeptStep g.L.Limiter.rules g.L.Insertion.offers g.L.Summing.cost_of g.L.Summing.account g.L.Budgeted.budget_of g.K.PartialEq.eq g.S.KeyHasher.hash_of (fresh g.L.Budgeted.made (g.L.LinkType.LinkType.number g.L.LinkType.LinkType.MAX) l.fn.cache) l.fn.cache.total_limit)
+      l.yielded l.answers.items dids;
   tenants : AreTenants g.K.PartialEq.eq g.L.Summing.cost_of g.L.Summing.account g.L.Budgeted.budget_of l.cache;
   hasher : l.cache.hasher ≡ l.fn.cache.hasher;
   entry_bytes : l.cache.entry_bytes ≡ l.fn.cache.entry_bytes;
+  total_limit : l.cache.total_limit ≡ l.fn.cache.total_limit;
   len : vec_len l.answers ≡ length l.yielded;
   capacity : length l.fn.calls.items ≤ vec_capacity l.answers;
 }

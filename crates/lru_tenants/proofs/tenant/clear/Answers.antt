@@ -1,3 +1,4 @@
+use Rattle.std.proofs.Common.{arith}
 use Rattle.schnellru.specs.Runs.Step.{clears}
 use Rattle.lru_tenants.proofs.tenant.clear.Goals as goal
 
@@ -8,4 +9,9 @@ returns-clause-tenant g c =
       map = c.len-len.ensures.map;
       sum = c.calls_keep_sums.ensures old new step c.requires.sum;
       within = c.calls_keep_the_budget.ensures.total old new step c.requires.sum c.requires.within;
+      small = omega (arith, c.calls_keep_the_budget.ensures.budget old new step, c.requires.small);
     }
+
+pub returns-clause-budget : goal.returns-clause-budget
+returns-clause-budget g c =
+    c.calls_keep_the_budget.ensures.budget c.args.map.now c.clear.new.self (clears c.clear.ensures.step)

@@ -1,3 +1,4 @@
+use Rattle.std.proofs.Common.{arith}
 use Rattle.lru_tenants.proofs.BudgetSteps.{made-step}
 use Rattle.lru_tenants.proofs.tenant.get_or_insert.Goals as goal
 
@@ -15,4 +16,5 @@ returns-clause-tenant g c =
       map = c.ensure_newest.ensures.map;
       sum = c.calls_keep_sums.ensures old new step c.requires.tenant.sum;
       within = c.calls_keep_the_budget.ensures.total old new step c.requires.tenant.sum c.requires.tenant.within;
+      small = omega (arith, c.calls_keep_the_budget.ensures.budget old new step, c.requires.tenant.small);
     }

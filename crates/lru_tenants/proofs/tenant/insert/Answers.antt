@@ -1,3 +1,4 @@
+use Rattle.std.proofs.Common.{arith}
 use Rattle.schnellru.specs.Runs.Step.{inserts}
 use Rattle.lru_tenants.proofs.tenant.insert.Goals as goal
 
@@ -14,4 +15,5 @@ returns-clause-tenant g c =
       map = c.insert_with.ensures.map;
       sum = c.calls_keep_sums.ensures old new step c.requires.tenant.sum;
       within = c.calls_keep_the_budget.ensures.total old new step c.requires.tenant.sum c.requires.tenant.within;
+      small = omega (arith, c.calls_keep_the_budget.ensures.budget old new step, c.requires.tenant.small);
     }

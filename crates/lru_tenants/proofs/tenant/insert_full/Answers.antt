@@ -1,4 +1,4 @@
-use Rattle.std.proofs.Common.{[], refl, sym, ◌∙◌}
+use Rattle.std.proofs.Common.{arith, [], refl, sym, ◌∙◌}
 use Rattle.schnellru.specs.Inserts.{not_admitted}
 use Rattle.schnellru.specs.Runs.Step.{inserts}
 use Rattle.lru_tenants.proofs.PutFulls.{is-rejected}
@@ -35,4 +35,5 @@ returns-clause-tenant g c =
       map = c.insert_full.ensures.map;
       sum = c.calls_keep_sums.ensures old new step c.requires.tenant.sum;
       within = c.calls_keep_the_budget.ensures.total old new step c.requires.tenant.sum c.requires.tenant.within;
+      small = omega (arith, c.calls_keep_the_budget.ensures.budget old new step, c.requires.tenant.small);
     }

@@ -21,6 +21,11 @@ returns-clause-tenant g c =
         | inl none ↦ omega (arith, sum, ap (sum_by (λ p. g.L.Summing.cost_of p.0 p.1)) none)
         | inr within ↦ not_over laws new.limiter _ within
       ];
+      small = omega (
+        arith,
+        c.calls_keep_the_budget.ensures.budget old new (trims step),
+        laws.set_budget c.args.budget c.args.map.now.limiter,
+      );
     }
 
 pub returns-clause-budget : goal.returns-clause-budget

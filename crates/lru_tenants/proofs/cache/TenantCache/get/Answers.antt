@@ -1,5 +1,4 @@
 use Rattle.std.proofs.Common.{subst, Some, None, Err, sym, refl, ◌∙◌, ap, is_some}
-use Rattle.std.proofs.lemmas.Map.Views.{All-values-set_value}
 use Rattle.schnellru.specs.Calls.{promoted, written}
 use Rattle.schnellru.specs.Lists.{lookup}
 use Rattle.schnellru.proofs.CallerLemmas.{read_back, promoted-absent}
@@ -8,6 +7,7 @@ use Rattle.lru_tenants.specs.TenantRuns.{got, Gets}
 use Rattle.lru_tenants.specs.declared.error.TenantError.TheVariants.{NotOpen}
 use Rattle.lru_tenants.proofs.Changes.{cache_of, found-all, leaves-updated, on-same}
 use Rattle.lru_tenants.proofs.Gets.{promoted_is_tenant, gets-open}
+use Rattle.lru_tenants.proofs.Kept.{kept-written}
 use Rattle.lru_tenants.proofs.cache.TenantCache.get.Goals as goal
 
 pub invariant_of-self-in-Some-get : goal.invariant_of-self-in-Some-get
@@ -15,27 +15,19 @@ invariant_of-self-in-Some-get g c =
     let names = g.Q.LookupKey.names c.args.key.now in
     let left = written names c.in-Some-get.value.now (promoted names c.in-Some.map.now) in
     let was = found-all (IsTenant g.K.PartialEq.eq g.L.Summing.cost_of g.L.Summing.account g.L.Budgeted.budget_of) (g.N.PartialEq.eq c.args.name.now) c.self.inside.tenants
-    c.in-Some.map.now (sym c.in-Some.ensures.value) c.self.invariant.0 in
+    c.in-Some.map.now (sym c.in-Some.ensures.value) c.self.invariant.tenants in
     let back = read_back names c.in-Some.map.now c.in-Some-get.value.now (sym c.in-Some-get.ensures.value) in
     let is = subst (IsTenant g.K.PartialEq.eq g.L.Summing.cost_of g.L.Summing.account g.L.Budgeted.budget_of) (sym back)
     (promoted_is_tenant g.met.Q.LookupKey.laws c.args.key.now g.L.Summing.cost_of g.L.Summing.account g.L.Budgeted.budget_of c.in-Some.map.now was) in
-    let writes = c.get_mut.follows.holds left in (
-      rw (writes.0)
-          (All-values-set_value (g.N.PartialEq.eq c.args.name.now) (IsTenant g.K.PartialEq.eq g.L.Summing.cost_of g.L.Summing.account g.L.Budgeted.budget_of)
-          c.self.inside.tenants.entries left c.self.invariant.0 is),
-      writes.5 ∙ c.self.invariant.1,
-    )
+    kept-written g.N.PartialEq.eq c.self.inside.tenants (c.get_mut.follows.lender left) c.self.invariant c.args.name.now c.in-Some.map.now left
+    (sym c.in-Some.ensures.value) (c.get_mut.follows.holds left) is refl
 
 pub invariant_of-self-in-None : goal.invariant_of-self-in-None
 invariant_of-self-in-None g c =
     let was = found-all (IsTenant g.K.PartialEq.eq g.L.Summing.cost_of g.L.Summing.account g.L.Budgeted.budget_of) (g.N.PartialEq.eq c.args.name.now) c.self.inside.tenants
-    c.in-Some.map.now (sym c.in-Some.ensures.value) c.self.invariant.0 in
-    let writes = c.get_mut.follows.holds c.in-Some.map.now in (
-      rw (writes.0)
-          (All-values-set_value (g.N.PartialEq.eq c.args.name.now) (IsTenant g.K.PartialEq.eq g.L.Summing.cost_of g.L.Summing.account g.L.Budgeted.budget_of)
-          c.self.inside.tenants.entries c.in-Some.map.now c.self.invariant.0 was),
-      writes.5 ∙ c.self.invariant.1,
-    )
+    c.in-Some.map.now (sym c.in-Some.ensures.value) c.self.invariant.tenants in
+    kept-written g.N.PartialEq.eq c.self.inside.tenants (c.get_mut.follows.lender c.in-Some.map.now) c.self.invariant c.args.name.now
+    c.in-Some.map.now c.in-Some.map.now (sym c.in-Some.ensures.value) (c.get_mut.follows.holds c.in-Some.map.now) was refl
 
 pub returns-in-Some-get : goal.returns-in-Some-get
 returns-in-Some-get g c =
@@ -54,7 +46,7 @@ returns-in-Some-get g c =
         (
           Some left,
           gets,
-          leaves-updated g.N.PartialEq.eq c.args.name.now (Some left) c.self.inside.hasher c.self.inside.entry_bytes c.self.inside.tenants
+          leaves-updated g.N.PartialEq.eq c.args.name.now (Some left) c.self.inside.hasher c.self.inside.entry_bytes c.self.inside.total_limit c.self.inside.tenants
               (c.get_mut.follows.lender left) (writes.3 (ap is_some there)),
         ),
       ),
@@ -77,7 +69,7 @@ returns-in-None g c =
         (
           Some left,
           gets,
-          leaves-updated g.N.PartialEq.eq c.args.name.now (Some left) c.self.inside.hasher c.self.inside.entry_bytes c.self.inside.tenants
+          leaves-updated g.N.PartialEq.eq c.args.name.now (Some left) c.self.inside.hasher c.self.inside.entry_bytes c.self.inside.total_limit c.self.inside.tenants
               (c.get_mut.follows.lender left) (writes.3 (ap is_some there)),
         ),
       ),
@@ -93,7 +85,7 @@ returns-in_default g c =
         refl,
         λ _. tt,
         on-same c.args.name.now (Gets names) (Err NotOpen) g.met.N.Eq.laws
-            (cache_of c.self.inside.tenants c.self.inside.hasher c.self.inside.entry_bytes) None none (refl, refl),
+            (cache_of c.self.inside.tenants c.self.inside.hasher c.self.inside.entry_bytes c.self.inside.total_limit) None none (refl, refl),
       ),
       record { leaves = tt; value = sym (ap (got names) none) },
     )

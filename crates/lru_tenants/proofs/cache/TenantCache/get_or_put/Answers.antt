@@ -1,9 +1,9 @@
 use Rattle.std.proofs.Common.{◌≡◌, true, false, None, Ok, Err, sym, refl, ◌∙◌, ap, arith}
-use Rattle.lru_tenants.specs.Cache.{IsTenant}
 use Rattle.lru_tenants.specs.GetOrPuts.{GetsOrPuts, newest_answer}
 use Rattle.lru_tenants.specs.Lending.{read}
 use Rattle.lru_tenants.specs.declared.error.TenantError.TheVariants.{NotOpen, Memory}
-use Rattle.lru_tenants.proofs.Changes.{cache_of, on-same, all-written, on-written}
+use Rattle.lru_tenants.proofs.Changes.{cache_of, on-same, on-written}
+use Rattle.lru_tenants.proofs.Kept.{kept-written}
 use Rattle.lru_tenants.proofs.cache.TenantCache.get_or_put.Goals as goal
 
 pub returns-in_default : goal.returns-in_default
@@ -13,18 +13,16 @@ returns-in_default g c =
         refl,
         λ _. tt,
         on-same c.args.name.now (GetsOrPuts g.L.Limiter.rules g.L.Insertion.offers g.L.Budgeted.budget_of g.K.PartialEq.eq g.S.KeyHasher.hash_of (g.F.FnOnce.post c.args.make tt) c.args.key) (Err NotOpen) g.met.N.Eq.laws
-            (cache_of c.self.inside.tenants c.self.inside.hasher c.self.inside.entry_bytes) None
+            (cache_of c.self.inside.tenants c.self.inside.hasher c.self.inside.entry_bytes c.self.inside.total_limit) None
             (sym c.in_default.ensures.value) (refl, refl),
       ),
       record { leaves = tt },
     )
 
 pub invariant_of-self-in_default-get_or_insert : goal.invariant_of-self-in_default-get_or_insert
-invariant_of-self-in_default-get_or_insert g c = let u = c.get_or_insert.new.map in (
-  all-written g.N.PartialEq.eq (IsTenant g.K.PartialEq.eq g.L.Summing.cost_of g.L.Summing.account g.L.Budgeted.budget_of) c.args.name.now c.self.inside.tenants (c.get_mut.follows.lender u)
-      c.in-Some.own.now u (c.get_mut.follows.holds u) c.self.invariant.0 c.get_or_insert.ensures.tenant,
-  (c.get_mut.follows.holds u).5 ∙ c.self.invariant.1,
-)
+invariant_of-self-in_default-get_or_insert g c = let u = c.get_or_insert.new.map in
+    kept-written g.N.PartialEq.eq c.self.inside.tenants (c.get_mut.follows.lender u) c.self.invariant c.args.name.now c.in-Some.own.now u
+    (sym c.in-Some.ensures.value) (c.get_mut.follows.holds u) c.get_or_insert.ensures.tenant c.get_or_insert.ensures.budget
 
 pub returns-in_default-get_or_insert : goal.returns-in_default-get_or_insert
 returns-in_default-get_or_insert g c = let u = c.get_or_insert.new.map in
@@ -32,7 +30,7 @@ returns-in_default-get_or_insert g c = let u = c.get_or_insert.new.map in
       (
         refl,
         λ _. tt,
-        on-written g.N.PartialEq.eq c.args.name.now c.self.inside.hasher c.self.inside.entry_bytes
+        on-written g.N.PartialEq.eq c.args.name.now c.self.inside.hasher c.self.inside.entry_bytes c.self.inside.total_limit
             c.self.inside.tenants (c.get_mut.follows.lender u) c.in-Some.own.now u (sym c.in-Some.ensures.value)
             (c.get_mut.follows.holds u) (GetsOrPuts g.L.Limiter.rules g.L.Insertion.offers g.L.Budgeted.budget_of g.K.PartialEq.eq g.S.KeyHasher.hash_of (g.F.FnOnce.post c.args.make tt) c.args.key) (Err Memory) (
               u,
@@ -49,11 +47,9 @@ returns-in_default-get_or_insert g c = let u = c.get_or_insert.new.map in
     )
 
 pub invariant_of-self-then-not-there : goal.invariant_of-self-then-not-there
-invariant_of-self-then-not-there g c = let u = c.get_or_insert.new.map in (
-  all-written g.N.PartialEq.eq (IsTenant g.K.PartialEq.eq g.L.Summing.cost_of g.L.Summing.account g.L.Budgeted.budget_of) c.args.name.now c.self.inside.tenants (c.get_mut.follows.lender u)
-      c.in-Some.own.now u (c.get_mut.follows.holds u) c.self.invariant.0 c.get_or_insert.ensures.tenant,
-  (c.get_mut.follows.holds u).5 ∙ c.self.invariant.1,
-)
+invariant_of-self-then-not-there g c = let u = c.get_or_insert.new.map in
+    kept-written g.N.PartialEq.eq c.self.inside.tenants (c.get_mut.follows.lender u) c.self.invariant c.args.name.now c.in-Some.own.now u
+    (sym c.in-Some.ensures.value) (c.get_mut.follows.holds u) c.get_or_insert.ensures.tenant c.get_or_insert.ensures.budget
 
 pub returns-then-not-there : goal.returns-then-not-there
 returns-then-not-there g c = let u = c.get_or_insert.new.map in
@@ -61,7 +57,7 @@ returns-then-not-there g c = let u = c.get_or_insert.new.map in
       (
         refl,
         λ _. tt,
-        on-written g.N.PartialEq.eq c.args.name.now c.self.inside.hasher c.self.inside.entry_bytes
+        on-written g.N.PartialEq.eq c.args.name.now c.self.inside.hasher c.self.inside.entry_bytes c.self.inside.total_limit
             c.self.inside.tenants (c.get_mut.follows.lender u) c.in-Some.own.now u (sym c.in-Some.ensures.value)
             (c.get_mut.follows.holds u) (GetsOrPuts g.L.Limiter.rules g.L.Insertion.offers g.L.Budgeted.budget_of g.K.PartialEq.eq g.S.KeyHasher.hash_of (g.F.FnOnce.post c.args.make tt) c.args.key) (Ok None) (
               u,
@@ -79,11 +75,9 @@ returns-then-not-there g c = let u = c.get_or_insert.new.map in
     )
 
 pub invariant_of-self-2 : goal.invariant_of-self-2
-invariant_of-self-2 g c = let u = c.get_or_insert.new.map in (
-  all-written g.N.PartialEq.eq (IsTenant g.K.PartialEq.eq g.L.Summing.cost_of g.L.Summing.account g.L.Budgeted.budget_of) c.args.name.now c.self.inside.tenants (c.get_mut.follows.lender u)
-      c.in-Some.own.now u (c.get_mut.follows.holds u) c.self.invariant.0 c.get_or_insert.ensures.tenant,
-  (c.get_mut.follows.holds u).5 ∙ c.self.invariant.1,
-)
+invariant_of-self-2 g c = let u = c.get_or_insert.new.map in
+    kept-written g.N.PartialEq.eq c.self.inside.tenants (c.get_mut.follows.lender u) c.self.invariant c.args.name.now c.in-Some.own.now u
+    (sym c.in-Some.ensures.value) (c.get_mut.follows.holds u) c.get_or_insert.ensures.tenant c.get_or_insert.ensures.budget
 
 pub returns : goal.returns
 returns g c = let u = c.get_or_insert.new.map in
@@ -91,7 +85,7 @@ returns g c = let u = c.get_or_insert.new.map in
       (
         refl,
         λ _. tt,
-        on-written g.N.PartialEq.eq c.args.name.now c.self.inside.hasher c.self.inside.entry_bytes
+        on-written g.N.PartialEq.eq c.args.name.now c.self.inside.hasher c.self.inside.entry_bytes c.self.inside.total_limit
             c.self.inside.tenants (c.get_mut.follows.lender u) c.in-Some.own.now u (sym c.in-Some.ensures.value)
             (c.get_mut.follows.holds u) (GetsOrPuts g.L.Limiter.rules g.L.Insertion.offers g.L.Budgeted.budget_of g.K.PartialEq.eq g.S.KeyHasher.hash_of (g.F.FnOnce.post c.args.make tt) c.args.key) (read (Ok c.newest.result)) (
               u,

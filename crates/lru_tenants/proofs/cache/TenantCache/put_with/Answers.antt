@@ -1,22 +1,26 @@
 use Rattle.std.proofs.Common.{[], None, sym, refl, ◌∙◌}
-use Rattle.lru_tenants.specs.Cache.{IsTenant}
 use Rattle.lru_tenants.specs.TenantRuns.{Puts, PutHands, PassesOn}
-use Rattle.lru_tenants.proofs.Changes.{cache_of, on-same, all-written, on-written}
+use Rattle.lru_tenants.proofs.Changes.{cache_of, on-same, on-written}
+use Rattle.lru_tenants.proofs.Kept.{kept-written, same-sum}
 use Rattle.lru_tenants.proofs.cache.TenantCache.put_with.Goals as goal
 
-pub returns-clause-tenants : goal.returns-clause-tenants
-returns-clause-tenants g c = let u = c.insert.new.map in
-    all-written g.N.PartialEq.eq (IsTenant g.K.PartialEq.eq g.L.Summing.cost_of g.L.Summing.account g.L.Budgeted.budget_of) c.args.name.now c.self.inside.tenants (c.get_mut.follows.lender u) c.in-Some.own.now u
-    (c.get_mut.follows.holds u) c.self.invariant.0 c.insert.ensures.tenant
-
 pub invariant_of-self-2 : goal.invariant_of-self-2
-invariant_of-self-2 g c =
-    (returns-clause-tenants g c, (c.get_mut.follows.holds c.insert.new.map).5 ∙ c.self.invariant.1)
+invariant_of-self-2 g c = let u = c.insert.new.map in
+    kept-written g.N.PartialEq.eq c.self.inside.tenants (c.get_mut.follows.lender u) c.self.invariant c.args.name.now c.in-Some.own.now u
+    (sym c.in-Some.ensures.value) (c.get_mut.follows.holds u) c.insert.ensures.tenant c.insert.ensures.budget
+
+pub returns-clause-tenants : goal.returns-clause-tenants
+returns-clause-tenants g c = (invariant_of-self-2 g c).tenants
+
+pub returns-clause-total : goal.returns-clause-total
+returns-clause-total g c = let u = c.insert.new.map in
+    rw (← c.self.view_is) (same-sum g.N.PartialEq.eq c.self.inside.tenants (c.get_mut.follows.lender u) c.self.invariant c.args.name.now
+    c.in-Some.own.now u (sym c.in-Some.ensures.value) (c.get_mut.follows.holds u) c.insert.ensures.budget)
 
 pub returns-clause-puts : goal.returns-clause-puts
 returns-clause-puts g c = let u = c.insert.new.map in
     rw (← c.self.view_is) (on-written g.N.PartialEq.eq c.args.name.now
-    c.self.inside.hasher c.self.inside.entry_bytes c.self.inside.tenants (c.get_mut.follows.lender u) c.in-Some.own.now u
+    c.self.inside.hasher c.self.inside.entry_bytes c.self.inside.total_limit c.self.inside.tenants (c.get_mut.follows.lender u) c.in-Some.own.now u
     (sym c.in-Some.ensures.value) (c.get_mut.follows.holds u)
     (Puts g.L.Limiter.rules g.L.Insertion.offers g.L.Budgeted.budget_of g.K.PartialEq.eq g.S.KeyHasher.hash_of c.args.key c.args.value) c.put_answer.result (
       u,
@@ -36,7 +40,7 @@ returns-clause-handed g c = let u = c.insert.new.map in
       handed,
       takes,
       on-written g.N.PartialEq.eq c.args.name.now
-          c.self.inside.hasher c.self.inside.entry_bytes c.self.inside.tenants (c.get_mut.follows.lender u) c.in-Some.own.now u
+          c.self.inside.hasher c.self.inside.entry_bytes c.self.inside.total_limit c.self.inside.tenants (c.get_mut.follows.lender u) c.in-Some.own.now u
           (sym c.in-Some.ensures.value) (c.get_mut.follows.holds u)
           (PassesOn (PutHands g.L.Limiter.rules g.L.Insertion.offers g.L.Budgeted.budget_of g.K.PartialEq.eq g.S.KeyHasher.hash_of c.args.key c.args.value)) handed
           (record { left = u; result = c.insert.result; inserts = hands; is = refl }),
@@ -48,6 +52,6 @@ returns-in_default-clause-handed g c =
       [],
       refl,
       on-same c.args.name.now (PassesOn (PutHands g.L.Limiter.rules g.L.Insertion.offers g.L.Budgeted.budget_of g.K.PartialEq.eq g.S.KeyHasher.hash_of c.args.key c.args.value)) []
-          g.met.N.Eq.laws (cache_of c.self.inside.tenants c.self.inside.hasher c.self.inside.entry_bytes) None
+          g.met.N.Eq.laws (cache_of c.self.inside.tenants c.self.inside.hasher c.self.inside.entry_bytes c.self.inside.total_limit) None
           (sym c.in_default.ensures.value) (refl, refl),
     )

@@ -1,41 +1,107 @@
-use Rattle.std.proofs.Common.{◌≡◌, ◌+◌, [], None, sym, refl, ◌∙◌, ap, subst, sum_by}
-use Rattle.std.specs.Map.{values_of}
-use Rattle.std.specs.Prelude.{IfSome}
-use Rattle.std.proofs.lemmas.Map.Entries.{sum_by-set_value}
-use Rattle.schnellru.specs.State.{State, Trims}
-use Rattle.lru_tenants.specs.Cache.{with_limiter}
-use Rattle.lru_tenants.specs.Cache.{IsTenant}
-use Rattle.lru_tenants.specs.TenantRuns.{IfOpen, BudgetHands, PassesOn}
-use Rattle.lru_tenants.proofs.Changes.{cache_of, on-same, all-written, on-written}
+use Rattle.std.proofs.Common.{◌≡◌, ◌+◌, ◌-◌, [], None, Some, Err, Ok, true, false, arith, sym, refl, ◌∙◌, ap, subst}
+use Rattle.std.specs.Prelude.{Bool}
+use Rattle.std.proofs.lemmas.Map.Steps.{set_value_same}
+use Rattle.lru_tenants.specs.Cache.{IsTenant, is_above, is_over}
+use Rattle.lru_tenants.specs.TenantRuns.{SetsBudget, BudgetHands, PassesOn}
+use Rattle.lru_tenants.specs.declared.error.TenantError.TheVariants.{NotOpen, OverTotal}
+use Rattle.lru_tenants.proofs.Changes.{cache_of, found-all, on-same, on-written}
+use Rattle.lru_tenants.proofs.Kept.{kept-rebudgeted, kept-written, own-within, sum-fits, sum-with, sum-written}
 use Rattle.lru_tenants.proofs.cache.TenantCache.set_budget_with.Goals as goal
 
-pub returns-clause-tenants : goal.returns-clause-tenants
-returns-clause-tenants g c = let u = c.set_budget.new.map in
-    all-written g.N.PartialEq.eq (IsTenant g.K.PartialEq.eq g.L.Summing.cost_of g.L.Summing.account g.L.Budgeted.budget_of) c.args.name.now c.self.inside.tenants (c.get_mut.follows.lender u) c.in-Some.own.now u
-    (c.get_mut.follows.holds u) c.self.invariant.0 c.set_budget.ensures.tenant
+pub overflow_sub-sum : goal.overflow_sub-sum
+overflow_sub-sum g c = omega (
+  arith,
+  c.budget.ensures ∙ ap g.L.Budgeted.budget_of c.limiter.ensures,
+  own-within c.self.inside.entry_bytes c.self.inside.tenants c.self.invariant (g.N.PartialEq.eq c.args.name.now) c.in-Some.own.now (sym c.in-Some.ensures.value),
+)
+
+pub overflow_add-sum : goal.overflow_add-sum
+overflow_add-sum g c = omega (
+  arith,
+  sum-fits c.self.inside.entry_bytes c.self.inside.tenants c.self.invariant
+      (omega (arith, c.len-len.ensures.len, c.len-len.ensures.small)),
+)
+
+pub invariant_of-self-then-is_above : goal.invariant_of-self-then-is_above
+invariant_of-self-then-is_above g c = let own = c.in-Some.own.now in
+    kept-written g.N.PartialEq.eq c.self.inside.tenants (c.get_mut.follows.lender own) c.self.invariant c.args.name.now own own
+    (sym c.in-Some.ensures.value) (c.get_mut.follows.holds own) (found-all (IsTenant g.K.PartialEq.eq g.L.Summing.cost_of g.L.Summing.account g.L.Budgeted.budget_of)
+    (g.N.PartialEq.eq c.args.name.now) c.self.inside.tenants own (sym c.in-Some.ensures.value) c.self.invariant.tenants) refl
+
+pub returns-then-is_above-clause-tenants : goal.returns-then-is_above-clause-tenants
+returns-then-is_above-clause-tenants g c = (invariant_of-self-then-is_above g c).tenants
+
+pub returns-then-is_above-clause-sets : goal.returns-then-is_above-clause-sets
+returns-then-is_above-clause-sets g c = let own = c.in-Some.own.now in
+    let over = ap (is_above c.self.inside.total_limit) (sym (sum-with c.self.inside.entry_bytes c.self.inside.tenants c.self.invariant (g.N.PartialEq.eq c.args.name.now) c.in-Some.own.now
+    (sym c.in-Some.ensures.value) c.budget.result c.args.budget (c.budget.ensures ∙ ap g.L.Budgeted.budget_of c.limiter.ensures))) ∙ sym c.is_above.ensures ∙ c.if-is_above.true in
+    rw (← c.self.view_is) (on-written g.N.PartialEq.eq c.args.name.now c.self.inside.hasher c.self.inside.entry_bytes c.self.inside.total_limit
+    c.self.inside.tenants (c.get_mut.follows.lender own) c.in-Some.own.now own (sym c.in-Some.ensures.value) (c.get_mut.follows.holds own)
+    (SetsBudget g.L.Limiter.rules (g.L.Budgeted.rebudgeted c.args.budget) _) (Err OverTotal)
+    (subst (λ b. SetsBudget g.L.Limiter.rules (g.L.Budgeted.rebudgeted c.args.budget) b (Some own) (Err OverTotal) (Some own)) (sym over) (refl, refl)))
+
+pub returns-then-is_above-clause-handed : goal.returns-then-is_above-clause-handed
+returns-then-is_above-clause-handed g c = let own = c.in-Some.own.now in
+    let over = ap (is_above c.self.inside.total_limit) (sym (sum-with c.self.inside.entry_bytes c.self.inside.tenants c.self.invariant (g.N.PartialEq.eq c.args.name.now) c.in-Some.own.now
+    (sym c.in-Some.ensures.value) c.budget.result c.args.budget (c.budget.ensures ∙ ap g.L.Budgeted.budget_of c.limiter.ensures))) ∙ sym c.is_above.ensures ∙ c.if-is_above.true in
+    rw (← c.self.view_is) (
+      [],
+      refl,
+      on-written g.N.PartialEq.eq c.args.name.now c.self.inside.hasher c.self.inside.entry_bytes c.self.inside.total_limit
+          c.self.inside.tenants (c.get_mut.follows.lender own) c.in-Some.own.now own (sym c.in-Some.ensures.value) (c.get_mut.follows.holds own)
+          (PassesOn (BudgetHands g.L.Limiter.rules (g.L.Budgeted.rebudgeted c.args.budget) _)) []
+          (subst (λ b. PassesOn (BudgetHands g.L.Limiter.rules (g.L.Budgeted.rebudgeted c.args.budget) b) (Some own) [] (Some own)) (sym over) (refl, refl)),
+    )
+
+pub returns-then-is_above-clause-unchanged : goal.returns-then-is_above-clause-unchanged
+returns-then-is_above-clause-unchanged g c = let own = c.in-Some.own.now in
+    let same = (c.get_mut.follows.holds own).0
+    ∙ set_value_same (g.N.PartialEq.eq c.args.name.now) c.self.inside.tenants.entries own (sym c.in-Some.ensures.value) in
+    rw (← c.self.view_is) (ap (λ entries. record {
+      tenants = entries;
+      hasher = c.self.inside.hasher;
+      entry_bytes = c.self.inside.entry_bytes;
+      total_limit = c.self.inside.total_limit;
+    }) same)
 
 pub invariant_of-self-2 : goal.invariant_of-self-2
-invariant_of-self-2 g c =
-    (returns-clause-tenants g c, (c.get_mut.follows.holds c.set_budget.new.map).5 ∙ c.self.invariant.1)
+invariant_of-self-2 g c = let u = c.set_budget.new.map in
+    kept-rebudgeted g.N.PartialEq.eq c.self.inside.tenants (c.get_mut.follows.lender u) c.self.invariant c.args.name.now
+    c.in-Some.own.now u (sym c.in-Some.ensures.value) (c.get_mut.follows.holds u) c.set_budget.ensures.tenant
+    (c.self.inside.budgets - c.budget.result + c.args.budget)
+    (omega (
+      arith,
+      c.budget.ensures ∙ ap g.L.Budgeted.budget_of c.limiter.ensures,
+      c.set_budget.ensures.budget,
+      own-within c.self.inside.entry_bytes c.self.inside.tenants c.self.invariant (g.N.PartialEq.eq c.args.name.now) c.in-Some.own.now (sym c.in-Some.ensures.value),
+    ))
+    (sym c.is_above.ensures ∙ c.if-is_above.false)
+
+pub returns-clause-tenants : goal.returns-clause-tenants
+returns-clause-tenants g c = (invariant_of-self-2 g c).tenants
 
 pub returns-clause-sets : goal.returns-clause-sets
 returns-clause-sets g c = let u = c.set_budget.new.map in
-    rw (← c.self.view_is) (on-written g.N.PartialEq.eq c.args.name.now
-    c.self.inside.hasher c.self.inside.entry_bytes c.self.inside.tenants (c.get_mut.follows.lender u) c.in-Some.own.now u
-    (sym c.in-Some.ensures.value) (c.get_mut.follows.holds u)
-    (IfOpen (λ old done new. Trims g.L.Limiter.rules (with_limiter (g.L.Budgeted.rebudgeted c.args.budget old.limiter) old) new)) _
-    (tt, u, c.set_budget.ensures.trims, refl, refl))
+    let over = ap (is_above c.self.inside.total_limit) (sym (sum-with c.self.inside.entry_bytes c.self.inside.tenants c.self.invariant (g.N.PartialEq.eq c.args.name.now) c.in-Some.own.now
+    (sym c.in-Some.ensures.value) c.budget.result c.args.budget (c.budget.ensures ∙ ap g.L.Budgeted.budget_of c.limiter.ensures))) ∙ sym c.is_above.ensures ∙ c.if-is_above.false in
+    rw (← c.self.view_is) (on-written g.N.PartialEq.eq c.args.name.now c.self.inside.hasher c.self.inside.entry_bytes c.self.inside.total_limit
+    c.self.inside.tenants (c.get_mut.follows.lender u) c.in-Some.own.now u (sym c.in-Some.ensures.value) (c.get_mut.follows.holds u)
+    (SetsBudget g.L.Limiter.rules (g.L.Budgeted.rebudgeted c.args.budget) _) (Ok tt)
+    (subst (λ b. SetsBudget g.L.Limiter.rules (g.L.Budgeted.rebudgeted c.args.budget) b (Some c.in-Some.own.now) (Ok tt) (Some u)) (sym over)
+    (u, c.set_budget.ensures.trims, refl, refl)))
 
 pub returns-clause-handed : goal.returns-clause-handed
 returns-clause-handed g c = let u = c.set_budget.new.map in
     let (handed, takes, hands) = c.set_budget.ensures.handed in
+    let over = ap (is_above c.self.inside.total_limit) (sym (sum-with c.self.inside.entry_bytes c.self.inside.tenants c.self.invariant (g.N.PartialEq.eq c.args.name.now) c.in-Some.own.now
+    (sym c.in-Some.ensures.value) c.budget.result c.args.budget (c.budget.ensures ∙ ap g.L.Budgeted.budget_of c.limiter.ensures))) ∙ sym c.is_above.ensures ∙ c.if-is_above.false in
     rw (← c.self.view_is) (
       handed,
       takes,
-      on-written g.N.PartialEq.eq c.args.name.now
-          c.self.inside.hasher c.self.inside.entry_bytes c.self.inside.tenants (c.get_mut.follows.lender u) c.in-Some.own.now u
-          (sym c.in-Some.ensures.value) (c.get_mut.follows.holds u)
-          (PassesOn (BudgetHands g.L.Limiter.rules (g.L.Budgeted.rebudgeted c.args.budget))) handed (record { left = u; trims = hands; is = refl }),
+      on-written g.N.PartialEq.eq c.args.name.now c.self.inside.hasher c.self.inside.entry_bytes c.self.inside.total_limit
+          c.self.inside.tenants (c.get_mut.follows.lender u) c.in-Some.own.now u (sym c.in-Some.ensures.value) (c.get_mut.follows.holds u)
+          (PassesOn (BudgetHands g.L.Limiter.rules (g.L.Budgeted.rebudgeted c.args.budget) _)) handed
+          (subst (λ b. PassesOn (BudgetHands g.L.Limiter.rules (g.L.Budgeted.rebudgeted c.args.budget) b) (Some c.in-Some.own.now) handed (Some u)) (sym over) (u, hands, refl)),
     )
 
 pub returns-in_default-clause-handed : goal.returns-in_default-clause-handed
@@ -43,17 +109,21 @@ returns-in_default-clause-handed g c =
     rw (c.get_mut.follows.holds-at-none, ← c.self.view_is) (
       [],
       refl,
-      on-same c.args.name.now (PassesOn (BudgetHands g.L.Limiter.rules (g.L.Budgeted.rebudgeted c.args.budget))) []
-          g.met.N.Eq.laws (cache_of c.self.inside.tenants c.self.inside.hasher c.self.inside.entry_bytes) None
+      on-same c.args.name.now (PassesOn (BudgetHands g.L.Limiter.rules (g.L.Budgeted.rebudgeted c.args.budget) _)) []
+          g.met.N.Eq.laws (cache_of c.self.inside.tenants c.self.inside.hasher c.self.inside.entry_bytes c.self.inside.total_limit) None
           (sym c.in_default.ensures.value) (refl, refl),
     )
 
 pub returns-clause-total : goal.returns-clause-total
 returns-clause-total g c = let u = c.set_budget.new.map in
-    let there = sym c.in-Some.ensures.value in
-    let f = λ (map : State g.row.K.Denot g.row.V.Denot g.row.L.Denot g.row.S.Denot). g.L.Budgeted.budget_of map.limiter in
-    let sum = ap (λ entries. sum_by f (values_of entries) + f c.in-Some.own.now) (c.get_mut.follows.holds u).0
-    ∙ sum_by-set_value f (g.N.PartialEq.eq c.args.name.now) c.self.inside.tenants.entries c.in-Some.own.now u there
-    ∙ ap (λ n. sum_by f (values_of c.self.inside.tenants.entries) + n) c.set_budget.ensures.budget in
-    rw (← c.self.view_is) (subst (λ o. IfSome o (λ map. sum_by f (values_of (c.get_mut.follows.lender u).entries) + f map
-    ≡ sum_by f (values_of c.self.inside.tenants.entries) + c.args.budget)) c.in-Some.ensures.value sum)
+    let same = sum-written g.N.PartialEq.eq c.self.inside.tenants (c.get_mut.follows.lender u) c.self.invariant c.args.name.now
+    c.in-Some.own.now u (sym c.in-Some.ensures.value) (c.get_mut.follows.holds u) in
+    rw (← c.self.view_is) (λ ok. omega (
+      arith,
+      c.budget.ensures ∙ ap g.L.Budgeted.budget_of c.limiter.ensures,
+      same,
+      sum-with c.self.inside.entry_bytes c.self.inside.tenants c.self.invariant (g.N.PartialEq.eq c.args.name.now) c.in-Some.own.now
+          (sym c.in-Some.ensures.value) c.budget.result c.args.budget (c.budget.ensures ∙ ap g.L.Budgeted.budget_of c.limiter.ensures),
+      c.set_budget.ensures.budget,
+      own-within c.self.inside.entry_bytes c.self.inside.tenants c.self.invariant (g.N.PartialEq.eq c.args.name.now) c.in-Some.own.now (sym c.in-Some.ensures.value),
+    ))

@@ -1,0 +1,155 @@
+-- What a look-up of a response leaves of its host.
+use Rattle.std.proofs.Common.{◌≡◌, ◌<◌, ◌≤◌, ℕ, arith, Result, Ok, Err, is_ok, Bool, true, false, is_some, List, [], ◌∷◌, Option, Some, None, cond, refl, sym, ap, ◌∙◌, subst}
+use Rattle.std.specs.Cmp.{IsEquivalence}
+use Rattle.std.specs.List.{All, IsDistinct}
+use Rattle.std.specs.Map.{keys_of, values_of, remove_entry}
+use Rattle.std.proofs.lemmas.List.Elements.{All-weaker}
+use Rattle.std.proofs.lemmas.Map.Views.{IfSome-lookup_from_All}
+use Rattle.std.proofs.lemmas.Bool.{true≢false}
+use Rattle.std.proofs.lemmas.Map.{lookup-remove_entry}
+use Rattle.lru_limits.specs.Rules.{Rules}
+use Rattle.schnellru.specs.Calls.{promoted, written, Remove}
+use Rattle.schnellru.specs.Lists.{lookup}
+use Rattle.schnellru.specs.State.{State}
+use Rattle.lru_tenants.specs.Cache.{Cache, tenant, IsTenant, Leaves, On}
+use Rattle.lru_tenants.specs.TenantRuns.{Gets, IfOpen}
+use Rattle.lru_tenants.specs.declared.error.TenantError.{TenantError}
+use Rattle.responses.specs.LookUps.{fresh_at, LooksUp}
+use Rattle.responses.specs.declared.cache.Response.{Response}
+use Rattle.std.specs.Prelude.{IfSome}
+use Rattle.schnellru.proofs.CallerLemmas.{read_back, written-found, promoted-absent}
+
+ok≢err : {T E : Type 0} {x : T} {e : E} → Ok x ≡ Err e → ⊥
+ok≢err p = true≢false (ap is_ok p)
+
+abbrev or-else : {T E : Type 0} → T → Result T E → T
+or-else x (Ok y) = y
+or-else x (Err e) = x
+
+ok-same : {T E : Type 0} {x y : T} → ◌≡◌ {A = Result T E} (Ok x) (Ok y) → x ≡ y
+ok-same {T} {E} {x} {y} p = ap (or-else x) p
+
+-- a key whose value is found passes the test
+found-key : {K V : Type 0} (names : K → Bool) (xs : List (K × V)) (v : V) → lookup names xs ≡ Some v
+    → (k : K) × (names k ≡ true)
+found-key names [] v e = absurd (true≢false (sym (ap is_some e)))
+found-key {K} {V} names (x ∷ xs) v e = go (found-key names xs v) (names x.0) refl e
+  where
+    go : (lookup names xs ≡ Some v → (k : K) × (names k ≡ true)) → (is : Bool) → names x.0 ≡ is
+        → cond is (Some x.1) (lookup names xs) ≡ Some v → (k : K) × (names k ≡ true)
+    go later true is e = (x.0, is)
+    go later false is e = later e
+
+module _ {K V : Type 0} {eq : K → K → Bool} (laws : IsEquivalence eq) (names : K → Bool)
+    (one : (x y : K) → names x ≡ true → names y ≡ eq x y) where
+  -- after a removal the key is not there
+  pub not-there : (xs : List (K × V)) (v : V) → lookup names xs ≡ Some v → IsDistinct eq (keys_of xs)
+      → lookup names (remove_entry names xs) ≡ None
+  not-there xs v found distinct =
+      let (k, is) = found-key names xs v found in
+      ap (λ test. lookup test (remove_entry names xs)) (λ i y. one k y is i)
+      ∙ lookup-remove_entry laws names one k xs distinct ∙ ap (λ b. cond b None (lookup (eq k) xs)) is
+
+-- after a get the value is there, as before
+pub still-there : {K V L S : Type 0} (names : K → Bool) (map : State K V L S) (found : Option V)
+    → lookup names map.pairs ≡ found → lookup names (promoted names map).pairs ≡ found
+still-there names map None none = ap (λ st. lookup names st.pairs) (promoted-absent names map none) ∙ none
+still-there names map (Some v) is = ap (λ st. lookup names st.pairs) (sym (read_back names map v is)) ∙ written-found names map v v is
+
+-- no key of a tenant is there twice
+pub distinct-keys : {N K V L S : Type 0} {keys : K → K → Bool} {cost : K → V → ℕ} {account budget : L → ℕ}
+    (cache : Cache N K V L S) (test : N → Bool) → All (IsTenant keys cost account budget) (values_of cache.tenants)
+    → IfSome (tenant test cache) (λ map. IsDistinct keys (keys_of map.pairs))
+distinct-keys {keys = keys} {cost = cost} {account = account} {budget = budget} cache test all =
+    IfSome-lookup_from_All (λ map. IsDistinct keys (keys_of map.pairs)) test cache.tenants
+    (All-weaker (IsTenant keys cost account budget) (λ map. IsDistinct keys (keys_of map.pairs)) (λ map is. is.map.distinct)
+    (values_of cache.tenants) all)
+
+-- a response is fresh before it expires, and stale from then on
+pub fresh-before : (now : ℕ) (response : Response) → now < response.expires
+    → fresh_at now (Some response) ≡ Some response
+fresh-before now response lt = grind (arith, lt)
+
+pub stale-from : (now : ℕ) (response : Response) → response.expires ≤ now → fresh_at now (Some response) ≡ None
+stale-from now response le = grind (arith, le)
+
+-- two calls on a tenant, one after another, are one
+pub leaves-both : {N K V L S : Type 0} {eq : N → N → Bool} (name : N) (mid-left left : Option (State K V L S))
+    (old mid new : Cache N K V L S) → Leaves eq name mid-left old mid → Leaves eq name left mid new
+    → Leaves eq name left old new
+leaves-both {N} {K} {V} {L} {S} {eq} name mid-left left old mid new first second = record {
+  tenants = λ other. second.tenants other ∙ go other (eq name other) (first.tenants other);
+  hasher = second.hasher ∙ first.hasher;
+  entry_bytes = second.entry_bytes ∙ first.entry_bytes;
+  total_limit = second.total_limit ∙ first.total_limit;
+}
+  where
+    go : (other : N) (b : Bool) → tenant (eq other) mid ≡ cond b mid-left (tenant (eq other) old)
+        → cond b left (tenant (eq other) mid) ≡ cond b left (tenant (eq other) old)
+    go other true is = refl
+    go other false is = is
+
+module _ {K L S : Type 0} (names : K → Bool) (now : ℕ) where
+  -- a get that finds nothing, or a fresh response
+  pub get-finds : (was : Option (State K Response L S)) (found : Option Response) (left : Option (State K Response L S))
+      → Gets names was (Ok found) left → fresh_at now found ≡ found → LooksUp names now was (Ok found) left
+  get-finds None found left (says, is) same = absurd (ok≢err says)
+  get-finds (Some map) found left (says, is) same =
+      let value = ok-same says in (
+        promoted names map,
+        ap Ok (sym same ∙ ap (fresh_at now) value),
+        is,
+        still-there names map found (sym value) ∙ sym same ∙ ap (fresh_at now) value,
+      )
+
+-- so a look-up ends with the get
+pub on-finds : {N K L S : Type 0} {eq : N → N → Bool} (names : K → Bool) (now : ℕ) (host : N) (old mid : Cache N K Response L S)
+    (answer : Result (Option Response) TenantError) (found : Option Response) → On eq host (Gets names) old answer mid
+    → answer ≡ Ok found → fresh_at now found ≡ found → On eq host (LooksUp names now) old (Ok found) mid
+on-finds {eq = eq} names now host old mid answer found (left, gets, leaves) is same = (
+  left,
+  get-finds names now (tenant (eq host) old) found left (subst (λ a. Gets names (tenant (eq host) old) a left) is gets) same,
+  leaves,
+)
+
+module _ {N K L S : Type 0} {eq : N → N → Bool} (equal : IsEquivalence eq) {keys : K → K → Bool} (laws : IsEquivalence keys)
+    (names : K → Bool) (one : (x y : K) → names x ≡ true → names y ≡ keys x y) (now : ℕ) (rules : Rules K Response L)
+    (host : N) (old mid new : Cache N K Response L S) (response : Response) where
+  -- what the get of a response leaves
+  got-it : On eq host (Gets names) old (Ok (Some response)) mid
+      → (map : State K Response L S) × (tenant (eq host) old ≡ Some map) × (lookup names map.pairs ≡ Some response)
+      × (tenant (eq host) mid ≡ Some (promoted names map))
+  got-it (left, gets, leaves) = go (tenant (eq host) old) refl gets
+    where
+      go : (was : Option (State K Response L S)) → tenant (eq host) old ≡ was → Gets names was (Ok (Some response)) left
+          → (map : State K Response L S) × (tenant (eq host) old ≡ Some map) × (lookup names map.pairs ≡ Some response)
+          × (tenant (eq host) mid ≡ Some (promoted names map))
+      go None is (says, stays) = absurd (ok≢err says)
+      go (Some map) is (says, stays) = (
+        map,
+        is,
+        sym (ok-same says),
+        leaves.tenants host
+            ∙ ap (λ b. cond b left (tenant (eq host) old)) (equal.refl host) ∙ stays,
+      )
+
+  -- a get that finds a stale response, and a removal
+  pub stale-removed : (removed : Option Response) (answer : Result (Option Response) TenantError)
+      → On eq host (Gets names) old answer mid → answer ≡ Ok (Some response)
+      → fresh_at now (Some response) ≡ None
+      → IfSome (tenant (eq host) mid) (λ map. IsDistinct keys (keys_of map.pairs))
+      → On eq host (IfOpen (Remove rules names)) mid (Ok removed) new
+      → On eq host (LooksUp names now) old (Ok None) new
+  stale-removed removed answer (first, does, kept) said stale distinct (left, removes, leaves) =
+      let gets : On eq host (Gets names) old (Ok (Some response)) mid =
+      (first, subst (λ a. Gets names (tenant (eq host) old) a first) said does, kept) in
+      let (map, was, found, is) = got-it gets in
+      let (result, own, remove, says, now-is) = subst (λ t. IfOpen (Remove rules names) t (Ok removed) left) is removes in
+      let none = ap (λ st. lookup names st.pairs) remove.state.is
+      ∙ not-there laws names one (promoted names map).pairs response (still-there names map (Some response) found)
+      (subst (λ t. IfSome t (λ map. IsDistinct keys (keys_of map.pairs))) is distinct) in
+      let same : fresh_at now (lookup names map.pairs) ≡ None = ap (fresh_at now) found ∙ stale in (
+        left,
+        subst (λ t. LooksUp names now t (Ok None) left) (sym was) (own, ap Ok (sym same), now-is, none ∙ sym same),
+        leaves-both host gets.0 left old mid new gets.2 leaves,
+      )

@@ -1,0 +1,22 @@
+-- What a look-up of a response does to its host.
+--     names path      whether a path is the one that is looked up
+--     now             the time of the look-up
+use Rattle.std.specs.Prelude.{◌≡◌, ℕ, nat_lt, Bool, if◌then◌else◌, Option, Some, None, Result, Ok, Err}
+use Rattle.schnellru.specs.Lists.{lookup}
+use Rattle.schnellru.specs.State.{State}
+use Rattle.lru_tenants.specs.declared.error.TenantError.{TenantError}
+use Rattle.lru_tenants.specs.declared.error.TenantError.TheVariants.{NotOpen}
+use Rattle.responses.specs.declared.cache.Response.{Response}
+
+-- the response that is there, if it is not stale
+abbrev pub fresh_at : ℕ → Option Response → Option Response
+fresh_at now None = None
+fresh_at now (Some response) = if nat_lt now response.expires then Some response else None
+
+-- It returns the response that is there, if it is fresh. A stale one is not there any more.
+abbrev pub LooksUp : {K L S : Type 0} → (K → Bool) → ℕ → Option (State K Response L S)
+    → Result (Option Response) TenantError → Option (State K Response L S) → Type 0
+LooksUp names now None answer new = (answer ≡ Err NotOpen) × (new ≡ None)
+LooksUp {K} {L} {S} names now (Some old) answer new = (left : State K Response L S)
+    × (answer ≡ Ok (fresh_at now (lookup names old.pairs))) × (new ≡ Some left)
+    × (lookup names left.pairs ≡ fresh_at now (lookup names old.pairs))
