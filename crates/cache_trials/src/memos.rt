@@ -10,13 +10,13 @@ use std::cell::Cell;
 use test_helpers::Random;
 
 /// The memos remember fewer results than this.
-const LENGTHS: u32 = 20;
+pub const LENGTHS: u32 = 20;
 
-// The keys of the newest results, newest first. Unused places have a key that no call has.
-type Keys = [u64; LENGTHS as usize];
+/// The keys of the newest results, newest first. Unused places have a key that no call has.
+pub type Keys = [u64; LENGTHS as usize];
 
-// Moves a key to the front of the places that are used, and returns whether it was there.
-fn use_key(keys: &mut Keys, length: u32, key: u64) -> bool {
+/// Moves a key to the front of the places that are used, and returns whether it was there.
+pub fn use_key(keys: &mut Keys, length: u32, key: u64) -> bool {
     let mut carried = key;
     for place in keys.iter_mut().take(length as usize) {
         let old = *place;

@@ -33,10 +33,7 @@ fn agrees(cache: &mut Cache, model: &mut [u64; BLOCKS], random: &mut Random) -> 
 // Returns how many random calls agree on a cache of this capacity, whose disk fails now and then.
 fn count(alloc: Global, capacity: usize) -> u64 {
     let calls_left = Cell::new(0);
-    let disk = Disk {
-        blocks: [0; BLOCKS],
-        calls_left: &calls_left,
-    };
+    let disk = Disk::new([0; BLOCKS], &calls_left);
     let (mut model, mut random, mut count) = ([0; BLOCKS], Random::new(1), 0u64);
     let mut cache = PageCache::new(alloc, disk, capacity);
     for _ in 0..CALLS / CAPACITIES as u64 {
@@ -65,10 +62,7 @@ pub fn calls_that_agree(alloc: Global) -> u64 {
 /// Returns what the cache shows at the three after the disk was repaired. Each block of the disk is 7.
 pub fn blocks_after_a_failed_write_back(alloc: Global) -> [u64; 3] {
     let calls_left = Cell::new(0);
-    let disk = Disk {
-        blocks: [7; BLOCKS],
-        calls_left: &calls_left,
-    };
+    let disk = Disk::new([7; BLOCKS], &calls_left);
     let mut cache = PageCache::new(alloc, disk, 2);
     let is_third_written = cache.write(0, 50).is_ok()
         && cache.write(1, 51).is_ok()
