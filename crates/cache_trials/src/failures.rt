@@ -1,6 +1,6 @@
 //! A page cache whose disk fails at each of its calls in turn, on one list of calls.
 use crate::disk::{BLOCKS, Disk};
-use lru_caches::PageCache;
+use lru_caches::{PageCache, Unclosed};
 use std::alloc::Global;
 use std::cell::Cell;
 
@@ -110,6 +110,11 @@ fn run(alloc: Global, capacity: usize, k: u64, stays_broken: bool) -> (bool, boo
             right = right && shows(&mut cache, &model);
         }
     }
+    // If the disk is broken, a close fails while there are dirty pages, and returns the cache.
+    let mut cache = match cache.close() {
+        Ok(disk) => PageCache::new(alloc, disk, capacity),
+        Err(Unclosed { cache, error: _ }) => cache,
+    };
     calls_left.set(u64::MAX);
     let failed = cache.device().failures > 0;
     right = right && shows(&mut cache, &model) && cache.flush().is_ok();

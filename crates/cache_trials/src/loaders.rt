@@ -3,7 +3,7 @@ ghost use Rattle.std.specs.Prelude.{nat_eq};
 ghost use Rattle.lru_caches.specs.Answers.{AreAnswers, loads};
 
 use crate::CALLS;
-use crate::memos::{Keys, LENGTHS, use_key};
+use crate::memos::{KEYS, Keys, LENGTHS, use_key};
 use lru_caches::Loader;
 use schnellru::ByLength;
 use std::alloc::Global;
@@ -18,10 +18,10 @@ struct Source {
 }
 
 impl Source {
-    // Loads the square of a key below 20.
+    // Loads the square of a key below 120.
     fn load(&self, key: u64) -> Result<u64, u64> {
         self.calls.set(self.calls.get().saturating_add(1));
-        if self.works.get() && key < 20 {
+        if self.works.get() && key < 120 {
             Ok(key.wrapping_mul(key))
         } else {
             Err(key)
@@ -39,14 +39,14 @@ fn count<F: Fn(u64) -> Result<u64, u64>>(
     requires callable { F.IsAlwaysCallable loader.function }
     requires known { AreAnswers nat_eq (loads (F.post loader.function)) loader.known }
 {
-    let (mut keys, mut random, mut count) = ([u64::MAX; LENGTHS as usize], Random::new(4), 0u64);
-    for _ in 0..CALLS / LENGTHS as u64 {
-        let key = random.below(30);
+    let (mut keys, mut random, mut count) = ([u64::MAX; 100], Random::new(4), 0u64);
+    for _ in 0..CALLS / LENGTHS.len() as u64 {
+        let key = random.below(KEYS);
         source.calls.set(0);
         source.works.set(random.below(4) > 0);
         let result = loader.load(key);
         let is_stored = has_key(&keys, length, key);
-        let expected = if is_stored || (source.works.get() && key < 20) {
+        let expected = if is_stored || (source.works.get() && key < 120) {
             use_key(&mut keys, length, key);
             Ok(key.wrapping_mul(key))
         } else {
@@ -60,13 +60,15 @@ fn count<F: Fn(u64) -> Result<u64, u64>>(
 
 // Whether the value of a key is stored.
 fn has_key(keys: &Keys, length: u32, key: u64) -> bool {
-    keys.iter().take(length as usize).any(|stored| *stored == key)
+    keys.iter()
+        .take(length as usize)
+        .any(|stored| *stored == key)
 }
 
 /// Returns how many random calls agree.
 pub fn calls_that_agree(alloc: Global) -> u64 {
     let mut sum = 0u64;
-    for length in 0..LENGTHS {
+    for length in LENGTHS {
         let source = Source {
             calls: Cell::new(0),
             works: Cell::new(true),

@@ -10,11 +10,7 @@ use test_helpers::Hog;
 const REQUESTS: usize = 3;
 
 // Takes all memory but that for the first requests.
-fn hog(
-    alloc: Global,
-    requests: &[usize; REQUESTS],
-    met: usize,
-) -> Result<Hog, AllocError> {
+fn hog(alloc: Global, requests: &[usize; REQUESTS], met: usize) -> Result<Hog, AllocError> {
     let mut hog = Hog::new(alloc, requests)?;
     for _ in 0..met {
         hog.release();
@@ -68,51 +64,30 @@ fn ordered_map(alloc: Global, met: usize) -> Result<bool, AllocError> {
     Ok(expected && right && map.last() == Some((&newest, &newest)))
 }
 
-// A memo of three results: the fourth is returned whether it can be stored or not.
-fn memo(alloc: Global, met: usize) -> bool {
-    let mut squares = Memo::new(alloc, ByLength::new(9), |n: u64| n.wrapping_mul(n));
-    let mut right = true;
-    for n in 0..3u64 {
-        right = right && squares.answer(n) == n.wrapping_mul(n);
-    }
-    let hog = hog(alloc, &[192, 24, 32], met);
-    let answer = squares.answer(3);
-    let grew = squares.len() == 4;
-    right = right && is_expected(&hog, met, grew);
-    drop(hog);
-    right && answer == 9 && squares.answer(3) == 9 && squares.len() == 4
-}
-
-// The same of a loader.
-fn loader(alloc: Global, met: usize) -> bool {
+// A memo and a loader without memory return what they cannot store, and store it later.
+fn memos(alloc: Global) -> bool {
+    let square = |n: u64| n.wrapping_mul(n);
     let load = |n: u64| if n < 9 { Ok(n.wrapping_mul(n)) } else { Err(n) };
-    let mut squares = Loader::new(alloc, ByLength::new(9), load);
-    let mut right = true;
-    for n in 0..3u64 {
-        right = right && squares.load(n) == Ok(n.wrapping_mul(n));
-    }
-    let hog = hog(alloc, &[192, 24, 32], met);
-    let (loaded, failed) = (squares.load(3), squares.load(10));
-    let grew = squares.len() == 4;
-    right = right && is_expected(&hog, met, grew);
+    let mut memo = Memo::new(alloc, ByLength::new(9), square);
+    let mut loader = Loader::new(alloc, ByLength::new(9), load);
+    let hog = hog(alloc, &[192, 24, 32], 0);
+    let (answer, loaded, failed) = (memo.answer(3), loader.load(3), loader.load(10));
+    let right = is_expected(&hog, 0, memo.len() == 1) && is_expected(&hog, 0, loader.len() == 1);
     drop(hog);
-    right && loaded == Ok(9) && failed == Err(10) && squares.load(3) == Ok(9) && squares.len() == 4
+    let again = memo.answer(3) == 9 && loader.load(3) == Ok(9);
+    let is_stored = memo.len() == 1 && loader.len() == 1;
+    right && answer == 9 && loaded == Ok(9) && failed == Err(10) && again && is_stored
 }
 
-/// Returns at how many refusals each cache lost nothing: the first, the second and the third request of a growth, and
-/// none.
-pub fn refusals_that_lose_nothing(alloc: Global) -> Result<[u64; 4], AllocError> {
-    let mut right = [0u64; 4];
+/// Returns at how many refusals a page cache and an ordered map lost nothing: of the first, the second and the third
+/// request of a growth, and of none. And whether a memo and a loader return what they cannot store.
+pub fn refusals_that_lose_nothing(alloc: Global) -> Result<([u64; 2], bool), AllocError> {
+    let mut right = [0u64; 2];
     for met in 0..=REQUESTS {
-        let now = [
-            page_cache(alloc, met),
-            ordered_map(alloc, met)?,
-            memo(alloc, met),
-            loader(alloc, met),
-        ];
+        let now = [page_cache(alloc, met), ordered_map(alloc, met)?];
         for (sum, is_right) in right.iter_mut().zip(now) {
             *sum = sum.saturating_add(is_right as u64);
         }
     }
-    Ok(right)
+    Ok((right, memos(alloc)))
 }
