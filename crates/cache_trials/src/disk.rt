@@ -8,27 +8,45 @@ use std::cell::Cell;
 pub const BLOCKS: usize = 8;
 
 /// The disk failed.
-#[derive(Clone, Copy)]
+#[derive(Clone, Copy, PartialEq)]
 pub struct DiskError;
 
-/// A disk that works for a number of calls. A write that fails leaves 99 in its block.
+/// A disk that works for a number of calls, and counts those that fail after these. A write that fails leaves 99 in its
+/// block.
 #[derive(Drop)]
 pub struct Disk<'a> {
     pub blocks: [u64; BLOCKS],
-    pub calls_left: &'a Cell<u64>,
+    pub failures: u64,
+    calls_left: &'a Cell<u64>,
 }
 
-impl Disk<'_> {
+impl<'a> Disk<'a> {
+    /// A disk of these blocks.
+    pub fn new(blocks: [u64; BLOCKS], calls_left: &'a Cell<u64>) -> Disk<'a> {
+        Disk {
+            blocks,
+            failures: 0,
+            calls_left,
+        }
+    }
+
     /// Counts a call, and returns whether the disk works.
-    fn works(&self) -> bool {
+    fn works(&mut self) -> bool {
         let left = self.calls_left.get();
         self.calls_left.set(left.saturating_sub(1));
+        if left == 0 {
+            self.failures = self.failures.saturating_add(1);
+        }
         left > 0
     }
 }
 
 impl BlockDevice<u64> for Disk<'_> {
     type Error = DiskError;
+
+    type Seen = u64;
+
+    ghost seen = { λ block. block };
 
     ghost blocks = { λ disk n. slice_index disk.blocks n };
 

@@ -9,14 +9,17 @@ use std::alloc::Global;
 use std::cell::Cell;
 use test_helpers::Random;
 
-/// The memos remember fewer results than this.
-const LENGTHS: u32 = 20;
+/// How many results the memos remember.
+pub const LENGTHS: [u32; 10] = [0, 1, 2, 3, 5, 8, 19, 60, 99, 100];
 
-// The keys of the newest results, newest first. Unused places have a key that no call has.
-type Keys = [u64; LENGTHS as usize];
+/// The keys of the newest results, newest first. Unused places have a key that no call has.
+pub type Keys = [u64; 100];
 
-// Moves a key to the front of the places that are used, and returns whether it was there.
-fn use_key(keys: &mut Keys, length: u32, key: u64) -> bool {
+/// Keys are below this.
+pub const KEYS: u64 = 150;
+
+/// Moves a key to the front of the places that are used, and returns whether it was there.
+pub fn use_key(keys: &mut Keys, length: u32, key: u64) -> bool {
     let mut carried = key;
     for place in keys.iter_mut().take(length as usize) {
         let old = *place;
@@ -38,11 +41,15 @@ fn count<F: Fn(u64) -> u64>(
     requires callable { F.IsAlwaysCallable memo.function }
     requires known { AreAnswers nat_eq (F.post memo.function) memo.known }
 {
-    let (mut keys, mut random, mut count) = ([u64::MAX; LENGTHS as usize], Random::new(3), 0u64);
-    for _ in 0..CALLS / LENGTHS as u64 {
-        let key = random.below(30);
+    let (mut keys, mut random, mut count) = ([u64::MAX; 100], Random::new(3), 0u64);
+    for _ in 0..CALLS / LENGTHS.len() as u64 {
+        let key = random.below(KEYS);
         calls.set(0);
-        let result = memo.answer(key);
+        let result = if random.below(2) == 0 {
+            memo.answer(key)
+        } else {
+            memo.answer_with(key, |square| *square)
+        };
         let expected_calls = if use_key(&mut keys, length, key) {
             0
         } else {
@@ -57,7 +64,7 @@ fn count<F: Fn(u64) -> u64>(
 /// Returns how many random calls agree.
 pub fn calls_that_agree(alloc: Global) -> u64 {
     let mut sum = 0u64;
-    for length in 0..LENGTHS {
+    for length in LENGTHS {
         let calls = Cell::new(0u64);
         let square = |n: u64| {
             calls.set(calls.get().saturating_add(1));

@@ -11,32 +11,41 @@ const CAPACITIES: usize = 5;
 
 type Cache<'a> = PageCache<u64, Disk<'a>>;
 
-// Makes a random call. Returns whether the result is what an array gives. A call that fails changes no block.
-fn agrees(cache: &mut Cache, model: &mut [u64; BLOCKS], random: &mut Random) -> bool {
+// Makes a random call. Returns whether the result is what an array gives, and whether it is an error. A call that fails
+// changes no block.
+fn make_call(cache: &mut Cache, model: &mut [u64; BLOCKS], random: &mut Random) -> (bool, bool) {
     let n = random.below(BLOCKS as u64);
     match random.below(8) {
-        0..=3 => match (cache.read(n), model.get(n as usize)) {
-            (Ok(block), Some(expected)) => block == *expected,
-            _ => true,
+        0..=3 => match cache.read(n) {
+            Ok(block) => (model.get(n as usize) == Some(&block), false),
+            Err(_) => (true, true),
         },
         4..=6 => {
             let block = random.below(1000);
-            if let (Ok(()), Some(place)) = (cache.write(n, block), model.get_mut(n as usize)) {
+            let written = cache.write(n, block);
+            if let (Ok(()), Some(place)) = (&written, model.get_mut(n as usize)) {
                 *place = block;
             }
-            true
+            (true, written.is_err())
         }
-        _ => cache.flush().is_err() || cache.device().blocks == *model,
+        _ => match cache.flush() {
+            Ok(()) => (cache.device().blocks == *model, false),
+            Err(_) => (true, true),
+        },
     }
+}
+
+// Makes a random call, and returns whether both agree. An error comes exactly if the disk failed.
+fn agrees(cache: &mut Cache, model: &mut [u64; BLOCKS], random: &mut Random) -> bool {
+    let before = cache.device().failures;
+    let (is_right, is_error) = make_call(cache, model, random);
+    is_right && is_error == (cache.device().failures > before)
 }
 
 // Returns how many random calls agree on a cache of this capacity, whose disk fails now and then.
 fn count(alloc: Global, capacity: usize) -> u64 {
     let calls_left = Cell::new(0);
-    let disk = Disk {
-        blocks: [0; BLOCKS],
-        calls_left: &calls_left,
-    };
+    let disk = Disk::new([0; BLOCKS], &calls_left);
     let (mut model, mut random, mut count) = ([0; BLOCKS], Random::new(1), 0u64);
     let mut cache = PageCache::new(alloc, disk, capacity);
     for _ in 0..CALLS / CAPACITIES as u64 {
@@ -65,10 +74,7 @@ pub fn calls_that_agree(alloc: Global) -> u64 {
 /// Returns what the cache shows at the three after the disk was repaired. Each block of the disk is 7.
 pub fn blocks_after_a_failed_write_back(alloc: Global) -> [u64; 3] {
     let calls_left = Cell::new(0);
-    let disk = Disk {
-        blocks: [7; BLOCKS],
-        calls_left: &calls_left,
-    };
+    let disk = Disk::new([7; BLOCKS], &calls_left);
     let mut cache = PageCache::new(alloc, disk, 2);
     let is_third_written = cache.write(0, 50).is_ok()
         && cache.write(1, 51).is_ok()

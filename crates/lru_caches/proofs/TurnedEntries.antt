@@ -7,10 +7,10 @@ use Rattle.std.proofs.lemmas.Map.Keys.{IsDistinct-head, IsDistinct-tail, IsDisti
 use Rattle.std.proofs.lemmas.Option.{none-some}
 use Rattle.std.specs.Cmp.{IsEquivalence}
 use Rattle.std.specs.List.{AllByRecursion, IsDistinct}
-use Rattle.std.specs.Prelude.{is_some, if◌then◌else◌}
+use Rattle.std.specs.Prelude.{is_some, if◌then◌else◌, option_to_list}
 use Rattle.std.specs.Map.{lookup, lookup_entry, set_value, keys_of}
 use Rattle.lru_caches.specs.Ordered.{put}
-use Rattle.schnellru.specs.Lists.{without, first, without_first, last, without_last}
+use Rattle.schnellru.specs.Lists.{without, after, front, back, first, without_first, last, without_last}
 
 module _ {X : Type 0} where
   -- the first comes last, and the last first
@@ -209,6 +209,17 @@ module _ {K X : Type 0} {eq : K → K → Bool} (test : K → Bool)
           ∙ ap (λ b. reverse xs ++ cond b ((x.0, w) ∷ []) (x ∷ [])) e ∙ sym (reverse-cons (x.0, w) xs)
       go false e later = set_before test x e (reverse xs) w ∙ ap (λ l. l ++ x ∷ []) later
           ∙ sym (reverse-cons x (set_value test xs w))
+
+  -- its entry moves to the other end
+  pub front-reverse : (xs : List (K × X)) → IsDistinct eq (keys_of xs)
+      → reverse (front test xs) ≡ back test (reverse xs)
+  front-reverse xs d = turned (lookup_entry test xs) (without test xs)
+      ∙ ap (λ l. l ++ option_to_list (lookup_entry test xs)) (sym (without-reverse xs d))
+      ∙ ap (λ o. without test (reverse xs) ++ option_to_list o) (sym (entry-reverse xs d))
+    where
+      turned : (o : Option (K × X)) (ys : List (K × X)) → reverse (after o ys) ≡ reverse ys ++ option_to_list o
+      turned None ys = sym (append-nil (reverse ys))
+      turned (Some p) ys = reverse-cons p ys
 
   -- so an insert writes the value of a key that is there, and adds a new one in front before the list is turned round
   module _ (xs : List (K × X)) (d : IsDistinct eq (keys_of xs)) (k : K) (w : X) where

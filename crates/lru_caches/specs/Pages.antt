@@ -1,5 +1,6 @@
 -- A page cache: which blocks it shows.
---     blocks device n     the block of this number on the device
+--     seen block          what contracts see of a block, which is the block itself for most devices
+--     blocks device n     the block of this number on the device, as contracts see it
 use Rattle.std.specs.Prelude.{◌≡◌, ◌≢◌, ℕ, List, ◌∷◌, take, nat_eq, Some, is_some, IsTrue, unwrap_or, option_map}
 use Rattle.std.specs.Map.{lookup, keys_of}
 use Rattle.schnellru.specs.Lists.{without}
@@ -15,13 +16,13 @@ pub record Cached (B D : Type 0) : Type 0 where
   pub capacity : ℕ
   pub device : D
 
-module _ {B D : Type 0} (blocks : D → ℕ → B) where
+module _ {B C D : Type 0} (seen : B → C) (blocks : D → ℕ → C) where
   -- the block of the cached page of this number, or else the device's block
-  abbrev pub block_at : List (ℕ × Page B) → D → ℕ → B
-  block_at pages device n = unwrap_or (option_map (λ page. page.block) (lookup (nat_eq n) pages)) (blocks device n)
+  abbrev pub block_at : List (ℕ × Page B) → D → ℕ → C
+  block_at pages device n = unwrap_or (option_map (λ page. seen page.block) (lookup (nat_eq n) pages)) (blocks device n)
 
   -- the block that a cache shows at each number
-  abbrev pub shown : Cached B D → ℕ → B
+  abbrev pub shown : Cached B D → ℕ → C
   shown cache n = block_at cache.pages cache.device n
 
   -- no block that is shown has changed
@@ -31,7 +32,7 @@ module _ {B D : Type 0} (blocks : D → ℕ → B) where
   -- each page that was not written in this round is as on the device
   abbrev pub AreClean : ℕ → List (ℕ × Page B) → D → Type 0
   AreClean round pages device = (n : ℕ) (page : Page B) → lookup (nat_eq n) pages ≡ Some page →
-      page.round ≢ round → page.block ≡ blocks device n
+      page.round ≢ round → seen page.block ≡ blocks device n
 
 module _ {B D : Type 0} where
   -- the numbers of the cached pages, newest first

@@ -6,6 +6,12 @@ ghost use Rattle.std.specs.Prelude.{◌≡◌, ◌≢◌, ℕ, IfOk, OnOk};
 /// The impl defines `blocks`, the block that a read of each number returns, and the prover checks that its code reads
 /// and writes these. If a device lacks a number, its calls fail there, and its block there is any value.
 ///
+/// It also defines `seen`, what contracts see of a block. For most devices this is the block itself, by
+/// `ghost seen = { λ block. block };`. A device that keeps only hashes, such as [`HashedFileDevice`], says that it is
+/// the hash: a read returns a block of the right hash then.
+///
+/// [`HashedFileDevice`]: crate::HashedFileDevice
+///
 /// ```
 /// let mut disk = Disk { blocks: [10, 11, 12, 13], calls_left: &calls_left };
 /// assert_eq!(rt; disk.write(1, &20), Ok(()));
@@ -16,8 +22,14 @@ pub trait BlockDevice<B> {
     /// Why a call fails.
     type Error;
 
-    /// The block of each number.
-    ghost blocks: { Self → ℕ → B };
+    /// The type of what contracts see of a block.
+    type Seen;
+
+    /// What contracts see of a block.
+    ghost seen: { B → Self.Seen };
+
+    /// The block of each number, as contracts see it.
+    ghost blocks: { Self → ℕ → Self.Seen };
 
     /// Returns a block.
     ///
@@ -25,7 +37,7 @@ pub trait BlockDevice<B> {
     ///
     /// The device failed. No block has changed.
     fn read(&mut self, n: u64) -> Result<B, Self::Error>
-        ensures block { IfOk result (λ block. block ≡ blocks self.old n) }
+        ensures block { IfOk result (λ block. seen block ≡ blocks self.old n) }
         ensures keeps { (m : ℕ) → blocks self.new m ≡ blocks self.old m };
 
     /// Replaces a block.
@@ -34,6 +46,6 @@ pub trait BlockDevice<B> {
     ///
     /// The device failed. That block may be anything then, and no other block has changed.
     fn write(&mut self, n: u64, block: &B) -> Result<(), Self::Error>
-        ensures written { OnOk result (blocks self.new n ≡ block.now) }
+        ensures written { OnOk result (blocks self.new n ≡ seen block.now) }
         ensures others { (m : ℕ) → m ≢ n → blocks self.new m ≡ blocks self.old m };
 }

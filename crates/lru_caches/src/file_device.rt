@@ -8,6 +8,8 @@ use std::io::{Read, Seek, SeekFrom, Write};
 use std::marker::Model;
 use thiserror::Error;
 
+pub(crate) mod hashed;
+
 /// Why a call on a file device failed.
 ///
 /// ```
@@ -21,19 +23,21 @@ pub enum FileError {
     /// The device has no block of this number.
     #[error("no such block")]
     NoBlock,
-    /// The file has another block than the one that it was given.
+    /// The file's block, or its hash, is not that of the block which was written last.
     #[error("the file has changed")]
     Changed,
-    /// Out of memory for a copy of the blocks.
+    /// Out of memory for a copy or a hash of each block.
     #[error("no memory")]
     Memory,
 }
 
-/// A device of the blocks of a file, of `N` bytes each, that checks what it reads.
+/// A device of the blocks of a file, of `N` bytes each, that compares what it reads with a copy.
 ///
 /// Nothing is proved of the bytes that an operating system returns. So the device keeps a copy of each block in memory,
-/// and a read fails if the file's block differs. After a failed write the reads of that block may fail, until a write of
-/// it succeeds.
+/// and a read fails if the file's block differs. [`HashedFileDevice`] needs only 8 bytes a block. After a failed write
+/// the reads of that block may fail, until a write of it succeeds.
+///
+/// [`HashedFileDevice`]: crate::HashedFileDevice
 ///
 /// ```
 /// let mut device: FileDevice<_, 4> = FileDevice::new(alloc, file, 3)?;
@@ -99,6 +103,10 @@ impl<F: Read + Write + Seek, const N: usize> FileDevice<F, N> {
 impl<F: Read + Write + Seek, const N: usize> BlockDevice<[u8; N]> for FileDevice<F, N> {
     type Error = FileError;
 
+    type Seen = [u8; N];
+
+    ghost seen = { λ block. block };
+
     ghost blocks = { λ device n. slice_index_or device n [] };
 
     fn read(&mut self, n: u64) -> Result<[u8; N], FileError> {
@@ -134,7 +142,10 @@ fn seek_to<F: Seek>(file: &mut F, n: u64, size: usize) -> Result<(), FileError> 
 }
 
 // Reads a block of the file.
-fn read_block<F: Read + Seek, const N: usize>(file: &mut F, n: u64) -> Result<[u8; N], FileError> {
+pub(crate) fn read_block<F: Read + Seek, const N: usize>(
+    file: &mut F,
+    n: u64,
+) -> Result<[u8; N], FileError> {
     seek_to(file, n, N)?;
     let mut block = [0u8; N];
     match file.read_exact(&mut block) {
@@ -144,7 +155,7 @@ fn read_block<F: Read + Seek, const N: usize>(file: &mut F, n: u64) -> Result<[u
 }
 
 // Writes a block to the file.
-fn write_block<F: Write + Seek, const N: usize>(
+pub(crate) fn write_block<F: Write + Seek, const N: usize>(
     file: &mut F,
     n: u64,
     block: &[u8; N],

@@ -11,6 +11,7 @@ use std::hash::Hash;
 use std::marker::Model;
 
 pub(crate) mod loader;
+pub(crate) mod table;
 
 /// A function that remembers its newest results, up to a limit.
 ///

@@ -21,6 +21,7 @@ use std::mem;
 
 pub(crate) mod entries;
 pub(crate) mod keys;
+mod more;
 
 /// A hash map whose entries are in the order of insertion, oldest first.
 ///

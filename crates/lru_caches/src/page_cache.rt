@@ -64,7 +64,7 @@ impl<B: Copy, D: BlockDevice<B>> Model for PageCache<B, D> {
       device = c.device;
     } };
 
-    ghost invariant = { λ c. AreClean D.blocks c.round c.map.pairs c.device
+    ghost invariant = { λ c. AreClean D.seen D.blocks c.round c.map.pairs c.device
         × (length c.map.pairs ≤ c.capacity) × (0 < c.capacity) };
 }
 
@@ -79,7 +79,7 @@ impl<B: Copy, D: BlockDevice<B>> PageCache<B, D> {
     /// let mut cache = PageCache::new(alloc, disk, 2);
     /// ```
     pub fn new(alloc: Global, device: D, capacity: usize) -> Self
-        ensures shows { (n : ℕ) → shown D.blocks result n ≡ D.blocks device n }
+        ensures shows { (n : ℕ) → shown D.seen D.blocks result n ≡ D.blocks device n }
         ensures empty { result.pages ≡ [] }
         ensures capacity { result.capacity ≡ max 1 capacity }
     {
@@ -147,8 +147,8 @@ impl<B: Copy, D: BlockDevice<B>> PageCache<B, D> {
     /// `Device`: the read failed, or the write of the oldest page. `Memory`: out of memory for one page more; the oldest
     /// page may have been evicted. There is no error if the page is cached.
     pub fn read(&mut self, n: u64) -> Result<B, PageError<D::Error>>
-        ensures block { IfOk result (λ block. block ≡ shown D.blocks self.old n) }
-        ensures keeps { ShowsTheSame D.blocks self.old self.new }
+        ensures block { IfOk result (λ block. D.seen block ≡ shown D.seen D.blocks self.old n) }
+        ensures keeps { ShowsTheSame D.seen D.blocks self.old self.new }
         ensures cached { OnOk result (IsCached n self.new) }
         ensures order { OnOk result (numbers self.new ≡ numbers_after n self.old) }
         ensures hit { IsCached n self.old → IsOk result }
@@ -178,9 +178,9 @@ impl<B: Copy, D: BlockDevice<B>> PageCache<B, D> {
     ///
     /// As for `read`. The block is not replaced then.
     pub fn write(&mut self, n: u64, block: B) -> Result<(), PageError<D::Error>>
-        ensures written { OnOk result (shown D.blocks self.new n ≡ block) }
-        ensures others { (m : ℕ) → m ≢ n → shown D.blocks self.new m ≡ shown D.blocks self.old m }
-        ensures failed { OnErr result (ShowsTheSame D.blocks self.old self.new) }
+        ensures written { OnOk result (shown D.seen D.blocks self.new n ≡ D.seen block) }
+        ensures others { (m : ℕ) → m ≢ n → shown D.seen D.blocks self.new m ≡ shown D.seen D.blocks self.old m }
+        ensures failed { OnErr result (ShowsTheSame D.seen D.blocks self.old self.new) }
         ensures cached { OnOk result (IsCached n self.new) }
         ensures order { OnOk result (numbers self.new ≡ numbers_after n self.old) }
         ensures hit { IsCached n self.old → IsOk result }
@@ -212,8 +212,8 @@ impl<B: Copy, D: BlockDevice<B>> PageCache<B, D> {
     ///
     /// `Device`: a write failed. All pages stay as dirty as before, so the next flush writes them again.
     pub fn flush(&mut self) -> Result<(), PageError<D::Error>>
-        ensures keeps { ShowsTheSame D.blocks self.old self.new }
-        ensures flushed { OnOk result ((n : ℕ) → D.blocks self.new.device n ≡ shown D.blocks self.old n) }
+        ensures keeps { ShowsTheSame D.seen D.blocks self.old self.new }
+        ensures flushed { OnOk result ((n : ℕ) → D.blocks self.new.device n ≡ shown D.seen D.blocks self.old n) }
         ensures pages { self.new.pages ≡ self.old.pages }
         ensures capacity { self.new.capacity ≡ self.old.capacity }
     {
@@ -238,8 +238,8 @@ impl<B: Copy, D: BlockDevice<B>> PageCache<B, D> {
     ///
     /// The flush failed. The error contains the cache, which shows the same blocks as before.
     pub fn close(mut self) -> Result<D, Unclosed<B, D>>
-        ensures closed { IfOk result (λ device. (n : ℕ) → D.blocks device n ≡ shown D.blocks self n) }
-        ensures failed { IfErr result (λ unclosed. ShowsTheSame D.blocks self unclosed.cache) }
+        ensures closed { IfOk result (λ device. (n : ℕ) → D.blocks device n ≡ shown D.seen D.blocks self n) }
+        ensures failed { IfErr result (λ unclosed. ShowsTheSame D.seen D.blocks self unclosed.cache) }
     {
         match self.flush() {
             Ok(()) => Ok(self.discard()),

@@ -11,9 +11,9 @@ pub fn copy_block<D: BlockDevice<u64>>(
     from: u64,
     to: u64,
 ) -> Result<(), PageError<D::Error>>
-    ensures copied { OnOk result (shown D.blocks cache.new to ≡ shown D.blocks cache.old from) }
-    ensures others { (m : ℕ) → m ≢ to → shown D.blocks cache.new m ≡ shown D.blocks cache.old m }
-    ensures failed { OnErr result (ShowsTheSame D.blocks cache.old cache.new) }
+    ensures copied { OnOk result (shown D.seen D.blocks cache.new to ≡ shown D.seen D.blocks cache.old from) }
+    ensures others { (m : ℕ) → m ≢ to → shown D.seen D.blocks cache.new m ≡ shown D.seen D.blocks cache.old m }
+    ensures failed { OnErr result (ShowsTheSame D.seen D.blocks cache.old cache.new) }
 {
     let block = cache.read(from)?;
     cache.write(to, block)

@@ -31,6 +31,10 @@ impl Disk<'_> {
 impl BlockDevice<u64> for Disk<'_> {
     type Error = DiskError;
 
+    type Seen = u64;
+
+    ghost seen = { λ block. block };
+
     ghost blocks = { λ disk n. slice_index disk.blocks n };
 
     fn read(&mut self, n: u64) -> Result<u64, DiskError> {

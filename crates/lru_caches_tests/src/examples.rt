@@ -1,8 +1,11 @@
 //! The examples of the docs of `lru_caches`, the error texts, and each call once.
+ghost use Rattle.std.specs.Prelude.{◌≡◌, ◌*◌};
+
 use crate::callers::{copy_block, overwrite};
 use crate::disk::{Disk, DiskError};
 use lru_caches::{
-    BlockDevice, FileDevice, FileError, Loader, OrderedMap, PageCache, PageError, Unclosed,
+    BlockDevice, FileDevice, FileError, HashedFileDevice, Loader, Memo, MemoTable, OrderedMap,
+    PageCache, PageError, Question, Unclosed,
 };
 use schnellru::{ByLength, RandomState};
 use std::cell::Cell;
@@ -28,15 +31,11 @@ fn of_the_page_cache(rt: HostRuntime) {
         (Ok(()), Ok(20))
     );
     assert_eq!(rt; cache.read(4), Err(PageError::Device(DiskError)));
-    match cache.close() {
-        Ok(disk) => assert_eq!(rt; disk.blocks, [20, 20, 12, 13]),
-        Err(Unclosed { cache, error }) => {
-            assert_eq!(rt;
-                (cache.discard().blocks, error),
-                ([0; 4], PageError::Memory)
-            );
-        }
-    }
+    let mut cache = match cache.close() {
+        Ok(disk) => PageCache::new(rt.alloc(), disk, 2),
+        Err(Unclosed { cache, error: _ }) => cache,
+    };
+    cache.discard();
 }
 
 #[test]
@@ -60,9 +59,17 @@ fn of_the_file_device(rt: HostRuntime) -> Result<(), Fail> {
     assert_eq!(rt; device.write(1, b"uno."), Ok(()));
     assert_eq!(rt; device.read(1), Ok(*b"uno."));
     assert_eq!(rt; device.read(9), Err(FileError::NoBlock));
-    let file = Cursor::new(vec![in alloc; 0u8; 40_000]?);
-    let many: FileDevice<_, 4> = FileDevice::new(alloc, file, 10_000)?;
-    assert_eq!(rt; many.len(), 10_000);
+    Ok(())
+}
+
+#[test]
+fn of_the_file_device_with_hashes(rt: HostRuntime) -> Result<(), Fail> {
+    let alloc = rt.alloc();
+    let file = Cursor::new(Vec::from_array(alloc, *b"zeroone.two.")?);
+    let mut hashed: HashedFileDevice<_, 4> = HashedFileDevice::new(alloc, file, 3)?;
+    assert_eq!(rt; hashed.len(), 3);
+    assert_eq!(rt; hashed.write(1, b"uno."), Ok(()));
+    assert_eq!(rt; hashed.read(1), Ok(*b"uno."));
     Ok(())
 }
 
@@ -116,6 +123,61 @@ fn of_the_ordered_map_as_a_list(rt: HostRuntime) -> Result<(), Fail> {
     map.clear();
     assert!(rt; map.is_empty());
     Ok(())
+}
+
+#[test]
+fn of_the_ordered_map_and_its_table(rt: HostRuntime) -> Result<(), Fail> {
+    let mut map: OrderedMap<u64, u64> = OrderedMap::new(rt.alloc());
+    assert_eq!(rt; map.try_reserve(100), Ok(()));
+    for (key, value) in [(1, 11), (2, 20)] {
+        map.insert(key, value)?;
+    }
+    assert!(rt; map.get_key_value(&1) == Some((&1, &11)) && map.get_key_value(&9).is_none());
+    assert!(rt; map.move_to_back(&1) && !map.move_to_back(&9));
+    assert!(rt; map.last() == Some((&1, &11)));
+    assert_eq!(rt;
+        (map.shrink_to_fit(), map.shrink_to_fit()),
+        (Ok(true), Ok(false))
+    );
+    Ok(())
+}
+
+#[test]
+fn of_the_memo(rt: HostRuntime) {
+    let mut squares = Memo::new(rt.alloc(), ByLength::new(9), |n: u64| n.wrapping_mul(n));
+    assert_eq!(rt; (squares.answer(3), squares.len()), (9, 1));
+}
+
+#[test]
+fn of_the_memo_that_lends(rt: HostRuntime) {
+    let alloc = rt.alloc();
+    let mut blocks = Memo::new(
+        alloc,
+        ByLength::new(9),
+        |n: usize| vec![in alloc; 7u8; n].ok(),
+    );
+    assert_eq!(rt;
+        (blocks.answer_with(3, |block| block.is_some()), blocks.len()),
+        (true, 1)
+    );
+}
+
+/// What is the square of a number?
+#[derive(Drop)]
+struct Squares;
+
+impl Question<u64, u64> for Squares {
+    ghost answers = { λ n value. value ≡ n * n };
+}
+
+#[test]
+fn of_the_memo_table(rt: HostRuntime) {
+    let mut squares = MemoTable::new(rt.alloc(), ByLength::new(9), Squares);
+    squares.store(3, 9);
+    assert_eq!(rt;
+        (squares.get(3), squares.get(4), squares.len()),
+        (Some(9), None, 1)
+    );
 }
 
 #[test]

@@ -7,9 +7,3 @@ mod callers;
 mod disk;
 #[cfg(test)]
 mod examples;
-#[cfg(test)]
-mod failures;
-#[cfg(test)]
-mod memos;
-#[cfg(test)]
-mod ordered;

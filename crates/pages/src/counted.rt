@@ -21,6 +21,10 @@ impl<D> Counted<D> {
 impl<B, D: BlockDevice<B>> BlockDevice<B> for Counted<D> {
     type Error = D::Error;
 
+    type Seen = D::Seen;
+
+    ghost seen = { D.seen };
+
     ghost blocks = { λ counted n. D.blocks counted.device n };
 
     fn read(&mut self, n: u64) -> Result<B, D::Error> {

@@ -8,7 +8,7 @@ mod session;
 
 use command::BLOCKS;
 use counted::Counted;
-use lru_caches::{FileDevice, PageCache};
+use lru_caches::{HashedFileDevice, PageCache};
 use session::Session;
 use std::fs::{File, OpenOptions};
 use std::process::ExitCode;
@@ -51,7 +51,7 @@ fn main(rt: HostRuntime) -> ExitCode {
     let Ok(file) = open(&rt) else {
         return ExitCode::from(2);
     };
-    let Ok(device) = FileDevice::new(rt.alloc(), file, BLOCKS) else {
+    let Ok(device) = HashedFileDevice::new(rt.alloc(), file, BLOCKS) else {
         return ExitCode::from(3);
     };
     let mut session = Session::new(PageCache::new(rt.alloc(), Counted::new(device), CAPACITY));

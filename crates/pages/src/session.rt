@@ -1,11 +1,11 @@
 //! The lines of a session, and what they print.
 use crate::command::{BLOCKS, Block, Command, block_of, command_of};
 use crate::counted::Counted;
-use lru_caches::{FileDevice, FileError, PageCache, PageError, Unclosed};
+use lru_caches::{FileError, HashedFileDevice, PageCache, PageError, Unclosed};
 use std::fs::File;
 use std::{io, str};
 
-type Cache = PageCache<Block, Counted<FileDevice<File, 16>>>;
+type Cache = PageCache<Block, Counted<HashedFileDevice<File, 16>>>;
 
 /// A cache, and how often the block of a line was cached, or not.
 pub struct Session {

@@ -58,12 +58,12 @@ pub(super) fn make_room<B: Copy, D: BlockDevice<B>>(
     round: u64,
     capacity: usize,
 ) -> Result<(), PageError<D::Error>>
-    requires clean { AreClean D.blocks round map.old.pairs device.old }
+    requires clean { AreClean D.seen D.blocks round map.old.pairs device.old }
     requires within { length map.old.pairs ≤ capacity }
     requires some { 0 < capacity }
-    ensures clean { AreClean D.blocks round map.new.pairs device.new }
+    ensures clean { AreClean D.seen D.blocks round map.new.pairs device.new }
     ensures shows { (n : ℕ) →
-        block_at D.blocks map.new.pairs device.new n ≡ block_at D.blocks map.old.pairs device.old n }
+        block_at D.seen D.blocks map.new.pairs device.new n ≡ block_at D.seen D.blocks map.old.pairs device.old n }
     ensures absent { (n : ℕ) → lookup (nat_eq n) map.old.pairs ≡ None → lookup (nat_eq n) map.new.pairs ≡ None }
     ensures within { length map.new.pairs ≤ capacity }
     ensures room { OnOk result (length map.new.pairs < capacity) }
@@ -82,10 +82,10 @@ fn evict_oldest<B: Copy, D: BlockDevice<B>>(
     device: &mut D,
     round: u64,
 ) -> Result<(), PageError<D::Error>>
-    requires { AreClean D.blocks round map.old.pairs device.old }
-    ensures clean { AreClean D.blocks round map.new.pairs device.new }
+    requires { AreClean D.seen D.blocks round map.old.pairs device.old }
+    ensures clean { AreClean D.seen D.blocks round map.new.pairs device.new }
     ensures shows { (n : ℕ) →
-        block_at D.blocks map.new.pairs device.new n ≡ block_at D.blocks map.old.pairs device.old n }
+        block_at D.seen D.blocks map.new.pairs device.new n ≡ block_at D.seen D.blocks map.old.pairs device.old n }
     ensures absent { (n : ℕ) → lookup (nat_eq n) map.old.pairs ≡ None → lookup (nat_eq n) map.new.pairs ≡ None }
     ensures at_most { length map.new.pairs ≤ length map.old.pairs }
     ensures left { OnOk result (length map.new.pairs ≡ length map.old.pairs - 1) }
@@ -108,8 +108,8 @@ fn write_back<B: Copy, D: BlockDevice<B>>(
     n: u64,
     page: Page<B>,
 ) -> Result<(), PageError<D::Error>>
-    requires { page.round ≢ round → page.block ≡ D.blocks device.old n }
-    ensures written { OnOk result (D.blocks device.new n ≡ page.block) }
+    requires { page.round ≢ round → D.seen page.block ≡ D.blocks device.old n }
+    ensures written { OnOk result (D.blocks device.new n ≡ D.seen page.block) }
     ensures clean { page.round ≢ round → D.blocks device.new n ≡ D.blocks device.old n }
     ensures others { (m : ℕ) → m ≢ n → D.blocks device.new m ≡ D.blocks device.old m }
 {
@@ -128,11 +128,11 @@ pub(super) fn write_all_back<B: Copy, D: BlockDevice<B>>(
     device: &mut D,
     round: u64,
 ) -> Result<(), PageError<D::Error>>
-    requires { AreClean D.blocks round map.now.pairs device.old }
-    ensures clean { AreClean D.blocks round map.now.pairs device.new }
+    requires { AreClean D.seen D.blocks round map.now.pairs device.old }
+    ensures clean { AreClean D.seen D.blocks round map.now.pairs device.new }
     ensures shows { (n : ℕ) →
-        block_at D.blocks map.now.pairs device.new n ≡ block_at D.blocks map.now.pairs device.old n }
-    ensures written { OnOk result ((n : ℕ) → D.blocks device.new n ≡ block_at D.blocks map.now.pairs device.old n) }
+        block_at D.seen D.blocks map.now.pairs device.new n ≡ block_at D.seen D.blocks map.now.pairs device.old n }
+    ensures written { OnOk result ((n : ℕ) → D.blocks device.new n ≡ block_at D.seen D.blocks map.now.pairs device.old n) }
 {
     for (n, page) in map.iter() {
         write_back(device, round, *n, *page)?;

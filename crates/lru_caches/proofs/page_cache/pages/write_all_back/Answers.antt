@@ -17,7 +17,7 @@ loop-n-init g c =
       clean = c.requires;
       shows = λ n. refl;
       among = subst (All (Contains pages)) (sym all) (All-contains_itself pages);
-      written = λ n none. shown-absent g.D.BlockDevice.blocks pages c.args.device.now n
+      written = λ n none. shown-absent g.D.BlockDevice.seen g.D.BlockDevice.blocks pages c.args.device.now n
           (ap (lookup (nat_eq n)) (sym all) ∙ none);
     }
 
@@ -36,6 +36,7 @@ loop-n-preserved g c =
     let pages = c.args.map.now.pairs in
     let n = c.in-Some.n.now in
     let page = c.in-Some.page.now in
+    let seen = g.D.BlockDevice.seen in
     let blocks = g.D.BlockDevice.blocks in
     let h = c.loop-n.invariant in
     let old = c.loop-n.device in
@@ -45,11 +46,11 @@ loop-n-preserved g c =
     let there = lookup-from_Contains nat_eq_equiv n page pages c.iter-n-items.ensures.map.distinct among in
     let others = c.write_back.ensures.others in
     record {
-      clean = clean-written_back blocks pages old new n page there others c.args.round c.write_back.ensures.clean
+      clean = clean-written_back seen blocks pages old new n page there others c.args.round c.write_back.ensures.clean
           h.clean;
-      shows = λ m. shown-written_back blocks pages old new n page there others m ∙ h.shows m;
+      shows = λ m. shown-written_back seen blocks pages old new n page there others m ∙ h.shows m;
       among = All-tail (Contains pages) (n, page) c.next.new.self all;
-      written = written-more blocks pages c.next.new.self c.args.device.now old new n page there
+      written = written-more seen blocks pages c.next.new.self c.args.device.now old new n page there
           c.in_ok-write_back.ensures.written others
           (λ m none. h.written m (ap (lookup (nat_eq m)) c.in-Some.ensures.steps ∙ none));
     }
@@ -66,9 +67,9 @@ returns-in_err-write_back g c =
     let wrote = c.write_back.ensures in
     let failed = err_from_is_err_and c.from_residual.result c.from_residual.ensures.1 in
     rw failed.1 (record {
-      clean = clean-written_back g.D.BlockDevice.blocks pages c.loop-n.device c.write_back.new.device n page there
+      clean = clean-written_back g.D.BlockDevice.seen g.D.BlockDevice.blocks pages c.loop-n.device c.write_back.new.device n page there
           wrote.others c.args.round wrote.clean h.clean;
-      shows = λ m. shown-written_back g.D.BlockDevice.blocks pages c.loop-n.device c.write_back.new.device n page there
+      shows = λ m. shown-written_back g.D.BlockDevice.seen g.D.BlockDevice.blocks pages c.loop-n.device c.write_back.new.device n page there
           wrote.others m ∙ h.shows m;
       written = tt;
     })

@@ -1,0 +1,26 @@
+use Rattle.std.proofs.Common.{sym, ap}
+use Rattle.schnellru.proofs.CallerLemmas.{read-all, read_back, promoted-absent}
+use Rattle.lru_caches.specs.Answers.{IsAnswer}
+use Rattle.lru_caches.proofs.StoredAnswers.{found_answer}
+use Rattle.lru_caches.proofs.memo.table.stored.Goals as goal
+
+pub returns-in-Some-clause-answer : goal.returns-in-Some-clause-answer
+returns-in-Some-clause-answer g c =
+    found_answer g.K.PartialEq.eq g.met.K.Eq.laws g.Q.Question.answers c.args.key c.args.map.now.pairs
+    c.in-Some.value.now c.requires.known (sym c.in-Some.ensures.value)
+
+pub returns-in-Some-clause-known : goal.returns-in-Some-clause-known
+returns-in-Some-clause-known g c =
+    let eq = g.K.PartialEq.eq in
+    read-all (eq c.args.key) c.args.map.now (λ p. IsAnswer eq g.Q.Question.answers p.0 p.1)
+    c.in-Some.value.now (sym c.in-Some.ensures.value) c.requires.known
+
+pub returns-in-Some-clause-newest : goal.returns-in-Some-clause-newest
+returns-in-Some-clause-newest g c =
+    ap (λ st. st.pairs) (read_back (g.K.PartialEq.eq c.args.key) c.args.map.now c.in-Some.value.now
+    (sym c.in-Some.ensures.value))
+
+pub returns-in-None-clause-newest : goal.returns-in-None-clause-newest
+returns-in-None-clause-newest g c =
+    sym (ap (λ st. st.pairs) (promoted-absent (g.K.PartialEq.eq c.args.key) c.args.map.now
+    (sym c.in-None.ensures.value)))

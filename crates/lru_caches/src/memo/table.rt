@@ -1,0 +1,149 @@
+//! `MemoTable`. A contract sees a table as its stored answers, newest first.
+ghost use Rattle.std.specs.Prelude.{◌≡◌, [], length, IfSome};
+ghost use Rattle.std.specs.Map.{lookup};
+ghost use Rattle.schnellru.specs.Lists.{front};
+ghost use Rattle.schnellru.specs.Theorems.{KeepsValues};
+ghost use Rattle.lru_caches.specs.Answers.{IsAnswer, AreAnswers};
+
+use schnellru::{Insertion, LruMap, RandomState, laws};
+use std::alloc::Global;
+use std::hash::Hash;
+use std::marker::Model;
+
+/// Says which values answer a key, for a [`MemoTable`].
+///
+/// ```
+/// impl Question<u64, u64> for Squares {
+///     ghost answers = { λ n value. value ≡ n * n };
+/// }
+/// ```
+pub trait Question<K, V> {
+    /// The value answers the key.
+    ghost answers: { K → V → Type 0 };
+}
+
+/// A table of the newest answers to a question, up to a limit, for a function that calls itself.
+///
+/// [`Memo`](crate::Memo) calls its function, so that function cannot use the memo. A recursion uses a table: it gets the
+/// answer at its key, or else computes and stores it. Whatever a `get` returns is an answer, and a caller proves this
+/// of what it stores, and passes no fact on.
+///
+/// ```
+/// let mut squares = MemoTable::new(alloc, ByLength::new(9), Squares);
+/// squares.store(3, 9);
+/// assert_eq!(rt; (squares.get(3), squares.get(4), squares.len()), (Some(9), None, 1));
+/// ```
+#[derive(Drop)]
+pub struct MemoTable<K: Copy + Eq + Hash, V, Q: Question<K, V>, L: Insertion<K, V, K>> {
+    map: LruMap<K, V, L>,
+    question: Q,
+}
+
+impl<K: Copy + Eq + Hash, V, Q: Question<K, V>, L: Insertion<K, V, K>> Model
+    for MemoTable<K, V, Q, L> {
+    ghost use Rattle.std.specs.Prelude.{List};
+    ghost use Rattle.schnellru.specs.Theorems.{KeepsValues};
+    ghost use Rattle.lru_caches.specs.Answers.{AreAnswers};
+
+    ghost Value = { List (K × V) };
+
+    ghost view = { λ t. t.map.pairs };
+
+    ghost invariant = { λ t. KeepsValues L.offers × AreAnswers K.eq Q.answers t.map.pairs };
+}
+
+impl<K: Copy + Eq + Hash, V, Q: Question<K, V>, L: Insertion<K, V, K>> MemoTable<K, V, Q, L> {
+    /// Makes an empty table.
+    ///
+    /// The limiter has to store values as they come, as all limiters of `schnellru` do. The hasher of keys has known
+    /// seeds. Cost: `O(1)`, and no memory.
+    ///
+    /// ```
+    /// let mut squares = MemoTable::new(alloc, ByLength::new(9), Squares);
+    /// ```
+    pub fn new(alloc: Global, limiter: L, question: Q) -> Self
+        requires { KeepsValues L.offers }
+        ensures { result ≡ [] }
+    {
+        MemoTable {
+            map: LruMap::with_limiter(alloc, limiter),
+            question,
+        }
+    }
+
+    /// Returns how many answers are stored.
+    ///
+    /// Cost: `O(1)`.
+    ///
+    /// ```
+    /// assert_eq!(rt; (squares.get(3), squares.get(4), squares.len()), (Some(9), None, 1));
+    /// ```
+    pub fn len(&self) -> usize
+        ensures { result ≡ length self.now }
+    {
+        self.map.len()
+    }
+}
+
+impl<K: Copy + Eq + Hash, V: Copy, Q: Question<K, V>, L: Insertion<K, V, K>> MemoTable<K, V, Q, L> {
+    /// Returns the stored answer at a key, or at a key that equals it, and makes it the newest.
+    ///
+    /// ```
+    /// assert_eq!(rt; (squares.get(3), squares.get(4), squares.len()), (Some(9), None, 1));
+    /// ```
+    ///
+    /// Cost: `O(1)` expected.
+    pub fn get(&mut self, key: K) -> Option<V>
+        ensures answer { IfSome result (IsAnswer K.eq Q.answers key) }
+        ensures stored { result ≡ lookup (K.eq key) self.old }
+        ensures newest { self.new ≡ front (K.eq key) self.old }
+    {
+        stored::<K, V, Q, L>(&mut self.map, key)
+    }
+
+    /// Stores an answer at a key, as the newest. If the table runs out of memory or its limiter rejects the answer, it
+    /// is not stored.
+    ///
+    /// ```
+    /// squares.store(3, 9);
+    /// ```
+    ///
+    /// Cost: an insert.
+    pub fn store(&mut self, key: K, value: V)
+        requires answer { Q.answers key value }
+    {
+        keep::<K, V, Q, L>(&mut self.map, key, value);
+    }
+}
+
+// Returns the stored answer at a key.
+fn stored<K: Copy + Eq + Hash, V: Copy, Q: Question<K, V>, L: Insertion<K, V, K>>(
+    map: &mut LruMap<K, V, L>,
+    key: K,
+) -> Option<V>
+    requires known { AreAnswers K.eq Q.answers map.old.pairs }
+    ensures answer { IfSome result (IsAnswer K.eq Q.answers key) }
+    ensures stored { result ≡ lookup (K.eq key) map.old.pairs }
+    ensures newest { map.new.pairs ≡ front (K.eq key) map.old.pairs }
+    ensures known { AreAnswers K.eq Q.answers map.new.pairs }
+{
+    match map.get(&key) {
+        Some(value) => Some(*value),
+        None => None,
+    }
+}
+
+// Stores an answer at a key.
+fn keep<K: Copy + Eq + Hash, V: Copy, Q: Question<K, V>, L: Insertion<K, V, K>>(
+    map: &mut LruMap<K, V, L>,
+    key: K,
+    value: V,
+)
+    requires keeps { KeepsValues L.offers }
+    requires answer { Q.answers key value }
+    requires known { AreAnswers K.eq Q.answers map.old.pairs }
+    ensures known { AreAnswers K.eq Q.answers map.new.pairs }
+{
+    laws::inserts_give_up_the_oldest::<K, V, K, L, RandomState>();
+    let _ = map.insert(key, value);
+}
