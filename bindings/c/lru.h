@@ -167,7 +167,8 @@ bool lru_shrink(struct lru *lru);
 /* A handle of a map from byte strings to byte strings: the address of a map on the heap, or null. Begin with LRU_NONE.
  *
  * Each call copies bytes in or out, so a caller never holds a pointer into the map. A key or a value may have length 0,
- * and may contain any bytes. Only lru_bytes_new and lru_bytes_put take memory. */
+ * and may contain any bytes. Only lru_bytes_new, lru_bytes_put and
+ * lru_bytes_clone take memory. */
 struct lru_bytes {
     void *map;
 };
@@ -182,7 +183,7 @@ struct lru_value {
     bool found;
 };
 
-/* The oldest entry, if `found`. Otherwise the lengths are 0. */
+/* An entry, if `found`. Otherwise the lengths are 0. */
 struct lru_popped {
     size_t key_len;
     size_t value_len;
@@ -229,6 +230,21 @@ bool lru_bytes_remove(struct lru_bytes *lru, const uint8_t *key, size_t key_len)
 struct lru_popped lru_bytes_pop_oldest(struct lru_bytes *lru, uint8_t *key, size_t key_size, uint8_t *value,
                                        size_t value_size);
 
+/* Copies the key and the value of the oldest entry to the fronts of `key` and `value`, if both fit, as
+ * lru_bytes_pop_oldest does. Returns both lengths, and `removed` is false. Nothing changes in the map. */
+struct lru_popped lru_bytes_peek_oldest(struct lru_bytes *lru, uint8_t *key, size_t key_size, uint8_t *value,
+                                        size_t value_size);
+
+/* The same for the entry at this index in the order of use, counted from 0, the newest. It takes a step for each entry
+ * before the index: to go over a large map, make a copy with lru_bytes_clone, and pop from it. */
+struct lru_popped lru_bytes_peek_at(struct lru_bytes *lru, size_t index, uint8_t *key, size_t key_size, uint8_t *value,
+                                    size_t value_size);
+
+/* Makes `copy` a copy of the map: entries with the same bytes in the same order, budget, seeds and capacity. Returns
+ * whether there was a map, and memory for the copy. A map that `copy` had is dropped in either case; `lru` stays as it
+ * is. `copy` is another handle than `lru`. */
+bool lru_bytes_clone(struct lru_bytes *lru, struct lru_bytes *copy);
+
 /* Returns the number of entries. */
 size_t lru_bytes_len(struct lru_bytes *lru);
 
@@ -237,6 +253,10 @@ uint64_t lru_bytes_cost(struct lru_bytes *lru);
 
 /* Returns the budget. */
 uint64_t lru_bytes_budget(struct lru_bytes *lru);
+
+/* Sets the budget, and evicts the oldest entries while the entries together weigh more. To see them, call
+ * lru_bytes_pop_oldest before. */
+void lru_bytes_set_budget(struct lru_bytes *lru, uint64_t budget);
 
 /* Removes all entries. The map keeps the memory of its table. */
 void lru_bytes_clear(struct lru_bytes *lru);

@@ -149,8 +149,25 @@ extern "C" {
         value: *mut u8,
         value_size: usize,
     ) -> Popped;
+    pub(crate) fn lru_bytes_peek_oldest(
+        lru: *mut BytesHandle,
+        key: *mut u8,
+        key_size: usize,
+        value: *mut u8,
+        value_size: usize,
+    ) -> Popped;
+    pub(crate) fn lru_bytes_peek_at(
+        lru: *mut BytesHandle,
+        index: usize,
+        key: *mut u8,
+        key_size: usize,
+        value: *mut u8,
+        value_size: usize,
+    ) -> Popped;
+    pub(crate) fn lru_bytes_clone(lru: *mut BytesHandle, copy: *mut BytesHandle) -> bool;
     pub(crate) fn lru_bytes_len(lru: *mut BytesHandle) -> usize;
     pub(crate) fn lru_bytes_cost(lru: *mut BytesHandle) -> u64;
     pub(crate) fn lru_bytes_budget(lru: *mut BytesHandle) -> u64;
+    pub(crate) fn lru_bytes_set_budget(lru: *mut BytesHandle, budget: u64);
     pub(crate) fn lru_bytes_clear(lru: *mut BytesHandle);
 }
