@@ -39,7 +39,7 @@ extern "C" {
 
 /* The version of these functions and structs. Compare it with lru_abi_version() if the library is not built with the
  * program. It rises with each change of them. */
-#define LRU_ABI_VERSION 2u
+#define LRU_ABI_VERSION 3u
 uint32_t lru_abi_version(void);
 
 /* A handle: the address of a map on the heap, or null. Begin with LRU_NONE. */
@@ -62,7 +62,7 @@ struct lru_pair {
     bool found;
 };
 
-/* An entry, as lru_copy_newest writes it. */
+/* An entry, as lru_insert and lru_copy_newest write it. */
 struct lru_entry {
     uint64_t key;
     uint64_t value;
@@ -70,16 +70,13 @@ struct lru_entry {
 
 /* What an insert did. */
 struct lru_inserted {
-    uint64_t evicted_key;   /* the oldest entry, if `evicted`; otherwise 0 (tested) */
-    uint64_t evicted_value;
-    uint64_t old_value;     /* the old value of the key, if `replaced`; otherwise 0 (tested) */
-    bool evicted;           /* whether the oldest entry was evicted to make room */
-    bool replaced;          /* whether the key was there */
-    bool kept;              /* whether the key is in the map now */
-    bool failed;            /* whether the map ran out of memory; then the key is not there */
+    uint64_t old_value; /* the old value of the key, if `replaced`; otherwise 0 (tested) */
+    uint32_t code;      /* LRU_STORED, or why the key is not there: one of the codes below */
+    bool replaced;      /* whether the key was there */
+    bool evicted;       /* whether the oldest entry was evicted to make room */
 };
 
-/* What lru_put and lru_bytes_put return. */
+/* What lru_insert, lru_put and lru_bytes_put return. */
 #define LRU_STORED 0u        /* the key is there, and has the value */
 #define LRU_REJECTED 1u      /* the key is not there: no such entry fits the maximum length or the budget */
 #define LRU_OUT_OF_MEMORY 2u /* there was no memory */
@@ -99,15 +96,15 @@ void lru_free(struct lru *lru);
 bool lru_clone(struct lru *lru, struct lru *copy);
 
 /* Inserts a key with a value, as the newest entry. A key that is there gets the new value, and the old one is
- * returned. If the map is full, the oldest entry is evicted first, and returned. One insert evicts at most one
- * entry, unless max_length is above 939,524,096 (tested). If the map runs out of memory, `failed` is set, and the
- * key, which was new, is not there; an evicted entry would have been evicted by a successful insert too. If
- * max_length is 0, nothing is inserted, and nothing has failed. */
-struct lru_inserted lru_insert(struct lru *lru, uint64_t key, uint64_t value);
+ * returned. If the map is full, the oldest entry is evicted first, and written to `*evicted`, which otherwise stays as
+ * it is. One insert evicts at most one entry, unless max_length is above 939,524,096 (tested).
+ *
+ * LRU_OUT_OF_MEMORY: the key was new, and is not there; an evicted entry would have been evicted by a successful insert
+ * too. LRU_REJECTED: max_length is 0. */
+struct lru_inserted lru_insert(struct lru *lru, uint64_t key, uint64_t value, struct lru_entry *evicted);
 
-/* The same as lru_insert, but returns only LRU_STORED, LRU_REJECTED if max_length is 0, LRU_OUT_OF_MEMORY, or
- * LRU_NO_MAP. It costs less. Do not call it if you own what the values point to: nothing says which entry was
- * evicted. */
+/* The same as lru_insert, but returns the code alone. Do not call it if you own what the values point to: nothing says
+ * which entry was evicted. */
 uint32_t lru_put(struct lru *lru, uint64_t key, uint64_t value);
 
 /* Returns the value of a key, and makes its entry the newest. */

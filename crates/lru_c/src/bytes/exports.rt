@@ -53,7 +53,7 @@ pub extern "C" fn lru_bytes_new(
 pub extern "C" fn lru_bytes_free(alloc: Global, lru: &mut LruBytes)
     ensures { lru.new.map ≡ None }
 {
-    lru.take(alloc);
+    drop(lru.take(alloc));
 }
 
 /// Inserts a copy of the value under a copy of the key, as the newest entry, and evicts the oldest entries while the map

@@ -7,10 +7,8 @@ use Rattle.lru_c.proofs.calls.insert_and_note.Goals as goal
 pub returns-clause-handed : goal.returns-clause-handed
 returns-clause-handed c =
     let (handed, takes, step) = c.insert_full.ensures.handed in
-    let notes = noted_first (λ f. f.1.now) (λ f. f.0) _
-    (λ f pair g called. record { key = search rules; notes = record { place = search rules; pair = search rules } })
-    c.args.key handed _ _ takes refl c.requires in
-    (handed, search (rules, notes.place, notes.pair), step)
+    let notes = noted_first held _ (λ f pair g called. one_note f pair g called) handed _ _ takes (search rules) in
+    (handed, search (rules, notes.pair, notes.noted, notes.place), step)
 
 if_ok : {T E : Type 0} {P Q : T → Type 0} (result : Result T E) → ((value : T) → P value → Q value) → IfOk result P
     → IfOk result Q
