@@ -16,11 +16,11 @@ abbrev pub pair_of : Held → Option (ℕ × ℕ)
 pair_of h = noted_pair h.noted.now h.place.now
 
 -- the callback holds the same places as before, and this pair was noted; without a pair the place was left alone
-pub record Notes (old new : Held) (pair : Option (ℕ × ℕ)) : Type 0 where
+pub record Notes (old new : Held) (now : Option (ℕ × ℕ)) : Type 0 where
   pub key : new.key ≡ old.key
   pub noted : new.noted.ghost_name ≡ old.noted.ghost_name
   pub place : new.place.ghost_name ≡ old.place.ghost_name
-  pub pair : pair_of new ≡ pair
+  pub pair : pair_of new ≡ now
   pub untouched : new.noted.now ≡ false → (old.noted.now ≡ false) × (new.place.now ≡ old.place.now)
 
 -- what is noted after all of these

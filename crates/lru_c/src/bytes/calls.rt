@@ -120,10 +120,10 @@ pub fn pop_oldest(map: &mut BytesMap, key: &mut [u8], value: &mut [u8]) -> Poppe
 }
 
 /// Copies an entry to the front of the buffers, if both parts fit. Returns its lengths.
-pub fn show(entry: Option<(&Vec<u8>, &Vec<u8>)>, key: &mut [u8], value: &mut [u8]) -> Popped
-    ensures { Shows (option_map deref_pair entry) result key.old key.new value.old value.new }
+pub fn show(pair: Option<(&Vec<u8>, &Vec<u8>)>, key: &mut [u8], value: &mut [u8]) -> Popped
+    ensures { Shows (option_map deref_pair pair.entry) result key.old key.new value.old value.new }
 {
-    let Some((own_key, own_value)) = entry else {
+    let Some((own_key, own_value)) = pair else {
         return nothing_popped();
     };
     let (key_len, value_len) = (own_key.as_slice().len(), own_value.as_slice().len());

@@ -1,4 +1,4 @@
-use Rattle.std.proofs.Common.{sym, ◌∙◌, ap, Ok, Err}
+use Rattle.std.proofs.Common.{rules, sym, ◌∙◌, Ok, Err}
 use Rattle.lru_c.proofs.calls.insert.Goals as goal
 
 pub returns-in-Ok : goal.returns-in-Ok
