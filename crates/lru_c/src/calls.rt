@@ -9,7 +9,8 @@ ghost use Rattle.lru_c.specs.Answers.{found_value, found_pair, noted_pair, fille
 ghost use Rattle.lru_c.specs.Handle.{hash_of};
 
 use crate::answers::{
-    Entry, Found, Inserted, OUT_OF_MEMORY, Pair, as_code, as_found, as_inserted, as_pair, note_other,
+    Entry, Found, Inserted, OUT_OF_MEMORY, Pair, as_code, as_found, as_inserted, as_pair,
+    note_other,
 };
 use crate::handle::Map;
 use std::alloc::{AllocError, Global};

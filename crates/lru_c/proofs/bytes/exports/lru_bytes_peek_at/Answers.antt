@@ -1,4 +1,4 @@
-use Rattle.std.proofs.Common.{rules, refl, subst}
+use Rattle.std.proofs.Common.{rules, refl}
 use Rattle.lru_c.specs.Answers.{within}
 use Rattle.lru_c.proofs.bytes.exports.lru_bytes_peek_at.Goals as goal
 
