@@ -158,7 +158,7 @@ fn load(which: usize, n: u64, count: u64) -> (u32, bool, Vec<(u8, u64)>) {
 // All that is timed or counted. It is not mangled, so that valgrind can find it.
 #[no_mangle]
 #[inline(never)]
-extern "C" fn one_run(map: usize, length: u32, kinds: &[u8], keys: &[u64]) -> u64 {
+pub fn one_run(map: usize, length: u32, kinds: &[u8], keys: &[u64]) -> u64 {
     match map {
         0 => run::<schnellru::LruMap<u64, u64>>(length, kinds, keys),
         1 => run::<Library<false>>(length, kinds, keys),

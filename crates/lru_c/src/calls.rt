@@ -63,7 +63,10 @@ pub fn get(map: &mut Map, key: u64) -> Found
 pub fn peek(map: &Map, key: u64) -> Found
     ensures { found_value result ≡ lookup (nat_eq key) map.now.pairs }
 {
-    as_found(map.peek(&key).copied())
+    match map.peek(&key) {
+        Some(value) => as_found(Some(*value)),
+        None => as_found(None),
+    }
 }
 
 /// Removes the entry of a key, and returns its value.
