@@ -13,7 +13,8 @@
  * - A handle is LRU_NONE, or what the last call left in it. Nothing writes its field, and no copy of a handle is
  *   used besides it. A handle may be moved, as by memcpy, if the old place is not used any more.
  * - No pointer is null, even if its length is 0. A handle is writable and aligned. A pointer with a length points to
- *   that number of elements, which have been written before. What a call writes overlaps nothing else of the call.
+ *   that number of elements. What a pointer points to has been written before, as by an initializer, also if the call
+ *   only writes it. What a call writes overlaps nothing else of the call.
  * - There is one call on a handle at a time, and the calls on a handle come from one thread.
  * - No call comes from a signal handler, or from the forked child of a process with threads.
  * - malloc, realloc and free belong together, and align a block of n bytes to each power of two up to 16 that
