@@ -187,8 +187,7 @@ fn main() {
         let sum = black_box(one_run(map as usize, length, kinds, keys));
         (start.elapsed().as_secs_f64(), sum)
     };
-    let fill = before as usize;
-    let (mut best, mut sum) = ((f64::MAX, f64::MAX), 0);
+    let (mut best, mut sum, fill) = ((f64::MAX, f64::MAX), 0, before as usize);
     for _ in 0..rounds {
         best.0 = best.0.min(time(&kinds[..fill], &keys[..fill]).0);
         let (whole, result) = time(&kinds, &keys);
@@ -198,6 +197,6 @@ fn main() {
         sum = time(&kinds, &keys).1;
     }
     let taken = if filled { best.1 - best.0 } else { best.1 };
-    let name = LOADS[which as usize];
-    println!("{:.3} {} {sum} {name}", taken.max(1e-9) * 1e9 / calls.len().max(1) as f64, calls.len());
+    let each = taken.max(1e-9) * 1e9 / calls.len().max(1) as f64;
+    println!("{each:.3} {} {sum} {}", calls.len(), LOADS[which as usize]);
 }
