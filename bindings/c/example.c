@@ -9,15 +9,16 @@ static const uint64_t seeds[4] = {1, 2, 3, 4};
 static bool cache_squares(void) {
     struct lru squares = LRU_NONE;
     if (!lru_new(&squares, 2, seeds)) return false;
-    lru_insert(&squares, 3, 9);
-    lru_insert(&squares, 4, 16);
+    lru_put(&squares, 3, 9);
+    lru_put(&squares, 4, 16);
     lru_get(&squares, 3); /* 3 is now the most recently used */
-    struct lru_inserted inserted = lru_insert(&squares, 5, 25);
-    if (inserted.evicted) printf("evicted %" PRIu64 "\n", inserted.evicted_key);
+    struct lru_entry evicted = {0, 0};
+    struct lru_inserted inserted = lru_insert(&squares, 5, 25, &evicted);
+    if (inserted.evicted) printf("evicted %" PRIu64 "\n", evicted.key);
     struct lru_found three = lru_get(&squares, 3);
     printf("3 squared is %" PRIu64 "\n", three.value);
     lru_free(&squares);
-    return three.found && inserted.evicted_key == 4;
+    return three.found && inserted.code == LRU_STORED && evicted.key == 4;
 }
 
 static bool put(struct lru_bytes *pages, const char *key, const char *value) {

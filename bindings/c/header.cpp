@@ -4,10 +4,11 @@
 bool fits(struct lru &lru, struct lru_bytes &bytes) {
     const uint64_t seeds[4] = {1, 2, 3, 4};
     const uint8_t key[1] = {1};
+    struct lru_entry evicted = {0, 0};
     struct lru none = LRU_NONE;
     struct lru_bytes no_bytes = LRU_NONE;
     lru_free(&none);
     lru_bytes_free(&no_bytes);
-    return lru_new(&lru, 2, seeds) && !lru_insert(&lru, 1, 2).failed && lru_bytes_new(&bytes, 200, seeds)
-        && lru_bytes_put(&bytes, key, 1, key, 0) == LRU_STORED;
+    return lru_new(&lru, 2, seeds) && lru_insert(&lru, 1, 2, &evicted).code == LRU_STORED
+        && lru_bytes_new(&bytes, 200, seeds) && lru_bytes_put(&bytes, key, 1, key, 0) == LRU_STORED;
 }

@@ -13,7 +13,8 @@
  * - A handle is LRU_NONE, or what the last call left in it. Nothing writes its field, and no copy of a handle is
  *   used besides it. A handle may be moved, as by memcpy, if the old place is not used any more.
  * - No pointer is null, even if its length is 0. A handle is writable and aligned. A pointer with a length points to
- *   that number of elements, which have been written before. What a call writes overlaps nothing else of the call.
+ *   that number of elements. What a pointer points to has been written before, as by an initializer, also if the call
+ *   only writes it. What a call writes overlaps nothing else of the call.
  * - There is one call on a handle at a time, and the calls on a handle come from one thread.
  * - No call comes from a signal handler, or from the forked child of a process with threads.
  * - malloc, realloc and free belong together, and align a block of n bytes to each power of two up to 16 that
@@ -39,7 +40,7 @@ extern "C" {
 
 /* The version of these functions and structs. Compare it with lru_abi_version() if the library is not built with the
  * program. It rises with each change of them. */
-#define LRU_ABI_VERSION 2u
+#define LRU_ABI_VERSION 3u
 uint32_t lru_abi_version(void);
 
 /* A handle: the address of a map on the heap, or null. Begin with LRU_NONE. */
@@ -62,7 +63,7 @@ struct lru_pair {
     bool found;
 };
 
-/* An entry, as lru_copy_newest writes it. */
+/* An entry, as lru_insert and lru_copy_newest write it. */
 struct lru_entry {
     uint64_t key;
     uint64_t value;
@@ -70,16 +71,13 @@ struct lru_entry {
 
 /* What an insert did. */
 struct lru_inserted {
-    uint64_t evicted_key;   /* the oldest entry, if `evicted`; otherwise 0 (tested) */
-    uint64_t evicted_value;
-    uint64_t old_value;     /* the old value of the key, if `replaced`; otherwise 0 (tested) */
-    bool evicted;           /* whether the oldest entry was evicted to make room */
-    bool replaced;          /* whether the key was there */
-    bool kept;              /* whether the key is in the map now */
-    bool failed;            /* whether the map ran out of memory; then the key is not there */
+    uint64_t old_value; /* the old value of the key, if `replaced`; otherwise 0 (tested) */
+    uint32_t code;      /* LRU_STORED, or why the key is not there: one of the codes below */
+    bool replaced;      /* whether the key was there */
+    bool evicted;       /* whether the oldest entry was evicted to make room */
 };
 
-/* What lru_put and lru_bytes_put return. */
+/* What lru_insert, lru_put and lru_bytes_put return. */
 #define LRU_STORED 0u        /* the key is there, and has the value */
 #define LRU_REJECTED 1u      /* the key is not there: no such entry fits the maximum length or the budget */
 #define LRU_OUT_OF_MEMORY 2u /* there was no memory */
@@ -99,15 +97,15 @@ void lru_free(struct lru *lru);
 bool lru_clone(struct lru *lru, struct lru *copy);
 
 /* Inserts a key with a value, as the newest entry. A key that is there gets the new value, and the old one is
- * returned. If the map is full, the oldest entry is evicted first, and returned. One insert evicts at most one
- * entry, unless max_length is above 939,524,096 (tested). If the map runs out of memory, `failed` is set, and the
- * key, which was new, is not there; an evicted entry would have been evicted by a successful insert too. If
- * max_length is 0, nothing is inserted, and nothing has failed. */
-struct lru_inserted lru_insert(struct lru *lru, uint64_t key, uint64_t value);
+ * returned. If the map is full, the oldest entry is evicted first, and written to `*evicted`, which otherwise stays as
+ * it is. One insert evicts at most one entry, unless max_length is above 939,524,096 (tested).
+ *
+ * LRU_OUT_OF_MEMORY: the key was new, and is not there; an evicted entry would have been evicted by a successful insert
+ * too. LRU_REJECTED: max_length is 0. */
+struct lru_inserted lru_insert(struct lru *lru, uint64_t key, uint64_t value, struct lru_entry *evicted);
 
-/* The same as lru_insert, but returns only LRU_STORED, LRU_REJECTED if max_length is 0, LRU_OUT_OF_MEMORY, or
- * LRU_NO_MAP. It costs less. Do not call it if you own what the values point to: nothing says which entry was
- * evicted. */
+/* The same as lru_insert, but returns the code alone. Do not call it if you own what the values point to: nothing says
+ * which entry was evicted. */
 uint32_t lru_put(struct lru *lru, uint64_t key, uint64_t value);
 
 /* Returns the value of a key, and makes its entry the newest. */
@@ -167,7 +165,8 @@ bool lru_shrink(struct lru *lru);
 /* A handle of a map from byte strings to byte strings: the address of a map on the heap, or null. Begin with LRU_NONE.
  *
  * Each call copies bytes in or out, so a caller never holds a pointer into the map. A key or a value may have length 0,
- * and may contain any bytes. Only lru_bytes_new and lru_bytes_put take memory. */
+ * and may contain any bytes. Only lru_bytes_new, lru_bytes_put and
+ * lru_bytes_clone take memory. */
 struct lru_bytes {
     void *map;
 };
@@ -182,7 +181,7 @@ struct lru_value {
     bool found;
 };
 
-/* The oldest entry, if `found`. Otherwise the lengths are 0. */
+/* An entry, if `found`. Otherwise the lengths are 0. */
 struct lru_popped {
     size_t key_len;
     size_t value_len;
@@ -229,6 +228,21 @@ bool lru_bytes_remove(struct lru_bytes *lru, const uint8_t *key, size_t key_len)
 struct lru_popped lru_bytes_pop_oldest(struct lru_bytes *lru, uint8_t *key, size_t key_size, uint8_t *value,
                                        size_t value_size);
 
+/* Copies the key and the value of the oldest entry to the fronts of `key` and `value`, if both fit, as
+ * lru_bytes_pop_oldest does. Returns both lengths, and `removed` is false. Nothing changes in the map. */
+struct lru_popped lru_bytes_peek_oldest(struct lru_bytes *lru, uint8_t *key, size_t key_size, uint8_t *value,
+                                        size_t value_size);
+
+/* The same for the entry at this index in the order of use, counted from 0, the newest. It takes a step for each entry
+ * before the index: to go over a large map, make a copy with lru_bytes_clone, and pop from it. */
+struct lru_popped lru_bytes_peek_at(struct lru_bytes *lru, size_t index, uint8_t *key, size_t key_size, uint8_t *value,
+                                    size_t value_size);
+
+/* Makes `copy` a copy of the map: entries with the same bytes in the same order, budget, seeds and capacity. Returns
+ * whether there was a map, and memory for the copy. A map that `copy` had is dropped in either case; `lru` stays as it
+ * is. `copy` is another handle than `lru`. */
+bool lru_bytes_clone(struct lru_bytes *lru, struct lru_bytes *copy);
+
 /* Returns the number of entries. */
 size_t lru_bytes_len(struct lru_bytes *lru);
 
@@ -237,6 +251,10 @@ uint64_t lru_bytes_cost(struct lru_bytes *lru);
 
 /* Returns the budget. */
 uint64_t lru_bytes_budget(struct lru_bytes *lru);
+
+/* Sets the budget, and evicts the oldest entries while the entries together weigh more. To see them, call
+ * lru_bytes_pop_oldest before. */
+void lru_bytes_set_budget(struct lru_bytes *lru, uint64_t budget);
 
 /* Removes all entries. The map keeps the memory of its table. */
 void lru_bytes_clear(struct lru_bytes *lru);

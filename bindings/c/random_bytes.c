@@ -141,6 +141,54 @@ static bool try_pop(struct lru_bytes *lru, struct list *list) {
     return true;
 }
 
+/* Peeks at the oldest entry, or at an index. */
+static bool try_peek(struct lru_bytes *lru, const struct list *list, bool oldest) {
+    size_t index = oldest ? list->len - 1 : next() % (list->len + 2);
+    bool found = index < list->len;
+    const struct text *own_key = &list->key[found ? list->len - 1 - index : 0];
+    const struct text *own_value = &list->value[found ? list->len - 1 - index : 0];
+    size_t key_len = found ? own_key->len : 0, value_len = found ? own_value->len : 0;
+    struct buffer key = buffer_of(next() % 4 ? key_len + next() % 3 : next() % (key_len + 1));
+    struct buffer value = buffer_of(next() % 4 ? value_len + next() % 3 : next() % (value_len + 1));
+    bool fits = found && key_len <= key.size && value_len <= value.size;
+    uint8_t *key_start = key.block + SPARE, *value_start = value.block + SPARE;
+    struct lru_popped seen = oldest ? lru_bytes_peek_oldest(lru, key_start, key.size, value_start, value.size)
+                                    : lru_bytes_peek_at(lru, index, key_start, key.size, value_start, value.size);
+    CHECK(seen.found == found && !seen.removed && seen.key_len == key_len && seen.value_len == value_len);
+    CHECK(holds(key, fits ? own_key : NULL) && holds(value, fits ? own_value : NULL));
+    return true;
+}
+
+/* Makes a copy and pops all of it. */
+static bool try_clone(struct lru_bytes *lru, const struct list *list) {
+    static struct list copied;
+    struct lru_bytes copy = LRU_NONE;
+    if (!lru_bytes_clone(lru, &copy)) {
+        CHECK(fail_each && !copy.map);
+        return true;
+    }
+    copied = *list;
+    CHECK(lru_bytes_budget(&copy) == list->budget && lru_bytes_len(&copy) == list->len);
+    CHECK(lru_bytes_cost(&copy) == cost(list));
+    while (copied.len) CHECK(try_pop(&copy, &copied));
+    lru_bytes_free(&copy);
+    return true;
+}
+
+static bool try_budget(struct lru_bytes *lru, struct list *list) {
+    static const uint64_t budgets[] = {0, 63, 64, 100, 500, 2000, 5000, UINT64_MAX};
+    uint64_t old = list->budget;
+    list->budget = next() % 2 ? budgets[next() % 8] : next() % 3000;
+    lru_bytes_set_budget(lru, list->budget);
+    while (cost(list) > list->budget) drop(list, 0);
+    CHECK(lru_bytes_len(lru) == list->len && lru_bytes_cost(lru) == cost(list));
+    CHECK(lru_bytes_budget(lru) == list->budget);
+    list->budget = old; /* a budget that rises evicts nothing; one that falls again might */
+    lru_bytes_set_budget(lru, old);
+    while (cost(list) > list->budget) drop(list, 0);
+    return true;
+}
+
 static bool try_call(struct lru_bytes *lru, struct list *list, const uint64_t seeds[4]) {
     struct text key = random_key();
     int i = find(list, &key);
@@ -152,13 +200,19 @@ static bool try_call(struct lru_bytes *lru, struct list *list, const uint64_t se
     } else if (kind < 900) {
         CHECK(lru_bytes_remove(lru, key.bytes, key.len) == (i >= 0));
         if (i >= 0) drop(list, i);
-    } else if (kind < 980) {
+    } else if (kind < 960) {
         return try_pop(lru, list);
+    } else if (kind < 978) {
+        return try_peek(lru, list, kind % 2);
+    } else if (kind < 980) {
+        return try_clone(lru, list);
     } else if (kind < 990) {
         return try_huge(lru, list, key);
     } else if (kind < 992) {
         lru_bytes_clear(lru);
         list->len = 0;
+    } else if (kind < 994) {
+        return try_budget(lru, list);
     } else if (kind == 999) {
         while (!lru_bytes_new(lru, list->budget, seeds)) CHECK(fail_each && !lru->map);
         list->len = 0;
@@ -171,6 +225,12 @@ static bool try_nothing(struct lru_bytes *lru) {
     struct lru_value got = lru_bytes_get(lru, key.block, 1, value.block + SPARE, 1);
     struct lru_value seen = lru_bytes_peek(lru, key.block, 1, value.block + SPARE, 1);
     struct lru_popped popped = lru_bytes_pop_oldest(lru, key.block + SPARE, 1, value.block + SPARE, 1);
+    struct lru_popped oldest = lru_bytes_peek_oldest(lru, key.block + SPARE, 1, value.block + SPARE, 1);
+    struct lru_popped newest = lru_bytes_peek_at(lru, 0, key.block + SPARE, 1, value.block + SPARE, 1);
+    struct lru_bytes copy = LRU_NONE;
+    CHECK(!oldest.found && !oldest.removed && !oldest.key_len && !oldest.value_len);
+    CHECK(!newest.found && !newest.removed && !newest.key_len && !newest.value_len);
+    CHECK(!lru_bytes_clone(lru, &copy) && !copy.map);
     CHECK(!got.found && !got.len && !seen.found && !seen.len);
     CHECK(!popped.found && !popped.removed && !popped.key_len && !popped.value_len);
     CHECK(lru_bytes_put(lru, key.block, 1, value.block, 1) == LRU_NO_MAP);
@@ -178,6 +238,7 @@ static bool try_nothing(struct lru_bytes *lru) {
     CHECK(!lru_bytes_len(lru) && !lru_bytes_cost(lru) && !lru_bytes_budget(lru));
     CHECK(holds(key, NULL) && holds(value, NULL));
     lru_bytes_clear(lru);
+    lru_bytes_set_budget(lru, 3);
     lru_bytes_free(lru);
     CHECK(!lru->map);
     return true;

@@ -176,6 +176,73 @@ impl LruBytes {
         }
     }
 
+    /// Returns a copy of the oldest entry. The order stays.
+    ///
+    /// ```
+    /// # let mut map = jeerdurian::LruBytes::new(1000)?;
+    /// map.put(b"a", b"first")?;
+    /// map.put(b"b", b"second")?;
+    /// assert_eq!(map.peek_oldest(), Some((b"a".to_vec(), b"first".to_vec())));
+    /// # Ok::<(), jeerdurian::OutOfMemory>(())
+    /// ```
+    pub fn peek_oldest(&self) -> Option<(Vec<u8>, Vec<u8>)> {
+        self.copied(|key, value| unsafe {
+            ffi::lru_bytes_peek_oldest(self.at(), key.as_mut_ptr(), key.len(), value.as_mut_ptr(), value.len())
+        })
+    }
+
+    /// Returns a copy of the entry at this index in the order of use, counted from 0, the newest. The order stays.
+    ///
+    /// It takes a step for each entry before the index. To go over a large map, take the entries out of a copy of the
+    /// map, as [`try_clone`](LruBytes::try_clone) shows.
+    ///
+    /// ```
+    /// # let mut map = jeerdurian::LruBytes::new(1000)?;
+    /// map.put(b"a", b"first")?;
+    /// map.put(b"b", b"second")?;
+    /// assert_eq!(map.peek_at(0), Some((b"b".to_vec(), b"second".to_vec())));
+    /// assert_eq!(map.peek_at(2), None);
+    /// # Ok::<(), jeerdurian::OutOfMemory>(())
+    /// ```
+    pub fn peek_at(&self, index: usize) -> Option<(Vec<u8>, Vec<u8>)> {
+        self.copied(|key, value| unsafe {
+            let (key_start, value_start) = (key.as_mut_ptr(), value.as_mut_ptr());
+            ffi::lru_bytes_peek_at(self.at(), index, key_start, key.len(), value_start, value.len())
+        })
+    }
+
+    // Copies an entry: the first call says how long its parts are.
+    fn copied(&self, peek: impl Fn(&mut [u8], &mut [u8]) -> ffi::Popped) -> Option<(Vec<u8>, Vec<u8>)> {
+        let lengths = peek(&mut [], &mut []);
+        let (mut key, mut value) = (vec![0; lengths.key_len], vec![0; lengths.value_len]);
+        lengths.found.then(|| {
+            peek(&mut key, &mut value);
+            (key, value)
+        })
+    }
+
+    /// Copies the map: entries with the same bytes in the same order, budget, seeds and capacity.
+    ///
+    /// ```
+    /// # let mut map = jeerdurian::LruBytes::new(1000)?;
+    /// map.put(b"a", b"first")?;
+    /// map.put(b"b", b"second")?;
+    /// let keys: Vec<_> = map.try_clone()?.into_iter().map(|entry| entry.0).collect(); // the oldest first
+    /// assert_eq!((keys, map.len()), (vec![b"a".to_vec(), b"b".to_vec()], 2));
+    /// # Ok::<(), jeerdurian::OutOfMemory>(())
+    /// ```
+    ///
+    /// # Errors
+    ///
+    /// There is no memory for the copy.
+    pub fn try_clone(&self) -> Result<LruBytes, OutOfMemory> {
+        let copy = LruBytes {
+            handle: UnsafeCell::new(BytesHandle::NONE),
+        };
+        let made = unsafe { ffi::lru_bytes_clone(self.at(), copy.at()) };
+        made.then_some(copy).ok_or(OutOfMemory)
+    }
+
     /// Returns the number of entries.
     pub fn len(&self) -> usize {
         unsafe { ffi::lru_bytes_len(self.at()) }
@@ -202,6 +269,20 @@ impl LruBytes {
     /// Returns the budget.
     pub fn budget(&self) -> u64 {
         unsafe { ffi::lru_bytes_budget(self.at()) }
+    }
+
+    /// Sets the budget, and evicts the oldest entries while the entries together weigh more.
+    ///
+    /// ```
+    /// # let mut map = jeerdurian::LruBytes::new(1000)?;
+    /// map.put(b"a", b"first")?;
+    /// map.put(b"b", b"second")?;
+    /// map.set_budget(100); // each entry weighs more than 64
+    /// assert!(map.budget() == 100 && map.len() == 1 && map.contains(b"b"));
+    /// # Ok::<(), jeerdurian::OutOfMemory>(())
+    /// ```
+    pub fn set_budget(&mut self, budget: u64) {
+        unsafe { ffi::lru_bytes_set_budget(self.at(), budget) }
     }
 
     /// Removes all entries, and keeps the memory of the table.

@@ -45,13 +45,10 @@ pub(crate) struct Entry {
 
 #[repr(C)]
 pub(crate) struct Inserted {
-    pub(crate) evicted_key: u64,
-    pub(crate) evicted_value: u64,
     pub(crate) old_value: u64,
-    pub(crate) evicted: bool,
+    pub(crate) code: u32,
     pub(crate) replaced: bool,
-    pub(crate) kept: bool,
-    pub(crate) failed: bool,
+    pub(crate) evicted: bool,
 }
 
 #[repr(C)]
@@ -89,15 +86,16 @@ pub(crate) struct Popped {
 pub(crate) const BYTES_OVERHEAD: u64 = 64;
 pub(crate) const STORED: u32 = 0;
 pub(crate) const REJECTED: u32 = 1;
+pub(crate) const OUT_OF_MEMORY: u32 = 2;
 
-pub(crate) const ABI_VERSION: u32 = 2;
+pub(crate) const ABI_VERSION: u32 = 3;
 
 extern "C" {
     pub(crate) fn lru_abi_version() -> u32;
     pub(crate) fn lru_new(lru: *mut Handle, max_length: u32, seeds: *const [u64; 4]) -> bool;
     pub(crate) fn lru_free(lru: *mut Handle);
     pub(crate) fn lru_clone(lru: *mut Handle, copy: *mut Handle) -> bool;
-    pub(crate) fn lru_insert(lru: *mut Handle, key: u64, value: u64) -> Inserted;
+    pub(crate) fn lru_insert(lru: *mut Handle, key: u64, value: u64, evicted: *mut Entry) -> Inserted;
     pub(crate) fn lru_put(lru: *mut Handle, key: u64, value: u64) -> u32;
     pub(crate) fn lru_get(lru: *mut Handle, key: u64) -> Found;
     pub(crate) fn lru_peek(lru: *mut Handle, key: u64) -> Found;
@@ -149,8 +147,25 @@ extern "C" {
         value: *mut u8,
         value_size: usize,
     ) -> Popped;
+    pub(crate) fn lru_bytes_peek_oldest(
+        lru: *mut BytesHandle,
+        key: *mut u8,
+        key_size: usize,
+        value: *mut u8,
+        value_size: usize,
+    ) -> Popped;
+    pub(crate) fn lru_bytes_peek_at(
+        lru: *mut BytesHandle,
+        index: usize,
+        key: *mut u8,
+        key_size: usize,
+        value: *mut u8,
+        value_size: usize,
+    ) -> Popped;
+    pub(crate) fn lru_bytes_clone(lru: *mut BytesHandle, copy: *mut BytesHandle) -> bool;
     pub(crate) fn lru_bytes_len(lru: *mut BytesHandle) -> usize;
     pub(crate) fn lru_bytes_cost(lru: *mut BytesHandle) -> u64;
     pub(crate) fn lru_bytes_budget(lru: *mut BytesHandle) -> u64;
+    pub(crate) fn lru_bytes_set_budget(lru: *mut BytesHandle, budget: u64);
     pub(crate) fn lru_bytes_clear(lru: *mut BytesHandle);
 }

@@ -156,19 +156,20 @@ impl Lru {
     ///
     /// The map ran out of memory for a new key. The error has the entry that was evicted.
     pub fn insert(&mut self, key: u64, value: u64) -> Result<Inserted, InsertError> {
-        let done = unsafe { ffi::lru_insert(self.at(), key, value) };
-        let evicted = done.evicted.then_some((done.evicted_key, done.evicted_value));
-        if done.failed {
+        let mut entry = ffi::Entry { key: 0, value: 0 };
+        let done = unsafe { ffi::lru_insert(self.at(), key, value, &mut entry) };
+        let evicted = done.evicted.then_some((entry.key, entry.value));
+        if done.code == ffi::OUT_OF_MEMORY {
             return Err(InsertError { evicted });
         }
         Ok(Inserted {
-            kept: done.kept,
+            kept: done.code == ffi::STORED,
             replaced: done.replaced.then_some(done.old_value),
             evicted,
         })
     }
 
-    /// The same as [`insert`](Lru::insert), but returns only whether the key is there. It costs less.
+    /// The same as [`insert`](Lru::insert), but returns only whether the key is there.
     ///
     /// ```
     /// # let mut map = jeerdurian::Lru::new(1)?;

@@ -71,7 +71,7 @@ impl Model {
 
 fn step(map: &mut LruBytes, model: &mut Model, random: &mut Random) -> Result<(), OutOfMemory> {
     let key = random.bytes(3);
-    match random.below(10) {
+    match random.below(13) {
         0..=3 => {
             let value = random.bytes(60);
             assert_eq!(map.put(&key, &value)?, model.put(&key, &value));
@@ -80,6 +80,12 @@ fn step(map: &mut LruBytes, model: &mut Model, random: &mut Random) -> Result<()
         6 => assert_eq!(map.peek(&key), model.peek(&key)),
         7 => assert_eq!(map.contains(&key), model.peek(&key).is_some()),
         8 => assert_eq!(map.remove(&key), model.take(&key).is_some()),
+        9 => assert_eq!(map.peek_oldest(), model.entries.first().cloned()),
+        10 => {
+            let index = random.below(4) as usize;
+            assert_eq!(map.peek_at(index), model.entries.iter().rev().nth(index).cloned());
+        }
+        11 => assert!(map.try_clone()?.into_iter().eq(model.entries.iter().cloned())),
         _ => assert_eq!(map.pop_oldest(), model.pop()),
     }
     assert_eq!((map.len(), map.cost()), (model.entries.len(), model.cost()));

@@ -1,3 +1,4 @@
 pub mod Addresses
+pub mod ByteCopies
 pub mod FilledSlots
 pub mod NotedPairs

@@ -2,18 +2,26 @@
 use Rattle.std.proofs.Common.{◌≡◌, ℕ, Bool, true, false, cond, List, [], ◌∷◌, Option, None, Some, MutBor, refl, ap, ◌∙◌}
 use Rattle.std.proofs.Common.{nat_eq, subst}
 use Rattle.std.specs.List.{FoldsTo}
-use Rattle.lru_c.specs.Answers.{noting_other, first_other}
+use Rattle.lru_c.specs.Answers.{noted_pair, noting_other, first_other}
+use Rattle.lru_c.specs.declared.answers.Entry.{Entry}
 
--- the callback holds the same place as before, where this pair is noted
-pub record Notes (old new : MutBor (Option (ℕ × ℕ))) (noted : Option (ℕ × ℕ)) : Type 0 where
-  pub place : new.ghost_name ≡ old.ghost_name
-  pub pair : new.now ≡ noted
+-- what a callback holds: the inserted key, whether a pair was noted, and the place of that pair
+pub record Held : Type 0 where
+  pub key : ℕ
+  pub noted : MutBor Bool
+  pub place : MutBor Entry
 
--- a call of it with this pair, which leaves the inserted key
-pub record NotesOne {F : Type 0} (inserted : F → ℕ) (noted : F
-    → MutBor (Option (ℕ × ℕ))) (f : F) (pair : ℕ × ℕ) (g : F) : Type 0 where
-  pub key : inserted g ≡ inserted f
-  pub notes : Notes (noted f) (noted g) (noting_other (inserted f) (noted f).now pair)
+-- the pair that was noted, if there is one
+abbrev pub pair_of : Held → Option (ℕ × ℕ)
+pair_of h = noted_pair h.noted.now h.place.now
+
+-- the callback holds the same places as before, and this pair was noted; without a pair the place was left alone
+pub record Notes (old new : Held) (now : Option (ℕ × ℕ)) : Type 0 where
+  pub key : new.key ≡ old.key
+  pub noted : new.noted.ghost_name ≡ old.noted.ghost_name
+  pub place : new.place.ghost_name ≡ old.place.ghost_name
+  pub pair : pair_of new ≡ now
+  pub untouched : new.noted.now ≡ false → (old.noted.now ≡ false) × (new.place.now ≡ old.place.now)
 
 -- what is noted after all of these
 noting_all : ℕ → Option (ℕ × ℕ) → List (ℕ × ℕ) → Option (ℕ × ℕ)
@@ -35,25 +43,39 @@ notes_first key (pair ∷ pairs) = go (nat_eq key pair.0) (notes_first key pairs
     go true others = others
     go false others = keeps key pair pairs
 
-module _ {F : Type 0} (inserted : F → ℕ) (noted : F → MutBor (Option (ℕ × ℕ))) (Calls : F → ℕ × ℕ → F → Type 0)
-    (one : (f : F) (pair : ℕ × ℕ) (g : F) → Calls f pair g → NotesOne inserted noted f pair g) where
-  all_notes : (key : ℕ) (pairs : List (ℕ × ℕ)) (f g : F) → FoldsTo Calls f pairs g → inserted f ≡ key
-      → Notes (noted f) (noted g) (noting_all key (noted f).now pairs)
+module _ {F : Type 0} (held : F → Held) (Calls : F → ℕ × ℕ → F → Type 0)
+    (one : (f : F) (pair : ℕ × ℕ) (g : F) → Calls f pair g
+    → Notes (held f) (held g) (noting_other (held f).key (pair_of (held f)) pair)) where
+  all_notes : (pairs : List (ℕ × ℕ)) (f g : F) → FoldsTo Calls f pairs g
+      → Notes (held f) (held g) (noting_all (held f).key (pair_of (held f)) pairs)
   unfolding noting_all
-  all_notes key [] f g same is =
-      subst (λ h. Notes (noted f) (noted h) (noted f).now) same (record { place = refl; pair = refl })
-  all_notes key (pair ∷ pairs) f g (h, called, rest) is =
+  all_notes [] f g same = subst (λ h. Notes (held f) (held h) (pair_of (held f))) same (record {
+    key = refl;
+    noted = refl;
+    place = refl;
+    pair = refl;
+    untouched = λ none. (none, refl);
+  })
+  all_notes (pair ∷ pairs) f g (h, called, rest) =
       let first = one f pair h called in
-      let others = all_notes key pairs h g rest (first.key ∙ is) in record {
-        place = others.place ∙ first.notes.place;
-        pair = others.pair
-            ∙ ap (λ o. noting_all key o pairs) (first.notes.pair ∙ ap (λ k. noting_other k (noted f).now pair) is);
+      let others = all_notes pairs h g rest in record {
+        key = others.key ∙ first.key;
+        noted = others.noted ∙ first.noted;
+        place = others.place ∙ first.place;
+        pair = others.pair ∙ ap (λ k. noting_all k (pair_of (held h)) pairs) first.key
+            ∙ ap (λ o. noting_all (held f).key o pairs) first.pair;
+        untouched = λ none.
+            let later = others.untouched none in let before = first.untouched later.0 in
+            (before.0, later.1 ∙ before.1);
       }
 
-  pub noted_first : (key : ℕ) (pairs : List (ℕ × ℕ)) (f g : F) → FoldsTo Calls f pairs g → inserted f ≡ key
-      → (noted f).now ≡ None → Notes (noted f) (noted g) (first_other key pairs)
-  noted_first key pairs f g folds is none =
-      let all = all_notes key pairs f g folds is in record {
+  pub noted_first : (pairs : List (ℕ × ℕ)) (f g : F) → FoldsTo Calls f pairs g → pair_of (held f) ≡ None
+      → Notes (held f) (held g) (first_other (held f).key pairs)
+  noted_first pairs f g folds none =
+      let all = all_notes pairs f g folds in record {
+        key = all.key;
+        noted = all.noted;
         place = all.place;
-        pair = all.pair ∙ ap (λ o. noting_all key o pairs) none ∙ notes_first key pairs;
+        pair = all.pair ∙ ap (λ o. noting_all (held f).key o pairs) none ∙ notes_first (held f).key pairs;
+        untouched = all.untouched;
       }

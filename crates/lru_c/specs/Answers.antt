@@ -1,6 +1,6 @@
 -- What the calls of C return.
 use Rattle.std.specs.Prelude.{◌≡◌, ℕ, suc, Bool, true, false, Option, None, Some, Result, Ok, Err, List, [], ◌∷◌}
-use Rattle.std.specs.Prelude.{if◌then◌else◌, is_err, nat_eq}
+use Rattle.std.specs.Prelude.{if◌then◌else◌, nat_eq}
 use Rattle.std.specs.declared.alloc.AllocError.{AllocError}
 use Rattle.lru_limits.specs.Limiters.{length_rules, length_offers}
 use Rattle.schnellru.specs.HandedOver.{InsertHands}
@@ -19,9 +19,9 @@ found_value answer = if answer.found then Some answer.value else None
 abbrev pub found_pair : Pair → Option (ℕ × ℕ)
 found_pair answer = if answer.found then Some (answer.key, answer.value) else None
 
--- the evicted pair, if there is one
-abbrev pub evicted_pair : Inserted → Option (ℕ × ℕ)
-evicted_pair answer = if answer.evicted then Some (answer.evicted_key, answer.evicted_value) else None
+-- the pair in this place, if one was noted there
+abbrev pub noted_pair : Bool → Entry → Option (ℕ × ℕ)
+noted_pair noted place = if noted then Some (place.key, place.value) else None
 
 -- the old value, if there is one
 abbrev pub replaced_value : Inserted → Option ℕ
@@ -49,26 +49,22 @@ abbrev pub first_other : ℕ → List (ℕ × ℕ) → Option (ℕ × ℕ)
 first_other key [] = None
 first_other key (pair ∷ pairs) = if nat_eq key pair.0 then first_other key pairs else Some pair
 
--- the insert returned true
-abbrev pub is_kept : Result Bool AllocError → Bool
-is_kept (Ok kept) = kept
-is_kept (Err error) = false
-
 -- what a put returns: the key is there, or not, or there was no memory
 abbrev pub put_code : Result Bool AllocError → ℕ
 put_code (Ok true) = 0
 put_code (Ok false) = 1
 put_code (Err error) = 2
 
--- An insert: of the pairs that leave, the first of another key is returned, and of the inserted key the old value.
-pub record Inserts (key value : ℕ) (old : Map) (answer : Inserted) (new : Map) : Type 0 where
+-- An insert: of the pairs that leave, the first of another key is written to a place, which else stays as it is. Of the
+-- inserted key the old value is returned.
+pub record Inserts (key value : ℕ) (old : Map) (answer : Inserted) (place left : Entry) (new : Map) : Type 0 where
   pub result : Result Bool AllocError
   pub handed : List (ℕ × ℕ)
   pub step : InsertHands length_rules length_offers nat_eq hash_of key value old result handed new
-  pub evicted : evicted_pair answer ≡ first_other key handed
+  pub evicted : noted_pair answer.evicted left ≡ first_other key handed
+  pub untouched : answer.evicted ≡ false → left ≡ place
   pub replaced : replaced_value answer ≡ lookup (nat_eq key) old.pairs
-  pub kept : answer.kept ≡ is_kept result
-  pub failed : answer.failed ≡ is_err result
+  pub code : answer.code ≡ put_code result
 
 -- A call on a handle. Without a map nothing changes, and the call returns nothing. A map makes this step.
 pub data OnMap {M : Type 0} (returns_nothing : Type 0) (step : M → M → Type 0) (old new : Option M) : Type 0 where

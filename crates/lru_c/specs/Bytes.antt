@@ -3,7 +3,7 @@
 --     weight key value           what an entry weighs whose key and value have these lengths
 --     poured bytes buffer        the buffer, after the bytes were copied to its front, if they fit
 use Rattle.std.specs.Prelude.{◌≡◌, ◌++◌, ◌<◌, ◌≤◌, ◌&&◌, ℕ, Bool, true, false, List, length, drop, Option, Some, None}
-use Rattle.std.specs.Prelude.{nat_le, vec_len, if◌then◌else◌, Ok}
+use Rattle.std.specs.Prelude.{nat_le, vec_len, if◌then◌else◌, map, Ok}
 use Rattle.std.proofs.Common.{ap}
 use Rattle.std.specs.Cmp.Lexicographic.{bytes_decides, nat_list_eq_equiv}
 use Rattle.std.specs.Hash as fed
@@ -93,6 +93,22 @@ lengths_of pair removed =
 -- the key and the value fit into these buffers
 abbrev pub fits : Bytes × Bytes → List ℕ → List ℕ → Bool
 fits pair key value = nat_le (length pair.0.items) (length key) && nat_le (length pair.1.items) (length value)
+
+-- A look-up that finds this entry: its lengths are returned, and it is copied into two buffers if both parts fit.
+abbrev pub Shows : Option (Bytes × Bytes) → Popped → List ℕ → List ℕ → List ℕ → List ℕ → Type 0
+Shows None answer key key_left value value_left = (answer ≡ no_entry) × (key_left ≡ key) × (value_left ≡ value)
+Shows (Some pair) answer key key_left value value_left = (answer ≡ lengths_of pair false)
+    × (key_left ≡ (if fits pair key value then poured pair.0.items key else key))
+    × (value_left ≡ (if fits pair key value then poured pair.1.items value else value))
+
+-- the bytes of each key and each value
+abbrev pub texts : List (Bytes × Bytes) → List (List ℕ × List ℕ)
+texts pairs = map (λ pair. (pair.0.items, pair.1.items)) pairs
+
+-- A copy of a map: its keys and values have the same bytes, in the same order, and all else is the same.
+pub record Copies (old copy : BytesMap) : Type 0 where
+  pub entries : texts copy.pairs ≡ texts old.pairs
+  pub rest : copy ≡ record old { pairs = copy.pairs }
 
 -- The oldest entry is removed and copied into two buffers, if it fits. Otherwise its lengths alone are returned.
 pub data Pops (old : BytesMap) (answer : Popped) (key key_left value value_left : List ℕ)

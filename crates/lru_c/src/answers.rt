@@ -1,6 +1,6 @@
 //! What the calls return to C: plain structs, since an `Option` cannot cross.
-ghost use Rattle.std.specs.Prelude.{◌≡◌};
-ghost use Rattle.lru_c.specs.Answers.{found_value, found_pair, evicted_pair, replaced_value, noting_other, put_code};
+ghost use Rattle.std.specs.Prelude.{◌≡◌, false};
+ghost use Rattle.lru_c.specs.Answers.{found_value, found_pair, noted_pair, replaced_value, noting_other, put_code};
 
 use std::alloc::AllocError;
 
@@ -45,26 +45,18 @@ pub struct Entry {
     pub value: u64,
 }
 
-/// What an insert did.
-///
-/// No field is a struct, since copies of padding between fields are slow.
+/// What an insert did. It fits two registers.
 #[repr(C)]
 #[derive(Drop)]
 pub struct Inserted {
-    /// The key of the evicted entry, or 0.
-    pub evicted_key: u64,
-    /// The value of the evicted entry, or 0.
-    pub evicted_value: u64,
     /// The old value of the key, or 0.
     pub old_value: u64,
-    /// Whether the insert evicted an entry.
-    pub evicted: bool,
+    /// What a put returns.
+    pub code: u32,
     /// Whether the key was there.
     pub replaced: bool,
-    /// Whether the key is in the map.
-    pub kept: bool,
-    /// Whether the map ran out of memory.
-    pub failed: bool,
+    /// Whether the insert evicted an entry.
+    pub evicted: bool,
 }
 
 /// Returns the value for C.
@@ -102,25 +94,24 @@ pub fn as_pair(entry: Option<(u64, u64)>) -> Pair
 
 /// Returns for C what an insert did.
 #[inline]
-pub fn as_inserted(
-    evicted: Option<(u64, u64)>,
-    old_value: Option<u64>,
-    kept: bool,
-    failed: bool,
-) -> Inserted
-    ensures evicted { evicted_pair result ≡ evicted }
+pub fn as_inserted(code: u32, old_value: Option<u64>, evicted: bool) -> Inserted
+    ensures code { result.code ≡ code }
     ensures replaced { replaced_value result ≡ old_value }
-    ensures rest { (result.kept ≡ kept) × (result.failed ≡ failed) }
+    ensures evicted { result.evicted ≡ evicted }
 {
-    let (evicted_key, evicted_value) = evicted.unwrap_or((0, 0));
-    Inserted {
-        evicted_key,
-        evicted_value,
-        old_value: old_value.unwrap_or(0),
-        evicted: evicted.is_some(),
-        replaced: old_value.is_some(),
-        kept,
-        failed,
+    match old_value {
+        Some(old_value) => Inserted {
+            old_value,
+            code,
+            replaced: true,
+            evicted,
+        },
+        None => Inserted {
+            old_value: 0,
+            code,
+            replaced: false,
+            evicted,
+        },
     }
 }
 
@@ -136,12 +127,14 @@ pub fn as_code(done: Result<bool, AllocError>) -> u32
     }
 }
 
-/// Notes an entry of another key, unless one is noted.
+/// Writes an entry of another key to a place, unless one was noted there.
 #[inline]
-pub fn note_other(noted: &mut Option<(u64, u64)>, inserted: u64, key: u64, value: u64)
-    ensures { noted.new ≡ noting_other inserted noted.old (key, value) }
+pub fn note_other(noted: &mut bool, place: &mut Entry, inserted: u64, key: u64, value: u64)
+    ensures pair { noted_pair noted.new place.new ≡ noting_other inserted (noted_pair noted.old place.old) (key, value) }
+    ensures untouched { noted.new ≡ false → (noted.old ≡ false) × (place.new ≡ place.old) }
 {
-    if noted.is_none() && inserted != key {
-        *noted = Some((key, value));
+    if !*noted && inserted != key {
+        *noted = true;
+        *place = Entry { key, value };
     }
 }

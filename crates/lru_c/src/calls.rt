@@ -1,26 +1,29 @@
 //! The calls on a map that return structs for C.
-ghost use Rattle.std.specs.Prelude.{◌≡◌, ℕ, nat_eq, List, None, IfOk, OnErr, IfSome};
+ghost use Rattle.std.specs.Prelude.{◌≡◌, ℕ, nat_eq, false, List, None, IfOk, OnErr, IfSome};
 ghost use Rattle.lru_limits.specs.Limiters.{length_rules, length_offers};
 ghost use Rattle.schnellru.specs.Calls.{Remove, PopOldest, promoted};
 ghost use Rattle.schnellru.specs.Lists.{lookup, first, last};
 ghost use Rattle.schnellru.specs.HandedOver.{InsertHands};
 ghost use Rattle.schnellru.specs.Inserts.{kept_of};
-ghost use Rattle.lru_c.specs.Answers.{found_value, found_pair, filled, fitting, first_other, Inserts};
+ghost use Rattle.lru_c.specs.Answers.{found_value, found_pair, noted_pair, filled, fitting, first_other, Inserts};
 ghost use Rattle.lru_c.specs.Handle.{hash_of};
 
-use crate::answers::{Entry, Found, Inserted, Pair, as_found, as_inserted, as_pair, note_other};
+use crate::answers::{
+    Entry, Found, Inserted, OUT_OF_MEMORY, Pair, as_code, as_found, as_inserted, as_pair,
+    note_other,
+};
 use crate::handle::Map;
 use std::alloc::{AllocError, Global};
 
-/// Inserts a value, and returns which entry was evicted and which value was replaced.
+/// Inserts a value, and writes the evicted entry to a place. Returns which value was replaced.
 #[inline]
-pub fn insert(map: &mut Map, key: u64, value: u64) -> Inserted
-    ensures { Inserts key value map.old result map.new }
+pub fn insert(map: &mut Map, key: u64, value: u64, place: &mut Entry) -> Inserted
+    ensures { Inserts key value map.old result place.old place.new map.new }
 {
-    let mut evicted = None;
-    match insert_and_note(map, key, value, &mut evicted) {
-        Ok(inserted) => as_inserted(evicted, inserted.unkept, inserted.kept, false),
-        Err(_) => as_inserted(evicted, None, false, true),
+    let mut noted = false;
+    match insert_and_note(map, key, value, &mut noted, place) {
+        Ok(inserted) => as_inserted(as_code(Ok(inserted.kept)), inserted.unkept, noted),
+        Err(_) => as_inserted(OUT_OF_MEMORY, None, noted),
     }
 }
 
@@ -30,15 +33,17 @@ fn insert_and_note(
     map: &mut Map,
     key: u64,
     value: u64,
-    evicted: &mut Option<(u64, u64)>,
+    noted: &mut bool,
+    place: &mut Entry,
 ) -> Result<schnellru::Inserted<u64>, AllocError>
-    requires { evicted.old ≡ None }
-    ensures handed { (handed : List (ℕ × ℕ)) × (evicted.new ≡ first_other key handed)
+    requires { noted.old ≡ false }
+    ensures handed { (handed : List (ℕ × ℕ)) × (noted_pair noted.new place.new ≡ first_other key handed)
         × InsertHands length_rules length_offers nat_eq hash_of key value map.old (kept_of result) handed map.new }
+    ensures untouched { noted.new ≡ false → place.new ≡ place.old }
     ensures replaced { IfOk result (λ inserted. inserted.unkept ≡ lookup (nat_eq key) map.old.pairs) }
     ensures lacks { OnErr result (lookup (nat_eq key) map.old.pairs ≡ None) }
 {
-    map.insert_full(key, value, &mut |k, v| note_other(evicted, key, k, v))
+    map.insert_full(key, value, &mut |k, v| note_other(noted, place, key, k, v))
 }
 
 /// Returns the value of a key, whose entry becomes the newest.
@@ -58,7 +63,10 @@ pub fn get(map: &mut Map, key: u64) -> Found
 pub fn peek(map: &Map, key: u64) -> Found
     ensures { found_value result ≡ lookup (nat_eq key) map.now.pairs }
 {
-    as_found(map.peek(&key).copied())
+    match map.peek(&key) {
+        Some(value) => as_found(Some(*value)),
+        None => as_found(None),
+    }
 }
 
 /// Removes the entry of a key, and returns its value.

@@ -13,7 +13,7 @@ ghost use Rattle.schnellru.specs.Shrinks.{Shrink};
 ghost use Rattle.schnellru.specs.Sizes.{links_of_32_bits, usage};
 ghost use Rattle.schnellru.specs.State.{empty_map, buckets, contents, room, Trims, IsWithin};
 ghost use Rattle.schnellru.specs.declared.map.reserve.ReserveError.{ReserveError};
-ghost use Rattle.lru_c.specs.Answers.{found_value, found_pair, evicted_pair, replaced_value, filled, fitting};
+ghost use Rattle.lru_c.specs.Answers.{found_value, found_pair, replaced_value, filled, fitting};
 ghost use Rattle.lru_c.specs.Answers.{Inserts, OnMap, put_code};
 ghost use Rattle.lru_c.specs.Handle.{hash_of};
 
@@ -33,9 +33,9 @@ const ENTRY_BYTES: usize = 24;
 /// Returns the version of these functions and structs, `LRU_ABI_VERSION` of `lru.h`.
 #[unsafe(no_mangle)]
 pub extern "C" fn lru_abi_version() -> u32
-    ensures { result ≡ 2 }
+    ensures { result ≡ 3 }
 {
-    2
+    3
 }
 
 /// Makes an empty map of at most `max_length` entries, whose hasher has these seeds. Returns whether there was memory.
@@ -62,23 +62,29 @@ pub extern "C" fn lru_new(alloc: Global, lru: &mut Lru, max_length: u32, seeds: 
 pub extern "C" fn lru_free(alloc: Global, lru: &mut Lru)
     ensures { lru.new.map ≡ None }
 {
-    lru.take(alloc);
+    drop(lru.take(alloc));
 }
 
-/// Inserts a key with a value, as the newest entry.
+/// Inserts a key with a value, as the newest entry. Writes the evicted entry to `evicted`, if there is one.
 #[unsafe(no_mangle)]
-pub extern "C" fn lru_insert(alloc: Global, lru: &mut Lru, key: u64, value: u64) -> Inserted
-    ensures { OnMap ((evicted_pair result ≡ None) × (replaced_value result ≡ None)
-        × (result.kept ≡ false) × (result.failed ≡ false))
-        (λ old new. Inserts key value old result new) lru.old.map lru.new.map }
+pub extern "C" fn lru_insert(
+    alloc: Global,
+    lru: &mut Lru,
+    key: u64,
+    value: u64,
+    evicted: &mut Entry,
+) -> Inserted
+    ensures { OnMap ((result.code ≡ 3) × (replaced_value result ≡ None) × (result.evicted ≡ false)
+        × (evicted.new ≡ evicted.old))
+        (λ old new. Inserts key value old result evicted.old evicted.new new) lru.old.map lru.new.map }
 {
     match lru.take(alloc) {
         Some(mut map) => {
-            let answer = insert(&mut map, key, value);
+            let answer = insert(&mut map, key, value, evicted);
             lru.put(map);
             answer
         }
-        None => as_inserted(None, None, false, false),
+        None => as_inserted(NO_MAP, None, false),
     }
 }
 

@@ -1,8 +1,9 @@
 //! The calls on a map of byte strings that copy bytes in or out.
-ghost use Rattle.std.specs.Prelude.{◌≡◌, ◌&&◌, length, Some, option_map, nat_le};
+ghost use Rattle.std.specs.Prelude.{◌≡◌, ◌&&◌, length, Some, IfSome, option_map, nat_le};
+ghost use Rattle.std.specs.Map.Iter.{deref_pair};
 ghost use Rattle.schnellru.specs.Calls.{promoted};
 ghost use Rattle.schnellru.specs.Lists.{lookup, last};
-ghost use Rattle.lru_c.specs.Bytes.{names_bytes, weight, poured, Reads, Puts, Pops};
+ghost use Rattle.lru_c.specs.Bytes.{names_bytes, weight, poured, Reads, Puts, Pops, Shows, Copies};
 
 use crate::answers::{OUT_OF_MEMORY, REJECTED, STORED};
 use crate::bytes::answers::{Popped, Value, no_value, nothing_popped};
@@ -115,6 +116,36 @@ pub fn pop_oldest(map: &mut BytesMap, key: &mut [u8], value: &mut [u8]) -> Poppe
         value_len,
         found: true,
         removed,
+    }
+}
+
+/// Copies an entry to the front of the buffers, if both parts fit. Returns its lengths.
+pub fn show(pair: Option<(&Vec<u8>, &Vec<u8>)>, key: &mut [u8], value: &mut [u8]) -> Popped
+    ensures { Shows (option_map deref_pair pair.entry) result key.old key.new value.old value.new }
+{
+    let Some((own_key, own_value)) = pair else {
+        return nothing_popped();
+    };
+    let (key_len, value_len) = (own_key.as_slice().len(), own_value.as_slice().len());
+    if both_fit(key_len, value_len, key.len(), value.len()) {
+        pour(own_key.as_slice(), key);
+        pour(own_value.as_slice(), value);
+    }
+    Popped {
+        key_len,
+        value_len,
+        found: true,
+        removed: false,
+    }
+}
+
+/// Returns a copy of the map, or none if there was no memory.
+pub fn copied(alloc: Global, map: &BytesMap) -> Option<Box<BytesMap>>
+    ensures { IfSome result (λ copy. Copies map.now copy.value) }
+{
+    match map.clone() {
+        Ok(copy) => Box::new(alloc, copy).ok(),
+        Err(_) => None,
     }
 }
 

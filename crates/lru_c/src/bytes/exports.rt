@@ -1,18 +1,18 @@
 //! The functions that C calls on a map of byte strings. `bindings/c/lru.h` declares them, without `alloc`.
 //!
 //! A call on a handle without a map changes nothing, and returns that there is nothing.
-ghost use Rattle.std.specs.Prelude.{◌≡◌, nat_eq, length, is_some, Option, Some, None, true, false, ⊤};
+ghost use Rattle.std.specs.Prelude.{◌≡◌, length, is_some, slice_get, Option, Some, None, true, false, ⊤};
 ghost use Rattle.lru_limits.specs.Mixing.{seeded};
 ghost use Rattle.schnellru.specs.Calls.{Remove, promoted, cleared};
-ghost use Rattle.schnellru.specs.Lists.{lookup};
+ghost use Rattle.schnellru.specs.Lists.{lookup, last};
 ghost use Rattle.schnellru.specs.Sizes.{links_of_64_bits};
-ghost use Rattle.schnellru.specs.State.{empty_map};
+ghost use Rattle.schnellru.specs.State.{empty_map, contents, Trims, IsWithin};
 ghost use Rattle.lru_c.specs.Answers.{OnMap};
-ghost use Rattle.lru_c.specs.Bytes.{Bytes, names_bytes, bytes_rules, no_entry, Reads, Puts, Pops};
+ghost use Rattle.lru_c.specs.Bytes.{Bytes, names_bytes, bytes_rules, no_entry, Reads, Puts, Pops, Shows, Copies};
 
 use crate::answers::NO_MAP;
 use crate::bytes::answers::{Popped, Value, no_value, nothing_popped};
-use crate::bytes::calls::{get, peek, pop_oldest, put};
+use crate::bytes::calls::{copied, get, peek, pop_oldest, put, show};
 use crate::bytes::handle::{BytesMap, LruBytes};
 use crate::bytes::keys::Named;
 use lru_limits::ByWeight;
@@ -53,7 +53,7 @@ pub extern "C" fn lru_bytes_new(
 pub extern "C" fn lru_bytes_free(alloc: Global, lru: &mut LruBytes)
     ensures { lru.new.map ≡ None }
 {
-    lru.take(alloc);
+    drop(lru.take(alloc));
 }
 
 /// Inserts a copy of the value under a copy of the key, as the newest entry, and evicts the oldest entries while the map
@@ -171,6 +171,52 @@ pub extern "C" fn lru_bytes_pop_oldest(
     }
 }
 
+/// Copies the key and the value of the oldest entry into the buffers, if both fit. Returns their lengths. The map stays
+/// as it is.
+#[unsafe(no_mangle)]
+pub extern "C" fn lru_bytes_peek_oldest(
+    alloc: Global,
+    lru: &mut LruBytes,
+    key: &mut [u8],
+    value: &mut [u8],
+) -> Popped
+    ensures { OnMap ((result ≡ no_entry) × (key.new ≡ key.old) × (value.new ≡ value.old))
+        (λ old new. Shows (last old.pairs) result key.old key.new value.old value.new × (new ≡ old))
+        lru.old.map lru.new.map }
+{
+    match lru.take(alloc) {
+        Some(map) => {
+            let answer = show(map.peek_oldest(), key, value);
+            lru.put(map);
+            answer
+        }
+        None => nothing_popped(),
+    }
+}
+
+/// The same for the entry at this index in the order of use, counted from 0, the newest.
+#[unsafe(no_mangle)]
+pub extern "C" fn lru_bytes_peek_at(
+    alloc: Global,
+    lru: &mut LruBytes,
+    index: usize,
+    key: &mut [u8],
+    value: &mut [u8],
+) -> Popped
+    ensures { OnMap ((result ≡ no_entry) × (key.new ≡ key.old) × (value.new ≡ value.old))
+        (λ old new. Shows (slice_get old.pairs index) result key.old key.new value.old value.new × (new ≡ old))
+        lru.old.map lru.new.map }
+{
+    match lru.take(alloc) {
+        Some(map) => {
+            let answer = show(map.get_index(index), key, value);
+            lru.put(map);
+            answer
+        }
+        None => nothing_popped(),
+    }
+}
+
 /// Returns the number of entries.
 #[unsafe(no_mangle)]
 pub extern "C" fn lru_bytes_len(alloc: Global, lru: &mut LruBytes) -> usize
@@ -213,6 +259,45 @@ pub extern "C" fn lru_bytes_budget(alloc: Global, lru: &mut LruBytes) -> u64
             answer
         }
         None => 0,
+    }
+}
+
+/// Sets the budget, and evicts the oldest entries while the entries together weigh more.
+#[unsafe(no_mangle)]
+pub extern "C" fn lru_bytes_set_budget(alloc: Global, lru: &mut LruBytes, budget: u64)
+    ensures { OnMap ⊤ (λ old new.
+        Trims bytes_rules (record old { limiter = record old.limiter { limit = budget } }) new
+        × IsWithin bytes_rules (contents new)) lru.old.map lru.new.map }
+{
+    if let Some(mut map) = lru.take(alloc) {
+        let limiter = map.limiter().with_limit(budget);
+        map.set_limiter(limiter);
+        lru.put(map);
+    }
+}
+
+/// Makes a copy of the map: the same entries in the same order, with the same budget, seeds and capacity. Returns whether
+/// there was a map, and memory for the copy.
+///
+/// A map that the handle of the copy had is dropped.
+#[unsafe(no_mangle)]
+pub extern "C" fn lru_bytes_clone(alloc: Global, lru: &mut LruBytes, copy: &mut LruBytes) -> bool
+    ensures kept { lru.new.map ≡ lru.old.map }
+    ensures made { result ≡ true → OnMap ⊥ Copies lru.old.map copy.new.map }
+    ensures failed { result ≡ false → copy.new.map ≡ None }
+{
+    copy.take(alloc);
+    let Some(map) = lru.take(alloc) else {
+        return false;
+    };
+    let made = copied(alloc, &map);
+    lru.put(map);
+    match made {
+        Some(made) => {
+            copy.put(made);
+            true
+        }
+        None => false,
     }
 }
 

@@ -1,4 +1,4 @@
-use Rattle.std.proofs.Common.{sym, ◌∙◌, Ok, Err}
+use Rattle.std.proofs.Common.{rules, sym, ◌∙◌, Ok, Err}
 use Rattle.lru_c.proofs.calls.insert.Goals as goal
 
 pub returns-in-Ok : goal.returns-in-Ok
@@ -6,10 +6,10 @@ returns-in-Ok c = let (handed, evicted, step) = c.in-Ok.ensures.handed in record
   result = Ok c.in-Ok.inserted.kept;
   handed = handed;
   step = step;
-  evicted = c.as_inserted.ensures.evicted ∙ evicted;
+  evicted = search (rules, evicted);
+  untouched = search rules;
   replaced = c.as_inserted.ensures.replaced ∙ c.in-Ok.ensures.replaced;
-  kept = c.as_inserted.ensures.rest.0;
-  failed = c.as_inserted.ensures.rest.1;
+  code = search rules;
 }
 
 pub returns-in-Err : goal.returns-in-Err
@@ -17,8 +17,8 @@ returns-in-Err c = let (handed, evicted, step) = c.in-Err.ensures.handed in reco
   result = Err c.in-Err.field-0;
   handed = handed;
   step = step;
-  evicted = c.as_inserted-in-Err.ensures.evicted ∙ evicted;
+  evicted = search (rules, evicted);
+  untouched = search rules;
   replaced = c.as_inserted-in-Err.ensures.replaced ∙ sym c.in-Err.ensures.lacks;
-  kept = c.as_inserted-in-Err.ensures.rest.0;
-  failed = c.as_inserted-in-Err.ensures.rest.1;
+  code = search rules;
 }

@@ -1,4 +1,4 @@
-use Rattle.std.proofs.Common.{rules, refl, sym, ap, ◌∙◌, nat_eq, Result, Ok, Err, IfOk, OnErr}
+use Rattle.std.proofs.Common.{◌≡◌, false, rules, sym, ap, ◌∙◌, nat_eq, Result, Ok, Err, IfOk, OnErr}
 use Rattle.std.specs.Prelude.{option_map}
 use Rattle.schnellru.proofs.CallerLemmas.{lookup-entry}
 use Rattle.lru_c.proofs.NotedPairs.{noted_first}
@@ -7,10 +7,27 @@ use Rattle.lru_c.proofs.calls.insert_and_note.Goals as goal
 pub returns-clause-handed : goal.returns-clause-handed
 returns-clause-handed c =
     let (handed, takes, step) = c.insert_full.ensures.handed in
-    let notes = noted_first (λ f. f.1.now) (λ f. f.0) _
-    (λ f pair g called. record { key = search rules; notes = record { place = search rules; pair = search rules } })
-    c.args.key handed _ _ takes refl c.requires in
-    (handed, search (rules, notes.place, notes.pair), step)
+    let notes = noted_first (λ f. record { key = f.2.now; noted = f.0; place = f.1 }) _ (λ f pair g called. record {
+      key = search rules;
+      noted = search rules;
+      place = search rules;
+      pair = search rules;
+      untouched = search rules;
+    }) handed _ _ takes (search rules) in
+    (handed, search (rules, notes.pair, notes.noted, notes.place), step)
+
+pub returns-clause-untouched : goal.returns-clause-untouched
+returns-clause-untouched c none =
+    let (handed, takes, step) = c.insert_full.ensures.handed in
+    let notes = noted_first (λ f. record { key = f.2.now; noted = f.0; place = f.1 }) _ (λ f pair g called. record {
+      key = search rules;
+      noted = search rules;
+      place = search rules;
+      pair = search rules;
+      untouched = search rules;
+    }) handed _ _ takes (search rules) in
+    let no_pair : c.insert_full.new.sink.0.now ≡ false = search (rules, none, notes.noted) in
+    search (rules, (notes.untouched no_pair).1, notes.place)
 
 if_ok : {T E : Type 0} {P Q : T → Type 0} (result : Result T E) → ((value : T) → P value → Q value) → IfOk result P
     → IfOk result Q
