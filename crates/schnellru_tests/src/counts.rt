@@ -2,7 +2,7 @@
 ghost use Rattle.std.specs.Prelude.{◌≡◌};
 ghost use Rattle.lru_limits.specs.Limiters.{no_rules};
 
-use schnellru::{ByLength, Limiter, LruMap, Storing, UnlimitedCompact, Updated};
+use schnellru::{Limiter, LruMap, Storing, UnlimitedCompact, Updated};
 use std::alloc::{AllocError, Global};
 use std::cell::Cell;
 use std::rc::Rc;
@@ -153,29 +153,5 @@ fn a_clear_is_reported_last(rt: HostRuntime) -> Result<(), Fail> {
     map.clear();
     map.trim();
     assert_eq!(rt; (lives.get(), asked.get()), (1, 4));
-    Ok(())
-}
-
-/// The closure of a get that inserts is called once for a key that is not there, and never for one that is.
-#[test]
-fn a_closure_is_called_for_a_new_key_alone(rt: HostRuntime) -> Result<(), Fail> {
-    let calls = Cell::new(0u64);
-    let call = |n: u64| {
-        calls.set(calls.get().saturating_add(1));
-        n
-    };
-    let mut map: LruMap<u64, u64> = LruMap::new(rt.alloc(), ByLength::new(3), [1, 2, 3, 4], 16);
-    for key in [1u64, 2, 1, 3, 2, 3] {
-        let made = map.get_or_insert(key, || call(key)).is_ok()
-            && map
-                .get_or_insert_fallible(key, || Ok::<u64, u64>(call(key)))
-                .is_ok()
-            && map.ensure_newest(key, || call(key)).is_ok()
-            && map
-                .ensure_newest_fallible(key, || Ok::<u64, u64>(call(key)))
-                .is_ok();
-        assert!(rt; made);
-    }
-    assert_eq!(rt; calls.get(), 3);
     Ok(())
 }
