@@ -1,7 +1,7 @@
 -- What an update does, which offers the limiter a new value for a key that is there.
 --     rules, offers       what the limiter says (`Rules`, `Offers` of `lru_limits`)
 --     names i k           the given key i names the key k
-use Rattle.std.specs.Prelude.{◌≡◌, ℕ, Bool, true, false, List, [], Some, None}
+use Rattle.std.specs.Prelude.{◌≡◌, Bool, true, false, List, [], Some, None}
 use Rattle.lru_limits.specs.Rules.{Rules, Offers}
 use Rattle.schnellru.specs.Lists.{lookup_entry, set_entry}
 use Rattle.schnellru.specs.State.{State, Contents, contents, Leaves, trim}

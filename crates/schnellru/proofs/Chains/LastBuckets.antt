@@ -1,7 +1,7 @@
 -- A bucket that comes last in an order: its neighbours, and the chain once it is linked there.
 use Rattle.std.proofs.Common.{◌≡◌, ◌≢◌, ℕ, ◌<◌, Bool, cond, List, [], ◌∷◌, ◌++◌, length, Option, Some, None, ◌⊎◌, inl, inr}
 use Rattle.std.proofs.Common.{refl, ap, sym, ◌∙◌, subst, arith, eq-eqb, ne_eqb}
-use Rattle.std.specs.Prelude.{option_map, nat_eq, Contains, AllPairs}
+use Rattle.std.specs.Prelude.{nat_eq, Contains, AllPairs}
 use Rattle.std.proofs.lemmas.Bool.{cases_eq}
 use Rattle.std.proofs.lemmas.Option.{none-some, same_Some}
 use Rattle.std.proofs.lemmas.List.{length_push}
@@ -9,12 +9,11 @@ use Rattle.std.proofs.lemmas.List.Elements.{Contains-push, Contains-push_cases, 
 use Rattle.std.proofs.lemmas.List.Quantifiers.{all_pairs_push}
 use Rattle.group_table.specs.Link.{IsLinkType}
 use Rattle.group_table.specs.Bucket.{Slot, IsFull, entry_at}
-use Rattle.group_table.proofs.BucketLemmas.{full_lt}
 use Rattle.schnellru.specs.declared.ordered.Entry.{Entry}
 use Rattle.schnellru.specs.Inside.OrderedTable.{without_bucket}
 use Rattle.schnellru.specs.Inside.Chain.{first_bucket, last_bucket, bucket_after, bucket_before, link_to, newer_at}
 use Rattle.schnellru.specs.Inside.Chain.{older_at, SetsOlder, IsChain, IsWhole, pair_slots}
-use Rattle.schnellru.proofs.Chains.Orders.{Contains-nil, Contains-cases, Contains-later, other_than, distinct_head}
+use Rattle.schnellru.proofs.Chains.Orders.{Contains-nil, Contains-cases, Contains-later, distinct_head}
 use Rattle.schnellru.proofs.Chains.Orders.{distinct_tail, before_from, last_from, before_is, last_is, last_in, after_in}
 use Rattle.schnellru.proofs.Chains.Orders.{in_without, length-without}
 use Rattle.schnellru.proofs.Chains.LinkWrites.{chained_below, bucket_by_link, number-link_to, leads_to_full, end_by_link}

@@ -5,7 +5,7 @@ use Rattle.std.proofs.lemmas.Option.{none-some}
 use Rattle.schnellru.specs.Calls.{promoted}
 use Rattle.schnellru.specs.Inserts.{replacement, with_replaced, unkept_of, unkept_value}
 use Rattle.schnellru.specs.Inside.Steps.{IsOffered}
-use Rattle.schnellru.specs.Lists.{lookup_entry, front, set_entry, place_of}
+use Rattle.schnellru.specs.Lists.{lookup_entry, front, place_of}
 use Rattle.schnellru.specs.State.{State, Contents, Leaves, contents}
 use Rattle.schnellru.proofs.Maps.Promotions.{length-front_pairs}
 use Rattle.schnellru.proofs.PairLists.SetEntries.{length-set_entry, place-set_entry, front-set_entry}

@@ -1,5 +1,5 @@
 -- From every map an update can end: there is a result that it may return, and a state after it.
-use Rattle.std.proofs.Common.{◌≡◌, Bool, true, false, length, Option, Some, None, refl, arith}
+use Rattle.std.proofs.Common.{◌≡◌, Bool, true, false, Option, Some, None, refl, arith}
 use Rattle.lru_limits.specs.Rules.{Rules, Offers}
 use Rattle.schnellru.specs.Lists.{lookup_entry}
 use Rattle.schnellru.specs.State.{State, contents, IsSized, trim}

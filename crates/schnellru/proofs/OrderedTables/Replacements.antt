@@ -1,10 +1,9 @@
 -- A pair in a bucket of a linked table, after the limiter wrote to it.
-use Rattle.std.proofs.Common.{◌≡◌, ℕ, suc, ◌+◌, Bool, true, false, refl, ◌∷◌, ◌++◌, Some, sym, ap, ◌∙◌, subst, arith, length}
-use Rattle.std.specs.Prelude.{option_to_list}
+use Rattle.std.proofs.Common.{◌≡◌, ℕ, suc, ◌+◌, Bool, true, false, refl, Some, sym, ap, ◌∙◌, subst, arith, length}
 use Rattle.std.specs.Cmp.{IsEquivalence}
 use Rattle.std.proofs.lemmas.List.{length-set}
 use Rattle.std.proofs.lemmas.Option.{same_Some}
-use Rattle.group_table.specs.Bucket.{IsFull, bucket_at, entry_at, refilled, marks_of, room, room_at}
+use Rattle.group_table.specs.Bucket.{bucket_at, entry_at, refilled, marks_of, room, room_at}
 use Rattle.group_table.specs.Change.{Removes}
 use Rattle.group_table.proofs.ChangeLemmas.{length-removed}
 use Rattle.group_table.proofs.RefillLemmas.{entry_at-refilled, marks_of-refilled}

@@ -1,6 +1,6 @@
--- A list of pairs with another pair in place of that of the named key.
-use Rattle.std.proofs.Common.{◌≡◌, ℕ, ◌+◌, Bool, true, false, cond, List, [], ◌∷◌, length, Option, Some, None, refl, ap}
-use Rattle.std.proofs.Common.{arith, sym, ◌∙◌}
+-- A list of pairs in which another pair replaces the pair of the named key.
+use Rattle.std.proofs.Common.{◌≡◌, ℕ, Bool, true, false, cond, List, [], ◌∷◌, length, Some, None, refl, ap}
+use Rattle.std.proofs.Common.{arith}
 use Rattle.std.proofs.lemmas.Option.{none-some}
 use Rattle.schnellru.specs.Lists.{lookup_entry, without, after, front, set_entry, place_of}
 

@@ -1,4 +1,4 @@
-use Rattle.std.proofs.Common.{Ok, [], refl, sym, ◌∙◌, subst}
+use Rattle.std.proofs.Common.{[], refl, sym, ◌∙◌, subst}
 use Rattle.schnellru.specs.Inserts.{Insert}
 use Rattle.schnellru.proofs.Theorems.AdmittedPairs.{adds}
 use Rattle.schnellru.proofs.Theorems.PlainInserts.{plain_insert}
