@@ -1,6 +1,6 @@
 //! What a line says: a command, which is a call on the map, or, the first line, what limits the map.
 ghost use Rattle.std.specs.Prelude.{◌≡◌, ◌≢◌, ℕ, List, ◌++◌, IfSome, IfNone, true, false};
-ghost use Rattle.lru_replay.specs.Grammar.{SpellsCommand, IsOfKey, IsPlain, SpellsLimit, SpellsPair, SpellsNumber};
+ghost use Rattle.lru_replay.specs.Grammar.{SpellsCommand, IsOfKey, IsRemoval, IsPlain, SpellsLimit, SpellsPair, SpellsNumber};
 ghost use Rattle.lru_replay.specs.Grammar.{StartsAsNumber};
 
 use crate::lines::bytes::index_of;
@@ -129,13 +129,16 @@ pub fn command_of(line: &[u8]) -> Option<Command>
         let n = number(rest)?;
         return Some(Command::Drain(n));
     }
-    match key_command_of(line) {
+    if let Some(command) = key_command_of(line) {
+        return Some(command);
+    }
+    match removal_of(line) {
         Some(command) => Some(command),
         None => plain_command_of(line),
     }
 }
 
-/// Returns the command that the line spells by a word and a key.
+/// Returns the command that the line spells by a key and what is done with it, unless it is removed.
 fn key_command_of(line: &[u8]) -> Option<Command>
     ensures some { IfSome result (λ command. SpellsCommand line.now command) }
     ensures none { IfNone result ((command : Command) → IsOfKey command → SpellsCommand line.now command → ⊥) }
@@ -148,14 +151,6 @@ fn key_command_of(line: &[u8]) -> Option<Command>
         let key = number(rest)?;
         return Some(Command::Peek(key));
     }
-    if let Some(rest) = after(line, b"remove ") {
-        let key = number(rest)?;
-        return Some(Command::Remove(key));
-    }
-    if let Some(rest) = after(line, b"remove-entry ") {
-        let key = number(rest)?;
-        return Some(Command::RemoveEntry(key));
-    }
     if let Some(rest) = after(line, b"contains ") {
         let key = number(rest)?;
         return Some(Command::Contains(key));
@@ -167,6 +162,22 @@ fn key_command_of(line: &[u8]) -> Option<Command>
     if let Some(rest) = after(line, b"demote ") {
         let key = number(rest)?;
         return Some(Command::Demote(key));
+    }
+    None
+}
+
+/// Returns the command by which the line removes a key.
+fn removal_of(line: &[u8]) -> Option<Command>
+    ensures some { IfSome result (λ command. SpellsCommand line.now command) }
+    ensures none { IfNone result ((command : Command) → IsRemoval command → SpellsCommand line.now command → ⊥) }
+{
+    if let Some(rest) = after(line, b"remove ") {
+        let key = number(rest)?;
+        return Some(Command::Remove(key));
+    }
+    if let Some(rest) = after(line, b"remove-entry ") {
+        let key = number(rest)?;
+        return Some(Command::RemoveEntry(key));
     }
     None
 }

@@ -79,7 +79,7 @@ returns-in-Some-RemoveEntry g c =
       inl (
         commands.RemoveEntry c.in-Some-RemoveEntry.key,
         spells,
-        (pair result, inl (result, c.remove_entry.ensures, refl), refl),
+        (pair result, inl (result, c.remove_entry.ensures.step, refl), refl),
       ),
       c.write_left.ensures,
     )
@@ -121,7 +121,7 @@ returns-in-Some-PopOldest g c =
     let result = c.pop_oldest.result in (
       left_text result,
       inl (commands.PopOldest, spells, (pair result, inl (_, c.pop_oldest.ensures.step, refl), refl)),
-      c.write_left.ensures,
+      c.write_left-in-Some-PopOldest.ensures,
     )
 
 pub returns-in-Some-PopNewest : goal.returns-in-Some-PopNewest
