@@ -1,5 +1,5 @@
 //! A disk in memory that fails.
-ghost use Rattle.std.specs.Prelude.{slice_index};
+ghost use Rattle.std.specs.Prelude.{◌≡◌, slice_index};
 
 use lru_caches::BlockDevice;
 use std::cell::Cell;
@@ -31,7 +31,9 @@ impl<'a> Disk<'a> {
     }
 
     /// Counts a call, and returns whether the disk works.
-    fn works(&mut self) -> bool {
+    fn works(&mut self) -> bool
+        ensures { self.new.blocks ≡ self.old.blocks }
+    {
         let left = self.calls_left.get();
         self.calls_left.set(left.saturating_sub(1));
         if left == 0 {

@@ -3,6 +3,7 @@ use crate::disk::{BLOCKS, Disk};
 use lru_caches::{PageCache, Unclosed};
 use std::alloc::Global;
 use std::cell::Cell;
+use test_helpers::Random;
 
 /// What is called.
 #[derive(Clone, Copy)]
@@ -22,36 +23,17 @@ impl Call {
     }
 }
 
-use Call::{Flush, Read, Write};
+/// The number of calls of the list.
+const LENGTH: u64 = 40;
 
-/// Hits and misses, clean and dirty pages that are evicted, flushes of some and of no dirty pages, a page that is
-/// written again after a flush, and a block that the disk lacks.
-const LIST: [Call; 24] = [
-    Write(0, 50),
-    Read(1),
-    Write(2, 52),
-    Read(0),
-    Read(3),
-    Write(3, 53),
-    Flush,
-    Read(9),
-    Write(3, 63),
-    Write(4, 54),
-    Read(5),
-    Flush,
-    Flush,
-    Write(5, 55),
-    Write(6, 56),
-    Write(7, 57),
-    Read(2),
-    Read(6),
-    Write(2, 62),
-    Flush,
-    Read(0),
-    Write(1, 51),
-    Read(7),
-    Flush,
-];
+// The next call of the list: reads, also of a block that the disk lacks, writes, and flushes.
+fn next_call(random: &mut Random) -> Call {
+    match random.below(8) {
+        0..=2 => Call::Read(random.below(BLOCKS as u64 + 1)),
+        3..=6 => Call::Write(random.below(BLOCKS as u64), random.below(1000)),
+        _ => Call::Flush,
+    }
+}
 
 /// The blocks of the disk.
 const INITIAL: [u64; BLOCKS] = [10, 11, 12, 13, 14, 15, 16, 17];
@@ -67,18 +49,18 @@ type Cache<'a> = PageCache<u64, Disk<'a>>;
 // Makes a call on both. Returns whether it succeeded, and whether the result is what an array gives.
 fn make(cache: &mut Cache, model: &mut [u64; BLOCKS], call: Call) -> (bool, bool) {
     match call {
-        Read(n) => match cache.read(n) {
+        Call::Read(n) => match cache.read(n) {
             Ok(block) => (true, model.get(n as usize) == Some(&block)),
             Err(_) => (false, true),
         },
-        Write(n, block) => match (cache.write(n, block), model.get_mut(n as usize)) {
+        Call::Write(n, block) => match (cache.write(n, block), model.get_mut(n as usize)) {
             (Ok(()), Some(place)) => {
                 *place = block;
                 (true, true)
             }
             (written, _) => (written.is_ok(), written.is_err()),
         },
-        Flush => match cache.flush() {
+        Call::Flush => match cache.flush() {
             Ok(()) => (true, cache.device().blocks == *model),
             Err(_) => (false, true),
         },
@@ -100,7 +82,9 @@ fn run(alloc: Global, capacity: usize, k: u64, stays_broken: bool) -> (bool, boo
     let calls_left = Cell::new(k);
     let mut cache = PageCache::new(alloc, Disk::new(INITIAL, &calls_left), capacity);
     let (mut model, mut right) = (INITIAL, true);
-    for call in LIST {
+    let mut random = Random::new(7);
+    for _ in 0..LENGTH {
+        let call = next_call(&mut random);
         let before = cache.device().failures;
         let (is_ok, agrees) = make(&mut cache, &mut model, call);
         let failed = cache.device().failures > before;

@@ -56,7 +56,10 @@ where
 }
 
 // Whether a device has the blocks of a list.
-fn has_blocks<D: BlockDevice<Block>>(device: &mut D, model: &Vec<u64>) -> bool {
+fn has_blocks<D: BlockDevice<Block>>(device: &mut D, model: &Vec<u64>) -> bool
+where
+    D::Error: Drop,
+{
     let mut right = true;
     for (n, number) in model.iter().enumerate() {
         right = right

@@ -45,11 +45,7 @@ fn count<F: Fn(u64) -> u64>(
     for _ in 0..CALLS / LENGTHS.len() as u64 {
         let key = random.below(KEYS);
         calls.set(0);
-        let result = if random.below(2) == 0 {
-            memo.answer(key)
-        } else {
-            memo.answer_with(key, |square| *square)
-        };
+        let result = memo.answer(key);
         let expected_calls = if use_key(&mut keys, length, key) {
             0
         } else {
