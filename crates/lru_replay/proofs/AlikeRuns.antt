@@ -1,5 +1,5 @@
 -- In tables of up to 16 buckets two runs of the same calls are alike.
-use Rattle.std.proofs.Common.{◌≡◌, ℕ, ◌+◌, ◌-◌, ◌≤◌, Bool, true, false, List, [], ◌∷◌, ◌++◌, Option, Some, None, Result, Ok, Err}
+use Rattle.std.proofs.Common.{◌≡◌, ℕ, ◌+◌, ◌-◌, ◌≤◌, Bool, true, false, List, [], ◌∷◌, ◌++◌, Option, Some, None, Result}
 use Rattle.std.proofs.Common.{refl, sym, ap, ◌∙◌, subst, inl, inr, ◌⊎◌, map, length, arith, option_map}
 use Rattle.std.specs.Prelude.{is_err, is_some, IsTrue}
 use Rattle.std.specs.List.{AllByRecursion}
@@ -9,7 +9,7 @@ use Rattle.std.specs.declared.alloc.AllocError.{AllocError}
 use Rattle.group_table.specs.Probe.{hash_tag}
 use Rattle.lru_limits.specs.Rules.{Rules, Offers}
 use Rattle.schnellru.proofs.CallerLemmas.{Shape, shape, same_shape, look_alike, with_left, left_shape}
-use Rattle.schnellru.proofs.CallerLemmas.{clears, cleared_shape, is_memory, reserve_in, reserve_is, found_named}
+use Rattle.schnellru.proofs.CallerLemmas.{clears, cleared_shape, reserve_in, reserve_is, found_named}
 use Rattle.schnellru.proofs.CallerLemmas.{shrinks_look_alike}
 use Rattle.schnellru.proofs.HandingLemmas.{plain, small_inserts_alike}
 use Rattle.schnellru.specs.Calls.{left_of, removal, pop_first}
@@ -27,11 +27,10 @@ use Rattle.schnellru.specs.State.{State, buckets, contents, pop, pops, trim}
 use Rattle.schnellru.specs.Updates.{Update, updated as accepts, rejected, not_there}
 use Rattle.schnellru.specs.declared.map.reserve.ReserveError.{ReserveError}
 use Rattle.schnellru.specs.declared.map.update.Updated.{Updated}
-use Rattle.schnellru.specs.declared.map.reserve.ReserveError.TheVariants.{TooLarge, Refused, Memory}
 use Rattle.lru_replay.specs.CallRuns.{IsRun, CallStep, SummingStep, KeepsCost, HasPlainSearch, StoresPairs}
 use Rattle.lru_replay.specs.Figures.{IsFigures}
 use Rattle.lru_replay.specs.Replies.{Reply, flag, given, updated, value, pair, listed, reserved, shrunk, stats, done, no_memory}
-use Rattle.lru_replay.specs.Replies.{insert_reply, made_reply, cost_differs, Want, found_all, lacks, lacks_beside}
+use Rattle.lru_replay.specs.Replies.{insert_reply, made_reply, cost_differs}
 use Rattle.lru_replay.specs.Replies.{want_of}
 use Rattle.lru_replay.specs.Steps.{ReplyStep, FindsByHash, found, not_found, promoted_if}
 use Rattle.lru_replay.specs.declared.calls.call.Call.{Call}

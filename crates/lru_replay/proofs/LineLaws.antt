@@ -12,7 +12,6 @@ use Rattle.lru_replay.specs.CallRuns.{IsRun}
 use Rattle.lru_replay.specs.Commands.{call_of}
 use Rattle.lru_replay.specs.LineRuns.{AnswersCommand, LineStep}
 use Rattle.lru_replay.specs.Maps.{Map, hash_of}
-use Rattle.lru_replay.specs.Replies.{Reply}
 use Rattle.lru_replay.proofs.CallKinds.{Kind, calls_map, stays, writes_value, sets_limiter, kind_of}
 
 -- the call neither writes a value nor sets a limiter

@@ -1,4 +1,4 @@
-use Rattle.std.proofs.Common.{sym, refl, ◌∙◌}
+use Rattle.std.proofs.Common.{sym, refl}
 use Rattle.std.proofs.Common.{◌≡◌}
 use Rattle.schnellru.specs.Calls.{cleared}
 use Rattle.lru_tenants.specs.TenantRuns.{IfOpen}

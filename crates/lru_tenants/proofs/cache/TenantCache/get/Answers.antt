@@ -1,4 +1,4 @@
-use Rattle.std.proofs.Common.{subst, Some, None, Err, sym, refl, ◌∙◌, ap, is_some}
+use Rattle.std.proofs.Common.{subst, Some, None, Err, sym, refl, ap, is_some}
 use Rattle.schnellru.specs.Calls.{promoted, written}
 use Rattle.schnellru.specs.Lists.{lookup}
 use Rattle.schnellru.proofs.CallerLemmas.{read_back, promoted-absent}

@@ -1,8 +1,7 @@
-use Rattle.std.proofs.Common.{◌≡◌, ◌+◌, inl, inr, true, false, Some, None, Ok, Err, arith, sym, refl, ◌∙◌, ap, subst}
-use Rattle.std.proofs.lemmas.Map.Views.{All-values-PutsEntry}
+use Rattle.std.proofs.Common.{◌+◌, inl, inr, Some, None, Ok, Err, arith, sym, refl, ◌∙◌, ap, subst}
 use Rattle.std.proofs.lemmas.Map.Entries.{sum_by_puts_entry}
 use Rattle.lru_tenants.proofs.TotalCosts.{opened}
-use Rattle.lru_tenants.specs.Cache.{tenant, fresh, is_above, IsTenant}
+use Rattle.lru_tenants.specs.Cache.{tenant, fresh, is_above}
 use Rattle.lru_tenants.specs.TenantRuns.{Opens}
 use Rattle.lru_tenants.specs.declared.error.TenantError.TheVariants.{Memory, OverTotal}
 use Rattle.lru_tenants.proofs.Changes.{cache_of, on-same, on-from, leaves-updated, open-again, absent-from}

@@ -1,4 +1,4 @@
-use Rattle.std.proofs.Common.{[], None, sym, refl, ◌∙◌}
+use Rattle.std.proofs.Common.{[], None, sym, refl}
 use Rattle.lru_tenants.specs.TenantRuns.{Puts, PutHands, PassesOn}
 use Rattle.lru_tenants.proofs.Changes.{cache_of, on-same, on-written}
 use Rattle.lru_tenants.proofs.Kept.{kept-written, same-sum}

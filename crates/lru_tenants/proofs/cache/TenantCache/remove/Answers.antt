@@ -1,4 +1,4 @@
-use Rattle.std.proofs.Common.{sym, refl, ◌∙◌}
+use Rattle.std.proofs.Common.{sym, refl}
 use Rattle.schnellru.specs.Calls.{Remove}
 use Rattle.lru_tenants.specs.TenantRuns.{IfOpen}
 use Rattle.lru_tenants.proofs.Changes.{on-written}

@@ -1,9 +1,8 @@
-use Rattle.std.proofs.Common.{◌≡◌, ◌+◌, ◌-◌, [], None, Some, Err, Ok, true, false, arith, sym, refl, ◌∙◌, ap, subst}
-use Rattle.std.specs.Prelude.{Bool}
+use Rattle.std.proofs.Common.{◌+◌, ◌-◌, [], None, Some, Err, Ok, arith, sym, refl, ◌∙◌, ap, subst}
 use Rattle.std.proofs.lemmas.Map.Steps.{set_value_same}
-use Rattle.lru_tenants.specs.Cache.{IsTenant, is_above, is_over}
+use Rattle.lru_tenants.specs.Cache.{IsTenant, is_above}
 use Rattle.lru_tenants.specs.TenantRuns.{SetsBudget, BudgetHands, PassesOn}
-use Rattle.lru_tenants.specs.declared.error.TenantError.TheVariants.{NotOpen, OverTotal}
+use Rattle.lru_tenants.specs.declared.error.TenantError.TheVariants.{OverTotal}
 use Rattle.lru_tenants.proofs.Changes.{cache_of, found-all, on-same, on-written}
 use Rattle.lru_tenants.proofs.Kept.{kept-rebudgeted, kept-written, own-within, sum-fits, sum-with, sum-written}
 use Rattle.lru_tenants.proofs.cache.TenantCache.set_budget_with.Goals as goal
