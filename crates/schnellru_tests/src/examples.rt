@@ -160,6 +160,8 @@ fn of_values_that_are_counted(rt: HostRuntime) -> Result<(), Fail> {
 #[test]
 fn of_walks(rt: HostRuntime) -> Result<(), Fail> {
     let mut map = three(rt.alloc())?;
+    let mut walk = map.iter();
+    assert!(rt; walk.next() == Some((&3, &30)) && walk.next_back() == Some((&1, &10)));
     let mut total = 0u64;
     for (key, value) in &map {
         total = total.wrapping_add(key.wrapping_mul(*value));
