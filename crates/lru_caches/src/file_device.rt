@@ -23,7 +23,7 @@ pub enum FileError {
     /// The device has no block of this number.
     #[error("no such block")]
     NoBlock,
-    /// The file's block, or its hash, is not that of the block which was written last.
+    /// The file's block, or its hash, differs from what was written there last.
     #[error("the file has changed")]
     Changed,
     /// Out of memory for a copy or a hash of each block.

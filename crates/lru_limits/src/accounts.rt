@@ -111,7 +111,7 @@ impl<T> Costed for Vec<T> {
 ///
 /// The total is the sum over the pairs of the map after each call, unless somebody writes to the values or to the
 /// limiter through a reference: each callback changes the total as the laws say. The two laws that subtract a cost hold
-/// only if the total is at least that cost. `docs/LIMITERS.md` shows an impl.
+/// only if the total is at least that cost. `docs/LIMITERS.md` explains an impl.
 ///
 /// ```
 /// assert_eq!(rt; Summing::<u64, u64, u64>::account(&limiter), 2);

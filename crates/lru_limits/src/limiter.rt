@@ -1,7 +1,7 @@
 //! What a limiter is: the callbacks of a map, and their laws.
 //!
 //! A `ghost` member of a trait is a term that only the prover sees: each impl defines its own, its code is proved to
-//! compute it, and the contracts of the map cite it. `docs/LIMITERS.md` goes through two impls line by line.
+//! compute it, and the contracts of the map cite it. `docs/LIMITERS.md` explains an impl.
 ghost use Rattle.std.specs.Prelude.{◌≡◌, IfOk, OnErr};
 ghost use Rattle.lru_limits.specs.Laws.{IsInsertion};
 ghost use Rattle.lru_limits.specs.Rules.{Rules, Offers};

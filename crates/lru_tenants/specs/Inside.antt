@@ -9,6 +9,6 @@ pub record Holds {N K V L S : Type 0} (eq : K → K → Bool) (cost : K → V �
     (table : HashMap N (State K V L S) S) (builder : S) (total : ℕ) (limit : Option ℕ) : Type 0 where
   pub tenants : All (IsTenant eq cost account budget) (values table)
   pub hasher : hasher_of table ≡ builder
-  -- the sum that is kept is that of the budgets, and within the limit
+  -- the sum that is kept is the sum of the budgets, and within the limit
   pub sum : total ≡ sum_by (λ map. budget map.limiter) (values table)
   pub within : is_above limit total ≡ false

@@ -96,7 +96,8 @@ impl<N: Eq + Hash, K: Eq + Hash, V, L: Budgeted<K, V>, S: KeyHasher<K> + Copy> T
     L,
     S,
 > {
-    /// Makes a cache without tenants and without a total limit, under any limiter with a budget, with this hasher of names and keys.
+    /// Makes a cache without tenants and without a total limit, under any limiter with a budget, with this hasher of
+    /// names and keys.
     ///
     /// If strangers choose names or keys, take std's `RandomState::new(&rt)?`, whose hashes nobody can guess. Each map
     /// counts `entry_bytes` bytes an entry, as `LruMap::with_hasher` does. Cost: `O(1)`, and no memory.
@@ -168,7 +169,7 @@ impl<
     /// # Errors
     ///
     /// `AlreadyOpen`; `OverTotal`: the sum of all budgets would be above the total limit; or `Memory`: there was none for
-    /// one tenant more. All change nothing.
+    /// one tenant more. An error changes nothing.
     pub fn open(&mut self, name: N, budget: u64) -> Result<(), TenantError>
         ensures opens { On N.eq name (Opens (is_over L.budget_of (N.eq name) budget self.old)
             (fresh L.made (L.LinkType.number L.LinkType.MAX) self.old budget)) self.old result self.new }

@@ -22,26 +22,26 @@ pub data IsReady {K V S H : Type 0} (rules : Rules K V S) (old ready : State K V
 
 module _ {K V S : Type 0} (terms : Terms K V S) (rules : Rules K V S) where
   -- the limiter accepts the pair of a new key, and is not over its limit once it is stored
-  abbrev pub has_place : K → V → Contents K V S → Bool
-  has_place key value c = if terms.accepts c.limiter (length c.pairs) key value
+  abbrev pub can_store : K → V → Contents K V S → Bool
+  can_store key value c = if terms.accepts c.limiter (length c.pairs) key value
       then not (rules.is_over_the_limit (terms.on_stored c.limiter (length c.pairs) key value) (length c.pairs + 1))
       else false
 
   module _ {H : Type 0} (key : K) (value : V) (old : State K V S H) where
-    -- a reservation fails, or leaves a limiter that has no place for the pair
+    -- a reservation fails, or leaves a limiter that cannot store the pair
     pub data IsUnready (left : State K V S H) : Type 0 where
       not_reserved : room old ≡ 0 → (error : ReserveError) → Reserve rules 1 old (Err error) left →
           IsUnready left
-      no_place_then : room old ≡ 0 → Reserve rules 1 old (Ok tt) left → has_place key value (contents left) ≡ false →
+      cannot_store_then : room old ≡ 0 → Reserve rules 1 old (Ok tt) left → can_store key value (contents left) ≡ false →
           IsUnready left
 
     module _ (offers : Offers K V S K) (eq : K → K → Bool) (hash_of : H → K → ℕ) where
       pub data TryInsert (result : Result (Unit {0}) (K × V)) (new : State K V S H) : Type 0 where
-        -- The key is there, or the limiter has no place for the pair, and nothing changes.
+        -- The key is there, or the limiter cannot store the pair, and nothing changes.
         there : (pair : K × V) → lookup_entry (eq key) old.pairs ≡ Some pair →
             result ≡ Err (key, value) → new ≡ old →
             TryInsert result new
-        no_place : lookup_entry (eq key) old.pairs ≡ None → has_place key value (contents old) ≡ false →
+        cannot_store : lookup_entry (eq key) old.pairs ≡ None → can_store key value (contents old) ≡ false →
             result ≡ Err (key, value) → new ≡ old →
             TryInsert result new
         -- There is no growth left, and none is made,
@@ -50,6 +50,6 @@ module _ {K V S : Type 0} (terms : Terms K V S) (rules : Rules K V S) where
             TryInsert result new
         -- or the pair is inserted.
         inserted : lookup_entry (eq key) old.pairs ≡ None →
-            (ready : State K V S H) → IsReady rules old ready → has_place key value (contents ready) ≡ true →
+            (ready : State K V S H) → IsReady rules old ready → can_store key value (contents ready) ≡ true →
             result ≡ Ok tt → Insert rules offers eq hash_of key value ready (Ok true) new →
             TryInsert result new

@@ -45,18 +45,19 @@ fn iter_mut_works(rt: HostRuntime) -> Result<(), Fail> {
 fn walks_that_do_not_end(rt: HostRuntime) -> Result<(), Fail> {
     let mut map = three_costs(rt.alloc())?;
     let mut walk = map.iter_mut();
-    if let Some((_, value)) = walk.next_back() {
-        *value = 10;
+    if walk.len() > 0 {
+        let (_, value) = walk.lend_next_back();
+        *value = 100;
     }
     forget(walk);
     forget(map.iter());
-    assert!(rt; is_list(&map, &[(3, 3), (2, 2), (1, 10)]));
+    assert!(rt; is_list(&map, &[(3, 3), (2, 2), (1, 100)]));
     let mut drain = map.drain();
     assert_eq!(rt; (drain.next(), drain.len()), (Some((3, 3)), 2));
     forget(drain);
-    assert!(rt; is_list(&map, &[(2, 2), (1, 10)]));
+    assert!(rt; is_list(&map, &[(2, 2), (1, 100)]));
     assert_eq!(rt; map.limiter().cost(), 3);
-    assert!(rt; map.insert(4, 4)? && is_list(&map, &[(4, 4), (2, 2), (1, 10)]));
+    assert!(rt; map.insert(4, 4)? && is_list(&map, &[(4, 4), (2, 2), (1, 100)]));
     drop(map.drain());
     assert_eq!(rt; (map.len(), map.limiter().cost()), (0, 0));
     Ok(())

@@ -16,8 +16,8 @@ use Rattle.schnellru.specs.declared.map.reserve.ReserveError.{ReserveError}
 use Rattle.schnellru.specs.Inserts.{Insert}
 use Rattle.schnellru.specs.Runs.{Step, reserves, inserts, Run, ends, goes_on}
 use Rattle.schnellru.specs.Kept.{AcceptsNew}
-use Rattle.schnellru.specs.TryInserts.{has_place, IsReady, has_growth, reserved, not_reserved, no_place_then}
-use Rattle.schnellru.specs.TryInserts.{TryInsert, there, no_place, unready, inserted}
+use Rattle.schnellru.specs.TryInserts.{can_store, IsReady, has_growth, reserved, not_reserved, cannot_store_then}
+use Rattle.schnellru.specs.TryInserts.{TryInsert, there, cannot_store, unready, inserted}
 use Rattle.schnellru.proofs.Theorems.Reservations.{reserved_list, makes_room}
 use Rattle.schnellru.proofs.Theorems.RoomyInserts.{is_added}
 
@@ -28,7 +28,7 @@ both false d e = absurd (false≢true e)
 
 module _ {K V S : Type 0} (terms : Terms K V S) (rules : Rules K V S) (offers : Offers K V S K) (eq : K → K → Bool)
     (law : IsAdmission terms offers) (key : K) (value : V) where
-  pub accepts_new : (c : Contents K V S) → has_place terms rules key value c ≡ true
+  pub accepts_new : (c : Contents K V S) → can_store terms rules key value c ≡ true
       → AcceptsNew rules offers eq key value c (key, value)
   accepts_new c place =
       let n = length c.pairs in
@@ -50,7 +50,7 @@ module _ {K V S : Type 0} (terms : Terms K V S) (rules : Rules K V S) (offers : 
     pub limiter : new.limiter ≡ terms.on_stored old.limiter (length old.pairs) key value
 
   pub adds : {H : Type 0} {hash_of : H → K → ℕ} (old : State K V S H) (result : Result Bool AllocError)
-      (new : State K V S H) → has_place terms rules key value (contents old) ≡ true
+      (new : State K V S H) → can_store terms rules key value (contents old) ≡ true
       → lookup_entry (eq key) old.pairs ≡ None → 0 < room old
       → Insert rules offers eq hash_of key value old result new → Adds old result new
   adds old result new place absent some step =
@@ -110,7 +110,7 @@ module _ {K V S H : Type 0} (terms : Terms K V S) (rules : Rules K V S) (offers 
   stays = record { calls = ends; added = tt; within = tt; returned = refl; keeps = refl; unchanged = λ some. refl }
 
   adds_after : (ready new : State K V S H) → IsReady rules old ready
-      → has_place terms rules key value (contents ready) ≡ true → lookup_entry (eq key) old.pairs ≡ None
+      → can_store terms rules key value (contents ready) ≡ true → lookup_entry (eq key) old.pairs ≡ None
       → Insert rules offers eq hash_of key value ready (Ok true) new → IsSized new → Says (Ok tt) new
   adds_after ready new is place absent step sized =
       let same = ready_pairs rules old ready is in
@@ -137,8 +137,8 @@ module _ {K V S H : Type 0} (terms : Terms K V S) (rules : Rules K V S) (offers 
   pub says : (result : Result (Unit {0}) (K × V)) (new : State K V S H) → IsSized new
       → TryInsert terms rules key value old offers eq hash_of result new → Says result new
   says result new sized (there pair found r e) = rw (r, e) stays
-  says result new sized (no_place absent full r e) = rw (r, e) stays
+  says result new sized (cannot_store absent full r e) = rw (r, e) stays
   says result new sized (unready absent (not_reserved none error step) r) = rw r (refuses (Err error) new none step sized)
-  says result new sized (unready absent (no_place_then none step full) r) = rw r (refuses (Ok tt) new none step sized)
+  says result new sized (unready absent (cannot_store_then none step full) r) = rw r (refuses (Ok tt) new none step sized)
   says result new sized (inserted absent ready is place r step) =
       rw r (adds_after ready new is place absent step sized)

@@ -4,7 +4,7 @@ ghost use Rattle.schnellru.specs.Lists.{lookup_entry};
 ghost use Rattle.schnellru.specs.State.{IsMap, contents, room};
 ghost use Rattle.schnellru.specs.Inserts.{Insert};
 ghost use Rattle.schnellru.specs.Runs.{Step, Run};
-ghost use Rattle.schnellru.specs.TryInserts.{TryInsert, IsReady, IsUnready, has_place};
+ghost use Rattle.schnellru.specs.TryInserts.{TryInsert, IsReady, IsUnready, can_store};
 
 use crate::map::LruMap;
 use lru_limits::{Admission, KeyHasher};
@@ -65,7 +65,7 @@ impl<K: Eq + Hash + Drop, V: Drop, L: Admission<K, V> + Copy, S: KeyHasher<K>> L
         requires absent { lookup_entry (K.eq key) self.old.pairs ≡ None }
         ensures { TryInsert L.terms L.rules key value self.old L.offers K.eq S.hash_of result self.new }
     {
-        if !self.has_place_for(&key, &value) {
+        if !self.can_store(&key, &value) {
             return Err((key, value));
         }
         if !self.get_ready_for(&key, &value) {
@@ -75,26 +75,26 @@ impl<K: Eq + Hash + Drop, V: Drop, L: Admission<K, V> + Copy, S: KeyHasher<K>> L
         Ok(())
     }
 
-    // Makes sure that there is growth left for one entry more. Returns whether there is, and a place for this entry.
+    // Makes sure that there is growth left for one entry more. Returns whether there is, and the limiter can store the entry then.
     fn get_ready_for(&mut self, key: &K, value: &V) -> bool
-        requires place { has_place L.terms L.rules key.now value.now (contents self.old) ≡ true }
+        requires storable { can_store L.terms L.rules key.now value.now (contents self.old) ≡ true }
         ensures ready { IsTrue result → IsReady L.rules self.old self.new }
         ensures growth { IsTrue result → 0 < room self.new }
-        ensures place { IsTrue result → has_place L.terms L.rules key.now value.now (contents self.new) ≡ true }
+        ensures storable { IsTrue result → can_store L.terms L.rules key.now value.now (contents self.new) ≡ true }
         ensures unready { result ≡ false → IsUnready L.terms L.rules key.now value.now self.old self.new }
     {
         if self.growth_left() > 0 {
             return true;
         }
         match self.try_reserve(1) {
-            Ok(()) => self.has_place_for(key, value),
+            Ok(()) => self.can_store(key, value),
             Err(_) => false,
         }
     }
 
     // Returns whether the limiter accepts the entry of a new key, and is not over its limit with it.
-    fn has_place_for(&self, key: &K, value: &V) -> bool
-        ensures place { result ≡ has_place L.terms L.rules key.now value.now (contents self.now) }
+    fn can_store(&self, key: &K, value: &V) -> bool
+        ensures storable { result ≡ can_store L.terms L.rules key.now value.now (contents self.now) }
         ensures map { IsMap K.eq self.now }
     {
         let length = self.entries.len();
@@ -106,12 +106,12 @@ impl<K: Eq + Hash + Drop, V: Drop, L: Admission<K, V> + Copy, S: KeyHasher<K>> L
         !limiter.is_over_the_limit(length + 1)
     }
 
-    // Inserts a key that is new and has this hash, if there is growth left, and a place for the entry.
+    // Inserts a key that is new and has this hash, if there is growth left and the limiter can store the entry.
     fn add(&mut self, hash: u64, key: K, value: V)
         requires hash { (k : K) → IsTrue (K.eq key k) → hash ≡ S.hash_of self.old.hasher k }
         requires absent { lookup_entry (K.eq key) self.old.pairs ≡ None }
         requires room { 0 < room self.old }
-        requires place { has_place L.terms L.rules key value (contents self.old) ≡ true }
+        requires storable { can_store L.terms L.rules key value (contents self.old) ≡ true }
         ensures { Insert L.rules L.offers K.eq S.hash_of key value self.old (Ok true) self.new }
     {
         match self.insert_new(hash, key, value, &mut |_, _| {}) {

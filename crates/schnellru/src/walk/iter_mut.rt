@@ -118,7 +118,14 @@ impl<'a, K: Eq + Hash, V, L: Limiter<K, V>, S: KeyHasher<K>> IterMut<'a, K, V, L
         }
     }
 
-    /// The same as `next_back`, if a pair is left. An example is at `lend_next`.
+    /// The same as `next_back`, if a pair is left.
+    ///
+    /// ```
+    /// if walk.len() > 0 {
+    ///     let (_, value) = walk.lend_next_back();
+    ///     *value = 100;
+    /// }
+    /// ```
     pub fn lend_next_back(&mut self) -> (&K, &mut V)
         requires some { walk_start self.old < walk_end self.old }
         ensures* writes_back { sem 𝓛 (lends_last K.row V.row L.row S.row L.LinkType.row S.Hasher.row K.Hash L.Limiter

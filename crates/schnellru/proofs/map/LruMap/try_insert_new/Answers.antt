@@ -1,11 +1,11 @@
 use Rattle.std.proofs.Common.{refl, ap, sym, ◌∙◌}
-use Rattle.schnellru.specs.TryInserts.{no_place, unready, inserted}
+use Rattle.schnellru.specs.TryInserts.{cannot_store, unready, inserted}
 use Rattle.schnellru.proofs.Theorems.AdmittedPairs.{ready_pairs, ready_hasher}
 use Rattle.schnellru.proofs.map.LruMap.try_insert_new.Goals as goal
 
-pub returns-then-not-has_place_for : goal.returns-then-not-has_place_for
-returns-then-not-has_place_for g c =
-    no_place c.requires.absent (sym c.has_place_for.ensures.place ∙ c.if-not-has_place_for.true) refl refl
+pub returns-then-not-can_store : goal.returns-then-not-can_store
+returns-then-not-can_store g c =
+    cannot_store c.requires.absent (sym c.can_store.ensures.storable ∙ c.if-not-can_store.true) refl refl
 
 pub returns-then-not-get_ready_for : goal.returns-then-not-get_ready_for
 returns-then-not-get_ready_for g c =
@@ -23,4 +23,4 @@ add-requires-clause-absent g c =
 pub returns : goal.returns
 returns g c =
     let yes = c.if-not-get_ready_for.false in
-    inserted c.requires.absent _ (c.get_ready_for.ensures.ready yes) (c.get_ready_for.ensures.place yes) refl c.add.ensures
+    inserted c.requires.absent _ (c.get_ready_for.ensures.ready yes) (c.get_ready_for.ensures.storable yes) refl c.add.ensures
