@@ -2,7 +2,8 @@
 """Checks that each line of an example in a doc comment stands in a test, and lists public items without an example.
 
 Run it at the top of the repository: `python3 docs/check_examples.py`. It prints what is missing, and exits with 1 if a
-line of an example is in no test. Layout, `rt.alloc()` for `alloc`, and a trailing comma make no difference.
+line of an example is in no test. Layout, `rt.alloc()` for `alloc`, and a trailing comma make no difference. Tests write
+`expect(&rt, a == b)` for `assert_eq!(rt; a, b)`, and `expect(&rt, a)` for `assert!(rt; a)`, which is proved faster.
 """
 import pathlib
 import re
@@ -13,10 +14,52 @@ LIBRARIES = ["group_table", "lru_limits", "schnellru", "lru_replay", "lru_tenant
 ITEM = re.compile(r"^\s*pub (?:const )?(?:fn|struct|enum|trait|type) (\w+)")
 
 
+STRING = re.compile(r'"(?:\\.|[^"\\])*"')
+GENERICS = re.compile(r"(?:::|->\w*)<[^<>;(){}]*(?:<[^<>]*>[^<>;(){}]*)*>")
+
+
+def arguments(text, start):
+    """The arguments of a macro that begin at `start`, and the position behind its closing parenthesis."""
+    depth, at, found = 1, start, [start]
+    while depth:
+        skipped = STRING.match(text, at) or GENERICS.match(text, at)
+        if skipped:
+            at = skipped.end()
+            continue
+        depth += (text[at] in "([{") - (text[at] in ")]}")
+        if text[at] == "," and depth == 1:
+            found.append(at + 1)
+        at += 1
+    return [text[a:b].rstrip(",") for a, b in zip(found, found[1:] + [at - 1])], at
+
+
+def expected(text):
+    """The text with a call of `expect` in place of each assertion without a message."""
+    at = 0
+    while (macro := re.compile(r"assert(_eq)?!\(rt;").search(text, at)):
+        given, end = arguments(text, macro.end())
+        given = [it for it in given if it]
+        if len(given) == 1 + (macro[1] is not None):
+            text = f"{text[:macro.start()]}expect(&rt,{'=='.join(given)}){text[end:]}"
+        at = macro.start() + 1
+    return text
+
+
 def plain(text):
     """The text without white space, with one name for the allocator, and without trailing commas."""
     text = re.sub(r"\s+", "", text).replace("rt.alloc()", "alloc")
-    return re.sub(r",([)\]}])", r"\1", text)
+    return expected(re.sub(r",([)\]}])", r"\1", text))
+
+
+def statements(example):
+    """The lines of an example, with those of one assertion joined."""
+    joined = []
+    for at, text in example:
+        if joined and joined[-1][1].count("(") > joined[-1][1].count(")") and "assert" in joined[-1][1]:
+            joined[-1] = (joined[-1][0], joined[-1][1] + text.strip())
+        else:
+            joined.append((at, text))
+    return joined
 
 
 def sources(crate):
@@ -58,7 +101,7 @@ def main():
                 whole += bool(example)
                 if not example:
                     bare.append(f"{short}:{at}: {name}")
-                lost += [f"{short}:{line}: {text.strip()}" for line, text in example
+                lost += [f"{short}:{line}: {text.strip()}" for line, text in statements(example)
                          if plain(text).strip("{}") and plain(text).rstrip(",") not in tests]
     if "--bare" in sys.argv:
         print("\n".join(bare))

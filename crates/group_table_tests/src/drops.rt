@@ -5,6 +5,7 @@ use std::alloc::{AllocError, Global};
 use std::cell::Cell;
 use std::rc::Rc;
 use std::test::Fail;
+use test_helpers::expect;
 
 // A table of 16 buckets with 14 entries. The count of their value is one more than the entries that live.
 fn sharing(alloc: Global, shared: &Rc<u64>) -> Result<Table<Rc<u64>>, AllocError> {
@@ -34,7 +35,7 @@ fn entries_are_dropped(rt: HostRuntime) -> Result<(), Fail> {
         let cleared = Rc::strong_count(&shared);
         drop(table);
         let counts = (moved, cleared, Rc::strong_count(&shared));
-        assert_eq!(rt; counts, (14, if is_cleared { 1 } else { 14 }, 1));
+        expect(&rt, counts == (14, if is_cleared { 1 } else { 14 }, 1));
     }
     Ok(())
 }
@@ -55,15 +56,16 @@ fn copies_are_dropped(rt: HostRuntime) -> Result<(), Fail> {
         });
         let counts = (asked.get(), Rc::strong_count(&shared));
         drop(copy);
-        assert_eq!(rt;
-            counts,
-            if refused == 15 {
-                (14, 29)
-            } else {
-                (refused, 15)
-            }
+        expect(
+            &rt,
+            counts
+                == (if refused == 15 {
+                    (14, 29)
+                } else {
+                    (refused, 15)
+                }),
         );
-        assert_eq!(rt; Rc::strong_count(&shared), 15);
+        expect(&rt, Rc::strong_count(&shared) == 15);
     }
     Ok(())
 }

@@ -65,7 +65,7 @@ fn memory_is_given_back(rt: HostRuntime) -> Result<(), Fail> {
             taken = taken.wrapping_add(take_steps(rt.alloc(), steps).is_ok() as u32);
         }
         drop(hog);
-        assert_eq!(rt; taken, 10, "{requests:?}");
+        assert!(rt; taken == 10, "{requests:?}");
     }
     Ok(())
 }

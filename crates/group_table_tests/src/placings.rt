@@ -2,7 +2,7 @@
 use super::tables::{exchange, first_free, keys_of, table_of};
 use group_table::full_capacity;
 use std::test::Fail;
-use test_helpers::Random;
+use test_helpers::{Random, expect};
 
 #[test]
 fn a_search_asks_about_its_tag(rt: HostRuntime) -> Result<(), Fail> {
@@ -19,7 +19,7 @@ fn a_search_asks_about_its_tag(rt: HostRuntime) -> Result<(), Fail> {
             asked = asked.wrapping_mul(10).wrapping_add(*entry);
             *entry == accepted
         });
-        assert_eq!(rt; (b, asked), (found, all));
+        expect(&rt, (b, asked) == (found, all));
     }
     Ok(())
 }
@@ -40,11 +40,11 @@ fn removals(rt: HostRuntime) -> Result<(), Fail> {
         for key in 0..entries {
             let _ = table.try_place(0, key);
         }
-        assert!(rt; table.is_full(b));
+        expect(&rt, table.is_full(b));
         *table.get_mut(b) = 50;
-        assert!(rt; table.is_full(b));
+        expect(&rt, table.is_full(b));
         let after = (table.take(b), table.room(), table.try_place(0, 100));
-        assert_eq!(rt; after, (50, left, Ok(b)));
+        expect(&rt, after == (50, left, Ok(b)));
     }
     Ok(())
 }

@@ -11,6 +11,7 @@ use schnellru::{ByLength, RandomState};
 use std::cell::Cell;
 use std::io::Cursor;
 use std::test::Fail;
+use test_helpers::expect;
 
 #[test]
 fn of_the_page_cache(rt: HostRuntime) {
@@ -20,17 +21,17 @@ fn of_the_page_cache(rt: HostRuntime) {
         calls_left: &calls_left,
     };
     let mut cache = PageCache::new(rt.alloc(), disk, 2);
-    assert_eq!(rt; cache.write(1, 20), Ok(()));
-    assert_eq!(rt; (cache.read(1), cache.len()), (Ok(20), 1));
-    assert!(rt; cache.contains(1) && !cache.contains(2));
-    assert_eq!(rt; cache.device().blocks, [10, 11, 12, 13]);
-    assert_eq!(rt; cache.flush(), Ok(()));
-    assert_eq!(rt; cache.device().blocks, [10, 20, 12, 13]);
-    assert_eq!(rt;
-        (copy_block(&mut cache, 1, 0), cache.read(0)),
-        (Ok(()), Ok(20))
+    expect(&rt, cache.write(1, 20) == Ok(()));
+    expect(&rt, (cache.read(1), cache.len()) == (Ok(20), 1));
+    expect(&rt, cache.contains(1) && !cache.contains(2));
+    expect(&rt, cache.device().blocks == [10, 11, 12, 13]);
+    expect(&rt, cache.flush() == Ok(()));
+    expect(&rt, cache.device().blocks == [10, 20, 12, 13]);
+    expect(
+        &rt,
+        (copy_block(&mut cache, 1, 0), cache.read(0)) == (Ok(()), Ok(20)),
     );
-    assert_eq!(rt; cache.read(4), Err(PageError::Device(DiskError)));
+    expect(&rt, cache.read(4) == Err(PageError::Device(DiskError)));
     let mut cache = match cache.close() {
         Ok(disk) => PageCache::new(rt.alloc(), disk, 2),
         Err(Unclosed { cache, error: _ }) => cache,
@@ -45,9 +46,9 @@ fn of_the_device(rt: HostRuntime) {
         blocks: [10, 11, 12, 13],
         calls_left: &calls_left,
     };
-    assert_eq!(rt; disk.write(1, &20), Ok(()));
-    assert_eq!(rt; disk.read(1), Ok(20));
-    assert_eq!(rt; disk.read(1), Err(DiskError));
+    expect(&rt, disk.write(1, &20) == Ok(()));
+    expect(&rt, disk.read(1) == Ok(20));
+    expect(&rt, disk.read(1) == Err(DiskError));
 }
 
 #[test]
@@ -55,10 +56,10 @@ fn of_the_file_device(rt: HostRuntime) -> Result<(), Fail> {
     let alloc = rt.alloc();
     let file = Cursor::new(Vec::from_array(alloc, *b"zeroone.two.")?);
     let mut device: FileDevice<_, 4> = FileDevice::new(alloc, file, 3)?;
-    assert_eq!(rt; device.len(), 3);
-    assert_eq!(rt; device.write(1, b"uno."), Ok(()));
-    assert_eq!(rt; device.read(1), Ok(*b"uno."));
-    assert_eq!(rt; device.read(9), Err(FileError::NoBlock));
+    expect(&rt, device.len() == 3);
+    expect(&rt, device.write(1, b"uno.") == Ok(()));
+    expect(&rt, device.read(1) == Ok(*b"uno."));
+    expect(&rt, device.read(9) == Err(FileError::NoBlock));
     Ok(())
 }
 
@@ -67,9 +68,9 @@ fn of_the_file_device_with_hashes(rt: HostRuntime) -> Result<(), Fail> {
     let alloc = rt.alloc();
     let file = Cursor::new(Vec::from_array(alloc, *b"zeroone.two.")?);
     let mut hashed: HashedFileDevice<_, 4> = HashedFileDevice::new(alloc, file, 3)?;
-    assert_eq!(rt; hashed.len(), 3);
-    assert_eq!(rt; hashed.write(1, b"uno."), Ok(()));
-    assert_eq!(rt; hashed.read(1), Ok(*b"uno."));
+    expect(&rt, hashed.len() == 3);
+    expect(&rt, hashed.write(1, b"uno.") == Ok(()));
+    expect(&rt, hashed.read(1) == Ok(*b"uno."));
     Ok(())
 }
 
@@ -78,30 +79,37 @@ fn of_the_ordered_map(rt: HostRuntime) -> Result<(), Fail> {
     let alloc = rt.alloc();
     let seeded = RandomState::with_seeds([5, 6, 7, 8]);
     let map: OrderedMap<u64, u64> = OrderedMap::with_hasher(alloc, seeded);
-    assert!(rt; map.is_empty());
+    expect(&rt, map.is_empty());
     let mut map: OrderedMap<u64, u64> = OrderedMap::new(alloc);
-    assert_eq!(rt; (map.insert(1, 10)?, map.insert(2, 20)?), (None, None));
-    assert_eq!(rt; map.insert(1, 11)?, Some(10));
-    assert!(rt; map.contains_key(&1) && !map.contains_key(&9));
-    assert_eq!(rt; (map.get(&1), map.get(&9)), (Some(&11), None));
-    assert_eq!(rt; map.len(), 2);
-    assert!(rt; map.first() == Some((&1, &11)) && map.last() == Some((&2, &20)));
+    expect(
+        &rt,
+        (map.insert(1, 10)?, map.insert(2, 20)?) == (None, None),
+    );
+    expect(&rt, map.insert(1, 11)? == Some(10));
+    expect(&rt, map.contains_key(&1) && !map.contains_key(&9));
+    expect(&rt, (map.get(&1), map.get(&9)) == (Some(&11), None));
+    expect(&rt, map.len() == 2);
+    expect(
+        &rt,
+        map.first() == Some((&1, &11)) && map.last() == Some((&2, &20)),
+    );
     let mut entries = map.iter();
-    assert_eq!(rt;
-        (entries.len(), entries.next(), entries.next_back()),
-        (2, Some((&1, &11)), Some((&2, &20)))
+    expect(
+        &rt,
+        (entries.len(), entries.next(), entries.next_back())
+            == (2, Some((&1, &11)), Some((&2, &20))),
     );
     if let Some(value) = map.get_mut(&2) {
         *value = 22;
     }
-    assert_eq!(rt; map.get(&2), Some(&22));
+    expect(&rt, map.get(&2) == Some(&22));
     let mut total = 0u64;
     for (key, value) in map.iter() {
         total = total.wrapping_add(key.wrapping_mul(*value));
     }
-    assert_eq!(rt; (overwrite(&mut map, 1, 11), total), (true, 55));
-    assert_eq!(rt; (map.remove(&2), map.remove(&2)), (Some(22), None));
-    assert_eq!(rt; map.pop_first(), Some((1, 11)));
+    expect(&rt, (overwrite(&mut map, 1, 11), total) == (true, 55));
+    expect(&rt, (map.remove(&2), map.remove(&2)) == (Some(22), None));
+    expect(&rt, map.pop_first() == Some((1, 11)));
     Ok(())
 }
 
@@ -111,33 +119,39 @@ fn of_the_ordered_map_as_a_list(rt: HostRuntime) -> Result<(), Fail> {
     for (key, value) in [(1, 10), (2, 20), (3, 30)] {
         map.insert(key, value)?;
     }
-    assert_eq!(rt; map.pop_last(), Some((3, 30)));
-    assert!(rt; map.keys().next() == Some(&1) && map.values().next_back() == Some(&20));
+    expect(&rt, map.pop_last() == Some((3, 30)));
+    expect(
+        &rt,
+        map.keys().next() == Some(&1) && map.values().next_back() == Some(&20),
+    );
     map.insert(3, 30)?;
-    assert_eq!(rt;
-        (map.remove_entry(&3), map.remove_entry(&3)),
-        (Some((3, 30)), None)
+    expect(
+        &rt,
+        (map.remove_entry(&3), map.remove_entry(&3)) == (Some((3, 30)), None),
     );
     map.retain(|key, value| *key == 1 || *value > 30);
-    assert_eq!(rt; (map.len(), map.contains_key(&1)), (1, true));
+    expect(&rt, (map.len(), map.contains_key(&1)) == (1, true));
     map.clear();
-    assert!(rt; map.is_empty());
+    expect(&rt, map.is_empty());
     Ok(())
 }
 
 #[test]
 fn of_the_ordered_map_and_its_table(rt: HostRuntime) -> Result<(), Fail> {
     let mut map: OrderedMap<u64, u64> = OrderedMap::new(rt.alloc());
-    assert_eq!(rt; map.try_reserve(100), Ok(()));
+    expect(&rt, map.try_reserve(100) == Ok(()));
     for (key, value) in [(1, 11), (2, 20)] {
         map.insert(key, value)?;
     }
-    assert!(rt; map.get_key_value(&1) == Some((&1, &11)) && map.get_key_value(&9).is_none());
-    assert!(rt; map.move_to_back(&1) && !map.move_to_back(&9));
-    assert!(rt; map.last() == Some((&1, &11)));
-    assert_eq!(rt;
-        (map.shrink_to_fit(), map.shrink_to_fit()),
-        (Ok(true), Ok(false))
+    expect(
+        &rt,
+        map.get_key_value(&1) == Some((&1, &11)) && map.get_key_value(&9).is_none(),
+    );
+    expect(&rt, map.move_to_back(&1) && !map.move_to_back(&9));
+    expect(&rt, map.last() == Some((&1, &11)));
+    expect(
+        &rt,
+        (map.shrink_to_fit(), map.shrink_to_fit()) == (Ok(true), Ok(false)),
     );
     Ok(())
 }
@@ -145,7 +159,7 @@ fn of_the_ordered_map_and_its_table(rt: HostRuntime) -> Result<(), Fail> {
 #[test]
 fn of_the_memo(rt: HostRuntime) {
     let mut squares = Memo::new(rt.alloc(), ByLength::new(9), |n: u64| n.wrapping_mul(n));
-    assert_eq!(rt; (squares.answer(3), squares.len()), (9, 1));
+    expect(&rt, (squares.answer(3), squares.len()) == (9, 1));
 }
 
 #[test]
@@ -156,9 +170,9 @@ fn of_the_memo_that_lends(rt: HostRuntime) {
         ByLength::new(9),
         |n: usize| vec![in alloc; 7u8; n].ok(),
     );
-    assert_eq!(rt;
-        (blocks.answer_with(3, |block| block.is_some()), blocks.len()),
-        (true, 1)
+    expect(
+        &rt,
+        (blocks.answer_with(3, |block| block.is_some()), blocks.len()) == (true, 1),
     );
 }
 
@@ -174,9 +188,9 @@ impl Question<u64, u64> for Squares {
 fn of_the_memo_table(rt: HostRuntime) {
     let mut squares = MemoTable::new(rt.alloc(), ByLength::new(9), Squares);
     squares.store(3, 9);
-    assert_eq!(rt;
-        (squares.get(3), squares.get(4), squares.len()),
-        (Some(9), None, 1)
+    expect(
+        &rt,
+        (squares.get(3), squares.get(4), squares.len()) == (Some(9), None, 1),
     );
 }
 
@@ -189,8 +203,8 @@ fn of_the_loader(rt: HostRuntime) {
         ByLength::new(9),
         |n: usize| disk.get(n).copied().ok_or(n),
     );
-    assert_eq!(rt; (blocks.load(1), blocks.len()), (Ok(11), 1));
-    assert_eq!(rt; (blocks.load(3), blocks.len()), (Err(3), 1));
+    expect(&rt, (blocks.load(1), blocks.len()) == (Ok(11), 1));
+    expect(&rt, (blocks.load(3), blocks.len()) == (Err(3), 1));
 }
 
 #[test]
@@ -199,7 +213,7 @@ fn of_the_errors(rt: HostRuntime) -> Result<(), Fail> {
         (PageError::Device(1u64), "the device failed"),
         (PageError::Memory, "no memory"),
     ] {
-        assert_eq!(rt; format!(in rt.alloc(); "{error}")?.as_str(), text);
+        expect(&rt, format!(in rt.alloc(); "{error}")?.as_str() == text);
     }
     Ok(())
 }

@@ -1,17 +1,25 @@
 //! Two limiters for one map: what either rejects changes neither.
 use lru_limits::{Admission, Both, ByCost, ByLength, ByWeight, Insertion, Limiter};
 use std::test::Fail;
+use test_helpers::expect;
 
 #[test]
 fn of_both(rt: HostRuntime) -> Result<(), Fail> {
     let alloc = rt.alloc();
     let mut limiter = Both(ByCost::new(9), ByLength::new(3));
-    assert!(rt; Limiter::<u64, u64>::is_over_the_limit(&limiter, 4));
-    assert!(rt; limiter.on_insert(alloc, 0, 1u64, 10u64)?.is_none() && limiter.0.cost() == 0);
-    assert!(rt; limiter.on_insert(alloc, 0, 1u64, 8u64)?.is_some() && limiter.0.cost() == 8);
+    expect(&rt, Limiter::<u64, u64>::is_over_the_limit(&limiter, 4));
+    expect(
+        &rt,
+        limiter.on_insert(alloc, 0, 1u64, 10u64)?.is_none() && limiter.0.cost() == 0,
+    );
+    expect(
+        &rt,
+        limiter.on_insert(alloc, 0, 1u64, 8u64)?.is_some() && limiter.0.cost() == 8,
+    );
     let limiter = ByLength::new(0);
-    assert!(rt;
-        !limiter.accepts(0, &1u64, &2u64) && limiter.accepts_in_place(1, &1u64, &2u64, &3u64)
+    expect(
+        &rt,
+        !limiter.accepts(0, &1u64, &2u64) && limiter.accepts_in_place(1, &1u64, &2u64, &3u64),
     );
     Ok(())
 }
@@ -27,9 +35,9 @@ fn both_or_neither(rt: HostRuntime) -> Result<(), Fail> {
         (1, 2, true, (10, 16)),
     ] {
         let given = limiter.on_insert(rt.alloc(), 1, key, value)?;
-        assert_eq!(rt;
-            (given.is_some(), (limiter.0.cost(), limiter.1.cost())),
-            (is_accepted, sums)
+        expect(
+            &rt,
+            (given.is_some(), (limiter.0.cost(), limiter.1.cost())) == (is_accepted, sums),
         );
     }
     for (mut key, mut old, mut new, is_accepted, sums) in [
@@ -38,12 +46,12 @@ fn both_or_neither(rt: HostRuntime) -> Result<(), Fail> {
         (3, 8, 7, true, (9, 15)),
     ] {
         let accepted = limiter.on_replace(2, &mut key, 0, &mut old, &mut new);
-        assert_eq!(rt;
-            (accepted, (limiter.0.cost(), limiter.1.cost())),
-            (is_accepted, sums)
+        expect(
+            &rt,
+            (accepted, (limiter.0.cost(), limiter.1.cost())) == (is_accepted, sums),
         );
     }
     limiter.on_removed(&mut 3u64, &mut 7u64);
-    assert_eq!(rt; (limiter.0.cost(), limiter.1.cost()), (2, 4));
+    expect(&rt, (limiter.0.cost(), limiter.1.cost()) == (2, 4));
     Ok(())
 }

@@ -2,7 +2,7 @@
 use super::bounds::{cost_of_both, offer_and_remove};
 use lru_limits::{ByCost, ByWeight, Insertion, Limiter};
 use std::test::Fail;
-use test_helpers::Weighed;
+use test_helpers::{Weighed, expect};
 
 // No running total is greater than `u64::MAX`, and none falls below 0.
 #[test]
@@ -11,7 +11,7 @@ fn at_the_ends_of_u64(rt: HostRuntime) -> Result<(), Fail> {
     let mut limiter = ByCost::new(MAX);
     for (value, is_accepted) in [(MAX, true), (1, false), (0, true)] {
         let given = limiter.on_insert(rt.alloc(), 1, 1u64, value)?;
-        assert_eq!(rt; (given.is_some(), limiter.cost()), (is_accepted, MAX));
+        expect(&rt, (given.is_some(), limiter.cost()) == (is_accepted, MAX));
     }
     for (mut old, mut new, is_accepted, total) in [
         (1, 2, false, MAX),
@@ -20,10 +20,10 @@ fn at_the_ends_of_u64(rt: HostRuntime) -> Result<(), Fail> {
         (MAX, 4, true, 4),
     ] {
         let accepted = limiter.on_replace(1, &mut 1u64, 1, &mut old, &mut new);
-        assert_eq!(rt; (accepted, limiter.cost()), (is_accepted, total));
+        expect(&rt, (accepted, limiter.cost()) == (is_accepted, total));
     }
     limiter.on_removed(&mut 1u64, &mut 7u64);
-    assert_eq!(rt; limiter.cost(), 0);
+    expect(&rt, limiter.cost() == 0);
     Ok(())
 }
 
@@ -41,11 +41,20 @@ fn costs_of_values(rt: HostRuntime) -> Result<(), Fail> {
         cost_of_both(&items, &items),
         cost_of_both(&Weighed(1, 100), &Weighed(2, 100)),
     ];
-    assert_eq!(rt; costs, [255, 65_535, 4_294_967_296, 15, u64::MAX, 4, 6, 3]);
+    expect(
+        &rt,
+        costs == [255, 65_535, 4_294_967_296, 15, u64::MAX, 4, 6, 3],
+    );
     let mut limiter = ByCost::new(5);
-    assert_eq!(rt; offer_and_remove(&mut limiter, rt.alloc(), 2u64, text)?, 0);
+    expect(
+        &rt,
+        offer_and_remove(&mut limiter, rt.alloc(), 2u64, text)? == 0,
+    );
     let key = String::from_str(rt.alloc(), "key")?;
     let mut limiter: ByWeight<16> = ByWeight::new(22);
-    assert_eq!(rt; offer_and_remove(&mut limiter, rt.alloc(), key, items)?, 0);
+    expect(
+        &rt,
+        offer_and_remove(&mut limiter, rt.alloc(), key, items)? == 0,
+    );
     Ok(())
 }

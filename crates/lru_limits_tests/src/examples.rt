@@ -5,6 +5,7 @@ use lru_limits::{
 };
 use std::hash::{BuildHasher, Hash, Hasher};
 use std::test::Fail;
+use test_helpers::expect;
 
 /// A page whose cost is its bytes.
 struct Page {
@@ -23,52 +24,58 @@ impl Costed for Page {
 fn of_limiters(rt: HostRuntime) -> Result<(), Fail> {
     let alloc = rt.alloc();
     let limiter = ByLength::new(3);
-    assert_eq!(rt; limiter.max_length(), 3);
-    assert!(rt; !Limiter::<u64, u64>::is_over_the_limit(&limiter, 3));
-    assert!(rt; Limiter::<u64, u64>::is_over_the_limit(&limiter, 4));
+    expect(&rt, limiter.max_length() == 3);
+    expect(&rt, !Limiter::<u64, u64>::is_over_the_limit(&limiter, 3));
+    expect(&rt, Limiter::<u64, u64>::is_over_the_limit(&limiter, 4));
     let limiter = Storing(ByLength::new(3));
-    assert!(rt; Limiter::<u64, u64>::is_over_the_limit(&limiter, 4));
+    expect(&rt, Limiter::<u64, u64>::is_over_the_limit(&limiter, 4));
     let mut limiter = ByMemoryUsage::new(152);
-    assert_eq!(rt; limiter.max_memory_usage(), 152);
-    assert!(rt; Limiter::<u64, u64>::on_grow(&mut limiter, 152));
-    assert!(rt; !Limiter::<u64, u64>::on_grow(&mut limiter, 153));
-    assert!(rt; !Limiter::<u64, u64>::is_over_the_limit(&Unlimited, usize::MAX));
-    assert!(rt; !Limiter::<u64, u64>::is_over_the_limit(&UnlimitedCompact, usize::MAX));
+    expect(&rt, limiter.max_memory_usage() == 152);
+    expect(&rt, Limiter::<u64, u64>::on_grow(&mut limiter, 152));
+    expect(&rt, !Limiter::<u64, u64>::on_grow(&mut limiter, 153));
+    expect(
+        &rt,
+        !Limiter::<u64, u64>::is_over_the_limit(&Unlimited, usize::MAX),
+    );
+    expect(
+        &rt,
+        !Limiter::<u64, u64>::is_over_the_limit(&UnlimitedCompact, usize::MAX),
+    );
     let mut limiter = ByCost::new(3);
-    assert_eq!(rt; limiter.limit(), 3);
-    assert!(rt; limiter.on_insert(alloc, 0, 1u64, 2u64)?.is_some());
-    assert!(rt; limiter.on_insert(alloc, 1, 2u64, 4u64)?.is_none());
-    assert_eq!(rt; limiter.cost(), 2);
-    assert_eq!(rt; Summing::<u64, u64, u64>::account(&limiter), 2);
+    expect(&rt, limiter.limit() == 3);
+    expect(&rt, limiter.on_insert(alloc, 0, 1u64, 2u64)?.is_some());
+    expect(&rt, limiter.on_insert(alloc, 1, 2u64, 4u64)?.is_none());
+    expect(&rt, limiter.cost() == 2);
+    expect(&rt, Summing::<u64, u64, u64>::account(&limiter) == 2);
     let lower = limiter.with_limit(1);
-    assert_eq!(rt; (lower.limit(), lower.cost()), (1, 2));
+    expect(&rt, (lower.limit(), lower.cost()) == (1, 2));
     let mut limiter: ByWeight<16> = ByWeight::new(100);
-    assert_eq!(rt; limiter.limit(), 100);
-    assert!(rt; limiter.on_insert(alloc, 0, 1u64, 2u64)?.is_some());
-    assert!(rt; limiter.on_insert(alloc, 1, 80u64, 5u64)?.is_none());
-    assert_eq!(rt; limiter.cost(), 19);
+    expect(&rt, limiter.limit() == 100);
+    expect(&rt, limiter.on_insert(alloc, 0, 1u64, 2u64)?.is_some());
+    expect(&rt, limiter.on_insert(alloc, 1, 80u64, 5u64)?.is_none());
+    expect(&rt, limiter.cost() == 19);
     let lower = limiter.with_limit(10);
-    assert_eq!(rt; (lower.limit(), lower.cost()), (10, 19));
+    expect(&rt, (lower.limit(), lower.cost()) == (10, 19));
     let mut limiter = <ByCost as Budgeted<u64, u64>>::with_budget(3);
     Budgeted::<u64, u64>::set_budget(&mut limiter, 5);
-    assert_eq!(rt; Budgeted::<u64, u64>::budget(&limiter), 5);
+    expect(&rt, Budgeted::<u64, u64>::budget(&limiter) == 5);
     Ok(())
 }
 
 #[test]
 fn of_keys_costs_and_hashes(rt: HostRuntime) -> Result<(), Fail> {
     let key = String::from_str(rt.alloc(), "a")?;
-    assert!(rt; "a".is_key(&key));
-    assert!(rt; !"b".is_key(&key));
-    assert_eq!(rt; Page { bytes: 4096 }.cost(), 4096);
+    expect(&rt, "a".is_key(&key));
+    expect(&rt, !"b".is_key(&key));
+    expect(&rt, Page { bytes: 4096 }.cost() == 4096);
     let state = RandomState::with_seeds([5, 6, 7, 8]);
-    assert_eq!(rt; state.hash_one(&"a"), state.hash_one(&key));
-    assert_eq!(rt;
-        KeyHasher::<String>::hash_named(&state, &"a"),
-        state.hash_one(&key)
+    expect(&rt, state.hash_one(&"a") == state.hash_one(&key));
+    expect(
+        &rt,
+        KeyHasher::<String>::hash_named(&state, &"a") == state.hash_one(&key),
     );
     let mut hasher = state.build_hasher();
     key.hash(&mut hasher);
-    assert_eq!(rt; hasher.finish(), state.hash_one(&key));
+    expect(&rt, hasher.finish() == state.hash_one(&key));
     Ok(())
 }

@@ -6,6 +6,7 @@ use lru_limits::Limiter;
 use std::alloc::{AllocError, Global};
 use std::marker::Model;
 use std::test::Fail;
+use test_helpers::expect;
 
 const MOST: usize = 3;
 
@@ -72,6 +73,6 @@ fn keeps_three_keys(rt: HostRuntime) -> Result<(), Fail> {
     for key in [5u64, 6, 7, 8] {
         limiter.on_removed(&mut key.clone()?, &mut 0u8);
     }
-    assert_eq!(rt; limiter.keys.as_slice(), [5, 6, 7].as_slice());
+    expect(&rt, limiter.keys.as_slice() == [5, 6, 7].as_slice());
     Ok(())
 }

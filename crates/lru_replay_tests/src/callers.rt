@@ -5,6 +5,7 @@ use lru_replay::{Answer, Call, laws, run_calls};
 use schnellru::{ByLength, LruMap, RandomState};
 use std::alloc::{AllocError, Global};
 use std::test::Fail;
+use test_helpers::expect;
 
 /// Inserts two pairs by a list of calls, into a map that is within its length, and leaves it so.
 fn put_both(
@@ -28,7 +29,10 @@ fn put_both(
 fn a_run_keeps_the_length(rt: HostRuntime) -> Result<(), Fail> {
     let mut map = LruMap::new(rt.alloc(), ByLength::new(1), [1, 2, 3, 4], 16);
     let answers = put_both(rt.alloc(), &mut map, (1, 10), (2, 20))?;
-    assert!(rt; answers.as_slice() == [Answer::Flag(true), Answer::Flag(true)].as_slice());
-    assert_eq!(rt; (map.len(), map.peek(&2).copied()), (1, Some(20)));
+    expect(
+        &rt,
+        answers.as_slice() == [Answer::Flag(true), Answer::Flag(true)].as_slice(),
+    );
+    expect(&rt, (map.len(), map.peek(&2).copied()) == (1, Some(20)));
     Ok(())
 }

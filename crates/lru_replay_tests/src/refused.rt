@@ -5,7 +5,7 @@ use std::alloc::{AllocError, Global};
 use std::mem::size_of;
 use std::process::Abort;
 use std::test::Fail;
-use test_helpers::{Hog, insert_all, map_of};
+use test_helpers::{Hog, expect, insert_all, map_of};
 
 /// The bytes of the answers to four calls.
 const ANSWERS: usize = 4 * size_of::<Answer<u64, u64>>();
@@ -123,7 +123,7 @@ fn expect_lines(
     let end = replay(alloc, &mut reader, &mut writer);
     let all = hog.took_all();
     drop(hog);
-    assert_eq!(rt; end, Ok(ReplayEnd::Done));
+    expect(&rt, end == Ok(ReplayEnd::Done));
     assert!(rt; !all || writer.as_slice() == text, "{met} met");
     Ok(())
 }
@@ -183,6 +183,6 @@ fn replays_give_their_memory_back(rt: HostRuntime) -> Result<(), Fail> {
         right = right.wrapping_add((is_done && writer.as_slice() == text_of(5)) as u32);
     }
     drop(hog);
-    assert_eq!(rt; right, 1000);
+    expect(&rt, right == 1000);
     Ok(())
 }

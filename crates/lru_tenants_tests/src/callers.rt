@@ -4,6 +4,7 @@ ghost use Rattle.lru_tenants.specs.Cache.{tenant};
 
 use lru_tenants::{TenantCache, TenantError};
 use std::test::Fail;
+use test_helpers::expect;
 
 /// Puts a value for one tenant. Every other tenant's map stays as it is.
 fn put_beside(
@@ -21,9 +22,9 @@ fn put_beside(
 #[test]
 fn a_put_beside_others(rt: HostRuntime) -> Result<(), Fail> {
     let mut cache = TenantCache::new(rt.alloc(), [1, 2, 3, 4], 16);
-    assert_eq!(rt; cache.open(1, 3), Ok(()));
-    assert_eq!(rt; cache.open(2, 3), Ok(()));
-    assert_eq!(rt; put_beside(&mut cache, &1, 7, 2), Ok(true));
-    assert_eq!(rt; (cache.cost(&1), cache.cost(&2)), (Ok(2), Ok(0)));
+    expect(&rt, cache.open(1, 3) == Ok(()));
+    expect(&rt, cache.open(2, 3) == Ok(()));
+    expect(&rt, put_beside(&mut cache, &1, 7, 2) == Ok(true));
+    expect(&rt, (cache.cost(&1), cache.cost(&2)) == (Ok(2), Ok(0)));
     Ok(())
 }

@@ -4,60 +4,70 @@ use lru_tenants::{
     run_tenants,
 };
 use std::test::Fail;
+use test_helpers::expect;
 
 #[test]
 fn of_the_cache(rt: HostRuntime) -> Result<(), Fail> {
     let mut cache: TenantCache<u64, u64, u64> = TenantCache::new(rt.alloc(), [1, 2, 3, 4], 16);
-    assert!(rt; cache.is_empty());
-    assert_eq!(rt; cache.open(1, 3), Ok(()));
-    assert_eq!(rt; cache.put(&1, 7, 2), Ok(true));
-    assert_eq!(rt; cache.cost(&1), Ok(2));
-    assert_eq!(rt; (cache.total_cost(), cache.total_budget()), (2, 3));
-    assert_eq!(rt; cache.names().next(), Some(&1));
-    assert_eq!(rt; cache.peek(&1, &7), Ok(Some(&2)));
-    assert_eq!(rt; cache.contains(&1, &7), Ok(true));
-    assert_eq!(rt; cache.entries(&1), Ok(1));
-    assert_eq!(rt; cache.budget(&1), Ok(3));
-    assert_eq!(rt;
-        (cache.remove(&1, &7), cache.remove(&1, &7)),
-        (Ok(Some(2)), Ok(None))
+    expect(&rt, cache.is_empty());
+    expect(&rt, cache.open(1, 3) == Ok(()));
+    expect(&rt, cache.put(&1, 7, 2) == Ok(true));
+    expect(&rt, cache.cost(&1) == Ok(2));
+    expect(&rt, (cache.total_cost(), cache.total_budget()) == (2, 3));
+    expect(&rt, cache.names().next() == Some(&1));
+    expect(&rt, cache.peek(&1, &7) == Ok(Some(&2)));
+    expect(&rt, cache.contains(&1, &7) == Ok(true));
+    expect(&rt, cache.entries(&1) == Ok(1));
+    expect(&rt, cache.budget(&1) == Ok(3));
+    expect(
+        &rt,
+        (cache.remove(&1, &7), cache.remove(&1, &7)) == (Ok(Some(2)), Ok(None)),
     );
-    assert_eq!(rt; cache.put(&1, 7, 2), Ok(true));
-    assert_eq!(rt; (cache.set_budget(&1, 1), cache.cost(&1)), (Ok(()), Ok(0)));
-    assert_eq!(rt;
-        (cache.clear(&1), cache.entries(&1), cache.cost(&1)),
-        (Ok(()), Ok(0), Ok(0))
+    expect(&rt, cache.put(&1, 7, 2) == Ok(true));
+    expect(
+        &rt,
+        (cache.set_budget(&1, 1), cache.cost(&1)) == (Ok(()), Ok(0)),
     );
-    assert_eq!(rt; cache.open(1, 5), Err(TenantError::AlreadyOpen));
-    assert_eq!(rt; (cache.open(2, u64::MAX), cache.close(&2)), (Ok(()), Ok(0)));
-    assert_eq!(rt; (cache.len(), cache.close(&1), cache.len()), (1, Ok(0), 0));
+    expect(
+        &rt,
+        (cache.clear(&1), cache.entries(&1), cache.cost(&1)) == (Ok(()), Ok(0), Ok(0)),
+    );
+    expect(&rt, cache.open(1, 5) == Err(TenantError::AlreadyOpen));
+    expect(
+        &rt,
+        (cache.open(2, u64::MAX), cache.close(&2)) == (Ok(()), Ok(0)),
+    );
+    expect(
+        &rt,
+        (cache.len(), cache.close(&1), cache.len()) == (1, Ok(0), 0),
+    );
     Ok(())
 }
 
 #[test]
 fn of_calls_that_pass_entries(rt: HostRuntime) -> Result<(), Fail> {
     let mut cache = TenantCache::new(rt.alloc(), [1, 2, 3, 4], 16);
-    assert_eq!(rt; cache.open(1, 3), Ok(()));
-    assert_eq!(rt; cache.put(&1, 7, 2), Ok(true));
+    expect(&rt, cache.open(1, 3) == Ok(()));
+    expect(&rt, cache.put(&1, 7, 2) == Ok(true));
     let mut left = 0u64;
-    assert_eq!(rt;
-        cache.put_with(&1, 8, 3, &mut |key, _| left = key),
-        Ok(true)
+    expect(
+        &rt,
+        cache.put_with(&1, 8, 3, &mut |key, _| left = key) == Ok(true),
     );
-    assert_eq!(rt; left, 7);
+    expect(&rt, left == 7);
     let mut evicted = 0u64;
-    assert_eq!(rt;
-        cache.set_budget_with(&1, 2, &mut |key, _| evicted = key),
-        Ok(())
+    expect(
+        &rt,
+        cache.set_budget_with(&1, 2, &mut |key, _| evicted = key) == Ok(()),
     );
-    assert_eq!(rt; evicted, 8);
-    assert_eq!(rt; cache.put(&1, 9, 1u64), Ok(true));
+    expect(&rt, evicted == 8);
+    expect(&rt, cache.put(&1, 9, 1u64) == Ok(true));
     let mut last = 0u64;
-    assert_eq!(rt; cache.close_with(&1, &mut |key, _| last = key), Ok(1));
-    assert_eq!(rt; last, 9);
-    assert_eq!(rt;
-        cache.put_with(&1, 9, 1, &mut |_, _| {}),
-        Err(TenantError::NotOpen)
+    expect(&rt, cache.close_with(&1, &mut |key, _| last = key) == Ok(1));
+    expect(&rt, last == 9);
+    expect(
+        &rt,
+        cache.put_with(&1, 9, 1, &mut |_, _| {}) == Err(TenantError::NotOpen),
     );
     Ok(())
 }
@@ -65,22 +75,25 @@ fn of_calls_that_pass_entries(rt: HostRuntime) -> Result<(), Fail> {
 #[test]
 fn of_values_that_come_back(rt: HostRuntime) -> Result<(), Fail> {
     let mut cache: TenantCache<u64, u64, u64> = TenantCache::new(rt.alloc(), [1, 2, 3, 4], 16);
-    assert_eq!(rt; (cache.open(1, 3), cache.put(&1, 7, 2)), (Ok(()), Ok(true)));
+    expect(
+        &rt,
+        (cache.open(1, 3), cache.put(&1, 7, 2)) == (Ok(()), Ok(true)),
+    );
     let replaced = cache.put_full(&1, 7, 3, &mut |_, _| {})?;
-    assert_eq!(rt; (replaced.kept, replaced.unkept), (true, Some(2)));
+    expect(&rt, (replaced.kept, replaced.unkept) == (true, Some(2)));
     let rejected = cache.put_full(&1, 8, 9, &mut |_, _| {})?;
-    assert_eq!(rt; (rejected.kept, rejected.unkept), (false, Some(9)));
-    assert_eq!(rt; (cache.entries(&1), cache.cost(&1)), (Ok(1), Ok(3)));
+    expect(&rt, (rejected.kept, rejected.unkept) == (false, Some(9)));
+    expect(&rt, (cache.entries(&1), cache.cost(&1)) == (Ok(1), Ok(3)));
     Ok(())
 }
 
 #[test]
 fn of_totals(rt: HostRuntime) -> Result<(), Fail> {
     let mut cache: TenantCache<u64, u64, u64> = TenantCache::new(rt.alloc(), [1, 2, 3, 4], 16);
-    assert_eq!(rt; cache.open(1, 3), Ok(()));
-    assert_eq!(rt; cache.set_total_limit(Some(5)), Ok(()));
-    assert_eq!(rt; cache.open(2, 3), Err(TenantError::OverTotal));
-    assert_eq!(rt; cache.total_limit(), Some(5));
+    expect(&rt, cache.open(1, 3) == Ok(()));
+    expect(&rt, cache.set_total_limit(Some(5)) == Ok(()));
+    expect(&rt, cache.open(2, 3) == Err(TenantError::OverTotal));
+    expect(&rt, cache.total_limit() == Some(5));
     costs_are_within_the_total_limit(&cache);
     Ok(())
 }
@@ -93,20 +106,20 @@ fn of_weights(rt: HostRuntime) -> Result<(), Fail> {
         std::collections::hash_map::RandomState::new(&rt)?,
         48,
     );
-    assert_eq!(rt;
-        (weighed.open(1, 40), weighed.put(&1, 7, 2)),
-        (Ok(()), Ok(true))
+    expect(
+        &rt,
+        (weighed.open(1, 40), weighed.put(&1, 7, 2)) == (Ok(()), Ok(true)),
     );
-    assert_eq!(rt; weighed.cost(&1), Ok(25));
+    expect(&rt, weighed.cost(&1) == Ok(25));
     Ok(())
 }
 
 #[test]
 fn of_values_made(rt: HostRuntime) -> Result<(), Fail> {
     let mut cache: TenantCache<u64, u64, u64> = TenantCache::new(rt.alloc(), [1, 2, 3, 4], 16);
-    assert_eq!(rt; cache.open(1, 3), Ok(()));
-    assert_eq!(rt; cache.get_or_put(&1, 7, || 2), Ok(Some(&2)));
-    assert_eq!(rt; cache.get_or_put(&1, 7, || 3), Ok(Some(&2)));
+    expect(&rt, cache.open(1, 3) == Ok(()));
+    expect(&rt, cache.get_or_put(&1, 7, || 2) == Ok(Some(&2)));
+    expect(&rt, cache.get_or_put(&1, 7, || 3) == Ok(Some(&2)));
     Ok(())
 }
 
@@ -118,8 +131,8 @@ fn of_the_errors(rt: HostRuntime) -> Result<(), Fail> {
         (TenantError::Memory, "no memory", 3),
         (TenantError::OverTotal, "over the total limit", 4),
     ] {
-        assert_eq!(rt; format!(in rt.alloc(); "{error}")?.as_str(), text);
-        assert_eq!(rt; error as u8, number);
+        expect(&rt, format!(in rt.alloc(); "{error}")?.as_str() == text);
+        expect(&rt, error as u8 == number);
     }
     Ok(())
 }
@@ -128,14 +141,14 @@ fn of_the_errors(rt: HostRuntime) -> Result<(), Fail> {
 fn of_keys_that_are_texts(rt: HostRuntime) -> Result<(), Fail> {
     let alloc = rt.alloc();
     let mut pages: TenantCache<u64, String, String> = TenantCache::new(alloc, [1, 2, 3, 4], 64);
-    assert_eq!(rt; pages.open(1, 10), Ok(()));
+    expect(&rt, pages.open(1, 10) == Ok(()));
     let page = String::from_str(alloc, "hello")?;
-    assert_eq!(rt;
-        pages.put(&1, String::from_str(alloc, "a")?, page),
-        Ok(true)
+    expect(
+        &rt,
+        pages.put(&1, String::from_str(alloc, "a")?, page) == Ok(true),
     );
     let page = pages.get(&1, &"a")?.ok_or("no page")?;
-    assert_eq!(rt; page.as_str(), "hello");
+    expect(&rt, page.as_str() == "hello");
     Ok(())
 }
 
@@ -149,7 +162,10 @@ fn of_runs(rt: HostRuntime) -> Result<(), Fail> {
         TenantCall::Get(2, 7),
     ]?;
     let answers = run_tenants(alloc, &mut cache, calls)?;
-    assert!(rt; answers.get(1) == Some(&TenantAnswer::Put(Ok(true))));
-    assert!(rt; answers.get(2) == Some(&TenantAnswer::Got(Err(TenantError::NotOpen))));
+    expect(&rt, answers.get(1) == Some(&TenantAnswer::Put(Ok(true))));
+    expect(
+        &rt,
+        answers.get(2) == Some(&TenantAnswer::Got(Err(TenantError::NotOpen))),
+    );
     Ok(())
 }

@@ -5,7 +5,7 @@ use std::alloc::{AllocError, Global};
 use std::mem::size_of;
 use std::rc::Rc;
 use std::test::Fail;
-use test_helpers::Hog;
+use test_helpers::{Hog, expect};
 
 // A cache of these tenants from 1 on. The first one has pairs of the keys from 1 on.
 fn cache_of(
@@ -55,10 +55,10 @@ fn each_request_is_refused(rt: HostRuntime) -> Result<(), Fail> {
                     break;
                 }
                 let again = call(&mut cache, kind);
-                assert_eq!(rt; (first, again), (Err(TenantError::Memory), Ok(())));
+                expect(&rt, (first, again) == (Err(TenantError::Memory), Ok(())));
             }
         }
-        assert!(rt; refused > 0);
+        expect(&rt, refused > 0);
     }
     Ok(())
 }
@@ -77,7 +77,7 @@ fn a_list_takes_the_memory_of_its_answers(rt: HostRuntime) -> Result<(), Fail> {
         let is_made = run_tenants(alloc, &mut cache, calls).is_ok();
         let all = hog.took_all();
         drop(hog);
-        assert!(rt; is_made == is_met || !all);
+        expect(&rt, is_made == is_met || !all);
     }
     Ok(())
 }
@@ -133,13 +133,16 @@ fn a_closed_tenant_gives_its_memory_back(rt: HostRuntime) -> Result<(), Fail> {
     drop(hog);
     for key in &keys {
         let refused = cache.put(&2, key.clone()?, Share(key.clone()?));
-        assert_eq!(rt; refused, Err(TenantError::NotOpen));
+        expect(&rt, refused == Err(TenantError::NotOpen));
         let passing = cache.put_with(&2, key.clone()?, Share(key.clone()?), &mut |_, _| {});
         let value = Share(key.clone()?);
-        assert!(rt; passing.is_err() && cache.get_or_put(&2, key.clone()?, move || value).is_err());
-        assert_eq!(rt; Rc::strong_count(key), 1);
+        expect(
+            &rt,
+            passing.is_err() && cache.get_or_put(&2, key.clone()?, move || value).is_err(),
+        );
+        expect(&rt, Rc::strong_count(key) == 1);
     }
-    assert_eq!(rt; (closed, cache.len()), (1000, 0));
+    expect(&rt, (closed, cache.len()) == (1000, 0));
     Ok(())
 }
 
@@ -147,9 +150,15 @@ fn a_closed_tenant_gives_its_memory_back(rt: HostRuntime) -> Result<(), Fail> {
 fn names_are_dropped(rt: HostRuntime) -> Result<(), Fail> {
     let name = Rc::new(rt.alloc(), 1u64)?;
     let mut cache: TenantCache<Rc<u64>, u64, u64> = TenantCache::new(rt.alloc(), [1, 2, 3, 4], 16);
-    assert_eq!(rt; cache.open(name.clone()?, 2), Ok(()));
-    assert_eq!(rt; cache.open(name.clone()?, 2), Err(TenantError::AlreadyOpen));
-    assert_eq!(rt; (cache.close(&name), Rc::strong_count(&name)), (Ok(0), 1));
+    expect(&rt, cache.open(name.clone()?, 2) == Ok(()));
+    expect(
+        &rt,
+        cache.open(name.clone()?, 2) == Err(TenantError::AlreadyOpen),
+    );
+    expect(
+        &rt,
+        (cache.close(&name), Rc::strong_count(&name)) == (Ok(0), 1),
+    );
     Ok(())
 }
 
@@ -169,6 +178,6 @@ fn a_list_without_answers_is_freed(rt: HostRuntime) -> Result<(), Fail> {
     }
     let all = hog.took_all();
     drop(hog);
-    assert!(rt; lists == 100 && (made == 0 || !all));
+    expect(&rt, lists == 100 && (made == 0 || !all));
     Ok(())
 }

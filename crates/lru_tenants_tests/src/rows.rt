@@ -1,6 +1,7 @@
 //! The worked calls of docs/TENANTS.md, as one list.
 use lru_tenants::{TenantAnswer, TenantCache, TenantCall, TenantError, run_tenants};
 use std::test::Fail;
+use test_helpers::expect;
 
 #[test]
 fn worked_calls(rt: HostRuntime) -> Result<(), Fail> {
@@ -45,12 +46,15 @@ fn worked_calls(rt: HostRuntime) -> Result<(), Fail> {
     }
     let mut cache = TenantCache::new(alloc, [1, 2, 3, 4], 16);
     let answers = run_tenants(alloc, &mut cache, calls)?;
-    assert_eq!(rt; answers.as_slice(), wanted.as_slice());
-    assert!(rt; run_tenants(alloc, &mut cache, Vec::new(alloc))?.is_empty());
+    expect(&rt, answers.as_slice() == wanted.as_slice());
+    expect(
+        &rt,
+        run_tenants(alloc, &mut cache, Vec::new(alloc))?.is_empty(),
+    );
     let mut calls = Vec::new(alloc);
     for _ in 0..100_000u32 {
         calls.push(TenantCall::Cost(1))?;
     }
-    assert_eq!(rt; run_tenants(alloc, &mut cache, calls)?.len(), 100_000);
+    expect(&rt, run_tenants(alloc, &mut cache, calls)?.len() == 100_000);
     Ok(())
 }

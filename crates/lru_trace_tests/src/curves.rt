@@ -2,6 +2,7 @@
 use lru_theory::misses_on_map;
 use lru_trace::{Curve, TraceError};
 use std::test::Fail;
+use test_helpers::expect;
 
 #[test]
 fn of_the_curve(rt: HostRuntime) -> Result<(), Fail> {
@@ -11,11 +12,11 @@ fn of_the_curve(rt: HostRuntime) -> Result<(), Fail> {
             curve.refer(key)?;
         }
     }
-    assert_eq!(rt;
-        (curve.misses(0), curve.misses(1), curve.misses(2)),
-        (5, 5, 3)
+    expect(
+        &rt,
+        (curve.misses(0), curve.misses(1), curve.misses(2)) == (5, 5, 3),
     );
-    assert_eq!(rt; (curve.keys(), curve.references()), (3, 5));
+    expect(&rt, (curve.keys(), curve.references()) == (3, 5));
     Ok(())
 }
 
@@ -37,7 +38,7 @@ fn beside_maps(rt: HostRuntime) -> Result<(), Fail> {
     }
     for length in [1, 2, 3, 10, 50, 100, 150, 199, 400] {
         let count = misses_on_map(alloc, keys.clone()?, length)?;
-        assert_eq!(rt; curve.misses(length as usize), count);
+        expect(&rt, curve.misses(length as usize) == count);
     }
     Ok(())
 }
@@ -49,7 +50,7 @@ fn of_the_errors(rt: HostRuntime) -> Result<(), Fail> {
         (TraceError::Write, "write failed"),
         (TraceError::Memory, "no memory"),
     ] {
-        assert_eq!(rt; format!(in rt.alloc(); "{error}")?.as_str(), text);
+        expect(&rt, format!(in rt.alloc(); "{error}")?.as_str() == text);
     }
     Ok(())
 }

@@ -3,6 +3,7 @@ use lru_trace::{Progress, TraceEnd, TraceError, trace};
 use std::alloc::Global;
 use std::io::{self, ErrorKind, Write};
 use std::test::Fail;
+use test_helpers::expect;
 
 /// Keeps what is written, and fails at the flush if `fails`.
 #[derive(Drop)]
@@ -41,9 +42,9 @@ fn of_the_report(rt: HostRuntime) {
         b"references 2 keys 2 malformed 0\nplaces 2 hits 0 misses 2 ratio 1.0000\n           1 |\
         ##################################################\n           2 |\
         ##################################################\n";
-    assert_eq!(rt;
-        (end, report.as_slice()),
-        (Ok(TraceEnd::Done), text.as_slice())
+    expect(
+        &rt,
+        (end, report.as_slice()) == (Ok(TraceEnd::Done), text.as_slice()),
     );
 }
 
@@ -51,9 +52,9 @@ fn of_the_report(rt: HostRuntime) {
 #[test]
 fn of_other_ends(rt: HostRuntime) {
     let (end, report) = traced(rt.alloc(), b"1 2 x\na\n", false);
-    assert_eq!(rt; (end, report.len()), (Ok(TraceEnd::NoSizes), 0));
+    expect(&rt, (end, report.len()) == (Ok(TraceEnd::NoSizes), 0));
     let (end, _report) = traced(rt.alloc(), b"1\na\n", true);
-    assert_eq!(rt; end, Err(TraceError::Write));
+    expect(&rt, end == Err(TraceError::Write));
 }
 
 /// Two million and one empty lines: each is malformed, and each counts for the progress.
@@ -66,12 +67,15 @@ fn of_the_progress(rt: HostRuntime) -> Result<(), Fail> {
     let mut shown = Vec::new(alloc);
     let mut progress = Progress::new(alloc, Some(&mut shown));
     let end = trace(alloc, &mut input.as_slice(), &mut report, &mut progress);
-    assert_eq!(rt; end, Ok(TraceEnd::Done));
+    expect(&rt, end == Ok(TraceEnd::Done));
     drop(progress);
-    assert_eq!(rt;
-        shown.as_slice(),
-        b"1000000 lines\n2000000 lines\n".as_slice()
+    expect(
+        &rt,
+        shown.as_slice() == b"1000000 lines\n2000000 lines\n".as_slice(),
     );
-    assert!(rt; report.starts_with(b"references 0 keys 0 malformed 2000001\n"));
+    expect(
+        &rt,
+        report.starts_with(b"references 0 keys 0 malformed 2000001\n"),
+    );
     Ok(())
 }

@@ -2,7 +2,7 @@
 use lru_trace::{Curve, TraceError};
 use std::alloc::Global;
 use std::test::Fail;
-use test_helpers::Hog;
+use test_helpers::{Hog, expect};
 
 /// References a number.
 fn refer(alloc: Global, curve: &mut Curve, number: u64) -> Result<(), TraceError> {
@@ -19,9 +19,12 @@ fn of_many_keys(rt: HostRuntime) -> Result<(), Fail> {
     for n in 0..300_000u64 {
         refer(rt.alloc(), &mut curve, n % 150_000)?;
     }
-    assert_eq!(rt; (curve.keys(), curve.references()), (150_000, 300_000));
+    expect(
+        &rt,
+        (curve.keys(), curve.references()) == (150_000, 300_000),
+    );
     let misses = (curve.misses(149_999), curve.misses(150_000));
-    assert_eq!(rt; misses, (300_000, 150_000));
+    expect(&rt, misses == (300_000, 150_000));
     Ok(())
 }
 
@@ -38,6 +41,6 @@ fn references_give_their_memory_back(rt: HostRuntime) -> Result<(), Fail> {
         met = met.saturating_add(refer(rt.alloc(), &mut curve, n % 20).is_ok() as u64);
     }
     drop(hog);
-    assert_eq!(rt; (met, curve.misses(19)), (200_000, 200_200));
+    expect(&rt, (met, curve.misses(19)) == (200_000, 200_200));
     Ok(())
 }

@@ -10,7 +10,7 @@ use std::cell::Cell;
 use std::hash::BuildHasher;
 use std::rc::Rc;
 use std::test::Fail;
-use test_helpers::{figures, get, insert_all, map_of, pairs, peek, report, reserve};
+use test_helpers::expect;
 
 /// A copy of seven pairs takes 14 clones. If one of them is refused, no other is asked for, and what was made is
 /// dropped.
@@ -30,29 +30,12 @@ fn each_key_and_value_is_cloned_once(rt: HostRuntime) -> Result<(), Fail> {
         lives.clones.set(allowed);
         let is_made = map.clone().is_ok();
         let left = lives.clones.get();
-        assert_eq!(rt;
-            (is_made, left, lives.keys.get(), lives.values.get()),
-            (allowed >= 14, allowed.saturating_sub(14), 7, 7),
+        assert!(rt;
+            (is_made, left, lives.keys.get(), lives.values.get())
+                == (allowed >= 14, allowed.saturating_sub(14), 7, 7),
             "{allowed}"
         );
     }
-    Ok(())
-}
-
-#[test]
-fn a_copy_equals_its_source(rt: HostRuntime) -> Result<(), Fail> {
-    let mut map = map_of(rt.alloc(), UnlimitedCompact);
-    insert_all(&mut map, 1..=15)?;
-    map.remove(&7);
-    get(&mut map, 3);
-    reserve(&mut map, 100)?;
-    let copy = map.clone()?;
-    assert!(rt; pairs(rt.alloc(), &copy)? == pairs(rt.alloc(), &map)?);
-    assert_eq!(rt;
-        (figures(&copy), report(&copy)),
-        ((14, 224, 4368), (24, 15))
-    );
-    assert!(rt; (1..=15u64).all(|n| peek(&copy, n) == peek(&map, n)));
     Ok(())
 }
 
@@ -141,35 +124,47 @@ fn live(limiter: &Rc<u64>, hasher: &Rc<u64>, lives: &Lives) -> [u64; 4] {
     ]
 }
 
+/// Copies the map while the clones of its limiter and of its hasher are limited to these numbers. Returns whether there
+/// is a copy, and what lives beside it.
+fn tried(
+    map: &Held,
+    allowed: (u64, u64),
+    (limiter, hasher): (&Rc<u64>, &Rc<u64>),
+    lives: &Lives,
+) -> (bool, [u64; 4]) {
+    map.limiter().0.clones.set(allowed.0);
+    map.hasher().clones.set(allowed.1);
+    let copy = map.clone();
+    (copy.is_ok(), live(limiter, hasher, lives))
+}
+
 /// The limiter and the hasher are cloned once each, after the pairs. If one refuses, the copies made so far are dropped.
 /// Both are dropped with the walk that takes their map apart.
 #[test]
 fn a_limiter_or_a_hasher_that_refuses(rt: HostRuntime) -> Result<(), Fail> {
     let alloc = rt.alloc();
     let (limiter, hasher, lives) = (Cell::new(0u64), Cell::new(0u64), Lives::new());
-    let (of_limiter, of_hasher) = (Rc::new(alloc, 0u64)?, Rc::new(alloc, 0u64)?);
-    let first = clonable(&of_limiter, &limiter)?;
-    let map = map_held(alloc, first, clonable(&of_hasher, &hasher)?, &lives)?;
+    let held = (Rc::new(alloc, 0u64)?, Rc::new(alloc, 0u64)?);
+    let first = clonable(&held.0, &limiter)?;
+    let map = map_held(alloc, first, clonable(&held.1, &hasher)?, &lives)?;
     lives.clones.set(100);
     let one = [2, 2, 2, 2];
-    for (of_the_limiter, of_the_hasher, expected) in [
-        (0u64, 2u64, (false, one)),
-        (2, 0, (false, one)),
-        (0, 0, (false, one)),
-        (2, 2, (true, [3, 3, 4, 4])),
+    for (allowed, expected) in [
+        ((0, 2), (false, one)),
+        ((2, 0), (false, one)),
+        ((0, 0), (false, one)),
+        ((2, 2), (true, [3, 3, 4, 4])),
     ] {
-        limiter.set(of_the_limiter);
-        hasher.set(of_the_hasher);
-        let copy = map.clone();
-        let found = (copy.is_ok(), live(&of_limiter, &of_hasher, &lives));
-        drop(copy);
-        assert_eq!(rt; found, expected);
-        assert_eq!(rt; live(&of_limiter, &of_hasher, &lives), one);
+        let found = tried(&map, allowed, (&held.0, &held.1), &lives);
+        expect(
+            &rt,
+            found == expected && live(&held.0, &held.1, &lives) == one,
+        );
     }
     let mut walk = map.into_iter();
-    assert!(rt; walk.next().is_some() && walk.next().is_some() && walk.next().is_none());
+    expect(&rt, walk.next().is_some() && walk.len() == 1);
     drop(walk);
-    assert_eq!(rt; (limiter.get(), hasher.get()), (1, 1));
-    assert_eq!(rt; live(&of_limiter, &of_hasher, &lives), [1, 1, 0, 0]);
+    expect(&rt, (limiter.get(), hasher.get()) == (1, 1));
+    expect(&rt, live(&held.0, &held.1, &lives) == [1, 1, 0, 0]);
     Ok(())
 }

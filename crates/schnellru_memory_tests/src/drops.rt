@@ -1,13 +1,12 @@
 //! Each key and each value is dropped once: none twice, and none is forgotten. No clause says when a value is dropped.
 use super::live::{Live, Lives};
 use schnellru::{
-    Both, ByCost, ByLength, ByMemoryUsage, ByWeight, Insertion, Limiter, LruMap, Storing,
-    Unlimited, UnlimitedCompact,
+    Both, ByCost, ByLength, ByMemoryUsage, ByWeight, GetOrInsertError, Insertion, Limiter, LruMap,
+    Storing, Unlimited, UnlimitedCompact,
 };
-use std::alloc::{AllocError, Global};
-use std::process::Abort;
+use std::alloc::Global;
 use std::test::Fail;
-use test_helpers::{Hog, Random};
+use test_helpers::{Hog, Random, expect};
 
 type Map<'a, L> = LruMap<Live<'a>, Live<'a>, L>;
 
@@ -24,35 +23,40 @@ fn random_value<'a>(random: &mut Random, lives: &'a Lives) -> Live<'a> {
     }
 }
 
-/// Makes a random call that inserts. Each closure owns its value, also if it is not called, or fails.
+/// Makes a random call that inserts, and returns whether there was memory. Each closure owns its value, also if it is
+/// not called, or fails.
 fn random_insert<'a, L: Insertion<Live<'a>, Live<'a>, Live<'a>>>(
     map: &mut Map<'a, L>,
     random: &mut Random,
     lives: &'a Lives,
-) -> Result<(), AllocError> {
+) -> bool {
     let (key, value) = (lives.key(random.below(40)), random_value(random, lives));
     match random.below(10) {
-        0 => drop(map.insert(key, value)?),
-        7 => drop(map.insert_full(key, value, &mut |key, value| drop((key, value)))?),
-        1 => drop(map.insert_with(key, value, &mut |key, value| drop((key, value)))?),
-        2 => drop(map.get_or_insert(key, move || value)?.is_some()),
-        3 => drop(
-            map.get_or_insert_fallible(key, move || Ok::<Live, u8>(value))
-                .is_ok(),
-        ),
-        4 => drop(map.ensure_newest(key, move || value)?),
-        5 => drop(
-            map.ensure_newest_fallible(key, move || Ok::<Live, u8>(value))
-                .is_ok(),
-        ),
-        8 => drop(map.update(key, value)),
-        9 => map.try_extend([(key, value)])?,
-        _ => drop(
-            map.ensure_newest_fallible(key, move || fails(value))
-                .is_ok(),
-        ),
+        0 => map.insert(key, value).is_ok(),
+        7 => map
+            .insert_full(key, value, &mut |key, value| drop((key, value)))
+            .is_ok(),
+        1 => map
+            .insert_with(key, value, &mut |key, value| drop((key, value)))
+            .is_ok(),
+        2 => map.get_or_insert(key, move || value).is_ok(),
+        3 => map
+            .get_or_insert_fallible(key, move || Ok::<Live, u8>(value))
+            .is_ok(),
+        4 => map.ensure_newest(key, move || value).is_ok(),
+        5 => map
+            .ensure_newest_fallible(key, move || Ok::<Live, u8>(value))
+            .is_ok(),
+        8 => {
+            drop(map.update(key, value));
+            true
+        }
+        9 => map.try_extend([(key, value)]).is_ok(),
+        _ => {
+            let made = map.ensure_newest_fallible(key, move || fails(value));
+            made != Err(GetOrInsertError::Memory)
+        }
     }
-    Ok(())
 }
 
 /// Makes another random call, and drops what it returns.
@@ -84,67 +88,62 @@ fn random_call<'a, L: Limiter<Live<'a>, Live<'a>> + Clone + Drop>(
     }
 }
 
-/// Makes random calls on a map of this many pairs. After each the keys and values that live are those of the map.
+/// Makes random calls on a map of this many pairs. Returns whether after each the keys and values that live are those
+/// of the map, and none after its drop.
 fn balances<'a, L: Insertion<Live<'a>, Live<'a>, Live<'a>> + Clone + Drop>(
     alloc: Global,
     limiter: L,
     lives: &'a Lives,
     pairs: u64,
-) -> Result<bool, AllocError> {
+) -> bool {
     let mut random = Random::new(pairs.wrapping_add(1));
     let mut map = LruMap::new(alloc, limiter, [1, 2, 3, 4], 16);
+    let mut right = true;
     for n in 0..pairs {
-        map.insert(lives.key(n), lives.value(0))?;
+        right = right && map.insert(lives.key(n), lives.value(0)).is_ok();
     }
     for _ in 0..20_000u32 {
         if random.below(3) == 0 {
             random_call(&mut map, &mut random, lives);
         } else {
-            random_insert(&mut map, &mut random, lives)?;
+            right = random_insert(&mut map, &mut random, lives) && right;
         }
         let len = map.len() as u64;
-        if lives.keys.get() != len || lives.values.get() != len {
-            return Ok(false);
-        }
+        right = right && live(lives) == (len, len);
     }
-    Ok(true)
-}
-
-fn expect_balance<'a, L: Insertion<Live<'a>, Live<'a>, Live<'a>> + Clone + Drop>(
-    rt: &(impl Abort + AllocGlobal),
-    limiter: L,
-    lives: &'a Lives,
-    pairs: u64,
-) -> Result<(), Fail> {
-    assert!(rt; balances(rt.alloc(), limiter, lives, pairs)?);
-    assert_eq!(rt; live(lives), (0, 0));
-    Ok(())
+    drop(map);
+    right && live(lives) == (0, 0)
 }
 
 #[test]
-fn keys_and_values_are_dropped_once(rt: HostRuntime) -> Result<(), Fail> {
-    let lives = Lives::new();
-    expect_balance(&rt, ByLength::new(20), &lives, 0)?;
-    expect_balance(&rt, ByLength::new(0), &lives, 0)?;
-    expect_balance(&rt, ByMemoryUsage::new(560), &lives, 0)?;
-    expect_balance(&rt, ByMemoryUsage::new(83), &lives, 0)?;
-    expect_balance(&rt, ByCost::new(10), &lives, 0)?;
-    expect_balance(&rt, ByCost::new(u64::MAX), &lives, 0)?;
-    expect_balance(&rt, ByWeight::<1>::new(200), &lives, 0)?;
-    expect_balance(&rt, Both(ByCost::new(10), ByLength::new(20)), &lives, 0)?;
-    expect_balance(&rt, Unlimited, &lives, 0)?;
-    expect_balance(&rt, UnlimitedCompact, &lives, 0)?;
-    expect_balance(&rt, Storing(ByLength::new(3)), &lives, 0)
+fn keys_and_values_are_dropped_once(rt: HostRuntime) {
+    let (alloc, lives) = (rt.alloc(), Lives::new());
+    let balanced = [
+        balances(alloc, ByLength::new(20), &lives, 0),
+        balances(alloc, ByLength::new(0), &lives, 0),
+        balances(alloc, ByMemoryUsage::new(560), &lives, 0),
+        balances(alloc, ByMemoryUsage::new(83), &lives, 0),
+        balances(alloc, ByCost::new(10), &lives, 0),
+        balances(alloc, ByCost::new(u64::MAX), &lives, 0),
+        balances(alloc, ByWeight::<1>::new(200), &lives, 0),
+        balances(alloc, Both(ByCost::new(10), ByLength::new(20)), &lives, 0),
+        balances(alloc, Unlimited, &lives, 0),
+        balances(alloc, UnlimitedCompact, &lives, 0),
+        balances(alloc, Storing(ByLength::new(3)), &lives, 0),
+    ];
+    expect(&rt, balanced == [true; 11]);
 }
 
 /// The same with maps of 10,000 pairs and more, until a random call takes all out.
 #[test]
-fn many_keys_and_values_are_dropped_once(rt: HostRuntime) -> Result<(), Fail> {
+fn many_keys_and_values_are_dropped_once(rt: HostRuntime) {
     let lives = Lives::new();
     for pairs in 10_000..10_008u64 {
-        expect_balance(&rt, ByLength::new(10_000), &lives, pairs)?;
+        expect(
+            &rt,
+            balances(rt.alloc(), ByLength::new(10_000), &lives, pairs),
+        );
     }
-    Ok(())
 }
 
 fn live(lives: &Lives) -> (u64, u64) {
@@ -161,15 +160,15 @@ fn what_trims_evict_is_dropped(rt: HostRuntime) -> Result<(), Fail> {
     }
     *map.limiter_mut() = ByLength::new(16_000);
     drop(map.update(lives.key(19_999), lives.value(0)));
-    assert_eq!(rt; live(&lives), (16_000, 16_000));
+    expect(&rt, live(&lives) == (16_000, 16_000));
     *map.limiter_mut() = ByLength::new(12_000);
     map.trim();
-    assert_eq!(rt; live(&lives), (12_000, 12_000));
+    expect(&rt, live(&lives) == (12_000, 12_000));
     map.set_limiter(ByLength::new(5000));
     drop(map.remove_entry(&lives.key(19_999)));
-    assert_eq!(rt; live(&lives), (4999, 4999));
+    expect(&rt, live(&lives) == (4999, 4999));
     drop(map.into_iter().next());
-    assert_eq!(rt; live(&lives), (0, 0));
+    expect(&rt, live(&lives) == (0, 0));
     Ok(())
 }
 
@@ -186,7 +185,7 @@ fn what_an_extend_leaves_is_dropped(rt: HostRuntime) -> Result<(), Fail> {
     let is_refused = map.try_extend(entries).is_err();
     let all = hog.took_all();
     drop(hog);
-    assert!(rt; !all || (is_refused && live(&lives) == (3, 3)));
+    expect(&rt, !all || (is_refused && live(&lives) == (3, 3)));
     Ok(())
 }
 
@@ -198,7 +197,10 @@ fn closures_that_are_not_called_are_dropped(rt: HostRuntime) {
     let (asked, kept) = (lives.value(0), lives.value(0));
     drop(none.pop_oldest_if(move |key, _| *key == value));
     drop(none.try_pop_oldest(move |key, _| if *key == other { Ok(()) } else { Err(0u8) }));
-    assert!(rt; none.peek_by_hash(7, move |key, _| *key == asked).is_none());
+    expect(
+        &rt,
+        none.peek_by_hash(7, move |key, _| *key == asked).is_none(),
+    );
     none.retain(move |key, _| *key == kept);
-    assert_eq!(rt; live(&lives), (0, 0));
+    expect(&rt, live(&lives) == (0, 0));
 }

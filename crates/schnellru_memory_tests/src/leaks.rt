@@ -3,7 +3,8 @@ use schnellru::{ByMemoryUsage, LruMap, Storing, UnlimitedCompact};
 use std::alloc::{AllocError, Global};
 use std::test::Fail;
 use test_helpers::{
-    Hog, LastByte, OF_HASH_28, Within, insert, insert_all, map_of, remove_all, reserve, shrink,
+    Hog, LastByte, OF_HASH_28, Within, expect, insert, insert_all, map_of, remove_all, reserve,
+    shrink,
 };
 
 /// The only memory that is left. A cycle of calls that loses 16 bytes uses it up within the cycles.
@@ -79,7 +80,7 @@ fn calls_give_their_memory_back(rt: HostRuntime) -> Result<(), Fail> {
         made = made.wrapping_add(is_made as u32);
     }
     drop(hog);
-    assert_eq!(rt; made, CYCLES);
+    expect(&rt, made == CYCLES);
     Ok(())
 }
 
@@ -93,7 +94,7 @@ fn calls_on_large_maps_give_their_memory_back(rt: HostRuntime) -> Result<(), Fai
         made = made.wrapping_add(grown_and_shrunk(&mut map, 400).is_some() as u32);
     }
     drop(hog);
-    assert_eq!(rt; made, LARGE_CYCLES);
+    expect(&rt, made == LARGE_CYCLES);
     Ok(())
 }
 
@@ -134,6 +135,6 @@ fn a_new_map_takes_no_memory(rt: HostRuntime) -> Result<(), Fail> {
         ),
     ];
     drop(hog);
-    assert_eq!(rt; left, [true; 7]);
+    expect(&rt, left == [true; 7]);
     Ok(())
 }

@@ -3,7 +3,8 @@ use schnellru::{Admission, LruMap, ReserveError, Storing, UnlimitedCompact, Upda
 use std::hash::BuildHasher;
 use std::test::Fail;
 use test_helpers::{
-    Hog, LastByte, Within, figures, get, insert, insert_all, map_of, remove_all, reserve, shrink,
+    Hog, LastByte, Within, expect, figures, get, insert, insert_all, map_of, remove_all, reserve,
+    shrink,
 };
 
 /// Whether calls that need no memory succeed while none is left.
@@ -41,7 +42,7 @@ fn calls_that_take_no_memory(rt: HostRuntime) -> Result<(), Fail> {
     let succeed = succeed_without_memory(&mut map) && is_refused_and_given_back(&mut map);
     let all = hog.took_all();
     drop(hog);
-    assert!(rt; succeed || !all);
+    expect(&rt, succeed || !all);
     Ok(())
 }
 
@@ -55,9 +56,9 @@ fn a_rehash_of_no_pairs_takes_no_memory(rt: HostRuntime) -> Result<(), Fail> {
     let hog = Hog::new(rt.alloc(), &[])?;
     let (refused, rehashed) = (reserve(&mut map, 29), reserve(&mut map, 14));
     drop(hog);
-    assert_eq!(rt;
-        (refused, rehashed, figures(&map)),
-        (Err(ReserveError::Refused), Ok(()), (0, 28, 560))
+    expect(
+        &rt,
+        (refused, rehashed, figures(&map)) == (Err(ReserveError::Refused), Ok(()), (0, 28, 560)),
     );
     Ok(())
 }

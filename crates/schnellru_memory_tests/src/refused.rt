@@ -5,8 +5,8 @@ use std::alloc::{AllocError, Global};
 use std::hash::BuildHasher;
 use std::test::Fail;
 use test_helpers::{
-    Hog, InsertKey, LastByte, OF_HASH_28, Texts, Within, counts_down, figures, has_keys, insert,
-    insert_all, is_list, map_of, remove_all, report, shrink, texts_of, three_costs,
+    Hog, InsertKey, LastByte, OF_HASH_28, Texts, Within, counts_down, expect, figures, has_keys,
+    insert, insert_all, is_list, map_of, remove_all, report, shrink, texts_of, three_costs,
 };
 
 /// The bytes of a first table of 4 buckets with entries of 24 bytes: its entries, and its control bytes with 16 more.
@@ -146,9 +146,9 @@ fn inserts_of_many_pairs(rt: HostRuntime) -> Result<(), Fail> {
     for call in INSERTS {
         let mut map = map_of(rt.alloc(), UnlimitedCompact);
         for key in 0..100_000u64 {
-            assert!(rt; !is_refused(&mut map, call, (key, key)));
+            expect(&rt, !is_refused(&mut map, call, (key, key)));
         }
-        assert_eq!(rt; map.len(), 100_000);
+        expect(&rt, map.len() == 100_000);
     }
     Ok(())
 }
@@ -183,7 +183,7 @@ fn inserts_that_need_a_table(rt: HostRuntime) -> Result<(), Fail> {
         for case in [first, growth] {
             let limiter = Storing(Within::new(case.most));
             let fault = first_fault(rt.alloc(), &mut map_of(rt.alloc(), limiter), case)?;
-            assert_eq!(rt; fault, None, "{} pairs", case.len);
+            assert!(rt; fault == None, "{} pairs", case.len);
         }
     }
     Ok(())
@@ -208,7 +208,7 @@ fn inserts_that_need_a_rehash(rt: HostRuntime) -> Result<(), Fail> {
         let limiter = Storing(Within::new(case.most));
         let mut map = LruMap::with_hasher(rt.alloc(), limiter, LastByte(0), 16);
         let fault = first_fault(rt.alloc(), &mut map, case)?;
-        assert_eq!(rt; fault, None, "{} pairs", case.len);
+        assert!(rt; fault == None, "{} pairs", case.len);
     }
     Ok(())
 }
@@ -268,7 +268,7 @@ fn reservations_and_shrinks(rt: HostRuntime) -> Result<(), Fail> {
         let limiter = Storing(Within::new(case.most));
         let mut map = LruMap::with_hasher(rt.alloc(), limiter, LastByte(0), 16);
         let fault = first_fault(rt.alloc(), &mut map, case)?;
-        assert_eq!(rt; fault, None, "{} pairs", case.len);
+        assert!(rt; fault == None, "{} pairs", case.len);
     }
     Ok(())
 }
@@ -289,7 +289,10 @@ fn an_account_in_a_growth(rt: HostRuntime) -> Result<(), Fail> {
     let all = hog.took_all();
     drop(hog);
     let refused = (true, true, 6);
-    assert!(rt; !all || found == [refused, refused, refused, (false, false, 10)]);
+    expect(
+        &rt,
+        !all || found == [refused, refused, refused, (false, false, 10)],
+    );
     Ok(())
 }
 
@@ -318,7 +321,10 @@ fn keys_that_are_made(rt: HostRuntime) -> Result<(), Fail> {
         (true, true, 6),
         (false, false, 7),
     ];
-    assert!(rt; !all || (found == expected && has_keys(&map, &["9", "3", "2", "1"])));
+    expect(
+        &rt,
+        !all || (found == expected && has_keys(&map, &["9", "3", "2", "1"])),
+    );
     Ok(())
 }
 
@@ -342,7 +348,10 @@ fn copies(rt: HostRuntime) -> Result<(), Fail> {
     }
     let all = hog.took_all();
     drop(hog);
-    assert!(rt; !all || made == [false, false, false, false, false, true]);
-    assert!(rt; has_keys(&map, &["3", "2", "1"]));
+    expect(
+        &rt,
+        !all || made == [false, false, false, false, false, true],
+    );
+    expect(&rt, has_keys(&map, &["3", "2", "1"]));
     Ok(())
 }

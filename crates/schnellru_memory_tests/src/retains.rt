@@ -3,7 +3,7 @@ use super::live::Lives;
 use schnellru::{ByLength, LruMap, Unlimited};
 use std::alloc::{AllocError, Global};
 use std::test::Fail;
-use test_helpers::{insert_all, is_list, map_of};
+use test_helpers::{expect, insert_all, is_list, map_of};
 
 fn three(alloc: Global) -> Result<LruMap<u64, u64>, AllocError> {
     let mut map = map_of(alloc, ByLength::new(3));
@@ -15,21 +15,21 @@ fn three(alloc: Global) -> Result<LruMap<u64, u64>, AllocError> {
 fn of_retains(rt: HostRuntime) -> Result<(), Fail> {
     let mut map = three(rt.alloc())?;
     map.retain(|_, value| *value > 10);
-    assert!(rt; map.len() == 2 && !map.contains(&1));
+    expect(&rt, map.len() == 2 && !map.contains(&1));
     let mut removed = 0u64;
     map.retain_with(
         |key, _| *key != 2,
         &mut |key, _| removed = removed.wrapping_add(key),
     );
-    assert_eq!(rt; removed, 2);
-    assert!(rt; is_list(&map, &[(3, 30)]));
+    expect(&rt, removed == 2);
+    expect(&rt, is_list(&map, &[(3, 30)]));
     let mut map = three(rt.alloc())?;
     let mut evicted = 0u64;
     map.set_limiter_with(
         ByLength::new(1),
         &mut |key, _| evicted = evicted.wrapping_add(key),
     );
-    assert_eq!(rt; evicted, 3);
+    expect(&rt, evicted == 3);
     Ok(())
 }
 
@@ -37,20 +37,20 @@ fn of_retains(rt: HostRuntime) -> Result<(), Fail> {
 #[test]
 fn entries_are_asked_in_order(rt: HostRuntime) -> Result<(), Fail> {
     let mut map = map_of(rt.alloc(), Unlimited);
-    assert_eq!(rt; insert_all(&mut map, 1..=100_000)?, 100_000);
+    expect(&rt, insert_all(&mut map, 1..=100_000)? == 100_000);
     let (mut asked, mut in_order) = (0u64, true);
     map.retain(|key, _| {
         asked = asked.wrapping_add(1);
         in_order = in_order && *key == asked;
         *key % 3 == 0
     });
-    assert_eq!(rt; (asked, in_order, map.len()), (100_000, true, 33_333));
+    expect(&rt, (asked, in_order, map.len()) == (100_000, true, 33_333));
     let mut expected = 99_999u64;
     for (key, _) in map.iter() {
         in_order = in_order && *key == expected;
         expected = expected.wrapping_sub(3);
     }
-    assert!(rt; in_order);
+    expect(&rt, in_order);
     Ok(())
 }
 
@@ -67,14 +67,14 @@ fn what_a_retain_removes_is_dropped(rt: HostRuntime) -> Result<(), Fail> {
         turn = !turn;
         turn
     });
-    assert_eq!(rt;
-        (map.len(), lives.keys.get(), lives.values.get()),
-        (10_000, 10_000, 10_000)
+    expect(
+        &rt,
+        (map.len(), lives.keys.get(), lives.values.get()) == (10_000, 10_000, 10_000),
     );
     map.retain_with(|_, _| false, &mut |key, value| drop((key, value)));
-    assert_eq!(rt;
-        (map.len(), lives.keys.get(), lives.values.get()),
-        (0, 0, 0)
+    expect(
+        &rt,
+        (map.len(), lives.keys.get(), lives.values.get()) == (0, 0, 0),
     );
     Ok(())
 }

@@ -2,7 +2,7 @@
 use schnellru::{LruMap, UnlimitedCompact};
 use std::cell::Cell;
 use std::test::Fail;
-use test_helpers::{LastByte, insert_all, is_list};
+use test_helpers::{LastByte, expect, insert_all, is_list};
 
 /// Counts a question, and returns whether it is the one with this number.
 fn is_question(asked: &Cell<u64>, number: u64) -> bool {
@@ -22,11 +22,14 @@ fn a_search_ends_with_its_answer(rt: HostRuntime) -> Result<(), Fail> {
         let found = map
             .peek_by_hash(0, |_, _| is_question(&asked, number))
             .copied();
-        assert_eq!(rt; (found, asked.get()), (value, questions));
+        expect(&rt, (found, asked.get()) == (value, questions));
     }
     asked.set(0);
-    assert!(rt; map.get_by_hash(0, |_, _| is_question(&asked, 2)).is_some());
-    assert_eq!(rt; asked.get(), 2);
-    assert!(rt; is_list(&map, &[(2, 20), (3, 30), (1, 10)]));
+    expect(
+        &rt,
+        map.get_by_hash(0, |_, _| is_question(&asked, 2)).is_some(),
+    );
+    expect(&rt, asked.get() == 2);
+    expect(&rt, is_list(&map, &[(2, 20), (3, 30), (1, 10)]));
     Ok(())
 }

@@ -7,7 +7,7 @@ use std::alloc::{AllocError, Global};
 use std::cell::Cell;
 use std::rc::Rc;
 use std::test::Fail;
-use test_helpers::{Counted, Sum, get, insert, insert_all, peek, report};
+use test_helpers::{Counted, Sum, expect, get, insert, insert_all, peek, report};
 
 type Map<'a> = LruMap<u64, u64, UnlimitedCompact, Counted<'a, Sum>>;
 
@@ -33,7 +33,7 @@ fn a_hasher_is_built_for_each_key_that_moves(rt: HostRuntime) -> Result<(), Fail
     let mut moved_without_growth = 0u64;
     for key in 0..2000u64 {
         let (bytes, (moved, _)) = (map.memory_usage(), report(&map));
-        assert_eq!(rt; surplus(&mut map, &builds, key)?, 0, "{key}");
+        assert!(rt; surplus(&mut map, &builds, key)? == 0, "{key}");
         if bytes == map.memory_usage() && moved < report(&map).0 {
             moved_without_growth = moved_without_growth.saturating_add(1);
         }
@@ -41,7 +41,7 @@ fn a_hasher_is_built_for_each_key_that_moves(rt: HostRuntime) -> Result<(), Fail
             map.remove(&key.wrapping_sub(40));
         }
     }
-    assert!(rt; moved_without_growth > 0);
+    expect(&rt, moved_without_growth > 0);
     Ok(())
 }
 
@@ -66,7 +66,7 @@ fn a_call_hashes_its_key_once(rt: HostRuntime) -> Result<(), Fail> {
         map.update(6, 0) == Updated::Replaced(60),
         map.get_key_value(&6).is_some(),
     ];
-    assert_eq!(rt; (is_found, builds.get()), ([true; 13], 13));
+    expect(&rt, (is_found, builds.get()) == ([true; 13], 13));
     Ok(())
 }
 
@@ -131,7 +131,7 @@ fn the_limiter_is_asked_once(rt: HostRuntime) -> Result<(), Fail> {
     let mut map = new_map(rt.alloc(), &asked, &value, &lives);
     for (key, wanted) in [(1u64, 1u64), (2, 3), (3, 5), (2, 6), (4, 8)] {
         let found = (is_stored(&mut map, key, &value), asked.get());
-        assert_eq!(rt; found, (true, wanted), "{key}");
+        assert!(rt; found == (true, wanted), "{key}");
     }
     Ok(())
 }
@@ -145,13 +145,13 @@ fn a_clear_is_reported_last(rt: HostRuntime) -> Result<(), Fail> {
     let other = value.clone()?;
     let is_there = map.ensure_newest(1, move || other) == Ok(true);
     let is_removed = map.remove(&2).is_some();
-    assert_eq!(rt;
-        (are_stored, is_there, is_removed, asked.get()),
-        (true, true, true, 3)
+    expect(
+        &rt,
+        (are_stored, is_there, is_removed, asked.get()) == (true, true, true, 3),
     );
     map.trim();
     map.clear();
     map.trim();
-    assert_eq!(rt; (lives.get(), asked.get()), (1, 4));
+    expect(&rt, (lives.get(), asked.get()) == (1, 4));
     Ok(())
 }

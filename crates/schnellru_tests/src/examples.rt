@@ -6,6 +6,7 @@ use schnellru::{
 use std::alloc::{AllocError, Global};
 use std::hash::BuildHasher;
 use std::test::Fail;
+use test_helpers::expect;
 
 /// A map of the pairs (1, 10), (2, 20) and (3, 30), and of at most three pairs.
 pub(crate) fn three(alloc: Global) -> Result<LruMap<u64, u64>, AllocError> {
@@ -24,7 +25,7 @@ fn of_the_map(rt: HostRuntime) -> Result<(), Fail> {
     map.insert(2, 20)?;
     map.get(&1);
     map.insert(3, 30)?;
-    assert!(rt; map.peek(&2).is_none());
+    expect(&rt, map.peek(&2).is_none());
     Ok(())
 }
 
@@ -36,7 +37,7 @@ fn of_a_map_with_a_hasher(rt: HostRuntime) {
         RandomState::default(),
         32,
     );
-    assert!(rt; map.is_empty() && map.memory_usage() == 0);
+    expect(&rt, map.is_empty() && map.memory_usage() == 0);
 }
 
 #[test]
@@ -50,7 +51,10 @@ fn of_a_map_with_a_budget(rt: HostRuntime) -> Result<(), Fail> {
     for n in 1..=4 {
         map.insert(n, n)?;
     }
-    assert!(rt; map.len() == 3 && map.memory_usage() == 84 && map.peek(&1).is_none());
+    expect(
+        &rt,
+        map.len() == 3 && map.memory_usage() == 84 && map.peek(&1).is_none(),
+    );
     Ok(())
 }
 
@@ -63,29 +67,29 @@ fn of_a_map_with_a_budget_and_a_hasher(rt: HostRuntime) {
         seeded,
         16,
     );
-    assert_eq!(rt; map.limiter().max_memory_usage(), 84);
+    expect(&rt, map.limiter().max_memory_usage() == 84);
     let usage = LruMap::<u64, u64, UnlimitedCompact>::memory_usage_for_memory_budget(512, 16);
-    assert_eq!(rt; usage, 288);
+    expect(&rt, usage == 288);
 }
 
 #[test]
 fn of_a_map_with_a_limiter(rt: HostRuntime) -> Result<(), Fail> {
     let mut map: LruMap<u64, u64> = LruMap::with_limiter(rt.alloc(), ByLength::new(3));
-    assert!(rt; map.insert(1, 10)?);
-    assert_eq!(rt; map.memory_usage(), 4 * 24 + 4 + 16);
+    expect(&rt, map.insert(1, 10)?);
+    expect(&rt, map.memory_usage() == 4 * 24 + 4 + 16);
     Ok(())
 }
 
 #[test]
 fn of_inserts_and_the_limiter(rt: HostRuntime) -> Result<(), Fail> {
     let mut map = three(rt.alloc())?;
-    assert!(rt; map.insert(1, 10)?);
-    assert!(rt; map.insert(1, 20)?);
-    assert_eq!(rt; map.peek(&1), Some(&20));
+    expect(&rt, map.insert(1, 10)?);
+    expect(&rt, map.insert(1, 20)?);
+    expect(&rt, map.peek(&1) == Some(&20));
     *map.limiter_mut() = ByLength::new(1);
-    assert_eq!(rt; map.len(), 3);
+    expect(&rt, map.len() == 3);
     map.insert(4, 40)?;
-    assert_eq!(rt; map.len(), 1);
+    expect(&rt, map.len() == 1);
     Ok(())
 }
 
@@ -93,7 +97,7 @@ fn of_inserts_and_the_limiter(rt: HostRuntime) -> Result<(), Fail> {
 fn of_inserts_that_return_a_value(rt: HostRuntime) -> Result<(), Fail> {
     let mut map = three(rt.alloc())?;
     let inserted = map.insert_full(1, 11, &mut |_, _| {})?;
-    assert_eq!(rt; (inserted.kept, inserted.unkept), (true, Some(10)));
+    expect(&rt, (inserted.kept, inserted.unkept) == (true, Some(10)));
     Ok(())
 }
 
@@ -102,18 +106,18 @@ fn of_inserts_with_a_callback(rt: HostRuntime) -> Result<(), Fail> {
     let mut map = three(rt.alloc())?;
     let mut left = None;
     map.insert_with(4, 40, &mut |key, value| left = Some((key, value)))?;
-    assert_eq!(rt; left, Some((1, 10)));
+    expect(&rt, left == Some((1, 10)));
     Ok(())
 }
 
 #[test]
 fn of_inserts_that_evict_nothing(rt: HostRuntime) -> Result<(), Fail> {
     let mut map = three(rt.alloc())?;
-    assert_eq!(rt; map.try_insert(4, 40), Err((4, 40)));
+    expect(&rt, map.try_insert(4, 40) == Err((4, 40)));
     map.pop_oldest();
-    assert_eq!(rt;
-        (map.try_insert(4, 40), map.try_insert(4, 41)),
-        (Ok(()), Err((4, 41)))
+    expect(
+        &rt,
+        (map.try_insert(4, 40), map.try_insert(4, 41)) == (Ok(()), Err((4, 41))),
     );
     Ok(())
 }
@@ -121,27 +125,27 @@ fn of_inserts_that_evict_nothing(rt: HostRuntime) -> Result<(), Fail> {
 #[test]
 fn of_look_ups_and_removals(rt: HostRuntime) -> Result<(), Fail> {
     let mut map = three(rt.alloc())?;
-    assert_eq!(rt; map.remove(&1), Some(10));
-    assert_eq!(rt; map.remove(&1), None);
+    expect(&rt, map.remove(&1) == Some(10));
+    expect(&rt, map.remove(&1) == None);
     map.insert(1, 10)?;
     map.insert(2, 20)?;
     if let Some(value) = map.get(&1) {
         *value = 100;
     }
-    assert!(rt; map.peek_newest() == Some((&1, &100)));
+    expect(&rt, map.peek_newest() == Some((&1, &100)));
     Ok(())
 }
 
 #[test]
 fn of_reservations_and_what_they_make_room_for(rt: HostRuntime) -> Result<(), Fail> {
     let mut map: LruMap<u64, u64, UnlimitedCompact> = LruMap::default(rt.alloc());
-    assert_eq!(rt; map.try_reserve(7), Ok(()));
-    assert_eq!(rt; (map.guaranteed_capacity(), map.len()), (7, 0));
-    assert_eq!(rt; map.get_or_insert(1, || 10)?.copied(), Some(10));
-    assert_eq!(rt; map.get_or_insert(1, || 20)?.copied(), Some(10));
-    assert_eq!(rt; map.shrink_to_fit(), Ok(true));
-    assert_eq!(rt; (map.len(), map.guaranteed_capacity()), (1, 3));
-    assert_eq!(rt; map.shrink_to_fit(), Ok(false));
+    expect(&rt, map.try_reserve(7) == Ok(()));
+    expect(&rt, (map.guaranteed_capacity(), map.len()) == (7, 0));
+    expect(&rt, map.get_or_insert(1, || 10)?.copied() == Some(10));
+    expect(&rt, map.get_or_insert(1, || 20)?.copied() == Some(10));
+    expect(&rt, map.shrink_to_fit() == Ok(true));
+    expect(&rt, (map.len(), map.guaranteed_capacity()) == (1, 3));
+    expect(&rt, map.shrink_to_fit() == Ok(false));
     Ok(())
 }
 
@@ -153,7 +157,7 @@ fn of_values_that_are_counted(rt: HostRuntime) -> Result<(), Fail> {
             *count = count.saturating_add(1);
         }
     }
-    assert_eq!(rt; map.peek(&1), Some(&11));
+    expect(&rt, map.peek(&1) == Some(&11));
     Ok(())
 }
 
@@ -161,7 +165,10 @@ fn of_values_that_are_counted(rt: HostRuntime) -> Result<(), Fail> {
 fn of_walks(rt: HostRuntime) -> Result<(), Fail> {
     let mut map = three(rt.alloc())?;
     let mut walk = map.iter();
-    assert!(rt; walk.next() == Some((&3, &30)) && walk.next_back() == Some((&1, &10)));
+    expect(
+        &rt,
+        walk.next() == Some((&3, &30)) && walk.next_back() == Some((&1, &10)),
+    );
     let mut total = 0u64;
     for (key, value) in &map {
         total = total.wrapping_add(key.wrapping_mul(*value));
@@ -170,30 +177,31 @@ fn of_walks(rt: HostRuntime) -> Result<(), Fail> {
     for (key, value) in map.drain() {
         sum = sum.wrapping_add(key.wrapping_mul(value));
     }
-    assert!(rt; map.is_empty());
-    assert_eq!(rt; (total, sum), (140, 140));
+    expect(&rt, map.is_empty());
+    expect(&rt, (total, sum) == (140, 140));
     Ok(())
 }
 
 #[test]
 fn of_both_ends(rt: HostRuntime) -> Result<(), Fail> {
     let mut map = three(rt.alloc())?;
-    assert_eq!(rt;
-        map.move_report(),
-        MoveReport {
-            moved: 0,
-            placed: 3,
-            shrunk: 0
-        }
+    expect(
+        &rt,
+        map.move_report()
+            == MoveReport {
+                moved: 0,
+                placed: 3,
+                shrunk: 0,
+            },
     );
-    assert!(rt; map.peek_key_value(&1) == Some((&1, &10)));
-    assert!(rt; map.peek_key_value(&4).is_none());
-    assert!(rt; map.peek_oldest() == Some((&1, &10)));
-    assert!(rt; map.peek_newest() == Some((&3, &30)));
-    assert_eq!(rt; map.pop_oldest(), Some((1, 10)));
-    assert_eq!(rt; map.pop_newest(), Some((3, 30)));
+    expect(&rt, map.peek_key_value(&1) == Some((&1, &10)));
+    expect(&rt, map.peek_key_value(&4).is_none());
+    expect(&rt, map.peek_oldest() == Some((&1, &10)));
+    expect(&rt, map.peek_newest() == Some((&3, &30)));
+    expect(&rt, map.pop_oldest() == Some((1, 10)));
+    expect(&rt, map.pop_newest() == Some((3, 30)));
     map.clear();
-    assert_eq!(rt; (map.len(), map.guaranteed_capacity()), (0, 3));
+    expect(&rt, (map.len(), map.guaranteed_capacity()) == (0, 3));
     Ok(())
 }
 
@@ -207,19 +215,19 @@ fn of_values_that_are_written(rt: HostRuntime) -> Result<(), Fail> {
     if let Some((_, value)) = walk.next_back() {
         *value = 100;
     }
-    assert_eq!(rt; walk.len(), 1);
+    expect(&rt, walk.len() == 1);
     if walk.len() > 0 {
         let (_, value) = walk.lend_next();
         *value = 200;
     }
     drop(walk);
-    assert_eq!(rt; map.peek(&2), Some(&200));
-    assert!(rt; map.peek_newest() == Some((&3, &300)));
-    assert!(rt; map.peek_oldest() == Some((&1, &100)));
+    expect(&rt, map.peek(&2) == Some(&200));
+    expect(&rt, map.peek_newest() == Some((&3, &300)));
+    expect(&rt, map.peek_oldest() == Some((&1, &100)));
     if let Some(value) = map.peek_mut(&1) {
         *value = 10;
     }
-    assert!(rt; map.peek_oldest() == Some((&1, &10)));
+    expect(&rt, map.peek_oldest() == Some((&1, &10)));
     Ok(())
 }
 
@@ -227,8 +235,8 @@ fn of_values_that_are_written(rt: HostRuntime) -> Result<(), Fail> {
 fn of_copies(rt: HostRuntime) -> Result<(), Fail> {
     let map = three(rt.alloc())?;
     let mut copy = map.clone()?;
-    assert_eq!(rt; copy.remove(&1), Some(10));
-    assert_eq!(rt; (copy.len(), map.len()), (2, 3));
+    expect(&rt, copy.remove(&1) == Some(10));
+    expect(&rt, (copy.len(), map.len()) == (2, 3));
     Ok(())
 }
 
@@ -237,19 +245,19 @@ fn of_copies(rt: HostRuntime) -> Result<(), Fail> {
 fn of_searches_by_a_hash(rt: HostRuntime) -> Result<(), Fail> {
     let mut map = three(rt.alloc())?;
     let hash = RandomState::default().hash_one(&1u64);
-    assert_eq!(rt;
-        map.get_by_hash(hash, |key, _| *key == 1).copied(),
-        Some(10)
+    expect(
+        &rt,
+        map.get_by_hash(hash, |key, _| *key == 1).copied() == Some(10),
     );
-    assert!(rt; map.peek_newest() == Some((&1, &10)));
-    assert_eq!(rt;
-        map.peek_by_hash(hash, |_, value| *value == 10).copied(),
-        Some(10)
+    expect(&rt, map.peek_newest() == Some((&1, &10)));
+    expect(
+        &rt,
+        map.peek_by_hash(hash, |_, value| *value == 10).copied() == Some(10),
     );
     if let Some(value) = map.peek_by_hash_mut(hash, |key, _| *key == 1) {
         *value = 100;
     }
-    assert_eq!(rt; map.peek(&1), Some(&100));
+    expect(&rt, map.peek(&1) == Some(&100));
     Ok(())
 }
 
@@ -259,9 +267,9 @@ fn of_seeds(rt: HostRuntime) -> Result<(), Fail> {
     let mut map: LruMap<u64, u64> = LruMap::with_seed(alloc, ByLength::new(3), [5, 6, 7, 8], 16);
     map.insert(1, 10)?;
     let hash = RandomState::with_seeds([5, 6, 7, 8]).hash_one(&1u64);
-    assert_eq!(rt;
-        map.peek_by_hash(hash, |key, _| *key == 1).copied(),
-        Some(10)
+    expect(
+        &rt,
+        map.peek_by_hash(hash, |key, _| *key == 1).copied() == Some(10),
     );
     Ok(())
 }
@@ -269,8 +277,11 @@ fn of_seeds(rt: HostRuntime) -> Result<(), Fail> {
 #[test]
 fn of_failed_reservations(rt: HostRuntime) {
     let mut map: LruMap<u64, u64, Unlimited> = LruMap::new(rt.alloc(), Unlimited, [1, 2, 3, 4], 16);
-    assert_eq!(rt; map.try_reserve(usize::MAX), Err(ReserveError::TooLarge));
-    assert_eq!(rt; map.try_reserve(1 << 50), Err(ReserveError::Memory));
+    expect(
+        &rt,
+        map.try_reserve(usize::MAX) == Err(ReserveError::TooLarge),
+    );
+    expect(&rt, map.try_reserve(1 << 50) == Err(ReserveError::Memory));
 }
 
 #[test]
@@ -281,32 +292,33 @@ fn of_refused_reservations(rt: HostRuntime) {
         [1, 2, 3, 4],
         16,
     );
-    assert_eq!(rt; map.try_reserve(4), Err(ReserveError::Refused));
+    expect(&rt, map.try_reserve(4) == Err(ReserveError::Refused));
 }
 
 #[test]
 fn of_closures_that_may_fail(rt: HostRuntime) -> Result<(), Fail> {
     let mut map = three(rt.alloc())?;
     let answer = map.ensure_newest_fallible(4, || Err(7u8));
-    assert_eq!(rt; answer, Err(GetOrInsertError::Caller(7)));
-    assert!(rt; map.ensure_newest_fallible(4, || Err(7u8)).is_err());
-    assert!(rt; map.peek(&4).is_none());
-    assert!(rt; map.ensure_newest_fallible(4, || Ok::<u64, u8>(40))?);
-    assert!(rt; map.peek_newest() == Some((&4, &40)));
+    expect(&rt, answer == Err(GetOrInsertError::Caller(7)));
+    expect(&rt, map.ensure_newest_fallible(4, || Err(7u8)).is_err());
+    expect(&rt, map.peek(&4).is_none());
+    expect(&rt, map.ensure_newest_fallible(4, || Ok::<u64, u8>(40))?);
+    expect(&rt, map.peek_newest() == Some((&4, &40)));
     Ok(())
 }
 
 #[test]
 fn of_gets_that_may_fail(rt: HostRuntime) -> Result<(), Fail> {
     let mut map = three(rt.alloc())?;
-    assert!(rt; map.get_or_insert_fallible(5, || Err(7u8)).is_err());
+    expect(&rt, map.get_or_insert_fallible(5, || Err(7u8)).is_err());
     let error = map.get_or_insert_fallible(5, || Err(7u8)).err();
-    assert_eq!(rt; error, Some(GetOrInsertError::Caller(7)));
-    assert!(rt; map.peek(&5).is_none());
-    assert_eq!(rt;
+    expect(&rt, error == Some(GetOrInsertError::Caller(7)));
+    expect(&rt, map.peek(&5).is_none());
+    expect(
+        &rt,
         map.get_or_insert_fallible(5, || Ok::<u64, u8>(50))?
-            .copied(),
-        Some(50)
+            .copied()
+            == Some(50),
     );
     Ok(())
 }
@@ -323,21 +335,27 @@ fn insert_five<S: KeyHasher<u64>>(
 #[test]
 fn of_keys_that_are_promoted(rt: HostRuntime) -> Result<(), Fail> {
     let mut map = three(rt.alloc())?;
-    assert!(rt; map.contains(&1) && !map.contains(&9));
-    assert!(rt; map.keys().next() == Some(&3) && map.keys().next_back() == Some(&1));
-    assert!(rt; map.values().next() == Some(&30) && map.values().len() == 3);
-    assert!(rt; map.promote(&1) && !map.promote(&9));
-    assert!(rt; map.peek_newest() == Some((&1, &10)));
+    expect(&rt, map.contains(&1) && !map.contains(&9));
+    expect(
+        &rt,
+        map.keys().next() == Some(&3) && map.keys().next_back() == Some(&1),
+    );
+    expect(
+        &rt,
+        map.values().next() == Some(&30) && map.values().len() == 3,
+    );
+    expect(&rt, map.promote(&1) && !map.promote(&9));
+    expect(&rt, map.peek_newest() == Some((&1, &10)));
     Ok(())
 }
 
 #[test]
 fn of_entries_that_are_removed(rt: HostRuntime) -> Result<(), Fail> {
     let mut map = three(rt.alloc())?;
-    assert_eq!(rt; map.remove_entry(&1), Some((1, 10)));
-    assert_eq!(rt; map.remove_entry(&1), None);
-    assert!(rt; insert_five(&mut map)?);
-    assert_eq!(rt; map.into_iter().next_back(), Some((2, 20)));
+    expect(&rt, map.remove_entry(&1) == Some((1, 10)));
+    expect(&rt, map.remove_entry(&1) == None);
+    expect(&rt, insert_five(&mut map)?);
+    expect(&rt, map.into_iter().next_back() == Some((2, 20)));
     Ok(())
 }
 
@@ -346,7 +364,7 @@ fn of_trims(rt: HostRuntime) -> Result<(), Fail> {
     let mut map = three(rt.alloc())?;
     *map.limiter_mut() = ByLength::new(1);
     map.trim();
-    assert!(rt; map.len() == 1 && map.contains(&3));
+    expect(&rt, map.len() == 1 && map.contains(&3));
     Ok(())
 }
 
@@ -356,7 +374,7 @@ fn of_trims_with_a_callback(rt: HostRuntime) -> Result<(), Fail> {
     let mut evicted = 0u64;
     *map.limiter_mut() = ByLength::new(1);
     map.trim_with(&mut |key, _| evicted = evicted.wrapping_add(key));
-    assert_eq!(rt; evicted, 3);
+    expect(&rt, evicted == 3);
     Ok(())
 }
 
@@ -364,21 +382,21 @@ fn of_trims_with_a_callback(rt: HostRuntime) -> Result<(), Fail> {
 fn of_another_limiter(rt: HostRuntime) -> Result<(), Fail> {
     let mut map = three(rt.alloc())?;
     let old = map.set_limiter(ByLength::new(1));
-    assert!(rt; old.max_length() == 3 && map.len() == 1);
-    assert_eq!(rt; map.limiter().max_length(), 1);
+    expect(&rt, old.max_length() == 3 && map.len() == 1);
+    expect(&rt, map.limiter().max_length() == 1);
     Ok(())
 }
 
 #[test]
 fn of_pops_on_a_condition(rt: HostRuntime) -> Result<(), Fail> {
     let mut map = three(rt.alloc())?;
-    assert_eq!(rt; map.pop_oldest_if(|key, _| *key == 9), None);
-    assert_eq!(rt; map.try_pop_oldest(|_, _| Err(7u8)), Err(7));
-    assert_eq!(rt; map.len(), 3);
-    assert_eq!(rt; map.pop_oldest_if(|key, _| *key == 1), Some((1, 10)));
-    assert_eq!(rt;
-        map.try_pop_oldest(|_, _| -> Result<(), u8> { Ok(()) }),
-        Ok(Some((2, 20)))
+    expect(&rt, map.pop_oldest_if(|key, _| *key == 9) == None);
+    expect(&rt, map.try_pop_oldest(|_, _| Err(7u8)) == Err(7));
+    expect(&rt, map.len() == 3);
+    expect(&rt, map.pop_oldest_if(|key, _| *key == 1) == Some((1, 10)));
+    expect(
+        &rt,
+        map.try_pop_oldest(|_, _| -> Result<(), u8> { Ok(()) }) == Ok(Some((2, 20))),
     );
     Ok(())
 }
@@ -388,8 +406,11 @@ fn of_weights(rt: HostRuntime) -> Result<(), Fail> {
     let alloc = rt.alloc();
     let mut map: LruMap<u64, u64, ByWeight<16>> = LruMap::with_limiter(alloc, ByWeight::new(40));
     for key in 1..=3 {
-        assert!(rt; map.insert(key, 0)?);
+        expect(&rt, map.insert(key, 0)?);
     }
-    assert!(rt; !map.contains(&1) && map.limiter().cost() == 16 + 2 + 16 + 3);
+    expect(
+        &rt,
+        !map.contains(&1) && map.limiter().cost() == 16 + 2 + 16 + 3,
+    );
     Ok(())
 }

@@ -3,13 +3,16 @@
 use schnellru::LruMap;
 use std::alloc::{AllocError, Global};
 use std::test::Fail;
-use test_helpers::{Counting, InsertKey, Texts, has_keys, texts_of};
+use test_helpers::{Counting, InsertKey, Texts, expect, has_keys, texts_of};
 
 #[test]
 fn a_text_becomes_a_key_once(rt: HostRuntime) -> Result<(), Fail> {
     let map = texts_of(rt.alloc(), &["1", "2", "1"])?;
-    assert!(rt; has_keys(&map, &["1", "2"]));
-    assert_eq!(rt; (map.limiter().inserts, map.limiter().replacements), (2, 1));
+    expect(&rt, has_keys(&map, &["1", "2"]));
+    expect(
+        &rt,
+        (map.limiter().inserts, map.limiter().replacements) == (2, 1),
+    );
     Ok(())
 }
 
@@ -31,8 +34,8 @@ fn look_ups_by_texts(rt: HostRuntime) -> Result<(), Fail> {
         map.remove(&"3").is_some(),
         map.remove(&"7").is_some(),
     ];
-    assert_eq!(rt; found, [true, true, true, false]);
-    assert!(rt; has_keys(&map, &["2", "1"]));
+    expect(&rt, found == [true, true, true, false]);
+    expect(&rt, has_keys(&map, &["2", "1"]));
     Ok(())
 }
 
@@ -41,9 +44,12 @@ fn gets_that_insert_strings(rt: HostRuntime) -> Result<(), Fail> {
     let mut map = strings_of(rt.alloc(), &["1", "2", "3"])?;
     for (text, value, lent) in [("2", 20, 1), ("4", 40, 40)] {
         let key = String::from_str(rt.alloc(), text)?;
-        assert_eq!(rt; map.get_or_insert(key, || value)?.copied(), Some(lent));
+        expect(
+            &rt,
+            map.get_or_insert(key, || value)?.copied() == Some(lent),
+        );
     }
-    assert!(rt; has_keys(&map, &["4", "2", "3", "1"]));
+    expect(&rt, has_keys(&map, &["4", "2", "3", "1"]));
     Ok(())
 }
 
@@ -52,9 +58,15 @@ fn gets_that_insert_texts(rt: HostRuntime) -> Result<(), Fail> {
     let mut map = strings_of(rt.alloc(), &["1", "2", "3"])?;
     for (text, value, lent) in [("2", 20, 1), ("6", 6, 6)] {
         let key = InsertKey(text);
-        assert_eq!(rt; map.get_or_insert(key, || value)?.copied(), Some(lent));
+        expect(
+            &rt,
+            map.get_or_insert(key, || value)?.copied() == Some(lent),
+        );
     }
-    assert!(rt; has_keys(&map, &["6", "2", "3", "1"]));
-    assert_eq!(rt; (map.limiter().inserts, map.limiter().replacements), (1, 0));
+    expect(&rt, has_keys(&map, &["6", "2", "3", "1"]));
+    expect(
+        &rt,
+        (map.limiter().inserts, map.limiter().replacements) == (1, 0),
+    );
     Ok(())
 }

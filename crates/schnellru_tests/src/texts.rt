@@ -1,14 +1,17 @@
 //! Printed texts, and the numbers of the refusals.
 use schnellru::{GetOrInsertError, RandomState, ReserveError, UnlimitedCompact};
 use std::test::Fail;
-use test_helpers::{insert_all, map_of};
+use test_helpers::{expect, insert_all, map_of};
 
 #[test]
 fn debug(rt: HostRuntime) -> Result<(), Fail> {
     let mut map = map_of(rt.alloc(), UnlimitedCompact);
     insert_all(&mut map, 1..=3)?;
     let text = format!(in rt.alloc(); "{map:?} {:?}", RandomState::default())?;
-    assert_eq!(rt; text.as_str(), "LruMap { len: 3, .. } RandomState { .. }");
+    expect(
+        &rt,
+        text.as_str() == "LruMap { len: 3, .. } RandomState { .. }",
+    );
     Ok(())
 }
 
@@ -19,10 +22,10 @@ fn refusals(rt: HostRuntime) -> Result<(), Fail> {
     let failed: GetOrInsertError<u8> = GetOrInsertError::Caller(1);
     let memory: GetOrInsertError<u8> = GetOrInsertError::Memory;
     let text = format!(in rt.alloc(); "{large}, {refused}, {none}; {failed}, {memory}")?;
-    assert_eq!(rt;
-        text.as_str(),
-        "too large, refused, no memory; the closure failed, no memory"
+    expect(
+        &rt,
+        text.as_str() == "too large, refused, no memory; the closure failed, no memory",
     );
-    assert_eq!(rt; [large as u8, refused as u8, none as u8], [1, 2, 3]);
+    expect(&rt, [large as u8, refused as u8, none as u8] == [1, 2, 3]);
     Ok(())
 }

@@ -2,7 +2,7 @@
 use schnellru::{LruMap, UnlimitedCompact};
 use std::mem::forget;
 use std::test::Fail;
-use test_helpers::{get, is_list, map_of, three_costs};
+use test_helpers::{expect, get, is_list, map_of, three_costs};
 
 type Map = LruMap<u64, u64, UnlimitedCompact>;
 
@@ -25,17 +25,17 @@ fn iter_mut_works(rt: HostRuntime) -> Result<(), Fail> {
         map.insert(key, value)?;
     }
     double_even(&mut map);
-    assert_eq!(rt; get(&mut map, 2), Some(6));
-    assert!(rt; is_list(&map, &[(2, 6), (1, 2), (0, 2)]));
-    assert_eq!(rt; get(&mut map, 0), Some(2));
-    assert!(rt; is_list(&map, &[(0, 2), (2, 6), (1, 2)]));
+    expect(&rt, get(&mut map, 2) == Some(6));
+    expect(&rt, is_list(&map, &[(2, 6), (1, 2), (0, 2)]));
+    expect(&rt, get(&mut map, 0) == Some(2));
+    expect(&rt, is_list(&map, &[(0, 2), (2, 6), (1, 2)]));
     let mut walk = map.iter_mut();
     if let Some((key, value)) = walk.next_back() {
         *value = key.wrapping_add(100);
     }
-    assert_eq!(rt; walk.len(), 2);
+    expect(&rt, walk.len() == 2);
     drop(walk);
-    assert!(rt; is_list(&map, &[(0, 2), (2, 6), (1, 101)]));
+    expect(&rt, is_list(&map, &[(0, 2), (2, 6), (1, 101)]));
     Ok(())
 }
 
@@ -51,14 +51,17 @@ fn walks_that_do_not_end(rt: HostRuntime) -> Result<(), Fail> {
     }
     forget(walk);
     forget(map.iter());
-    assert!(rt; is_list(&map, &[(3, 3), (2, 2), (1, 100)]));
+    expect(&rt, is_list(&map, &[(3, 3), (2, 2), (1, 100)]));
     let mut drain = map.drain();
-    assert_eq!(rt; (drain.next(), drain.len()), (Some((3, 3)), 2));
+    expect(&rt, (drain.next(), drain.len()) == (Some((3, 3)), 2));
     forget(drain);
-    assert!(rt; is_list(&map, &[(2, 2), (1, 100)]));
-    assert_eq!(rt; map.limiter().cost(), 3);
-    assert!(rt; map.insert(4, 4)? && is_list(&map, &[(4, 4), (2, 2), (1, 100)]));
+    expect(&rt, is_list(&map, &[(2, 2), (1, 100)]));
+    expect(&rt, map.limiter().cost() == 3);
+    expect(
+        &rt,
+        map.insert(4, 4)? && is_list(&map, &[(4, 4), (2, 2), (1, 100)]),
+    );
     drop(map.drain());
-    assert_eq!(rt; (map.len(), map.limiter().cost()), (0, 0));
+    expect(&rt, (map.len(), map.limiter().cost()) == (0, 0));
     Ok(())
 }

@@ -1,5 +1,6 @@
 //! What tests share.
 //!
+//! - [`expect`]: ends a test that does not hold.
 //! - [`Hog`]: takes all memory, so that the requests of others are refused.
 //! - [`LinkedBy`], [`Alternating`], [`Within`], [`Blanking`]: limiters of maps from numbers to numbers.
 //! - [`InsertKey`] and [`Counting`]: texts that become a `String` when they are stored, and a limiter that accepts them.
@@ -12,6 +13,7 @@
 //!   at in it. They have no contracts, so a test that calls them is proved faster than one that calls the map.
 #![tactic(auto)]
 
+mod expect;
 mod hashers;
 mod hog;
 mod insert_key;
@@ -21,6 +23,7 @@ mod random;
 mod texts;
 mod weighed;
 
+pub use expect::expect;
 pub use hashers::{Counted, LastByte, OF_HASH_28, Sum};
 pub use hog::Hog;
 pub use insert_key::{Counting, InsertKey};
