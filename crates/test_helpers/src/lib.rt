@@ -13,7 +13,7 @@
 //!   at in it. They have no contracts, so a test that calls them is proved faster than one that calls the map.
 #![tactic(auto)]
 
-mod expect;
+mod conditions;
 mod hashers;
 mod hog;
 mod insert_key;
@@ -23,7 +23,7 @@ mod random;
 mod texts;
 mod weighed;
 
-pub use expect::expect;
+pub use conditions::expect;
 pub use hashers::{Counted, LastByte, OF_HASH_28, Sum};
 pub use hog::Hog;
 pub use insert_key::{Counting, InsertKey};
