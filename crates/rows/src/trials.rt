@@ -60,28 +60,38 @@ pub fn run(rt: &(impl Print + AllocGlobal)) -> io::Result<()> {
     try_summing_calls(rt)
 }
 
+/// The word of a call that has a line, and its numbers.
+fn spelled<L>(call: &Call<u64, u64, L>) -> (&'static str, Option<u64>, Option<u64>) {
+    match call {
+        Call::Insert(key, value) => ("insert", Some(*key), Some(*value)),
+        Call::InsertWith(key, value) => ("put", Some(*key), Some(*value)),
+        Call::Update(key, value) => ("update", Some(*key), Some(*value)),
+        Call::Get(key) => ("get", Some(*key), None),
+        Call::Peek(key) => ("peek", Some(*key), None),
+        Call::Remove(key) => ("remove", Some(*key), None),
+        Call::RemoveEntry(key) => ("remove-entry", Some(*key), None),
+        Call::Contains(key) => ("contains", Some(*key), None),
+        Call::Promote(key) => ("promote", Some(*key), None),
+        Call::Demote(key) => ("demote", Some(*key), None),
+        Call::Reserve(n) => ("reserve", Some(*n as u64), None),
+        Call::Drain { front, .. } => ("drain", Some(*front as u64), None),
+        Call::PopOldest => ("pop-oldest", None, None),
+        Call::PopNewest => ("pop-newest", None, None),
+        Call::Shrink => ("shrink", None, None),
+        Call::Clear => ("clear", None, None),
+        Call::List => ("list", None, None),
+        _ => ("stats", None, None),
+    }
+}
+
 /// Adds the line of a call that has one.
 fn write_line<L>(out: &mut String, call: &Call<u64, u64, L>) -> Result<(), AllocError> {
-    match call {
-        Call::Insert(key, value) => writeln!(out, "insert {key} {value}"),
-        Call::InsertWith(key, value) => writeln!(out, "put {key} {value}"),
-        Call::Get(key) => writeln!(out, "get {key}"),
-        Call::Peek(key) => writeln!(out, "peek {key}"),
-        Call::Remove(key) => writeln!(out, "remove {key}"),
-        Call::RemoveEntry(key) => writeln!(out, "remove-entry {key}"),
-        Call::Update(key, value) => writeln!(out, "update {key} {value}"),
-        Call::Contains(key) => writeln!(out, "contains {key}"),
-        Call::Promote(key) => writeln!(out, "promote {key}"),
-        Call::Demote(key) => writeln!(out, "demote {key}"),
-        Call::Reserve(n) => writeln!(out, "reserve {n}"),
-        Call::Drain { front, .. } => writeln!(out, "drain {front}"),
-        Call::PopOldest => out.push_str("pop-oldest\n"),
-        Call::PopNewest => out.push_str("pop-newest\n"),
-        Call::Shrink => out.push_str("shrink\n"),
-        Call::Clear => out.push_str("clear\n"),
-        Call::List => out.push_str("list\n"),
-        _ => out.push_str("stats\n"),
+    let (word, first, second) = spelled(call);
+    out.push_str(word)?;
+    for number in first.into_iter().chain(second) {
+        write!(out, " {number}")?;
     }
+    out.push('\n')
 }
 
 /// Replays random lines under the limit that the first line names.

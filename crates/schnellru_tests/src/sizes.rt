@@ -100,8 +100,12 @@ fn capacities<L: Insertion<u64, u64, u64> + Clone + Drop>(
     let doubled = insert_all(&mut map, n..=n.saturating_mul(2)).is_ok();
     found[1] = map.guaranteed_capacity();
     found[2] = match map.clone() {
-        Ok(copy) if peek(&copy, n) == peek(&map, n) => copy.len(),
-        _ => 0,
+        Ok(copy) => if peek(&copy, n) == peek(&map, n) {
+            copy.len()
+        } else {
+            0
+        },
+        Err(_) => 0,
     };
     remove_all(&mut map, n..=n.saturating_mul(2));
     let is_shrunk = shrink(&mut map) == Ok(true);
