@@ -1,11 +1,12 @@
 //! Runs of calls, as lists and as lines, in which the first requests for memory are met and the next one is refused.
 use lru_replay::{Answer, Call, ReplayEnd, replay, run_calls, run_summing};
+use map_helpers::{insert_all, map_of};
 use schnellru::{ByCost, Insertion, LruMap, UnlimitedCompact};
 use std::alloc::{AllocError, Global};
 use std::mem::size_of;
 use std::process::Abort;
 use std::test::Fail;
-use test_helpers::{Hog, expect, insert_all, map_of};
+use test_helpers::{Hog, expect};
 
 /// The bytes of the answers to four calls.
 const ANSWERS: usize = 4 * size_of::<Answer<u64, u64>>();

@@ -1,11 +1,9 @@
 //! Calls that take no memory succeed while none is left. No clause says that memory is there, or how much a call takes.
+use map_helpers::{figures, get, insert, insert_all, map_of, remove_all, reserve, shrink};
 use schnellru::{Admission, LruMap, ReserveError, Storing, UnlimitedCompact, Updated};
 use std::hash::BuildHasher;
 use std::test::Fail;
-use test_helpers::{
-    Hog, LastByte, Within, expect, figures, get, insert, insert_all, map_of, remove_all, reserve,
-    shrink,
-};
+use test_helpers::{Hog, LastByte, Within, expect};
 
 /// Whether calls that need no memory succeed while none is left.
 fn succeed_without_memory<L: Admission<u64, u64> + Copy, S: BuildHasher>(

@@ -1,13 +1,14 @@
 //! Calls whose requests for memory are refused in turn, until one is met. No clause says that memory is there, or how
 //! much a call takes. What a refused call leaves is a clause; these tests show it for each request.
+use map_helpers::{
+    Texts, counts_down, figures, has_keys, insert, insert_all, is_list, map_of, remove_all, report,
+    shrink, texts_of, three_costs,
+};
 use schnellru::{GetOrInsertError, Insertion, LruMap, ReserveError, Storing, UnlimitedCompact};
 use std::alloc::{AllocError, Global};
 use std::hash::BuildHasher;
 use std::test::Fail;
-use test_helpers::{
-    Hog, InsertKey, LastByte, OF_HASH_28, Texts, Within, counts_down, expect, figures, has_keys,
-    insert, insert_all, is_list, map_of, remove_all, report, shrink, texts_of, three_costs,
-};
+use test_helpers::{Hog, InsertKey, LastByte, OF_HASH_28, Within, expect};
 
 /// The bytes of a first table of 4 buckets with entries of 24 bytes: its entries, and its control bytes with 16 more.
 const FIRST_TABLE: [usize; 2] = [96, 20];

@@ -2,12 +2,13 @@
 ghost use Rattle.std.specs.Prelude.{◌≡◌};
 ghost use Rattle.lru_limits.specs.Limiters.{no_rules};
 
+use map_helpers::{get, insert, insert_all, peek, report};
 use schnellru::{Limiter, LruMap, Storing, UnlimitedCompact, Updated};
 use std::alloc::{AllocError, Global};
 use std::cell::Cell;
 use std::rc::Rc;
 use std::test::Fail;
-use test_helpers::{Counted, Sum, expect, get, insert, insert_all, peek, report};
+use test_helpers::{Counted, Sum, expect};
 
 type Map<'a> = LruMap<u64, u64, UnlimitedCompact, Counted<'a, Sum>>;
 

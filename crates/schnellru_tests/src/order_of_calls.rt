@@ -5,12 +5,13 @@ ghost use Rattle.std.specs.Prelude.{◌≡◌, true, nat_lt, nat_le, nat_eq};
 ghost use Rattle.std.specs.Cmp.{nat_eq_equiv};
 ghost use Rattle.lru_limits.specs.Stores.{HandsOver, answers, given-names};
 
+use map_helpers::{insert_all, map_of};
 use schnellru::{Insertion, Limiter, LruMap, RandomState};
 use std::alloc::{AllocError, Global};
 use std::cell::Cell;
 use std::ops::RangeInclusive;
 use std::test::Fail;
-use test_helpers::{Hog, insert_all, map_of};
+use test_helpers::Hog;
 
 /// The calls that are noted, each as a digit.
 const IS_OVER: u64 = 1;

@@ -1,7 +1,7 @@
 //! Maps of texts.
-use crate::insert_key::{Counting, InsertKey};
 use schnellru::LruMap;
 use std::alloc::{AllocError, Global};
+use test_helpers::{Counting, InsertKey};
 
 /// A map of texts, under a limiter that counts the keys that it makes of texts.
 pub type Texts = LruMap<String, u32, Counting>;

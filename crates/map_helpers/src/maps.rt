@@ -71,19 +71,7 @@ pub fn shrink<L: Limiter<u64, u64>, S: BuildHasher>(
     map.shrink_to_fit()
 }
 
-/// The pairs, newest first.
-pub fn pairs<L: Limiter<u64, u64>, S: BuildHasher>(
-    alloc: Global,
-    map: &LruMap<u64, u64, L, S>,
-) -> Result<Vec<(u64, u64)>, AllocError> {
-    let mut pairs = Vec::new(alloc);
-    for (key, value) in map.iter() {
-        pairs.push((*key, *value))?;
-    }
-    Ok(pairs)
-}
-
-/// Whether the pairs are those of the numbers from the newest down to the oldest one.
+/// Whether the pairs are the pairs of these numbers, from the newest down to the oldest one.
 pub fn counts_down<L: Limiter<u64, u64>, S: BuildHasher>(
     map: &LruMap<u64, u64, L, S>,
     newest: u64,
