@@ -1,11 +1,11 @@
 //! Entries that are dropped, which no clause says. All entries of a table share one value.
 use super::tables::{moved, table_of};
+use crate::expect;
 use group_table::Table;
 use std::alloc::{AllocError, Global};
 use std::cell::Cell;
 use std::rc::Rc;
 use std::test::Fail;
-use test_helpers::expect;
 
 // A table of 16 buckets with 14 entries. The count of their value is one more than the entries that live.
 fn sharing(alloc: Global, shared: &Rc<u64>) -> Result<Table<Rc<u64>>, AllocError> {

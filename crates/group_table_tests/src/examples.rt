@@ -1,7 +1,7 @@
 //! The example of the docs of `Table`.
+use crate::expect;
 use group_table::Table;
 use std::test::Fail;
-use test_helpers::expect;
 
 #[test]
 fn of_the_table(rt: HostRuntime) -> Result<(), Fail> {

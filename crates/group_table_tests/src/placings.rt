@@ -1,8 +1,9 @@
 //! Insertions and removals, compared with the rules of docs/TABLE.md, and for which entries a search calls its closure.
 use super::tables::{exchange, first_free, keys_of, table_of};
+use crate::expect;
 use group_table::full_capacity;
 use std::test::Fail;
-use test_helpers::{Random, expect};
+use test_helpers::Random;
 
 #[test]
 fn a_search_asks_about_its_tag(rt: HostRuntime) -> Result<(), Fail> {

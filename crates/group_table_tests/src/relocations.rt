@@ -2,11 +2,12 @@
 use super::tables::{
     SCATTERED, fill, hash_of, keys_after, keys_of, move_once, moved, table_of, thin,
 };
+use crate::expect;
 use group_table::{LinkType, Table, full_capacity};
 use std::alloc::{AllocError, Global};
 use std::cell::Cell;
 use std::test::Fail;
-use test_helpers::{Hog, expect};
+use test_helpers::Hog;
 
 // Moves all entries into `buckets` buckets. Whether the keys are where the rules have them, each link leads to the key
 // of its old bucket, and the hash of each entry was asked for once.

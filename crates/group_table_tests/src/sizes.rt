@@ -1,7 +1,7 @@
 //! The buckets for a capacity, the widths of links, and the masks of groups, as in docs/TABLE.md.
+use crate::expect;
 use group_table::group::{match_empty, match_free, match_tag};
 use group_table::{LinkType, buckets_for_capacity, full_capacity};
-use test_helpers::expect;
 
 const MAX: usize = usize::MAX;
 

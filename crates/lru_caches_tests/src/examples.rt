@@ -3,6 +3,7 @@ ghost use Rattle.std.specs.Prelude.{◌≡◌, ◌*◌};
 
 use crate::callers::{copy_block, overwrite};
 use crate::disk::{Disk, DiskError};
+use crate::expect;
 use lru_caches::{
     BlockDevice, FileDevice, FileError, HashedFileDevice, Loader, Memo, MemoTable, OrderedMap,
     PageCache, PageError, Question, Unclosed,
@@ -11,7 +12,6 @@ use schnellru::{ByLength, RandomState};
 use std::cell::Cell;
 use std::io::Cursor;
 use std::test::Fail;
-use test_helpers::expect;
 
 #[test]
 fn of_the_page_cache(rt: HostRuntime) {

@@ -1,7 +1,7 @@
 //! Two limiters for one map: what either rejects changes neither.
+use crate::expect;
 use lru_limits::{Admission, Both, ByCost, ByLength, ByWeight, Insertion, Limiter};
 use std::test::Fail;
-use test_helpers::expect;
 
 #[test]
 fn of_both(rt: HostRuntime) -> Result<(), Fail> {

@@ -5,11 +5,11 @@ ghost use Rattle.lru_limits.specs.Budget.{can_add};
 ghost use Rattle.lru_limits.specs.Stores.{HandsOver, answers, given-names, given-adds, refused-keeps};
 ghost use Rattle.lru_limits.specs.Stores.{replaced-exchanges};
 
+use crate::expect;
 use lru_limits::{Insertion, Limiter, LookupKey, Summing};
 use std::alloc::{AllocError, Global};
 use std::hash::Hash;
 use std::test::Fail;
-use test_helpers::expect;
 
 /// Limits the bytes of all texts together. It rejects a text that is longer than the limit by itself.
 #[derive(Clone, Copy, Debug)]

@@ -1,8 +1,9 @@
 //! The ends of the limiter by a cost, and the costs of the types that have one.
 use super::bounds::{cost_of_both, offer_and_remove};
+use crate::expect;
 use lru_limits::{ByCost, ByWeight, Insertion, Limiter};
 use std::test::Fail;
-use test_helpers::{Weighed, expect};
+use test_helpers::Weighed;
 
 // No running total is greater than `u64::MAX`, and none falls below 0.
 #[test]

@@ -1,11 +1,11 @@
 //! The examples of the docs of public items.
+use crate::expect;
 use lru_limits::{
     Budgeted, ByCost, ByLength, ByMemoryUsage, ByWeight, Costed, Insertion, KeyHasher, Limiter,
     LookupKey, RandomState, Storing, Summing, Unlimited, UnlimitedCompact,
 };
 use std::hash::{BuildHasher, Hash, Hasher};
 use std::test::Fail;
-use test_helpers::expect;
 
 /// A page whose cost is its bytes.
 struct Page {

@@ -1,5 +1,6 @@
 //! The limiters of the crate: the keys that they drop, the widths of their links, and their texts.
 use super::bounds::{names, number_of_no_link};
+use crate::expect;
 use lru_limits::{
     ByCost, ByLength, ByMemoryUsage, Insertion, LookupKey, RandomState, Storing, Unlimited,
     UnlimitedCompact,
@@ -7,7 +8,7 @@ use lru_limits::{
 use std::alloc::{AllocError, Global};
 use std::rc::Rc;
 use std::test::Fail;
-use test_helpers::{Counting, InsertKey, expect};
+use test_helpers::{Counting, InsertKey};
 
 // Offers a key, and offers it again. Returns whether each is accepted, and how many owners of the key are left.
 fn offered<L: Insertion<Rc<u64>, u64, Rc<u64>>>(

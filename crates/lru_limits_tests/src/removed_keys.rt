@@ -2,11 +2,11 @@
 ghost use Rattle.std.specs.Prelude.{◌≡◌, ◌∷◌, [], ◌++◌, IfOk, true, false, length, nat_lt, if◌then◌else◌};
 ghost use Rattle.lru_limits.specs.Stores.{answers};
 
+use crate::expect;
 use lru_limits::Limiter;
 use std::alloc::{AllocError, Global};
 use std::marker::Model;
 use std::test::Fail;
-use test_helpers::expect;
 
 const MOST: usize = 3;
 

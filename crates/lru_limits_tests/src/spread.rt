@@ -2,11 +2,12 @@
 //!
 //! If the hashes were random, the keys of each of `places` would have the mean `keys / places` and the variance
 //! `keys * (places - 1) / places / places`. Each count has to be at most six standard deviations above the mean.
+use crate::expect;
 use lru_limits::RandomState;
 use std::alloc::{AllocError, Global};
 use std::hash::{BuildHasher, Hasher};
 use std::test::Fail;
-use test_helpers::{Random, expect};
+use test_helpers::Random;
 
 fn is_even(counts: &[u64], keys: usize) -> bool {
     let (places, keys) = (counts.len() as u64, keys as u64);

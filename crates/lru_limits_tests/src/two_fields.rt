@@ -5,9 +5,9 @@ ghost use Rattle.lru_limits.specs.Keys.{number-lawful, field-lawful, both-lawful
 ghost use Rattle.lru_limits.specs.Texts.{names_text, names_text-lawful};
 
 use super::bounds::names;
+use crate::expect;
 use lru_limits::LookupKey;
 use std::test::Fail;
-use test_helpers::expect;
 
 /// A name that belongs to a tenant.
 #[derive(Drop, PartialEq, Eq, Hash)]

@@ -1,11 +1,11 @@
 //! A caller of a run, whose contract follows from a law on runs: the code of docs/CALLING.md.
 ghost use Rattle.std.specs.Prelude.{◌≤◌, length, OnOk};
 
+use crate::expect;
 use lru_replay::{Answer, Call, laws, run_calls};
 use schnellru::{ByLength, LruMap, RandomState};
 use std::alloc::{AllocError, Global};
 use std::test::Fail;
-use test_helpers::expect;
 
 /// Inserts two pairs by a list of calls, into a map that is within its length, and leaves it so.
 fn put_both(

@@ -1,8 +1,8 @@
 //! The examples of the documents of `lru_replay`, and the texts and numbers of its errors.
+use crate::expect;
 use lru_replay::{Answer, Call, ReplayEnd, ReplayError, replay, run_calls, run_summing, status};
 use schnellru::{ByCost, ByLength, LruMap};
 use std::test::Fail;
-use test_helpers::expect;
 
 #[test]
 fn of_lists_of_calls(rt: HostRuntime) -> Result<(), Fail> {

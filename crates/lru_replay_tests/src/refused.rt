@@ -1,4 +1,5 @@
 //! Runs of calls, as lists and as lines, in which the first requests for memory are met and the next one is refused.
+use crate::expect;
 use lru_replay::{Answer, Call, ReplayEnd, replay, run_calls, run_summing};
 use map_helpers::{insert_all, map_of};
 use schnellru::{ByCost, Insertion, LruMap, UnlimitedCompact};
@@ -6,7 +7,7 @@ use std::alloc::{AllocError, Global};
 use std::mem::size_of;
 use std::process::Abort;
 use std::test::Fail;
-use test_helpers::{Hog, expect};
+use test_helpers::Hog;
 
 /// The bytes of the answers to four calls.
 const ANSWERS: usize = 4 * size_of::<Answer<u64, u64>>();

@@ -2,9 +2,9 @@
 ghost use Rattle.std.specs.Prelude.{◌≡◌, ℕ, nat_eq, false};
 ghost use Rattle.lru_tenants.specs.Cache.{tenant};
 
+use crate::expect;
 use lru_tenants::{TenantCache, TenantError};
 use std::test::Fail;
-use test_helpers::expect;
 
 /// Puts a value for one tenant. Every other tenant's map stays as it is.
 fn put_beside(

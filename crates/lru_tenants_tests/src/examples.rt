@@ -1,10 +1,10 @@
 //! The examples of the docs of `lru_tenants`, the error texts, and each call once.
+use crate::expect;
 use lru_tenants::{
     ByWeight, TenantAnswer, TenantCache, TenantCall, TenantError, costs_are_within_the_total_limit,
     run_tenants,
 };
 use std::test::Fail;
-use test_helpers::expect;
 
 #[test]
 fn of_the_cache(rt: HostRuntime) -> Result<(), Fail> {

@@ -1,11 +1,12 @@
 //! Calls that are refused memory, and memory that a closed tenant gives back.
+use crate::expect;
 use lru_tenants::{TenantAnswer, TenantCache, TenantCall, TenantError, run_tenants};
 use schnellru::Costed;
 use std::alloc::{AllocError, Global};
 use std::mem::size_of;
 use std::rc::Rc;
 use std::test::Fail;
-use test_helpers::{Hog, expect};
+use test_helpers::Hog;
 
 // A cache of these tenants from 1 on. The first one has pairs of the keys from 1 on.
 fn cache_of(
@@ -115,8 +116,25 @@ fn open_and_close(
     cache.close(&2)
 }
 
-// A thousand tenants that evict are opened and closed, one after another, with memory for a few. Calls on a tenant that is
-// not open drop what they got.
+fn pair_of(key: &Rc<u64>) -> Result<(Rc<u64>, Share), AllocError> {
+    Ok((key.clone()?, Share(key.clone()?)))
+}
+
+// Whether calls on a tenant that is not open fail, and drop what they got.
+fn refuses(
+    cache: &mut TenantCache<u64, Rc<u64>, Share>,
+    key: &Rc<u64>,
+) -> Result<bool, AllocError> {
+    let (first, value) = pair_of(key)?;
+    let put = cache.put(&2, first, value) == Err(TenantError::NotOpen);
+    let (second, value) = pair_of(key)?;
+    let passing = cache.put_with(&2, second, value, &mut |_, _| {}).is_err();
+    let (third, value) = pair_of(key)?;
+    let made = cache.get_or_put(&2, third, move || value).is_err();
+    Ok(put && passing && made && Rc::strong_count(key) == 1)
+}
+
+// A thousand tenants that evict are opened and closed, one after another, with memory for a few.
 #[test]
 fn a_closed_tenant_gives_its_memory_back(rt: HostRuntime) -> Result<(), Fail> {
     let mut keys = Vec::new(rt.alloc());
@@ -132,15 +150,7 @@ fn a_closed_tenant_gives_its_memory_back(rt: HostRuntime) -> Result<(), Fail> {
     }
     drop(hog);
     for key in &keys {
-        let refused = cache.put(&2, key.clone()?, Share(key.clone()?));
-        expect(&rt, refused == Err(TenantError::NotOpen));
-        let passing = cache.put_with(&2, key.clone()?, Share(key.clone()?), &mut |_, _| {});
-        let value = Share(key.clone()?);
-        expect(
-            &rt,
-            passing.is_err() && cache.get_or_put(&2, key.clone()?, move || value).is_err(),
-        );
-        expect(&rt, Rc::strong_count(key) == 1);
+        expect(&rt, refuses(&mut cache, key)?);
     }
     expect(&rt, (closed, cache.len()) == (1000, 0));
     Ok(())

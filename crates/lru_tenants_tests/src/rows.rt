@@ -1,60 +1,74 @@
-//! The worked calls of docs/TENANTS.md, as one list.
+//! Worked calls on tenants, as one list.
+use crate::expect;
 use lru_tenants::{TenantAnswer, TenantCache, TenantCall, TenantError, run_tenants};
 use std::test::Fail;
-use test_helpers::expect;
 
 #[test]
 fn worked_calls(rt: HostRuntime) -> Result<(), Fail> {
-    let alloc = rt.alloc();
-    let mut calls = Vec::new(alloc);
-    let mut wanted: Vec<TenantAnswer<u64>> = Vec::new(alloc);
-    for (call, answer) in [
-        (TenantCall::Open(1, 3), TenantAnswer::Opened(Ok(()))),
-        (TenantCall::Open(2, 1), TenantAnswer::Opened(Ok(()))),
-        (
+    let calls = Vec::from_array(
+        rt.alloc(),
+        [
+            TenantCall::Open(1, 3),
+            TenantCall::Open(2, 1),
             TenantCall::Open(1, 5),
-            TenantAnswer::Opened(Err(TenantError::AlreadyOpen)),
-        ),
-        (TenantCall::Put(1, 7, 1), TenantAnswer::Put(Ok(true))),
-        (TenantCall::Put(2, 7, 2), TenantAnswer::Put(Ok(false))),
-        (TenantCall::Put(2, 7, 1), TenantAnswer::Put(Ok(true))),
-        (TenantCall::Put(1, 8, 3), TenantAnswer::Put(Ok(true))),
-        (TenantCall::Get(1, 7), TenantAnswer::Got(Ok(None))),
-        (TenantCall::Get(2, 7), TenantAnswer::Got(Ok(Some(1)))),
-        (TenantCall::Cost(1), TenantAnswer::Cost(Ok(3))),
-        (TenantCall::Cost(2), TenantAnswer::Cost(Ok(1))),
-        (
+            TenantCall::Put(1, 7, 1),
+            TenantCall::Put(2, 7, 2),
+            TenantCall::Put(2, 7, 1),
+            TenantCall::Put(1, 8, 3),
+            TenantCall::Get(1, 7),
+            TenantCall::Get(2, 7),
+            TenantCall::Cost(1),
+            TenantCall::Cost(2),
             TenantCall::Cost(3),
-            TenantAnswer::Cost(Err(TenantError::NotOpen)),
-        ),
-        (TenantCall::Close(1), TenantAnswer::Closed(Ok(1))),
-        (
-            TenantCall::Get(1, 8),
-            TenantAnswer::Got(Err(TenantError::NotOpen)),
-        ),
-        (
             TenantCall::Close(1),
-            TenantAnswer::Closed(Err(TenantError::NotOpen)),
-        ),
-        (TenantCall::Open(1, 0), TenantAnswer::Opened(Ok(()))),
-        (TenantCall::Put(1, 9, 0), TenantAnswer::Put(Ok(true))),
-        (TenantCall::Put(1, 9, 1), TenantAnswer::Put(Ok(false))),
-        (TenantCall::Cost(1), TenantAnswer::Cost(Ok(0))),
-    ] {
-        calls.push(call)?;
-        wanted.push(answer)?;
+            TenantCall::Get(1, 8),
+            TenantCall::Close(1),
+            TenantCall::Open(1, 0),
+            TenantCall::Put(1, 9, 0),
+            TenantCall::Put(1, 9, 1),
+            TenantCall::Cost(1),
+        ],
+    )?;
+    let wanted: [TenantAnswer<u64>; 19] = [
+        TenantAnswer::Opened(Ok(())),
+        TenantAnswer::Opened(Ok(())),
+        TenantAnswer::Opened(Err(TenantError::AlreadyOpen)),
+        TenantAnswer::Put(Ok(true)),
+        TenantAnswer::Put(Ok(false)),
+        TenantAnswer::Put(Ok(true)),
+        TenantAnswer::Put(Ok(true)),
+        TenantAnswer::Got(Ok(None)),
+        TenantAnswer::Got(Ok(Some(1))),
+        TenantAnswer::Cost(Ok(3)),
+        TenantAnswer::Cost(Ok(1)),
+        TenantAnswer::Cost(Err(TenantError::NotOpen)),
+        TenantAnswer::Closed(Ok(1)),
+        TenantAnswer::Got(Err(TenantError::NotOpen)),
+        TenantAnswer::Closed(Err(TenantError::NotOpen)),
+        TenantAnswer::Opened(Ok(())),
+        TenantAnswer::Put(Ok(true)),
+        TenantAnswer::Put(Ok(false)),
+        TenantAnswer::Cost(Ok(0)),
+    ];
+    let mut cache = TenantCache::new(rt.alloc(), [1, 2, 3, 4], 16);
+    let answers = run_tenants(rt.alloc(), &mut cache, calls)?;
+    expect(&rt, answers.as_slice() == &wanted[..]);
+    Ok(())
+}
+
+/// Lists of no calls and of 100,000.
+#[test]
+fn short_and_long_lists(rt: HostRuntime) -> Result<(), Fail> {
+    let mut cache: TenantCache<u64, u64, u64> = TenantCache::new(rt.alloc(), [1, 2, 3, 4], 16);
+    for length in [0, 100_000usize] {
+        let mut calls = Vec::new(rt.alloc());
+        for _ in 0..length {
+            calls.push(TenantCall::Cost(1))?;
+        }
+        expect(
+            &rt,
+            run_tenants(rt.alloc(), &mut cache, calls)?.len() == length,
+        );
     }
-    let mut cache = TenantCache::new(alloc, [1, 2, 3, 4], 16);
-    let answers = run_tenants(alloc, &mut cache, calls)?;
-    expect(&rt, answers.as_slice() == wanted.as_slice());
-    expect(
-        &rt,
-        run_tenants(alloc, &mut cache, Vec::new(alloc))?.is_empty(),
-    );
-    let mut calls = Vec::new(alloc);
-    for _ in 0..100_000u32 {
-        calls.push(TenantCall::Cost(1))?;
-    }
-    expect(&rt, run_tenants(alloc, &mut cache, calls)?.len() == 100_000);
     Ok(())
 }

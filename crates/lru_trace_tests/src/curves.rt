@@ -1,8 +1,8 @@
 //! The curve of a trace, compared with maps that make its references.
+use crate::expect;
 use lru_theory::misses_on_map;
 use lru_trace::{Curve, TraceError};
 use std::test::Fail;
-use test_helpers::expect;
 
 #[test]
 fn of_the_curve(rt: HostRuntime) -> Result<(), Fail> {

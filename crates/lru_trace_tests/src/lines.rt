@@ -1,9 +1,9 @@
 //! Traces of lines: the progress, the report, a first line without sizes, and a flush that fails.
+use crate::expect;
 use lru_trace::{Progress, TraceEnd, TraceError, trace};
 use std::alloc::Global;
 use std::io::{self, ErrorKind, Write};
 use std::test::Fail;
-use test_helpers::expect;
 
 /// Keeps what is written, and fails at the flush if `fails`.
 #[derive(Drop)]

@@ -1,8 +1,9 @@
 //! Curves of many keys, and the memory that references give back. No clause says that memory is found or given back.
+use crate::expect;
 use lru_trace::{Curve, TraceError};
 use std::alloc::Global;
 use std::test::Fail;
-use test_helpers::{Hog, expect};
+use test_helpers::Hog;
 
 /// References a number.
 fn refer(alloc: Global, curve: &mut Curve, number: u64) -> Result<(), TraceError> {

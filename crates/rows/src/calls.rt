@@ -8,20 +8,28 @@ use std::fmt::Write;
 /// The call that the line spells: any call of a run, by the names of the program's lines if it has them.
 pub fn call_of<L: Spelled>(line: &str) -> Option<Call<u64, u64, L>> {
     let (word, rest) = line.split_once(' ').unwrap_or((line, ""));
-    match word {
-        "set" => Some(Call::SetLimiter(L::spelled(rest)?)),
-        "get" => Some(Call::Get(number(rest)?)),
-        "peek" => Some(Call::Peek(number(rest)?)),
-        "contains" => Some(Call::Contains(number(rest)?)),
-        "promote" => Some(Call::Promote(number(rest)?)),
-        "demote" => Some(Call::Demote(number(rest)?)),
-        "remove" => Some(Call::Remove(number(rest)?)),
-        "remove-entry" => Some(Call::RemoveEntry(number(rest)?)),
-        "reserve" => Some(Call::Reserve(number(rest)? as usize)),
-        _ => match rest {
+    match (word, number(rest)) {
+        ("set", _) => Some(Call::SetLimiter(L::spelled(rest)?)),
+        (_, Some(number)) => call_of_number(word, number),
+        (_, None) => match rest {
             "" => call_of_word(word),
             _ => call_of_pair(word, pair(rest)?),
         },
+    }
+}
+
+/// The call that a word and a number spell.
+fn call_of_number<L>(word: &str, number: u64) -> Option<Call<u64, u64, L>> {
+    match word {
+        "get" => Some(Call::Get(number)),
+        "peek" => Some(Call::Peek(number)),
+        "contains" => Some(Call::Contains(number)),
+        "promote" => Some(Call::Promote(number)),
+        "demote" => Some(Call::Demote(number)),
+        "remove" => Some(Call::Remove(number)),
+        "remove-entry" => Some(Call::RemoveEntry(number)),
+        "reserve" => Some(Call::Reserve(number as usize)),
+        _ => None,
     }
 }
 
@@ -80,12 +88,12 @@ pub fn write_answers(out: &mut String, answers: &[Answer<u64, u64>]) -> Result<(
 /// Adds the text of the answer, as the program would write it.
 pub fn write_answer(out: &mut String, answer: &Answer<u64, u64>) -> Result<(), AllocError> {
     match answer {
-        Answer::Flag(flag) => write!(out, "{flag}"),
-        Answer::Updated(Updated::Replaced(value)) => write!(out, "replaced {value}"),
-        Answer::Updated(Updated::Rejected(value)) => write!(out, "rejected {value}"),
-        Answer::Updated(Updated::Absent(value)) => write!(out, "absent {value}"),
-        Answer::Value(Some(value)) => write!(out, "{value}"),
-        Answer::Pair(Some((key, value))) => write!(out, "{key}:{value}"),
+        Answer::Flag(flag) => write_flag(out, *flag),
+        Answer::Updated(Updated::Replaced(value)) => write_number(out, "replaced ", *value),
+        Answer::Updated(Updated::Rejected(value)) => write_number(out, "rejected ", *value),
+        Answer::Updated(Updated::Absent(value)) => write_number(out, "absent ", *value),
+        Answer::Value(Some(value)) => write_number(out, "", *value),
+        Answer::Pair(Some(pair)) => write_pair(out, "", *pair),
         Answer::Value(None) | Answer::Pair(None) => out.push_str("none"),
         Answer::Pairs(pairs) => write_pairs(out, pairs.as_slice()),
         Answer::Done | Answer::Reserved(Ok(())) | Answer::Shrunk(Ok(true)) => out.push_str("ok"),
@@ -106,25 +114,38 @@ pub fn write_answer(out: &mut String, answer: &Answer<u64, u64>) -> Result<(), A
     }
 }
 
+fn write_flag(out: &mut String, flag: bool) -> Result<(), AllocError> {
+    out.push_str(if flag { "true" } else { "false" })
+}
+
+fn write_number(out: &mut String, before: &str, number: u64) -> Result<(), AllocError> {
+    write!(out, "{before}{number}")
+}
+
+fn write_pair(out: &mut String, before: &str, pair: (u64, u64)) -> Result<(), AllocError> {
+    write!(out, "{before}{}:{}", pair.0, pair.1)
+}
+
 fn write_given(
     out: &mut String,
     done: Result<bool, AllocError>,
     given: &[(u64, u64)],
 ) -> Result<(), AllocError> {
     match done {
-        Ok(flag) => write!(out, "{flag}")?,
+        Ok(flag) => write_flag(out, flag)?,
         Err(_) => out.push_str("no memory")?,
     }
-    for (key, value) in given {
-        write!(out, " {key}:{value}")?;
+    for pair in given {
+        write_pair(out, " ", *pair)?;
     }
     Ok(())
 }
 
 fn write_report(out: &mut String, report: MoveReport) -> Result<(), AllocError> {
-    write!(out, " moved {} placed {}", report.moved, report.placed)?;
+    write_number(out, " moved ", report.moved)?;
+    write_number(out, " placed ", report.placed)?;
     if report.shrunk > 0 {
-        write!(out, " shrunk {}", report.shrunk)?;
+        write_number(out, " shrunk ", report.shrunk)?;
     }
     Ok(())
 }
@@ -134,11 +155,8 @@ fn write_pairs(out: &mut String, pairs: &[(u64, u64)]) -> Result<(), AllocError>
     if pairs.is_empty() {
         return out.push_str("-");
     }
-    for (i, (key, value)) in pairs.iter().enumerate() {
-        if i > 0 {
-            out.push(' ')?;
-        }
-        write!(out, "{key}:{value}")?;
+    for (i, pair) in pairs.iter().enumerate() {
+        write_pair(out, if i > 0 { " " } else { "" }, *pair)?;
     }
     Ok(())
 }

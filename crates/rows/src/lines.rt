@@ -33,32 +33,33 @@ pub fn holds(rt: &(impl Print + AllocGlobal), file: &str, row: &Row) -> io::Resu
         return Ok(false);
     }
     match first_fault(alloc, row)? {
-        Some(manner) => {
-            println!(rt; "{file}: row {}: differs {manner}", row.name.as_str())?;
+        Some((manner, at)) => {
+            let name = row.name.as_str();
+            println!(rt; "{file}: row {name}: differs with {manner}, at {at}")?;
             Ok(false)
         }
         None => Ok(true),
     }
 }
 
-/// The first manner in which a replay of the row does not end as it should.
-fn first_fault(alloc: Global, row: &Row) -> io::Result<Option<String>> {
+/// The first manner in which a replay of the row does not end as it should, with the number of the read or write.
+fn first_fault(alloc: Global, row: &Row) -> io::Result<Option<(&'static str, usize)>> {
     if !in_pieces(alloc, row)? {
-        return Ok(Some(String::from_str(alloc, "in single bytes")?));
+        return Ok(Some(("single bytes", 0)));
     }
     if !with_failing_flush(alloc, row)? {
-        return Ok(Some(String::from_str(alloc, "if the flush fails")?));
+        return Ok(Some(("a failing flush", 0)));
     }
     if row.input.len() > LONGEST_CUT {
         return Ok(None);
     }
     for most in [1, 7] {
         if let Some(at) = first_read_fault(alloc, row, most)? {
-            return Ok(Some(format!(in alloc; "if read {at} fails")?));
+            return Ok(Some(("a failing read", at)));
         }
     }
     match first_write_fault(alloc, row)? {
-        Some(at) => Ok(Some(format!(in alloc; "if write {at} fails")?)),
+        Some(at) => Ok(Some(("a failing write", at))),
         None => Ok(None),
     }
 }

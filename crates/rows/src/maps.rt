@@ -30,23 +30,20 @@ fn answers_under(alloc: Global, first: &str, calls: &str) -> io::Result<Option<S
         let limiter = ByCost::spelled(words).ok_or(malformed())?;
         return Ok(Some(answers_by_sum(alloc, limiter, calls)?));
     }
-    let answers = [
-        answers_of::<ByLength>(alloc, words, hash, calls)?,
-        answers_of::<ByMemoryUsage>(alloc, words, hash, calls)?,
-        answers_of::<ByCost>(alloc, words, hash, calls)?,
-        answers_of::<Unlimited>(alloc, words, hash, calls)?,
-        answers_of::<UnlimitedCompact>(alloc, words, hash, calls)?,
-        answers_of::<Storing<LinkedBy<u8>>>(alloc, words, hash, calls)?,
-        answers_of::<Storing<LinkedBy<u16>>>(alloc, words, hash, calls)?,
-        answers_of::<Storing<Alternating>>(alloc, words, hash, calls)?,
-        answers_of::<Storing<Blanking>>(alloc, words, hash, calls)?,
-    ];
-    for answer in answers {
-        if answer.is_some() {
-            return Ok(answer);
-        }
+    let (first, _) = words.split_once(' ').unwrap_or((words, ""));
+    match first {
+        "length" => answers_of::<ByLength>(alloc, words, hash, calls),
+        "memory" => answers_of::<ByMemoryUsage>(alloc, words, hash, calls),
+        "cost" => answers_of::<ByCost>(alloc, words, hash, calls),
+        "unlimited" => answers_of::<Unlimited>(alloc, words, hash, calls),
+        "compact" => answers_of::<UnlimitedCompact>(alloc, words, hash, calls),
+        "blank" => answers_of::<Storing<Blanking>>(alloc, words, hash, calls),
+        "links" => match answers_of::<Storing<LinkedBy<u8>>>(alloc, words, hash, calls)? {
+            Some(answers) => Ok(Some(answers)),
+            None => answers_of::<Storing<LinkedBy<u16>>>(alloc, words, hash, calls),
+        },
+        _ => answers_of::<Storing<Alternating>>(alloc, words, hash, calls),
     }
-    Ok(None)
 }
 
 /// The same, if the words name a limiter of this type, and the word after them a hasher.

@@ -4,13 +4,13 @@ ghost use Rattle.std.specs.Prelude.{◌≡◌};
 ghost use Rattle.lru_limits.specs.Limiters.{no_rules};
 
 use super::live::{Live, Lives};
+use crate::expect;
 use schnellru::{DefaultHasher, Limiter, LruMap, RandomState, Storing, UnlimitedCompact};
 use std::alloc::{AllocError, Global};
 use std::cell::Cell;
 use std::hash::BuildHasher;
 use std::rc::Rc;
 use std::test::Fail;
-use test_helpers::expect;
 
 /// A copy of seven pairs takes 14 clones. If one of them is refused, no other is asked for, and what was made is
 /// dropped.

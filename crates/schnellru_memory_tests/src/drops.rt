@@ -1,12 +1,13 @@
 //! Each key and each value is dropped once: none twice, and none is forgotten. No clause says when a value is dropped.
 use super::live::{Live, Lives};
+use crate::expect;
 use schnellru::{
     Both, ByCost, ByLength, ByMemoryUsage, ByWeight, GetOrInsertError, Insertion, Limiter, LruMap,
     Storing, Unlimited, UnlimitedCompact,
 };
 use std::alloc::Global;
 use std::test::Fail;
-use test_helpers::{Hog, Random, expect};
+use test_helpers::{Hog, Random};
 
 type Map<'a, L> = LruMap<Live<'a>, Live<'a>, L>;
 

@@ -1,9 +1,10 @@
 //! Memory that is given back. All other memory is taken, so calls that lose a block run out of memory before long.
+use crate::expect;
 use map_helpers::{insert, insert_all, map_of, remove_all, reserve, shrink};
 use schnellru::{ByMemoryUsage, LruMap, Storing, UnlimitedCompact};
 use std::alloc::{AllocError, Global};
 use std::test::Fail;
-use test_helpers::{Hog, LastByte, OF_HASH_28, Within, expect};
+use test_helpers::{Hog, LastByte, OF_HASH_28, Within};
 
 /// The only memory that is left. A cycle of calls that loses 16 bytes uses it up within the cycles.
 const SPARE: usize = 1 << 16;

@@ -1,14 +1,14 @@
 //! Calls that take no memory succeed while none is left. No clause says that memory is there, or how much a call takes.
+use crate::expect;
 use map_helpers::{figures, get, insert, insert_all, map_of, remove_all, reserve, shrink};
-use schnellru::{Admission, LruMap, ReserveError, Storing, UnlimitedCompact, Updated};
-use std::hash::BuildHasher;
+use schnellru::{LruMap, ReserveError, Storing, UnlimitedCompact, Updated};
 use std::test::Fail;
-use test_helpers::{Hog, LastByte, Within, expect};
+use test_helpers::{Hog, LastByte, Within};
+
+type Map = LruMap<u64, u64, UnlimitedCompact>;
 
 /// Whether calls that need no memory succeed while none is left.
-fn succeed_without_memory<L: Admission<u64, u64> + Copy, S: BuildHasher>(
-    map: &mut LruMap<u64, u64, L, S>,
-) -> bool {
+fn succeed_without_memory(map: &mut Map) -> bool {
     let inserted = insert_all(map, 1..=7) == Ok(7) && insert_all(map, 1..=7) == Ok(7);
     let found = get(map, 3) == Some(30) && map.remove(&3) == Some(30);
     let added = map.try_insert(3, 30) == Ok(()) && map.remove(&3) == Some(30);
@@ -20,9 +20,7 @@ fn succeed_without_memory<L: Admission<u64, u64> + Copy, S: BuildHasher>(
 }
 
 /// Whether a full table is refused more memory, and is given back when it is empty.
-fn is_refused_and_given_back<L: Admission<u64, u64> + Copy, S: BuildHasher>(
-    map: &mut LruMap<u64, u64, L, S>,
-) -> bool {
+fn is_refused_and_given_back(map: &mut Map) -> bool {
     let refused = insert(map, 8).is_err() && reserve(map, 1) == Err(ReserveError::Memory);
     let given_back = map.try_insert(8, 80) == Err((8, 80)) && map.len() == 7;
     let too_large = reserve(map, usize::MAX) == Err(ReserveError::TooLarge);

@@ -1,14 +1,15 @@
 //! Calls whose requests for memory are refused in turn, until one is met. No clause says that memory is there, or how
 //! much a call takes. What a refused call leaves is a clause; these tests show it for each request.
+use crate::expect;
 use map_helpers::{
     Texts, counts_down, figures, has_keys, insert, insert_all, is_list, map_of, remove_all, report,
     shrink, texts_of, three_costs,
 };
-use schnellru::{GetOrInsertError, Insertion, LruMap, ReserveError, Storing, UnlimitedCompact};
+use schnellru::{GetOrInsertError, LruMap, ReserveError, Storing};
 use std::alloc::{AllocError, Global};
 use std::hash::BuildHasher;
 use std::test::Fail;
-use test_helpers::{Hog, InsertKey, LastByte, OF_HASH_28, Within, expect};
+use test_helpers::{Hog, InsertKey, LastByte, OF_HASH_28, Within};
 
 /// The bytes of a first table of 4 buckets with entries of 24 bytes: its entries, and its control bytes with 16 more.
 const FIRST_TABLE: [usize; 2] = [96, 20];
@@ -47,8 +48,8 @@ const INSERTS: [Taking; 7] = [
 ];
 
 /// Makes the call, with this pair if it inserts one, and returns whether it ran out of memory.
-fn is_refused<L: Insertion<u64, u64, u64>, S: BuildHasher>(
-    map: &mut LruMap<u64, u64, L, S>,
+fn is_refused<S: BuildHasher>(
+    map: &mut LruMap<u64, u64, Storing<Within>, S>,
     call: Taking,
     (key, value): (u64, u64),
 ) -> bool {
@@ -145,7 +146,7 @@ fn first_fault<S: BuildHasher>(
 #[test]
 fn inserts_of_many_pairs(rt: HostRuntime) -> Result<(), Fail> {
     for call in INSERTS {
-        let mut map = map_of(rt.alloc(), UnlimitedCompact);
+        let mut map = map_of(rt.alloc(), Storing(Within::new(usize::MAX)));
         for key in 0..100_000u64 {
             expect(&rt, !is_refused(&mut map, call, (key, key)));
         }

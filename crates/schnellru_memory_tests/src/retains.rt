@@ -1,10 +1,10 @@
 //! `retain` and `set_limiter_with`: the examples of the docs, the order of the calls of a closure, and drops.
 use super::live::Lives;
+use crate::expect;
 use map_helpers::{insert_all, is_list, map_of};
 use schnellru::{ByLength, LruMap, Unlimited};
 use std::alloc::{AllocError, Global};
 use std::test::Fail;
-use test_helpers::expect;
 
 fn three(alloc: Global) -> Result<LruMap<u64, u64>, AllocError> {
     let mut map = map_of(alloc, ByLength::new(3));

@@ -1,9 +1,10 @@
 //! Searches by a hash, with closures that count: a search calls its closure no more after it has its answer.
+use crate::expect;
 use map_helpers::{insert_all, is_list};
 use schnellru::{LruMap, UnlimitedCompact};
 use std::cell::Cell;
 use std::test::Fail;
-use test_helpers::{LastByte, expect};
+use test_helpers::LastByte;
 
 /// Counts a question, and returns whether it is the one with this number.
 fn is_question(asked: &Cell<u64>, number: u64) -> bool {

@@ -8,13 +8,13 @@ ghost use Rattle.schnellru.specs.HandedOver.{Takes};
 ghost use Rattle.schnellru.specs.Kept.{KeepsToLength};
 ghost use Rattle.schnellru.specs.Theorems.{IsSummed, KeepsValues};
 
+use crate::expect;
 use schnellru::{
     ByCost, ByLength, Insertion, LruMap, RandomState, ReserveError, Summing, UnlimitedCompact, laws,
 };
 use std::alloc::{AllocError, Global};
 use std::hash::Hash;
 use std::test::Fail;
-use test_helpers::expect;
 
 /// Puts a value under a key, and returns whether the key is there then. If it is, a look-up returns the value.
 fn put(map: &mut LruMap<u64, u64>, key: u64, value: u64) -> Result<bool, AllocError>

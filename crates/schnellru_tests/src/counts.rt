@@ -2,13 +2,14 @@
 ghost use Rattle.std.specs.Prelude.{◌≡◌};
 ghost use Rattle.lru_limits.specs.Limiters.{no_rules};
 
+use crate::expect;
 use map_helpers::{get, insert, insert_all, peek, report};
 use schnellru::{Limiter, LruMap, Storing, UnlimitedCompact, Updated};
 use std::alloc::{AllocError, Global};
 use std::cell::Cell;
 use std::rc::Rc;
 use std::test::Fail;
-use test_helpers::{Counted, Sum, expect};
+use test_helpers::{Counted, Sum};
 
 type Map<'a> = LruMap<u64, u64, UnlimitedCompact, Counted<'a, Sum>>;
 

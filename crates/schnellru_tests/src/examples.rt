@@ -1,4 +1,5 @@
 //! The examples of the README and of the public items' documents.
+use crate::expect;
 use schnellru::{
     ByLength, ByMemoryUsage, ByWeight, GetOrInsertError, KeyHasher, LruMap, MoveReport,
     RandomState, ReserveError, Unlimited, UnlimitedCompact,
@@ -6,7 +7,6 @@ use schnellru::{
 use std::alloc::{AllocError, Global};
 use std::hash::BuildHasher;
 use std::test::Fail;
-use test_helpers::expect;
 
 /// A map of the pairs (1, 10), (2, 20) and (3, 30), and of at most three pairs.
 pub(crate) fn three(alloc: Global) -> Result<LruMap<u64, u64>, AllocError> {

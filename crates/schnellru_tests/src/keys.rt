@@ -1,10 +1,11 @@
 //! `String` keys: looked up by texts, and made of texts when they are stored. How often the limiter makes a key, no
 //! contract of the map says.
+use crate::expect;
 use map_helpers::{Texts, has_keys, texts_of};
 use schnellru::LruMap;
 use std::alloc::{AllocError, Global};
 use std::test::Fail;
-use test_helpers::{Counting, InsertKey, expect};
+use test_helpers::{Counting, InsertKey};
 
 #[test]
 fn a_text_becomes_a_key_once(rt: HostRuntime) -> Result<(), Fail> {

@@ -1,10 +1,10 @@
 //! Keys and values of no bytes and of 4 KiB, and maps of many pairs. The contracts hold for every type and size. These
 //! tests show that such values are laid out and copied well, and that no call fails above some size.
+use crate::expect;
 use map_helpers::{figures, insert_all, map_of, peek, remove_all, report, reserve, shrink};
 use schnellru::{ByCost, Insertion, LruMap, UnlimitedCompact};
 use std::alloc::Global;
 use std::test::Fail;
-use test_helpers::expect;
 
 #[test]
 fn keys_of_no_bytes(rt: HostRuntime) -> Result<(), Fail> {

@@ -1,8 +1,8 @@
 //! Printed texts, and the numbers of the refusals.
+use crate::expect;
 use map_helpers::{insert_all, map_of};
 use schnellru::{GetOrInsertError, RandomState, ReserveError, UnlimitedCompact};
 use std::test::Fail;
-use test_helpers::expect;
 
 #[test]
 fn debug(rt: HostRuntime) -> Result<(), Fail> {

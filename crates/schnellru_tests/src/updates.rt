@@ -1,8 +1,8 @@
 //! Examples of updates, of extends, and of calls on the order of entries.
 use super::examples::three;
+use crate::expect;
 use schnellru::Updated;
 use std::test::Fail;
-use test_helpers::expect;
 
 #[test]
 fn of_the_order_of_entries(rt: HostRuntime) -> Result<(), Fail> {

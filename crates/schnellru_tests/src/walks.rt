@@ -1,9 +1,9 @@
 //! Walks that write, and walks that are forgotten.
+use crate::expect;
 use map_helpers::{get, is_list, map_of, three_costs};
 use schnellru::{LruMap, UnlimitedCompact};
 use std::mem::forget;
 use std::test::Fail;
-use test_helpers::expect;
 
 type Map = LruMap<u64, u64, UnlimitedCompact>;
 

@@ -1,6 +1,5 @@
 //! What tests share.
 //!
-//! - [`expect`]: ends a test that does not hold.
 //! - [`Hog`]: takes all memory, so that the requests of others are refused.
 //! - [`LinkedBy`], [`Alternating`], [`Within`], [`Blanking`]: limiters of maps from numbers to numbers.
 //! - [`InsertKey`] and [`Counting`]: texts that become a `String` when they are stored, and a limiter that accepts them.
@@ -9,7 +8,6 @@
 //! - [`LastByte`] with [`OF_HASH_28`], [`Sum`], [`Counted`]: hashers.
 #![tactic(auto)]
 
-mod conditions;
 mod hashers;
 mod hog;
 mod insert_key;
@@ -17,7 +15,6 @@ mod limiters;
 mod random;
 mod weighed;
 
-pub use conditions::expect;
 pub use hashers::{Counted, LastByte, OF_HASH_28, Sum};
 pub use hog::Hog;
 pub use insert_key::{Counting, InsertKey};
