@@ -3,6 +3,8 @@
 //! A load's time is that of a run with its fill, less that of a run of the fill alone, each the best of some rounds,
 //! with the engines taken in turn. All engines must give the same answers. With the word `memory` it tells instead what
 //! a map of 1,000,000 pairs takes.
+mod more;
+
 use std::hint::black_box;
 use std::process::Command;
 use std::sync::atomic::{AtomicBool, Ordering};
@@ -272,6 +274,7 @@ fn main() {
             Some(name) => engines.iter().filter(|e| e.0 == name).for_each(memory),
             None => memory_of_each(&engines),
         },
+        Some("more") => more::measure(words.next().and_then(|r| r.parse().ok()).unwrap_or(5)),
         rounds => measure(&engines, rounds.and_then(|r| r.parse().ok()).unwrap_or(5)),
     }
 }

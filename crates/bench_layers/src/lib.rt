@@ -1,6 +1,8 @@
 //! Loops over the hasher, the table and the map that a Rust program times, each inside one call.
 #![tactic(auto)]
 
+mod loads;
+
 use group_table::{Table, buckets_for_capacity};
 use schnellru::{ByLength, LruMap, RandomState, UnlimitedCompact};
 use std::alloc::{AllocError, Global};

@@ -54,7 +54,32 @@ fn check(
     Ok(())
 }
 
-/// Checks the rows of a file. A blank line ends a row, and a line that begins with `#` is a comment.
+/// Takes the next line of a file. A blank line ends a row, and a line that begins with `#` is a comment.
+fn take_line(
+    rt: &(impl Print + AllocGlobal),
+    file: &str,
+    line: &str,
+    row: &mut Option<Row>,
+    count: &mut Count,
+) -> io::Result<()> {
+    if line.is_empty() {
+        return check(rt, file, row, count);
+    }
+    if let Some(name) = line.strip_prefix("row ") {
+        check(rt, file, row, count)?;
+        *row = Some(Row::new(rt.alloc(), name)?);
+        return Ok(());
+    }
+    if line.starts_with('#') {
+        return Ok(());
+    }
+    match row {
+        Some(row) => row.add(rt.alloc(), line),
+        None => Err(row::malformed()),
+    }
+}
+
+/// Checks the rows of a file.
 fn check_file(
     rt: &(impl Files + Print + AllocGlobal),
     file: &str,
@@ -63,17 +88,7 @@ fn check_file(
     let text = fs::read_to_string(rt, file)?;
     let mut row = None;
     for line in text.lines() {
-        if line.is_empty() {
-            check(rt, file, &mut row, count)?;
-        } else if let Some(name) = line.strip_prefix("row ") {
-            check(rt, file, &mut row, count)?;
-            row = Some(Row::new(rt.alloc(), name)?);
-        } else if !line.starts_with('#') {
-            match &mut row {
-                Some(row) => row.add(rt.alloc(), line)?,
-                None => return Err(row::malformed()),
-            }
-        }
+        take_line(rt, file, line, &mut row, count)?;
     }
     check(rt, file, &mut row, count)
 }

@@ -77,7 +77,7 @@ fn answers_of<L: Insertion<u64, u64, u64> + Spelled + Debug + Drop>(
     Ok(Some(answers?))
 }
 
-/// The answers on this map. The line `limiter` is answered by the limiter's text.
+/// The answers on this map.
 fn answers_on<L: Insertion<u64, u64, u64> + Spelled + Debug + Drop, S: BuildHasher + Drop>(
     alloc: Global,
     map: LruMap<u64, u64, L, S>,
@@ -86,14 +86,25 @@ fn answers_on<L: Insertion<u64, u64, u64> + Spelled + Debug + Drop, S: BuildHash
     let mut map = map;
     let mut text = String::new(alloc);
     for line in calls.lines() {
-        if line == "limiter" {
-            write!(text, "{:?}\n", map.limiter())?;
-        } else {
-            let answers = run_calls(alloc, &mut map, one_call(alloc, line)?)?;
-            write_answers(&mut text, answers.as_slice())?;
-        }
+        answer(alloc, &mut map, line, &mut text)?;
     }
     Ok(text)
+}
+
+/// Adds the answer to the call that the line spells. The line `limiter` is answered by the limiter's text.
+fn answer<L: Insertion<u64, u64, u64> + Spelled + Debug + Drop, S: BuildHasher>(
+    alloc: Global,
+    map: &mut LruMap<u64, u64, L, S>,
+    line: &str,
+    text: &mut String,
+) -> io::Result<()> {
+    if line == "limiter" {
+        write!(text, "{:?}\n", map.limiter())?;
+        return Ok(());
+    }
+    let answers = run_calls(alloc, map, one_call(alloc, line)?)?;
+    write_answers(text, answers.as_slice())?;
+    Ok(())
 }
 
 /// The same on a map whose sum no call may change.
