@@ -3,7 +3,7 @@
 
 Run it at the top of the repository: `python3 docs/check_examples.py`. It prints what is missing, and exits with 1 if a
 line of an example is in no test. Layout, `rt.alloc()` for `alloc`, and a trailing comma make no difference. Tests write
-`expect(&rt, a == b)` for `assert_eq!(rt; a, b)`, and `expect(&rt, a)` for `assert!(rt; a)`, which is proved faster.
+`check!(rt; a == b)` for `assert_eq!(rt; a, b)`, and `check!(rt; a)` for `assert!(rt; a)`, which is proved faster.
 """
 import pathlib
 import re
@@ -34,13 +34,13 @@ def arguments(text, start):
 
 
 def expected(text):
-    """The text with a call of `expect` in place of each assertion without a message."""
+    """The text with `check!` in place of each assertion without a message."""
     at = 0
     while (macro := re.compile(r"assert(_eq)?!\(rt;").search(text, at)):
         given, end = arguments(text, macro.end())
         given = [it for it in given if it]
         if len(given) == 1 + (macro[1] is not None):
-            text = f"{text[:macro.start()]}expect(&rt,{'=='.join(given)}){text[end:]}"
+            text = f"{text[:macro.start()]}check!(rt;{'=='.join(given)}){text[end:]}"
         at = macro.start() + 1
     return text
 

@@ -1,11 +1,11 @@
 //! Entries that are dropped, which no clause says. All entries of a table share one value.
 use super::tables::{moved, table_of};
-use crate::expect;
 use group_table::Table;
 use std::alloc::{AllocError, Global};
 use std::cell::Cell;
 use std::rc::Rc;
 use std::test::Fail;
+use test_helpers::check;
 
 // A table of 16 buckets with 14 entries. The count of their value is one more than the entries that live.
 fn sharing(alloc: Global, shared: &Rc<u64>) -> Result<Table<Rc<u64>>, AllocError> {
@@ -35,7 +35,7 @@ fn entries_are_dropped(rt: HostRuntime) -> Result<(), Fail> {
         let cleared = Rc::strong_count(&shared);
         drop(table);
         let counts = (moved, cleared, Rc::strong_count(&shared));
-        expect(&rt, counts == (14, if is_cleared { 1 } else { 14 }, 1));
+        check!(rt; counts == (14, if is_cleared { 1 } else { 14 }, 1));
     }
     Ok(())
 }
@@ -56,16 +56,13 @@ fn copies_are_dropped(rt: HostRuntime) -> Result<(), Fail> {
         });
         let counts = (asked.get(), Rc::strong_count(&shared));
         drop(copy);
-        expect(
-            &rt,
-            counts
+        check!(rt; counts
                 == (if refused == 15 {
                     (14, 29)
                 } else {
                     (refused, 15)
-                }),
-        );
-        expect(&rt, Rc::strong_count(&shared) == 15);
+                }));
+        check!(rt; Rc::strong_count(&shared) == 15);
     }
     Ok(())
 }

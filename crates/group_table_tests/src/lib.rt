@@ -15,10 +15,3 @@ mod relocations;
 mod sizes;
 #[cfg(test)]
 mod tables;
-
-/// Ends a test if the condition is false. It is proved in a seventh of the time of an `assert!`, but the output names
-/// the test alone and not the line.
-#[cfg(test)]
-fn expect(rt: &impl std::process::Abort, holds: bool) {
-    assert!(rt; holds);
-}

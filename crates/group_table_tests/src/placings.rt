@@ -1,9 +1,8 @@
 //! Insertions and removals, compared with the rules of docs/TABLE.md, and for which entries a search calls its closure.
 use super::tables::{exchange, first_free, keys_of, table_of};
-use crate::expect;
 use group_table::full_capacity;
 use std::test::Fail;
-use test_helpers::Random;
+use test_helpers::{Random, check};
 
 #[test]
 fn a_search_asks_about_its_tag(rt: HostRuntime) -> Result<(), Fail> {
@@ -20,7 +19,7 @@ fn a_search_asks_about_its_tag(rt: HostRuntime) -> Result<(), Fail> {
             asked = asked.wrapping_mul(10).wrapping_add(*entry);
             *entry == accepted
         });
-        expect(&rt, (b, asked) == (found, all));
+        check!(rt; (b, asked) == (found, all));
     }
     Ok(())
 }
@@ -41,11 +40,11 @@ fn removals(rt: HostRuntime) -> Result<(), Fail> {
         for key in 0..entries {
             let _ = table.try_place(0, key);
         }
-        expect(&rt, table.is_full(b));
+        check!(rt; table.is_full(b));
         *table.get_mut(b) = 50;
-        expect(&rt, table.is_full(b));
+        check!(rt; table.is_full(b));
         let after = (table.take(b), table.room(), table.try_place(0, 100));
-        expect(&rt, after == (50, left, Ok(b)));
+        check!(rt; after == (50, left, Ok(b)));
     }
     Ok(())
 }

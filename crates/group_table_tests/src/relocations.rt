@@ -2,12 +2,11 @@
 use super::tables::{
     SCATTERED, fill, hash_of, keys_after, keys_of, move_once, moved, table_of, thin,
 };
-use crate::expect;
 use group_table::{LinkType, Table, full_capacity};
 use std::alloc::{AllocError, Global};
 use std::cell::Cell;
 use std::test::Fail;
-use test_helpers::Hog;
+use test_helpers::{Hog, check};
 
 // Moves all entries into `buckets` buckets. Whether the keys are where the rules have them, each link leads to the key
 // of its old bucket, and the hash of each entry was asked for once.
@@ -84,12 +83,9 @@ fn many_buckets(rt: HostRuntime) -> Result<(), Fail> {
     let is_copied = keys_of(rt.alloc(), &copy)? == keys_of(rt.alloc(), &table)?;
     thin(&mut table, 2, 458_752);
     let is_relocated = moves::<u32>(rt.alloc(), &mut table, 1 << 19, SCATTERED)?;
-    expect(
-        &rt,
-        (is_rehashed, is_copied, is_relocated) == (true, true, true),
-    );
+    check!(rt; (is_rehashed, is_copied, is_relocated) == (true, true, true));
     let figures = (copy.len(), table.len(), table.room());
-    expect(&rt, figures == (917_504, 458_752, 0));
+    check!(rt; figures == (917_504, 458_752, 0));
     Ok(())
 }
 
@@ -119,10 +115,7 @@ fn each_request_is_refused(rt: HostRuntime) -> Result<(), Fail> {
         }
         let is_right = refused == requests.len() || !hog.took_all();
         drop(hog);
-        expect(
-            &rt,
-            (is_right, table.buckets(), table.len()) == (true, to, left),
-        );
+        check!(rt; (is_right, table.buckets(), table.len()) == (true, to, left));
     }
     Ok(())
 }

@@ -1,7 +1,7 @@
 //! The buckets for a capacity, the widths of links, and the masks of groups, as in docs/TABLE.md.
-use crate::expect;
 use group_table::group::{match_empty, match_free, match_tag};
 use group_table::{LinkType, buckets_for_capacity, full_capacity};
+use test_helpers::check;
 
 const MAX: usize = usize::MAX;
 
@@ -23,17 +23,14 @@ const SIZES: [(usize, usize, usize, usize); 10] = [
 fn sizes_of_tables(rt: HostRuntime) {
     for (first, last, buckets, max) in SIZES {
         for capacity in first..=last {
-            expect(&rt, buckets_for_capacity(capacity, max) == Some(buckets));
+            check!(rt; buckets_for_capacity(capacity, max) == Some(buckets));
         }
         let after = buckets_for_capacity(last.saturating_add(1), max);
-        expect(
-            &rt,
-            (full_capacity(buckets), max == MAX || after.is_none()) == (last, true),
-        );
+        check!(rt; (full_capacity(buckets), max == MAX || after.is_none()) == (last, true));
     }
     // Eight times the capacity overflows.
     for capacity in [1 << 61, MAX] {
-        expect(&rt, buckets_for_capacity(capacity, MAX) == None);
+        check!(rt; buckets_for_capacity(capacity, MAX) == None);
     }
 }
 
@@ -48,11 +45,8 @@ fn has_width<N: LinkType>(max: usize) -> bool {
 
 #[test]
 fn widths_of_links(rt: HostRuntime) {
-    expect(&rt, has_width::<u8>(255) && has_width::<u16>(65_535));
-    expect(
-        &rt,
-        has_width::<u32>(4_294_967_295) && has_width::<usize>(MAX),
-    );
+    check!(rt; has_width::<u8>(255) && has_width::<u16>(65_535));
+    check!(rt; has_width::<u32>(4_294_967_295) && has_width::<usize>(MAX));
 }
 
 #[test]
@@ -61,12 +55,6 @@ fn masks_of_groups(rt: HostRuntime) {
     bytes[0] = 0;
     bytes[2] = 128;
     bytes[3] = 5;
-    expect(
-        &rt,
-        (match_tag(&bytes, 0), match_tag(&bytes, 5)) == (0x0001, 0x0008),
-    );
-    expect(
-        &rt,
-        (match_empty(&bytes), match_free(&bytes)) == (0xfff2, 0xfff6),
-    );
+    check!(rt; (match_tag(&bytes, 0), match_tag(&bytes, 5)) == (0x0001, 0x0008));
+    check!(rt; (match_empty(&bytes), match_free(&bytes)) == (0xfff2, 0xfff6));
 }

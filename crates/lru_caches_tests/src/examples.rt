@@ -3,7 +3,6 @@ ghost use Rattle.std.specs.Prelude.{◌≡◌, ◌*◌};
 
 use crate::callers::{copy_block, overwrite};
 use crate::disk::{Disk, DiskError};
-use crate::expect;
 use lru_caches::{
     BlockDevice, FileDevice, FileError, HashedFileDevice, Loader, Memo, MemoTable, OrderedMap,
     PageCache, PageError, Question, Unclosed,
@@ -12,6 +11,7 @@ use schnellru::{ByLength, RandomState};
 use std::cell::Cell;
 use std::io::Cursor;
 use std::test::Fail;
+use test_helpers::check;
 
 #[test]
 fn of_the_page_cache(rt: HostRuntime) {
@@ -21,17 +21,14 @@ fn of_the_page_cache(rt: HostRuntime) {
         calls_left: &calls_left,
     };
     let mut cache = PageCache::new(rt.alloc(), disk, 2);
-    expect(&rt, cache.write(1, 20) == Ok(()));
-    expect(&rt, (cache.read(1), cache.len()) == (Ok(20), 1));
-    expect(&rt, cache.contains(1) && !cache.contains(2));
-    expect(&rt, cache.device().blocks == [10, 11, 12, 13]);
-    expect(&rt, cache.flush() == Ok(()));
-    expect(&rt, cache.device().blocks == [10, 20, 12, 13]);
-    expect(
-        &rt,
-        (copy_block(&mut cache, 1, 0), cache.read(0)) == (Ok(()), Ok(20)),
-    );
-    expect(&rt, cache.read(4) == Err(PageError::Device(DiskError)));
+    check!(rt; cache.write(1, 20) == Ok(()));
+    check!(rt; (cache.read(1), cache.len()) == (Ok(20), 1));
+    check!(rt; cache.contains(1) && !cache.contains(2));
+    check!(rt; cache.device().blocks == [10, 11, 12, 13]);
+    check!(rt; cache.flush() == Ok(()));
+    check!(rt; cache.device().blocks == [10, 20, 12, 13]);
+    check!(rt; (copy_block(&mut cache, 1, 0), cache.read(0)) == (Ok(()), Ok(20)));
+    check!(rt; cache.read(4) == Err(PageError::Device(DiskError)));
     let mut cache = match cache.close() {
         Ok(disk) => PageCache::new(rt.alloc(), disk, 2),
         Err(Unclosed { cache, error: _ }) => cache,
@@ -46,9 +43,9 @@ fn of_the_device(rt: HostRuntime) {
         blocks: [10, 11, 12, 13],
         calls_left: &calls_left,
     };
-    expect(&rt, disk.write(1, &20) == Ok(()));
-    expect(&rt, disk.read(1) == Ok(20));
-    expect(&rt, disk.read(1) == Err(DiskError));
+    check!(rt; disk.write(1, &20) == Ok(()));
+    check!(rt; disk.read(1) == Ok(20));
+    check!(rt; disk.read(1) == Err(DiskError));
 }
 
 #[test]
@@ -56,10 +53,10 @@ fn of_the_file_device(rt: HostRuntime) -> Result<(), Fail> {
     let alloc = rt.alloc();
     let file = Cursor::new(Vec::from_array(alloc, *b"zeroone.two.")?);
     let mut device: FileDevice<_, 4> = FileDevice::new(alloc, file, 3)?;
-    expect(&rt, device.len() == 3);
-    expect(&rt, device.write(1, b"uno.") == Ok(()));
-    expect(&rt, device.read(1) == Ok(*b"uno."));
-    expect(&rt, device.read(9) == Err(FileError::NoBlock));
+    check!(rt; device.len() == 3);
+    check!(rt; device.write(1, b"uno.") == Ok(()));
+    check!(rt; device.read(1) == Ok(*b"uno."));
+    check!(rt; device.read(9) == Err(FileError::NoBlock));
     Ok(())
 }
 
@@ -68,9 +65,9 @@ fn of_the_file_device_with_hashes(rt: HostRuntime) -> Result<(), Fail> {
     let alloc = rt.alloc();
     let file = Cursor::new(Vec::from_array(alloc, *b"zeroone.two.")?);
     let mut hashed: HashedFileDevice<_, 4> = HashedFileDevice::new(alloc, file, 3)?;
-    expect(&rt, hashed.len() == 3);
-    expect(&rt, hashed.write(1, b"uno.") == Ok(()));
-    expect(&rt, hashed.read(1) == Ok(*b"uno."));
+    check!(rt; hashed.len() == 3);
+    check!(rt; hashed.write(1, b"uno.") == Ok(()));
+    check!(rt; hashed.read(1) == Ok(*b"uno."));
     Ok(())
 }
 
@@ -79,37 +76,28 @@ fn of_the_ordered_map(rt: HostRuntime) -> Result<(), Fail> {
     let alloc = rt.alloc();
     let seeded = RandomState::with_seeds([5, 6, 7, 8]);
     let map: OrderedMap<u64, u64> = OrderedMap::with_hasher(alloc, seeded);
-    expect(&rt, map.is_empty());
+    check!(rt; map.is_empty());
     let mut map: OrderedMap<u64, u64> = OrderedMap::new(alloc);
-    expect(
-        &rt,
-        (map.insert(1, 10)?, map.insert(2, 20)?) == (None, None),
-    );
-    expect(&rt, map.insert(1, 11)? == Some(10));
-    expect(&rt, map.contains_key(&1) && !map.contains_key(&9));
-    expect(&rt, (map.get(&1), map.get(&9)) == (Some(&11), None));
-    expect(&rt, map.len() == 2);
-    expect(
-        &rt,
-        map.first() == Some((&1, &11)) && map.last() == Some((&2, &20)),
-    );
+    check!(rt; (map.insert(1, 10)?, map.insert(2, 20)?) == (None, None));
+    check!(rt; map.insert(1, 11)? == Some(10));
+    check!(rt; map.contains_key(&1) && !map.contains_key(&9));
+    check!(rt; (map.get(&1), map.get(&9)) == (Some(&11), None));
+    check!(rt; map.len() == 2);
+    check!(rt; map.first() == Some((&1, &11)) && map.last() == Some((&2, &20)));
     let mut entries = map.iter();
-    expect(
-        &rt,
-        (entries.len(), entries.next(), entries.next_back())
-            == (2, Some((&1, &11)), Some((&2, &20))),
-    );
+    check!(rt; (entries.len(), entries.next(), entries.next_back())
+            == (2, Some((&1, &11)), Some((&2, &20))));
     if let Some(value) = map.get_mut(&2) {
         *value = 22;
     }
-    expect(&rt, map.get(&2) == Some(&22));
+    check!(rt; map.get(&2) == Some(&22));
     let mut total = 0u64;
     for (key, value) in map.iter() {
         total = total.wrapping_add(key.wrapping_mul(*value));
     }
-    expect(&rt, (overwrite(&mut map, 1, 11), total) == (true, 55));
-    expect(&rt, (map.remove(&2), map.remove(&2)) == (Some(22), None));
-    expect(&rt, map.pop_first() == Some((1, 11)));
+    check!(rt; (overwrite(&mut map, 1, 11), total) == (true, 55));
+    check!(rt; (map.remove(&2), map.remove(&2)) == (Some(22), None));
+    check!(rt; map.pop_first() == Some((1, 11)));
     Ok(())
 }
 
@@ -119,47 +107,35 @@ fn of_the_ordered_map_as_a_list(rt: HostRuntime) -> Result<(), Fail> {
     for (key, value) in [(1, 10), (2, 20), (3, 30)] {
         map.insert(key, value)?;
     }
-    expect(&rt, map.pop_last() == Some((3, 30)));
-    expect(
-        &rt,
-        map.keys().next() == Some(&1) && map.values().next_back() == Some(&20),
-    );
+    check!(rt; map.pop_last() == Some((3, 30)));
+    check!(rt; map.keys().next() == Some(&1) && map.values().next_back() == Some(&20));
     map.insert(3, 30)?;
-    expect(
-        &rt,
-        (map.remove_entry(&3), map.remove_entry(&3)) == (Some((3, 30)), None),
-    );
+    check!(rt; (map.remove_entry(&3), map.remove_entry(&3)) == (Some((3, 30)), None));
     map.retain(|key, value| *key == 1 || *value > 30);
-    expect(&rt, (map.len(), map.contains_key(&1)) == (1, true));
+    check!(rt; (map.len(), map.contains_key(&1)) == (1, true));
     map.clear();
-    expect(&rt, map.is_empty());
+    check!(rt; map.is_empty());
     Ok(())
 }
 
 #[test]
 fn of_the_ordered_map_and_its_table(rt: HostRuntime) -> Result<(), Fail> {
     let mut map: OrderedMap<u64, u64> = OrderedMap::new(rt.alloc());
-    expect(&rt, map.try_reserve(100) == Ok(()));
+    check!(rt; map.try_reserve(100) == Ok(()));
     for (key, value) in [(1, 11), (2, 20)] {
         map.insert(key, value)?;
     }
-    expect(
-        &rt,
-        map.get_key_value(&1) == Some((&1, &11)) && map.get_key_value(&9).is_none(),
-    );
-    expect(&rt, map.move_to_back(&1) && !map.move_to_back(&9));
-    expect(&rt, map.last() == Some((&1, &11)));
-    expect(
-        &rt,
-        (map.shrink_to_fit(), map.shrink_to_fit()) == (Ok(true), Ok(false)),
-    );
+    check!(rt; map.get_key_value(&1) == Some((&1, &11)) && map.get_key_value(&9).is_none());
+    check!(rt; map.move_to_back(&1) && !map.move_to_back(&9));
+    check!(rt; map.last() == Some((&1, &11)));
+    check!(rt; (map.shrink_to_fit(), map.shrink_to_fit()) == (Ok(true), Ok(false)));
     Ok(())
 }
 
 #[test]
 fn of_the_memo(rt: HostRuntime) {
     let mut squares = Memo::new(rt.alloc(), ByLength::new(9), |n: u64| n.wrapping_mul(n));
-    expect(&rt, (squares.answer(3), squares.len()) == (9, 1));
+    check!(rt; (squares.answer(3), squares.len()) == (9, 1));
 }
 
 #[test]
@@ -170,10 +146,7 @@ fn of_the_memo_that_lends(rt: HostRuntime) {
         ByLength::new(9),
         |n: usize| vec![in alloc; 7u8; n].ok(),
     );
-    expect(
-        &rt,
-        (blocks.answer_with(3, |block| block.is_some()), blocks.len()) == (true, 1),
-    );
+    check!(rt; (blocks.answer_with(3, |block| block.is_some()), blocks.len()) == (true, 1));
 }
 
 /// What is the square of a number?
@@ -188,10 +161,7 @@ impl Question<u64, u64> for Squares {
 fn of_the_memo_table(rt: HostRuntime) {
     let mut squares = MemoTable::new(rt.alloc(), ByLength::new(9), Squares);
     squares.store(3, 9);
-    expect(
-        &rt,
-        (squares.get(3), squares.get(4), squares.len()) == (Some(9), None, 1),
-    );
+    check!(rt; (squares.get(3), squares.get(4), squares.len()) == (Some(9), None, 1));
 }
 
 #[test]
@@ -203,8 +173,8 @@ fn of_the_loader(rt: HostRuntime) {
         ByLength::new(9),
         |n: usize| disk.get(n).copied().ok_or(n),
     );
-    expect(&rt, (blocks.load(1), blocks.len()) == (Ok(11), 1));
-    expect(&rt, (blocks.load(3), blocks.len()) == (Err(3), 1));
+    check!(rt; (blocks.load(1), blocks.len()) == (Ok(11), 1));
+    check!(rt; (blocks.load(3), blocks.len()) == (Err(3), 1));
 }
 
 #[test]
@@ -213,7 +183,7 @@ fn of_the_errors(rt: HostRuntime) -> Result<(), Fail> {
         (PageError::Device(1u64), "the device failed"),
         (PageError::Memory, "no memory"),
     ] {
-        expect(&rt, format!(in rt.alloc(); "{error}")?.as_str() == text);
+        check!(rt; format!(in rt.alloc(); "{error}")?.as_str() == text);
     }
     Ok(())
 }

@@ -1,9 +1,8 @@
 //! The ends of the limiter by a cost, and the costs of the types that have one.
 use super::bounds::{cost_of_both, offer_and_remove};
-use crate::expect;
 use lru_limits::{ByCost, ByWeight, Insertion, Limiter};
 use std::test::Fail;
-use test_helpers::Weighed;
+use test_helpers::{Weighed, check};
 
 // No running total is greater than `u64::MAX`, and none falls below 0.
 #[test]
@@ -12,7 +11,7 @@ fn at_the_ends_of_u64(rt: HostRuntime) -> Result<(), Fail> {
     let mut limiter = ByCost::new(MAX);
     for (value, is_accepted) in [(MAX, true), (1, false), (0, true)] {
         let given = limiter.on_insert(rt.alloc(), 1, 1u64, value)?;
-        expect(&rt, (given.is_some(), limiter.cost()) == (is_accepted, MAX));
+        check!(rt; (given.is_some(), limiter.cost()) == (is_accepted, MAX));
     }
     for (mut old, mut new, is_accepted, total) in [
         (1, 2, false, MAX),
@@ -21,10 +20,10 @@ fn at_the_ends_of_u64(rt: HostRuntime) -> Result<(), Fail> {
         (MAX, 4, true, 4),
     ] {
         let accepted = limiter.on_replace(1, &mut 1u64, 1, &mut old, &mut new);
-        expect(&rt, (accepted, limiter.cost()) == (is_accepted, total));
+        check!(rt; (accepted, limiter.cost()) == (is_accepted, total));
     }
     limiter.on_removed(&mut 1u64, &mut 7u64);
-    expect(&rt, limiter.cost() == 0);
+    check!(rt; limiter.cost() == 0);
     Ok(())
 }
 
@@ -42,20 +41,11 @@ fn costs_of_values(rt: HostRuntime) -> Result<(), Fail> {
         cost_of_both(&items, &items),
         cost_of_both(&Weighed(1, 100), &Weighed(2, 100)),
     ];
-    expect(
-        &rt,
-        costs == [255, 65_535, 4_294_967_296, 15, u64::MAX, 4, 6, 3],
-    );
+    check!(rt; costs == [255, 65_535, 4_294_967_296, 15, u64::MAX, 4, 6, 3]);
     let mut limiter = ByCost::new(5);
-    expect(
-        &rt,
-        offer_and_remove(&mut limiter, rt.alloc(), 2u64, text)? == 0,
-    );
+    check!(rt; offer_and_remove(&mut limiter, rt.alloc(), 2u64, text)? == 0);
     let key = String::from_str(rt.alloc(), "key")?;
     let mut limiter: ByWeight<16> = ByWeight::new(22);
-    expect(
-        &rt,
-        offer_and_remove(&mut limiter, rt.alloc(), key, items)? == 0,
-    );
+    check!(rt; offer_and_remove(&mut limiter, rt.alloc(), key, items)? == 0);
     Ok(())
 }

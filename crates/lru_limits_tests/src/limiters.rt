@@ -1,6 +1,5 @@
 //! The limiters of the crate: the keys that they drop, the widths of their links, and their texts.
 use super::bounds::{names, number_of_no_link};
-use crate::expect;
 use lru_limits::{
     ByCost, ByLength, ByMemoryUsage, Insertion, LookupKey, RandomState, Storing, Unlimited,
     UnlimitedCompact,
@@ -8,7 +7,7 @@ use lru_limits::{
 use std::alloc::{AllocError, Global};
 use std::rc::Rc;
 use std::test::Fail;
-use test_helpers::{Counting, InsertKey};
+use test_helpers::{Counting, InsertKey, check};
 
 // Offers a key, and offers it again. Returns whether each is accepted, and how many owners of the key are left.
 fn offered<L: Insertion<Rc<u64>, u64, Rc<u64>>>(
@@ -37,10 +36,7 @@ fn offered_keys_are_dropped(rt: HostRuntime) -> Result<(), Fail> {
         offered(alloc, &mut ByCost::new(0))?,
     ];
     let (both, replaced, none) = ((true, true, 1), (false, true, 1), (false, false, 1));
-    expect(
-        &rt,
-        offered == [both, both, both, both, both, both, replaced, none],
-    );
+    check!(rt; offered == [both, both, both, both, both, both, replaced, none]);
     Ok(())
 }
 
@@ -50,17 +46,11 @@ fn texts_that_become_keys(rt: HostRuntime) -> Result<(), Fail> {
     for text in ["1", "2"] {
         let given = limiter.on_insert(rt.alloc(), 0, InsertKey(text), 1)?;
         let (mut key, _) = given.ok_or("no key")?;
-        expect(
-            &rt,
-            names(&InsertKey(text), &key) && names(&text, &key) && names(&key, &key),
-        );
-        expect(&rt, !InsertKey("3").is_key(&key) && !"3".is_key(&key));
-        expect(
-            &rt,
-            limiter.on_replace(1, &mut key, InsertKey(text), &mut 1, &mut 3),
-        );
+        check!(rt; names(&InsertKey(text), &key) && names(&text, &key) && names(&key, &key));
+        check!(rt; !InsertKey("3").is_key(&key) && !"3".is_key(&key));
+        check!(rt; limiter.on_replace(1, &mut key, InsertKey(text), &mut 1, &mut 3));
     }
-    expect(&rt, (limiter.inserts, limiter.replacements) == (2, 2));
+    check!(rt; (limiter.inserts, limiter.replacements) == (2, 2));
     Ok(())
 }
 
@@ -75,7 +65,7 @@ fn widths_of_links(rt: HostRuntime) {
         number_of_no_link::<ByCost>(),
     ];
     let (narrow, wide) = (4_294_967_295, usize::MAX);
-    expect(&rt, numbers == [narrow, narrow, narrow, narrow, wide, wide]);
+    check!(rt; numbers == [narrow, narrow, narrow, narrow, wide, wide]);
 }
 
 #[test]
@@ -83,11 +73,8 @@ fn texts(rt: HostRuntime) -> Result<(), Fail> {
     let (length, memory) = (ByLength::from(3), ByMemoryUsage::from(560usize));
     let (cost, storing, state) = (ByCost::new(10), Storing(Unlimited), RandomState::default());
     let text = format!(in rt.alloc(); "{length:?} {memory:?} {cost:?} {storing:?} {state:?}")?;
-    expect(
-        &rt,
-        text.as_str()
+    check!(rt; text.as_str()
             == "ByLength { max_length: 3 } ByMemoryUsage { max_bytes: 560 } ByCost { limit: 10, cost: 0 } \
-            Storing(Unlimited) RandomState { .. }",
-    );
+            Storing(Unlimited) RandomState { .. }");
     Ok(())
 }

@@ -2,11 +2,11 @@
 ghost use Rattle.std.specs.Prelude.{◌≡◌, ◌∷◌, [], ◌++◌, IfOk, true, false, length, nat_lt, if◌then◌else◌};
 ghost use Rattle.lru_limits.specs.Stores.{answers};
 
-use crate::expect;
 use lru_limits::Limiter;
 use std::alloc::{AllocError, Global};
 use std::marker::Model;
 use std::test::Fail;
+use test_helpers::check;
 
 const MOST: usize = 3;
 
@@ -73,6 +73,6 @@ fn keeps_three_keys(rt: HostRuntime) -> Result<(), Fail> {
     for key in [5u64, 6, 7, 8] {
         limiter.on_removed(&mut key.clone()?, &mut 0u8);
     }
-    expect(&rt, limiter.keys.as_slice() == [5, 6, 7].as_slice());
+    check!(rt; limiter.keys.as_slice() == [5, 6, 7].as_slice());
     Ok(())
 }

@@ -2,12 +2,11 @@
 //!
 //! If the hashes were random, the keys of each of `places` would have the mean `keys / places` and the variance
 //! `keys * (places - 1) / places / places`. Each count has to be at most six standard deviations above the mean.
-use crate::expect;
 use lru_limits::RandomState;
 use std::alloc::{AllocError, Global};
 use std::hash::{BuildHasher, Hasher};
 use std::test::Fail;
-use test_helpers::Random;
+use test_helpers::{Random, check};
 
 fn is_even(counts: &[u64], keys: usize) -> bool {
     let (places, keys) = (counts.len() as u64, keys as u64);
@@ -95,6 +94,6 @@ fn lengths_and_words(rt: HostRuntime) -> Result<(), Fail> {
     }
     hashes.sort_unstable();
     hashes.dedup();
-    expect(&rt, hashes.len() == 25);
+    check!(rt; hashes.len() == 25);
     Ok(())
 }

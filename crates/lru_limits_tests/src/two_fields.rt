@@ -5,9 +5,9 @@ ghost use Rattle.lru_limits.specs.Keys.{number-lawful, field-lawful, both-lawful
 ghost use Rattle.lru_limits.specs.Texts.{names_text, names_text-lawful};
 
 use super::bounds::names;
-use crate::expect;
 use lru_limits::LookupKey;
 use std::test::Fail;
+use test_helpers::check;
 
 /// A name that belongs to a tenant.
 #[derive(Drop, PartialEq, Eq, Hash)]
@@ -43,7 +43,7 @@ fn both_fields_name_the_key(rt: HostRuntime) -> Result<(), Fail> {
         text: String::from_str(rt.alloc(), text)?,
     };
     for (tenant, text, is_named) in [(7, text, true), (8, text, false), (7, "other", false)] {
-        expect(&rt, names(&Naming { tenant, text }, &name) == is_named);
+        check!(rt; names(&Naming { tenant, text }, &name) == is_named);
     }
     Ok(())
 }

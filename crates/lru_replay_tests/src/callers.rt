@@ -1,11 +1,11 @@
 //! A caller of a run, whose contract follows from a law on runs: the code of docs/CALLING.md.
 ghost use Rattle.std.specs.Prelude.{◌≤◌, length, OnOk};
 
-use crate::expect;
 use lru_replay::{Answer, Call, laws, run_calls};
 use schnellru::{ByLength, LruMap, RandomState};
 use std::alloc::{AllocError, Global};
 use std::test::Fail;
+use test_helpers::check;
 
 /// Inserts two pairs by a list of calls, into a map that is within its length, and leaves it so.
 fn put_both(
@@ -29,10 +29,7 @@ fn put_both(
 fn a_run_keeps_the_length(rt: HostRuntime) -> Result<(), Fail> {
     let mut map = LruMap::new(rt.alloc(), ByLength::new(1), [1, 2, 3, 4], 16);
     let answers = put_both(rt.alloc(), &mut map, (1, 10), (2, 20))?;
-    expect(
-        &rt,
-        answers.as_slice() == [Answer::Flag(true), Answer::Flag(true)].as_slice(),
-    );
-    expect(&rt, (map.len(), map.peek(&2).copied()) == (1, Some(20)));
+    check!(rt; answers.as_slice() == [Answer::Flag(true), Answer::Flag(true)].as_slice());
+    check!(rt; (map.len(), map.peek(&2).copied()) == (1, Some(20)));
     Ok(())
 }

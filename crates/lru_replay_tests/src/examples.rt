@@ -1,8 +1,8 @@
 //! The examples of the documents of `lru_replay`, and the texts and numbers of its errors.
-use crate::expect;
 use lru_replay::{Answer, Call, ReplayEnd, ReplayError, replay, run_calls, run_summing, status};
 use schnellru::{ByCost, ByLength, LruMap};
 use std::test::Fail;
+use test_helpers::check;
 
 #[test]
 fn of_lists_of_calls(rt: HostRuntime) -> Result<(), Fail> {
@@ -11,7 +11,7 @@ fn of_lists_of_calls(rt: HostRuntime) -> Result<(), Fail> {
     let calls = vec![in alloc; Call::Insert(1, 10), Call::Get(1), Call::Peek(2)]?;
     let answers = run_calls(alloc, &mut map, calls)?;
     let gives = answers.get(1) == Some(&Answer::Value(Some(10)));
-    expect(&rt, gives && answers.get(2) == Some(&Answer::Value(None)));
+    check!(rt; gives && answers.get(2) == Some(&Answer::Value(None)));
     Ok(())
 }
 
@@ -22,10 +22,7 @@ fn of_summing_lists(rt: HostRuntime) -> Result<(), Fail> {
     let calls = vec![in alloc; Call::Insert(1, 2), Call::Write(1, 3), Call::Peek(1)]?;
     let answers = run_summing(alloc, &mut costs, calls)?;
     let refuses = answers.get(1) == Some(&Answer::CostDiffers);
-    expect(
-        &rt,
-        refuses && answers.get(2) == Some(&Answer::Value(Some(2))),
-    );
+    check!(rt; refuses && answers.get(2) == Some(&Answer::Value(Some(2))));
     Ok(())
 }
 
@@ -33,17 +30,14 @@ fn of_summing_lists(rt: HostRuntime) -> Result<(), Fail> {
 fn of_errors(rt: HostRuntime) -> Result<(), Fail> {
     let (read, write) = (ReplayError::Read, ReplayError::Write);
     let text = format!(in rt.alloc(); "{read}, {write}")?;
-    expect(&rt, text.as_str() == "read failed, write failed");
-    expect(&rt, status(&Ok(ReplayEnd::NoLimiter)) == 1);
+    check!(rt; text.as_str() == "read failed, write failed");
+    check!(rt; status(&Ok(ReplayEnd::NoLimiter)) == 1);
     let statuses = [
         status(&Ok(ReplayEnd::Done)),
         status(&Err(read)),
         status(&Err(write)),
     ];
-    expect(
-        &rt,
-        (statuses, read as u8, write as u8) == ([0, 2, 2], 1, 2),
-    );
+    check!(rt; (statuses, read as u8, write as u8) == ([0, 2, 2], 1, 2));
     Ok(())
 }
 
@@ -51,10 +45,7 @@ fn of_errors(rt: HostRuntime) -> Result<(), Fail> {
 fn of_a_replay(rt: HostRuntime) -> Result<(), Fail> {
     let mut reader = b"length 1\ninsert 1 10\n".as_slice();
     let mut writer = Vec::new(rt.alloc());
-    expect(
-        &rt,
-        replay(rt.alloc(), &mut reader, &mut writer) == Ok(ReplayEnd::Done),
-    );
-    expect(&rt, writer.as_slice() == b"true\n".as_slice());
+    check!(rt; replay(rt.alloc(), &mut reader, &mut writer) == Ok(ReplayEnd::Done));
+    check!(rt; writer.as_slice() == b"true\n".as_slice());
     Ok(())
 }

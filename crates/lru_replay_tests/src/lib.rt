@@ -10,10 +10,3 @@ mod callers;
 mod examples;
 #[cfg(test)]
 mod refused;
-
-/// Ends a test if the condition is false. It is proved in a seventh of the time of an `assert!`, but the output names
-/// the test alone and not the line.
-#[cfg(test)]
-fn expect(rt: &impl std::process::Abort, holds: bool) {
-    assert!(rt; holds);
-}

@@ -1,5 +1,4 @@
 //! Runs of calls, as lists and as lines, in which the first requests for memory are met and the next one is refused.
-use crate::expect;
 use lru_replay::{Answer, Call, ReplayEnd, replay, run_calls, run_summing};
 use map_helpers::{insert_all, map_of};
 use schnellru::{ByCost, Insertion, LruMap, UnlimitedCompact};
@@ -7,7 +6,7 @@ use std::alloc::{AllocError, Global};
 use std::mem::size_of;
 use std::process::Abort;
 use std::test::Fail;
-use test_helpers::Hog;
+use test_helpers::{Hog, check};
 
 /// The bytes of the answers to four calls.
 const ANSWERS: usize = 4 * size_of::<Answer<u64, u64>>();
@@ -125,7 +124,7 @@ fn expect_lines(
     let end = replay(alloc, &mut reader, &mut writer);
     let all = hog.took_all();
     drop(hog);
-    expect(&rt, end == Ok(ReplayEnd::Done));
+    check!(rt; end == Ok(ReplayEnd::Done));
     assert!(rt; !all || writer.as_slice() == text, "{met} met");
     Ok(())
 }
@@ -185,6 +184,6 @@ fn replays_give_their_memory_back(rt: HostRuntime) -> Result<(), Fail> {
         right = right.wrapping_add((is_done && writer.as_slice() == text_of(5)) as u32);
     }
     drop(hog);
-    expect(&rt, right == 1000);
+    check!(rt; right == 1000);
     Ok(())
 }

@@ -1,99 +1,72 @@
 //! The examples of the docs of `lru_tenants`, the error texts, and each call once.
-use crate::expect;
 use lru_tenants::{
     ByWeight, TenantAnswer, TenantCache, TenantCall, TenantError, costs_are_within_the_total_limit,
     run_tenants,
 };
 use std::test::Fail;
+use test_helpers::check;
 
 #[test]
 fn of_the_cache(rt: HostRuntime) -> Result<(), Fail> {
     let mut cache: TenantCache<u64, u64, u64> = TenantCache::new(rt.alloc(), [1, 2, 3, 4], 16);
-    expect(&rt, cache.is_empty());
-    expect(&rt, cache.open(1, 3) == Ok(()));
-    expect(&rt, cache.put(&1, 7, 2) == Ok(true));
-    expect(&rt, cache.cost(&1) == Ok(2));
-    expect(&rt, (cache.total_cost(), cache.total_budget()) == (2, 3));
-    expect(&rt, cache.names().next() == Some(&1));
-    expect(&rt, cache.peek(&1, &7) == Ok(Some(&2)));
-    expect(&rt, cache.contains(&1, &7) == Ok(true));
-    expect(&rt, cache.entries(&1) == Ok(1));
-    expect(&rt, cache.budget(&1) == Ok(3));
-    expect(
-        &rt,
-        (cache.remove(&1, &7), cache.remove(&1, &7)) == (Ok(Some(2)), Ok(None)),
-    );
-    expect(&rt, cache.put(&1, 7, 2) == Ok(true));
-    expect(
-        &rt,
-        (cache.set_budget(&1, 1), cache.cost(&1)) == (Ok(()), Ok(0)),
-    );
-    expect(
-        &rt,
-        (cache.clear(&1), cache.entries(&1), cache.cost(&1)) == (Ok(()), Ok(0), Ok(0)),
-    );
-    expect(&rt, cache.open(1, 5) == Err(TenantError::AlreadyOpen));
-    expect(
-        &rt,
-        (cache.open(2, u64::MAX), cache.close(&2)) == (Ok(()), Ok(0)),
-    );
-    expect(
-        &rt,
-        (cache.len(), cache.close(&1), cache.len()) == (1, Ok(0), 0),
-    );
+    check!(rt; cache.is_empty());
+    check!(rt; cache.open(1, 3) == Ok(()));
+    check!(rt; cache.put(&1, 7, 2) == Ok(true));
+    check!(rt; cache.cost(&1) == Ok(2));
+    check!(rt; (cache.total_cost(), cache.total_budget()) == (2, 3));
+    check!(rt; cache.names().next() == Some(&1));
+    check!(rt; cache.peek(&1, &7) == Ok(Some(&2)));
+    check!(rt; cache.contains(&1, &7) == Ok(true));
+    check!(rt; cache.entries(&1) == Ok(1));
+    check!(rt; cache.budget(&1) == Ok(3));
+    check!(rt; (cache.remove(&1, &7), cache.remove(&1, &7)) == (Ok(Some(2)), Ok(None)));
+    check!(rt; cache.put(&1, 7, 2) == Ok(true));
+    check!(rt; (cache.set_budget(&1, 1), cache.cost(&1)) == (Ok(()), Ok(0)));
+    check!(rt; (cache.clear(&1), cache.entries(&1), cache.cost(&1)) == (Ok(()), Ok(0), Ok(0)));
+    check!(rt; cache.open(1, 5) == Err(TenantError::AlreadyOpen));
+    check!(rt; (cache.open(2, u64::MAX), cache.close(&2)) == (Ok(()), Ok(0)));
+    check!(rt; (cache.len(), cache.close(&1), cache.len()) == (1, Ok(0), 0));
     Ok(())
 }
 
 #[test]
 fn of_calls_that_pass_entries(rt: HostRuntime) -> Result<(), Fail> {
     let mut cache = TenantCache::new(rt.alloc(), [1, 2, 3, 4], 16);
-    expect(&rt, cache.open(1, 3) == Ok(()));
-    expect(&rt, cache.put(&1, 7, 2) == Ok(true));
+    check!(rt; cache.open(1, 3) == Ok(()));
+    check!(rt; cache.put(&1, 7, 2) == Ok(true));
     let mut left = 0u64;
-    expect(
-        &rt,
-        cache.put_with(&1, 8, 3, &mut |key, _| left = key) == Ok(true),
-    );
-    expect(&rt, left == 7);
+    check!(rt; cache.put_with(&1, 8, 3, &mut |key, _| left = key) == Ok(true));
+    check!(rt; left == 7);
     let mut evicted = 0u64;
-    expect(
-        &rt,
-        cache.set_budget_with(&1, 2, &mut |key, _| evicted = key) == Ok(()),
-    );
-    expect(&rt, evicted == 8);
-    expect(&rt, cache.put(&1, 9, 1u64) == Ok(true));
+    check!(rt; cache.set_budget_with(&1, 2, &mut |key, _| evicted = key) == Ok(()));
+    check!(rt; evicted == 8);
+    check!(rt; cache.put(&1, 9, 1u64) == Ok(true));
     let mut last = 0u64;
-    expect(&rt, cache.close_with(&1, &mut |key, _| last = key) == Ok(1));
-    expect(&rt, last == 9);
-    expect(
-        &rt,
-        cache.put_with(&1, 9, 1, &mut |_, _| {}) == Err(TenantError::NotOpen),
-    );
+    check!(rt; cache.close_with(&1, &mut |key, _| last = key) == Ok(1));
+    check!(rt; last == 9);
+    check!(rt; cache.put_with(&1, 9, 1, &mut |_, _| {}) == Err(TenantError::NotOpen));
     Ok(())
 }
 
 #[test]
 fn of_values_that_come_back(rt: HostRuntime) -> Result<(), Fail> {
     let mut cache: TenantCache<u64, u64, u64> = TenantCache::new(rt.alloc(), [1, 2, 3, 4], 16);
-    expect(
-        &rt,
-        (cache.open(1, 3), cache.put(&1, 7, 2)) == (Ok(()), Ok(true)),
-    );
+    check!(rt; (cache.open(1, 3), cache.put(&1, 7, 2)) == (Ok(()), Ok(true)));
     let replaced = cache.put_full(&1, 7, 3, &mut |_, _| {})?;
-    expect(&rt, (replaced.kept, replaced.unkept) == (true, Some(2)));
+    check!(rt; (replaced.kept, replaced.unkept) == (true, Some(2)));
     let rejected = cache.put_full(&1, 8, 9, &mut |_, _| {})?;
-    expect(&rt, (rejected.kept, rejected.unkept) == (false, Some(9)));
-    expect(&rt, (cache.entries(&1), cache.cost(&1)) == (Ok(1), Ok(3)));
+    check!(rt; (rejected.kept, rejected.unkept) == (false, Some(9)));
+    check!(rt; (cache.entries(&1), cache.cost(&1)) == (Ok(1), Ok(3)));
     Ok(())
 }
 
 #[test]
 fn of_totals(rt: HostRuntime) -> Result<(), Fail> {
     let mut cache: TenantCache<u64, u64, u64> = TenantCache::new(rt.alloc(), [1, 2, 3, 4], 16);
-    expect(&rt, cache.open(1, 3) == Ok(()));
-    expect(&rt, cache.set_total_limit(Some(5)) == Ok(()));
-    expect(&rt, cache.open(2, 3) == Err(TenantError::OverTotal));
-    expect(&rt, cache.total_limit() == Some(5));
+    check!(rt; cache.open(1, 3) == Ok(()));
+    check!(rt; cache.set_total_limit(Some(5)) == Ok(()));
+    check!(rt; cache.open(2, 3) == Err(TenantError::OverTotal));
+    check!(rt; cache.total_limit() == Some(5));
     costs_are_within_the_total_limit(&cache);
     Ok(())
 }
@@ -106,20 +79,17 @@ fn of_weights(rt: HostRuntime) -> Result<(), Fail> {
         std::collections::hash_map::RandomState::new(&rt)?,
         48,
     );
-    expect(
-        &rt,
-        (weighed.open(1, 40), weighed.put(&1, 7, 2)) == (Ok(()), Ok(true)),
-    );
-    expect(&rt, weighed.cost(&1) == Ok(25));
+    check!(rt; (weighed.open(1, 40), weighed.put(&1, 7, 2)) == (Ok(()), Ok(true)));
+    check!(rt; weighed.cost(&1) == Ok(25));
     Ok(())
 }
 
 #[test]
 fn of_values_made(rt: HostRuntime) -> Result<(), Fail> {
     let mut cache: TenantCache<u64, u64, u64> = TenantCache::new(rt.alloc(), [1, 2, 3, 4], 16);
-    expect(&rt, cache.open(1, 3) == Ok(()));
-    expect(&rt, cache.get_or_put(&1, 7, || 2) == Ok(Some(&2)));
-    expect(&rt, cache.get_or_put(&1, 7, || 3) == Ok(Some(&2)));
+    check!(rt; cache.open(1, 3) == Ok(()));
+    check!(rt; cache.get_or_put(&1, 7, || 2) == Ok(Some(&2)));
+    check!(rt; cache.get_or_put(&1, 7, || 3) == Ok(Some(&2)));
     Ok(())
 }
 
@@ -131,8 +101,8 @@ fn of_the_errors(rt: HostRuntime) -> Result<(), Fail> {
         (TenantError::Memory, "no memory", 3),
         (TenantError::OverTotal, "over the total limit", 4),
     ] {
-        expect(&rt, format!(in rt.alloc(); "{error}")?.as_str() == text);
-        expect(&rt, error as u8 == number);
+        check!(rt; format!(in rt.alloc(); "{error}")?.as_str() == text);
+        check!(rt; error as u8 == number);
     }
     Ok(())
 }
@@ -141,14 +111,11 @@ fn of_the_errors(rt: HostRuntime) -> Result<(), Fail> {
 fn of_keys_that_are_texts(rt: HostRuntime) -> Result<(), Fail> {
     let alloc = rt.alloc();
     let mut pages: TenantCache<u64, String, String> = TenantCache::new(alloc, [1, 2, 3, 4], 64);
-    expect(&rt, pages.open(1, 10) == Ok(()));
+    check!(rt; pages.open(1, 10) == Ok(()));
     let page = String::from_str(alloc, "hello")?;
-    expect(
-        &rt,
-        pages.put(&1, String::from_str(alloc, "a")?, page) == Ok(true),
-    );
+    check!(rt; pages.put(&1, String::from_str(alloc, "a")?, page) == Ok(true));
     let page = pages.get(&1, &"a")?.ok_or("no page")?;
-    expect(&rt, page.as_str() == "hello");
+    check!(rt; page.as_str() == "hello");
     Ok(())
 }
 
@@ -162,10 +129,7 @@ fn of_runs(rt: HostRuntime) -> Result<(), Fail> {
         TenantCall::Get(2, 7),
     ]?;
     let answers = run_tenants(alloc, &mut cache, calls)?;
-    expect(&rt, answers.get(1) == Some(&TenantAnswer::Put(Ok(true))));
-    expect(
-        &rt,
-        answers.get(2) == Some(&TenantAnswer::Got(Err(TenantError::NotOpen))),
-    );
+    check!(rt; answers.get(1) == Some(&TenantAnswer::Put(Ok(true))));
+    check!(rt; answers.get(2) == Some(&TenantAnswer::Got(Err(TenantError::NotOpen))));
     Ok(())
 }

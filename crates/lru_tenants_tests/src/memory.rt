@@ -1,12 +1,11 @@
 //! Calls that are refused memory, and memory that a closed tenant gives back.
-use crate::expect;
 use lru_tenants::{TenantAnswer, TenantCache, TenantCall, TenantError, run_tenants};
 use schnellru::Costed;
 use std::alloc::{AllocError, Global};
 use std::mem::size_of;
 use std::rc::Rc;
 use std::test::Fail;
-use test_helpers::Hog;
+use test_helpers::{Hog, check};
 
 // A cache of these tenants from 1 on. The first one has pairs of the keys from 1 on.
 fn cache_of(
@@ -56,10 +55,10 @@ fn each_request_is_refused(rt: HostRuntime) -> Result<(), Fail> {
                     break;
                 }
                 let again = call(&mut cache, kind);
-                expect(&rt, (first, again) == (Err(TenantError::Memory), Ok(())));
+                check!(rt; (first, again) == (Err(TenantError::Memory), Ok(())));
             }
         }
-        expect(&rt, refused > 0);
+        check!(rt; refused > 0);
     }
     Ok(())
 }
@@ -78,7 +77,7 @@ fn a_list_takes_the_memory_of_its_answers(rt: HostRuntime) -> Result<(), Fail> {
         let is_made = run_tenants(alloc, &mut cache, calls).is_ok();
         let all = hog.took_all();
         drop(hog);
-        expect(&rt, is_made == is_met || !all);
+        check!(rt; is_made == is_met || !all);
     }
     Ok(())
 }
@@ -150,9 +149,9 @@ fn a_closed_tenant_gives_its_memory_back(rt: HostRuntime) -> Result<(), Fail> {
     }
     drop(hog);
     for key in &keys {
-        expect(&rt, refuses(&mut cache, key)?);
+        check!(rt; refuses(&mut cache, key)?);
     }
-    expect(&rt, (closed, cache.len()) == (1000, 0));
+    check!(rt; (closed, cache.len()) == (1000, 0));
     Ok(())
 }
 
@@ -160,15 +159,9 @@ fn a_closed_tenant_gives_its_memory_back(rt: HostRuntime) -> Result<(), Fail> {
 fn names_are_dropped(rt: HostRuntime) -> Result<(), Fail> {
     let name = Rc::new(rt.alloc(), 1u64)?;
     let mut cache: TenantCache<Rc<u64>, u64, u64> = TenantCache::new(rt.alloc(), [1, 2, 3, 4], 16);
-    expect(&rt, cache.open(name.clone()?, 2) == Ok(()));
-    expect(
-        &rt,
-        cache.open(name.clone()?, 2) == Err(TenantError::AlreadyOpen),
-    );
-    expect(
-        &rt,
-        (cache.close(&name), Rc::strong_count(&name)) == (Ok(0), 1),
-    );
+    check!(rt; cache.open(name.clone()?, 2) == Ok(()));
+    check!(rt; cache.open(name.clone()?, 2) == Err(TenantError::AlreadyOpen));
+    check!(rt; (cache.close(&name), Rc::strong_count(&name)) == (Ok(0), 1));
     Ok(())
 }
 
@@ -188,6 +181,6 @@ fn a_list_without_answers_is_freed(rt: HostRuntime) -> Result<(), Fail> {
     }
     let all = hog.took_all();
     drop(hog);
-    expect(&rt, lists == 100 && (made == 0 || !all));
+    check!(rt; lists == 100 && (made == 0 || !all));
     Ok(())
 }

@@ -1,7 +1,7 @@
 //! Worked calls on tenants, as one list.
-use crate::expect;
 use lru_tenants::{TenantAnswer, TenantCache, TenantCall, TenantError, run_tenants};
 use std::test::Fail;
+use test_helpers::check;
 
 #[test]
 fn worked_calls(rt: HostRuntime) -> Result<(), Fail> {
@@ -52,7 +52,7 @@ fn worked_calls(rt: HostRuntime) -> Result<(), Fail> {
     ];
     let mut cache = TenantCache::new(rt.alloc(), [1, 2, 3, 4], 16);
     let answers = run_tenants(rt.alloc(), &mut cache, calls)?;
-    expect(&rt, answers.as_slice() == &wanted[..]);
+    check!(rt; answers.as_slice() == &wanted[..]);
     Ok(())
 }
 
@@ -65,10 +65,7 @@ fn short_and_long_lists(rt: HostRuntime) -> Result<(), Fail> {
         for _ in 0..length {
             calls.push(TenantCall::Cost(1))?;
         }
-        expect(
-            &rt,
-            run_tenants(rt.alloc(), &mut cache, calls)?.len() == length,
-        );
+        check!(rt; run_tenants(rt.alloc(), &mut cache, calls)?.len() == length);
     }
     Ok(())
 }

@@ -1,8 +1,8 @@
 //! The curve of a trace, compared with maps that make its references.
-use crate::expect;
 use lru_theory::misses_on_map;
 use lru_trace::{Curve, TraceError};
 use std::test::Fail;
+use test_helpers::check;
 
 #[test]
 fn of_the_curve(rt: HostRuntime) -> Result<(), Fail> {
@@ -12,11 +12,8 @@ fn of_the_curve(rt: HostRuntime) -> Result<(), Fail> {
             curve.refer(key)?;
         }
     }
-    expect(
-        &rt,
-        (curve.misses(0), curve.misses(1), curve.misses(2)) == (5, 5, 3),
-    );
-    expect(&rt, (curve.keys(), curve.references()) == (3, 5));
+    check!(rt; (curve.misses(0), curve.misses(1), curve.misses(2)) == (5, 5, 3));
+    check!(rt; (curve.keys(), curve.references()) == (3, 5));
     Ok(())
 }
 
@@ -38,7 +35,7 @@ fn beside_maps(rt: HostRuntime) -> Result<(), Fail> {
     }
     for length in [1, 2, 3, 10, 50, 100, 150, 199, 400] {
         let count = misses_on_map(alloc, keys.clone()?, length)?;
-        expect(&rt, curve.misses(length as usize) == count);
+        check!(rt; curve.misses(length as usize) == count);
     }
     Ok(())
 }
@@ -50,7 +47,7 @@ fn of_the_errors(rt: HostRuntime) -> Result<(), Fail> {
         (TraceError::Write, "write failed"),
         (TraceError::Memory, "no memory"),
     ] {
-        expect(&rt, format!(in rt.alloc(); "{error}")?.as_str() == text);
+        check!(rt; format!(in rt.alloc(); "{error}")?.as_str() == text);
     }
     Ok(())
 }

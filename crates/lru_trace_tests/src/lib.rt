@@ -7,10 +7,3 @@ mod curves;
 mod lines;
 #[cfg(test)]
 mod memory;
-
-/// Ends a test if the condition is false. It is proved in a seventh of the time of an `assert!`, but the output names
-/// the test alone and not the line.
-#[cfg(test)]
-fn expect(rt: &impl std::process::Abort, holds: bool) {
-    assert!(rt; holds);
-}

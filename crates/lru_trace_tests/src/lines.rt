@@ -1,9 +1,9 @@
 //! Traces of lines: the progress, the report, a first line without sizes, and a flush that fails.
-use crate::expect;
 use lru_trace::{Progress, TraceEnd, TraceError, trace};
 use std::alloc::Global;
 use std::io::{self, ErrorKind, Write};
 use std::test::Fail;
+use test_helpers::check;
 
 /// Keeps what is written, and fails at the flush if `fails`.
 #[derive(Drop)]
@@ -42,19 +42,16 @@ fn of_the_report(rt: HostRuntime) {
         b"references 2 keys 2 malformed 0\nplaces 2 hits 0 misses 2 ratio 1.0000\n           1 |\
         ##################################################\n           2 |\
         ##################################################\n";
-    expect(
-        &rt,
-        (end, report.as_slice()) == (Ok(TraceEnd::Done), text.as_slice()),
-    );
+    check!(rt; (end, report.as_slice()) == (Ok(TraceEnd::Done), text.as_slice()));
 }
 
 /// A word that is no number, and a flush that fails.
 #[test]
 fn of_other_ends(rt: HostRuntime) {
     let (end, report) = traced(rt.alloc(), b"1 2 x\na\n", false);
-    expect(&rt, (end, report.len()) == (Ok(TraceEnd::NoSizes), 0));
+    check!(rt; (end, report.len()) == (Ok(TraceEnd::NoSizes), 0));
     let (end, _report) = traced(rt.alloc(), b"1\na\n", true);
-    expect(&rt, end == Err(TraceError::Write));
+    check!(rt; end == Err(TraceError::Write));
 }
 
 /// Two million and one empty lines: each is malformed, and each counts for the progress.
@@ -67,15 +64,9 @@ fn of_the_progress(rt: HostRuntime) -> Result<(), Fail> {
     let mut shown = Vec::new(alloc);
     let mut progress = Progress::new(alloc, Some(&mut shown));
     let end = trace(alloc, &mut input.as_slice(), &mut report, &mut progress);
-    expect(&rt, end == Ok(TraceEnd::Done));
+    check!(rt; end == Ok(TraceEnd::Done));
     drop(progress);
-    expect(
-        &rt,
-        shown.as_slice() == b"1000000 lines\n2000000 lines\n".as_slice(),
-    );
-    expect(
-        &rt,
-        report.starts_with(b"references 0 keys 0 malformed 2000001\n"),
-    );
+    check!(rt; shown.as_slice() == b"1000000 lines\n2000000 lines\n".as_slice());
+    check!(rt; report.starts_with(b"references 0 keys 0 malformed 2000001\n"));
     Ok(())
 }

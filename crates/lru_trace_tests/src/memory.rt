@@ -1,9 +1,8 @@
 //! Curves of many keys, and the memory that references give back. No clause says that memory is found or given back.
-use crate::expect;
 use lru_trace::{Curve, TraceError};
 use std::alloc::Global;
 use std::test::Fail;
-use test_helpers::Hog;
+use test_helpers::{Hog, check};
 
 /// References a number.
 fn refer(alloc: Global, curve: &mut Curve, number: u64) -> Result<(), TraceError> {
@@ -20,12 +19,9 @@ fn of_many_keys(rt: HostRuntime) -> Result<(), Fail> {
     for n in 0..300_000u64 {
         refer(rt.alloc(), &mut curve, n % 150_000)?;
     }
-    expect(
-        &rt,
-        (curve.keys(), curve.references()) == (150_000, 300_000),
-    );
+    check!(rt; (curve.keys(), curve.references()) == (150_000, 300_000));
     let misses = (curve.misses(149_999), curve.misses(150_000));
-    expect(&rt, misses == (300_000, 150_000));
+    check!(rt; misses == (300_000, 150_000));
     Ok(())
 }
 
@@ -42,6 +38,6 @@ fn references_give_their_memory_back(rt: HostRuntime) -> Result<(), Fail> {
         met = met.saturating_add(refer(rt.alloc(), &mut curve, n % 20).is_ok() as u64);
     }
     drop(hog);
-    expect(&rt, (met, curve.misses(19)) == (200_000, 200_200));
+    check!(rt; (met, curve.misses(19)) == (200_000, 200_200));
     Ok(())
 }

@@ -4,13 +4,13 @@ ghost use Rattle.std.specs.Prelude.{◌≡◌};
 ghost use Rattle.lru_limits.specs.Limiters.{no_rules};
 
 use super::live::{Live, Lives};
-use crate::expect;
 use schnellru::{DefaultHasher, Limiter, LruMap, RandomState, Storing, UnlimitedCompact};
 use std::alloc::{AllocError, Global};
 use std::cell::Cell;
 use std::hash::BuildHasher;
 use std::rc::Rc;
 use std::test::Fail;
+use test_helpers::check;
 
 /// A copy of seven pairs takes 14 clones. If one of them is refused, no other is asked for, and what was made is
 /// dropped.
@@ -156,15 +156,12 @@ fn a_limiter_or_a_hasher_that_refuses(rt: HostRuntime) -> Result<(), Fail> {
         ((2, 2), (true, [3, 3, 4, 4])),
     ] {
         let found = tried(&map, allowed, (&held.0, &held.1), &lives);
-        expect(
-            &rt,
-            found == expected && live(&held.0, &held.1, &lives) == one,
-        );
+        check!(rt; found == expected && live(&held.0, &held.1, &lives) == one);
     }
     let mut walk = map.into_iter();
-    expect(&rt, walk.next().is_some() && walk.len() == 1);
+    check!(rt; walk.next().is_some() && walk.len() == 1);
     drop(walk);
-    expect(&rt, (limiter.get(), hasher.get()) == (1, 1));
-    expect(&rt, live(&held.0, &held.1, &lives) == [1, 1, 0, 0]);
+    check!(rt; (limiter.get(), hasher.get()) == (1, 1));
+    check!(rt; live(&held.0, &held.1, &lives) == [1, 1, 0, 0]);
     Ok(())
 }

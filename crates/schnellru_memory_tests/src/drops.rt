@@ -1,13 +1,12 @@
 //! Each key and each value is dropped once: none twice, and none is forgotten. No clause says when a value is dropped.
 use super::live::{Live, Lives};
-use crate::expect;
 use schnellru::{
     Both, ByCost, ByLength, ByMemoryUsage, ByWeight, GetOrInsertError, Insertion, Limiter, LruMap,
     Storing, Unlimited, UnlimitedCompact,
 };
 use std::alloc::Global;
 use std::test::Fail;
-use test_helpers::{Hog, Random};
+use test_helpers::{Hog, Random, check};
 
 type Map<'a, L> = LruMap<Live<'a>, Live<'a>, L>;
 
@@ -132,7 +131,7 @@ fn keys_and_values_are_dropped_once(rt: HostRuntime) {
         balances(alloc, UnlimitedCompact, &lives, 0),
         balances(alloc, Storing(ByLength::new(3)), &lives, 0),
     ];
-    expect(&rt, balanced == [true; 11]);
+    check!(rt; balanced == [true; 11]);
 }
 
 /// The same with maps of 10,000 pairs and more, until a random call takes all out.
@@ -140,10 +139,7 @@ fn keys_and_values_are_dropped_once(rt: HostRuntime) {
 fn many_keys_and_values_are_dropped_once(rt: HostRuntime) {
     let lives = Lives::new();
     for pairs in 10_000..10_008u64 {
-        expect(
-            &rt,
-            balances(rt.alloc(), ByLength::new(10_000), &lives, pairs),
-        );
+        check!(rt; balances(rt.alloc(), ByLength::new(10_000), &lives, pairs));
     }
 }
 
@@ -161,15 +157,15 @@ fn what_trims_evict_is_dropped(rt: HostRuntime) -> Result<(), Fail> {
     }
     *map.limiter_mut() = ByLength::new(16_000);
     drop(map.update(lives.key(19_999), lives.value(0)));
-    expect(&rt, live(&lives) == (16_000, 16_000));
+    check!(rt; live(&lives) == (16_000, 16_000));
     *map.limiter_mut() = ByLength::new(12_000);
     map.trim();
-    expect(&rt, live(&lives) == (12_000, 12_000));
+    check!(rt; live(&lives) == (12_000, 12_000));
     map.set_limiter(ByLength::new(5000));
     drop(map.remove_entry(&lives.key(19_999)));
-    expect(&rt, live(&lives) == (4999, 4999));
+    check!(rt; live(&lives) == (4999, 4999));
     drop(map.into_iter().next());
-    expect(&rt, live(&lives) == (0, 0));
+    check!(rt; live(&lives) == (0, 0));
     Ok(())
 }
 
@@ -186,7 +182,7 @@ fn what_an_extend_leaves_is_dropped(rt: HostRuntime) -> Result<(), Fail> {
     let is_refused = map.try_extend(entries).is_err();
     let all = hog.took_all();
     drop(hog);
-    expect(&rt, !all || (is_refused && live(&lives) == (3, 3)));
+    check!(rt; !all || (is_refused && live(&lives) == (3, 3)));
     Ok(())
 }
 
@@ -198,10 +194,7 @@ fn closures_that_are_not_called_are_dropped(rt: HostRuntime) {
     let (asked, kept) = (lives.value(0), lives.value(0));
     drop(none.pop_oldest_if(move |key, _| *key == value));
     drop(none.try_pop_oldest(move |key, _| if *key == other { Ok(()) } else { Err(0u8) }));
-    expect(
-        &rt,
-        none.peek_by_hash(7, move |key, _| *key == asked).is_none(),
-    );
+    check!(rt; none.peek_by_hash(7, move |key, _| *key == asked).is_none());
     none.retain(move |key, _| *key == kept);
-    expect(&rt, live(&lives) == (0, 0));
+    check!(rt; live(&lives) == (0, 0));
 }

@@ -1,10 +1,9 @@
 //! Memory that is given back. All other memory is taken, so calls that lose a block run out of memory before long.
-use crate::expect;
 use map_helpers::{insert, insert_all, map_of, remove_all, reserve, shrink};
 use schnellru::{ByMemoryUsage, LruMap, Storing, UnlimitedCompact};
 use std::alloc::{AllocError, Global};
 use std::test::Fail;
-use test_helpers::{Hog, LastByte, OF_HASH_28, Within};
+use test_helpers::{Hog, LastByte, OF_HASH_28, Within, check};
 
 /// The only memory that is left. A cycle of calls that loses 16 bytes uses it up within the cycles.
 const SPARE: usize = 1 << 16;
@@ -79,7 +78,7 @@ fn calls_give_their_memory_back(rt: HostRuntime) -> Result<(), Fail> {
         made = made.wrapping_add(is_made as u32);
     }
     drop(hog);
-    expect(&rt, made == CYCLES);
+    check!(rt; made == CYCLES);
     Ok(())
 }
 
@@ -93,7 +92,7 @@ fn calls_on_large_maps_give_their_memory_back(rt: HostRuntime) -> Result<(), Fai
         made = made.wrapping_add(grown_and_shrunk(&mut map, 400).is_some() as u32);
     }
     drop(hog);
-    expect(&rt, made == LARGE_CYCLES);
+    check!(rt; made == LARGE_CYCLES);
     Ok(())
 }
 
@@ -134,6 +133,6 @@ fn a_new_map_takes_no_memory(rt: HostRuntime) -> Result<(), Fail> {
         ),
     ];
     drop(hog);
-    expect(&rt, left == [true; 7]);
+    check!(rt; left == [true; 7]);
     Ok(())
 }

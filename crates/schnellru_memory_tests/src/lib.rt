@@ -18,10 +18,3 @@ mod no_memory;
 mod refused;
 #[cfg(test)]
 mod retains;
-
-/// Ends a test if the condition is false. It is proved in a seventh of the time of an `assert!`, but the output names
-/// the test alone and not the line.
-#[cfg(test)]
-fn expect(rt: &impl std::process::Abort, holds: bool) {
-    assert!(rt; holds);
-}

@@ -1,9 +1,8 @@
 //! Calls that take no memory succeed while none is left. No clause says that memory is there, or how much a call takes.
-use crate::expect;
 use map_helpers::{figures, get, insert, insert_all, map_of, remove_all, reserve, shrink};
 use schnellru::{LruMap, ReserveError, Storing, UnlimitedCompact, Updated};
 use std::test::Fail;
-use test_helpers::{Hog, LastByte, Within};
+use test_helpers::{Hog, LastByte, Within, check};
 
 type Map = LruMap<u64, u64, UnlimitedCompact>;
 
@@ -38,7 +37,7 @@ fn calls_that_take_no_memory(rt: HostRuntime) -> Result<(), Fail> {
     let succeed = succeed_without_memory(&mut map) && is_refused_and_given_back(&mut map);
     let all = hog.took_all();
     drop(hog);
-    expect(&rt, succeed || !all);
+    check!(rt; succeed || !all);
     Ok(())
 }
 
@@ -52,9 +51,6 @@ fn a_rehash_of_no_pairs_takes_no_memory(rt: HostRuntime) -> Result<(), Fail> {
     let hog = Hog::new(rt.alloc(), &[])?;
     let (refused, rehashed) = (reserve(&mut map, 29), reserve(&mut map, 14));
     drop(hog);
-    expect(
-        &rt,
-        (refused, rehashed, figures(&map)) == (Err(ReserveError::Refused), Ok(()), (0, 28, 560)),
-    );
+    check!(rt; (refused, rehashed, figures(&map)) == (Err(ReserveError::Refused), Ok(()), (0, 28, 560)));
     Ok(())
 }

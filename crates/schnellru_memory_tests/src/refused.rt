@@ -1,6 +1,5 @@
 //! Calls whose requests for memory are refused in turn, until one is met. No clause says that memory is there, or how
 //! much a call takes. What a refused call leaves is a clause; these tests show it for each request.
-use crate::expect;
 use map_helpers::{
     Texts, counts_down, figures, has_keys, insert, insert_all, is_list, map_of, remove_all, report,
     shrink, texts_of, three_costs,
@@ -9,7 +8,7 @@ use schnellru::{GetOrInsertError, LruMap, ReserveError, Storing};
 use std::alloc::{AllocError, Global};
 use std::hash::BuildHasher;
 use std::test::Fail;
-use test_helpers::{Hog, InsertKey, LastByte, OF_HASH_28, Within};
+use test_helpers::{Hog, InsertKey, LastByte, OF_HASH_28, Within, check};
 
 /// The bytes of a first table of 4 buckets with entries of 24 bytes: its entries, and its control bytes with 16 more.
 const FIRST_TABLE: [usize; 2] = [96, 20];
@@ -148,9 +147,9 @@ fn inserts_of_many_pairs(rt: HostRuntime) -> Result<(), Fail> {
     for call in INSERTS {
         let mut map = map_of(rt.alloc(), Storing(Within::new(usize::MAX)));
         for key in 0..100_000u64 {
-            expect(&rt, !is_refused(&mut map, call, (key, key)));
+            check!(rt; !is_refused(&mut map, call, (key, key)));
         }
-        expect(&rt, map.len() == 100_000);
+        check!(rt; map.len() == 100_000);
     }
     Ok(())
 }
@@ -291,10 +290,7 @@ fn an_account_in_a_growth(rt: HostRuntime) -> Result<(), Fail> {
     let all = hog.took_all();
     drop(hog);
     let refused = (true, true, 6);
-    expect(
-        &rt,
-        !all || found == [refused, refused, refused, (false, false, 10)],
-    );
+    check!(rt; !all || found == [refused, refused, refused, (false, false, 10)]);
     Ok(())
 }
 
@@ -323,10 +319,7 @@ fn keys_that_are_made(rt: HostRuntime) -> Result<(), Fail> {
         (true, true, 6),
         (false, false, 7),
     ];
-    expect(
-        &rt,
-        !all || (found == expected && has_keys(&map, &["9", "3", "2", "1"])),
-    );
+    check!(rt; !all || (found == expected && has_keys(&map, &["9", "3", "2", "1"])));
     Ok(())
 }
 
@@ -350,10 +343,7 @@ fn copies(rt: HostRuntime) -> Result<(), Fail> {
     }
     let all = hog.took_all();
     drop(hog);
-    expect(
-        &rt,
-        !all || made == [false, false, false, false, false, true],
-    );
-    expect(&rt, has_keys(&map, &["3", "2", "1"]));
+    check!(rt; !all || made == [false, false, false, false, false, true]);
+    check!(rt; has_keys(&map, &["3", "2", "1"]));
     Ok(())
 }

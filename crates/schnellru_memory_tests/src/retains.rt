@@ -1,10 +1,10 @@
 //! `retain` and `set_limiter_with`: the examples of the docs, the order of the calls of a closure, and drops.
 use super::live::Lives;
-use crate::expect;
 use map_helpers::{insert_all, is_list, map_of};
 use schnellru::{ByLength, LruMap, Unlimited};
 use std::alloc::{AllocError, Global};
 use std::test::Fail;
+use test_helpers::check;
 
 fn three(alloc: Global) -> Result<LruMap<u64, u64>, AllocError> {
     let mut map = map_of(alloc, ByLength::new(3));
@@ -16,21 +16,21 @@ fn three(alloc: Global) -> Result<LruMap<u64, u64>, AllocError> {
 fn of_retains(rt: HostRuntime) -> Result<(), Fail> {
     let mut map = three(rt.alloc())?;
     map.retain(|_, value| *value > 10);
-    expect(&rt, map.len() == 2 && !map.contains(&1));
+    check!(rt; map.len() == 2 && !map.contains(&1));
     let mut removed = 0u64;
     map.retain_with(
         |key, _| *key != 2,
         &mut |key, _| removed = removed.wrapping_add(key),
     );
-    expect(&rt, removed == 2);
-    expect(&rt, is_list(&map, &[(3, 30)]));
+    check!(rt; removed == 2);
+    check!(rt; is_list(&map, &[(3, 30)]));
     let mut map = three(rt.alloc())?;
     let mut evicted = 0u64;
     map.set_limiter_with(
         ByLength::new(1),
         &mut |key, _| evicted = evicted.wrapping_add(key),
     );
-    expect(&rt, evicted == 3);
+    check!(rt; evicted == 3);
     Ok(())
 }
 
@@ -38,20 +38,20 @@ fn of_retains(rt: HostRuntime) -> Result<(), Fail> {
 #[test]
 fn entries_are_asked_in_order(rt: HostRuntime) -> Result<(), Fail> {
     let mut map = map_of(rt.alloc(), Unlimited);
-    expect(&rt, insert_all(&mut map, 1..=100_000)? == 100_000);
+    check!(rt; insert_all(&mut map, 1..=100_000)? == 100_000);
     let (mut asked, mut in_order) = (0u64, true);
     map.retain(|key, _| {
         asked = asked.wrapping_add(1);
         in_order = in_order && *key == asked;
         *key % 3 == 0
     });
-    expect(&rt, (asked, in_order, map.len()) == (100_000, true, 33_333));
+    check!(rt; (asked, in_order, map.len()) == (100_000, true, 33_333));
     let mut expected = 99_999u64;
     for (key, _) in map.iter() {
         in_order = in_order && *key == expected;
         expected = expected.wrapping_sub(3);
     }
-    expect(&rt, in_order);
+    check!(rt; in_order);
     Ok(())
 }
 
@@ -68,14 +68,8 @@ fn what_a_retain_removes_is_dropped(rt: HostRuntime) -> Result<(), Fail> {
         turn = !turn;
         turn
     });
-    expect(
-        &rt,
-        (map.len(), lives.keys.get(), lives.values.get()) == (10_000, 10_000, 10_000),
-    );
+    check!(rt; (map.len(), lives.keys.get(), lives.values.get()) == (10_000, 10_000, 10_000));
     map.retain_with(|_, _| false, &mut |key, value| drop((key, value)));
-    expect(
-        &rt,
-        (map.len(), lives.keys.get(), lives.values.get()) == (0, 0, 0),
-    );
+    check!(rt; (map.len(), lives.keys.get(), lives.values.get()) == (0, 0, 0));
     Ok(())
 }

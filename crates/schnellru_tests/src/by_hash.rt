@@ -1,10 +1,9 @@
 //! Searches by a hash, with closures that count: a search calls its closure no more after it has its answer.
-use crate::expect;
 use map_helpers::{insert_all, is_list};
 use schnellru::{LruMap, UnlimitedCompact};
 use std::cell::Cell;
 use std::test::Fail;
-use test_helpers::LastByte;
+use test_helpers::{LastByte, check};
 
 /// Counts a question, and returns whether it is the one with this number.
 fn is_question(asked: &Cell<u64>, number: u64) -> bool {
@@ -24,14 +23,11 @@ fn a_search_ends_with_its_answer(rt: HostRuntime) -> Result<(), Fail> {
         let found = map
             .peek_by_hash(0, |_, _| is_question(&asked, number))
             .copied();
-        expect(&rt, (found, asked.get()) == (value, questions));
+        check!(rt; (found, asked.get()) == (value, questions));
     }
     asked.set(0);
-    expect(
-        &rt,
-        map.get_by_hash(0, |_, _| is_question(&asked, 2)).is_some(),
-    );
-    expect(&rt, asked.get() == 2);
-    expect(&rt, is_list(&map, &[(2, 20), (3, 30), (1, 10)]));
+    check!(rt; map.get_by_hash(0, |_, _| is_question(&asked, 2)).is_some());
+    check!(rt; asked.get() == 2);
+    check!(rt; is_list(&map, &[(2, 20), (3, 30), (1, 10)]));
     Ok(())
 }

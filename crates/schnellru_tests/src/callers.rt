@@ -8,13 +8,13 @@ ghost use Rattle.schnellru.specs.HandedOver.{Takes};
 ghost use Rattle.schnellru.specs.Kept.{KeepsToLength};
 ghost use Rattle.schnellru.specs.Theorems.{IsSummed, KeepsValues};
 
-use crate::expect;
 use schnellru::{
     ByCost, ByLength, Insertion, LruMap, RandomState, ReserveError, Summing, UnlimitedCompact, laws,
 };
 use std::alloc::{AllocError, Global};
 use std::hash::Hash;
 use std::test::Fail;
+use test_helpers::check;
 
 /// Puts a value under a key, and returns whether the key is there then. If it is, a look-up returns the value.
 fn put(map: &mut LruMap<u64, u64>, key: u64, value: u64) -> Result<bool, AllocError>
@@ -167,12 +167,12 @@ fn put_newest(map: &mut LruMap<u64, u64>, key: u64, value: u64) -> Result<bool, 
 #[test]
 fn what_is_put_is_found(rt: HostRuntime) -> Result<(), Fail> {
     let mut map = LruMap::new(rt.alloc(), ByLength::new(2), [1, 2, 3, 4], 16);
-    expect(&rt, put(&mut map, 1, 10)?);
-    expect(&rt, put_any(&mut map, 1, 15)?);
-    expect(&rt, overwrite(&mut map, 1, 20));
-    expect(&rt, !overwrite(&mut map, 2, 20));
-    expect(&rt, touch(&mut map, 1) && !touch(&mut map, 2));
-    expect(&rt, map.peek(&1).copied() == Some(20));
+    check!(rt; put(&mut map, 1, 10)?);
+    check!(rt; put_any(&mut map, 1, 15)?);
+    check!(rt; overwrite(&mut map, 1, 20));
+    check!(rt; !overwrite(&mut map, 2, 20));
+    check!(rt; touch(&mut map, 1) && !touch(&mut map, 2));
+    check!(rt; map.peek(&1).copied() == Some(20));
     Ok(())
 }
 
@@ -180,45 +180,42 @@ fn what_is_put_is_found(rt: HostRuntime) -> Result<(), Fail> {
 fn answers_are_remembered(rt: HostRuntime) -> Result<(), Fail> {
     let square = |n: u64| n.wrapping_mul(n);
     let mut squares = LruMap::new(rt.alloc(), ByLength::new(2), [1, 2, 3, 4], 16);
-    expect(&rt, memo(&mut squares, square, 3)? == 9);
-    expect(&rt, memo(&mut squares, square, 4)? == 16);
-    expect(&rt, memo(&mut squares, square, 3)? == 9);
+    check!(rt; memo(&mut squares, square, 3)? == 9);
+    check!(rt; memo(&mut squares, square, 4)? == 16);
+    check!(rt; memo(&mut squares, square, 3)? == 9);
     Ok(())
 }
 
 #[test]
 fn the_length_is_kept(rt: HostRuntime) -> Result<(), Fail> {
     let mut map = LruMap::new(rt.alloc(), ByLength::new(1), [1, 2, 3, 4], 16);
-    expect(&rt, put_within(&mut map, 1, 10)?);
+    check!(rt; put_within(&mut map, 1, 10)?);
     Ok(())
 }
 
 #[test]
 fn the_sum_is_kept(rt: HostRuntime) -> Result<(), Fail> {
     let mut map = LruMap::new(rt.alloc(), ByCost::new(10), [1, 2, 3, 4], 16);
-    expect(&rt, exchange(&mut map, 1, 2, 7)?);
-    expect(&rt, exchange(&mut map, 2, 3, 9)?);
-    expect(&rt, map.limiter().cost() == 9);
+    check!(rt; exchange(&mut map, 1, 2, 7)?);
+    check!(rt; exchange(&mut map, 2, 3, 9)?);
+    check!(rt; map.limiter().cost() == 9);
     Ok(())
 }
 
 #[test]
 fn pairs_are_kept(rt: HostRuntime) -> Result<(), Fail> {
     let mut map = map_of_length(rt.alloc(), 2);
-    expect(&rt, put_newest(&mut map, 1, 10)?);
-    expect(&rt, put_newest(&mut map, 2, 20)?);
+    check!(rt; put_newest(&mut map, 1, 10)?);
+    check!(rt; put_newest(&mut map, 2, 20)?);
     let mut shown = 0u64;
-    expect(
-        &rt,
-        put_and_show(&mut map, 3, 30, &mut |key: u64, _: u64| shown = key)?,
-    );
-    expect(&rt, (shown, map.len()) == (1, 2));
+    check!(rt; put_and_show(&mut map, 3, 30, &mut |key: u64, _: u64| shown = key)?);
+    check!(rt; (shown, map.len()) == (1, 2));
     Ok(())
 }
 
 #[test]
 fn all_pairs_are_kept(rt: HostRuntime) -> Result<(), Fail> {
     let mut map = LruMap::new(rt.alloc(), UnlimitedCompact, [1, 2, 3, 4], 24);
-    expect(&rt, put_and_keep_all(&mut map, 1, 10) == Ok(()));
+    check!(rt; put_and_keep_all(&mut map, 1, 10) == Ok(()));
     Ok(())
 }

@@ -2,14 +2,13 @@
 ghost use Rattle.std.specs.Prelude.{◌≡◌};
 ghost use Rattle.lru_limits.specs.Limiters.{no_rules};
 
-use crate::expect;
 use map_helpers::{get, insert, insert_all, peek, report};
 use schnellru::{Limiter, LruMap, Storing, UnlimitedCompact, Updated};
 use std::alloc::{AllocError, Global};
 use std::cell::Cell;
 use std::rc::Rc;
 use std::test::Fail;
-use test_helpers::{Counted, Sum};
+use test_helpers::{Counted, Sum, check};
 
 type Map<'a> = LruMap<u64, u64, UnlimitedCompact, Counted<'a, Sum>>;
 
@@ -43,7 +42,7 @@ fn a_hasher_is_built_for_each_key_that_moves(rt: HostRuntime) -> Result<(), Fail
             map.remove(&key.wrapping_sub(40));
         }
     }
-    expect(&rt, moved_without_growth > 0);
+    check!(rt; moved_without_growth > 0);
     Ok(())
 }
 
@@ -68,7 +67,7 @@ fn a_call_hashes_its_key_once(rt: HostRuntime) -> Result<(), Fail> {
         map.update(6, 0) == Updated::Replaced(60),
         map.get_key_value(&6).is_some(),
     ];
-    expect(&rt, (is_found, builds.get()) == ([true; 13], 13));
+    check!(rt; (is_found, builds.get()) == ([true; 13], 13));
     Ok(())
 }
 
@@ -147,13 +146,10 @@ fn a_clear_is_reported_last(rt: HostRuntime) -> Result<(), Fail> {
     let other = value.clone()?;
     let is_there = map.ensure_newest(1, move || other) == Ok(true);
     let is_removed = map.remove(&2).is_some();
-    expect(
-        &rt,
-        (are_stored, is_there, is_removed, asked.get()) == (true, true, true, 3),
-    );
+    check!(rt; (are_stored, is_there, is_removed, asked.get()) == (true, true, true, 3));
     map.trim();
     map.clear();
     map.trim();
-    expect(&rt, (lives.get(), asked.get()) == (1, 4));
+    check!(rt; (lives.get(), asked.get()) == (1, 4));
     Ok(())
 }

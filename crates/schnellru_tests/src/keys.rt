@@ -1,20 +1,16 @@
 //! `String` keys: looked up by texts, and made of texts when they are stored. How often the limiter makes a key, no
 //! contract of the map says.
-use crate::expect;
 use map_helpers::{Texts, has_keys, texts_of};
 use schnellru::LruMap;
 use std::alloc::{AllocError, Global};
 use std::test::Fail;
-use test_helpers::{Counting, InsertKey};
+use test_helpers::{Counting, InsertKey, check};
 
 #[test]
 fn a_text_becomes_a_key_once(rt: HostRuntime) -> Result<(), Fail> {
     let map = texts_of(rt.alloc(), &["1", "2", "1"])?;
-    expect(&rt, has_keys(&map, &["1", "2"]));
-    expect(
-        &rt,
-        (map.limiter().inserts, map.limiter().replacements) == (2, 1),
-    );
+    check!(rt; has_keys(&map, &["1", "2"]));
+    check!(rt; (map.limiter().inserts, map.limiter().replacements) == (2, 1));
     Ok(())
 }
 
@@ -36,8 +32,8 @@ fn look_ups_by_texts(rt: HostRuntime) -> Result<(), Fail> {
         map.remove(&"3").is_some(),
         map.remove(&"7").is_some(),
     ];
-    expect(&rt, found == [true, true, true, false]);
-    expect(&rt, has_keys(&map, &["2", "1"]));
+    check!(rt; found == [true, true, true, false]);
+    check!(rt; has_keys(&map, &["2", "1"]));
     Ok(())
 }
 
@@ -46,12 +42,9 @@ fn gets_that_insert_strings(rt: HostRuntime) -> Result<(), Fail> {
     let mut map = strings_of(rt.alloc(), &["1", "2", "3"])?;
     for (text, value, lent) in [("2", 20, 1), ("4", 40, 40)] {
         let key = String::from_str(rt.alloc(), text)?;
-        expect(
-            &rt,
-            map.get_or_insert(key, || value)?.copied() == Some(lent),
-        );
+        check!(rt; map.get_or_insert(key, || value)?.copied() == Some(lent));
     }
-    expect(&rt, has_keys(&map, &["4", "2", "3", "1"]));
+    check!(rt; has_keys(&map, &["4", "2", "3", "1"]));
     Ok(())
 }
 
@@ -60,15 +53,9 @@ fn gets_that_insert_texts(rt: HostRuntime) -> Result<(), Fail> {
     let mut map = strings_of(rt.alloc(), &["1", "2", "3"])?;
     for (text, value, lent) in [("2", 20, 1), ("6", 6, 6)] {
         let key = InsertKey(text);
-        expect(
-            &rt,
-            map.get_or_insert(key, || value)?.copied() == Some(lent),
-        );
+        check!(rt; map.get_or_insert(key, || value)?.copied() == Some(lent));
     }
-    expect(&rt, has_keys(&map, &["6", "2", "3", "1"]));
-    expect(
-        &rt,
-        (map.limiter().inserts, map.limiter().replacements) == (1, 0),
-    );
+    check!(rt; has_keys(&map, &["6", "2", "3", "1"]));
+    check!(rt; (map.limiter().inserts, map.limiter().replacements) == (1, 0));
     Ok(())
 }

@@ -25,10 +25,3 @@ mod texts;
 mod updates;
 #[cfg(test)]
 mod walks;
-
-/// Ends a test if the condition is false. It is proved in a seventh of the time of an `assert!`, but the output names
-/// the test alone and not the line.
-#[cfg(test)]
-fn expect(rt: &impl std::process::Abort, holds: bool) {
-    assert!(rt; holds);
-}

@@ -1,21 +1,18 @@
 //! Keys and values of no bytes and of 4 KiB, and maps of many pairs. The contracts hold for every type and size. These
 //! tests show that such values are laid out and copied well, and that no call fails above some size.
-use crate::expect;
 use map_helpers::{figures, insert_all, map_of, peek, remove_all, report, reserve, shrink};
 use schnellru::{ByCost, Insertion, LruMap, UnlimitedCompact};
 use std::alloc::Global;
 use std::test::Fail;
+use test_helpers::check;
 
 #[test]
 fn keys_of_no_bytes(rt: HostRuntime) -> Result<(), Fail> {
     let mut map: LruMap<(), u64, UnlimitedCompact> = LruMap::default(rt.alloc());
     for n in 1..=5u64 {
-        expect(&rt, map.insert((), n)?);
+        check!(rt; map.insert((), n)?);
     }
-    expect(
-        &rt,
-        (map.len(), map.remove(&()), map.pop_oldest()) == (1, Some(5), None),
-    );
+    check!(rt; (map.len(), map.remove(&()), map.pop_oldest()) == (1, Some(5), None));
     Ok(())
 }
 
@@ -28,25 +25,19 @@ fn values_of_no_bytes(rt: HostRuntime) -> Result<(), Fail> {
         0,
     );
     for n in 1..=7u64 {
-        expect(&rt, map.insert(n, ())?);
+        check!(rt; map.insert(n, ())?);
     }
-    expect(&rt, (figures(&map), report(&map)) == ((7, 7, 24), (3, 7)));
-    expect(
-        &rt,
-        (map.promote(&1), map.pop_oldest(), map.pop_newest())
-            == (true, Some((2, ())), Some((1, ()))),
-    );
+    check!(rt; (figures(&map), report(&map)) == ((7, 7, 24), (3, 7)));
+    check!(rt; (map.promote(&1), map.pop_oldest(), map.pop_newest())
+            == (true, Some((2, ())), Some((1, ()))));
     Ok(())
 }
 
 #[test]
 fn pairs_of_no_bytes(rt: HostRuntime) -> Result<(), Fail> {
     let mut map: LruMap<(), (), UnlimitedCompact> = LruMap::default(rt.alloc());
-    expect(&rt, map.insert((), ())? && map.insert((), ())?);
-    expect(
-        &rt,
-        (map.iter().len(), map.drain().next()) == (1, Some(((), ()))),
-    );
+    check!(rt; map.insert((), ())? && map.insert((), ())?);
+    check!(rt; (map.iter().len(), map.drain().next()) == (1, Some(((), ()))));
     Ok(())
 }
 
@@ -71,15 +62,12 @@ fn keys_and_values_of_4_kib(rt: HostRuntime) -> Result<(), Fail> {
         8208,
     );
     for n in 1..=15u8 {
-        expect(&rt, map.insert(page(n), page(n.wrapping_add(100)))?);
+        check!(rt; map.insert(page(n), page(n.wrapping_add(100)))?);
     }
-    expect(&rt, (map.len(), report(&map)) == (15, (24, 15)));
-    expect(
-        &rt,
-        (1..=15u8).all(|n| has_page(&map, n)) && !has_page(&map, 16),
-    );
-    expect(&rt, map.remove(&page(7)) == Some(page(107)));
-    expect(&rt, map.pop_oldest() == Some((page(1), page(101))));
+    check!(rt; (map.len(), report(&map)) == (15, (24, 15)));
+    check!(rt; (1..=15u8).all(|n| has_page(&map, n)) && !has_page(&map, 16));
+    check!(rt; map.remove(&page(7)) == Some(page(107)));
+    check!(rt; map.pop_oldest() == Some((page(1), page(101))));
     Ok(())
 }
 
@@ -123,13 +111,7 @@ fn capacities<L: Insertion<u64, u64, u64> + Clone + Drop>(
 #[test]
 fn many_pairs(rt: HostRuntime) {
     let narrow = capacities(rt.alloc(), UnlimitedCompact, 917_504);
-    expect(
-        &rt,
-        narrow == Some([917_504, 1_835_008, 1_376_256, 458_752, 1_835_008, 458_751]),
-    );
+    check!(rt; narrow == Some([917_504, 1_835_008, 1_376_256, 458_752, 1_835_008, 458_751]));
     let wide = capacities(rt.alloc(), ByCost::new(u64::MAX), 114_688);
-    expect(
-        &rt,
-        wide == Some([114_688, 229_376, 172_032, 57_344, 229_376, 57_343]),
-    );
+    check!(rt; wide == Some([114_688, 229_376, 172_032, 57_344, 229_376, 57_343]));
 }

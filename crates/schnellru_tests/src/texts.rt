@@ -1,18 +1,15 @@
 //! Printed texts, and the numbers of the refusals.
-use crate::expect;
 use map_helpers::{insert_all, map_of};
 use schnellru::{GetOrInsertError, RandomState, ReserveError, UnlimitedCompact};
 use std::test::Fail;
+use test_helpers::check;
 
 #[test]
 fn debug(rt: HostRuntime) -> Result<(), Fail> {
     let mut map = map_of(rt.alloc(), UnlimitedCompact);
     insert_all(&mut map, 1..=3)?;
     let text = format!(in rt.alloc(); "{map:?} {:?}", RandomState::default())?;
-    expect(
-        &rt,
-        text.as_str() == "LruMap { len: 3, .. } RandomState { .. }",
-    );
+    check!(rt; text.as_str() == "LruMap { len: 3, .. } RandomState { .. }");
     Ok(())
 }
 
@@ -23,10 +20,7 @@ fn refusals(rt: HostRuntime) -> Result<(), Fail> {
     let failed: GetOrInsertError<u8> = GetOrInsertError::Caller(1);
     let memory: GetOrInsertError<u8> = GetOrInsertError::Memory;
     let text = format!(in rt.alloc(); "{large}, {refused}, {none}; {failed}, {memory}")?;
-    expect(
-        &rt,
-        text.as_str() == "too large, refused, no memory; the closure failed, no memory",
-    );
-    expect(&rt, [large as u8, refused as u8, none as u8] == [1, 2, 3]);
+    check!(rt; text.as_str() == "too large, refused, no memory; the closure failed, no memory");
+    check!(rt; [large as u8, refused as u8, none as u8] == [1, 2, 3]);
     Ok(())
 }

@@ -1,9 +1,9 @@
 //! Walks that write, and walks that are forgotten.
-use crate::expect;
 use map_helpers::{get, is_list, map_of, three_costs};
 use schnellru::{LruMap, UnlimitedCompact};
 use std::mem::forget;
 use std::test::Fail;
+use test_helpers::check;
 
 type Map = LruMap<u64, u64, UnlimitedCompact>;
 
@@ -26,17 +26,17 @@ fn iter_mut_works(rt: HostRuntime) -> Result<(), Fail> {
         map.insert(key, value)?;
     }
     double_even(&mut map);
-    expect(&rt, get(&mut map, 2) == Some(6));
-    expect(&rt, is_list(&map, &[(2, 6), (1, 2), (0, 2)]));
-    expect(&rt, get(&mut map, 0) == Some(2));
-    expect(&rt, is_list(&map, &[(0, 2), (2, 6), (1, 2)]));
+    check!(rt; get(&mut map, 2) == Some(6));
+    check!(rt; is_list(&map, &[(2, 6), (1, 2), (0, 2)]));
+    check!(rt; get(&mut map, 0) == Some(2));
+    check!(rt; is_list(&map, &[(0, 2), (2, 6), (1, 2)]));
     let mut walk = map.iter_mut();
     if let Some((key, value)) = walk.next_back() {
         *value = key.wrapping_add(100);
     }
-    expect(&rt, walk.len() == 2);
+    check!(rt; walk.len() == 2);
     drop(walk);
-    expect(&rt, is_list(&map, &[(0, 2), (2, 6), (1, 101)]));
+    check!(rt; is_list(&map, &[(0, 2), (2, 6), (1, 101)]));
     Ok(())
 }
 
@@ -52,17 +52,14 @@ fn walks_that_do_not_end(rt: HostRuntime) -> Result<(), Fail> {
     }
     forget(walk);
     forget(map.iter());
-    expect(&rt, is_list(&map, &[(3, 3), (2, 2), (1, 100)]));
+    check!(rt; is_list(&map, &[(3, 3), (2, 2), (1, 100)]));
     let mut drain = map.drain();
-    expect(&rt, (drain.next(), drain.len()) == (Some((3, 3)), 2));
+    check!(rt; (drain.next(), drain.len()) == (Some((3, 3)), 2));
     forget(drain);
-    expect(&rt, is_list(&map, &[(2, 2), (1, 100)]));
-    expect(&rt, map.limiter().cost() == 3);
-    expect(
-        &rt,
-        map.insert(4, 4)? && is_list(&map, &[(4, 4), (2, 2), (1, 100)]),
-    );
+    check!(rt; is_list(&map, &[(2, 2), (1, 100)]));
+    check!(rt; map.limiter().cost() == 3);
+    check!(rt; map.insert(4, 4)? && is_list(&map, &[(4, 4), (2, 2), (1, 100)]));
     drop(map.drain());
-    expect(&rt, (map.len(), map.limiter().cost()) == (0, 0));
+    check!(rt; (map.len(), map.limiter().cost()) == (0, 0));
     Ok(())
 }
