@@ -1,6 +1,6 @@
 //! Groups of sixteen control bytes, and masks of their lanes: bit i is lane i.
 ghost use Rattle.std.specs.Prelude.{◌≡◌, ◌≢◌, ◌≤◌, ◌<◌, ◌+◌, ◌-◌, ◌↔◌, ℕ, length, slice_index};
-ghost use Rattle.group_table.specs.Bytes.{empty_byte, IsFreeByte};
+ghost use Rattle.group_table.specs.Bytes.{empty_byte, IsTag, IsFreeByte};
 ghost use Rattle.group_table.specs.Lanes.{IsMaskOf, IsMaskAt, HasLane, lowest};
 
 use crate::control::{DELETED, EMPTY};
@@ -96,6 +96,16 @@ impl Group {
         ensures { IsMaskOf IsFreeByte self.now.lanes result }
     {
         match_free(&self.lanes)
+    }
+
+    // Returns the lanes of full buckets.
+    #[inline]
+    pub(crate) fn match_full(&self) -> u16
+        ensures { IsMaskOf IsTag self.now.lanes result }
+    {
+        u8x16::from_array(self.lanes)
+            .simd_lt(u8x16::splat(DELETED))
+            .to_bitmask() as u16
     }
 }
 
