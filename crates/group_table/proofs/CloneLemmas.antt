@@ -1,7 +1,7 @@
 -- A copy of a table has the marks, the counts and the fitting hashes of the table.
 use Rattle.std.proofs.Common.{◌≡◌, ℕ, zero, suc, ◌<◌, List, [], ◌∷◌, length, get_or}
-use Rattle.std.proofs.Common.{Option, Some, None, Result, refl, ap, sym, ◌∙◌}
-use Rattle.std.proofs.Common.{arith, count_by, cond, nat_eq, true, false, Bool}
+use Rattle.std.proofs.Common.{Option, Some, None, Result, refl, ap, sym, ◌∙◌, subst}
+use Rattle.std.proofs.Common.{arith, count_by, cond, nat_eq, true, false, Bool, replicate}
 use Rattle.std.specs.List.{AllZip}
 use Rattle.std.proofs.lemmas.List.Elements.{length_all_zip, AllZip-get_or}
 use Rattle.std.specs.declared.alloc.AllocError.{AllocError}
@@ -26,6 +26,17 @@ module _ {T F : Type 0} (closure : Shared F (Bor T × Unit {0}) (Result T AllocE
       → IsCopyOf closure f (slot_of byte x) (slot_of byte y)
   slot_copy byte None y h = rw h (free_copy (nat_eq byte 128))
   slot_copy byte (Some entry) y h = (h.0, h.1, ap (slot_of byte) h.2)
+
+  -- without entries no place holds one
+  pub none_at : (n b : ℕ) → get_or {A = Option T} (replicate n None) b None ≡ None
+  none_at zero b = refl
+  none_at (suc n) zero = refl
+  none_at (suc n) (suc b) = none_at n b
+
+  -- the byte of a place agrees with its copy
+  pub copy_agrees : (byte : ℕ) (x y : Option T) → IsPlaceCopy closure f x y → Agrees byte x → Agrees byte y
+  copy_agrees byte None y h agrees = subst (Agrees byte) (sym h) agrees
+  copy_agrees byte (Some entry) y h agrees = subst (Agrees byte) (sym h.2) agrees
 
   -- place by place
   pub place_copies : (xs ys : List (Option T)) → length ys ≡ length xs

@@ -4,6 +4,7 @@ use Rattle.std.proofs.Common.{ap, arith, inl, inr, nat_lt, nat_eq, cond, sym, �
 use Rattle.std.proofs.lemmas.Bool.{lt-ltb, false≢true}
 use Rattle.group_table.specs.Bucket.{Tagged, empty, deleted, full, bucket_at, is_full, IsFull, entry_of, entry_at}
 use Rattle.group_table.specs.Bucket.{mark_of}
+use Rattle.group_table.specs.Control.{buckets_of}
 use Rattle.group_table.specs.Sizes.{IsPowerFromFour}
 use Rattle.group_table.specs.Layout.{slot_of, slots_of, marks_by, IsLaidOut, Agrees}
 use Rattle.group_table.proofs.BucketLemmas.{empty_not_deleted, full_lt, bucket_at-marks_of, length-marks_of, empty_mark}
@@ -39,6 +40,14 @@ module _ {T : Type 0} where
   some_by byte (Some entry) a below = refl
   some_by byte None (inl e) below = absurd (omega arith)
   some_by byte None (inr e) below = absurd (omega arith)
+
+  -- a bucket for each place
+  pub buckets_of-laid_out : (control : List ℕ) (entries : List (Option T)) → IsLaidOut control entries
+      → buckets_of control ≡ length entries
+  buckets_of-laid_out control entries laid_out = elim laid_out.counts [
+    | inl none ↦ omega (arith, none.0, none.1)
+    | inr some ↦ omega (arith, some.1)
+  ]
 
   pub none_by : (byte : ℕ) (place : Option T) → Agrees byte place → 128 ≤ byte → place ≡ None
   none_by byte (Some entry) a from = absurd (omega arith)

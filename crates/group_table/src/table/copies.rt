@@ -7,7 +7,7 @@ ghost use Rattle.group_table.specs.Table.{IsTable};
 ghost use Rattle.group_table.specs.Fits.{Fits};
 ghost use Rattle.group_table.specs.Copies.{Copies, IsPlaceCopy};
 
-use crate::control::{Control, DELETED};
+use crate::control::Control;
 use crate::entries::Entries;
 use crate::fields::drop_first;
 use crate::table::Table;
@@ -65,17 +65,17 @@ fn copy_entries<T: Drop, F: Fn(&T) -> Result<T, AllocError>>(
 {
     let count = control.buckets();
     let mut copies = Entries::with_places(entries.allocator(), count)?;
-    for b in 0..count {
-        if control.byte(b) < DELETED {
-            match f(entries.get(b)) {
-                Ok(copy) => copies.write(b, copy),
-                Err(error) => {
-                    drop_first(control, &mut copies, b);
-                    copies.free(count);
-                    return Err(error);
-                }
+    let mut b = control.next_full(0);
+    'entries: while b < count {
+        match f(entries.get(b)) {
+            Ok(copy) => copies.write(b, copy),
+            Err(error) => {
+                drop_first(control, &mut copies, b);
+                copies.free(count);
+                return Err(error);
             }
         }
+        b = control.next_full(b + 1);
     }
     Ok(copies)
 }

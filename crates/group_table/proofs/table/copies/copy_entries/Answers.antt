@@ -1,46 +1,71 @@
-use Rattle.std.proofs.Common.{◌≡◌, Some, None, refl, ◌∙◌, arith, length-set}
-use Rattle.std.proofs.lemmas.List.{get_or-set_same, get_or-set_other}
+use Rattle.std.proofs.Common.{◌≡◌, ℕ, Some, None, refl, ap, ◌∙◌, arith, length, length-set, get_or, replicate}
+use Rattle.std.proofs.lemmas.List.{length-replicate, get_or-set_same, get_or-set_other}
 use native.Mathlib.Decide.{dec_lt}
-use Rattle.group_table.proofs.CloneLemmas.{place_copies}
-use Rattle.group_table.proofs.LayoutLemmas.{none_by}
-use Rattle.group_table.proofs.table.copies.copy_entries.Goals.{then-byte-lt-DELETED+in-Ok, else-byte-lt-DELETED}
+use Rattle.group_table.proofs.CloneLemmas.{place_copies, copy_agrees, none_at}
+use Rattle.group_table.proofs.LayoutLemmas.{none_by, buckets_of-laid_out}
 use Rattle.group_table.proofs.table.copies.copy_entries.Goals as goal
 
-pub loop-b-preserved : goal.loop-b-preserved
-loop-b-preserved g c =
-    let at = c.loop-b in
+pub entries-init : goal.entries-init
+entries-init g c =
+    let next = c.next_full-b.ensures in
+    let many = buckets_of-laid_out _ _ c.requires.laid_out in
+    let count = c.buckets-count.result in
+    let made : c.in_ok-copies.copies ≡ replicate count None = c.in_ok-copies.ensures in
+    let none : (k : ℕ) → get_or c.in_ok-copies.copies k None ≡ None =
+    λ k. ap (λ l. get_or l k None) made ∙ none_at g.F.Fn c.args.f.now count k in
+    record {
+      same = ap length made ∙ length-replicate count None ∙ c.buckets-count.ensures ∙ many;
+      within = omega (arith, next.within, many);
+      full = λ p. next.full (omega (arith, p, many));
+      copied = λ k p.
+          let gone = none_by _ _ (c.requires.laid_out.agrees k (omega (arith, p, next.within, many)))
+          (next.between k (omega arith) p) in
+          rw gone (none k);
+      others = λ k p. none k;
+    }
+
+pub drop_first-requires-clause-told : goal.drop_first-requires-clause-told
+drop_first-requires-clause-told g c = λ b p.
+    let l = c.entries.invariant in
+    copy_agrees g.F.Fn c.args.f.now _ _ _ (l.copied b p)
+    (c.requires.laid_out.agrees b (omega (arith, p, l.within)))
+
+pub entries-preserved : goal.entries-preserved
+entries-preserved g c =
+    let at = c.entries in
     let l = at.invariant in
-    elim c.if-byte-lt-DELETED.branch [
-      | then-byte-lt-DELETED+in-Ok w ↦
-          rw (w.copies-is, w.write.ensures) record {
-            same = length-set _ _ _ ∙ l.same;
-            copied = λ k p. elim (dec_lt k at.b) [
-              | yes q ↦ rw (get_or-set_other at.copies at.b k (Some w.in-Ok.copy) None (omega arith)) (l.copied k q)
-              | no q ↦
-                  let here : k ≡ at.b = omega arith in
-                  let there = get_or-set_same at.copies at.b (Some w.in-Ok.copy) None (omega arith) in
-                  rw (here, w.get.ensures, there) (
-                    w.in-Ok.copy,
-                    record { shown = _; shows = refl; says = record { met = w.in-Ok.ensures } },
-                    refl,
-                  )
-            ];
-            others = λ k p. get_or-set_other _ _ k _ None (omega arith) ∙ l.others k (omega arith);
-          }
-      | else-byte-lt-DELETED w ↦
-          let gone = none_by _ _ (c.requires.laid_out.agrees at.b (omega arith)) (omega arith) in
-          rw w.copies-is record {
-            same = l.same;
-            copied = λ k p. elim (dec_lt k at.b) [
-              | yes q ↦ l.copied k q
-              | no q ↦
-                  let here : k ≡ at.b = omega arith in
-                  rw (here, gone) (l.others at.b (omega arith))
-            ];
-            others = λ k p. l.others k (omega arith);
-          }
-    ]
+    let next = c.next_full-b-in-entries.ensures in
+    let many = buckets_of-laid_out _ _ c.requires.laid_out in
+    rw c.write.ensures record {
+      same = length-set _ _ _ ∙ l.same;
+      within = omega (arith, next.within, many);
+      full = λ p. next.full (omega (arith, p, many));
+      copied = λ k p. elim (dec_lt k at.b) [
+        | yes before ↦ rw (get_or-set_other at.copies at.b k (Some c.in-Ok.copy) None (omega arith)) (l.copied k before)
+        | no from ↦ elim (dec_lt at.b k) [
+          | yes after ↦
+              let gone = none_by _ _ (c.requires.laid_out.agrees k (omega (arith, p, next.within, many)))
+              (next.between k (omega (arith, after)) p) in
+              rw gone (get_or-set_other at.copies at.b k (Some c.in-Ok.copy) None (omega (arith, after))
+              ∙ l.others k (omega (arith, after)))
+          | no upto ↦
+              let here : k ≡ at.b = omega (arith, from, upto) in
+              let there = get_or-set_same at.copies at.b (Some c.in-Ok.copy) None
+              (omega (arith, l.same, many, c.entries-test.true, c.buckets-count.ensures)) in
+              rw (here, c.get.ensures, there) (
+                c.in-Ok.copy,
+                record { shown = _; shows = refl; says = record { met = c.in-Ok.ensures } },
+                refl,
+              )
+        ]
+      ];
+      others = λ k p. get_or-set_other _ _ k _ None (omega (arith, p, next.bound)) ∙ l.others k
+          (omega (arith, p, next.bound));
+    }
 
 pub returns : goal.returns
-returns g c = place_copies g.F.Fn c.args.f.now _ _ c.loop-b.invariant.same
-    (λ k p. c.loop-b.invariant.copied k (omega arith))
+returns g c =
+    let l = c.entries.invariant in
+    let many = buckets_of-laid_out _ _ c.requires.laid_out in
+    place_copies g.F.Fn c.args.f.now _ _ l.same
+    (λ k p. l.copied k (omega (arith, p, many, c.entries-test.false, c.buckets-count.ensures)))
