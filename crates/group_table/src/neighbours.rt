@@ -2,7 +2,8 @@
 ghost use Rattle.std.specs.Prelude.{◌≡◌, ◌≢◌, ℕ, ◌+◌, ◌<◌, ◌≤◌, slice_index, MatchBool};
 ghost use Rattle.group_table.specs.Bytes.{empty_byte};
 ghost use Rattle.group_table.specs.Control.{buckets_of, HasEmptyByte, IsCircle};
-ghost use Rattle.group_table.specs.Group.{IsRunBefore, IsRunFrom, EmptyNeighbourBytes, HemmedInBytes};
+ghost use Rattle.group_table.specs.Neighbours.{HasEmptyNeighbours, IsHemmedIn};
+ghost use Rattle.group_table.specs.Group.{IsEmptyAt, IsRunBefore, IsRunFrom};
 
 use crate::control::Control;
 use crate::group::{lanes_above, lanes_below};
@@ -36,8 +37,8 @@ pub(crate) fn has_empty_neighbours(control: &Control, b: usize) -> bool
     requires bucket { b < buckets_of control.now }
     requires used { slice_index control.now b ≢ empty_byte }
     requires some_empty { HasEmptyByte control.now }
-    ensures { MatchBool result (EmptyNeighbourBytes control.now (buckets_of control.now) b)
-        (HemmedInBytes control.now (buckets_of control.now) b) }
+    ensures { MatchBool result (HasEmptyNeighbours (IsEmptyAt control.now) (buckets_of control.now) b)
+        (IsHemmedIn (IsEmptyAt control.now) (buckets_of control.now) b) }
 {
     run_before(control, b) + run_from(control, b) < 16
 }
