@@ -1,21 +1,15 @@
 -- What a placing and a removal make of the buckets, seen by their numbers and as marks.
-use Rattle.std.proofs.Common.{◌≡◌, ◌≢◌, ℕ, ◌+◌, ◌<◌, cond, List, length, set, None, Some, ◌⊎◌, inl, inr, refl, ap, sym}
+use Rattle.std.proofs.Common.{◌≡◌, ◌≢◌, ℕ, ◌+◌, ◌<◌, cond, List, length, set, None, Some, inl, inr, refl, ap, sym}
 use Rattle.std.proofs.Common.{◌∙◌, arith, length-set}
 use Rattle.group_table.specs.Bucket.{Slot, Tagged, empty, deleted, full, bucket_at, is_full, IsFull, entry_at, entry_of}
 use Rattle.group_table.specs.Bucket.{entry_count, marks_of}
 use Rattle.group_table.specs.Probe.{hash_tag}
-use Rattle.group_table.specs.Neighbours.{HasEmptyNeighbours, IsHemmedIn}
 use Rattle.group_table.specs.Table.{Table}
 use Rattle.group_table.specs.Change.{Places, Removes}
-use Rattle.group_table.proofs.BucketLemmas.{bucket_at-set_same, bucket_at-set_other, marks_of-set, count_by-set}
+use Rattle.group_table.proofs.BucketLemmas.{bucket_at-set_same, bucket_at-set_other, count_by-set}
 use Rattle.group_table.proofs.BucketLemmas.{full_lt, is_full-marks_of}
 
 module _ {T : Type 0} (old new : Table T) (hash : ℕ) (entry : T) (b : ℕ) (places : Places old new hash entry b) where
-  -- its bucket is marked full
-  pub marks_of-placed : marks_of new.slots ≡ set (marks_of old.slots) b (full tt)
-  marks_of-placed =
-      ap marks_of places.slots ∙ marks_of-set old.slots b (full (record { tag = hash_tag hash; entry = entry }))
-
   placed_free : is_full (bucket_at old.slots b) ≡ is_full (bucket_at (marks_of old.slots) b)
   placed_free = sym (is_full-marks_of old.slots b)
 
@@ -39,13 +33,6 @@ module _ {T : Type 0} (old new : Table T) (hash : ℕ) (entry : T) (b : ℕ) (pl
       (full (record { tag = hash_tag hash; entry = entry })) other
 
 module _ {T : Type 0} (old new : List (Slot T)) (b : ℕ) where
-  -- its bucket is marked empty or deleted
-  pub marks_of-removed : Removes old new b
-      → (HasEmptyNeighbours (marks_of old) b × (marks_of new ≡ set (marks_of old) b empty))
-      ⊎ (IsHemmedIn (marks_of old) b × (marks_of new ≡ set (marks_of old) b deleted))
-  marks_of-removed (inl w) = inl (w.0, ap marks_of w.1 ∙ marks_of-set old b empty)
-  marks_of-removed (inr w) = inr (w.0, ap marks_of w.1 ∙ marks_of-set old b deleted)
-
   pub length-removed : Removes old new b → length new ≡ length old
   length-removed (inl w) = ap length w.1 ∙ length-set old b empty
   length-removed (inr w) = ap length w.1 ∙ length-set old b deleted

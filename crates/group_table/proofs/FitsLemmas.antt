@@ -3,7 +3,7 @@ use Rattle.std.proofs.Common.{◌≡◌, ◌≢◌, ℕ, ◌+◌, ◌*◌, ◌/�
 use Rattle.std.proofs.Common.{inr, arith, eq-eqb, length-set}
 use Rattle.std.proofs.lemmas.Bool.{cases_eq, ne_eqb}
 use Rattle.group_table.specs.Bucket.{Bucket, Slot, Mark, Tagged, empty, deleted, full, bucket_at, is_full, IsFull}
-use Rattle.group_table.specs.Bucket.{mark_of, marks_of}
+use Rattle.group_table.specs.Bucket.{IsEmpty, mark_of, marks_of}
 use Rattle.group_table.specs.Probe.{hash_tag, probed, mark_probed, Reaches, IsFirstFree}
 use Rattle.group_table.specs.Neighbours.{HasEmptyNeighbours}
 use Rattle.group_table.specs.Fits.{Fits, with_hash}
@@ -40,7 +40,7 @@ module _ (marks : List Mark) (b : ℕ) (m : Mark) (within : b < length marks) (s
   }
 
 -- a bucket is emptied only if each search that went past it ended in the same group
-module _ (marks : List Mark) (b : ℕ) (near : HasEmptyNeighbours marks b) where
+module _ (marks : List Mark) (b : ℕ) (near : HasEmptyNeighbours (IsEmpty marks) (length marks) b) where
   goes_on_past : (hash step : ℕ) → ((before : ℕ) → before / 16 < step / 16 → mark_probed marks hash before ≢ empty)
       → (before : ℕ) → before / 16 < step / 16
       → mark_probed (set marks b empty) hash before ≢ empty
@@ -66,7 +66,7 @@ module _ (marks : List Mark) (b : ℕ) (near : HasEmptyNeighbours marks b) where
     goes_on = goes_on_past hash r.step r.goes_on;
   }
 
-Reaches-first : (marks : List Mark) (hash b : ℕ) → IsFirstFree marks hash b → Reaches marks hash b
+pub Reaches-first : (marks : List Mark) (hash b : ℕ) → IsFirstFree marks hash b → Reaches marks hash b
 Reaches-first marks hash b first = record {
   step = first.step;
   there = first.there;

@@ -10,7 +10,8 @@ use Rattle.group_table.specs.Sizes.{IsPowerFromFour, full_capacity}
 use Rattle.group_table.specs.Bucket.{empty, bucket_at, is_deleted}
 use Rattle.group_table.specs.Control.{buckets_of}
 use Rattle.group_table.specs.Layout.{slots_of, IsValid}
-use Rattle.group_table.specs.Moves.{place_at, Moves, KeepsMovedHashes}
+use Rattle.group_table.specs.Moves.{place_at}
+use Rattle.group_table.specs.Relocation.{Moves, KeepsHashes}
 use Rattle.group_table.specs.InPlace.{IsSettled, IsWaiting, IsHalfway, IsInTurn}
 use Rattle.group_table.proofs.BucketLemmas.{empty_not_deleted, deleted_count-none, used_count-split}
 use Rattle.group_table.proofs.ControlLemmas.{buckets_are}
@@ -235,5 +236,5 @@ module _ {T N : Type 0} (number : N → ℕ) (none : N) (IsGiven : (ℕ → ℕ)
   Moves-last = rw (← all_placed, ← all_gone) half.moves
 
   pub hashes_last : (hash_at : ℕ → ℕ) → IsGiven hash_at
-      → KeepsMovedHashes number none (place_at whole) (slots_of control now) links hash_at
+      → KeepsHashes number none (place_at whole) (slots_of control now) links hash_at
   hashes_last = rw (← all_placed, ← all_gone) half.hashes

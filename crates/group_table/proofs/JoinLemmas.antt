@@ -1,20 +1,20 @@
 -- An entry comes into a table with room and no deleted bucket.
 use Rattle.std.proofs.Common.{◌≡◌, ◌≢◌, ℕ, ◌+◌, ◌-◌, ◌<◌, ◌⊎◌, cond, List, length, get_or, set, Option, Some, None}
-use Rattle.std.proofs.Common.{refl, ap, ◌∙◌, subst, arith, inl, inr, count_by, length-set}
+use Rattle.std.proofs.Common.{refl, ap, ◌∙◌, arith, inl, inr, count_by, length-set}
 use Rattle.group_table.specs.Sizes.{full_capacity}
 use Rattle.group_table.specs.Bucket.{Slot, empty, deleted, full, bucket_at, is_full, is_deleted, entry_of, entry_at}
 use Rattle.group_table.specs.Bucket.{entry_count}
-use Rattle.group_table.specs.Probe.{hash_tag, Reaches}
-use Rattle.group_table.specs.Layout.{slots_of, marks_by, IsValid, written}
-use Rattle.group_table.specs.Group.{IsFirstFreeByte, IsReachedFreeByte}
+use Rattle.group_table.specs.Probe.{hash_tag, probed, IsFirst}
+use Rattle.group_table.specs.Layout.{slots_of, IsValid, written}
+use Rattle.group_table.specs.Group.{full_at}
 use Rattle.group_table.specs.Moves.{Joins}
 use Rattle.group_table.proofs.SizeLemmas.{full_capacity-small, power_pos}
 use Rattle.group_table.proofs.BucketLemmas.{used_count-split, count_by-pos, count_by-set, bucket_at-set_same}
 use Rattle.group_table.proofs.BucketLemmas.{bucket_at-set_other}
 use Rattle.group_table.proofs.ProbeLemmas.{probed-lt}
-use Rattle.group_table.proofs.LayoutLemmas.{length-laid_out, length-marks_by, bucket_at-laid_out, byte_from_mark}
+use Rattle.group_table.proofs.LayoutLemmas.{length-laid_out, length-marks_by, bucket_at-laid_out}
 use Rattle.group_table.proofs.WriteLemmas.{slots_of-written}
-use Rattle.group_table.proofs.PlaceLemmas.{Spends, free_slot, IsValid-placed, entry_count-placed}
+use Rattle.group_table.proofs.PlaceLemmas.{Spends, IsFreeFor, place_reached, free_slot, IsValid-placed, entry_count-placed}
 
 module _ {T : Type 0} (control : List ℕ) (entries : List (Option T)) (r : ℕ) (valid : IsValid control entries r)
     (none_deleted : count_by is_deleted (slots_of control entries) ≡ 0)
@@ -34,39 +34,31 @@ module _ {T : Type 0} (control : List ℕ) (entries : List (Option T)) (r : ℕ)
     | inr w ↦ omega (arith, power_pos (length entries) w.0)
   ]
 
-  module _ (hash b n : ℕ) (n_is : n ≡ length entries) (reached : IsReachedFreeByte control n hash b) where
-    byte_reached : IsReachedFreeByte control (length entries) hash b
-    byte_reached = subst (λ k. IsReachedFreeByte control k hash b) n_is reached
+  -- the first free bucket is one that a search reaches
+  pub first_reached : (hash b n : ℕ) → n ≡ length entries → IsFirst (full_at control) (probed n hash) b
+      → IsFreeFor control entries hash b
+  first_reached hash b n n_is first =
+      place_reached control entries r valid hash b n n_is (omega (arith, some_buckets, n_is)) first
 
+  module _ (hash b : ℕ) (reached : IsFreeFor control entries hash b) where
     pub join_within : b < length entries
-    join_within = rw (← byte_reached.there) (probed-lt (length entries) hash byte_reached.step some_buckets)
+    join_within =
+        let there : probed (length entries) hash reached.0.step ≡ b =
+        rw (length-marks_by control entries valid.laid_out) at reached.0.there in
+        rw (← there) (probed-lt (length entries) hash reached.0.step some_buckets)
 
     free_there : ((bucket_at (slots_of control entries) b ≡ empty) ⊎ (bucket_at (slots_of control entries) b ≡ deleted))
         × (get_or entries b None ≡ None)
     free_there = rw (bucket_at-laid_out control entries valid.laid_out b join_within)
-        (free_slot _ _ (valid.laid_out.agrees b join_within) byte_reached.free_there)
+        (free_slot _ _ (valid.laid_out.agrees b join_within) reached.1)
 
     pub join_none : get_or entries b None ≡ None
     join_none = free_there.1
 
-    -- no group that a search reads before has an empty bucket
-    join_reached : Reaches (marks_by control entries) hash b
-    join_reached =
-        let same = length-marks_by control entries valid.laid_out in
-        record {
-          step = byte_reached.step;
-          there = rw same byte_reached.there;
-          goes_on = λ before p. rw same (λ e.
-              let full = byte_reached.full_before before p in
-              let byte = byte_from_mark control entries valid.laid_out _
-              (probed-lt (length entries) hash before some_buckets) e in
-              omega (arith, full, byte));
-        }
-
     in_slots : b < length (slots_of control entries)
     in_slots = omega (arith, join_within, length-laid_out control entries valid.laid_out)
 
-    -- the first free bucket is empty
+    -- the free bucket is empty
     join_empty : bucket_at (slots_of control entries) b ≡ empty
     join_empty = elim free_there.0 [
       | inl e ↦ e
@@ -89,22 +81,12 @@ module _ {T : Type 0} (control : List ℕ) (entries : List (Option T)) (r : ℕ)
       pub joins_there : tag ≡ hash_tag hash → Joins (slots_of control entries)
           (slots_of (written control entries b tag) (set entries b (Some entry))) hash entry b
       joins_there is = record {
-        reached = join_reached;
+        reached = reached.0;
         within = in_slots;
         was_empty = join_empty;
         slots = slots_of-written control entries b tag (Some entry)
             ∙ ap (λ t. set (slots_of control entries) b (full (record { tag = t; entry = entry }))) is;
       }
-
--- the first free bucket is one of these
-pub reached_first : {control : List ℕ} {buckets hash b : ℕ} → IsFirstFreeByte control buckets hash b
-    → IsReachedFreeByte control buckets hash b
-reached_first first = record {
-  step = first.step;
-  there = first.there;
-  free_there = first.free_there;
-  full_before = λ before p. first.full_before before (omega arith);
-}
 
 -- what comes of it
 module _ {T : Type 0} {old new : List (Slot T)} {hash : ℕ} {entry : T} {b : ℕ}

@@ -5,6 +5,7 @@ use Rattle.std.proofs.Common.{refl, ap, sym, ◌∙◌, subst, arith, pow-suc, p
 use Rattle.std.proofs.Math.Nat.{add-mul-mod_self_left, mod-eq_of_lt, mod-lt}
 use Rattle.std.specs.Borrow.{Bor}
 use Rattle.std.specs.Fn.{Mut}
+use Rattle.std.proofs.lemmas.Bool.{lt-ltb, le-ltb}
 use native.Mathlib.Decide.{dec_lt}
 use Rattle.group_table.specs.Sizes.{IsPowerFromFour}
 use Rattle.group_table.specs.Bucket.{Slot, empty, full, bucket_at}
@@ -140,31 +141,35 @@ module _ (n start : ℕ) where
                 ))
           ] in
           let round : start + (n - start + first) ≡ first + n * 1 = omega arith in
+          let late : (before : ℕ) → before < n - start + first → get_or control ((start + before) % n) 0 < 128 =
+          λ before p. elim (dec_lt before (n - start)) [
+            | yes q ↦ early before q
+            | no q ↦
+                let k = start + before - n in
+                let on : start + before ≡ k + n * 1 = omega arith in
+                let same : (start + before) % n ≡ k =
+                ap (λ j. j % n) on ∙ add-mul-mod_self_left k n 1
+                ∙ mod-eq_of_lt (omega (arith, below, within, p)) in
+                subst (λ j. get_or control j 0 < 128) (sym same) (elim (dec_lt (get_or control k 0) 128) [
+                  | yes r ↦ r
+                  | no r ↦ absurd
+                      (omega (
+                        arith,
+                        p,
+                        least_all k
+                            ((h_all k).1 (omega (arith, p, past.0, past.1, below, within), omega arith)),
+                      ))
+                ])
+          ] in
           record {
-            lane = n - start + first;
+            first = record {
+              step = n - start + first;
+              there = ap (λ k. k % n) round ∙ add-mul-mod_self_left first n 1
+                  ∙ mod-eq_of_lt (omega (arith, below, within));
+              free_there = le-ltb _ 128 byte;
+              full_before = λ before p. lt-ltb _ 128 (late before p);
+            };
             in_group = omega (arith, past.0, past.1);
-            there = ap (λ k. k % n) round ∙ add-mul-mod_self_left first n 1
-                ∙ mod-eq_of_lt (omega (arith, below, within));
-            free_there = byte;
-            full_before = λ before p. elim (dec_lt before (n - start)) [
-              | yes q ↦ early before q
-              | no q ↦
-                  let k = start + before - n in
-                  let on : start + before ≡ k + n * 1 = omega arith in
-                  let same : (start + before) % n ≡ k =
-                  ap (λ j. j % n) on ∙ add-mul-mod_self_left k n 1
-                  ∙ mod-eq_of_lt (omega (arith, below, within, p)) in
-                  subst (λ j. get_or control j 0 < 128) (sym same) (elim (dec_lt (get_or control k 0) 128) [
-                    | yes r ↦ r
-                    | no r ↦ absurd
-                        (omega (
-                          arith,
-                          p,
-                          least_all k
-                              ((h_all k).1 (omega (arith, p, past.0, past.1, below, within), omega arith)),
-                        ))
-                  ])
-            ];
           }
 
 -- what is known of a table's bytes

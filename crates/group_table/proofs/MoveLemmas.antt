@@ -12,8 +12,8 @@ use native.Mathlib.Decide.{dec_lt}
 use Rattle.group_table.specs.Link.{IsLinkType}
 use Rattle.group_table.specs.Bucket.{Slot, empty, bucket_at, is_full, entry_at, entry_of}
 use Rattle.group_table.specs.Fits.{Fits}
-use Rattle.group_table.specs.Relocation.{moved_to}
-use Rattle.group_table.specs.Moves.{Joins, Moves, KeepsMovedHashes}
+use Rattle.group_table.specs.Relocation.{moved_to, Moves, KeepsHashes}
+use Rattle.group_table.specs.Moves.{Joins}
 use Rattle.group_table.proofs.BucketLemmas.{empty_not_full}
 use Rattle.group_table.proofs.SearchLemmas.{full_by_entry}
 use Rattle.group_table.proofs.FitsLemmas.{Fits-reached, Fits-agree, with_hash-there, with_hash-elsewhere}
@@ -41,9 +41,9 @@ module _ {T N : Type 0} (number : N → ℕ) (none : N) where
       onto = λ c there. let w = m.onto c there in (w.0, w.1, same w.0 ∙ w.2, w.3);
     }
 
-    pub KeepsMovedHashes-same : (hash_of : ℕ → ℕ) → KeepsMovedHashes number none old new links hash_of
-        → KeepsMovedHashes number none more new links hash_of
-    KeepsMovedHashes-same hash_of keeps moved_hash_of gives =
+    pub KeepsHashes-same : (hash_of : ℕ → ℕ) → KeepsHashes number none old new links hash_of
+        → KeepsHashes number none more new links hash_of
+    KeepsHashes-same hash_of keeps moved_hash_of gives =
         keeps moved_hash_of (λ b entry e. gives b entry (same b ∙ e))
 
   -- one more entry moves
@@ -110,9 +110,9 @@ module _ {T N : Type 0} (number : N → ℕ) (none : N) where
       ];
     }
 
-    pub KeepsMovedHashes-more : (hash_of : ℕ → ℕ) → hash ≡ hash_of b
-        → KeepsMovedHashes number none old new links hash_of → KeepsMovedHashes number none more joined linked hash_of
-    KeepsMovedHashes-more hash_of hashed keeps moved_hash_of gives =
+    pub KeepsHashes-more : (hash_of : ℕ → ℕ) → hash ≡ hash_of b
+        → KeepsHashes number none old new links hash_of → KeepsHashes number none more joined linked hash_of
+    KeepsHashes-more hash_of hashed keeps moved_hash_of gives =
         let before : Fits new moved_hash_of = keeps moved_hash_of (λ k x e.
         let other : k ≢ b = λ i. none-some x (sym was ∙ ap old (sym i) ∙ e) in
         ap moved_hash_of (sym (linked_elsewhere k other)) ∙ gives k x (others k other ∙ e)) in

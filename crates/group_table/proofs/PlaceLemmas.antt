@@ -1,15 +1,16 @@
 -- An entry goes into the first free bucket.
 use Rattle.std.proofs.Common.{◌≡◌, ◌≢◌, ℕ, ◌+◌, ◌-◌, ◌<◌, ◌≤◌, cond, List, length, get_or, set, ◌⊎◌, Option, Some, None}
 use Rattle.std.proofs.Common.{false, refl, ap, sym, ◌∙◌, subst, arith, inl, inr, nat_eq, eq-eqb}
-use Rattle.std.proofs.lemmas.Bool.{lt-ltb, le-ltb, cases_eq, ne_eqb}
+use Rattle.std.proofs.lemmas.Bool.{ltb-false, cases_eq, ne_eqb}
 use Rattle.group_table.specs.Bucket.{Slot, Tagged, empty, deleted, full, bucket_at, is_full, is_used, entry_count}
 use Rattle.group_table.specs.Bucket.{mark_of, room, room_at}
-use Rattle.group_table.specs.Probe.{IsFirstFree}
+use Rattle.group_table.specs.Probe.{probed, Reaches, IsFirst, IsFirstFree}
 use Rattle.group_table.specs.Change.{MayFill}
 use Rattle.group_table.specs.Layout.{slot_of, slots_of, marks_by, Agrees, IsValid, written}
-use Rattle.group_table.specs.Group.{IsFirstFreeByte}
+use Rattle.group_table.specs.Group.{full_at}
 use Rattle.group_table.proofs.BucketLemmas.{bucket_at-marks_of, full_not_deleted}
 use Rattle.group_table.proofs.ProbeLemmas.{probed-lt}
+use Rattle.group_table.proofs.FitsLemmas.{Reaches-first}
 use Rattle.group_table.proofs.LayoutLemmas.{length-marks_by, bucket_at-laid_out, is_full-byte, byte_from_mark}
 use Rattle.group_table.proofs.WriteLemmas.{IsValid-written, entry_count-written}
 use Rattle.group_table.proofs.TableLemmas.{empty_there, room_by}
@@ -43,6 +44,10 @@ module _ {T : Type 0} where
   free_of s room spent (inl w) = rw w.0 (refl, omega (arith, w.2), omega (arith, w.1, w.2))
   free_of s room spent (inr w) = rw w.0 (refl, omega (arith, w.1), omega (arith, w.1))
 
+-- the bucket is free, and a search for the hash reaches it
+abbrev pub IsFreeFor : {T : Type 0} → List ℕ → List (Option T) → ℕ → ℕ → Type 0
+IsFreeFor control entries hash b = Reaches (marks_by control entries) hash b × (128 ≤ get_or control b 0)
+
 -- some byte is that of an empty bucket
 pub some_empty_byte : {T : Type 0} (control : List ℕ) (entries : List (Option T)) (r : ℕ) → IsValid control entries r
     → 0 < length entries → (b : ℕ) × (b < length entries) × (get_or control b 0 ≡ 255)
@@ -59,9 +64,12 @@ some_free_byte control entries r valid pos = let w = some_empty_byte control ent
 
 module _ {T : Type 0} (control : List ℕ) (entries : List (Option T)) (r : ℕ) (valid : IsValid control entries r)
     (hash b n : ℕ) (n_is : n ≡ length entries) (pos : 0 < n)
-    (first : IsFirstFreeByte control n hash b) where
-  byte_first : IsFirstFreeByte control (length entries) hash b
-  byte_first = subst (λ k. IsFirstFreeByte control k hash b) n_is first
+    (first : IsFirst (full_at control) (probed n hash) b) where
+  byte_first : IsFirst (full_at control) (probed (length entries) hash) b
+  byte_first = subst (λ k. IsFirst (full_at control) (probed k hash) b) n_is first
+
+  byte_free : 128 ≤ get_or control b 0
+  byte_free = ltb-false _ 128 first.free_there
 
   pub place_within : b < length entries
   place_within = rw (← byte_first.there) (probed-lt (length entries) hash byte_first.step (omega arith))
@@ -72,18 +80,21 @@ module _ {T : Type 0} (control : List ℕ) (entries : List (Option T)) (r : ℕ)
       record {
         step = byte_first.step;
         there = rw same byte_first.there;
-        free_there = is_full-byte control entries valid.laid_out b place_within ∙ le-ltb _ 128 byte_first.free_there;
+        free_there = is_full-byte control entries valid.laid_out b place_within ∙ byte_first.free_there;
         full_before = λ before p. rw same
             (is_full-byte control entries valid.laid_out _ (probed-lt (length entries) hash before (omega arith))
-            ∙ lt-ltb _ 128 (byte_first.full_before before p));
+            ∙ byte_first.full_before before p);
       }
+
+  pub place_reached : IsFreeFor control entries hash b
+  place_reached = (Reaches-first (marks_by control entries) hash b place_first, byte_free)
 
   -- its bucket is empty or deleted, and has no entry
   pub place_free :
       ((bucket_at (slots_of control entries) b ≡ empty) ⊎ (bucket_at (slots_of control entries) b ≡ deleted))
       × (get_or entries b None ≡ None)
   place_free = rw (bucket_at-laid_out control entries valid.laid_out b place_within)
-      (free_slot _ _ (valid.laid_out.agrees b place_within) byte_first.free_there)
+      (free_slot _ _ (valid.laid_out.agrees b place_within) byte_free)
 
   pub place_none : get_or entries b None ≡ None
   place_none = place_free.1
@@ -95,12 +106,12 @@ module _ {T : Type 0} (control : List ℕ) (entries : List (Option T)) (r : ℕ)
   module _ (read : ℕ) (read_is : read ≡ get_or control b 0) where
     pub place_empty : read ≡ 255 → (bucket_at (slots_of control entries) b ≡ empty) × (get_or entries b None ≡ None)
     place_empty h =
-        let w = free_empty _ _ (valid.laid_out.agrees b place_within) byte_first.free_there (sym read_is ∙ h) in
+        let w = free_empty _ _ (valid.laid_out.agrees b place_within) byte_free (sym read_is ∙ h) in
         (bucket_at-laid_out control entries valid.laid_out b place_within ∙ w.0, w.1)
 
     place_deleted : read ≢ 255 → (bucket_at (slots_of control entries) b ≡ deleted) × (get_or entries b None ≡ None)
     place_deleted h =
-        let w = free_deleted _ _ (valid.laid_out.agrees b place_within) byte_first.free_there (λ e. h (read_is ∙ e)) in
+        let w = free_deleted _ _ (valid.laid_out.agrees b place_within) byte_free (λ e. h (read_is ∙ e)) in
         (bucket_at-laid_out control entries valid.laid_out b place_within ∙ w.0, w.1)
 
     module _ (spent : ℕ) (spent_is : spent ≡ cond (nat_eq read 255) 1 0) where

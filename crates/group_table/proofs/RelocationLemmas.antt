@@ -4,17 +4,13 @@ use Rattle.std.proofs.Common.{arith, count_by, cond, is_some, nat_eq, true, fals
 use Rattle.std.proofs.lemmas.List.{get_or_past}
 use Rattle.std.proofs.lemmas.List.Sums.{sum_by-cons}
 use native.Mathlib.Decide.{dec_lt}
-use Rattle.std.specs.Borrow.{Bor}
-use Rattle.std.specs.Fn.{Shared}
 use Rattle.group_table.specs.Sizes.{full_capacity}
-use Rattle.group_table.specs.Bucket.{Slot, deleted, empty, bucket_at, is_full, is_deleted, IsFull, entry_of, entry_at}
+use Rattle.group_table.specs.Bucket.{Slot, deleted, empty, is_full, is_deleted, entry_of, entry_at}
 use Rattle.group_table.specs.Bucket.{entry_count, marks_of, room}
 use Rattle.group_table.specs.Layout.{slot_of, slots_of, IsLaidOut}
-use Rattle.group_table.specs.Relocation.{IsRenumbering, KeepsHashes, GivesHashes}
-use Rattle.group_table.specs.Moves.{place_at, Moves, KeepsMovedHashes, GivesMovedHashes}
+use Rattle.group_table.specs.Moves.{place_at}
 use Rattle.group_table.proofs.BucketLemmas.{bucket_at-past, room_is, used_count-marks_of, used_count-split}
 use Rattle.group_table.proofs.BucketLemmas.{length-marks_of}
-use Rattle.group_table.proofs.SearchLemmas.{full_by_entry, held_by}
 use Rattle.group_table.proofs.LayoutLemmas.{bucket_at-laid_out, length-laid_out, entries_within, is_full-test}
 
 -- with no deleted bucket, room and entries are the full capacity
@@ -74,31 +70,6 @@ module _ {T : Type 0} (control : List ℕ) (entries : List (Option T)) (laid_out
         ∙ sym (get_or_past entries b None (omega arith))
   ]
 
-  -- a full bucket has an entry in its place
-  place_full : (b : ℕ) → IsFull (slots_of control entries) b → (entry : T) × (place_at entries b ≡ Some entry)
-  place_full b there = let w = held_by (bucket_at (slots_of control entries) b) there in
-      (w.0.entry, sym (entry_at-laid_out b) ∙ ap entry_of w.1)
-
-  full_place : (b : ℕ) (entry : T) → place_at entries b ≡ Some entry → IsFull (slots_of control entries) b
-  full_place b entry e = full_by_entry (bucket_at (slots_of control entries) b) entry (entry_at-laid_out b ∙ e)
-
-  module _ {N : Type 0} (number : N → ℕ) (none : N) (new : List (Slot T)) (links : List N) where
-    pub IsRenumbering-moves : length links ≡ length entries → Moves number none (place_at entries) new links
-        → IsRenumbering number none (slots_of control entries) new links
-    IsRenumbering-moves one_each moves = record {
-      one_each = one_each ∙ sym (length-laid_out control entries laid_out);
-      moved = λ b entry e. moves.moved b entry (sym (entry_at-laid_out b) ∙ e);
-      others = λ b within e. moves.others b (sym (entry_at-laid_out b) ∙ e);
-      apart = λ b c p q same. let x = place_full b p in let y = place_full c q in moves.apart b c x.0 y.0 x.1 y.1 same;
-      onto = λ c there. let w = moves.onto c there in (w.0, full_place w.0 w.1 w.2, w.3);
-    }
-
-    pub KeepsHashes-moves : (hash_of : ℕ → ℕ) → KeepsMovedHashes number none (place_at entries) new links hash_of
-        → KeepsHashes number none (slots_of control entries) new links hash_of
-    KeepsHashes-moves hash_of keeps moved_hash_of gives =
-        keeps moved_hash_of (λ b entry e. gives b (full_place b entry e))
-
-  pub GivesMovedHashes-from : {H : Type 0} (closure : Shared H (Bor T × Unit {0}) ℕ) (f : H) (hash_of : ℕ → ℕ)
-      → GivesHashes closure f (slots_of control entries) hash_of
-      → GivesMovedHashes closure f entries hash_of
-  GivesMovedHashes-from closure f hash_of gives b hash entry e = gives b hash entry (entry_at-laid_out b ∙ e)
+  -- the entries in the buckets are those in the places
+  pub entries_are : entry_at (slots_of control entries) ≡ place_at entries
+  entries_are = λ i b. entry_at-laid_out b i

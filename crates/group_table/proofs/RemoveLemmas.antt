@@ -3,12 +3,12 @@ use Rattle.std.proofs.Common.{◌≡◌, ℕ, ◌+◌, ◌%◌, ◌<◌, ◌≤�
 use Rattle.std.proofs.Common.{refl, ap, sym, ◌∙◌, arith, inl, inr, count_by, MatchBool}
 use Rattle.std.proofs.Math.Nat.{mod-add-mod, mod-lt}
 use mir.Val.{bool_byte}
-use Rattle.group_table.specs.Bucket.{Slot, Tagged, Mark, empty, deleted, bucket_at, is_used, is_full, IsFull}
+use Rattle.group_table.specs.Bucket.{Slot, Tagged, Mark, empty, deleted, bucket_at, is_used, is_full, IsFull, IsEmpty}
 use Rattle.group_table.specs.Bucket.{entry_count, room, room_at}
 use Rattle.group_table.specs.Neighbours.{HasEmptyNeighbours, IsHemmedIn}
 use Rattle.group_table.specs.Change.{Removes}
 use Rattle.group_table.specs.Layout.{slot_of, slots_of, marks_by, IsLaidOut, IsValid, written}
-use Rattle.group_table.specs.Group.{EmptyNeighbourBytes, HemmedInBytes}
+use Rattle.group_table.specs.Group.{IsEmptyAt}
 use Rattle.group_table.proofs.BucketLemmas.{some_empty, used_from_full, count_by-pos, empty_not_deleted}
 use Rattle.group_table.proofs.BucketLemmas.{bucket_at-set_same, bucket_at-marks_of, mark_of-used}
 use Rattle.group_table.proofs.Circle.{distance}
@@ -22,7 +22,7 @@ bool_byte-le true = omega arith
 bool_byte-le false = omega arith
 
 -- up to 16 buckets, 16 neighbours are all, and one of them is empty
-hemmed_in_small : (marks : List Mark) (b : ℕ) → IsHemmedIn marks b → length marks ≤ 16
+hemmed_in_small : (marks : List Mark) (b : ℕ) → IsHemmedIn (IsEmpty marks) (length marks) b → length marks ≤ 16
     → count_by is_used marks < length marks → ⊥
 hemmed_in_small marks b hemmed p q =
     let w = some_empty marks q in
@@ -32,14 +32,15 @@ hemmed_in_small marks b hemmed p q =
 
 module _ {T : Type 0} (control : List ℕ) (entries : List (Option T)) (laid_out : IsLaidOut control entries) (b : ℕ)
     (pos : 0 < length entries) where
-  HasEmptyNeighbours-from_bytes : EmptyNeighbourBytes control (length entries) b
-      → HasEmptyNeighbours (marks_by control entries) b
+  HasEmptyNeighbours-from_bytes : HasEmptyNeighbours (IsEmptyAt control) (length entries) b
+      → HasEmptyNeighbours (IsEmpty (marks_by control entries)) (length (marks_by control entries)) b
   HasEmptyNeighbours-from_bytes h start at p e =
       let same = length-marks_by control entries laid_out in
       let w = h start at p (rw same at e) in
       (w.0, w.1, rw same (mark_from_byte control entries laid_out _ (mod-lt (start + w.0) pos) w.2))
 
-  IsHemmedIn-from_bytes : HemmedInBytes control (length entries) b → IsHemmedIn (marks_by control entries) b
+  IsHemmedIn-from_bytes : IsHemmedIn (IsEmptyAt control) (length entries) b
+      → IsHemmedIn (IsEmpty (marks_by control entries)) (length (marks_by control entries)) b
   IsHemmedIn-from_bytes h =
       let same = length-marks_by control entries laid_out in
       record {
@@ -83,8 +84,9 @@ module _ {T : Type 0} (control : List ℕ) (entries : List (Option T)) (r : ℕ)
       ap (λ m. cond {A = ℕ} (is_used m) 0 1) (bucket_at-marks_of new b)
       ∙ ap (λ t. cond {A = ℕ} t 0 1) (mark_of-used (bucket_at new b) ∙ ap is_used there_now)
 
-  pub removed : (gives_room : Bool) → MatchBool gives_room (EmptyNeighbourBytes control (length entries) b)
-      (HemmedInBytes control (length entries) b)
+  pub removed : (gives_room : Bool)
+      → MatchBool gives_room (HasEmptyNeighbours (IsEmptyAt control) (length entries) b)
+      (IsHemmedIn (IsEmptyAt control) (length entries) b)
       → Removed (cond gives_room 255 128) (bool_byte gives_room)
   removed true h = record {
     is_valid = IsValid-written control entries r valid b 255 None within (inr refl) (r + 1) (omega (arith, one_used))

@@ -6,7 +6,8 @@ use Rattle.std.proofs.lemmas.Bool.{lt-ltb}
 use native.Mathlib.Decide.{dec_lt}
 use Rattle.group_table.specs.Sizes.{IsPowerFromFour}
 use Rattle.group_table.specs.Lanes.{IsRepeated, IsMaskAt, HasLane}
-use Rattle.group_table.specs.Group.{IsRunBefore, IsRunFrom, EmptyNeighbourBytes, HemmedInBytes}
+use Rattle.group_table.specs.Neighbours.{HasEmptyNeighbours, IsHemmedIn}
+use Rattle.group_table.specs.Group.{IsEmptyAt, IsRunBefore, IsRunFrom}
 use Rattle.group_table.proofs.Circle.{distance, same_place}
 use Rattle.group_table.proofs.RunLemmas.{run_tells}
 use Rattle.group_table.proofs.LaneLemmas.{all_real, lane_byte, byte_between}
@@ -90,7 +91,7 @@ module _ (control : List ℕ) (n : ℕ) (power : IsPowerFromFour n) (repeated : 
           ]
 
   -- up to 16 buckets are all neighbours of each
-  empty_beside : (e : ℕ) → e < n → get_or control e 0 ≡ 255 → n < 16 → EmptyNeighbourBytes control n b
+  empty_beside : (e : ℕ) → e < n → get_or control e 0 ≡ 255 → n < 16 → HasEmptyNeighbours (IsEmptyAt control) n b
   empty_beside e within byte p start at q r =
       let d = distance n (start % n) e (mod-lt start (omega arith)) within in
       (d.0, omega (arith, d.1), ap (λ k. get_or control k 0) (sym (mod-add-mod start n d.0) ∙ d.2) ∙ byte)
@@ -98,7 +99,7 @@ module _ (control : List ℕ) (n : ℕ) (power : IsPowerFromFour n) (repeated : 
   pub lanes_tell : (before after : ℕ) → (16 ≤ n → IsRunBefore control n b before) → (n < 16 → before ≤ b)
       → (16 ≤ n → IsRunFrom control n b after) → (n < 16 → b + after ≤ n)
       → get_or control b 0 ≢ 255 → (e : ℕ) → e < n → get_or control e 0 ≡ 255
-      → MatchBool (nat_lt (before + after) 16) (EmptyNeighbourBytes control n b) (HemmedInBytes control n b)
+      → MatchBool (nat_lt (before + after) 16) (HasEmptyNeighbours (IsEmptyAt control) n b) (IsHemmedIn (IsEmptyAt control) n b)
   lanes_tell before after wide_before small_before wide_after small_after used e within byte =
       elim (dec_lt n 16) [
         | yes p ↦

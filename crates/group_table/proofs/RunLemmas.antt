@@ -4,7 +4,8 @@ use Rattle.std.proofs.Common.{MatchBool}
 use Rattle.std.proofs.Math.Nat.{mod-add-mod, mod-lt, mod-eq_of_lt}
 use Rattle.std.proofs.lemmas.Bool.{lt-ltb, le-ltb}
 use native.Mathlib.Decide.{dec_lt}
-use Rattle.group_table.specs.Group.{IsRunBefore, IsRunFrom, EmptyNeighbourBytes, HemmedInBytes}
+use Rattle.group_table.specs.Neighbours.{HasEmptyNeighbours, IsHemmedIn}
+use Rattle.group_table.specs.Group.{IsEmptyAt, IsRunBefore, IsRunFrom}
 use Rattle.group_table.proofs.Circle.{distance}
 
 module _ (control : List ℕ) (n b before after : ℕ) (pos : 0 < n) (bound : b < n)
@@ -20,7 +21,7 @@ module _ (control : List ℕ) (n b before after : ℕ) (pos : 0 < n) (bound : b 
       let f : start + lane ≡ start + at + steps = omega arith in
       ap (λ k. k % n) f ∙ sym (mod-add-mod (start + at) n steps) ∙ ap (λ k. (k + steps) % n) h
 
-  pub empty_neighbours : before + after < 16 → EmptyNeighbourBytes control n b
+  pub empty_neighbours : before + after < 16 → HasEmptyNeighbours (IsEmptyAt control) n b
   empty_neighbours p start at q h =
       elim (dec_lt before at) [
         | yes r ↦
@@ -39,7 +40,7 @@ module _ (control : List ℕ) (n b before after : ℕ) (pos : 0 < n) (bound : b 
       ]
 
   -- 16 neighbours that begin n places before the bucket
-  hemmed_at : (at : ℕ) → at < 16 → at ≤ before → 16 ≤ at + after → HemmedInBytes control n b
+  hemmed_at : (at : ℕ) → at < 16 → at ≤ before → 16 ≤ at + after → IsHemmedIn (IsEmptyAt control) n b
   hemmed_at at p q r =
       let d = distance n (at % n) b (mod-lt at pos) bound in
       let there : (d.0 + at) % n ≡ b =
@@ -56,7 +57,7 @@ module _ (control : List ℕ) (n b before after : ℕ) (pos : 0 < n) (bound : b 
         ];
       }
 
-  pub hemmed_in : 16 ≤ before + after → get_or control b 0 ≢ 255 → HemmedInBytes control n b
+  pub hemmed_in : 16 ≤ before + after → get_or control b 0 ≢ 255 → IsHemmedIn (IsEmptyAt control) n b
   hemmed_in p used =
       elim (dec_lt before 16) [
         | yes q ↦ hemmed_at before q (omega arith) p
@@ -70,8 +71,8 @@ module _ (control : List ℕ) (n b before after : ℕ) (pos : 0 < n) (bound : b 
       ]
 
   -- the sum of the two runs decides it
-  pub run_tells : get_or control b 0 ≢ 255 → MatchBool (nat_lt (before + after) 16) (EmptyNeighbourBytes control n b)
-      (HemmedInBytes control n b)
+  pub run_tells : get_or control b 0 ≢ 255 → MatchBool (nat_lt (before + after) 16) (HasEmptyNeighbours (IsEmptyAt control) n b)
+      (IsHemmedIn (IsEmptyAt control) n b)
   run_tells used =
       elim (dec_lt (before + after) 16) [
         | yes p ↦ rw (lt-ltb (before + after) 16 p) (empty_neighbours p)

@@ -16,7 +16,7 @@ use native.Mathlib.Decide.{dec_lt}
 use Rattle.group_table.specs.Sizes.{IsPowerFromFour}
 use Rattle.group_table.specs.Bucket.{Slot, Tagged, empty, deleted, full, bucket_at, is_full, entry_of, has_tag}
 use Rattle.group_table.specs.Probe.{hash_tag, probed}
-use Rattle.group_table.specs.Search.{candidates, Answers, RefusesEach}
+use Rattle.group_table.specs.Search.{tagged, candidates, Answers, RefusesEach}
 use Rattle.group_table.specs.Group.{tagged_lanes}
 use Rattle.group_table.proofs.ProbeLemmas.{probed-lane, probed-apart}
 
@@ -48,30 +48,30 @@ module _ {T : Type 0} where
   pub has_tag-full : (s : Slot T) (held : Tagged T) (tag : ℕ) → s ≡ full held → held.tag ≡ tag → has_tag tag s ≡ true
   has_tag-full s held tag e f = rw e (eq-eqb held.tag tag f)
 
-module _ {T : Type 0} (slots : List (Slot T)) (tag start : ℕ) where
+module _ {T : Type 0} (slots : List (Slot T)) (tag : ℕ) where
   -- the bucket, if it has the tag
   abbrev pub if_tagged : ℕ → List ℕ
   if_tagged b = cond (has_tag tag (bucket_at slots b)) (b ∷ []) []
 
-  tagged_lanes-next : (lanes : ℕ) → tagged_lanes slots tag start (lanes + 1)
-      ≡ tagged_lanes slots tag start lanes ++ if_tagged ((start + lanes) % length slots)
-  tagged_lanes-next lanes = filter_of_map_range_with_len_more _ _ 0 lanes lanes (omega arith)
+  tagged-next : (order : ℕ → ℕ) (steps : ℕ)
+      → tagged slots tag order (steps + 1) ≡ tagged slots tag order steps ++ if_tagged (order steps)
+  tagged-next order steps = filter_of_map_range_with_len_more _ _ 0 steps steps (omega arith)
 
   -- a lane with no such tag adds nothing
-  pub tagged_lanes-skip : (lane : ℕ) → has_tag tag (bucket_at slots ((start + lane) % length slots)) ≡ false
+  pub tagged_lanes-skip : (start lane : ℕ) → has_tag tag (bucket_at slots ((start + lane) % length slots)) ≡ false
       → tagged_lanes slots tag start (lane + 1) ≡ tagged_lanes slots tag start lane
-  tagged_lanes-skip lane h = tagged_lanes-next lane ∙ rw h (append-nil _)
+  tagged_lanes-skip start lane h = tagged-next _ lane ∙ rw h (append-nil _)
 
   -- a lane with the tag adds its bucket
-  pub tagged_lanes-more : (lane : ℕ) → has_tag tag (bucket_at slots ((start + lane) % length slots)) ≡ true
+  pub tagged_lanes-more : (start lane : ℕ) → has_tag tag (bucket_at slots ((start + lane) % length slots)) ≡ true
       → tagged_lanes slots tag start (lane + 1) ≡ tagged_lanes slots tag start lane ++
       (start + lane) % length slots ∷ []
-  tagged_lanes-more lane h = tagged_lanes-next lane ∙ rw h
+  tagged_lanes-more start lane h = tagged-next _ lane ∙ rw h
 
 module _ {T : Type 0} (slots : List (Slot T)) (hash : ℕ) where
   candidates-next : (steps : ℕ) → candidates slots hash (steps + 1)
-      ≡ candidates slots hash steps ++ if_tagged slots (hash_tag hash) 0 (probed (length slots) hash steps)
-  candidates-next steps = filter_of_map_range_with_len_more _ _ 0 steps steps (omega arith)
+      ≡ candidates slots hash steps ++ if_tagged slots (hash_tag hash) (probed (length slots) hash steps)
+  candidates-next steps = tagged-next slots (hash_tag hash) (probed (length slots) hash) steps
 
   -- the candidates of a group follow those of the groups before
   pub candidates-group : (s lanes : ℕ) → s % 16 ≡ 0 → lanes ≤ 16
@@ -84,14 +84,14 @@ module _ {T : Type 0} (slots : List (Slot T)) (hash : ℕ) where
       let start = probed (length slots) hash s in
       ap (candidates slots hash) e
       ∙ candidates-next (s + lanes)
-      ∙ ap (λ b. candidates slots hash (s + lanes) ++ if_tagged slots (hash_tag hash) 0 b)
+      ∙ ap (λ b. candidates slots hash (s + lanes) ++ if_tagged slots (hash_tag hash) b)
       (probed-lane (length slots) hash s lanes whole (omega arith))
-      ∙ ap (λ xs. xs ++ if_tagged slots (hash_tag hash) start ((start + lanes) % length slots))
+      ∙ ap (λ xs. xs ++ if_tagged slots (hash_tag hash) ((start + lanes) % length slots))
       (candidates-group s lanes whole (omega arith))
       ∙ append_assoc (candidates slots hash s) (tagged_lanes slots (hash_tag hash) start lanes)
-      (if_tagged slots (hash_tag hash) start ((start + lanes) % length slots))
+      (if_tagged slots (hash_tag hash) ((start + lanes) % length slots))
       ∙ ap (λ xs. candidates slots hash s ++ xs)
-      (sym (tagged_lanes-next slots (hash_tag hash) start lanes) ∙ ap (tagged_lanes slots (hash_tag hash) start) f)
+      (sym (tagged-next slots (hash_tag hash) (λ lane. (start + lane) % length slots) lanes) ∙ ap (tagged_lanes slots (hash_tag hash) start) f)
 
   -- each candidate is there once
   pub candidates-distinct : (steps : ℕ) → IsPowerFromFour (length slots) → steps ≤ length slots

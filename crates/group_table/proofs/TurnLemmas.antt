@@ -8,18 +8,19 @@ use Rattle.std.proofs.lemmas.List.{ext_get_or}
 use Rattle.group_table.specs.Link.{IsLinkType}
 use Rattle.group_table.specs.Sizes.{full_capacity}
 use Rattle.group_table.specs.Bucket.{entry_count}
-use Rattle.group_table.specs.Probe.{hash_tag, probed}
+use Rattle.group_table.specs.Probe.{hash_tag, probed, IsFirst}
 use Rattle.group_table.specs.Control.{buckets_of}
-use Rattle.group_table.specs.Group.{IsReachedFreeByte}
+use Rattle.group_table.specs.Group.{full_at}
 use Rattle.group_table.specs.Layout.{slots_of, written}
-use Rattle.group_table.specs.Moves.{place_at, Joins, Moves}
+use Rattle.group_table.specs.Moves.{place_at, Joins}
+use Rattle.group_table.specs.Relocation.{Moves}
 use Rattle.group_table.specs.InPlace.{IsSettled, IsWaiting, IsHalfway, IsInTurn}
 use Rattle.group_table.proofs.ControlLemmas.{buckets_are}
-use Rattle.group_table.proofs.LayoutLemmas.{length-laid_out, entries_within}
-use Rattle.group_table.proofs.PlaceLemmas.{some_free_byte}
-use Rattle.group_table.proofs.JoinLemmas.{some_buckets, join_within, join_none, IsValid-joined, joins_there}
+use Rattle.group_table.proofs.LayoutLemmas.{length-laid_out, length-marks_by, entries_within}
+use Rattle.group_table.proofs.PlaceLemmas.{IsFreeFor, some_free_byte}
+use Rattle.group_table.proofs.JoinLemmas.{some_buckets, first_reached, join_within, join_none, IsValid-joined, joins_there}
 use Rattle.group_table.proofs.JoinLemmas.{deleted_count-joined}
-use Rattle.group_table.proofs.MoveLemmas.{Moves-more, KeepsMovedHashes-more}
+use Rattle.group_table.proofs.MoveLemmas.{Moves-more, KeepsHashes-more}
 use Rattle.group_table.proofs.RelocationLemmas.{entry_count-laid_out}
 use Rattle.group_table.proofs.PlaceCounts.{place_within, count-filled, count-changed, count-taken, count-fewer}
 use Rattle.group_table.proofs.HalfwayLemmas.{buckets_now, settled_by_none, waiting_by_none, stood_there}
@@ -72,9 +73,15 @@ module _ {T N : Type 0} {number : N → ℕ} {none : N} {IsGiven : (ℕ → ℕ)
   n_placed : buckets_of control ≡ length half.placed
   n_placed = buckets_are _ _ half.valid.laid_out
 
-  module _ {hash b : ℕ} (reached : IsReachedFreeByte control (buckets_of control) hash b) where
+  -- the first free bucket is one that a search reaches
+  pub put_reached : {hash b : ℕ} → IsFirst (full_at control) (probed (buckets_of control) hash) b
+      → IsFreeFor control half.placed hash b
+  put_reached {hash} {b} first =
+      first_reached control half.placed half.room half.valid half.none_deleted less hash b _ n_placed first
+
+  module _ {hash b : ℕ} (reached : IsFreeFor control half.placed hash b) where
     in_placed : b < length half.placed
-    in_placed = join_within control half.placed half.room half.valid half.none_deleted less hash b _ n_placed reached
+    in_placed = join_within control half.placed half.room half.valid half.none_deleted less hash b reached
 
     pub put_within : b < length now
     put_within = omega (arith, in_placed, half.placed_length, half.now_length)
@@ -84,11 +91,11 @@ module _ {T N : Type 0} {number : N → ℕ} {none : N} {IsGiven : (ℕ → ℕ)
 
   module _ (link : ℕ → N) (eq : N → N → Bool) (laws : IsLinkType number link none eq)
       (below : length whole < number none) (hash b tag : ℕ)
-      (reached : IsReachedFreeByte control (buckets_of control) hash b)
+      (reached : IsFreeFor control half.placed hash b)
       (tag_is : tag ≡ hash_tag hash) (tag_fits : tag < 128)
       (gives : (hash_at : ℕ → ℕ) → IsGiven hash_at → hash ≡ hash_at old) where
     free_placed : place_at half.placed b ≡ None
-    free_placed = join_none control half.placed half.room half.valid half.none_deleted less hash b _ n_placed reached
+    free_placed = join_none control half.placed half.room half.valid half.none_deleted less hash b reached
 
     same_bytes : written control now b tag ≡ written control half.placed b tag
     same_bytes = ap (λ k. set (set control b tag) (b + max 16 k) tag) (sym (buckets_now half) ∙ n_placed)
@@ -103,7 +110,7 @@ module _ {T N : Type 0} {number : N → ℕ} {none : N} {IsGiven : (ℕ → ℕ)
     now_then = set now b (Some entry)
 
     joins : Joins (slots_of control half.placed) (slots_of (written control half.placed b tag) placed_then) hash entry b
-    joins = joins_there control half.placed half.room half.valid half.none_deleted less hash b _ n_placed reached tag
+    joins = joins_there control half.placed half.room half.valid half.none_deleted less hash b reached tag
         entry tag_fits tag_is
 
     was_out : place_at half.gone old ≡ None
@@ -185,7 +192,7 @@ module _ {T N : Type 0} {number : N → ℕ} {none : N} {IsGiven : (ℕ → ℕ)
         placed_length = length-set half.placed b (Some entry) ∙ half.placed_length ∙ same_length ∙ sym next_length;
         now_length = length-set now b (Some entry) ∙ half.now_length ∙ same_length ∙ sym next_length;
         links_length = length-set links old (link b) ∙ half.links_length ∙ same_length ∙ sym next_length;
-        valid = IsValid-joined control half.placed half.room half.valid half.none_deleted less hash b _ n_placed reached
+        valid = IsValid-joined control half.placed half.room half.valid half.none_deleted less hash b reached
             tag entry tag_fits;
         none_deleted = deleted_count-joined joins ∙ half.none_deleted;
         counted = counted;
@@ -196,7 +203,7 @@ module _ {T N : Type 0} {number : N → ℕ} {none : N} {IsGiven : (ℕ → ℕ)
               [ inl s ↦ inl (still_settled k w.0 w.1 s) | inr v ↦ inr (still_waiting k w.0 w.1 v) ]
         ];
         moves = moves_then;
-        hashes = λ hash_at given. KeepsMovedHashes-more number none link eq laws (place_at half.gone)
+        hashes = λ hash_at given. KeepsHashes-more number none link eq laws (place_at half.gone)
             (place_at gone_then) old was_out gone_there gone_elsewhere
             (omega (arith, half.links_length, same_length, in_whole))
             (omega (arith, in_placed reached, half.placed_length, same_length, below)) joins half.moves hash_at
@@ -280,15 +287,19 @@ module _ {T N : Type 0} (number : N → ℕ) (none : N) (link : ℕ → N) (eq :
       → IsHalfway number none IsGiven whole now (written control now b tag) (set links b (link b)) (b + 1)
   IsHalfway-stays hash tag first tag_is tag_fits gives =
       let taken_length = length-set now b None in
-      let reached : IsReachedFreeByte control (buckets_of control) hash b = record {
-        step = first.0;
-        there = first.2;
-        free_there = byte;
-        full_before = λ before p. absurd (omega (arith, first.1));
-      } in
       let half_taken = IsHalfway-taken number none IsGiven whole now control links b half entry byte there in
       let stood = stood_there number none IsGiven whole now control links b half entry byte there in
       let free = get_or-set_same now b None None (place_within now b entry there) in
+      let laid_out = half_taken.valid.laid_out in
+      let same = buckets_are _ _ laid_out ∙ sym (length-marks_by control half_taken.placed laid_out) in
+      let reached : IsFreeFor control half_taken.placed hash b = (
+        record {
+          step = first.0;
+          there = subst (λ n. probed n hash first.0 ≡ b) same first.2;
+          goes_on = λ before p. absurd (omega (arith, first.1));
+        },
+        byte,
+      ) in
       let last = IsHalfway-last whole b half_taken stood within link eq laws below
       hash b tag reached tag_is tag_fits gives free in
       rw (put_back, taken_length) at last

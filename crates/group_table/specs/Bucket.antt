@@ -1,5 +1,5 @@
 -- What is in the buckets of a table: in full (slots), or without tags and entries (marks, the bucket states).
-use Rattle.std.specs.Prelude.{ℕ, ◌-◌, if◌then◌else◌, Bool, true, false, List, length, map, count_by, slice_index_or}
+use Rattle.std.specs.Prelude.{◌≡◌, ℕ, ◌-◌, if◌then◌else◌, Bool, true, false, List, length, map, count_by, slice_index_or}
 use Rattle.std.specs.Prelude.{nat_eq, Option, Some, None, IsTrue}
 use Rattle.group_table.specs.Sizes.{full_capacity}
 
@@ -45,6 +45,10 @@ module _ {A : Type 0} where
   -- the bucket is full
   abbrev pub IsFull : List (Bucket A) → ℕ → Type 0
   IsFull buckets b = IsTrue (is_full (bucket_at buckets b))
+
+  -- the bucket is empty
+  abbrev pub IsEmpty : List (Bucket A) → ℕ → Type 0
+  IsEmpty buckets b = bucket_at buckets b ≡ empty
 
   -- how many buckets are full
   abbrev pub entry_count : List (Bucket A) → ℕ

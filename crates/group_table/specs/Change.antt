@@ -1,6 +1,6 @@
 -- How a placing and a removal change a table.
 use Rattle.std.specs.Prelude.{◌≡◌, ℕ, ◌+◌, ◌-◌, ◌^◌, ◌<◌, ◌⊎◌, min, List, length, slice_set}
-use Rattle.group_table.specs.Bucket.{Slot, Mark, empty, deleted, bucket_at, marks_of, room}
+use Rattle.group_table.specs.Bucket.{Slot, Mark, empty, deleted, bucket_at, IsEmpty, marks_of, room}
 use Rattle.group_table.specs.Probe.{filled, IsFirstFree}
 use Rattle.group_table.specs.Neighbours.{HasEmptyNeighbours, IsHemmedIn}
 use Rattle.group_table.specs.Table.{Table}
@@ -28,5 +28,5 @@ module _ {T : Type 0} where
   -- the bucket is emptied if every 16 neighbours hold an empty one, and else it is deleted
   abbrev pub Removes : List (Slot T) → List (Slot T) → ℕ → Type 0
   Removes old new b =
-      (HasEmptyNeighbours (marks_of old) b × (new ≡ slice_set old b empty))
-      ⊎ (IsHemmedIn (marks_of old) b × (new ≡ slice_set old b deleted))
+      (HasEmptyNeighbours (IsEmpty (marks_of old)) (length (marks_of old)) b × (new ≡ slice_set old b empty))
+      ⊎ (IsHemmedIn (IsEmpty (marks_of old)) (length (marks_of old)) b × (new ≡ slice_set old b deleted))

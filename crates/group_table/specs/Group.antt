@@ -1,13 +1,12 @@
 -- What the code reads in the group of buckets that begins at a place. No public clause cites this module.
-use Rattle.std.specs.Prelude.{◌≡◌, ◌≢◌, ℕ, ◌+◌, ◌-◌, ◌/◌, ◌%◌, ◌<◌, ◌≤◌, min, Bool, true, List, [], ◌∷◌, ◌++◌, length, map}
-use Rattle.std.specs.Prelude.{filter, slice_index}
-use Rattle.std.specs.List.{range_with_len}
+use Rattle.std.specs.Prelude.{◌≡◌, ◌≢◌, ℕ, ◌+◌, ◌-◌, ◌/◌, ◌%◌, ◌<◌, ◌≤◌, min, Bool, true, List, [], ◌∷◌, ◌++◌, length}
+use Rattle.std.specs.Prelude.{nat_lt, slice_index}
 use Rattle.std.specs.Borrow.{Bor}
 use Rattle.std.specs.Fn.{Mut}
-use Rattle.group_table.specs.Bucket.{Slot, empty, bucket_at, has_tag, marks_of}
-use Rattle.group_table.specs.Probe.{probed}
-use Rattle.group_table.specs.Bytes.{empty_byte, IsTag, IsFreeByte}
-use Rattle.group_table.specs.Search.{Answers, RefusesEach}
+use Rattle.group_table.specs.Bucket.{Slot, empty, bucket_at, marks_of}
+use Rattle.group_table.specs.Probe.{probed, IsFirst}
+use Rattle.group_table.specs.Bytes.{empty_byte, deleted_byte}
+use Rattle.group_table.specs.Search.{tagged, Answers, RefusesEach}
 use Rattle.group_table.specs.declared.probe.Probe.{Probe}
 use Rattle.group_table.specs.declared.probe.Asked.{Asked}
 use Rattle.group_table.specs.declared.probe.Asked.TheVariants.{Accepted, Ended, GoesOn}
@@ -29,9 +28,7 @@ module _ {T : Type 0} (slots : List (Slot T)) where
 
   -- the buckets with the tag among the first lanes
   abbrev pub tagged_lanes : ℕ → ℕ → ℕ → List ℕ
-  tagged_lanes tag start lanes =
-      filter (λ b. has_tag tag (bucket_at slots b))
-      (map (λ lane. (start + lane) % length slots) (range_with_len 0 lanes))
+  tagged_lanes tag start lanes = tagged slots tag (λ lane. (start + lane) % length slots) lanes
 
   -- the bucket at the lane is empty
   abbrev pub IsEmptyLane : ℕ → ℕ → Type 0
@@ -67,27 +64,18 @@ module _ {T F : Type 0} (closure : Mut F (Bor T × Unit {0}) Bool) (slots : List
   AsksGroup Ended g = RefusesGroup g × HasEmptyLane slots start (width slots)
   AsksGroup GoesOn g = RefusesGroup g × HasNoEmptyLane slots start (width slots)
 
--- the byte of the bucket at some lane is that of an empty or a deleted bucket, and those at the lanes before are not
+-- the byte of the bucket is a tag
+abbrev pub full_at : List ℕ → ℕ → Bool
+full_at control b = nat_lt (slice_index control b) deleted_byte
+
+-- the byte of the bucket is that of an empty one
+abbrev pub IsEmptyAt : List ℕ → ℕ → Type 0
+IsEmptyAt control b = slice_index control b ≡ empty_byte
+
+-- the first bucket of the group that begins here that is empty or deleted
 pub record IsFreeLane (control : List ℕ) (buckets start b : ℕ) : Type 0 where
-  pub lane : ℕ
-  pub in_group : lane < 16
-  pub there : (start + lane) % buckets ≡ b
-  pub free_there : IsFreeByte (slice_index control b)
-  pub full_before : (before : ℕ) → before < lane → IsTag (slice_index control ((start + before) % buckets))
-
--- the same over the steps of a search for the hash
-pub record IsFirstFreeByte (control : List ℕ) (buckets hash b : ℕ) : Type 0 where
-  pub step : ℕ
-  pub there : probed buckets hash step ≡ b
-  pub free_there : IsFreeByte (slice_index control b)
-  pub full_before : (before : ℕ) → before < step → IsTag (slice_index control (probed buckets hash before))
-
--- the byte of the bucket is that of an empty or a deleted bucket, and a search for the hash reads none before its group
-pub record IsReachedFreeByte (control : List ℕ) (buckets hash b : ℕ) : Type 0 where
-  pub step : ℕ
-  pub there : probed buckets hash step ≡ b
-  pub free_there : IsFreeByte (slice_index control b)
-  pub full_before : (before : ℕ) → before / 16 < step / 16 → IsTag (slice_index control (probed buckets hash before))
+  pub first : IsFirst (full_at control) (λ lane. (start + lane) % buckets) b
+  pub in_group : first.step < 16
 
 -- `run` used buckets are directly before this one: 16, or all up to an empty one
 pub record IsRunBefore (control : List ℕ) (buckets b run : ℕ) : Type 0 where
@@ -101,16 +89,3 @@ pub record IsRunFrom (control : List ℕ) (buckets b run : ℕ) : Type 0 where
   pub bound : run ≤ 16
   pub used : (steps : ℕ) → steps < run → slice_index control ((b + steps) % buckets) ≢ empty_byte
   pub ends : run < 16 → slice_index control ((b + run) % buckets) ≡ empty_byte
-
--- every 16 neighbouring buckets that hold this one have the byte of an empty one
-abbrev pub EmptyNeighbourBytes : List ℕ → ℕ → ℕ → Type 0
-EmptyNeighbourBytes control buckets b = (start at : ℕ) → at < 16 → (start + at) % buckets ≡ b
-    → (lane : ℕ) × (lane < 16) × (slice_index control ((start + lane) % buckets) ≡ empty_byte)
-
--- some 16 neighbouring buckets that hold this one have none
-pub record HemmedInBytes (control : List ℕ) (buckets b : ℕ) : Type 0 where
-  pub start : ℕ
-  pub at : ℕ
-  pub within : at < 16
-  pub there : (start + at) % buckets ≡ b
-  pub none_empty : (lane : ℕ) → lane < 16 → slice_index control ((start + lane) % buckets) ≢ empty_byte

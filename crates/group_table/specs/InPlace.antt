@@ -4,7 +4,8 @@ use Rattle.std.specs.Prelude.{is_some}
 use Rattle.group_table.specs.Bucket.{is_deleted}
 use Rattle.group_table.specs.Bytes.{IsFreeByte}
 use Rattle.group_table.specs.Layout.{slots_of, IsValid}
-use Rattle.group_table.specs.Moves.{place_at, Moves, KeepsMovedHashes}
+use Rattle.group_table.specs.Moves.{place_at}
+use Rattle.group_table.specs.Relocation.{Moves, KeepsHashes}
 
 -- of the places that are not passed, each whose bucket is free holds what it held before
 abbrev pub StaysWhereFree : {T : Type 0} → List (Option T) → List (Option T) → List ℕ → ℕ → Type 0
@@ -42,7 +43,7 @@ module _ {T N : Type 0} (number : N → ℕ) (none : N) (IsGiven : (ℕ → ℕ)
     pub each : (b : ℕ) → IsSettled old gone placed now b ⊎ IsWaiting old gone placed now b
     pub moves : Moves number none (place_at gone) (slots_of control placed) links
     pub hashes : (hash_at : ℕ → ℕ) → IsGiven hash_at
-        → KeepsMovedHashes number none (place_at gone) (slots_of control placed) links hash_at
+        → KeepsHashes number none (place_at gone) (slots_of control placed) links hash_at
 
   -- between two turns: with an entry in hand, whose old place counts as free; or with no entry in hand
   abbrev pub IsInTurn : List (Option T) → List (Option T) → List ℕ → List N → ℕ → ℕ → Option T → Type 0

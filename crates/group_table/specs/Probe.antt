@@ -1,6 +1,6 @@
 -- What the hash of an entry says: the tag in its bucket, and in which order a search visits the buckets.
-use Rattle.std.specs.Prelude.{◌≡◌, ◌≢◌, ℕ, ◌+◌, ◌*◌, ◌/◌, ◌%◌, ◌^◌, ◌<◌, false, List, length}
-use Rattle.group_table.specs.Bucket.{Slot, Mark, empty, full, bucket_at, is_full, IsFull}
+use Rattle.std.specs.Prelude.{◌≡◌, ◌≢◌, ℕ, ◌+◌, ◌*◌, ◌/◌, ◌%◌, ◌^◌, ◌<◌, Bool, false, List, length, IsTrue}
+use Rattle.group_table.specs.Bucket.{Slot, Mark, empty, full, bucket_at, is_full}
 
 -- the top 7 bits of a hash
 abbrev pub hash_tag : ℕ → ℕ
@@ -15,6 +15,13 @@ filled hash entry = full (record { tag = hash_tag hash; entry = entry })
 abbrev pub probed : ℕ → ℕ → ℕ → ℕ
 probed buckets hash step = (hash + 8 * (step / 16) * (step / 16 + 1) + step % 16) % buckets
 
+-- the first bucket in an order that is not full
+pub record IsFirst (full_at : ℕ → Bool) (order : ℕ → ℕ) (b : ℕ) : Type 0 where
+  pub step : ℕ
+  pub there : order step ≡ b
+  pub free_there : full_at b ≡ false
+  pub full_before : (before : ℕ) → before < step → IsTrue (full_at (order before))
+
 module _ (marks : List Mark) (hash : ℕ) where
   -- what is in the bucket that a search visits at a step
   abbrev pub mark_probed : ℕ → Mark
@@ -27,8 +34,5 @@ module _ (marks : List Mark) (hash : ℕ) where
     pub goes_on : (before : ℕ) → before / 16 < step / 16 → mark_probed before ≢ empty
 
   -- the first bucket in the order of a search that is empty or deleted
-  pub record IsFirstFree (b : ℕ) : Type 0 where
-    pub step : ℕ
-    pub there : probed (length marks) hash step ≡ b
-    pub free_there : is_full (bucket_at marks b) ≡ false
-    pub full_before : (before : ℕ) → before < step → IsFull marks (probed (length marks) hash before)
+  abbrev pub IsFirstFree : ℕ → Type 0
+  IsFirstFree = IsFirst (λ b. is_full (bucket_at marks b)) (probed (length marks) hash)

@@ -1,5 +1,5 @@
--- How the entries of a table move into a fresh one, and how a table is copied.
-use Rattle.std.specs.Prelude.{◌≡◌, ℕ, ◌<◌, ◌⊎◌, List, [], length, slice_index_or, Some, None}
+-- How the entries of a table move into a fresh one.
+use Rattle.std.specs.Prelude.{◌≡◌, ℕ, ◌⊎◌, List, [], length, slice_index_or, Option, Some, None}
 use Rattle.std.specs.Borrow.{Bor}
 use Rattle.std.specs.Fn.{Shared, FnReturnsAt}
 use Rattle.group_table.specs.Bucket.{Slot, entry_at, entry_count, IsFull}
@@ -10,29 +10,35 @@ module _ {N : Type 0} (number : N → ℕ) (none : N) where
   abbrev pub moved_to : List N → ℕ → ℕ
   moved_to links b = number (slice_index_or links b none)
 
+-- Below, `old b` is the entry that was in the old bucket b, if there was one.
+module _ {T N : Type 0} (number : N → ℕ) (none : N) (old : ℕ → Option T) (new : List (Slot T)) (links : List N) where
+  -- each entry is where its link leads to, in a bucket of its own, and no other entry is there
+  pub record Moves : Type 0 where
+    pub moved : (b : ℕ) (entry : T) → old b ≡ Some entry → entry_at new (moved_to number none links b) ≡ Some entry
+    pub others : (b : ℕ) → old b ≡ None → slice_index_or links b none ≡ none
+    pub apart : (b c : ℕ) (x y : T) → old b ≡ Some x → old c ≡ Some y
+        → moved_to number none links b ≡ moved_to number none links c → b ≡ c
+    pub onto : (c : ℕ) → IsFull new c
+        → (b : ℕ) × (entry : T) × (old b ≡ Some entry) × (moved_to number none links b ≡ c)
+
+  -- hashes by which each entry has the hash that it had fit the new table
+  abbrev pub KeepsHashes : (ℕ → ℕ) → Type 0
+  KeepsHashes hash_of = (moved_hash_of : ℕ → ℕ)
+      → ((b : ℕ) (entry : T) → old b ≡ Some entry → moved_hash_of (moved_to number none links b) ≡ hash_of b)
+      → Fits new moved_hash_of
+
 module _ {T N : Type 0} (number : N → ℕ) (none : N) where
-  -- the links have a place for each old bucket: where its entry stands now, or none
+  -- the links have a place for each old bucket
   pub record IsRenumbering (old new : List (Slot T)) (links : List N) : Type 0 where
     pub one_each : length links ≡ length old
-    pub moved : (b : ℕ) (entry : T)
-        → entry_at old b ≡ Some entry → entry_at new (moved_to number none links b) ≡ Some entry
-    pub others : (b : ℕ) → b < length old → entry_at old b ≡ None → slice_index_or links b none ≡ none
-    -- no two entries move to one bucket, and no bucket has an entry that did not move there
-    pub apart : (b c : ℕ) → IsFull old b → IsFull old c
-        → moved_to number none links b ≡ moved_to number none links c → b ≡ c
-    pub onto : (c : ℕ) → IsFull new c → (b : ℕ) × IsFull old b × (moved_to number none links b ≡ c)
+    pub moves : Moves number none (entry_at old) new links
 
   -- without entries there is nothing to renumber
   abbrev pub Renumbers : List (Slot T) → List (Slot T) → List N → Type 0
   Renumbers old new links = ((entry_count old ≡ 0) × (links ≡ [])) ⊎ IsRenumbering old new links
 
-  -- hashes by which each entry has the hash that it had fit the new table
-  abbrev pub KeepsHashes : List (Slot T) → List (Slot T) → List N → (ℕ → ℕ) → Type 0
-  KeepsHashes old new links hash_of = (moved_hash_of : ℕ → ℕ)
-      → ((b : ℕ) → IsFull old b → moved_hash_of (moved_to number none links b) ≡ hash_of b) → Fits new moved_hash_of
-
 module _ {T H : Type 0} (closure : Shared H (Bor T × Unit {0}) ℕ) (f : H) where
   -- the closure returns the hash of the entry in a bucket
-  abbrev pub GivesHashes : List (Slot T) → (ℕ → ℕ) → Type 0
-  GivesHashes slots hash_of = (b hash : ℕ) (entry : T)
-      → entry_at slots b ≡ Some entry → FnReturnsAt closure f entry hash → hash ≡ hash_of b
+  abbrev pub GivesHashes : (ℕ → Option T) → (ℕ → ℕ) → Type 0
+  GivesHashes old hash_of = (b hash : ℕ) (entry : T)
+      → old b ≡ Some entry → FnReturnsAt closure f entry hash → hash ≡ hash_of b

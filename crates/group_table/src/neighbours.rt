@@ -2,7 +2,8 @@
 ghost use Rattle.std.specs.Prelude.{◌≡◌, ◌≢◌, ℕ, ◌+◌, ◌-◌, ◌%◌, ◌<◌, slice_index, MatchBool};
 ghost use Rattle.group_table.specs.Bytes.{empty_byte};
 ghost use Rattle.group_table.specs.Control.{buckets_of, HasEmptyByte, IsCircle};
-ghost use Rattle.group_table.specs.Group.{EmptyNeighbourBytes, HemmedInBytes};
+ghost use Rattle.group_table.specs.Neighbours.{HasEmptyNeighbours, IsHemmedIn};
+ghost use Rattle.group_table.specs.Group.{IsEmptyAt};
 ghost use Rattle.group_table.specs.Lanes.{IsMaskAt};
 
 use crate::control::Control;
@@ -34,8 +35,8 @@ pub(crate) fn has_empty_neighbours(control: &Control, b: usize) -> bool
     requires bucket { b < buckets_of control.now }
     requires used { slice_index control.now b ≢ empty_byte }
     requires some_empty { HasEmptyByte control.now }
-    ensures { MatchBool result (EmptyNeighbourBytes control.now (buckets_of control.now) b)
-        (HemmedInBytes control.now (buckets_of control.now) b) }
+    ensures { MatchBool result (HasEmptyNeighbours (IsEmptyAt control.now) (buckets_of control.now) b)
+        (IsHemmedIn (IsEmptyAt control.now) (buckets_of control.now) b) }
 {
     is_gap_below_sixteen(empty_before(control, b), empty_from(control, b))
 }

@@ -1,10 +1,10 @@
 //! Searches for a hash, group by group, over the control bytes and the entries.
-ghost use Rattle.std.specs.Prelude.{◌≡◌, ◌↔◌, ℕ, ◌+◌, ◌%◌, ◌^◌, ◌<◌, ◌≤◌, length, slice_index, IfSome, IfNone, IsTrue};
+ghost use Rattle.std.specs.Prelude.{◌≡◌, ◌↔◌, ℕ, ◌+◌, ◌%◌, ◌^◌, ◌<◌, ◌≤◌, length, IfSome, IfNone, IsTrue};
 ghost use Rattle.group_table.specs.Sizes.{IsPowerFromFour};
 ghost use Rattle.group_table.specs.Bucket.{bucket_at, empty};
-ghost use Rattle.group_table.specs.Probe.{probed};
+ghost use Rattle.group_table.specs.Probe.{probed, IsFirst};
 ghost use Rattle.group_table.specs.Search.{Finds, FindsNone};
-ghost use Rattle.group_table.specs.Group.{IsProbe, passed_by, AsksGroup, IsFreeLane, IsFirstFreeByte};
+ghost use Rattle.group_table.specs.Group.{IsProbe, passed_by, AsksGroup, IsFreeLane, full_at};
 ghost use Rattle.group_table.specs.Bytes.{IsTag};
 ghost use Rattle.group_table.specs.Control.{buckets_of, HasFreeByte, IsCircle};
 ghost use Rattle.group_table.specs.Layout.{IsLaidOut, slots_of, marks_by};
@@ -125,7 +125,7 @@ fn free_in_group(control: &Control, start: usize) -> Option<usize>
     requires some_free { HasFreeByte control.now }
     ensures found { IfSome result (IsFreeLane control.now (buckets_of control.now) start) }
     ensures none { IfNone result (
-        (lane : ℕ) → lane < 16 → IsTag (slice_index control.now ((start + lane) % buckets_of control.now))) }
+        (lane : ℕ) → lane < 16 → IsTrue (full_at control.now ((start + lane) % buckets_of control.now))) }
 {
     let mask = control.group(start).match_free();
     if mask == 0 {
@@ -142,7 +142,7 @@ fn free_in_group(control: &Control, start: usize) -> Option<usize>
 // Returns the first bucket in the order of a search for the hash that is empty or deleted.
 pub(crate) fn first_free(control: &Control, hash: u64) -> usize
     requires { HasFreeByte control.now }
-    ensures { IsFirstFreeByte control.now (buckets_of control.now) hash result }
+    ensures { IsFirst (full_at control.now) (probed (buckets_of control.now) hash) result }
 {
     let mut probe = Probe::of(control, hash);
     'groups: loop {

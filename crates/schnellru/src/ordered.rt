@@ -352,7 +352,8 @@ fn renumber_entries<K: Eq + Hash, V, N: LinkType, S: BuildHasher>(
     ensures entries { OnOk result (entry_count table.new.slots ≡ entry_count table.old.slots) }
     ensures room { OnOk result (room (marks_of table.new.slots) + entry_count table.old.slots ≡ full_capacity buckets) }
     ensures placings { OnOk result (table.new.placings ≡ count_up table.old.placings (entry_count table.old.slots)) }
-    ensures hashes { IfOk result (λ links. KeepsHashes N.number N.MAX table.old.slots table.new.slots links.items
+    ensures hashes { IfOk result (λ links.
+        KeepsHashes N.number N.MAX (entry_at table.old.slots) table.new.slots links.items
         (hash_in (hash_by K.hash_input S.BuildHasher S.Hasher.Hasher hasher.now) (pair_slots table.old.slots))) }
     ensures table { IsTable (marks_of table.new.slots) }
     ensures unchanged { OnErr result (table.new ≡ table.old) }

@@ -5,7 +5,8 @@ ghost use Rattle.group_table.specs.Sizes.{IsPowerFromFour, full_capacity};
 ghost use Rattle.group_table.specs.Bytes.{empty_byte};
 ghost use Rattle.group_table.specs.Bucket.{is_deleted};
 ghost use Rattle.group_table.specs.Layout.{slots_of, IsLaidOut, IsValid};
-ghost use Rattle.group_table.specs.Moves.{place_at, Moves, KeepsMovedHashes, GivesMovedHashes};
+ghost use Rattle.group_table.specs.Moves.{place_at};
+ghost use Rattle.group_table.specs.Relocation.{Moves, KeepsHashes, GivesHashes};
 
 use crate::control::{Control, DELETED, EMPTY, tag_of};
 use crate::entries::Entries;
@@ -42,8 +43,8 @@ pub(crate) fn place_again<T, N: LinkType, H: Fn(&T) -> u64>(
     ensures entries { count_by is_some entries.new ≡ count_by is_some entries.old }
     ensures moves { Moves N.number N.MAX (place_at entries.old)
         (slots_of control.new entries.new) links.new.items }
-    ensures hashes { (hash_at : ℕ → ℕ) → GivesMovedHashes H.Fn hash_of.now entries.old hash_at →
-        KeepsMovedHashes N.number N.MAX (place_at entries.old)
+    ensures hashes { (hash_at : ℕ → ℕ) → GivesHashes H.Fn hash_of.now (place_at entries.old) hash_at →
+        KeepsHashes N.number N.MAX (place_at entries.old)
         (slots_of control.new entries.new) links.new.items hash_at }
 {
     for b in 0..before.buckets() {

@@ -4,7 +4,8 @@ ghost use Rattle.std.specs.Prelude.{None};
 ghost use Rattle.group_table.specs.Sizes.{full_capacity};
 ghost use Rattle.group_table.specs.Bucket.{empty, bucket_at, is_deleted, entry_count};
 ghost use Rattle.group_table.specs.Layout.{IsLaidOut};
-ghost use Rattle.group_table.specs.Moves.{place_at, Joins, Moves, KeepsMovedHashes, GivesMovedHashes};
+ghost use Rattle.group_table.specs.Moves.{place_at, Joins};
+ghost use Rattle.group_table.specs.Relocation.{Moves, KeepsHashes, GivesHashes};
 
 use crate::control::{Control, DELETED, tag_of};
 use crate::entries::Entries;
@@ -54,8 +55,8 @@ pub(crate) fn move_entries<T, N: LinkType, H: Fn(&T) -> u64>(
     ensures none_deleted { count_by is_deleted fresh.new.slots ≡ 0 }
     ensures entries { entry_count fresh.new.slots ≡ count_by is_some old.old }
     ensures moves { Moves N.number N.MAX (place_at old.old) fresh.new.slots links.new.items }
-    ensures hashes { (hash_at : ℕ → ℕ) → GivesMovedHashes H.Fn hash_of.now old.old hash_at →
-        KeepsMovedHashes N.number N.MAX (place_at old.old) fresh.new.slots links.new.items hash_at }
+    ensures hashes { (hash_at : ℕ → ℕ) → GivesHashes H.Fn hash_of.now (place_at old.old) hash_at →
+        KeepsHashes N.number N.MAX (place_at old.old) fresh.new.slots links.new.items hash_at }
 {
     for b in 0..control.buckets() {
         if control.byte(b) < DELETED {

@@ -3,7 +3,7 @@
 //! They do not require `T: Drop`, so a body that forgets an entry or a table does not compile.
 ghost use Rattle.std.specs.Prelude.{◌≡◌, ℕ, ◌+◌, ◌^◌, ◌<◌, ◌≤◌, [], length, count_by, IfOk, OnErr, OnOk, IsOk};
 ghost use Rattle.group_table.specs.Sizes.{IsBucketCount, full_capacity};
-ghost use Rattle.group_table.specs.Bucket.{marks_of, entry_count, is_deleted, room};
+ghost use Rattle.group_table.specs.Bucket.{marks_of, entry_at, entry_count, is_deleted, room};
 ghost use Rattle.group_table.specs.Table.{IsTable};
 ghost use Rattle.group_table.specs.Change.{count_up};
 ghost use Rattle.group_table.specs.Relocation.{Renumbers, KeepsHashes, GivesHashes};
@@ -50,8 +50,9 @@ impl<T> Table<T> {
             room (marks_of self.new.slots) + entry_count self.old.slots ≡ full_capacity (length self.new.slots)) }
         ensures none_deleted { OnOk result (count_by is_deleted self.new.slots ≡ 0) }
         ensures placings { OnOk result (self.new.placings ≡ count_up self.old.placings (entry_count self.old.slots)) }
-        ensures hashes { IfOk result (λ links. (hash_at : ℕ → ℕ) → GivesHashes H.Fn hash_of self.old.slots hash_at →
-            KeepsHashes N.number N.MAX self.old.slots self.new.slots links.items hash_at) }
+        ensures hashes { IfOk result (λ links. (hash_at : ℕ → ℕ) →
+            GivesHashes H.Fn hash_of (entry_at self.old.slots) hash_at →
+            KeepsHashes N.number N.MAX (entry_at self.old.slots) self.new.slots links.items hash_at) }
         ensures table { IsTable (marks_of self.new.slots) }
         ensures unchanged { OnErr result (self.new ≡ self.old) }
         ensures succeeds { buckets ≡ 0 → IsOk result }
@@ -101,8 +102,9 @@ impl<T> Table<T> {
             room (marks_of self.new.slots) + entry_count self.old.slots ≡ full_capacity (length self.new.slots)) }
         ensures none_deleted { OnOk result (count_by is_deleted self.new.slots ≡ 0) }
         ensures placings { OnOk result (self.new.placings ≡ count_up self.old.placings (entry_count self.old.slots)) }
-        ensures hashes { IfOk result (λ links. (hash_at : ℕ → ℕ) → GivesHashes H.Fn hash_of self.old.slots hash_at →
-            KeepsHashes N.number N.MAX self.old.slots self.new.slots links.items hash_at) }
+        ensures hashes { IfOk result (λ links. (hash_at : ℕ → ℕ) →
+            GivesHashes H.Fn hash_of (entry_at self.old.slots) hash_at →
+            KeepsHashes N.number N.MAX (entry_at self.old.slots) self.new.slots links.items hash_at) }
         ensures table { IsTable (marks_of self.new.slots) }
         ensures unchanged { OnErr result (self.new ≡ self.old) }
         ensures succeeds { entry_count self.old.slots ≡ 0 → IsOk result }

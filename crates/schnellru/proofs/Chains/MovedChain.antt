@@ -74,19 +74,19 @@ module _ {N : Type 0} {number : N → ℕ} {none : N} {T : Type 0} {before after
   pub moved_entry : Renumbers number none before after links → (b : ℕ) → IsFull before b
       → entry_at after (moved_to number none links b) ≡ entry_at before b
   moved_entry (inl w) b there = absurd (no_full before b there w.0)
-  moved_entry (inr r) b there = let w = entry_by_full (bucket_at before b) there in r.moved b w.0 w.1 ∙ sym w.1
+  moved_entry (inr r) b there = let w = entry_by_full (bucket_at before b) there in r.moves.moved b w.0 w.1 ∙ sym w.1
 
   pub moved_apart : Renumbers number none before after links → (b c : ℕ) → IsFull before b → IsFull before c
       → moved_to number none links b ≡ moved_to number none links c → b ≡ c
   moved_apart (inl w) b c there other e = absurd (no_full before b there w.0)
-  moved_apart (inr r) b c there other e = r.apart b c there other e
+  moved_apart (inr r) b c there other e =
+      let x = entry_by_full (bucket_at before b) there in
+      let y = entry_by_full (bucket_at before c) other in
+      r.moves.apart b c x.0 y.0 x.1 y.1 e
 
   pub full_by_link : Renumbers number none before after links → (b : ℕ) → get_or links b none ≢ none → IsFull before b
   full_by_link (inl w) b leads = absurd (leads (ap (λ xs. get_or xs b none) w.1))
-  full_by_link (inr r) b leads = elim (dec_lt b (length links)) [
-    | yes p ↦ by_entry before b (entry_at before b) refl (λ e. leads (r.others b (omega (arith, r.one_each, p)) e))
-    | no p ↦ absurd (leads (get_or_past links b none (omega arith)))
-  ]
+  full_by_link (inr r) b leads = by_entry before b (entry_at before b) refl (λ e. leads (r.moves.others b e))
 
 module _ {N : Type 0} {number : N → ℕ} {none : N} {K V : Type 0} {start : List (Slot (Entry K V N))}
     {links : List N} where

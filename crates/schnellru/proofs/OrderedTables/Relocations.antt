@@ -2,9 +2,10 @@
 use Rattle.std.proofs.Common.{◌≡◌, ℕ, List, [], ◌∷◌, ◌++◌, map, Some, inl, inr, refl, ap, sym, ◌∙◌, subst, arith}
 use Rattle.std.specs.Prelude.{option_map, option_to_list, unwrap_or, Contains}
 use Rattle.std.proofs.lemmas.List.{length-map}
-use Rattle.group_table.specs.Bucket.{Slot, is_full, IsFull, entry_at, entry_count}
+use Rattle.group_table.specs.Bucket.{Slot, bucket_at, is_full, IsFull, entry_at, entry_count}
 use Rattle.group_table.specs.Relocation.{Renumbers, KeepsHashes, moved_to}
 use Rattle.group_table.proofs.BucketLemmas.{full_lt, count_by-pos}
+use Rattle.group_table.proofs.SearchLemmas.{full_by_entry}
 use Rattle.schnellru.specs.declared.ordered.Entry.{Entry}
 use Rattle.schnellru.specs.Inside.OrderedTable.{entries_in, hash_in, KeysFit}
 use Rattle.schnellru.specs.Inside.Chain.{pair_slots, IsChain, IsWhole}
@@ -31,7 +32,9 @@ module _ {N : Type 0} {number : N → ℕ} {none : N} {K V : Type 0} {before sta
       → IsFull start x → (b : ℕ) × IsFull before b × (moved_to number none links b ≡ x)
   came_from (inl w) counts x there = absurd
       (omega (arith, counts, w.0, count_by-pos is_full start x (full_lt start x there) there))
-  came_from (inr r) counts x there = r.onto x there
+  came_from (inr r) counts x there =
+      let w = r.moves.onto x there in
+      (w.0, full_by_entry (bucket_at before w.0) w.1 w.2, w.3)
 
   pub IsWhole-moved : {link : ℕ → N} {newest oldest newest' oldest' : N} {order : List ℕ}
       → IsWhole number link none before newest oldest order → entry_count start ≡ entry_count before
@@ -69,11 +72,12 @@ module _ {N : Type 0} {number : N → ℕ} {none : N} {K V : Type 0} {before sta
       ∙ pair_moved b (whole.chain.only b inside))
 
   -- the hashes of the keys fit, which the entries had before
-  pub KeysFit-moved : (hash_of : K → ℕ) → KeepsHashes number none before start links
+  pub KeysFit-moved : (hash_of : K → ℕ) → KeepsHashes number none (entry_at before) start links
       (hash_in hash_of (pair_slots before)) → KeysFit hash_of (pair_slots now)
   KeysFit-moved hash_of keeps =
       rw same (Fits-pair_slots start (hash_in hash_of (pair_slots start)) (keeps (hash_in hash_of (pair_slots start))
-      (λ b there. ap (λ o. unwrap_or (option_map (λ p. hash_of p.0) o) 0) (pair_moved b there))))
+      (λ b entry is. ap (λ o. unwrap_or (option_map (λ p. hash_of p.0) o) 0)
+      (pair_moved b (full_by_entry (bucket_at before b) entry is)))))
 
 -- the hash of the key of an entry
 pub hash_in-pair_slots : {K V N : Type 0} (hash_of : K → ℕ) (slots : List (Slot (Entry K V N))) (b : ℕ)

@@ -38,15 +38,15 @@ module _ {K V S H : Type 0} (rules : Rules K V S) (pair : K × V) (old : State K
   is_placed count spare moves outcome new o p = rw o (ap contents p.state)
 
   -- filling a bucket uses at most one of the growth left
-  spare : {hash : ℕ} (new : State K V S H) → FillsBucket hash old new → room old ≤ room new + 1
-  spare new (inl e) = omega (arith, e.1)
-  spare new (inr d) = omega (arith, d.2)
+  spare : (hash : ℕ) (new : State K V S H) → FillsBucket hash old new → room old ≤ room new + 1
+  spare hash new (inl e) = omega (arith, e.1)
+  spare hash new (inr d) = omega (arith, d.2)
 
   -- with growth left the pair is stored in the same table
   pub place_with_room : (hash_of : H → K → ℕ) → 0 < room old → (outcome : Outcome) (new : State K V S H)
       → Place rules hash_of pair old outcome new
       → (outcome ≡ placed) × IsPlaced pair (buckets old) (room new) 0 old new × (room old ≤ room new + 1)
-  place_with_room hash_of some outcome new (in_bucket l f s o p) = (o, p, spare new s)
+  place_with_room hash_of some outcome new (in_bucket l f s o p) = (o, p, spare _ new s)
   place_with_room hash_of some outcome new (rehashed b l p m) = absurd (omega (arith, some, b.no_room))
   place_with_room hash_of some outcome new (grown g count bytes t y m) = absurd
       (omega (arith, some, g.no_bucket.no_room))

@@ -1,7 +1,7 @@
-use Rattle.std.proofs.Common.{ℕ, ◌-◌, ◌<◌, slice_index}
+use Rattle.std.proofs.Common.{ℕ, ◌-◌, ◌<◌, IsTrue}
 use Rattle.group_table.specs.Probe.{probed}
 use Rattle.group_table.specs.Control.{buckets_of}
-use Rattle.group_table.specs.Group.{IsProbe, passed_by}
+use Rattle.group_table.specs.Group.{IsProbe, passed_by, full_at}
 use Rattle.group_table.proofs.probe.first_free.Given as goal
 
 abbrev pub invariant-groups : goal.invariant-groups
@@ -9,7 +9,7 @@ invariant-groups l = record {
   at : IsProbe (buckets_of l.control) l.hash l.probe;
   within : passed_by l.probe < buckets_of l.control;
   full_before : (before : ℕ) → before < passed_by l.probe
-      → slice_index l.control (probed (buckets_of l.control) l.hash before) < 128;
+      → IsTrue (full_at l.control (probed (buckets_of l.control) l.hash before));
 }
 
 abbrev pub decreases-groups : goal.decreases-groups

@@ -1,4 +1,5 @@
 use Rattle.std.proofs.Common.{◌<◌, ◌+◌, ◌%◌, slice_index, sym, arith}
+use Rattle.std.proofs.lemmas.Bool.{lt-ltb, le-ltb}
 use Rattle.group_table.specs.Bytes.{IsFreeByte}
 use Rattle.group_table.specs.Control.{buckets_of}
 use Rattle.group_table.proofs.Masks.{mask_at, mask_from_start, none_of_zero}
@@ -7,23 +8,25 @@ use Rattle.group_table.proofs.probe.free_in_group.Goals as goal
 
 pub returns-then-mask-eq0-clause-none : goal.returns-then-mask-eq0-clause-none
 returns-then-mask-eq0-clause-none c lane p =
-    full_lane _ _ c.group.ensures.circle.power c.requires.start _ c.group.ensures.circle.repeated _
+    lt-ltb _ 128 (full_lane _ _ c.group.ensures.circle.power c.requires.start _ c.group.ensures.circle.repeated _
     (mask_at IsFreeByte _ c.args.control.now c.args.start _ c.group.ensures.bytes c.match_free-mask.ensures) lane p
-    (none_of_zero _ lane c.if-mask-eq0.true)
+    (none_of_zero _ lane c.if-mask-eq0.true))
 
 pub returns-then-byte-ge-DELETED-clause-found : goal.returns-then-byte-ge-DELETED-clause-found
 returns-then-byte-ge-DELETED-clause-found c =
     let lane = c.lowest_lane.ensures in
     record {
-      lane = c.lowest_lane.result;
+      first = record {
+        step = c.lowest_lane.result;
+        there = sym c.wrap-b.ensures.value;
+        free_there = le-ltb _ 128 (omega (arith, c.if-byte-ge-DELETED.true));
+        full_before = λ before p. lt-ltb _ 128 (full_lane _ _ c.group.ensures.circle.power c.requires.start _
+            c.group.ensures.circle.repeated _
+            (mask_at IsFreeByte _ c.args.control.now c.args.start _ c.group.ensures.bytes c.match_free-mask.ensures)
+            before (omega (arith, p, lane.bound))
+            (λ set. omega (arith, p, lane.first before set)));
+      };
       in_group = lane.bound;
-      there = sym c.wrap-b.ensures.value;
-      free_there = omega (arith, c.if-byte-ge-DELETED.true);
-      full_before = λ before p. full_lane _ _ c.group.ensures.circle.power c.requires.start _
-          c.group.ensures.circle.repeated _
-          (mask_at IsFreeByte _ c.args.control.now c.args.start _ c.group.ensures.bytes c.match_free-mask.ensures)
-          before (omega (arith, p, lane.bound))
-          (λ set. omega (arith, p, lane.first before set));
     }
 
 pub lowest_lane-requires-2 : goal.lowest_lane-requires-2

@@ -6,7 +6,7 @@ use Rattle.group_table.proofs.LayoutLemmas.{length-laid_out, entries_within}
 use Rattle.group_table.proofs.PlaceLemmas.{some_free_byte}
 use Rattle.group_table.proofs.ControlLemmas.{buckets_are}
 use Rattle.group_table.proofs.JoinLemmas.{some_room, some_buckets, join_within, join_none, IsValid-joined}
-use Rattle.group_table.proofs.JoinLemmas.{entry_count-written_joined, joins_there, reached_first}
+use Rattle.group_table.proofs.JoinLemmas.{entry_count-written_joined, first_reached, joins_there}
 use Rattle.group_table.proofs.table.Table.place_fresh.Goals as goal
 
 pub first_free-b-requires : goal.first_free-b-requires
@@ -19,18 +19,19 @@ first_free-b-requires g c =
 
 pub fill_bucket-requires-clause-bucket : goal.fill_bucket-requires-clause-bucket
 fill_bucket-requires-clause-bucket g c =
-    let reached = reached_first c.first_free-b.ensures in
-    join_within _ _ _ c.self.invariant.0 (rw (← c.self.view_is) at c.requires.none_deleted)
-    (rw (← c.self.view_is) at c.requires.room) c.args.hash c.first_free-b.result _
-    (buckets_are _ _ c.self.invariant.0.laid_out) reached
+    let valid = c.self.invariant.0 in
+    let none_deleted = rw (← c.self.view_is) at c.requires.none_deleted in
+    let room = rw (← c.self.view_is) at c.requires.room in
+    join_within _ _ _ valid none_deleted room c.args.hash c.first_free-b.result
+    (first_reached _ _ _ valid none_deleted room _ _ _ (buckets_are _ _ valid.laid_out) c.first_free-b.ensures)
 
 pub fill_bucket-requires-clause-free_there : goal.fill_bucket-requires-clause-free_there
 fill_bucket-requires-clause-free_there g c =
     let valid = c.self.invariant.0 in
-    let reached = reached_first c.first_free-b.ensures in
-    join_none _ _ _ valid (rw (← c.self.view_is) at c.requires.none_deleted)
-    (rw (← c.self.view_is) at c.requires.room) c.args.hash c.first_free-b.result _
-    (buckets_are _ _ c.self.invariant.0.laid_out) reached
+    let none_deleted = rw (← c.self.view_is) at c.requires.none_deleted in
+    let room = rw (← c.self.view_is) at c.requires.room in
+    join_none _ _ _ valid none_deleted room c.args.hash c.first_free-b.result
+    (first_reached _ _ _ valid none_deleted room _ _ _ (buckets_are _ _ valid.laid_out) c.first_free-b.ensures)
 
 pub overflow_sub-self : goal.overflow_sub-self
 overflow_sub-self g c =
@@ -54,12 +55,11 @@ invariant_of-self g c =
     let valid = c.self.invariant.0 in
     let none_deleted = rw (← c.self.view_is) at c.requires.none_deleted in
     let room = rw (← c.self.view_is) at c.requires.room in
-    let reached = reached_first c.first_free-b.ensures in
-    let counted = entry_count-written_joined _ _ _ valid none_deleted room c.args.hash c.first_free-b.result _
-    (buckets_are _ _ c.self.invariant.0.laid_out) reached c.tag_of.result c.args.entry c.tag_of.ensures.tag in
+    let reached =
+    first_reached _ _ _ valid none_deleted room _ _ _ (buckets_are _ _ valid.laid_out) c.first_free-b.ensures in
+    let counted = entry_count-written_joined _ _ _ valid none_deleted room c.args.hash c.first_free-b.result reached c.tag_of.result c.args.entry c.tag_of.ensures.tag in
     rw (c.fill_bucket.ensures.control, c.fill_bucket.ensures.entries) (
-      IsValid-joined _ _ _ valid none_deleted room c.args.hash c.first_free-b.result _
-          (buckets_are _ _ c.self.invariant.0.laid_out) reached c.tag_of.result c.args.entry c.tag_of.ensures.tag,
+      IsValid-joined _ _ _ valid none_deleted room c.args.hash c.first_free-b.result reached c.tag_of.result c.args.entry c.tag_of.ensures.tag,
       rw counted (ap (λ n. n + 1) c.self.invariant.1),
     )
 
@@ -68,8 +68,8 @@ returns-clause-joins g c =
     let valid = c.self.invariant.0 in
     let none_deleted = rw (← c.self.view_is) at c.requires.none_deleted in
     let room = rw (← c.self.view_is) at c.requires.room in
-    let reached = reached_first c.first_free-b.ensures in
+    let reached =
+    first_reached _ _ _ valid none_deleted room _ _ _ (buckets_are _ _ valid.laid_out) c.first_free-b.ensures in
     rw (← c.self.view_is, c.fill_bucket.ensures.control, c.fill_bucket.ensures.entries)
-    (joins_there _ _ _ valid none_deleted room c.args.hash c.first_free-b.result _
-    (buckets_are _ _ c.self.invariant.0.laid_out) reached c.tag_of.result c.args.entry c.tag_of.ensures.tag
+    (joins_there _ _ _ valid none_deleted room c.args.hash c.first_free-b.result reached c.tag_of.result c.args.entry c.tag_of.ensures.tag
     c.tag_of.ensures.value)

@@ -4,12 +4,12 @@ use Rattle.group_table.specs.Sizes.{full_capacity}
 use Rattle.group_table.specs.Bytes.{empty_byte}
 use Rattle.group_table.specs.Bucket.{entry_count}
 use Rattle.group_table.specs.Layout.{slots_of, IsValid}
+use Rattle.group_table.specs.Relocation.{KeepsHashes, GivesHashes}
 use Rattle.group_table.proofs.BucketLemmas.{used_count-split}
 use Rattle.group_table.proofs.LayoutLemmas.{length-laid_out}
 use Rattle.group_table.proofs.FreshLemmas.{room-fresh}
 use Rattle.group_table.proofs.TableLemmas.{IsTable-by}
-use Rattle.group_table.proofs.RelocationLemmas.{room-none_deleted, entry_count-laid_out, IsRenumbering-moves}
-use Rattle.group_table.proofs.RelocationLemmas.{KeepsHashes-moves, GivesMovedHashes-from}
+use Rattle.group_table.proofs.RelocationLemmas.{room-none_deleted, entry_count-laid_out, entries_are}
 use Rattle.group_table.proofs.table.Table.rehash.Goals as goal
 
 pub returns-then-self-eq0-clause-room : goal.returns-then-self-eq0-clause-room
@@ -105,9 +105,12 @@ invariant_of-self g c =
 pub returns-clause-renumbered : goal.returns-clause-renumbered
 returns-clause-renumbered g c =
     let again = c.place_again.ensures in
+    let laid_out = c.self.invariant.0.laid_out in
     rw (← c.self.view_is)
-    (inr (IsRenumbering-moves _ _ c.self.invariant.0.laid_out g.N.LinkType.number g.N.LinkType.MAX _ _
-    again.one_each again.moves))
+    (inr (record {
+      one_each = again.one_each ∙ sym (length-laid_out _ _ laid_out);
+      moves = rw (entries_are _ _ laid_out) again.moves;
+    }))
 
 pub returns-clause-room : goal.returns-clause-room
 returns-clause-room g c =
@@ -122,11 +125,11 @@ returns-clause-room g c =
     rw (← moved) (room-none_deleted slots again.none_deleted within)
 
 pub returns-clause-hashes : goal.returns-clause-hashes
-returns-clause-hashes g c hash_at gives =
-    let laid_out = c.self.invariant.0.laid_out in
-    rw (← c.self.view_is) (KeepsHashes-moves _ _ laid_out g.N.LinkType.number g.N.LinkType.MAX _ _ hash_at
-    (c.place_again.ensures.hashes hash_at
-    (GivesMovedHashes-from _ _ laid_out g.H.Fn c.args.hash_of hash_at (rw (← c.self.view_is) at gives))))
+returns-clause-hashes g c hash_at =
+    let again = c.place_again.new in
+    rw (← c.self.view_is) (subst (λ old. GivesHashes g.H.Fn c.args.hash_of old hash_at
+    → KeepsHashes g.N.LinkType.number g.N.LinkType.MAX old (slots_of again.control again.entries) again.links.items
+    hash_at) (sym (entries_are _ _ c.self.invariant.0.laid_out)) (c.place_again.ensures.hashes hash_at))
 
 pub returns-clause-table : goal.returns-clause-table
 returns-clause-table g c = IsTable-by _ _ _ c.place_again.ensures.valid

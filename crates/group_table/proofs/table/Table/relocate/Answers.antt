@@ -1,13 +1,13 @@
-use Rattle.std.proofs.Common.{◌≡◌, length, replicate, inr, ap, sym, ◌∙◌, arith}
+use Rattle.std.proofs.Common.{◌≡◌, length, replicate, inr, ap, sym, ◌∙◌, subst, arith}
 use Rattle.std.proofs.lemmas.List.{length-replicate}
 use Rattle.group_table.specs.Bucket.{empty, entry_count}
 use Rattle.group_table.specs.Sizes.{full_capacity}
+use Rattle.group_table.specs.Relocation.{KeepsHashes, GivesHashes}
 use Rattle.group_table.proofs.LayoutLemmas.{length-laid_out}
 use Rattle.group_table.proofs.SizeLemmas.{full_capacity-small}
 use Rattle.group_table.proofs.TableLemmas.{IsTable-by}
 use Rattle.group_table.proofs.FreshLemmas.{Fits-fresh, room-fresh}
-use Rattle.group_table.proofs.RelocationLemmas.{room-none_deleted, entry_count-laid_out, IsRenumbering-moves}
-use Rattle.group_table.proofs.RelocationLemmas.{KeepsHashes-moves, GivesMovedHashes-from}
+use Rattle.group_table.proofs.RelocationLemmas.{room-none_deleted, entry_count-laid_out, entries_are}
 use Rattle.group_table.proofs.table.Table.relocate.Goals as goal
 
 pub returns-in_err-fresh-clause-table : goal.returns-in_err-fresh-clause-table
@@ -67,8 +67,10 @@ returns-clause-renumbered g c =
     let was = parts.slots ∙ ap (λ t. t.slots) c.replace-2.ensures.value in
     let is = ap (λ t. t.slots) c.self-2.view_is in
     rw (← was, is)
-    (inr (IsRenumbering-moves _ _ parts.laid_out g.N.LinkType.number g.N.LinkType.MAX _ _
-    c.move_entries.ensures.one_each c.move_entries.ensures.moves))
+    (inr (record {
+      one_each = c.move_entries.ensures.one_each ∙ sym (length-laid_out _ _ parts.laid_out);
+      moves = rw (entries_are _ _ parts.laid_out) c.move_entries.ensures.moves;
+    }))
 
 pub returns-clause-entries : goal.returns-clause-entries
 returns-clause-entries g c =
@@ -91,13 +93,14 @@ returns-clause-room g c =
     (rw (moved, long) c.requires.within))
 
 pub returns-clause-hashes : goal.returns-clause-hashes
-returns-clause-hashes g c hash_at gives =
+returns-clause-hashes g c hash_at =
     let parts = c.into_parts-control.ensures in
     let was = parts.slots ∙ ap (λ t. t.slots) c.replace-2.ensures.value in
     let is = ap (λ t. t.slots) c.self-2.view_is in
-    rw (← was, is) (KeepsHashes-moves _ _ parts.laid_out g.N.LinkType.number g.N.LinkType.MAX _ _ hash_at
-    (c.move_entries.ensures.hashes hash_at
-    (GivesMovedHashes-from _ _ parts.laid_out g.H.Fn c.args.hash_of hash_at (rw (← was) at gives))))
+    let moved = c.move_entries.new in
+    rw (← was, is) (subst (λ old. GivesHashes g.H.Fn c.args.hash_of old hash_at
+    → KeepsHashes g.N.LinkType.number g.N.LinkType.MAX old moved.fresh.slots moved.links.items hash_at)
+    (sym (entries_are _ _ parts.laid_out)) (c.move_entries.ensures.hashes hash_at))
 
 pub returns-clause-table : goal.returns-clause-table
 returns-clause-table g c = IsTable-by _ _ _ c.self-2.invariant.0

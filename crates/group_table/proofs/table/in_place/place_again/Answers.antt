@@ -1,12 +1,12 @@
 use Rattle.std.proofs.Common.{◌≡◌, ◌+◌, ◌<◌, ◌≤◌, length, get_or, None, refl, sym, ap, ◌∙◌, inr, arith}
+use Rattle.std.proofs.lemmas.Bool.{ltb-false}
 use Rattle.std.proofs.lemmas.List.{length-replicate}
 use Rattle.group_table.proofs.LayoutLemmas.{some_by, none_by}
-use Rattle.group_table.proofs.JoinLemmas.{reached_first}
 use Rattle.group_table.proofs.FreeBytes.{free_bytes-fewer}
 use Rattle.group_table.proofs.HalfwayLemmas.{buckets_now, IsHalfway-start, IsHalfway-placed, IsHalfway-none}
 use Rattle.group_table.proofs.HalfwayLemmas.{stood_there, IsInTurn-taken}
 use Rattle.group_table.proofs.HalfwayLemmas.{IsValid-last, none_deleted_last, Moves-last, hashes_last}
-use Rattle.group_table.proofs.TurnLemmas.{now_length, some_free, put_within, put_within_control, IsInTurn-next}
+use Rattle.group_table.proofs.TurnLemmas.{now_length, some_free, put_reached, put_within, put_within_control, IsInTurn-next}
 use Rattle.group_table.proofs.TurnLemmas.{IsHalfway-stays}
 use Rattle.group_table.proofs.WaitLemmas.{told_before, stays_past, stays_taken, stays_tagged, stays_put, none_waits}
 use Rattle.group_table.proofs.table.in_place.place_again.Goals.{
@@ -106,7 +106,7 @@ put-next-requires-clause-bucket g c =
     let turn = rw c.in-Some.is at l.invariant.turn in
     let whole = c.args.entries.now in
     let same = now_length whole _ turn.1 turn.0 c.requires.within in
-    let within = put_within whole _ turn.1 turn.0 c.requires.within (reached_first c.first_free-place.ensures) in
+    let within = put_within whole _ turn.1 turn.0 c.requires.within (put_reached whole _ turn.1 turn.0 c.requires.within c.first_free-place.ensures) in
     omega (arith, within, same)
 
 pub from_usize-requires-in-Some : goal.from_usize-requires-in-Some
@@ -115,7 +115,7 @@ from_usize-requires-in-Some g c =
     let turn = rw c.in-Some.is at l.invariant.turn in
     let whole = c.args.entries.now in
     let same = now_length whole _ turn.1 turn.0 c.requires.within in
-    let within = put_within whole _ turn.1 turn.0 c.requires.within (reached_first c.first_free-place.ensures) in
+    let within = put_within whole _ turn.1 turn.0 c.requires.within (put_reached whole _ turn.1 turn.0 c.requires.within c.first_free-place.ensures) in
     omega (arith, within, same, c.requires.below)
 
 pub put-next-requires-clause-told : goal.put-next-requires-clause-told
@@ -123,9 +123,9 @@ put-next-requires-clause-told g c =
     let l = c.turns in
     let turn = rw c.in-Some.is at l.invariant.turn in
     let whole = c.args.entries.now in
-    let free = c.first_free-place.ensures.free_there in
+    let free = ltb-false _ 128 c.first_free-place.ensures.free_there in
     let same = now_length whole _ turn.1 turn.0 c.requires.within in
-    let within = put_within whole _ turn.1 turn.0 c.requires.within (reached_first c.first_free-place.ensures) in
+    let within = put_within whole _ turn.1 turn.0 c.requires.within (put_reached whole _ turn.1 turn.0 c.requires.within c.first_free-place.ensures) in
     elim c.if-place-b.branch [
       | then-place-b w ↦
           let none = none_waits {number = g.N.LinkType.number} {none = g.N.LinkType.MAX} turn.1
@@ -141,18 +141,18 @@ pub turns-smaller : goal.turns-smaller
 turns-smaller g c =
     let l = c.turns in
     let turn = rw c.in-Some.is at l.invariant.turn in
-    let reached = reached_first c.first_free-place.ensures in
+    let reached = put_reached c.args.entries.now _ turn.1 turn.0 c.requires.within c.first_free-place.ensures in
     rw c.put-next.ensures.control
     (free_bytes-fewer c.tag_of-in-Some.result c.tag_of-in-Some.ensures.tag l.control l.entries
     c.first_free-place.result
     (put_within_control c.args.entries.now _ turn.1 turn.0 c.requires.within reached)
-    c.first_free-place.ensures.free_there)
+    (ltb-false _ 128 c.first_free-place.ensures.free_there))
 
 pub turns-preserved : goal.turns-preserved
 turns-preserved g c =
     let l = c.turns in
     let turn = rw c.in-Some.is at l.invariant.turn in
-    let reached = reached_first c.first_free-place.ensures in
+    let reached = put_reached c.args.entries.now _ turn.1 turn.0 c.requires.within c.first_free-place.ensures in
     let next = IsInTurn-next c.args.entries.now _ turn.1 turn.0 c.requires.within
     g.N.LinkType.link _ g.met.N.LinkType.laws c.requires.below l.hash c.first_free-place.result c.tag_of-in-Some.result
     reached c.tag_of-in-Some.ensures.value c.tag_of-in-Some.ensures.tag
@@ -176,18 +176,18 @@ pub turns-smaller-in-Some-next : goal.turns-smaller-in-Some-next
 turns-smaller-in-Some-next g c =
     let l = c.turns in
     let turn = rw c.in-Some.is at l.invariant.turn in
-    let reached = reached_first c.first_free-place.ensures in
+    let reached = put_reached c.args.entries.now _ turn.1 turn.0 c.requires.within c.first_free-place.ensures in
     rw c.put-next.ensures.control
     (free_bytes-fewer c.tag_of-in-Some.result c.tag_of-in-Some.ensures.tag l.control l.entries
     c.first_free-place.result
     (put_within_control c.args.entries.now _ turn.1 turn.0 c.requires.within reached)
-    c.first_free-place.ensures.free_there)
+    (ltb-false _ 128 c.first_free-place.ensures.free_there))
 
 pub turns-preserved-in-Some-next : goal.turns-preserved-in-Some-next
 turns-preserved-in-Some-next g c =
     let l = c.turns in
     let turn = rw c.in-Some.is at l.invariant.turn in
-    let reached = reached_first c.first_free-place.ensures in
+    let reached = put_reached c.args.entries.now _ turn.1 turn.0 c.requires.within c.first_free-place.ensures in
     let next = IsInTurn-next c.args.entries.now _ turn.1 turn.0 c.requires.within
     g.N.LinkType.link _ g.met.N.LinkType.laws c.requires.below l.hash c.first_free-place.result c.tag_of-in-Some.result
     reached c.tag_of-in-Some.ensures.value c.tag_of-in-Some.ensures.tag

@@ -1,5 +1,6 @@
 use Rattle.std.proofs.Common.{◌≡◌, ℕ, ◌+◌, Some}
-use Rattle.group_table.specs.Moves.{GivesMovedHashes}
+use Rattle.group_table.specs.Moves.{place_at}
+use Rattle.group_table.specs.Relocation.{GivesHashes}
 use Rattle.group_table.specs.InPlace.{IsHalfway, IsInTurn, StaysWhereFree}
 use Rattle.group_table.proofs.FreeBytes.{free_bytes}
 use Rattle.group_table.proofs.table.in_place.place_again.Given as goal
@@ -7,7 +8,7 @@ use Rattle.group_table.proofs.table.in_place.place_again.Given as goal
 abbrev pub invariant-loop-b : goal.invariant-loop-b
 invariant-loop-b g l = record {
   half : IsHalfway g.N.LinkType.number g.N.LinkType.MAX
-      (GivesMovedHashes g.H.Fn l.hash_of l.fn.entries) l.fn.entries l.entries l.control
+      (GivesHashes g.H.Fn l.hash_of (place_at l.fn.entries)) l.fn.entries l.entries l.control
       l.links.items l.b;
   stays : StaysWhereFree l.fn.entries l.entries l.control l.b;
 }
@@ -15,10 +16,10 @@ invariant-loop-b g l = record {
 abbrev pub invariant-turns : goal.invariant-turns
 invariant-turns g l = record {
   turn : IsInTurn g.N.LinkType.number g.N.LinkType.MAX
-      (GivesMovedHashes g.H.Fn l.hash_of l.fn.entries) l.fn.entries l.entries l.control l.links.items
+      (GivesHashes g.H.Fn l.hash_of (place_at l.fn.entries)) l.fn.entries l.entries l.control l.links.items
       (l.b + 1) l.old l.next;
   hashed : (entry : _) → l.next ≡ Some entry → (hash_at : ℕ → ℕ)
-      → GivesMovedHashes g.H.Fn l.hash_of l.fn.entries hash_at → l.hash ≡ hash_at l.old;
+      → GivesHashes g.H.Fn l.hash_of (place_at l.fn.entries) hash_at → l.hash ≡ hash_at l.old;
   stays : StaysWhereFree l.fn.entries l.entries l.control (l.b + 1);
 }
 

@@ -8,8 +8,8 @@ use Rattle.group_table.proofs.FreshLemmas.{entry_count-none}
 use Rattle.group_table.proofs.FitsLemmas.{Fits-none}
 use Rattle.group_table.proofs.JoinLemmas.{length-joined, entry_count-joined, deleted_count-joined}
 use Rattle.group_table.proofs.LayoutLemmas.{none_by}
-use Rattle.group_table.proofs.MoveLemmas.{Moves-none, Moves-same, Moves-more, KeepsMovedHashes-same}
-use Rattle.group_table.proofs.MoveLemmas.{KeepsMovedHashes-more, none_yet, come_there, come_elsewhere, come_none}
+use Rattle.group_table.proofs.MoveLemmas.{Moves-none, Moves-same, Moves-more, KeepsHashes-same}
+use Rattle.group_table.proofs.MoveLemmas.{KeepsHashes-more, none_yet, come_there, come_elsewhere, come_none}
 use Rattle.group_table.proofs.MoveLemmas.{count_one, count_none, come_fewer}
 use Rattle.group_table.proofs.table.moves.move_entries.Goals.{then-byte-lt-DELETED, else-byte-lt-DELETED}
 use Rattle.group_table.proofs.table.moves.move_entries.Goals as goal
@@ -70,7 +70,7 @@ loop-b-preserved g c =
             moves = Moves-more g.N.LinkType.number g.N.LinkType.MAX g.N.LinkType.link _ g.met.N.LinkType.laws _ _ at.b
                 (none_yet whole at.b within) come (come_elsewhere whole at.b within) bound below joins l.moves;
             hashes =
-                λ hash_at gives. KeepsMovedHashes-more g.N.LinkType.number g.N.LinkType.MAX g.N.LinkType.link _
+                λ hash_at gives. KeepsHashes-more g.N.LinkType.number g.N.LinkType.MAX g.N.LinkType.link _
                 g.met.N.LinkType.laws _ _ at.b
                 (none_yet whole at.b within) come (come_elsewhere whole at.b within) bound below joins l.moves hash_at
                 (gives at.b _ _ there
@@ -95,7 +95,7 @@ loop-b-preserved g c =
             entries = l.entries ∙ sym (count_none whole at.b within gone);
             moves = Moves-same g.N.LinkType.number g.N.LinkType.MAX _ _ _ same l.moves;
             hashes =
-                λ hash_at gives. KeepsMovedHashes-same g.N.LinkType.number g.N.LinkType.MAX _ _ _ same hash_at
+                λ hash_at gives. KeepsHashes-same g.N.LinkType.number g.N.LinkType.MAX _ _ _ same hash_at
                 (l.hashes hash_at gives);
           }
     ]

@@ -1,6 +1,7 @@
 use Rattle.std.proofs.Common.{◌≡◌, ℕ, ◌<◌, ◌≤◌, length, get_or, take, count_by, is_some, None}
 use Rattle.group_table.specs.Bucket.{is_deleted, entry_count}
-use Rattle.group_table.specs.Moves.{place_at, Moves, KeepsMovedHashes, GivesMovedHashes}
+use Rattle.group_table.specs.Moves.{place_at}
+use Rattle.group_table.specs.Relocation.{Moves, KeepsHashes, GivesHashes}
 use Rattle.group_table.proofs.table.moves.move_entries.Given as goal
 
 abbrev pub invariant-loop-b : goal.invariant-loop-b
@@ -14,7 +15,7 @@ invariant-loop-b g l = record {
   none_deleted : count_by is_deleted l.fresh.slots ≡ 0;
   entries : entry_count l.fresh.slots ≡ count_by is_some (take l.b l.initial.old);
   moves : Moves g.N.LinkType.number g.N.LinkType.MAX (place_at (take l.b l.initial.old)) l.fresh.slots l.links.items;
-  hashes : (hash_at : ℕ → ℕ) → GivesMovedHashes g.H.Fn l.hash_of l.initial.old hash_at
-      → KeepsMovedHashes g.N.LinkType.number g.N.LinkType.MAX (place_at (take l.b l.initial.old)) l.fresh.slots
+  hashes : (hash_at : ℕ → ℕ) → GivesHashes g.H.Fn l.hash_of (place_at l.initial.old) hash_at
+      → KeepsHashes g.N.LinkType.number g.N.LinkType.MAX (place_at (take l.b l.initial.old)) l.fresh.slots
       l.links.items hash_at;
 }
