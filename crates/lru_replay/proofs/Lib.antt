@@ -7,7 +7,6 @@ pub mod SpelledLines
 pub mod HeldBytes
 pub mod EmptyMaps
 pub mod Pops
-pub mod KeptPairs
 pub mod DrainedPairs
 pub mod SomeSteps
 pub mod CallRuns

@@ -3,9 +3,11 @@ pub mod Outcomes
 pub mod Promotions
 pub mod Fields
 pub mod NotedStates
+pub mod KeptPairs
 pub mod Offers
 pub mod Trims
 pub mod Retains
+pub mod WrittenPairs
 pub mod HeldMaps
 pub mod Reservations
 pub mod ClearedMaps

@@ -21,6 +21,7 @@ pub mod Drains
 pub mod Clones
 pub mod Runs
 pub mod Walks
+pub mod Written
 pub mod Retains
 pub mod TryInserts
 pub mod Updates

@@ -32,7 +32,8 @@ module _ {K V S : Type 0} (terms : Terms K V S) (rules : Rules K V S) where
     pub data IsUnready (left : State K V S H) : Type 0 where
       not_reserved : room old ≡ 0 → (error : ReserveError) → Reserve rules 1 old (Err error) left →
           IsUnready left
-      cannot_store_then : room old ≡ 0 → Reserve rules 1 old (Ok tt) left → can_store key value (contents left) ≡ false →
+      cannot_store_then : room old ≡ 0 → Reserve rules 1 old (Ok tt) left →
+          can_store key value (contents left) ≡ false →
           IsUnready left
 
     module _ (offers : Offers K V S K) (eq : K → K → Bool) (hash_of : H → K → ℕ) where

@@ -19,6 +19,7 @@ mod figures;
 mod find;
 pub(crate) mod get_or_insert;
 pub(crate) mod insert;
+mod keep;
 mod leave;
 mod look_up;
 mod offer;

@@ -104,6 +104,8 @@ fn of_inserts_with_a_callback(rt: HostRuntime) -> Result<(), Fail> {
     let mut left = None;
     map.insert_with(4, 40, &mut |key, value| left = Some((key, value)))?;
     check!(rt; left == Some((1, 10)));
+    let (done, left) = map.insert_and_keep(5, 50)?;
+    check!(rt; done == Ok(true) && left.as_slice() == [(2, 20)].as_slice());
     Ok(())
 }
 
@@ -216,6 +218,8 @@ fn of_values_that_are_written(rt: HostRuntime) -> Result<(), Fail> {
         *value = 10;
     }
     check!(rt; map.peek_oldest() == Some((&1, &10)));
+    map.for_each_mut(|_, value| *value = value.saturating_add(1));
+    check!(rt; map.peek(&1) == Some(&11));
     Ok(())
 }
 

@@ -2,7 +2,7 @@
 use schnellru::{MoveReport, ReserveError, Updated};
 use std::alloc::AllocError;
 
-/// A call of a run. `docs/RUNS.md` says what each returns.
+/// A call of a run, which does what the call of the map with its name does. `docs/RUNS.md` has the special cases.
 ///
 /// ```
 /// let calls = vec![in alloc; Call::Insert(1, 10), Call::Get(1), Call::Peek(2)]?;

@@ -1,18 +1,15 @@
 //! The calls of a run that return pairs. The memory for these is taken before the map changes.
-ghost use Rattle.std.specs.Prelude.{◌≡◌, [], ◌∷◌, ◌++◌, ◌+◌, ◌≤◌, ◌<◌, option_to_list, IfOk};
-ghost use Rattle.std.specs.Result.{OnErr};
+ghost use Rattle.std.specs.Prelude.{◌≡◌, ◌++◌, ◌+◌, ◌≤◌, ◌<◌, option_to_list};
 ghost use Rattle.std.specs.Vec.{vec_len, vec_capacity};
 ghost use Rattle.schnellru.specs.Drains.{newest_given, oldest_given, pops_first};
-ghost use Rattle.schnellru.specs.HandedOver.{InsertHands};
 ghost use Rattle.schnellru.specs.State.{contents, Leaves, pops};
 ghost use Rattle.lru_replay.specs.declared.calls.call.Call.TheVariants as calls;
 ghost use Rattle.lru_replay.specs.CallRuns.{CallStep};
 ghost use Rattle.lru_replay.specs.Replies.{said};
 
 use crate::calls::call::Answer;
-use schnellru::laws::inserts_hand_over_few;
 use schnellru::{Insertion, KeyHasher, Limiter, LruMap};
-use std::alloc::{AllocError, Global};
+use std::alloc::Global;
 use std::hash::Hash;
 
 /// Returns all pairs, newest first.
@@ -33,45 +30,15 @@ pub fn list<K: Copy + Eq + Hash, V: Copy, L: Insertion<K, V, K>, S: KeyHasher<K>
 
 /// Returns the answer to an insert with the pairs that leave.
 pub fn insert_with<K: Eq + Hash + Drop, V: Drop, L: Insertion<K, V, K>, S: KeyHasher<K>>(
-    alloc: Global,
     map: &mut LruMap<K, V, L, S>,
     key: K,
     value: V,
 ) -> Answer<K, V>
     ensures { CallStep L.rules L.offers K.eq S.hash_of map.old (calls.InsertWith key value) (said result) map.new }
 {
-    match insert_and_keep(alloc, map, key, value) {
+    match map.insert_and_keep(key, value) {
         Ok((done, out)) => Answer::Given { done, out },
         Err(_) => Answer::Memory,
-    }
-}
-
-/// Inserts, and returns the pairs that the callback gets, for which memory is taken first.
-pub fn insert_and_keep<K: Eq + Hash + Drop, V: Drop, L: Insertion<K, V, K>, S: KeyHasher<K>>(
-    alloc: Global,
-    map: &mut LruMap<K, V, L, S>,
-    key: K,
-    value: V,
-) -> Result<(Result<bool, AllocError>, Vec<(K, V)>), AllocError>
-    ensures handed { IfOk result (λ answer. InsertHands L.rules L.offers K.eq
-        S.hash_of key value map.old answer.0 answer.1.items map.new) }
-    ensures unchanged { OnErr result (map.new ≡ map.old) }
-{
-    // Nothing at run time: it shows the proof that there is space for all that the callback gets.
-    inserts_hand_over_few::<K, V, K, L, S>();
-    let mut out = Vec::with_capacity(alloc, map.len() + 1)?;
-    let done = map.insert_with(key, value, &mut |key, value| keep(&mut out, (key, value)));
-    Ok((done, out))
-}
-
-/// Adds the pair. Without space it would be dropped, but `insert_and_keep` takes enough.
-fn keep<K: Drop, V: Drop>(pairs: &mut Vec<(K, V)>, pair: (K, V))
-    ensures items { vec_len pairs.old < vec_capacity pairs.old → pairs.new.items ≡ pairs.old.items ++ pair ∷ [] }
-    ensures len { vec_len pairs.old < vec_capacity pairs.old → vec_len pairs.new ≡ vec_len pairs.old + 1 }
-    ensures capacity { vec_capacity pairs.new ≡ vec_capacity pairs.old }
-{
-    if pairs.len() < pairs.capacity() {
-        pairs.push_reserved(pair);
     }
 }
 

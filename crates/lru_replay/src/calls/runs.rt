@@ -90,7 +90,7 @@ where
 {
     match call {
         Call::Insert(key, value) => insert(map, key, value),
-        Call::InsertWith(key, value) => insert_with(alloc, map, key, value),
+        Call::InsertWith(key, value) => insert_with(map, key, value),
         Call::GetOrInsert(key, value) => get_or_insert(map, key, value),
         Call::Update(key, value) => Answer::Updated(map.update(key, value)),
         Call::Get(key) => Answer::Value(get(map, &key)),

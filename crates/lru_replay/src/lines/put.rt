@@ -5,16 +5,13 @@ ghost use Rattle.lru_replay.specs.LineRuns.{AnswersCommand};
 ghost use Rattle.lru_replay.specs.Output.{Writes, reply_text};
 ghost use Rattle.lru_replay.specs.Replies.{Reply};
 
-use crate::calls::pairs::insert_and_keep;
 use crate::lines::outcome::ReplayError;
 use crate::lines::output::{write_bytes, write_given};
 use schnellru::{Insertion, LruMap};
-use std::alloc::Global;
 use std::io::Write;
 
 /// Inserts, and writes the answer and then the pairs that left. If there is no memory to store these, nothing changes.
 pub fn write_put<L: Insertion<u64, u64, u64>, W: Write>(
-    alloc: Global,
     map: &mut LruMap<u64, u64, L>,
     key: u64,
     value: u64,
@@ -24,7 +21,7 @@ pub fn write_put<L: Insertion<u64, u64, u64>, W: Write>(
         × AnswersCommand L.rules L.offers map.old (commands.Put key value) reply map.new
         × Writes (W.contents writer.old) (W.contents writer.new) result (reply_text cost reply) }
 {
-    match insert_and_keep(alloc, map, key, value) {
+    match map.insert_and_keep(key, value) {
         Ok((done, out)) => write_given(writer, done, out.as_slice()),
         Err(_) => write_bytes(writer, b"no memory"),
     }

@@ -44,7 +44,7 @@ fn answer_command<L: Insertion<u64, u64, u64> + TellsCost, W: Write>(
 {
     match command_of(line) {
         Some(Command::Insert(key, value)) => write_insert(writer, map.insert(key, value)),
-        Some(Command::Put(key, value)) => write_put(alloc, map, key, value, writer),
+        Some(Command::Put(key, value)) => write_put(map, key, value, writer),
         Some(Command::Update(key, value)) => write_updated(writer, map.update(key, value)),
         Some(Command::Get(key)) => write_value(writer, get(map, &key)),
         Some(Command::Peek(key)) => write_value(writer, map.peek(&key).copied()),

@@ -15,7 +15,8 @@ use Rattle.schnellru.proofs.Chains.Orders.{Contains-here, Contains-later, distin
 use Rattle.schnellru.proofs.PairLists.DistinctKeys.{AreDistinct, all_of}
 use Rattle.schnellru.proofs.OrderedTables.BucketPairs.{AreFull}
 
-got_in : {T : Type 0} (xs : List T) (i : ℕ) (x : T) → slice_get xs i ≡ Some x → Contains xs x
+-- what is at a position is in the list
+pub got_in : {T : Type 0} (xs : List T) (i : ℕ) (x : T) → slice_get xs i ≡ Some x → Contains xs x
 got_in [] i x e = absurd (none-some x e)
 got_in (y ∷ ys) zero x e = (0, omega arith, same_Some y x e)
 got_in (y ∷ ys) (suc i) x e = Contains-later y x ys (got_in ys i x e)

@@ -75,7 +75,8 @@ impl<K: Eq + Hash + Drop, V: Drop, L: Admission<K, V> + Copy, S: KeyHasher<K>> L
         Ok(())
     }
 
-    // Makes sure that there is growth left for one entry more. Returns whether there is, and the limiter can store the entry then.
+    // Makes sure that there is growth left for one entry more. Returns whether there is, and the limiter can store the
+    // entry then.
     fn get_ready_for(&mut self, key: &K, value: &V) -> bool
         requires storable { can_store L.terms L.rules key.now value.now (contents self.old) ≡ true }
         ensures ready { IsTrue result → IsReady L.rules self.old self.new }

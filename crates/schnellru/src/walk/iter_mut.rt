@@ -1,6 +1,8 @@
 //! An iterator that lends each value for writing.
-ghost use Rattle.std.specs.Prelude.{◌≡◌, ◌≤◌, length, slice_get};
-ghost use Rattle.schnellru.specs.Lists.{last_of};
+ghost use Rattle.std.specs.Prelude.{◌≡◌, ◌≤◌, length, slice_get, Some};
+ghost use Rattle.schnellru.specs.Lists.{last_of, set_value_at};
+ghost use Rattle.schnellru.specs.State.{IsMap};
+ghost use Rattle.schnellru.specs.Written.{Writes, WritesAll};
 
 use crate::map::LruMap;
 use lru_limits::{KeyHasher, Limiter};
@@ -32,7 +34,7 @@ pub struct IterMut<'a, K: Eq + Hash, V, L: Limiter<K, V>, S: KeyHasher<K>> {
 }
 
 impl<'a, K: Eq + Hash, V, L: Limiter<K, V>, S: KeyHasher<K>> IterMut<'a, K, V, L, S> {
-    ghost use Rattle.std.specs.Prelude.{◌-◌, ◌<◌, Some, option_map};
+    ghost use Rattle.std.specs.Prelude.{◌-◌, ◌<◌, option_map};
     ghost use Rattle.std.specs.Borrow.{sem};
     ghost use Rattle.std.specs.Map.Iter.{deref_pair_mut};
     ghost use Rattle.schnellru.specs.Walks.{walk_map, walk_start, walk_end, lends_first, lends_last};
@@ -180,5 +182,46 @@ impl<K: Eq + Hash, V, L: Limiter<K, V>, S: KeyHasher<K>> LruMap<K, V, L, S> {
             front,
             back,
         }
+    }
+
+    /// Calls the closure with each entry, newest first, its value for writing. The order stays. The limiter is not
+    /// notified of what is written.
+    ///
+    /// ```
+    /// map.for_each_mut(|_, value| *value = value.saturating_add(1));
+    /// assert_eq!(rt; map.peek(&1), Some(&11));
+    /// ```
+    ///
+    /// Cost: `O(n)` for n entries.
+    ///
+    /// After `Iterator::for_each` over the `iter_mut` of std's `HashMap`; schnellru has no such call.
+    pub fn for_each_mut<F: FnMut(&K, &mut V)>(&mut self, mut f: F)
+        requires callable { F.IsAlwaysCallable f }
+        ensures step { WritesAll F.FnMut f self.old self.new }
+        ensures map { IsMap K.eq self.new }
+    {
+        let (mut next, _) = self.ends();
+        'pairs: for at in 0..self.len() {
+            if let Some(b) = next {
+                next = self.older(b);
+                self.write_at(at, b, &mut f);
+            }
+        }
+        // Nothing at run time: it opens the map, whose invariant is the clause `map`.
+        let _ = &self.entries;
+    }
+
+    // Calls the closure with the pair in bucket `b`, which is at position `at` counted from the newest.
+    #[inline]
+    fn write_at<F: FnMut(&K, &mut V)>(&mut self, at: usize, b: usize, f: &mut F)
+        requires at { slice_get self.old.places at ≡ Some b }
+        requires callable { F.IsAlwaysCallable f.old }
+        ensures writes { (pair : K × V) × (w : V) × (slice_get self.old.pairs at ≡ Some pair)
+            × Writes F.FnMut f.old pair w f.new
+            × (self.new ≡ record self.old { pairs = set_value_at self.old.pairs at w }) }
+        ensures callable { F.IsAlwaysCallable f.new }
+    {
+        let (key, value) = self.pair_at_mut(at, b);
+        f(key, value);
     }
 }

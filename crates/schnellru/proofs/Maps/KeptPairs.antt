@@ -1,4 +1,4 @@
--- What a sink has that keeps each pair that it is handed, while there is room.
+-- What a callback has that keeps each pair that it gets, while there is space.
 use Rattle.std.proofs.Common.{◌≡◌, ℕ, ◌+◌, ◌<◌, ◌≤◌, List, [], ◌∷◌, ◌++◌, length, Vec, Global, MutBor, vec_len}
 use Rattle.std.proofs.Common.{vec_capacity, refl, ap, ◌∙◌, arith}
 use Rattle.std.proofs.lemmas.Fn.{chained_keeps}
@@ -6,19 +6,19 @@ use Rattle.std.proofs.lemmas.List.{length-append}
 use Rattle.std.specs.Fn.{Mut, Called}
 use Rattle.schnellru.specs.HandedOver.{Takes}
 
--- the pair was added, if there was room for it
+-- the pair was added, if there was space for it
 pub record IsKept {K V : Type 0} (old new : MutBor (Vec (K × V) Global)) (pair : K × V) : Type 0 where
   pub same : new.ghost_name ≡ old.ghost_name
   pub capacity : vec_capacity new.now ≡ vec_capacity old.now
   pub items : vec_len old.now < vec_capacity old.now → new.now.items ≡ old.now.items ++ pair ∷ []
   pub len : vec_len old.now < vec_capacity old.now → vec_len new.now ≡ vec_len old.now + 1
 
---     kept     if the sink keeps them
---     room     how many have room there
+--     kept     where the callback f keeps them
+--     room     how many there is space for
 module _ {K V F : Type 0} (closure : Mut F (K × (V × Unit {0})) (Unit {0})) (kept : F → MutBor (Vec (K × V) Global))
     (keeps : (f : F) (pair : K × V) (g : F) → Called closure f (pair.0, (pair.1, tt)) tt g
     → IsKept (kept f) (kept g) pair) (first : F) (room : ℕ) where
-  -- what it has after it was handed these
+  -- what it has after it got these
   pub record AllKept (xs : List (K × V)) (f : F) : Type 0 where
     pub same : (kept f).ghost_name ≡ (kept first).ghost_name
     pub capacity : vec_capacity (kept f).now ≡ room
@@ -40,7 +40,7 @@ module _ {K V F : Type 0} (closure : Mut F (K × (V × Unit {0})) (Unit {0})) (k
             omega (arith, one.len (omega (arith, fits, more, all.capacity, all.len few)), all.len few, more);
       }
 
-  -- it has all that it was handed, from none on, if there is room for them
+  -- it has all that it got, from none on, if there is space for them
   pub all_kept : (handed : List (K × V)) (last : F) → vec_capacity (kept first).now ≡ room
       → (kept first).now.items ≡ [] → vec_len (kept first).now ≡ 0 → Takes closure first handed last
       → AllKept handed last

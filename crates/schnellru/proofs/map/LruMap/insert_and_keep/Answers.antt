@@ -1,12 +1,12 @@
 use Rattle.std.proofs.Common.{rules, ◌+◌, length, arith, subst}
 use Rattle.schnellru.specs.HandedOver.{InsertHands}
-use Rattle.lru_replay.proofs.KeptPairs.{all_kept}
-use Rattle.lru_replay.proofs.calls.pairs.insert_and_keep.Goals as goal
+use Rattle.schnellru.proofs.Maps.KeptPairs.{all_kept}
+use Rattle.schnellru.proofs.map.LruMap.insert_and_keep.Goals as goal
 
 pub returns-clause-handed : goal.returns-clause-handed
 returns-clause-handed g c =
     let (handed, took, step) = c.insert_with-done.ensures.handed in
-    let before = c.args.map.now in
+    let before = c.args.self.now in
     let few = c.inserts_hand_over_few.ensures.few c.args.key c.args.value before c.insert_with-done.result handed
     c.insert_with-done.new.self step in
     let all = all_kept _ (λ f. f.0) (λ f pair q called. record {
@@ -14,8 +14,8 @@ returns-clause-handed g c =
       capacity = search rules;
       items = search rules;
       len = search rules;
-    }) _ (length before.pairs + 1) handed _ (search rules) c.in_ok-out.ensures.items c.in_ok-out.ensures.len took in
+    }) _ (length before.pairs + 1) handed _ (search rules) c.in_ok-left.ensures.items c.in_ok-left.ensures.len took in
     let items = all.items (omega (arith, few)) in
-    subst (λ out. InsertHands g.L.Limiter.rules g.L.Insertion.offers g.K.PartialEq.eq
+    subst (λ out. InsertHands g.L.Limiter.rules g.L.Insertion.offers g.I.LookupKey.names
     g.S.KeyHasher.hash_of c.args.key c.args.value before
     c.insert_with-done.result out c.insert_with-done.new.self) (search (rules, all.same, items)) step

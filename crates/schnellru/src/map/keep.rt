@@ -1,0 +1,59 @@
+//! An insert that returns the entries that leave.
+ghost use Rattle.std.specs.Prelude.{◌≡◌, ◌+◌, ◌<◌, ◌++◌, [], ◌∷◌, IfOk, OnErr};
+ghost use Rattle.std.specs.Vec.{vec_len, vec_capacity};
+ghost use Rattle.schnellru.specs.HandedOver.{InsertHands};
+ghost use Rattle.schnellru.specs.State.{IsMap};
+
+use crate::laws::inserts_hand_over_few;
+use crate::map::LruMap;
+use lru_limits::{Insertion, KeyHasher, Limiter, LookupKey};
+use std::alloc::AllocError;
+use std::hash::Hash;
+
+impl<K: Eq + Hash + Drop, V: Drop, L: Limiter<K, V>, S: KeyHasher<K>> LruMap<K, V, L, S> {
+    /// The same as `insert_with`, and returns what `insert` returns, and the entries that leave, in order. Memory for
+    /// these is taken before the map changes.
+    ///
+    /// ```
+    /// let (done, left) = map.insert_and_keep(5, 50)?;
+    /// assert!(rt; done == Ok(true) && left.as_slice() == [(2, 20)].as_slice());
+    /// ```
+    ///
+    /// Cost: as `insert`, and memory for one entry more than the map contains.
+    ///
+    /// # Errors
+    ///
+    /// Out of memory for the entries that leave: nothing has changed, and the key and the value are dropped. An insert
+    /// that runs out of memory itself returns its error as the first of the two results.
+    ///
+    /// schnellru has no such call.
+    pub fn insert_and_keep<I: LookupKey<K> + Drop>(
+        &mut self,
+        key: I,
+        value: V,
+    ) -> Result<(Result<bool, AllocError>, Vec<(K, V)>), AllocError>
+    where
+        L: Insertion<K, V, I>,
+        ensures handed { IfOk result (λ answer. InsertHands L.rules L.offers I.names
+            S.hash_of key value self.old answer.0 answer.1.items self.new) }
+        ensures unchanged { OnErr result (self.new ≡ self.old) }
+        ensures map { IsMap K.eq self.new }
+    {
+        // Nothing at run time: it shows the proof that there is memory for all that the callback gets.
+        inserts_hand_over_few::<K, V, I, L, S>();
+        let mut left = Vec::with_capacity(self.alloc, self.len() + 1)?;
+        let done = self.insert_with(key, value, &mut |key, value| keep(&mut left, (key, value)));
+        Ok((done, left))
+    }
+}
+
+// Adds the pair. A vector without space would drop it, but `insert_and_keep` takes enough.
+fn keep<K: Drop, V: Drop>(pairs: &mut Vec<(K, V)>, pair: (K, V))
+    ensures items { vec_len pairs.old < vec_capacity pairs.old → pairs.new.items ≡ pairs.old.items ++ pair ∷ [] }
+    ensures len { vec_len pairs.old < vec_capacity pairs.old → vec_len pairs.new ≡ vec_len pairs.old + 1 }
+    ensures capacity { vec_capacity pairs.new ≡ vec_capacity pairs.old }
+{
+    if pairs.len() < pairs.capacity() {
+        pairs.push_reserved(pair);
+    }
+}
