@@ -1,16 +1,17 @@
 -- A comparison with one byte, read as a mask of sixteen lanes.
 use Rattle.std.proofs.Common.{◌≡◌, ◌≢◌, ◌↔◌, ℕ, zero, suc, ◌-◌, ◌/◌, ◌%◌, ◌^◌, ◌<◌, ◌≤◌, List, Bool, true, false, cond}
 use Rattle.std.proofs.Common.{length, get_or, map, replicate, refl, sym, ap, subst, ◌∙◌, arith, w8, w16, pow-suc}
-use Rattle.std.proofs.Common.{bit_and, inl, inr, ◌+◌, ◌*◌}
+use Rattle.std.proofs.Common.{bit_and, inl, inr, ◌+◌, ◌*◌, nat_lt, pow_mono, pow_pos}
 use native.Mathlib.Decide.{dec_lt}
 use Rattle.std.specs.Int.{bit_at}
 use Rattle.std.specs.Simd.Lanes.{zip2, mask_l, top}
 use Rattle.std.proofs.lemmas.Simd.{bit_mask_l, tops_compared, mask_l-mod, mask_l-lt, zip2_splat, zip2_splat_left}
 use Rattle.std.proofs.lemmas.List.{length-map, get_or-map}
-use Rattle.std.proofs.lemmas.Bool.{cases_lt}
+use Rattle.std.proofs.lemmas.Bool.{cases_lt, lt-ltb, le-ltb}
 use Rattle.std.proofs.lemmas.Nat.Bits.{bit_at-lt, bit_at-zero, bit_at_lowest, bit_at-suc, bit_at_and, bit_at_above}
 use Rattle.std.proofs.lemmas.Nat.Bits.{bit_at_cat_high, bit_at-trailing_zeros}
-use Rattle.std.proofs.lemmas.Nat.{leading_top}
+use Rattle.std.proofs.lemmas.Nat.Bits.{bit_at_not, bit_at_ones, bit_at_ones_above, same_from_bits_below}
+use Rattle.std.proofs.lemmas.Nat.{leading_top, and_le_l}
 use Rattle.std.specs.Int.Count.{count_trailing_zeros, count_leading_zeros, trailing_of_zero, leading_of_zero}
 use Rattle.std.proofs.Math.ListN.{get_or-eq_default}
 use Rattle.group_table.specs.Lanes.{IsMaskOf, IsMaskAt}
@@ -99,6 +100,45 @@ same_above n (suc t) (suc i) some set zeros l =
     (λ j k. sym (bit_at-suc n j) ∙ zeros (suc j) (omega arith)) (omega arith)
     ∙ sym (bit_at-suc n i)
 
+-- n - 1 is 1 below the lowest 1 of n
+set_below : (n t i : ℕ) → 0 < n → bit_at n t ≡ 1 → ((j : ℕ) → j < t → bit_at n j ≡ 0) → i < t → bit_at (n - 1) i ≡ 1
+set_below n zero i some set zeros l = absurd (omega arith)
+set_below n (suc t) zero some set zeros l =
+    let even : n % 2 ≡ 0 = sym (bit_at_lowest n) ∙ zeros 0 (omega arith) in
+    bit_at_lowest (n - 1) ∙ omega arith
+set_below n (suc t) (suc i) some set zeros l =
+    let even : n % 2 ≡ 0 = sym (bit_at_lowest n) ∙ zeros 0 (omega arith) in
+    let half : (n - 1) / 2 ≡ n / 2 - 1 = omega arith in
+    bit_at-suc (n - 1) i ∙ ap (λ x. bit_at x i) half
+    ∙ set_below (n / 2) t i (omega arith) (sym (bit_at-suc n t) ∙ set)
+    (λ j k. sym (bit_at-suc n j) ∙ zeros (suc j) (omega arith)) (omega arith)
+
+-- `(n - 1) & !n` has the bits below the lowest of n
+low_ones : (n t : ℕ) → 0 < n → n < 65536 → t < 16 → bit_at n t ≡ 1 → ((i : ℕ) → i < t → bit_at n i ≡ 0)
+    → bit_and (n - 1) (65535 - n) ≡ 2 ^ t - 1
+low_ones n t some fits within set zeros =
+    same_from_bits_below 16 _ _ (omega (arith, and_le_l (n - 1) (65535 - n)))
+    (omega (arith, pow_mono {i = t} {j = 16} (omega arith)))
+    (λ i p.
+    let both = bit_at_and (n - 1) (65535 - n) i in
+    let turned : bit_at (65535 - n) i ≡ 1 - bit_at n i = bit_at_not w16 n i fits p in
+    elim (dec_lt i t) [
+      | yes q ↦ omega (arith, both, turned, zeros i q, set_below n t i some set zeros q, bit_at_ones t i q)
+      | no q ↦ elim (dec_lt t i) [
+        | yes r ↦ omega (
+          arith,
+          both,
+          turned,
+          same_above n t i some set zeros r,
+          bit_at_ones_above t i (omega arith),
+          bit_at-lt n i,
+        )
+        | no r ↦
+            let here : t ≡ i = omega arith in
+            omega (arith, both, turned, sym (ap (bit_at n) here) ∙ set, bit_at_ones_above t i (omega arith))
+      ]
+    ])
+
 -- `n & (n - 1)` has the bits of n but its lowest
 pub lowest_cleared : (n t lane : ℕ) → 0 < n → bit_at n t ≡ 1 → ((i : ℕ) → i < t → bit_at n i ≡ 0)
     → (bit_at (bit_and n (n - 1)) lane ≡ 1) ↔ ((bit_at n lane ≡ 1) × (lane ≢ t))
@@ -138,8 +178,9 @@ module _ (mask : ℕ) (fits : mask < 65536) where
         absurd (omega (arith, p, ap (count_trailing_zeros 16) z ∙ trailing_of_zero 16))
   ]
 
-  pub none_in_lanes_above : (lane : ℕ) → 16 ≤ lane + count_leading_zeros 16 mask → bit_at mask lane ≡ 1 → ⊥
-  none_in_lanes_above lane p set = elim (dec_lt 0 mask) [
+  pub none_in_lanes_above : (lane : ℕ) → lane < 16 → 16 ≤ lane + count_leading_zeros 16 mask → bit_at mask lane ≡ 1
+      → ⊥
+  none_in_lanes_above lane _ p set = elim (dec_lt 0 mask) [
     | yes q ↦
         let t = leading_top 16 mask q fits in
         let z : ◌≡◌ {A = ℕ} 0 1 = sym (bit_at_above mask (suc t.0) lane t.3 (omega (arith, t.1))) ∙ set in omega arith
@@ -159,6 +200,41 @@ module _ (mask : ℕ) (fits : mask < 65536) where
     | no q ↦ let z : mask ≡ 0 = omega arith in
         absurd (omega (arith, p, ap (count_leading_zeros 16) z ∙ leading_of_zero 16))
   ]
+
+-- the lanes below the lowest one of a mask, all sixteen of an empty one
+pub lanes_under : (mask : ℕ) → mask < 65536
+    → bit_and ((mask + 65535) % 65536) (65535 - mask) ≡ 2 ^ count_trailing_zeros 16 mask - 1
+lanes_under mask fits = elim (dec_lt 0 mask) [
+  | yes q ↦
+      let h = bit_at-trailing_zeros w16 mask q fits in
+      let less : (mask + 65535) % 65536 ≡ mask - 1 = omega arith in
+      ap (λ n. bit_and n (65535 - mask)) less ∙ low_ones mask (count_trailing_zeros 16 mask) q fits h.0 h.1 h.2
+  | no q ↦
+      let none : mask ≡ 0 = omega arith in
+      let all : count_trailing_zeros 16 mask ≡ 16 = ap (count_trailing_zeros 16) none ∙ trailing_of_zero 16 in
+      ap (λ n. bit_and ((n + 65535) % 65536) (65535 - n)) none ∙ sym (ap (λ n. 2 ^ n - 1) all)
+]
+
+-- a mask is above the lanes below another one if its highest lane is not below the lowest of that one
+pub masks_meet : (mask f : ℕ) → mask < 65536 → nat_lt (2 ^ f - 1) mask ≡ nat_lt (count_leading_zeros 16 mask + f) 16
+masks_meet mask f fits = elim (dec_lt 0 mask) [
+  | yes q ↦
+      let t = leading_top 16 mask q fits in
+      elim (dec_lt t.0 f) [
+        | yes r ↦
+            let more = pow_mono {i = suc t.0} {j = f} (omega arith) in
+            le-ltb (2 ^ f - 1) mask (omega (arith, more, t.3))
+            ∙ sym (le-ltb (count_leading_zeros 16 mask + f) 16 (omega (arith, t.1)))
+        | no r ↦
+            let less = pow_mono {i = f} {j = t.0} (omega arith) in
+            lt-ltb (2 ^ f - 1) mask (omega (arith, less, t.2, pow_pos f))
+            ∙ sym (lt-ltb (count_leading_zeros 16 mask + f) 16 (omega (arith, t.1)))
+      ]
+  | no q ↦
+      let none : mask ≡ 0 = omega arith in
+      let all : count_leading_zeros 16 mask ≡ 16 = ap (count_leading_zeros 16) none ∙ leading_of_zero 16 in
+      le-ltb (2 ^ f - 1) mask (omega arith) ∙ sym (le-ltb (count_leading_zeros 16 mask + f) 16 (omega (arith, all)))
+]
 
 -- a mask of a group that was read is one of the bytes that it was read from
 pub mask_at : (P : ℕ → Type 0) (group bytes : List ℕ) (start mask : ℕ)

@@ -1,37 +1,35 @@
-//! Whether the 16 neighbouring buckets around a bucket contain an empty one, by two runs of control bytes.
-ghost use Rattle.std.specs.Prelude.{◌≡◌, ◌≢◌, ℕ, ◌+◌, ◌<◌, ◌≤◌, slice_index, MatchBool};
+//! Whether the 16 neighbouring buckets around a bucket contain an empty one, by two groups of control bytes.
+ghost use Rattle.std.specs.Prelude.{◌≡◌, ◌≢◌, ℕ, ◌+◌, ◌-◌, ◌%◌, ◌<◌, slice_index, MatchBool};
 ghost use Rattle.group_table.specs.Bytes.{empty_byte};
 ghost use Rattle.group_table.specs.Control.{buckets_of, HasEmptyByte, IsCircle};
-ghost use Rattle.group_table.specs.Group.{IsRunBefore, IsRunFrom, EmptyNeighbourBytes, HemmedInBytes};
+ghost use Rattle.group_table.specs.Group.{EmptyNeighbourBytes, HemmedInBytes};
+ghost use Rattle.group_table.specs.Lanes.{IsMaskAt};
 
 use crate::control::Control;
-use crate::group::{lanes_above, lanes_below};
+use crate::group::is_gap_below_sixteen;
 
-// Returns how many used buckets are directly before this one, at most 16. Of 4 or 8 buckets, it is not more than there
-// are.
+// Returns the empty lanes of the group that ends directly before this bucket.
 #[inline]
-fn run_before(control: &Control, b: usize) -> usize
+fn empty_before(control: &Control, b: usize) -> u16
     requires { b < buckets_of control.now }
-    ensures wide { 16 ≤ buckets_of control.now → IsRunBefore control.now (buckets_of control.now) b result }
-    ensures small { buckets_of control.now < 16 → result ≤ b }
+    ensures lanes { IsMaskAt (λ byte. byte ≡ empty_byte) control.now
+        ((b + (buckets_of control.now - 16)) % buckets_of control.now) result }
     ensures circle { IsCircle control.now }
 {
-    let start = control.sixteen_before(b);
-    lanes_above(control.group(start).match_empty())
+    control.group(control.sixteen_before(b)).match_empty()
 }
 
-// Returns how many used buckets there are from this one on, at most 16. Of 4 or 8 buckets, at most those after it.
+// Returns the empty lanes of the group that begins at this bucket.
 #[inline]
-fn run_from(control: &Control, b: usize) -> usize
+fn empty_from(control: &Control, b: usize) -> u16
     requires { b < buckets_of control.now }
-    ensures wide { 16 ≤ buckets_of control.now → IsRunFrom control.now (buckets_of control.now) b result }
-    ensures small { buckets_of control.now < 16 → b + result ≤ buckets_of control.now }
+    ensures lanes { IsMaskAt (λ byte. byte ≡ empty_byte) control.now b result }
 {
-    lanes_below(control.group(b).match_empty())
+    control.group(b).match_empty()
 }
 
 // Returns whether every 16 neighbouring buckets around this one contain an empty one. They lie between the last empty
-// bucket before it and the first one after it, so the two runs decide.
+// bucket before it and the first one after it, so the used buckets between these decide.
 pub(crate) fn has_empty_neighbours(control: &Control, b: usize) -> bool
     requires bucket { b < buckets_of control.now }
     requires used { slice_index control.now b ≢ empty_byte }
@@ -39,5 +37,5 @@ pub(crate) fn has_empty_neighbours(control: &Control, b: usize) -> bool
     ensures { MatchBool result (EmptyNeighbourBytes control.now (buckets_of control.now) b)
         (HemmedInBytes control.now (buckets_of control.now) b) }
 {
-    run_before(control, b) + run_from(control, b) < 16
+    is_gap_below_sixteen(empty_before(control, b), empty_from(control, b))
 }
