@@ -7,7 +7,7 @@ use native.Mathlib.Decide.{dec_lt}
 use Rattle.group_table.specs.Sizes.{IsPowerFromFour}
 use Rattle.group_table.specs.Probe.{probed}
 use Rattle.group_table.specs.declared.probe.Probe.{Probe}
-use Rattle.group_table.specs.Group.{IsProbe}
+use Rattle.group_table.specs.Group.{IsProbe, passed_by}
 use Rattle.group_table.proofs.Circle.{distance, mod_cancel}
 use Rattle.group_table.proofs.Triangle.{IsTriangle, triangle_meets, triangles_apart, product_even}
 
@@ -24,7 +24,7 @@ probed-lt n hash s pos = mod-lt _ pos
 
 -- a group begins at a bucket
 pub probe_within : (n hash : ℕ) (probe : Probe) → IsProbe n hash probe → 0 < n → probe.start < n
-probe_within n hash probe at pos = rw at.start (probed-lt n hash probe.passed pos)
+probe_within n hash probe at pos = rw at.start (probed-lt n hash (passed_by probe) pos)
 
 -- the steps of a search to a bucket of the first group are those on the circle
 pub probed-first_group : (n hash b steps : ℕ) → b < n → steps < 16 → steps ≡ (b + (n - hash % n)) % n

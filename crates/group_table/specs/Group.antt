@@ -1,5 +1,5 @@
 -- What the code reads in the group of buckets that begins at a place. No public clause cites this module.
-use Rattle.std.specs.Prelude.{◌≡◌, ◌≢◌, ℕ, ◌+◌, ◌/◌, ◌%◌, ◌<◌, ◌≤◌, min, Bool, true, List, [], ◌∷◌, ◌++◌, length, map}
+use Rattle.std.specs.Prelude.{◌≡◌, ◌≢◌, ℕ, ◌+◌, ◌-◌, ◌/◌, ◌%◌, ◌<◌, ◌≤◌, min, Bool, true, List, [], ◌∷◌, ◌++◌, length, map}
 use Rattle.std.specs.Prelude.{filter, slice_index}
 use Rattle.std.specs.List.{range_with_len}
 use Rattle.std.specs.Borrow.{Bor}
@@ -12,10 +12,15 @@ use Rattle.group_table.specs.declared.probe.Probe.{Probe}
 use Rattle.group_table.specs.declared.probe.Asked.{Asked}
 use Rattle.group_table.specs.declared.probe.Asked.TheVariants.{Accepted, Ended, GoesOn}
 
+-- how many buckets the groups before this one have
+abbrev pub passed_by : Probe → ℕ
+passed_by probe = probe.stride - 16
+
 -- a search for the hash comes to the group that begins here, after n buckets of whole groups
 pub record IsProbe (buckets hash : ℕ) (probe : Probe) : Type 0 where
-  pub start : probe.start ≡ probed buckets hash probe.passed
-  pub whole : probe.passed % 16 ≡ 0
+  pub start : probe.start ≡ probed buckets hash (passed_by probe)
+  pub whole : passed_by probe % 16 ≡ 0
+  pub stride : 16 ≤ probe.stride
 
 module _ {T : Type 0} (slots : List (Slot T)) where
   -- how many lanes of a group are buckets of their own

@@ -4,7 +4,7 @@ ghost use Rattle.group_table.specs.Sizes.{IsPowerFromFour};
 ghost use Rattle.group_table.specs.Bucket.{bucket_at, empty};
 ghost use Rattle.group_table.specs.Probe.{probed};
 ghost use Rattle.group_table.specs.Search.{Finds, FindsNone};
-ghost use Rattle.group_table.specs.Group.{IsProbe, AsksGroup, IsFreeLane, IsFirstFreeByte};
+ghost use Rattle.group_table.specs.Group.{IsProbe, passed_by, AsksGroup, IsFreeLane, IsFirstFreeByte};
 ghost use Rattle.group_table.specs.Bytes.{IsTag};
 ghost use Rattle.group_table.specs.Control.{buckets_of, HasFreeByte, IsCircle};
 ghost use Rattle.group_table.specs.Layout.{IsLaidOut, slots_of, marks_by};
@@ -13,11 +13,12 @@ use crate::control::{Control, DELETED, tag_of};
 use crate::entries::Entries;
 use crate::group::{lowest_lane, without_lowest};
 
-// The groups of a search: the bucket at which the next group begins, and how many buckets the groups before it have.
+// The groups of a search: the bucket at which a group begins, and how many buckets later the next one does. These are
+// 16 more than the groups before it have.
 #[derive(Drop)]
 pub(crate) struct Probe {
     start: usize,
-    passed: usize,
+    stride: usize,
 }
 
 impl Probe {
@@ -26,12 +27,12 @@ impl Probe {
     fn of(control: &Control, hash: u64) -> Probe
         requires { 0 < buckets_of control.now }
         ensures at { IsProbe (buckets_of control.now) hash result }
-        ensures none_passed { result.passed ≡ 0 }
+        ensures none_passed { passed_by result ≡ 0 }
         ensures circle { IsCircle control.now }
     {
         Probe {
             start: control.wrap(hash as usize),
-            passed: 0,
+            stride: 16,
         }
     }
 
@@ -40,13 +41,14 @@ impl Probe {
     fn go_on(&mut self, control: &Control)
         requires fits { buckets_of control.now + 16 < 2 ^ 63 }
         requires start { self.old.start < buckets_of control.now }
-        requires within { self.old.passed < buckets_of control.now }
+        requires within { passed_by self.old < buckets_of control.now }
+        requires stride { 16 ≤ self.old.stride }
         ensures at { (hash : ℕ) → IsProbe (buckets_of control.now) hash self.old
             → IsProbe (buckets_of control.now) hash self.new }
-        ensures passed { self.new.passed ≡ self.old.passed + 16 }
+        ensures passed { passed_by self.new ≡ passed_by self.old + 16 }
     {
-        self.passed += 16;
-        self.start = control.wrap(self.start + self.passed);
+        self.start = control.wrap(self.start + self.stride);
+        self.stride += 16;
     }
 }
 

@@ -4,6 +4,7 @@ use Rattle.group_table.proofs.ControlLemmas.{buckets_are}
 use Rattle.group_table.proofs.LayoutLemmas.{length-laid_out, power_of}
 use Rattle.group_table.proofs.ProbeLemmas.{probe_within}
 use Rattle.group_table.proofs.FindLemmas.{Finds-from, FindsNone-from, refused_group, not_ended, none_on}
+use Rattle.group_table.specs.Group.{passed_by}
 use Rattle.group_table.proofs.probe.find_bucket.Goals as goal
 
 pub groups-init : goal.groups-init
@@ -34,7 +35,7 @@ returns-in-Accepted-clause-found g c =
     let l = c.groups in
     let slots = slots_of c.args.control.now c.args.entries.now in
     let same = length-laid_out _ _ c.requires.laid_out in
-    Finds-from g.F.FnMut slots c.args.hash l.probe.passed
+    Finds-from g.F.FnMut slots c.args.hash (passed_by l.probe)
     (rw same (power_of _ _ c.requires.laid_out (omega arith))) l.invariant.at.whole
     (rw same l.invariant.within) l.invariant.not_empty c.args.f l.f _ l.invariant.refused c.in-Accepted.b
     (rw (l.invariant.at.start, c.tag_of-tag.ensures.value) at c.in-Accepted.ensures.asked)
@@ -45,7 +46,7 @@ returns-in-Ended-clause-none g c =
     let slots = slots_of c.args.control.now c.args.entries.now in
     let same = length-laid_out _ _ c.requires.laid_out in
     let told = rw (l.invariant.at.start, c.tag_of-tag.ensures.value) at c.in-Ended.ensures.asked in
-    FindsNone-from g.F.FnMut slots c.args.hash l.probe.passed
+    FindsNone-from g.F.FnMut slots c.args.hash (passed_by l.probe)
     (rw same (power_of _ _ c.requires.laid_out (omega arith))) l.invariant.at.whole
     (rw same l.invariant.within) l.invariant.not_empty c.args.f l.f _ l.invariant.refused told.0 told.1
 
@@ -58,12 +59,12 @@ groups-preserved g c =
     let told = rw (l.invariant.at.start, c.tag_of-tag.ensures.value) at c.in-GoesOn.ensures.asked in
     let some = c.requires.some_empty in
     let pos : 0 < n = omega (arith, some.1) in
-    let goes_on : l.probe.passed + 16 < n =
-    not_ended _ _ c.requires.laid_out c.args.hash l.probe.passed pos l.invariant.at.whole l.invariant.not_empty
+    let goes_on : passed_by l.probe + 16 < n =
+    not_ended _ _ c.requires.laid_out c.args.hash (passed_by l.probe) pos l.invariant.at.whole l.invariant.not_empty
     told.1 some.0 some.1 some.2 in
     let wide : min 16 (length slots) ≡ 16 = omega (arith, same, goes_on) in
     let refused =
-    refused_group g.F.FnMut slots c.args.hash l.probe.passed
+    refused_group g.F.FnMut slots c.args.hash (passed_by l.probe)
     (rw same (power_of _ _ c.requires.laid_out pos)) l.invariant.at.whole
     (rw same l.invariant.within) l.invariant.not_empty c.args.f l.f _ l.invariant.refused told.0 in
     record {
@@ -73,6 +74,6 @@ groups-preserved g c =
       within = rw c.go_on.ensures.passed goes_on;
       refused = rw c.go_on.ensures.passed (rw wide at refused);
       not_empty = rw c.go_on.ensures.passed
-          (none_on _ _ c.requires.laid_out c.args.hash l.probe.passed pos l.invariant.at.whole l.invariant.not_empty
+          (none_on _ _ c.requires.laid_out c.args.hash (passed_by l.probe) pos l.invariant.at.whole l.invariant.not_empty
           told.1 goes_on);
     }

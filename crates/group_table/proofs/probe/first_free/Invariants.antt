@@ -1,16 +1,16 @@
 use Rattle.std.proofs.Common.{ℕ, ◌-◌, ◌<◌, slice_index}
 use Rattle.group_table.specs.Probe.{probed}
 use Rattle.group_table.specs.Control.{buckets_of}
-use Rattle.group_table.specs.Group.{IsProbe}
+use Rattle.group_table.specs.Group.{IsProbe, passed_by}
 use Rattle.group_table.proofs.probe.first_free.Given as goal
 
 abbrev pub invariant-groups : goal.invariant-groups
 invariant-groups l = record {
   at : IsProbe (buckets_of l.control) l.hash l.probe;
-  within : l.probe.passed < buckets_of l.control;
-  full_before : (before : ℕ) → before < l.probe.passed
+  within : passed_by l.probe < buckets_of l.control;
+  full_before : (before : ℕ) → before < passed_by l.probe
       → slice_index l.control (probed (buckets_of l.control) l.hash before) < 128;
 }
 
 abbrev pub decreases-groups : goal.decreases-groups
-decreases-groups l = buckets_of l.control - l.probe.passed
+decreases-groups l = buckets_of l.control - passed_by l.probe
