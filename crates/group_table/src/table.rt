@@ -42,10 +42,10 @@ mod relocation;
 /// assert_eq!(rt; table.find(7, |entry| *entry == "a"), Some(b));
 /// ```
 pub struct Table<T> {
+    // Far from the two other counts, one of which changes with it. They would be read and written as one.
+    room: usize,
     control: Control,
     entries: Entries<T>,
-    room: usize,
-    // Between the two counts that an insertion and a removal change, which are then not read and written as one.
     placings: u64,
     len: usize,
 }
@@ -185,9 +185,9 @@ impl<T> Table<T> {
         ensures fits { (hash_of : ℕ → ℕ) → Fits self.old.slots hash_of → Fits self.new.slots hash_of }
         ensures table { IsTable (marks_of self.new.slots) }
     {
+        self.len -= 1;
         let gives_room = has_empty_neighbours(&self.control, b);
         self.room += gives_room as usize;
-        self.len -= 1;
         let byte = emptied_byte(gives_room);
         empty_bucket(&mut self.control, &mut self.entries, b, byte)
     }
@@ -224,10 +224,12 @@ impl<T> Table<T> {
         if self.room < spent {
             return Err(entry);
         }
+        // Each count is then one instruction on memory: the compiler does not keep them while the bucket is written.
+        make_count_room(&mut self.placings);
+        self.len += 1;
         fill_bucket(&mut self.control, &mut self.entries, b, tag_of(hash), entry);
         self.room -= spent;
-        self.len += 1;
-        count_one(&mut self.placings);
+        self.placings += 1;
         Ok(b)
     }
 
@@ -301,12 +303,12 @@ fn is_without_buckets(control: &Control, room: usize) -> bool
     room == 0 && control.is_empty()
 }
 
-// Counts one more, up to the greatest number: with a branch, which takes fewer instructions than the saturating sum.
+// Takes one off a full count, so that it is full again after one more is counted.
 #[inline]
-fn count_one(count: &mut u64)
-    ensures { count.new ≡ count_up count.old 1 }
+fn make_count_room(count: &mut u64)
+    ensures { count.new + 1 ≡ count_up count.old 1 }
 {
-    if *count < u64::MAX {
-        *count += 1;
+    if *count == u64::MAX {
+        *count -= 1;
     }
 }

@@ -114,7 +114,7 @@ returns-clause-placed g c =
       first = place_first _ _ _ valid c.args.hash c.first_free-b.result _ are some first;
       slots = rw (c.fill_bucket.ensures.control, c.fill_bucket.ensures.entries, c.tag_of.ensures.value)
           (slots_of-written _ _ c.first_free-b.result _ _);
-      placings = c.count_one.ensures;
+      placings = c.make_count_room.ensures;
     }
 
 pub returns-clause-may_fill : goal.returns-clause-may_fill
