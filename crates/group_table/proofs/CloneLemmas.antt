@@ -1,6 +1,10 @@
 -- A copy of a table has the marks, the counts and the fitting hashes of the table.
-use Rattle.std.proofs.Common.{◌≡◌, ℕ, zero, suc, ◌<◌, List, [], ◌∷◌, length, get_or}
-use Rattle.std.proofs.Common.{Option, Some, None, Result, refl, ap, sym, ◌∙◌}
+use Rattle.std.proofs.Common.{◌≡◌, ℕ, zero, suc, ◌<◌, ◌≤◌, List, [], ◌∷◌, length, get_or}
+use Rattle.std.proofs.Common.{Option, Some, None, Result, refl, ap, sym, ◌∙◌, subst, inl, inr, ◌+◌, ◌-◌, ◌%◌}
+use Rattle.std.proofs.lemmas.Bool.{cases_lt}
+use Rattle.group_table.specs.Sizes.{IsPowerFromFour}
+use Rattle.group_table.specs.Lanes.{HasLane, IsRepeated}
+use Rattle.group_table.proofs.ProbeLemmas.{group_within}
 use Rattle.std.proofs.Common.{arith, count_by, cond, nat_eq, true, false, Bool}
 use Rattle.std.specs.List.{AllZip}
 use Rattle.std.proofs.lemmas.List.Elements.{length_all_zip, AllZip-get_or}
@@ -15,6 +19,9 @@ use Rattle.group_table.specs.Copies.{IsCopyOf, Copies, IsPlaceCopy}
 use Rattle.group_table.proofs.BucketLemmas.{empty_not_full, empty_not_deleted, full_not_deleted, used_count-marks_of}
 use Rattle.group_table.proofs.BucketLemmas.{entry_count-marks_of, is_full-marks_of}
 use Rattle.group_table.proofs.FitsLemmas.{one_held}
+use native.Mathlib.Decide.{dec_lt}
+use Rattle.group_table.specs.Layout.{IsLaidOut}
+use Rattle.group_table.proofs.LayoutLemmas.{none_by}
 use Rattle.group_table.proofs.WriteLemmas.{byte_at-same}
 
 module _ {T F : Type 0} (closure : Shared F (Bor T × Unit {0}) (Result T AllocError)) (f : F) where
@@ -146,3 +153,45 @@ module _ {T F : Type 0} (closure : Shared F (Bor T × Unit {0}) (Result T AllocE
       none_deleted = λ small b e. rw same_length
           (valid.none_deleted (omega (arith, same_length)) b (was_deleted _ _ (copy_each _ _ copied b) e));
     }
+
+-- ---- the entries of a group, by its full lanes
+module _ {T F : Type 0} (closure : Shared F (Bor T × Unit {0}) (Result T AllocError)) (f : F) (control : List ℕ)
+    (entries copies : List (Option T)) (laid_out : IsLaidOut control entries) (done b : ℕ) (within : b ≤ length entries)
+    (copied : (k : ℕ) → k < done → IsPlaceCopy closure f (get_or entries k None) (get_or copies k None))
+    (others : (k : ℕ) → done ≤ k → get_or copies k None ≡ None)
+    (between : (k : ℕ) → done ≤ k → k < b → 128 ≤ get_or control k 0) where
+  -- no bucket from one place to another is full, so there is nothing to copy
+  pub copied_up_to : (k : ℕ) → k < b → IsPlaceCopy closure f (get_or entries k None) (get_or copies k None)
+  copied_up_to k p = elim (dec_lt k done) [
+    | yes q ↦ copied k q
+    | no q ↦ rw (none_by _ _ (laid_out.agrees k (omega arith)) (between k (omega arith) p)) (others k (omega arith))
+  ]
+
+  pub told_up_to : (k : ℕ) → k < b → Agrees (get_or control k 0) (get_or copies k None)
+  told_up_to k p = agrees_copy closure f _ _ _ (copied_up_to k p) (laid_out.agrees k (omega arith))
+
+-- the mask has the lanes of the full buckets of a group from a place on, and none is below a lane: none is full up to it
+pub free_up_to : (control : List ℕ) (mask start done low : ℕ) → start ≤ done → low ≤ 16
+    → ((lane : ℕ) → (lane < 16) × (done ≤ start + lane) × (get_or control (start + lane) 0 < 128) → HasLane mask lane)
+    → ((lane : ℕ) → HasLane mask lane → low ≤ lane) → (k : ℕ) → done ≤ k → k < start + low → 128 ≤ get_or control k 0
+free_up_to control mask start done low from few left first k p q = elim (cases_lt (get_or control k 0) 128) [
+  | inl tagged ↦
+      let here : start + (k - start) ≡ k = omega arith in
+      let lane = first (k - start)
+      (left (k - start) (omega arith, omega arith, subst (λ i. get_or control i 0 < 128) (sym here) tagged)) in
+      absurd (omega (arith, lane))
+  | inr none ↦ none
+]
+
+-- a full lane of a group is a bucket of its own
+pub lane_within : (control : List ℕ) (n start lane : ℕ) → IsPowerFromFour n → IsRepeated control n → start % 16 ≡ 0
+    → start < n → lane < 16 → get_or control (start + lane) 0 < 128 → start + lane < n
+lane_within control n start lane power repeated whole below few tagged =
+    let all = group_within n start power whole below in
+    elim (dec_lt n 16) [
+      | yes small ↦ elim (dec_lt (start + lane) n) [
+        | yes p ↦ p
+        | no p ↦ absurd (omega (arith, tagged, repeated.between (start + lane) (omega arith) (omega (arith, all))))
+      ]
+      | no p ↦ omega (arith, all)
+    ]

@@ -1,7 +1,7 @@
 //! Groups of sixteen control bytes, and masks of their lanes: bit i is lane i.
 ghost use Rattle.std.specs.Prelude.{◌≡◌, ◌≢◌, ◌≤◌, ◌<◌, ◌+◌, ◌-◌, ◌^◌, ◌↔◌, ℕ, nat_lt, length, slice_index};
 ghost use Rattle.std.specs.Int.Count.{count_leading_zeros, count_trailing_zeros};
-ghost use Rattle.group_table.specs.Bytes.{empty_byte, IsFreeByte};
+ghost use Rattle.group_table.specs.Bytes.{empty_byte, IsFreeByte, IsTag};
 ghost use Rattle.group_table.specs.Lanes.{IsMaskOf, IsMaskAt, HasLane, lowest};
 
 use crate::control::{DELETED, EMPTY};
@@ -97,6 +97,14 @@ impl Group {
         ensures { IsMaskOf IsFreeByte self.now.lanes result }
     {
         match_free(&self.lanes)
+    }
+
+    // Returns the lanes of full buckets.
+    #[inline]
+    pub(crate) fn match_full(&self) -> u16
+        ensures { IsMaskOf IsTag self.now.lanes result }
+    {
+        !self.match_free()
     }
 }
 

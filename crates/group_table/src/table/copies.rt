@@ -7,9 +7,10 @@ ghost use Rattle.group_table.specs.Table.{IsTable};
 ghost use Rattle.group_table.specs.Fits.{Fits};
 ghost use Rattle.group_table.specs.Copies.{Copies, IsPlaceCopy};
 
-use crate::control::{Control, DELETED};
+use crate::control::Control;
 use crate::entries::Entries;
 use crate::fields::drop_first;
+use crate::group::{lowest_lane, without_lowest};
 use crate::table::Table;
 use std::alloc::AllocError;
 
@@ -52,7 +53,7 @@ impl<T: Drop> Table<T> {
 }
 
 // Writes what the closure returns for each entry, in the place of the entry. The control bytes say which places hold
-// one.
+// one. They are read sixteen at a time: a test of each byte would be predicted wrong for every other one.
 fn copy_entries<T: Drop, F: Fn(&T) -> Result<T, AllocError>>(
     control: &Control,
     entries: &Entries<T>,
@@ -65,8 +66,11 @@ fn copy_entries<T: Drop, F: Fn(&T) -> Result<T, AllocError>>(
 {
     let count = control.buckets();
     let mut copies = Entries::with_places(entries.allocator(), count)?;
-    for b in 0..count {
-        if control.byte(b) < DELETED {
+    let mut start = 0;
+    'groups: while start < count {
+        let mut mask = control.group(start).match_full();
+        'lanes: while mask != 0 {
+            let b = start + lowest_lane(mask);
             match f(entries.get(b)) {
                 Ok(copy) => copies.write(b, copy),
                 Err(error) => {
@@ -75,7 +79,9 @@ fn copy_entries<T: Drop, F: Fn(&T) -> Result<T, AllocError>>(
                     return Err(error);
                 }
             }
+            mask = without_lowest(mask);
         }
+        start += 16;
     }
     Ok(copies)
 }
