@@ -77,7 +77,7 @@ module _ {T N : Type 0} {number : N → ℕ} {none : N} {IsGiven : (ℕ → ℕ)
   pub put_reached : {hash b : ℕ} → IsFirst (full_at control) (probed (buckets_of control) hash) b
       → IsFreeFor control half.placed hash b
   put_reached {hash} {b} first =
-      first_reached control half.placed half.room half.valid half.none_deleted less hash b _ n_placed first
+      first_reached control half.placed half.room half.valid half.none_deleted less hash b first
 
   module _ {hash b : ℕ} (reached : IsFreeFor control half.placed hash b) where
     in_placed : b < length half.placed
