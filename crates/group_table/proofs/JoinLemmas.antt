@@ -16,7 +16,8 @@ use Rattle.group_table.proofs.ControlLemmas.{buckets_are}
 use Rattle.group_table.proofs.ProbeLemmas.{probed-lt}
 use Rattle.group_table.proofs.LayoutLemmas.{length-laid_out, length-marks_by, bucket_at-laid_out}
 use Rattle.group_table.proofs.WriteLemmas.{slots_of-written}
-use Rattle.group_table.proofs.PlaceLemmas.{Spends, IsFreeFor, place_reached, free_slot, IsValid-placed, entry_count-placed}
+use Rattle.group_table.proofs.PlaceLemmas.{Spends, IsFreeFor, place_reached, free_slot, IsValid-placed}
+use Rattle.group_table.proofs.PlaceLemmas.{entry_count-placed}
 
 module _ {T : Type 0} (control : List ℕ) (entries : List (Option T)) (r : ℕ) (valid : IsValid control entries r)
     (none_deleted : count_by is_deleted (slots_of control entries) ≡ 0)

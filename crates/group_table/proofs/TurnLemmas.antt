@@ -18,8 +18,8 @@ use Rattle.group_table.specs.InPlace.{IsSettled, IsWaiting, IsHalfway, IsInTurn}
 use Rattle.group_table.proofs.ControlLemmas.{buckets_are}
 use Rattle.group_table.proofs.LayoutLemmas.{length-laid_out, length-marks_by, entries_within}
 use Rattle.group_table.proofs.PlaceLemmas.{IsFreeFor, some_free_byte}
-use Rattle.group_table.proofs.JoinLemmas.{some_buckets, first_reached, join_within, join_none, IsValid-joined, joins_there}
-use Rattle.group_table.proofs.JoinLemmas.{deleted_count-joined}
+use Rattle.group_table.proofs.JoinLemmas.{some_buckets, first_reached, join_within, join_none, IsValid-joined}
+use Rattle.group_table.proofs.JoinLemmas.{joins_there, deleted_count-joined}
 use Rattle.group_table.proofs.MoveLemmas.{Moves-more, KeepsHashes-more}
 use Rattle.group_table.proofs.RelocationLemmas.{entry_count-laid_out}
 use Rattle.group_table.proofs.PlaceCounts.{place_within, count-filled, count-changed, count-taken, count-fewer}
@@ -89,7 +89,8 @@ module _ {T N : Type 0} {number : N → ℕ} {none : N} {IsGiven : (ℕ → ℕ)
 
   pub put_into : {hash b : ℕ} → IsFirst (full_at control) (probed (buckets_of control) hash) b → IsPut hash b
   put_into {hash} {b} first =
-      let reached = first_reached control half.placed half.room half.valid half.none_deleted less hash b first in record {
+      let reached = first_reached control half.placed half.room half.valid half.none_deleted less hash b first in
+      record {
         reached = reached;
         in_whole = omega (arith, put_within reached, now_length);
         in_now = put_within reached;

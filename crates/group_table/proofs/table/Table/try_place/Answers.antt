@@ -7,8 +7,8 @@ use Rattle.group_table.specs.Layout.{slots_of}
 use Rattle.group_table.proofs.LayoutLemmas.{length-laid_out, entries_within}
 use Rattle.group_table.proofs.TableLemmas.{IsTable-by}
 use Rattle.group_table.proofs.WriteLemmas.{slots_of-written}
-use Rattle.group_table.proofs.PlaceLemmas.{some_free_byte, has_buckets, place_first, place_within, place_none, place_byte}
-use Rattle.group_table.proofs.PlaceLemmas.{no_place_left, place_spends, MayFill-from, IsValid-placed}
+use Rattle.group_table.proofs.PlaceLemmas.{some_free_byte, has_buckets, place_first, place_within, place_none}
+use Rattle.group_table.proofs.PlaceLemmas.{place_byte, no_place_left, place_spends, MayFill-from, IsValid-placed}
 use Rattle.group_table.proofs.PlaceLemmas.{entry_count-placed, room-placed}
 use Rattle.group_table.proofs.ControlLemmas.{buckets_are}
 use Rattle.group_table.proofs.FitsLemmas.{Fits-placed}
