@@ -4,8 +4,9 @@ use Rattle.lru_limits.specs.Rules.{Rules, Offers}
 use Rattle.schnellru.proofs.CallerLemmas.{value_removed}
 use Rattle.schnellru.proofs.HandingLemmas.{plain_insert}
 use Rattle.schnellru.specs.Calls.{written}
-use Rattle.schnellru.specs.Runs.{Step, inserts, makes_newest, updates, gets, demotes, removes, pops_oldest, pops_newest, drains, clears}
-use Rattle.schnellru.specs.Runs.{reserves, shrinks, trims, NamesOnly, AnyStep, calls as any_call, writes, sets_limiter as sets}
+use Rattle.schnellru.specs.Runs.{Step, inserts, makes_newest, updates, gets, demotes, removes, pops_oldest}
+use Rattle.schnellru.specs.Runs.{pops_newest, drains, clears, reserves, shrinks, trims, NamesOnly, AnyStep}
+use Rattle.schnellru.specs.Runs.{calls as any_call, writes, sets_limiter as sets}
 use Rattle.schnellru.specs.State.{State}
 use Rattle.lru_replay.specs.CallRuns.{CallStep, NamesAmong}
 use Rattle.lru_replay.specs.Replies.{Reply}
@@ -63,7 +64,8 @@ module _ {K V S H : Type 0} {rules : Rules K V S} {offers : Offers K V S K} {eq 
 
   -- so it is one of any steps of the map, or nothing changes
   pub named_step : (call : Call K V S) → Kind rules offers eq hash_of old new call
-      → ((step : AnyStep rules offers eq hash_of old new) × Names rules offers eq hash_of old new call step) ⊎ (new ≡ old)
+      → ((step : AnyStep rules offers eq hash_of old new) × Names rules offers eq hash_of old new call step)
+      ⊎ (new ≡ old)
   named_step call (calls_map step names) = inl (any_call step, names)
   named_step call (stays e) = inr e
   named_step call (writes_value key v is e) =

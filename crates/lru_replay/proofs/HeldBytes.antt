@@ -9,8 +9,8 @@ use Rattle.lru_replay.specs.declared.lines.command.Command.TheVariants as comman
 use Rattle.lru_replay.specs.declared.lines.command.Limit.{Limit}
 use Rattle.lru_replay.specs.declared.lines.command.Limit.TheVariants as limits
 use Rattle.lru_replay.specs.declared.lines.outcome.ReplayError.{ReplayError}
-use Rattle.lru_replay.specs.Grammar.{SpellsCommand, SpellsLimit, pair_spelling, command_spelling, limit_spelling, FitsCommand}
-use Rattle.lru_replay.specs.Grammar.{FitsLimit}
+use Rattle.lru_replay.specs.Grammar.{SpellsCommand, SpellsLimit, pair_spelling, command_spelling, limit_spelling}
+use Rattle.lru_replay.specs.Grammar.{FitsCommand, FitsLimit}
 use Rattle.lru_limits.specs.Rules.{Rules, Offers}
 use Rattle.lru_replay.specs.Maps.{Map}
 use Rattle.lru_replay.specs.LineRuns.{LineStep, AnswersLine}

@@ -8,8 +8,9 @@ use Rattle.schnellru.specs.Lists.{lookup, lookup_entry, first, last}
 use Rattle.schnellru.specs.Calls.{promoted, demoted, removal, pop_first, cleared, left_of}
 use Rattle.schnellru.specs.State.{Contents, room, contents, Leaves, IsSized, pop}
 use Rattle.schnellru.specs.Drains.{pops_first, newest_given}
-use Rattle.schnellru.proofs.CallerLemmas.{promoted_sized, demoted_sized, cleared_sized, some_insert, some_update, some_leave}
-use Rattle.schnellru.proofs.CallerLemmas.{some_reservation, some_shrink, length-without, length-without_first, length-without_last}
+use Rattle.schnellru.proofs.CallerLemmas.{promoted_sized, demoted_sized, cleared_sized, some_insert, some_update}
+use Rattle.schnellru.proofs.CallerLemmas.{some_leave, some_reservation, some_shrink, length-without}
+use Rattle.schnellru.proofs.CallerLemmas.{length-without_first, length-without_last}
 use Rattle.lru_replay.specs.declared.lines.command.Command.{Command}
 use Rattle.lru_replay.specs.declared.lines.command.Command.TheVariants as commands
 use Rattle.lru_replay.specs.declared.lines.figures.Figures.{Figures}
@@ -17,8 +18,8 @@ use Rattle.lru_replay.specs.Commands.{call_of}
 use Rattle.lru_replay.specs.Limits.{AlwaysOffers}
 use Rattle.lru_replay.specs.LineRuns.{AnswersCommand}
 use Rattle.lru_replay.specs.Maps.{Map, hash_of}
-use Rattle.lru_replay.specs.Replies.{Reply, flag, updated, value, pair, listed, reserved, shrunk, stats, done, no_memory}
-use Rattle.lru_replay.specs.Replies.{insert_reply}
+use Rattle.lru_replay.specs.Replies.{Reply, flag, updated, value, pair, listed, reserved, shrunk, stats, done}
+use Rattle.lru_replay.specs.Replies.{no_memory, insert_reply}
 use Rattle.lru_replay.specs.Steps.{ReplyStep}
 
 module _ {S : Type 0} (rules : Rules ℕ ℕ S) (offers : Offers ℕ ℕ S ℕ) (offered : AlwaysOffers offers) (old : Map S)

@@ -45,8 +45,8 @@ module _ {S : Type 0} (rules : Rules ℕ ℕ S) (offers : Offers ℕ ℕ S ℕ) 
   AnswersLine before line after old new result =
       (text : List ℕ) × LineStep before line text after × Writes old new result (fed text)
 
-  -- A run over the lines, in which each line leaves a map whose table is sound. The text is that of each line with a line
-  -- feed, one after another.
+  -- A run over the lines, in which each line leaves a map whose table is sound. The text is that of each line with a
+  -- line feed, one after another.
   abbrev pub IsLineRun : Map S → List (List ℕ) → List ℕ → Map S → Type 0
   IsLineRun old lines text new =
       (texts : List (List ℕ)) × IsRun LineStep IsSized old lines texts new × (text ≡ flat_map fed texts)
@@ -55,8 +55,8 @@ module _ {S : Type 0} (rules : Rules ℕ ℕ S) (offers : Offers ℕ ℕ S ℕ) 
   abbrev pub IsTextOf : Map S → List (List ℕ) → List ℕ → Type 0
   IsTextOf old lines text = (new : Map S) × IsLineRun old lines text new
 
--- Below, IsText says which texts lines have, and Wrote what was written of a text. A reader had the bytes `from` left, if
--- they are known, and has `to` left now. A writer's bytes were `old` and are `new`.
+-- Below, IsText says which texts lines have, and Wrote what was written of a text. A reader had the bytes `from` left,
+-- if they are known, and has `to` left now. A writer's bytes were `old` and are `new`.
 module _ (IsText : List (List ℕ) → List ℕ → Type 0) (from : Option (List ℕ)) where
   -- of a text of all the lines
   abbrev pub OfAll : (List ℕ → Type 0) → Type 0

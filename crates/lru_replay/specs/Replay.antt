@@ -64,8 +64,8 @@ module _ (from to old new : Option (List ℕ)) where
   abbrev pub WritesSoFar : Type 0
   WritesSoFar = OfRead (SoFar IsReplay) from to (Appends old new)
 
-  -- A beginning of what is written of the lines was written, and all lines were read, or the first n, and then a part of
-  -- the next may have been read.
+  -- A beginning of what is written of the lines was written, and all lines were read, or the first n, and then a part
+  -- of the next may have been read.
   abbrev pub WritesCutSoFar : Type 0
   WritesCutSoFar = BeginsText IsOutput (SoFar IsOutput) from to old new
 
