@@ -6,15 +6,18 @@ use Rattle.group_table.specs.Bucket.{Slot, empty, deleted, full, bucket_at, is_f
 use Rattle.group_table.specs.Bucket.{entry_count}
 use Rattle.group_table.specs.Probe.{hash_tag, probed, IsFirst}
 use Rattle.group_table.specs.Layout.{slots_of, IsValid, written}
+use Rattle.group_table.specs.Control.{buckets_of}
 use Rattle.group_table.specs.Group.{full_at}
 use Rattle.group_table.specs.Moves.{Joins}
 use Rattle.group_table.proofs.SizeLemmas.{full_capacity-small, power_pos}
 use Rattle.group_table.proofs.BucketLemmas.{used_count-split, count_by-pos, count_by-set, bucket_at-set_same}
 use Rattle.group_table.proofs.BucketLemmas.{bucket_at-set_other}
+use Rattle.group_table.proofs.ControlLemmas.{buckets_are}
 use Rattle.group_table.proofs.ProbeLemmas.{probed-lt}
 use Rattle.group_table.proofs.LayoutLemmas.{length-laid_out, length-marks_by, bucket_at-laid_out}
 use Rattle.group_table.proofs.WriteLemmas.{slots_of-written}
-use Rattle.group_table.proofs.PlaceLemmas.{Spends, IsFreeFor, place_reached, free_slot, IsValid-placed, entry_count-placed}
+use Rattle.group_table.proofs.PlaceLemmas.{Spends, IsFreeFor, place_reached, free_slot, IsValid-placed}
+use Rattle.group_table.proofs.PlaceLemmas.{entry_count-placed}
 
 module _ {T : Type 0} (control : List ℕ) (entries : List (Option T)) (r : ℕ) (valid : IsValid control entries r)
     (none_deleted : count_by is_deleted (slots_of control entries) ≡ 0)
@@ -35,10 +38,10 @@ module _ {T : Type 0} (control : List ℕ) (entries : List (Option T)) (r : ℕ)
   ]
 
   -- the first free bucket is one that a search reaches
-  pub first_reached : (hash b n : ℕ) → n ≡ length entries → IsFirst (full_at control) (probed n hash) b
+  pub first_reached : (hash b : ℕ) → IsFirst (full_at control) (probed (buckets_of control) hash) b
       → IsFreeFor control entries hash b
-  first_reached hash b n n_is first =
-      place_reached control entries r valid hash b n n_is (omega (arith, some_buckets, n_is)) first
+  first_reached hash b first =
+      place_reached valid hash b (omega (arith, some_buckets, buckets_are control entries valid.laid_out)) first
 
   module _ (hash b : ℕ) (reached : IsFreeFor control entries hash b) where
     pub join_within : b < length entries

@@ -1,15 +1,17 @@
 -- An entry goes into the first free bucket.
 use Rattle.std.proofs.Common.{◌≡◌, ◌≢◌, ℕ, ◌+◌, ◌-◌, ◌<◌, ◌≤◌, cond, List, length, get_or, set, ◌⊎◌, Option, Some, None}
-use Rattle.std.proofs.Common.{false, refl, ap, sym, ◌∙◌, subst, arith, inl, inr, nat_eq, eq-eqb}
-use Rattle.std.proofs.lemmas.Bool.{ltb-false, cases_eq, ne_eqb}
+use Rattle.std.proofs.Common.{Bool, false, refl, ap, sym, ◌∙◌, subst, arith, inl, inr, nat_eq, eq-eqb}
+use Rattle.std.proofs.lemmas.Bool.{ltb-false, eqb-false, cases_eq, ne_eqb}
 use Rattle.group_table.specs.Bucket.{Slot, Tagged, empty, deleted, full, bucket_at, is_full, is_used, entry_count}
 use Rattle.group_table.specs.Bucket.{mark_of, room, room_at}
 use Rattle.group_table.specs.Probe.{probed, Reaches, IsFirst, IsFirstFree}
-use Rattle.group_table.specs.Change.{MayFill}
+use Rattle.group_table.specs.Change.{MayFill, HasNoPlace}
 use Rattle.group_table.specs.Layout.{slot_of, slots_of, marks_by, Agrees, IsValid, written}
+use Rattle.group_table.specs.Control.{buckets_of}
 use Rattle.group_table.specs.Group.{full_at}
 use Rattle.group_table.proofs.BucketLemmas.{bucket_at-marks_of, full_not_deleted}
 use Rattle.group_table.proofs.ProbeLemmas.{probed-lt}
+use Rattle.group_table.proofs.ControlLemmas.{buckets_are}
 use Rattle.group_table.proofs.FitsLemmas.{Reaches-first}
 use Rattle.group_table.proofs.LayoutLemmas.{length-marks_by, bucket_at-laid_out, is_full-byte, byte_from_mark}
 use Rattle.group_table.proofs.WriteLemmas.{IsValid-written, entry_count-written}
@@ -62,17 +64,26 @@ pub some_free_byte : {T : Type 0} (control : List ℕ) (entries : List (Option T
 some_free_byte control entries r valid pos = let w = some_empty_byte control entries r valid pos in
     (w.0, w.1, omega (arith, w.2))
 
-module _ {T : Type 0} (control : List ℕ) (entries : List (Option T)) (r : ℕ) (valid : IsValid control entries r)
-    (hash b n : ℕ) (n_is : n ≡ length entries) (pos : 0 < n)
-    (first : IsFirst (full_at control) (probed n hash) b) where
+pub has_buckets : {n : ℕ} {t : Bool} → t ≡ nat_eq n 0 → t ≡ false → 0 < n
+has_buckets {n} is fails = omega (arith, eqb-false n 0 (sym is ∙ fails))
+
+module _ {T : Type 0} {control : List ℕ} {entries : List (Option T)} {r : ℕ} (valid : IsValid control entries r)
+    (hash b : ℕ) (some : 0 < buckets_of control)
+    (found : IsFirst (full_at control) (probed (buckets_of control) hash) b) where
+  n_is : buckets_of control ≡ length entries
+  n_is = buckets_are control entries valid.laid_out
+
   byte_first : IsFirst (full_at control) (probed (length entries) hash) b
-  byte_first = subst (λ k. IsFirst (full_at control) (probed k hash) b) n_is first
+  byte_first = subst (λ n. IsFirst (full_at control) (probed n hash) b) n_is found
 
   byte_free : 128 ≤ get_or control b 0
-  byte_free = ltb-false _ 128 first.free_there
+  byte_free = ltb-false _ 128 found.free_there
+
+  visited : (step : ℕ) → probed (length entries) hash step < length entries
+  visited step = probed-lt (length entries) hash step (omega (arith, some, n_is))
 
   pub place_within : b < length entries
-  place_within = rw (← byte_first.there) (probed-lt (length entries) hash byte_first.step (omega arith))
+  place_within = rw (← byte_first.there) (visited byte_first.step)
 
   pub place_first : IsFirstFree (marks_by control entries) hash b
   place_first =
@@ -82,56 +93,48 @@ module _ {T : Type 0} (control : List ℕ) (entries : List (Option T)) (r : ℕ)
         there = rw same byte_first.there;
         free_there = is_full-byte control entries valid.laid_out b place_within ∙ byte_first.free_there;
         full_before = λ before p. rw same
-            (is_full-byte control entries valid.laid_out _ (probed-lt (length entries) hash before (omega arith))
-            ∙ byte_first.full_before before p);
+            (is_full-byte control entries valid.laid_out _ (visited before) ∙ byte_first.full_before before p);
       }
 
   pub place_reached : IsFreeFor control entries hash b
   place_reached = (Reaches-first (marks_by control entries) hash b place_first, byte_free)
 
-  -- its bucket is empty or deleted, and has no entry
-  pub place_free :
-      ((bucket_at (slots_of control entries) b ≡ empty) ⊎ (bucket_at (slots_of control entries) b ≡ deleted))
-      × (get_or entries b None ≡ None)
-  place_free = rw (bucket_at-laid_out control entries valid.laid_out b place_within)
-      (free_slot _ _ (valid.laid_out.agrees b place_within) byte_free)
-
   pub place_none : get_or entries b None ≡ None
-  place_none = place_free.1
+  place_none = (free_slot _ _ (valid.laid_out.agrees b place_within) byte_free).1
 
-  -- its byte says which of the two it is
+  -- its byte says whether it is empty or deleted
   pub place_byte : Agrees {T = T} (get_or control b 0) None
   place_byte = subst (λ e. Agrees (get_or control b 0) e) place_none (valid.laid_out.agrees b place_within)
 
-  module _ (read : ℕ) (read_is : read ≡ get_or control b 0) where
-    pub place_empty : read ≡ 255 → (bucket_at (slots_of control entries) b ≡ empty) × (get_or entries b None ≡ None)
-    place_empty h =
-        let w = free_empty _ _ (valid.laid_out.agrees b place_within) byte_free (sym read_is ∙ h) in
-        (bucket_at-laid_out control entries valid.laid_out b place_within ∙ w.0, w.1)
+  module _ {read spent : ℕ} (read_is : read ≡ get_or control b 0) (spent_is : spent ≡ cond (nat_eq read 255) 1 0) where
+    place_empty : read ≡ 255 → bucket_at (slots_of control entries) b ≡ empty
+    place_empty h = bucket_at-laid_out control entries valid.laid_out b place_within
+        ∙ (free_empty _ _ (valid.laid_out.agrees b place_within) byte_free (sym read_is ∙ h)).0
 
-    place_deleted : read ≢ 255 → (bucket_at (slots_of control entries) b ≡ deleted) × (get_or entries b None ≡ None)
-    place_deleted h =
-        let w = free_deleted _ _ (valid.laid_out.agrees b place_within) byte_free (λ e. h (read_is ∙ e)) in
-        (bucket_at-laid_out control entries valid.laid_out b place_within ∙ w.0, w.1)
+    place_deleted : read ≢ 255 → bucket_at (slots_of control entries) b ≡ deleted
+    place_deleted h = bucket_at-laid_out control entries valid.laid_out b place_within
+        ∙ (free_deleted _ _ (valid.laid_out.agrees b place_within) byte_free (λ e. h (read_is ∙ e))).0
 
-    module _ (spent : ℕ) (spent_is : spent ≡ cond (nat_eq read 255) 1 0) where
-      pub place_spends : spent ≤ r → Spends (bucket_at (slots_of control entries) b) r spent
-      place_spends enough =
-          elim (cases_eq read 255) [
-            | inl h ↦ let one : spent ≡ 1 = spent_is ∙ ap (λ t. cond {A = ℕ} t 1 0) (eq-eqb read 255 h) in
-                inl ((place_empty h).0, omega (arith, one, enough), one)
-            | inr h ↦ inr ((place_deleted h).0, spent_is ∙ ap (λ t. cond {A = ℕ} t 1 0) (ne_eqb read 255 h))
-          ]
+    pub place_spends : spent ≤ r → Spends (bucket_at (slots_of control entries) b) r spent
+    place_spends enough =
+        elim (cases_eq read 255) [
+          | inl h ↦ let one : spent ≡ 1 = spent_is ∙ ap (λ t. cond {A = ℕ} t 1 0) (eq-eqb read 255 h) in
+              inl (place_empty h, omega (arith, one, enough), one)
+          | inr h ↦ inr (place_deleted h, spent_is ∙ ap (λ t. cond {A = ℕ} t 1 0) (ne_eqb read 255 h))
+        ]
 
-      -- if the room is less than that, there is none, and the bucket is empty
-      pub no_place_left : r < spent → (r ≡ 0) × (bucket_at (slots_of control entries) b ≡ empty)
-      no_place_left less =
-          elim (cases_eq read 255) [
-            | inl h ↦ let one : spent ≡ 1 = spent_is ∙ ap (λ t. cond {A = ℕ} t 1 0) (eq-eqb read 255 h) in
-                (omega (arith, one, less), (place_empty h).0)
-            | inr h ↦ let none : spent ≡ 0 = spent_is ∙ ap (λ t. cond {A = ℕ} t 1 0) (ne_eqb read 255 h) in
-                absurd (omega (arith, none, less))
-          ]
+    -- if the room is less than that, there is none, and the bucket is empty
+    pub no_place_left : r < spent → HasNoPlace (marks_by control entries) hash
+    no_place_left less =
+        elim (cases_eq read 255) [
+          | inl h ↦
+              let one : spent ≡ 1 = spent_is ∙ ap (λ t. cond {A = ℕ} t 1 0) (eq-eqb read 255 h) in
+              let none : r ≡ 0 = omega (arith, one, less) in
+              let mark = bucket_at-marks_of (slots_of control entries) b ∙ ap mark_of (place_empty h) in
+              inr (sym (room_by control entries r valid) ∙ none, b, place_first, mark)
+          | inr h ↦ let none : spent ≡ 0 = spent_is ∙ ap (λ t. cond {A = ℕ} t 1 0) (ne_eqb read 255 h) in
+              absurd (omega (arith, none, less))
+        ]
 
 module _ {T : Type 0} {control : List ℕ} {entries : List (Option T)} {r spent : ℕ} (valid : IsValid control entries r)
     (b : ℕ)

@@ -99,7 +99,8 @@ module _ (control : List ℕ) (n : ℕ) (power : IsPowerFromFour n) (repeated : 
   pub lanes_tell : (before after : ℕ) → (16 ≤ n → IsRunBefore control n b before) → (n < 16 → before ≤ b)
       → (16 ≤ n → IsRunFrom control n b after) → (n < 16 → b + after ≤ n)
       → get_or control b 0 ≢ 255 → (e : ℕ) → e < n → get_or control e 0 ≡ 255
-      → MatchBool (nat_lt (before + after) 16) (HasEmptyNeighbours (IsEmptyAt control) n b) (IsHemmedIn (IsEmptyAt control) n b)
+      → MatchBool (nat_lt (before + after) 16) (HasEmptyNeighbours (IsEmptyAt control) n b)
+      (IsHemmedIn (IsEmptyAt control) n b)
   lanes_tell before after wide_before small_before wide_after small_after used e within byte =
       elim (dec_lt n 16) [
         | yes p ↦

@@ -71,7 +71,8 @@ module _ (control : List ℕ) (n b before after : ℕ) (pos : 0 < n) (bound : b 
       ]
 
   -- the sum of the two runs decides it
-  pub run_tells : get_or control b 0 ≢ 255 → MatchBool (nat_lt (before + after) 16) (HasEmptyNeighbours (IsEmptyAt control) n b)
+  pub run_tells : get_or control b 0 ≢ 255
+      → MatchBool (nat_lt (before + after) 16) (HasEmptyNeighbours (IsEmptyAt control) n b)
       (IsHemmedIn (IsEmptyAt control) n b)
   run_tells used =
       elim (dec_lt (before + after) 16) [

@@ -91,7 +91,8 @@ module _ {T : Type 0} (slots : List (Slot T)) (hash : ℕ) where
       ∙ append_assoc (candidates slots hash s) (tagged_lanes slots (hash_tag hash) start lanes)
       (if_tagged slots (hash_tag hash) ((start + lanes) % length slots))
       ∙ ap (λ xs. candidates slots hash s ++ xs)
-      (sym (tagged-next slots (hash_tag hash) (λ lane. (start + lane) % length slots) lanes) ∙ ap (tagged_lanes slots (hash_tag hash) start) f)
+      (sym (tagged-next slots (hash_tag hash) (λ lane. (start + lane) % length slots) lanes)
+      ∙ ap (tagged_lanes slots (hash_tag hash) start) f)
 
   -- each candidate is there once
   pub candidates-distinct : (steps : ℕ) → IsPowerFromFour (length slots) → steps ≤ length slots

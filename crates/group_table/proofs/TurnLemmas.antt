@@ -18,8 +18,8 @@ use Rattle.group_table.specs.InPlace.{IsSettled, IsWaiting, IsHalfway, IsInTurn}
 use Rattle.group_table.proofs.ControlLemmas.{buckets_are}
 use Rattle.group_table.proofs.LayoutLemmas.{length-laid_out, length-marks_by, entries_within}
 use Rattle.group_table.proofs.PlaceLemmas.{IsFreeFor, some_free_byte}
-use Rattle.group_table.proofs.JoinLemmas.{some_buckets, first_reached, join_within, join_none, IsValid-joined, joins_there}
-use Rattle.group_table.proofs.JoinLemmas.{deleted_count-joined}
+use Rattle.group_table.proofs.JoinLemmas.{some_buckets, first_reached, join_within, join_none, IsValid-joined}
+use Rattle.group_table.proofs.JoinLemmas.{joins_there, deleted_count-joined}
 use Rattle.group_table.proofs.MoveLemmas.{Moves-more, KeepsHashes-more}
 use Rattle.group_table.proofs.RelocationLemmas.{entry_count-laid_out}
 use Rattle.group_table.proofs.PlaceCounts.{place_within, count-filled, count-changed, count-taken, count-fewer}
@@ -73,21 +73,29 @@ module _ {T N : Type 0} {number : N → ℕ} {none : N} {IsGiven : (ℕ → ℕ)
   n_placed : buckets_of control ≡ length half.placed
   n_placed = buckets_are _ _ half.valid.laid_out
 
-  -- the first free bucket is one that a search reaches
-  pub put_reached : {hash b : ℕ} → IsFirst (full_at control) (probed (buckets_of control) hash) b
-      → IsFreeFor control half.placed hash b
-  put_reached {hash} {b} first =
-      first_reached control half.placed half.room half.valid half.none_deleted less hash b _ n_placed first
-
   module _ {hash b : ℕ} (reached : IsFreeFor control half.placed hash b) where
     in_placed : b < length half.placed
     in_placed = join_within control half.placed half.room half.valid half.none_deleted less hash b reached
 
-    pub put_within : b < length now
+    put_within : b < length now
     put_within = omega (arith, in_placed, half.placed_length, half.now_length)
 
-    pub put_within_control : b < length control
-    put_within_control = omega (arith, in_placed, entries_within _ _ half.valid.laid_out)
+  -- what is known of the bucket
+  pub record IsPut (hash b : ℕ) : Type 0 where
+    pub reached : IsFreeFor control half.placed hash b
+    pub in_whole : b < length whole
+    pub in_now : b < length now
+    pub in_control : b < length control
+
+  pub put_into : {hash b : ℕ} → IsFirst (full_at control) (probed (buckets_of control) hash) b → IsPut hash b
+  put_into {hash} {b} first =
+      let reached = first_reached control half.placed half.room half.valid half.none_deleted less hash b first in
+      record {
+        reached = reached;
+        in_whole = omega (arith, put_within reached, now_length);
+        in_now = put_within reached;
+        in_control = omega (arith, in_placed reached, entries_within _ _ half.valid.laid_out);
+      }
 
   module _ (link : ℕ → N) (eq : N → N → Bool) (laws : IsLinkType number link none eq)
       (below : length whole < number none) (hash b tag : ℕ)

@@ -1,6 +1,6 @@
 -- What is in the buckets of a table: in full (slots), or without tags and entries (marks, the bucket states).
-use Rattle.std.specs.Prelude.{◌≡◌, ℕ, ◌-◌, if◌then◌else◌, Bool, true, false, List, length, map, count_by, slice_index_or}
-use Rattle.std.specs.Prelude.{nat_eq, Option, Some, None, IsTrue}
+use Rattle.std.specs.Prelude.{◌≡◌, ℕ, ◌-◌, if◌then◌else◌, Bool, true, false, List, length, map, count_by}
+use Rattle.std.specs.Prelude.{slice_index_or, nat_eq, Option, Some, None, IsTrue}
 use Rattle.group_table.specs.Sizes.{full_capacity}
 
 -- a bucket is empty, deleted (a removal emptied it, and searches go on past it), or full

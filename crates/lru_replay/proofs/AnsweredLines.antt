@@ -1,20 +1,22 @@
 -- One line more of a run, from a reader to a writer, and how the answers end.
 use Rattle.std.proofs.Common.{◌≡◌, ℕ, ◌<◌, List, [], ◌∷◌, ◌++◌, length, sym, ap, ◌∙◌, subst, inl, inr, Option, Result}
-use Rattle.std.proofs.Common.{Ok, Err, IfSome, append_assoc}
+use Rattle.std.proofs.Common.{Ok, Err, IfSome, OnSome}
 use Rattle.std.proofs.lemmas.List.{append-nil}
-use Rattle.std.specs.Io.KnownBytes.{Appends}
+use Rattle.std.specs.Io.KnownBytes.{Appends, IsAtEnd}
 use Rattle.std.proofs.KnownBytes.{Appends-trans}
 use Rattle.std.proofs.lemmas.Option.{IfSome_then}
 use Rattle.lru_limits.specs.Rules.{Rules, Offers}
 use Rattle.schnellru.specs.State.{IsSized}
 use Rattle.lru_replay.specs.declared.lines.outcome.ReplayError.{ReplayError}
 use Rattle.lru_replay.specs.declared.lines.outcome.ReplayError.TheVariants as errors
-use Rattle.lru_replay.specs.Lines.{lines_of, fed, TakesPart, TakesFed, TakesRest, TakesLines, TakesWhole}
+use Rattle.lru_replay.specs.Lines.{lines_of, fed, TakesPart, TakesFed, TakesRest, TakesLines}
 use Rattle.lru_replay.specs.Maps.{Map}
-use Rattle.lru_replay.specs.LineRuns.{LineStep, AnswersLine, Answers, IsLineRun, IsTextOf}
+use Rattle.lru_replay.specs.Output.{Begins}
+use Rattle.lru_replay.specs.LineRuns.{LineStep, AnswersLine, Answers, IsLineRun, IsTextOf, OfAll}
 use Rattle.lru_replay.proofs.ByteLists.{Consumes_end}
 use Rattle.lru_replay.proofs.LineLists.{takes_line_more, takes_part_more, lines_at_end, lines_of-last}
 use Rattle.lru_replay.proofs.LineRuns.{line_run-append, line_run-one}
+use Rattle.lru_replay.proofs.WrittenTexts.{begins_after}
 
 -- From the map old, some lines were read whole, and the text of a run over them was written, which left the map now.
 -- The reader's bytes were r₀ and are r₁, and the writer's were w₀ and are w₁.
@@ -73,25 +75,18 @@ module _ {S : Type 0} {rules : Rules ℕ ℕ S} {offers : Offers ℕ ℕ S ℕ} 
       wrote = Appends-trans w₀ w₁ w₂ so_far.text (fed next) so_far.wrote answered;
     }
 
-    -- a write failed within the answer to a line that was read whole
-    cut_within : TakesWhole r₀ r₂ (so_far.lines ++ line ∷ [])
-        → AnswersLine rules offers told now line new w₁ w₂ (Err errors.Write)
-        → Answers (IsTextOf rules offers told old) r₀ r₂ w₀ w₂ (Err errors.Write)
-    cut_within whole (next, step, (same, part, (rest, is), written)) = (
-      so_far.lines ++ line ∷ [],
-      so_far.text ++ fed next,
-      so_far.text ++ part,
-      (new, run_on next step),
-      whole,
-      (rest, ap (λ l. so_far.text ++ l) is ∙ sym (append_assoc so_far.text part rest)),
-      Appends-trans w₀ w₁ w₂ so_far.text part so_far.wrote written,
-    )
-
+    -- a write failed within its answer
     pub line_cut : (e : ReplayError) → TakesFed r₁ r₂ line → AnswersLine rules offers told now line new w₁ w₂ (Err e)
         → Answers (IsTextOf rules offers told old) r₀ r₂ w₀ w₂ (Err e)
-    line_cut errors.Read taken (next, step, (same, part, front, written)) = absurd (cc same)
-    line_cut errors.Write taken answered =
-        cut_within (inl (takes_line_more r₀ r₁ r₂ so_far.lines line so_far.reads taken)) answered
+    line_cut errors.Read taken (next, step, (same, begun)) = absurd (cc same)
+    line_cut errors.Write taken (next, step, (same, begun)) = inr (
+      so_far.lines ++ line ∷ [],
+      so_far.text ++ fed next,
+      [],
+      (new, run_on next step),
+      takes_line_more r₀ r₁ r₂ so_far.lines line so_far.reads taken,
+      begins_after w₀ w₁ w₂ so_far.text (fed next) so_far.wrote begun,
+    )
 
     -- the last line, which the input's end ended, was answered, or a write failed within its answer line
     module _ (taken : TakesRest r₁ r₂ line) (some : 0 < length line) where
@@ -99,20 +94,26 @@ module _ {S : Type 0} {rules : Rules ℕ ℕ S} {offers : Offers ℕ ℕ S ℕ} 
       all_lines = IfSome_then r₀ (lines_at_end r₀ r₁ r₂ so_far.lines line so_far.reads taken)
           (λ input all. all ∙ ap (λ l. so_far.lines ++ l) (lines_of-last line taken.0 some))
 
-      pub last_answered : (result : Result (Unit {0}) ReplayError)
-          → AnswersLine rules offers told now line new w₁ w₂ result
-          → Answers (IsTextOf rules offers told old) r₀ r₂ w₀ w₂ result
-      last_answered (Ok u) (next, step, answered) = (
+      of_all : (Wrote : List ℕ → Type 0) (next : List ℕ) → LineStep rules offers told now line next new
+          → Wrote (so_far.text ++ fed next)
+          → OfAll (IsTextOf rules offers told old) r₀ Wrote × OnSome r₀ (IsAtEnd r₂)
+      of_all Wrote next step wrote = (
         IfSome_then r₀ all_lines (λ input all. (
           so_far.text ++ fed next,
           (
             new,
             subst (λ ls. IsLineRun rules offers told old ls (so_far.text ++ fed next) new) (sym all) (run_on next step),
           ),
-          Appends-trans w₀ w₁ w₂ so_far.text (fed next) so_far.wrote answered,
+          wrote,
         )),
         Consumes_end r₀ r₁ r₂ _ so_far.reads.2 taken.2,
       )
-      last_answered (Err errors.Read) (next, step, (same, part, front, written)) = absurd (cc same)
-      last_answered (Err errors.Write) answered =
-          cut_within (inr (Consumes_end r₀ r₁ r₂ _ so_far.reads.2 taken.2, all_lines)) answered
+
+      pub last_answered : (result : Result (Unit {0}) ReplayError)
+          → AnswersLine rules offers told now line new w₁ w₂ result
+          → Answers (IsTextOf rules offers told old) r₀ r₂ w₀ w₂ result
+      last_answered (Ok u) (next, step, answered) =
+          of_all (Appends w₀ w₂) next step (Appends-trans w₀ w₁ w₂ so_far.text (fed next) so_far.wrote answered)
+      last_answered (Err errors.Read) (next, step, (same, begun)) = absurd (cc same)
+      last_answered (Err errors.Write) (next, step, (same, begun)) =
+          inl (of_all (Begins w₀ w₂) next step (begins_after w₀ w₁ w₂ so_far.text (fed next) so_far.wrote begun))

@@ -18,13 +18,12 @@ module _ {K V S H : Type 0} (rules : Rules K V S) (offers : Offers K V S K) (eq 
       → IsRun (CallStep rules offers eq hash_of) (IsMap eq) old calls replies new
       → Run (AnyStep rules offers eq hash_of) new old
   any_run old [] [] new same = subst (Run (AnyStep rules offers eq hash_of) new) same ends
-  any_run old [] (reply ∷ replies) new none = absurd none
-  any_run old (call ∷ calls) [] new none = absurd none
   any_run old (call ∷ calls) (reply ∷ replies) new (mid, step, map, run) =
       elim (any_step call (kind_of call reply step)) [
         | inl any ↦ goes_on mid any map.sized (any_run mid calls replies new run)
         | inr same ↦ subst (Run (AnyStep rules offers eq hash_of) new) same (any_run mid calls replies new run)
       ]
+  any_run old calls replies new none = absurd none
 
 -- What each step of the map keeps of a limit, and the limit itself, each call keeps that sets no other limiter.
 --     limit           the limit of a limiter
@@ -51,7 +50,7 @@ module _ {K V S H N : Type 0} (rules : Rules K V S) (offers : Offers K V S K) (e
 
   kind_within : (old new : State K V S H) → IsSized new → (call : Call K V S) → SetsNoLimiter call → Keeps old call
       → Kind rules offers eq hash_of old new call → Within (limit old.limiter) old → Stays old new
-  kind_within old new ok call none kept (calls_map step) within =
+  kind_within old new ok call none kept (calls_map step names) within =
       let one : Run (Step rules offers eq hash_of) new old = goes_on new step ok ends in
       (law old new one within, stays_so old new one)
   kind_within old new ok call none kept (stays e) within = unchanged old new e within
@@ -63,8 +62,6 @@ module _ {K V S H N : Type 0} (rules : Rules K V S) (offers : Offers K V S K) (e
       (new : State K V S H) → IsRun IsStep Holds old calls replies new → AllByRecursion SetsNoLimiter calls
       → limit old.limiter ≡ n → Within n old → IsRun IsStep (Within n) old calls replies new
   run_within n old [] [] new same none is within = same
-  run_within n old [] (reply ∷ replies) new p none is within = absurd p
-  run_within n old (call ∷ calls) [] new p none is within = absurd p
   run_within n old (call ∷ calls) (reply ∷ replies) new (mid, step, holds, run) (one, none) is within =
       let begun : Within (limit old.limiter) old = subst (λ m. Within m old) (sym is) within in
       let after : Stays old mid = elim (kinds old mid call reply step) [
@@ -73,6 +70,7 @@ module _ {K V S H N : Type 0} (rules : Rules K V S) (offers : Offers K V S K) (e
       ] in
       let kept : Within n mid = subst (λ m. Within m mid) is after.0 in
       (mid, step, kept, run_within n mid calls replies new run none (after.1 ∙ is) kept)
+  run_within n old calls replies new p none is within = absurd p
 
 module _ {K V S H : Type 0} {rules : Rules K V S} {offers : Offers K V S K} {eq : K → K → Bool}
     {hash_of : H → K → ℕ} where

@@ -13,10 +13,9 @@ module _ {S C R : Type 0} (IsStep : S → C → R → S → Type 0) (Holds : S �
       → IsRun IsStep Holds old calls replies mid → IsRun IsStep Holds mid more others new
       → IsRun IsStep Holds old (calls ++ more) (replies ++ others) new
   run-append old [] [] mid more others new same rest = subst (λ s. IsRun IsStep Holds s more others new) same rest
-  run-append old [] (reply ∷ replies) mid more others new none rest = absurd none
-  run-append old (call ∷ calls) [] mid more others new none rest = absurd none
   run-append old (call ∷ calls) (reply ∷ replies) mid more others new (next, step, holds, run) rest =
       (next, step, holds, run-append next calls replies mid more others new run rest)
+  run-append old calls replies mid more others new none rest = absurd none
 
   -- and by one more step
   pub run-push : (old : S) (calls : List C) (replies : List R) (mid : S) (call : C) (reply : R) (new : S)
@@ -29,10 +28,9 @@ module _ {S C R : Type 0} (IsStep : S → C → R → S → Type 0) (Holds : S �
   pub run_holds : (a : S) (calls : List C) (replies : List R) (b : S) → Holds a
       → IsRun IsStep Holds a calls replies b → Holds b
   run_holds a [] [] b holds same = subst Holds (sym same) holds
-  run_holds a [] (reply ∷ replies) b holds p = absurd p
-  run_holds a (call ∷ calls) [] b holds p = absurd p
   run_holds a (call ∷ calls) (reply ∷ replies) b holds (mid, step, after, run) =
       run_holds mid calls replies b after run
+  run_holds a calls replies b holds none = absurd none
 
   -- if each call has a step, each list of calls has a run
   pub some_run : ((a : S) → Holds a → (call : C) → (reply : R) × (b : S) × IsStep a call reply b × Holds b)
@@ -48,10 +46,9 @@ pub run-follows : {S C R : Type 0} (IsStep : S → C → R → S → Type 0) {Ho
     → ((s : S) → Holds s → Follows s) → (old : S) (calls : List C) (replies : List R) (new : S)
     → IsRun IsStep Holds old calls replies new → IsRun IsStep Follows old calls replies new
 run-follows IsStep f old [] [] new same = same
-run-follows IsStep f old [] (reply ∷ replies) new none = absurd none
-run-follows IsStep f old (call ∷ calls) [] new none = absurd none
 run-follows IsStep f old (call ∷ calls) (reply ∷ replies) new (mid, step, holds, run) =
     (mid, step, f mid holds, run-follows IsStep f mid calls replies new run)
+run-follows IsStep f old calls replies new none = absurd none
 
 pub all_said-push : {K V : Type 0} (answers : List (Answer K V)) (answer : Answer K V)
     → all_said (answers ++ answer ∷ []) ≡ all_said answers ++ said answer ∷ []

@@ -6,7 +6,6 @@ use Rattle.std.specs.Io.KnownBytes.{Appends, Keeps}
 use Rattle.std.proofs.KnownBytes.{Appends-nil, Appends-kept, Consumes-nil}
 use Rattle.lru_limits.specs.Budget.{Budget}
 use Rattle.lru_limits.specs.Rules.{Rules, Offers}
-use Rattle.schnellru.specs.Lists.{IsFront}
 use Rattle.schnellru.specs.State.{IsSized}
 use Rattle.std.proofs.lemmas.Option.{IfSome_then}
 use Rattle.lru_replay.specs.declared.lines.command.Limit.{Limit}
@@ -18,8 +17,8 @@ use Rattle.lru_replay.specs.declared.lines.outcome.ReplayEnd.TheVariants as ends
 use Rattle.lru_replay.specs.declared.lines.outcome.ReplayError.{ReplayError}
 use Rattle.lru_replay.specs.declared.lines.outcome.ReplayError.TheVariants as errors
 use Rattle.lru_replay.specs.Grammar.{SpellsLimit}
-use Rattle.lru_replay.specs.Lines.{lines_of, TakesFed, TakesRest, TakesLine, TakesPart, TakesLines, TakesFirst}
-use Rattle.lru_replay.specs.Output.{Fails, no_limiter_text}
+use Rattle.lru_replay.specs.Lines.{lines_of, TakesFed, TakesRest, TakesLine, TakesPart, TakesFirst}
+use Rattle.lru_replay.specs.Output.{Begins, Fails, no_limiter_text}
 use Rattle.lru_replay.specs.Replay.{IsTextUnder, IsReplay, NamesNoLimit, IsOutput, SoFar}
 use Rattle.lru_replay.specs.Replay.{WritesCut, WritesCutSoFar, Replays}
 use Rattle.lru_limits.specs.Limiters.{length_rules, length_offers, memory_rules, no_rules, all_offers}
@@ -130,17 +129,14 @@ output_goes_on (line ∷ lines) more text (inr (none, is)) = (
 
 -- What is cut within what the lines read write is cut within what all lines write.
 pub cut_of_all : (a b w v : Option (List ℕ)) → WritesCutSoFar a b w v → WritesCut a w v
+cut_of_all a b w v (inl (cut, at_end)) = cut
 cut_of_all None b w v h = tt
-cut_of_all (Some x) b w v (lines, text, part, inl ((at_end, all), is), front, wrote) =
-    (text, part, subst (λ ls. IsOutput ls text) (sym all) is, front, wrote)
-cut_of_all (Some x) None w v (lines, text, part, inr (rest, reads, is), front, wrote) = absurd reads.2
-cut_of_all (Some x) (Some y) w v (lines, text, part, inr (rest, reads, is), (more, front), wrote) =
+cut_of_all (Some x) None w v (inr (lines, text, rest, is, reads, begun)) = absurd reads.2
+cut_of_all (Some x) (Some y) w v (inr (lines, text, rest, is, reads, (part, (more, front), wrote))) =
     let (u, goes) = output_goes_on lines (lines_of (rest ++ y)) text is in (
       text ++ u,
-      part,
       subst (λ ls. IsOutput ls (text ++ u)) (sym (lines_left x y lines rest reads)) goes,
-      (more ++ u, ap (λ l. l ++ u) front ∙ append_assoc part more u),
-      wrote,
+      (part, (more ++ u, ap (λ l. l ++ u) front ∙ append_assoc part more u), wrote),
     )
 
 -- `NoLimiter` comes exactly if no limit is named.
@@ -165,11 +161,17 @@ replays-kept a b w v u (Ok ends.NoLimiter) keeps (none, reads, wrote) =
     (none, reads, Appends-kept w v u no_limiter_text wrote keeps)
 replays-kept a b w v u (Err errors.Read) keeps (lines, text, part, is, reads, wrote) =
     (lines, text, part, is, reads, Appends-kept w v u text wrote keeps)
-replays-kept a b w v u (Err errors.Write) keeps h = IfSome_then a h
-    (λ input (lines, text, part, is, front, wrote). (lines, text, part, is, front, Appends-kept w v u part wrote keeps))
+replays-kept a b w v u (Err errors.Write) keeps (inl (cut, at_end)) = inl (
+  IfSome_then a cut
+      (λ input (text, is, (part, front, wrote)). (text, is, (part, front, Appends-kept w v u part wrote keeps))),
+  at_end,
+)
+replays-kept a b w v u (Err errors.Write) keeps (inr (lines, text, rest, is, reads, (part, front, wrote))) =
+    inr (lines, text, rest, is, reads, (part, front, Appends-kept w v u part wrote keeps))
 
-all_of : (text : List ℕ) → IsFront text text
-all_of text = ([], sym (append-nil text))
+-- all of a text is a beginning of it
+all_of : (w v : Option (List ℕ)) (text : List ℕ) → Appends w v text → Begins w v text
+all_of w v text wrote = (text, ([], sym (append-nil text)), wrote)
 
 so_far_output : (lines : List (List ℕ)) (text : List ℕ) → SoFar IsReplay lines text → SoFar IsOutput lines text
 so_far_output [] text is = is
@@ -178,35 +180,26 @@ so_far_output (first ∷ others) text is = inl is
 -- The flush failed: all text of the lines that were read was written before.
 pub flush_failed : (a b w v : Option (List ℕ)) (end : Result ReplayEnd ReplayError) → Replays a b w v end
     → Replays a b w v (Err errors.Write)
-flush_failed None b w v end h = tt
+flush_failed None b w v end h = inl (tt, tt)
 flush_failed (Some x) b w v (Ok ends.Done) ((text, is, wrote), at_end) =
-    (lines_of x, text, text, inl ((at_end, refl), inl is), all_of text, wrote)
-flush_failed (Some x) b w v (Ok ends.NoLimiter) (none, (line, inr rest), wrote) = (
-  lines_of x,
-  no_limiter_text,
-  no_limiter_text,
-  inl ((rest.2, refl), inr (none, refl)),
-  all_of no_limiter_text,
-  wrote,
-)
+    inl ((text, inl is, all_of w v text wrote), at_end)
+flush_failed (Some x) b w v (Ok ends.NoLimiter) (none, (line, inr rest), wrote) =
+    inl ((no_limiter_text, inr (none, refl), all_of w v no_limiter_text wrote), rest.2)
 flush_failed (Some x) None w v (Ok ends.NoLimiter) (none, (line, inl fed), wrote) = absurd fed.1
 flush_failed (Some x) (Some y) w v (Ok ends.NoLimiter) (none, (line, inl fed), wrote) =
     let first : lines_of x ≡ line ∷ lines_of y = ap lines_of fed.1 ∙ lines_of-fed line y fed.0 in
     let unnamed : (limit : Limit) → SpellsLimit line limit → ⊥ = λ limit spells. none limit line
-    (lines_of y) first spells in (
+    (lines_of y) first spells in
+    inr (
       line ∷ [],
       no_limiter_text,
-      no_limiter_text,
-      inr
-          ([], one_taken x y line fed, inr (none_named (line ∷ []) [] line refl unnamed, refl)),
-      all_of no_limiter_text,
-      wrote,
+      [],
+      inr (none_named (line ∷ []) [] line refl unnamed, refl),
+      takes_line_before (Some x) (Some y) (Some y) line [] [] fed (tt, tt, refl),
+      all_of w v no_limiter_text wrote,
     )
-  where
-    one_taken : (x y line : List ℕ) → TakesFed (Some x) (Some y) line → TakesLines (Some x) (Some y) (line ∷ []) []
-    one_taken x y line fed = takes_line_before (Some x) (Some y) (Some y) line [] [] fed (tt, tt, refl)
 flush_failed (Some x) b w v (Err errors.Read) (lines, text, part, is, reads, wrote) =
-    (lines, text, text, inr (part, reads, so_far_output lines text is), all_of text, wrote)
+    inr (lines, text, part, so_far_output lines text is, reads, all_of w v text wrote)
 flush_failed (Some x) b w v (Err errors.Write) h = h
 
 -- A read failed in the first line.
@@ -229,36 +222,27 @@ module _ (a b w v : Option (List ℕ)) (ending : Ending) (first : List ℕ)
 
   -- a write of that failed
   pub no_limiter_cut : (e : ReplayError) → Fails e w v no_limiter_text → Replays a b w v (Err e)
-  no_limiter_cut errors.Read (same, part, front, wrote) = absurd (cc same)
-  no_limiter_cut errors.Write (same, part, front, wrote) = by a b ending taken (no_limit a b ending first taken none)
+  no_limiter_cut errors.Read (same, begun) = absurd (cc same)
+  no_limiter_cut errors.Write (same, begun) = by a b ending taken (no_limit a b ending first taken none)
     where
       by : (a b : Option (List ℕ)) (ending : Ending) → TakesLine a b ending first
           → IfSome a (λ input. NamesNoLimit (lines_of input)) → WritesCutSoFar a b w v
-      by None b ending taken names = tt
+      by None b ending taken names = inl (tt, tt)
       by (Some x) None endings.Feed fed names = absurd fed.1
-      by (Some x) (Some y) endings.Feed fed names = (
+      by (Some x) (Some y) endings.Feed fed names = inr (
         first ∷ [],
         no_limiter_text,
-        part,
-        inr (
-          [],
-          takes_line_before (Some x) (Some y) (Some y) first [] [] fed
-              (tt, tt, refl),
-          inr (none_named (first ∷ []) [] first refl none, refl),
-        ),
-        front,
-        wrote,
+        [],
+        inr (none_named (first ∷ []) [] first refl none, refl),
+        takes_line_before (Some x) (Some y) (Some y) first [] [] fed (tt, tt, refl),
+        begun,
       )
-      by (Some x) b endings.InputEnd rest names =
-          (lines_of x, no_limiter_text, part, inl ((rest.0.2, refl), inr (names, refl)), front, wrote)
-      by (Some x) b endings.Nothing rest names =
-          (lines_of x, no_limiter_text, part, inl ((rest.0.2, refl), inr (names, refl)), front, wrote)
+      by (Some x) b endings.InputEnd rest names = inl ((no_limiter_text, inr (names, refl), begun), rest.0.2)
+      by (Some x) b endings.Nothing rest names = inl ((no_limiter_text, inr (names, refl), begun), rest.0.2)
 
 spelled_some : (line : List ℕ) (limit : Limit) → SpellsLimit line limit → 0 < length line
 spelled_some line (limits.Length n) (fits, is) = omega (arith, ap length is)
-spelled_some line (limits.Memory budget entry_bytes) (fits, is) = omega (arith, ap length is)
-spelled_some line (limits.Cost most) (fits, is) = omega (arith, ap length is)
-spelled_some line limits.Compact (fits, is) = omega (arith, ap length is)
+spelled_some line limit (fits, is) = omega (arith, ap length is)
 
 -- a line without a line feed is all that was left
 rest_taken : (a b : Option (List ℕ)) (ending : Ending) (line : List ℕ) → (ending ≡ endings.Feed → ⊥)
@@ -289,11 +273,6 @@ done_first a b w ending first limit spells not_fed line =
       taken.2,
     )
 
--- what holds of each input holds of one that is known
-if_known : (a : Option (List ℕ)) {P : List ℕ → Type 0} → ((input : List ℕ) → P input) → IfSome a P
-if_known None f = tt
-if_known (Some x) f = f x
-
 -- The others were answered after the first.
 module _ (a b c w v : Option (List ℕ)) (first : List ℕ) (limit : Limit) (spells : SpellsLimit first limit)
     (taken : TakesFed a b first) where
@@ -313,29 +292,16 @@ module _ (a b c w v : Option (List ℕ)) (first : List ℕ) (limit : Limit) (spe
     takes_line_before a b c first lines part taken reads,
     wrote,
   )
-  others_failed errors.Write (lines, text, part, is, inl reads, front, wrote) =
-      if_known a (λ input. (
-        first ∷ lines,
-        text,
-        part,
-        inr (
-          [],
-          takes_line_before a b c first lines [] taken reads,
-          inl
-              (limit, first, lines, refl, spells, is),
-        ),
-        front,
-        wrote,
-      ))
-  others_failed errors.Write (lines, text, part, is, inr (at_end, all), front, wrote) =
-      let whole = after_first a b first _ (λ input. lines_of input ≡ first ∷ lines) taken (λ rest input is all. is
-      ∙ ap (λ ls. first ∷ ls) all) all in
-      if_known a (λ input. (
-        first ∷ lines,
-        text,
-        part,
-        inl
-            ((Consumes_end a b c _ taken.1 at_end, whole), inl (limit, first, lines, refl, spells, is)),
-        front,
-        wrote,
-      ))
+  others_failed errors.Write (inl (cut, at_end)) = inl (
+    after_first a b first _ _ taken (λ rest input all (text, is, begun).
+        (text, inl (limit, first, lines_of rest, all, spells, is), begun)) cut,
+    Consumes_end a b c _ taken.1 at_end,
+  )
+  others_failed errors.Write (inr (lines, text, rest, is, reads, begun)) = inr (
+    first ∷ lines,
+    text,
+    rest,
+    inl (limit, first, lines, refl, spells, is),
+    takes_line_before a b c first lines rest taken reads,
+    begun,
+  )

@@ -9,8 +9,8 @@ use Rattle.lru_replay.specs.declared.lines.command.Command.TheVariants as comman
 use Rattle.lru_replay.specs.declared.lines.command.Limit.{Limit}
 use Rattle.lru_replay.specs.declared.lines.command.Limit.TheVariants as limits
 use Rattle.lru_replay.specs.declared.lines.outcome.ReplayError.{ReplayError}
-use Rattle.lru_replay.specs.Grammar.{SpellsCommand, SpellsLimit, command_spelling, limit_spelling, FitsCommand}
-use Rattle.lru_replay.specs.Grammar.{FitsLimit}
+use Rattle.lru_replay.specs.Grammar.{SpellsCommand, SpellsLimit, pair_spelling, command_spelling, limit_spelling}
+use Rattle.lru_replay.specs.Grammar.{FitsCommand, FitsLimit}
 use Rattle.lru_limits.specs.Rules.{Rules, Offers}
 use Rattle.lru_replay.specs.Maps.{Map}
 use Rattle.lru_replay.specs.LineRuns.{LineStep, AnswersLine}
@@ -20,51 +20,25 @@ use Rattle.lru_replay.proofs.ByteLists.{short_front}
 short_number : (n : ℕ) → n < 2 ^ 64 → length (decimal n) < 21
 short_number n h = omega (arith, length-decimal-le 20 n (omega arith) (omega (arith, h)) h)
 
+short_pair : (k v : ℕ) → k < 2 ^ 64 → v < 2 ^ 64 → length (pair_spelling k v) < 42
+short_pair k v h l = omega (arith, short_number k h, short_number v l, length-append (decimal k) (32 ∷ decimal v))
+
 -- no line that says something is longer than the longest
 short_command : (command : Command) → FitsCommand command → length (command_spelling command) ≤ LONGEST
-short_command (commands.Insert k v) h = omega (
-  arith,
-  short_number k h.0,
-  short_number v h.1,
-  length-append (decimal k)
-      (32 ∷ decimal v),
-)
-short_command (commands.Put k v) h = omega (
-  arith,
-  short_number k h.0,
-  short_number v h.1,
-  length-append (decimal k) (32 ∷ decimal v),
-)
-short_command (commands.Update k v) h = omega (
-  arith,
-  short_number k h.0,
-  short_number v h.1,
-  length-append (decimal k) (32 ∷ decimal v),
-)
-short_command (commands.Get k) h = omega (arith, short_number k h)
-short_command (commands.Peek k) h = omega (arith, short_number k h)
-short_command (commands.Remove k) h = omega (arith, short_number k h)
-short_command (commands.RemoveEntry k) h = omega (arith, short_number k h)
-short_command (commands.Contains k) h = omega (arith, short_number k h)
-short_command (commands.Promote k) h = omega (arith, short_number k h)
-short_command (commands.Demote k) h = omega (arith, short_number k h)
-short_command (commands.Reserve n) h = omega (arith, short_number n h)
-short_command (commands.Drain n) h = omega (arith, short_number n h)
+short_command (commands.Insert k v) h = omega (arith, short_pair k v h.0 h.1)
+short_command (commands.Put k v) h = omega (arith, short_pair k v h.0 h.1)
+short_command (commands.Update k v) h = omega (arith, short_pair k v h.0 h.1)
 short_command commands.PopOldest h = omega arith
 short_command commands.PopNewest h = omega arith
 short_command commands.Clear h = omega arith
 short_command commands.Stats h = omega arith
 short_command commands.Shrink h = omega arith
 short_command commands.List h = omega arith
+short_command command h = omega (arith, short_number _ h)
 
 short_limit : (limit : Limit) → FitsLimit limit → length (limit_spelling limit) ≤ LONGEST
 short_limit (limits.Length n) h = omega (arith, short_number n (omega (arith, h)))
-short_limit (limits.Memory budget entry_bytes) h = omega (
-  arith,
-  short_number budget h.0,
-  short_number entry_bytes h.1,
-  length-append (decimal budget) (32 ∷ decimal entry_bytes),
-)
+short_limit (limits.Memory budget entry_bytes) h = omega (arith, short_pair budget entry_bytes h.0 h.1)
 short_limit (limits.Cost most) h = omega (arith, short_number most h)
 short_limit limits.Compact h = omega arith
 

@@ -11,6 +11,7 @@ pub mod DrainedPairs
 pub mod SomeSteps
 pub mod CallRuns
 pub mod LineRuns
+pub mod AnsweredCommands
 pub mod AnsweredLines
 pub mod EndedReplays
 pub mod MadeValues

@@ -22,23 +22,7 @@ WritesNothing call = Unit {0}
 
 writes_nothing : (S : Type 0) (command : Command) → WritesNothing {S = S} (call_of command)
 writes_nothing S (commands.Insert k v) = tt
-writes_nothing S (commands.Put k v) = tt
-writes_nothing S (commands.Update k v) = tt
-writes_nothing S (commands.Get k) = tt
-writes_nothing S (commands.Peek k) = tt
-writes_nothing S (commands.Remove k) = tt
-writes_nothing S (commands.RemoveEntry k) = tt
-writes_nothing S (commands.Contains k) = tt
-writes_nothing S (commands.Promote k) = tt
-writes_nothing S (commands.Demote k) = tt
-writes_nothing S (commands.Reserve n) = tt
-writes_nothing S commands.Shrink = tt
-writes_nothing S (commands.Drain n) = tt
-writes_nothing S commands.PopOldest = tt
-writes_nothing S commands.PopNewest = tt
-writes_nothing S commands.Clear = tt
-writes_nothing S commands.Stats = tt
-writes_nothing S commands.List = tt
+writes_nothing S command = tt
 
 module _ {S : Type 0} (rules : Rules ℕ ℕ S) (offers : Offers ℕ ℕ S ℕ) (told : S → Option ℕ) where
   -- a line is a call of the map, or changes nothing
@@ -49,7 +33,7 @@ module _ {S : Type 0} (rules : Rules ℕ ℕ S) (offers : Offers ℕ ℕ S ℕ) 
     where
       moves : Kind rules offers nat_eq hash_of old new (call_of command)
           → Step rules offers nat_eq hash_of old new ⊎ (new ≡ old)
-      moves (calls_map step) = inl step
+      moves (calls_map step names) = inl step
       moves (stays same) = inr same
       moves (writes_value k v is same) = absurd (subst WritesNothing is (writes_nothing S command))
       moves (sets_limiter s is same) = absurd (subst WritesNothing is (writes_nothing S command))
@@ -65,11 +49,10 @@ module _ {S : Type 0} (rules : Rules ℕ ℕ S) (offers : Offers ℕ ℕ S ℕ) 
       → IsRun (LineStep rules offers told) IsSized old lines texts new → Holds old
       → IsRun (LineStep rules offers told) Holds old lines texts new
   lines_keep law old [] [] new same holds = same
-  lines_keep law old [] (text ∷ texts) new none holds = absurd none
-  lines_keep law old (line ∷ lines) [] new none holds = absurd none
   lines_keep {Holds} law old (line ∷ lines) (text ∷ texts) new (mid, step, sized, run) holds =
       let after : Holds mid = elim (line_moves old line text mid step) [
         | inl moves ↦ law old mid moves sized holds
         | inr same ↦ subst Holds (sym same) holds
       ] in
       (mid, step, after, lines_keep law mid lines texts new run after)
+  lines_keep law old lines texts new none holds = absurd none

@@ -1,6 +1,6 @@
 -- Where growth is permitted, calls are those on a list of pairs that has no table.
-use Rattle.std.proofs.Common.{◌≡◌, ℕ, Bool, true, false, cond, List, [], ◌∷◌, Some, None, Result, ap}
-use Rattle.std.proofs.Common.{◌∙◌, ◌⊎◌, subst, inl, inr, arith, ◌+◌, ◌*◌, ◌≤◌, suc, length}
+use Rattle.std.proofs.Common.{◌≡◌, ℕ, Bool, true, false, cond, List, [], ◌∷◌, Option, Some, None, Result, ap}
+use Rattle.std.proofs.Common.{sym, ◌∙◌, ◌⊎◌, subst, inl, inr, arith, ◌+◌, ◌*◌, ◌≤◌, suc, length}
 use Rattle.std.specs.List.{IsDistinct}
 use Rattle.std.specs.declared.alloc.AllocError.{AllocError}
 use Rattle.lru_limits.specs.Rules.{Rules, Offers}
@@ -37,6 +37,11 @@ newest_found names others (x ∷ xs) w found = go (names x.0) found (newest_foun
         → newest_value (after (cond b (Some x) (lookup_entry names xs)) others) ≡ Some w
     go true found later = found
     go false found later = later found
+
+-- what a call says and leaves
+both : {R C : Type 0} {says is : R} {leaves left : C} → is ≡ says → left ≡ leaves
+    → ◌≡◌ {A = Option (R × C)} (Some (says, leaves)) (Some (is, left))
+both e f = λ j. Some (sym e j, sym f j)
 
 -- what an update does to the list
 pub update_is : {K V S H : Type 0} {rules : Rules K V S} {offers : Offers K V S K} {eq : K → K → Bool} {key : K} {v : V}
@@ -95,41 +100,27 @@ module _ {K V S H : Type 0} (rules : Rules K V S) (offers : Offers K V S K) (eq 
         is,
       )
 
-      updates_in_list : (key : K) (v : V) (result : Updated V) (reply : Reply K V)
-          → Update rules offers eq key v old result new → reply ≡ says_updated result
-          → ListStep rules offers eq (hash_of old.hasher) (contents old) (calls.Update key v) reply (contents new)
-      updates_in_list key v result reply step is = let (r, left) = update_is step in (is ∙ ap says_updated r, left)
-
       in_list : (call : Call K V S) (reply : Reply K V) → ReplyStep rules offers eq hash_of old call reply new
           → ListStep rules offers eq (hash_of old.hasher) (contents old) call reply (contents new)
       in_list (calls.Insert k v) reply (result, h, is) = (result, law k v old result new grants tables h, is)
       in_list (calls.InsertWith k v) reply (result, out, h, is) = (result, out, handed_in_list k v result out h, is)
       in_list (calls.GetOrInsert k v) reply (result, h, is) = made_in_list k v result reply h is
-      in_list (calls.Update k v) reply (result, h, is) = updates_in_list k v result reply h is
-      in_list (calls.Get k) reply (is, e) = (is, ap contents e)
-      in_list (calls.Peek k) reply (is, e) = (is, ap contents e)
-      in_list (calls.Contains k) reply (is, e) = (is, ap contents e)
-      in_list (calls.Promote k) reply (is, e) = (is, ap contents e)
-      in_list (calls.Demote k) reply (is, e) = (is, ap contents e)
+      in_list (calls.Update k v) reply (result, h, is) =
+          let (r, left) = update_is h in both (is ∙ ap says_updated r) left
       in_list (calls.GetByHash hash k) reply (Some w, h, is, e) = (Some w, h, is, ap contents e)
       in_list (calls.GetByHash hash k) reply (None, h, is, e) = (None, h, is, ap contents e)
       in_list (calls.PeekByHash hash k) reply (result, h, is, e) = (result, h, is, ap contents e)
-      in_list (calls.Write k v) reply (is, e) = (is, ap contents e)
-      in_list (calls.Remove k) reply (result, h, is) = (is ∙ ap value h.value, ap contents h.state.is)
-      in_list (calls.RemoveEntry k) reply (result, h, is) = (is ∙ ap pair h.pair, ap contents h.state.is)
-      in_list calls.PopOldest reply (result, h, is) = (is ∙ ap pair h.pair, ap contents h.state.is)
-      in_list calls.PopNewest reply (result, h, is) = (is ∙ ap pair h.pair, ap contents h.state.is)
-      in_list calls.PeekOldest reply (is, e) = (is, ap contents e)
-      in_list calls.PeekNewest reply (is, e) = (is, ap contents e)
+      in_list (calls.Remove k) reply (result, h, is) = both (is ∙ ap value h.value) (ap contents h.state.is)
+      in_list (calls.RemoveEntry k) reply (result, h, is) = both (is ∙ ap pair h.pair) (ap contents h.state.is)
+      in_list calls.PopOldest reply (result, h, is) = both (is ∙ ap pair h.pair) (ap contents h.state.is)
+      in_list calls.PopNewest reply (result, h, is) = both (is ∙ ap pair h.pair) (ap contents h.state.is)
       in_list (calls.Reserve n) reply (result, h, is) = (result, is, reserve_same old new n result h)
       in_list calls.Shrink reply (result, h, is) = (result, is, shrink_contents old result new h)
-      in_list calls.Trim reply (is, h) = (is, ap contents h.is)
-      in_list calls.Clear reply (is, e) = (is, ap contents e)
-      in_list (calls.Drain front back) reply (pairs, h, is) =
-          (is ∙ ap listed h.pairs, ap contents h.state.2 ∙ ap (λ st. emptied rules (contents st)) h.state.1.is)
-      in_list calls.List reply (is, e) = (is, ap contents e)
+      in_list calls.Trim reply (is, h) = both is (ap contents h.is)
+      in_list (calls.Drain front back) reply (pairs, h, is) = both (is ∙ ap listed h.pairs)
+          (ap contents h.state.2 ∙ ap (λ st. emptied rules (contents st)) h.state.1.is)
       in_list calls.Stats reply (figures, h, is, e) = (figures, h.len, is, ap contents e)
-      in_list (calls.SetLimiter s) reply (is, e) = (is, ap contents e)
+      in_list call reply h = both h.0 (ap contents h.1)
 
       pub call_in_list : (call : Call K V S) (reply : Reply K V) → CallStep rules offers eq hash_of old call reply new
           → ListCallStep rules offers eq (hash_of old.hasher) (contents old) call reply (contents new)
@@ -165,8 +156,6 @@ module _ {K V S H : Type 0} {rules : Rules K V S} {offers : Offers K V S K} {eq 
         → IsRun (IsListStep (hash_of hasher)) (λ c. IsDistinct eq (keys_of c.pairs)) (contents old) calls replies
         (contents new)
     run_in_list hasher old [] [] new built tables same = ap contents same
-    run_in_list hasher old [] (reply ∷ replies) new built tables none = absurd none
-    run_in_list hasher old (call ∷ calls) [] new built tables none = absurd none
     run_in_list hasher old (call ∷ calls) (reply ∷ replies) new built tables (mid, step, (map, more), run) = (
       contents mid,
       subst (λ h. IsListStep (hash_of h) (contents old) call reply (contents mid)) built
@@ -174,6 +163,7 @@ module _ {K V S H : Type 0} {rules : Rules K V S} {offers : Offers K V S K} {eq 
       map.distinct,
       run_in_list hasher mid calls replies new (same_hasher old mid call reply step ∙ built) more run,
     )
+    run_in_list hasher old calls replies new built tables none = absurd none
 
   -- Where links and bytes reach a table for many more pairs than there are and calls, they reach those of each state.
   module _ (adds : (old new : State K V S H) → AnyStep rules offers eq hash_of old new
@@ -203,11 +193,10 @@ module _ {K V S H : Type 0} {rules : Rules K V S} {offers : Offers K V S K} {eq 
         → HasTableFor (8 * (length old.pairs + length calls + 1)) old → IsRun IsStep (IsMap eq) old calls replies new
         → IsRun IsStep (λ st. IsMap eq st × HasTables st) old calls replies new
     run_reaches old [] [] new t same = same
-    run_reaches old [] (reply ∷ replies) new t none = absurd none
-    run_reaches old (call ∷ calls) [] new t none = absurd none
     run_reaches old (call ∷ calls) (reply ∷ replies) new t (mid, step, map, run) =
         let next = call_reaches (length calls) old mid call reply step t in
         (mid, step, (map, has_tables _ mid next (omega arith) map.sized), run_reaches mid calls replies new next run)
+    run_reaches old calls replies new t none = absurd none
 
     pub whole_reaches : (old : State K V S H) (calls : List (Call K V S)) (replies : List (Reply K V))
         (new : State K V S H) → HasTableFor (8 * (length old.pairs + length calls + 1)) old → IsMap eq old

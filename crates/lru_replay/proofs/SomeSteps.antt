@@ -6,18 +6,21 @@ use Rattle.std.specs.Prelude.{nat_eq, is_some}
 use Rattle.lru_limits.specs.Rules.{Rules, Offers}
 use Rattle.schnellru.specs.Lists.{lookup, lookup_entry, first, last}
 use Rattle.schnellru.specs.Calls.{promoted, demoted, removal, pop_first, cleared, left_of}
-use Rattle.schnellru.specs.State.{Contents, room, contents, IsSized, pop}
+use Rattle.schnellru.specs.State.{Contents, room, contents, Leaves, IsSized, pop}
 use Rattle.schnellru.specs.Drains.{pops_first, newest_given}
-use Rattle.schnellru.proofs.CallerLemmas.{promoted_sized, demoted_sized, cleared_sized, some_insert, some_update, some_leave}
-use Rattle.schnellru.proofs.CallerLemmas.{some_reservation, some_shrink, length-without, length-without_first, length-without_last}
+use Rattle.schnellru.proofs.CallerLemmas.{promoted_sized, demoted_sized, cleared_sized, some_insert, some_update}
+use Rattle.schnellru.proofs.CallerLemmas.{some_leave, some_reservation, some_shrink, length-without}
+use Rattle.schnellru.proofs.CallerLemmas.{length-without_first, length-without_last}
 use Rattle.lru_replay.specs.declared.lines.command.Command.{Command}
 use Rattle.lru_replay.specs.declared.lines.command.Command.TheVariants as commands
 use Rattle.lru_replay.specs.declared.lines.figures.Figures.{Figures}
+use Rattle.lru_replay.specs.Commands.{call_of}
 use Rattle.lru_replay.specs.Limits.{AlwaysOffers}
 use Rattle.lru_replay.specs.LineRuns.{AnswersCommand}
 use Rattle.lru_replay.specs.Maps.{Map, hash_of}
-use Rattle.lru_replay.specs.Replies.{Reply, flag, updated, value, pair, listed, reserved, shrunk, stats, done, no_memory}
-use Rattle.lru_replay.specs.Replies.{insert_reply}
+use Rattle.lru_replay.specs.Replies.{Reply, flag, updated, value, pair, listed, reserved, shrunk, stats, done}
+use Rattle.lru_replay.specs.Replies.{no_memory, insert_reply}
+use Rattle.lru_replay.specs.Steps.{ReplyStep}
 
 module _ {S : Type 0} (rules : Rules ℕ ℕ S) (offers : Offers ℕ ℕ S ℕ) (offered : AlwaysOffers offers) (old : Map S)
     (ok : IsSized old) where
@@ -26,33 +29,12 @@ module _ {S : Type 0} (rules : Rules ℕ ℕ S) (offers : Offers ℕ ℕ S ℕ) 
   CanEnd command = (reply : Reply ℕ ℕ) × (new : Map S)
       × AnswersCommand rules offers old command reply new × IsSized new
 
-  some_removal : (key : ℕ) → CanEnd (commands.Remove key)
-  some_removal key =
-      let result = option_map (λ p. p.1) (left_of rules old.limiter (lookup_entry (nat_eq key) old.pairs)) in
-      let (new, leaves, sized, freed) = some_leave old (removal rules (nat_eq key) (contents old)) ok
-      (length-without (nat_eq key) old.pairs) in
-      (value result, new, inl (result, record { value = refl; state = leaves }, refl), sized)
-
-  some_entry_removal : (key : ℕ) → CanEnd (commands.RemoveEntry key)
-  some_entry_removal key =
-      let result = left_of rules old.limiter (lookup_entry (nat_eq key) old.pairs) in
-      let (new, leaves, sized, freed) = some_leave old (removal rules (nat_eq key) (contents old)) ok
-      (length-without (nat_eq key) old.pairs) in
-      (pair result, new, inl (result, record { pair = refl; state = leaves }, refl), sized)
-
-  some_pop_oldest : CanEnd commands.PopOldest
-  some_pop_oldest =
-      let result = left_of rules old.limiter (last old.pairs) in
-      let (new, leaves, sized, freed) = some_leave old (pop rules (contents old)) ok
-      (omega (arith, length-without_last old.pairs)) in
-      (pair result, new, inl (result, record { pair = refl; state = leaves }, refl), sized)
-
-  some_pop_newest : CanEnd commands.PopNewest
-  some_pop_newest =
-      let result = left_of rules old.limiter (first old.pairs) in
-      let (new, leaves, sized, freed) = some_leave old (pop_first rules (contents old)) ok
-      (length-without_first old.pairs) in
-      (pair result, new, inl (result, record { pair = refl; state = leaves }, refl), sized)
+  -- a call after which some pairs have left can end
+  leaving : (command : Command) (reply : Reply ℕ ℕ) (left : Contents ℕ ℕ S) → length left.pairs ≤ length old.pairs
+      → ((new : Map S) → Leaves old left new
+      → ReplyStep rules offers nat_eq hash_of old (call_of command) reply new) → CanEnd command
+  leaving command reply left fewer step =
+      let (new, leaves, sized, freed) = some_leave old left ok fewer in (reply, new, inl (step new leaves), sized)
 
   fewer_left : (n : ℕ) (c : Contents ℕ ℕ S) → length (pops_first rules n c).pairs ≤ length c.pairs
   fewer_left zero c = omega arith
@@ -83,8 +65,14 @@ module _ {S : Type 0} (rules : Rules ℕ ℕ S) (offers : Offers ℕ ℕ S ℕ) 
     promoted_sized old (nat_eq k) ok,
   )
   some_step (commands.Peek k) = (value (lookup (nat_eq k) old.pairs), old, inl (refl, refl), ok)
-  some_step (commands.Remove k) = some_removal k
-  some_step (commands.RemoveEntry k) = some_entry_removal k
+  some_step (commands.Remove k) = leaving (commands.Remove k)
+      (value (option_map (λ p. p.1) (left_of rules old.limiter (lookup_entry (nat_eq k) old.pairs))))
+      (removal rules (nat_eq k) (contents old)) (length-without (nat_eq k) old.pairs)
+      (λ new leaves. (_, record { value = refl; state = leaves }, refl))
+  some_step (commands.RemoveEntry k) = leaving (commands.RemoveEntry k)
+      (pair (left_of rules old.limiter (lookup_entry (nat_eq k) old.pairs)))
+      (removal rules (nat_eq k) (contents old)) (length-without (nat_eq k) old.pairs)
+      (λ new leaves. (_, record { pair = refl; state = leaves }, refl))
   some_step (commands.Contains k) = (flag (is_some (lookup (nat_eq k) old.pairs)), old, inl (refl, refl), ok)
   some_step (commands.Promote k) = (
     flag (is_some (lookup (nat_eq k) old.pairs)),
@@ -103,8 +91,12 @@ module _ {S : Type 0} (rules : Rules ℕ ℕ S) (offers : Offers ℕ ℕ S ℕ) 
   some_step commands.Shrink = let (result, new, is, after) = some_shrink old ok in
       (shrunk result, new, inl (result, is, refl), after)
   some_step (commands.Drain n) = some_drain n
-  some_step commands.PopOldest = some_pop_oldest
-  some_step commands.PopNewest = some_pop_newest
+  some_step commands.PopOldest = leaving commands.PopOldest (pair (left_of rules old.limiter (last old.pairs)))
+      (pop rules (contents old)) (omega (arith, length-without_last old.pairs))
+      (λ new leaves. (_, record { pair = refl; state = leaves }, refl))
+  some_step commands.PopNewest = leaving commands.PopNewest (pair (left_of rules old.limiter (first old.pairs)))
+      (pop_first rules (contents old)) (length-without_first old.pairs)
+      (λ new leaves. (_, record { pair = refl; state = leaves }, refl))
   some_step commands.Clear = (done, cleared rules old, inl (refl, refl), cleared_sized rules old ok)
   some_step commands.List = (listed old.pairs, old, inl (refl, refl), ok)
   some_step commands.Stats =

@@ -73,16 +73,13 @@ fits_command : (command : Command) → FitsCommand command ⊎ (FitsCommand comm
 fits_command (commands.Insert k v) = both_or (lt_or k (2 ^ 64)) (lt_or v (2 ^ 64))
 fits_command (commands.Put k v) = both_or (lt_or k (2 ^ 64)) (lt_or v (2 ^ 64))
 fits_command (commands.Update k v) = both_or (lt_or k (2 ^ 64)) (lt_or v (2 ^ 64))
-fits_command (commands.Get k) = lt_or k (2 ^ 64)
-fits_command (commands.Peek k) = lt_or k (2 ^ 64)
-fits_command (commands.Remove k) = lt_or k (2 ^ 64)
-fits_command (commands.RemoveEntry k) = lt_or k (2 ^ 64)
-fits_command (commands.Contains k) = lt_or k (2 ^ 64)
-fits_command (commands.Promote k) = lt_or k (2 ^ 64)
-fits_command (commands.Demote k) = lt_or k (2 ^ 64)
-fits_command (commands.Reserve n) = lt_or n (2 ^ 64)
-fits_command (commands.Drain n) = lt_or n (2 ^ 64)
-fits_command command = inl tt
+fits_command commands.PopOldest = inl tt
+fits_command commands.PopNewest = inl tt
+fits_command commands.Clear = inl tt
+fits_command commands.Stats = inl tt
+fits_command commands.Shrink = inl tt
+fits_command commands.List = inl tt
+fits_command command = lt_or _ (2 ^ 64)
 
 fits_limit : (limit : Limit) → FitsLimit limit ⊎ (FitsLimit limit → ⊥)
 fits_limit (limits.Length n) = lt_or n (2 ^ 32)

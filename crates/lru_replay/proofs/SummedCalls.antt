@@ -20,7 +20,7 @@ module _ {K V S H : Type 0} (rules : Rules K V S) (offers : Offers K V S K) (eq 
   module _ (law : RunsKeepSums) (old new : State K V S H) (sized : IsSized new) where
     kind_summed : (call : Call K V S) → KeepsCost eq cost account (contents old) call
         → Kind rules offers eq hash_of old new call → IsSummed cost account old → IsSummed cost account new
-    kind_summed call keeps (calls_map step) = law old new (goes_on new step sized ends)
+    kind_summed call keeps (calls_map step names) = law old new (goes_on new step sized ends)
     kind_summed call keeps (stays e) = λ h. subst (IsSummed cost account) (sym e) h
     kind_summed call keeps (writes_value k v is e) =
         let kept = subst (KeepsCost eq cost account (contents old)) is keeps in

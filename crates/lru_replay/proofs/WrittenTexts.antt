@@ -1,40 +1,39 @@
 -- Writing one text after another.
 use Rattle.std.proofs.Common.{◌≡◌, ℕ, Bool, ◌+◌, ◌-◌, ◌/◌, ◌%◌, ◌<◌, ◌≤◌, ◌^◌, List, [], ◌∷◌, ◌++◌, length, set, take}
-use Rattle.std.proofs.Common.{drop, refl, sym, ap, ◌∙◌, arith, Option, Result, Ok, Err, decimal, append_assoc}
+use Rattle.std.proofs.Common.{drop, refl, sym, ap, ◌∙◌, subst, arith, Option, Result, Ok, Err, decimal, append_assoc}
 use Rattle.std.proofs.lemmas.List.{drop-set, length-append, take-append-drop, take_rest}
 use Rattle.std.proofs.lemmas.Fmt.{decimal_step}
 use Rattle.std.specs.declared.alloc.AllocError.{AllocError}
 use Rattle.std.specs.Io.KnownBytes.{Appends}
 use Rattle.std.proofs.KnownBytes.{Appends-trans}
 use Rattle.lru_replay.specs.declared.lines.outcome.ReplayError.{ReplayError}
-use Rattle.lru_replay.specs.Output.{Writes, Fails, rest_text, pair_text, insert_text, reply_text}
+use Rattle.lru_replay.specs.Output.{Writes, Begins, Fails, rest_text, pair_text, insert_text, reply_text}
 use Rattle.lru_replay.specs.Replies.{insert_reply}
+
+-- a beginning of the next text, after one that was written
+pub begins_after : (a b c : Option (List ℕ)) (t u : List ℕ) → Appends a b t → Begins b c u → Begins a c (t ++ u)
+begins_after a b c t u p (part, (rest, is), q) =
+    (t ++ part, (rest, ap (λ l. t ++ l) is ∙ sym (append_assoc t part rest)), Appends-trans a b c t part p q)
+
+-- or of the first of two
+begins_front : (a b : Option (List ℕ)) (t u : List ℕ) → Begins a b t → Begins a b (t ++ u)
+begins_front a b t u (part, (rest, is), p) = (part, (rest ++ u, ap (λ l. l ++ u) is ∙ append_assoc part rest u), p)
 
 -- the next text, after one that was written
 pub writes_after : {A : Type 0} (a b c : Option (List ℕ)) (t u : List ℕ) (r : Result A ReplayError) → Appends a b t
     → Writes b c r u → Writes a c r (t ++ u)
 writes_after a b c t u (Ok x) p q = Appends-trans a b c t u p q
-writes_after a b c t u (Err e) p (same, part, (rest, is), q) =
-    (same, t ++ part, (rest, ap (λ l. t ++ l) is ∙ sym (append_assoc t part rest)), Appends-trans a b c t part p q)
+writes_after a b c t u (Err e) p (same, begun) = (same, begins_after a b c t u p begun)
 
 -- a failure in the text between
 pub failed : (a b c : Option (List ℕ)) (t u v all : List ℕ) (e : ReplayError) → Appends a b t → Fails e b c u → all ≡ t
     ++ (u ++ v) → Fails e a c all
-failed a b c t u v all e p (same, part, (rest, is), q) whole = (
-  same,
-  t ++ part,
-  (
-    rest ++ v,
-    whole ∙ ap (λ l. t ++ (l ++ v)) is ∙ ap (λ l. t ++ l) (append_assoc part rest v)
-        ∙ sym (append_assoc t part (rest ++ v)),
-  ),
-  Appends-trans a b c t part p q,
-)
+failed a b c t u v all e p (same, begun) whole =
+    (same, subst (Begins a c) (sym whole) (begins_after a b c t (u ++ v) p (begins_front b c u v begun)))
 
 -- a failure in the first of two texts
 pub failed_front : (a b : Option (List ℕ)) (t u : List ℕ) (e : ReplayError) → Fails e a b t → Fails e a b (t ++ u)
-failed_front a b t u e (same, part, (rest, is), p) =
-    (same, part, (rest ++ u, ap (λ l. l ++ u) is ∙ append_assoc part rest u), p)
+failed_front a b t u e (same, begun) = (same, begins_front a b t u begun)
 
 -- the text of an insert is that of its reply
 pub inserted_text : (cost : Option ℕ) (result : Result Bool AllocError)

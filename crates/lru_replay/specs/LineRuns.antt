@@ -2,7 +2,6 @@
 use Rattle.std.specs.Prelude.{◌≡◌, ℕ, nat_eq, List, ◌⊎◌, flat_map, Option, OnSome, IfSome, Result, Ok, Err}
 use Rattle.std.specs.Io.KnownBytes.{Appends, IsAtEnd}
 use Rattle.lru_limits.specs.Rules.{Rules, Offers}
-use Rattle.schnellru.specs.Lists.{IsFront}
 use Rattle.schnellru.specs.State.{IsSized}
 use Rattle.lru_replay.specs.declared.lines.command.Command.{Command}
 use Rattle.lru_replay.specs.declared.lines.command.Command.TheVariants as commands
@@ -11,9 +10,9 @@ use Rattle.lru_replay.specs.declared.lines.outcome.ReplayError.TheVariants as er
 use Rattle.lru_replay.specs.CallRuns.{IsRun}
 use Rattle.lru_replay.specs.Commands.{call_of}
 use Rattle.lru_replay.specs.Grammar.{SpellsCommand}
-use Rattle.lru_replay.specs.Lines.{lines_of, fed, TakesLines, TakesWhole}
+use Rattle.lru_replay.specs.Lines.{lines_of, fed, TakesLines}
 use Rattle.lru_replay.specs.Maps.{Map, hash_of}
-use Rattle.lru_replay.specs.Output.{reply_text, bad_text, Writes}
+use Rattle.lru_replay.specs.Output.{reply_text, bad_text, Writes, Begins}
 use Rattle.lru_replay.specs.Replies.{Reply, no_memory}
 use Rattle.lru_replay.specs.Steps.{ReplyStep}
 
@@ -46,8 +45,8 @@ module _ {S : Type 0} (rules : Rules ℕ ℕ S) (offers : Offers ℕ ℕ S ℕ) 
   AnswersLine before line after old new result =
       (text : List ℕ) × LineStep before line text after × Writes old new result (fed text)
 
-  -- A run over the lines, in which each line leaves a map whose table is sound. The text is that of each line with a line
-  -- feed, one after another.
+  -- A run over the lines, in which each line leaves a map whose table is sound. The text is that of each line with a
+  -- line feed, one after another.
   abbrev pub IsLineRun : Map S → List (List ℕ) → List ℕ → Map S → Type 0
   IsLineRun old lines text new =
       (texts : List (List ℕ)) × IsRun LineStep IsSized old lines texts new × (text ≡ flat_map fed texts)
@@ -56,27 +55,27 @@ module _ {S : Type 0} (rules : Rules ℕ ℕ S) (offers : Offers ℕ ℕ S ℕ) 
   abbrev pub IsTextOf : Map S → List (List ℕ) → List ℕ → Type 0
   IsTextOf old lines text = (new : Map S) × IsLineRun old lines text new
 
--- Below, IsText says which texts lines have. A reader had the bytes `from` left, if they are known, and has `to` left
--- now. A writer's bytes were `old` and are `new`.
-module _ (IsText : List (List ℕ) → List ℕ → Type 0) where
-  -- a text of all the lines was written
-  abbrev pub WritesText : Option (List ℕ) → Option (List ℕ) → Option (List ℕ) → Type 0
-  WritesText from old new =
-      IfSome from (λ input. (text : List ℕ) × IsText (lines_of input) text × Appends old new text)
+-- Below, IsText says which texts lines have, and Wrote what was written of a text. A reader had the bytes `from` left,
+-- if they are known, and has `to` left now. A writer's bytes were `old` and are `new`.
+module _ (IsText : List (List ℕ) → List ℕ → Type 0) (from : Option (List ℕ)) where
+  -- of a text of all the lines
+  abbrev pub OfAll : (List ℕ → Type 0) → Type 0
+  OfAll Wrote = IfSome from (λ input. (text : List ℕ) × IsText (lines_of input) text × Wrote text)
 
-  module _ (from to old new : Option (List ℕ)) where
-    -- some lines were read whole, and a part of the next, and a text of the whole ones was written
-    abbrev pub WritesTextSoFar : Type 0
-    WritesTextSoFar = (lines : List (List ℕ)) × (text part : List ℕ)
-        × IsText lines text × TakesLines from to lines part × Appends old new text
+  -- some lines were read whole, and a part of the next: of a text of the whole ones
+  abbrev pub OfRead : Option (List ℕ) → (List ℕ → Type 0) → Type 0
+  OfRead to Wrote = (lines : List (List ℕ)) × (text part : List ℕ)
+      × IsText lines text × TakesLines from to lines part × Wrote text
 
-    -- some lines were read whole, and a beginning of a text of them was written
-    abbrev pub BeginsText : Type 0
-    BeginsText = (lines : List (List ℕ)) × (text part : List ℕ)
-        × IsText lines text × TakesWhole from to lines × IsFront part text × Appends old new part
+module _ (IsText IsTextSoFar : List (List ℕ) → List ℕ → Type 0) (from to old new : Option (List ℕ)) where
+  -- a beginning was written of a text of all the lines, which were read, or of those that were read whole
+  abbrev pub BeginsText : Type 0
+  BeginsText = (OfAll IsText from (Begins old new) × OnSome from (IsAtEnd to))
+      ⊎ OfRead IsTextSoFar from to (Begins old new)
 
-    -- what was read and written, by how the answers to the lines ended
-    abbrev pub Answers : Result (Unit {0}) ReplayError → Type 0
-    Answers (Ok _) = WritesText from old new × OnSome from (IsAtEnd to)
-    Answers (Err errors.Read) = WritesTextSoFar
-    Answers (Err errors.Write) = BeginsText
+-- what was read and written, by how the answers to the lines ended
+abbrev pub Answers : (List (List ℕ) → List ℕ → Type 0) → Option (List ℕ) → Option (List ℕ) → Option (List ℕ)
+    → Option (List ℕ) → Result (Unit {0}) ReplayError → Type 0
+Answers IsText from to old new (Ok _) = OfAll IsText from (Appends old new) × OnSome from (IsAtEnd to)
+Answers IsText from to old new (Err errors.Read) = OfRead IsText from to (Appends old new)
+Answers IsText from to old new (Err errors.Write) = BeginsText IsText IsText from to old new

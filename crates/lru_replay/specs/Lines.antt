@@ -1,6 +1,6 @@
 -- The lines of an input: each is ended by a line feed, which the last may lack.
 use Rattle.std.specs.Prelude.{◌≡◌, ◌≢◌, ℕ, ◌<◌, List, [], ◌∷◌, ◌++◌, ◌==◌, if◌then◌else◌, length, flat_map, Option}
-use Rattle.std.specs.Prelude.{OnSome, IfSome, ◌⊎◌}
+use Rattle.std.specs.Prelude.{OnSome, ◌⊎◌}
 use Rattle.std.specs.List.{AllByRecursion}
 use Rattle.std.specs.Io.KnownBytes.{Consumes, IsAtEnd}
 use Rattle.lru_replay.specs.declared.lines.line.Piece.{Piece}
@@ -60,11 +60,3 @@ module _ (old new : Option (List ℕ)) where
   abbrev pub TakesLines : List (List ℕ) → List ℕ → Type 0
   TakesLines lines part = AllByRecursion (Lacks 10) lines × Lacks 10 part
       × Consumes old new (flat_map fed lines ++ part)
-
-  -- all that was left was read, and these are its lines
-  abbrev pub TakesAll : List (List ℕ) → Type 0
-  TakesAll lines = OnSome old (IsAtEnd new) × IfSome old (λ input. lines_of input ≡ lines)
-
-  -- these lines were read whole: with their line feeds, or as all that was left
-  abbrev pub TakesWhole : List (List ℕ) → Type 0
-  TakesWhole lines = TakesLines lines [] ⊎ TakesAll lines

@@ -30,10 +30,6 @@ module _ {K V S : Type 0} (eq : K → K → Bool) where
   abbrev pub fronted : K → Contents K V S → Contents K V S
   fronted key c = record c { pairs = front (eq key) c.pairs }
 
-  -- the pair of the key comes last
-  abbrev pub backed : K → Contents K V S → Contents K V S
-  backed key c = record c { pairs = back (eq key) c.pairs }
-
   -- it comes first if its value was found
   abbrev pub fronted_if : Option V → K → Contents K V S → Contents K V S
   fronted_if (Some v) key c = fronted key c
@@ -59,62 +55,63 @@ emptied rules c = record { pairs = []; limiter = rules.on_cleared c.limiter }
 abbrev pub beside : {K V S : Type 0} → List (K × V) → Contents K V S → Contents K V (S × List (K × V))
 beside list c = record { pairs = c.pairs; limiter = (c.limiter, list) }
 
-module _ {K V S : Type 0} (rules : Rules K V S) (offers : Offers K V S K) (eq : K → K → Bool) (hash_of : K → ℕ) where
+module _ {K V S : Type 0} (rules : Rules K V S) (offers : Offers K V S K) (eq : K → K → Bool) where
+  -- what the call says and leaves, if the list alone determines it
+  abbrev pub told : Contents K V S → Call K V S → Option (Reply K V × Contents K V S)
+  told c (calls.Update key v) = let ended = updated_in_list rules offers eq key v c in Some (updated ended.0, ended.1)
+  told c (calls.Get key) = Some (value (lookup (eq key) c.pairs), fronted eq key c)
+  told c (calls.Peek key) = Some (value (lookup (eq key) c.pairs), c)
+  told c (calls.Contains key) = Some (flag (is_some (lookup (eq key) c.pairs)), c)
+  told c (calls.Promote key) = Some (flag (is_some (lookup (eq key) c.pairs)), fronted eq key c)
+  told c (calls.Demote key) =
+      Some (flag (is_some (lookup (eq key) c.pairs)), record c { pairs = back (eq key) c.pairs })
+  told c (calls.Write key v) =
+      Some (flag (is_some (lookup (eq key) c.pairs)), record c { pairs = set_value (eq key) c.pairs v })
+  told c (calls.Remove key) = let left = left_of rules c.limiter (lookup_entry (eq key) c.pairs) in
+      Some (value (option_map (λ p. p.1) left), removal rules (eq key) c)
+  told c (calls.RemoveEntry key) =
+      Some (pair (left_of rules c.limiter (lookup_entry (eq key) c.pairs)), removal rules (eq key) c)
+  told c calls.PopOldest = Some (pair (left_of rules c.limiter (last c.pairs)), pop rules c)
+  told c calls.PopNewest = Some (pair (left_of rules c.limiter (first c.pairs)), pop_first rules c)
+  told c calls.PeekOldest = Some (pair (last c.pairs), c)
+  told c calls.PeekNewest = Some (pair (first c.pairs), c)
+  told c calls.Trim = Some (done, trim rules c)
+  told c calls.Clear = Some (done, emptied rules c)
+  told c (calls.Drain front back) = let mid = pops_first rules front c in
+      Some (listed (newest_given rules front c ++ oldest_given rules back mid), emptied rules (pops rules back mid))
+  told c calls.List = Some (listed c.pairs, c)
+  told c (calls.SetLimiter s) = Some (done, record c { limiter = s })
+  told c call = None
+
   -- From the list c, the call may say this and leave d. Only a table says what growth is reserved, whether it shrinks,
   -- and all figures but the number of pairs, so of these nothing is said.
-  abbrev pub ListStep : Contents K V S → Call K V S → Reply K V → Contents K V S → Type 0
-  ListStep c (calls.Insert key v) reply d = (result : Result Bool AllocError)
-      × InsertsInList rules offers eq key v c result d × (reply ≡ insert_reply result)
-  ListStep c (calls.InsertWith key v) reply d = (result : Result Bool AllocError) × (out : List (K × V))
-      × InsertsInList (noting rules) (noting_offers offers) eq key v (beside [] c) result (beside out d)
-      × (reply ≡ given result out)
-  ListStep c (calls.GetOrInsert key v) reply d = MatchOption (lookup (eq key) c.pairs)
-      ((result : Result Bool AllocError) × InsertsInList rules offers eq key v c result d
-      × (reply ≡ made_reply result d.pairs))
-      (λ there. (reply ≡ value (Some there)) × (d ≡ fronted eq key c))
-  ListStep c (calls.Update key v) reply d =
-      (reply ≡ updated (updated_in_list rules offers eq key v c).0) × (d ≡ (updated_in_list rules offers eq key v c).1)
-  ListStep c (calls.Get key) reply d = (reply ≡ value (lookup (eq key) c.pairs)) × (d ≡ fronted eq key c)
-  ListStep c (calls.Peek key) reply d = (reply ≡ value (lookup (eq key) c.pairs)) × (d ≡ c)
-  ListStep c (calls.Contains key) reply d = (reply ≡ flag (is_some (lookup (eq key) c.pairs))) × (d ≡ c)
-  ListStep c (calls.Promote key) reply d =
-      (reply ≡ flag (is_some (lookup (eq key) c.pairs))) × (d ≡ fronted eq key c)
-  ListStep c (calls.Demote key) reply d =
-      (reply ≡ flag (is_some (lookup (eq key) c.pairs))) × (d ≡ backed eq key c)
-  ListStep c (calls.GetByHash hash key) reply d = (result : Option V)
-      × FindsByHash eq hash_of hash key c.pairs result × (reply ≡ value result) × (d ≡ fronted_if eq result key c)
-  ListStep c (calls.PeekByHash hash key) reply d = (result : Option V)
-      × FindsByHash eq hash_of hash key c.pairs result × (reply ≡ value result) × (d ≡ c)
-  ListStep c (calls.Write key v) reply d = (reply ≡ flag (is_some (lookup (eq key) c.pairs)))
-      × (d ≡ record c { pairs = set_value (eq key) c.pairs v })
-  ListStep c (calls.Remove key) reply d =
-      (reply ≡ value (option_map (λ p. p.1) (left_of rules c.limiter (lookup_entry (eq key) c.pairs))))
-      × (d ≡ removal rules (eq key) c)
-  ListStep c (calls.RemoveEntry key) reply d =
-      (reply ≡ pair (left_of rules c.limiter (lookup_entry (eq key) c.pairs))) × (d ≡ removal rules (eq key) c)
-  ListStep c calls.PopOldest reply d = (reply ≡ pair (left_of rules c.limiter (last c.pairs))) × (d ≡ pop rules c)
-  ListStep c calls.PopNewest reply d =
-      (reply ≡ pair (left_of rules c.limiter (first c.pairs))) × (d ≡ pop_first rules c)
-  ListStep c calls.PeekOldest reply d = (reply ≡ pair (last c.pairs)) × (d ≡ c)
-  ListStep c calls.PeekNewest reply d = (reply ≡ pair (first c.pairs)) × (d ≡ c)
-  ListStep c (calls.Reserve n) reply d =
-      (result : Result (Unit {0}) ReserveError) × (reply ≡ reserved result) × (d ≡ c)
-  ListStep c calls.Shrink reply d = (result : Result Bool AllocError) × (reply ≡ shrunk result) × (d ≡ c)
-  ListStep c calls.Trim reply d = (reply ≡ done) × (d ≡ trim rules c)
-  ListStep c calls.Clear reply d = (reply ≡ done) × (d ≡ emptied rules c)
-  ListStep c (calls.Drain front back) reply d =
-      (reply ≡ listed (newest_given rules front c ++ oldest_given rules back (pops_first rules front c)))
-      × (d ≡ emptied rules (pops rules back (pops_first rules front c)))
-  ListStep c calls.List reply d = (reply ≡ listed c.pairs) × (d ≡ c)
-  ListStep c calls.Stats reply d =
-      (figures : Figures) × (figures.len ≡ length c.pairs) × (reply ≡ stats figures) × (d ≡ c)
-  ListStep c (calls.SetLimiter s) reply d = (reply ≡ done) × (d ≡ record c { limiter = s })
+  module _ (hash_of : K → ℕ) where
+    abbrev pub ListStep : Contents K V S → Call K V S → Reply K V → Contents K V S → Type 0
+    ListStep c (calls.Insert key v) reply d = (result : Result Bool AllocError)
+        × InsertsInList rules offers eq key v c result d × (reply ≡ insert_reply result)
+    ListStep c (calls.InsertWith key v) reply d = (result : Result Bool AllocError) × (out : List (K × V))
+        × InsertsInList (noting rules) (noting_offers offers) eq key v (beside [] c) result (beside out d)
+        × (reply ≡ given result out)
+    ListStep c (calls.GetOrInsert key v) reply d = MatchOption (lookup (eq key) c.pairs)
+        ((result : Result Bool AllocError) × InsertsInList rules offers eq key v c result d
+        × (reply ≡ made_reply result d.pairs))
+        (λ there. (reply ≡ value (Some there)) × (d ≡ fronted eq key c))
+    ListStep c (calls.GetByHash hash key) reply d = (result : Option V)
+        × FindsByHash eq hash_of hash key c.pairs result × (reply ≡ value result) × (d ≡ fronted_if eq result key c)
+    ListStep c (calls.PeekByHash hash key) reply d = (result : Option V)
+        × FindsByHash eq hash_of hash key c.pairs result × (reply ≡ value result) × (d ≡ c)
+    ListStep c (calls.Reserve n) reply d =
+        (result : Result (Unit {0}) ReserveError) × (reply ≡ reserved result) × (d ≡ c)
+    ListStep c calls.Shrink reply d = (result : Result Bool AllocError) × (reply ≡ shrunk result) × (d ≡ c)
+    ListStep c calls.Stats reply d =
+        (figures : Figures) × (figures.len ≡ length c.pairs) × (reply ≡ stats figures) × (d ≡ c)
+    ListStep c call reply d = told c call ≡ Some (reply, d)
 
-  -- so it does, or no memory is found to store pairs, and nothing changes
-  abbrev pub ListCallStep : Contents K V S → Call K V S → Reply K V → Contents K V S → Type 0
-  ListCallStep = StepIfMemory ListStep
+    -- so it does, or no memory is found to store pairs, and nothing changes
+    abbrev pub ListCallStep : Contents K V S → Call K V S → Reply K V → Contents K V S → Type 0
+    ListCallStep = StepIfMemory ListStep
 
-  module _ (cost : K → V → ℕ) (account : S → ℕ) where
-    -- and so it does under a summing limiter, if the cost is kept
-    abbrev pub ListSummingStep : Contents K V S → Call K V S → Reply K V → Contents K V S → Type 0
-    ListSummingStep = StepIfKept eq cost account (λ c. c) ListCallStep
+    module _ (cost : K → V → ℕ) (account : S → ℕ) where
+      -- and so it does under a summing limiter, if the cost is kept
+      abbrev pub ListSummingStep : Contents K V S → Call K V S → Reply K V → Contents K V S → Type 0
+      ListSummingStep = StepIfKept eq cost account (λ c. c) ListCallStep

@@ -14,9 +14,13 @@ use Rattle.lru_replay.specs.declared.lines.outcome.ReplayError.TheVariants as er
 use Rattle.lru_replay.specs.Replies.{Reply, flag, given, updated, value, pair, listed, reserved, shrunk, stats, done}
 use Rattle.lru_replay.specs.Replies.{no_memory, cost_differs}
 
--- a write failed, and a beginning of the text was written
+-- a beginning of the text was written
+abbrev pub Begins : Option (List ℕ) → Option (List ℕ) → List ℕ → Type 0
+Begins old new text = (part : List ℕ) × IsFront part text × Appends old new part
+
+-- so it was, and a write failed
 abbrev pub Fails : ReplayError → Option (List ℕ) → Option (List ℕ) → List ℕ → Type 0
-Fails e old new text = (e ≡ errors.Write) × (part : List ℕ) × IsFront part text × Appends old new part
+Fails e old new text = (e ≡ errors.Write) × Begins old new text
 
 -- the text was written, or a beginning of it if a write failed
 abbrev pub Writes : {A : Type 0} → Option (List ℕ) → Option (List ℕ) → Result A ReplayError → List ℕ → Type 0

@@ -9,14 +9,13 @@ use Rattle.lru_replay.specs.declared.lines.outcome.ReplayEnd.{ReplayEnd}
 use Rattle.lru_replay.specs.declared.lines.outcome.ReplayEnd.TheVariants as ends
 use Rattle.lru_replay.specs.declared.lines.outcome.ReplayError.{ReplayError}
 use Rattle.lru_replay.specs.declared.lines.outcome.ReplayError.TheVariants as errors
-use Rattle.schnellru.specs.Lists.{IsFront}
 use Rattle.schnellru.specs.Sizes.{default_entry_bytes, links_of_32_bits, links_of_64_bits}
 use Rattle.lru_replay.specs.Grammar.{SpellsLimit}
 use Rattle.lru_replay.specs.Limits.{cost_rules, cost_offers, no_cost, cost_told}
-use Rattle.lru_replay.specs.Lines.{lines_of, TakesFirst, TakesLines, TakesAll}
+use Rattle.lru_replay.specs.Lines.{lines_of, TakesFirst}
 use Rattle.lru_replay.specs.Maps.{empty}
-use Rattle.lru_replay.specs.Output.{no_limiter_text}
-use Rattle.lru_replay.specs.LineRuns.{IsTextOf, WritesText, WritesTextSoFar}
+use Rattle.lru_replay.specs.Output.{no_limiter_text, Begins}
+use Rattle.lru_replay.specs.LineRuns.{IsTextOf, OfAll, OfRead, BeginsText}
 
 -- The lines are answered by this text, from the empty map under the limit.
 abbrev pub IsTextUnder : Limit → List (List ℕ) → List ℕ → Type 0
@@ -54,25 +53,21 @@ SoFar IsText (first ∷ others) text = IsText (first ∷ others) text
 module _ (from old new : Option (List ℕ)) where
   -- A replay of all the lines was written.
   abbrev pub WritesReplay : Type 0
-  WritesReplay = WritesText IsReplay from old new
+  WritesReplay = OfAll IsReplay from (Appends old new)
 
   -- A beginning of what is written of the lines was written.
   abbrev pub WritesCut : Type 0
-  WritesCut = IfSome from (λ input. (text part : List ℕ)
-      × IsOutput (lines_of input) text × IsFront part text × Appends old new part)
+  WritesCut = OfAll IsOutput from (Begins old new)
 
 module _ (from to old new : Option (List ℕ)) where
   -- Some whole lines were read, and a part of the next, and the text of the whole lines was written.
   abbrev pub WritesSoFar : Type 0
-  WritesSoFar = WritesTextSoFar (SoFar IsReplay) from to old new
+  WritesSoFar = OfRead (SoFar IsReplay) from to (Appends old new)
 
-  -- Lines were read whole, and a beginning of what is written of them was written. They are all lines of the input, or
-  -- the first n, and then a part of the next may have been read.
+  -- A beginning of what is written of the lines was written, and all lines were read, or the first n, and then a part
+  -- of the next may have been read.
   abbrev pub WritesCutSoFar : Type 0
-  WritesCutSoFar = IfSome from (λ _. (lines : List (List ℕ)) × (text part : List ℕ)
-      × ((TakesAll from to lines × IsOutput lines text)
-      ⊎ ((rest : List ℕ) × TakesLines from to lines rest × SoFar IsOutput lines text))
-      × IsFront part text × Appends old new part)
+  WritesCutSoFar = BeginsText IsOutput (SoFar IsOutput) from to old new
 
   -- what was read and written, by how the replay ended
   abbrev pub Replays : Result ReplayEnd ReplayError → Type 0

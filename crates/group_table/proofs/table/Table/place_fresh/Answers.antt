@@ -23,7 +23,7 @@ fill_bucket-requires-clause-bucket g c =
     let none_deleted = rw (← c.self.view_is) at c.requires.none_deleted in
     let room = rw (← c.self.view_is) at c.requires.room in
     join_within _ _ _ valid none_deleted room c.args.hash c.first_free-b.result
-    (first_reached _ _ _ valid none_deleted room _ _ _ (buckets_are _ _ valid.laid_out) c.first_free-b.ensures)
+    (first_reached _ _ _ valid none_deleted room _ _ c.first_free-b.ensures)
 
 pub fill_bucket-requires-clause-free_there : goal.fill_bucket-requires-clause-free_there
 fill_bucket-requires-clause-free_there g c =
@@ -31,7 +31,7 @@ fill_bucket-requires-clause-free_there g c =
     let none_deleted = rw (← c.self.view_is) at c.requires.none_deleted in
     let room = rw (← c.self.view_is) at c.requires.room in
     join_none _ _ _ valid none_deleted room c.args.hash c.first_free-b.result
-    (first_reached _ _ _ valid none_deleted room _ _ _ (buckets_are _ _ valid.laid_out) c.first_free-b.ensures)
+    (first_reached _ _ _ valid none_deleted room _ _ c.first_free-b.ensures)
 
 pub overflow_sub-self : goal.overflow_sub-self
 overflow_sub-self g c =
@@ -55,11 +55,12 @@ invariant_of-self g c =
     let valid = c.self.invariant.0 in
     let none_deleted = rw (← c.self.view_is) at c.requires.none_deleted in
     let room = rw (← c.self.view_is) at c.requires.room in
-    let reached =
-    first_reached _ _ _ valid none_deleted room _ _ _ (buckets_are _ _ valid.laid_out) c.first_free-b.ensures in
-    let counted = entry_count-written_joined _ _ _ valid none_deleted room c.args.hash c.first_free-b.result reached c.tag_of.result c.args.entry c.tag_of.ensures.tag in
+    let reached = first_reached _ _ _ valid none_deleted room _ _ c.first_free-b.ensures in
+    let counted = entry_count-written_joined _ _ _ valid none_deleted room c.args.hash c.first_free-b.result
+    reached c.tag_of.result c.args.entry c.tag_of.ensures.tag in
     rw (c.fill_bucket.ensures.control, c.fill_bucket.ensures.entries) (
-      IsValid-joined _ _ _ valid none_deleted room c.args.hash c.first_free-b.result reached c.tag_of.result c.args.entry c.tag_of.ensures.tag,
+      IsValid-joined _ _ _ valid none_deleted room c.args.hash c.first_free-b.result reached c.tag_of.result
+          c.args.entry c.tag_of.ensures.tag,
       rw counted (ap (λ n. n + 1) c.self.invariant.1),
     )
 
@@ -68,8 +69,7 @@ returns-clause-joins g c =
     let valid = c.self.invariant.0 in
     let none_deleted = rw (← c.self.view_is) at c.requires.none_deleted in
     let room = rw (← c.self.view_is) at c.requires.room in
-    let reached =
-    first_reached _ _ _ valid none_deleted room _ _ _ (buckets_are _ _ valid.laid_out) c.first_free-b.ensures in
+    let reached = first_reached _ _ _ valid none_deleted room _ _ c.first_free-b.ensures in
     rw (← c.self.view_is, c.fill_bucket.ensures.control, c.fill_bucket.ensures.entries)
-    (joins_there _ _ _ valid none_deleted room c.args.hash c.first_free-b.result reached c.tag_of.result c.args.entry c.tag_of.ensures.tag
-    c.tag_of.ensures.value)
+    (joins_there _ _ _ valid none_deleted room c.args.hash c.first_free-b.result reached c.tag_of.result
+    c.args.entry c.tag_of.ensures.tag c.tag_of.ensures.value)

@@ -1,17 +1,14 @@
-use Rattle.std.proofs.Common.{◌≡◌, ◌+◌, ◌<◌, length, arith, sym, ap, ◌∙◌, inr, Some}
+use Rattle.std.proofs.Common.{◌≡◌, ◌+◌, ◌<◌, length, arith, sym, ap, ◌∙◌, Some}
 use Rattle.std.proofs.lemmas.List.Sums.{count_by-le-length}
-use Rattle.std.proofs.lemmas.Bool.{eqb-false}
 use Rattle.group_table.specs.Sizes.{full_capacity}
-use Rattle.group_table.specs.Bucket.{is_full, mark_of}
+use Rattle.group_table.specs.Bucket.{is_full}
 use Rattle.group_table.specs.Probe.{hash_tag}
-use Rattle.group_table.specs.Control.{buckets_of}
 use Rattle.group_table.specs.Layout.{slots_of}
-use Rattle.group_table.proofs.BucketLemmas.{bucket_at-marks_of}
 use Rattle.group_table.proofs.LayoutLemmas.{length-laid_out, entries_within}
-use Rattle.group_table.proofs.TableLemmas.{IsTable-by, room_by}
+use Rattle.group_table.proofs.TableLemmas.{IsTable-by}
 use Rattle.group_table.proofs.WriteLemmas.{slots_of-written}
-use Rattle.group_table.proofs.PlaceLemmas.{some_free_byte, place_first, place_within, no_place_left, place_none}
-use Rattle.group_table.proofs.PlaceLemmas.{place_byte, place_spends, MayFill-from, IsValid-placed}
+use Rattle.group_table.proofs.PlaceLemmas.{some_free_byte, has_buckets, place_first, place_within, place_none}
+use Rattle.group_table.proofs.PlaceLemmas.{place_byte, no_place_left, place_spends, MayFill-from, IsValid-placed}
 use Rattle.group_table.proofs.PlaceLemmas.{entry_count-placed, room-placed}
 use Rattle.group_table.proofs.ControlLemmas.{buckets_are}
 use Rattle.group_table.proofs.FitsLemmas.{Fits-placed}
@@ -29,18 +26,13 @@ is_without_buckets-requires g c none =
 
 pub room_taken-spent-requires : goal.room_taken-spent-requires
 room_taken-spent-requires g c =
-    let valid = c.self.invariant.0 in
-    let first = c.first_free-b.ensures in
-    let are = buckets_are _ _ valid.laid_out in
-    let some : 0 < buckets_of c.self.inside.control =
-    omega (arith, eqb-false _ _ (sym c.is_without_buckets.ensures ∙ c.if-is_without_buckets.false)) in
-    rw c.byte.ensures (place_byte _ _ _ valid c.args.hash c.first_free-b.result _ are some first)
+    let some = has_buckets c.is_without_buckets.ensures c.if-is_without_buckets.false in
+    rw c.byte.ensures (place_byte c.self.invariant.0 _ _ some c.first_free-b.ensures)
 
 pub first_free-b-requires : goal.first_free-b-requires
 first_free-b-requires g c =
+    let some = has_buckets c.is_without_buckets.ensures c.if-is_without_buckets.false in
     let valid = c.self.invariant.0 in
-    let some : 0 < buckets_of c.self.inside.control =
-    omega (arith, eqb-false _ _ (sym c.is_without_buckets.ensures ∙ c.if-is_without_buckets.false)) in
     let are = buckets_are _ _ valid.laid_out in
     let w = some_free_byte _ _ _ valid (omega (arith, some, are)) in
     (w.0, omega (arith, w.1, are), w.2)
@@ -50,28 +42,14 @@ returns-then-self-spent-clause-table g c = rw (← c.self.view_is) (IsTable-by _
 
 pub returns-then-self-spent-clause-no_place : goal.returns-then-self-spent-clause-no_place
 returns-then-self-spent-clause-no_place g c =
-    let valid = c.self.invariant.0 in
-    let first = c.first_free-b.ensures in
-    let are = buckets_are _ _ valid.laid_out in
-    let some : 0 < buckets_of c.self.inside.control =
-    omega (arith, eqb-false _ _ (sym c.is_without_buckets.ensures ∙ c.if-is_without_buckets.false)) in
-    let none = no_place_left _ _ _ valid c.args.hash c.first_free-b.result _ are
-    some first _ c.byte.ensures _ c.room_taken-spent.ensures (omega arith) in
-    rw (← c.self.view_is) (inr (
-      sym (room_by _ _ _ valid) ∙ none.0,
-      c.first_free-b.result,
-      place_first _ _ _ valid c.args.hash c.first_free-b.result _ are some first,
-      bucket_at-marks_of _ c.first_free-b.result ∙ ap mark_of none.1,
-    ))
+    let some = has_buckets c.is_without_buckets.ensures c.if-is_without_buckets.false in
+    rw (← c.self.view_is) (no_place_left c.self.invariant.0 _ _ some c.first_free-b.ensures c.byte.ensures
+    c.room_taken-spent.ensures (omega arith))
 
 pub fill_bucket-requires-clause-free_there : goal.fill_bucket-requires-clause-free_there
 fill_bucket-requires-clause-free_there g c =
-    let valid = c.self.invariant.0 in
-    let first = c.first_free-b.ensures in
-    let are = buckets_are _ _ valid.laid_out in
-    let some : 0 < buckets_of c.self.inside.control =
-    omega (arith, eqb-false _ _ (sym c.is_without_buckets.ensures ∙ c.if-is_without_buckets.false)) in
-    place_none _ _ _ valid c.args.hash c.first_free-b.result _ are some first
+    let some = has_buckets c.is_without_buckets.ensures c.if-is_without_buckets.false in
+    place_none c.self.invariant.0 _ _ some c.first_free-b.ensures
 
 pub overflow_add-self : goal.overflow_add-self
 overflow_add-self g c =
@@ -87,31 +65,23 @@ overflow_add-self g c =
 
 pub invariant_of-self : goal.invariant_of-self
 invariant_of-self g c =
+    let some = has_buckets c.is_without_buckets.ensures c.if-is_without_buckets.false in
     let valid = c.self.invariant.0 in
-    let first = c.first_free-b.ensures in
-    let are = buckets_are _ _ valid.laid_out in
-    let some : 0 < buckets_of c.self.inside.control =
-    omega (arith, eqb-false _ _ (sym c.is_without_buckets.ensures ∙ c.if-is_without_buckets.false)) in
-    let within = place_within _ _ _ valid c.args.hash c.first_free-b.result _ are some first in
-    let spends = place_spends _ _ _ valid c.args.hash c.first_free-b.result _ are
-    some first _ c.byte.ensures _ c.room_taken-spent.ensures (omega arith) in
+    let within = place_within valid _ _ some c.first_free-b.ensures in
+    let spends = place_spends valid _ _ some c.first_free-b.ensures c.byte.ensures c.room_taken-spent.ensures
+    (omega arith) in
     let counted = entry_count-placed valid c.first_free-b.result spends c.tag_of.result c.args.entry within
     c.tag_of.ensures.tag in
     rw (c.fill_bucket.ensures.control, c.fill_bucket.ensures.entries) (
       IsValid-placed valid c.first_free-b.result spends c.tag_of.result c.args.entry within c.tag_of.ensures.tag,
-      rw
-          counted (ap (λ n. n + 1) c.self.invariant.1),
+      rw counted (ap (λ n. n + 1) c.self.invariant.1),
     )
 
 pub returns-clause-placed : goal.returns-clause-placed
 returns-clause-placed g c =
-    let valid = c.self.invariant.0 in
-    let first = c.first_free-b.ensures in
-    let are = buckets_are _ _ valid.laid_out in
-    let some : 0 < buckets_of c.self.inside.control =
-    omega (arith, eqb-false _ _ (sym c.is_without_buckets.ensures ∙ c.if-is_without_buckets.false)) in
+    let some = has_buckets c.is_without_buckets.ensures c.if-is_without_buckets.false in
     rw (← c.self.view_is) record {
-      first = place_first _ _ _ valid c.args.hash c.first_free-b.result _ are some first;
+      first = place_first c.self.invariant.0 _ _ some c.first_free-b.ensures;
       slots = rw (c.fill_bucket.ensures.control, c.fill_bucket.ensures.entries, c.tag_of.ensures.value)
           (slots_of-written _ _ c.first_free-b.result _ _);
       placings = c.make_count_room.ensures;
@@ -119,23 +89,17 @@ returns-clause-placed g c =
 
 pub returns-clause-may_fill : goal.returns-clause-may_fill
 returns-clause-may_fill g c =
+    let some = has_buckets c.is_without_buckets.ensures c.if-is_without_buckets.false in
     let valid = c.self.invariant.0 in
-    let first = c.first_free-b.ensures in
-    let are = buckets_are _ _ valid.laid_out in
-    let some : 0 < buckets_of c.self.inside.control =
-    omega (arith, eqb-false _ _ (sym c.is_without_buckets.ensures ∙ c.if-is_without_buckets.false)) in
-    rw (← c.self.view_is) (MayFill-from valid c.first_free-b.result
-    (place_spends _ _ _ valid c.args.hash c.first_free-b.result _ are some first _
-    c.byte.ensures _ c.room_taken-spent.ensures (omega arith)))
+    let spends = place_spends valid _ _ some c.first_free-b.ensures c.byte.ensures c.room_taken-spent.ensures
+    (omega arith) in
+    rw (← c.self.view_is) (MayFill-from valid c.first_free-b.result spends)
 
 pub returns-clause-fits : goal.returns-clause-fits
 returns-clause-fits g c hash_of fits =
+    let some = has_buckets c.is_without_buckets.ensures c.if-is_without_buckets.false in
     let valid = c.self.invariant.0 in
-    let first = c.first_free-b.ensures in
-    let are = buckets_are _ _ valid.laid_out in
-    let some : 0 < buckets_of c.self.inside.control =
-    omega (arith, eqb-false _ _ (sym c.is_without_buckets.ensures ∙ c.if-is_without_buckets.false)) in
-    let within = place_within _ _ _ valid c.args.hash c.first_free-b.result _ are some first in
+    let within = place_within valid _ _ some c.first_free-b.ensures in
     let in_slots : c.first_free-b.result < length (slots_of c.self.inside.control c.self.inside.entries) =
     omega (arith, within, length-laid_out _ _ valid.laid_out) in
     rw (
@@ -146,32 +110,24 @@ returns-clause-fits g c hash_of fits =
           (Some c.args.entry),
     )
     (Fits-placed _ hash_of c.args.hash c.first_free-b.result c.args.entry in_slots
-    (place_first _ _ _ valid c.args.hash c.first_free-b.result _ are some first)
-    (rw (← c.self.view_is) at fits))
+    (place_first valid _ _ some c.first_free-b.ensures) (rw (← c.self.view_is) at fits))
 
 pub returns-clause-table : goal.returns-clause-table
 returns-clause-table g c =
+    let some = has_buckets c.is_without_buckets.ensures c.if-is_without_buckets.false in
     let valid = c.self.invariant.0 in
-    let first = c.first_free-b.ensures in
-    let are = buckets_are _ _ valid.laid_out in
-    let some : 0 < buckets_of c.self.inside.control =
-    omega (arith, eqb-false _ _ (sym c.is_without_buckets.ensures ∙ c.if-is_without_buckets.false)) in
-    let within = place_within _ _ _ valid c.args.hash c.first_free-b.result _ are some first in
-    let spends = place_spends _ _ _ valid c.args.hash c.first_free-b.result _ are
-    some first _ c.byte.ensures _ c.room_taken-spent.ensures (omega arith) in
-    rw (c.fill_bucket.ensures.control, c.fill_bucket.ensures.entries)
-    (IsTable-by _ _ _
+    let within = place_within valid _ _ some c.first_free-b.ensures in
+    let spends = place_spends valid _ _ some c.first_free-b.ensures c.byte.ensures c.room_taken-spent.ensures
+    (omega arith) in
+    rw (c.fill_bucket.ensures.control, c.fill_bucket.ensures.entries) (IsTable-by _ _ _
     (IsValid-placed valid c.first_free-b.result spends c.tag_of.result c.args.entry within c.tag_of.ensures.tag))
 
 pub returns-clause-room : goal.returns-clause-room
 returns-clause-room g c =
+    let some = has_buckets c.is_without_buckets.ensures c.if-is_without_buckets.false in
     let valid = c.self.invariant.0 in
-    let first = c.first_free-b.ensures in
-    let are = buckets_are _ _ valid.laid_out in
-    let some : 0 < buckets_of c.self.inside.control =
-    omega (arith, eqb-false _ _ (sym c.is_without_buckets.ensures ∙ c.if-is_without_buckets.false)) in
-    let within = place_within _ _ _ valid c.args.hash c.first_free-b.result _ are some first in
-    let spends = place_spends _ _ _ valid c.args.hash c.first_free-b.result _ are
-    some first _ c.byte.ensures _ c.room_taken-spent.ensures (omega arith) in
+    let within = place_within valid _ _ some c.first_free-b.ensures in
+    let spends = place_spends valid _ _ some c.first_free-b.ensures c.byte.ensures c.room_taken-spent.ensures
+    (omega arith) in
     rw (← c.self.view_is, c.fill_bucket.ensures.control, c.fill_bucket.ensures.entries)
     (room-placed valid c.first_free-b.result spends c.tag_of.result c.args.entry within c.tag_of.ensures.tag)

@@ -1,12 +1,11 @@
 use Rattle.std.proofs.Common.{◌≡◌, ◌+◌, ◌<◌, ◌≤◌, length, get_or, None, refl, sym, ap, ◌∙◌, inr, arith}
-use Rattle.std.proofs.lemmas.Bool.{ltb-false}
 use Rattle.std.proofs.lemmas.List.{length-replicate}
 use Rattle.group_table.proofs.LayoutLemmas.{some_by, none_by}
 use Rattle.group_table.proofs.FreeBytes.{free_bytes-fewer}
 use Rattle.group_table.proofs.HalfwayLemmas.{buckets_now, IsHalfway-start, IsHalfway-placed, IsHalfway-none}
 use Rattle.group_table.proofs.HalfwayLemmas.{stood_there, IsInTurn-taken}
 use Rattle.group_table.proofs.HalfwayLemmas.{IsValid-last, none_deleted_last, Moves-last, hashes_last}
-use Rattle.group_table.proofs.TurnLemmas.{now_length, some_free, put_reached, put_within, put_within_control, IsInTurn-next}
+use Rattle.group_table.proofs.TurnLemmas.{now_length, some_free, put_into, IsInTurn-next}
 use Rattle.group_table.proofs.TurnLemmas.{IsHalfway-stays}
 use Rattle.group_table.proofs.WaitLemmas.{told_before, stays_past, stays_taken, stays_tagged, stays_put, none_waits}
 use Rattle.group_table.proofs.table.in_place.place_again.Goals.{
@@ -102,62 +101,51 @@ first_free-place-requires g c =
 
 pub put-next-requires-clause-bucket : goal.put-next-requires-clause-bucket
 put-next-requires-clause-bucket g c =
-    let l = c.turns in
-    let turn = rw c.in-Some.is at l.invariant.turn in
-    let whole = c.args.entries.now in
-    let same = now_length whole _ turn.1 turn.0 c.requires.within in
-    let within = put_within whole _ turn.1 turn.0 c.requires.within (put_reached whole _ turn.1 turn.0 c.requires.within c.first_free-place.ensures) in
-    omega (arith, within, same)
+    let turn = rw c.in-Some.is at c.turns.invariant.turn in
+    let put = put_into c.args.entries.now _ turn.1 turn.0 c.requires.within c.first_free-place.ensures in
+    omega (arith, put.in_whole, put.in_now)
 
 pub from_usize-requires-in-Some : goal.from_usize-requires-in-Some
 from_usize-requires-in-Some g c =
-    let l = c.turns in
-    let turn = rw c.in-Some.is at l.invariant.turn in
-    let whole = c.args.entries.now in
-    let same = now_length whole _ turn.1 turn.0 c.requires.within in
-    let within = put_within whole _ turn.1 turn.0 c.requires.within (put_reached whole _ turn.1 turn.0 c.requires.within c.first_free-place.ensures) in
-    omega (arith, within, same, c.requires.below)
+    let turn = rw c.in-Some.is at c.turns.invariant.turn in
+    let put = put_into c.args.entries.now _ turn.1 turn.0 c.requires.within c.first_free-place.ensures in
+    omega (arith, put.in_whole, c.requires.below)
 
 pub put-next-requires-clause-told : goal.put-next-requires-clause-told
 put-next-requires-clause-told g c =
     let l = c.turns in
     let turn = rw c.in-Some.is at l.invariant.turn in
     let whole = c.args.entries.now in
-    let free = ltb-false _ 128 c.first_free-place.ensures.free_there in
-    let same = now_length whole _ turn.1 turn.0 c.requires.within in
-    let within = put_within whole _ turn.1 turn.0 c.requires.within (put_reached whole _ turn.1 turn.0 c.requires.within c.first_free-place.ensures) in
+    let put = put_into whole _ turn.1 turn.0 c.requires.within c.first_free-place.ensures in
     elim c.if-place-b.branch [
       | then-place-b w ↦
           let none = none_waits {number = g.N.LinkType.number} {none = g.N.LinkType.MAX} turn.1
-          c.first_free-place.result (omega arith) (omega (arith, within, same)) free in
+          c.first_free-place.result (omega arith) (omega (arith, put.in_whole)) put.reached.1 in
           rw (w.byte-is, none) (inr refl)
       | else-place-b w ↦
           rw (w.byte-is, w.byte-byte.ensures)
           (told_before whole _ _ _ l.invariant.stays _ c.requires.before c.first_free-place.result (omega arith)
-          (omega (arith, within, same)) free)
+          put.in_whole put.reached.1)
     ]
 
 pub turns-smaller : goal.turns-smaller
 turns-smaller g c =
-    let l = c.turns in
-    let turn = rw c.in-Some.is at l.invariant.turn in
-    let reached = put_reached c.args.entries.now _ turn.1 turn.0 c.requires.within c.first_free-place.ensures in
+    let turn = rw c.in-Some.is at c.turns.invariant.turn in
+    let put = put_into c.args.entries.now _ turn.1 turn.0 c.requires.within c.first_free-place.ensures in
     rw c.put-next.ensures.control
-    (free_bytes-fewer c.tag_of-in-Some.result c.tag_of-in-Some.ensures.tag l.control l.entries
-    c.first_free-place.result
-    (put_within_control c.args.entries.now _ turn.1 turn.0 c.requires.within reached)
-    (ltb-false _ 128 c.first_free-place.ensures.free_there))
+    (free_bytes-fewer c.tag_of-in-Some.result c.tag_of-in-Some.ensures.tag c.turns.control c.turns.entries
+    c.first_free-place.result put.in_control put.reached.1)
 
 pub turns-preserved : goal.turns-preserved
 turns-preserved g c =
     let l = c.turns in
     let turn = rw c.in-Some.is at l.invariant.turn in
-    let reached = put_reached c.args.entries.now _ turn.1 turn.0 c.requires.within c.first_free-place.ensures in
-    let next = IsInTurn-next c.args.entries.now _ turn.1 turn.0 c.requires.within
+    let whole = c.args.entries.now in
+    let put = put_into whole _ turn.1 turn.0 c.requires.within c.first_free-place.ensures in
+    let next = IsInTurn-next whole _ turn.1 turn.0 c.requires.within
     g.N.LinkType.link _ g.met.N.LinkType.laws c.requires.below l.hash c.first_free-place.result c.tag_of-in-Some.result
-    reached c.tag_of-in-Some.ensures.value c.tag_of-in-Some.ensures.tag
+    put.reached c.tag_of-in-Some.ensures.value c.tag_of-in-Some.ensures.tag
     (l.invariant.hashed _ c.in-Some.is) in
-    let same = now_length c.args.entries.now _ turn.1 turn.0 c.requires.within in
     record {
       turn = rw (
         c.put-next.ensures.stood,
@@ -167,32 +155,29 @@ turns-preserved g c =
       ) next;
       hashed = λ entry is hash_at given. absurd (c.in_default-next.not-Some entry is);
       stays = rw (c.put-next.ensures.entries, c.put-next.ensures.control)
-          (stays_put c.args.entries.now _ _ _ l.invariant.stays c.first_free-place.result c.tag_of-in-Some.result same _
-          (put_within_control c.args.entries.now _ turn.1 turn.0 c.requires.within reached)
-          (put_within c.args.entries.now _ turn.1 turn.0 c.requires.within reached) c.tag_of-in-Some.ensures.tag);
+          (stays_put whole _ _ _ l.invariant.stays c.first_free-place.result c.tag_of-in-Some.result
+          (now_length whole _ turn.1 turn.0 c.requires.within) _ put.in_control put.in_now
+          c.tag_of-in-Some.ensures.tag);
     }
 
 pub turns-smaller-in-Some-next : goal.turns-smaller-in-Some-next
 turns-smaller-in-Some-next g c =
-    let l = c.turns in
-    let turn = rw c.in-Some.is at l.invariant.turn in
-    let reached = put_reached c.args.entries.now _ turn.1 turn.0 c.requires.within c.first_free-place.ensures in
+    let turn = rw c.in-Some.is at c.turns.invariant.turn in
+    let put = put_into c.args.entries.now _ turn.1 turn.0 c.requires.within c.first_free-place.ensures in
     rw c.put-next.ensures.control
-    (free_bytes-fewer c.tag_of-in-Some.result c.tag_of-in-Some.ensures.tag l.control l.entries
-    c.first_free-place.result
-    (put_within_control c.args.entries.now _ turn.1 turn.0 c.requires.within reached)
-    (ltb-false _ 128 c.first_free-place.ensures.free_there))
+    (free_bytes-fewer c.tag_of-in-Some.result c.tag_of-in-Some.ensures.tag c.turns.control c.turns.entries
+    c.first_free-place.result put.in_control put.reached.1)
 
 pub turns-preserved-in-Some-next : goal.turns-preserved-in-Some-next
 turns-preserved-in-Some-next g c =
     let l = c.turns in
     let turn = rw c.in-Some.is at l.invariant.turn in
-    let reached = put_reached c.args.entries.now _ turn.1 turn.0 c.requires.within c.first_free-place.ensures in
-    let next = IsInTurn-next c.args.entries.now _ turn.1 turn.0 c.requires.within
+    let whole = c.args.entries.now in
+    let put = put_into whole _ turn.1 turn.0 c.requires.within c.first_free-place.ensures in
+    let next = IsInTurn-next whole _ turn.1 turn.0 c.requires.within
     g.N.LinkType.link _ g.met.N.LinkType.laws c.requires.below l.hash c.first_free-place.result c.tag_of-in-Some.result
-    reached c.tag_of-in-Some.ensures.value c.tag_of-in-Some.ensures.tag
+    put.reached c.tag_of-in-Some.ensures.value c.tag_of-in-Some.ensures.tag
     (l.invariant.hashed _ c.in-Some.is) in
-    let same = now_length c.args.entries.now _ turn.1 turn.0 c.requires.within in
     let then = rw (sym c.put-next.ensures.stood, c.in-Some-next.is) at next in
     record {
       turn = rw (
@@ -204,9 +189,9 @@ turns-preserved-in-Some-next g c =
       hashed = λ entry is hash_at given. given c.first_free-place.result _ _ (then.0)
           (record { shown = _; shows = refl; says = record { met = c.hash_of-hash-in-Some-next.ensures } });
       stays = rw (c.put-next.ensures.entries, c.put-next.ensures.control)
-          (stays_put c.args.entries.now _ _ _ l.invariant.stays c.first_free-place.result c.tag_of-in-Some.result same _
-          (put_within_control c.args.entries.now _ turn.1 turn.0 c.requires.within reached)
-          (put_within c.args.entries.now _ turn.1 turn.0 c.requires.within reached) c.tag_of-in-Some.ensures.tag);
+          (stays_put whole _ _ _ l.invariant.stays c.first_free-place.result c.tag_of-in-Some.result
+          (now_length whole _ turn.1 turn.0 c.requires.within) _ put.in_control put.in_now
+          c.tag_of-in-Some.ensures.tag);
     }
 
 pub returns-clause-valid : goal.returns-clause-valid
