@@ -305,10 +305,51 @@ impl<K: Eq + Hash, V, L: Limiter<K, V>, S: KeyHasher<K>> LruMap<K, V, L, S> {
         ensures callable { F.IsAlwaysCallable sink.new }
     {
         self.make_room(sink);
+        if self.growth_left() == 0 {
+            return self.insert_without_growth(hash, pair, sink);
+        }
+        self.insert_in_bucket(hash, pair, sink)
+    }
+
+    // Stores a pair in a bucket, or as `insert_without_bucket` does, if none takes it. Then evicts what is over the limit.
+    #[inline(always)]
+    fn insert_in_bucket<F: FnMut(K, V)>(
+        &mut self,
+        hash: u64,
+        pair: (K, V),
+        sink: &mut F,
+    ) -> Result<bool, AllocError>
+        requires callable { F.IsAlwaysCallable sink.old }
+        requires hash { hash ≡ S.hash_of self.old.hasher pair.0 }
+        requires absent { lookup_entry (K.eq pair.0) self.old.pairs ≡ None }
+        ensures handed { Hands F.FnMut sink.old sink.new (λ before after. PlacesAndTrims (noting L.rules)
+            S.hash_of pair (noted before self.old) result (noted after self.new)) }
+        ensures callable { F.IsAlwaysCallable sink.new }
+    {
         match self.store_in_bucket(hash, pair) {
             Ok(()) => Ok(self.evict_over_limit(sink)),
             Err(pair) => self.insert_without_bucket(hash, pair, sink),
         }
+    }
+
+    // The same if there is no growth left, so that a bucket may take the pair or none. Out of line, so that other inserts
+    // need not test whether one does.
+    #[cold]
+    #[inline(never)]
+    fn insert_without_growth<F: FnMut(K, V)>(
+        &mut self,
+        hash: u64,
+        pair: (K, V),
+        sink: &mut F,
+    ) -> Result<bool, AllocError>
+        requires callable { F.IsAlwaysCallable sink.old }
+        requires hash { hash ≡ S.hash_of self.old.hasher pair.0 }
+        requires absent { lookup_entry (K.eq pair.0) self.old.pairs ≡ None }
+        ensures handed { Hands F.FnMut sink.old sink.new (λ before after. PlacesAndTrims (noting L.rules)
+            S.hash_of pair (noted before self.old) result (noted after self.new)) }
+        ensures callable { F.IsAlwaysCallable sink.new }
+    {
+        self.insert_in_bucket(hash, pair, sink)
     }
 
     // Stores a pair that no bucket takes, and evicts what is over the limit then. Under `ByMemoryUsage` each new pair may

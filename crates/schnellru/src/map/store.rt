@@ -53,8 +53,14 @@ impl<K: Eq + Hash, V, L: Limiter<K, V>, S: KeyHasher<K>> LruMap<K, V, L, S> {
         ensures unchanged { OnErr result (self.new ≡ self.old) }
         ensures no_place { OnErr result (HasNoPlace self.old.marks hash) }
     {
+        // A full count stays full. It is tested before the insertion, and counted after it, so that each is one
+        // instruction on memory: the compiler does not keep the count while the table is written.
+        if self.placed == u64::MAX {
+            self.entries.place(hash, pair)?;
+            return Ok(());
+        }
         self.entries.place(hash, pair)?;
-        self.placed = self.placed.saturating_add(1);
+        self.placed += 1;
         Ok(())
     }
 

@@ -1,0 +1,37 @@
+use Rattle.std.proofs.Common.{Ok, refl, ap, subst}
+use Rattle.schnellru.specs.State.{buckets, room}
+use Rattle.schnellru.specs.Place.{placed, in_bucket, FillsBucket}
+use Rattle.schnellru.specs.HandedOver.{noted}
+use Rattle.schnellru.proofs.Maps.NotedStates.{noted_placed}
+use Rattle.schnellru.proofs.map.LruMap.insert_in_bucket.Goals as goal
+
+pub insert_without_bucket-requires-clause-absent : goal.insert_without_bucket-requires-clause-absent
+insert_without_bucket-requires-clause-absent g c =
+    rw (c.in-Err.ensures.returned, c.in-Err.ensures.unchanged) c.requires.absent
+
+pub insert_without_bucket-requires-clause-hash : goal.insert_without_bucket-requires-clause-hash
+insert_without_bucket-requires-clause-hash g c =
+    rw (c.in-Err.ensures.returned, c.in-Err.ensures.unchanged) c.requires.hash
+
+pub returns-in-Ok-clause-handed : goal.returns-in-Ok-clause-handed
+returns-in-Ok-clause-handed g c =
+    let old = c.args.self.now in let new = c.store_in_bucket.new.self in let stored = c.in-Ok.ensures in
+    λ first before taken.
+    let (after, in_all, trimmed) = c.evict_over_limit.ensures.handed first before taken in (
+      after,
+      in_all,
+      (
+        placed,
+        noted before new,
+        in_bucket stored.within stored.some
+            (subst (λ h. FillsBucket h old new) c.requires.hash stored.fills) refl
+            (noted_placed before c.args.pair (buckets old) (room new) 0 old new stored.placed),
+        (ap Ok c.evict_over_limit.ensures.left, trimmed),
+      ),
+    )
+
+pub returns-in-Err-clause-handed : goal.returns-in-Err-clause-handed
+returns-in-Err-clause-handed g c =
+    λ first before taken.
+    let (after, has, step) = c.insert_without_bucket.ensures.handed first before taken in
+    (after, has, rw (← c.in-Err.ensures.returned, ← c.in-Err.ensures.unchanged) step)
