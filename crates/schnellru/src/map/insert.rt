@@ -281,12 +281,14 @@ impl<K: Eq + Hash, V, L: Limiter<K, V>, S: KeyHasher<K>> LruMap<K, V, L, S> {
             (noted before self.old) result (noted after self.new)) }
         ensures callable { F.IsAlwaysCallable sink.new }
     {
+        // One match, and no `?`, which would copy the pair once more.
         match self
             .limiter
-            .on_insert(self.alloc, self.entries.len(), key, value)?
+            .on_insert(self.alloc, self.entries.len(), key, value)
         {
-            Some(pair) => self.insert_pair(hash, pair, sink),
-            None => Ok(false),
+            Ok(Some(pair)) => self.insert_pair(hash, pair, sink),
+            Ok(None) => Ok(false),
+            Err(error) => Err(error),
         }
     }
 

@@ -8,62 +8,62 @@ use Rattle.schnellru.proofs.OrderedTables.BucketPairs.{pairs-length}
 use Rattle.schnellru.proofs.OrderedTables.Searches.{lookup_alike}
 use Rattle.schnellru.proofs.map.LruMap.insert_new.Goals as goal
 
-pub returns-in_err-pair-clause-handed : goal.returns-in_err-pair-clause-handed
-returns-in_err-pair-clause-handed g c =
-    let m = c.self.inside in
-    let rest = beside_of m (g.L.LinkType.LinkType.number g.L.LinkType.LinkType.MAX) in
-    let len = c.len.ensures.len ∙ sym (pairs-length m.entries c.self.invariant.linked) in
-    let absent = rw (← c.self.view_is) at c.requires.absent in
-    let lacks = subst (λ n. g.L.Insertion.offers.may_lack m.limiter n c.args.key c.args.value) len
-    c.in_err-pair.ensures.lacks in
-    λ first before taken. (
-      before,
-      taken,
-      rw (← c.self.view_is) (no_memory_to_admit absent lacks c.from_residual.ensures.0
-          (ap (λ l. noted before (state_of m.entries (record rest { limiter = l }))) c.in_err-pair.ensures.unchanged)),
-    )
-
 pub insert_pair-requires-clause-hash : goal.insert_pair-requires-clause-hash
 insert_pair-requires-clause-hash g c =
-    let m = c.self.inside in let pair = c.in-Some.pair in
+    let m = c.self.inside in let pair = c.in-Ok-Some.pair in
     let given : g.L.Insertion.offers.on_insert m.limiter c.len.result c.args.key c.args.value c.on_insert.new.self
-    (Some pair) = rw c.in-Some.is at c.in_ok-pair.ensures.offered in
+    (Some pair) = rw c.in-Ok-Some.field-0-is at c.in-Ok-Some.ensures.offered in
     let named = g.met.L.Insertion.laws.names_given m.limiter c.len.result c.args.key c.args.value c.on_insert.new.self
     pair.0 pair.1 given in
     (rw (← c.self.view_is) at c.requires.hash) pair.0 named
 
 pub insert_pair-requires-clause-absent : goal.insert_pair-requires-clause-absent
 insert_pair-requires-clause-absent g c =
-    let m = c.self.inside in let pair = c.in-Some.pair in
+    let m = c.self.inside in let pair = c.in-Ok-Some.pair in
     let given : g.L.Insertion.offers.on_insert m.limiter c.len.result c.args.key c.args.value c.on_insert.new.self
-    (Some pair) = rw c.in-Some.is at c.in_ok-pair.ensures.offered in
+    (Some pair) = rw c.in-Ok-Some.field-0-is at c.in-Ok-Some.ensures.offered in
     let named = g.met.L.Insertion.laws.names_given m.limiter c.len.result c.args.key c.args.value c.on_insert.new.self
     pair.0 pair.1 given in
     sym (lookup_alike (g.I.LookupKey.names c.args.key) (g.K.PartialEq.eq pair.0)
     (λ k. g.met.I.LookupKey.laws.one c.args.key pair.0 k named) (pairs_of m.entries))
     ∙ (rw (← c.self.view_is) at c.requires.absent)
 
-pub returns-in-Some-clause-handed : goal.returns-in-Some-clause-handed
-returns-in-Some-clause-handed g c =
+pub returns-in-Ok-Some-clause-handed : goal.returns-in-Ok-Some-clause-handed
+returns-in-Ok-Some-clause-handed g c =
     let m = c.self.inside in let len = c.len.ensures.len ∙ sym (pairs-length m.entries c.self.invariant.linked) in
     let absent = rw (← c.self.view_is) at c.requires.absent in
     let given = subst (λ n. g.L.Insertion.offers.on_insert m.limiter n c.args.key c.args.value c.on_insert.new.self
-    (Some c.in-Some.pair)) len (rw c.in-Some.is at c.in_ok-pair.ensures.offered) in
+    (Some c.in-Ok-Some.pair)) len (rw c.in-Ok-Some.field-0-is at c.in-Ok-Some.ensures.offered) in
     λ first before taken.
     let (after, had, step) = c.insert_pair.ensures.handed first before taken in (
       after,
       had,
-      rw (← c.self.view_is) (admitted absent (c.on_insert.new.self, before) c.in-Some.pair (given, refl) step),
+      rw (← c.self.view_is) (admitted absent (c.on_insert.new.self, before) c.in-Ok-Some.pair (given, refl) step),
     )
 
-pub returns-in-None-clause-handed : goal.returns-in-None-clause-handed
-returns-in-None-clause-handed g c =
+pub returns-in-Ok-None-clause-handed : goal.returns-in-Ok-None-clause-handed
+returns-in-Ok-None-clause-handed g c =
     let m = c.self.inside in let len = c.len.ensures.len ∙ sym (pairs-length m.entries c.self.invariant.linked) in
     let absent = rw (← c.self.view_is) at c.requires.absent in
     let given = subst (λ n. g.L.Insertion.offers.on_insert m.limiter n c.args.key c.args.value c.on_insert.new.self
-    None) len (rw c.in-None.is at c.in_ok-pair.ensures.offered) in
+    None) len (rw c.in-Ok-None.field-0-is at c.in-Ok-None.ensures.offered) in
     λ first before taken. (
       before,
       taken,
       rw (← c.self.view_is) (not_admitted absent (c.on_insert.new.self, before) (given, refl) refl refl),
+    )
+
+pub returns-in-Err-clause-handed : goal.returns-in-Err-clause-handed
+returns-in-Err-clause-handed g c =
+    let m = c.self.inside in
+    let rest = beside_of m (g.L.LinkType.LinkType.number g.L.LinkType.LinkType.MAX) in
+    let len = c.len.ensures.len ∙ sym (pairs-length m.entries c.self.invariant.linked) in
+    let absent = rw (← c.self.view_is) at c.requires.absent in
+    let lacks = subst (λ n. g.L.Insertion.offers.may_lack m.limiter n c.args.key c.args.value) len
+    c.in-Err.ensures.lacks in
+    λ first before taken. (
+      before,
+      taken,
+      rw (← c.self.view_is) (no_memory_to_admit absent lacks refl
+          (ap (λ l. noted before (state_of m.entries (record rest { limiter = l }))) c.in-Err.ensures.unchanged)),
     )
