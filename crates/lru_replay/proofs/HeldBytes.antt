@@ -69,9 +69,11 @@ module _ {S : Type 0} (rules : Rules ℕ ℕ S) (offers : Offers ℕ ℕ S ℕ) 
     written,
   )
 
--- and names the limit that the line names
-pub whole_limit : (line : List ℕ) (limit : Limit) → SpellsLimit (take HELD line) limit → SpellsLimit line limit
-whole_limit line limit spells = (spells.0, whole_text line _ (short_limit limit spells.0) spells.1)
+-- It names the limit that the line names, or none if the line names none.
+module _ (line held : List ℕ) (is : held ≡ take HELD line) where
+  pub whole_limit : (limit : Limit) → SpellsLimit held limit → SpellsLimit line limit
+  whole_limit limit spells = (spells.0, whole_text line _ (short_limit limit spells.0) (sym is ∙ spells.1))
 
-pub held_limit : (line : List ℕ) (limit : Limit) → SpellsLimit line limit → SpellsLimit (take HELD line) limit
-held_limit line limit spells = (spells.0, held_text line _ (short_limit limit spells.0) spells.1)
+  pub none_held : ((limit : Limit) → SpellsLimit held limit → ⊥) → (limit : Limit) → SpellsLimit line limit → ⊥
+  none_held none limit spells =
+      none limit (spells.0, is ∙ held_text line _ (short_limit limit spells.0) spells.1)
