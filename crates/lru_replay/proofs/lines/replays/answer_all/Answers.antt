@@ -1,6 +1,5 @@
-use Rattle.std.proofs.Common.{◌∙◌, subst}
+use Rattle.std.proofs.Common.{◌∙◌}
 use Rattle.std.proofs.lemmas.Result.{err_from_is_err_and}
-use Rattle.lru_replay.specs.Lines.{TakesLine}
 use Rattle.lru_replay.proofs.EndedReplays.{first_failed, no_limiter, no_limiter_cut, done_first, done_others}
 use Rattle.lru_replay.proofs.EndedReplays.{others_failed}
 use Rattle.lru_replay.proofs.HeldBytes.{whole_limit, none_held}
@@ -46,7 +45,7 @@ returns-in_err-answer_under g c =
     let to = g.R.Read.remaining c.read_line.new.reader in
     let limit = c.in-Some.limit in
     let spells = whole_limit bytes _ (c.as_slice.ensures ∙ held) limit c.in-Some.ensures.some in
-    let fed = subst (λ e. TakesLine from to e bytes) c.in-Feed.is taken in
+    let fed = rw c.in-Feed.is at taken in
     rw (p.1, p.2) (others_failed from to (g.R.Read.remaining c.answer_under.new.reader)
     (g.W.Write.contents c.args.writer.now) (g.W.Write.contents c.answer_under.new.writer) bytes limit spells fed
     c.in_err-answer_under.field-0.0 c.in_err-answer_under.ensures)
@@ -58,6 +57,6 @@ returns g c =
     let to = g.R.Read.remaining c.read_line.new.reader in
     let limit = c.in-Some.limit in
     let spells = whole_limit bytes _ (c.as_slice.ensures ∙ held) limit c.in-Some.ensures.some in
-    let fed = subst (λ e. TakesLine from to e bytes) c.in-Feed.is taken in
+    let fed = rw c.in-Feed.is at taken in
     done_others from to (g.R.Read.remaining c.answer_under.new.reader) (g.W.Write.contents c.args.writer.now)
     (g.W.Write.contents c.answer_under.new.writer) bytes limit spells fed c.in_ok-answer_under.ensures
