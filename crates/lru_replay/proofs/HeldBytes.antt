@@ -1,5 +1,5 @@
 -- A line says what is held of it, since the longest that says something is shorter.
-use Rattle.std.proofs.Common.{◌≡◌, ℕ, ◌<◌, ◌≤◌, ◌^◌, List, ◌∷◌, length, take, sym, ap, ◌∙◌, inl, inr, subst, arith}
+use Rattle.std.proofs.Common.{◌≡◌, ℕ, ◌<◌, ◌≤◌, ◌^◌, List, ◌∷◌, length, take, sym, ap, ◌∙◌, inl, inr, arith}
 use Rattle.std.proofs.Common.{decimal, Option, Result}
 use Rattle.std.proofs.lemmas.List.{take_all, length-append}
 use Rattle.std.proofs.lemmas.Fmt.{length-decimal-le}
@@ -65,7 +65,7 @@ module _ {S : Type 0} (rules : Rules ℕ ℕ S) (offers : Offers ℕ ℕ S ℕ) 
       → AnswersLine rules offers told old line new from to result
   whole_answer result old new held line from to is (text, step, written) = (
     text,
-    whole_step old line text new (subst (λ l. LineStep rules offers told old l text new) is step),
+    whole_step old line text new (rw is at step),
     written,
   )
 
