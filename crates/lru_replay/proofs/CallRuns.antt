@@ -59,27 +59,27 @@ pub empty : {X : Type 0} (xs : List X) → length xs ≡ 0 → xs ≡ []
 empty [] e = refl
 empty (x ∷ xs) e = absurd (omega (arith, e))
 
--- Calls that a loop carries out one after another, and what is known of them in between.
---     done, left      those that were carried out, and those that are left
+-- Calls that a loop carries out one after another: those that were carried out, the next one, and those that are left.
+pub next_items : {K V S : Type 0} (done : List (Call K V S)) {all left later : List (Call K V S)} {call : Call K V S}
+    → left ≡ call ∷ later → done ++ left ≡ all → (done ++ call ∷ []) ++ later ≡ all
+next_items done {later = later} {call} first items =
+    append_assoc done (call ∷ []) later ∙ ap (λ l. done ++ l) (sym first) ∙ items
+
+-- What is known of those that were carried out.
 module _ {K V S A : Type 0} (IsStep : A → Call K V S → Reply K V → A → Type 0) (Holds : A → Type 0) (old : A)
-    (all : List (Call K V S)) where
+    (done : List (Call K V S)) where
   -- the next is carried out
-  pub next_run : (done : List (Call K V S)) (answers after : List (Answer K V)) (mid : A) (call : Call K V S)
+  pub next_run : (answers after : List (Answer K V)) (mid : A) (call : Call K V S)
       (answer : Answer K V) (new : A) → after ≡ answers ++ answer ∷ []
       → IsRun IsStep Holds old done (all_said answers) mid
       → IsStep mid call (said answer) new → Holds new → IsRun IsStep Holds old (done ++ call ∷ []) (all_said after) new
-  next_run done answers after mid call answer new more run step holds =
+  next_run answers after mid call answer new more run step holds =
       let replies = ap all_said more ∙ all_said-push answers answer in
       rw replies (run-push IsStep Holds old done (all_said answers) mid call (said answer) new run step holds)
 
-  pub next_items : (done left later : List (Call K V S)) (call : Call K V S) → left ≡ call ∷ later → done ++ left ≡ all
-      → (done ++ call ∷ []) ++ later ≡ all
-  next_items done left later call first items = append_assoc done (call ∷ []) later
-      ∙ ap (λ l. done ++ l) (sym first) ∙ items
-
   -- none is left
-  pub whole_run : (done left : List (Call K V S)) (replies : List (Reply K V)) (new : A) → length left ≡ 0
+  pub whole_run : (all left : List (Call K V S)) (replies : List (Reply K V)) (new : A) → length left ≡ 0
       → done ++ left ≡ all → IsRun IsStep Holds old done replies new → IsRun IsStep Holds old all replies new
-  whole_run done left replies new none items run =
+  whole_run all left replies new none items run =
       let is = sym (append-nil done) ∙ ap (λ l. done ++ l) (sym (empty left none)) ∙ items in
       subst (λ calls. IsRun IsStep Holds old calls replies new) is run

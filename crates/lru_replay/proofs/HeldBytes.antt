@@ -1,5 +1,5 @@
 -- A line says what is held of it, since the longest that says something is shorter.
-use Rattle.std.proofs.Common.{◌≡◌, ℕ, ◌<◌, ◌≤◌, ◌^◌, List, ◌∷◌, length, take, sym, ap, ◌∙◌, inl, inr, subst, arith}
+use Rattle.std.proofs.Common.{◌≡◌, ℕ, ◌<◌, ◌≤◌, ◌^◌, List, ◌∷◌, length, take, sym, ap, ◌∙◌, inl, inr, arith}
 use Rattle.std.proofs.Common.{decimal, Option, Result}
 use Rattle.std.proofs.lemmas.List.{take_all, length-append}
 use Rattle.std.proofs.lemmas.Fmt.{length-decimal-le}
@@ -65,13 +65,15 @@ module _ {S : Type 0} (rules : Rules ℕ ℕ S) (offers : Offers ℕ ℕ S ℕ) 
       → AnswersLine rules offers told old line new from to result
   whole_answer result old new held line from to is (text, step, written) = (
     text,
-    whole_step old line text new (subst (λ l. LineStep rules offers told old l text new) is step),
+    whole_step old line text new (rw is at step),
     written,
   )
 
--- and names the limit that the line names
-pub whole_limit : (line : List ℕ) (limit : Limit) → SpellsLimit (take HELD line) limit → SpellsLimit line limit
-whole_limit line limit spells = (spells.0, whole_text line _ (short_limit limit spells.0) spells.1)
+-- It names the limit that the line names, or none if the line names none.
+module _ (line held : List ℕ) (is : held ≡ take HELD line) where
+  pub whole_limit : (limit : Limit) → SpellsLimit held limit → SpellsLimit line limit
+  whole_limit limit spells = (spells.0, whole_text line _ (short_limit limit spells.0) (sym is ∙ spells.1))
 
-pub held_limit : (line : List ℕ) (limit : Limit) → SpellsLimit line limit → SpellsLimit (take HELD line) limit
-held_limit line limit spells = (spells.0, held_text line _ (short_limit limit spells.0) spells.1)
+  pub none_held : ((limit : Limit) → SpellsLimit held limit → ⊥) → (limit : Limit) → SpellsLimit line limit → ⊥
+  none_held none limit spells =
+      none limit (spells.0, is ∙ held_text line _ (short_limit limit spells.0) spells.1)

@@ -58,12 +58,8 @@ module _ {S : Type 0} (rules : Rules ℕ ℕ S) (offers : Offers ℕ ℕ S ℕ) 
   some_step (commands.Put k v) = (no_memory, old, inr (tt, refl, refl), ok)
   some_step (commands.Update k v) = let (result, new, is, after) = some_update rules offers nat_eq k v old ok in
       (updated result, new, inl (result, is, refl), after)
-  some_step (commands.Get k) = (
-    value (lookup (nat_eq k) old.pairs),
-    promoted (nat_eq k) old,
-    inl (refl, refl),
-    promoted_sized old (nat_eq k) ok,
-  )
+  some_step (commands.Get k) = let new = promoted (nat_eq k) old in
+      (value (lookup (nat_eq k) old.pairs), new, inl (refl, refl), promoted_sized old (nat_eq k) ok)
   some_step (commands.Peek k) = (value (lookup (nat_eq k) old.pairs), old, inl (refl, refl), ok)
   some_step (commands.Remove k) = leaving (commands.Remove k)
       (value (option_map (λ p. p.1) (left_of rules old.limiter (lookup_entry (nat_eq k) old.pairs))))
@@ -74,18 +70,10 @@ module _ {S : Type 0} (rules : Rules ℕ ℕ S) (offers : Offers ℕ ℕ S ℕ) 
       (removal rules (nat_eq k) (contents old)) (length-without (nat_eq k) old.pairs)
       (λ new leaves. (_, record { pair = refl; state = leaves }, refl))
   some_step (commands.Contains k) = (flag (is_some (lookup (nat_eq k) old.pairs)), old, inl (refl, refl), ok)
-  some_step (commands.Promote k) = (
-    flag (is_some (lookup (nat_eq k) old.pairs)),
-    promoted (nat_eq k) old,
-    inl (refl, refl),
-    promoted_sized old (nat_eq k) ok,
-  )
-  some_step (commands.Demote k) = (
-    flag (is_some (lookup (nat_eq k) old.pairs)),
-    demoted (nat_eq k) old,
-    inl (refl, refl),
-    demoted_sized old (nat_eq k) ok,
-  )
+  some_step (commands.Promote k) = let new = promoted (nat_eq k) old in
+      (flag (is_some (lookup (nat_eq k) old.pairs)), new, inl (refl, refl), promoted_sized old (nat_eq k) ok)
+  some_step (commands.Demote k) = let new = demoted (nat_eq k) old in
+      (flag (is_some (lookup (nat_eq k) old.pairs)), new, inl (refl, refl), demoted_sized old (nat_eq k) ok)
   some_step (commands.Reserve n) = let (result, new, is, after) = some_reservation rules n old ok in
       (reserved result, new, inl (result, is, refl), after)
   some_step commands.Shrink = let (result, new, is, after) = some_shrink old ok in

@@ -105,46 +105,43 @@ module _ (words : List ℕ) (k v : ℕ) (k_fits : k < 2 ^ 64) (v_fits : v < 2 ^ 
       ∙ ap (digits_value 10) (after_word_is (decimal k) (decimal v) (decimal_lacks_space k k_fits))
       ∙ value_of_decimal v v_fits
 
+-- so what holds of what is read off holds of the number, or of the two
+number_read : {X : Type 0} (P : X → Type 0) (make : ℕ → X) (word : List ℕ) (n : ℕ) → n < 2 ^ 64 → word ≡ decimal n
+    → P (make (digits_value 10 word)) → P (make n)
+number_read P make word n fits is at =
+    subst (λ k. P (make k)) (ap (digits_value 10) is ∙ value_of_decimal n fits) at
+
+pair_read : {X : Type 0} (P : X → Type 0) (make : ℕ → ℕ → X) (words : List ℕ) (k v : ℕ) → (k < 2 ^ 64) × (v < 2 ^ 64)
+    → words ≡ pair_spelling k v → P (make (digits_value 10 (front_word words)) (digits_value 10 (after_word words)))
+    → P (make k v)
+pair_read P make words k v (first, second) is at =
+    subst (λ n. P (make k n)) (second_number words k v first second is)
+    (subst (λ n. P (make n (digits_value 10 (after_word words)))) (first_number words k v first second is) at)
+
 -- a command that the line spells is among the guesses
 guessed : (line : List ℕ) (P : Command → Type 0) → AllByRecursion P (guesses line) → (command : Command)
     → SpellsCommand line command → P command
 guessed line P all (commands.Insert k v) (fits, is) =
-    let rest : drop 7 line ≡ pair_spelling k v = ap (drop 7) is in
-    let key = first_number (drop 7 line) k v fits.0 fits.1 rest in
-    let value = second_number (drop 7 line) k v fits.0 fits.1 rest in
-    subst (λ n. P (commands.Insert k n)) value
-    (subst (λ n. P (commands.Insert n (digits_value 10 (after_word (drop 7 line))))) key all.0)
+    pair_read P commands.Insert _ k v fits (ap (drop 7) is) all.0
 guessed line P all (commands.Put k v) (fits, is) =
-    let rest : drop 4 line ≡ pair_spelling k v = ap (drop 4) is in
-    let key = first_number (drop 4 line) k v fits.0 fits.1 rest in
-    let value = second_number (drop 4 line) k v fits.0 fits.1 rest in
-    subst (λ n. P (commands.Put k n)) value
-    (subst (λ n. P (commands.Put n (digits_value 10 (after_word (drop 4 line))))) key all.1.1.1.1.1.1.1.1.1.1.1.1.0)
-guessed line P all (commands.Get k) (fits, is) = subst (λ n. P (commands.Get n))
-    (ap (λ l. digits_value 10 (drop 4 l)) is ∙ value_of_decimal k fits) all.1.0
-guessed line P all (commands.Peek k) (fits, is) = subst (λ n. P (commands.Peek n))
-    (ap (λ l. digits_value 10 (drop 5 l)) is ∙ value_of_decimal k fits) all.1.1.0
-guessed line P all (commands.Remove k) (fits, is) = subst (λ n. P (commands.Remove n))
-    (ap (λ l. digits_value 10 (drop 7 l)) is ∙ value_of_decimal k fits) all.1.1.1.0
-guessed line P all (commands.Reserve n) (fits, is) = subst (λ n. P (commands.Reserve n))
-    (ap (λ l. digits_value 10 (drop 8 l)) is ∙ value_of_decimal n fits) all.1.1.1.1.0
-guessed line P all (commands.Drain n) (fits, is) = subst (λ n. P (commands.Drain n))
-    (ap (λ l. digits_value 10 (drop 6 l)) is ∙ value_of_decimal n fits) all.1.1.1.1.1.0
-guessed line P all (commands.Contains k) (fits, is) = subst (λ n. P (commands.Contains n))
-    (ap (λ l. digits_value 10 (drop 9 l)) is ∙ value_of_decimal k fits) all.1.1.1.1.1.1.1.1.1.1.1.1.1.0
-guessed line P all (commands.Promote k) (fits, is) = subst (λ n. P (commands.Promote n))
-    (ap (λ l. digits_value 10 (drop 8 l)) is ∙ value_of_decimal k fits) all.1.1.1.1.1.1.1.1.1.1.1.1.1.1.0
-guessed line P all (commands.Demote k) (fits, is) = subst (λ n. P (commands.Demote n))
-    (ap (λ l. digits_value 10 (drop 7 l)) is ∙ value_of_decimal k fits) all.1.1.1.1.1.1.1.1.1.1.1.1.1.1.1.0
-guessed line P all (commands.RemoveEntry k) (fits, is) = subst (λ n. P (commands.RemoveEntry n))
-    (ap (λ l. digits_value 10 (drop 13 l)) is ∙ value_of_decimal k fits) all.1.1.1.1.1.1.1.1.1.1.1.1.1.1.1.1.0
+    pair_read P commands.Put _ k v fits (ap (drop 4) is) all.1.1.1.1.1.1.1.1.1.1.1.1.0
+guessed line P all (commands.Get k) (fits, is) = number_read P commands.Get _ k fits (ap (drop 4) is) all.1.0
+guessed line P all (commands.Peek k) (fits, is) = number_read P commands.Peek _ k fits (ap (drop 5) is) all.1.1.0
+guessed line P all (commands.Remove k) (fits, is) = number_read P commands.Remove _ k fits (ap (drop 7) is) all.1.1.1.0
+guessed line P all (commands.Reserve n) (fits, is) =
+    number_read P commands.Reserve _ n fits (ap (drop 8) is) all.1.1.1.1.0
+guessed line P all (commands.Drain n) (fits, is) =
+    number_read P commands.Drain _ n fits (ap (drop 6) is) all.1.1.1.1.1.0
+guessed line P all (commands.Contains k) (fits, is) =
+    number_read P commands.Contains _ k fits (ap (drop 9) is) all.1.1.1.1.1.1.1.1.1.1.1.1.1.0
+guessed line P all (commands.Promote k) (fits, is) =
+    number_read P commands.Promote _ k fits (ap (drop 8) is) all.1.1.1.1.1.1.1.1.1.1.1.1.1.1.0
+guessed line P all (commands.Demote k) (fits, is) =
+    number_read P commands.Demote _ k fits (ap (drop 7) is) all.1.1.1.1.1.1.1.1.1.1.1.1.1.1.1.0
+guessed line P all (commands.RemoveEntry k) (fits, is) =
+    number_read P commands.RemoveEntry _ k fits (ap (drop 13) is) all.1.1.1.1.1.1.1.1.1.1.1.1.1.1.1.1.0
 guessed line P all (commands.Update k v) (fits, is) =
-    let rest : drop 7 line ≡ pair_spelling k v = ap (drop 7) is in
-    let key = first_number (drop 7 line) k v fits.0 fits.1 rest in
-    let value = second_number (drop 7 line) k v fits.0 fits.1 rest in
-    subst (λ n. P (commands.Update k n)) value
-    (subst (λ n. P (commands.Update n (digits_value 10 (after_word (drop 7 line))))) key
-    all.1.1.1.1.1.1.1.1.1.1.1.1.1.1.1.1.1.0)
+    pair_read P commands.Update _ k v fits (ap (drop 7) is) all.1.1.1.1.1.1.1.1.1.1.1.1.1.1.1.1.1.0
 guessed line P all commands.PopOldest s = all.1.1.1.1.1.1.0
 guessed line P all commands.PopNewest s = all.1.1.1.1.1.1.1.0
 guessed line P all commands.Clear s = all.1.1.1.1.1.1.1.1.0
@@ -164,15 +161,17 @@ any_of {X} P tell (x ∷ xs) = both (tell x) (any_of P tell xs)
     both (inr refused) (inl found) = inl found
     both (inr refused) (inr none) = inr (refused, none)
 
+-- So it is decided whether there is one, if what has the property is among the items.
+decided : {X : Type 0} (P : X → Type 0) → ((x : X) → P x ⊎ (P x → ⊥)) → (xs : List X)
+    → ((Q : X → Type 0) → AllByRecursion Q xs → (x : X) → P x → Q x) → ((x : X) × P x) ⊎ ((x : X) → P x → ⊥)
+decided P tell xs among = elim (any_of P tell xs) [
+  | inl found ↦ inl found
+  | inr none ↦ inr (λ x is. among (λ x. P x → ⊥) none x is is)
+]
+
 -- each line spells a command, or spells none
 pub spelled_or : (line : List ℕ) → Spelled line ⊎ ((command : Command) → SpellsCommand line command → ⊥)
-spelled_or line = both (any_of (SpellsCommand line) (spells_or line) (guesses line))
-  where
-    both : Spelled line ⊎ AllByRecursion (λ command. SpellsCommand line command → ⊥) (guesses line) → Spelled line
-        ⊎ ((command : Command) → SpellsCommand line command → ⊥)
-    both (inl found) = inl found
-    both (inr none) = inr
-        (λ command spells. guessed line (λ command. SpellsCommand line command → ⊥) none command spells spells)
+spelled_or line = decided (SpellsCommand line) (spells_or line) (guesses line) (guessed line)
 
 limit_spells_or : (line : List ℕ) (limit : Limit) → SpellsLimit line limit ⊎ (SpellsLimit line limit → ⊥)
 limit_spells_or line limit = both_or (fits_limit limit) (same_or line (limit_spelling limit))
@@ -186,26 +185,15 @@ limit_guesses line = limits.Length (digits_value 10 (drop 7 line))
 -- a limit that the line names is among the guesses
 limit_guessed : (line : List ℕ) (P : Limit → Type 0) → AllByRecursion P (limit_guesses line) → (limit : Limit)
     → SpellsLimit line limit → P limit
-limit_guessed line P all (limits.Length n) (fits, is) = subst (λ n. P (limits.Length n))
-    (ap (λ l. digits_value 10 (drop 7 l)) is ∙ value_of_decimal n (omega (arith, fits))) all.0
+limit_guessed line P all (limits.Length n) (fits, is) =
+    number_read P limits.Length _ n (omega (arith, fits)) (ap (drop 7) is) all.0
 limit_guessed line P all (limits.Memory budget entry_bytes) (fits, is) =
-    let rest : drop 7 line ≡ pair_spelling budget entry_bytes = ap (drop 7) is in
-    let first = first_number (drop 7 line) budget entry_bytes fits.0 fits.1 rest in
-    let second = second_number (drop 7 line) budget entry_bytes fits.0 fits.1 rest in
-    subst (λ n. P (limits.Memory budget n)) second
-    (subst (λ n. P (limits.Memory n (digits_value 10 (after_word (drop 7 line))))) first all.1.0)
-limit_guessed line P all (limits.Cost most) (fits, is) = subst (λ n. P (limits.Cost n))
-    (ap (λ l. digits_value 10 (drop 5 l)) is ∙ value_of_decimal most fits) all.1.1.0
+    pair_read P limits.Memory _ budget entry_bytes fits (ap (drop 7) is) all.1.0
+limit_guessed line P all (limits.Cost most) (fits, is) =
+    number_read P limits.Cost _ most fits (ap (drop 5) is) all.1.1.0
 limit_guessed line P all limits.Compact spells = all.1.1.1.0
 
 -- each line names a limit, or names none
 pub limit_or : (line : List ℕ) → ((limit : Limit) × SpellsLimit line limit)
     ⊎ ((limit : Limit) → SpellsLimit line limit → ⊥)
-limit_or line = by (any_of (SpellsLimit line) (limit_spells_or line) (limit_guesses line))
-  where
-    by : ((limit : Limit) × SpellsLimit line limit) ⊎ AllByRecursion (λ limit. SpellsLimit line limit → ⊥)
-        (limit_guesses line) → ((limit : Limit) × SpellsLimit line limit)
-        ⊎ ((limit : Limit) → SpellsLimit line limit → ⊥)
-    by (inl found) = inl found
-    by (inr none) = inr (λ limit spells. limit_guessed line (λ limit. SpellsLimit line limit
-        → ⊥) none limit spells spells)
+limit_or line = decided (SpellsLimit line) (limit_spells_or line) (limit_guesses line) (limit_guessed line)

@@ -1,25 +1,17 @@
 use Rattle.std.proofs.Common.{◌∷◌, [], arith, sym, ap, ◌∙◌, length}
-use Rattle.std.specs.Vec.Iter.{into_iter_items}
 use Rattle.std.proofs.lemmas.List.{length-append}
-use Rattle.schnellru.specs.State.{IsMap}
-use Rattle.lru_replay.specs.CallRuns.{CallStep}
 use Rattle.lru_replay.proofs.CallRuns.{next_run, next_items, whole_run}
 use Rattle.lru_replay.proofs.calls.runs.run_calls.Goals as goal
 
 pub loop-call-preserved : goal.loop-call-preserved
 loop-call-preserved g c =
     let h = c.loop-call.invariant in
-    let hash_of = g.S.KeyHasher.hash_of in
-    let IsStep = CallStep g.L.Limiter.rules g.L.Insertion.offers g.K.PartialEq.eq hash_of in
-    let Holds = IsMap g.K.PartialEq.eq in
     let first = c.in-Some.ensures.steps.0 in
     record {
-      items = next_items IsStep Holds c.args.map.now c.args.calls.items c.loop-call.yielded
-          (into_iter_items c.loop-call.call-iterator) (into_iter_items c.next.new.self) c.in-Some.call first h.items;
+      items = next_items c.loop-call.yielded first h.items;
       left = omega (arith, c.in-Some.ensures.steps.1, h.left, ap length first);
-      run = next_run IsStep Holds c.args.map.now c.args.calls.items c.loop-call.yielded c.loop-call.answers.items
-          c.push_reserved.new.self.items c.loop-call.map c.in-Some.call c.make_call.result c.make_call.new.map
-          c.push_reserved.ensures.items h.run c.make_call.ensures.step c.make_call.ensures.map;
+      run = next_run _ _ _ c.loop-call.yielded _ _ _ _ _ _ c.push_reserved.ensures.items h.run
+          c.make_call.ensures.step c.make_call.ensures.map;
       len = omega (arith, c.push_reserved.ensures.len, h.len, length-append c.loop-call.yielded (c.in-Some.call ∷ []));
       capacity = omega (arith, c.push_reserved.ensures.capacity, h.capacity);
     }
@@ -27,7 +19,4 @@ loop-call-preserved g c =
 pub returns-clause-run : goal.returns-clause-run
 returns-clause-run g c =
     let h = c.loop-call.invariant in
-    let hash_of = g.S.KeyHasher.hash_of in
-    whole_run (CallStep g.L.Limiter.rules g.L.Insertion.offers g.K.PartialEq.eq hash_of) (IsMap g.K.PartialEq.eq)
-    c.args.map.now c.args.calls.items c.loop-call.yielded (into_iter_items c.loop-call.call-iterator) _ c.loop-call.map
-    (sym h.left ∙ c.in-None.ensures.steps.0) h.items h.run
+    whole_run _ _ _ c.loop-call.yielded _ _ _ _ (sym h.left ∙ c.in-None.ensures.steps.0) h.items h.run

@@ -1,7 +1,6 @@
-use Rattle.std.proofs.Common.{rules, ◌≡◌, ℕ, List, Bor, subst, IsUtf8}
+use Rattle.std.proofs.Common.{rules, ◌≡◌, ℕ, List, Bor, IsUtf8}
 use Rattle.std.specs.declared.str.Utf8Error.{Utf8Error}
 use Rattle.std.specs.Str.{IsValidUpTo, valid_up_to}
-use Rattle.std.specs.Str.Parse.{ParsesUnsigned}
 use Rattle.lru_replay.proofs.Numbers.{starts_of, number_is_text, IfSome-parsed, IfNone-parsed}
 use Rattle.lru_replay.proofs.Options.{MatchResult-some, MatchResult-none}
 use Rattle.lru_replay.proofs.lines.command.number.Goals as goal
@@ -28,7 +27,7 @@ returns-clause-some c =
     let text = (MatchResult-some (Text c.args.word.now)
     (NoText c.args.word.now) c.from_utf8.result c.in_ok-text.text c.in_ok-text.ensures.value
     c.from_utf8.ensures.cases).0 in
-    let parsed = subst (λ l. ParsesUnsigned 64 10 l c.parse.result) text c.parse.ensures.value.0 in
+    let parsed = rw text at c.parse.ensures.value.0 in
     rw c.ok-2.ensures.value (IfSome-parsed _ _ (c.starts_as_number.ensures.yes (search rules)) parsed)
 
 pub returns-clause-none : goal.returns-clause-none
@@ -37,5 +36,5 @@ returns-clause-none c =
     let text = (MatchResult-some (Text c.args.word.now)
     (NoText c.args.word.now) c.from_utf8.result c.in_ok-text.text c.in_ok-text.ensures.value
     c.from_utf8.ensures.cases).0 in
-    let parsed = subst (λ l. ParsesUnsigned 64 10 l c.parse.result) text c.parse.ensures.value.0 in
+    let parsed = rw text at c.parse.ensures.value.0 in
     rw c.ok-2.ensures.value (IfNone-parsed _ _ parsed)

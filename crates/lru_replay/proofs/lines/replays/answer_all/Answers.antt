@@ -1,11 +1,8 @@
-use Rattle.std.proofs.Common.{sym, ◌∙◌, subst}
+use Rattle.std.proofs.Common.{◌∙◌}
 use Rattle.std.proofs.lemmas.Result.{err_from_is_err_and}
-use Rattle.lru_replay.specs.declared.lines.command.Limit.{Limit}
-use Rattle.lru_replay.specs.Grammar.{SpellsLimit}
-use Rattle.lru_replay.specs.Lines.{TakesLine}
 use Rattle.lru_replay.proofs.EndedReplays.{first_failed, no_limiter, no_limiter_cut, done_first, done_others}
 use Rattle.lru_replay.proofs.EndedReplays.{others_failed}
-use Rattle.lru_replay.proofs.HeldBytes.{whole_limit, held_limit}
+use Rattle.lru_replay.proofs.HeldBytes.{whole_limit, none_held}
 use Rattle.lru_replay.proofs.lines.replays.answer_all.Goals as goal
 
 pub returns-in_err-ending : goal.returns-in_err-ending
@@ -17,9 +14,7 @@ returns-in_err-ending g c =
 pub returns-in_err-write_bytes : goal.returns-in_err-write_bytes
 returns-in_err-write_bytes g c =
     let (bytes, taken, held) = c.in_ok-ending.ensures.ok in
-    let none : (limit : Limit) → SpellsLimit bytes limit → ⊥ =
-    λ limit spells. c.in_default.ensures.none limit (subst (λ l. SpellsLimit l limit) (sym (c.as_slice.ensures ∙ held))
-    (held_limit bytes limit spells)) in
+    let none = none_held bytes _ (c.as_slice.ensures ∙ held) c.in_default.ensures.none in
     let p = err_from_is_err_and c.from_residual-in_err-write_bytes.result c.from_residual-in_err-write_bytes.ensures.1
     in
     rw (p.1, p.2) (no_limiter_cut (g.R.Read.remaining c.args.reader.now) (g.R.Read.remaining c.read_line.new.reader)
@@ -29,17 +24,14 @@ returns-in_err-write_bytes g c =
 pub returns-in_default : goal.returns-in_default
 returns-in_default g c =
     let (bytes, taken, held) = c.in_ok-ending.ensures.ok in
-    let none : (limit : Limit) → SpellsLimit bytes limit → ⊥ =
-    λ limit spells. c.in_default.ensures.none limit (subst (λ l. SpellsLimit l limit) (sym (c.as_slice.ensures ∙ held))
-    (held_limit bytes limit spells)) in
+    let none = none_held bytes _ (c.as_slice.ensures ∙ held) c.in_default.ensures.none in
     no_limiter (g.R.Read.remaining c.args.reader.now) (g.R.Read.remaining c.read_line.new.reader)
     (g.W.Write.contents c.args.writer.now) _ c.in_ok-ending.ending bytes none taken c.in_ok-write_bytes.ensures
 
 pub returns-in_default-ending : goal.returns-in_default-ending
 returns-in_default-ending g c =
     let (bytes, taken, held) = c.in_ok-ending.ensures.ok in
-    let spells = whole_limit bytes c.in-Some.limit
-    (subst (λ l. SpellsLimit l c.in-Some.limit) (c.as_slice.ensures ∙ held) c.in-Some.ensures.some) in
+    let spells = whole_limit bytes _ (c.as_slice.ensures ∙ held) c.in-Some.limit c.in-Some.ensures.some in
     done_first (g.R.Read.remaining c.args.reader.now) (g.R.Read.remaining c.read_line.new.reader)
     (g.W.Write.contents c.args.writer.now) c.in_ok-ending.ending bytes c.in-Some.limit spells
     c.in_default-ending.not-Feed taken
@@ -52,9 +44,8 @@ returns-in_err-answer_under g c =
     let from = g.R.Read.remaining c.args.reader.now in
     let to = g.R.Read.remaining c.read_line.new.reader in
     let limit = c.in-Some.limit in
-    let spells = whole_limit bytes limit
-    (subst (λ l. SpellsLimit l limit) (c.as_slice.ensures ∙ held) c.in-Some.ensures.some) in
-    let fed = subst (λ e. TakesLine from to e bytes) c.in-Feed.is taken in
+    let spells = whole_limit bytes _ (c.as_slice.ensures ∙ held) limit c.in-Some.ensures.some in
+    let fed = rw c.in-Feed.is at taken in
     rw (p.1, p.2) (others_failed from to (g.R.Read.remaining c.answer_under.new.reader)
     (g.W.Write.contents c.args.writer.now) (g.W.Write.contents c.answer_under.new.writer) bytes limit spells fed
     c.in_err-answer_under.field-0.0 c.in_err-answer_under.ensures)
@@ -65,8 +56,7 @@ returns g c =
     let from = g.R.Read.remaining c.args.reader.now in
     let to = g.R.Read.remaining c.read_line.new.reader in
     let limit = c.in-Some.limit in
-    let spells = whole_limit bytes limit
-    (subst (λ l. SpellsLimit l limit) (c.as_slice.ensures ∙ held) c.in-Some.ensures.some) in
-    let fed = subst (λ e. TakesLine from to e bytes) c.in-Feed.is taken in
+    let spells = whole_limit bytes _ (c.as_slice.ensures ∙ held) limit c.in-Some.ensures.some in
+    let fed = rw c.in-Feed.is at taken in
     done_others from to (g.R.Read.remaining c.answer_under.new.reader) (g.W.Write.contents c.args.writer.now)
     (g.W.Write.contents c.answer_under.new.writer) bytes limit spells fed c.in_ok-answer_under.ensures

@@ -4,8 +4,8 @@ use Rattle.std.specs.Prelude.{nat_eq}
 use Rattle.schnellru.specs.Lists.{lookup}
 use Rattle.lru_replay.specs.declared.lines.command.Command.TheVariants as commands
 use Rattle.lru_replay.specs.Grammar.{SpellsCommand}
-use Rattle.lru_replay.specs.Output.{Writes, bad_text, cost_text, figures_text, insert_text}
-use Rattle.lru_replay.specs.Output.{pairs_text, reply_text}
+use Rattle.lru_replay.specs.Output.{bad_text, cost_text, figures_text, insert_text}
+use Rattle.lru_replay.specs.Output.{reply_text}
 use Rattle.lru_replay.specs.Replies.{flag, updated, value, pair, listed, reserved, shrunk, stats, done, insert_reply}
 use Rattle.lru_replay.proofs.AnsweredCommands.{carried_out}
 use Rattle.lru_replay.proofs.WrittenTexts.{writes_after, failed_front, inserted_text}
@@ -122,7 +122,7 @@ returns-in-Some-List g c =
     let at = c.in-Some-List in
     carried_out g.L.TellsCost.told _ _ _ commands.List at.field-0-is at.ensures.some (listed c.args.map.now.pairs)
     (refl, refl)
-    (subst (λ pairs. Writes (g.W.Write.contents c.args.writer.now) (g.W.Write.contents c.write_pairs.new.writer) c.write_pairs.result (pairs_text pairs)) c.iter.ensures.rest c.write_pairs.ensures)
+    (rw (← c.iter.ensures.rest) c.write_pairs.ensures)
 
 pub returns-in_err-write_figures-in-Some-Stats : goal.returns-in_err-write_figures-in-Some-Stats
 returns-in_err-write_figures-in-Some-Stats g c =
@@ -140,7 +140,8 @@ returns-in_ok-write_figures-in-Some-Stats g c =
     let told = c.told_cost.ensures ∙ ap g.L.TellsCost.told c.limiter.ensures in
     carried_out g.L.TellsCost.told _ _ _ commands.Stats at.field-0-is at.ensures.some (stats figures)
     (_, c.figures_of.ensures, refl, refl)
-    (rw (← told) (writes_after _ _ _ (figures_text figures) (cost_text c.told_cost.result) c.write_cost.result c.in_ok-write_figures-in-Some-Stats.ensures c.write_cost.ensures))
+    (rw (← told) (writes_after _ _ _ (figures_text figures) (cost_text c.told_cost.result) c.write_cost.result
+    c.in_ok-write_figures-in-Some-Stats.ensures c.write_cost.ensures))
 
 pub returns-in-None : goal.returns-in-None
 returns-in-None g c = (bad_text, inr (c.in-None.ensures.none, refl, refl), c.write_bytes-in-None.ensures)

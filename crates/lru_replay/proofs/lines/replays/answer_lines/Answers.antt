@@ -1,7 +1,6 @@
-use Rattle.std.proofs.Common.{[], ◌∙◌, Ok, Err, refl, subst}
+use Rattle.std.proofs.Common.{[], ◌∙◌, Ok, Err, refl}
 use Rattle.std.proofs.KnownBytes.{Appends-nil, Consumes-nil}
 use Rattle.std.proofs.lemmas.Result.{err_from_is_err_and}
-use Rattle.lru_replay.specs.Lines.{TakesLine}
 use Rattle.lru_replay.proofs.AnsweredLines.{line_answered, last_answered, line_cut, read_failed, all_answered}
 use Rattle.lru_replay.proofs.HeldBytes.{whole_answer}
 use Rattle.lru_replay.proofs.lines.replays.answer_lines.Goals as goal
@@ -27,7 +26,7 @@ returns-in_err-answer_line-in-Feed g c =
     let (bytes, taken, held) = c.in_ok-read_line.ensures.ok in
     let to = g.R.Read.remaining c.read_line.new.reader in let cut = g.W.Write.contents c.answer_line.new.writer in
     let e = c.in_err-answer_line-in-Feed.field-0.0 in
-    let read = subst (λ e. TakesLine (g.R.Read.remaining c.loop.reader) to e bytes) c.in-Feed.is taken in
+    let read = rw c.in-Feed.is at taken in
     let answered = whole_answer g.L.Limiter.rules g.L.Insertion.offers g.L.TellsCost.told (Err e) _ _ _ bytes
     (g.W.Write.contents c.loop.writer) cut (c.as_slice.ensures ∙ held) c.in_err-answer_line-in-Feed.ensures.step in
     let p = err_from_is_err_and c.from_residual-in_err-answer_line-in-Feed.result
@@ -40,7 +39,7 @@ returns-in-InputEnd g c =
     let (bytes, taken, held) = c.in_ok-read_line.ensures.ok in
     let to = g.R.Read.remaining c.read_line.new.reader in let call = c.answer_line-in-InputEnd in
     let ended = g.W.Write.contents call.new.writer in
-    let read = subst (λ e. TakesLine (g.R.Read.remaining c.loop.reader) to e bytes) c.in-InputEnd.is taken in
+    let read = rw c.in-InputEnd.is at taken in
     let answered = whole_answer g.L.Limiter.rules g.L.Insertion.offers g.L.TellsCost.told call.result _ _ _ bytes
     (g.W.Write.contents c.loop.writer) ended (c.as_slice-in-InputEnd.ensures ∙ held) call.ensures.step in
     last_answered c.loop.invariant to bytes call.new.map ended call.ensures.sized read.0 read.1 call.result answered
@@ -48,14 +47,14 @@ returns-in-InputEnd g c =
 pub returns-in-Nothing : goal.returns-in-Nothing
 returns-in-Nothing g c =
     let (bytes, taken, held) = c.in_ok-read_line.ensures.ok in let to = g.R.Read.remaining c.read_line.new.reader in
-    let read = subst (λ e. TakesLine (g.R.Read.remaining c.loop.reader) to e bytes) c.in-Nothing.is taken in
+    let read = rw c.in-Nothing.is at taken in
     all_answered c.loop.invariant to bytes read.0 read.1
 
 pub loop-preserved : goal.loop-preserved
 loop-preserved g c =
     let (bytes, taken, held) = c.in_ok-read_line.ensures.ok in
     let to = g.R.Read.remaining c.read_line.new.reader in let next = g.W.Write.contents c.answer_line.new.writer in
-    let read = subst (λ e. TakesLine (g.R.Read.remaining c.loop.reader) to e bytes) c.in-Feed.is taken in
+    let read = rw c.in-Feed.is at taken in
     let answered = whole_answer g.L.Limiter.rules g.L.Insertion.offers g.L.TellsCost.told (Ok tt) _ _ _ bytes
     (g.W.Write.contents c.loop.writer) next (c.as_slice.ensures ∙ held) c.in_ok-answer_line-in-Feed.ensures.step in
     line_answered c.loop.invariant to bytes c.answer_line.new.map next c.in_ok-answer_line-in-Feed.ensures.sized read
