@@ -1,7 +1,7 @@
 -- In tables of up to 16 buckets two runs of the same calls are alike.
 use Rattle.std.proofs.Common.{◌≡◌, ℕ, ◌+◌, ◌-◌, ◌≤◌, Bool, true, false, List, [], ◌∷◌, ◌++◌, Option, Some, None, Result}
 use Rattle.std.proofs.Common.{refl, sym, ap, ◌∙◌, subst, inl, inr, ◌⊎◌, map, length, arith, option_map}
-use Rattle.std.specs.Prelude.{is_err, is_some, IsTrue}
+use Rattle.std.specs.Prelude.{is_err, is_some, IsTrue, if◌then◌else◌}
 use Rattle.std.specs.List.{AllByRecursion}
 use Rattle.std.proofs.lemmas.Bool.{true≢false}
 use Rattle.std.specs.Map.{set_value}
@@ -12,7 +12,7 @@ use Rattle.schnellru.proofs.CallerLemmas.{Shape, shape, same_shape, look_alike, 
 use Rattle.schnellru.proofs.CallerLemmas.{clears, cleared_shape, reserve_in, reserve_is, found_named}
 use Rattle.schnellru.proofs.CallerLemmas.{shrinks_look_alike}
 use Rattle.schnellru.proofs.HandingLemmas.{plain, small_inserts_alike}
-use Rattle.schnellru.specs.Calls.{left_of, removal, pop_first}
+use Rattle.schnellru.specs.Calls.{promoted, left_of, removal, pop_first}
 use Rattle.schnellru.specs.Drains.{pops_first, newest_given, oldest_given}
 use Rattle.schnellru.specs.Exact.{IsDetermined, NeverLacks, LookAlike}
 use Rattle.schnellru.specs.GetOrInserts.{MakesNewest, got, inserted}
@@ -32,7 +32,7 @@ use Rattle.lru_replay.specs.Figures.{IsFigures}
 use Rattle.lru_replay.specs.Replies.{Reply, flag, given, updated, value, pair, listed, reserved, shrunk, stats, done, no_memory}
 use Rattle.lru_replay.specs.Replies.{insert_reply, made_reply, cost_differs}
 use Rattle.lru_replay.specs.Replies.{want_of}
-use Rattle.lru_replay.specs.Steps.{ReplyStep, FindsByHash, found, not_found, promoted_if}
+use Rattle.lru_replay.specs.Steps.{ReplyStep, FindsByHash, found, not_found}
 use Rattle.lru_replay.specs.declared.calls.call.Call.{Call}
 use Rattle.lru_replay.specs.declared.calls.call.Call.TheVariants as calls
 use Rattle.lru_replay.specs.declared.lines.figures.Figures.{Figures}
@@ -212,14 +212,15 @@ module _ {K V S H : Type 0} (rules : Rules K V S) (offers : Offers K V S K) (eq 
           found_alike eq (hash_of old.hasher) (respects old.hasher) hash k old.pairs plain result result' f moved
 
       get_alike : (k : K) (result result' : Option V) → result ≡ result' → reply ≡ value result → answer ≡ value result'
-          → new ≡ promoted_if eq result k old → last ≡ promoted_if eq result' k other → AreAlike
+          → new ≡ (if is_some result then promoted (eq k) old else old)
+          → last ≡ (if is_some result' then promoted (eq k) other else other) → AreAlike
       get_alike k None result' same is is' e e' = told_by (λ sh. value None) (λ sh. sh) is (ap shape e)
           (is' ∙ ap value (sym same))
-          (ap shape (e' ∙ ap (λ r. promoted_if eq r k other) (sym same)))
+          (ap shape (e' ∙ ap (λ r. if is_some r then promoted (eq k) other else other) (sym same)))
       get_alike k (Some w) result' same is is' e e' = told_by (λ sh. value (Some w))
           (λ sh. record sh { bare = record sh.bare { pairs = front (eq k) sh.bare.pairs } }) is (ap shape e)
           (is' ∙ ap value (sym same))
-          (ap shape (e' ∙ ap (λ r. promoted_if eq r k other) (sym same)))
+          (ap shape (e' ∙ ap (λ r. if is_some r then promoted (eq k) other else other) (sym same)))
 
       step_alike : want_of reply ≡ want_of answer → (call : Call K V S)
           → HasPlainSearch (hash_of old.hasher) call → ReplyStep rules offers eq hash_of old call reply new

@@ -30,11 +30,6 @@ module _ {K V S : Type 0} (eq : K → K → Bool) where
   abbrev pub fronted : K → Contents K V S → Contents K V S
   fronted key c = record c { pairs = front (eq key) c.pairs }
 
-  -- it comes first if its value was found
-  abbrev pub fronted_if : Option V → K → Contents K V S → Contents K V S
-  fronted_if (Some v) key c = fronted key c
-  fronted_if None key c = c
-
 module _ {K V S : Type 0} (rules : Rules K V S) (offers : Offers K V S K) (eq : K → K → Bool) (key : K) (v : V)
     (c : Contents K V S) where
   -- what an update of this pair does, and what it leaves
@@ -97,7 +92,8 @@ module _ {K V S : Type 0} (rules : Rules K V S) (offers : Offers K V S K) (eq : 
         × (reply ≡ made_reply result d.pairs))
         (λ there. (reply ≡ value (Some there)) × (d ≡ fronted eq key c))
     ListStep c (calls.GetByHash hash key) reply d = (result : Option V)
-        × FindsByHash eq hash_of hash key c.pairs result × (reply ≡ value result) × (d ≡ fronted_if eq result key c)
+        × FindsByHash eq hash_of hash key c.pairs result × (reply ≡ value result)
+        × (d ≡ (if is_some result then fronted eq key c else c))
     ListStep c (calls.PeekByHash hash key) reply d = (result : Option V)
         × FindsByHash eq hash_of hash key c.pairs result × (reply ≡ value result) × (d ≡ c)
     ListStep c (calls.Reserve n) reply d =

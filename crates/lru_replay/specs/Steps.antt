@@ -3,6 +3,7 @@
 --     eq                  when two keys are equal
 --     hash_of h k         the hash of the key k, by the hasher h
 use Rattle.std.specs.Prelude.{◌≡◌, ℕ, Bool, List, Option, Some, None, Result, is_some}
+use Rattle.std.specs.Prelude.{if◌then◌else◌}
 use Rattle.std.specs.declared.alloc.AllocError.{AllocError}
 use Rattle.group_table.specs.Probe.{hash_tag}
 use Rattle.lru_limits.specs.Rules.{Rules, Offers}
@@ -34,12 +35,6 @@ module _ {K V : Type 0} (eq : K → K → Bool) (hash_of : K → ℕ) where
     not_found : ((there : K × V) → lookup_entry (eq key) pairs ≡ Some there → hash_of there.0 ≡ hash → ⊥)
         → result ≡ None → FindsByHash hash key pairs result
 
-module _ {K V S H : Type 0} (eq : K → K → Bool) where
-  -- the pair of the key comes first, if its value was found
-  abbrev pub promoted_if : Option V → K → State K V S H → State K V S H
-  promoted_if (Some v) key st = promoted (eq key) st
-  promoted_if None key st = st
-
 module _ {K V S H : Type 0} (rules : Rules K V S) (offers : Offers K V S K) (eq : K → K → Bool)
     (hash_of : H → K → ℕ) where
   -- from old, the call may say this and leave new
@@ -64,7 +59,7 @@ module _ {K V S H : Type 0} (rules : Rules K V S) (offers : Offers K V S K) (eq 
       (reply ≡ flag (is_some (lookup (eq key) old.pairs))) × (new ≡ demoted (eq key) old)
   ReplyStep old (calls.GetByHash hash key) reply new = (result : Option V)
       × FindsByHash eq (hash_of old.hasher) hash key old.pairs result × (reply ≡ value result)
-      × (new ≡ promoted_if eq result key old)
+      × (new ≡ (if is_some result then promoted (eq key) old else old))
   ReplyStep old (calls.PeekByHash hash key) reply new = (result : Option V)
       × FindsByHash eq (hash_of old.hasher) hash key old.pairs result × (reply ≡ value result) × (new ≡ old)
   ReplyStep old (calls.Write key v) reply new =

@@ -1,10 +1,10 @@
 //! The calls of a run that take more than one call of the map.
-ghost use Rattle.std.specs.Prelude.{◌≡◌, Option, is_some};
+ghost use Rattle.std.specs.Prelude.{◌≡◌, Option, is_some, if◌then◌else◌};
 ghost use Rattle.schnellru.specs.Calls.{promoted, written};
 ghost use Rattle.schnellru.specs.Lists.{lookup, first, last, newest_value};
 ghost use Rattle.lru_replay.specs.declared.calls.call.Call.TheVariants as calls;
 ghost use Rattle.lru_replay.specs.Replies.{said};
-ghost use Rattle.lru_replay.specs.Steps.{ReplyStep, FindsByHash, promoted_if};
+ghost use Rattle.lru_replay.specs.Steps.{ReplyStep, FindsByHash};
 
 use crate::calls::call::Answer;
 use schnellru::{Insertion, KeyHasher, Limiter, LruMap};
@@ -90,7 +90,7 @@ pub fn get_by_hash<K: Eq + Hash, V: Copy, L: Limiter<K, V>, S: KeyHasher<K>>(
     key: &K,
 ) -> Option<V>
     ensures found { FindsByHash K.eq (S.hash_of map.old.hasher) hash key.now map.old.pairs result }
-    ensures promoted { map.new ≡ promoted_if K.eq result key.now map.old }
+    ensures promoted { map.new ≡ (if is_some result then promoted (K.eq key.now) map.old else map.old) }
 {
     // Nothing at run time: it shows the proof that no two keys are equal.
     let _len = map.len();

@@ -17,46 +17,32 @@ returns-in_err-write_bytes g c =
     let none = none_held bytes _ (c.as_slice.ensures ∙ held) c.in_default.ensures.none in
     let p = err_from_is_err_and c.from_residual-in_err-write_bytes.result c.from_residual-in_err-write_bytes.ensures.1
     in
-    rw (p.1, p.2) (no_limiter_cut (g.R.Read.remaining c.args.reader.now) (g.R.Read.remaining c.read_line.new.reader)
-    (g.W.Write.contents c.args.writer.now) _ c.in_ok-ending.ending bytes none taken c.in_err-write_bytes.field-0.0
-    c.in_err-write_bytes.ensures)
+    rw (p.1, p.2) (no_limiter_cut _ _ _ _ _ bytes none taken _ c.in_err-write_bytes.ensures)
 
 pub returns-in_default : goal.returns-in_default
 returns-in_default g c =
     let (bytes, taken, held) = c.in_ok-ending.ensures.ok in
     let none = none_held bytes _ (c.as_slice.ensures ∙ held) c.in_default.ensures.none in
-    no_limiter (g.R.Read.remaining c.args.reader.now) (g.R.Read.remaining c.read_line.new.reader)
-    (g.W.Write.contents c.args.writer.now) _ c.in_ok-ending.ending bytes none taken c.in_ok-write_bytes.ensures
+    no_limiter _ _ _ _ _ bytes none taken c.in_ok-write_bytes.ensures
 
 pub returns-in_default-ending : goal.returns-in_default-ending
 returns-in_default-ending g c =
     let (bytes, taken, held) = c.in_ok-ending.ensures.ok in
     let spells = whole_limit bytes _ (c.as_slice.ensures ∙ held) c.in-Some.limit c.in-Some.ensures.some in
-    done_first (g.R.Read.remaining c.args.reader.now) (g.R.Read.remaining c.read_line.new.reader)
-    (g.W.Write.contents c.args.writer.now) c.in_ok-ending.ending bytes c.in-Some.limit spells
-    c.in_default-ending.not-Feed taken
+    done_first _ _ _ _ bytes _ spells c.in_default-ending.not-Feed taken
 
 pub returns-in_err-answer_under : goal.returns-in_err-answer_under
 returns-in_err-answer_under g c =
     let p = err_from_is_err_and c.from_residual-in_err-answer_under.result
     c.from_residual-in_err-answer_under.ensures.1 in
     let (bytes, taken, held) = c.in_ok-ending.ensures.ok in
-    let from = g.R.Read.remaining c.args.reader.now in
-    let to = g.R.Read.remaining c.read_line.new.reader in
-    let limit = c.in-Some.limit in
-    let spells = whole_limit bytes _ (c.as_slice.ensures ∙ held) limit c.in-Some.ensures.some in
+    let spells = whole_limit bytes _ (c.as_slice.ensures ∙ held) c.in-Some.limit c.in-Some.ensures.some in
     let fed = rw c.in-Feed.is at taken in
-    rw (p.1, p.2) (others_failed from to (g.R.Read.remaining c.answer_under.new.reader)
-    (g.W.Write.contents c.args.writer.now) (g.W.Write.contents c.answer_under.new.writer) bytes limit spells fed
-    c.in_err-answer_under.field-0.0 c.in_err-answer_under.ensures)
+    rw (p.1, p.2) (others_failed _ _ _ _ _ bytes _ spells fed _ c.in_err-answer_under.ensures)
 
 pub returns : goal.returns
 returns g c =
     let (bytes, taken, held) = c.in_ok-ending.ensures.ok in
-    let from = g.R.Read.remaining c.args.reader.now in
-    let to = g.R.Read.remaining c.read_line.new.reader in
-    let limit = c.in-Some.limit in
-    let spells = whole_limit bytes _ (c.as_slice.ensures ∙ held) limit c.in-Some.ensures.some in
+    let spells = whole_limit bytes _ (c.as_slice.ensures ∙ held) c.in-Some.limit c.in-Some.ensures.some in
     let fed = rw c.in-Feed.is at taken in
-    done_others from to (g.R.Read.remaining c.answer_under.new.reader) (g.W.Write.contents c.args.writer.now)
-    (g.W.Write.contents c.answer_under.new.writer) bytes limit spells fed c.in_ok-answer_under.ensures
+    done_others _ _ _ _ _ bytes _ spells fed c.in_ok-answer_under.ensures

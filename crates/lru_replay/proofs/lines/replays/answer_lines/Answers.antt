@@ -18,47 +18,43 @@ pub returns-in_err-read_line : goal.returns-in_err-read_line
 returns-in_err-read_line g c =
     let (bytes, part) = c.in_err-read_line.ensures.err in
     let p = err_from_is_err_and c.from_residual.result c.from_residual.ensures.1 in
-    rw (p.1, p.2, c.in_err-read_line.ensures.failed)
-    (read_failed c.loop.invariant (g.R.Read.remaining c.read_line.new.reader) bytes part)
+    rw (p.1, p.2, c.in_err-read_line.ensures.failed) (read_failed c.loop.invariant _ bytes part)
 
 pub returns-in_err-answer_line-in-Feed : goal.returns-in_err-answer_line-in-Feed
 returns-in_err-answer_line-in-Feed g c =
     let (bytes, taken, held) = c.in_ok-read_line.ensures.ok in
-    let to = g.R.Read.remaining c.read_line.new.reader in let cut = g.W.Write.contents c.answer_line.new.writer in
-    let e = c.in_err-answer_line-in-Feed.field-0.0 in
     let read = rw c.in-Feed.is at taken in
-    let answered = whole_answer g.L.Limiter.rules g.L.Insertion.offers g.L.TellsCost.told (Err e) _ _ _ bytes
-    (g.W.Write.contents c.loop.writer) cut (c.as_slice.ensures ∙ held) c.in_err-answer_line-in-Feed.ensures.step in
+    let failed = c.in_err-answer_line-in-Feed in
+    let answered = whole_answer _ _ g.L.TellsCost.told (Err failed.field-0.0) _ _ _ _
+    (g.W.Write.contents c.loop.writer) (g.W.Write.contents c.answer_line.new.writer) (c.as_slice.ensures ∙ held)
+    failed.ensures.step in
     let p = err_from_is_err_and c.from_residual-in_err-answer_line-in-Feed.result
     c.from_residual-in_err-answer_line-in-Feed.ensures.1 in
-    rw (p.1, p.2) (line_cut c.loop.invariant to bytes c.answer_line.new.map cut
-    c.in_err-answer_line-in-Feed.ensures.sized e read answered)
+    rw (p.1, p.2) (line_cut c.loop.invariant _ bytes _ _ failed.ensures.sized _ read answered)
 
 pub returns-in-InputEnd : goal.returns-in-InputEnd
 returns-in-InputEnd g c =
     let (bytes, taken, held) = c.in_ok-read_line.ensures.ok in
-    let to = g.R.Read.remaining c.read_line.new.reader in let call = c.answer_line-in-InputEnd in
-    let ended = g.W.Write.contents call.new.writer in
+    let call = c.answer_line-in-InputEnd in
     let read = rw c.in-InputEnd.is at taken in
-    let answered = whole_answer g.L.Limiter.rules g.L.Insertion.offers g.L.TellsCost.told call.result _ _ _ bytes
-    (g.W.Write.contents c.loop.writer) ended (c.as_slice-in-InputEnd.ensures ∙ held) call.ensures.step in
-    last_answered c.loop.invariant to bytes call.new.map ended call.ensures.sized read.0 read.1 call.result answered
+    let answered = whole_answer _ _ g.L.TellsCost.told _ _ _ _ _ _ _ (c.as_slice-in-InputEnd.ensures ∙ held)
+    call.ensures.step in
+    last_answered c.loop.invariant _ bytes _ _ call.ensures.sized read.0 read.1 _ answered
 
 pub returns-in-Nothing : goal.returns-in-Nothing
 returns-in-Nothing g c =
-    let (bytes, taken, held) = c.in_ok-read_line.ensures.ok in let to = g.R.Read.remaining c.read_line.new.reader in
+    let (bytes, taken, held) = c.in_ok-read_line.ensures.ok in
     let read = rw c.in-Nothing.is at taken in
-    all_answered c.loop.invariant to bytes read.0 read.1
+    all_answered c.loop.invariant _ bytes read.0 read.1
 
 pub loop-preserved : goal.loop-preserved
 loop-preserved g c =
     let (bytes, taken, held) = c.in_ok-read_line.ensures.ok in
-    let to = g.R.Read.remaining c.read_line.new.reader in let next = g.W.Write.contents c.answer_line.new.writer in
     let read = rw c.in-Feed.is at taken in
-    let answered = whole_answer g.L.Limiter.rules g.L.Insertion.offers g.L.TellsCost.told (Ok tt) _ _ _ bytes
-    (g.W.Write.contents c.loop.writer) next (c.as_slice.ensures ∙ held) c.in_ok-answer_line-in-Feed.ensures.step in
-    line_answered c.loop.invariant to bytes c.answer_line.new.map next c.in_ok-answer_line-in-Feed.ensures.sized read
-    answered
+    let next = c.in_ok-answer_line-in-Feed.ensures in
+    let answered = whole_answer _ _ g.L.TellsCost.told (Ok tt) _ _ _ _ (g.W.Write.contents c.loop.writer)
+    (g.W.Write.contents c.answer_line.new.writer) (c.as_slice.ensures ∙ held) next.step in
+    line_answered c.loop.invariant _ bytes _ _ next.sized read answered
 
 pub returns : goal.returns
 returns g c = let so_far = c.loop.invariant in
