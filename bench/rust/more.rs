@@ -122,7 +122,7 @@ fn walks_of_crate(rounds: u64) -> u64 {
     sum
 }
 
-/// The hasher of the crate has no copy, so this map has std's. A copy hashes nothing.
+/// The crate's hasher cannot be cloned, so this map has std's hasher. A clone hashes nothing.
 fn clones_of_crate(rounds: u64) -> u64 {
     let hasher = std::hash::BuildHasherDefault::<std::hash::DefaultHasher>::default();
     let mut map = schnellru::LruMap::with_hasher(schnellru::UnlimitedCompact, hasher);
