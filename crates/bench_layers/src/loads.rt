@@ -91,7 +91,7 @@ fn insert_costs(alloc: Global, limit: u64, keys: &[u64]) -> Result<u64, AllocErr
     )
 }
 
-/// Returns a number of how many entries are left and what they cost, or 0 if memory runs out.
+/// Returns 31 times the number of entries that are left, plus their cost, or 0 if memory runs out.
 #[unsafe(no_mangle)]
 pub extern "C" fn rattle_costs(alloc: Global, limit: u64, keys: &[u64]) -> u64 {
     insert_costs(alloc, limit, keys).unwrap_or(0)
