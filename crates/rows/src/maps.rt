@@ -86,13 +86,13 @@ fn answers_on<L: Insertion<u64, u64, u64> + Spelled + Debug + Drop, S: BuildHash
     let mut map = map;
     let mut text = String::new(alloc);
     for line in calls.lines() {
-        answer(alloc, &mut map, line, &mut text)?;
+        answer_line(alloc, &mut map, line, &mut text)?;
     }
     Ok(text)
 }
 
 /// Adds the answer to the call that the line spells. The line `limiter` is answered by the limiter's text.
-fn answer<L: Insertion<u64, u64, u64> + Spelled + Debug + Drop, S: BuildHasher>(
+fn answer_line<L: Insertion<u64, u64, u64> + Spelled + Debug + Drop, S: BuildHasher>(
     alloc: Global,
     map: &mut LruMap<u64, u64, L, S>,
     line: &str,

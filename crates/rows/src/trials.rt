@@ -60,8 +60,8 @@ pub fn run(rt: &(impl Print + AllocGlobal)) -> io::Result<()> {
     try_summing_calls(rt)
 }
 
-/// The word of a call that has a line, and its numbers.
-fn spelled<L>(call: &Call<u64, u64, L>) -> (&'static str, Option<u64>, Option<u64>) {
+/// The word and the numbers of the line of a call.
+fn line_of<L>(call: &Call<u64, u64, L>) -> (&'static str, Option<u64>, Option<u64>) {
     match call {
         Call::Insert(key, value) => ("insert", Some(*key), Some(*value)),
         Call::InsertWith(key, value) => ("put", Some(*key), Some(*value)),
@@ -86,7 +86,7 @@ fn spelled<L>(call: &Call<u64, u64, L>) -> (&'static str, Option<u64>, Option<u6
 
 /// Adds the line of a call that has one.
 fn write_line<L>(out: &mut String, call: &Call<u64, u64, L>) -> Result<(), AllocError> {
-    let (word, first, second) = spelled(call);
+    let (word, first, second) = line_of(call);
     out.push_str(word)?;
     for number in first.into_iter().chain(second) {
         write!(out, " {number}")?;
