@@ -260,15 +260,15 @@ impl<K, V, N: LinkType> OrderedTable<K, V, N> {
         ensures no_place { OnErr result (HasNoPlace (marks_of self.old.slots) hash) }
     {
         let (key, value) = pair;
-        let first = self.chain.newest;
+        // The links are written once the bucket is known. If they were here, the compiler would join the two first.
         let entry = Entry {
             newer: N::MAX,
-            older: first,
+            older: N::MAX,
             pair: Pair { key, value },
         };
         match self.chain.table.try_place(hash, entry) {
             Ok(b) => {
-                self.chain.link_placed(first, b);
+                self.chain.link_placed(b);
                 Ok(())
             }
             Err(entry) => Err((entry.pair.key, entry.pair.value)),

@@ -80,20 +80,18 @@ impl<K, V, N: LinkType> Chain<K, V, N> {
         self.oldest = link;
     }
 
-    // Puts a bucket whose entry already has the links of a newest one in front of the chain, or makes it the only one.
-    // The link to the newest before is passed, because the caller has read it for that entry.
-    pub(crate) fn link_placed(&mut self, first: N, b: usize)
-        requires first { self.old.newest ≡ first }
+    // Puts a bucket that is in no chain in front of the chain, or makes it the only one.
+    pub(crate) fn link_placed(&mut self, b: usize)
         requires full { IsFull self.old.table.slots b }
-        requires newer { newer_at self.old.table.slots b ≡ Some N.MAX }
-        requires older { older_at self.old.table.slots b ≡ Some first }
         requires chained { OutOfChain N.number N.link N.MAX self.old b }
         ensures pairs { pair_slots self.new.table.slots ≡ pair_slots self.old.table.slots }
         ensures placings { self.new.table.placings ≡ self.old.table.placings }
         ensures chain { (order : List ℕ) → KeepsOrder N.number N.link N.MAX self.old order → (Contains order b → ⊥) →
             KeepsOrder N.number N.link N.MAX self.new (b ∷ order) }
     {
+        let first = self.newest;
         let link = N::from_usize(b);
+        set_links(&mut self.table, b, N::MAX, first);
         self.set_newer(first, link);
         self.newest = link;
     }

@@ -1,6 +1,4 @@
 use Rattle.std.proofs.Common.{ap, ◌∙◌}
-use Rattle.std.specs.Prelude.{Some, option_map}
-use Rattle.group_table.proofs.ChangeLemmas.{entry_at-placed}
 use Rattle.group_table.proofs.FirstFree.{fills_within}
 use Rattle.schnellru.specs.Inside.Chain.{pair_slots}
 use Rattle.schnellru.proofs.OrderedTables.PairSlots.{marks_of-pair_slots, length-pair_slots, same_marks, pair_slots-set}
@@ -18,20 +16,6 @@ link_placed-requires-clause-chained g c =
       IsChain-placed g.met.N.LinkType.laws c.self.invariant placed within,
       placed_absent g.met.N.LinkType.laws c.self.invariant placed within,
     )
-
-pub link_placed-requires-clause-newer : goal.link_placed-requires-clause-newer
-link_placed-requires-clause-newer g c =
-    let placed = c.in-Ok.ensures.placed in
-    let within = fills_within c.self.inside.chain.table.slots c.args.hash c.in-Ok.b placed.first c.in-Ok.ensures.may_fill in
-    let there = entry_at-placed c.self.inside.chain.table c.try_place.new.self c.args.hash _ c.in-Ok.b placed within in
-    ap (option_map (λ x. x.newer)) there ∙ ap Some c.MAX.ensures
-
-pub link_placed-requires-clause-older : goal.link_placed-requires-clause-older
-link_placed-requires-clause-older g c =
-    let placed = c.in-Ok.ensures.placed in
-    let within = fills_within c.self.inside.chain.table.slots c.args.hash c.in-Ok.b placed.first c.in-Ok.ensures.may_fill in
-    let there = entry_at-placed c.self.inside.chain.table c.try_place.new.self c.args.hash _ c.in-Ok.b placed within in
-    ap (option_map (λ x. x.older)) there
 
 pub invariant_of-self : goal.invariant_of-self
 invariant_of-self g c =
