@@ -1,7 +1,7 @@
 -- An entry goes into the first free bucket.
 use Rattle.std.proofs.Common.{◌≡◌, ◌≢◌, ℕ, ◌+◌, ◌-◌, ◌<◌, ◌≤◌, cond, List, length, get_or, set, ◌⊎◌, Option, Some, None}
 use Rattle.std.proofs.Common.{Bool, false, refl, ap, sym, ◌∙◌, subst, arith, inl, inr, nat_eq, eq-eqb}
-use Rattle.std.proofs.lemmas.Bool.{ltb-false, eqb-false, cases_eq, ne_eqb}
+use Rattle.std.proofs.lemmas.Bool.{ltb-false, eqb-false, cases_eq, ne_eqb, false≢true}
 use Rattle.group_table.specs.Bucket.{Slot, Tagged, empty, deleted, full, bucket_at, is_full, is_used, entry_count}
 use Rattle.group_table.specs.Bucket.{mark_of, room, room_at}
 use Rattle.group_table.specs.Probe.{probed, Reaches, IsFirst, IsFirstFree}
@@ -13,9 +13,10 @@ use Rattle.group_table.proofs.BucketLemmas.{bucket_at-marks_of, full_not_deleted
 use Rattle.group_table.proofs.ProbeLemmas.{probed-lt}
 use Rattle.group_table.proofs.ControlLemmas.{buckets_are}
 use Rattle.group_table.proofs.FitsLemmas.{Reaches-first}
-use Rattle.group_table.proofs.LayoutLemmas.{length-marks_by, bucket_at-laid_out, is_full-byte, byte_from_mark}
+use Rattle.group_table.proofs.LayoutLemmas.{length-laid_out, length-marks_by, bucket_at-laid_out, is_full-byte}
+use Rattle.group_table.proofs.LayoutLemmas.{byte_from_mark}
 use Rattle.group_table.proofs.WriteLemmas.{IsValid-written, entry_count-written}
-use Rattle.group_table.proofs.TableLemmas.{empty_there, room_by}
+use Rattle.group_table.proofs.TableLemmas.{empty_there, room_by, room_within}
 
 module _ {T : Type 0} where
   -- a free bucket by its byte
@@ -37,9 +38,15 @@ module _ {T : Type 0} where
   free_deleted byte None (inl p) q h = (rw p, refl)
   free_deleted byte None (inr p) q h = absurd (h p)
 
-  -- what a placing spends of the room: 1 at an empty bucket, and nothing at a deleted one
+  -- what an insertion takes of the room: 1 at an empty bucket, and nothing at a deleted one
   abbrev pub Spends : Slot T → ℕ → ℕ → Type 0
   Spends s room spent = ((s ≡ empty) × (0 < room) × (spent ≡ 1)) ⊎ ((s ≡ deleted) × (spent ≡ 0))
+
+  spends_marked : (s : Slot T) (room spent : ℕ) → is_full (mark_of s) ≡ false → spent ≡ cond (is_used (mark_of s)) 0 1
+      → spent ≤ room → Spends s room spent
+  spends_marked empty room spent free is within = inl (refl, omega (arith, is, within), is)
+  spends_marked deleted room spent free is within = inr (refl, is)
+  spends_marked (full held) room spent free is within = absurd (false≢true (sym free))
 
   free_of : (s : Slot T) (room spent : ℕ) → Spends s room spent → (is_full s ≡ false)
       × (cond (is_used s) 1 0 + spent ≡ 1) × (spent ≤ room)
@@ -50,7 +57,7 @@ module _ {T : Type 0} where
 abbrev pub IsFreeFor : {T : Type 0} → List ℕ → List (Option T) → ℕ → ℕ → Type 0
 IsFreeFor control entries hash b = Reaches (marks_by control entries) hash b × (128 ≤ get_or control b 0)
 
--- some byte is that of an empty bucket
+-- some byte says that its bucket is empty
 pub some_empty_byte : {T : Type 0} (control : List ℕ) (entries : List (Option T)) (r : ℕ) → IsValid control entries r
     → 0 < length entries → (b : ℕ) × (b < length entries) × (get_or control b 0 ≡ 255)
 some_empty_byte control entries r valid pos =
@@ -58,11 +65,22 @@ some_empty_byte control entries r valid pos =
     let within : w.0 < length entries = omega (arith, w.1, length-marks_by control entries valid.laid_out) in
     (w.0, within, byte_from_mark control entries valid.laid_out w.0 within w.2)
 
--- and so is it that of a free one
+-- or that it is free
 pub some_free_byte : {T : Type 0} (control : List ℕ) (entries : List (Option T)) (r : ℕ) → IsValid control entries r
     → 0 < length entries → (b : ℕ) × (b < length entries) × (128 ≤ get_or control b 0)
 some_free_byte control entries r valid pos = let w = some_empty_byte control entries r valid pos in
     (w.0, w.1, omega (arith, w.2))
+
+-- and there are buckets, if there is room
+pub some_buckets : {T : Type 0} {control : List ℕ} {entries : List (Option T)} {r : ℕ} → IsValid control entries r
+    → 0 < room (marks_by control entries) → 0 < buckets_of control
+some_buckets {T} {control} {entries} {r} valid some = omega (
+  arith,
+  some,
+  room_by control entries r valid,
+  room_within control entries r valid,
+  buckets_are control entries valid.laid_out,
+)
 
 pub has_buckets : {n : ℕ} {t : Bool} → t ≡ nat_eq n 0 → t ≡ false → 0 < n
 has_buckets {n} is fails = omega (arith, eqb-false n 0 (sym is ∙ fails))
@@ -115,6 +133,13 @@ module _ {T : Type 0} {control : List ℕ} {entries : List (Option T)} {r : ℕ}
     place_deleted h = bucket_at-laid_out control entries valid.laid_out b place_within
         ∙ (free_deleted _ _ (valid.laid_out.agrees b place_within) byte_free (λ e. h (read_is ∙ e))).0
 
+    -- at most one
+    pub spends_one : spent ≤ 1
+    spends_one = elim (cases_eq read 255) [
+      | inl h ↦ omega (arith, spent_is ∙ ap (λ t. cond {A = ℕ} t 1 0) (eq-eqb read 255 h))
+      | inr h ↦ omega (arith, spent_is ∙ ap (λ t. cond {A = ℕ} t 1 0) (ne_eqb read 255 h))
+    ]
+
     pub place_spends : spent ≤ r → Spends (bucket_at (slots_of control entries) b) r spent
     place_spends enough =
         elim (cases_eq read 255) [
@@ -146,7 +171,7 @@ module _ {T : Type 0} {control : List ℕ} {entries : List (Option T)} {r spent 
   ]
 
   -- the room that it takes is what the bucket counted
-  room_spent : room_at (marks_by control entries) b ≡ spent
+  pub room_spent : room_at (marks_by control entries) b ≡ spent
   room_spent = elim spends [
     | inl w ↦ ap (λ m. cond {A = ℕ} (is_used m) 0 1) (bucket_at-marks_of (slots_of control entries) b ∙ ap mark_of w.0)
         ∙ sym w.2
@@ -175,3 +200,22 @@ module _ {T : Type 0} {control : List ℕ} {entries : List (Option T)} {r spent 
     room-placed =
         let frees = free_of (bucket_at (slots_of control entries) b) r spent spends in
         omega (arith, frees.2, room_spent, room_by _ _ _ IsValid-placed, room_by control entries r valid)
+
+-- a free bucket, by the marks
+module _ {T : Type 0} {control : List ℕ} {entries : List (Option T)} {r : ℕ} (valid : IsValid control entries r)
+    (b : ℕ) (bucket : b < length (slots_of control entries)) (free : is_full (bucket_at (marks_by control entries) b) ≡ false) where
+  pub free_within : b < length entries
+  free_within = omega (arith, bucket, length-laid_out control entries valid.laid_out)
+
+  pub free_none : get_or entries b None ≡ None
+  free_none =
+      let byte = sym (is_full-byte control entries valid.laid_out b free_within) ∙ free in
+      (free_slot _ _ (valid.laid_out.agrees b free_within) (ltb-false _ 128 byte)).1
+
+  pub free_spends : (spent : ℕ) → spent ≡ room_at (marks_by control entries) b → spent ≤ room (marks_by control entries)
+      → Spends (bucket_at (slots_of control entries) b) r spent
+  free_spends spent is enough =
+      let mark = bucket_at-marks_of (slots_of control entries) b in
+      spends_marked _ r spent (sym (ap is_full mark) ∙ free)
+      (is ∙ ap (λ m. cond {A = ℕ} (is_used m) 0 1) mark)
+      (omega (arith, enough, room_by control entries r valid))

@@ -1,5 +1,5 @@
 -- What the code reads in the group of buckets that begins at a place. No public clause cites this module.
-use Rattle.std.specs.Prelude.{◌≡◌, ◌≢◌, ℕ, ◌+◌, ◌-◌, ◌/◌, ◌%◌, ◌<◌, ◌≤◌, min, Bool, true, List, [], ◌∷◌, ◌++◌, length}
+use Rattle.std.specs.Prelude.{◌≡◌, ◌≢◌, ℕ, ◌+◌, ◌-◌, ◌%◌, ◌<◌, ◌≤◌, min, Bool, true, List, [], ◌∷◌, ◌++◌, length}
 use Rattle.std.specs.Prelude.{nat_lt, slice_index}
 use Rattle.std.specs.Borrow.{Bor}
 use Rattle.std.specs.Fn.{Mut}
@@ -64,11 +64,11 @@ module _ {T F : Type 0} (closure : Mut F (Bor T × Unit {0}) Bool) (slots : List
   AsksGroup Ended g = RefusesGroup g × HasEmptyLane slots start (width slots)
   AsksGroup GoesOn g = RefusesGroup g × HasNoEmptyLane slots start (width slots)
 
--- the byte of the bucket is a tag
+-- the byte is a tag, which says that the bucket is full
 abbrev pub full_at : List ℕ → ℕ → Bool
 full_at control b = nat_lt (slice_index control b) deleted_byte
 
--- the byte of the bucket is that of an empty one
+-- the byte says that the bucket is empty
 abbrev pub IsEmptyAt : List ℕ → ℕ → Type 0
 IsEmptyAt control b = slice_index control b ≡ empty_byte
 

@@ -1,6 +1,6 @@
 //! `Table`. A contract sees a table as its `slots`, one for each bucket, and its `placings`, the number of insertions.
-ghost use Rattle.std.specs.Prelude.{◌≡◌, ◌↔◌, ℕ, ◌+◌, ◌^◌, ◌<◌, [], length, replicate, Some, IfSome, IfNone, IfOk};
-ghost use Rattle.std.specs.Prelude.{IfErr, OnErr, IsOk, IsTrue, nat_eq};
+ghost use Rattle.std.specs.Prelude.{◌≡◌, ◌↔◌, ℕ, ◌+◌, ◌^◌, ◌<◌, ◌≤◌, [], length, replicate, Some, IfSome, IfNone};
+ghost use Rattle.std.specs.Prelude.{IfOk, IfErr, OnErr, IsOk, IsTrue, nat_eq};
 ghost use Rattle.std.specs.Borrow.{sem};
 ghost use Rattle.group_table.specs.Sizes.{IsBucketCount};
 ghost use Rattle.group_table.specs.Bucket.{empty, marks_of, IsFull, entry_at, entry_count, room, room_at};
@@ -8,6 +8,7 @@ ghost use Rattle.group_table.specs.Table.{IsTable, with_entry};
 ghost use Rattle.group_table.specs.Fits.{Fits, with_hash};
 ghost use Rattle.group_table.specs.Control.{buckets_of};
 ghost use Rattle.group_table.specs.Layout.{IsLaidOut, slots_of};
+ghost use Rattle.group_table.specs.Probe.{IsFirstFree};
 ghost use Rattle.group_table.specs.Search.{Finds, FindsNone};
 ghost use Rattle.group_table.specs.Change.{Places, MayFill, HasNoPlace, Removes, count_up};
 
@@ -33,8 +34,8 @@ mod relocation;
 /// entries are moved. `docs/TABLE.md` explains its rules, which are those of hashbrown's raw table.
 ///
 /// A table of B buckets has B + 16 control bytes and B places for entries. Only `with_buckets`, `relocate`, `rehash`
-/// and `clone_with` ask for memory. `get`, `get_mut`, `take` and the figures take O(1). `find` and `try_place` take
-/// O(1) if the hashes are spread, and at worst O(B). All other calls take O(B).
+/// and `clone_with` ask for memory. `get`, `get_mut`, `take` and the figures take O(1). `find`, `place` and
+/// `try_place` take O(1) if the hashes are spread, and at worst O(B). All other calls take O(B).
 ///
 /// ```
 /// let mut table = Table::with_buckets(alloc, 8)?;
@@ -42,7 +43,8 @@ mod relocation;
 /// assert_eq!(rt; table.find(7, |entry| *entry == "a"), Some(b));
 /// ```
 pub struct Table<T> {
-    // Far from the two other counts, one of which changes with it. They would be read and written as one.
+    // An insertion and a removal change it together with one of the other counts. Next to that one, the compiler would
+    // read and write both as one.
     room: usize,
     control: Control,
     entries: Entries<T>,
@@ -197,6 +199,29 @@ impl<T> Table<T> {
     /// An empty bucket takes one of the growth left, a deleted one none. It asks for no memory, moves no other entry,
     /// and reads 16 control bytes at once, usually of one group or two.
     ///
+    /// ```
+    /// let mut table = Table::with_buckets(alloc, 8)?;
+    /// let b = table.place(7, "a");
+    /// assert_eq!(rt; table.find(7, |entry| *entry == "a"), Some(b));
+    /// ```
+    #[inline(always)]
+    pub fn place(&mut self, hash: u64, entry: T) -> usize
+        requires { 0 < room (marks_of self.old.slots) }
+        ensures placed { Places self.old self.new hash entry result }
+        ensures room { room (marks_of self.new.slots) + room_at (marks_of self.old.slots) result
+            ≡ room (marks_of self.old.slots) }
+        ensures fits { (hash_of : ℕ → ℕ) → Fits self.old.slots hash_of →
+            Fits self.new.slots (with_hash hash_of result hash) }
+        ensures table { IsTable (marks_of self.new.slots) }
+    {
+        let b = first_free(&self.control, hash);
+        let spent = room_taken(self.control.byte(b));
+        self.fill_free(b, spent, hash, entry);
+        b
+    }
+
+    /// The same for any table: if no bucket may take the entry, it is returned.
+    ///
     /// # Errors
     ///
     /// Returns the entry, and changes nothing, if there are no buckets, or if there is no growth left and the first
@@ -224,13 +249,30 @@ impl<T> Table<T> {
         if self.room < spent {
             return Err(entry);
         }
-        // Each count is then one instruction on memory: the compiler does not keep them while the bucket is written.
+        self.fill_free(b, spent, hash, entry);
+        Ok(b)
+    }
+
+    // Puts an entry with this hash into the first free bucket, which takes this much of the growth left.
+    #[inline(always)]
+    fn fill_free(&mut self, b: usize, spent: usize, hash: u64, entry: T)
+        requires bucket { b < length self.old.slots }
+        requires first { IsFirstFree (marks_of self.old.slots) hash b }
+        requires spent { spent ≡ room_at (marks_of self.old.slots) b }
+        requires within { spent ≤ room (marks_of self.old.slots) }
+        ensures placed { Places self.old self.new hash entry b }
+        ensures room { room (marks_of self.new.slots) + room_at (marks_of self.old.slots) b
+            ≡ room (marks_of self.old.slots) }
+        ensures fits { (hash_of : ℕ → ℕ) → Fits self.old.slots hash_of →
+            Fits self.new.slots (with_hash hash_of b hash) }
+        ensures table { IsTable (marks_of self.new.slots) }
+    {
+        // Each count is one instruction on memory: the compiler does not keep them while the bucket is written.
         make_count_room(&mut self.placings);
         self.len += 1;
         fill_bucket(&mut self.control, &mut self.entries, b, tag_of(hash), entry);
         self.room -= spent;
         self.placings += 1;
-        Ok(b)
     }
 
     // Makes every bucket of a table without entries empty.

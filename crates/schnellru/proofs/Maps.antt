@@ -12,6 +12,7 @@ pub mod HeldMaps
 pub mod Reservations
 pub mod ClearedMaps
 pub mod MovedPairs
+pub mod NewKeys
 pub mod ShrunkMaps
 pub mod Placements
 pub mod SomePlace

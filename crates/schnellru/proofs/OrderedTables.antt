@@ -10,6 +10,7 @@ pub mod Writes
 pub mod NewestPair
 pub mod LastPair
 pub mod PairSlots
+pub mod PlacedEntries
 pub mod KeyHashes
 pub mod Relocations
 pub mod WalkRests

@@ -248,9 +248,21 @@ impl<K, V, N: LinkType> OrderedTable<K, V, N> {
 }
 
 impl<K, V, N: LinkType> OrderedTable<K, V, N> {
-    // Puts a pair whose key has this hash into the first free bucket, as the newest.
+    // Puts a pair whose key has this hash into the first free bucket of a table with growth left, as the newest.
     #[inline(always)]
-    pub(crate) fn place(&mut self, hash: u64, pair: (K, V)) -> Result<(), (K, V)>
+    pub(crate) fn place(&mut self, hash: u64, pair: (K, V))
+        requires { 0 < room (marks_of self.old.slots) }
+        ensures placed { (b : ℕ) × Lands self.old self.new hash pair b }
+        ensures fits { (hash_of : K → ℕ) → KeysFit hash_of self.old.slots → hash_of pair.0 ≡ hash
+            → KeysFit hash_of self.new.slots }
+        ensures linked { IsLinked self.new }
+    {
+        let b = self.chain.table.place(hash, unlinked(pair));
+        self.chain.link_placed(b);
+    }
+
+    // The same for any table: if no bucket may take the pair, it is returned.
+    pub(crate) fn try_place(&mut self, hash: u64, pair: (K, V)) -> Result<(), (K, V)>
         ensures placed { OnOk result ((b : ℕ) × Lands self.old self.new hash pair b) }
         ensures fits { OnOk result ((hash_of : K → ℕ) → KeysFit hash_of self.old.slots → hash_of pair.0 ≡ hash
             → KeysFit hash_of self.new.slots) }
@@ -259,14 +271,7 @@ impl<K, V, N: LinkType> OrderedTable<K, V, N> {
         ensures unchanged { OnErr result (self.new ≡ self.old) }
         ensures no_place { OnErr result (HasNoPlace (marks_of self.old.slots) hash) }
     {
-        let (key, value) = pair;
-        // The links are written once the bucket is known. If they were here, the compiler would join the two first.
-        let entry = Entry {
-            newer: N::MAX,
-            older: N::MAX,
-            pair: Pair { key, value },
-        };
-        match self.chain.table.try_place(hash, entry) {
+        match self.chain.table.try_place(hash, unlinked(pair)) {
             Ok(b) => {
                 self.chain.link_placed(b);
                 Ok(())
@@ -364,6 +369,20 @@ fn renumber_entries<K: Eq + Hash, V, N: LinkType, S: BuildHasher>(
         table.rehash(|entry| hasher.hash_one(&entry.pair.key))
     } else {
         table.relocate(buckets, |entry| hasher.hash_one(&entry.pair.key))
+    }
+}
+
+// An entry with no links. It gets them once its bucket is known: the compiler would join two links that are written
+// with the pair, and write them twice.
+#[inline]
+fn unlinked<K, V, N: LinkType>(pair: (K, V)) -> Entry<K, V, N>
+    ensures { (result.pair.key, result.pair.value) ≡ pair }
+{
+    let (key, value) = pair;
+    Entry {
+        newer: N::MAX,
+        older: N::MAX,
+        pair: Pair { key, value },
     }
 }
 

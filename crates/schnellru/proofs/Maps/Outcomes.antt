@@ -32,6 +32,11 @@ pub if_err : {T E P Q : Type 0} (result : Result T E) → (P → Q) → OnErr re
 if_err (Ok v) more h = h
 if_err (Err e) more h = more h
 
+-- what holds anyway holds at an error
+pub on_err : {T E P : Type 0} (result : Result T E) → P → OnErr result P
+on_err (Ok v) h = tt
+on_err (Err e) h = h
+
 -- equal results have equal flags
 pub same_kept : {E : Type 0} (x y : Bool) → ◌≡◌ {A = Result Bool E} (Ok x) (Ok y) → x ≡ y
 same_kept x y e = cc

@@ -64,9 +64,11 @@ module _ {K V : Type 0} (t u : OrderedTable K V) (hash : ℕ) (pair : K × V) (b
       (get_or-set_same t.slots b (full (record { tag = hash_tag hash; entry = pair })) empty lands_within)
       ∙ ap (λ l. pair ∷ l) (entries-apart t.slots b _ t.order apart)
 
-  module _ {S H : Type 0} (beside : Beside S H) (sized : IsSized (state_of t beside)) where
-    abbrev pub counted : Beside S H
-    counted = record beside { placed = count_up beside.placed 1 }
+  -- and n counts it
+  module _ {S H : Type 0} (beside : Beside S H) (sized : IsSized (state_of t beside)) (n : ℕ)
+      (counts : n ≡ count_up beside.placed 1) where
+    abbrev counted : Beside S H
+    counted = record beside { placed = n }
 
     kept : beside.moved ≡ count_up beside.moved 0
     kept = count_up-none beside.moved sized.moved
@@ -76,7 +78,12 @@ module _ {K V : Type 0} (t u : OrderedTable K V) (hash : ℕ) (pair : K × V) (b
     lands_placed = record {
       table = length-marks_of u.slots ∙ lands_length ∙ sym (length-marks_of t.slots);
       room_left = refl;
-      state = λ i. record (state_of u counted) { pairs = lands_pairs i; moved = kept i; placings = lands.placings i };
+      state = λ i. record (state_of u counted) {
+        pairs = lands_pairs i;
+        moved = kept i;
+        placings = lands.placings i;
+        placed = counts i;
+      };
     }
 
     pub lands_fills : FillsBucket hash (state_of t beside) (state_of u counted)
@@ -90,13 +97,13 @@ module _ {K V : Type 0} (t u : OrderedTable K V) (hash : ℕ) (pair : K × V) (b
       reachable = same.reachable;
       usable = same.usable;
       moved = sized.moved;
-      placed = grind arith;
+      placed = omega (arith, counts);
       shrunk = sized.shrunk;
     }
 
     pub lands_paid : IsPaid (state_of t beside) → IsPaid (state_of u counted)
     lands_paid paid = paid_after (state_of t beside) (state_of u counted)
-        (pays_placing (state_of t beside) (state_of u counted) 0 sized.placed sized.shrunk kept refl refl
+        (pays_placing (state_of t beside) (state_of u counted) 0 sized.placed sized.shrunk kept counts refl
         (omega (arith, lands.room, room_at-most (marks_of t.slots) b, ap full_capacity lands_placed.table)))
         sized.moved (omega (arith, sized.table.addressable, lands_placed.table)) paid
 

@@ -2,7 +2,7 @@
 ghost use Rattle.std.specs.Prelude.{◌≡◌, ◌⊎◌, ℕ, ◌+◌, true, false, not, length, None, Some, IfSome, IfOk, Ok, OnErr, List};
 ghost use Rattle.std.specs.Prelude.{if◌then◌else◌, IsTrue};
 ghost use Rattle.schnellru.specs.Lists.{first, lookup_entry, is_empty, IsFront};
-ghost use Rattle.schnellru.specs.State.{contents, trim, Leaves, IsMap};
+ghost use Rattle.schnellru.specs.State.{contents, room, trim, Leaves, IsMap};
 ghost use Rattle.schnellru.specs.Inserts.{Insert, PlacesNew, PlacesAndTrims, LacksMemory, make_room, kept_of};
 ghost use Rattle.schnellru.specs.Inserts.{unkept_value};
 ghost use Rattle.schnellru.specs.Place.{HasNoBucket};
@@ -310,32 +310,12 @@ impl<K: Eq + Hash, V, L: Limiter<K, V>, S: KeyHasher<K>> LruMap<K, V, L, S> {
         if self.growth_left() == 0 {
             return self.insert_without_growth(hash, pair, sink);
         }
-        self.insert_in_bucket(hash, pair, sink)
+        self.store_in_room(hash, pair);
+        Ok(self.evict_over_limit(sink))
     }
 
-    // Stores a pair in a bucket, or as `insert_without_bucket` does, if none takes it. Then evicts what is over the limit.
-    #[inline(always)]
-    fn insert_in_bucket<F: FnMut(K, V)>(
-        &mut self,
-        hash: u64,
-        pair: (K, V),
-        sink: &mut F,
-    ) -> Result<bool, AllocError>
-        requires callable { F.IsAlwaysCallable sink.old }
-        requires hash { hash ≡ S.hash_of self.old.hasher pair.0 }
-        requires absent { lookup_entry (K.eq pair.0) self.old.pairs ≡ None }
-        ensures handed { Hands F.FnMut sink.old sink.new (λ before after. PlacesAndTrims (noting L.rules)
-            S.hash_of pair (noted before self.old) result (noted after self.new)) }
-        ensures callable { F.IsAlwaysCallable sink.new }
-    {
-        match self.store_in_bucket(hash, pair) {
-            Ok(()) => Ok(self.evict_over_limit(sink)),
-            Err(pair) => self.insert_without_bucket(hash, pair, sink),
-        }
-    }
-
-    // The same if there is no growth left, so that a bucket may take the pair or none. Out of line, so that other inserts
-    // need not test whether one does.
+    // The same if there is no growth left, so that the first free bucket may take the pair or not. Out of line, so that
+    // other inserts need not test whether it does.
     #[cold]
     #[inline(never)]
     fn insert_without_growth<F: FnMut(K, V)>(
@@ -347,11 +327,19 @@ impl<K: Eq + Hash, V, L: Limiter<K, V>, S: KeyHasher<K>> LruMap<K, V, L, S> {
         requires callable { F.IsAlwaysCallable sink.old }
         requires hash { hash ≡ S.hash_of self.old.hasher pair.0 }
         requires absent { lookup_entry (K.eq pair.0) self.old.pairs ≡ None }
+        requires no_room { room self.old ≡ 0 }
         ensures handed { Hands F.FnMut sink.old sink.new (λ before after. PlacesAndTrims (noting L.rules)
             S.hash_of pair (noted before self.old) result (noted after self.new)) }
         ensures callable { F.IsAlwaysCallable sink.new }
     {
-        self.insert_in_bucket(hash, pair, sink)
+        // (Without pairs a rehash needs no memory, and gives all growth left back.)
+        if self.is_empty() {
+            return self.insert_without_bucket(hash, pair, sink);
+        }
+        match self.store_in_bucket(hash, pair) {
+            Ok(()) => Ok(self.evict_over_limit(sink)),
+            Err(pair) => self.insert_without_bucket(hash, pair, sink),
+        }
     }
 
     // Stores a pair that no bucket takes, and evicts what is over the limit then. Under `ByMemoryUsage` each new pair may

@@ -3,11 +3,11 @@
 ghost use Rattle.std.specs.Prelude.{◌≡◌, ◌⊎◌, ℕ, ◌+◌, ◌-◌, ◌*◌, ◌/◌, ◌^◌, ◌<◌, ◌≤◌, [], length, None, Some, OnOk};
 ghost use Rattle.std.specs.Prelude.{OnErr, IfErr, IsOk};
 ghost use Rattle.group_table.specs.Sizes.{IsPowerFromFour, full_capacity};
-ghost use Rattle.group_table.specs.Change.{HasNoPlace};
+ghost use Rattle.group_table.specs.Change.{HasNoPlace, count_up};
 ghost use Rattle.schnellru.specs.Lists.{lookup_entry};
 ghost use Rattle.schnellru.specs.Sizes.{usage};
 ghost use Rattle.schnellru.specs.State.{buckets, room};
-ghost use Rattle.schnellru.specs.Place.{Place, Evicts, IsPlaced, IsPlacedInTable, IsPlacedByMove, FillsBucket, HasNoBucket};
+ghost use Rattle.schnellru.specs.Place.{Place, Evicts, IsPlacedInTable, IsPlacedByMove, FillsBucket, HasNoBucket};
 ghost use Rattle.schnellru.specs.Place.{IsOutgrown, outcome_of, turned_away};
 ghost use Rattle.schnellru.specs.HandedOver.{noting, noted};
 ghost use Rattle.schnellru.specs.Inside.Handing.{Hands};
@@ -20,47 +20,38 @@ use std::alloc::AllocError;
 use std::hash::Hash;
 
 impl<K: Eq + Hash, V, L: Limiter<K, V>, S: KeyHasher<K>> LruMap<K, V, L, S> {
-    // Stores a pair whose key is new and has this hash in a free bucket, as the newest. Returns the pair if none takes it.
+    // Stores a pair whose key is new and has this hash in a table with growth left, as the newest.
     #[inline(always)]
+    pub(super) fn store_in_room(&mut self, hash: u64, pair: (K, V))
+        requires hash { hash ≡ S.hash_of self.old.hasher pair.0 }
+        requires absent { lookup_entry (K.eq pair.0) self.old.pairs ≡ None }
+        requires room { 0 < room self.old }
+        ensures placed { IsPlacedInTable pair self.old self.new }
+        ensures fills { FillsBucket hash self.old self.new }
+        ensures within { length self.old.pairs < full_capacity (buckets self.old) }
+        ensures spends { length self.old.pairs + room self.old ≡ full_capacity (buckets self.old) →
+            room self.new + 1 ≡ room self.old }
+    {
+        // Each change of the count is one instruction on memory: the compiler does not keep it while the table is written.
+        make_count_room(&mut self.placed);
+        self.entries.place(hash, pair);
+        self.placed += 1;
+    }
+
+    // Stores the pair in the first free bucket, if the table may fill that one. Otherwise returns it.
     pub(super) fn store_in_bucket(&mut self, hash: u64, pair: (K, V)) -> Result<(), (K, V)>
         requires hash { hash ≡ S.hash_of self.old.hasher pair.0 }
         requires absent { lookup_entry (K.eq pair.0) self.old.pairs ≡ None }
+        ensures placed { OnOk result (IsPlacedInTable pair self.old self.new) }
+        ensures fills { OnOk result (FillsBucket hash self.old self.new) }
         ensures within { OnOk result (length self.old.pairs < full_capacity (buckets self.old)) }
-        ensures some { OnOk result ((0 < room self.old) ⊎ (0 < length self.old.pairs)) }
-        ensures placed { OnOk result (IsPlacedInTable pair self.old self.new) }
-        ensures fills { OnOk result (FillsBucket hash self.old self.new) }
-        ensures returned { IfErr result (λ back. back ≡ pair) }
-        ensures unchanged { OnErr result (self.new ≡ self.old) }
-        ensures no_bucket { OnErr result (HasNoBucket hash self.old) }
-    {
-        // (Without pairs a rehash needs no memory, and gives all growth left back.)
-        if self.growth_left() == 0 && self.len() == 0 {
-            return Err(pair);
-        }
-        self.fill_bucket(hash, pair)
-    }
-
-    // Stores the pair in the first free bucket, if the table may fill that one.
-    #[inline(always)]
-    fn fill_bucket(&mut self, hash: u64, pair: (K, V)) -> Result<(), (K, V)>
-        requires hash { hash ≡ S.hash_of self.old.hasher pair.0 }
-        requires absent { lookup_entry (K.eq pair.0) self.old.pairs ≡ None }
-        ensures placed { OnOk result (IsPlacedInTable pair self.old self.new) }
-        ensures fills { OnOk result (FillsBucket hash self.old self.new) }
-        ensures spends { OnOk result (length self.old.pairs + room self.old ≡ full_capacity (buckets self.old) →
-            room self.new + 1 ≡ room self.old) }
         ensures returned { IfErr result (λ back. back ≡ pair) }
         ensures unchanged { OnErr result (self.new ≡ self.old) }
         ensures no_place { OnErr result (HasNoPlace self.old.marks hash) }
+        ensures no_bucket { OnErr result (HasNoBucket hash self.old) }
     {
-        // A full count stays full. It is tested before the insertion, and counted after it, so that each is one
-        // instruction on memory: the compiler does not keep the count while the table is written.
-        if self.placed == u64::MAX {
-            self.entries.place(hash, pair)?;
-            return Ok(());
-        }
-        self.entries.place(hash, pair)?;
-        self.placed += 1;
+        self.entries.try_place(hash, pair)?;
+        self.placed = self.placed.saturating_add(1);
         Ok(())
     }
 
@@ -160,7 +151,7 @@ impl<K: Eq + Hash, V, L: Limiter<K, V>, S: KeyHasher<K>> LruMap<K, V, L, S> {
             if self.len() < half {
                 return self.store_after_move(buckets, hash, pair, sink);
             }
-            match self.fill_bucket(hash, pair) {
+            match self.store_in_bucket(hash, pair) {
                 Ok(()) => return Ok(true),
                 Err(back) => pair = back,
             }
@@ -204,20 +195,6 @@ impl<K: Eq + Hash, V, L: Limiter<K, V>, S: KeyHasher<K>> LruMap<K, V, L, S> {
         }
     }
 
-    // Stores the pair in a table with growth left.
-    fn store_in_room(&mut self, hash: u64, pair: (K, V))
-        requires hash { hash ≡ S.hash_of self.old.hasher pair.0 }
-        requires absent { lookup_entry (K.eq pair.0) self.old.pairs ≡ None }
-        requires room { 0 < room self.old }
-        requires exact { length self.old.pairs + room self.old ≡ full_capacity (buckets self.old) }
-        ensures { IsPlaced pair (buckets self.old) (room self.old - 1) 0 self.old self.new }
-    {
-        match self.fill_bucket(hash, pair) {
-            Ok(()) => {}
-            Err(_) => unreachable!(),
-        }
-    }
-
     // Notifies the limiter of a pair that was not stored, and passes what it left of the pair to the callback.
     fn turn_away<F: FnMut(K, V)>(&mut self, pair: (K, V), sink: &mut F)
         requires callable { F.IsAlwaysCallable sink.old }
@@ -227,5 +204,15 @@ impl<K: Eq + Hash, V, L: Limiter<K, V>, S: KeyHasher<K>> LruMap<K, V, L, S> {
     {
         let (key, value) = tell(&mut self.limiter, pair);
         sink(key, value);
+    }
+}
+
+// Takes one off a full count, so that it is full again after one more is counted.
+#[inline]
+fn make_count_room(count: &mut u64)
+    ensures { count.new + 1 ≡ count_up count.old 1 }
+{
+    if *count == u64::MAX {
+        *count -= 1;
     }
 }

@@ -1,11 +1,11 @@
-use Rattle.std.proofs.Common.{◌≡◌, ℕ, ◌+◌, ◌-◌, ◌<◌, ◌≤◌, arith, ap, sym, ◌∙◌, subst, slice_index, inl, inr}
+use Rattle.std.proofs.Common.{◌≡◌, ℕ, ◌+◌, ◌-◌, ◌<◌, arith, ap, sym, ◌∙◌, subst, slice_index, inl, inr}
 use Rattle.std.proofs.lemmas.Bool.{cases_lt}
 use Rattle.std.proofs.lemmas.Nat.Bits.{bit_at-zero}
 use Rattle.std.specs.Int.{bit_at}
 use Rattle.group_table.specs.Bytes.{IsTag, IsFreeByte}
 use Rattle.group_table.proofs.control.Control.next_full.Goals as goal
 
--- a byte that is no tag is that of a free bucket
+-- a byte that is no tag marks a free bucket
 free_by : (byte : ℕ) → (IsTag byte → ⊥) → IsFreeByte byte
 free_by byte no_tag = elim (cases_lt byte 128) [
   | inl tag ↦ absurd (no_tag tag)

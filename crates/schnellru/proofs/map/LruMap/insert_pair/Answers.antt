@@ -1,39 +1,30 @@
-use Rattle.std.proofs.Common.{[], refl, ap, sym, ◌∙◌, subst}
-use Rattle.schnellru.specs.Lists.{IsFront}
-use Rattle.schnellru.specs.State.{contents}
-use Rattle.schnellru.specs.HandedOver.{noting, noted}
-use Rattle.schnellru.proofs.Theorems.Fronts.{front_make_room, front_absent}
+use Rattle.std.proofs.Common.{[], Ok, inl, refl, ap, subst, arith}
+use Rattle.schnellru.specs.State.{buckets, room}
+use Rattle.schnellru.specs.Place.{placed, in_bucket, FillsBucket}
+use Rattle.schnellru.specs.HandedOver.{noted}
+use Rattle.schnellru.proofs.Maps.NotedStates.{noted_placed}
+use Rattle.schnellru.proofs.Maps.NewKeys.{stays_new}
 use Rattle.schnellru.proofs.map.LruMap.insert_pair.Goals as goal
 
 pub insert_without_growth-requires-clause-hash : goal.insert_without_growth-requires-clause-hash
 insert_without_growth-requires-clause-hash g c =
-    let way = (c.make_room.ensures.handed c.args.sink.now [] refl).2 in
-    c.requires.hash
-    ∙ ap (λ hasher. g.S.KeyHasher.hash_of hasher c.args.pair.0)
-    (sym (ap (λ st. st.hasher) way.is))
+    (stays_new g.L.Limiter.rules g.S.KeyHasher.hash_of g.K.PartialEq.eq c.args.hash c.args.pair c.args.self.now
+    c.make_room.new.self _ (c.make_room.ensures.handed c.args.sink.now [] refl).2 c.requires.hash c.requires.absent).hash
 
 pub insert_without_growth-requires-clause-absent : goal.insert_without_growth-requires-clause-absent
 insert_without_growth-requires-clause-absent g c =
-    let old = c.args.self.now in let ready = c.make_room.new.self in
-    let way = (c.make_room.ensures.handed c.args.sink.now [] refl).2 in
-    front_absent (g.K.PartialEq.eq c.args.pair.0) ready.pairs old.pairs
-    (subst (λ xs. IsFront xs old.pairs) (sym (ap (λ st. st.pairs) way.is))
-    (front_make_room (noting g.L.Limiter.rules) (contents (noted [] old)))) c.requires.absent
+    (stays_new g.L.Limiter.rules g.S.KeyHasher.hash_of g.K.PartialEq.eq c.args.hash c.args.pair c.args.self.now
+    c.make_room.new.self _ (c.make_room.ensures.handed c.args.sink.now [] refl).2 c.requires.hash c.requires.absent).absent
 
-pub insert_in_bucket-requires-clause-hash : goal.insert_in_bucket-requires-clause-hash
-insert_in_bucket-requires-clause-hash g c =
-    let way = (c.make_room.ensures.handed c.args.sink.now [] refl).2 in
-    c.requires.hash
-    ∙ ap (λ hasher. g.S.KeyHasher.hash_of hasher c.args.pair.0)
-    (sym (ap (λ st. st.hasher) way.is))
+pub store_in_room-requires-clause-hash : goal.store_in_room-requires-clause-hash
+store_in_room-requires-clause-hash g c =
+    (stays_new g.L.Limiter.rules g.S.KeyHasher.hash_of g.K.PartialEq.eq c.args.hash c.args.pair c.args.self.now
+    c.make_room.new.self _ (c.make_room.ensures.handed c.args.sink.now [] refl).2 c.requires.hash c.requires.absent).hash
 
-pub insert_in_bucket-requires-clause-absent : goal.insert_in_bucket-requires-clause-absent
-insert_in_bucket-requires-clause-absent g c =
-    let old = c.args.self.now in let ready = c.make_room.new.self in
-    let way = (c.make_room.ensures.handed c.args.sink.now [] refl).2 in
-    front_absent (g.K.PartialEq.eq c.args.pair.0) ready.pairs old.pairs
-    (subst (λ xs. IsFront xs old.pairs) (sym (ap (λ st. st.pairs) way.is))
-    (front_make_room (noting g.L.Limiter.rules) (contents (noted [] old)))) c.requires.absent
+pub store_in_room-requires-clause-absent : goal.store_in_room-requires-clause-absent
+store_in_room-requires-clause-absent g c =
+    (stays_new g.L.Limiter.rules g.S.KeyHasher.hash_of g.K.PartialEq.eq c.args.hash c.args.pair c.args.self.now
+    c.make_room.new.self _ (c.make_room.ensures.handed c.args.sink.now [] refl).2 c.requires.hash c.requires.absent).absent
 
 pub returns-then-growth_left-eq0-clause-handed : goal.returns-then-growth_left-eq0-clause-handed
 returns-then-growth_left-eq0-clause-handed g c =
@@ -44,7 +35,13 @@ returns-then-growth_left-eq0-clause-handed g c =
 
 pub returns-clause-handed : goal.returns-clause-handed
 returns-clause-handed g c =
+    let ready = c.make_room.new.self in let stored = c.store_in_room.ensures in let new = c.store_in_room.new.self in
     λ first before taken.
     let (mid, had, way) = c.make_room.ensures.handed first before taken in
-    let (after, has, step) = c.insert_in_bucket.ensures.handed first mid had in
-    (after, has, (noted mid c.make_room.new.self, way, step))
+    let (after, in_all, trimmed) = c.evict_over_limit.ensures.handed first mid had in
+    let is = (stays_new g.L.Limiter.rules g.S.KeyHasher.hash_of g.K.PartialEq.eq c.args.hash c.args.pair c.args.self.now
+    ready _ (c.make_room.ensures.handed c.args.sink.now [] refl).2 c.requires.hash c.requires.absent).hash in
+    let put = in_bucket stored.within (inl (omega (arith, c.growth_left.ensures, c.if-growth_left-eq0.false)))
+    (subst (λ h. FillsBucket h ready new) is stored.fills) refl
+    (noted_placed mid c.args.pair (buckets ready) (room new) 0 ready new stored.placed) in
+    (after, in_all, (noted mid ready, way, (placed, noted mid new, put, (ap Ok c.evict_over_limit.ensures.left, trimmed))))

@@ -33,8 +33,8 @@ store_after_move-requires-clause-usable g c =
     ∙ ap (λ st. st.entry_bytes) c.evictions.invariant.leaves.is in
     rw (bytes, buckets.count) buckets.map.sized.usable
 
-pub fill_bucket-requires-clause-absent : goal.fill_bucket-requires-clause-absent
-fill_bucket-requires-clause-absent g c =
+pub store_in_bucket-requires-clause-absent : goal.store_in_bucket-requires-clause-absent
+store_in_bucket-requires-clause-absent g c =
     let i = c.evictions.invariant in
     subst (λ p. lookup_entry (g.K.PartialEq.eq p.0) c.take_oldest-key.new.self.pairs ≡ None) (sym i.same_pair)
     (left_absent g.L.Limiter.rules c.args.hash c.args.pair c.args.self.now c.evictions.self c.take_oldest-key.new.self
@@ -70,7 +70,7 @@ returns-in-Ok-clause-handed g c =
     let i = c.evictions.invariant in
     let rules = g.L.Limiter.rules in let old = c.args.self.now in let st = c.evictions.self in
     let u = c.take_oldest-key.new.self in let pair = c.take_oldest-key.result in
-    let new = c.fill_bucket.new.self in
+    let new = c.store_in_bucket.new.self in
     let takes = c.full_capacity-half.ensures ∙ ap full_capacity c.bucket_count-buckets.ensures.count in
     let enough : full_capacity (buckets old) / 2 ≤ length u.pairs = omega
     (arith, takes, c.len.ensures.len, c.if-len-half.false) in
@@ -112,7 +112,7 @@ evictions-smaller g c =
     let one = one_fewer g.L.Limiter.rules c.args.hash c.args.pair c.args.self.now c.evictions.self
     c.take_oldest-key.new.self c.bucket_count-buckets.ensures.map.sized
     (c.requires.some, c.requires.outgrown.no_bucket.no_room) i.n i.gone i.stuck c.take_oldest-key.ensures.state in
-    let fewer : length c.fill_bucket.new.self.pairs < length c.evictions.self.pairs = omega
+    let fewer : length c.store_in_bucket.new.self.pairs < length c.evictions.self.pairs = omega
     (arith, one, ap (λ st. length st.pairs) c.in-Err.ensures.unchanged) in fewer
 
 pub evictions-preserved : goal.evictions-preserved

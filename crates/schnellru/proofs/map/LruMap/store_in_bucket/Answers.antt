@@ -1,11 +1,49 @@
-use Rattle.schnellru.proofs.Maps.Outcomes.{on_ok, if_err}
+use Rattle.std.proofs.Common.{◌<◌, length, sym, subst}
+use Rattle.group_table.specs.Sizes.{full_capacity}
+use Rattle.schnellru.specs.State.{buckets}
+use Rattle.schnellru.specs.Place.{HasNoBucket}
+use Rattle.schnellru.specs.Inside.Holds.{state_of}
+use Rattle.schnellru.proofs.Maps.Fields.{beside_of}
+use Rattle.schnellru.proofs.Maps.Outcomes.{on_err}
 use Rattle.schnellru.proofs.Maps.Placements.{fills_within, no_place_bucket}
+use Rattle.schnellru.proofs.OrderedTables.Landings.{lands_placed, lands_fills, lands_holds}
 use Rattle.schnellru.proofs.map.LruMap.store_in_bucket.Goals as goal
 
-pub returns-clause-within : goal.returns-clause-within
-returns-clause-within g c = on_ok c.fill_bucket.result (fills_within c.args.self.now
-    c.growth_left.ensures.map.sized c.args.hash c.fill_bucket.new.self) c.fill_bucket.ensures.fills
+pub invariant_of-self-2 : goal.invariant_of-self-2
+invariant_of-self-2 g c =
+    let m = c.self.inside in let e = c.in_ok-try_place.ensures in let holds = c.self.invariant in
+    lands_holds m.entries c.try_place.new.self c.args.hash c.args.pair e.placed.0 holds.linked e.placed.1 _
+    holds.map.sized _ c.saturating_add-self-inside.ensures _ holds
+    e.linked (e.fits _ holds.fits (sym (rw (← c.self.view_is) at c.requires.hash)))
+    (rw (← c.self.view_is) at c.requires.absent)
 
-pub returns-clause-no_bucket : goal.returns-clause-no_bucket
-returns-clause-no_bucket g c = if_err c.fill_bucket.result
-    (no_place_bucket c.args.self.now c.growth_left.ensures.map.sized c.args.hash) c.fill_bucket.ensures.no_place
+pub returns-clause-placed : goal.returns-clause-placed
+returns-clause-placed g c =
+    let m = c.self.inside in let e = c.in_ok-try_place.ensures in let holds = c.self.invariant in
+    rw (← c.self.view_is)
+    (lands_placed m.entries c.try_place.new.self c.args.hash c.args.pair e.placed.0 holds.linked e.placed.1 _
+    holds.map.sized _ c.saturating_add-self-inside.ensures)
+
+pub returns-clause-fills : goal.returns-clause-fills
+returns-clause-fills g c =
+    let m = c.self.inside in let e = c.in_ok-try_place.ensures in let holds = c.self.invariant in
+    rw (← c.self.view_is)
+    (lands_fills m.entries c.try_place.new.self c.args.hash c.args.pair e.placed.0 holds.linked e.placed.1 _
+    holds.map.sized _ c.saturating_add-self-inside.ensures)
+
+pub returns-clause-within : goal.returns-clause-within
+returns-clause-within g c =
+    let m = c.self.inside in let e = c.in_ok-try_place.ensures in let holds = c.self.invariant in
+    let rest = beside_of m (g.L.LinkType.LinkType.number g.L.LinkType.LinkType.MAX) in
+    subst (λ st. length st.pairs < full_capacity (buckets st)) c.self.view_is
+    (fills_within (state_of m.entries rest) holds.map.sized c.args.hash (state_of c.try_place.new.self rest)
+    (lands_fills m.entries c.try_place.new.self c.args.hash c.args.pair e.placed.0 holds.linked e.placed.1 _
+    holds.map.sized _ c.saturating_add-self-inside.ensures))
+
+pub returns-in_err-try_place-clause-no_bucket : goal.returns-in_err-try_place-clause-no_bucket
+returns-in_err-try_place-clause-no_bucket g c =
+    let m = c.self.inside in
+    let rest = beside_of m (g.L.LinkType.LinkType.number g.L.LinkType.LinkType.MAX) in
+    on_err c.from_residual.result (subst (HasNoBucket c.args.hash) c.self.view_is
+    (no_place_bucket (state_of m.entries rest) c.self.invariant.map.sized c.args.hash
+    c.in_err-try_place.ensures.no_place))

@@ -1,15 +1,50 @@
-use Rattle.std.proofs.Common.{arith, inl, inr}
+use Rattle.std.proofs.Common.{◌≡◌, ◌+◌, ◌<◌, length, sym, subst}
 use Rattle.group_table.specs.Sizes.{full_capacity}
-use Rattle.group_table.specs.Bucket.{room}
+use Rattle.schnellru.specs.State.{buckets, room}
+use Rattle.schnellru.specs.Inside.Holds.{state_of}
+use Rattle.schnellru.proofs.TableSizes.FilledBuckets.{fills_exact}
+use Rattle.schnellru.proofs.Maps.Fields.{beside_of}
+use Rattle.schnellru.proofs.Maps.Placements.{fills_within}
+use Rattle.schnellru.proofs.OrderedTables.Landings.{lands_placed, lands_fills, lands_holds}
 use Rattle.schnellru.proofs.map.LruMap.store_in_room.Goals as goal
 
-pub unreachable-requires : goal.unreachable-requires
-unfolding room full_capacity
-unreachable-requires g c = elim c.in-Err.ensures.no_place [
-  | inl none ↦ let r = c.requires.room in absurd (omega (arith, rw none at r))
-  | inr h ↦ absurd (omega (arith, h.0, c.requires.room))
-]
+pub invariant_of-self : goal.invariant_of-self
+invariant_of-self g c =
+    let m = c.self.inside in let e = c.place.ensures in let holds = c.self.invariant in
+    lands_holds m.entries c.place.new.self c.args.hash c.args.pair e.placed.0 holds.linked e.placed.1 _
+    holds.map.sized _ c.make_count_room.ensures _ holds
+    e.linked (e.fits _ holds.fits (sym (rw (← c.self.view_is) at c.requires.hash)))
+    (rw (← c.self.view_is) at c.requires.absent)
 
-pub returns : goal.returns
-returns g c = let e = c.in-Ok.ensures in
-    record { table = e.placed.table; room_left = omega (arith, e.spends c.requires.exact); state = e.placed.state }
+pub returns-clause-placed : goal.returns-clause-placed
+returns-clause-placed g c =
+    let m = c.self.inside in let e = c.place.ensures in let holds = c.self.invariant in
+    rw (← c.self.view_is)
+    (lands_placed m.entries c.place.new.self c.args.hash c.args.pair e.placed.0 holds.linked e.placed.1 _
+    holds.map.sized _ c.make_count_room.ensures)
+
+pub returns-clause-fills : goal.returns-clause-fills
+returns-clause-fills g c =
+    let m = c.self.inside in let e = c.place.ensures in let holds = c.self.invariant in
+    rw (← c.self.view_is)
+    (lands_fills m.entries c.place.new.self c.args.hash c.args.pair e.placed.0 holds.linked e.placed.1 _
+    holds.map.sized _ c.make_count_room.ensures)
+
+pub returns-clause-within : goal.returns-clause-within
+returns-clause-within g c =
+    let m = c.self.inside in let e = c.place.ensures in let holds = c.self.invariant in
+    let rest = beside_of m (g.L.LinkType.LinkType.number g.L.LinkType.LinkType.MAX) in
+    subst (λ st. length st.pairs < full_capacity (buckets st)) c.self.view_is
+    (fills_within (state_of m.entries rest) holds.map.sized c.args.hash (state_of c.place.new.self rest)
+    (lands_fills m.entries c.place.new.self c.args.hash c.args.pair e.placed.0 holds.linked e.placed.1 _
+    holds.map.sized _ c.make_count_room.ensures))
+
+pub returns-clause-spends : goal.returns-clause-spends
+returns-clause-spends g c =
+    let m = c.self.inside in
+    let rest = beside_of m (g.L.LinkType.LinkType.number g.L.LinkType.LinkType.MAX) in
+    let old = state_of m.entries rest in
+    subst (λ st. length st.pairs + room st ≡ full_capacity (buckets st) → room (state_of c.place.new.self rest) + 1
+    ≡ room st) c.self.view_is
+    (fills_exact old c.self.invariant.map.sized c.args.hash (state_of c.place.new.self rest)
+    (rw (← c.self.view_is) at (returns-clause-fills g c)))

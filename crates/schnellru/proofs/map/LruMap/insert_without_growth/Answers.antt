@@ -1,17 +1,22 @@
-use Rattle.std.proofs.Common.{Ok, refl, ap, subst}
+use Rattle.std.proofs.Common.{Ok, inr, refl, ap, sym, ◌∙◌, subst}
 use Rattle.schnellru.specs.State.{buckets, room}
 use Rattle.schnellru.specs.Place.{placed, in_bucket, FillsBucket}
 use Rattle.schnellru.specs.HandedOver.{noted}
 use Rattle.schnellru.proofs.Maps.NotedStates.{noted_placed}
-use Rattle.schnellru.proofs.map.LruMap.insert_in_bucket.Goals as goal
+use Rattle.schnellru.proofs.PairLists.Emptiness.{some-length}
+use Rattle.schnellru.proofs.map.LruMap.insert_without_growth.Goals as goal
 
-pub insert_without_bucket-requires-clause-absent : goal.insert_without_bucket-requires-clause-absent
-insert_without_bucket-requires-clause-absent g c =
+pub insert_without_bucket-requires-in-Err-clause-absent : goal.insert_without_bucket-requires-in-Err-clause-absent
+insert_without_bucket-requires-in-Err-clause-absent g c =
     rw (c.in-Err.ensures.returned, c.in-Err.ensures.unchanged) c.requires.absent
 
-pub insert_without_bucket-requires-clause-hash : goal.insert_without_bucket-requires-clause-hash
-insert_without_bucket-requires-clause-hash g c =
+pub insert_without_bucket-requires-in-Err-clause-hash : goal.insert_without_bucket-requires-in-Err-clause-hash
+insert_without_bucket-requires-in-Err-clause-hash g c =
     rw (c.in-Err.ensures.returned, c.in-Err.ensures.unchanged) c.requires.hash
+
+pub insert_without_bucket-requires-in-Err-clause-no_bucket : goal.insert_without_bucket-requires-in-Err-clause-no_bucket
+insert_without_bucket-requires-in-Err-clause-no_bucket g c =
+    rw c.in-Err.ensures.unchanged c.in-Err.ensures.no_bucket
 
 pub returns-in-Ok-clause-handed : goal.returns-in-Ok-clause-handed
 returns-in-Ok-clause-handed g c =
@@ -23,7 +28,7 @@ returns-in-Ok-clause-handed g c =
       (
         placed,
         noted before new,
-        in_bucket stored.within stored.some
+        in_bucket stored.within (inr (some-length old.pairs (sym c.is_empty.ensures ∙ c.if-is_empty.false)))
             (subst (λ h. FillsBucket h old new) c.requires.hash stored.fills) refl
             (noted_placed before c.args.pair (buckets old) (room new) 0 old new stored.placed),
         (ap Ok c.evict_over_limit.ensures.left, trimmed),
@@ -33,5 +38,5 @@ returns-in-Ok-clause-handed g c =
 pub returns-in-Err-clause-handed : goal.returns-in-Err-clause-handed
 returns-in-Err-clause-handed g c =
     λ first before taken.
-    let (after, has, step) = c.insert_without_bucket.ensures.handed first before taken in
+    let (after, has, step) = c.insert_without_bucket-in-Err.ensures.handed first before taken in
     (after, has, rw (← c.in-Err.ensures.returned, ← c.in-Err.ensures.unchanged) step)
