@@ -190,7 +190,7 @@ pub(crate) fn room_taken(byte: u8) -> usize
     requires { (byte ≡ deleted_byte) ⊎ (byte ≡ empty_byte) }
     ensures { result ≡ (if nat_eq byte empty_byte then 1 else 0) }
 {
-    (byte & 1) as usize
+    byte as usize & 1
 }
 
 // Writes the byte of a bucket, and its repetition, among all bytes.

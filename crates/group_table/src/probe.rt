@@ -140,16 +140,21 @@ fn free_in_group(control: &Control, start: usize) -> Option<usize>
 }
 
 // Returns the first bucket in the order of a search for the hash that is empty or deleted.
+#[inline(always)]
 pub(crate) fn first_free(control: &Control, hash: u64) -> usize
     requires { HasFreeByte control.now }
     ensures { IsFirst (full_at control.now) (probed (buckets_of control.now) hash) result }
 {
+    // The first group is not part of the loop: it nearly always has a free bucket, and then needs no stride.
     let mut probe = Probe::of(control, hash);
+    if let Some(b) = free_in_group(control, probe.start) {
+        return b;
+    }
     'groups: loop {
+        probe.go_on(control);
         if let Some(b) = free_in_group(control, probe.start) {
             return b;
         }
-        probe.go_on(control);
     }
 }
 

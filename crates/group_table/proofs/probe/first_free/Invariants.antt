@@ -1,4 +1,4 @@
-use Rattle.std.proofs.Common.{ℕ, ◌-◌, ◌<◌, IsTrue}
+use Rattle.std.proofs.Common.{ℕ, ◌+◌, ◌-◌, ◌<◌, IsTrue}
 use Rattle.group_table.specs.Probe.{probed}
 use Rattle.group_table.specs.Control.{buckets_of}
 use Rattle.group_table.specs.Group.{IsProbe, passed_by, full_at}
@@ -8,7 +8,7 @@ abbrev pub invariant-groups : goal.invariant-groups
 invariant-groups l = record {
   at : IsProbe (buckets_of l.control) l.hash l.probe;
   within : passed_by l.probe < buckets_of l.control;
-  full_before : (before : ℕ) → before < passed_by l.probe
+  full : (before : ℕ) → before < passed_by l.probe + 16
       → IsTrue (full_at l.control (probed (buckets_of l.control) l.hash before));
 }
 
