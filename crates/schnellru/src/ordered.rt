@@ -372,11 +372,12 @@ fn renumber_entries<K: Eq + Hash, V, N: LinkType, S: BuildHasher>(
     }
 }
 
-// An entry with no links. It gets them once its bucket is known: the compiler would join two links that are written
-// with the pair, and write them twice.
+// An entry with no links. It gets the older one once its bucket is known. If that were written here, the compiler would
+// join the two links first.
 #[inline]
 fn unlinked<K, V, N: LinkType>(pair: (K, V)) -> Entry<K, V, N>
-    ensures { (result.pair.key, result.pair.value) ≡ pair }
+    ensures pair { (result.pair.key, result.pair.value) ≡ pair }
+    ensures newer { result.newer ≡ N.MAX }
 {
     let (key, value) = pair;
     Entry {

@@ -1,8 +1,9 @@
 -- An entry went into the first free bucket of a table, and was then linked in front of the chain of the others.
-use Rattle.std.proofs.Common.{◌≡◌, ℕ, ◌+◌, ◌<◌, Bool, List, ◌∷◌, length, ap, ◌∙◌, slice_set}
-use Rattle.std.specs.Prelude.{Contains}
+use Rattle.std.proofs.Common.{◌≡◌, ℕ, ◌+◌, ◌<◌, Bool, List, ◌∷◌, length, Some, ap, ◌∙◌, slice_set}
+use Rattle.std.proofs.lemmas.List.{get_or-set_same}
+use Rattle.std.specs.Prelude.{Contains, option_map}
 use Rattle.group_table.specs.Link.{IsLinkType}
-use Rattle.group_table.specs.Bucket.{Slot, marks_of, room, room_at}
+use Rattle.group_table.specs.Bucket.{Slot, empty, entry_of, marks_of, room, room_at}
 use Rattle.group_table.specs.Probe.{filled}
 use Rattle.group_table.specs.Table.{Table, IsTable}
 use Rattle.group_table.specs.Change.{Places, MayFill}
@@ -10,7 +11,7 @@ use Rattle.group_table.specs.Fits.{Fits, with_hash}
 use Rattle.group_table.proofs.FirstFree.{fills_within}
 use Rattle.schnellru.specs.declared.ordered.Entry.{Entry}
 use Rattle.schnellru.specs.Inside.OrderedTable.{OrderedTable, IsLinked, KeysFit, Lands}
-use Rattle.schnellru.specs.Inside.Chain.{pair_slots, along, IsChain, IsWhole}
+use Rattle.schnellru.specs.Inside.Chain.{pair_slots, newer_at, along, IsChain, IsWhole}
 use Rattle.schnellru.proofs.Chains.WholeChains.{whole_order, IsWhole-shown, IsLinked-view, placed_absent}
 use Rattle.schnellru.proofs.Chains.WholeChains.{IsChain-placed, IsWhole-placed}
 use Rattle.schnellru.proofs.OrderedTables.KeyHashes.{KeysFit-placed}
@@ -33,6 +34,12 @@ module _ {N : Type 0} {number : N → ℕ} {link : ℕ → N} {none : N} {eq : N
   -- the chain of the others is there, and the bucket is not in it
   pub others_chained : (order : List ℕ) × IsChain number link none new.slots newest oldest order × (Contains order b → ⊥)
   others_chained = (order, IsChain-placed laws whole places within, placed_absent laws whole places within)
+
+  -- and its entry has the newer link that it had
+  pub placed_newer : entry.newer ≡ none → newer_at new.slots b ≡ Some none
+  placed_newer newest = ap (λ slots. newer_at slots b) places.slots
+      ∙ ap (λ s. option_map (λ x. x.newer) (entry_of s)) (get_or-set_same old.slots b (filled hash entry) empty within)
+      ∙ ap Some newest
 
   abbrev before : OrderedTable K V
   before = record { slots = pair_slots old.slots; order = order; placings = old.placings }

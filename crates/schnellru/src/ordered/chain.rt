@@ -80,9 +80,10 @@ impl<K, V, N: LinkType> Chain<K, V, N> {
         self.oldest = link;
     }
 
-    // Puts a bucket that is in no chain in front of the chain, or makes it the only one.
+    // Puts a bucket that is in no chain in front of the chain, or makes it the only one. Its newer link is `MAX` already.
     pub(crate) fn link_placed(&mut self, b: usize)
         requires full { IsFull self.old.table.slots b }
+        requires first { newer_at self.old.table.slots b ≡ Some N.MAX }
         requires chained { OutOfChain N.number N.link N.MAX self.old b }
         ensures pairs { pair_slots self.new.table.slots ≡ pair_slots self.old.table.slots }
         ensures placings { self.new.table.placings ≡ self.old.table.placings }
@@ -91,7 +92,7 @@ impl<K, V, N: LinkType> Chain<K, V, N> {
     {
         let first = self.newest;
         let link = N::from_usize(b);
-        set_links(&mut self.table, b, N::MAX, first);
+        link_first(&mut self.table, b, first);
         self.set_newer(first, link);
         self.newest = link;
     }
@@ -182,6 +183,17 @@ fn set_links<K, V, N: LinkType>(table: &mut Table<Entry<K, V, N>>, b: usize, new
     let entry = table.get_mut(b);
     entry.newer = newer;
     entry.older = older;
+}
+
+// Sets the older link of the entry in a full bucket, whose newer link is `MAX` already.
+#[inline]
+fn link_first<K, V, N: LinkType>(table: &mut Table<Entry<K, V, N>>, b: usize, older: N)
+    requires full { IsFull table.old.slots b }
+    requires first { newer_at table.old.slots b ≡ Some N.MAX }
+    ensures links { SetsLinks table.old.slots table.new.slots b N.MAX older }
+    ensures placings { table.new.placings ≡ table.old.placings }
+{
+    table.get_mut(b).older = older;
 }
 
 // Rewrites the links of an entry to where its neighbours have moved.
