@@ -307,10 +307,11 @@ impl<K: Eq + Hash, V, L: Limiter<K, V>, S: KeyHasher<K>> LruMap<K, V, L, S> {
         ensures callable { F.IsAlwaysCallable sink.new }
     {
         self.make_room(sink);
+        let (key, value) = pair;
         if self.growth_left() == 0 {
-            return self.insert_without_growth(hash, pair, sink);
+            return self.insert_without_growth(hash, key, value, sink);
         }
-        self.store_in_room(hash, pair);
+        self.store_in_room(hash, (key, value));
         Ok(self.evict_over_limit(sink))
     }
 
@@ -321,22 +322,23 @@ impl<K: Eq + Hash, V, L: Limiter<K, V>, S: KeyHasher<K>> LruMap<K, V, L, S> {
     fn insert_without_growth<F: FnMut(K, V)>(
         &mut self,
         hash: u64,
-        pair: (K, V),
+        key: K,
+        value: V,
         sink: &mut F,
     ) -> Result<bool, AllocError>
         requires callable { F.IsAlwaysCallable sink.old }
-        requires hash { hash ≡ S.hash_of self.old.hasher pair.0 }
-        requires absent { lookup_entry (K.eq pair.0) self.old.pairs ≡ None }
+        requires hash { hash ≡ S.hash_of self.old.hasher key }
+        requires absent { lookup_entry (K.eq key) self.old.pairs ≡ None }
         requires no_room { room self.old ≡ 0 }
         ensures handed { Hands F.FnMut sink.old sink.new (λ before after. PlacesAndTrims (noting L.rules)
-            S.hash_of pair (noted before self.old) result (noted after self.new)) }
+            S.hash_of (key, value) (noted before self.old) result (noted after self.new)) }
         ensures callable { F.IsAlwaysCallable sink.new }
     {
         // (Without pairs a rehash needs no memory, and gives all growth left back.)
         if self.is_empty() {
-            return self.insert_without_bucket(hash, pair, sink);
+            return self.insert_without_bucket(hash, (key, value), sink);
         }
-        match self.store_in_bucket(hash, pair) {
+        match self.store_in_bucket(hash, (key, value)) {
             Ok(()) => Ok(self.evict_over_limit(sink)),
             Err(pair) => self.insert_without_bucket(hash, pair, sink),
         }

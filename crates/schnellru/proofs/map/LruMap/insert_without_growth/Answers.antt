@@ -30,7 +30,7 @@ returns-in-Ok-clause-handed g c =
         noted before new,
         in_bucket stored.within (inr (some-length old.pairs (sym c.is_empty.ensures ∙ c.if-is_empty.false)))
             (subst (λ h. FillsBucket h old new) c.requires.hash stored.fills) refl
-            (noted_placed before c.args.pair (buckets old) (room new) 0 old new stored.placed),
+            (noted_placed before (c.args.key, c.args.value) (buckets old) (room new) 0 old new stored.placed),
         (ap Ok c.evict_over_limit.ensures.left, trimmed),
       ),
     )
