@@ -194,15 +194,17 @@ impl<T> Table<T> {
         empty_bucket(&mut self.control, &mut self.entries, b, byte)
     }
 
-    /// Puts an entry with this hash into the first free bucket in the order of a search, and returns its number.
+    /// Puts an entry with this hash into the first free bucket in the order of a search, and returns its number. There
+    /// must be growth left, so that each free bucket may take an entry.
     ///
     /// An empty bucket takes one of the growth left, a deleted one none. It asks for no memory, moves no other entry,
     /// and reads 16 control bytes at once, usually of one group or two.
     ///
     /// ```
-    /// let mut table = Table::with_buckets(alloc, 8)?;
-    /// let b = table.place(7, "a");
-    /// assert_eq!(rt; table.find(7, |entry| *entry == "a"), Some(b));
+    /// if table.room() > 0 {
+    ///     let b = table.place(9, "b");
+    ///     assert_eq!(rt; table.find(9, |entry| *entry == "b"), Some(b));
+    /// }
     /// ```
     #[inline(always)]
     pub fn place(&mut self, hash: u64, entry: T) -> usize
@@ -220,7 +222,7 @@ impl<T> Table<T> {
         b
     }
 
-    /// The same for any table: if no bucket may take the entry, it is returned.
+    /// The same for each table: without growth left, only a deleted bucket may take the entry.
     ///
     /// # Errors
     ///

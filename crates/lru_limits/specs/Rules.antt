@@ -1,12 +1,12 @@
 -- What a limiter does, as functions and relations of its states S. Each is named after its callback.
 --     Rules K V S         what a limiter says of lengths, of pairs that leave, of a clear and of growth
 --     Offers K V S I      what it does with elements whose key is offered as an I
---     Told K V S          the limiter, the key and the value, after it was notified of a pair that left
+--     Notified K V S          the limiter, the key and the value, after it was notified of a pair that left
 --     Allowed S           the limiter, after it was asked for memory, and its answer
 --     Replaced K V S      what is left after a stored value was to be replaced
 use Rattle.std.specs.Prelude.{ℕ, Bool, Option}
 
-pub record Told (K V S : Type 0) : Type 0 where
+pub record Notified (K V S : Type 0) : Type 0 where
   pub limiter : S
   pub key : K
   pub value : V
@@ -28,7 +28,7 @@ pub record Rules (K V S : Type 0) : Type 0 where
   -- whether a map of n pairs is over the limit
   pub is_over_the_limit : S → ℕ → Bool
   -- what is left after the limiter was notified of a pair that left the map
-  pub on_removed : S → K → V → Told K V S
+  pub on_removed : S → K → V → Notified K V S
   -- the limiter after the map was cleared
   pub on_cleared : S → S
   -- the limiter after it was asked to permit a table of n bytes, and its answer

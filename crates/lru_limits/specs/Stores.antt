@@ -13,7 +13,7 @@ use Rattle.std.specs.Prelude.{◌≡◌, ◌≤◌, ◌+◌, ◌-◌, ℕ, Bool,
 use Rattle.std.specs.Prelude.{unwrap_or}
 use Rattle.std.specs.Cmp.{IsEquivalence}
 use Rattle.std.proofs.Common.{ap, sym, ◌∙◌, subst, arith}
-use Rattle.lru_limits.specs.Rules.{Told, Replaced, Allowed, Rules, Offers}
+use Rattle.lru_limits.specs.Rules.{Notified, Replaced, Allowed, Rules, Offers}
 use Rattle.lru_limits.specs.Laws.{IsInsertion}
 
 pub record HandsOver {S K V : Type 0} (accepts : Bool) (s : S) (k : K) (v : V) (t : S)
@@ -21,7 +21,7 @@ pub record HandsOver {S K V : Type 0} (accepts : Bool) (s : S) (k : K) (v : V) (
   pub limiter : t ≡ s
   pub pair : given ≡ (if accepts then Some (k, v) else None)
 
-abbrev pub unmoved : {K V S : Type 0} → S → K → V → Told K V S
+abbrev pub unmoved : {K V S : Type 0} → S → K → V → Notified K V S
 unmoved s k v = record { limiter = s; key = k; value = v }
 
 abbrev pub answers : {S : Type 0} → S → Bool → Allowed S
@@ -41,8 +41,8 @@ plain over grants = record {
 abbrev pub rules_at : {K V S W : Type 0} → (W → S) → (S → W) → Rules K V S → Rules K V W
 rules_at of to rules = record {
   is_over_the_limit = λ w length. rules.is_over_the_limit (of w) length;
-  on_removed = λ w k v. let told = rules.on_removed (of w) k v in
-      record { limiter = to told.limiter; key = told.key; value = told.value };
+  on_removed = λ w k v. let notified = rules.on_removed (of w) k v in
+      record { limiter = to notified.limiter; key = notified.key; value = notified.value };
   on_cleared = λ w. to (rules.on_cleared (of w));
   on_grow = λ w bytes. let asked = rules.on_grow (of w) bytes in answers (to asked.limiter) asked.allowed;
 }

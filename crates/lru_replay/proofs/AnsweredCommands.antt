@@ -13,11 +13,11 @@ use Rattle.lru_replay.specs.Replies.{Reply}
 use Rattle.lru_replay.specs.Steps.{ReplyStep}
 
 --     found     the command that was read, which is this one
-pub carried_out : {S : Type 0} {rules : Rules ℕ ℕ S} {offers : Offers ℕ ℕ S ℕ} (told : S → Option ℕ) {old new : Map S}
+pub carried_out : {S : Type 0} {rules : Rules ℕ ℕ S} {offers : Offers ℕ ℕ S ℕ} (reported : S → Option ℕ) {old new : Map S}
     {line : List ℕ} (from to : Option (List ℕ)) (result : Result (Unit {0}) ReplayError) (command : Command)
     {found : Command} → found ≡ command → SpellsCommand line found → (reply : Reply ℕ ℕ)
     → ReplyStep rules offers nat_eq hash_of old (call_of command) reply new
-    → Writes from to result (reply_text (told old.limiter) reply)
-    → (text : List ℕ) × LineStep rules offers told old line text new × Writes from to result text
-carried_out told {line = line} from to result command is spells reply step wrote =
+    → Writes from to result (reply_text (reported old.limiter) reply)
+    → (text : List ℕ) × LineStep rules offers reported old line text new × Writes from to result text
+carried_out reported {line = line} from to result command is spells reply step wrote =
     (_, inl (command, subst (SpellsCommand line) is spells, (reply, inl step, refl)), wrote)

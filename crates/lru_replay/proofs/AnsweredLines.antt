@@ -20,19 +20,19 @@ use Rattle.lru_replay.proofs.WrittenTexts.{begins_after}
 
 -- From the map old, some lines were read whole, and the text of a run over them was written, which left the map now.
 -- The reader's bytes were r₀ and are r₁, and the writer's were w₀ and are w₁.
-pub record RunsSoFar {S : Type 0} (rules : Rules ℕ ℕ S) (offers : Offers ℕ ℕ S ℕ) (told : S → Option ℕ) (old : Map S)
+pub record RunsSoFar {S : Type 0} (rules : Rules ℕ ℕ S) (offers : Offers ℕ ℕ S ℕ) (reported : S → Option ℕ) (old : Map S)
     (r₀ r₁ w₀ w₁ : Option (List ℕ)) (now : Map S) : Type 0 where
   pub lines : List (List ℕ)
   pub text : List ℕ
-  pub run : IsLineRun rules offers told old lines text now
+  pub run : IsLineRun rules offers reported old lines text now
   pub reads : TakesLines r₀ r₁ lines []
   pub wrote : Appends w₀ w₁ text
 
-module _ {S : Type 0} {rules : Rules ℕ ℕ S} {offers : Offers ℕ ℕ S ℕ} {told : S → Option ℕ} {old now : Map S}
-    {r₀ r₁ w₀ w₁ : Option (List ℕ)} (so_far : RunsSoFar rules offers told old r₀ r₁ w₀ w₁ now) (r₂ : Option (List ℕ))
+module _ {S : Type 0} {rules : Rules ℕ ℕ S} {offers : Offers ℕ ℕ S ℕ} {reported : S → Option ℕ} {old now : Map S}
+    {r₀ r₁ w₀ w₁ : Option (List ℕ)} (so_far : RunsSoFar rules offers reported old r₀ r₁ w₀ w₁ now) (r₂ : Option (List ℕ))
     (line : List ℕ) where
   -- a read failed in the next line
-  pub read_failed : TakesPart r₁ r₂ line → Answers (IsTextOf rules offers told old) r₀ r₂ w₀ w₁ (Err errors.Read)
+  pub read_failed : TakesPart r₁ r₂ line → Answers (IsTextOf rules offers reported old) r₀ r₂ w₀ w₁ (Err errors.Read)
   read_failed part = (
     so_far.lines,
     so_far.text,
@@ -43,13 +43,13 @@ module _ {S : Type 0} {rules : Rules ℕ ℕ S} {offers : Offers ℕ ℕ S ℕ} 
   )
 
   -- the input's end came after a line feed
-  pub all_answered : TakesRest r₁ r₂ line → line ≡ [] → Answers (IsTextOf rules offers told old) r₀ r₂ w₀ w₁ (Ok tt)
+  pub all_answered : TakesRest r₁ r₂ line → line ≡ [] → Answers (IsTextOf rules offers reported old) r₀ r₂ w₀ w₁ (Ok tt)
   all_answered taken none = (
     IfSome_then r₀ (lines_at_end r₀ r₁ r₂ so_far.lines line so_far.reads taken) (λ input all. (
       so_far.text,
       (
         now,
-        subst (λ ls. IsLineRun rules offers told old ls so_far.text now)
+        subst (λ ls. IsLineRun rules offers reported old ls so_far.text now)
             (sym (all ∙ ap (λ l. so_far.lines ++ lines_of l) none ∙ append-nil so_far.lines)) so_far.run,
       ),
       so_far.wrote,
@@ -59,14 +59,14 @@ module _ {S : Type 0} {rules : Rules ℕ ℕ S} {offers : Offers ℕ ℕ S ℕ} 
 
   module _ (new : Map S) (w₂ : Option (List ℕ)) (sized : IsSized new) where
     -- the run with one line more
-    run_on : (next : List ℕ) → LineStep rules offers told now line next new
-        → IsLineRun rules offers told old (so_far.lines ++ line ∷ []) (so_far.text ++ fed next) new
-    run_on next step = line_run-append rules offers told old so_far.lines so_far.text now (line ∷ []) (fed next) new
-        so_far.run (line_run-one rules offers told now line next new step sized)
+    run_on : (next : List ℕ) → LineStep rules offers reported now line next new
+        → IsLineRun rules offers reported old (so_far.lines ++ line ∷ []) (so_far.text ++ fed next) new
+    run_on next step = line_run-append rules offers reported old so_far.lines so_far.text now (line ∷ []) (fed next) new
+        so_far.run (line_run-one rules offers reported now line next new step sized)
 
     -- a line with its line feed was answered
-    pub line_answered : TakesFed r₁ r₂ line → AnswersLine rules offers told now line new w₁ w₂ (Ok tt)
-        → RunsSoFar rules offers told old r₀ r₂ w₀ w₂ new
+    pub line_answered : TakesFed r₁ r₂ line → AnswersLine rules offers reported now line new w₁ w₂ (Ok tt)
+        → RunsSoFar rules offers reported old r₀ r₂ w₀ w₂ new
     line_answered taken (next, step, answered) = record {
       lines = so_far.lines ++ line ∷ [];
       text = so_far.text ++ fed next;
@@ -76,8 +76,8 @@ module _ {S : Type 0} {rules : Rules ℕ ℕ S} {offers : Offers ℕ ℕ S ℕ} 
     }
 
     -- a write failed within its answer
-    pub line_cut : (e : ReplayError) → TakesFed r₁ r₂ line → AnswersLine rules offers told now line new w₁ w₂ (Err e)
-        → Answers (IsTextOf rules offers told old) r₀ r₂ w₀ w₂ (Err e)
+    pub line_cut : (e : ReplayError) → TakesFed r₁ r₂ line → AnswersLine rules offers reported now line new w₁ w₂ (Err e)
+        → Answers (IsTextOf rules offers reported old) r₀ r₂ w₀ w₂ (Err e)
     line_cut errors.Read taken (next, step, (same, begun)) = absurd (cc same)
     line_cut errors.Write taken (next, step, (same, begun)) = inr (
       so_far.lines ++ line ∷ [],
@@ -94,15 +94,15 @@ module _ {S : Type 0} {rules : Rules ℕ ℕ S} {offers : Offers ℕ ℕ S ℕ} 
       all_lines = IfSome_then r₀ (lines_at_end r₀ r₁ r₂ so_far.lines line so_far.reads taken)
           (λ input all. all ∙ ap (λ l. so_far.lines ++ l) (lines_of-last line taken.0 some))
 
-      of_all : (Wrote : List ℕ → Type 0) (next : List ℕ) → LineStep rules offers told now line next new
+      of_all : (Wrote : List ℕ → Type 0) (next : List ℕ) → LineStep rules offers reported now line next new
           → Wrote (so_far.text ++ fed next)
-          → OfAll (IsTextOf rules offers told old) r₀ Wrote × OnSome r₀ (IsAtEnd r₂)
+          → OfAll (IsTextOf rules offers reported old) r₀ Wrote × OnSome r₀ (IsAtEnd r₂)
       of_all Wrote next step wrote = (
         IfSome_then r₀ all_lines (λ input all. (
           so_far.text ++ fed next,
           (
             new,
-            subst (λ ls. IsLineRun rules offers told old ls (so_far.text ++ fed next) new) (sym all) (run_on next step),
+            subst (λ ls. IsLineRun rules offers reported old ls (so_far.text ++ fed next) new) (sym all) (run_on next step),
           ),
           wrote,
         )),
@@ -110,8 +110,8 @@ module _ {S : Type 0} {rules : Rules ℕ ℕ S} {offers : Offers ℕ ℕ S ℕ} 
       )
 
       pub last_answered : (result : Result (Unit {0}) ReplayError)
-          → AnswersLine rules offers told now line new w₁ w₂ result
-          → Answers (IsTextOf rules offers told old) r₀ r₂ w₀ w₂ result
+          → AnswersLine rules offers reported now line new w₁ w₂ result
+          → Answers (IsTextOf rules offers reported old) r₀ r₂ w₀ w₂ result
       last_answered (Ok u) (next, step, answered) =
           of_all (Appends w₀ w₂) next step (Appends-trans w₀ w₁ w₂ so_far.text (fed next) so_far.wrote answered)
       last_answered (Err errors.Read) (next, step, (same, begun)) = absurd (cc same)

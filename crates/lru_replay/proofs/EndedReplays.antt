@@ -22,7 +22,7 @@ use Rattle.lru_replay.specs.Output.{Begins, Fails, no_limiter_text}
 use Rattle.lru_replay.specs.Replay.{IsTextUnder, IsReplay, NamesNoLimit, IsOutput, SoFar}
 use Rattle.lru_replay.specs.Replay.{WritesCut, WritesCutSoFar, Replays}
 use Rattle.lru_limits.specs.Limiters.{length_rules, length_offers, memory_rules, no_rules, all_offers}
-use Rattle.lru_replay.specs.Limits.{cost_rules, cost_offers, no_cost, cost_told, AlwaysOffers}
+use Rattle.lru_replay.specs.Limits.{cost_rules, cost_offers, no_cost, cost_reported, AlwaysOffers}
 use Rattle.lru_replay.specs.Maps.{Map, empty}
 use Rattle.schnellru.specs.Sizes.{default_entry_bytes, links_of_32_bits, links_of_64_bits}
 use Rattle.lru_replay.specs.LineRuns.{IsTextOf, Answers}
@@ -69,14 +69,14 @@ no_limit (Some x) b endings.Nothing first (taken, nothing) none = only_first (So
     (λ input same. none_first (lines_of input) (same ∙ ap lines_of nothing))
 
 -- A text of the first n lines goes on for more lines.
-module _ {S : Type 0} (rules : Rules ℕ ℕ S) (offers : Offers ℕ ℕ S ℕ) (told : S → Option ℕ)
+module _ {S : Type 0} (rules : Rules ℕ ℕ S) (offers : Offers ℕ ℕ S ℕ) (reported : S → Option ℕ)
     (offered : AlwaysOffers offers) (old : Map S) (sized : IsSized old) where
-  text_goes_on : (lines more : List (List ℕ)) (text : List ℕ) → IsTextOf rules offers told old lines text
-      → (u : List ℕ) × IsTextOf rules offers told old (lines ++ more) (text ++ u)
+  text_goes_on : (lines more : List (List ℕ)) (text : List ℕ) → IsTextOf rules offers reported old lines text
+      → (u : List ℕ) × IsTextOf rules offers reported old (lines ++ more) (text ++ u)
   text_goes_on lines more text (now, run) =
-      let (u, new, others) = some_line_run rules offers told offered now
-      (line_run_sized rules offers told old lines text now sized run) more in
-      (u, (new, line_run-append rules offers told old lines text now more u new run others))
+      let (u, new, others) = some_line_run rules offers reported offered now
+      (line_run_sized rules offers reported old lines text now sized run) more in
+      (u, (new, line_run-append rules offers reported old lines text now more u new run others))
 
 under_goes_on : (limit : Limit) (lines more : List (List ℕ)) (text : List ℕ) → IsTextUnder limit lines text
     → (u : List ℕ) × IsTextUnder limit (lines ++ more) (text ++ u)
@@ -86,7 +86,7 @@ under_goes_on (limits.Memory budget entry_bytes) = text_goes_on memory_rules all
     (empty budget entry_bytes links_of_32_bits) (empty_is_sized budget entry_bytes links_of_32_bits)
 under_goes_on (limits.Cost most) =
     let budget : Budget = record { limit = most; cost = 0 } in
-    text_goes_on cost_rules cost_offers cost_told cost_always (empty budget default_entry_bytes links_of_64_bits)
+    text_goes_on cost_rules cost_offers cost_reported cost_always (empty budget default_entry_bytes links_of_64_bits)
     (empty_is_sized budget default_entry_bytes links_of_64_bits)
 under_goes_on limits.Compact = text_goes_on no_rules all_offers no_cost all_always
     (empty (record {}) default_entry_bytes links_of_32_bits)

@@ -48,10 +48,10 @@ whole_text line text short e = sym (short_front HELD line text (sym e) (omega (a
 held_text : (line text : List ℕ) → length text ≤ LONGEST → line ≡ text → take HELD line ≡ text
 held_text line text short e = take_all HELD line (omega (arith, ap length e, short)) ∙ e
 
-module _ {S : Type 0} (rules : Rules ℕ ℕ S) (offers : Offers ℕ ℕ S ℕ) (told : S → Option ℕ) where
+module _ {S : Type 0} (rules : Rules ℕ ℕ S) (offers : Offers ℕ ℕ S ℕ) (reported : S → Option ℕ) where
   -- what is held of a line is answered as the line is
   whole_step : (old : Map S) (line text : List ℕ) (new : Map S)
-      → LineStep rules offers told old (take HELD line) text new → LineStep rules offers told old line text new
+      → LineStep rules offers reported old (take HELD line) text new → LineStep rules offers reported old line text new
   whole_step old line text new (inl (command, spells, is)) = inl
       (command, (spells.0, whole_text line _ (short_command command spells.0) spells.1), is)
   whole_step old line text new (inr (none, is, same)) =
@@ -61,8 +61,8 @@ module _ {S : Type 0} (rules : Rules ℕ ℕ S) (offers : Offers ℕ ℕ S ℕ) 
 
   pub whole_answer : (result : Result (Unit {0}) ReplayError) (old new : Map S) (held line : List ℕ)
       (from to : Option (List ℕ)) → held ≡ take HELD line
-      → AnswersLine rules offers told old held new from to result
-      → AnswersLine rules offers told old line new from to result
+      → AnswersLine rules offers reported old held new from to result
+      → AnswersLine rules offers reported old line new from to result
   whole_answer result old new held line from to is (text, step, written) = (
     text,
     whole_step old line text new (rw is at step),

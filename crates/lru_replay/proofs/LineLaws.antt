@@ -24,9 +24,9 @@ writes_nothing : (S : Type 0) (command : Command) → WritesNothing {S = S} (cal
 writes_nothing S (commands.Insert k v) = tt
 writes_nothing S command = tt
 
-module _ {S : Type 0} (rules : Rules ℕ ℕ S) (offers : Offers ℕ ℕ S ℕ) (told : S → Option ℕ) where
+module _ {S : Type 0} (rules : Rules ℕ ℕ S) (offers : Offers ℕ ℕ S ℕ) (reported : S → Option ℕ) where
   -- a line is a call of the map, or changes nothing
-  line_moves : (old : Map S) (line text : List ℕ) (new : Map S) → LineStep rules offers told old line text new
+  line_moves : (old : Map S) (line text : List ℕ) (new : Map S) → LineStep rules offers reported old line text new
       → Step rules offers nat_eq hash_of old new ⊎ (new ≡ old)
   line_moves old line text new (inr (none, is, same)) = inr same
   line_moves old line text new (inl (command, spells, (reply, answers, is))) = answered answers
@@ -46,8 +46,8 @@ module _ {S : Type 0} (rules : Rules ℕ ℕ S) (offers : Offers ℕ ℕ S ℕ) 
   pub lines_keep : {Holds : Map S → Type 0}
       → ((old new : Map S) → Step rules offers nat_eq hash_of old new → IsSized new → Holds old → Holds new)
       → (old : Map S) (lines texts : List (List ℕ)) (new : Map S)
-      → IsRun (LineStep rules offers told) IsSized old lines texts new → Holds old
-      → IsRun (LineStep rules offers told) Holds old lines texts new
+      → IsRun (LineStep rules offers reported) IsSized old lines texts new → Holds old
+      → IsRun (LineStep rules offers reported) Holds old lines texts new
   lines_keep law old [] [] new same holds = same
   lines_keep {Holds} law old (line ∷ lines) (text ∷ texts) new (mid, step, sized, run) holds =
       let after : Holds mid = elim (line_moves old line text mid step) [

@@ -13,8 +13,8 @@ abbrev pub cost_offers : Offers ℕ ℕ Budget ℕ
 cost_offers = charges (λ value. value)
 
 -- the cost that it keeps
-abbrev pub cost_told : Budget → Option ℕ
-cost_told b = Some b.cost
+abbrev pub cost_reported : Budget → Option ℕ
+cost_reported b = Some b.cost
 
 module _ {S : Type 0} where
   -- no cost is kept

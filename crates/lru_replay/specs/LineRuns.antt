@@ -27,12 +27,12 @@ module _ {S : Type 0} (rules : Rules ℕ ℕ S) (offers : Offers ℕ ℕ S ℕ) 
   AnswersCommand old command reply new = ReplyStep rules offers nat_eq hash_of old (call_of command) reply new
       ⊎ (StoresFirst command × (reply ≡ no_memory) × (new ≡ old))
 
-module _ {S : Type 0} (rules : Rules ℕ ℕ S) (offers : Offers ℕ ℕ S ℕ) (told : S → Option ℕ) where
+module _ {S : Type 0} (rules : Rules ℕ ℕ S) (offers : Offers ℕ ℕ S ℕ) (reported : S → Option ℕ) where
   -- the command is carried out, and the text is that of the reply
   abbrev pub CommandStep : Map S → Command → List ℕ → Map S → Type 0
   CommandStep old command text new = (reply : Reply ℕ ℕ)
       × AnswersCommand rules offers old command reply new
-      × (text ≡ reply_text (told old.limiter) reply)
+      × (text ≡ reply_text (reported old.limiter) reply)
 
   -- The line spells a command, which is carried out, or it spells none, is bad, and changes nothing.
   abbrev pub LineStep : Map S → List ℕ → List ℕ → Map S → Type 0

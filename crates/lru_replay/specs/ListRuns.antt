@@ -52,31 +52,31 @@ beside list c = record { pairs = c.pairs; limiter = (c.limiter, list) }
 
 module _ {K V S : Type 0} (rules : Rules K V S) (offers : Offers K V S K) (eq : K → K → Bool) where
   -- what the call says and leaves, if the list alone determines it
-  abbrev pub told : Contents K V S → Call K V S → Option (Reply K V × Contents K V S)
-  told c (calls.Update key v) = let ended = updated_in_list rules offers eq key v c in Some (updated ended.0, ended.1)
-  told c (calls.Get key) = Some (value (lookup (eq key) c.pairs), fronted eq key c)
-  told c (calls.Peek key) = Some (value (lookup (eq key) c.pairs), c)
-  told c (calls.Contains key) = Some (flag (is_some (lookup (eq key) c.pairs)), c)
-  told c (calls.Promote key) = Some (flag (is_some (lookup (eq key) c.pairs)), fronted eq key c)
-  told c (calls.Demote key) =
+  abbrev pub determined : Contents K V S → Call K V S → Option (Reply K V × Contents K V S)
+  determined c (calls.Update key v) = let ended = updated_in_list rules offers eq key v c in Some (updated ended.0, ended.1)
+  determined c (calls.Get key) = Some (value (lookup (eq key) c.pairs), fronted eq key c)
+  determined c (calls.Peek key) = Some (value (lookup (eq key) c.pairs), c)
+  determined c (calls.Contains key) = Some (flag (is_some (lookup (eq key) c.pairs)), c)
+  determined c (calls.Promote key) = Some (flag (is_some (lookup (eq key) c.pairs)), fronted eq key c)
+  determined c (calls.Demote key) =
       Some (flag (is_some (lookup (eq key) c.pairs)), record c { pairs = back (eq key) c.pairs })
-  told c (calls.Write key v) =
+  determined c (calls.Write key v) =
       Some (flag (is_some (lookup (eq key) c.pairs)), record c { pairs = set_value (eq key) c.pairs v })
-  told c (calls.Remove key) = let left = left_of rules c.limiter (lookup_entry (eq key) c.pairs) in
+  determined c (calls.Remove key) = let left = left_of rules c.limiter (lookup_entry (eq key) c.pairs) in
       Some (value (option_map (λ p. p.1) left), removal rules (eq key) c)
-  told c (calls.RemoveEntry key) =
+  determined c (calls.RemoveEntry key) =
       Some (pair (left_of rules c.limiter (lookup_entry (eq key) c.pairs)), removal rules (eq key) c)
-  told c calls.PopOldest = Some (pair (left_of rules c.limiter (last c.pairs)), pop rules c)
-  told c calls.PopNewest = Some (pair (left_of rules c.limiter (first c.pairs)), pop_first rules c)
-  told c calls.PeekOldest = Some (pair (last c.pairs), c)
-  told c calls.PeekNewest = Some (pair (first c.pairs), c)
-  told c calls.Trim = Some (done, trim rules c)
-  told c calls.Clear = Some (done, emptied rules c)
-  told c (calls.Drain front back) = let mid = pops_first rules front c in
+  determined c calls.PopOldest = Some (pair (left_of rules c.limiter (last c.pairs)), pop rules c)
+  determined c calls.PopNewest = Some (pair (left_of rules c.limiter (first c.pairs)), pop_first rules c)
+  determined c calls.PeekOldest = Some (pair (last c.pairs), c)
+  determined c calls.PeekNewest = Some (pair (first c.pairs), c)
+  determined c calls.Trim = Some (done, trim rules c)
+  determined c calls.Clear = Some (done, emptied rules c)
+  determined c (calls.Drain front back) = let mid = pops_first rules front c in
       Some (listed (newest_given rules front c ++ oldest_given rules back mid), emptied rules (pops rules back mid))
-  told c calls.List = Some (listed c.pairs, c)
-  told c (calls.SetLimiter s) = Some (done, record c { limiter = s })
-  told c call = None
+  determined c calls.List = Some (listed c.pairs, c)
+  determined c (calls.SetLimiter s) = Some (done, record c { limiter = s })
+  determined c call = None
 
   -- From the list c, the call may say this and leave d. Only a table says what growth is reserved, whether it shrinks,
   -- and all figures but the number of pairs, so of these nothing is said.
@@ -101,7 +101,7 @@ module _ {K V S : Type 0} (rules : Rules K V S) (offers : Offers K V S K) (eq : 
     ListStep c calls.Shrink reply d = (result : Result Bool AllocError) × (reply ≡ shrunk result) × (d ≡ c)
     ListStep c calls.Stats reply d =
         (figures : Figures) × (figures.len ≡ length c.pairs) × (reply ≡ stats figures) × (d ≡ c)
-    ListStep c call reply d = told c call ≡ Some (reply, d)
+    ListStep c call reply d = determined c call ≡ Some (reply, d)
 
     -- so it does, or no memory is found to store pairs, and nothing changes
     abbrev pub ListCallStep : Contents K V S → Call K V S → Reply K V → Contents K V S → Type 0

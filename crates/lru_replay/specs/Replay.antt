@@ -11,7 +11,7 @@ use Rattle.lru_replay.specs.declared.lines.outcome.ReplayError.{ReplayError}
 use Rattle.lru_replay.specs.declared.lines.outcome.ReplayError.TheVariants as errors
 use Rattle.schnellru.specs.Sizes.{default_entry_bytes, links_of_32_bits, links_of_64_bits}
 use Rattle.lru_replay.specs.Grammar.{SpellsLimit}
-use Rattle.lru_replay.specs.Limits.{cost_rules, cost_offers, no_cost, cost_told}
+use Rattle.lru_replay.specs.Limits.{cost_rules, cost_offers, no_cost, cost_reported}
 use Rattle.lru_replay.specs.Lines.{lines_of, TakesFirst}
 use Rattle.lru_replay.specs.Maps.{empty}
 use Rattle.lru_replay.specs.Output.{no_limiter_text, Begins}
@@ -24,7 +24,7 @@ IsTextUnder (limits.Length most) =
 IsTextUnder (limits.Memory budget entry_bytes) =
     IsTextOf memory_rules all_offers no_cost (empty budget entry_bytes links_of_32_bits)
 IsTextUnder (limits.Cost most) =
-    IsTextOf cost_rules cost_offers cost_told
+    IsTextOf cost_rules cost_offers cost_reported
     (empty (record { limit = most; cost = 0 }) default_entry_bytes links_of_64_bits)
 IsTextUnder limits.Compact =
     IsTextOf {S = UnlimitedCompact} no_rules all_offers no_cost (empty (record {}) default_entry_bytes links_of_32_bits)

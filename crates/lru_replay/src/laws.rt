@@ -184,9 +184,9 @@ pub fn small_summing_is_alike<K: Eq + Hash, V, L: Summing<K, V, K>, S: KeyHasher
 /// In a run of lines from a map, each line leaves a map: no two keys are equal, and inserts moved at most twice as many
 /// entries as they stored, plus those that shrinks rehashed.
 pub fn lines_keep_maps<L: Insertion<u64, u64, u64>>()
-    ensures maps { (told : L → Option ℕ) (old new : Map L) (lines texts : List (List ℕ)) →
-        IsRun (LineStep L.rules L.offers told) IsSized old lines texts new → IsMap nat_eq old →
-        IsRun (LineStep L.rules L.offers told) (IsMap nat_eq) old lines texts new }
+    ensures maps { (reported : L → Option ℕ) (old new : Map L) (lines texts : List (List ℕ)) →
+        IsRun (LineStep L.rules L.offers reported) IsSized old lines texts new → IsMap nat_eq old →
+        IsRun (LineStep L.rules L.offers reported) (IsMap nat_eq) old lines texts new }
 {
     laws::calls_keep_maps::<u64, u64, u64, L, RandomState>();
 }
@@ -194,9 +194,9 @@ pub fn lines_keep_maps<L: Insertion<u64, u64, u64>>()
 /// In a run of lines under a limiter with a running total, as under `cost N`, the total is the sum of the costs after
 /// each line, if it was before: lines write nothing through a reference.
 pub fn lines_keep_sums<L: Summing<u64, u64, u64>>()
-    ensures sums { (told : L → Option ℕ) (old new : Map L) (lines texts : List (List ℕ)) →
-        IsRun (LineStep L.rules L.offers told) IsSized old lines texts new → IsSummed L.cost_of L.account old →
-        IsRun (LineStep L.rules L.offers told) (IsSummed L.cost_of L.account) old lines texts new }
+    ensures sums { (reported : L → Option ℕ) (old new : Map L) (lines texts : List (List ℕ)) →
+        IsRun (LineStep L.rules L.offers reported) IsSized old lines texts new → IsSummed L.cost_of L.account old →
+        IsRun (LineStep L.rules L.offers reported) (IsSummed L.cost_of L.account) old lines texts new }
 {
     laws::calls_keep_sums::<u64, u64, u64, L, RandomState>();
 }

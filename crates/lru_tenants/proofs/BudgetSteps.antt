@@ -9,7 +9,7 @@ use Rattle.lru_limits.specs.Laws.{IsAccount}
 use Rattle.lru_limits.specs.Budgeted.{IsBudgeted}
 use Rattle.schnellru.specs.GetOrInserts.{MakesNewest, got, inserted}
 use Rattle.schnellru.specs.Lists.{last, without_first, without_last, lookup_entry}
-use Rattle.schnellru.specs.State.{State, contents, IsWithin, told_of}
+use Rattle.schnellru.specs.State.{State, contents, IsWithin, notified_of}
 use Rattle.schnellru.specs.Runs.{Step, inserts, makes_newest, updates, gets, demotes, removes, pops_oldest, pops_newest, drains, clears}
 use Rattle.schnellru.specs.Runs.{reserves, shrinks, trims, retains}
 use Rattle.schnellru.specs.Theorems.{IsSummed}
@@ -25,7 +25,7 @@ use Rattle.schnellru.proofs.Theorems.Sums.{total, total-is, total-front, total-b
 module _ {K V S : Type 0} {rules : Rules K V S} {offers : Offers K V S K} {account budget : S → ℕ}
     {accepts : S → K → V → Bool} {made : ℕ → S} {rebudgeted : ℕ → S → S}
     (laws : IsBudgeted rules offers account budget accepts made rebudgeted) where
-  told_budget : (pair : Option (K × V)) (s : S) → budget (told_of rules pair s) ≡ budget s
+  told_budget : (pair : Option (K × V)) (s : S) → budget (notified_of rules pair s) ≡ budget s
   told_budget None s = refl
   told_budget (Some pair) s = laws.removed s pair.0 pair.1
 

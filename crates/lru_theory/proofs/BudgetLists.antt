@@ -8,7 +8,7 @@ use Rattle.std.proofs.lemmas.List.{length-map}
 use Rattle.lru_limits.specs.Budget.{Budget, by_cost}
 use Rattle.schnellru.proofs.CallerLemmas.{length-without_last}
 use Rattle.schnellru.specs.Lists.{last, without_last, lookup_entry, without, keys_of}
-use Rattle.schnellru.specs.State.{Contents, told_of, pop, trim, trim_from}
+use Rattle.schnellru.specs.State.{Contents, notified_of, pop, trim, trim_from}
 use Rattle.recency.specs.Budgets.{affordable}
 use Rattle.recency.specs.Recency.{IsExact}
 use Rattle.recency.proofs.Affordable.{spent, affords_all}
@@ -93,11 +93,11 @@ module _ {K V : Type 0} (cost : V → ℕ) (value_of : K → V) where
     holding keys = record { pairs = map pair_of keys; limiter = spending (spent key_cost keys) }
 
     told_last : (more : ℕ) (key : K) (keys : List K)
-        → told_of (by_cost cost) (last (map pair_of (key ∷ keys))) (spending (more + spent key_cost (key ∷ keys)))
+        → notified_of (by_cost cost) (last (map pair_of (key ∷ keys))) (spending (more + spent key_cost (key ∷ keys)))
         ≡ spending (more + spent key_cost (without_last (key ∷ keys)))
     told_last more key [] = ap spending (omega arith)
     told_last more key (next ∷ keys) =
-        ap (λ sum. told_of (by_cost cost) (last (map pair_of (next ∷ keys))) (spending sum)) (omega arith)
+        ap (λ sum. notified_of (by_cost cost) (last (map pair_of (next ∷ keys))) (spending sum)) (omega arith)
         ∙ told_last (more + key_cost key) next keys
         ∙ ap spending (omega arith)
 
@@ -113,7 +113,7 @@ module _ {K V : Type 0} (cost : V → ℕ) (value_of : K → V) where
         ≡ record { pairs = map pair_of (without_last (key ∷ keys)); limiter = spending rest }
     popped more sum rest key keys before after = λ i. record {
       pairs = taken_last (key ∷ keys) i;
-      limiter = (ap (λ s. told_of (by_cost cost) (last (map pair_of (key ∷ keys))) (spending s)) before
+      limiter = (ap (λ s. notified_of (by_cost cost) (last (map pair_of (key ∷ keys))) (spending s)) before
           ∙ told_last more key keys ∙ ap spending (sym after)) i;
     }
 

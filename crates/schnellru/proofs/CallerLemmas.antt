@@ -265,9 +265,9 @@ module _ {K V S H I : Type 0} {offers : Offers K V S I} {v : V} (keeps : KeepsVa
   pub inserted-found : (result : Result Bool AllocError) → result ≡ Ok true → SaysWhether rules (names i) result new
       → (result ≡ Ok true → IfSome (first new.pairs) (Stores rules offers names i v old))
       → lookup (names i) new.pairs ≡ Some v
-  inserted-found result told says stores =
-      let newest = subst (λ r. SaysWhether rules (names i) r new) told says in
-      insert_found rules offers names i v old keeps new newest.0 (stores told)
+  inserted-found result notified says stores =
+      let newest = subst (λ r. SaysWhether rules (names i) r new) notified says in
+      insert_found rules offers names i v old keeps new newest.0 (stores notified)
 
   pub inserted-only : (result : Result Bool AllocError) → SaysWhether rules (names i) result new
       → (result ≡ Ok true → IfSome (first new.pairs) (Stores rules offers names i v old))

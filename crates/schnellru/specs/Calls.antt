@@ -7,7 +7,7 @@ use Rattle.group_table.specs.Bucket.{empty}
 use Rattle.lru_limits.specs.Rules.{Rules}
 use Rattle.schnellru.specs.Lists.{first, last, without_first, lookup, lookup_entry, without, front, front_places, back}
 use Rattle.schnellru.specs.Lists.{back_places}
-use Rattle.schnellru.specs.State.{State, buckets, Contents, contents, Leaves, told_of, pop}
+use Rattle.schnellru.specs.State.{State, buckets, Contents, contents, Leaves, notified_of, pop}
 
 module _ {K V S H : Type 0} where
   -- the pair of the named key comes first
@@ -41,12 +41,12 @@ module _ {K V S : Type 0} (rules : Rules K V S) where
   abbrev pub removal : (K → Bool) → Contents K V S → Contents K V S
   removal names c = record {
     pairs = without names c.pairs;
-    limiter = told_of rules (lookup_entry names c.pairs) c.limiter;
+    limiter = notified_of rules (lookup_entry names c.pairs) c.limiter;
   }
 
   -- without the newest pair, of which the limiter is notified
   abbrev pub pop_first : Contents K V S → Contents K V S
-  pop_first c = record { pairs = without_first c.pairs; limiter = told_of rules (first c.pairs) c.limiter }
+  pop_first c = record { pairs = without_first c.pairs; limiter = notified_of rules (first c.pairs) c.limiter }
 
 module _ {K V S H : Type 0} (rules : Rules K V S) where
   -- the pair of the named key is removed, and what the limiter leaves of it is returned

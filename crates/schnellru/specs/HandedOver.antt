@@ -18,10 +18,10 @@ module _ {K V S : Type 0} where
   abbrev pub noting : Rules K V S → Rules K V (S × List (K × V))
   noting rules = record {
     is_over_the_limit = λ s n. rules.is_over_the_limit s.0 n;
-    on_removed = λ s k v. let told = rules.on_removed s.0 k v in record {
-      limiter = (told.limiter, s.1 ++ (told.key, told.value) ∷ []);
-      key = told.key;
-      value = told.value;
+    on_removed = λ s k v. let notified = rules.on_removed s.0 k v in record {
+      limiter = (notified.limiter, s.1 ++ (notified.key, notified.value) ∷ []);
+      key = notified.key;
+      value = notified.value;
     };
     on_cleared = λ s. (rules.on_cleared s.0, s.1);
     on_grow = λ s bytes. let answer = rules.on_grow s.0 bytes in record {

@@ -5,7 +5,7 @@ use Rattle.std.specs.Prelude.{◌≡◌, Bool, true, false, List, [], ◌∷◌,
 use Rattle.std.specs.Borrow.{Bor}
 use Rattle.std.specs.Fn.{Mut}
 use Rattle.lru_limits.specs.Rules.{Rules}
-use Rattle.schnellru.specs.State.{State, Contents, Leaves, told_of}
+use Rattle.schnellru.specs.State.{State, Contents, Leaves, notified_of}
 use Rattle.schnellru.specs.ByHash.{Asks}
 use Rattle.schnellru.specs.HandedOver.{noting, noted}
 
@@ -13,7 +13,7 @@ module _ {K V S : Type 0} (rules : Rules K V S) where
   -- a pair stays if its answer is true, and else the limiter is notified of its removal
   abbrev pub answered : (K × V) × Bool → Contents K V S → Contents K V S
   answered (pair, true) c = record { pairs = pair ∷ c.pairs; limiter = c.limiter }
-  answered (pair, false) c = record { pairs = c.pairs; limiter = told_of rules (Some pair) c.limiter }
+  answered (pair, false) c = record { pairs = c.pairs; limiter = notified_of rules (Some pair) c.limiter }
 
   -- what is left of these pairs, newest first, after their answers, the last of which came first
   abbrev pub retained : List ((K × V) × Bool) → S → Contents K V S

@@ -128,13 +128,13 @@ module _ {K V S H : Type 0} where
 
 module _ {K V S : Type 0} (rules : Rules K V S) where
   -- the limiter, after it was notified of the pair that left, if there was one
-  abbrev pub told_of : Option (K × V) → S → S
-  told_of None s = s
-  told_of (Some pair) s = (rules.on_removed s pair.0 pair.1).limiter
+  abbrev pub notified_of : Option (K × V) → S → S
+  notified_of None s = s
+  notified_of (Some pair) s = (rules.on_removed s pair.0 pair.1).limiter
 
   -- without the oldest pair, of which the limiter is notified
   abbrev pub pop : Contents K V S → Contents K V S
-  pop c = record { pairs = without_last c.pairs; limiter = told_of (last c.pairs) c.limiter }
+  pop c = record { pairs = without_last c.pairs; limiter = notified_of (last c.pairs) c.limiter }
 
   -- without the n oldest pairs, one after another
   abbrev pub pops : ℕ → Contents K V S → Contents K V S

@@ -6,43 +6,43 @@ use schnellru::{ByCost, ByLength, ByMemoryUsage, KeyHasher, Limiter, LruMap, Unl
 use std::hash::Hash;
 
 /// A limiter of a replay, which may have a running total of costs.
-pub trait TellsCost {
+pub trait ReportsCost {
     /// Returns the running total of costs, if there is one.
-    ghost told: { Self → Option ℕ };
+    ghost reported: { Self → Option ℕ };
 
     /// Returns the running total of costs, if there is one.
-    fn told_cost(&self) -> Option<u64>
-        ensures { result ≡ told self.now };
+    fn reported_cost(&self) -> Option<u64>
+        ensures { result ≡ reported self.now };
 }
 
-impl TellsCost for ByLength {
-    ghost told = { λ _. None };
+impl ReportsCost for ByLength {
+    ghost reported = { λ _. None };
 
-    fn told_cost(&self) -> Option<u64> {
+    fn reported_cost(&self) -> Option<u64> {
         None
     }
 }
 
-impl TellsCost for ByMemoryUsage {
-    ghost told = { λ _. None };
+impl ReportsCost for ByMemoryUsage {
+    ghost reported = { λ _. None };
 
-    fn told_cost(&self) -> Option<u64> {
+    fn reported_cost(&self) -> Option<u64> {
         None
     }
 }
 
-impl TellsCost for UnlimitedCompact {
-    ghost told = { λ _. None };
+impl ReportsCost for UnlimitedCompact {
+    ghost reported = { λ _. None };
 
-    fn told_cost(&self) -> Option<u64> {
+    fn reported_cost(&self) -> Option<u64> {
         None
     }
 }
 
-impl TellsCost for ByCost {
-    ghost told = { λ b. Some b.cost };
+impl ReportsCost for ByCost {
+    ghost reported = { λ b. Some b.cost };
 
-    fn told_cost(&self) -> Option<u64> {
+    fn reported_cost(&self) -> Option<u64> {
         Some(self.cost())
     }
 }

@@ -15,7 +15,7 @@ ghost use Rattle.lru_replay.specs.LineRuns.{LineStep, AnswersLine, IsTextOf, Ans
 use crate::calls::steps::get;
 use crate::lines::command::{Command, Limit, command_of, limit_of};
 use crate::lines::drain::write_drain;
-use crate::lines::figures::{TellsCost, figures_of};
+use crate::lines::figures::{ReportsCost, figures_of};
 use crate::lines::line::{Ending, Line, read_line};
 use crate::lines::outcome::{ReplayEnd, ReplayError};
 use crate::lines::output::{
@@ -33,13 +33,13 @@ use std::io::{BufRead, Write};
 const ENTRY_BYTES: usize = 32;
 
 /// Carries out what a line says, and writes the answer.
-fn answer_command<L: Insertion<u64, u64, u64> + TellsCost, W: Write>(
+fn answer_command<L: Insertion<u64, u64, u64> + ReportsCost, W: Write>(
     alloc: Global,
     map: &mut LruMap<u64, u64, L>,
     line: &[u8],
     writer: &mut W,
 ) -> Result<(), ReplayError>
-    ensures { (text : List ℕ) × LineStep L.rules L.offers L.told map.old line.now text map.new
+    ensures { (text : List ℕ) × LineStep L.rules L.offers L.reported map.old line.now text map.new
         × Writes (W.contents writer.old) (W.contents writer.new) result text }
 {
     match command_of(line) {
@@ -65,20 +65,20 @@ fn answer_command<L: Insertion<u64, u64, u64> + TellsCost, W: Write>(
         Some(Command::List) => write_pairs(writer, map.iter()),
         Some(Command::Stats) => {
             write_figures(writer, figures_of(map))?;
-            write_cost(writer, map.limiter().told_cost())
+            write_cost(writer, map.limiter().reported_cost())
         }
         None => write_bytes(writer, b"bad"),
     }
 }
 
 /// Carries out what a line says, and writes the answer line.
-fn answer_line<L: Insertion<u64, u64, u64> + TellsCost, W: Write>(
+fn answer_line<L: Insertion<u64, u64, u64> + ReportsCost, W: Write>(
     alloc: Global,
     map: &mut LruMap<u64, u64, L>,
     line: &[u8],
     writer: &mut W,
 ) -> Result<(), ReplayError>
-    ensures step { AnswersLine L.rules L.offers L.told map.old line.now map.new
+    ensures step { AnswersLine L.rules L.offers L.reported map.old line.now map.new
         (W.contents writer.old) (W.contents writer.new) result }
     ensures sized { IsSized map.new }
 {
@@ -96,13 +96,13 @@ fn learn<L: Insertion<u64, u64, u64>>(map: &LruMap<u64, u64, L>)
 }
 
 /// Answers the lines up to the reader's end.
-fn answer_lines<L: Insertion<u64, u64, u64> + TellsCost, R: BufRead, W: Write>(
+fn answer_lines<L: Insertion<u64, u64, u64> + ReportsCost, R: BufRead, W: Write>(
     alloc: Global,
     map: &mut LruMap<u64, u64, L>,
     reader: &mut R,
     writer: &mut W,
 ) -> Result<(), ReplayError>
-    ensures { Answers (IsTextOf L.rules L.offers L.told map.old) (R.remaining reader.old) (R.remaining reader.new)
+    ensures { Answers (IsTextOf L.rules L.offers L.reported map.old) (R.remaining reader.old) (R.remaining reader.new)
         (W.contents writer.old) (W.contents writer.new) result }
 {
     let mut line = Line::new();
@@ -117,14 +117,14 @@ fn answer_lines<L: Insertion<u64, u64, u64> + TellsCost, R: BufRead, W: Write>(
 }
 
 /// Answers the lines on an empty map with this limiter and `entry_bytes` bytes an entry.
-fn answer_with<L: Insertion<u64, u64, u64> + TellsCost + Drop, R: BufRead, W: Write>(
+fn answer_with<L: Insertion<u64, u64, u64> + ReportsCost + Drop, R: BufRead, W: Write>(
     alloc: Global,
     limiter: L,
     entry_bytes: usize,
     reader: &mut R,
     writer: &mut W,
 ) -> Result<(), ReplayError>
-    ensures { Answers (IsTextOf L.rules L.offers L.told (empty limiter entry_bytes (L.LinkType.number L.LinkType.MAX)))
+    ensures { Answers (IsTextOf L.rules L.offers L.reported (empty limiter entry_bytes (L.LinkType.number L.LinkType.MAX)))
         (R.remaining reader.old) (R.remaining reader.new) (W.contents writer.old) (W.contents writer.new) result }
 {
     let mut map = LruMap::with_hasher(alloc, limiter, RandomState::default(), entry_bytes);

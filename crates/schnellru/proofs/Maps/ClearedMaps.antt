@@ -16,8 +16,8 @@ use Rattle.schnellru.proofs.Theorems.CallChanges.{room_cleared}
 
 module _ {K V S H : Type 0} (rules : Rules K V S) (t u : OrderedTable K V)
     (slots : u.slots ≡ replicate (length t.slots) empty) (order : u.order ≡ [])
-    (counted : u.placings ≡ t.placings) (beside : Beside S H) (told : S)
-    (is_told : told ≡ rules.on_cleared beside.limiter) where
+    (counted : u.placings ≡ t.placings) (beside : Beside S H) (notified : S)
+    (is_notified : notified ≡ rules.on_cleared beside.limiter) where
   marks : marks_of u.slots ≡ replicate (buckets (state_of t beside)) empty
   marks = ap marks_of slots ∙ marks_of-cleared _ (length t.slots)
       ∙ ap (λ n. replicate n empty) (sym (length-marks_of t.slots))
@@ -25,8 +25,8 @@ module _ {K V S H : Type 0} (rules : Rules K V S) (t u : OrderedTable K V)
   none_left : pairs_of u ≡ []
   none_left = ap (entries_in u.slots) order
 
-  pub cleared_is : state_of u (record beside { limiter = told }) ≡ cleared rules (state_of t beside)
-  cleared_is = λ i. record (state_of u (record beside { limiter = is_told i })) {
+  pub cleared_is : state_of u (record beside { limiter = notified }) ≡ cleared rules (state_of t beside)
+  cleared_is = λ i. record (state_of u (record beside { limiter = is_notified i })) {
     pairs = none_left i;
     marks = marks i;
     places = order i;
@@ -35,13 +35,13 @@ module _ {K V S H : Type 0} (rules : Rules K V S) (t u : OrderedTable K V)
 
   pub cleared_holds : (eq : K → K → Bool) (hash_of : H → K → ℕ) → Holds eq hash_of t beside → IsLinked u
       → KeysFit (hash_of beside.hasher) u.slots
-      → Holds eq hash_of u (record beside { limiter = told })
+      → Holds eq hash_of u (record beside { limiter = notified })
   cleared_holds eq hash_of holds next fits = record {
     linked = next;
     fits = fits;
     map = record {
       distinct = subst (AreDistinct eq) (sym none_left) (none_distinct eq);
-      sized = sized_same beside t u told holds.map.sized next
+      sized = sized_same beside t u notified holds.map.sized next
           (ap length slots ∙ length-replicate (length t.slots) empty);
       paid =
           let as_many : length (marks_of u.slots) ≡ buckets (state_of t beside) = ap length marks

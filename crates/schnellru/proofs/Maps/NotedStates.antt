@@ -5,9 +5,9 @@ use Rattle.std.proofs.lemmas.Bool.{true≢false, false≢true}
 use Rattle.std.proofs.lemmas.Option.{same_Some}
 use Rattle.std.proofs.lemmas.Fn.{FoldsTo-push}
 use Rattle.std.specs.Fn.{Mut, Called}
-use Rattle.lru_limits.specs.Rules.{Rules, Offers, Replaced, Told}
+use Rattle.lru_limits.specs.Rules.{Rules, Offers, Replaced, Notified}
 use Rattle.schnellru.specs.Lists.{last, without, set_entry}
-use Rattle.schnellru.specs.State.{State, Contents, IsSized, FreesRoom, Leaves, contents, told_of, pop}
+use Rattle.schnellru.specs.State.{State, Contents, IsSized, FreesRoom, Leaves, contents, notified_of, pop}
 use Rattle.schnellru.specs.Calls.{PopOldest, left_of}
 use Rattle.schnellru.specs.Place.{IsPlaced, HasNoBucket, IsOutgrown, turned_away}
 use Rattle.schnellru.specs.Inserts.{make_room, replacement}
@@ -74,12 +74,12 @@ module _ {K V S H : Type 0} where
 module _ {K V S : Type 0} (rules : Rules K V S) (before : List (K × V)) (s : S) (pair : K × V) where
   -- the pair that was answered goes to the list
   pub noted_told : (was : Option (K × V)) → Some pair ≡ left_of rules s was
-      → ◌≡◌ {A = S × List (K × V)} (told_of rules was s, before ++ pair ∷ []) (told_of (noting rules) was (s, before))
+      → ◌≡◌ {A = S × List (K × V)} (notified_of rules was s, before ++ pair ∷ []) (notified_of (noting rules) was (s, before))
   noted_told None e = absurd (grind (arith, e))
   noted_told (Some was) e =
-      let told = rules.on_removed s was.0 was.1 in
-      ap {A = K × V} {B = S × List (K × V)} (λ p. (told.limiter, before ++ p ∷ []))
-      (same_Some pair (told.key, told.value) e)
+      let notified = rules.on_removed s was.0 was.1 in
+      ap {A = K × V} {B = S × List (K × V)} (λ p. (notified.limiter, before ++ p ∷ []))
+      (same_Some pair (notified.key, notified.value) e)
 
 module _ {K V S H : Type 0} (rules : Rules K V S) (before : List (K × V)) (old new : State K V S H) (pair : K × V) where
   -- the oldest pair leaves, and goes to the list
@@ -108,13 +108,13 @@ make_room-over rules c over = rw over refl
 
 -- the pair that was not placed goes to the list
 pub noted_turned_away : {K V S H : Type 0} (rules : Rules K V S) (before : List (K × V)) (old new : State K V S H)
-    (pair left : K × V) (s : S) → new ≡ record old { limiter = s } → s ≡ told_of rules (Some pair) old.limiter →
+    (pair left : K × V) (s : S) → new ≡ record old { limiter = s } → s ≡ notified_of rules (Some pair) old.limiter →
     Some left ≡ left_of rules old.limiter (Some pair) →
     noted (before ++ left ∷ []) new ≡ turned_away (noting rules) pair (noted before old)
-noted_turned_away {K} {V} {S} {H} rules before old new pair left s is told e =
+noted_turned_away {K} {V} {S} {H} rules before old new pair left s is notified e =
     ap (noted (before ++ left ∷ [])) is
     ∙ ap {A = S} {B = State K V (S × List (K × V)) H}
-    (λ t. noted (before ++ left ∷ []) (record old { limiter = t })) told
+    (λ t. noted (before ++ left ∷ []) (record old { limiter = t })) notified
     ∙ ap {A = S × List (K × V)} {B = State K V (S × List (K × V)) H} (λ t. record (noted before old) { limiter = t })
     (noted_told rules before old.limiter left (Some pair) e)
 
@@ -132,11 +132,11 @@ module _ {K V S H I F : Type 0} (closure : Mut F (K × (V × Unit {0})) (Unit {0
       by : Replaced K V S
       by = replacement rules offers names offer.pair i v (contents old)
 
-      told : Told K V S
-      told = rules.on_removed by.limiter by.key by.old_value
+      notified : Notified K V S
+      notified = rules.on_removed by.limiter by.key by.old_value
 
       with_list : (after : List (K × V)) → (result.0 ≡ true → before ≡ after)
-          → (result.0 ≡ false → before ++ (told.key, told.value) ∷ [] ≡ after)
+          → (result.0 ≡ false → before ++ (notified.key, notified.value) ∷ [] ≡ after)
           → IsOffered (noting rules) (noting_offers offers) names i v (noted before old) result (noted after new)
       with_list after same more = record {
         pair = offer.pair;
@@ -150,7 +150,7 @@ module _ {K V S H I F : Type 0} (closure : Mut F (K × (V × Unit {0})) (Unit {0
         place = offer.place;
         rejected = λ e. subst (λ l. Leaves (noted before old) (record {
           pairs = without (names i) old.pairs;
-          limiter = (told.limiter, l);
+          limiter = (notified.limiter, l);
         }) (noted after new)) (sym (more e)) (noted_leaves before after old new _ (offer.rejected e));
       }
 
@@ -162,7 +162,7 @@ module _ {K V S H I F : Type 0} (closure : Mut F (K × (V × Unit {0})) (Unit {0
         with_list before (λ _. refl) (λ no. absurd (true≢false (sym e ∙ no))),
       )
       go false e = (
-        before ++ (told.key, told.value) ∷ [],
-        takes_more closure first before f (told.key, told.value) g taken (rejected e),
+        before ++ (notified.key, notified.value) ∷ [],
+        takes_more closure first before f (notified.key, notified.value) g taken (rejected e),
         with_list _ (λ yes. absurd (false≢true (sym e ∙ yes))) (λ _. refl),
       )

@@ -93,20 +93,20 @@ module _ {K V S H : Type 0} (rules : Rules K V S) (hash_of : H → K → ℕ) (p
 
     -- the limiter was asked for a larger table
     module _ (count bytes : ℕ) (next : table_for 1 old ≡ new_table count bytes) (s : S)
-        (told : s ≡ (rules.on_grow old.limiter bytes).limiter) where
+        (queried : s ≡ (rules.on_grow old.limiter bytes).limiter) where
       pub grown_place : (rules.on_grow old.limiter bytes).allowed ≡ true →
           IsPlacedIfMemory rules pair count (full_capacity count - length old.pairs - 1) (length old.pairs)
           (record old { limiter = s }) outcome new →
           Place rules hash_of pair old outcome new
       grown_place granted step = grown outgrown_by count bytes next granted
           (subst (λ l. IsPlacedIfMemory rules pair count (full_capacity count - length old.pairs - 1)
-          (length old.pairs) (record old { limiter = l }) outcome new) told step)
+          (length old.pairs) (record old { limiter = l }) outcome new) queried step)
 
       pub denied_place : (rules.on_grow old.limiter bytes).allowed ≡ false →
           Evicts rules hash pair (record old { limiter = s }) (record old { limiter = s }) outcome new
           → Place rules hash_of pair old outcome new
       denied_place refusal step = evicts_place (record old { limiter = s })
-          (denied count bytes next refusal (ap {A = S} {B = State K V S H} (λ l. record old { limiter = l }) told)) step
+          (denied count bytes next refusal (ap {A = S} {B = State K V S H} (λ l. record old { limiter = l }) queried)) step
 
     -- there is no larger table
     pub untold_place : table_for 1 old ≡ no_table → Evicts rules hash pair old old outcome new

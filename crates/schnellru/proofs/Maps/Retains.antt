@@ -9,7 +9,7 @@ use Rattle.std.specs.Fn.{Mut, Called}
 use Rattle.lru_limits.specs.Rules.{Rules}
 use Rattle.schnellru.specs.ByHash.{Asks}
 use Rattle.schnellru.specs.Lists.{last, without_last, after}
-use Rattle.schnellru.specs.State.{State, Contents, contents, Leaves, told_of}
+use Rattle.schnellru.specs.State.{State, Contents, contents, Leaves, notified_of}
 use Rattle.schnellru.specs.Calls.{PopOldest}
 use Rattle.schnellru.specs.HandedOver.{noting, noted, Takes}
 use Rattle.schnellru.specs.Retains.{retained, Answers, RetainHands}
@@ -66,7 +66,7 @@ module _ {K V S H F G : Type 0} (rules : Rules K V S) (closure : Mut F (Bor K ×
     pub handed : List (K × V)
     pub takes : Takes sinks sink handed g
     pub pairs : st.pairs ≡ (after_asked asked).pairs ++ rest
-    pub told : ◌≡◌ {A = S × List (K × V)} (st.limiter, handed) (after_asked asked).limiter
+    pub notified : ◌≡◌ {A = S × List (K × V)} (st.limiter, handed) (after_asked asked).limiter
     pub leaves : Leaves (noted [] old) (contents (noted handed st)) (noted handed st)
 
   pub retains_none : IsRetainedTo (length old.pairs) old keep sink
@@ -79,7 +79,7 @@ module _ {K V S H F G : Type 0} (rules : Rules K V S) (closure : Mut F (Bor K ×
     handed = [];
     takes = refl;
     pairs = refl;
-    told = refl;
+    notified = refl;
     leaves = leaves_self (noted [] old);
   }
 
@@ -134,7 +134,7 @@ module _ {K V S H F G : Type 0} (rules : Rules K V S) (closure : Mut F (Bor K ×
       handed = i.handed;
       takes = i.takes;
       pairs = λ j. after (asks j) (others j);
-      told = i.told;
+      notified = i.notified;
       leaves = leaves_trans (noted [] old) (noted i.handed st) _ (contents (noted i.handed st)) _ i.leaves
           (reordered (noted i.handed st) _ places as_many);
     }
@@ -158,7 +158,7 @@ module _ {K V S H F G : Type 0} (rules : Rules K V S) (closure : Mut F (Bor K ×
           handed = i.handed ++ removed ∷ [];
           takes = takes_more sinks sink i.handed g removed k i.takes called;
           pairs = ap (λ s. s.pairs) popped.state.is ∙ others;
-          told = ap (λ s. s.limiter) pops.is ∙ (λ j. told_of (noting rules) (asks j) (i.told j));
+          notified = ap (λ s. s.limiter) pops.is ∙ (λ j. notified_of (noting rules) (asks j) (i.notified j));
           leaves = leaves_trans (noted [] old) (noted i.handed st) (noted (i.handed ++ removed ∷ []) u)
               (contents (noted i.handed st)) (contents (noted (i.handed ++ removed ∷ []) u)) i.leaves
               (subst (λ left. Leaves (noted i.handed st) left (noted (i.handed ++ removed ∷ []) u))
@@ -176,6 +176,6 @@ module _ {K V S H F G : Type 0} (rules : Rules K V S) (closure : Mut F (Bor K ×
     state = subst (λ left. Leaves (noted [] old) left (noted i.handed st)) (λ j. record {
       pairs = (i.pairs ∙ ap (λ l. (after_asked i.asked).pairs ++ l) (no_items i.rest i.many)
           ∙ append-nil (after_asked i.asked).pairs) j;
-      limiter = i.told j;
+      limiter = i.notified j;
     }) i.leaves;
   }

@@ -41,9 +41,9 @@ module _ {K V S H I : Type 0} (rules : Rules K V S) (offers : Offers K V S I) (n
   given_pair : lookup_entry (names i) old.pairs ≡ None → (s : S) (pair : K × V)
       → offers.on_insert old.limiter (length old.pairs) i v s (Some pair) → Inserts
   given_pair absent s pair may_give =
-      let told : State K V S H = record old { limiter = s } in
+      let notified : State K V S H = record old { limiter = s } in
       let c : Contents K V S = record { pairs = old.pairs; limiter = s } in
-      let (way, left, goes_on, freed) = some_leave told (make_room rules c) (sized_with_limiter old s ok)
+      let (way, left, goes_on, freed) = some_leave notified (make_room rules c) (sized_with_limiter old s ok)
       (length-front _ old.pairs (front_make_room rules c)) in
       let (outcome, landed, place, after) = some_place rules hash_of pair way goes_on in
       settle way left outcome landed place after

@@ -97,12 +97,6 @@ get_none [] at none = omega arith
 get_none (x ∷ xs) zero none = absurd (none-some x (sym none))
 get_none (x ∷ xs) (suc at) none = omega (arith, get_none xs at none)
 
--- and the other way round
-pub get_beyond : {X : Type 0} (xs : List X) (at : ℕ) → length xs ≤ at → slice_get xs at ≡ None
-get_beyond [] at beyond = refl
-get_beyond (x ∷ xs) zero beyond = absurd (omega (arith, beyond))
-get_beyond (x ∷ xs) (suc at) beyond = get_beyond xs at (omega (arith, beyond))
-
 -- a map that differs in its pairs alone, with other pairs
 pub with_others : {K V S H : Type 0} (st old : State K V S H) (pairs : List (K × V)) → st ≡ record old { pairs = st.pairs }
     → record st { pairs = pairs } ≡ record old { pairs = pairs }

@@ -22,7 +22,7 @@ use Rattle.schnellru.proofs.Maps.HeldMaps.{frees_room, leaves_holds}
 
 module _ {K V S : Type 0} (rules : Rules K V S) (by : Replaced K V S) (old new : OrderedTable K V) (b : ℕ) (was : K × V)
     (there : entry_at old.slots b ≡ Some was)
-    (k : K) (v : V) (key_is : k ≡ by.key) (value_is : v ≡ by.old_value) (s : S) (told : s ≡ by.limiter)
+    (k : K) (v : V) (key_is : k ≡ by.key) (value_is : v ≡ by.old_value) (s : S) (notified : s ≡ by.limiter)
     (result : K × V) (l : S)
     (out : IsTakenOut rules b (with_pair old b (k, v)) new s result l) where
   pair_is : ◌≡◌ {A = K × V} (k, v) (by.key, by.old_value)
@@ -39,7 +39,7 @@ module _ {K V S : Type 0} (rules : Rules K V S) (by : Replaced K V S) (old new :
     order = out.order;
     placings = out.placings;
     room = out.room ∙ ap (λ m. room m + room_at (marks_of new.slots) b) (marks_of-refilled old.slots b (k, v));
-    told = out.told ∙ (λ i. (rules.on_removed (told i) ((taken_is ∙ pair_is) i).0 ((taken_is ∙ pair_is) i).1).limiter);
+    notified = out.notified ∙ (λ i. (rules.on_removed (notified i) ((taken_is ∙ pair_is) i).0 ((taken_is ∙ pair_is) i).1).limiter);
   }
 
   -- and it is as the limiter left it
@@ -48,7 +48,7 @@ module _ {K V S : Type 0} (rules : Rules K V S) (by : Replaced K V S) (old new :
   left_as_told =
       let was_left = rules.on_removed s out.pair.0 out.pair.1 in
       same_Some result (was_left.key, was_left.value) out.left
-      ∙ (λ i. let left = rules.on_removed (told i) ((taken_is ∙ pair_is) i).0 ((taken_is ∙ pair_is) i).1 in
+      ∙ (λ i. let left = rules.on_removed (notified i) ((taken_is ∙ pair_is) i).0 ((taken_is ∙ pair_is) i).1 in
       (left.key, left.value))
 
 module _ {K V S H : Type 0} (by : Replaced K V S) (old new : OrderedTable K V) (b : ℕ) (l : S) (first : IsLinked old)
@@ -88,7 +88,7 @@ module _ {K V S H : Type 0} (by : Replaced K V S) (old new : OrderedTable K V) (
         let lengths : length (pairs_of new)
         ≡ length (pairs_of old) = omega
         (arith, pairs-length old first, pairs-length new next, ap length step.order) in record {
-          is = λ i. record (state_of new (record beside { limiter = step.told i })) {
+          is = λ i. record (state_of new (record beside { limiter = step.notified i })) {
             pairs = replaced_pairs i;
             placings = step.placings i;
           };
@@ -125,7 +125,7 @@ module _ {K V S H : Type 0} (by : Replaced K V S) (old new : OrderedTable K V) (
           limiter = (rules.on_removed by.limiter by.key by.old_value).limiter;
         }) after
     given_up_leaves = record {
-      is = λ i. record (state_of new (record beside { limiter = step.told i })) {
+      is = λ i. record (state_of new (record beside { limiter = step.notified i })) {
         pairs = given_up_pairs i;
         placings = step.placings i;
       };

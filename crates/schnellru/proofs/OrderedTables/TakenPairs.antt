@@ -7,7 +7,7 @@ use Rattle.group_table.specs.Bucket.{bucket_at}
 use Rattle.lru_limits.specs.Rules.{Rules}
 use Rattle.schnellru.specs.Inside.OrderedTable.{OrderedTable, IsLinked, KeysFit, pairs_of, entries_in, without_bucket}
 use Rattle.schnellru.specs.Lists.{lookup_entry}
-use Rattle.schnellru.specs.State.{State, Contents, Leaves, told_of}
+use Rattle.schnellru.specs.State.{State, Contents, Leaves, notified_of}
 use Rattle.schnellru.specs.Calls.{left_of, Remove, RemoveEntry}
 use Rattle.schnellru.specs.Inside.Steps.{IsTakenOut}
 use Rattle.schnellru.specs.Inside.Holds.{Beside, state_of, Holds}
@@ -17,8 +17,8 @@ use Rattle.schnellru.proofs.Maps.HeldMaps.{frees_room, leaves_holds}
 use Rattle.schnellru.proofs.Maps.LeavingPairs.{leaves_self}
 use Rattle.schnellru.proofs.OrderedTables.BucketPairs.{shorter, others_are, removed-entries}
 
-module _ {K V S : Type 0} (rules : Rules K V S) (t u : OrderedTable K V) (b : ℕ) (limiter told : S) (result : K × V)
-    (out : IsTakenOut rules b t u limiter result told) where
+module _ {K V S : Type 0} (rules : Rules K V S) (t u : OrderedTable K V) (b : ℕ) (limiter notified : S) (result : K × V)
+    (out : IsTakenOut rules b t u limiter result notified) where
   -- the others stay, in their order
   pub taken_pairs : pairs_of u ≡ entries_in t.slots (without_bucket b t.order)
   taken_pairs = ap (entries_in u.slots) out.order ∙ removed-entries t.slots u.slots b out.slots t.order
@@ -28,12 +28,12 @@ module _ {K V S : Type 0} (rules : Rules K V S) (t u : OrderedTable K V) (b : �
     pub taken_left : Some result ≡ left_of rules limiter pair
     taken_left = out.left ∙ ap (left_of rules limiter) (sym is)
 
-    pub taken_told : told ≡ told_of rules pair limiter
-    taken_told = out.told ∙ ap (λ o. told_of rules o limiter) (sym is)
+    pub taken_notified : notified ≡ notified_of rules pair limiter
+    taken_notified = out.notified ∙ ap (λ o. notified_of rules o limiter) (sym is)
 
   module _ {H : Type 0} (first : IsLinked t) (next : IsLinked u) (beside : Beside S H) where
-    pub taken_leaves : (left : Contents K V S) → pairs_of u ≡ left.pairs → told ≡ left.limiter
-        → Leaves (state_of t beside) left (state_of u (record beside { limiter = told }))
+    pub taken_leaves : (left : Contents K V S) → pairs_of u ≡ left.pairs → notified ≡ left.limiter
+        → Leaves (state_of t beside) left (state_of u (record beside { limiter = notified }))
     taken_leaves left pairs_are told_is = record {
       is = λ i. record (state_of u (record beside { limiter = told_is i })) {
         pairs = pairs_are i;
@@ -42,17 +42,17 @@ module _ {K V S : Type 0} (rules : Rules K V S) (t u : OrderedTable K V) (b : �
       room = frees_room t u b first next (length-removed t.slots u.slots b out.slots)
           (ap (λ o. suc (length o)) out.order
           ∙ shorter t first b (full_by_entry (bucket_at t.slots b) out.pair out.there)) out.room beside
-          (record beside { limiter = told });
+          (record beside { limiter = notified });
     }
 
     -- what holds of a map holds of what is left
     pub taken_holds : {eq : K → K → Bool} → IsEquivalence eq → (hash_of : H → K → ℕ) → Holds eq hash_of t beside
         → KeysFit (hash_of beside.hasher) u.slots
-        → Holds eq hash_of u (record beside { limiter = told })
+        → Holds eq hash_of u (record beside { limiter = notified })
     taken_holds {eq} laws hash_of holds fits =
-        leaves_holds beside eq hash_of t u (record { pairs = pairs_of u; limiter = told }) told holds next fits
+        leaves_holds beside eq hash_of t u (record { pairs = pairs_of u; limiter = notified }) notified holds next fits
         (length-removed t.slots u.slots b out.slots)
-        (taken_leaves (record { pairs = pairs_of u; limiter = told }) refl refl)
+        (taken_leaves (record { pairs = pairs_of u; limiter = notified }) refl refl)
         (subst (AreDistinct eq) (others_are t first b out.pair out.there (eq out.pair.0) laws
         (λ x y e. laws.congr out.pair.0 x y e) holds.map.distinct (laws.refl out.pair.0) ∙ sym taken_pairs)
         (distinct_without eq (eq out.pair.0) (pairs_of t) holds.map.distinct))
@@ -65,7 +65,7 @@ module _ {K V S H : Type 0} (rules : Rules K V S) (names : K → Bool) where
     state = subst (λ left. Leaves st left st)
         (λ i. record {
           pairs = sym (without_none names st.pairs none) i;
-          limiter = told_of rules (sym none i) st.limiter;
+          limiter = notified_of rules (sym none i) st.limiter;
         }) (leaves_self st);
   }
 

@@ -67,7 +67,7 @@ twice_within j k b count power size fewer =
 full_needs : (k max b : ℕ) → b ≡ 4 * 2 ^ k → b < max → 7 * b < 2 ^ 64 → (need : ℕ)
     × (buckets_for max (full_capacity b) ≡ Some need) × (need ≤ b)
 unfolding buckets_for
-full_needs k max b size reached told =
+full_needs k max b size reached notified =
     pick (full_capacity b == 0) (nat_lt (full_capacity b) 4) (nat_lt (full_capacity b) 8)
     (nat_lt (8 * full_capacity b) (2 ^ 64)) (λ e. grind (arith, nat_tests)) (λ e. grind (arith, nat_tests))
     (λ e. grind (arith, nat_tests))
@@ -121,7 +121,7 @@ full_needs k max b size reached told =
         let few = least (omega (arith, s.0)) in
         rw same (least_power b, within (least_power b) few, few)
     pick false false false false p q r =
-        let s = eighths (q refl) in absurd (omega (arith, r refl, full_capacity-large b s.0, s.1, told))
+        let s = eighths (q refl) in absurd (omega (arith, r refl, full_capacity-large b s.0, s.1, notified))
 
 module _ (k max e count bytes : ℕ) (size : count ≡ 4 * 2 ^ k) (reached : count < max)
     (usable : usage e count ≡ Some bytes) where
@@ -158,7 +158,7 @@ module _ (k max e count bytes : ℕ) (size : count ≡ 4 * 2 ^ k) (reached : cou
   pub has_target_of_half : 7 * count < 2 ^ 64 → (b c : ℕ) → IsBucketCount b → 2 * c ≤ full_capacity count
       → target max e b c ≢ no_table
   unfolding target
-  has_target_of_half told b c sized many =
+  has_target_of_half notified b c sized many =
       let (need, is, small) = half_needs k max count c size reached
       (omega (arith, usage_addressable e count bytes usable)) (omega (arith, many)) in
       λ h. split need small (nat_lt b need) (nat_le c (full_capacity b / 2)) (λ f. grind (arith, nat_tests, f))
@@ -171,7 +171,7 @@ module _ (k max e count bytes : ℕ) (size : count ≡ 4 * 2 ^ k) (reached : cou
       doubles more (inr (j, power)) h =
           let twice : 2 * b ≤ count = twice_within j k b count power size (omega (arith, more, many)) in
           let (need, is, small) = full_needs (suc j) max (2 * b) (omega (arith, power, pow-add 2 j 1))
-          (omega (arith, twice, reached)) (omega (arith, twice, told)) in
+          (omega (arith, twice, reached)) (omega (arith, twice, notified)) in
           some_table need (omega (arith, small, twice)) (rw is at h)
 
       split : (need : ℕ) → need ≤ count → (t u : Bool) → (u ≡ false → full_capacity b / 2 < c)

@@ -6,7 +6,7 @@ use Rattle.std.specs.Prelude.{nat_lt}
 use Rattle.lru_limits.specs.Budget.{Budget, by_weight, weighs, weighs-sums}
 use Rattle.schnellru.specs.GetOrInserts.{got, inserted}
 use Rattle.schnellru.specs.Lists.{last, without_first, without_last, lookup_entry}
-use Rattle.schnellru.specs.State.{State, contents, IsWithin, told_of}
+use Rattle.schnellru.specs.State.{State, contents, IsWithin, notified_of}
 use Rattle.schnellru.specs.Runs.{Step, inserts, makes_newest, updates, gets, demotes, removes, pops_oldest, pops_newest, drains, clears}
 use Rattle.schnellru.specs.Runs.{reserves, shrinks, trims, retains, Run, ends, goes_on}
 use Rattle.schnellru.specs.Theorems.{IsSummed}
@@ -20,7 +20,7 @@ use Rattle.schnellru.proofs.Theorems.Shrinks.{shrunk_list}
 use Rattle.schnellru.proofs.Theorems.Sums.{total, total-is, total-front, total-back, total-least, split-least, split_last}
 
 told_limit : {K V : Type 0} (weight : K → V → ℕ) (pair : Option (K × V)) (b : Budget)
-    → (told_of (by_weight weight) pair b).limit ≡ b.limit
+    → (notified_of (by_weight weight) pair b).limit ≡ b.limit
 told_limit weight None b = refl
 told_limit weight (Some pair) b = refl
 

@@ -5,7 +5,7 @@ use Rattle.std.specs.Prelude.{if◌then◌else◌}
 use Rattle.std.specs.declared.alloc.AllocError.{AllocError}
 use Rattle.lru_limits.specs.Rules.{Rules, Offers}
 use Rattle.schnellru.specs.Lists.{last, without_last}
-use Rattle.schnellru.specs.State.{State, Contents, contents, Leaves, told_of, pop, trim, trim_from}
+use Rattle.schnellru.specs.State.{State, Contents, contents, Leaves, notified_of, pop, trim, trim_from}
 use Rattle.schnellru.specs.Place.{Place, in_bucket, rehashed, grown, not_grown}
 use Rattle.schnellru.specs.Place.{Evicts, nothing_to_evict, finds_bucket, rehashes, CannotGrow, no_target, denied, OldestLeave}
 use Rattle.schnellru.specs.Place.{Outcome, placed, refused, no_memory, IsPlaced, IsPlacedIfMemory, turned_away, asked}
@@ -27,9 +27,9 @@ module _ {K V S : Type 0} (rules : Rules K V S) where
   one_noted list pair = length-append list (pair ∷ [])
 
   pop_of : (pairs : List (K × V)) (s : S × List (K × V)) → length (without_last pairs)
-      + length (told_of (noting rules) (last pairs) s).1 ≡ length pairs + length s.1
+      + length (notified_of (noting rules) (last pairs) s).1 ≡ length pairs + length s.1
   pop_of [] s = refl
-  pop_of (x ∷ []) s = let told = rules.on_removed s.0 x.0 x.1 in omega (arith, one_noted s.1 (told.key, told.value))
+  pop_of (x ∷ []) s = let notified = rules.on_removed s.0 x.0 x.1 in omega (arith, one_noted s.1 (notified.key, notified.value))
   pop_of (x ∷ y ∷ ys) s = omega (arith, pop_of (y ∷ ys) s)
 
   pop_keeps : (c : Contents K V (S × List (K × V))) → in_all (pop (noting rules) c) ≡ in_all c
@@ -65,8 +65,8 @@ module _ {K V S H : Type 0} (rules : Rules K V S) where
 
   away_adds : (pair : K × V) (old : State K V (S × List (K × V)) H)
       → in_map (turned_away (noting rules) pair old) ≡ in_map old + 1
-  away_adds pair old = let told = rules.on_removed old.limiter.0 pair.0 pair.1 in
-      omega (arith, one_noted rules old.limiter.1 (told.key, told.value))
+  away_adds pair old = let notified = rules.on_removed old.limiter.0 pair.0 pair.1 in
+      omega (arith, one_noted rules old.limiter.1 (notified.key, notified.value))
 
   memory_adds : (pair : K × V) (count spare moves : ℕ) (old : State K V (S × List (K × V)) H) (outcome : Outcome)
       (new : State K V (S × List (K × V)) H) → IsPlacedIfMemory (noting rules) pair count spare moves old outcome new
@@ -137,11 +137,11 @@ module _ {K V S H I : Type 0} (rules : Rules K V S) (offers : Offers K V S I) (n
       )
   insert_adds old new (given_up pair there untaken r leaves) =
       let by = offers.on_replace old.limiter.0 (length old.pairs) pair.0 i pair.1 v in
-      let told = rules.on_removed by.limiter by.key by.old_value in omega (
+      let notified = rules.on_removed by.limiter by.key by.old_value in omega (
         arith,
         left_is rules old new (with_given_up (noting rules) (noting_offers offers) names pair i v (contents old))
             leaves,
-        one_noted rules old.limiter.1 (told.key, told.value),
+        one_noted rules old.limiter.1 (notified.key, notified.value),
         length-without (names i) old.pairs,
       )
   insert_adds old new (no_memory_to_admit absent lacks r e) = omega (arith, ap in_map e)

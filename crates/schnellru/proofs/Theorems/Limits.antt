@@ -8,7 +8,7 @@ use Rattle.lru_limits.specs.Stores.{plain, hands_over}
 use Rattle.lru_limits.specs.Limiters.{length_rules, length_offers}
 use Rattle.schnellru.specs.Sizes.{usage}
 use Rattle.schnellru.specs.Lists.{last, lookup_entry, without, set_entry}
-use Rattle.schnellru.specs.State.{State, buckets, contents, IsWithin, told_of}
+use Rattle.schnellru.specs.State.{State, buckets, contents, IsWithin, notified_of}
 use Rattle.schnellru.specs.Place.{Outcome, placed, refused, no_memory}
 use Rattle.schnellru.specs.Inserts.{Insert, replaced, given_up, no_memory_to_admit, not_admitted, admitted, Settles}
 use Rattle.schnellru.specs.Inserts.{replacement}
@@ -47,7 +47,7 @@ module _ {K V : Type 0} (names : K → Bool) where
       go false h e = omega (arith, h e)
 
 pub told_plain : {K V S : Type 0} (over grants : S → ℕ → Bool) (pair : Option (K × V)) (s : S)
-    → told_of (plain over grants) pair s ≡ s
+    → notified_of (plain over grants) pair s ≡ s
 told_plain over grants None s = refl
 told_plain over grants (Some pair) s = refl
 

@@ -8,7 +8,7 @@ use Rattle.std.specs.declared.alloc.AllocError.{AllocError}
 use Rattle.lru_limits.specs.Rules.{Rules, Offers}
 use Rattle.lru_limits.specs.Laws.{kept_value}
 use Rattle.schnellru.specs.Lists.{front, back, lookup_entry, set_entry, without}
-use Rattle.schnellru.specs.State.{State, Contents, contents, Leaves, told_of, pop, pops, trim, trim_from}
+use Rattle.schnellru.specs.State.{State, Contents, contents, Leaves, notified_of, pop, pops, trim, trim_from}
 use Rattle.schnellru.specs.Place.{Outcome, placed, refused, no_memory}
 use Rattle.schnellru.specs.Calls.{removal}
 use Rattle.schnellru.specs.Inserts.{make_room, Settles}
@@ -38,7 +38,7 @@ module _ {K V S : Type 0} (rules : Rules K V S) where
     -- a pair leaves that stands between others
     pub dropped : (newer older : List (K × V)) (pair : K × V) (s : S)
         → R (record { pairs = newer ++ pair ∷ older; limiter = s })
-        (record { pairs = newer ++ older; limiter = told_of rules (Some pair) s })
+        (record { pairs = newer ++ older; limiter = notified_of rules (Some pair) s })
     -- the named pair comes first
     pub first : (q : Q) (c : Contents K V S) → R c (record { pairs = front (names q) c.pairs; limiter = c.limiter })
     -- or last

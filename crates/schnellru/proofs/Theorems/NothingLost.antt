@@ -13,7 +13,7 @@ use Rattle.std.proofs.lemmas.Bool.{false≢true}
 use Rattle.std.specs.declared.alloc.AllocError.{AllocError}
 use Rattle.lru_limits.specs.Rules.{Rules, Offers}
 use Rattle.schnellru.specs.Lists.{last, lookup_entry, without, without_last}
-use Rattle.schnellru.specs.State.{State, Contents, contents, told_of}
+use Rattle.schnellru.specs.State.{State, Contents, contents, notified_of}
 use Rattle.schnellru.specs.Place.{Outcome, placed, refused, no_memory, turned_away}
 use Rattle.schnellru.specs.Inserts.{replaced, given_up, no_memory_to_admit, not_admitted, admitted, MayGive}
 use Rattle.schnellru.specs.Inserts.{Settles}
@@ -41,7 +41,7 @@ module _ {K V S : Type 0} (rules : Rules K V S) (leaves : ChangesNoPair rules) w
   noted_same list s pair = ap (λ p. list ++ p ∷ []) (told_same s pair)
 
   pop_all : (pairs : List (K × V)) (s : S × List (K × V))
-      → without_last pairs ++ reverse (told_of (noting rules) (last pairs) s).1 ≡ pairs ++ reverse s.1
+      → without_last pairs ++ reverse (notified_of (noting rules) (last pairs) s).1 ≡ pairs ++ reverse s.1
   pop_all [] s = refl
   pop_all (x ∷ []) s = ap reverse (noted_same s.1 s.0 x) ∙ reverse-append s.1 (x ∷ [])
   pop_all (x ∷ y ∷ ys) s = ap (λ zs. x ∷ zs) (pop_all (y ∷ ys) s)

@@ -5,7 +5,7 @@ use Rattle.std.specs.Prelude.{if◌then◌else◌}
 use Rattle.std.specs.declared.alloc.AllocError.{AllocError}
 use Rattle.lru_limits.specs.Rules.{Rules, Offers}
 use Rattle.schnellru.specs.Lists.{last}
-use Rattle.schnellru.specs.State.{State, Contents, contents, FreesRoom, Leaves, Trims, told_of, pop, trim, trim_from}
+use Rattle.schnellru.specs.State.{State, Contents, contents, FreesRoom, Leaves, Trims, notified_of, pop, trim, trim_from}
 use Rattle.schnellru.specs.Place.{Place, in_bucket, rehashed, grown, not_grown}
 use Rattle.schnellru.specs.Place.{Evicts, nothing_to_evict, finds_bucket, rehashes, CannotGrow, no_target, denied, OldestLeave}
 use Rattle.schnellru.specs.Place.{Outcome, placed, refused, no_memory, IsPlaced, IsPlacedIfMemory, HasNoBucket, IsOutgrown}
@@ -39,7 +39,7 @@ module _ {K V S : Type 0} where
   plain_contents c = record { pairs = c.pairs; limiter = c.limiter.0 }
 
 module _ {K V S : Type 0} (rules : Rules K V S) where
-  plain_told : (was : Option (K × V)) (s : S × List (K × V)) → (told_of (noting rules) was s).0 ≡ told_of rules was s.0
+  plain_told : (was : Option (K × V)) (s : S × List (K × V)) → (notified_of (noting rules) was s).0 ≡ notified_of rules was s.0
   plain_told None s = refl
   plain_told (Some pair) s = refl
 
@@ -222,7 +222,7 @@ module _ {K V S : Type 0} (rules : Rules K V S) where
       ap {A = Contents K V S} {B = Contents K V S} (λ c. record { pairs = pair ∷ c.pairs; limiter = c.limiter })
       (plain_retained older s)
   plain_retained ((pair, false) ∷ older) s = ap {A = Contents K V S} {B = Contents K V S}
-      (λ c. record { pairs = c.pairs; limiter = told_of rules (Some pair) c.limiter }) (plain_retained older s)
+      (λ c. record { pairs = c.pairs; limiter = notified_of rules (Some pair) c.limiter }) (plain_retained older s)
 
   pub plain_retains : {H F : Type 0} (closure : Mut F (Bor K × (Bor V × Unit {0})) Bool) (f : F) (handed : List (K × V))
       (old new : State K V S H) → RetainHands rules closure f old handed new → Retains closure rules f old new

@@ -20,8 +20,8 @@ use Rattle.schnellru.specs.State.{State, buckets, room, MovesTo}
 use Rattle.schnellru.specs.declared.map.reserve.ReserveError.{ReserveError}
 use Rattle.schnellru.specs.declared.map.reserve.ReserveError.TheVariants.{TooLarge, Refused, Memory}
 use Rattle.schnellru.proofs.Theorems.CallChanges.{room_cleared}
-use Rattle.schnellru.proofs.Theorems.SmallTables.{Shape, shape, same_shape, look_alike, relimited, told, told_same}
-use Rattle.schnellru.proofs.Theorems.SmallTables.{told_err}
+use Rattle.schnellru.proofs.Theorems.SmallTables.{Shape, shape, same_shape, look_alike, relimited, said, said_same}
+use Rattle.schnellru.proofs.Theorems.SmallTables.{said_err}
 
 module _ {K V S H : Type 0} (rules : Rules K V S) where
   abbrev pub clears : Shape K V S H → Shape K V S H
@@ -109,17 +109,17 @@ module _ {K V S H : Type 0} where
   shrink_in lacks sh = shrink_to (buckets_for sh.bare.max (length sh.bare.pairs)) lacks sh
 
   shrink_is : (old : State K V S H) (result : Result Bool AllocError) (new : State K V S H) → Shrink old result new
-      → shrink_in (is_err result) (shape old) ≡ (told result, shape new)
+      → shrink_in (is_err result) (shape old) ≡ (said result, shape new)
   shrink_is old result new (kept t r e) = go (buckets_for old.max (length old.pairs)) t
     where
       go : (need : Option ℕ) → IfSome need (λ count. buckets old ≤ count)
-          → shrink_to need (is_err result) (shape old) ≡ (told result, shape new)
+          → shrink_to need (is_err result) (shape old) ≡ (said result, shape new)
       go None t = rw r (ap (λ st. (Some false, shape st)) (sym e))
       go (Some count) t = rw (r, le-ltb count (buckets old) t) (ap (λ st. (Some false, shape st)) (sym e))
   shrink_is old result new (shrunk count l r m) = rw (l.0, r, lt-ltb count (buckets old) l.1)
       (ap (λ sh. (Some true, sh)) (sym (moved_shape count (shrink_counted old) new m)))
   shrink_is old result new (no_memory_to_shrink count l some r e) =
-      rw (l.0, lt-ltb count (buckets old) l.1, r, told_err result r) (ap (λ st. (None, shape st)) (sym e))
+      rw (l.0, lt-ltb count (buckets old) l.1, r, said_err result r) (ap (λ st. (None, shape st)) (sym e))
 
   -- two shrinks of maps that look alike, if both find memory or neither does
   pub shrinks_look_alike : (old other new last : State K V S H) → LookAlike old other
@@ -128,4 +128,4 @@ module _ {K V S H : Type 0} where
   shrinks_look_alike old other new last alike result answer errs h h' =
       let both = sym (shrink_is old result new h) ∙ (λ j. shrink_in (errs j) (sym (same_shape alike) j))
       ∙ shrink_is other answer last h' in
-      (told_same result answer (ap (λ x. x.0) both), look_alike new last (sym (ap (λ x. x.1) both)))
+      (said_same result answer (ap (λ x. x.0) both), look_alike new last (sym (ap (λ x. x.1) both)))

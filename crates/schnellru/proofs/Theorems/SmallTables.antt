@@ -227,19 +227,19 @@ module _ {K V S H : Type 0} (rules : Rules K V S) (hash_of : H → K → ℕ) (p
         ∙ anew_is old mid small c some n left new outcome (one small) half gone m
 
 -- the flag of an answer, if it has one
-abbrev pub told : Result Bool AllocError → Option Bool
-told (Ok flag) = Some flag
-told (Err e) = None
+abbrev pub said : Result Bool AllocError → Option Bool
+said (Ok flag) = Some flag
+said (Err e) = None
 
-pub told_same : (result other : Result Bool AllocError) → told result ≡ told other → result ≡ other
-told_same (Ok a) (Ok b) e = cc
-told_same (Ok a) (Err f) e = absurd (grind (arith, e))
-told_same (Err d) (Ok b) e = absurd (grind (arith, e))
-told_same (Err d) (Err f) e = refl
+pub said_same : (result other : Result Bool AllocError) → said result ≡ said other → result ≡ other
+said_same (Ok a) (Ok b) e = cc
+said_same (Ok a) (Err f) e = absurd (grind (arith, e))
+said_same (Err d) (Ok b) e = absurd (grind (arith, e))
+said_same (Err d) (Err f) e = refl
 
-pub told_err : (result : Result Bool AllocError) → is_err result ≡ true → told result ≡ None
-told_err (Ok a) e = absurd (grind (arith, e))
-told_err (Err d) e = refl
+pub said_err : (result : Result Bool AllocError) → is_err result ≡ true → said result ≡ None
+said_err (Ok a) e = absurd (grind (arith, e))
+said_err (Err d) e = refl
 
 -- What an insert returns and makes of a shape, if memory runs out or not.
 module _ {K V S H : Type 0} (rules : Rules K V S) where
@@ -253,16 +253,16 @@ module _ {K V S H : Type 0} (rules : Rules K V S) where
 
   trimmed_is : (c : Contents K V S) (old : State K V S H) (result : Result Bool AllocError) (new : State K V S H)
       → buckets old ≤ 16 → result ≡ Ok (not (is_empty new.pairs)) → Leaves old (trim rules c) new
-      → trimmed c (shape old) ≡ (told result, shape new)
+      → trimmed c (shape old) ≡ (said result, shape new)
   trimmed_is c old result new small r l = rw r
       (ap (λ sh. (Some (not (is_empty sh.bare.pairs)), sh)) (sym (left_shape old (trim rules c) new small l)))
 
   settled_is : (outcome : Outcome) (mid : State K V S H) (result : Result Bool AllocError) (new : State K V S H)
-      → buckets new ≤ 16 → Settles rules outcome mid result new → settled outcome (shape mid) ≡ (told result, shape new)
+      → buckets new ≤ 16 → Settles rules outcome mid result new → settled outcome (shape mid) ≡ (said result, shape new)
   settled_is placed mid result new small s = trimmed_is (contents mid) mid result new
       (omega (arith, small, s.1.room.table)) s.0 s.1
   settled_is refused mid result new small s = rw s.0 (ap (λ st. (Some false, shape st)) (sym s.1))
-  settled_is no_memory mid result new small s = rw (told_err result s.0) (ap (λ st. (None, shape st)) (sym s.1))
+  settled_is no_memory mid result new small s = rw (said_err result s.0) (ap (λ st. (None, shape st)) (sym s.1))
 
   lacks_is : (outcome : Outcome) (mid : State K V S H) (result : Result Bool AllocError) (new : State K V S H)
       → Settles rules outcome mid result new → is_err result ≡ lacks_memory outcome
@@ -303,7 +303,7 @@ module _ {K V S H I : Type 0} (rules : Rules K V S) (offers : Offers K V S I) (n
     module _ (hash_of : H → K → ℕ) (never : NeverLacks offers) (old : State K V S H) (small : buckets old ≤ 16)
         (result : Result Bool AllocError) (new : State K V S H) (after : buckets new ≤ 16) where
       insert_is : Insert rules offers names hash_of i v old result new → Ends (is_err result) (shape old)
-          (told result, shape new)
+          (said result, shape new)
       insert_is (replaced pair found y r l) = rw (found, y)
           (trimmed_is rules (with_replaced rules offers names pair i v (contents old)) old result new small r l)
       insert_is (given_up pair found y r l) = rw (found, y, r)
@@ -334,8 +334,8 @@ module _ {K V S H I : Type 0} (rules : Rules K V S) (offers : Offers K V S I) (n
         let e = same_shape alike in
         let one = insert_is hash_of never old small result new after h in
         let two = insert_is hash_of never other (omega (arith, small, alike.table)) answer last too k in
-        let moved = subst (λ lacks. Ends lacks (shape old) (told answer, shape last)) (sym same)
-        (subst (λ sh. Ends (is_err answer) sh (told answer, shape last)) e two) in
+        let moved = subst (λ lacks. Ends lacks (shape old) (said answer, shape last)) (sym same)
+        (subst (λ sh. Ends (is_err answer) sh (said answer, shape last)) e two) in
         let ends = ends_alike determined (is_err result) (shape old) (lookup_entry (names i) old.pairs)
-        (told result, shape new) (told answer, shape last) one moved in
-        (told_same result answer (ap (λ x. x.0) ends), look_alike new last (sym (ap (λ x. x.1) ends)))
+        (said result, shape new) (said answer, shape last) one moved in
+        (said_same result answer (ap (λ x. x.0) ends), look_alike new last (sym (ap (λ x. x.1) ends)))

@@ -9,7 +9,7 @@ use Rattle.std.proofs.lemmas.Option.{none-some}
 use Rattle.lru_limits.specs.Laws.{IsAccount, kept_value}
 use Rattle.schnellru.specs.Theorems.{IsSummed}
 use Rattle.schnellru.specs.Lists.{IsFront, last, without_last, after, front, back, lookup_entry, set_entry, without}
-use Rattle.schnellru.specs.State.{State, Contents, contents, told_of}
+use Rattle.schnellru.specs.State.{State, Contents, contents, notified_of}
 use Rattle.schnellru.proofs.Theorems.Moves.{KeepsOffers, exchange, rewrite}
 
 module _ {X : Type 0} (f : X → ℕ) where
@@ -122,7 +122,7 @@ module _ {K V S I : Type 0} {rules : Rules K V S} {offers : Offers K V S I} {cos
 
   -- the cost of a pair that leaves is taken off
   told_holds : (xs ys : List (K × V)) (o : Option (K × V)) (s : S) → IsSplit (λ p. cost p.0 p.1) xs o ys → account s
-      ≡ total (λ p. cost p.0 p.1) xs → account (told_of rules o s) ≡ total (λ p. cost p.0 p.1) ys
+      ≡ total (λ p. cost p.0 p.1) xs → account (notified_of rules o s) ≡ total (λ p. cost p.0 p.1) ys
   told_holds xs ys None s h e = e ∙ ap (total (λ p. cost p.0 p.1)) (sym h)
   told_holds xs ys (Some p) s h e = let r = laws.takes_off s p.0 p.1 (omega arith) in omega arith
 

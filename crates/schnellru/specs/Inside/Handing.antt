@@ -13,5 +13,5 @@ module _ {K V F : Type 0} (closure : Mut F (K × (V × Unit {0})) (Unit {0})) wh
 
   -- if a replacement is rejected, the callback gets what the limiter leaves of the pair
   abbrev pub HandsGivenUp : {S : Type 0} → Rules K V S → Replaced K V S → F → F → Type 0
-  HandsGivenUp rules by f g = let told = rules.on_removed by.limiter by.key by.old_value in
-      Called closure f (told.key, (told.value, tt)) tt g
+  HandsGivenUp rules by f g = let notified = rules.on_removed by.limiter by.key by.old_value in
+      Called closure f (notified.key, (notified.value, tt)) tt g

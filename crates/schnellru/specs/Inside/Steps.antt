@@ -4,7 +4,7 @@ use Rattle.group_table.specs.Bucket.{marks_of, entry_at, room as room_of, room_a
 use Rattle.group_table.specs.Change.{Removes}
 use Rattle.lru_limits.specs.Rules.{Rules, Offers, Replaced}
 use Rattle.schnellru.specs.Lists.{lookup_entry}
-use Rattle.schnellru.specs.State.{State, Leaves, contents, told_of}
+use Rattle.schnellru.specs.State.{State, Leaves, contents, notified_of}
 use Rattle.schnellru.specs.Calls.{left_of}
 use Rattle.schnellru.specs.Inserts.{replacement, unkept_of, with_given_up}
 use Rattle.schnellru.specs.Updates.{with_updated}
@@ -15,7 +15,7 @@ pub record IsReplaced {K V S : Type 0} (by : Replaced K V S) (b : ℕ) (old new 
   pub slots : new.slots ≡ (with_pair old b (by.key, by.new_value)).slots
   pub order : new.order ≡ old.order
   pub placings : new.placings ≡ old.placings
-  pub told : limiter ≡ by.limiter
+  pub notified : limiter ≡ by.limiter
 
 -- The limiter rejected it, and the pair left.
 pub record IsGivenUp {K V S : Type 0} (rules : Rules K V S) (by : Replaced K V S) (b : ℕ) (old new : OrderedTable K V)
@@ -24,7 +24,7 @@ pub record IsGivenUp {K V S : Type 0} (rules : Rules K V S) (by : Replaced K V S
   pub order : new.order ≡ without_bucket b old.order
   pub placings : new.placings ≡ old.placings
   pub room : room_of (marks_of new.slots) ≡ room_of (marks_of old.slots) + room_at (marks_of new.slots) b
-  pub told : limiter ≡ (rules.on_removed by.limiter by.key by.old_value).limiter
+  pub notified : limiter ≡ (rules.on_removed by.limiter by.key by.old_value).limiter
 
 -- The pair in a bucket left, the limiter was notified, and what it left of the pair is returned.
 pub record IsTakenOut {K V S : Type 0} (rules : Rules K V S) (b : ℕ) (old new : OrderedTable K V) (limiter : S)
@@ -32,7 +32,7 @@ pub record IsTakenOut {K V S : Type 0} (rules : Rules K V S) (b : ℕ) (old new 
   pub pair : K × V
   pub there : entry_at old.slots b ≡ Some pair
   pub left : Some result ≡ left_of rules limiter (Some pair)
-  pub told : after ≡ told_of rules (Some pair) limiter
+  pub notified : after ≡ notified_of rules (Some pair) limiter
   pub slots : Removes old.slots new.slots b
   pub order : new.order ≡ without_bucket b old.order
   pub placings : new.placings ≡ old.placings

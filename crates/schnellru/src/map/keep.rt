@@ -1,8 +1,11 @@
 //! An insert that returns the entries that leave.
-ghost use Rattle.std.specs.Prelude.{◌≡◌, ◌+◌, ◌<◌, ◌++◌, [], ◌∷◌, IfOk, OnErr};
+ghost use Rattle.std.specs.Prelude.{◌≡◌, ◌+◌, ◌<◌, ◌++◌, [], ◌∷◌, true, Ok, IfOk, IfSome, OnErr};
 ghost use Rattle.std.specs.Vec.{vec_len, vec_capacity};
 ghost use Rattle.schnellru.specs.HandedOver.{InsertHands};
+ghost use Rattle.schnellru.specs.Inserts.{LacksMemory};
+ghost use Rattle.schnellru.specs.Lists.{first, IsFront};
 ghost use Rattle.schnellru.specs.State.{IsMap};
+ghost use Rattle.schnellru.specs.Theorems.{SaysWhether, Stores};
 
 use crate::laws::inserts_hand_over_few;
 use crate::map::LruMap;
@@ -36,6 +39,12 @@ impl<K: Eq + Hash + Drop, V: Drop, L: Limiter<K, V>, S: KeyHasher<K>> LruMap<K, 
         L: Insertion<K, V, I>,
         ensures handed { IfOk result (λ answer. InsertHands L.rules L.offers I.names
             S.hash_of key value self.old answer.0 answer.1.items self.new) }
+        ensures says { IfOk result (λ answer. SaysWhether L.rules (I.names key) answer.0 self.new) }
+        ensures stores { IfOk result (λ answer. answer.0 ≡ Ok true
+            → IfSome (first self.new.pairs) (Stores L.rules L.offers I.names key value self.old)) }
+        ensures lacks { IfOk result (λ answer. OnErr answer.0
+            (LacksMemory L.rules L.offers I.names S.hash_of key value self.old self.new)) }
+        ensures keeps { IfOk result (λ answer. OnErr answer.0 (IsFront self.new.pairs self.old.pairs)) }
         ensures unchanged { OnErr result (self.new ≡ self.old) }
         ensures map { IsMap K.eq self.new }
     {

@@ -2,7 +2,7 @@
 ghost use Rattle.std.specs.Prelude.{◌≡◌, ℕ, ◌<◌, true, not, length, Some, IsTrue};
 ghost use Rattle.group_table.specs.Bucket.{IsFull};
 ghost use Rattle.schnellru.specs.Lists.{is_empty};
-ghost use Rattle.schnellru.specs.State.{contents, told_of, trim, Leaves};
+ghost use Rattle.schnellru.specs.State.{contents, notified_of, trim, Leaves};
 ghost use Rattle.schnellru.specs.Calls.{left_of, Remove, RemoveEntry, PopOldest, PopNewest, cleared};
 ghost use Rattle.schnellru.specs.Inserts.{make_room};
 ghost use Rattle.schnellru.specs.HandedOver.{noting, noted};
@@ -198,7 +198,7 @@ pub(super) fn take_out<K: Eq + Hash, V, L: Limiter<K, V>>(
 // Notifies the limiter of a pair that left or could not be stored, and returns what the limiter left of it.
 #[inline]
 pub(super) fn tell<K, V, L: Limiter<K, V>>(limiter: &mut L, pair: (K, V)) -> (K, V)
-    ensures limiter { limiter.new ≡ told_of L.rules (Some pair) limiter.old }
+    ensures limiter { limiter.new ≡ notified_of L.rules (Some pair) limiter.old }
     ensures pair { Some result ≡ left_of L.rules limiter.old (Some pair) }
 {
     let (mut key, mut value) = pair;

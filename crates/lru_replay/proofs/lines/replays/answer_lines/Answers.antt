@@ -25,7 +25,7 @@ returns-in_err-answer_line-in-Feed g c =
     let (bytes, taken, held) = c.in_ok-read_line.ensures.ok in
     let read = rw c.in-Feed.is at taken in
     let failed = c.in_err-answer_line-in-Feed in
-    let answered = whole_answer _ _ g.L.TellsCost.told (Err failed.field-0.0) _ _ _ _
+    let answered = whole_answer _ _ g.L.ReportsCost.reported (Err failed.field-0.0) _ _ _ _
     (g.W.Write.contents c.loop.writer) (g.W.Write.contents c.answer_line.new.writer) (c.as_slice.ensures ∙ held)
     failed.ensures.step in
     let p = err_from_is_err_and c.from_residual-in_err-answer_line-in-Feed.result
@@ -37,7 +37,7 @@ returns-in-InputEnd g c =
     let (bytes, taken, held) = c.in_ok-read_line.ensures.ok in
     let call = c.answer_line-in-InputEnd in
     let read = rw c.in-InputEnd.is at taken in
-    let answered = whole_answer _ _ g.L.TellsCost.told _ _ _ _ _ _ _ (c.as_slice-in-InputEnd.ensures ∙ held)
+    let answered = whole_answer _ _ g.L.ReportsCost.reported _ _ _ _ _ _ _ (c.as_slice-in-InputEnd.ensures ∙ held)
     call.ensures.step in
     last_answered c.loop.invariant _ bytes _ _ call.ensures.sized read.0 read.1 _ answered
 
@@ -52,7 +52,7 @@ loop-preserved g c =
     let (bytes, taken, held) = c.in_ok-read_line.ensures.ok in
     let read = rw c.in-Feed.is at taken in
     let next = c.in_ok-answer_line-in-Feed.ensures in
-    let answered = whole_answer _ _ g.L.TellsCost.told (Ok tt) _ _ _ _ (g.W.Write.contents c.loop.writer)
+    let answered = whole_answer _ _ g.L.ReportsCost.reported (Ok tt) _ _ _ _ (g.W.Write.contents c.loop.writer)
     (g.W.Write.contents c.answer_line.new.writer) (c.as_slice.ensures ∙ held) next.step in
     line_answered c.loop.invariant _ bytes _ _ next.sized read answered
 

@@ -2,7 +2,8 @@ use Rattle.std.proofs.Common.{arith, sym, ◌∙◌, refl}
 use Rattle.schnellru.specs.Lists.{set_value_at}
 use Rattle.schnellru.proofs.OrderedTables.Places.{got_in}
 use Rattle.schnellru.proofs.Maps.WrittenPairs.{written_none, written_more, written_all, length-set, get_none}
-use Rattle.schnellru.proofs.Maps.WrittenPairs.{get_beyond, with_others}
+use Rattle.std.proofs.lemmas.Option.{slice_get_past}
+use Rattle.schnellru.proofs.Maps.WrittenPairs.{with_others}
 use Rattle.schnellru.proofs.map.LruMap.for_each_mut.Goals.{in-Some, in_default}
 use Rattle.schnellru.proofs.map.LruMap.for_each_mut.Goals as goal
 
@@ -42,7 +43,7 @@ pub returns-clause-step : goal.returns-clause-step
 returns-clause-step g c = let i = c.pairs.invariant in record {
   last = c.pairs.f;
   each = written_all g.F.FnMut c.args.self.now.pairs c.args.f c.pairs.at c.pairs.self.pairs c.pairs.f i.written
-      (get_beyond c.pairs.self.pairs c.pairs.at
+      (slice_get_past c.pairs.self.pairs c.pairs.at
       (omega (arith, c.pairs-test.false, c.len-at-end.ensures.len, i.many)));
   state = i.state;
 }

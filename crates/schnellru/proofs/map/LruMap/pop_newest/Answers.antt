@@ -1,6 +1,6 @@
 use Rattle.std.proofs.Common.{sym, ◌∙◌}
 use Rattle.schnellru.proofs.OrderedTables.BucketPairs.{newest_full, newest_is, others_newest}
-use Rattle.schnellru.proofs.OrderedTables.TakenPairs.{taken_pairs, taken_left, taken_told, taken_leaves, taken_holds}
+use Rattle.schnellru.proofs.OrderedTables.TakenPairs.{taken_pairs, taken_left, taken_notified, taken_leaves, taken_holds}
 use Rattle.schnellru.proofs.map.LruMap.pop_newest.Goals as goal
 
 pub take_out-requires-clause-full : goal.take_out-requires-clause-full
@@ -30,6 +30,6 @@ returns g c =
             c.take_out.ensures.linked _ _
             (taken_pairs rules t u c.in_ok-b.b m.limiter l c.take_out.result out
             ∙ sym (others_newest t holds.linked c.in_ok-b.b at out.pair out.there))
-            (taken_told rules t u c.in_ok-b.b m.limiter l c.take_out.result out _ is);
+            (taken_notified rules t u c.in_ok-b.b m.limiter l c.take_out.result out _ is);
       };
     })

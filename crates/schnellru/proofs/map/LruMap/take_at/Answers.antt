@@ -1,7 +1,7 @@
 use Rattle.std.proofs.Common.{◌≡◌, true, sym, ap, ◌∙◌, subst, unwrap_or}
 use Rattle.schnellru.proofs.OrderedTables.BucketPairs.{pair_found, others_are}
 use Rattle.schnellru.proofs.OrderedTables.Searches.{pair_of_place}
-use Rattle.schnellru.proofs.OrderedTables.TakenPairs.{taken_pairs, taken_left, taken_told, taken_leaves, taken_holds}
+use Rattle.schnellru.proofs.OrderedTables.TakenPairs.{taken_pairs, taken_left, taken_notified, taken_leaves, taken_holds}
 use Rattle.schnellru.proofs.map.LruMap.take_at.Goals as goal
 
 pub take_out-requires-clause-full : goal.take_out-requires-clause-full
@@ -31,5 +31,5 @@ returns g c = λ names one at.
       state = taken_leaves rules t u c.args.b m.limiter l took.result out holds.linked took.ensures.linked _ _
           (taken_pairs rules t u c.args.b m.limiter l took.result out
           ∙ sym (others_are t holds.linked c.args.b out.pair out.there names laws one holds.map.distinct named))
-          (taken_told rules t u c.args.b m.limiter l took.result out _ is);
+          (taken_notified rules t u c.args.b m.limiter l took.result out _ is);
     })

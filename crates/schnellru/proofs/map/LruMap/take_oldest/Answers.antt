@@ -1,6 +1,6 @@
 use Rattle.schnellru.proofs.OrderedTables.BucketPairs.{oldest_full, oldest_is, others_oldest}
 use Rattle.std.proofs.Common.{sym, ◌∙◌}
-use Rattle.schnellru.proofs.OrderedTables.TakenPairs.{taken_pairs, taken_left, taken_told, taken_leaves, taken_holds}
+use Rattle.schnellru.proofs.OrderedTables.TakenPairs.{taken_pairs, taken_left, taken_notified, taken_leaves, taken_holds}
 use Rattle.schnellru.proofs.map.LruMap.take_oldest.Goals as goal
 
 pub take_out-requires-clause-full : goal.take_out-requires-clause-full
@@ -28,5 +28,5 @@ returns g c =
           c.take_out.ensures.linked _ _
           (taken_pairs rules t u c.oldest-b.result m.limiter l c.take_out.result out
           ∙ sym (others_oldest t holds.linked c.oldest-b.result c.oldest-b.ensures.oldest out.pair out.there))
-          (taken_told rules t u c.oldest-b.result m.limiter l c.take_out.result out _ is);
+          (taken_notified rules t u c.oldest-b.result m.limiter l c.take_out.result out _ is);
     })

@@ -9,7 +9,7 @@ use Rattle.schnellru.proofs.map.offer.offer.Goals as goal
 pub returns-else-taken-clause-given_up : goal.returns-else-taken-clause-given_up
 returns-else-taken-clause-given_up g c = λ refusal pair there.
     let k = c.pair_mut-pair.result.now.key in let v = c.pair_mut-pair.result.now.value in
-    let told = c.on_replace-taken.ensures in let old = c.args.entries.now in
+    let notified = c.on_replace-taken.ensures in let old = c.args.entries.now in
     let same = same_Some (k, v) pair (sym c.pair_mut-pair.ensures.pair ∙ there) in
     subst (λ n. IsGivenUp g.L.Limiter.rules
     (g.L.Insertion.offers.on_replace c.args.limiter.now n pair.0 c.args.key pair.1 c.args.value) c.args.b old
@@ -20,8 +20,8 @@ returns-else-taken-clause-given_up g c = λ refusal pair there.
     old c.take_out-key.new.entries c.take_out-key.new.limiter)
     same
     (gives_up g.L.Limiter.rules _ old c.take_out-key.new.entries c.args.b (k, v) c.pair_mut-pair.ensures.pair
-    c.on_replace-taken.new.old_key c.on_replace-taken.new.old_value told.old_key told.old_value
-    c.on_replace-taken.new.self told.limiter c.take_out-key.result c.take_out-key.new.limiter
+    c.on_replace-taken.new.old_key c.on_replace-taken.new.old_value notified.old_key notified.old_value
+    c.on_replace-taken.new.self notified.limiter c.take_out-key.result c.take_out-key.new.limiter
     c.take_out-key.ensures.taken))
 
 pub returns-else-taken-clause-fits : goal.returns-else-taken-clause-fits
@@ -38,13 +38,13 @@ returns-else-taken-clause-fits g c = λ hash_of alike fit.
 pub returns-else-taken-clause-handed : goal.returns-else-taken-clause-handed
 returns-else-taken-clause-handed g c = λ refusal pair there.
     let k = c.pair_mut-pair.result.now.key in let v = c.pair_mut-pair.result.now.value in
-    let told = c.on_replace-taken.ensures in let old = c.args.entries.now in let rules = g.L.Limiter.rules in
+    let notified = c.on_replace-taken.ensures in let old = c.args.entries.now in let rules = g.L.Limiter.rules in
     let by = λ (n : ℕ) (p : g.row.K.Denot × g.row.V.Denot). g.L.Insertion.offers.on_replace c.args.limiter.now n p.0
     c.args.key p.1 c.args.value in
     let same = same_Some (k, v) pair (sym c.pair_mut-pair.ensures.pair ∙ there) in
     let left = left_as_told rules (by c.len-length.result (k, v)) old c.take_out-key.new.entries c.args.b (k, v)
-    c.pair_mut-pair.ensures.pair c.on_replace-taken.new.old_key c.on_replace-taken.new.old_value told.old_key
-    told.old_value c.on_replace-taken.new.self told.limiter c.take_out-key.result c.take_out-key.new.limiter
+    c.pair_mut-pair.ensures.pair c.on_replace-taken.new.old_key c.on_replace-taken.new.old_value notified.old_key
+    notified.old_value c.on_replace-taken.new.self notified.limiter c.take_out-key.result c.take_out-key.new.limiter
     c.take_out-key.ensures.taken in
     subst (λ n. HandsGivenUp g.F.FnMut rules (by n pair) c.args.sink.now c.sink.new.self) c.len-length.ensures.len
     (subst (λ p. HandsGivenUp g.F.FnMut rules (by c.len-length.result p) c.args.sink.now c.sink.new.self) same

@@ -44,10 +44,10 @@ returns-clause-room g c =
 pub returns-clause-fits : goal.returns-clause-fits
 returns-clause-fits g c =
     let slots = c.rewrite.new.self.table.slots in let hasher = c.args.hasher.now in
-    let told = hash_by g.K.Hash.hash_input g.S.BuildHasher g.S.Hasher.Hasher hasher in
-    let same : told ≡ g.S.KeyHasher.hash_of hasher = λ i k. sym (g.met.S.KeyHasher.by_builder hasher k) i in
+    let by_hash = hash_by g.K.Hash.hash_input g.S.BuildHasher g.S.Hasher.Hasher hasher in
+    let same : by_hash ≡ g.S.KeyHasher.hash_of hasher = λ i k. sym (g.met.S.KeyHasher.by_builder hasher k) i in
     subst (λ hash_of. KeysFit hash_of (pair_slots slots)) same
-    (KeysFit-moved c.in_ok-links.ensures.renumbered slots c.rewrite.ensures.pairs told c.in_ok-links.ensures.hashes)
+    (KeysFit-moved c.in_ok-links.ensures.renumbered slots c.rewrite.ensures.pairs by_hash c.in_ok-links.ensures.hashes)
 
 pub returns-clause-linked : goal.returns-clause-linked
 returns-clause-linked g c =

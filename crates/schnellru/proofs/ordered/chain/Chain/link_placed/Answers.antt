@@ -1,4 +1,4 @@
-use Rattle.std.proofs.Common.{ap, ◌∙◌, Some, inl, inr}
+use Rattle.std.proofs.Common.{◌∙◌, inl, inr}
 use Rattle.schnellru.proofs.OrderedTables.PairSlots.{same_full}
 use Rattle.schnellru.proofs.Chains.LinkWrites.{newest_leads, IsChain-beside, IsChain-linked}
 use Rattle.schnellru.proofs.ordered.chain.Chain.link_placed.Goals as goal
