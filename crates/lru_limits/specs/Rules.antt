@@ -1,7 +1,7 @@
 -- What a limiter does, as functions and relations of its states S. Each is named after its callback.
 --     Rules K V S         what a limiter says of lengths, of pairs that leave, of a clear and of growth
 --     Offers K V S I      what it does with elements whose key is offered as an I
---     Notified K V S          the limiter, the key and the value, after it was notified of a pair that left
+--     Notified K V S      the limiter, the key and the value, after it was notified of a pair that left
 --     Allowed S           the limiter, after it was asked for memory, and its answer
 --     Replaced K V S      what is left after a stored value was to be replaced
 use Rattle.std.specs.Prelude.{ℕ, Bool, Option}

@@ -307,6 +307,7 @@ impl<K: Eq + Hash, V, L: Limiter<K, V>, S: KeyHasher<K>> LruMap<K, V, L, S> {
         ensures callable { F.IsAlwaysCallable sink.new }
     {
         self.make_room(sink);
+        // The call below takes the two apart: a pair would lie in memory that each insert clears first.
         let (key, value) = pair;
         if self.growth_left() == 0 {
             return self.insert_without_growth(hash, key, value, sink);
