@@ -62,12 +62,12 @@ both_or (inl p) (inr q) = inr (λ h. q h.1)
 both_or (inr p) q = inr (λ h. p h.0)
 
 -- What a test decides is decided.
-decided : {P : Type 0} (r : Bool) → Decides r P → P ⊎ (P → ⊥)
-decided true d = inl (d.0 refl)
-decided false d = inr (not_from_Decides false d refl)
+either_way : {P : Type 0} (r : Bool) → Decides r P → P ⊎ (P → ⊥)
+either_way true d = inl (d.0 refl)
+either_way false d = inr (not_from_Decides false d refl)
 
 lt_or : (n limit : ℕ) → (n < limit) ⊎ (n < limit → ⊥)
-lt_or n limit = decided (nat_lt n limit) (Decides-ltb n limit)
+lt_or n limit = either_way (nat_lt n limit) (Decides-ltb n limit)
 
 fits_command : (command : Command) → FitsCommand command ⊎ (FitsCommand command → ⊥)
 fits_command (commands.Insert k v) = both_or (lt_or k (2 ^ 64)) (lt_or v (2 ^ 64))
@@ -88,7 +88,7 @@ fits_limit (limits.Cost most) = lt_or most (2 ^ 64)
 fits_limit limits.Compact = inl tt
 
 same_or : (xs ys : List ℕ) → (xs ≡ ys) ⊎ (xs ≡ ys → ⊥)
-same_or xs ys = decided (bytes_eq xs ys) (bytes_eq-Decides xs ys)
+same_or xs ys = either_way (bytes_eq xs ys) (bytes_eq-Decides xs ys)
 
 spells_or : (line : List ℕ) (command : Command) → SpellsCommand line command ⊎ (SpellsCommand line command → ⊥)
 spells_or line command = both_or (fits_command command) (same_or line (command_spelling command))
