@@ -3,15 +3,15 @@
 //! Each entry has links to its newer and its older neighbour, so a promotion or a removal walks nowhere. A contract
 //! sees an `OrderedTable` as its `slots` and the `order` of the full ones.
 ghost use Rattle.std.specs.Prelude.{◌≡◌, ◌≢◌, ℕ, ◌+◌, ◌^◌, ◌<◌, ◌≤◌, false, [], ◌∷◌, ◌++◌, length, Some, None, IfSome};
-ghost use Rattle.std.specs.Prelude.{IfNone, IfOk, IfErr, OnOk, OnErr, IsOk, IsTrue, replicate, slice_set};
+ghost use Rattle.std.specs.Prelude.{IfNone, IfOk, OnOk, OnErr, IsOk, IsTrue, replicate};
 ghost use Rattle.std.specs.Borrow.{sem};
 ghost use Rattle.group_table.specs.Sizes.{IsBucketCount, full_capacity};
 ghost use Rattle.group_table.specs.Bucket.{empty, marks_of, IsFull, entry_at, entry_count, room, room_at};
-ghost use Rattle.group_table.specs.Change.{HasNoPlace, Removes, count_up};
+ghost use Rattle.group_table.specs.Change.{Removes, count_up};
 ghost use Rattle.group_table.specs.Relocation.{Renumbers, KeepsHashes};
 ghost use Rattle.group_table.specs.Table.{IsTable};
 ghost use Rattle.lru_limits.specs.Hashing.{hash_by};
-ghost use Rattle.schnellru.specs.Inside.OrderedTable.{IsLinked, KeysFit, Lands, pairs_of, without_bucket, with_pair, hash_in};
+ghost use Rattle.schnellru.specs.Inside.OrderedTable.{IsLinked, KeysFit, pairs_of, without_bucket, with_pair, hash_in};
 ghost use Rattle.schnellru.specs.ByHash.{Asks};
 ghost use Rattle.schnellru.specs.Inside.Searches.{FindsPair, FindsNoPair};
 ghost use Rattle.schnellru.specs.Inside.Chain.{first_bucket, last_bucket, bucket_after, bucket_before, pair_slots};
@@ -25,6 +25,7 @@ use std::marker::Model;
 
 mod chain;
 mod copy;
+mod place;
 
 #[derive(Drop)]
 pub(crate) struct Pair<K, V> {
@@ -247,40 +248,6 @@ impl<K, V, N: LinkType> OrderedTable<K, V, N> {
     }
 }
 
-impl<K, V, N: LinkType> OrderedTable<K, V, N> {
-    // Puts a pair whose key has this hash into the first free bucket of a table with growth left, as the newest.
-    #[inline(always)]
-    pub(crate) fn place(&mut self, hash: u64, pair: (K, V))
-        requires { 0 < room (marks_of self.old.slots) }
-        ensures placed { (b : ℕ) × Lands self.old self.new hash pair b }
-        ensures fits { (hash_of : K → ℕ) → KeysFit hash_of self.old.slots → hash_of pair.0 ≡ hash
-            → KeysFit hash_of self.new.slots }
-        ensures linked { IsLinked self.new }
-    {
-        let b = self.chain.table.place(hash, unlinked(pair));
-        self.chain.link_placed(b);
-    }
-
-    // The same for any table: if no bucket may take the pair, it is returned.
-    pub(crate) fn try_place(&mut self, hash: u64, pair: (K, V)) -> Result<(), (K, V)>
-        ensures placed { OnOk result ((b : ℕ) × Lands self.old self.new hash pair b) }
-        ensures fits { OnOk result ((hash_of : K → ℕ) → KeysFit hash_of self.old.slots → hash_of pair.0 ≡ hash
-            → KeysFit hash_of self.new.slots) }
-        ensures linked { IsLinked self.new }
-        ensures returned { IfErr result (λ back. back ≡ pair) }
-        ensures unchanged { OnErr result (self.new ≡ self.old) }
-        ensures no_place { OnErr result (HasNoPlace (marks_of self.old.slots) hash) }
-    {
-        match self.chain.table.try_place(hash, unlinked(pair)) {
-            Ok(b) => {
-                self.chain.link_placed(b);
-                Ok(())
-            }
-            Err(entry) => Err((entry.pair.key, entry.pair.value)),
-        }
-    }
-}
-
 impl<K: Drop, V: Drop, N: LinkType> OrderedTable<K, V, N> {
     // Drops all pairs. The buckets stay, and are empty.
     pub(crate) fn clear(&mut self)
@@ -369,21 +336,6 @@ fn renumber_entries<K: Eq + Hash, V, N: LinkType, S: BuildHasher>(
         table.rehash(|entry| hasher.hash_one(&entry.pair.key))
     } else {
         table.relocate(buckets, |entry| hasher.hash_one(&entry.pair.key))
-    }
-}
-
-// An entry with no links. It gets the older one once its bucket is known. If that were written here, the compiler would
-// join the two links first.
-#[inline]
-fn unlinked<K, V, N: LinkType>(pair: (K, V)) -> Entry<K, V, N>
-    ensures pair { (result.pair.key, result.pair.value) ≡ pair }
-    ensures newer { result.newer ≡ N.MAX }
-{
-    let (key, value) = pair;
-    Entry {
-        newer: N::MAX,
-        older: N::MAX,
-        pair: Pair { key, value },
     }
 }
 

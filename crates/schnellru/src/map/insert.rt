@@ -1,8 +1,8 @@
 //! `insert` and its forms.
-ghost use Rattle.std.specs.Prelude.{◌≡◌, ◌⊎◌, ℕ, ◌+◌, true, false, not, length, None, Some, IfSome, IfOk, Ok, OnErr, List};
-ghost use Rattle.std.specs.Prelude.{if◌then◌else◌, IsTrue};
+ghost use Rattle.std.specs.Prelude.{◌≡◌, ◌+◌, true, false, not, None, Some, IfSome, IfOk, Ok, OnErr, List};
+ghost use Rattle.std.specs.Prelude.{IsTrue};
 ghost use Rattle.schnellru.specs.Lists.{first, lookup_entry, is_empty, IsFront};
-ghost use Rattle.schnellru.specs.State.{contents, room, trim, Leaves, IsMap};
+ghost use Rattle.schnellru.specs.State.{contents, room, IsMap};
 ghost use Rattle.schnellru.specs.Inserts.{Insert, PlacesNew, PlacesAndTrims, LacksMemory, make_room, kept_of};
 ghost use Rattle.schnellru.specs.Inserts.{unkept_value};
 ghost use Rattle.schnellru.specs.Place.{HasNoBucket};

@@ -1,6 +1,6 @@
 //! Storing a new pair: in a free bucket, or after the table was rehashed, has grown, or the oldest pairs were evicted.
 //! Nothing here requires `K: Drop` or `V: Drop`, so a body that forgets a pair does not compile.
-ghost use Rattle.std.specs.Prelude.{◌≡◌, ◌⊎◌, ℕ, ◌+◌, ◌-◌, ◌*◌, ◌/◌, ◌^◌, ◌<◌, ◌≤◌, [], length, None, Some, OnOk};
+ghost use Rattle.std.specs.Prelude.{◌≡◌, ℕ, ◌+◌, ◌-◌, ◌*◌, ◌/◌, ◌^◌, ◌<◌, ◌≤◌, [], length, None, Some, OnOk};
 ghost use Rattle.std.specs.Prelude.{OnErr, IfErr, IsOk};
 ghost use Rattle.group_table.specs.Sizes.{IsPowerFromFour, full_capacity};
 ghost use Rattle.group_table.specs.Change.{HasNoPlace, count_up};
@@ -32,7 +32,8 @@ impl<K: Eq + Hash, V, L: Limiter<K, V>, S: KeyHasher<K>> LruMap<K, V, L, S> {
         ensures spends { length self.old.pairs + room self.old ≡ full_capacity (buckets self.old) →
             room self.new + 1 ≡ room self.old }
     {
-        // Each change of the count is one instruction on memory: the compiler does not keep it while the table is written.
+        // Each change of the count is one instruction on memory: the compiler does not keep it while the table is
+        // written.
         make_count_room(&mut self.placed);
         self.entries.place(hash, pair);
         self.placed += 1;

@@ -80,7 +80,8 @@ impl<K, V, N: LinkType> Chain<K, V, N> {
         self.oldest = link;
     }
 
-    // Puts a bucket that is in no chain in front of the chain, or makes it the only one. Its newer link is `MAX` already.
+    // Puts a bucket that is in no chain in front of the chain, or makes it the only one. Its newer link is `MAX`
+    // already.
     pub(crate) fn link_placed(&mut self, b: usize)
         requires full { IsFull self.old.table.slots b }
         requires first { newer_at self.old.table.slots b ≡ Some N.MAX }

@@ -184,8 +184,8 @@ impl<K: Eq + Hash, V, L: Limiter<K, V>, S: KeyHasher<K>> LruMap<K, V, L, S> {
         }
     }
 
-    /// Lends the closure each value for writing, with its key, newest first. The order stays. The limiter is not notified
-    /// of what is written.
+    /// Lends the closure each value for writing, with its key, newest first. The order stays. The limiter is not
+    /// notified of what is written.
     ///
     /// ```
     /// map.for_each_mut(|_, value| *value = value.saturating_add(1));

@@ -1,0 +1,57 @@
+//! Putting a pair into an `OrderedTable`, as the newest.
+ghost use Rattle.std.specs.Prelude.{◌≡◌, ℕ, ◌<◌, OnOk, OnErr, IfErr};
+ghost use Rattle.group_table.specs.Bucket.{marks_of, room};
+ghost use Rattle.group_table.specs.Change.{HasNoPlace};
+ghost use Rattle.schnellru.specs.Inside.OrderedTable.{IsLinked, KeysFit, Lands};
+
+use crate::ordered::{Entry, OrderedTable, Pair};
+use group_table::LinkType;
+
+impl<K, V, N: LinkType> OrderedTable<K, V, N> {
+    // Puts a pair whose key has this hash into the first free bucket of a table with growth left, as the newest.
+    #[inline(always)]
+    pub(crate) fn place(&mut self, hash: u64, pair: (K, V))
+        requires { 0 < room (marks_of self.old.slots) }
+        ensures placed { (b : ℕ) × Lands self.old self.new hash pair b }
+        ensures fits { (hash_of : K → ℕ) → KeysFit hash_of self.old.slots → hash_of pair.0 ≡ hash
+            → KeysFit hash_of self.new.slots }
+        ensures linked { IsLinked self.new }
+    {
+        let b = self.chain.table.place(hash, unlinked(pair));
+        self.chain.link_placed(b);
+    }
+
+    // The same for any table: if no bucket may take the pair, it is returned.
+    pub(crate) fn try_place(&mut self, hash: u64, pair: (K, V)) -> Result<(), (K, V)>
+        ensures placed { OnOk result ((b : ℕ) × Lands self.old self.new hash pair b) }
+        ensures fits { OnOk result ((hash_of : K → ℕ) → KeysFit hash_of self.old.slots → hash_of pair.0 ≡ hash
+            → KeysFit hash_of self.new.slots) }
+        ensures linked { IsLinked self.new }
+        ensures returned { IfErr result (λ back. back ≡ pair) }
+        ensures unchanged { OnErr result (self.new ≡ self.old) }
+        ensures no_place { OnErr result (HasNoPlace (marks_of self.old.slots) hash) }
+    {
+        match self.chain.table.try_place(hash, unlinked(pair)) {
+            Ok(b) => {
+                self.chain.link_placed(b);
+                Ok(())
+            }
+            Err(entry) => Err((entry.pair.key, entry.pair.value)),
+        }
+    }
+}
+
+// An entry with no links. It gets the older one once its bucket is known. If that were written here, the compiler would
+// join the two links first.
+#[inline]
+fn unlinked<K, V, N: LinkType>(pair: (K, V)) -> Entry<K, V, N>
+    ensures pair { (result.pair.key, result.pair.value) ≡ pair }
+    ensures newer { result.newer ≡ N.MAX }
+{
+    let (key, value) = pair;
+    Entry {
+        newer: N::MAX,
+        older: N::MAX,
+        pair: Pair { key, value },
+    }
+}
