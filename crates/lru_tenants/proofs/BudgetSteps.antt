@@ -30,7 +30,8 @@ module _ {K V S : Type 0} {rules : Rules K V S} {offers : Offers K V S K} {accou
   told_budget (Some pair) s = laws.removed s pair.0 pair.1
 
   -- no call sets the budget
-  pub keeps_budget : {names : K → K → Bool} → KeepsOffers rules offers names (λ c d. budget d.limiter ≡ budget c.limiter)
+  pub keeps_budget : {names : K → K → Bool} → KeepsOffers rules offers names
+      (λ c d. budget d.limiter ≡ budget c.limiter)
   keeps_budget = record {
     keeps = record {
       way = record {

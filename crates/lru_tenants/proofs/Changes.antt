@@ -58,7 +58,8 @@ module _ {K X S : Type 0} (P : X → Type 0) where
   kept-removed test old new all is = All-map-IsPermutation (λ e. e.1) P (remove_entry test old.entries) new.entries is
       (All-map-remove_entry test (λ e. e.1) P old.entries all)
 
-module _ {N K V L S R : Type 0} {eq : N → N → Bool} (name : N) (Does : Option (State K V L S) → R → Option (State K V L S) → Type 0)
+module _ {N K V L S R : Type 0} {eq : N → N → Bool} (name : N)
+    (Does : Option (State K V L S) → R → Option (State K V L S) → Type 0)
     (answer : R) where
   -- what is done to the tenant is done to the cache, by what the tenant is before
   pub on-from : (old new : Cache N K V L S) (was left : Option (State K V L S)) → tenant (eq name) old ≡ was
@@ -66,7 +67,8 @@ module _ {N K V L S R : Type 0} {eq : N → N → Bool} (name : N) (Does : Optio
   on-from old new was left is does leaves = (left, subst (λ t. Does t answer left) (sym is) does, leaves)
 
   -- if it stays, so does the cache
-  pub on-same : IsEquivalence eq → (cache : Cache N K V L S) (was : Option (State K V L S)) → tenant (eq name) cache ≡ was
+  pub on-same : IsEquivalence eq → (cache : Cache N K V L S) (was : Option (State K V L S)) → tenant (eq name) cache ≡
+      was
       → Does was answer was → On eq name Does cache answer cache
   on-same laws cache was is does = on-from cache cache was was is does
       (subst (λ t. Leaves eq name t cache cache) is (leaves-same laws name cache))
@@ -114,7 +116,8 @@ module _ {N K V L S : Type 0} (names : N → N → Bool) where
         → Does (Some was) answer (Some left)
         → On names name Does (cache_of old hasher entry_bytes limit) answer (cache_of new hasher entry_bytes limit)
     on-written was left there writes Does answer does =
-        on-from name Does answer (cache_of old hasher entry_bytes limit) (cache_of new hasher entry_bytes limit) (Some was)
+        on-from name Does answer (cache_of old hasher entry_bytes limit) (cache_of new hasher entry_bytes limit)
+        (Some was)
         (Some left) there does
         (leaves-updated names name (Some left) hasher entry_bytes limit old new (writes.3 (ap is_some there)))
 
@@ -123,5 +126,6 @@ module _ {N K V L S : Type 0} (names : N → N → Bool) where
         → Does was answer None
         → On names name Does (cache_of old hasher entry_bytes limit) answer (cache_of new hasher entry_bytes limit)
     on-removed Does answer was is updates does =
-        on-from name Does answer (cache_of old hasher entry_bytes limit) (cache_of new hasher entry_bytes limit) was None is does
+        on-from name Does answer (cache_of old hasher entry_bytes limit) (cache_of new hasher entry_bytes limit) was
+        None is does
         (leaves-updated names name None hasher entry_bytes limit old new updates)

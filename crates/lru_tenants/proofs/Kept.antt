@@ -44,7 +44,8 @@ sum-small f bound (x ∷ xs) all = omega (
 )
 
 module _ {N K V L S : Type 0} {eq : K → K → Bool} {cost : K → V → ℕ} {account budget : L → ℕ} {hasher : S} {sum : ℕ}
-    {limit : Option ℕ} (entry_bytes : ℕ) (old : HashMap N (State K V L S) S) (kept : Holds eq cost account budget old hasher sum limit) where
+    {limit : Option ℕ} (entry_bytes : ℕ) (old : HashMap N (State K V L S) S)
+    (kept : Holds eq cost account budget old hasher sum limit) where
   -- the sum of the budgets is small, whatever budget is added
   pub sum-fits : length old.entries < 2 ^ 63 → sum < 2 ^ 127
   sum-fits small = omega (
@@ -77,7 +78,12 @@ module _ {N K V L S : Type 0} {eq : K → K → Bool} {cost : K → V → ℕ} {
 
   pub sum-more : (test : N → Bool) → get_by test old ≡ None → (own : ℕ)
       → sum + own ≡ budgets_with budget test own (cache_of old hasher entry_bytes limit)
-  sum-more test none own = omega (arith, kept.sum, ap (λ o. unwrap_or (option_map (λ map. budget map.limiter) o) 0) none)
+  sum-more test none own = omega (
+    arith,
+    kept.sum,
+    ap (λ o. unwrap_or (option_map (λ map. budget map.limiter) o) 0)
+        none,
+  )
 
 module _ {N K V L S : Type 0} (names : N → N → Bool) {eq : K → K → Bool} {cost : K → V → ℕ} {account budget : L → ℕ}
     {hasher : S} {sum : ℕ} {limit : Option ℕ} (old new : HashMap N (State K V L S) S)
@@ -91,7 +97,8 @@ module _ {N K V L S : Type 0} (names : N → N → Bool) {eq : K → K → Bool}
         ∙ sum_by-set_value (λ map. budget map.limiter) (names name) old.entries was left there
         ∙ ap (λ n. n + budget left.limiter) (sym kept.sum)
 
-    pub kept-rebudgeted : IsTenant eq cost account budget left → (next : ℕ) → next + budget was.limiter ≡ sum + budget left.limiter → is_above limit next ≡ false
+    pub kept-rebudgeted : IsTenant eq cost account budget left → (next : ℕ) → next + budget was.limiter ≡ sum + budget
+        left.limiter → is_above limit next ≡ false
         → Holds eq cost account budget new hasher next limit
     kept-rebudgeted is next same within = record {
       tenants = all-written names (IsTenant eq cost account budget) name old new was left writes kept.tenants is;
@@ -121,7 +128,8 @@ module _ {N K V L S : Type 0} (names : N → N → Bool) {eq : K → K → Bool}
       sum_by-remove_entry (λ map. budget map.limiter) (names name) old.entries,
     )
 
-    pub kept-removed-by : (next : ℕ) → next + unwrap_or (option_map (λ map. budget map.limiter) (get_by (names name) old)) 0 ≡ sum
+    pub kept-removed-by : (next : ℕ) → next + unwrap_or
+        (option_map (λ map. budget map.limiter) (get_by (names name) old)) 0 ≡ sum
         → Holds eq cost account budget new hasher next limit
     kept-removed-by next is = record {
       tenants = all-removed names (IsTenant eq cost account budget) name old new kept.tenants entries;
@@ -131,12 +139,14 @@ module _ {N K V L S : Type 0} (names : N → N → Bool) {eq : K → K → Bool}
     }
 
   -- a tenant is opened
-  pub kept-opened : (name : N) (own : State K V L S) (found : Option (State K V L S)) → found ≡ get names old name → found ≡ None
+  pub kept-opened : (name : N) (own : State K V L S) (found : Option (State K V L S)) → found ≡ get names old name →
+      found ≡ None
       → PutsEntry names old new name own found → hasher_of new ≡ hasher_of old → IsTenant eq cost account budget own
       → (next : ℕ) → next ≡ sum + budget own.limiter → is_above limit next ≡ false
       → Holds eq cost account budget new hasher next limit
   kept-opened name own found was none entries same is next e within = record {
-    tenants = All-values-PutsEntry names (IsTenant eq cost account budget) old new name own found entries kept.tenants is;
+    tenants = All-values-PutsEntry names (IsTenant eq cost account budget) old new name own found entries kept.tenants
+        is;
     hasher = same ∙ kept.hasher;
     sum = omega (
       arith,

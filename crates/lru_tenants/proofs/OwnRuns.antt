@@ -53,7 +53,8 @@ module _ {N K V L S C R : Type 0} (named : C → N)
 
   pub steps-push : (calls : List C) (answers : List R) (dids : List (Did N K V L S)) (call : C) (answer : R)
       (found left : Option (State K V L S)) → AreSteps calls answers dids → Does call found answer left
-      → AreSteps (calls ++ call ∷ []) (answers ++ answer ∷ []) (dids ++ record { name = named call; found = found; left = left } ∷ [])
+      → AreSteps (calls ++ call ∷ []) (answers ++ answer ∷ [])
+      (dids ++ record { name = named call; found = found; left = left } ∷ [])
   steps-push [] [] [] call answer found left steps does = (refl, does, tt)
   steps-push (other ∷ calls) (said ∷ answers) (did ∷ more) call answer found left (is, step, steps) does =
       (is, step, steps-push calls answers more call answer found left steps does)
@@ -70,7 +71,12 @@ module _ {N K V L S C R : Type 0} (named : C → N)
   own-run own (call ∷ calls) (answer ∷ answers) (did ∷ more) old new (is, does, steps) (inl (named, found, rest)) =
       inl (
         subst (λ n. own n ≡ true) is named,
-        (did.left, subst (λ t. Does call t answer did.left) found does, own-run own calls answers more did.left new steps rest),
+        (
+          did.left,
+          subst (λ t. Does call t answer did.left) found does,
+          own-run own calls answers more did.left new
+              steps rest,
+        ),
       )
   own-run own (call ∷ calls) (answer ∷ answers) (did ∷ more) old new (is, does, steps) (inr (other, rest)) =
       inr (subst (λ n. own n ≡ false) is other, own-run own calls answers more old new steps rest)
@@ -80,7 +86,8 @@ module _ {N K V L S C R : Type 0} (named : C → N)
   own-run own (other ∷ calls) (said ∷ answers) [] old new steps chained = absurd steps
 
 -- caches whose hasher and bytes are the same open tenants with the same maps
-pub fresh-same : {N K V L S : Type 0} (made : ℕ → L) (max : ℕ) (old new : Cache N K V L S) → new.hasher ≡ old.hasher → new.entry_bytes ≡ old.entry_bytes
+pub fresh-same : {N K V L S : Type 0} (made : ℕ → L) (max : ℕ) (old new : Cache N K V L S) → new.hasher ≡ old.hasher →
+    new.entry_bytes ≡ old.entry_bytes
     → fresh made max new ≡ fresh made max old
 fresh-same made max old new hasher bytes = λ i budget. empty_map (made budget) (hasher i) (bytes i) max
 

@@ -16,7 +16,8 @@ module _ {K V L S : Type 0} (accepts : L → K → V → Bool) (eq : K → K →
   pub is-rejected : (map : State K V L S) → rejects accepts eq key value map ≡ true
       → (accepts map.limiter key value ≡ false) × (lookup_entry (eq key) map.pairs ≡ None)
   is-rejected map is = go (accepts map.limiter key value) (lookup_entry (eq key) map.pairs)
-      (subst (λ o. (not (accepts map.limiter key value) && not (is_some o)) ≡ true) (lookup-entry (eq key) map.pairs) is)
+      (subst (λ o. (not (accepts map.limiter key value) && not (is_some o)) ≡ true) (lookup-entry (eq key) map.pairs)
+      is)
     where
       go : (a : Bool) (found : Option (K × V)) → (not a && not (is_some (option_map (λ p. p.1) found))) ≡ true
           → (a ≡ false) × (found ≡ None)

@@ -62,7 +62,8 @@ module _ {K V L S : Type 0} where
   read_of reads (Some map) = Ok (reads map)
 
   -- what is done to a tenant that is open
-  abbrev pub IfOpen : {R : Type 0} → (State K V L S → R → State K V L S → Type 0) → Option (State K V L S) → Result R TenantError
+  abbrev pub IfOpen : {R : Type 0} → (State K V L S → R → State K V L S → Type 0) → Option (State K V L S) → Result R
+      TenantError
       → Option (State K V L S) → Type 0
   IfOpen does None answer new = (answer ≡ Err NotOpen) × (new ≡ None)
   IfOpen {R} does (Some map) answer new =
@@ -75,7 +76,8 @@ module _ {K V L S : Type 0} where
   PassesOn does (Some map) handed new = does map handed new
 
   -- its pair becomes the newest
-  abbrev pub Gets : (K → Bool) → Option (State K V L S) → Result (Option V) TenantError → Option (State K V L S) → Type 0
+  abbrev pub Gets : (K → Bool) → Option (State K V L S) → Result (Option V) TenantError → Option (State K V L S) →
+      Type 0
   Gets names old answer new = (answer ≡ got names old) × (new ≡ option_map (promoted names) old)
 
   -- the cost is that of its limiter

@@ -124,7 +124,8 @@ module _ {K V : Type 0} (cost : V → ℕ) (value_of : K → V) where
     trimmed_from (suc count) [] e = absurd (omega (arith, e))
     trimmed_from (suc count) (x ∷ keys) e = elim (cases_lt n (spent key_cost (x ∷ keys))) [
       | inl over ↦ rw (lt-ltb n (spent key_cost (x ∷ keys)) over)
-          (ap (trim_from (by_cost cost) count) (popped 0 (spent key_cost (x ∷ keys)) (spent key_cost (without_last (x ∷ keys))) x keys
+          (ap (trim_from (by_cost cost) count)
+          (popped 0 (spent key_cost (x ∷ keys)) (spent key_cost (without_last (x ∷ keys))) x keys
           (omega arith) (omega arith))
           ∙ trimmed_from count (without_last (x ∷ keys)) (omega (arith, length-without_last (x ∷ keys), e))
           ∙ ap holding (fewer key_cost n (x ∷ keys) over))

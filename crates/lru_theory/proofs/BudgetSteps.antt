@@ -134,7 +134,8 @@ module _ {K V : Type 0} (cost : V → ℕ) (value_of : K → V) (n : ℕ) (fits 
       go (lookup_entry (eq key) (map pair keys)) refl h
     where
       go : (o : Option (K × V)) → lookup_entry (eq key) (map pair keys) ≡ o
-          → EndsBy (by_cost cost) (charges cost) eq (lands (by_cost cost)) key (value_of key) (held keys) o (Ok flag) new
+          → EndsBy (by_cost cost) (charges cost) eq (lands (by_cost cost)) key (value_of key) (held keys) o (Ok flag)
+          new
           → new ≡ held (left_by key keys)
       go (Some p) found h = h.1 ∙ there_ends key keys cheap few p found
       go None none (s, given, gives, ending) =
@@ -219,7 +220,8 @@ module _ {K V : Type 0} (cost : V → ℕ) (value_of : K → V) (n : ℕ) (fits 
     run_leaves Holds past old [] (reply ∷ replies) new keys run is found small e = absurd run
     run_leaves Holds past old (call ∷ calls) [] new keys run is found small e = absurd run
     run_leaves Holds past old (call ∷ calls) (reply ∷ replies) new [] run is found small e = absurd cc
-    run_leaves Holds past old (call ∷ calls) (reply ∷ replies) new (key ∷ keys) (mid, step, held_mid, run) is found small e =
+    run_leaves Holds past old (call ∷ calls) (reply ∷ replies) new (key ∷ keys) (mid, step, held_mid, run) is found
+        small e =
         let here = call_holds call key (cached_within eq costs n past) reply mid
         (subst (λ c. ListCallStep (by_cost cost) (charges cost) eq hash_of c call reply mid) e step)
         (ap (head_of (offered call)) is) found.0 small.0 (within past) in

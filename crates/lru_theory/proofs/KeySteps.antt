@@ -42,7 +42,8 @@ pub record Keeps {K V H : Type 0} (eq : K → K → Bool) (call : KeyCall K) (ol
   pub limiter : new.limiter ≡ old.limiter
   pub keeps : KeepsToLength new
 
-without_absent : {K V : Type 0} (test : K → Bool) (xs : List (K × V)) → lookup_entry test xs ≡ None → without test xs ≡ xs
+without_absent : {K V : Type 0} (test : K → Bool) (xs : List (K × V)) → lookup_entry test xs ≡ None → without test xs
+    ≡ xs
 without_absent test [] e = refl
 without_absent test (x ∷ xs) e = go (test x.0) e (without_absent test xs)
   where
@@ -101,10 +102,12 @@ module _ {K V H : Type 0} {eq : K → K → Bool} {hash_of : H → K → ℕ} (e
       → want_of reply ≡ found_all → KeepsToLength old → IsSized new → Keeps eq on old new
   call_keeps (calls.Insert key v) on old reply new step e found keeps sized =
       subst (λ c. Keeps eq c old new) (call_same (refers key) on e)
-      (from_refers key old new (call_refers exact known (calls.Insert key v) key old reply new step refl found keeps sized))
+      (from_refers key old new (call_refers exact known (calls.Insert key v) key old reply new step refl found keeps
+      sized))
   call_keeps (calls.GetOrInsert key v) on old reply new step e found keeps sized =
       subst (λ c. Keeps eq c old new) (call_same (refers key) on e)
-      (from_refers key old new (call_refers exact known (calls.GetOrInsert key v) key old reply new step refl found keeps sized))
+      (from_refers key old new (call_refers exact known (calls.GetOrInsert key v) key old reply new step refl found
+      keeps sized))
   call_keeps (calls.InsertWith key v) on old reply new (inl (Ok flag, out, h, is)) e found keeps sized =
       subst (λ c. Keeps eq c old new) (call_same (refers key) on e)
       (from_refers key old new (insert_refers exact known key v old flag new keeps sized
@@ -154,7 +157,8 @@ module _ {K V H : Type 0} {eq : K → K → Bool} {hash_of : H → K → ℕ} (e
       (steps looks old new keeps sized (reserves n result h) (ap keys_of (reserve_pairs old new n result h)))
   call_keeps calls.Shrink on old reply new (inl (result, h, is)) e found keeps sized =
       subst (λ c. Keeps eq c old new) (call_same looks on e)
-      (steps looks old new keeps sized (shrinks result h) (ap (λ c. keys_of c.pairs) (shrink_contents old result new h)))
+      (steps looks old new keeps sized (shrinks result h)
+      (ap (λ c. keys_of c.pairs) (shrink_contents old result new h)))
   call_keeps calls.List on old reply new (inl (is, same)) e found keeps sized =
       subst (λ c. Keeps eq c old new) (call_same looks on e) (stays old new same keeps)
   call_keeps calls.List on old reply new (inr (stores, is, same)) e found keeps sized =

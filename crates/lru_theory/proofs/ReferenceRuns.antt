@@ -54,14 +54,16 @@ module _ {K V H : Type 0} {eq : K → K → Bool} {hash_of : H → K → ℕ} (e
   pub after_run : (n first : ℕ) (past : List K) (old : State K V ℕ H) (calls : List (Call K V ℕ))
       (replies : List (Reply K V)) (new : State K V ℕ H) (keys : List K)
       → IsRun (CallStep length_rules length_offers eq hash_of) (IsMap eq) old calls replies new
-      → map referenced calls ≡ map Some keys → FoundMemory replies → After n first past old → After n first (reverse keys ++ past) new
+      → map referenced calls ≡ map Some keys → FoundMemory replies → After n first past old → After n first
+      (reverse keys ++ past) new
   after_run n first past old [] [] new [] same is found h = subst (After n first past) (sym same) h
   after_run n first past old [] [] new (key ∷ keys) same is found h = absurd cc
   after_run n first past old [] (reply ∷ replies) new keys run is found h = absurd run
   after_run n first past old (call ∷ calls) [] new keys run is found h = absurd run
   after_run n first past old (call ∷ calls) (reply ∷ replies) new [] run is found h = absurd cc
   after_run n first past old (call ∷ calls) (reply ∷ replies) new (key ∷ keys) (mid, step, held, run) is found h =
-      let one = call_refers exact known call key old reply mid step (ap (head_of (referenced call)) is) found.0 h.keeps held.sized in
+      let one = call_refers exact known call key old reply mid step (ap (head_of (referenced call)) is) found.0
+      h.keeps held.sized in
       let all = after_run n first (key ∷ past) mid calls replies new keys run (ap tail_of is) found.1
       (after_one n first past key old mid h one) in
       subst (λ ks. After n first ks new) (sym (reversed key keys past)) all

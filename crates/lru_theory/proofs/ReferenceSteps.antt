@@ -47,12 +47,14 @@ module _ {K V : Type 0} where
   keys_taken (suc n) (x ∷ xs) = ap (λ ks. x.0 ∷ ks) (keys_taken n xs)
 
   -- whether a key is there
-  pub there : (test : K → Bool) (xs : List (K × V)) (p : K × V) → lookup_entry test xs ≡ Some p → list_any test (keys_of xs) ≡ true
+  pub there : (test : K → Bool) (xs : List (K × V)) (p : K × V) → lookup_entry test xs ≡ Some p → list_any test
+      (keys_of xs) ≡ true
   there test [] p e = absurd (grind (arith, e))
   there test (x ∷ xs) p e = go (test x.0) e (there test xs p)
     where
       go : (b : Bool) → cond b (Some x) (lookup_entry test xs) ≡ Some p
-          → (lookup_entry test xs ≡ Some p → list_any test (keys_of xs) ≡ true) → (b || list_any test (keys_of xs)) ≡ true
+          → (lookup_entry test xs ≡ Some p → list_any test (keys_of xs) ≡ true) → (b || list_any test (keys_of xs)) ≡
+          true
       go true e later = refl
       go false e later = later e
 
@@ -61,11 +63,13 @@ module _ {K V : Type 0} where
   absent test (x ∷ xs) e = go (test x.0) e (absent test xs)
     where
       go : (b : Bool) → cond b (Some x) (lookup_entry test xs) ≡ None
-          → (lookup_entry test xs ≡ None → list_any test (keys_of xs) ≡ false) → (b || list_any test (keys_of xs)) ≡ false
+          → (lookup_entry test xs ≡ None → list_any test (keys_of xs) ≡ false) → (b || list_any test (keys_of xs)) ≡
+          false
       go true e later = absurd (grind (arith, e))
       go false e later = later e
 
-  pub value_there : (test : K → Bool) (xs : List (K × V)) (w : V) → lookup test xs ≡ Some w → (p : K × V) × (lookup_entry test xs ≡ Some p)
+  pub value_there : (test : K → Bool) (xs : List (K × V)) (w : V) → lookup test xs ≡ Some w → (p : K × V) ×
+      (lookup_entry test xs ≡ Some p)
   value_there test [] w e = absurd (grind (arith, e))
   value_there test (x ∷ xs) w e = go (test x.0) e (value_there test xs w)
     where
@@ -95,7 +99,8 @@ module _ {K V : Type 0} where
 
 module _ {K V H : Type 0} (hash_of : H → K → ℕ) where
   -- each pair that leaves leaves the count of stored entries as it is
-  oldest_placed : (hash n : ℕ) (old new : State K V ℕ H) → OldestLeave length_rules hash n old new → new.placed ≡ old.placed
+  oldest_placed : (hash n : ℕ) (old new : State K V ℕ H) → OldestLeave length_rules hash n old new → new.placed ≡
+      old.placed
   oldest_placed hash zero old new e = ap (λ st. st.placed) e
   oldest_placed hash (suc n) old new (before, more, none, leaves) =
       ap (λ st. st.placed) leaves.is ∙ oldest_placed hash n old before more
@@ -124,7 +129,8 @@ module _ {K V H : Type 0} (hash_of : H → K → ℕ) where
       → Place length_rules hash_of pair old outcome new → new.placed ≡ count_up old.placed 1
   placed_counts pair old outcome new e (in_bucket few some fills is h) = ap (λ st. st.placed) h.state
   placed_counts pair old outcome new e (rehashed none few why h) = if_memory pair _ _ _ old outcome new e h
-  placed_counts pair old outcome new e (grown outgrown count bytes target grants h) = if_memory pair _ _ _ _ outcome new e h
+  placed_counts pair old outcome new e (grown outgrown count bytes target grants h) = if_memory pair _ _ _ _ outcome
+      new e h
   placed_counts pair old outcome new e (not_grown outgrown mid cannot evicts) =
       evicts_placed _ pair old mid outcome new e evicts ∙ ap (λ m. count_up m 1) (cannot_placed old mid cannot)
 
@@ -145,7 +151,8 @@ module _ {K V H : Type 0} (hash_of : H → K → ℕ) where
         rw (absent (eq key) old.pairs none)
         (ap (λ st. st.placed) settles.1.is ∙ placed_counts pair ready placed landed refl place
         ∙ ap (λ st. count_up st.placed 1) way.is)
-    insert_counts fits result ok (admitted none s pair gives (ready, way, (refused, landed, place, settles))) = absurd cc
+    insert_counts fits result ok (admitted none s pair gives (ready, way, (refused, landed, place, settles))) = absurd
+        cc
     insert_counts fits result ok (admitted none s pair gives (ready, way, (no_memory, landed, place, settles))) =
         clash (subst IsErr ok settles.0)
 
@@ -226,10 +233,12 @@ module _ {K V H : Type 0} {eq : K → K → Bool} {hash_of : H → K → ℕ} (e
       subst (λ k. Refers eq k old new) (some_same at key e)
       (got_refers at old new w keeps sized (makes_newest v at result (got w there r same)) there
       (ap (λ st. st.pairs) same) (ap (λ st. st.placed) same))
-  call_refers (calls.GetOrInsert at v) key old reply new (inl (Ok flag, inserted none w makes h, is)) e found keeps sized =
+  call_refers (calls.GetOrInsert at v) key old reply new (inl (Ok flag, inserted none w makes h, is)) e found keeps
+      sized =
       subst (λ k. Refers eq k old new) (some_same at key e)
       (insert_refers at w old flag new keeps sized (makes_newest v at (Ok flag) (inserted none w makes h)) h)
-  call_refers (calls.GetOrInsert at v) key old reply new (inl (Err x, inserted none w makes h, is)) e found keeps sized =
+  call_refers (calls.GetOrInsert at v) key old reply new (inl (Err x, inserted none w makes h, is)) e found keeps
+      sized =
       absurd (lacking (sym (ap want_of is) ∙ found))
   call_refers (calls.GetOrInsert at v) key old reply new (inr (none, is, same)) e found keeps sized = absurd none
   call_refers call key old reply new step e found keeps sized = absurd (nothing e)

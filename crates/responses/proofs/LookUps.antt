@@ -54,7 +54,8 @@ module _ {K V : Type 0} {eq : K → K → Bool} (laws : IsEquivalence eq) (names
 pub still-there : {K V L S : Type 0} (names : K → Bool) (map : State K V L S) (found : Option V)
     → lookup names map.pairs ≡ found → lookup names (promoted names map).pairs ≡ found
 still-there names map None none = ap (λ st. lookup names st.pairs) (promoted-absent names map none) ∙ none
-still-there names map (Some v) is = ap (λ st. lookup names st.pairs) (sym (read_back names map v is)) ∙ written-found names map v v is
+still-there names map (Some v) is = ap (λ st. lookup names st.pairs) (sym (read_back names map v is)) ∙ written-found
+    names map v v is
 
 -- no key of a tenant is there twice
 pub distinct-keys : {N K V L S : Type 0} {keys : K → K → Bool} {cost : K → V → ℕ} {account budget : L → ℕ}
@@ -62,7 +63,8 @@ pub distinct-keys : {N K V L S : Type 0} {keys : K → K → Bool} {cost : K →
     → IfSome (tenant test cache) (λ map. IsDistinct keys (keys_of map.pairs))
 distinct-keys {keys = keys} {cost = cost} {account = account} {budget = budget} cache test all =
     IfSome-lookup_from_All (λ map. IsDistinct keys (keys_of map.pairs)) test cache.tenants
-    (All-weaker (IsTenant keys cost account budget) (λ map. IsDistinct keys (keys_of map.pairs)) (λ map is. is.map.distinct)
+    (All-weaker (IsTenant keys cost account budget) (λ map. IsDistinct keys (keys_of map.pairs))
+    (λ map is. is.map.distinct)
     (values_of cache.tenants) all)
 
 -- a response is fresh before it expires, and stale from then on
@@ -103,16 +105,19 @@ module _ {K L S : Type 0} (names : K → Bool) (now : ℕ) where
       )
 
 -- so a look-up ends with the get
-pub on-finds : {N K L S : Type 0} {eq : N → N → Bool} (names : K → Bool) (now : ℕ) (host : N) (old mid : Cache N K Response L S)
+pub on-finds : {N K L S : Type 0} {eq : N → N → Bool} (names : K → Bool) (now : ℕ) (host : N)
+    (old mid : Cache N K Response L S)
     (answer : Result (Option Response) TenantError) (found : Option Response) → On eq host (Gets names) old answer mid
     → answer ≡ Ok found → fresh_at now found ≡ found → On eq host (LooksUp names now) old (Ok found) mid
 on-finds {eq = eq} names now host old mid answer found (left, gets, leaves) is same = (
   left,
-  get-finds names now (tenant (eq host) old) found left (subst (λ a. Gets names (tenant (eq host) old) a left) is gets) same,
+  get-finds names now (tenant (eq host) old) found left
+      (subst (λ a. Gets names (tenant (eq host) old) a left) is gets) same,
   leaves,
 )
 
-module _ {N K L S : Type 0} {eq : N → N → Bool} (equal : IsEquivalence eq) {keys : K → K → Bool} (laws : IsEquivalence keys)
+module _ {N K L S : Type 0} {eq : N → N → Bool} (equal : IsEquivalence eq) {keys : K → K → Bool}
+    (laws : IsEquivalence keys)
     (names : K → Bool) (one : (x y : K) → names x ≡ true → names y ≡ keys x y) (now : ℕ) (rules : Rules K Response L)
     (host : N) (old mid new : Cache N K Response L S) (response : Response) where
   -- what the get of a response leaves
@@ -144,7 +149,8 @@ module _ {N K L S : Type 0} {eq : N → N → Bool} (equal : IsEquivalence eq) {
       let gets : On eq host (Gets names) old (Ok (Some response)) mid =
       (first, subst (λ a. Gets names (tenant (eq host) old) a first) said does, kept) in
       let (map, was, found, is) = got-it gets in
-      let (result, own, remove, says, now-is) = subst (λ t. IfOpen (Remove rules names) t (Ok removed) left) is removes in
+      let (result, own, remove, says, now-is) = subst (λ t. IfOpen (Remove rules names) t (Ok removed) left) is
+      removes in
       let none = ap (λ st. lookup names st.pairs) remove.state.is
       ∙ not-there laws names one (promoted names map).pairs response (still-there names map (Some response) found)
       (subst (λ t. IfSome t (λ map. IsDistinct keys (keys_of map.pairs))) is distinct) in

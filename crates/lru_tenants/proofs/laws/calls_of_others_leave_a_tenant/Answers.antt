@@ -3,7 +3,8 @@ use Rattle.lru_tenants.specs.Cache.{Cache, tenant}
 use Rattle.lru_tenants.specs.Others.{CallsOfOthers, none, call}
 use Rattle.lru_tenants.proofs.laws.calls_of_others_leave_a_tenant.Goals as goal
 
-stays : {N K V L S : Type 0} (names : N → N → Bool) (name : N) (new old : Cache N K V L S) → CallsOfOthers names name new old
+stays : {N K V L S : Type 0} (names : N → N → Bool) (name : N) (new old : Cache N K V L S) → CallsOfOthers names name
+    new old
     → tenant (names name) new ≡ tenant (names name) old
 stays names name new old none = refl
 stays names name new old (call mid other left apart leaves calls) = stays names name new mid calls

@@ -6,4 +6,9 @@ use Rattle.lru_tenants.proofs.laws.costs_are_within_the_total_limit.Goals as goa
 
 pub returns : goal.returns
 returns g c = within-less c.args.cache.now.total_limit c.total_budget-sum.result _ c.total_budget-sum.ensures.limit
-    (omega (arith, c.total_budget-sum.ensures.total, costs-within (values_of c.args.cache.now.tenants) c.len-len.ensures.tenants))
+    (omega (
+      arith,
+      c.total_budget-sum.ensures.total,
+      costs-within (values_of c.args.cache.now.tenants)
+          c.len-len.ensures.tenants,
+    ))

@@ -31,22 +31,40 @@ loop-call-preserved g c =
     let answer = c.make_tenant_call.result in
     let new = c.make_tenant_call.new.cache in
     let (dids, runs, steps) = h.run in
-    let step = subst (λ limit. On g.N.PartialEq.eq (named call) (TenantStep g.L.Limiter.rules g.L.Insertion.offers g.L.Summing.cost_of g.L.Summing.account g.L.Budgeted.budget_of g.K.PartialEq.eq g.S.KeyHasher.hash_of (fresh made max first) limit call) c.loop-call.cache answer new)
-    h.total_limit (subst (λ f. On g.N.PartialEq.eq (named call) (TenantStep g.L.Limiter.rules g.L.Insertion.offers g.L.Summing.cost_of g.L.Summing.account g.L.Budgeted.budget_of g.K.PartialEq.eq g.S.KeyHasher.hash_of f c.loop-call.cache.total_limit call) c.loop-call.cache answer
+    let step = subst (λ limit. On g.N.PartialEq.eq (named call)
+    (TenantStep g.L.Limiter.rules g.L.Insertion.offers g.L.Summing.cost_of g.L.Summing.account
+    g.L.Budgeted.budget_of g.K.PartialEq.eq g.S.KeyHasher.hash_of (fresh made max first) limit call)
+    c.loop-call.cache answer new)
+    h.total_limit (subst (λ f. On g.N.PartialEq.eq (named call)
+    (TenantStep g.L.Limiter.rules g.L.Insertion.offers g.L.Summing.cost_of g.L.Summing.account
+    g.L.Budgeted.budget_of g.K.PartialEq.eq g.S.KeyHasher.hash_of f c.loop-call.cache.total_limit call)
+    c.loop-call.cache answer
     new) (fresh-same made max first c.loop-call.cache h.hasher h.entry_bytes) c.make_tenant_call.ensures.step) in
     record {
       items = append_assoc c.loop-call.yielded (call ∷ []) (into_iter_items c.next.new.self)
           ∙ ap (λ l. c.loop-call.yielded ++ l) (sym c.in-Some.ensures.steps.0) ∙ h.items;
       left = omega (arith, c.in-Some.ensures.steps.1, h.left, ap length c.in-Some.ensures.steps.0);
       run = rw c.push_reserved.ensures.items (
-        dids ++ record { name = named call; found = tenant (g.N.PartialEq.eq (named call)) c.loop-call.cache; left = step.0 } ∷ [],
+        dids ++ record {
+          name = named call;
+          found = tenant (g.N.PartialEq.eq (named call)) c.loop-call.cache;
+          left =
+              step.0;
+        } ∷ [],
         run-push g.N.PartialEq.eq dids first c.loop-call.cache new (named call) step.0 runs step.2,
-        steps-push named (KeptStep g.L.Limiter.rules g.L.Insertion.offers g.L.Summing.cost_of g.L.Summing.account g.L.Budgeted.budget_of g.K.PartialEq.eq g.S.KeyHasher.hash_of (fresh made max first) first.total_limit) c.loop-call.yielded c.loop-call.answers.items dids call answer _ step.0 steps (
-          step.1,
-          subst (λ t. IfSome t (IsTenant g.K.PartialEq.eq g.L.Summing.cost_of g.L.Summing.account g.L.Budgeted.budget_of))
-              (step.2.tenants (named call) ∙ ap (λ b. cond b step.0 (tenant (g.N.PartialEq.eq (named call)) c.loop-call.cache)) (g.met.N.Eq.laws.refl (named call)))
-              (IfSome-lookup_from_All (IsTenant g.K.PartialEq.eq g.L.Summing.cost_of g.L.Summing.account g.L.Budgeted.budget_of) (g.N.PartialEq.eq (named call)) new.tenants c.make_tenant_call.ensures.tenants),
-        ),
+        steps-push named (KeptStep g.L.Limiter.rules g.L.Insertion.offers g.L.Summing.cost_of g.L.Summing.account
+            g.L.Budgeted.budget_of g.K.PartialEq.eq g.S.KeyHasher.hash_of (fresh made max first) first.total_limit)
+            c.loop-call.yielded c.loop-call.answers.items dids call answer _ step.0 steps (
+              step.1,
+              subst (λ t. IfSome t (IsTenant g.K.PartialEq.eq g.L.Summing.cost_of g.L.Summing.account
+                  g.L.Budgeted.budget_of))
+                  (step.2.tenants (named call) ∙ ap
+                  (λ b. cond b step.0 (tenant (g.N.PartialEq.eq (named call)) c.loop-call.cache))
+                  (g.met.N.Eq.laws.refl (named call)))
+                  (IfSome-lookup_from_All (IsTenant g.K.PartialEq.eq g.L.Summing.cost_of g.L.Summing.account
+                  g.L.Budgeted.budget_of) (g.N.PartialEq.eq (named call)) new.tenants
+                  c.make_tenant_call.ensures.tenants),
+            ),
       );
       tenants = c.make_tenant_call.ensures.tenants;
       hasher = step.2.hasher ∙ h.hasher;
@@ -63,7 +81,10 @@ returns-clause-own g c =
     let all = sym (append-nil c.loop-call.yielded)
     ∙ ap (λ l. c.loop-call.yielded ++ l) (sym (empty (into_iter_items c.loop-call.call-iterator) none)) ∙ h.items in
     let (dids, runs, steps) = h.run in
-    let Does = KeptStep g.L.Limiter.rules g.L.Insertion.offers g.L.Summing.cost_of g.L.Summing.account g.L.Budgeted.budget_of g.K.PartialEq.eq g.S.KeyHasher.hash_of (fresh g.L.Budgeted.made (g.L.LinkType.LinkType.number g.L.LinkType.LinkType.MAX) c.args.cache.now) c.args.cache.now.total_limit in
+    let Does = KeptStep g.L.Limiter.rules g.L.Insertion.offers g.L.Summing.cost_of g.L.Summing.account
+    g.L.Budgeted.budget_of g.K.PartialEq.eq g.S.KeyHasher.hash_of
+    (fresh g.L.Budgeted.made (g.L.LinkType.LinkType.number g.L.LinkType.LinkType.MAX) c.args.cache.now)
+    c.args.cache.now.total_limit in
     let own = subst (λ calls. AreSteps named Does calls c.loop-call.answers.items dids) all steps in
     λ name. own-run named Does (λ n. g.N.PartialEq.eq n name) _ _ dids _ _ own
     (c.each_tenant_has_its_own_run.ensures name dids c.args.cache.now c.loop-call.cache runs)

@@ -11,8 +11,12 @@ abbrev pub invariant-loop-call : goal.invariant-loop-call
 invariant-loop-call g l = record {
   items : l.yielded ++ into_iter_items l.call-iterator ≡ l.fn.calls.items;
   left : into_iter_len l.call-iterator ≡ length (into_iter_items l.call-iterator);
-  run : (dids : List (Did g.row.N.Denot g.row.K.Denot g.row.V.Denot g.row.L.Denot g.row.S.Denot)) × CacheRun g.N.PartialEq.eq l.fn.cache dids l.cache
-      × AreSteps named (KeptStep g.L.Limiter.rules g.L.Insertion.offers g.L.Summing.cost_of g.L.Summing.account g.L.Budgeted.budget_of g.K.PartialEq.eq g.S.KeyHasher.hash_of (fresh g.L.Budgeted.made (g.L.LinkType.LinkType.number g.L.LinkType.LinkType.MAX) l.fn.cache) l.fn.cache.total_limit)
+  run : (dids : List (Did g.row.N.Denot g.row.K.Denot g.row.V.Denot g.row.L.Denot g.row.S.Denot)) × CacheRun
+      g.N.PartialEq.eq l.fn.cache dids l.cache
+      × AreSteps named (KeptStep g.L.Limiter.rules g.L.Insertion.offers g.L.Summing.cost_of g.L.Summing.account
+      g.L.Budgeted.budget_of g.K.PartialEq.eq g.S.KeyHasher.hash_of
+      (fresh g.L.Budgeted.made (g.L.LinkType.LinkType.number g.L.LinkType.LinkType.MAX) l.fn.cache)
+      l.fn.cache.total_limit)
       l.yielded l.answers.items dids;
   tenants : AreTenants g.K.PartialEq.eq g.L.Summing.cost_of g.L.Summing.account g.L.Budgeted.budget_of l.cache;
   hasher : l.cache.hasher ≡ l.fn.cache.hasher;

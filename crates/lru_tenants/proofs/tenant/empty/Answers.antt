@@ -32,7 +32,8 @@ pops-preserved g c =
             (key, value) c.sink.new.self takes c.sink.ensures,
         append_assoc handed ((key, value) ∷ []) (reverse new.pairs)
             ∙ ap (λ l. handed ++ l)
-            (sym (popped-reverse g.L.Limiter.rules g.met.L.Budgeted.laws.leaves st new (key, value) c.in-Some.ensures.step)) ∙ all,
+            (sym (popped-reverse g.L.Limiter.rules g.met.L.Budgeted.laws.leaves st new (key, value)
+            c.in-Some.ensures.step)) ∙ all,
       );
     }
 
@@ -41,4 +42,5 @@ returns-clause-handed g c =
     let (handed, takes, all) = c.pops.invariant.handed in
     subst (λ l. Takes g.F.FnMut c.args.sink.now l c.pops.sink) (sym (append-nil handed)
     ∙ ap (λ l. handed ++ reverse l)
-    (sym (popped-none g.L.Limiter.rules g.met.L.Budgeted.laws.leaves c.pops.map c.pop_oldest.new.self c.in_default.ensures.step)) ∙ all) takes
+    (sym (popped-none g.L.Limiter.rules g.met.L.Budgeted.laws.leaves c.pops.map c.pop_oldest.new.self
+    c.in_default.ensures.step)) ∙ all) takes

@@ -11,7 +11,8 @@ returns-clause-tenant g c =
     let laws = g.met.L.Budgeted.laws in
     let old = with_limiter (g.L.Budgeted.rebudgeted c.args.budget c.args.map.now.limiter) c.args.map.now in
     let limiter = c.set_budget.ensures ∙ ap (g.L.Budgeted.rebudgeted c.args.budget) c.limiter_mut.ensures.value in
-    let step = subst (λ l. Trims g.L.Limiter.rules (with_limiter l c.args.map.now) new) limiter c.trim_with.ensures.step in
+    let step = subst (λ l. Trims g.L.Limiter.rules (with_limiter l c.args.map.now) new) limiter
+    c.trim_with.ensures.step in
     let sum = c.calls_keep_sums.ensures old new (trims step)
     (laws.set_keeps c.args.budget c.args.map.now.limiter ∙ c.requires.tenant.sum) in
     record {
@@ -33,6 +34,7 @@ returns-clause-budget g c =
     let new = c.trim_with.new.self in
     let old = with_limiter (g.L.Budgeted.rebudgeted c.args.budget c.args.map.now.limiter) c.args.map.now in
     let limiter = c.set_budget.ensures ∙ ap (g.L.Budgeted.rebudgeted c.args.budget) c.limiter_mut.ensures.value in
-    let step = subst (λ l. Trims g.L.Limiter.rules (with_limiter l c.args.map.now) new) limiter c.trim_with.ensures.step in
+    let step = subst (λ l. Trims g.L.Limiter.rules (with_limiter l c.args.map.now) new) limiter
+    c.trim_with.ensures.step in
     c.calls_keep_the_budget.ensures.budget old new (trims step)
     ∙ g.met.L.Budgeted.laws.set_budget c.args.budget c.args.map.now.limiter

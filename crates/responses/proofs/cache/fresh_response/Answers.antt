@@ -6,7 +6,8 @@ use Rattle.responses.proofs.LookUps.{distinct-keys, fresh-before, stale-from, on
 use Rattle.responses.proofs.cache.fresh_response.Goals as goal
 
 pub returns-in_default-clause-finds : goal.returns-in_default-clause-finds
-returns-in_default-clause-finds c = on-finds (names_text c.args.path.now) c.args.now c.args.host.now c.args.entries.now _
+returns-in_default-clause-finds c = on-finds (names_text c.args.path.now) c.args.now c.args.host.now
+    c.args.entries.now _
     (read c.get.result) None c.get.follows.holds-at-none
     (ap read c.in_ok-get.was ∙ ap Ok (sym c.copied.ensures ∙ c.in_default.is)) refl
 
@@ -18,7 +19,8 @@ returns-then-now-response-clause-finds c = on-finds (names_text c.args.path.now)
 
 pub returns-clause-finds : goal.returns-clause-finds
 returns-clause-finds c =
-    stale-removed string_eq_equiv string_eq_equiv (names_text c.args.path.now) ((names_text-lawful (λ bytes. bytes)).one c.args.path.now) c.args.now _ c.args.host.now
+    stale-removed string_eq_equiv string_eq_equiv (names_text c.args.path.now)
+    ((names_text-lawful (λ bytes. bytes)).one c.args.path.now) c.args.now _ c.args.host.now
     c.args.entries.now _ _ c.in-Some.response _ (read c.get.result) c.get.follows.holds-at-none
     (ap read c.in_ok-get.was ∙ ap Ok (sym c.copied.ensures ∙ c.in-Some.is))
     (stale-from c.args.now c.in-Some.response c.if-now-response.false)

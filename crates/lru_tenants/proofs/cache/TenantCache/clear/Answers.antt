@@ -8,7 +8,8 @@ use Rattle.lru_tenants.proofs.cache.TenantCache.clear.Goals as goal
 
 pub invariant_of-self-2 : goal.invariant_of-self-2
 invariant_of-self-2 g c = let u = c.clear.new.map in
-    kept-written g.N.PartialEq.eq c.self.inside.tenants (c.get_mut.follows.lender u) c.self.invariant c.args.name.now c.in-Some.own.now u
+    kept-written g.N.PartialEq.eq c.self.inside.tenants (c.get_mut.follows.lender u) c.self.invariant c.args.name.now
+    c.in-Some.own.now u
     (sym c.in-Some.ensures.value) (c.get_mut.follows.holds u) c.clear.ensures.tenant c.clear.ensures.budget
 
 pub returns-clause-tenants : goal.returns-clause-tenants
@@ -16,12 +17,14 @@ returns-clause-tenants g c = (invariant_of-self-2 g c).tenants
 
 pub returns-clause-total : goal.returns-clause-total
 returns-clause-total g c = let u = c.clear.new.map in
-    rw (← c.self.view_is) (same-sum g.N.PartialEq.eq c.self.inside.tenants (c.get_mut.follows.lender u) c.self.invariant c.args.name.now
+    rw (← c.self.view_is) (same-sum g.N.PartialEq.eq c.self.inside.tenants (c.get_mut.follows.lender u)
+    c.self.invariant c.args.name.now
     c.in-Some.own.now u (sym c.in-Some.ensures.value) (c.get_mut.follows.holds u) c.clear.ensures.budget)
 
 pub returns-clause-clears : goal.returns-clause-clears
 returns-clause-clears g c = let u = c.clear.new.map in
-    rw (← c.self.view_is) (on-written g.N.PartialEq.eq c.args.name.now c.self.inside.hasher c.self.inside.entry_bytes c.self.inside.total_limit c.self.inside.tenants (c.get_mut.follows.lender u) c.in-Some.own.now u
+    rw (← c.self.view_is) (on-written g.N.PartialEq.eq c.args.name.now c.self.inside.hasher c.self.inside.entry_bytes
+    c.self.inside.total_limit c.self.inside.tenants (c.get_mut.follows.lender u) c.in-Some.own.now u
     (sym c.in-Some.ensures.value) (c.get_mut.follows.holds u)
     (IfOpen (λ old done new. new ≡ cleared g.L.Limiter.rules old)) _
     (tt, u, c.clear.ensures.clears, refl, refl))

@@ -8,7 +8,8 @@ use Rattle.lru_tenants.proofs.cache.TenantCache.cost.Goals as goal
 pub returns-clause-costs : goal.returns-clause-costs
 returns-clause-costs g c =
     rw (← c.self.view_is) (on-same c.args.name.now (Costs g.L.Summing.account) (Ok c.account.result) g.met.N.Eq.laws
-    (cache_of c.self.inside.tenants c.self.inside.hasher c.self.inside.entry_bytes c.self.inside.total_limit) (Some c.in-Some.map.now)
+    (cache_of c.self.inside.tenants c.self.inside.hasher c.self.inside.entry_bytes c.self.inside.total_limit)
+    (Some c.in-Some.map.now)
     (sym c.in-Some.ensures.value) (ap Ok (c.account.ensures ∙ ap g.L.Summing.account c.limiter.ensures), refl))
 
 pub returns-in_default-clause-costs : goal.returns-in_default-clause-costs

@@ -14,20 +14,26 @@ pub invariant_of-self-in-Some-get : goal.invariant_of-self-in-Some-get
 invariant_of-self-in-Some-get g c =
     let names = g.Q.LookupKey.names c.args.key.now in
     let left = written names c.in-Some-get.value.now (promoted names c.in-Some.map.now) in
-    let was = found-all (IsTenant g.K.PartialEq.eq g.L.Summing.cost_of g.L.Summing.account g.L.Budgeted.budget_of) (g.N.PartialEq.eq c.args.name.now) c.self.inside.tenants
+    let was = found-all (IsTenant g.K.PartialEq.eq g.L.Summing.cost_of g.L.Summing.account g.L.Budgeted.budget_of)
+    (g.N.PartialEq.eq c.args.name.now) c.self.inside.tenants
     c.in-Some.map.now (sym c.in-Some.ensures.value) c.self.invariant.tenants in
     let back = read_back names c.in-Some.map.now c.in-Some-get.value.now (sym c.in-Some-get.ensures.value) in
     let is = subst (IsTenant g.K.PartialEq.eq g.L.Summing.cost_of g.L.Summing.account g.L.Budgeted.budget_of) (sym back)
-    (promoted_is_tenant g.met.Q.LookupKey.laws c.args.key.now g.L.Summing.cost_of g.L.Summing.account g.L.Budgeted.budget_of c.in-Some.map.now was) in
-    kept-written g.N.PartialEq.eq c.self.inside.tenants (c.get_mut.follows.lender left) c.self.invariant c.args.name.now c.in-Some.map.now left
+    (promoted_is_tenant g.met.Q.LookupKey.laws c.args.key.now g.L.Summing.cost_of g.L.Summing.account
+    g.L.Budgeted.budget_of c.in-Some.map.now was) in
+    kept-written g.N.PartialEq.eq c.self.inside.tenants (c.get_mut.follows.lender left) c.self.invariant
+    c.args.name.now c.in-Some.map.now left
     (sym c.in-Some.ensures.value) (c.get_mut.follows.holds left) is refl
 
 pub invariant_of-self-in-None : goal.invariant_of-self-in-None
 invariant_of-self-in-None g c =
-    let was = found-all (IsTenant g.K.PartialEq.eq g.L.Summing.cost_of g.L.Summing.account g.L.Budgeted.budget_of) (g.N.PartialEq.eq c.args.name.now) c.self.inside.tenants
+    let was = found-all (IsTenant g.K.PartialEq.eq g.L.Summing.cost_of g.L.Summing.account g.L.Budgeted.budget_of)
+    (g.N.PartialEq.eq c.args.name.now) c.self.inside.tenants
     c.in-Some.map.now (sym c.in-Some.ensures.value) c.self.invariant.tenants in
-    kept-written g.N.PartialEq.eq c.self.inside.tenants (c.get_mut.follows.lender c.in-Some.map.now) c.self.invariant c.args.name.now
-    c.in-Some.map.now c.in-Some.map.now (sym c.in-Some.ensures.value) (c.get_mut.follows.holds c.in-Some.map.now) was refl
+    kept-written g.N.PartialEq.eq c.self.inside.tenants (c.get_mut.follows.lender c.in-Some.map.now) c.self.invariant
+    c.args.name.now
+    c.in-Some.map.now c.in-Some.map.now (sym c.in-Some.ensures.value) (c.get_mut.follows.holds c.in-Some.map.now) was
+    refl
 
 pub returns-in-Some-get : goal.returns-in-Some-get
 returns-in-Some-get g c =
@@ -36,7 +42,8 @@ returns-in-Some-get g c =
     let writes = c.get_mut.follows.holds left in
     let there = sym c.in-Some.ensures.value in
     let found = c.in-Some-get.ensures.value in
-    let gets = gets-open names (lookup (g.N.PartialEq.eq c.args.name.now) c.self.inside.tenants.entries) c.in-Some.map.now left
+    let gets = gets-open names (lookup (g.N.PartialEq.eq c.args.name.now) c.self.inside.tenants.entries)
+    c.in-Some.map.now left
     (Some c.in-Some-get.value.now) there found
     (read_back names c.in-Some.map.now c.in-Some-get.value.now (sym found)) in
     rw (← c.self.view_is) (
@@ -46,7 +53,8 @@ returns-in-Some-get g c =
         (
           Some left,
           gets,
-          leaves-updated g.N.PartialEq.eq c.args.name.now (Some left) c.self.inside.hasher c.self.inside.entry_bytes c.self.inside.total_limit c.self.inside.tenants
+          leaves-updated g.N.PartialEq.eq c.args.name.now (Some left) c.self.inside.hasher c.self.inside.entry_bytes
+              c.self.inside.total_limit c.self.inside.tenants
               (c.get_mut.follows.lender left) (writes.3 (ap is_some there)),
         ),
       ),
@@ -60,7 +68,8 @@ returns-in-None g c =
     let writes = c.get_mut.follows.holds left in
     let there = sym c.in-Some.ensures.value in
     let found = c.in-None.ensures.value in
-    let gets = gets-open names (lookup (g.N.PartialEq.eq c.args.name.now) c.self.inside.tenants.entries) left left None there found
+    let gets = gets-open names (lookup (g.N.PartialEq.eq c.args.name.now) c.self.inside.tenants.entries) left left
+    None there found
     (sym (promoted-absent names left (sym found))) in
     rw (← c.self.view_is) (
       (
@@ -69,7 +78,8 @@ returns-in-None g c =
         (
           Some left,
           gets,
-          leaves-updated g.N.PartialEq.eq c.args.name.now (Some left) c.self.inside.hasher c.self.inside.entry_bytes c.self.inside.total_limit c.self.inside.tenants
+          leaves-updated g.N.PartialEq.eq c.args.name.now (Some left) c.self.inside.hasher c.self.inside.entry_bytes
+              c.self.inside.total_limit c.self.inside.tenants
               (c.get_mut.follows.lender left) (writes.3 (ap is_some there)),
         ),
       ),
@@ -85,7 +95,8 @@ returns-in_default g c =
         refl,
         λ _. tt,
         on-same c.args.name.now (Gets names) (Err NotOpen) g.met.N.Eq.laws
-            (cache_of c.self.inside.tenants c.self.inside.hasher c.self.inside.entry_bytes c.self.inside.total_limit) None none (refl, refl),
+            (cache_of c.self.inside.tenants c.self.inside.hasher c.self.inside.entry_bytes c.self.inside.total_limit)
+            None none (refl, refl),
       ),
       record { leaves = tt; value = sym (ap (got names) none) },
     )

@@ -12,8 +12,11 @@ returns-in_default g c =
       (
         refl,
         λ _. tt,
-        on-same c.args.name.now (GetsOrPuts g.L.Limiter.rules g.L.Insertion.offers g.L.Budgeted.budget_of g.K.PartialEq.eq g.S.KeyHasher.hash_of (g.F.FnOnce.post c.args.make tt) c.args.key) (Err NotOpen) g.met.N.Eq.laws
-            (cache_of c.self.inside.tenants c.self.inside.hasher c.self.inside.entry_bytes c.self.inside.total_limit) None
+        on-same c.args.name.now (GetsOrPuts g.L.Limiter.rules g.L.Insertion.offers g.L.Budgeted.budget_of
+            g.K.PartialEq.eq g.S.KeyHasher.hash_of (g.F.FnOnce.post c.args.make tt) c.args.key) (Err NotOpen)
+            g.met.N.Eq.laws
+            (cache_of c.self.inside.tenants c.self.inside.hasher c.self.inside.entry_bytes c.self.inside.total_limit)
+            None
             (sym c.in_default.ensures.value) (refl, refl),
       ),
       record { leaves = tt },
@@ -21,8 +24,10 @@ returns-in_default g c =
 
 pub invariant_of-self-in_default-get_or_insert : goal.invariant_of-self-in_default-get_or_insert
 invariant_of-self-in_default-get_or_insert g c = let u = c.get_or_insert.new.map in
-    kept-written g.N.PartialEq.eq c.self.inside.tenants (c.get_mut.follows.lender u) c.self.invariant c.args.name.now c.in-Some.own.now u
-    (sym c.in-Some.ensures.value) (c.get_mut.follows.holds u) c.get_or_insert.ensures.tenant c.get_or_insert.ensures.budget
+    kept-written g.N.PartialEq.eq c.self.inside.tenants (c.get_mut.follows.lender u) c.self.invariant c.args.name.now
+    c.in-Some.own.now u
+    (sym c.in-Some.ensures.value) (c.get_mut.follows.holds u) c.get_or_insert.ensures.tenant
+    c.get_or_insert.ensures.budget
 
 pub returns-in_default-get_or_insert : goal.returns-in_default-get_or_insert
 returns-in_default-get_or_insert g c = let u = c.get_or_insert.new.map in
@@ -30,9 +35,11 @@ returns-in_default-get_or_insert g c = let u = c.get_or_insert.new.map in
       (
         refl,
         λ _. tt,
-        on-written g.N.PartialEq.eq c.args.name.now c.self.inside.hasher c.self.inside.entry_bytes c.self.inside.total_limit
+        on-written g.N.PartialEq.eq c.args.name.now c.self.inside.hasher c.self.inside.entry_bytes
+            c.self.inside.total_limit
             c.self.inside.tenants (c.get_mut.follows.lender u) c.in-Some.own.now u (sym c.in-Some.ensures.value)
-            (c.get_mut.follows.holds u) (GetsOrPuts g.L.Limiter.rules g.L.Insertion.offers g.L.Budgeted.budget_of g.K.PartialEq.eq g.S.KeyHasher.hash_of (g.F.FnOnce.post c.args.make tt) c.args.key) (Err Memory) (
+            (c.get_mut.follows.holds u) (GetsOrPuts g.L.Limiter.rules g.L.Insertion.offers g.L.Budgeted.budget_of
+            g.K.PartialEq.eq g.S.KeyHasher.hash_of (g.F.FnOnce.post c.args.make tt) c.args.key) (Err Memory) (
               u,
               record {
                 result = Err c.in_default-get_or_insert.field-0;
@@ -48,8 +55,10 @@ returns-in_default-get_or_insert g c = let u = c.get_or_insert.new.map in
 
 pub invariant_of-self-then-not-there : goal.invariant_of-self-then-not-there
 invariant_of-self-then-not-there g c = let u = c.get_or_insert.new.map in
-    kept-written g.N.PartialEq.eq c.self.inside.tenants (c.get_mut.follows.lender u) c.self.invariant c.args.name.now c.in-Some.own.now u
-    (sym c.in-Some.ensures.value) (c.get_mut.follows.holds u) c.get_or_insert.ensures.tenant c.get_or_insert.ensures.budget
+    kept-written g.N.PartialEq.eq c.self.inside.tenants (c.get_mut.follows.lender u) c.self.invariant c.args.name.now
+    c.in-Some.own.now u
+    (sym c.in-Some.ensures.value) (c.get_mut.follows.holds u) c.get_or_insert.ensures.tenant
+    c.get_or_insert.ensures.budget
 
 pub returns-then-not-there : goal.returns-then-not-there
 returns-then-not-there g c = let u = c.get_or_insert.new.map in
@@ -57,9 +66,11 @@ returns-then-not-there g c = let u = c.get_or_insert.new.map in
       (
         refl,
         λ _. tt,
-        on-written g.N.PartialEq.eq c.args.name.now c.self.inside.hasher c.self.inside.entry_bytes c.self.inside.total_limit
+        on-written g.N.PartialEq.eq c.args.name.now c.self.inside.hasher c.self.inside.entry_bytes
+            c.self.inside.total_limit
             c.self.inside.tenants (c.get_mut.follows.lender u) c.in-Some.own.now u (sym c.in-Some.ensures.value)
-            (c.get_mut.follows.holds u) (GetsOrPuts g.L.Limiter.rules g.L.Insertion.offers g.L.Budgeted.budget_of g.K.PartialEq.eq g.S.KeyHasher.hash_of (g.F.FnOnce.post c.args.make tt) c.args.key) (Ok None) (
+            (c.get_mut.follows.holds u) (GetsOrPuts g.L.Limiter.rules g.L.Insertion.offers g.L.Budgeted.budget_of
+            g.K.PartialEq.eq g.S.KeyHasher.hash_of (g.F.FnOnce.post c.args.make tt) c.args.key) (Ok None) (
               u,
               record {
                 result = Ok c.in-Ok.there;
@@ -76,8 +87,10 @@ returns-then-not-there g c = let u = c.get_or_insert.new.map in
 
 pub invariant_of-self-2 : goal.invariant_of-self-2
 invariant_of-self-2 g c = let u = c.get_or_insert.new.map in
-    kept-written g.N.PartialEq.eq c.self.inside.tenants (c.get_mut.follows.lender u) c.self.invariant c.args.name.now c.in-Some.own.now u
-    (sym c.in-Some.ensures.value) (c.get_mut.follows.holds u) c.get_or_insert.ensures.tenant c.get_or_insert.ensures.budget
+    kept-written g.N.PartialEq.eq c.self.inside.tenants (c.get_mut.follows.lender u) c.self.invariant c.args.name.now
+    c.in-Some.own.now u
+    (sym c.in-Some.ensures.value) (c.get_mut.follows.holds u) c.get_or_insert.ensures.tenant
+    c.get_or_insert.ensures.budget
 
 pub returns : goal.returns
 returns g c = let u = c.get_or_insert.new.map in
@@ -85,9 +98,12 @@ returns g c = let u = c.get_or_insert.new.map in
       (
         refl,
         λ _. tt,
-        on-written g.N.PartialEq.eq c.args.name.now c.self.inside.hasher c.self.inside.entry_bytes c.self.inside.total_limit
+        on-written g.N.PartialEq.eq c.args.name.now c.self.inside.hasher c.self.inside.entry_bytes
+            c.self.inside.total_limit
             c.self.inside.tenants (c.get_mut.follows.lender u) c.in-Some.own.now u (sym c.in-Some.ensures.value)
-            (c.get_mut.follows.holds u) (GetsOrPuts g.L.Limiter.rules g.L.Insertion.offers g.L.Budgeted.budget_of g.K.PartialEq.eq g.S.KeyHasher.hash_of (g.F.FnOnce.post c.args.make tt) c.args.key) (read (Ok c.newest.result)) (
+            (c.get_mut.follows.holds u) (GetsOrPuts g.L.Limiter.rules g.L.Insertion.offers g.L.Budgeted.budget_of
+            g.K.PartialEq.eq g.S.KeyHasher.hash_of (g.F.FnOnce.post c.args.make tt) c.args.key)
+            (read (Ok c.newest.result)) (
               u,
               record {
                 result = Ok c.in-Ok.there;

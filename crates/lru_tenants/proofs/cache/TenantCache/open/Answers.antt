@@ -17,42 +17,66 @@ overflow_add-sum g c = omega (
 
 pub returns-then-contains_key-clause-opens : goal.returns-then-contains_key-clause-opens
 returns-then-contains_key-clause-opens g c =
-    let cache = cache_of c.self.inside.tenants c.self.inside.hasher c.self.inside.entry_bytes c.self.inside.total_limit in
-    rw (← c.self.view_is) (open-again g.met.N.Eq.laws c.args.name (fresh g.L.Budgeted.made (g.L.LinkType.LinkType.number g.L.LinkType.LinkType.MAX) cache c.args.budget) _ cache
+    let cache = cache_of c.self.inside.tenants c.self.inside.hasher c.self.inside.entry_bytes
+    c.self.inside.total_limit in
+    rw (← c.self.view_is) (open-again g.met.N.Eq.laws c.args.name
+    (fresh g.L.Budgeted.made (g.L.LinkType.LinkType.number g.L.LinkType.LinkType.MAX) cache c.args.budget) _ cache
     (sym c.contains_key.ensures ∙ c.if-contains_key.true))
 
 pub returns-then-is_above-clause-opens : goal.returns-then-is_above-clause-opens
 returns-then-is_above-clause-opens g c =
-    let cache = cache_of c.self.inside.tenants c.self.inside.hasher c.self.inside.entry_bytes c.self.inside.total_limit in
-    let absent = absent-from (tenant (g.N.PartialEq.eq c.args.name) cache) (sym c.contains_key.ensures ∙ c.if-contains_key.false) in
-    let over = ap (is_above c.self.inside.total_limit) (sym (sum-more c.self.inside.entry_bytes c.self.inside.tenants c.self.invariant (g.N.PartialEq.eq c.args.name) absent c.args.budget))
+    let cache = cache_of c.self.inside.tenants c.self.inside.hasher c.self.inside.entry_bytes
+    c.self.inside.total_limit in
+    let absent = absent-from (tenant (g.N.PartialEq.eq c.args.name) cache)
+    (sym c.contains_key.ensures ∙ c.if-contains_key.false) in
+    let over = ap (is_above c.self.inside.total_limit)
+    (sym (sum-more c.self.inside.entry_bytes c.self.inside.tenants c.self.invariant (g.N.PartialEq.eq c.args.name)
+    absent c.args.budget))
     ∙ sym c.is_above.ensures ∙ c.if-is_above.true in
-    rw (← c.self.view_is) (on-same c.args.name (Opens _ (fresh g.L.Budgeted.made (g.L.LinkType.LinkType.number g.L.LinkType.LinkType.MAX) cache c.args.budget)) (Err OverTotal) g.met.N.Eq.laws cache None absent
-    (subst (λ b. Opens b (fresh g.L.Budgeted.made (g.L.LinkType.LinkType.number g.L.LinkType.LinkType.MAX) cache c.args.budget) None (Err OverTotal) None) (sym over) (refl, refl)))
+    rw (← c.self.view_is) (on-same c.args.name
+    (Opens _ (fresh g.L.Budgeted.made (g.L.LinkType.LinkType.number g.L.LinkType.LinkType.MAX) cache
+    c.args.budget)) (Err OverTotal) g.met.N.Eq.laws cache None absent
+    (subst (λ b. Opens b (fresh g.L.Budgeted.made (g.L.LinkType.LinkType.number g.L.LinkType.LinkType.MAX) cache
+    c.args.budget) None (Err OverTotal) None) (sym over) (refl, refl)))
 
 pub invariant_of-self : goal.invariant_of-self
 invariant_of-self g c =
-    let cache = cache_of c.self.inside.tenants c.self.inside.hasher c.self.inside.entry_bytes c.self.inside.total_limit in
-    let absent = absent-from (tenant (g.N.PartialEq.eq c.args.name) cache) (sym c.contains_key.ensures ∙ c.if-contains_key.false) in
+    let cache = cache_of c.self.inside.tenants c.self.inside.hasher c.self.inside.entry_bytes
+    c.self.inside.total_limit in
+    let absent = absent-from (tenant (g.N.PartialEq.eq c.args.name) cache)
+    (sym c.contains_key.ensures ∙ c.if-contains_key.false) in
     kept-opened g.N.PartialEq.eq c.self.inside.tenants c.insert.new.self c.self.invariant c.args.name c.fresh-map.result
     c.in-Ok.field-0 c.in-Ok.ensures.old (c.in-Ok.ensures.old ∙ absent) c.in-Ok.ensures.entries c.insert.ensures.hasher
     c.fresh-map.ensures.tenant (c.self.inside.budgets + c.args.budget)
-    (ap (λ n. c.self.inside.budgets + n) (sym (ap (λ map. g.L.Budgeted.budget_of map.limiter) c.fresh-map.ensures.map ∙ g.met.L.Budgeted.laws.made_budget c.args.budget))) (sym c.is_above.ensures ∙ c.if-is_above.false)
+    (ap (λ n. c.self.inside.budgets + n)
+    (sym (ap (λ map. g.L.Budgeted.budget_of map.limiter) c.fresh-map.ensures.map ∙
+    g.met.L.Budgeted.laws.made_budget c.args.budget))) (sym c.is_above.ensures ∙ c.if-is_above.false)
 
 pub returns-in-Ok-clause-tenants : goal.returns-in-Ok-clause-tenants
 returns-in-Ok-clause-tenants g c = (invariant_of-self g c).tenants
 
 pub returns-in-Ok-clause-opens : goal.returns-in-Ok-clause-opens
 returns-in-Ok-clause-opens g c =
-    let cache = cache_of c.self.inside.tenants c.self.inside.hasher c.self.inside.entry_bytes c.self.inside.total_limit in
-    let absent = absent-from (tenant (g.N.PartialEq.eq c.args.name) cache) (sym c.contains_key.ensures ∙ c.if-contains_key.false) in
-    let over = ap (is_above c.self.inside.total_limit) (sym (sum-more c.self.inside.entry_bytes c.self.inside.tenants c.self.invariant (g.N.PartialEq.eq c.args.name) absent c.args.budget))
+    let cache = cache_of c.self.inside.tenants c.self.inside.hasher c.self.inside.entry_bytes
+    c.self.inside.total_limit in
+    let absent = absent-from (tenant (g.N.PartialEq.eq c.args.name) cache)
+    (sym c.contains_key.ensures ∙ c.if-contains_key.false) in
+    let over = ap (is_above c.self.inside.total_limit)
+    (sym (sum-more c.self.inside.entry_bytes c.self.inside.tenants c.self.invariant (g.N.PartialEq.eq c.args.name)
+    absent c.args.budget))
     ∙ sym c.is_above.ensures ∙ c.if-is_above.false in
-    let is = c.fresh-map.ensures.map ∙ ap (λ k. fresh g.L.Budgeted.made (g.L.LinkType.LinkType.number g.L.LinkType.LinkType.MAX) k c.args.budget) (sym c.self.view_is) in
-    rw (← c.self.view_is) (on-from c.args.name (Opens _ (fresh g.L.Budgeted.made (g.L.LinkType.LinkType.number g.L.LinkType.LinkType.MAX) cache c.args.budget)) (Ok tt) cache
-    (cache_of c.insert.new.self c.self.inside.hasher c.self.inside.entry_bytes c.self.inside.total_limit) None (Some c.fresh-map.result)
-    absent (subst (λ b. Opens b (fresh g.L.Budgeted.made (g.L.LinkType.LinkType.number g.L.LinkType.LinkType.MAX) cache c.args.budget) None (Ok tt) (Some c.fresh-map.result)) (sym over) (inl (refl, ap Some is)))
-    (leaves-updated g.N.PartialEq.eq c.args.name (Some c.fresh-map.result) c.self.inside.hasher c.self.inside.entry_bytes c.self.inside.total_limit
+    let is = c.fresh-map.ensures.map ∙ ap
+    (λ k. fresh g.L.Budgeted.made (g.L.LinkType.LinkType.number g.L.LinkType.LinkType.MAX) k c.args.budget)
+    (sym c.self.view_is) in
+    rw (← c.self.view_is) (on-from c.args.name
+    (Opens _ (fresh g.L.Budgeted.made (g.L.LinkType.LinkType.number g.L.LinkType.LinkType.MAX) cache
+    c.args.budget)) (Ok tt) cache
+    (cache_of c.insert.new.self c.self.inside.hasher c.self.inside.entry_bytes c.self.inside.total_limit) None
+    (Some c.fresh-map.result)
+    absent (subst (λ b. Opens b (fresh g.L.Budgeted.made (g.L.LinkType.LinkType.number g.L.LinkType.LinkType.MAX)
+    cache c.args.budget) None (Ok tt) (Some c.fresh-map.result)) (sym over) (inl (refl, ap Some is)))
+    (leaves-updated g.N.PartialEq.eq c.args.name (Some c.fresh-map.result) c.self.inside.hasher
+    c.self.inside.entry_bytes c.self.inside.total_limit
     c.self.inside.tenants c.insert.new.self c.in-Ok.ensures.updates))
 
 pub invariant_of-self-in-Err : goal.invariant_of-self-in-Err
@@ -65,12 +89,20 @@ invariant_of-self-in-Err g c = record {
 
 pub returns-clause-opens : goal.returns-clause-opens
 returns-clause-opens g c =
-    let cache = cache_of c.self.inside.tenants c.self.inside.hasher c.self.inside.entry_bytes c.self.inside.total_limit in
-    let absent = absent-from (tenant (g.N.PartialEq.eq c.args.name) cache) (sym c.contains_key.ensures ∙ c.if-contains_key.false) in
-    let over = ap (is_above c.self.inside.total_limit) (sym (sum-more c.self.inside.entry_bytes c.self.inside.tenants c.self.invariant (g.N.PartialEq.eq c.args.name) absent c.args.budget))
+    let cache = cache_of c.self.inside.tenants c.self.inside.hasher c.self.inside.entry_bytes
+    c.self.inside.total_limit in
+    let absent = absent-from (tenant (g.N.PartialEq.eq c.args.name) cache)
+    (sym c.contains_key.ensures ∙ c.if-contains_key.false) in
+    let over = ap (is_above c.self.inside.total_limit)
+    (sym (sum-more c.self.inside.entry_bytes c.self.inside.tenants c.self.invariant (g.N.PartialEq.eq c.args.name)
+    absent c.args.budget))
     ∙ sym c.is_above.ensures ∙ c.if-is_above.false in
-    rw (c.in-Err.ensures.err, ← c.self.view_is) (on-same c.args.name (Opens _ (fresh g.L.Budgeted.made (g.L.LinkType.LinkType.number g.L.LinkType.LinkType.MAX) cache c.args.budget)) (Err Memory)
-    g.met.N.Eq.laws cache None absent (subst (λ b. Opens b (fresh g.L.Budgeted.made (g.L.LinkType.LinkType.number g.L.LinkType.LinkType.MAX) cache c.args.budget) None (Err Memory) None) (sym over) (inr (refl, refl))))
+    rw (c.in-Err.ensures.err, ← c.self.view_is)
+    (on-same c.args.name (Opens _ (fresh g.L.Budgeted.made
+    (g.L.LinkType.LinkType.number g.L.LinkType.LinkType.MAX) cache c.args.budget)) (Err Memory)
+    g.met.N.Eq.laws cache None absent
+    (subst (λ b. Opens b (fresh g.L.Budgeted.made (g.L.LinkType.LinkType.number g.L.LinkType.LinkType.MAX) cache
+    c.args.budget) None (Err Memory) None) (sym over) (inr (refl, refl))))
 
 pub returns-clause-tenants : goal.returns-clause-tenants
 returns-clause-tenants g c = rw (c.in-Err.ensures.err) c.self.invariant.tenants
@@ -80,9 +112,14 @@ returns-clause-unchanged g c = rw (c.in-Err.ensures.err, ← c.self.view_is) ref
 
 pub returns-in-Ok-clause-total : goal.returns-in-Ok-clause-total
 returns-in-Ok-clause-total g c =
-    let cache = cache_of c.self.inside.tenants c.self.inside.hasher c.self.inside.entry_bytes c.self.inside.total_limit in
-    let absent = absent-from (tenant (g.N.PartialEq.eq c.args.name) cache) (sym c.contains_key.ensures ∙ c.if-contains_key.false) in
+    let cache = cache_of c.self.inside.tenants c.self.inside.hasher c.self.inside.entry_bytes
+    c.self.inside.total_limit in
+    let absent = absent-from (tenant (g.N.PartialEq.eq c.args.name) cache)
+    (sym c.contains_key.ensures ∙ c.if-contains_key.false) in
     let none = c.in-Ok.ensures.old ∙ absent in
-    let sum = sum_by_puts_entry (λ map. g.L.Budgeted.budget_of map.limiter) g.N.PartialEq.eq c.self.inside.tenants c.insert.new.self
+    let sum = sum_by_puts_entry (λ map. g.L.Budgeted.budget_of map.limiter) g.N.PartialEq.eq c.self.inside.tenants
+    c.insert.new.self
     c.args.name c.fresh-map.result c.in-Ok.field-0 c.in-Ok.ensures.old c.in-Ok.ensures.entries in
-    rw (← c.self.view_is) (λ ok. opened _ _ _ _ _ _ none sum (ap (λ map. g.L.Budgeted.budget_of map.limiter) c.fresh-map.ensures.map ∙ g.met.L.Budgeted.laws.made_budget c.args.budget))
+    rw (← c.self.view_is) (λ ok. opened _ _ _ _ _ _ none sum
+    (ap (λ map. g.L.Budgeted.budget_of map.limiter) c.fresh-map.ensures.map ∙ g.met.L.Budgeted.laws.made_budget
+    c.args.budget))

@@ -11,7 +11,8 @@ use Rattle.lru_tenants.proofs.cache.TenantCache.put_full.Goals as goal
 
 pub invariant_of-self-2 : goal.invariant_of-self-2
 invariant_of-self-2 g c = let u = c.insert_full.new.map in
-    kept-written g.N.PartialEq.eq c.self.inside.tenants (c.get_mut.follows.lender u) c.self.invariant c.args.name.now c.in-Some.own.now u
+    kept-written g.N.PartialEq.eq c.self.inside.tenants (c.get_mut.follows.lender u) c.self.invariant c.args.name.now
+    c.in-Some.own.now u
     (sym c.in-Some.ensures.value) (c.get_mut.follows.holds u) c.insert_full.ensures.tenant c.insert_full.ensures.budget
 
 pub returns-clause-tenants : goal.returns-clause-tenants
@@ -19,15 +20,18 @@ returns-clause-tenants g c = (invariant_of-self-2 g c).tenants
 
 pub returns-clause-total : goal.returns-clause-total
 returns-clause-total g c = let u = c.insert_full.new.map in
-    rw (← c.self.view_is) (same-sum g.N.PartialEq.eq c.self.inside.tenants (c.get_mut.follows.lender u) c.self.invariant c.args.name.now
+    rw (← c.self.view_is) (same-sum g.N.PartialEq.eq c.self.inside.tenants (c.get_mut.follows.lender u)
+    c.self.invariant c.args.name.now
     c.in-Some.own.now u (sym c.in-Some.ensures.value) (c.get_mut.follows.holds u) c.insert_full.ensures.budget)
 
 pub returns-clause-puts : goal.returns-clause-puts
 returns-clause-puts g c = let u = c.insert_full.new.map in
     rw (← c.self.view_is) (on-written g.N.PartialEq.eq c.args.name.now
-    c.self.inside.hasher c.self.inside.entry_bytes c.self.inside.total_limit c.self.inside.tenants (c.get_mut.follows.lender u) c.in-Some.own.now u
+    c.self.inside.hasher c.self.inside.entry_bytes c.self.inside.total_limit c.self.inside.tenants
+    (c.get_mut.follows.lender u) c.in-Some.own.now u
     (sym c.in-Some.ensures.value) (c.get_mut.follows.holds u)
-    (Puts g.L.Limiter.rules g.L.Insertion.offers g.L.Budgeted.budget_of g.K.PartialEq.eq g.S.KeyHasher.hash_of c.args.key c.args.value) (kept_of c.put_answer.result) (
+    (Puts g.L.Limiter.rules g.L.Insertion.offers g.L.Budgeted.budget_of g.K.PartialEq.eq g.S.KeyHasher.hash_of
+    c.args.key c.args.value) (kept_of c.put_answer.result) (
       u,
       record {
         result = kept_of c.insert_full.result;
@@ -45,9 +49,11 @@ returns-clause-handed g c = let u = c.insert_full.new.map in
       handed,
       takes,
       on-written g.N.PartialEq.eq c.args.name.now
-          c.self.inside.hasher c.self.inside.entry_bytes c.self.inside.total_limit c.self.inside.tenants (c.get_mut.follows.lender u) c.in-Some.own.now u
+          c.self.inside.hasher c.self.inside.entry_bytes c.self.inside.total_limit c.self.inside.tenants
+          (c.get_mut.follows.lender u) c.in-Some.own.now u
           (sym c.in-Some.ensures.value) (c.get_mut.follows.holds u)
-          (PassesOn (PutHands g.L.Limiter.rules g.L.Insertion.offers g.L.Budgeted.budget_of g.K.PartialEq.eq g.S.KeyHasher.hash_of c.args.key c.args.value)) handed
+          (PassesOn (PutHands g.L.Limiter.rules g.L.Insertion.offers g.L.Budgeted.budget_of g.K.PartialEq.eq
+          g.S.KeyHasher.hash_of c.args.key c.args.value)) handed
           (record { left = u; result = kept_of c.insert_full.result; inserts = hands; is = refl }),
     )
 
@@ -56,8 +62,11 @@ returns-in_default-clause-handed g c =
     rw (c.get_mut.follows.holds-at-none, ← c.self.view_is) (
       [],
       refl,
-      on-same c.args.name.now (PassesOn (PutHands g.L.Limiter.rules g.L.Insertion.offers g.L.Budgeted.budget_of g.K.PartialEq.eq g.S.KeyHasher.hash_of c.args.key c.args.value)) []
-          g.met.N.Eq.laws (cache_of c.self.inside.tenants c.self.inside.hasher c.self.inside.entry_bytes c.self.inside.total_limit) None
+      on-same c.args.name.now (PassesOn
+          (PutHands g.L.Limiter.rules g.L.Insertion.offers g.L.Budgeted.budget_of g.K.PartialEq.eq
+          g.S.KeyHasher.hash_of c.args.key c.args.value)) []
+          g.met.N.Eq.laws (cache_of c.self.inside.tenants c.self.inside.hasher c.self.inside.entry_bytes
+          c.self.inside.total_limit) None
           (sym c.in_default.ensures.value) (refl, refl),
     )
 
@@ -66,8 +75,11 @@ returns-clause-rejects g c = let u = c.insert_full.new.map in
     let there = sym c.in-Some.ensures.value in
     let is = tenant-written g.N.PartialEq.eq g.met.N.Eq.laws c.args.name.now c.self.inside.tenants
     (c.get_mut.follows.lender u) c.in-Some.own.now u there (c.get_mut.follows.holds u) in
-    rw (← c.self.view_is) (subst (λ o. IfSome o (λ map. rejects g.L.Budgeted.accepts_new g.K.PartialEq.eq c.args.key c.args.value map ≡ true →
+    rw (← c.self.view_is) (subst (λ o. IfSome o
+    (λ map. rejects g.L.Budgeted.accepts_new g.K.PartialEq.eq c.args.key c.args.value map ≡ true →
     (c.put_answer.result ≡ Ok (record { kept = false; unkept = Some c.args.value }))
-    × (tenant (g.N.PartialEq.eq c.args.name.now) (cache_of (c.get_mut.follows.lender u) c.self.inside.hasher c.self.inside.entry_bytes c.self.inside.total_limit) ≡ Some map)))
+    × (tenant (g.N.PartialEq.eq c.args.name.now)
+    (cache_of (c.get_mut.follows.lender u) c.self.inside.hasher c.self.inside.entry_bytes
+    c.self.inside.total_limit) ≡ Some map)))
     c.in-Some.ensures.value (λ rejected. let (says, same) = c.insert_full.ensures.rejects rejected in
     (c.put_answer.ensures ∙ ap put_answer says, is ∙ ap Some same)))

@@ -11,7 +11,8 @@ pub overflow_sub-sum : goal.overflow_sub-sum
 overflow_sub-sum g c = omega (
   arith,
   c.budget.ensures ∙ ap g.L.Budgeted.budget_of c.limiter.ensures,
-  own-within c.self.inside.entry_bytes c.self.inside.tenants c.self.invariant (g.N.PartialEq.eq c.args.name.now) c.in-Some.own.now (sym c.in-Some.ensures.value),
+  own-within c.self.inside.entry_bytes c.self.inside.tenants c.self.invariant (g.N.PartialEq.eq c.args.name.now)
+      c.in-Some.own.now (sym c.in-Some.ensures.value),
 )
 
 pub overflow_add-sum : goal.overflow_add-sum
@@ -23,39 +24,57 @@ overflow_add-sum g c = omega (
 
 pub invariant_of-self-then-is_above : goal.invariant_of-self-then-is_above
 invariant_of-self-then-is_above g c = let own = c.in-Some.own.now in
-    kept-written g.N.PartialEq.eq c.self.inside.tenants (c.get_mut.follows.lender own) c.self.invariant c.args.name.now own own
-    (sym c.in-Some.ensures.value) (c.get_mut.follows.holds own) (found-all (IsTenant g.K.PartialEq.eq g.L.Summing.cost_of g.L.Summing.account g.L.Budgeted.budget_of)
-    (g.N.PartialEq.eq c.args.name.now) c.self.inside.tenants own (sym c.in-Some.ensures.value) c.self.invariant.tenants) refl
+    kept-written g.N.PartialEq.eq c.self.inside.tenants (c.get_mut.follows.lender own) c.self.invariant
+    c.args.name.now own own
+    (sym c.in-Some.ensures.value) (c.get_mut.follows.holds own)
+    (found-all (IsTenant g.K.PartialEq.eq g.L.Summing.cost_of g.L.Summing.account g.L.Budgeted.budget_of)
+    (g.N.PartialEq.eq c.args.name.now) c.self.inside.tenants own (sym c.in-Some.ensures.value)
+    c.self.invariant.tenants) refl
 
 pub returns-then-is_above-clause-tenants : goal.returns-then-is_above-clause-tenants
 returns-then-is_above-clause-tenants g c = (invariant_of-self-then-is_above g c).tenants
 
 pub returns-then-is_above-clause-sets : goal.returns-then-is_above-clause-sets
 returns-then-is_above-clause-sets g c = let own = c.in-Some.own.now in
-    let over = ap (is_above c.self.inside.total_limit) (sym (sum-with c.self.inside.entry_bytes c.self.inside.tenants c.self.invariant (g.N.PartialEq.eq c.args.name.now) c.in-Some.own.now
-    (sym c.in-Some.ensures.value) c.budget.result c.args.budget (c.budget.ensures ∙ ap g.L.Budgeted.budget_of c.limiter.ensures))) ∙ sym c.is_above.ensures ∙ c.if-is_above.true in
-    rw (← c.self.view_is) (on-written g.N.PartialEq.eq c.args.name.now c.self.inside.hasher c.self.inside.entry_bytes c.self.inside.total_limit
-    c.self.inside.tenants (c.get_mut.follows.lender own) c.in-Some.own.now own (sym c.in-Some.ensures.value) (c.get_mut.follows.holds own)
+    let over = ap (is_above c.self.inside.total_limit)
+    (sym (sum-with c.self.inside.entry_bytes c.self.inside.tenants c.self.invariant
+    (g.N.PartialEq.eq c.args.name.now) c.in-Some.own.now
+    (sym c.in-Some.ensures.value) c.budget.result c.args.budget
+    (c.budget.ensures ∙ ap g.L.Budgeted.budget_of c.limiter.ensures))) ∙ sym c.is_above.ensures ∙
+    c.if-is_above.true in
+    rw (← c.self.view_is) (on-written g.N.PartialEq.eq c.args.name.now c.self.inside.hasher c.self.inside.entry_bytes
+    c.self.inside.total_limit
+    c.self.inside.tenants (c.get_mut.follows.lender own) c.in-Some.own.now own (sym c.in-Some.ensures.value)
+    (c.get_mut.follows.holds own)
     (SetsBudget g.L.Limiter.rules (g.L.Budgeted.rebudgeted c.args.budget) _) (Err OverTotal)
-    (subst (λ b. SetsBudget g.L.Limiter.rules (g.L.Budgeted.rebudgeted c.args.budget) b (Some own) (Err OverTotal) (Some own)) (sym over) (refl, refl)))
+    (subst (λ b. SetsBudget g.L.Limiter.rules (g.L.Budgeted.rebudgeted c.args.budget) b (Some own) (Err OverTotal)
+    (Some own)) (sym over) (refl, refl)))
 
 pub returns-then-is_above-clause-handed : goal.returns-then-is_above-clause-handed
 returns-then-is_above-clause-handed g c = let own = c.in-Some.own.now in
-    let over = ap (is_above c.self.inside.total_limit) (sym (sum-with c.self.inside.entry_bytes c.self.inside.tenants c.self.invariant (g.N.PartialEq.eq c.args.name.now) c.in-Some.own.now
-    (sym c.in-Some.ensures.value) c.budget.result c.args.budget (c.budget.ensures ∙ ap g.L.Budgeted.budget_of c.limiter.ensures))) ∙ sym c.is_above.ensures ∙ c.if-is_above.true in
+    let over = ap (is_above c.self.inside.total_limit)
+    (sym (sum-with c.self.inside.entry_bytes c.self.inside.tenants c.self.invariant
+    (g.N.PartialEq.eq c.args.name.now) c.in-Some.own.now
+    (sym c.in-Some.ensures.value) c.budget.result c.args.budget
+    (c.budget.ensures ∙ ap g.L.Budgeted.budget_of c.limiter.ensures))) ∙ sym c.is_above.ensures ∙
+    c.if-is_above.true in
     rw (← c.self.view_is) (
       [],
       refl,
-      on-written g.N.PartialEq.eq c.args.name.now c.self.inside.hasher c.self.inside.entry_bytes c.self.inside.total_limit
-          c.self.inside.tenants (c.get_mut.follows.lender own) c.in-Some.own.now own (sym c.in-Some.ensures.value) (c.get_mut.follows.holds own)
+      on-written g.N.PartialEq.eq c.args.name.now c.self.inside.hasher c.self.inside.entry_bytes
+          c.self.inside.total_limit
+          c.self.inside.tenants (c.get_mut.follows.lender own) c.in-Some.own.now own (sym c.in-Some.ensures.value)
+          (c.get_mut.follows.holds own)
           (PassesOn (BudgetHands g.L.Limiter.rules (g.L.Budgeted.rebudgeted c.args.budget) _)) []
-          (subst (λ b. PassesOn (BudgetHands g.L.Limiter.rules (g.L.Budgeted.rebudgeted c.args.budget) b) (Some own) [] (Some own)) (sym over) (refl, refl)),
+          (subst (λ b. PassesOn (BudgetHands g.L.Limiter.rules (g.L.Budgeted.rebudgeted c.args.budget) b) (Some own)
+          [] (Some own)) (sym over) (refl, refl)),
     )
 
 pub returns-then-is_above-clause-unchanged : goal.returns-then-is_above-clause-unchanged
 returns-then-is_above-clause-unchanged g c = let own = c.in-Some.own.now in
     let same = (c.get_mut.follows.holds own).0
-    ∙ set_value_same (g.N.PartialEq.eq c.args.name.now) c.self.inside.tenants.entries own (sym c.in-Some.ensures.value) in
+    ∙ set_value_same (g.N.PartialEq.eq c.args.name.now) c.self.inside.tenants.entries own
+    (sym c.in-Some.ensures.value) in
     rw (← c.self.view_is) (ap (λ entries. record {
       tenants = entries;
       hasher = c.self.inside.hasher;
@@ -72,7 +91,8 @@ invariant_of-self-2 g c = let u = c.set_budget.new.map in
       arith,
       c.budget.ensures ∙ ap g.L.Budgeted.budget_of c.limiter.ensures,
       c.set_budget.ensures.budget,
-      own-within c.self.inside.entry_bytes c.self.inside.tenants c.self.invariant (g.N.PartialEq.eq c.args.name.now) c.in-Some.own.now (sym c.in-Some.ensures.value),
+      own-within c.self.inside.entry_bytes c.self.inside.tenants c.self.invariant (g.N.PartialEq.eq c.args.name.now)
+          c.in-Some.own.now (sym c.in-Some.ensures.value),
     ))
     (sym c.is_above.ensures ∙ c.if-is_above.false)
 
@@ -81,26 +101,40 @@ returns-clause-tenants g c = (invariant_of-self-2 g c).tenants
 
 pub returns-clause-sets : goal.returns-clause-sets
 returns-clause-sets g c = let u = c.set_budget.new.map in
-    let over = ap (is_above c.self.inside.total_limit) (sym (sum-with c.self.inside.entry_bytes c.self.inside.tenants c.self.invariant (g.N.PartialEq.eq c.args.name.now) c.in-Some.own.now
-    (sym c.in-Some.ensures.value) c.budget.result c.args.budget (c.budget.ensures ∙ ap g.L.Budgeted.budget_of c.limiter.ensures))) ∙ sym c.is_above.ensures ∙ c.if-is_above.false in
-    rw (← c.self.view_is) (on-written g.N.PartialEq.eq c.args.name.now c.self.inside.hasher c.self.inside.entry_bytes c.self.inside.total_limit
-    c.self.inside.tenants (c.get_mut.follows.lender u) c.in-Some.own.now u (sym c.in-Some.ensures.value) (c.get_mut.follows.holds u)
+    let over = ap (is_above c.self.inside.total_limit)
+    (sym (sum-with c.self.inside.entry_bytes c.self.inside.tenants c.self.invariant
+    (g.N.PartialEq.eq c.args.name.now) c.in-Some.own.now
+    (sym c.in-Some.ensures.value) c.budget.result c.args.budget
+    (c.budget.ensures ∙ ap g.L.Budgeted.budget_of c.limiter.ensures))) ∙ sym c.is_above.ensures ∙
+    c.if-is_above.false in
+    rw (← c.self.view_is) (on-written g.N.PartialEq.eq c.args.name.now c.self.inside.hasher c.self.inside.entry_bytes
+    c.self.inside.total_limit
+    c.self.inside.tenants (c.get_mut.follows.lender u) c.in-Some.own.now u (sym c.in-Some.ensures.value)
+    (c.get_mut.follows.holds u)
     (SetsBudget g.L.Limiter.rules (g.L.Budgeted.rebudgeted c.args.budget) _) (Ok tt)
-    (subst (λ b. SetsBudget g.L.Limiter.rules (g.L.Budgeted.rebudgeted c.args.budget) b (Some c.in-Some.own.now) (Ok tt) (Some u)) (sym over)
+    (subst (λ b. SetsBudget g.L.Limiter.rules (g.L.Budgeted.rebudgeted c.args.budget) b (Some c.in-Some.own.now)
+    (Ok tt) (Some u)) (sym over)
     (u, c.set_budget.ensures.trims, refl, refl)))
 
 pub returns-clause-handed : goal.returns-clause-handed
 returns-clause-handed g c = let u = c.set_budget.new.map in
     let (handed, takes, hands) = c.set_budget.ensures.handed in
-    let over = ap (is_above c.self.inside.total_limit) (sym (sum-with c.self.inside.entry_bytes c.self.inside.tenants c.self.invariant (g.N.PartialEq.eq c.args.name.now) c.in-Some.own.now
-    (sym c.in-Some.ensures.value) c.budget.result c.args.budget (c.budget.ensures ∙ ap g.L.Budgeted.budget_of c.limiter.ensures))) ∙ sym c.is_above.ensures ∙ c.if-is_above.false in
+    let over = ap (is_above c.self.inside.total_limit)
+    (sym (sum-with c.self.inside.entry_bytes c.self.inside.tenants c.self.invariant
+    (g.N.PartialEq.eq c.args.name.now) c.in-Some.own.now
+    (sym c.in-Some.ensures.value) c.budget.result c.args.budget
+    (c.budget.ensures ∙ ap g.L.Budgeted.budget_of c.limiter.ensures))) ∙ sym c.is_above.ensures ∙
+    c.if-is_above.false in
     rw (← c.self.view_is) (
       handed,
       takes,
-      on-written g.N.PartialEq.eq c.args.name.now c.self.inside.hasher c.self.inside.entry_bytes c.self.inside.total_limit
-          c.self.inside.tenants (c.get_mut.follows.lender u) c.in-Some.own.now u (sym c.in-Some.ensures.value) (c.get_mut.follows.holds u)
+      on-written g.N.PartialEq.eq c.args.name.now c.self.inside.hasher c.self.inside.entry_bytes
+          c.self.inside.total_limit
+          c.self.inside.tenants (c.get_mut.follows.lender u) c.in-Some.own.now u (sym c.in-Some.ensures.value)
+          (c.get_mut.follows.holds u)
           (PassesOn (BudgetHands g.L.Limiter.rules (g.L.Budgeted.rebudgeted c.args.budget) _)) handed
-          (subst (λ b. PassesOn (BudgetHands g.L.Limiter.rules (g.L.Budgeted.rebudgeted c.args.budget) b) (Some c.in-Some.own.now) handed (Some u)) (sym over) (u, hands, refl)),
+          (subst (λ b. PassesOn (BudgetHands g.L.Limiter.rules (g.L.Budgeted.rebudgeted c.args.budget) b)
+          (Some c.in-Some.own.now) handed (Some u)) (sym over) (u, hands, refl)),
     )
 
 pub returns-in_default-clause-handed : goal.returns-in_default-clause-handed
@@ -109,20 +143,25 @@ returns-in_default-clause-handed g c =
       [],
       refl,
       on-same c.args.name.now (PassesOn (BudgetHands g.L.Limiter.rules (g.L.Budgeted.rebudgeted c.args.budget) _)) []
-          g.met.N.Eq.laws (cache_of c.self.inside.tenants c.self.inside.hasher c.self.inside.entry_bytes c.self.inside.total_limit) None
+          g.met.N.Eq.laws (cache_of c.self.inside.tenants c.self.inside.hasher c.self.inside.entry_bytes
+          c.self.inside.total_limit) None
           (sym c.in_default.ensures.value) (refl, refl),
     )
 
 pub returns-clause-total : goal.returns-clause-total
 returns-clause-total g c = let u = c.set_budget.new.map in
-    let same = sum-written g.N.PartialEq.eq c.self.inside.tenants (c.get_mut.follows.lender u) c.self.invariant c.args.name.now
+    let same = sum-written g.N.PartialEq.eq c.self.inside.tenants (c.get_mut.follows.lender u) c.self.invariant
+    c.args.name.now
     c.in-Some.own.now u (sym c.in-Some.ensures.value) (c.get_mut.follows.holds u) in
     rw (← c.self.view_is) (λ ok. omega (
       arith,
       c.budget.ensures ∙ ap g.L.Budgeted.budget_of c.limiter.ensures,
       same,
-      sum-with c.self.inside.entry_bytes c.self.inside.tenants c.self.invariant (g.N.PartialEq.eq c.args.name.now) c.in-Some.own.now
-          (sym c.in-Some.ensures.value) c.budget.result c.args.budget (c.budget.ensures ∙ ap g.L.Budgeted.budget_of c.limiter.ensures),
+      sum-with c.self.inside.entry_bytes c.self.inside.tenants c.self.invariant (g.N.PartialEq.eq c.args.name.now)
+          c.in-Some.own.now
+          (sym c.in-Some.ensures.value) c.budget.result c.args.budget
+          (c.budget.ensures ∙ ap g.L.Budgeted.budget_of c.limiter.ensures),
       c.set_budget.ensures.budget,
-      own-within c.self.inside.entry_bytes c.self.inside.tenants c.self.invariant (g.N.PartialEq.eq c.args.name.now) c.in-Some.own.now (sym c.in-Some.ensures.value),
+      own-within c.self.inside.entry_bytes c.self.inside.tenants c.self.invariant (g.N.PartialEq.eq c.args.name.now)
+          c.in-Some.own.now (sym c.in-Some.ensures.value),
     ))

@@ -26,7 +26,8 @@ returns-clause-within g c =
     let total = c.loop-map.invariant.total
     ∙ sym (mapped (λ map. g.L.Summing.account map.limiter) deref c.loop-map.yielded)
     ∙ ap (sum_by (λ map. g.L.Summing.account map.limiter)) all in
-    rw (← c.self.view_is) (subst (λ n. n ≤ sum_by (λ map. g.L.Budgeted.budget_of map.limiter) (values c.self.inside.tenants)) (sym total)
+    rw (← c.self.view_is) (subst (λ n. n ≤ sum_by (λ map. g.L.Budgeted.budget_of map.limiter)
+    (values c.self.inside.tenants)) (sym total)
     (costs-within (values c.self.inside.tenants) c.self.invariant.tenants))
 
 pub returns-clause-limit : goal.returns-clause-limit
