@@ -7,7 +7,7 @@ use Rattle.std.specs.Borrow.{Bor}
 use Rattle.std.specs.Fn.{Mut, CalledAt}
 use Rattle.group_table.specs.Bucket.{Slot, entry_at}
 use Rattle.group_table.specs.Fits.{Fits}
-use Rattle.group_table.specs.Search.{Answers, RefusesEach, Finds, FindsNone}
+use Rattle.group_table.specs.Search.{Answers, RejectsEach, Finds, FindsNone}
 use Rattle.group_table.proofs.SearchLemmas.{full_by_entry}
 
 module _ {T F : Type 0} (closure : Mut F (Bor T × Unit {0}) Bool) (slots : List (Slot T)) (f : F) (test : T → Bool)
@@ -16,19 +16,19 @@ module _ {T F : Type 0} (closure : Mut F (Bor T × Unit {0}) Bool) (slots : List
   abbrev Fails : ℕ → Type 0
   Fails b = (entry : T) × (entry_at slots b ≡ Some entry) × (test entry ≡ false)
 
-  refused_same : (asked : List ℕ) (g : F) → RefusesEach closure slots f asked g → g ≡ f
+  refused_same : (asked : List ℕ) (g : F) → RejectsEach closure slots f asked g → g ≡ f
   refused_same [] g h = sym h
   refused_same (b ∷ asked) g h =
       let next = (tests _ _ _ h.1.called).1 in
-      refused_same asked g (subst (λ j. RefusesEach closure slots j asked g) next h.2)
+      refused_same asked g (subst (λ j. RejectsEach closure slots j asked g) next h.2)
 
-  refused_fail : (asked : List ℕ) (g : F) → RefusesEach closure slots f asked g → (k : ℕ) → k < length asked
+  refused_fail : (asked : List ℕ) (g : F) → RejectsEach closure slots f asked g → (k : ℕ) → k < length asked
       → Fails (get_or asked k 0)
   refused_fail [] g h k p = absurd (omega arith)
   refused_fail (b ∷ asked) g h zero p = (h.1.entry, h.1.there, sym (tests _ _ _ h.1.called).0)
   refused_fail (b ∷ asked) g h (suc k) p =
       let next = (tests _ _ _ h.1.called).1 in
-      refused_fail asked g (subst (λ j. RefusesEach closure slots j asked g) next h.2) k (omega arith)
+      refused_fail asked g (subst (λ j. RejectsEach closure slots j asked g) next h.2) k (omega arith)
 
   -- what was found passes
   pub Finds-test : (hash b : ℕ) → Finds closure slots hash f b → (entry : T) × (entry_at slots b ≡ Some entry)

@@ -1,13 +1,13 @@
--- What a placing and a removal make of the buckets, seen by their numbers and as marks.
-use Rattle.std.proofs.Common.{◌≡◌, ◌≢◌, ℕ, ◌+◌, ◌<◌, cond, List, length, set, None, Some, inl, inr, refl, ap, sym}
-use Rattle.std.proofs.Common.{◌∙◌, arith, length-set}
-use Rattle.group_table.specs.Bucket.{Slot, Tagged, empty, deleted, full, bucket_at, is_full, IsFull, entry_at, entry_of}
-use Rattle.group_table.specs.Bucket.{entry_count, marks_of}
+-- What an insertion and a removal make of the buckets, seen by their numbers and as bucket states.
+use Rattle.std.proofs.Common.{◌≡◌, ◌≢◌, ℕ, ◌+◌, ◌<◌, cond, List, [], ◌∷◌, length, set, None, Some, inl, inr, refl, ap}
+use Rattle.std.proofs.Common.{sym, ◌∙◌, arith, length-set}
+use Rattle.group_table.specs.Bucket.{Bucket, Slot, Tagged, empty, deleted, full, bucket_at, is_full, IsFull, entry_at}
+use Rattle.group_table.specs.Bucket.{entry_of, entry_count, mark_of, marks_of}
 use Rattle.group_table.specs.Probe.{hash_tag}
 use Rattle.group_table.specs.Table.{Table}
 use Rattle.group_table.specs.Change.{Places, Removes}
 use Rattle.group_table.proofs.BucketLemmas.{bucket_at-set_same, bucket_at-set_other, count_by-set}
-use Rattle.group_table.proofs.BucketLemmas.{full_lt, is_full-marks_of}
+use Rattle.group_table.proofs.BucketLemmas.{full_lt, is_full-marks_of, marks_of-set}
 
 module _ {T : Type 0} (old new : Table T) (hash : ℕ) (entry : T) (b : ℕ) (places : Places old new hash entry b) where
   placed_free : is_full (bucket_at old.slots b) ≡ is_full (bucket_at (marks_of old.slots) b)
@@ -60,3 +60,19 @@ module _ {T : Type 0} (old new : List (Slot T)) (b : ℕ) where
   pub entry_count-removes : IsFull old b → Removes old new b → entry_count new + 1 ≡ entry_count old
   entry_count-removes there (inl w) = one_fewer empty refl there w.1
   entry_count-removes there (inr w) = one_fewer deleted refl there w.1
+
+-- a removal is one of the bucket states
+module _ {A : Type 0} where
+  state_again : (s : Bucket A) → mark_of (mark_of s) ≡ mark_of s
+  state_again empty = refl
+  state_again deleted = refl
+  state_again (full held) = refl
+
+  states_again : (buckets : List (Bucket A)) → marks_of (marks_of buckets) ≡ marks_of buckets
+  states_again [] = refl
+  states_again (s ∷ rest) = ap (λ t. t ∷ marks_of (marks_of rest)) (state_again s)
+      ∙ ap (λ ts. mark_of s ∷ ts) (states_again rest)
+
+  pub states-removed : (old new : List (Bucket A)) (b : ℕ) → Removes old new b → Removes (marks_of old) (marks_of new) b
+  states-removed old new b (inl w) = inl (rw (states_again old) w.0, ap marks_of w.1 ∙ marks_of-set old b empty)
+  states-removed old new b (inr w) = inr (rw (states_again old) w.0, ap marks_of w.1 ∙ marks_of-set old b deleted)

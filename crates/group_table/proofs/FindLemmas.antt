@@ -11,17 +11,17 @@ use native.Mathlib.Decide.{dec_lt}
 use Rattle.group_table.specs.Sizes.{IsPowerFromFour}
 use Rattle.group_table.specs.Bucket.{Slot, empty, deleted, full, bucket_at, has_tag, marks_of}
 use Rattle.group_table.specs.Probe.{hash_tag, probed, mark_probed, Reaches}
-use Rattle.group_table.specs.Search.{candidates, Answers, RefusesEach, Finds, FindsNone}
+use Rattle.group_table.specs.Search.{candidates, Answers, RejectsEach, Finds, FindsNone}
 use Rattle.group_table.specs.Layout.{slot_of, slots_of, marks_by, IsLaidOut}
 use Rattle.group_table.specs.Group.{width, tagged_lanes, IsEmptyLane, HasEmptyLane, HasNoEmptyLane, AcceptsIn}
-use Rattle.group_table.specs.Group.{RefusesGroup}
+use Rattle.group_table.specs.Group.{RejectsGroup}
 use Rattle.group_table.proofs.BucketLemmas.{full_lt, empty_not_full, bucket_at-past, length-marks_of}
 use Rattle.group_table.proofs.ProbeLemmas.{probed-meets, probed-lane, up_to_lane, up_to_end, group_within}
 use Rattle.group_table.proofs.LayoutLemmas.{length-laid_out, bucket_at-laid_out}
 use Rattle.group_table.proofs.LayoutLemmas.{power_of}
 use Rattle.group_table.proofs.SearchLemmas.{FoldsTo-append, full_by_tag, held_by, has_tag-full, tagged_lanes-more}
-use Rattle.group_table.proofs.SearchLemmas.{RefusesEach-more}
-use Rattle.group_table.proofs.SearchLemmas.{RefusesEach-skip, candidates-group, candidates-distinct}
+use Rattle.group_table.proofs.SearchLemmas.{RejectsEach-more}
+use Rattle.group_table.proofs.SearchLemmas.{RejectsEach-skip, candidates-group, candidates-distinct}
 use Rattle.group_table.proofs.SearchLemmas.{Contains-candidates}
 
 has_tag-test : (T : Type 0) (tag : ℕ) (b : Bool) → has_tag {T = T} tag (cond b deleted empty) ≡ false
@@ -40,22 +40,22 @@ module _ {T : Type 0} (control : List ℕ) (entries : List (Option T)) (laid_out
   lane_is = is ∙ ap (λ n. (start + lane) % n) (sym (length-laid_out control entries laid_out))
 
   module _ {F : Type 0} (closure : Mut F (Bor T × Unit {0}) Bool) (tag : ℕ) (f between : F)
-      (before : RefusesEach closure (slots_of control entries) f
+      (before : RejectsEach closure (slots_of control entries) f
       (tagged_lanes (slots_of control entries) tag start lane) between) where
     pub refused_passed : get_or control b 0 ≢ tag
-        → RefusesEach closure (slots_of control entries) f
+        → RejectsEach closure (slots_of control entries) f
         (tagged_lanes (slots_of control entries) tag start (lane + 1)) between
     refused_passed other =
-        RefusesEach-skip closure (slots_of control entries) tag start lane f between before
+        RejectsEach-skip closure (slots_of control entries) tag start lane f between before
         (rw (← lane_is, bucket_at-laid_out control entries laid_out b within) (has_tag-slot_of _ tag _ other))
 
     module _ (entry : T) (there : bucket_at (slots_of control entries) b ≡ full (record { tag = tag; entry = entry }))
         (g : F) where
       pub refused_asked : Answers closure (slots_of control entries) between b false g
-          → RefusesEach closure (slots_of control entries) f
+          → RejectsEach closure (slots_of control entries) f
           (tagged_lanes (slots_of control entries) tag start (lane + 1)) g
       refused_asked asked =
-          RefusesEach-more closure (slots_of control entries) tag start lane f between g entry before
+          RejectsEach-more closure (slots_of control entries) tag start lane f between g entry before
           (rw lane_is at there) (rw lane_is at asked)
 
       pub AcceptsIn-from : lane < min 16 (length entries) → Answers closure (slots_of control entries) between b true g
@@ -78,7 +78,7 @@ module _ {T F : Type 0} (closure : Mut F (Bor T × Unit {0}) Bool) (slots : List
     (power : IsPowerFromFour (length slots)) (whole : s % 16 ≡ 0)
     (within : s < length slots) (none_before : (t : ℕ) → t < s → mark_probed (marks_of slots) hash t ≢ empty)
     (f between g : F)
-    (before : RefusesEach closure slots f (candidates slots hash s) between) where
+    (before : RejectsEach closure slots f (candidates slots hash s) between) where
   -- a search reaches each step of this group
   reached_here : (lanes : ℕ) → lanes ≤ 16 → (step earlier : ℕ) → step < s + lanes → earlier / 16 < step / 16
       → mark_probed (marks_of slots) hash earlier ≢ empty
@@ -110,8 +110,8 @@ module _ {T F : Type 0} (closure : Mut F (Bor T × Unit {0}) Bool) (slots : List
       }
 
   -- the whole group was refused
-  pub refused_group : RefusesGroup closure slots (hash_tag hash) (probed (length slots) hash s) between g
-      → RefusesEach closure slots f (candidates slots hash (s + min 16 (length slots))) g
+  pub refused_group : RejectsGroup closure slots (hash_tag hash) (probed (length slots) hash s) between g
+      → RejectsEach closure slots f (candidates slots hash (s + min 16 (length slots))) g
   refused_group here =
       rw (candidates-group slots hash s (min 16 (length slots)) whole (omega arith))
       (FoldsTo-append _ f _ between _ g before here)
@@ -148,7 +148,7 @@ module _ {T F : Type 0} (closure : Mut F (Bor T × Unit {0}) Bool) (slots : List
       (Contains-candidates slots hash r.0 last r.1
       (subst (λ k. has_tag (hash_tag hash) (bucket_at slots k) ≡ true) (sym r.2) tagged))
 
-  pub FindsNone-from : RefusesGroup closure slots (hash_tag hash) (probed (length slots) hash s) between g
+  pub FindsNone-from : RejectsGroup closure slots (hash_tag hash) (probed (length slots) hash s) between g
       → HasEmptyLane slots (probed (length slots) hash s) (min 16 (length slots)) → FindsNone closure slots hash f
   FindsNone-from here ends =
       let last = s + min 16 (length slots) in

@@ -1,15 +1,16 @@
 -- The fields of a table whose buckets are all empty, and what holds of such a table.
-use Rattle.std.proofs.Common.{◌≡◌, ℕ, zero, suc, ◌+◌, ◌^◌, ◌<◌, ◌≤◌, ◌∷◌, length, replicate, Option, None, ◌⊎◌, refl}
+use Rattle.std.proofs.Common.{◌≡◌, ℕ, zero, suc, ◌+◌, ◌^◌, ◌<◌, ◌≤◌, [], ◌∷◌, length, replicate, Option, None}
+use Rattle.std.proofs.Common.{◌⊎◌, refl}
 use Rattle.std.proofs.Common.{ap, sym, ◌∙◌, arith, inl, inr, count_by, cond, Bool, false, List, Some, true, get_or}
 use Rattle.std.proofs.lemmas.List.{length-replicate, get_or-replicate}
 use Rattle.std.proofs.lemmas.List.Sums.{sum_by-cons}
 use native.Mathlib.Decide.{dec_lt}
 use Rattle.group_table.specs.Sizes.{IsPowerFromFour, full_capacity}
-use Rattle.group_table.specs.Bucket.{Bucket, Slot, Tagged, empty, is_used, is_full, bucket_at, entry_count, marks_of}
-use Rattle.group_table.specs.Bucket.{room}
+use Rattle.group_table.specs.Bucket.{Bucket, Slot, Tagged, empty, deleted, full, is_used, is_full, bucket_at}
+use Rattle.group_table.specs.Bucket.{entry_count, marks_of, room}
 use Rattle.group_table.specs.Fits.{Fits}
 use Rattle.group_table.specs.Layout.{slot_of, slots_of, byte_of, byte_at, IsLaidOut, IsValid}
-use Rattle.group_table.proofs.BucketLemmas.{empty_not_deleted, count_by-pos, room_is, length-marks_of}
+use Rattle.group_table.proofs.BucketLemmas.{empty_not_deleted, count_by-pos, count_by-cons, room_is, length-marks_of}
 use Rattle.group_table.proofs.BucketLemmas.{used_count-marks_of}
 use Rattle.group_table.proofs.LayoutLemmas.{bucket_at-laid_out, length-laid_out}
 use Rattle.group_table.proofs.CopyLemmas.{copy_at, replicate-from}
@@ -22,6 +23,15 @@ module _ {A : Type 0} (p : Bucket A → Bool) (no : p empty ≡ false) where
   none_counted (suc n) =
       let one : ◌≡◌ {A = ℕ} (cond (p empty) 1 0) 0 = ap (λ t. cond {A = ℕ} t 1 0) no in
       omega (arith, sum_by-cons (λ s. cond (p s) 1 0) empty (replicate n empty), one, none_counted n)
+
+-- without a full or a deleted bucket, all are empty
+pub all_empty : {A : Type 0} (buckets : List (Bucket A)) → count_by is_used buckets ≡ 0
+    → buckets ≡ replicate (length buckets) empty
+all_empty [] none = refl
+all_empty (empty ∷ rest) none =
+    ap (λ more. empty ∷ more) (all_empty rest (omega (arith, count_by-cons is_used empty rest, none)))
+all_empty (deleted ∷ rest) none = absurd (omega (arith, count_by-cons is_used deleted rest, none))
+all_empty (full held ∷ rest) none = absurd (omega (arith, count_by-cons is_used (full held) rest, none))
 
 module _ (T : Type 0) where
   abbrev no_entry : Option T

@@ -9,10 +9,10 @@ use Rattle.std.proofs.lemmas.Bool.{lt-ltb, le-ltb}
 use native.Mathlib.Decide.{dec_lt}
 use Rattle.group_table.specs.Sizes.{IsPowerFromFour}
 use Rattle.group_table.specs.Bucket.{Slot, empty, full, bucket_at}
-use Rattle.group_table.specs.Search.{Answers, RefusesEach}
+use Rattle.group_table.specs.Search.{Answers, RejectsEach}
 use Rattle.group_table.specs.Lanes.{IsRepeated, IsMaskAt, IsMaskOf, HasLane}
 use Rattle.group_table.specs.Layout.{slots_of, marks_by, byte_of, IsLaidOut}
-use Rattle.group_table.specs.Group.{width, tagged_lanes, HasEmptyLane, HasNoEmptyLane, AcceptsIn, RefusesGroup}
+use Rattle.group_table.specs.Group.{width, tagged_lanes, HasEmptyLane, HasNoEmptyLane, AcceptsIn, RejectsGroup}
 use Rattle.group_table.specs.Group.{IsFreeLane}
 use Rattle.group_table.proofs.LayoutLemmas.{length-laid_out, power_of, mark_from_byte, byte_from_mark}
 use Rattle.group_table.proofs.WriteLemmas.{byte_at-bucket, byte_at-between, byte_at-again}
@@ -202,7 +202,7 @@ pub record AsksLanes {T F : Type 0} (closure : Mut F (Bor T × Unit {0}) Bool) (
   pub lanes : ℕ
   pub in_group : lanes ≤ 16
   pub left : (lane : ℕ) → HasLane mask lane ↔ ((lanes ≤ lane) × (lane < 16) × (get_or control (start + lane) 0 ≡ tag))
-  pub refused : RefusesEach closure (slots_of control entries) f
+  pub refused : RejectsEach closure (slots_of control entries) f
       (tagged_lanes (slots_of control entries) tag start (passed (length entries) start lanes)) g
 
 module _ {T : Type 0} (control : List ℕ) (entries : List (Option T)) (laid_out : IsLaidOut control entries) (start : ℕ)
@@ -258,23 +258,23 @@ module _ {T : Type 0} (control : List ℕ) (entries : List (Option T)) (laid_out
       in_group = omega arith;
       left = λ lane. (λ set. let w = (h lane).0 set in (omega arith, w.0, w.1), λ w. (h lane).1 (w.1, w.2));
       refused = let none : 0 ≡ passed n start 0 = omega arith in
-          subst (λ k. RefusesEach closure slots f (tagged_lanes slots tag start k) f) none refl;
+          subst (λ k. RejectsEach closure slots f (tagged_lanes slots tag start k) f) none refl;
     }
 
     -- lanes with other bytes add nothing
     skipped : (g : F) (k j : ℕ) → k + j ≤ 16 →
         ((lane : ℕ) → k ≤ lane → lane < k + j → get_or control (start + lane) 0 ≢ tag)
-        → RefusesEach closure slots f (tagged_lanes slots tag start (passed n start k)) g
-        → RefusesEach closure slots f (tagged_lanes slots tag start (passed n start (k + j))) g
+        → RejectsEach closure slots f (tagged_lanes slots tag start (passed n start k)) g
+        → RejectsEach closure slots f (tagged_lanes slots tag start (passed n start (k + j))) g
     skipped g k zero p others before = let e : k ≡ k + 0 = omega arith in
-        subst (λ i. RefusesEach closure slots f (tagged_lanes slots tag start (passed n start i)) g) e before
+        subst (λ i. RejectsEach closure slots f (tagged_lanes slots tag start (passed n start i)) g) e before
     skipped g k (suc j) p others before =
         let lane = k + j in
         let on : k + j + 1 ≡ k + suc j = omega arith in
         let up_to = skipped g k j (omega arith) (λ i q r. others i q (omega arith)) before in
         let power = power_of control entries laid_out pos in
         let repeated = repeated_bytes control entries laid_out pos in
-        subst (λ i. RefusesEach closure slots f (tagged_lanes slots tag start (passed n start i)) g) on
+        subst (λ i. RejectsEach closure slots f (tagged_lanes slots tag start (passed n start i)) g) on
         (elim (real_or_between n start lane) [
           | inl real ↦
               let place = passed-place n start power bound lane (omega arith) real in
@@ -282,30 +282,30 @@ module _ {T : Type 0} (control : List ℕ) (entries : List (Option T)) (laid_out
               λ e. others lane (omega arith) (omega arith)
               (lane_byte n start power bound control repeated lane (omega arith) real
               ∙ ap (λ b. get_or control b 0) place ∙ e) in
-              subst (λ i. RefusesEach closure slots f (tagged_lanes slots tag start i) g)
+              subst (λ i. RejectsEach closure slots f (tagged_lanes slots tag start i) g)
               (passed-next n start bound lane real)
               (refused_passed control entries laid_out start (passed n start lane)
               ((start + passed n start lane) % n) refl (mod-lt _ pos) closure tag f g up_to other)
-          | inr w ↦ subst (λ i. RefusesEach closure slots f (tagged_lanes slots tag start i) g)
+          | inr w ↦ subst (λ i. RejectsEach closure slots f (tagged_lanes slots tag start i) g)
               (passed-between n start lane w.0 w.1) up_to
         ])
 
     module _ (mask : ℕ) (g : F) (so_far : AsksLanes closure control entries tag start f mask g) where
       up_to_lane : (lane : ℕ) → so_far.lanes ≤ lane → lane ≤ 16 → ((i : ℕ) → i < lane → HasLane mask i → ⊥)
-          → RefusesEach closure slots f (tagged_lanes slots tag start (passed n start lane)) g
+          → RejectsEach closure slots f (tagged_lanes slots tag start (passed n start lane)) g
       up_to_lane lane p q none =
           let e : so_far.lanes + (lane - so_far.lanes) ≡ lane = omega arith in
-          subst (λ i. RefusesEach closure slots f (tagged_lanes slots tag start (passed n start i)) g) e
+          subst (λ i. RejectsEach closure slots f (tagged_lanes slots tag start (passed n start i)) g) e
           (skipped g so_far.lanes (lane - so_far.lanes) (omega arith)
           (λ i r s t. none i (omega arith) ((so_far.left i).1 (r, omega arith, t))) so_far.refused)
 
       -- all lanes with the tag were refused
-      pub RefusesGroup-from : ((lane : ℕ) → HasLane mask lane → ⊥)
-          → RefusesGroup closure (slots_of control entries) tag start f g
-      RefusesGroup-from none =
+      pub RejectsGroup-from : ((lane : ℕ) → HasLane mask lane → ⊥)
+          → RejectsGroup closure (slots_of control entries) tag start f g
+      RejectsGroup-from none =
           let all : passed n start 16 ≡ width slots =
           omega (arith, passed-all n start bound, length-laid_out control entries laid_out) in
-          subst (λ i. RefusesEach closure slots f (tagged_lanes slots tag start i) g) all
+          subst (λ i. RejectsEach closure slots f (tagged_lanes slots tag start i) g) all
           (up_to_lane 16 so_far.in_group (omega arith) (λ i p. none i))
 
       module _ (lane b : ℕ) (set : HasLane mask lane) (first : (i : ℕ) → HasLane mask i → lane ≤ i)
@@ -331,7 +331,7 @@ module _ {T : Type 0} (control : List ℕ) (entries : List (Option T)) (laid_out
         lane_is = is ∙ passed-place n start (power_of control entries laid_out pos) bound lane
             ((so_far.left lane).0 set).1 real
 
-        before : RefusesEach closure slots f (tagged_lanes slots tag start (passed n start lane)) g
+        before : RejectsEach closure slots f (tagged_lanes slots tag start (passed n start lane)) g
         before = let w = (so_far.left lane).0 set in
             up_to_lane lane w.0 (omega (arith, w.1)) (λ i p h. omega (arith, p, first i h))
 
@@ -358,7 +358,7 @@ module _ {T : Type 0} (control : List ℕ) (entries : List (Option T)) (laid_out
                       (omega (arith, first i o.0, λ (e : lane ≡ i). o.1 (sym e)), u.1, u.2),
                   λ u. (others i).1 ((so_far.left i).1 (omega (arith, u.0, w.0), u.1, u.2), λ e. omega (arith, u.0, e)),
                 );
-                refused = subst (λ k. RefusesEach closure slots f (tagged_lanes slots tag start k) h)
+                refused = subst (λ k. RejectsEach closure slots f (tagged_lanes slots tag start k) h)
                     (passed-next n start bound lane real)
                     (refused_asked control entries laid_out start
                     (passed n start lane) b lane_is lane_within closure tag f g before entry there h asked);

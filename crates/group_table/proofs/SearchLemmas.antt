@@ -16,7 +16,7 @@ use native.Mathlib.Decide.{dec_lt}
 use Rattle.group_table.specs.Sizes.{IsPowerFromFour}
 use Rattle.group_table.specs.Bucket.{Slot, Tagged, empty, deleted, full, bucket_at, is_full, entry_of, has_tag}
 use Rattle.group_table.specs.Probe.{hash_tag, probed}
-use Rattle.group_table.specs.Search.{tagged, candidates, Answers, RefusesEach}
+use Rattle.group_table.specs.Search.{tagged, candidates, Answers, RejectsEach}
 use Rattle.group_table.specs.Group.{tagged_lanes}
 use Rattle.group_table.proofs.ProbeLemmas.{probed-lane, probed-apart}
 
@@ -132,17 +132,17 @@ module _ {T F : Type 0} (closure : Mut F (Bor T × Unit {0}) Bool) (slots : List
 
   module _ (tag start lane : ℕ) where
     -- one more refusal
-    pub RefusesEach-more : (f between g : F) (entry : T)
-        → RefusesEach closure slots f (tagged_lanes slots tag start lane) between
+    pub RejectsEach-more : (f between g : F) (entry : T)
+        → RejectsEach closure slots f (tagged_lanes slots tag start lane) between
         → bucket_at slots ((start + lane) % length slots) ≡ full (record { tag = tag; entry = entry })
         → Answers closure slots between ((start + lane) % length slots) false g
-        → RefusesEach closure slots f (tagged_lanes slots tag start (lane + 1)) g
-    RefusesEach-more f between g entry before e asked =
+        → RejectsEach closure slots f (tagged_lanes slots tag start (lane + 1)) g
+    RejectsEach-more f between g entry before e asked =
         rw (tagged_lanes-more slots tag start lane (has_tag-full _ _ tag e refl))
         (FoldsTo-push _ f _ between _ g before asked)
 
     -- a lane with no such tag
-    pub RefusesEach-skip : (f between : F) → RefusesEach closure slots f (tagged_lanes slots tag start lane) between
+    pub RejectsEach-skip : (f between : F) → RejectsEach closure slots f (tagged_lanes slots tag start lane) between
         → has_tag tag (bucket_at slots ((start + lane) % length slots)) ≡ false
-        → RefusesEach closure slots f (tagged_lanes slots tag start (lane + 1)) between
-    RefusesEach-skip f between before e = rw (tagged_lanes-skip slots tag start lane e) before
+        → RejectsEach closure slots f (tagged_lanes slots tag start (lane + 1)) between
+    RejectsEach-skip f between before e = rw (tagged_lanes-skip slots tag start lane e) before

@@ -1,6 +1,6 @@
--- How a placing and a removal change a table.
+-- How an insertion and a removal change a table.
 use Rattle.std.specs.Prelude.{◌≡◌, ℕ, ◌+◌, ◌-◌, ◌^◌, ◌<◌, ◌⊎◌, min, List, length, slice_set}
-use Rattle.group_table.specs.Bucket.{Slot, Mark, empty, deleted, bucket_at, IsEmpty, marks_of, room}
+use Rattle.group_table.specs.Bucket.{Bucket, Mark, empty, deleted, bucket_at, IsEmpty, marks_of, room}
 use Rattle.group_table.specs.Probe.{filled, IsFirstFree}
 use Rattle.group_table.specs.Neighbours.{HasEmptyNeighbours, IsHemmedIn}
 use Rattle.group_table.specs.Table.{Table}
@@ -9,11 +9,11 @@ use Rattle.group_table.specs.Table.{Table}
 abbrev pub count_up : ℕ → ℕ → ℕ
 count_up n more = min (n + more) (2 ^ 64 - 1)
 
--- an entry may go into this free bucket: there is room, or the bucket is deleted
+-- an entry may go into this free bucket: growth is left, or the bucket is deleted
 abbrev pub MayFill : List Mark → ℕ → Type 0
 MayFill marks b = (0 < room marks) ⊎ (bucket_at marks b ≡ deleted)
 
--- there is no bucket, or no room and the first free bucket is empty
+-- there are no buckets, or no growth is left and the first free bucket is empty
 abbrev pub HasNoPlace : List Mark → ℕ → Type 0
 HasNoPlace marks hash = (length marks ≡ 0)
     ⊎ ((room marks ≡ 0) × (b : ℕ) × IsFirstFree marks hash b × (bucket_at marks b ≡ empty))
@@ -25,8 +25,9 @@ module _ {T : Type 0} where
     pub slots : new.slots ≡ slice_set old.slots b (filled hash entry)
     pub placings : new.placings ≡ count_up old.placings 1
 
-  -- the bucket is emptied if every 16 neighbours hold an empty one, and else it is deleted
-  abbrev pub Removes : List (Slot T) → List (Slot T) → ℕ → Type 0
+module _ {A : Type 0} where
+  -- the bucket is empty if every 16 neighbours contain an empty one, and deleted otherwise
+  abbrev pub Removes : List (Bucket A) → List (Bucket A) → ℕ → Type 0
   Removes old new b =
       (HasEmptyNeighbours (IsEmpty (marks_of old)) (length (marks_of old)) b × (new ≡ slice_set old b empty))
       ⊎ (IsHemmedIn (IsEmpty (marks_of old)) (length (marks_of old)) b × (new ≡ slice_set old b deleted))

@@ -6,10 +6,10 @@ use Rattle.std.specs.Fn.{Mut}
 use Rattle.group_table.specs.Bucket.{Slot, empty, bucket_at, marks_of}
 use Rattle.group_table.specs.Probe.{probed, IsFirst}
 use Rattle.group_table.specs.Bytes.{empty_byte, deleted_byte}
-use Rattle.group_table.specs.Search.{tagged, Answers, RefusesEach}
+use Rattle.group_table.specs.Search.{tagged, Answers, RejectsEach}
 use Rattle.group_table.specs.declared.probe.Probe.{Probe}
-use Rattle.group_table.specs.declared.probe.Asked.{Asked}
-use Rattle.group_table.specs.declared.probe.Asked.TheVariants.{Accepted, Ended, GoesOn}
+use Rattle.group_table.specs.declared.probe.Searched.{Searched}
+use Rattle.group_table.specs.declared.probe.Searched.TheVariants.{Accepted, Ended, GoesOn}
 
 -- how many buckets the groups before this one have
 abbrev pub passed_by : Probe → ℕ
@@ -51,18 +51,18 @@ module _ {T F : Type 0} (closure : Mut F (Bor T × Unit {0}) Bool) (slots : List
     pub asked : List ℕ
     pub in_order : asked ++ b ∷ [] ≡ tagged_lanes slots tag start lanes
     pub between : F
-    pub refused : RefusesEach closure slots f asked between
+    pub refused : RejectsEach closure slots f asked between
     pub accepted : Answers closure slots between b true g
 
   -- f refused all buckets with the tag
-  abbrev pub RefusesGroup : F → Type 0
-  RefusesGroup g = RefusesEach closure slots f (tagged_lanes slots tag start (width slots)) g
+  abbrev pub RejectsGroup : F → Type 0
+  RejectsGroup g = RejectsEach closure slots f (tagged_lanes slots tag start (width slots)) g
 
   -- what came of it: an accepted bucket, the end of the search at an empty bucket, or neither
-  abbrev pub AsksGroup : Asked → F → Type 0
-  AsksGroup (Accepted b) g = AcceptsIn b g
-  AsksGroup Ended g = RefusesGroup g × HasEmptyLane slots start (width slots)
-  AsksGroup GoesOn g = RefusesGroup g × HasNoEmptyLane slots start (width slots)
+  abbrev pub SearchesGroup : Searched → F → Type 0
+  SearchesGroup (Accepted b) g = AcceptsIn b g
+  SearchesGroup Ended g = RejectsGroup g × HasEmptyLane slots start (width slots)
+  SearchesGroup GoesOn g = RejectsGroup g × HasNoEmptyLane slots start (width slots)
 
 -- the byte is a tag, which says that the bucket is full
 abbrev pub full_at : List ℕ → ℕ → Bool

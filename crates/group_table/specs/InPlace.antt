@@ -1,4 +1,4 @@
--- Entries take new places in the table where they stand. No public clause cites this module.
+-- Entries are rehashed within the table. No public clause cites this module.
 use Rattle.std.specs.Prelude.{◌≡◌, ℕ, ◌<◌, ◌≤◌, ◌⊎◌, List, length, count_by, slice_set, slice_index, Option, Some, None}
 use Rattle.std.specs.Prelude.{is_some}
 use Rattle.group_table.specs.Bucket.{is_deleted}
@@ -12,22 +12,23 @@ abbrev pub StaysWhereFree : {T : Type 0} → List (Option T) → List (Option T)
 StaysWhereFree old now control passed = (b : ℕ) → passed ≤ b → b < length old → IsFreeByte (slice_index control b)
     → place_at now b ≡ place_at old b
 
--- one place, by what stood there, what of that has gone to its place, what is placed there, and what stands there now
+-- One place. `old` is what it held before the rehash, `gone` is the same if that entry has moved, `placed` is the entry
+-- that has moved here, and `now` is what it holds.
 module _ {T : Type 0} (old gone placed now : List (Option T)) (b : ℕ) where
-  -- no entry waits: what stood there has gone, and what stands there is placed
+  -- the old entry has moved, and the place holds what was moved here
   pub record IsSettled : Type 0 where
     pub went : place_at gone b ≡ place_at old b
     pub stands : place_at now b ≡ place_at placed b
 
-  -- what stood there still stands there, has not gone, and nothing is placed there
+  -- the old entry is still here, and nothing was moved here
   pub record IsWaiting : Type 0 where
     pub stays : place_at now b ≡ place_at old b
     pub not_gone : place_at gone b ≡ None
     pub none_placed : place_at placed b ≡ None
 
 module _ {T N : Type 0} (number : N → ℕ) (none : N) (IsGiven : (ℕ → ℕ) → Type 0) where
-  -- of the entries that stood in the old places, those that have gone stand as in a fresh table of the same control
-  -- bytes, and each other one where it stood; in the first places none waits
+  -- the entries that have moved are as in a fresh table of these control bytes, the others are where they were, and in
+  -- the first `passed` places no entry waits
   pub record IsHalfway (old now : List (Option T)) (control : List ℕ) (links : List N) (passed : ℕ) : Type 0 where
     pub gone : List (Option T)
     pub placed : List (Option T)

@@ -21,7 +21,7 @@ module _ {T N : Type 0} (number : N → ℕ) (none : N) (old : ℕ → Option T)
     pub onto : (c : ℕ) → IsFull new c
         → (b : ℕ) × (entry : T) × (old b ≡ Some entry) × (moved_to number none links b ≡ c)
 
-  -- hashes by which each entry has the hash that it had fit the new table
+  -- if each entry keeps its hash, the hashes fit the new table
   abbrev pub KeepsHashes : (ℕ → ℕ) → Type 0
   KeepsHashes hash_of = (moved_hash_of : ℕ → ℕ)
       → ((b : ℕ) (entry : T) → old b ≡ Some entry → moved_hash_of (moved_to number none links b) ≡ hash_of b)

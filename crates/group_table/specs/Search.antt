@@ -33,26 +33,26 @@ module _ {T F : Type 0} (closure : Mut F (Bor T × Unit {0}) Bool) (slots : List
     pub there : entry_at slots b ≡ Some entry
     pub called : CalledAt closure f entry answer g
 
-  -- f was called about the entries in these buckets, one after another, refused each, and is then g
-  abbrev pub RefusesEach : F → List ℕ → F → Type 0
-  RefusesEach f asked g = FoldsTo (λ p b q. Answers p b false q) f asked g
+  -- f was called with the entries in these buckets, one after another, rejected each, and is then g
+  abbrev pub RejectsEach : F → List ℕ → F → Type 0
+  RejectsEach f asked g = FoldsTo (λ p b q. Answers p b false q) f asked g
 
-  -- a search for the hash asked f about these buckets, and f refused all but the last, which is b
+  -- a search for the hash called f with the entries in these buckets, and f rejected all but the one in the last, b
   pub record Finds (hash : ℕ) (f : F) (b : ℕ) : Type 0 where
     pub asked : List ℕ
     pub search : IsSearch slots hash (asked ++ b ∷ [])
     pub between : F
-    pub refused : RefusesEach f asked between
+    pub refused : RejectsEach f asked between
     pub last : F
     pub accepted : Answers between b true last
 
-  -- a search for the hash asked f about these buckets, and f refused all; among them is each with the tag that a
-  -- search reaches, and so each with an entry of that hash, whatever hashes fit
+  -- a search for the hash called f with the entries in these buckets, and f rejected all; among them is each bucket
+  -- with the tag that a search reaches, and so each with an entry of that hash, whatever hashes fit
   pub record FindsNone (hash : ℕ) (f : F) : Type 0 where
     pub asked : List ℕ
     pub search : IsSearch slots hash asked
     pub last : F
-    pub refused : RefusesEach f asked last
+    pub refused : RejectsEach f asked last
     pub all_reached : (b : ℕ) → IsTrue (has_tag (hash_tag hash) (bucket_at slots b))
         → Reaches (marks_of slots) hash b → Contains asked b
     pub complete : (hash_of : ℕ → ℕ) → Fits slots hash_of

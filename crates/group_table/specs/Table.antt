@@ -13,18 +13,18 @@ pub record Table (T : Type 0) : Type 0 where
 abbrev pub with_entry : {T : Type 0} → Table T → ℕ → T → Table T
 with_entry t b entry = record t { slots = slice_set t.slots b (refilled (bucket_at t.slots b) entry) }
 
--- what holds of the marks of every table
+-- what holds of the bucket states of every table
 pub record IsTable (marks : List Mark) : Type 0 where
   pub count : IsBucketCount (length marks)
   pub addressable : length marks + 16 < 2 ^ 63
   pub used_within : count_by is_used marks ≤ full_capacity (length marks)
   pub within : entry_count marks + room marks ≤ full_capacity (length marks)
-  -- up to 16 buckets none is deleted, so that each entry that leaves gives its room back
+  -- up to 16 buckets none is deleted, so each entry that is taken out gives growth left back
   pub exact : length marks ≤ 16 → entry_count marks + room marks ≡ full_capacity (length marks)
   pub none_deleted : length marks ≤ 16 → count_by is_deleted marks ≡ 0
   -- with buckets, one is empty, and a search for any hash finds a free one
   pub some_empty : 0 < length marks → (b : ℕ) × (b < length marks) × (bucket_at marks b ≡ empty)
   pub some_free : 0 < length marks → (hash : ℕ) → (b : ℕ) × (b < length marks) × IsFirstFree marks hash b
-  -- in as many steps as there are buckets, a search visits each
+  -- in n steps a search of n buckets visits each
   pub visits_each : (hash b : ℕ) → b < length marks
       → (step : ℕ) × (step < length marks) × (probed (length marks) hash step ≡ b)

@@ -32,7 +32,8 @@ impl<T> Clone for Block<T> {
 
 impl<T> Copy for Block<T> {}
 
-// It is a number that nobody can use alone.
+// SAFETY: a `Block` is an address. To read or write there also takes the `Cells` of the same block, whose `Send` and
+// `Sync` require those of `T`.
 unsafe impl<T> Send for Block<T> {}
 
 unsafe impl<T> Sync for Block<T> {}
@@ -50,7 +51,7 @@ impl<T> Model for Cells<T> {
     ghost also_shares = { λ c _ κ. lends_cells T.row c.start c.places κ };
 }
 
-// It goes where its entries may go, as a `Box<T>` does.
+// SAFETY: it owns the entries as a `Box<T>` does, so it may be sent and shared if they may.
 unsafe impl<T: Send> Send for Cells<T> {}
 
 unsafe impl<T: Sync> Sync for Cells<T> {}
@@ -69,10 +70,10 @@ impl<T, A: Allocator> Model for Deed<T, A> {
     ghost also_shares = { λ _ _ _. ftrue };
 }
 
-// It is used with its allocator, and goes where that may go.
+// SAFETY: it only gives memory back, by the allocator, so it may be sent if the allocator may.
 unsafe impl<T, A: Allocator + Send> Send for Deed<T, A> {}
 
-// A `&` to it can do nothing.
+// SAFETY: it has no method that takes a `&`.
 unsafe impl<T, A: Allocator> Sync for Deed<T, A> {}
 
 // How many bytes a place has.
@@ -132,6 +133,7 @@ pub(crate) fn deallocate<T, A: Allocator>(
 {
     let Cells { mark: _ } = cells;
     let Deed { mark: _ } = deed;
+    // SAFETY: `deed` says that this allocator gave this block with these bytes, and no place holds an entry.
     unsafe {
         alloc.deallocate(
             block.start as *mut u8,
@@ -152,6 +154,7 @@ impl<T> Cells<T> {
         ensures { (self.new.start ≡ self.old.start)
             × (self.new.places ≡ slice_set self.old.places b (Some entry)) }
     {
+        // SAFETY: the block has place b, which holds no entry, and `self` owns it.
         unsafe { block.start.add(b).write(entry) }
     }
 
@@ -163,6 +166,7 @@ impl<T> Cells<T> {
         ensures places { (self.new.start ≡ self.old.start)
             × (self.new.places ≡ slice_set self.old.places b None) }
     {
+        // SAFETY: place b holds an entry, and `self` no longer counts it as there.
         unsafe { block.start.add(b).read() }
     }
 
@@ -172,6 +176,7 @@ impl<T> Cells<T> {
         requires { (self.now.start ≡ block.start) × Holds self.now.places b }
         ensures { get_or self.now.places b None ≡ Some result.now }
     {
+        // SAFETY: place b holds an entry, which `self` lends as long as it is lent.
         unsafe { &*block.start.add(b) }
     }
 
@@ -182,6 +187,7 @@ impl<T> Cells<T> {
         ensures* writes_back { sem 𝓛 (lends_place T.row self.entry b result) }
         ensures value { get_or self.old.places b None ≡ Some result.now }
     {
+        // SAFETY: place b holds an entry, which `self` lends to nobody else meanwhile.
         unsafe { &mut *block.start.add(b) }
     }
 }

@@ -127,8 +127,8 @@ impl Control {
         Group::load(self.bytes.as_slice(), start)
     }
 
-    // Returns the first full bucket from a bucket on, or the number of buckets if there is none. It reads sixteen bytes at
-    // once, because a branch on each bucket is mispredicted often.
+    // Returns the first full bucket from a bucket on, or the number of buckets if there is none. It reads sixteen bytes
+    // at once, because a branch on each bucket is mispredicted often.
     #[inline]
     pub(crate) fn next_full(&self, from: usize) -> usize
         requires { from ≤ buckets_of self.now }

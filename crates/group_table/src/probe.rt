@@ -4,7 +4,7 @@ ghost use Rattle.group_table.specs.Sizes.{IsPowerFromFour};
 ghost use Rattle.group_table.specs.Bucket.{bucket_at, empty};
 ghost use Rattle.group_table.specs.Probe.{probed, IsFirst};
 ghost use Rattle.group_table.specs.Search.{Finds, FindsNone};
-ghost use Rattle.group_table.specs.Group.{IsProbe, passed_by, AsksGroup, IsFreeLane, full_at};
+ghost use Rattle.group_table.specs.Group.{IsProbe, passed_by, SearchesGroup, IsFreeLane, full_at};
 ghost use Rattle.group_table.specs.Bytes.{IsTag};
 ghost use Rattle.group_table.specs.Control.{buckets_of, HasFreeByte, IsCircle};
 ghost use Rattle.group_table.specs.Layout.{IsLaidOut, slots_of, marks_by};
@@ -13,8 +13,8 @@ use crate::control::{Control, DELETED, tag_of};
 use crate::entries::Entries;
 use crate::group::{lowest_lane, without_lowest};
 
-// The groups of a search: the bucket at which a group begins, and how many buckets later the next one does. These are
-// 16 more than the groups before it have.
+// The groups of a search. `start` is the first bucket of the present group, and the next group begins `stride` buckets
+// later: 16 for each group so far, the present one included.
 #[derive(Drop)]
 pub(crate) struct Probe {
     start: usize,
@@ -53,7 +53,7 @@ impl Probe {
 }
 
 // The result of one group: a bucket whose entry was accepted, the end of the search at an empty bucket, or neither.
-enum Asked {
+enum Searched {
     Accepted(usize),
     Ended,
     GoesOn,
@@ -61,13 +61,13 @@ enum Asked {
 
 // Calls `f` with the entries with the tag in the group that begins here, until it accepts one.
 #[inline]
-fn ask_group<T, F: FnMut(&T) -> bool>(
+fn search_group<T, F: FnMut(&T) -> bool>(
     control: &Control,
     entries: &Entries<T>,
     start: usize,
     tag: u8,
     f: &mut F,
-) -> Asked
+) -> Searched
     requires laid_out { IsLaidOut control.now entries.now }
     requires some_empty { (b : ℕ) × (b < length entries.now)
         × (bucket_at (marks_by control.now entries.now) b ≡ empty) }
@@ -75,21 +75,21 @@ fn ask_group<T, F: FnMut(&T) -> bool>(
     requires tag { IsTag tag }
     requires callable { F.IsAlwaysCallable f.old }
     ensures callable { F.IsAlwaysCallable f.new }
-    ensures asked { AsksGroup F.FnMut (slots_of control.now entries.now) tag start f.old result f.new }
+    ensures asked { SearchesGroup F.FnMut (slots_of control.now entries.now) tag start f.old result f.new }
 {
     let group = control.group(start);
     let mut mask = group.match_tag(tag);
     'lanes: while mask != 0 {
         let b = control.wrap(start + lowest_lane(mask));
         if f(entries.get(b)) {
-            return Asked::Accepted(b);
+            return Searched::Accepted(b);
         }
         mask = without_lowest(mask);
     }
     if group.match_empty() != 0 {
-        Asked::Ended
+        Searched::Ended
     } else {
-        Asked::GoesOn
+        Searched::GoesOn
     }
 }
 
@@ -107,13 +107,20 @@ pub(crate) fn find_bucket<T, F: FnMut(&T) -> bool>(
     ensures found { IfSome result (Finds F.FnMut (slots_of control.now entries.now) hash f) }
     ensures none { IfNone result (FindsNone F.FnMut (slots_of control.now entries.now) hash f) }
 {
+    // The first group is not part of the loop: most searches end there, and then need no stride.
     let tag = tag_of(hash);
     let mut probe = Probe::of(control, hash);
+    match search_group(control, entries, probe.start, tag, &mut f) {
+        Searched::Accepted(b) => return Some(b),
+        Searched::Ended => return None,
+        Searched::GoesOn => {}
+    }
     'groups: loop {
-        match ask_group(control, entries, probe.start, tag, &mut f) {
-            Asked::Accepted(b) => return Some(b),
-            Asked::Ended => return None,
-            Asked::GoesOn => probe.go_on(control),
+        probe.go_on(control);
+        match search_group(control, entries, probe.start, tag, &mut f) {
+            Searched::Accepted(b) => return Some(b),
+            Searched::Ended => return None,
+            Searched::GoesOn => {}
         }
     }
 }

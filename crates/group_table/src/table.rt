@@ -43,8 +43,8 @@ mod relocation;
 /// assert_eq!(rt; table.find(7, |entry| *entry == "a"), Some(b));
 /// ```
 pub struct Table<T> {
-    // An insertion and a removal change it together with one of the other counts. Next to that one, the compiler would
-    // read and write both as one.
+    // Not next to `len`: each insertion and each removal changes both, and the compiler would join the two into one
+    // load and one store, which is slower.
     room: usize,
     control: Control,
     entries: Entries<T>,
@@ -269,7 +269,7 @@ impl<T> Table<T> {
             Fits self.new.slots (with_hash hash_of b hash) }
         ensures table { IsTable (marks_of self.new.slots) }
     {
-        // Each count is one instruction on memory: the compiler does not keep them while the bucket is written.
+        // The counts that only rise are written before and after the bucket: then each takes one instruction.
         make_count_room(&mut self.placings);
         self.len += 1;
         fill_bucket(&mut self.control, &mut self.entries, b, tag_of(hash), entry);
@@ -324,16 +324,21 @@ impl<T: Drop> Drop for Table<T> {
 impl<T: Drop> Table<T> {
     /// Drops all entries. Every bucket is empty then; their number and the count of insertions stay.
     ///
-    /// It writes all control bytes, and goes through the entries' places only if there is an entry.
+    /// It writes all control bytes, and goes through the entries' places only if there is an entry. It does nothing if
+    /// all growth is left, because then no bucket is full or deleted.
     pub fn clear(&mut self)
         ensures slots { self.new.slots ≡ replicate (length self.old.slots) empty }
         ensures placings { self.new.placings ≡ self.old.placings }
         ensures table { IsTable (marks_of self.new.slots) }
         ensures fits { (hash_of : ℕ → ℕ) → Fits self.new.slots hash_of }
     {
+        let most = full_capacity(self.control.buckets());
+        if self.room == most {
+            return;
+        }
         drop_entries(&self.control, &mut self.entries, self.len);
         self.control.clear();
-        self.room = full_capacity(self.control.buckets());
+        self.room = most;
         self.len = 0;
     }
 }
@@ -347,7 +352,7 @@ fn is_without_buckets(control: &Control, room: usize) -> bool
     room == 0 && control.is_empty()
 }
 
-// Takes one off a full count, so that it is full again after one more is counted.
+// Subtracts 1 from a count of `u64::MAX`, so that the addition of 1 that follows ends there.
 #[inline]
 fn make_count_room(count: &mut u64)
     ensures { count.new + 1 ≡ count_up count.old 1 }

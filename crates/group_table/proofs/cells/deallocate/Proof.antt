@@ -127,12 +127,12 @@ deallocate_spec 𝓤 𝓛 𝓜 𝓡 wired X W L LW g d drops met _ =
       gh,
     ) in
     let Post : Val → SProp 𝓤 = (walk_of 𝓛 End stays said).post y in
-    let Asked : Type 0 = (c.start ≡ start) × (c.places ≡ replicate n None)
+    let Searched : Type 0 = (c.start ≡ start) × (c.places ≡ replicate n None)
     × (right.start ≡ start) × (right.count ≡ n) × (right.alloc ≡ heap) in
     let others : Fml = fsep (flft κs.1.0 qs.1.0) (fsep (flft κs.1.1.0 qs.1.1.0) ftrue) in
     qed 𝓛 (((‵ (flft κs.0 qs.0) ⊛ ‵ others) ⊛ ‵ (owns (types_at End.signature.params κs) args y.0.4))
-    ∷ raw (fact 𝓤 _) ∷ raw (fact 𝓤 (κs.1.1.0 ⊑ W.lives)) ∷ raw (fact 𝓤 Asked) ∷ []) ∵
-    keep ! (2 ∷ 3 ∷ 0 ∷ []) $ heard ! (κs.1.1.0 ⊑ W.lives) (λ inside. heard ! Asked (λ asked. split ! $ split ! $
+    ∷ raw (fact 𝓤 _) ∷ raw (fact 𝓤 (κs.1.1.0 ⊑ W.lives)) ∷ raw (fact 𝓤 Searched) ∷ []) ∵
+    keep ! (2 ∷ 3 ∷ 0 ∷ []) $ heard ! (κs.1.1.0 ⊑ W.lives) (λ inside. heard ! Searched (λ asked. split ! $ split ! $
     move ! (2 ∷ []) $
     fsplit3 ! $ fsplit ! $ move ! (3 ∷ []) $ fsplit3 ! $ move ! (1 ∷ []) $ fsplit ! $ move ! (3 ∷ []) $ fsplit ! $
     fsplit ! $

@@ -68,10 +68,10 @@ get_spec 𝓤 𝓛 𝓜 𝓡 wired T L =
     let y : (walk_of 𝓛 End stays said).Ghost =
     ((κs, qs, bounds, args, (vptr rb ro ∷ [], (block_val start ∷ [], (vint w64 b ∷ [], tt)))), gh) in
     let Post : Val → SProp 𝓤 = (walk_of 𝓛 End stays said).post y in
-    let Asked : Type 0 = (c.start ≡ start) × Holds c.places b in
+    let Searched : Type 0 = (c.start ≡ start) × Holds c.places b in
     qed 𝓛 (((‵ (flft κs.0 qs.0) ⊛ ‵ (fsep (flft κs.1.0 qs.1.0) ftrue))
-    ⊛ ‵ (owns (types_at End.signature.params κs) args y.0.4)) ∷ raw (fact 𝓤 _) ∷ raw (fact 𝓤 Asked) ∷ []) ∵
-    keep ! (2 ∷ 0 ∷ []) $ heard ! Asked (λ asked. split ! $ move ! (1 ∷ []) $ fsplit ! $ fsplit ! $
+    ⊛ ‵ (owns (types_at End.signature.params κs) args y.0.4)) ∷ raw (fact 𝓤 _) ∷ raw (fact 𝓤 Searched) ∷ []) ∵
+    keep ! (2 ∷ 0 ∷ []) $ heard ! Searched (λ asked. split ! $ move ! (1 ∷ []) $ fsplit ! $ fsplit ! $
     keep ! (1 ∷ 3 ∷ []) $
     let entry : T.Denot = asked.1.0 in
     let us : List Val = vptr rb ro ∷ block_val start ∷ vint w64 b ∷ [] in

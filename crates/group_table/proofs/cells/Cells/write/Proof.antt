@@ -76,10 +76,10 @@ write_spec 𝓤 𝓛 𝓜 𝓡 wired T L =
     let start : Ptr = args.1.0.start in
     let b : ℕ = args.1.1.0 in
     let entry : T.Denot = args.1.1.1.0 in
-    let Asked : Type 0 = (c.start ≡ start) × (b < length c.places) × (get_or c.places b None ≡ None) in
+    let Searched : Type 0 = (c.start ≡ start) × (b < length c.places) × (get_or c.places b None ≡ None) in
     qed 𝓛 (((‵ (flft κs.0 qs.0) ⊛ ‵ (fsep (flft κs.1.0 qs.1.0) ftrue))
-    ⊛ ‵ (owns (types_at End.signature.params κs) args vss)) ∷ raw (fact 𝓤 _) ∷ raw (fact 𝓤 Asked) ∷ []) ∵
-    keep ! (2 ∷ 0 ∷ []) $ heard ! Asked (λ asked. split ! $ split ! $ move ! (2 ∷ []) $ fsplit3 ! $ fsplit3 ! $
+    ⊛ ‵ (owns (types_at End.signature.params κs) args vss)) ∷ raw (fact 𝓤 _) ∷ raw (fact 𝓤 Searched) ∷ []) ∵
+    keep ! (2 ∷ 0 ∷ []) $ heard ! Searched (λ asked. split ! $ split ! $ move ! (2 ∷ []) $ fsplit3 ! $ fsplit3 ! $
     move ! (4 ∷ []) $ fsplit3 ! $ keep ! (4 ∷ 5 ∷ 7 ∷ 1 ∷ 8 ∷ []) $
     let m : Member = record { row = Entry; ty = layout T } in
     let found = one (layout T) vss.1.1.1.0 (((param_laws 0 T L).lawful 𝓛).typed entry vss.1.1.1.0 are.1.1.1.0) in

@@ -1,10 +1,12 @@
 use Rattle.std.proofs.Common.{◌≡◌, length, sym, ap, ◌∙◌, arith}
 use Rattle.std.proofs.lemmas.List.{length-replicate}
+use Rattle.group_table.specs.Sizes.{full_capacity}
 use Rattle.group_table.specs.Bytes.{empty_byte}
 use Rattle.group_table.proofs.ControlLemmas.{buckets_are}
 use Rattle.group_table.proofs.LayoutLemmas.{entries_within, length-laid_out}
 use Rattle.group_table.proofs.TableLemmas.{IsTable-by}
 use Rattle.group_table.proofs.FreshLemmas.{none_left, IsValid-fresh, entry_count-fresh, slots_of-fresh, Fits-fresh}
+use Rattle.group_table.proofs.FreshLemmas.{all_empty}
 use Rattle.group_table.proofs.table.Table.clear.Goals as goal
 
 pub drop_entries-requires-clause-none_left : goal.drop_entries-requires-clause-none_left
@@ -21,7 +23,7 @@ invariant_of-self g c =
       length-replicate (length c.self.inside.control) empty_byte,
       buckets_are _ _ laid_out,
     ) in
-    rw (c.clear.ensures, c.drop_entries.ensures, c.full_capacity-self-inside.ensures, n) (
+    rw (c.clear.ensures, c.drop_entries.ensures, c.full_capacity-most.ensures, n) (
       IsValid-fresh g.row.T.Denot _ _ laid_out.counts laid_out.fits,
       sym
           (entry_count-fresh g.row.T.Denot _ _ (entries_within _ _ laid_out)),
@@ -41,3 +43,21 @@ returns-clause-table g c =
 
 pub returns-clause-fits : goal.returns-clause-fits
 returns-clause-fits g c hash_of = rw (returns-clause-slots g c) (Fits-fresh g.row.T.Denot _ hash_of)
+
+-- with all growth left, no bucket is used
+pub returns-then-self-most-clause-slots : goal.returns-then-self-most-clause-slots
+returns-then-self-most-clause-slots g c =
+    let valid = c.self.invariant.0 in
+    rw (← c.self.view_is) (all_empty _ (omega (
+      arith,
+      valid.room_left,
+      c.if-self-most.true ∙ c.full_capacity-most.ensures
+          ∙ ap full_capacity (c.buckets.ensures ∙ buckets_are _ _ valid.laid_out),
+    )))
+
+pub returns-then-self-most-clause-table : goal.returns-then-self-most-clause-table
+returns-then-self-most-clause-table g c = rw (← c.self.view_is) (IsTable-by _ _ _ c.self.invariant.0)
+
+pub returns-then-self-most-clause-fits : goal.returns-then-self-most-clause-fits
+returns-then-self-most-clause-fits g c hash_of =
+    rw (returns-then-self-most-clause-slots g c) (Fits-fresh g.row.T.Denot _ hash_of)

@@ -18,7 +18,8 @@ pub byte-requires : goal.byte-requires
 byte-requires g c =
     let valid = c.self.invariant.0 in
     let some = some_buckets valid (rw (← c.self.view_is) at c.requires) in
-    let within : c.first_free-b.result < length c.self.inside.entries = place_within valid _ _ some c.first_free-b.ensures in
+    let within : c.first_free-b.result < length c.self.inside.entries =
+    place_within valid _ _ some c.first_free-b.ensures in
     omega (arith, within, buckets_are _ _ valid.laid_out)
 
 pub room_taken-spent-requires : goal.room_taken-spent-requires
@@ -31,7 +32,8 @@ pub fill_free-requires-clause-bucket : goal.fill_free-requires-clause-bucket
 fill_free-requires-clause-bucket g c =
     let valid = c.self.invariant.0 in
     let some = some_buckets valid (rw (← c.self.view_is) at c.requires) in
-    let within : c.first_free-b.result < length c.self.inside.entries = place_within valid _ _ some c.first_free-b.ensures in
+    let within : c.first_free-b.result < length c.self.inside.entries =
+    place_within valid _ _ some c.first_free-b.ensures in
     rw (← c.self.view_is) (omega (arith, within, length-laid_out _ _ valid.laid_out))
 
 pub fill_free-requires-clause-first : goal.fill_free-requires-clause-first

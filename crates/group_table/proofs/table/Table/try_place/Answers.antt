@@ -43,7 +43,8 @@ pub fill_free-requires-clause-bucket : goal.fill_free-requires-clause-bucket
 fill_free-requires-clause-bucket g c =
     let some = has_buckets c.is_without_buckets.ensures c.if-is_without_buckets.false in
     let valid = c.self.invariant.0 in
-    let within : c.first_free-b.result < length c.self.inside.entries = place_within valid _ _ some c.first_free-b.ensures in
+    let within : c.first_free-b.result < length c.self.inside.entries =
+    place_within valid _ _ some c.first_free-b.ensures in
     rw (← c.self.view_is) (omega (arith, within, length-laid_out _ _ valid.laid_out))
 
 pub fill_free-requires-clause-first : goal.fill_free-requires-clause-first

@@ -1,5 +1,5 @@
 use Rattle.group_table.proofs.LaneLemmas.{AsksLanes}
-use Rattle.group_table.proofs.probe.ask_group.Given as goal
+use Rattle.group_table.proofs.probe.search_group.Given as goal
 
 abbrev pub invariant-lanes : goal.invariant-lanes
 invariant-lanes g l = record {

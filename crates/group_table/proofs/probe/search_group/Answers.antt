@@ -3,9 +3,9 @@ use Rattle.group_table.proofs.ControlLemmas.{buckets_are}
 use Rattle.group_table.proofs.LayoutLemmas.{some_by, bucket_at-read}
 use Rattle.group_table.proofs.SearchLemmas.{Answers-from_call}
 use Rattle.group_table.proofs.Masks.{mask_at, none_of_zero, some_lane}
-use Rattle.group_table.proofs.LaneLemmas.{AsksLanes-first, AsksLanes-next, AcceptsIn-lane, RefusesGroup-from, lane_tag}
+use Rattle.group_table.proofs.LaneLemmas.{AsksLanes-first, AsksLanes-next, AcceptsIn-lane, RejectsGroup-from, lane_tag}
 use Rattle.group_table.proofs.LaneLemmas.{ended_lane, none_ended}
-use Rattle.group_table.proofs.probe.ask_group.Goals as goal
+use Rattle.group_table.proofs.probe.search_group.Goals as goal
 
 pub lanes-init : goal.lanes-init
 lanes-init g c = record {
@@ -66,7 +66,7 @@ returns-then-match_empty-ne0-clause-asked g c =
     let empties = mask_at (λ byte. byte ≡ 255) _ c.args.control.now c.args.start _ c.group-group.ensures.bytes
     c.match_empty.ensures in
     let w = some_lane c.match_empty.result (omega (arith, c.match_empty.type_inv)) c.if-match_empty-ne0.true in (
-      RefusesGroup-from _ _ c.requires.laid_out _ c.requires.start g.F.FnMut _ c.requires.tag _ _ _
+      RejectsGroup-from _ _ c.requires.laid_out _ c.requires.start g.F.FnMut _ c.requires.tag _ _ _
           c.lanes.invariant.asked (λ lane. none_of_zero _ lane c.lanes-test.false),
       ended_lane _ _ c.requires.laid_out _ c.requires.start some.0 some.1 some.2 w.0 w.1 ((empties w.0).0 w.2).1,
     )
@@ -75,7 +75,7 @@ pub returns-else-match_empty-ne0-clause-asked : goal.returns-else-match_empty-ne
 returns-else-match_empty-ne0-clause-asked g c =
     let empties = mask_at (λ byte. byte ≡ 255) _ c.args.control.now c.args.start _ c.group-group.ensures.bytes
     c.match_empty.ensures in (
-      RefusesGroup-from _ _ c.requires.laid_out _ c.requires.start g.F.FnMut _ c.requires.tag _ _ _
+      RejectsGroup-from _ _ c.requires.laid_out _ c.requires.start g.F.FnMut _ c.requires.tag _ _ _
           c.lanes.invariant.asked (λ lane. none_of_zero _ lane c.lanes-test.false),
       none_ended _ _ c.requires.laid_out _ c.requires.start
           (λ lane p e. none_of_zero _ lane c.if-match_empty-ne0.false ((empties lane).1 (p, e))),
