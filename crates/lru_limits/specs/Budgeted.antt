@@ -49,7 +49,8 @@ kept-out b c k v true refused = absurd (true≢false refused)
 kept-out b c k v false refused = record { limiter = refl; pair = refl }
 
 pub weighs-budgeted : {K V : Type 0} (weight : K → V → ℕ) → IsBudgeted (by_weight weight) (weighs weight) (λ b. b.cost)
-    (λ b. b.limit) (λ b k v. can_add b.limit b.cost (weight k v)) (λ limit. record { limit = limit; cost = 0 }) (λ limit b. record b { limit = limit })
+    (λ b. b.limit) (λ b k v. can_add b.limit b.cost (weight k v)) (λ limit. record { limit = limit; cost = 0 })
+    (λ limit b. record b { limit = limit })
 weighs-budgeted weight = record {
   over = λ b n. refl;
   offered = λ b n k v t given offer. ap (λ c. c.limit) offer.limiter

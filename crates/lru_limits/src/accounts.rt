@@ -14,10 +14,11 @@ pub use by_cost::ByCost;
 pub use by_weight::ByWeight;
 use std::hash::Hash;
 
-/// A value with a cost. A whole number costs itself, a text its bytes, and a vector the number of its items.
+/// A value with a cost. An unsigned number of up to 64 bits costs itself, a text its bytes, and a vector the number of
+/// its items.
 ///
-/// The cost of a value is read again when the value leaves the map. So if the cost changes in the map, the running
-/// total is no longer the sum of the costs.
+/// The cost of a value is read again when its entry is evicted or removed, or the value is replaced. So if the cost
+/// changes in the map, the running total is no longer the sum of the costs.
 ///
 /// ```
 /// struct Page {
@@ -106,10 +107,10 @@ impl<T> Costed for Vec<T> {
     }
 }
 
-/// A limiter with a running total: the sum of the costs of the pairs that it returned for storage and that have not
-/// left.
+/// A limiter with a running total: the sum of the costs of the entries that it returned for storage and that were not
+/// evicted or removed since.
 ///
-/// The total is the sum over the pairs of the map after each call, unless somebody writes to the values or to the
+/// The total is the sum over the entries of the map after each call, unless somebody writes to the values or to the
 /// limiter through a reference: each callback changes the total as the laws say. The two laws that subtract a cost hold
 /// only if the total is at least that cost. `docs/LIMITERS.md` explains an impl.
 ///
@@ -117,13 +118,13 @@ impl<T> Costed for Vec<T> {
 /// assert_eq!(rt; Summing::<u64, u64, u64>::account(&limiter), 2);
 /// ```
 pub trait Summing<K: Eq + Hash, V, I: LookupKey<K>>: Insertion<K, V, I> {
-    /// Returns the cost of a pair.
+    /// Returns the cost of an entry.
     ghost cost_of: { K → V → ℕ };
 
     /// Returns the running total.
     ghost account: { Self → ℕ };
 
-    /// Returns the cost of a pair.
+    /// Returns the cost of an entry.
     fn cost_of(key: &K, value: &V) -> u64
         ensures { result ≡ cost_of key.now value.now };
 

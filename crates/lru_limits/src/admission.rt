@@ -5,25 +5,25 @@ ghost use Rattle.lru_limits.specs.Admissions.{Terms, IsAdmission};
 use crate::limiter::Insertion;
 use std::hash::Hash;
 
-/// A limiter that stores each pair as it came, and says in advance which it accepts.
+/// A limiter that stores each entry as it came, and says in advance which it accepts.
 ///
-/// [`crate::Both`] asks two limiters by this trait, before either of them changes. The impl defines `terms`: which pairs
-/// it accepts, and the limiter after it stored one. The laws say that the callbacks of [`Insertion`] do the same. For a
-/// limiter that never changes, `never_changes` of `specs/Admissions.antt` defines the terms in one line.
+/// [`crate::Both`] queries two limiters by this trait, before either of them changes. The impl defines `terms`: which
+/// entries it accepts, and the limiter after it stored one. The laws say that the callbacks of [`Insertion`] do the
+/// same. For a limiter that never changes, `never_changes` of `specs/Admissions.antt` defines the terms in one line.
 ///
 /// ```
 /// let limiter = ByLength::new(0);
 /// assert!(rt; !limiter.accepts(0, &1u64, &2u64) && limiter.accepts_in_place(1, &1u64, &2u64, &3u64));
 /// ```
 pub trait Admission<K: Eq + Hash, V>: Insertion<K, V, K> {
-    /// Which pairs are accepted, and the limiter after it stored one.
+    /// Which entries are accepted, and the limiter after it stored one.
     ghost terms: { Terms K V Self };
 
-    /// Returns whether `on_insert` accepts this pair.
+    /// Returns whether `on_insert` accepts this entry.
     fn accepts(&self, length: usize, key: &K, value: &V) -> bool
         ensures { result ≡ terms.accepts self.now length key.now value.now };
 
-    /// Changes the limiter as `on_insert` does with this pair.
+    /// Changes the limiter as `on_insert` does with this entry.
     fn on_stored(&mut self, length: usize, key: &K, value: &V)
         ensures { self.new ≡ terms.on_stored self.old length key.now value.now };
 

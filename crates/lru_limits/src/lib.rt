@@ -2,11 +2,11 @@
 //!
 //! - [`LookupKey`]: a value that names a key in a look-up, as `&str` if the keys are `String`s.
 //! - [`KeyHasher`]: a hasher of keys. Each `BuildHasher` is one; contracts name the hash of a key by it.
-//! - [`Limiter`] and [`Insertion`]: when a map is over its limit, and what happens to an element that is offered to it.
-//! - [`ByLength`], [`ByMemoryUsage`], [`Unlimited`], [`UnlimitedCompact`]: limiters that look at no element.
+//! - [`Limiter`] and [`Insertion`]: when a map is over its limit, and what happens to an entry that is offered to it.
+//! - [`ByLength`], [`ByMemoryUsage`], [`Unlimited`], [`UnlimitedCompact`]: limiters that look at no key or value.
 //! - [`Both`]: two limiters for one map, which say in advance what they accept by [`Admission`].
-//! - [`Storing`]: an adapter for a limiter of your own that stores each pair as it comes.
-//! - [`Costed`], [`Summing`], [`ByCost`], [`ByWeight`]: limiters with a running total of the costs of the elements.
+//! - [`Storing`]: an adapter for a limiter of your own that stores each entry as it comes.
+//! - [`Costed`], [`Summing`], [`ByCost`], [`ByWeight`]: limiters with a running total of the costs of the entries.
 //! - [`Budgeted`]: such a limiter, made from a budget that can be changed.
 //! - [`RandomState`] and [`DefaultHasher`]: the hasher, with four seeds.
 //!

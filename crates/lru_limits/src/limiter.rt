@@ -11,7 +11,8 @@ use group_table::LinkType;
 use std::alloc::{AllocError, Global};
 use std::hash::Hash;
 
-/// Decides when a map is over its limit and whether its table may grow, and is notified of each pair that leaves.
+/// Decides when a map is over its limit and whether its table may grow, and is notified of each entry that is evicted
+/// or removed.
 ///
 /// Each callback accepts every state, length, key and value. Its result and its effect are a function of these: the
 /// impl defines the four functions as `rules`, and the prover checks that the code computes them. So whoever knows the
@@ -24,42 +25,59 @@ use std::hash::Hash;
 /// assert!(rt; Limiter::<u64, u64>::is_over_the_limit(&limiter, 4));
 /// ```
 pub trait Limiter<K, V> {
-    /// The type of the links of the map, which limits the number of its pairs.
+    /// The type of the links of the map, which limits the number of its entries.
     type LinkType: LinkType;
 
     /// What the callbacks of this trait return and leave.
     ghost rules: { Rules K V Self };
 
-    /// Returns whether a map of `length` pairs is over the limit, so that its oldest pair is evicted.
+    /// Returns whether a map of `length` entries is over the limit, so that its oldest entry is evicted.
     ///
-    /// Called before a new pair is stored in a map that is not empty, with the length that the map will have, and after
-    /// each insert that stored a pair or replaced a value, with the length that it has.
+    /// Called at two times:
+    ///
+    /// - Before an insert stores a new entry in a map that is not empty, with the length that the map will have.
+    ///   `try_insert` calls it then on a copy of the limiter, in an empty map too.
+    /// - With the length that the map has, if the map is not empty: by `trim` and `set_limiter`, and by an insert or an
+    ///   update that stored an entry or replaced a value. After each eviction they call it again, unless the map is
+    ///   empty then.
     fn is_over_the_limit(&self, length: usize) -> bool
         ensures { result ≡ rules.is_over_the_limit self.now length };
 
-    /// Called with each pair that has left the map. The caller of the map gets what is written to the key and the
-    /// value.
+    /// Called with each entry that was evicted, removed or popped, or taken by an iterator, as soon as it is out of the
+    /// map. The caller of the map gets what is written to the key and the value.
+    ///
+    /// It is also called with an entry that `on_insert` returned, if the map cannot store it. After `on_replace`
+    /// returned false, it is called with the entry that is removed. It is not called for the entries that are dropped
+    /// by a clear, or with the map, a `Drain` or an `IntoIter`.
     fn on_removed(&mut self, key: &mut K, value: &mut V)
         ensures limiter { self.new ≡ (rules.on_removed self.old key.old value.old).limiter }
         ensures key { key.new ≡ (rules.on_removed self.old key.old value.old).key }
         ensures value { value.new ≡ (rules.on_removed self.old key.old value.old).value };
 
-    /// Called when the map is cleared, once, and not for each pair.
+    /// Called once by each clear of the map, even if the map is empty, and not for each entry. The drop of a `Drain` is
+    /// a clear.
     fn on_cleared(&mut self)
         ensures { self.new ≡ rules.on_cleared self.old };
 
     /// Returns whether the map may have a table of `new_memory_usage` bytes, which is more than it has.
+    ///
+    /// Called by an insert that finds no bucket for a new entry, and by `try_reserve` if too little growth is left.
+    /// Neither calls it if there is no larger table, or if the old and the new entries are at most half of what the
+    /// table may hold, because then the table is rehashed at its size. After `false` the insert evicts the oldest
+    /// entries to store the new one, and `try_reserve` returns `Refused`. After `true` there may still be no memory for
+    /// the table; the limiter is not notified of that.
     fn on_grow(&mut self, new_memory_usage: usize) -> bool
         ensures limiter { self.new ≡ (rules.on_grow self.old new_memory_usage).limiter }
         ensures allowed { result ≡ (rules.on_grow self.old new_memory_usage).allowed };
 }
 
-/// Accepts or rejects elements whose key is given as an `I`.
+/// Accepts or rejects entries whose key is given as an `I`.
 ///
 /// `I` is the key itself, or something that names the key and becomes it only if it is stored, as a `&str` that becomes
-/// a `String`. The impl defines `offers`: what an offered element may leave, when an offer may run out of memory, and
-/// what a replacement leaves. For a limiter that stores pairs as they come, use [`crate::Storing`], or define the
-/// offers by `hands_over` of `specs/Stores.antt` in one line, and the laws by `hands_over-lawful`.
+/// a `String`. The impl defines `offers`: what may be stored of an offered entry, when an offer may run out of memory,
+/// and what a replacement does to the key and the values. For a limiter that stores entries as they come, use
+/// [`crate::Storing`], or define the offers by `hands_over` of `specs/Stores.antt` in one line, and the laws by
+/// `hands_over-lawful`.
 ///
 /// ```
 /// assert!(rt; limiter.on_insert(alloc, 0, 1u64, 2u64)?.is_some());
@@ -69,8 +87,8 @@ pub trait Insertion<K: Eq + Hash, V, I: LookupKey<K>>: Limiter<K, V> {
     /// What the callbacks of this trait may leave.
     ghost offers: { Offers K V Self I };
 
-    /// Called with the element of a new key, before it is stored in a map of `length` pairs. Returns the pair to store,
-    /// or `None` to reject the element.
+    /// Called by an insert with a new key and its value, before anything is evicted for it from a map of `length`
+    /// entries. Returns the entry to store, or `None` to reject it; then the map does not change.
     ///
     /// # Errors
     ///
@@ -87,8 +105,9 @@ pub trait Insertion<K: Eq + Hash, V, I: LookupKey<K>>: Limiter<K, V> {
         ensures unchanged { OnErr result (self.new ≡ self.old) }
         ensures lacks { OnErr result (offers.may_lack self.old length key value) };
 
-    /// Called before `new_value` replaces `old_value` in a map of `length` pairs, when `new_key` names the stored
-    /// `old_key`. The stored key stays. Returns whether the new value is accepted; if not, the map removes the pair.
+    /// Called by an insert or an update before `new_value` replaces `old_value` in a map of `length` entries, if
+    /// `new_key` names the stored `old_key`. The stored key stays. Returns whether the new value is accepted. If not,
+    /// the map removes the entry and calls `on_removed` with it.
     fn on_replace(
         &mut self,
         length: usize,
@@ -108,7 +127,7 @@ pub trait Insertion<K: Eq + Hash, V, I: LookupKey<K>>: Limiter<K, V> {
         ensures new_value { new_value.new ≡
             (offers.on_replace self.old length old_key.old new_key old_value.old new_value.old).new_value };
 
-    /// The offered key names the key of the pair to store, and a replacement leaves the stored key equal to what it
+    /// The offered key names the key of the entry to store, and a replacement leaves the stored key equal to what it
     /// was.
     ghost laws: { IsInsertion I.names K.eq offers };
 }

@@ -1,5 +1,5 @@
-//! The limiters that look at no element: by the number of pairs, by the size of the table, and without a limit; and an
-//! adapter for limiters of your own that store each pair as it comes.
+//! The limiters by the number of entries, by the size of the table, and without a limit, which look at no key or value;
+//! two limiters for one map; and an adapter for limiters of your own that store each entry as it comes.
 ghost use Rattle.std.specs.Prelude.{◌≡◌, ◌-◌, ◌^◌};
 
 use crate::accounts::{ByCost, Costed};
@@ -20,8 +20,10 @@ pub use storing::Storing;
 pub use unlimited::Unlimited;
 pub use unlimited_compact::UnlimitedCompact;
 
-/// A map has links of 32 bits under `ByLength`, `ByMemoryUsage` and `UnlimitedCompact`, and of 64 bits under `Unlimited`
-/// and `ByCost`. Under `Storing` it has those of the limiter inside. The function does nothing: its contract is the law.
+/// A map has links of 32 bits under `ByLength`, `ByMemoryUsage` and `UnlimitedCompact`, and of 64 bits under
+/// `Unlimited`, `ByCost` and `ByWeight`. Under `Storing` it has the links of the limiter inside, and under `Both` the
+/// links of the first limiter. The function does nothing: its contract is the law, which leaves out `ByWeight` and
+/// `Both`.
 pub fn limiters_fix_their_links<K, V, C: Costed, L: Limiter<K, V>>()
     ensures by_length { ⟦<<ByLength as Limiter<K, V>>::LinkType as LinkType>⟧.MAX ≡ 2 ^ 32 - 1 }
     ensures by_memory_usage { ⟦<<ByMemoryUsage as Limiter<K, V>>::LinkType as LinkType>⟧.MAX ≡ 2 ^ 32 - 1 }

@@ -1,5 +1,6 @@
 -- What one reference changes of a curve.
-use Rattle.std.proofs.Common.{◌≡◌, ℕ, zero, suc, ◌+◌, ◌≤◌, ◌<◌, Bool, true, false, cond, List, [], ◌∷◌, ◌++◌, length, take}
+use Rattle.std.proofs.Common.{◌≡◌, ℕ, zero, suc, ◌+◌, ◌≤◌, ◌<◌, Bool, true, false, cond, List, [], ◌∷◌, ◌++◌, length}
+use Rattle.std.proofs.Common.{take}
 use Rattle.std.proofs.Common.{set, sum, get_or, Some, None, refl, sym, ap, ◌∙◌, arith}
 use Rattle.std.specs.Prelude.{nat_eq, nat_le, String}
 use Rattle.std.specs.Global.{Global}
@@ -66,7 +67,8 @@ pub sum_counted : (xs : List ℕ) (d : ℕ) → d < length xs → sum (set xs d 
 sum_counted xs d h =
     let more = set xs d (get_or xs d 0 + 1) in
     let all = counted d (length xs) xs h in
-    let left : take (length xs) more ≡ more = take_all (length xs) more (omega (arith, length-set xs d (get_or xs d 0 + 1))) in
+    let left : take (length xs) more ≡ more = take_all (length xs) more
+    (omega (arith, length-set xs d (get_or xs d 0 + 1))) in
     let right : take (length xs) xs ≡ xs = take_all (length xs) xs (omega arith) in
     let small : cond {A = ℕ} (nat_le (length xs) d) 0 1 ≡ 1 = rw (lt-leb (length xs) d h) refl in
     omega (arith, ap sum left, ap sum right, all, small)

@@ -8,7 +8,8 @@ use Rattle.std.specs.Set.{remove_key}
 use Rattle.std.proofs.lemmas.Bool.{cases_lt, cases_eq, cases_order, eq-eqb, eqb-true, or_parts}
 use Rattle.std.proofs.lemmas.Grind.{get_or-set_at}
 use Rattle.std.proofs.lemmas.List.{append_assoc, append-nil, length-append, take-append-drop, drop_more, set_split}
-use Rattle.std.proofs.lemmas.List.{take_more, length-take, get_or-take, length_push, get_or-drop, get_or_past, get_or-set_other, get_or_push, get_or_append_left, length-set}
+use Rattle.std.proofs.lemmas.List.{take_more, length-take, get_or-take, length_push, get_or-drop, get_or_past}
+use Rattle.std.proofs.lemmas.List.{get_or-set_other, get_or_push, get_or_append_left, length-set}
 use Rattle.std.proofs.lemmas.List.Folds.{list_any-append}
 use Rattle.std.proofs.lemmas.List.Sums.{sum_by-cons}
 use Rattle.recency.specs.Recency.{is_in, since}
@@ -61,7 +62,8 @@ newest_split xs slot key within is =
 pub newest_freed : (xs : List (Option ℕ)) (slot : ℕ) → slot < length xs
     → newest (set xs slot None) ≡ newest (drop (slot + 1) xs) ++ newest (take slot xs)
 newest_freed xs slot within =
-    ap newest (set_split xs slot None within ∙ ap (λ n. take slot xs ++ None ∷ drop n xs) (let e : suc slot ≡ slot + 1 = omega arith in e))
+    ap newest (set_split xs slot None within ∙ ap (λ n. take slot xs ++ None ∷ drop n xs)
+    (let e : suc slot ≡ slot + 1 = omega arith in e))
     ∙ newest_append (take slot xs) (None ∷ drop (slot + 1) xs)
     ∙ ap (λ ys. ys ++ newest (take slot xs)) (append-nil (newest (drop (slot + 1) xs)))
 
@@ -199,7 +201,8 @@ module _ {Z : Type 0} {levels : ℕ} {log : Vec (Option ℕ) Z} {slots : List (O
         ∙ sym (ap (remove_key (nat_eq key)) whole ∙ without_middle key behind (newest (take slot log.items)) not_behind)
 
     -- what is left is a log again
-    pub freed_found : (k s : ℕ) → get_or (set slots key None) k None ≡ Some s → get_or (set log.items slot None) s None ≡ Some k
+    pub freed_found : (k s : ℕ) → get_or (set slots key None) k None ≡ Some s → get_or (set log.items slot None) s
+        None ≡ Some k
     freed_found k s e = elim (cases_eq k key) [
       | inl same ↦ not_none s (sym (erased slots key k same) ∙ e)
       | inr other ↦
@@ -209,7 +212,8 @@ module _ {Z : Type 0} {levels : ℕ} {log : Vec (Option ℕ) Z} {slots : List (O
           ∙ there
     ]
 
-    pub freed_back : (k s : ℕ) → get_or (set log.items slot None) s None ≡ Some k → get_or (set slots key None) k None ≡ Some s
+    pub freed_back : (k s : ℕ) → get_or (set log.items slot None) s None ≡ Some k → get_or (set slots key None) k None
+        ≡ Some s
     freed_back k s e = elim (cases_eq s slot) [
       | inl same ↦ not_none k (sym (erased log.items slot s same) ∙ e)
       | inr other ↦
@@ -219,7 +223,8 @@ module _ {Z : Type 0} {levels : ℕ} {log : Vec (Option ℕ) Z} {slots : List (O
           ∙ there
     ]
 
-    pub freed_marked : (s : ℕ) → get_or (set marks slot 0) s 0 ≡ cond (is_some (get_or (set log.items slot None) s None)) 1 0
+    pub freed_marked : (s : ℕ) → get_or (set marks slot 0) s 0 ≡ cond
+        (is_some (get_or (set log.items slot None) s None)) 1 0
     freed_marked s = elim (cases_eq s slot) [
       | inl same ↦ erased_mark marks slot s same ∙ ap (λ o. cond (is_some o) 1 0) (sym (erased log.items slot s same))
       | inr other ↦ get_or-set_other marks slot s 0 0 other ∙ is.marked s
@@ -255,17 +260,20 @@ module _ {Z : Type 0} {levels : ℕ} {log : Vec (Option ℕ) Z} {slots : List (O
     past_end : (s : ℕ) → length log.items < s → get_or more s None ≡ None
     past_end s h = get_or_past more s None (omega (arith, h, length_push log.items (Some key)))
 
-    pub added_found : (k s : ℕ) → get_or (set slots key (Some (length log.items))) k None ≡ Some s → get_or more s None ≡ Some k
+    pub added_found : (k s : ℕ) → get_or (set slots key (Some (length log.items))) k None ≡ Some s → get_or more s
+        None ≡ Some k
     added_found k s e = elim (cases_eq k key) [
       | inl same ↦
-          let here = some_same 0 (length log.items) s (sym (get_or-set_at slots key k (Some (length log.items)) None same within) ∙ e) in
+          let here = some_same 0 (length log.items) s
+          (sym (get_or-set_at slots key k (Some (length log.items)) None same within) ∙ e) in
           at_end s (sym here) ∙ ap Some (sym same)
       | inr other ↦
           let there = is.found k s (sym (get_or-set_other slots key k (Some (length log.items)) None other) ∙ e) in
           get_or_append_left log.items (Some key ∷ []) None s (slot_within s k there) ∙ there
     ]
 
-    pub added_back : (k s : ℕ) → get_or more s None ≡ Some k → get_or (set slots key (Some (length log.items))) k None ≡ Some s
+    pub added_back : (k s : ℕ) → get_or more s None ≡ Some k → get_or (set slots key (Some (length log.items))) k None
+        ≡ Some s
     added_back k s e = elim (cases_order s (length log.items)) [
       | inl here ↦
           let same = some_same 0 k key (sym e ∙ at_end s here) in
@@ -280,7 +288,8 @@ module _ {Z : Type 0} {levels : ℕ} {log : Vec (Option ℕ) Z} {slots : List (O
     pub added_marked : length log.items < length marks → (s : ℕ)
         → get_or (set marks (length log.items) 1) s 0 ≡ cond (is_some (get_or more s None)) 1 0
     added_marked fits s = elim (cases_order s (length log.items)) [
-      | inl here ↦ get_or-set_at marks (length log.items) s 1 0 here fits ∙ ap (λ o. cond (is_some o) 1 0) (sym (at_end s here))
+      | inl here ↦ get_or-set_at marks (length log.items) s 1 0 here fits ∙ ap (λ o. cond (is_some o) 1 0)
+          (sym (at_end s here))
       | inr (inl before) ↦
           get_or-set_other marks (length log.items) s 1 0 (λ same. omega (arith, same, before)) ∙ is.marked s
           ∙ ap (λ o. cond (is_some o) 1 0) (sym (get_or_append_left log.items (Some key ∷ []) None s before))
@@ -298,7 +307,8 @@ module _ {Z : Type 0} {levels : ℕ} {log : Vec (Option ℕ) Z} {slots : List (O
       → is_in nat_eq key (newest (take slot log.items)) ≡ false
   absent_before key slot there = newest_absent key (take slot log.items) (λ i e.
       let low = taken_within slot log.items i key e in
-      let same = some_same 0 i slot (sym (is.back key i (sym (get_or-take slot log.items i None low) ∙ e)) ∙ is.back key slot there) in
+      let same = some_same 0 i slot (sym (is.back key i (sym (get_or-take slot log.items i None low) ∙ e)) ∙ is.back
+      key slot there) in
       absurd (omega (arith, same, low)))
 
   -- a key in a slot is one of the keys

@@ -5,7 +5,8 @@ use Rattle.std.proofs.Math.Nat.{mod-eq_of_lt, pow-suc, mul-le-mul_right, le-mul_
 use Rattle.std.proofs.Math.Pow.{pow_mono}
 use Rattle.std.proofs.lemmas.Bool.{cases_lt, cases_eq}
 use Rattle.std.proofs.lemmas.Grind.{get_or-set_at}
-use Rattle.std.proofs.lemmas.List.{length-set, get_or-set_other, get_or_past, drop_all, drop-drop, get_or-replicate, drop-set-add, drop-set-lt}
+use Rattle.std.proofs.lemmas.List.{length-set, get_or-set_other, get_or_past, drop_all, drop-drop, get_or-replicate}
+use Rattle.std.proofs.lemmas.List.{drop-set-add, drop-set-lt}
 use Rattle.std.proofs.lemmas.List.{length-replicate}
 use Rattle.std.proofs.lemmas.List.Sums.{sum_by-drop_more}
 use Rattle.std.proofs.lemmas.Nat.{pow_below}
@@ -151,7 +152,8 @@ module _ {slots up down : ℕ} where
           ])
 
   -- a tree is off nowhere, and what is off nowhere is a tree
-  pub off_leaf : {levels : ℕ} (t : List ℕ) (node : ℕ) → slots ≤ node → IsTree slots levels t → IsOff slots up down t node
+  pub off_leaf : {levels : ℕ} (t : List ℕ) (node : ℕ) → slots ≤ node → IsTree slots levels t → IsOff slots up down t
+      node
   off_leaf t node leaf tree = record {
     len = tree.len;
     sums = λ i pos low apart. tree.sums i pos low;
@@ -216,7 +218,8 @@ blank levels = record {
     zeros : (i : ℕ) → get_or {A = ℕ} (replicate (2 * 2 ^ levels) 0) i 0 ≡ 0
     zeros i = elim (cases_lt i (2 * 2 ^ levels)) [
       | inl h ↦ get_or-replicate (2 * 2 ^ levels) i 0 0 h
-      | inr h ↦ get_or_past (replicate (2 * 2 ^ levels) 0) i 0 (omega (arith, h, length-replicate {A = ℕ} (2 * 2 ^ levels) 0))
+      | inr h ↦ get_or_past (replicate (2 * 2 ^ levels) 0) i 0
+          (omega (arith, h, length-replicate {A = ℕ} (2 * 2 ^ levels) 0))
     ]
 
 -- one leaf was written, and the nodes above it are corrected, from the leaf's parent on
@@ -231,7 +234,8 @@ pub corrects_begins : {slots levels : ℕ} (up down : ℕ) (t : List ℕ) (slot 
     → Corrects slots levels up down (set (drop slots t) slot v) (set t (slots + slot) v) ((slots + slot) / 2)
 corrects_begins {slots} {levels} up down t slot v tree h small is = record {
   power = tree.power;
-  off = corrected t (slots + slot) v (off_leaf t (slots + slot) (omega arith) tree) (omega (arith, h)) (omega (arith, h))
+  off = corrected t (slots + slot) v (off_leaf t (slots + slot) (omega arith) tree) (omega (arith, h))
+      (omega (arith, h))
       is (λ _. small);
   inner = omega (arith, h);
   leaves = drop-set-add slots t slot v;

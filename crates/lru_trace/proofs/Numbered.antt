@@ -1,5 +1,6 @@
 -- A trace of texts and the trace of their numbers miss at the same references.
-use Rattle.std.proofs.Common.{◌≡◌, ℕ, zero, suc, ◌+◌, ◌≤◌, ◌<◌, Bool, true, false, cond, List, [], ◌∷◌, length, map, take, set, sum}
+use Rattle.std.proofs.Common.{◌≡◌, ℕ, zero, suc, ◌+◌, ◌≤◌, ◌<◌, Bool, true, false, cond, List, [], ◌∷◌, length, map}
+use Rattle.std.proofs.Common.{take, set, sum}
 use Rattle.std.proofs.Common.{get_or, Option, Some, None, refl, sym, ap, ◌∙◌, arith, inl, inr, ◌⊎◌}
 use Rattle.std.specs.Prelude.{unwrap_or, nat_eq, ◌||◌, nat_le, String}
 use Rattle.std.specs.Set.{remove_key}
@@ -141,7 +142,8 @@ counted d zero counts h = rw (le-leb 0 d (omega arith)) refl
 counted d (suc n) [] h = absurd (omega (arith, h))
 counted zero (suc n) (x ∷ xs) h =
     rw (lt-leb (suc n) 0 (omega arith))
-    (let a = sum_by-cons (λ y. y) (x + 1) (take n xs) in let b = sum_by-cons (λ y. y) x (take n xs) in omega (arith, a, b))
+    (let a = sum_by-cons (λ y. y) (x + 1) (take n xs) in let b = sum_by-cons (λ y. y) x (take n xs) in omega
+    (arith, a, b))
 counted (suc d) (suc n) (x ∷ xs) h =
     let ih = counted d n xs (omega (arith, h)) in
     let a = sum_by-cons (λ y. y) x (take n (set xs d (get_or xs d 0 + 1))) in

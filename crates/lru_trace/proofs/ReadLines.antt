@@ -1,5 +1,6 @@
 -- Lines, one after another, from what is left of an input.
-use Rattle.std.proofs.Common.{◌≡◌, ℕ, zero, suc, ◌+◌, ◌-◌, ◌≤◌, ◌<◌, Bool, true, false, cond, List, [], ◌∷◌, ◌++◌, length, take, reverse}
+use Rattle.std.proofs.Common.{◌≡◌, ℕ, zero, suc, ◌+◌, ◌-◌, ◌≤◌, ◌<◌, Bool, true, false, cond, List, [], ◌∷◌, ◌++◌}
+use Rattle.std.proofs.Common.{length, take, reverse}
 use Rattle.std.proofs.Common.{Option, Some, None, refl, sym, ap, ◌∙◌, subst, arith, get_or}
 use Rattle.std.specs.Prelude.{not, nat_lt, IfSome, ◌==◌}
 use Rattle.std.specs.List.{filter}
@@ -132,9 +133,12 @@ module _ (all left next : Option (List ℕ)) (first now : Counted) (malformed : 
       go : (all : Option (List ℕ)) → Reads all left first now malformed → Reads all next first new malformed
       go None r = tt
       go (Some input) r =
-          let same : bytes ≡ take_through 10 r.rest = subst (λ o. IfSome o (λ rest. bytes ≡ take_through 10 rest)) r.known is in
-          let more : nat_lt 0 (length (take_through 10 r.rest)) ≡ true = ap (λ b. nat_lt 0 (length b)) (sym same) ∙ some in
-          let named : is_key (strip_last 10 (take_through 10 r.rest)) ≡ true = ap (λ b. is_key (strip_last 10 b)) (sym same) ∙ key in
+          let same : bytes ≡ take_through 10 r.rest = subst (λ o. IfSome o (λ rest. bytes ≡ take_through 10 rest))
+          r.known is in
+          let more : nat_lt 0 (length (take_through 10 r.rest)) ≡ true = ap (λ b. nat_lt 0 (length b)) (sym same) ∙
+          some in
+          let named : is_key (strip_last 10 (take_through 10 r.rest)) ≡ true = ap (λ b. is_key (strip_last 10 b))
+          (sym same) ∙ key in
           record {
             rest = drop_through 10 r.rest;
             known = subst (λ o. IfSome o (λ rest. next ≡ Some (drop_through 10 rest))) r.known on;
@@ -155,9 +159,12 @@ module _ (all left next : Option (List ℕ)) (first now : Counted) (malformed : 
       go : (all : Option (List ℕ)) → Reads all left first now malformed → Reads all next first now (malformed + 1)
       go None r = tt
       go (Some input) r =
-          let same : bytes ≡ take_through 10 r.rest = subst (λ o. IfSome o (λ rest. bytes ≡ take_through 10 rest)) r.known is in
-          let more : nat_lt 0 (length (take_through 10 r.rest)) ≡ true = ap (λ b. nat_lt 0 (length b)) (sym same) ∙ some in
-          let none : is_key (strip_last 10 (take_through 10 r.rest)) ≡ false = ap (λ b. is_key (strip_last 10 b)) (sym same) ∙ key in
+          let same : bytes ≡ take_through 10 r.rest = subst (λ o. IfSome o (λ rest. bytes ≡ take_through 10 rest))
+          r.known is in
+          let more : nat_lt 0 (length (take_through 10 r.rest)) ≡ true = ap (λ b. nat_lt 0 (length b)) (sym same) ∙
+          some in
+          let none : is_key (strip_last 10 (take_through 10 r.rest)) ≡ false = ap (λ b. is_key (strip_last 10 b))
+          (sym same) ∙ key in
           record {
             rest = drop_through 10 r.rest;
             known = subst (λ o. IfSome o (λ rest. next ≡ Some (drop_through 10 rest))) r.known on;
@@ -178,7 +185,8 @@ module _ (all left next : Option (List ℕ)) (first now : Counted) (malformed : 
           × IfSome all (λ input. malformed ≡ malformed_in input)
       go None r = (tt, tt)
       go (Some input) r =
-          let same : bytes ≡ take_through 10 r.rest = subst (λ o. IfSome o (λ rest. bytes ≡ take_through 10 rest)) r.known is in
+          let same : bytes ≡ take_through 10 r.rest = subst (λ o. IfSome o (λ rest. bytes ≡ take_through 10 rest))
+          r.known is in
           let empty = no_line r.rest (ap (λ b. nat_lt 0 (length b)) (sym same) ∙ none) in (
             λ past was.
                 let known = r.trace past was in

@@ -20,7 +20,8 @@ newest [] = []
 newest (slot ∷ slots) = newest slots ++ option_to_list slot
 
 -- each key that was referenced has one slot, and the slots with a key are marked
-pub record IsLog {Z : Type 0} (levels : ℕ) (log : Vec (Option ℕ) Z) (slots : List (Option ℕ)) (marks : List ℕ) : Type 0 where
+pub record IsLog {Z : Type 0} (levels : ℕ) (log : Vec (Option ℕ) Z) (slots : List (Option ℕ)) (marks : List ℕ)
+    : Type 0 where
   pub size : length marks ≡ 2 ^ levels
   pub small : levels < 60
   pub room : length marks ≤ vec_capacity log

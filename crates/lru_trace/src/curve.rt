@@ -1,5 +1,6 @@
 //! The misses of a trace in LRU caches of every size.
-ghost use Rattle.std.specs.Prelude.{◌≡◌, ◌+◌, ◌-◌, ◌<◌, ◌≤◌, ◌^◌, ℕ, List, [], ◌∷◌, Some, IfOk, OnOk, OnErr, length, take, sum};
+ghost use Rattle.std.specs.Prelude.{◌≡◌, ◌+◌, ◌-◌, ◌<◌, ◌≤◌, ◌^◌, ℕ, List, [], ◌∷◌, Some, IfOk, OnOk, OnErr, length};
+ghost use Rattle.std.specs.Prelude.{take, sum};
 ghost use Rattle.std.specs.Str.{bytes_eq};
 ghost use Rattle.recency.specs.Recency.{misses};
 ghost use Rattle.lru_trace.specs.Counted.{Counted, IsOf, number_in};

@@ -74,7 +74,8 @@ pub fn sizes_of(alloc: Global, line: &[u8]) -> Result<Option<Vec<usize>>, TraceE
 }
 
 /// References the key of each line that is left, and returns how many lines spell no key. A key is text of 1 to 64
-/// bytes. `line` is a buffer, whose bytes are not used. The number of lines is written to `progress` after each million.
+/// bytes. `line` is a buffer, whose bytes are not used. The number of lines is written to `progress` after each
+/// million.
 ///
 /// The curve is new. If the reader reports its bytes, the call leaves the curve of the trace that the lines spell.
 ///

@@ -18,8 +18,8 @@ impl<P: Write> Progress<P> {
         Progress { alloc, writer }
     }
 
-    /// Writes how many lines were read, after each million. A write that fails, or memory that runs out, changes nothing
-    /// else.
+    /// Writes how many lines were read, after each million. A write that fails, or memory that runs out, changes
+    /// nothing else.
     pub fn note(&mut self, lines: u64) {
         if lines == 0 || lines % STEP != 0 {
             return;

@@ -57,7 +57,8 @@ module _ {K : Type 0} where
     pub front_cached : (past : List K) → Front (cached_within eq cost n past) (cached_within eq cost m past)
     front_cached [] = none []
     front_cached (key ∷ past) = front_afforded cost n m _ _ few
-        (both key (remove_key (eq key) (cached_within eq cost n past)) (remove_key (eq key) (cached_within eq cost m past))
+        (both key (remove_key (eq key) (cached_within eq cost n past))
+        (remove_key (eq key) (cached_within eq cost m past))
         (front_without (eq key) (cached_within eq cost n past) (cached_within eq cost m past) (front_cached past)))
 
     pub fewer_faults : (past : List K) → faults_within eq cost m past ≤ faults_within eq cost n past

@@ -1,6 +1,8 @@
--- LRU against other policies: the potential is the sum of the weights of the keys that LRU contains and the other policy
+-- LRU against other policies: the potential is the sum of the weights of the keys that LRU contains and the other
+-- policy
 -- does not. The newest key weighs k, the next k - 1, and so on.
-use Rattle.std.proofs.Common.{◌≡◌, ℕ, zero, suc, ◌+◌, ◌-◌, ◌*◌, ◌≤◌, ◌<◌, Bool, true, false, cond, List, [], ◌∷◌, length, take}
+use Rattle.std.proofs.Common.{◌≡◌, ℕ, zero, suc, ◌+◌, ◌-◌, ◌*◌, ◌≤◌, ◌<◌, Bool, true, false, cond, List, [], ◌∷◌}
+use Rattle.std.proofs.Common.{length, take}
 use Rattle.std.proofs.Common.{refl, sym, ap, ◌∙◌, subst, arith, inl, inr}
 use Rattle.std.proofs.lemmas.Bool.{cases_lt, or_parts}
 use Rattle.std.proofs.lemmas.List.{length-take}
@@ -288,7 +290,8 @@ module _ {K : Type 0} {eq : K → K → Bool} (exact : IsExact eq) where
       let apart = cached_apart k past in
       let one = serve_step k h key old new xs miss apart before.room (self key) serves in
       let two = lru_step c k h sum key new xs apart before.few one.0 one.1 less in
-      let missing : c * (faults eq k past + cond (is_in eq key xs) 0 1) ≡ c * faults eq k past + c * cond (is_in eq key xs) 0 1 =
+      let missing : c * (faults eq k past + cond (is_in eq key xs) 0 1) ≡ c * faults eq k past + c * cond
+      (is_in eq key xs) 0 1 =
       grind arith in
       let all : k * (missed + miss) ≡ k * missed + k * miss = grind arith in
       record {

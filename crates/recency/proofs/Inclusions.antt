@@ -32,7 +32,8 @@ module _ {X : Type 0} where
   sub_less test _ _ (none ys) = none ys
   sub_less test _ _ (both x xs ys h) = go (test x) (sub_less test xs ys h)
     where
-      go : (b : Bool) → IsSubsequence (remove_key test xs) ys → IsSubsequence (cond b xs (x ∷ remove_key test xs)) (x ∷ ys)
+      go : (b : Bool) → IsSubsequence (remove_key test xs) ys → IsSubsequence (cond b xs (x ∷ remove_key test xs))
+          (x ∷ ys)
       go true ih = skips x xs ys h
       go false ih = both x (remove_key test xs) ys ih
   sub_less test _ _ (skips y xs ys h) = skips y (remove_key test xs) ys (sub_less test xs ys h)
@@ -90,7 +91,13 @@ module _ {K : Type 0} (eq : K → K → Bool) where
   gap_without d key xs ys h few = go (is_in eq key xs) refl
     where
       go : (b : Bool) → is_in eq key xs ≡ b → length (remove_key (eq key) ys) ≤ length (remove_key (eq key) xs) + d
-      go true e = omega (arith, few, length-remove_key (eq key) xs e, length-remove_key (eq key) ys (sub_in key xs ys h e))
+      go true e = omega (
+        arith,
+        few,
+        length-remove_key (eq key) xs e,
+        length-remove_key (eq key) ys
+            (sub_in key xs ys h e),
+      )
       go false e = omega (arith, few, ap length (without_missing key xs e), without_few key ys)
 
   one_call : (n m : ℕ) → n ≤ m → (call : KeyCall K) (xs ys : List K) → IsIncluded n m xs ys
@@ -101,9 +108,17 @@ module _ {K : Type 0} (eq : K → K → Bool) where
       let whole = both key (remove_key (eq key) xs) (remove_key (eq key) ys) (sub_without (eq key) xs ys h.keys) in
       let e : n + d ≡ m = omega (arith, less) in
       record {
-        keys = subst (λ k. IsSubsequence (take n (key ∷ remove_key (eq key) xs)) (take k (key ∷ remove_key (eq key) ys))) e
+        keys = subst (λ k. IsSubsequence (take n (key ∷ remove_key (eq key) xs))
+            (take k (key ∷ remove_key (eq key) ys))) e
             (sub_take n d (key ∷ remove_key (eq key) xs) (key ∷ remove_key (eq key) ys) whole (omega (arith, more)));
-        more = omega (arith, more, less, length-take n (key ∷ remove_key (eq key) xs), length-take m (key ∷ remove_key (eq key) ys));
+        more = omega (
+          arith,
+          more,
+          less,
+          length-take n (key ∷ remove_key (eq key) xs),
+          length-take m
+              (key ∷ remove_key (eq key) ys),
+        );
       }
   one_call n m less (promotes key) xs ys h = go (is_in eq key xs) (is_in eq key ys) refl refl
     where

@@ -48,8 +48,10 @@ module _ {K : Type 0} (eq : K → K → Bool) where
         where
           go : (length (since eq key xs) < n) ⊎ (n ≤ length (since eq key xs))
               → nat_lt (length (since eq key xs)) n ≡ nat_lt (suc (length (since eq key xs))) (suc n)
-          go (inl h) = lt-ltb (length (since eq key xs)) n h ∙ sym (lt-ltb (suc (length (since eq key xs))) (suc n) (omega (arith, h)))
-          go (inr h) = le-ltb (length (since eq key xs)) n h ∙ sym (le-ltb (suc (length (since eq key xs))) (suc n) (omega (arith, h)))
+          go (inl h) = lt-ltb (length (since eq key xs)) n h ∙ sym
+              (lt-ltb (suc (length (since eq key xs))) (suc n) (omega (arith, h)))
+          go (inr h) = le-ltb (length (since eq key xs)) n h ∙ sym
+              (le-ltb (suc (length (since eq key xs))) (suc n) (omega (arith, h)))
 
       go : (b : Bool) → is_in eq key (take n xs) ≡ (is_in eq key xs && nat_lt (length (since eq key xs)) n)
           → (b || is_in eq key (take n xs))

@@ -4,8 +4,8 @@ use Rattle.std.specs.Prelude.{ℕ, ◌+◌, ◌-◌, ◌≤◌, Bool, if◌then�
 use Rattle.std.specs.Set.{remove_key}
 use Rattle.recency.specs.Recency.{is_in}
 
--- What a call does to the keys of a cache: it references a key, makes one the newest if it is there, removes one, removes
--- all, or changes nothing.
+-- What a call does to the keys of a cache: it references a key, makes one the newest if it is there, removes one,
+-- removes all, or changes nothing.
 pub data KeyCall (K : Type 0) : Type 0 where
   refers : K → KeyCall K
   promotes : K → KeyCall K

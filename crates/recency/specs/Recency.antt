@@ -32,8 +32,8 @@ module _ {K : Type 0} (eq : K → K → Bool) where
   misses n [] = 0
   misses n (key ∷ past) = misses n past + (if is_far n key past then 1 else 0)
 
-  -- An LRU cache of n places after the trace, its newest key first: a reference makes its key the newest, and the oldest
-  -- key is evicted if there are more than n.
+  -- An LRU cache of n places after the trace, its newest key first: a reference makes its key the newest, and the
+  -- oldest key is evicted if there are more than n.
   abbrev pub cached : ℕ → List K → List K
   cached n [] = []
   cached n (key ∷ past) = take n (key ∷ remove_key (eq key) (cached n past))

@@ -25,8 +25,8 @@ pub fn more_places_never_miss_more<K: Eq>()
     ensures { (n m : ℕ) (past : List K) → n ≤ m → misses K.eq m past ≤ misses K.eq n past }
 {}
 
-/// LRU is competitive. Take any demand policy with h places, one that knows the whole trace in advance, from any keys in
-/// its cache. If it misses m times, an LRU cache of k ≥ h places misses at most k / (k + 1 - h) * m + k times.
+/// LRU is competitive. Take any demand policy with h places, one that knows the whole trace in advance, from any keys
+/// in its cache. If it misses m times, an LRU cache of k ≥ h places misses at most k / (k + 1 - h) * m + k times.
 pub fn lru_is_competitive<K: Eq>()
     ensures { (k h : ℕ) (past first left : List K) (missed : ℕ) → IsExact K.eq → h ≤ k →
         Served K.eq h first past missed left →
@@ -35,8 +35,8 @@ pub fn lru_is_competitive<K: Eq>()
 
 /// After the same calls a smaller cache is included in a larger one, if it was before (`included`): its keys are among
 /// those of the larger cache, in the same order, and the larger cache contains at most m - n more. So what the smaller
-/// cache finds, the larger cache finds (`finds`). The calls may reference keys, make them the newest, remove them or look
-/// at them. Pops are left out.
+/// cache finds, the larger cache finds (`finds`). The calls may reference keys, make them the newest, remove them or
+/// look at them. Pops are left out.
 pub fn a_smaller_cache_is_included<K: Eq>()
     ensures included { (n m : ℕ) (calls : List (KeyCall K)) (small large : List K) → n ≤ m →
         IsIncluded n m small large →
@@ -46,8 +46,8 @@ pub fn a_smaller_cache_is_included<K: Eq>()
 {}
 
 /// A larger budget never means more misses. Of two LRU caches with limits of cost, the keys of the one with the smaller
-/// limit are the newest keys of the other (`front`), and it misses at least as often (`misses`). The definitions are those
-/// of LRU caches if no key alone costs more than the smaller limit.
+/// limit are the newest keys of the other (`front`), and it misses at least as often (`misses`). The definitions are
+/// those of LRU caches if no key alone costs more than the smaller limit.
 pub fn a_larger_budget_never_misses_more<K: Eq>()
     ensures front { (cost : K → ℕ) (n m : ℕ) (past : List K) → n ≤ m →
         cached_within K.eq cost n past

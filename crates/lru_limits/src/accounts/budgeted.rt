@@ -8,8 +8,8 @@ use std::hash::Hash;
 /// A limiter with a running total that keeps within a budget: a map is over the limit if and only if the total is above
 /// the budget. No callback changes the budget.
 ///
-/// Code that is generic over it makes a limiter from a budget, and sets another budget later. `ByCost` and `ByWeight` are
-/// such limiters.
+/// Code that is generic over it makes a limiter from a budget, and sets another budget later. `ByCost` and `ByWeight`
+/// are such limiters.
 ///
 /// ```
 /// let mut limiter = <ByCost as Budgeted<u64, u64>>::with_budget(3);

@@ -14,8 +14,8 @@ use std::marker::Model;
 
 /// Limits the sum of the costs of the values. A contract sees it as its limit and that sum.
 ///
-/// It rejects an element or a replacement if its cost alone is above the limit, or if the sum would pass `u64::MAX`.
-/// Otherwise it accepts it, and the map evicts its oldest pairs until the sum is within the limit again.
+/// It rejects an entry or a replacement if its cost alone is above the limit, or if the sum would pass `u64::MAX`.
+/// Otherwise it accepts it, and the map evicts its oldest entries until the sum is within the limit again.
 ///
 /// ```
 /// let mut limiter = ByCost::new(3);

@@ -12,12 +12,12 @@ use std::hash::Hash;
 
 /// Limits a map by two limiters.
 ///
-/// A map is over the limit if it is over either limit, and its table may grow if both permit it. A pair is stored, and a
-/// value replaced, if both accept it. If either rejects it, neither changes. Both are notified of each pair that
-/// leaves: the second sees the key and the value as the first leaves them.
+/// A map is over the limit if it is over either limit, and its table may grow if both permit it. An entry is stored,
+/// and a value replaced, if both accept it. If either rejects it, neither changes. Both are notified of each entry that
+/// is evicted or removed: the second gets the key and the value with what the first wrote to them.
 ///
-/// The links are those of the first limiter. If the first has a running total, so has the pair: put the limiter by a
-/// cost first. `map.limiter().0` is the first limiter.
+/// The links are those of the first limiter. If the first has a running total, so has `Both`: put the limiter by a cost
+/// first. `map.limiter().0` is the first limiter.
 ///
 /// ```
 /// let mut limiter = Both(ByCost::new(9), ByLength::new(3));

@@ -1,4 +1,4 @@
-//! The limiter by the number of pairs.
+//! The limiter by the number of entries.
 ghost use Rattle.std.specs.Prelude.{◌≡◌, nat_lt};
 ghost use Rattle.lru_limits.specs.Admissions.{never_changes, hands_over-terms};
 ghost use Rattle.lru_limits.specs.Limiters.{length_rules, length_offers};
@@ -11,10 +11,10 @@ use std::alloc::{AllocError, Global};
 use std::hash::Hash;
 use std::marker::Model;
 
-/// Limits the number of pairs. A contract sees it as that number.
+/// Limits the number of entries. A contract sees it as that number.
 ///
-/// A map under it has at most `max_length` pairs after each call, unless somebody lowers the limit, and after each
-/// insert that stores or replaces a pair. It rejects an element only if `max_length` is 0.
+/// A map under it has at most `max_length` entries after each call, unless somebody lowers the limit, and after each
+/// insert that stores an entry or replaces a value. It rejects an entry only if `max_length` is 0.
 ///
 /// ```
 /// let limiter = ByLength::new(3);
@@ -39,7 +39,7 @@ impl Model for ByLength {
 }
 
 impl ByLength {
-    /// Makes a limiter to `max_length` pairs.
+    /// Makes a limiter to `max_length` entries.
     ///
     /// ```
     /// let limiter = ByLength::new(3);

@@ -14,7 +14,7 @@ use std::marker::Model;
 /// Limits the bytes of the table. A contract sees it as that number.
 ///
 /// It permits a growth if and only if the grown table is within the limit. After a refusal the map evicts its oldest
-/// pairs. The old table, which exists during a growth, is not counted, nor is what keys and values own.
+/// entries. The old table, which exists during a growth, is not counted, nor is what keys and values own.
 ///
 /// ```
 /// let mut limiter = ByMemoryUsage::new(152);

@@ -1,4 +1,4 @@
-//! An adapter for limiters that store each pair as it comes.
+//! An adapter for limiters that store each entry as it comes.
 ghost use Rattle.std.specs.Prelude.{true};
 ghost use Rattle.lru_limits.specs.Admissions.{never_changes, hands_over-terms};
 ghost use Rattle.lru_limits.specs.Limiters.{all_offers};
@@ -10,7 +10,7 @@ use crate::limiter::{Insertion, Limiter};
 use std::alloc::{AllocError, Global};
 use std::hash::Hash;
 
-/// Turns a limiter into one that stores each pair as it comes, and accepts every new value of a stored key.
+/// Turns a limiter into one that stores each entry as it comes, and accepts every new value of a stored key.
 ///
 /// Implement [`Limiter`] for your own type, and put it into a map as `Storing(limiter)`: `Storing` implements
 /// [`Insertion`] for it. `map.limiter().0` is your limiter.

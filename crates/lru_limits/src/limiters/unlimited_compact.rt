@@ -10,7 +10,7 @@ use crate::limiter::{Insertion, Limiter};
 use std::alloc::{AllocError, Global};
 use std::hash::Hash;
 
-/// Limits nothing except by its links of 32 bits: at most 1,879,048,192 pairs. Its buckets are smaller than under
+/// Limits nothing except by its links of 32 bits: at most 1,879,048,192 entries. Its buckets are smaller than under
 /// `Unlimited`.
 ///
 /// ```

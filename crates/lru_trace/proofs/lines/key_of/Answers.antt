@@ -8,11 +8,13 @@ returns-in-Ok c =
     let line = c.without_feed-line.result.now in
     let is = c.in-Ok.ensures.cases in (
       is.0 ∙ c.without_feed-line.ensures,
-      ap is_key (sym c.without_feed-line.ensures) ∙ a_key line (nonempty (length line) c.if-is_empty.ensures) c.if-line-gt-LONGEST_KEY.false is.1,
+      ap is_key (sym c.without_feed-line.ensures) ∙ a_key line (nonempty (length line) c.if-is_empty.ensures)
+          c.if-line-gt-LONGEST_KEY.false is.1,
     )
 
 pub returns-in-Err : goal.returns-in-Err
 returns-in-Err c =
     let line = c.without_feed-line.result.now in
     let is = c.in-Err.ensures.cases in
-    ap is_key (sym c.without_feed-line.ensures) ∙ not_key line (nonempty (length line) c.if-is_empty.ensures) c.if-line-gt-LONGEST_KEY.false is.0
+    ap is_key (sym c.without_feed-line.ensures) ∙ not_key line (nonempty (length line) c.if-is_empty.ensures)
+    c.if-line-gt-LONGEST_KEY.false is.0

@@ -30,24 +30,29 @@ loop-lines-preserved g c =
     elim c.match-key_of.branch [
       | in-Some+in_ok-refer-in-Some w ↦
           let is = w.in-Some.ensures in
-          let key : is_key (strip_last 10 bytes) ≡ true = ap (λ b. is_key (strip_last 10 b)) (sym c.deref.ensures.value) ∙ is.1 in
+          let key : is_key (strip_last 10 bytes) ≡ true = ap (λ b. is_key (strip_last 10 b))
+          (sym c.deref.ensures.value) ∙ is.1 in
           let name = is.0 ∙ ap (strip_last 10) c.deref.ensures.value in
-          let follows = subst (λ k. (past : List (List ℕ)) → IsOf past c.loop-lines.curve → IsOf (k ∷ past) w.refer.new.self) name
+          let follows = subst (λ k. (past : List (List ℕ)) → IsOf past c.loop-lines.curve → IsOf (k ∷ past)
+          w.refer.new.self) name
           w.in_ok-refer-in-Some.ensures.ok in
           rw (w.curve-is, w.malformed-is) (
             omega (arith, inv.0),
             omega (arith, inv.1, w.refer.ensures.references),
             reads_key (g.R.Read.remaining c.args.reader.now) (g.R.Read.remaining c.loop-lines.reader)
-                (g.R.Read.remaining c.read_line.new.reader) c.args.curve.now c.loop-lines.curve c.loop-lines.malformed bytes
+                (g.R.Read.remaining c.read_line.new.reader) c.args.curve.now c.loop-lines.curve c.loop-lines.malformed
+                bytes
                 read.line read.rest w.refer.new.self inv.2 some key follows,
           )
       | in-None w ↦
-          let none : is_key (strip_last 10 bytes) ≡ false = ap (λ b. is_key (strip_last 10 b)) (sym c.deref.ensures.value) ∙ w.in-None.ensures in
+          let none : is_key (strip_last 10 bytes) ≡ false = ap (λ b. is_key (strip_last 10 b))
+          (sym c.deref.ensures.value) ∙ w.in-None.ensures in
           rw (w.curve-is, w.malformed-is) (
             omega (arith, inv.0),
             omega (arith, inv.1),
             reads_other (g.R.Read.remaining c.args.reader.now) (g.R.Read.remaining c.loop-lines.reader)
-                (g.R.Read.remaining c.read_line.new.reader) c.args.curve.now c.loop-lines.curve c.loop-lines.malformed bytes
+                (g.R.Read.remaining c.read_line.new.reader) c.args.curve.now c.loop-lines.curve c.loop-lines.malformed
+                bytes
                 read.line read.rest inv.2 some none,
           )
     ]

@@ -40,7 +40,13 @@ invariant_of-self-2 c =
     let recency = c.self.inside.distances.recency in
     let counts = c.self.inside.counts.items in
     let spare : length recency < length counts =
-    omega (arith, c.requires.spare, ap (λ v. length v.recency) c.self.view_is, ap (λ v. length v.counts) c.self.view_is) in
+    omega (
+      arith,
+      c.requires.spare,
+      ap (λ v. length v.recency) c.self.view_is,
+      ap (λ v. length v.counts)
+          c.self.view_is,
+    ) in
     let numbered = subst (AreNumbered c.self.inside.numbers.entries) (sym c.in_ok-distance.ensures.keys) is.numbered in
     elim c.match-branch-2.branch [
       | in-Some w ↦
@@ -48,7 +54,8 @@ invariant_of-self-2 c =
           let long = found_length c.args.number w.in-Some.distance recency at_place in
           let read = get_or_read counts w.in-Some.distance w.index_mut.result.now (omega (arith, long.1, spare))
           w.index_mut.ensures.value 0 in
-          let more = ap (λ n. sum (set counts w.in-Some.distance (n + 1))) read ∙ sum_counted counts w.in-Some.distance (omega (arith, long.1, spare)) in
+          let more = ap (λ n. sum (set counts w.in-Some.distance (n + 1))) read ∙ sum_counted counts
+          w.in-Some.distance (omega (arith, long.1, spare)) in
           rw w.self-inside-is (record {
             numbered = numbered;
             firsts = is.firsts ∙ sym long.0 ∙ ap length (sym c.in_ok-distance.ensures.recency);
@@ -73,14 +80,21 @@ returns-clause-ok c = λ past of.
     let counts = c.self.inside.counts.items in
     let named = ap (λ v. number_in v.names c.args.key.now) c.self.view_is ∙ c.requires.number in
     let spare : length recency < length counts =
-    omega (arith, c.requires.spare, ap (λ v. length v.recency) c.self.view_is, ap (λ v. length v.counts) c.self.view_is) in
+    omega (
+      arith,
+      c.requires.spare,
+      ap (λ v. length v.recency) c.self.view_is,
+      ap (λ v. length v.counts)
+          c.self.view_is,
+    ) in
     elim c.match-branch-2.branch [
       | in-Some w ↦
           let at_place = sym c.in_ok-distance.ensures.distance ∙ w.in-Some.is in
           let long = found_length c.args.number w.in-Some.distance recency at_place in
           let read = get_or_read counts w.in-Some.distance w.index_mut.result.now (omega (arith, long.1, spare))
           w.index_mut.ensures.value 0 in
-          let one = of_found now c.args.key.now c.args.number named w.in-Some.distance at_place (omega (arith, long.1, spare)) in
+          let one = of_found now c.args.key.now c.args.number named w.in-Some.distance at_place
+          (omega (arith, long.1, spare)) in
           rw (w.self-inside-is, c.in_ok-distance.ensures.recency, read) one
       | in-None w ↦
           let at_place = sym c.in_ok-distance.ensures.distance ∙ w.in-None.is in

@@ -13,7 +13,8 @@ returns c = λ past of.
     let xs = c.deref.result.now in
     let m : c.min-places.result ≡ min c.args.places (length xs) =
     omega (arith, c.min-places.ensures, c.len.ensures, c.deref.ensures.len) in
-    let all : sum (take c.loop-count.count-index (take c.min-places.result xs)) ≡ sum (take c.args.places c.self.inside.counts.items) =
+    let all : sum (take c.loop-count.count-index (take c.min-places.result xs)) ≡ sum
+    (take c.args.places c.self.inside.counts.items) =
     ap sum (take_all c.loop-count.count-index (take c.min-places.result xs) c.loop-count-test.false
     ∙ ap (λ n. take n xs) m ∙ take_min c.args.places xs ∙ ap (take c.args.places) c.deref.ensures.value) in
     let total : c.args.self.now.references ≡ c.self.inside.references = ap (λ v. v.references) (sym c.self.view_is) in

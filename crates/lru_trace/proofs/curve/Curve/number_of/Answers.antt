@@ -19,7 +19,8 @@ invariant_of-self-2 c =
     let fresh = subst (AreNumbered old.entries) (sym c.in_ok-number.ensures.key) is.numbered in
     let more = numbered_more old.entries c.insert.new.self.entries name c.in_ok-number.number after fresh in
     record {
-      numbered = subst (AreNumbered c.insert.new.self.entries) (omega (arith, c.in_ok-number.ensures.key, c.in_ok-number.ensures.keys)) more;
+      numbered = subst (AreNumbered c.insert.new.self.entries)
+          (omega (arith, c.in_ok-number.ensures.key, c.in_ok-number.ensures.keys)) more;
       firsts = is.firsts ∙ ap length (sym c.add_key.ensures.recency);
       few = is.few;
       total = is.total;

@@ -1,4 +1,5 @@
-use Rattle.std.proofs.Common.{◌≡◌, suc, ◌+◌, ◌*◌, ◌^◌, ◌≤◌, ◌<◌, Some, None, ◌∷◌, length, take, get_or, sum, drop, sym, ap, ◌∙◌, arith, nat_eq}
+use Rattle.std.proofs.Common.{◌≡◌, suc, ◌+◌, ◌*◌, ◌^◌, ◌≤◌, ◌<◌, Some, None, ◌∷◌, length, take, get_or, sum, drop}
+use Rattle.std.proofs.Common.{sym, ap, ◌∙◌, arith, nat_eq}
 use Rattle.std.proofs.Math.Pow.{pow_mono}
 use Rattle.std.proofs.Math.Nat.{pow-suc}
 use Rattle.std.proofs.lemmas.Nat.{pow_pos}
@@ -13,7 +14,8 @@ use Rattle.lru_trace.proofs.distances.Distances.make_room.Goals as goal
 
 pub append-requires-clause-key : goal.append-requires-clause-key
 append-requires-clause-key c =
-    let there = ap (λ xs. get_or xs c.loop-slot.slot-index None) (sym c.deref-slot-items.ensures.value) ∙ c.in-Some.is in
+    let there = ap (λ xs. get_or xs c.loop-slot.slot-index None) (sym c.deref-slot-items.ensures.value) ∙ c.in-Some.is
+    in
     let within = key_within c.self.invariant c.in-Some.key c.loop-slot.slot-index there in
     omega (arith, within, c.loop-slot.invariant.1, ap (λ r. r.keys) c.self.view_is, c.self.inside.slots.ok.0)
 
@@ -71,14 +73,16 @@ returns-clause-room c =
     elim c.if-len-marks_behind.branch [
       | then-len-marks_behind w ↦
           let twice : 2 ^ c.if-len-marks_behind.levels ≡ 2 * 2 ^ c.self.inside.levels =
-          ap (λ n. 2 ^ n) (let e : c.if-len-marks_behind.levels ≡ suc c.self.inside.levels = omega (arith, w.levels-is) in e)
+          ap (λ n. 2 ^ n) (let e : c.if-len-marks_behind.levels ≡ suc c.self.inside.levels = omega
+          (arith, w.levels-is) in e)
           ∙ omega (arith, pow-suc 2 c.self.inside.levels) in
           omega (arith, twice, some, used, is.few, is.size, c.self.inside.log.ok.0)
       | else-len-marks_behind w ↦
           let same : 2 ^ c.if-len-marks_behind.levels ≡ 2 ^ c.self.inside.levels = ap (λ n. 2 ^ n) w.levels-is in
           let few_first : get_or c.self.inside.marks 0 0 ≤ 1 = mark_few is 0 in
           let total : sum c.self.inside.marks ≡ length (newest c.self.inside.log.items) = all_marks is in
-          let parts : sum c.self.inside.marks ≡ get_or c.self.inside.marks 0 0 + sum (drop (0 + 1) c.self.inside.marks) = first in
+          let parts : sum c.self.inside.marks ≡ get_or c.self.inside.marks 0 0 + sum
+          (drop (0 + 1) c.self.inside.marks) = first in
           omega (arith, same, total, parts, few_first, c.marks_behind.ensures, c.len.ensures, is.size)
     ] in
     let whole = ap length all in

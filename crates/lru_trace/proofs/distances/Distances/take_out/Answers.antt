@@ -94,7 +94,8 @@ returns-clause-after c =
     let inside = c.self.inside in
     let out = taken_out c.self.invariant c.args.key c.in-Some.slot at_slot
     ∙ ap (λ r. remove_key (nat_eq c.args.key) r.recency) c.self.view_is in
-    let len : length c.unmark.new.self ≡ length inside.marks = ap length c.unmark.ensures ∙ length-set inside.marks c.in-Some.slot 0 in
+    let len : length c.unmark.new.self ≡ length inside.marks = ap length c.unmark.ensures ∙ length-set inside.marks
+    c.in-Some.slot 0 in
     λ i. record {
       recency = out i;
       keys = ap (λ r. r.keys) c.self.view_is i;

@@ -18,7 +18,8 @@ loop-node-init c =
     let tree = c.self.invariant in
     let len : length c.args.self.now ≡ t.slots =
     ap length (sym c.self.view_is) ∙ length-drop t.slots t.nodes.items ∙ omega (arith, tree.len) in
-    let begun = corrects_begins 1 0 t.nodes.items c.args.slot 1 tree (omega (arith, len, c.requires.within)) (omega arith)
+    let begun = corrects_begins 1 0 t.nodes.items c.args.slot 1 tree (omega (arith, len, c.requires.within))
+    (omega arith)
     (let at_slot : get_or t.nodes.items (t.slots + c.args.slot) 0 ≡ 0 =
     sym (get_or-drop t.slots t.nodes.items c.args.slot 0)
     ∙ ap (λ xs. get_or xs c.args.slot 0) c.self.view_is ∙ c.requires.free in omega (arith, at_slot)) in (
@@ -35,7 +36,8 @@ loop-node-preserved c =
       inv.1,
       corrects_on c.loop-node.self-inside.nodes.items c.loop-node.node
           (c.index_mut-in-loop-node.result.now + 1) inv.2 (omega arith)
-          (let read = get_or_read c.loop-node.self-inside.nodes.items c.loop-node.node c.index_mut-in-loop-node.result.now
+          (let read = get_or_read c.loop-node.self-inside.nodes.items c.loop-node.node
+          c.index_mut-in-loop-node.result.now
           (omega (arith, inv.2.off.len, inv.2.inner)) c.index_mut-in-loop-node.ensures.value 0 in omega (arith, read)),
     )
 
@@ -49,4 +51,5 @@ returns c =
 pub invariant_of-self : goal.invariant_of-self
 invariant_of-self c =
     let inv = c.loop-node.invariant in
-    rw (inv.0, inv.1) (tree_again c.loop-node.self-inside.nodes.items c.loop-node.node (omega arith) inv.2.power inv.2.off)
+    rw (inv.0, inv.1) (tree_again c.loop-node.self-inside.nodes.items c.loop-node.node (omega arith) inv.2.power
+    inv.2.off)
