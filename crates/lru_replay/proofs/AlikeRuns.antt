@@ -29,7 +29,8 @@ use Rattle.schnellru.specs.declared.map.reserve.ReserveError.{ReserveError}
 use Rattle.schnellru.specs.declared.map.update.Updated.{Updated}
 use Rattle.lru_replay.specs.CallRuns.{IsRun, CallStep, SummingStep, KeepsCost, HasPlainSearch, StoresPairs}
 use Rattle.lru_replay.specs.Figures.{IsFigures}
-use Rattle.lru_replay.specs.Replies.{Reply, flag, given, updated, value, pair, listed, reserved, shrunk, stats, done, no_memory}
+use Rattle.lru_replay.specs.Replies.{Reply, flag, given, updated, value, pair, listed, reserved, shrunk, stats, done}
+use Rattle.lru_replay.specs.Replies.{no_memory}
 use Rattle.lru_replay.specs.Replies.{insert_reply, made_reply, cost_differs}
 use Rattle.lru_replay.specs.Replies.{want_of}
 use Rattle.lru_replay.specs.Steps.{ReplyStep, FindsByHash, found, not_found}

@@ -13,7 +13,8 @@ use Rattle.lru_replay.specs.Replies.{Reply}
 use Rattle.lru_replay.specs.Steps.{ReplyStep}
 
 --     found     the command that was read, which is this one
-pub carried_out : {S : Type 0} {rules : Rules ℕ ℕ S} {offers : Offers ℕ ℕ S ℕ} (reported : S → Option ℕ) {old new : Map S}
+pub carried_out : {S : Type 0} {rules : Rules ℕ ℕ S} {offers : Offers ℕ ℕ S ℕ} (reported : S → Option ℕ)
+    {old new : Map S}
     {line : List ℕ} (from to : Option (List ℕ)) (result : Result (Unit {0}) ReplayError) (command : Command)
     {found : Command} → found ≡ command → SpellsCommand line found → (reply : Reply ℕ ℕ)
     → ReplyStep rules offers nat_eq hash_of old (call_of command) reply new

@@ -20,7 +20,8 @@ use Rattle.lru_replay.proofs.WrittenTexts.{begins_after}
 
 -- From the map old, some lines were read whole, and the text of a run over them was written, which left the map now.
 -- The reader's bytes were r₀ and are r₁, and the writer's were w₀ and are w₁.
-pub record RunsSoFar {S : Type 0} (rules : Rules ℕ ℕ S) (offers : Offers ℕ ℕ S ℕ) (reported : S → Option ℕ) (old : Map S)
+pub record RunsSoFar {S : Type 0} (rules : Rules ℕ ℕ S) (offers : Offers ℕ ℕ S ℕ) (reported : S → Option ℕ)
+    (old : Map S)
     (r₀ r₁ w₀ w₁ : Option (List ℕ)) (now : Map S) : Type 0 where
   pub lines : List (List ℕ)
   pub text : List ℕ
@@ -29,7 +30,8 @@ pub record RunsSoFar {S : Type 0} (rules : Rules ℕ ℕ S) (offers : Offers ℕ
   pub wrote : Appends w₀ w₁ text
 
 module _ {S : Type 0} {rules : Rules ℕ ℕ S} {offers : Offers ℕ ℕ S ℕ} {reported : S → Option ℕ} {old now : Map S}
-    {r₀ r₁ w₀ w₁ : Option (List ℕ)} (so_far : RunsSoFar rules offers reported old r₀ r₁ w₀ w₁ now) (r₂ : Option (List ℕ))
+    {r₀ r₁ w₀ w₁ : Option (List ℕ)} (so_far : RunsSoFar rules offers reported old r₀ r₁ w₀ w₁ now)
+    (r₂ : Option (List ℕ))
     (line : List ℕ) where
   -- a read failed in the next line
   pub read_failed : TakesPart r₁ r₂ line → Answers (IsTextOf rules offers reported old) r₀ r₂ w₀ w₁ (Err errors.Read)
@@ -76,7 +78,8 @@ module _ {S : Type 0} {rules : Rules ℕ ℕ S} {offers : Offers ℕ ℕ S ℕ} 
     }
 
     -- a write failed within its answer
-    pub line_cut : (e : ReplayError) → TakesFed r₁ r₂ line → AnswersLine rules offers reported now line new w₁ w₂ (Err e)
+    pub line_cut : (e : ReplayError) → TakesFed r₁ r₂ line → AnswersLine rules offers reported now line new w₁ w₂
+        (Err e)
         → Answers (IsTextOf rules offers reported old) r₀ r₂ w₀ w₂ (Err e)
     line_cut errors.Read taken (next, step, (same, begun)) = absurd (cc same)
     line_cut errors.Write taken (next, step, (same, begun)) = inr (
@@ -102,7 +105,8 @@ module _ {S : Type 0} {rules : Rules ℕ ℕ S} {offers : Offers ℕ ℕ S ℕ} 
           so_far.text ++ fed next,
           (
             new,
-            subst (λ ls. IsLineRun rules offers reported old ls (so_far.text ++ fed next) new) (sym all) (run_on next step),
+            subst (λ ls. IsLineRun rules offers reported old ls (so_far.text ++ fed next) new) (sym all)
+                (run_on next step),
           ),
           wrote,
         )),

@@ -35,10 +35,10 @@ module _ {K V S H : Type 0} {rules : Rules K V S} {offers : Offers K V S K} {eq 
       calls_map (inserts k v result (plain_insert h)) (λ test among. among)
   step_kind (calls.GetOrInsert k v) reply (result, h, is) = calls_map (makes_newest v k result h) (λ test among. among)
   step_kind (calls.Update k v) reply (result, h, is) = calls_map (updates k v result h) (λ test among. among)
-  step_kind (calls.Get k) reply (is, e) = calls_map (gets k e) (λ test among. among)
-  step_kind (calls.Promote k) reply (is, e) = calls_map (gets k e) (λ test among. among)
-  step_kind (calls.Demote k) reply (is, e) = calls_map (demotes k e) (λ test among. among)
-  step_kind (calls.GetByHash hash k) reply (Some w, h, is, e) = calls_map (gets k e) (λ test among. among)
+  step_kind (calls.Get k) reply (is, e) = calls_map (gets (eq k) e) (λ test among. among)
+  step_kind (calls.Promote k) reply (is, e) = calls_map (gets (eq k) e) (λ test among. among)
+  step_kind (calls.Demote k) reply (is, e) = calls_map (demotes (eq k) e) (λ test among. among)
+  step_kind (calls.GetByHash hash k) reply (Some w, h, is, e) = calls_map (gets (eq k) e) (λ test among. among)
   step_kind (calls.GetByHash hash k) reply (None, h, is, e) = stays e
   step_kind (calls.PeekByHash hash k) reply (result, h, is, e) = stays e
   step_kind (calls.Write k v) reply (is, e) = writes_value k v refl e

@@ -24,7 +24,7 @@ use Rattle.lru_replay.specs.Replay.{WritesCut, WritesCutSoFar, Replays}
 use Rattle.lru_limits.specs.Limiters.{length_rules, length_offers, memory_rules, no_rules, all_offers}
 use Rattle.lru_replay.specs.Limits.{cost_rules, cost_offers, no_cost, cost_reported, AlwaysOffers}
 use Rattle.lru_replay.specs.Maps.{Map, empty}
-use Rattle.schnellru.specs.Sizes.{default_entry_bytes, links_of_32_bits, links_of_64_bits}
+use Rattle.schnellru.specs.Sizes.{default_entry_bytes, max_of_32_bits, max_of_64_bits}
 use Rattle.lru_replay.specs.LineRuns.{IsTextOf, Answers}
 use Rattle.lru_replay.proofs.LineLists.{lines_of-fed, lines_of-last, lines_at_end, lines_left, takes_line_before}
 use Rattle.lru_replay.proofs.LineRuns.{some_line_run, line_run_sized, line_run-append}
@@ -81,23 +81,23 @@ module _ {S : Type 0} (rules : Rules ℕ ℕ S) (offers : Offers ℕ ℕ S ℕ) 
 under_goes_on : (limit : Limit) (lines more : List (List ℕ)) (text : List ℕ) → IsTextUnder limit lines text
     → (u : List ℕ) × IsTextUnder limit (lines ++ more) (text ++ u)
 under_goes_on (limits.Length most) = text_goes_on length_rules length_offers no_cost length_always
-    (empty most default_entry_bytes links_of_32_bits) (empty_is_sized most default_entry_bytes links_of_32_bits)
+    (empty most default_entry_bytes max_of_32_bits) (empty_is_sized most default_entry_bytes max_of_32_bits)
 under_goes_on (limits.Memory budget entry_bytes) = text_goes_on memory_rules all_offers no_cost all_always
-    (empty budget entry_bytes links_of_32_bits) (empty_is_sized budget entry_bytes links_of_32_bits)
+    (empty budget entry_bytes max_of_32_bits) (empty_is_sized budget entry_bytes max_of_32_bits)
 under_goes_on (limits.Cost most) =
     let budget : Budget = record { limit = most; cost = 0 } in
-    text_goes_on cost_rules cost_offers cost_reported cost_always (empty budget default_entry_bytes links_of_64_bits)
-    (empty_is_sized budget default_entry_bytes links_of_64_bits)
+    text_goes_on cost_rules cost_offers cost_reported cost_always (empty budget default_entry_bytes max_of_64_bits)
+    (empty_is_sized budget default_entry_bytes max_of_64_bits)
 under_goes_on limits.Compact = text_goes_on no_rules all_offers no_cost all_always
-    (empty (record {}) default_entry_bytes links_of_32_bits)
-    (empty_is_sized (record {}) default_entry_bytes links_of_32_bits)
+    (empty (record {}) default_entry_bytes max_of_32_bits)
+    (empty_is_sized (record {}) default_entry_bytes max_of_32_bits)
 
 no_lines_under : (limit : Limit) → IsTextUnder limit [] []
-no_lines_under (limits.Length most) = (empty most default_entry_bytes links_of_32_bits, ([], refl, refl))
-no_lines_under (limits.Memory budget entry_bytes) = (empty budget entry_bytes links_of_32_bits, ([], refl, refl))
+no_lines_under (limits.Length most) = (empty most default_entry_bytes max_of_32_bits, ([], refl, refl))
+no_lines_under (limits.Memory budget entry_bytes) = (empty budget entry_bytes max_of_32_bits, ([], refl, refl))
 no_lines_under (limits.Cost most) =
-    (empty (record { limit = most; cost = 0 }) default_entry_bytes links_of_64_bits, ([], refl, refl))
-no_lines_under limits.Compact = (empty (record {}) default_entry_bytes links_of_32_bits, ([], refl, refl))
+    (empty (record { limit = most; cost = 0 }) default_entry_bytes max_of_64_bits, ([], refl, refl))
+no_lines_under limits.Compact = (empty (record {}) default_entry_bytes max_of_32_bits, ([], refl, refl))
 
 -- So each list of lines has something written of it,
 some_output : (lines : List (List ℕ)) → (text : List ℕ) × IsOutput lines text

@@ -17,7 +17,8 @@ use Rattle.lru_replay.proofs.SpelledLines.{spelled_or, Spelled}
 
 module _ {S : Type 0} (rules : Rules ℕ ℕ S) (offers : Offers ℕ ℕ S ℕ) (reported : S → Option ℕ) where
   pub line_run-append : (a : Map S) (lines : List (List ℕ)) (t : List ℕ) (b : Map S) (more : List (List ℕ))
-      (u : List ℕ) (c : Map S) → IsLineRun rules offers reported a lines t b → IsLineRun rules offers reported b more u c
+      (u : List ℕ) (c : Map S) → IsLineRun rules offers reported a lines t b → IsLineRun rules offers reported b more
+      u c
       → IsLineRun rules offers reported a (lines ++ more) (t ++ u) c
   line_run-append a lines t b more u c (texts, run, is) (others, goes, are) = (
     texts ++ others,

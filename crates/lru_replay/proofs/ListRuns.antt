@@ -12,7 +12,7 @@ use Rattle.schnellru.specs.HandedOver.{noting, noting_offers, noted, InsertHands
 use Rattle.schnellru.specs.Inserts.{Insert}
 use Rattle.schnellru.specs.Lists.{lookup, lookup_entry, after, newest_value, keys_of}
 use Rattle.schnellru.specs.Place.{asked}
-use Rattle.schnellru.specs.Reservations.{Reserve, unchanged, remade, reserved, asked_only}
+use Rattle.schnellru.specs.Reservations.{Reserve, unchanged, rehashed, reserved, asked_only}
 use Rattle.schnellru.specs.Runs.{AnyStep}
 use Rattle.schnellru.specs.Sizes.{usage}
 use Rattle.schnellru.specs.State.{State, Contents, contents, IsMap}
@@ -68,7 +68,7 @@ module _ {K V S H : Type 0} (rules : Rules K V S) (offers : Offers K V S K) (eq 
       reserve_same : (n : ℕ) (result : Result (Unit {0}) ReserveError) → Reserve rules n old result new
           → contents new ≡ contents old
       reserve_same n result (unchanged why e) = ap contents e
-      reserve_same n result (remade l t r m) = ap contents m.state
+      reserve_same n result (rehashed l t r m) = ap contents m.state
       reserve_same n result (reserved l count bytes t g r m) = ap contents m.state ∙ asked_same bytes
       reserve_same n result (asked_only l count bytes t f e) = ap contents e ∙ asked_same bytes
 

@@ -53,7 +53,8 @@ beside list c = record { pairs = c.pairs; limiter = (c.limiter, list) }
 module _ {K V S : Type 0} (rules : Rules K V S) (offers : Offers K V S K) (eq : K → K → Bool) where
   -- what the call says and leaves, if the list alone determines it
   abbrev pub determined : Contents K V S → Call K V S → Option (Reply K V × Contents K V S)
-  determined c (calls.Update key v) = let ended = updated_in_list rules offers eq key v c in Some (updated ended.0, ended.1)
+  determined c (calls.Update key v) =
+      let ended = updated_in_list rules offers eq key v c in Some (updated ended.0, ended.1)
   determined c (calls.Get key) = Some (value (lookup (eq key) c.pairs), fronted eq key c)
   determined c (calls.Peek key) = Some (value (lookup (eq key) c.pairs), c)
   determined c (calls.Contains key) = Some (flag (is_some (lookup (eq key) c.pairs)), c)

@@ -31,8 +31,8 @@ pub fn calls_pay_for_moves<K: Eq + Hash, V, L: Insertion<K, V, K>, S: KeyHasher<
 }
 
 /// A list of calls evicts from the old end alone: of the pairs whose keys none of the calls names, those that are left
-/// are the newest, in their order, unless one of the calls is `PopNewest`. So does a list under a limiter with a running
-/// total.
+/// are the newest, in their order, unless one of the calls is `PopNewest`. So does a list under a limiter with a
+/// running total.
 pub fn calls_give_up_the_oldest<K: Eq + Hash, V, L: Insertion<K, V, K>, S: KeyHasher<K>>()
     ensures oldest { (test : K → Bool) (old new : State K V L S) (calls : List (Call K V L))
         (replies : List (Reply K V)) →

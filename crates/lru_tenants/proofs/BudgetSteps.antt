@@ -10,7 +10,8 @@ use Rattle.lru_limits.specs.Budgeted.{IsBudgeted}
 use Rattle.schnellru.specs.GetOrInserts.{MakesNewest, got, inserted}
 use Rattle.schnellru.specs.Lists.{last, without_first, without_last, lookup_entry}
 use Rattle.schnellru.specs.State.{State, contents, IsWithin, notified_of}
-use Rattle.schnellru.specs.Runs.{Step, inserts, makes_newest, updates, gets, demotes, removes, pops_oldest, pops_newest, drains, clears}
+use Rattle.schnellru.specs.Runs.{Step, inserts, makes_newest, updates, gets, demotes, removes, pops_oldest}
+use Rattle.schnellru.specs.Runs.{pops_newest, drains, clears}
 use Rattle.schnellru.specs.Runs.{reserves, shrinks, trims, retains}
 use Rattle.schnellru.specs.Theorems.{IsSummed}
 use Rattle.schnellru.proofs.Theorems.Fronts.{front_trim}
@@ -20,7 +21,8 @@ use Rattle.schnellru.proofs.Theorems.Reservations.{reserved_list}
 use Rattle.schnellru.proofs.Theorems.Runs.{step_changes, step_summed}
 use Rattle.schnellru.proofs.Theorems.RetainedPairs.{total-retained}
 use Rattle.schnellru.proofs.Theorems.Shrinks.{shrunk_list}
-use Rattle.schnellru.proofs.Theorems.Sums.{total, total-is, total-front, total-back, total-least, split-least, split_last}
+use Rattle.schnellru.proofs.Theorems.Sums.{total, total-is, total-front, total-back, total-least, split-least}
+use Rattle.schnellru.proofs.Theorems.Sums.{split_last}
 
 module _ {K V S : Type 0} {rules : Rules K V S} {offers : Offers K V S K} {account budget : S → ℕ}
     {accepts : S → K → V → Bool} {made : ℕ → S} {rebudgeted : ℕ → S → S}
@@ -42,8 +44,8 @@ module _ {K V S : Type 0} {rules : Rules K V S} {offers : Offers K V S K} {accou
       };
       left = λ test c. told_budget (lookup_entry test c.pairs) c.limiter;
       dropped = λ newer older pair s. laws.removed s pair.0 pair.1;
-      first = λ q c. refl;
-      last = λ q c. refl;
+      first = λ test c. refl;
+      last = λ test c. refl;
       cleared = λ c. laws.cleared c.limiter;
     };
     came = λ i v c s pair a offer. laws.offered c.limiter _ i v s (Some pair) offer;
@@ -83,10 +85,10 @@ module _ {K V S : Type 0} {rules : Rules K V S} {offers : Offers K V S K} {accou
           (omega (arith, ap (λ st. total pair_cost st.pairs) step, total-front pair_cost (names k) old.pairs))
       step_within (makes_newest v k result (inserted e w m step)) = ended (insert_within pair_cost step)
       step_within (updates k v result h) = ended (update_within pair_cost result h)
-      step_within (gets k e) = less
-          (omega (arith, ap (λ st. total pair_cost st.pairs) e, total-front pair_cost (names k) old.pairs))
-      step_within (demotes k e) = less
-          (omega (arith, ap (λ st. total pair_cost st.pairs) e, total-back pair_cost (names k) old.pairs))
+      step_within (gets named e) = less
+          (omega (arith, ap (λ st. total pair_cost st.pairs) e, total-front pair_cost named old.pairs))
+      step_within (demotes named e) = less
+          (omega (arith, ap (λ st. total pair_cost st.pairs) e, total-back pair_cost named old.pairs))
       step_within (removes test result h) = less
           (omega (arith, ap (λ st. total pair_cost st.pairs) h.state.is, total-without pair_cost test old.pairs))
       step_within (pops_oldest result h) = less

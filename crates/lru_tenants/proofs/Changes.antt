@@ -7,7 +7,8 @@ use Rattle.std.specs.HashMap.{HashMap, UpdatesBy, WritesThrough, values, get_by}
 use Rattle.std.specs.List.{All}
 use Rattle.std.specs.List.Sorted.{IsPermutation}
 use Rattle.std.specs.Map.{remove_entry, values_of}
-use Rattle.std.proofs.lemmas.Map.Views.{All-map-remove_entry, All-map-IsPermutation, IfSome-lookup_from_All, All-values-set_value}
+use Rattle.std.proofs.lemmas.Map.Views.{All-map-remove_entry, All-map-IsPermutation, IfSome-lookup_from_All}
+use Rattle.std.proofs.lemmas.Map.Views.{All-values-set_value}
 use Rattle.std.specs.Prelude.{IfSome}
 use Rattle.lru_tenants.specs.Cache.{Cache, tenant, Leaves, On}
 use Rattle.schnellru.specs.State.{State}

@@ -1,5 +1,6 @@
 -- What each call keeps of the fields of a cache.
-use Rattle.std.proofs.Common.{◌≡◌, ◌+◌, ◌-◌, ◌*◌, ◌^◌, ◌≤◌, ◌<◌, ℕ, Bool, false, List, [], ◌∷◌, Option, Some, None, refl, sym, ap, ◌∙◌, arith, sum_by, length}
+use Rattle.std.proofs.Common.{◌≡◌, ◌+◌, ◌-◌, ◌*◌, ◌^◌, ◌≤◌, ◌<◌, ℕ, Bool, false, List, [], ◌∷◌, Option, Some, None}
+use Rattle.std.proofs.Common.{refl, sym, ap, ◌∙◌, arith, sum_by, length}
 use Rattle.std.specs.HashMap.{HashMap, PutsEntry, WritesThrough, hasher_of, values, get_by, get}
 use Rattle.std.specs.List.{All}
 use Rattle.std.specs.List.Sorted.{IsPermutation}
@@ -9,7 +10,8 @@ use Rattle.std.specs.Prelude.{IfSome}
 use Rattle.std.proofs.lemmas.List.Elements.{All-head, All-tail, All-weaker}
 use Rattle.std.proofs.lemmas.List.{length-map}
 use Rattle.std.proofs.lemmas.List.Sums.{sum_by-cons}
-use Rattle.std.proofs.lemmas.Map.Entries.{sum_by-set_value, sum_by-remove_entry, sum_by_values_permutation, sum_by_puts_entry}
+use Rattle.std.proofs.lemmas.Map.Entries.{sum_by-set_value, sum_by-remove_entry, sum_by_values_permutation}
+use Rattle.std.proofs.lemmas.Map.Entries.{sum_by_puts_entry}
 use Rattle.std.proofs.lemmas.Map.Views.{All-values-PutsEntry}
 use Rattle.schnellru.specs.State.{State}
 use Rattle.lru_tenants.specs.Cache.{IsTenant, is_above, budgets_with}

@@ -1,5 +1,6 @@
 -- What comes back from a put.
-use Rattle.std.proofs.Common.{◌≡◌, ◌&&◌, Bool, true, false, not, Option, Some, None, is_some, Result, Ok, Err, refl, sym, subst}
+use Rattle.std.proofs.Common.{◌≡◌, ◌&&◌, Bool, true, false, not, Option, Some, None, is_some, Result, Ok, Err, refl}
+use Rattle.std.proofs.Common.{sym, subst}
 use Rattle.std.proofs.lemmas.Bool.{true≢false}
 use Rattle.std.specs.Prelude.{option_map}
 use Rattle.std.specs.declared.alloc.AllocError.{AllocError}

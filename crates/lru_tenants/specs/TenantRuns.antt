@@ -2,7 +2,8 @@
 --     rules, offers       what the limiter says (`Rules`, `Offers` of `lru_limits`)
 --     fresh budget        the empty map with which a tenant opens
 --     hash_of h k         the hash of the key k, by the hasher h
-use Rattle.std.specs.Prelude.{◌≡◌, ◌⊎◌, ℕ, Bool, true, false, List, [], length, reverse, Option, Some, None, option_map, IfSome}
+use Rattle.std.specs.Prelude.{◌≡◌, ◌⊎◌, ℕ, Bool, true, false, List, [], length, reverse, Option, Some, None}
+use Rattle.std.specs.Prelude.{option_map, IfSome}
 use Rattle.std.specs.Prelude.{Result, Ok, Err}
 use Rattle.std.specs.declared.alloc.AllocError.{AllocError}
 use Rattle.lru_limits.specs.Rules.{Rules, Offers}

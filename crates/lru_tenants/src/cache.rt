@@ -28,8 +28,8 @@ use totals::is_above;
 /// A cache for many tenants, each with a name. Each tenant has a map, limited by a budget of its own.
 ///
 /// The limiter `L` says what an entry costs: with `ByCost` its value alone, with `ByWeight<OVERHEAD>` its key and its
-/// value, and `OVERHEAD` for the entry itself. `S` hashes names and keys. The budgets of all tenants add up to at most the
-/// total limit, if `set_total_limit` set one.
+/// value, and `OVERHEAD` for the entry itself. `S` hashes names and keys. The budgets of all tenants add up to at most
+/// the total limit, if `set_total_limit` set one.
 ///
 /// ```
 /// let mut cache: TenantCache<u64, u64, u64> = TenantCache::new(alloc, [1, 2, 3, 4], 16);
@@ -83,7 +83,8 @@ impl<N: Eq + Hash, K: Eq + Hash + Drop, V: Costed + Drop> TenantCache<N, K, V> {
     /// assert!(rt; cache.is_empty());
     /// ```
     pub fn new(alloc: Global, seed: [u64; 4], entry_bytes: usize) -> Self
-        ensures { result ≡ record { tenants = []; hasher = seeded seed; entry_bytes = entry_bytes; total_limit = None } }
+        ensures { result
+            ≡ record { tenants = []; hasher = seeded seed; entry_bytes = entry_bytes; total_limit = None } }
     {
         TenantCache::with_hasher(alloc, RandomState::with_seeds(seed), entry_bytes)
     }
@@ -168,8 +169,8 @@ impl<
     ///
     /// # Errors
     ///
-    /// `AlreadyOpen`; `OverTotal`: the sum of all budgets would be above the total limit; or `Memory`: there was none for
-    /// one tenant more. An error changes nothing.
+    /// `AlreadyOpen`; `OverTotal`: the sum of all budgets would be above the total limit; or `Memory`: there was none
+    /// for one tenant more. An error changes nothing.
     pub fn open(&mut self, name: N, budget: u64) -> Result<(), TenantError>
         ensures opens { On N.eq name (Opens (is_over L.budget_of (N.eq name) budget self.old)
             (fresh L.made (L.LinkType.number L.LinkType.MAX) self.old budget)) self.old result self.new }
@@ -209,7 +210,8 @@ impl<
     /// Inserts a key with a value, as the newest entry of the tenant. Returns whether the key is there then.
     ///
     /// It is an `insert` into the map of the tenant: it rejects a value whose cost alone is above the budget, and
-    /// evicts the tenant's oldest entries until the sum of its costs is within the budget.
+    /// evicts the tenant's oldest entries until the sum of its costs is within the budget. If the key is there, a
+    /// rejected value removes its entry.
     ///
     /// ```
     /// assert_eq!(rt; cache.put(&1, 7, 2), Ok(true));
@@ -222,7 +224,8 @@ impl<
     /// `NotOpen`: nothing has changed. `Memory`: there was none for the entry. The newest of the tenant's entries are
     /// left, as after an `Err` of `LruMap::insert`.
     pub fn put(&mut self, name: &N, key: K, value: V) -> Result<bool, TenantError>
-        ensures puts { On N.eq name.now (Puts L.rules L.offers L.budget_of K.eq S.hash_of key value) self.old result self.new }
+        ensures puts { On N.eq name.now (Puts L.rules L.offers L.budget_of K.eq S.hash_of key value)
+            self.old result self.new }
         ensures total { budgets L.budget_of self.new ≡ budgets L.budget_of self.old }
         ensures tenants { AreTenants K.eq L.cost_of L.account L.budget_of self.new }
     {
@@ -263,7 +266,8 @@ impl<
     ///
     /// `NotOpen`: nothing has changed.
     pub fn clear(&mut self, name: &N) -> Result<(), TenantError>
-        ensures clears { On N.eq name.now (IfOpen (λ old done new. new ≡ cleared L.rules old)) self.old result self.new }
+        ensures clears { On N.eq name.now (IfOpen (λ old done new. new ≡ cleared L.rules old))
+            self.old result self.new }
         ensures total { budgets L.budget_of self.new ≡ budgets L.budget_of self.old }
         ensures tenants { AreTenants K.eq L.cost_of L.account L.budget_of self.new }
     {
@@ -286,7 +290,8 @@ impl<
     ///
     /// `NotOpen`, or `OverTotal`: the sum of all budgets would be above the total limit. Both change nothing.
     pub fn set_budget(&mut self, name: &N, budget: u64) -> Result<(), TenantError>
-        ensures sets { On N.eq name.now (SetsBudget L.rules (L.rebudgeted budget) (is_over L.budget_of (N.eq name.now) budget self.old))
+        ensures sets { On N.eq name.now
+            (SetsBudget L.rules (L.rebudgeted budget) (is_over L.budget_of (N.eq name.now) budget self.old))
             self.old result self.new }
         ensures total { result ≡ Ok tt →
             budgets L.budget_of self.new ≡ budgets_with L.budget_of (N.eq name.now) budget self.old }

@@ -29,8 +29,8 @@ pub fn calls_of_others_leave_a_tenant<
         tenant (N.eq name) new ≡ tenant (N.eq name) old }
 {}
 
-/// In any list of calls of any kind, for names, keys and values of any types, each call finds of its tenant what the last
-/// call of that tenant left, whatever calls of others come between. `run_tenants` is one instance.
+/// In any list of calls of any kind, for names, keys and values of any types, each call finds of its tenant what the
+/// last call of that tenant left, whatever calls of others come between. `run_tenants` is one instance.
 ///
 /// The premise: each call leaves every tenant but the one that it names, as each clause with `On` says.
 ///
@@ -48,8 +48,8 @@ pub fn each_tenant_has_its_own_run<
         Chain (λ n. N.eq n name) (tenant (N.eq name) old) dids (tenant (N.eq name) new) }
 {}
 
-/// With any limiter that has a budget, each call on a map leaves the budget as it is, and a running total of at most the
-/// budget, if that held before and the total was the sum of the costs.
+/// With any limiter that has a budget, each call on a map leaves the budget as it is, and a running total of at most
+/// the budget, if that held before and the total was the sum of the costs.
 ///
 /// ```
 /// calls_keep_the_budget::<u64, u64, ByCost, RandomState>();
@@ -62,8 +62,8 @@ pub fn calls_keep_the_budget<K: Eq + Hash, V, L: Budgeted<K, V>, S: KeyHasher<K>
         L.account old.limiter ≤ L.budget_of old.limiter → L.account new.limiter ≤ L.budget_of new.limiter }
 {}
 
-/// The costs of the entries of all tenants add up to at most the total limit, if there is one. It holds of every cache, so
-/// after any list of calls.
+/// The costs of the entries of all tenants add up to at most the total limit, if there is one. It holds of every cache,
+/// so after any list of calls.
 ///
 /// ```
 /// costs_are_within_the_total_limit(&cache);

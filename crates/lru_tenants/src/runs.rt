@@ -72,7 +72,8 @@ fn make_tenant_call<
     S: KeyHasher<K> + Copy,
 >(cache: &mut TenantCache<N, K, V, L, S>, call: TenantCall<N, K, V>) -> TenantAnswer<V>
     ensures step { On N.eq (named call) (TenantStep L.rules L.offers L.cost_of L.account L.budget_of K.eq S.hash_of
-        (fresh L.made (L.LinkType.number L.LinkType.MAX) cache.old) cache.old.total_limit call) cache.old result cache.new }
+        (fresh L.made (L.LinkType.number L.LinkType.MAX) cache.old) cache.old.total_limit call)
+        cache.old result cache.new }
     ensures tenants { AreTenants K.eq L.cost_of L.account L.budget_of cache.new }
 {
     let answer = answer_to(cache, call);
@@ -90,7 +91,8 @@ fn answer_to<
     S: KeyHasher<K> + Copy,
 >(cache: &mut TenantCache<N, K, V, L, S>, call: TenantCall<N, K, V>) -> TenantAnswer<V>
     ensures { On N.eq (named call) (TenantStep L.rules L.offers L.cost_of L.account L.budget_of K.eq S.hash_of
-        (fresh L.made (L.LinkType.number L.LinkType.MAX) cache.old) cache.old.total_limit call) cache.old result cache.new }
+        (fresh L.made (L.LinkType.number L.LinkType.MAX) cache.old) cache.old.total_limit call)
+        cache.old result cache.new }
 {
     match call {
         TenantCall::Open(name, budget) => TenantAnswer::Opened(cache.open(name, budget)),

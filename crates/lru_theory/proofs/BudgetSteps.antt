@@ -24,7 +24,8 @@ use Rattle.lru_replay.specs.ListRuns.{ListCallStep, fronted}
 use Rattle.lru_replay.specs.Replies.{Reply, want_of, found_all, value, made_reply}
 use Rattle.lru_theory.specs.BudgetReferences.{offered}
 use Rattle.lru_theory.specs.References.{FoundMemory}
-use Rattle.lru_theory.proofs.BudgetLists.{key_cost, pair_of, spending, holding, popped, trimmed_is, found_is, without_is}
+use Rattle.lru_theory.proofs.BudgetLists.{key_cost, pair_of, spending, holding, popped, trimmed_is, found_is}
+use Rattle.lru_theory.proofs.BudgetLists.{without_is}
 use Rattle.lru_theory.proofs.BudgetLists.{none_removed, spent_without, fewer}
 use Rattle.lru_theory.proofs.ReferenceRuns.{reversed, head_of, tail_of}
 use Rattle.lru_theory.proofs.ReferenceSteps.{clash, some_same, nothing, lacking, value_there}

@@ -10,7 +10,7 @@ use Rattle.schnellru.proofs.HandingLemmas.{plain_insert}
 use Rattle.schnellru.specs.Calls.{written}
 use Rattle.schnellru.specs.Kept.{KeepsToLength}
 use Rattle.schnellru.specs.Lists.{keys_of, lookup_entry, without, after, front}
-use Rattle.schnellru.specs.Reservations.{Reserve, unchanged, remade, reserved, asked_only}
+use Rattle.schnellru.specs.Reservations.{Reserve, unchanged, rehashed, reserved, asked_only}
 use Rattle.schnellru.specs.Runs.{Step, inserts, gets, removes, clears, reserves, shrinks}
 use Rattle.schnellru.specs.State.{State, IsSized, IsMap}
 use Rattle.schnellru.specs.declared.map.reserve.ReserveError.{ReserveError}
@@ -70,7 +70,7 @@ module _ {K V H : Type 0} (old new : State K V ℕ H) where
   reserve_pairs : (n : ℕ) (result : Result (Unit {0}) ReserveError) → Reserve length_rules n old result new
       → new.pairs ≡ old.pairs
   reserve_pairs n result (unchanged why e) = ap (λ st. st.pairs) e
-  reserve_pairs n result (remade lacks t r m) = ap (λ st. st.pairs) m.state
+  reserve_pairs n result (rehashed lacks t r m) = ap (λ st. st.pairs) m.state
   reserve_pairs n result (reserved lacks count bytes t g r m) = ap (λ st. st.pairs) m.state
   reserve_pairs n result (asked_only lacks count bytes t f e) = ap (λ st. st.pairs) e
 
@@ -118,11 +118,11 @@ module _ {K V H : Type 0} {eq : K → K → Bool} {hash_of : H → K → ℕ} (e
       absurd (lacking (sym (ap want_of is) ∙ found))
   call_keeps (calls.Get key) on old reply new (inl (is, same)) e found keeps sized =
       subst (λ c. Keeps eq c old new) (call_same (promotes key) on e)
-      (steps (promotes key) old new keeps sized (gets key same)
+      (steps (promotes key) old new keeps sized (gets (eq key) same)
       (ap (λ st. keys_of st.pairs) same ∙ front_keys eq exact key old.pairs))
   call_keeps (calls.Promote key) on old reply new (inl (is, same)) e found keeps sized =
       subst (λ c. Keeps eq c old new) (call_same (promotes key) on e)
-      (steps (promotes key) old new keeps sized (gets key same)
+      (steps (promotes key) old new keeps sized (gets (eq key) same)
       (ap (λ st. keys_of st.pairs) same ∙ front_keys eq exact key old.pairs))
   call_keeps (calls.RemoveEntry key) on old reply new (inl (result, h, is)) e found keeps sized =
       subst (λ c. Keeps eq c old new) (call_same (removal_of key) on e)

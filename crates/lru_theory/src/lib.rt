@@ -23,8 +23,8 @@ use schnellru::{ByCost, ByLength, Costed, KeyHasher, laws};
 use std::hash::Hash;
 
 /// A run of references leaves the keys that were referenced last, `max_length` of them (`keys`). The map counts the
-/// misses: `placed`, the count of entries that inserts stored, rises by the number of references whose reuse distance is
-/// at least `max_length`, or that are the first to their key (`misses`).
+/// misses: `placed`, the count of entries that inserts stored, rises by the number of references whose reuse distance
+/// is at least `max_length`, or that are the first to their key (`misses`).
 pub fn references_keep_the_newest<K: Eq + Hash + Drop, V: Drop, S: KeyHasher<K>>()
     ensures keys { (keys : List K) (old new : State K V ByLength S) →
         IsExact K.eq → References K.eq S.hash_of keys old new →
@@ -57,8 +57,9 @@ pub fn more_capacity_never_misses_more<K: Eq + Hash + Drop, V: Drop, S: KeyHashe
 }
 
 /// After the same calls a smaller map is included in a larger map: its keys are among those of the larger map, in the
-/// same order (`included`). So what the smaller map finds, the larger map finds (`finds`). The calls may insert, get, peek,
-/// write, remove, clear, reserve and shrink, in any order. Pops, drains, gets by a hash and other limiters are left out.
+/// same order (`included`). So what the smaller map finds, the larger map finds (`finds`). The calls may insert, get,
+/// peek, write, remove, clear, reserve and shrink, in any order. Pops, drains, gets by a hash and other limiters are
+/// left out.
 pub fn a_smaller_map_is_included<K: Eq + Hash + Drop, V: Drop, S: KeyHasher<K>>()
     ensures included { (on : List (KeyCall K)) (old small other large : State K V ByLength S) →
         IsExact K.eq → CallsOn K.eq S.hash_of on old small → CallsOn K.eq S.hash_of on other large →

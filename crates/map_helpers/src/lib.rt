@@ -1,8 +1,8 @@
 //! Maps that tests share, and what a test looks at in them.
 //!
 //! - [`map_of`], [`three_costs`], [`insert`], [`insert_all`], [`get`], [`peek`], [`counts_down`], [`is_list`],
-//!   [`remove_all`], [`reserve`], [`shrink`], [`figures`], [`report`]: a map of numbers. They have no contracts, so a test
-//!   that calls them is proved faster than one that calls the map.
+//!   [`remove_all`], [`reserve`], [`shrink`], [`figures`], [`report`]: a map of numbers. They have no contracts, so a
+//!   test that calls them is proved faster than one that calls the map.
 //! - [`Texts`], [`texts_of`], [`has_keys`]: a map of texts.
 #![tactic(auto)]
 

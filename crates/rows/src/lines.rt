@@ -64,8 +64,8 @@ fn first_fault(alloc: Global, row: &Row) -> io::Result<Option<(&'static str, usi
     }
 }
 
-/// Whether the replay ends with the status and the text of the row, however the input is cut, and flushes once. One read
-/// is interrupted, and a thousand writes are, one after another.
+/// Whether the replay ends with the status and the text of the row, however the input is cut, and flushes once. One
+/// read is interrupted, and a thousand writes are, one after another.
 fn in_pieces(alloc: Global, row: &Row) -> io::Result<bool> {
     let slow = Slow::new(row.input.as_slice(), 1).failing(3, ErrorKind::Interrupted);
     let mut reader = BufReader::new(alloc, slow)?;

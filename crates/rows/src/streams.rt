@@ -58,8 +58,8 @@ pub enum Failure {
     NoBytes,
 }
 
-/// Takes at most `most` bytes a write, fails `times` times from the write with the number `fails_at` on, counted from 0,
-/// and counts its flushes.
+/// Takes at most `most` bytes a write, fails `times` times from the write with the number `fails_at` on, counted from
+/// 0, and counts its flushes.
 #[derive(Drop)]
 pub struct Narrow {
     /// What was written.

@@ -1,5 +1,5 @@
-//! The figures of a table of at most 16 buckets, by the rules of `docs/TABLE.md`. Such a table has no deleted buckets, so
-//! its figures follow from the calls.
+//! The figures of a table of at most 16 buckets, by the rules of `docs/TABLE.md`. Such a table has no deleted buckets,
+//! so its figures follow from the calls.
 use schnellru::ReserveError;
 
 /// The most buckets that links of 32 bits reach.

@@ -1,4 +1,5 @@
--- For who proves a caller of a map. With HandingLemmas, the only lemmas of this crate that another crate cites.
+-- For who proves a caller of a map. With HandingLemmas and CallbackLemmas, the only lemmas of this crate that another
+-- crate cites.
 --     read_back            a get through which nothing is written brings the pair to the front, and no more
 --     promoted-summed      and keeps the sum of the costs
 --     promoted-absent, demoted-absent      if nothing is found, nothing comes to the front, or to the back

@@ -32,7 +32,7 @@ use Rattle.lru_limits.specs.declared.limiter.Limiter as limiter
 use Rattle.lru_limits.specs.Hashing.{HasherMembers}
 use Rattle.schnellru.specs.State.{State}
 use Rattle.schnellru.specs.Lending.Values.{map_row}
-use Rattle.schnellru.specs.Lending.Answers.{kept_of, is_kept, IsLent, NoneLent, name_lent}
+use Rattle.schnellru.specs.Lending.Answers.{lent_or_none, is_kept, IsLent, NoneLent, name_lent}
 use Rattle.schnellru.specs.Lending.Made.{Made, lends_or, lends_made}
 use Rattle.schnellru.specs.declared.map.get_or_insert.NotLent.{NotLent}
 use Rattle.schnellru.specs.declared.map.get_or_insert.NotLent.TheVariants.{NotKept, Failed}
@@ -62,25 +62,25 @@ module _ {M : Type 1} {𝓤 : Ura M} (𝓛 : Logic 𝓤) (K V L S N H : RattleTy
   Or = lends_or K V L S N H key limits links link_eq link_shown hashed hash m Step
 
   abbrev With : Result (MutBor V.Denot) (NotLent E) → Map → V.Denot → Type 0
-  With r n w = Made K V L S N H key limits links link_eq link_shown hashed hash m Step (kept_of r) n w
+  With r n w = Made K V L S N H key limits links link_eq link_shown hashed hash m Step (lent_or_none r) n w
 
   abbrev Both : Result (MutBor V.Denot) (NotLent E) → Type 0
-  Both r = (s : (V.Denot → Map) × Map) × ((w : V.Denot) → IsLent (kept_of r) →
-      With r (s.0 w) w) × (NoneLent (kept_of r) → Step (is_kept (kept_of r)) s.1)
+  Both r = (s : (V.Denot → Map) × Map) × ((w : V.Denot) → IsLent (lent_or_none r) →
+      With r (s.0 w) w) × (NoneLent (lent_or_none r) → Step (is_kept (lent_or_none r)) s.1)
 
   pub ends : (r : Result (MutBor V.Denot) (NotLent E)) →
       ent 𝓤 (sem 𝓛 (Or r)) (sem 𝓛 (lends_made K V L S N H key limits links link_eq link_shown hashed hash m Step
-      (kept_of r)))
+      (lent_or_none r)))
   unfolding follows_by such_by
   ends (Ok x) = qed 𝓛 (‵ (Or (Ok x)) ∷ []) ∵ fpick ! (λ s.
       fpack ! (Both (Ok x)) (λ s. follows_by Map V.Denot R.coded.code V.coded.code m.ghost_name (name_lent {V =
-      V.Denot} {E = E} (kept_of (Ok x))) s.0.0 s.0.1) (s.0, (λ w _. s.1 w refl), (λ h. absurd (h refl))) $ done !)
+      V.Denot} {E = E} (lent_or_none (Ok x))) s.0.0 s.0.1) (s.0, (λ w _. s.1 w refl), (λ h. absurd (h refl))) $ done !)
   ends (Err NotKept) = qed 𝓛 (‵ (Or (Err NotKept)) ∷ []) ∵ fpick ! (λ s.
       fpack ! (Both (Err NotKept)) (λ s. follows_by Map V.Denot R.coded.code V.coded.code m.ghost_name (name_lent {V =
-      V.Denot} {E = E} (kept_of (Err NotKept))) s.0.0 s.0.1) (s.0, (λ w h. absurd cc), (λ _. s.2)) $ done !)
+      V.Denot} {E = E} (lent_or_none (Err NotKept))) s.0.0 s.0.1) (s.0, (λ w h. absurd cc), (λ _. s.2)) $ done !)
   ends (Err (Failed e)) = qed 𝓛 (‵ (Or (Err (Failed e))) ∷ []) ∵ fpick ! (λ s.
       fpack ! (Both (Err (Failed e))) (λ s. follows_by Map V.Denot R.coded.code V.coded.code m.ghost_name (name_lent
-      {V = V.Denot} {E = E} (kept_of (Err (Failed e)))) s.0.0 s.0.1) (s.0, (λ w h. absurd cc), (λ _. s.2)) $
+      {V = V.Denot} {E = E} (lent_or_none (Err (Failed e)))) s.0.0 s.0.1) (s.0, (λ w h. absurd cc), (λ _. s.2)) $
       done !)
 
 -- the results' types, for errors of the type E, and their laws

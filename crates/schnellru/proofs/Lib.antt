@@ -9,3 +9,4 @@ mod LentPairs
 mod LentValues
 pub mod CallerLemmas
 pub mod HandingLemmas
+pub mod CallbackLemmas

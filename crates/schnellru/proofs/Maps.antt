@@ -5,6 +5,7 @@ pub mod Fields
 pub mod NotedStates
 pub mod KeptPairs
 pub mod Offers
+pub mod CallablePairs
 pub mod Trims
 pub mod Retains
 pub mod WrittenPairs

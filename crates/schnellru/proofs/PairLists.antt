@@ -3,3 +3,4 @@ pub mod NamedPairs
 pub mod SetEntries
 pub mod NamedPlaces
 pub mod Emptiness
+pub mod Positions

@@ -29,7 +29,6 @@ pub mod RunLimits
 pub mod SmallTables
 pub mod SmallCalls
 pub mod Reservations
-pub mod Removals
 pub mod GetOrInserts
 pub mod KeySearches
 pub mod CostLimits

@@ -1,13 +1,13 @@
 -- What each call of a map does; `Inserts` has the inserts, and `Reservations` the reservations.
 --     rules      what the limiter says (`Rules` of `lru_limits`)
 --     names      whether a key is the one that is looked up
-use Rattle.std.specs.Prelude.{◌≡◌, Bool, [], Option, Some, None, option_map, replicate}
+use Rattle.std.specs.Prelude.{◌≡◌, Bool, List, [], Option, Some, None, option_map, replicate}
 use Rattle.std.specs.Map.{set_value}
 use Rattle.group_table.specs.Bucket.{empty}
 use Rattle.lru_limits.specs.Rules.{Rules}
-use Rattle.schnellru.specs.Lists.{first, last, without_first, lookup, lookup_entry, without, front, front_places, back}
-use Rattle.schnellru.specs.Lists.{back_places}
-use Rattle.schnellru.specs.State.{State, buckets, Contents, contents, Leaves, notified_of, pop}
+use Rattle.schnellru.specs.Lists.{first, last, without_first, without_last, lookup, lookup_entry, without, front}
+use Rattle.schnellru.specs.Lists.{front_places, back, back_places}
+use Rattle.schnellru.specs.State.{State, buckets, Contents, contents, Leaves, after_removal}
 
 module _ {K V S H : Type 0} where
   -- the pair of the named key comes first
@@ -39,36 +39,33 @@ module _ {K V S : Type 0} (rules : Rules K V S) where
 
   -- without the pair of the named key, of which the limiter is notified
   abbrev pub removal : (K → Bool) → Contents K V S → Contents K V S
-  removal names c = record {
-    pairs = without names c.pairs;
-    limiter = notified_of rules (lookup_entry names c.pairs) c.limiter;
-  }
+  removal names c = after_removal rules (lookup_entry names c.pairs) (without names c.pairs) c.limiter
 
   -- without the newest pair, of which the limiter is notified
   abbrev pub pop_first : Contents K V S → Contents K V S
-  pop_first c = record { pairs = without_first c.pairs; limiter = notified_of rules (first c.pairs) c.limiter }
+  pop_first c = after_removal rules (first c.pairs) (without_first c.pairs) c.limiter
 
 module _ {K V S H : Type 0} (rules : Rules K V S) where
-  -- the pair of the named key is removed, and what the limiter leaves of it is returned
-  pub record RemoveEntry (names : K → Bool) (old : State K V S H) (result : Option (K × V)) (new : State K V S H)
-      : Type 0 where
-    pub pair : result ≡ left_of rules old.limiter (lookup_entry names old.pairs)
-    pub state : Leaves old (removal rules names (contents old)) new
+  -- a pair is removed, if there is one, `left` is what is left, and what the limiter leaves of the pair is returned
+  pub record TakesOut (gone : Option (K × V)) (left : List (K × V)) (old : State K V S H) (result : Option (K × V))
+      (new : State K V S H) : Type 0 where
+    pub pair : result ≡ left_of rules old.limiter gone
+    pub state : Leaves old (after_removal rules gone left old.limiter) new
 
-  -- the same, and what it leaves of the value is returned
+  -- the pair of the named key, the oldest pair, or the newest
+  abbrev pub RemoveEntry : (K → Bool) → State K V S H → Option (K × V) → State K V S H → Type 0
+  RemoveEntry names old = TakesOut (lookup_entry names old.pairs) (without names old.pairs) old
+
+  abbrev pub PopOldest : State K V S H → Option (K × V) → State K V S H → Type 0
+  PopOldest old = TakesOut (last old.pairs) (without_last old.pairs) old
+
+  abbrev pub PopNewest : State K V S H → Option (K × V) → State K V S H → Type 0
+  PopNewest old = TakesOut (first old.pairs) (without_first old.pairs) old
+
+  -- the pair of the named key is removed, and what the limiter leaves of its value is returned
   pub record Remove (names : K → Bool) (old : State K V S H) (result : Option V) (new : State K V S H) : Type 0 where
     pub value : result ≡ option_map (λ p. p.1) (left_of rules old.limiter (lookup_entry names old.pairs))
     pub state : Leaves old (removal rules names (contents old)) new
-
-  -- the oldest pair is removed, and what the limiter leaves of it is returned
-  pub record PopOldest (old : State K V S H) (result : Option (K × V)) (new : State K V S H) : Type 0 where
-    pub pair : result ≡ left_of rules old.limiter (last old.pairs)
-    pub state : Leaves old (pop rules (contents old)) new
-
-  -- so does the newest
-  pub record PopNewest (old : State K V S H) (result : Option (K × V)) (new : State K V S H) : Type 0 where
-    pub pair : result ≡ left_of rules old.limiter (first old.pairs)
-    pub state : Leaves old (pop_first rules (contents old)) new
 
   -- Without pairs, in a table of as many buckets, all empty. The limiter is notified of the clear alone.
   abbrev pub cleared : State K V S H → State K V S H

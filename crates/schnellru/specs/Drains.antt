@@ -49,7 +49,7 @@ module _ {K V S : Type 0} (rules : Rules K V S) where
   oldest_given (suc n) c = option_to_list (left_of rules c.limiter (last c.pairs)) ++ oldest_given n (pop rules c)
 
 module _ {K V S H : Type 0} (rules : Rules K V S) where
-  -- a whole drain: n from the newest end, then n from the oldest, then the drop
+  -- a whole drain: `newest` pairs from the newest end, then `oldest` pairs from the oldest end, then the drop
   pub record Drained (newest oldest : ℕ) (old : State K V S H) (result : List (K × V))
       (new : State K V S H) : Type 0 where
     pub pairs : result ≡ newest_given rules newest (contents old)

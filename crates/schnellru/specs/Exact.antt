@@ -116,7 +116,8 @@ module _ {K V S I : Type 0} (rules : Rules K V S) (offers : Offers K V S I) (nam
     -- or for the pair, after room was made for it, and the limiter is notified of the pair.
     not_placed : lookup_entry (names i) old.pairs ≡ None →
         (s : S) (pair : K × V) → MayGive rules offers names i v old s (Some pair) →
-        IsErr result → new ≡ (turns_away rules pair (make_room rules (record { pairs = old.pairs; limiter = s }))).left →
+        IsErr result →
+        new ≡ (turns_away rules pair (make_room rules (record { pairs = old.pairs; limiter = s }))).left →
         InsertsInList old result new
 
 -- two inserts ended alike

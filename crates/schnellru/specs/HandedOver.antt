@@ -66,7 +66,8 @@ Takes closure f pairs g = FoldsTo (λ p pair q. Called closure p (pair.0, (pair.
 
 module _ {K V S H I : Type 0} (rules : Rules K V S) (offers : Offers K V S I) (names : I → K → Bool)
     (hash_of : H → K → ℕ) where
-  -- an insert that passes on these pairs: the list that began empty has them at its end
+  -- an insert whose callback gets these pairs: the list that `noting` keeps is empty before the call, and consists of
+  -- these after it
   abbrev pub InsertHands : I → V → State K V S H → Result Bool AllocError → List (K × V) → State K V S H → Type 0
   InsertHands i v old result handed new = Insert (noting rules) (noting_offers offers) names hash_of i v (noted [] old)
       result (noted handed new)

@@ -1,12 +1,10 @@
 -- The same as `GetOrInserts` with a closure that may fail.
-use Rattle.std.specs.Prelude.{◌≡◌, ℕ, Bool, true, Some, None, Result, Ok, Err, IsErrOf}
+use Rattle.std.specs.Prelude.{◌≡◌, ℕ, Bool, None, Result, Ok, Err, IsErrOf}
 use Rattle.std.specs.declared.alloc.AllocError.{AllocError}
 use Rattle.lru_limits.specs.Rules.{Rules, Offers}
 use Rattle.schnellru.specs.Lists.{lookup}
 use Rattle.schnellru.specs.State.{State}
-use Rattle.schnellru.specs.Calls.{promoted}
-use Rattle.schnellru.specs.Inserts.{Insert}
-use Rattle.schnellru.specs.GetOrInserts.{SaysNewest, LacksMemoryFor}
+use Rattle.schnellru.specs.GetOrInserts.{MakesNewest, SaysNewest, LacksMemoryFor}
 use Rattle.schnellru.specs.declared.map.get_or_insert.GetOrInsertError.{GetOrInsertError}
 use Rattle.schnellru.specs.declared.map.get_or_insert.GetOrInsertError.TheVariants.{Memory, Caller}
 
@@ -17,17 +15,14 @@ or_memory (Err e) = Err Memory
 
 module _ {K V S H I E : Type 0} (rules : Rules K V S) (offers : Offers K V S I) (names : I → K → Bool)
     (hash_of : H → K → ℕ) where
+  -- A closure that fails changes nothing. Otherwise the call does what `MakesNewest` says, and `Memory` is its error.
   pub data MakesNewestIfMade (makes : Result V E → Type 0) (i : I) (old : State K V S H)
       (result : Result Bool (GetOrInsertError E)) (new : State K V S H) : Type 0 where
-    got : (w : V) → lookup (names i) old.pairs ≡ Some w →
-        result ≡ Ok true → new ≡ promoted (names i) old →
-        MakesNewestIfMade makes i old result new
     failed : lookup (names i) old.pairs ≡ None →
         (e : E) → makes (Err e) → result ≡ Err (Caller e) → new ≡ old →
         MakesNewestIfMade makes i old result new
-    inserted : lookup (names i) old.pairs ≡ None →
-        (v : V) → makes (Ok v) → (flag : Result Bool AllocError) → Insert rules offers names hash_of i v old flag new →
-        result ≡ or_memory flag →
+    as_made : (flag : Result Bool AllocError) →
+        MakesNewest rules offers names hash_of (λ v. makes (Ok v)) i old flag new → result ≡ or_memory flag →
         MakesNewestIfMade makes i old result new
 
   -- what such a get does, what its result says, and why it runs out of memory

@@ -47,10 +47,19 @@ module _ {K V S I : Type 0} (rules : Rules K V S) (offers : Offers K V S I) (nam
   abbrev pub replacement : K × V → I → V → Contents K V S → Replaced K V S
   replacement pair i v c = offers.on_replace c.limiter (length c.pairs) pair.0 i pair.1 v
 
+  -- what the limiter leaves of the pair, with the new value, or with the old one
+  abbrev pub with_new_value : K × V → I → V → Contents K V S → K × V
+  with_new_value pair i v c = let r = replacement pair i v c in (r.key, r.new_value)
+
+  abbrev pub with_old_value : K × V → I → V → Contents K V S → K × V
+  with_old_value pair i v c = let r = replacement pair i v c in (r.key, r.old_value)
+
   -- after the limiter accepted the new value: the pair comes first
   abbrev pub with_replaced : K × V → I → V → Contents K V S → Contents K V S
-  with_replaced pair i v c = let r = replacement pair i v c in
-      record { pairs = (r.key, r.new_value) ∷ without (names i) c.pairs; limiter = r.limiter }
+  with_replaced pair i v c = record {
+    pairs = with_new_value pair i v c ∷ without (names i) c.pairs;
+    limiter = (replacement pair i v c).limiter;
+  }
 
   -- after it rejected the new value: the pair is removed, and the limiter is notified
   abbrev pub with_given_up : K × V → I → V → Contents K V S → Contents K V S
@@ -93,8 +102,8 @@ module _ {K V S I : Type 0} (rules : Rules K V S) (offers : Offers K V S I) (nam
           PlacesNew rules hash_of pair (record old { limiter = s }) result new →
           Insert i v old result new
 
-    -- the table may run out of memory: there is no growth left, and no buckets or a pair besides the new one, if s
-    -- is the limiter after it accepted that
+    -- The table may need memory: no growth is left, and there are no buckets, or some pair is left once room was made.
+    -- The limiter returned `pair`, and is `s` then.
     pub record IsShort (i : I) (v : V) (old : State K V S H) : Type 0 where
       pub no_room : room old ≡ 0
       pub s : S

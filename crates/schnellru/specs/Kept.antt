@@ -1,15 +1,17 @@
--- What an insert keeps: it loses no pair, it evicts none if growth is left, and by length it leaves the newest pairs.
+-- What an insert keeps: it loses no pair; it evicts none if growth is left and the limiter is not over its limit with
+-- the new pair; and by length it leaves the newest pairs.
 --     rules, offers       what the limiter says (`Rules`, `Offers` of `lru_limits`)
 --     names i k           the inserted key i names the key k
-use Rattle.std.specs.Prelude.{◌≡◌, ℕ, ◌+◌, ◌-◌, ◌≤◌, ◌<◌, Bool, true, false, not, List, [], ◌∷◌, ◌++◌, length, reverse}
-use Rattle.std.specs.Prelude.{take, fold, nat_lt, Option, Some, None, unwrap_or, option_map, Result, Ok, IsOk, IsErr, OnOk}
-use Rattle.std.specs.Prelude.{OnErr}
+use Rattle.std.specs.Prelude.{◌≡◌, ◌⊎◌, ℕ, ◌+◌, ◌-◌, ◌^◌, ◌≤◌, ◌<◌, Bool, true, false, not, List, []}
+use Rattle.std.specs.Prelude.{◌∷◌, ◌++◌, length, reverse, take, fold, nat_lt, Option, Some, None, unwrap_or}
+use Rattle.std.specs.Prelude.{option_map, Result, Ok, IsOk, IsErr, OnOk, OnErr}
 use Rattle.std.specs.declared.alloc.AllocError.{AllocError}
 use Rattle.lru_limits.specs.Rules.{Rules, Offers}
-use Rattle.schnellru.specs.Sizes.{links_of_32_bits}
+use Rattle.schnellru.specs.Sizes.{max_of_32_bits}
 use Rattle.schnellru.specs.Lists.{is_empty, lookup_entry, without}
 use Rattle.schnellru.specs.State.{State, Contents, contents, buckets, room, IsSized}
-use Rattle.schnellru.specs.Inserts.{replacement, MayGive}
+use Rattle.schnellru.specs.Inserts.{replacement, with_old_value, MayGive}
+use Rattle.schnellru.specs.Theorems.{Stores}
 
 -- the limiter changes no pair when it is notified that the pair left
 pub record ChangesNoPair {K V S : Type 0} (rules : Rules K V S) : Type 0 where
@@ -17,47 +19,29 @@ pub record ChangesNoPair {K V S : Type 0} (rules : Rules K V S) : Type 0 where
   pub value : (s : S) (k : K) (v : V) → (rules.on_removed s k v).value ≡ v
 
 module _ {K V S H I : Type 0} (rules : Rules K V S) (offers : Offers K V S I) (names : I → K → Bool) where
-  -- what a replacement leaves of the pair that was there, with the new value, or with the old one
-  abbrev pub with_new_value : I → V → State K V S H → K × V → K × V
-  with_new_value i v old was = let r = replacement rules offers names was i v (contents old) in (r.key, r.new_value)
-
-  abbrev pub with_old_value : I → V → State K V S H → K × V → K × V
-  with_old_value i v old was = let r = replacement rules offers names was i v (contents old) in (r.key, r.old_value)
-
   -- An insert loses nothing: the pairs that it leaves, followed by those that it passed to its callback, oldest last,
   -- are the new pair and the old ones, except for the pair whose value was replaced.
   pub data LosesNothing (i : I) (v : V) (old : State K V S H) (result : Result Bool AllocError)
       (handed : List (K × V)) (new : State K V S H) : Type 0 where
-    -- The key is there: its pair comes first, with the new value,
-    value_accepted : (was : K × V) → lookup_entry (names i) old.pairs ≡ Some was →
-        (replacement rules offers names was i v (contents old)).taken ≡ true →
+    -- A pair is stored, and comes first, before the pairs of other keys. (If none is left, it was evicted, too.)
+    stored : (pair : K × V) → Stores rules offers names i v old pair →
         result ≡ Ok (not (is_empty new.pairs)) →
-        new.pairs ++ reverse handed ≡ with_new_value i v old was ∷ without (names i) old.pairs →
+        new.pairs ++ reverse handed ≡ pair ∷ without (names i) old.pairs →
         LosesNothing i v old result handed new
-    -- or that pair alone is passed to the callback, with the old value.
+    -- The key is there, and its new value is rejected: its pair alone is passed to the callback, with the old value.
     value_rejected : (was : K × V) → lookup_entry (names i) old.pairs ≡ Some was →
         (replacement rules offers names was i v (contents old)).taken ≡ false →
         result ≡ Ok false →
-        handed ≡ with_old_value i v old was ∷ [] → new.pairs ≡ without (names i) old.pairs →
+        handed ≡ with_old_value rules offers names was i v (contents old) ∷ [] →
+        new.pairs ≡ without (names i) old.pairs →
         LosesNothing i v old result handed new
-    -- The key is new: the limiter finds no memory, or returns no pair, and all pairs stay,
-    no_memory_for_key : lookup_entry (names i) old.pairs ≡ None →
-        offers.may_lack old.limiter (length old.pairs) i v →
-        IsErr result →
+    -- The key is new, and the limiter finds no memory or returns no pair: all pairs stay.
+    nothing_to_store : lookup_entry (names i) old.pairs ≡ None →
+        (offers.may_lack old.limiter (length old.pairs) i v × IsErr result)
+        ⊎ ((s : S) × MayGive rules offers names i v (contents old) s None × (result ≡ Ok false)) →
         handed ≡ [] → new.pairs ≡ old.pairs →
         LosesNothing i v old result handed new
-    key_rejected : lookup_entry (names i) old.pairs ≡ None →
-        (s : S) → MayGive rules offers names i v (contents old) s None →
-        result ≡ Ok false →
-        handed ≡ [] → new.pairs ≡ old.pairs →
-        LosesNothing i v old result handed new
-    -- or the pair that it returns is stored, and comes first,
-    pair_stored : lookup_entry (names i) old.pairs ≡ None →
-        (s : S) (pair : K × V) → MayGive rules offers names i v (contents old) s (Some pair) →
-        result ≡ Ok (not (is_empty new.pairs)) →
-        new.pairs ++ reverse handed ≡ pair ∷ old.pairs →
-        LosesNothing i v old result handed new
-    -- or it is not stored, and is the last that is passed to the callback.
+    -- The key is new, and the pair that the limiter returns is not stored: it is the last that the callback gets.
     pair_not_stored : lookup_entry (names i) old.pairs ≡ None →
         (s : S) (pair : K × V) → MayGive rules offers names i v (contents old) s (Some pair) →
         (result ≡ Ok true → ⊥) →
@@ -98,11 +82,15 @@ pub record LeavesTheNewest {K V : Type 0} (eq : K → K → Bool) (most : ℕ) (
   pub newest : OnOk result (new ≡ take most ((stored_key (eq key) key old, value) ∷ without (eq key) old))
   pub others : OnErr result (new ≡ take (most - 1) old)
 
--- A map keeps to its maximum length. That is at most 939,524,096, half of what the largest table holds that links of 32
--- bits reach, and an entry has fewer than 2 ^ 32 - 1 bytes.
+-- half of what the largest table may hold whose buckets links of 32 bits can number
+abbrev pub most_exact_length : ℕ
+most_exact_length = 939524096
+
+-- A map keeps to its maximum length, if that is at most `most_exact_length`, and an entry has fewer than 2 ^ 32 - 1
+-- bytes.
 pub record KeepsToLength {K V H : Type 0} (st : State K V ℕ H) : Type 0 where
   pub within : length st.pairs ≤ st.limiter
-  pub half : st.limiter ≤ 939524096
-  pub links : st.max ≡ links_of_32_bits
-  pub entry : st.entry_bytes < links_of_32_bits
+  pub half : st.limiter ≤ most_exact_length
+  pub links : st.max ≡ max_of_32_bits
+  pub entry : st.entry_bytes < 2 ^ 32 - 1
   pub sized : IsSized st

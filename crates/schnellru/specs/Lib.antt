@@ -1,4 +1,5 @@
 pub mod Sizes
+pub mod EntrySize
 pub mod Lists
 pub mod State
 pub mod Place
@@ -7,6 +8,7 @@ pub mod Pops
 pub mod Inserts
 pub mod Extends
 pub mod HandedOver
+pub mod MayTake
 pub mod Reservations
 pub mod Shrinks
 pub mod Theorems

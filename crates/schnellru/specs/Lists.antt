@@ -31,7 +31,7 @@ module _ {X : Type 0} where
   without_last (x ∷ []) = []
   without_last (x ∷ y ∷ ys) = x ∷ without_last (y ∷ ys)
 
-  -- the last of the first n
+  -- the element at position n - 1, counted from 0, if there is one; none for n = 0
   abbrev pub last_of : ℕ → List X → Option X
   last_of zero xs = None
   last_of (suc n) xs = slice_get xs n

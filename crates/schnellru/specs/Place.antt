@@ -1,15 +1,16 @@
 -- Inserting a new pair into the table: what its growth left allows, what the limiter permits, and how many entries
 -- move.
 use Rattle.std.specs.Prelude.{◌≡◌, ℕ, zero, suc, ◌+◌, ◌-◌, ◌/◌, ◌≤◌, ◌<◌, ◌⊎◌, Bool, true, false, [], ◌∷◌, length}
-use Rattle.std.specs.Prelude.{Result, Ok, Err}
+use Rattle.std.specs.Prelude.{Result, Ok, Err, slice_set}
 use Rattle.group_table.specs.Sizes.{full_capacity}
-use Rattle.group_table.specs.Bucket.{empty, deleted}
+use Rattle.group_table.specs.Bucket.{empty, deleted, full, bucket_at}
+use Rattle.group_table.specs.Probe.{IsFirstFree}
 use Rattle.group_table.specs.Change.{count_up, HasNoPlace}
 use Rattle.lru_limits.specs.Rules.{Rules}
 use Rattle.schnellru.specs.Sizes.{target, Target, no_table, new_table}
 use Rattle.schnellru.specs.State.{State, buckets, room, FirstFreeIs, contents, Leaves, pop}
 
--- what comes of it: the pair is stored, the limiter or the sizes refused it, or the map ran out of memory
+-- what comes of it: the pair is stored, the limiter or the sizes allow no table for it, or the map ran out of memory
 pub data Outcome : Type 0 where
   placed refused no_memory : Outcome
 
@@ -38,14 +39,19 @@ module _ {K V S H : Type 0} where
   abbrev pub IsPlacedInTable : K × V → State K V S H → State K V S H → Type 0
   IsPlacedInTable pair old new = IsPlaced pair (buckets old) (room new) 0 old new
 
-  -- The first free bucket that a search for the hash finds was filled: an empty one, which uses one of the growth left,
-  -- or, in a table of more than 16 buckets, a deleted one, which uses none.
-  abbrev pub FillsBucket : ℕ → State K V S H → State K V S H → Type 0
-  FillsBucket hash old new = (FirstFreeIs empty hash old × (room new + 1 ≡ room old))
-      ⊎ (FirstFreeIs deleted hash old × (16 < buckets old) × (room new ≡ room old))
+  -- The first free bucket that a search for the hash finds is full now, with the newest pair, and no other bucket has
+  -- changed. It was empty, and takes one of the growth left, or it was deleted, in a table of more than 16 buckets, and
+  -- takes none.
+  pub record FillsBucket (hash : ℕ) (old new : State K V S H) : Type 0 where
+    pub bucket : ℕ
+    pub first : IsFirstFree old.marks hash bucket
+    pub marks : new.marks ≡ slice_set old.marks bucket (full tt)
+    pub places : new.places ≡ bucket ∷ old.places
+    pub spends : ((bucket_at old.marks bucket ≡ empty) × (room new + 1 ≡ room old))
+        ⊎ ((bucket_at old.marks bucket ≡ deleted) × (16 < buckets old) × (room new ≡ room old))
 
   -- No bucket takes a pair of this hash: there is no growth left, and the first free bucket that a search finds is an
-  -- empty one. (Without pairs it may be any, because such a table is rehashed.)
+  -- empty one. (It is `HasNoPlace`, or the map has no pairs and no growth is left: its table is rehashed then.)
   pub record HasNoBucket (hash : ℕ) (st : State K V S H) : Type 0 where
     pub no_room : room st ≡ 0
     pub first_empty : 0 < length st.pairs → FirstFreeIs empty hash st
@@ -60,9 +66,9 @@ module _ {K V S H : Type 0} where
   abbrev pub table_for : ℕ → State K V S H → Target
   table_for n st = target st.max st.entry_bytes (buckets st) (length st.pairs + n)
 
-  -- there is a pair, and no growth left
-  abbrev pub LacksRoom : State K V S H → Type 0
-  LacksRoom st = (0 < length st.pairs) × (room st ≡ 0)
+  -- there are pairs, and no growth is left
+  abbrev pub IsFullWithPairs : State K V S H → Type 0
+  IsFullWithPairs st = (0 < length st.pairs) × (room st ≡ 0)
 
 module _ {K V S H : Type 0} (rules : Rules K V S) where
   -- after the limiter was asked to permit a table of n bytes
@@ -106,8 +112,8 @@ module _ {K V S H : Type 0} (rules : Rules K V S) where
         mid ≡ asked bytes old → CannotGrow old mid
 
   -- The oldest pairs of mid are evicted until the new pair finds a bucket, or until fewer than half of what the table
-  -- may hold are left, and it is rehashed. If there are none to evict, the new pair is rejected. The map was old before
-  -- the limiter was asked.
+  -- may hold are left, and it is rehashed. If there are none to evict, the new pair is rejected. `old` is the map
+  -- before the limiter was queried for a larger table, and `mid` the map after.
   pub data Evicts (hash : ℕ) (pair : K × V) (old mid : State K V S H) (outcome : Outcome)
       (new : State K V S H) : Type 0 where
     nothing_to_evict : old.pairs ≡ [] →

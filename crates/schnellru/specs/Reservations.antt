@@ -20,7 +20,7 @@ module _ {K V S H : Type 0} (n : ℕ) (st : State K V S H) where
     too_many : 2 ^ 64 ≤ length st.pairs + n → result ≡ Err TooLarge → ReservesNothing result
     no_such_table : LacksRoomFor → table_for n st ≡ no_table → result ≡ Err TooLarge → ReservesNothing result
     -- or there is no memory to rehash the table; without pairs a rehash needs none
-    no_memory_to_remake : LacksRoomFor → table_for n st ≡ same_table → 0 < length st.pairs → result ≡ Err Memory →
+    no_memory_to_rehash : LacksRoomFor → table_for n st ≡ same_table → 0 < length st.pairs → result ≡ Err Memory →
         ReservesNothing result
 
 module _ {K V S H : Type 0} (rules : Rules K V S) where
@@ -29,14 +29,14 @@ module _ {K V S H : Type 0} (rules : Rules K V S) where
   FailsToGrow bytes st result =
       (Grants rules bytes st × (result ≡ Err Memory)) ⊎ (Denies rules bytes st × (result ≡ Err Refused))
 
-  -- growth for n more pairs; the pairs and the counts stay
+  -- The growth left is made n at least; the pairs and the counts stay.
   pub data Reserve (n : ℕ) (old : State K V S H) (result : Result (Unit {0}) ReserveError)
       (new : State K V S H) : Type 0 where
     -- Nothing changes,
     unchanged : ReservesNothing n old result → new ≡ old →
         Reserve n old result new
     -- or the table is rehashed at its size, for which the limiter is not asked,
-    remade : LacksRoomFor n old → table_for n old ≡ same_table →
+    rehashed : LacksRoomFor n old → table_for n old ≡ same_table →
         result ≡ Ok tt → MovesTo (buckets old) old new →
         Reserve n old result new
     -- or it grows, if the limiter permits it, and else the limiter was asked, and no more.

@@ -10,18 +10,19 @@ use Rattle.schnellru.specs.ByHash.{Asks}
 use Rattle.schnellru.specs.HandedOver.{noting, noted}
 
 module _ {K V S : Type 0} (rules : Rules K V S) where
-  -- a pair stays if its answer is true, and else the limiter is notified of its removal
+  -- a pair stays if the closure returned true for it, and else the limiter is notified of its removal
   abbrev pub answered : (K × V) × Bool → Contents K V S → Contents K V S
   answered (pair, true) c = record { pairs = pair ∷ c.pairs; limiter = c.limiter }
   answered (pair, false) c = record { pairs = c.pairs; limiter = notified_of rules (Some pair) c.limiter }
 
-  -- what is left of these pairs, newest first, after their answers, the last of which came first
+  -- what is left of these pairs, newest first, by what the closure returned for each; it was called for the last pair
+  -- first
   abbrev pub retained : List ((K × V) × Bool) → S → Contents K V S
   retained [] s = record { pairs = []; limiter = s }
   retained (newest ∷ older) s = answered newest (retained older s)
 
 module _ {K V F : Type 0} (closure : Mut F (Bor K × (Bor V × Unit {0})) Bool) where
-  -- f was called with these pairs, from the last on, gave these answers, and is then g
+  -- f was called with these pairs, the last one first, returned these, and is then g
   abbrev pub Answers : F → List ((K × V) × Bool) → F → Type 0
   Answers f [] g = g ≡ f
   Answers f (newest ∷ older) g = (between : F) × Answers f older between × Asks closure between newest.0 newest.1 g

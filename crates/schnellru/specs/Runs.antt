@@ -23,8 +23,9 @@ AreAmong {K} named test = (key : K) → named key ≡ true → test key ≡ true
 
 module _ {K V S H I : Type 0} (rules : Rules K V S) (offers : Offers K V S I) (names : I → K → Bool)
     (hash_of : H → K → ℕ) where
-  -- What one call makes of a map if nothing is written through a reference. A call that only looks changes nothing, and
-  -- a search by a hash promotes the pair that it finds.
+  -- What one call makes of a map if nothing is written through a reference. A call that only looks changes nothing. A
+  -- look-up by a key of any type, or by a hash, promotes the pair that it finds. All inserts of a run are by keys of
+  -- one type I.
   pub data Step (old new : State K V S H) : Type 0 where
     inserts : (key : I) (value : V) (result : Result Bool AllocError)
         → Insert rules offers names hash_of key value old result new → Step old new
@@ -32,8 +33,8 @@ module _ {K V S H I : Type 0} (rules : Rules K V S) (offers : Offers K V S I) (n
         MakesNewest rules offers names hash_of (λ made. made ≡ value) key old result new → Step old new
     updates : (key : I) (value : V) (result : Updated V) → Update rules offers names key value old result new
         → Step old new
-    gets : (key : I) → new ≡ promoted (names key) old → Step old new
-    demotes : (key : I) → new ≡ demoted (names key) old → Step old new
+    gets : (test : K → Bool) → new ≡ promoted test old → Step old new
+    demotes : (test : K → Bool) → new ≡ demoted test old → Step old new
     removes : (test : K → Bool) (result : Option V) → Remove rules test old result new → Step old new
     pops_oldest : (result : Option (K × V)) → PopOldest rules old result new → Step old new
     pops_newest : (result : Option (K × V)) → PopNewest rules old result new → Step old new
@@ -45,7 +46,7 @@ module _ {K V S H I : Type 0} (rules : Rules K V S) (offers : Offers K V S I) (n
     retains : (asked : List ((K × V) × Bool)) → map (λ one. one.0) asked ≡ old.pairs
         → Leaves old (retained rules asked old.limiter) new → Step old new
 
-  -- the same, or a value is written through a reference, or another limiter is
+  -- such a call, or a write of a value through a reference, or another limiter that is set
   pub data AnyStep (old new : State K V S H) : Type 0 where
     calls : Step old new → AnyStep old new
     writes : (test : K → Bool) (value : V) → new ≡ written test value old → AnyStep old new
@@ -55,13 +56,14 @@ module _ {K V S H I : Type 0} (rules : Rules K V S) (offers : Offers K V S I) (n
   abbrev pub StepOrWrite : State K V S H → State K V S H → Type 0
   StepOrWrite old new = Step old new ⊎ ((test : K → Bool) × (value : V) × (new ≡ written test value old))
 
-  -- The call names only keys that pass the test, and does not pop the newest pair. A retain names those that it rejects.
+  -- The call names only keys that pass the test, and does not pop the newest pair. A retain names the keys that it
+  -- rejects.
   abbrev pub NamesOnly : (test : K → Bool) → (old new : State K V S H) → AnyStep old new → Type 0
   NamesOnly test old new (calls (inserts key value result h)) = AreAmong (names key) test
   NamesOnly test old new (calls (makes_newest value key result h)) = AreAmong (names key) test
   NamesOnly test old new (calls (updates key value result h)) = AreAmong (names key) test
-  NamesOnly test old new (calls (gets key e)) = AreAmong (names key) test
-  NamesOnly test old new (calls (demotes key e)) = AreAmong (names key) test
+  NamesOnly test old new (calls (gets named e)) = AreAmong named test
+  NamesOnly test old new (calls (demotes named e)) = AreAmong named test
   NamesOnly test old new (calls (removes named result h)) = AreAmong named test
   NamesOnly test old new (calls (pops_newest result h)) = ⊥
   NamesOnly test old new (calls (retains asked each h)) =

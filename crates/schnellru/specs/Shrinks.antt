@@ -6,11 +6,11 @@ use Rattle.group_table.specs.Change.{count_up}
 use Rattle.schnellru.specs.State.{State, buckets, MovesTo}
 
 module _ {K V S H : Type 0} where
-  -- no fewer buckets than it has hold the pairs
+  -- the table has no more buckets than its pairs need
   abbrev pub IsTight : State K V S H → Type 0
   IsTight st = IfSome (buckets_for st.max (length st.pairs)) (λ count. buckets st ≤ count)
 
-  -- n buckets hold the pairs, fewer than it has
+  -- the pairs need `count` buckets, and the table has more
   abbrev pub IsLooseFor : ℕ → State K V S H → Type 0
   IsLooseFor count st = (buckets_for st.max (length st.pairs) ≡ Some count) × (count < buckets st)
 
@@ -33,5 +33,5 @@ module _ {K V S H : Type 0} where
         Shrink old result new
 
 -- how many entries a call rehashes as a shrink: none, or all of a map that it shrinks
-abbrev pub PlacesAnew : {K V S H : Type 0} → ℕ → State K V S H → State K V S H → Type 0
-PlacesAnew anew old new = (anew ≡ 0) ⊎ (Shrink old (Ok true) new × (anew ≡ length old.pairs))
+abbrev pub RehashedByShrink : {K V S H : Type 0} → ℕ → State K V S H → State K V S H → Type 0
+RehashedByShrink anew old new = (anew ≡ 0) ⊎ (Shrink old (Ok true) new × (anew ≡ length old.pairs))

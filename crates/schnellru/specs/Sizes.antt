@@ -7,12 +7,12 @@ use Rattle.group_table.specs.Sizes.{IsPowerFromFour, full_capacity, buckets_for}
 abbrev pub default_entry_bytes : ℕ
 default_entry_bytes = 32
 
--- numbers below these are links of 32 bits and of 64 bits
-abbrev pub links_of_32_bits : ℕ
-links_of_32_bits = 2 ^ 32 - 1
+-- the number of the link `MAX` of 32 bits, and of 64 bits: buckets have smaller numbers
+abbrev pub max_of_32_bits : ℕ
+max_of_32_bits = 2 ^ 32 - 1
 
-abbrev pub links_of_64_bits : ℕ
-links_of_64_bits = 2 ^ 64 - 1
+abbrev pub max_of_64_bits : ℕ
+max_of_64_bits = 2 ^ 64 - 1
 
 -- the bytes of a table: its entries, rounded up to a multiple of 16, a byte for each bucket, and 16 more
 abbrev pub bytes_of : ℕ → ℕ → ℕ
@@ -38,12 +38,12 @@ pub data Target : Type 0 where
   no_table same_table : Target
   new_table : ℕ → ℕ → Target
 
--- a table of n buckets, if it has a usage
+-- a table of this number of buckets and these bytes, or none without a number of bytes
 abbrev pub table_of : ℕ → Option ℕ → Target
 table_of buckets None = no_table
 table_of buckets (Some bytes) = new_table buckets bytes
 
--- the same, if there is such a number
+-- the table of this number of buckets, or none without a number
 abbrev pub table_with : ℕ → Option ℕ → Target
 table_with entry_bytes None = no_table
 table_with entry_bytes (Some buckets) = table_of buckets (usage entry_bytes buckets)

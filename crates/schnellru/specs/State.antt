@@ -1,10 +1,10 @@
 -- A map as a list of pairs under a limiter, in a table whose bucket states are known.
-use Rattle.std.specs.Prelude.{◌≡◌, ℕ, zero, suc, ◌+◌, ◌-◌, ◌*◌, ◌^◌, ◌≤◌, ◌<◌, ◌⊎◌, Bool, false, if◌then◌else◌, List, []}
-use Rattle.std.specs.Prelude.{length, Option, Some, None}
+use Rattle.std.specs.Prelude.{◌≡◌, ℕ, zero, suc, ◌+◌, ◌-◌, ◌*◌, ◌^◌, ◌≤◌, ◌<◌, ◌⊎◌, Bool, false, if◌then◌else◌, List}
+use Rattle.std.specs.Prelude.{[], length, Option, Some, None, filter, not, nat_eq}
 use Rattle.std.specs.List.{IsDistinct}
 use Rattle.group_table.specs.Sizes.{full_capacity}
 use Rattle.group_table.specs.Bucket.{Mark, bucket_at, entry_count, room as room_of}
-use Rattle.group_table.specs.Change.{count_up}
+use Rattle.group_table.specs.Change.{count_up, Removes}
 use Rattle.group_table.specs.Probe.{IsFirstFree}
 use Rattle.group_table.specs.Table.{IsTable}
 use Rattle.lru_limits.specs.Rules.{Rules}
@@ -34,8 +34,9 @@ pub record State (K V S H : Type 0) : Type 0 where
   pub placed : ℕ
   -- how many entries shrinks rehashed
   pub shrunk : ℕ
-  -- the bytes of a bucket, and the first number of a bucket that links cannot have
+  -- what a bucket counts in bytes, as the constructor was given it
   pub entry_bytes : ℕ
+  -- the number of the link `MAX`, above that of each bucket
   pub max : ℕ
 
 module _ {K V S H : Type 0} where
@@ -85,7 +86,7 @@ module _ {K V S H : Type 0} where
     pub placed : st.placed < 2 ^ 64
     pub shrunk : st.shrunk < 2 ^ 64
 
-  -- twice the buckets in use, beyond half of what the table may hold
+  -- twice the number of buckets in use above half of what the table may hold, or 0
   abbrev pub potential : State K V S H → ℕ
   potential st = full_capacity (buckets st) - 2 * room st
 
@@ -126,15 +127,27 @@ module _ {K V S H : Type 0} where
     pub is : new ≡ record old { pairs = left.pairs; limiter = left.limiter; marks = new.marks; places = new.places }
     pub room : FreesRoom old new
 
+  -- the bucket in which a pair was is free: it is empty if every 16 neighbours contain an empty one, and deleted
+  -- otherwise; each other bucket stays as it was
+  pub record Frees (place : Option ℕ) (old new : State K V S H) : Type 0 where
+    pub bucket : ℕ
+    pub there : place ≡ Some bucket
+    pub freed : Removes old.marks new.marks bucket
+    pub others : new.places ≡ filter (λ b. not (nat_eq b bucket)) old.places
+
 module _ {K V S : Type 0} (rules : Rules K V S) where
   -- the limiter, after it was notified of the pair that left, if there was one
   abbrev pub notified_of : Option (K × V) → S → S
   notified_of None s = s
   notified_of (Some pair) s = (rules.on_removed s pair.0 pair.1).limiter
 
+  -- these pairs are left, and the limiter was notified of the pair that is gone, if there is one
+  abbrev pub after_removal : Option (K × V) → List (K × V) → S → Contents K V S
+  after_removal gone left s = record { pairs = left; limiter = notified_of gone s }
+
   -- without the oldest pair, of which the limiter is notified
   abbrev pub pop : Contents K V S → Contents K V S
-  pop c = record { pairs = without_last c.pairs; limiter = notified_of (last c.pairs) c.limiter }
+  pop c = after_removal (last c.pairs) (without_last c.pairs) c.limiter
 
   -- without the n oldest pairs, one after another
   abbrev pub pops : ℕ → Contents K V S → Contents K V S

@@ -1,5 +1,6 @@
--- What the theorems say.
-use Rattle.std.specs.Prelude.{◌≡◌, ℕ, ◌+◌, ◌-◌, ◌*◌, ◌/◌, ◌^◌, ◌≤◌, ◌<◌, Bool, true, false, List, ◌∷◌, length, sum_by, not}
+-- Words of the laws in `src/laws`: what an insert evicts, stores and says, and what moves cost.
+use Rattle.std.specs.Prelude.{◌≡◌, ℕ, ◌+◌, ◌-◌, ◌*◌, ◌/◌, ◌^◌, ◌≤◌, ◌<◌, Bool, true, false, List, ◌∷◌, length}
+use Rattle.std.specs.Prelude.{sum_by, not}
 use Rattle.std.specs.List.{filter}
 use Rattle.std.specs.Prelude.{Some, None, Result, Ok, Err}
 use Rattle.std.specs.declared.alloc.AllocError.{AllocError}
@@ -9,12 +10,12 @@ use Rattle.lru_limits.specs.Rules.{Rules, Offers}
 use Rattle.schnellru.specs.Sizes.{usage}
 use Rattle.schnellru.specs.Lists.{IsFront, lookup_entry, without}
 use Rattle.schnellru.specs.State.{State, buckets, contents, potential}
-use Rattle.schnellru.specs.Place.{LacksRoom, CannotGrow}
-use Rattle.schnellru.specs.Inserts.{replacement, MayGive}
+use Rattle.schnellru.specs.Place.{IsFullWithPairs, CannotGrow}
+use Rattle.schnellru.specs.Inserts.{replacement, with_new_value, MayGive}
 
 module _ {K V S H : Type 0} where
-  -- from old to new, while shrinks rehash `anew` entries, the count of moved entries and the potential together rise by
-  -- at most 1 for each of these and 2 for each entry stored, while the count of stored entries goes on
+  -- `moved` and the potential together rise by at most 2 for each entry stored, and by 1 for each of `anew` entries
+  -- that shrinks rehashed, unless the count of stored entries has stopped
   pub record PaysForMoves (anew : ℕ) (old new : State K V S H) : Type 0 where
     pub placed : old.placed ≤ new.placed
     pub shrunk : new.shrunk ≡ count_up old.shrunk anew
@@ -47,7 +48,7 @@ pub record IsNewest {K V : Type 0} (names : K → Bool) (pairs : List (K × V)) 
 
 -- what an insert leaves of the pairs, if names accepts the inserted key
 pub data GivesUp {K V : Type 0} (names : K → Bool) (refuses : K × V → Type 0) (old new : List (K × V)) : Type 0 where
-  -- the oldest are evicted until there is room, and the new pair is the newest
+  -- what is left begins with the pair of the key, followed by the newest others; or nothing is left
   behind : (newest : K × V) → names newest.0 ≡ true → IsFront new (newest ∷ without names old) →
       GivesUp names refuses old new
   -- the oldest are evicted, and no pair is stored, nor was the key there
@@ -59,7 +60,7 @@ pub data GivesUp {K V : Type 0} (names : K → Bool) (refuses : K × V → Type 
 module _ {K V S H : Type 0} (rules : Rules K V S) where
   -- the table has no growth left, would be more than half full, and cannot grow
   pub record IsRefusedGrowth (st : State K V S H) : Type 0 where
-    pub lacks_room : LacksRoom st
+    pub is_full : IsFullWithPairs st
     pub above_half : full_capacity (buckets st) / 2 < length st.pairs + 1
     pub known : State K V S H
     pub refused : CannotGrow rules st known
@@ -77,10 +78,7 @@ module _ {K V S H I : Type 0} (rules : Rules K V S) (offers : Offers K V S I) (n
   pub data Stores (i : I) (v : V) (old : State K V S H) (pair : K × V) : Type 0 where
     left : (was : K × V) → lookup_entry (names i) old.pairs ≡ Some was
         → (replacement rules offers names was i v (contents old)).taken ≡ true →
-        pair ≡ (
-          (replacement rules offers names was i v (contents old)).key,
-          (replacement rules offers names was i v (contents old)).new_value,
-        ) →
+        pair ≡ with_new_value rules offers names was i v (contents old) →
         Stores i v old pair
     given : lookup_entry (names i) old.pairs ≡ None →
         (s : S) → MayGive rules offers names i v (contents old) s (Some pair) →

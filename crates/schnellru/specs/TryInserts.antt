@@ -1,4 +1,4 @@
--- What `try_insert` does: it inserts a new pair only if nothing has to leave for it.
+-- What `try_insert` does: it inserts a new pair only if nothing has to be evicted for it.
 --     terms               what the limiter accepts (`Terms` of `lru_limits`)
 --     rules, offers       what it says otherwise (`Rules`, `Offers` of `lru_limits`)
 --     eq                  whether two keys are equal

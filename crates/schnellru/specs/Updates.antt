@@ -5,7 +5,7 @@ use Rattle.std.specs.Prelude.{◌≡◌, Bool, true, false, List, [], Some, None
 use Rattle.lru_limits.specs.Rules.{Rules, Offers}
 use Rattle.schnellru.specs.Lists.{lookup_entry, set_entry}
 use Rattle.schnellru.specs.State.{State, Contents, contents, Leaves, trim}
-use Rattle.schnellru.specs.Inserts.{replacement, with_given_up}
+use Rattle.schnellru.specs.Inserts.{replacement, with_new_value, with_given_up}
 use Rattle.schnellru.specs.HandedOver.{noting, noting_offers, noted}
 use Rattle.schnellru.specs.declared.map.update.Updated.{Updated}
 use Rattle.schnellru.specs.declared.map.update.Updated.TheVariants.{Replaced, Rejected, Absent}
@@ -13,8 +13,10 @@ use Rattle.schnellru.specs.declared.map.update.Updated.TheVariants.{Replaced, Re
 module _ {K V S I : Type 0} (rules : Rules K V S) (offers : Offers K V S I) (names : I → K → Bool) where
   -- after the limiter accepted the new value: the pair keeps its place
   abbrev pub with_updated : K × V → I → V → Contents K V S → Contents K V S
-  with_updated pair i v c = let r = replacement rules offers names pair i v c in
-      record { pairs = set_entry (names i) (r.key, r.new_value) c.pairs; limiter = r.limiter }
+  with_updated pair i v c = record {
+    pairs = set_entry (names i) (with_new_value rules offers names pair i v c) c.pairs;
+    limiter = (replacement rules offers names pair i v c).limiter;
+  }
 
   -- what an update returns and leaves
   pub data Update {H : Type 0} (i : I) (v : V) (old : State K V S H) (result : Updated V) (new : State K V S H)
@@ -36,7 +38,8 @@ module _ {K V S I : Type 0} (rules : Rules K V S) (offers : Offers K V S I) (nam
         result ≡ Absent v → new ≡ old →
         Update i v old result new
 
--- an update that passes on these pairs: the list that began empty has them at its end
+-- an update whose callback gets these pairs: the list that `noting` keeps is empty before the call, and consists of
+-- these after it
 abbrev pub UpdateHands : {K V S H I : Type 0} → Rules K V S → Offers K V S I → (I → K → Bool) → I → V → State K V S H
     → Updated V → List (K × V) → State K V S H → Type 0
 UpdateHands rules offers names i v old result handed new =

@@ -11,7 +11,7 @@ ghost use Rattle.group_table.specs.Sizes.{full_capacity};
 ghost use Rattle.schnellru.specs.Lists.{first, without_last, keys_of, lookup, lookup_entry, IsFront};
 ghost use Rattle.schnellru.specs.Sizes.{usage, IsGreatestUsage};
 ghost use Rattle.schnellru.specs.State.{State, Contents, contents, buckets, room, FirstFreeIs, IsSized, IsPaid, IsMap};
-ghost use Rattle.schnellru.specs.Place.{Place, Outcome, placed, no_memory, IsPlaced, LacksRoom};
+ghost use Rattle.schnellru.specs.Place.{Place, Outcome, placed, no_memory, IsPlaced, IsFullWithPairs, FillsBucket};
 ghost use Rattle.schnellru.specs.Calls.{Get, promoted, Remove, PopOldest, PopNewest, cleared};
 ghost use Rattle.schnellru.specs.Reservations.{Reserve};
 ghost use Rattle.schnellru.specs.declared.map.reserve.ReserveError.{ReserveError};
@@ -46,7 +46,7 @@ pub use runs::{
 };
 pub use shrinks::{shrinks_keep_the_list, shrinks_leave_a_tight_table, shrinks_pay_for_moves};
 
-/// An insert evicts from the old end alone. The one other pair that it may remove is the pair whose replacement is
+/// An insert evicts from the old end alone. The one other entry that it may remove is the entry whose replacement is
 /// rejected.
 pub fn inserts_give_up_the_oldest<
     K: Eq + Hash,
@@ -77,9 +77,9 @@ pub fn inserts_say_whether<
         SaysWhether L.rules (I.names key) result new }
 {}
 
-/// The pairs that an insert passes to its callback, together with those that are left, are at most one more than there
-/// were. So a callback that keeps them needs space for one pair more than the map has. `InsertHands` is an insert like
-/// any other.
+/// The entries that an insert passes to its callback, together with those that are left, are at most one more than
+/// there were. So a callback that keeps them needs space for one entry more than the map contains. `InsertHands` is an
+/// insert like any other.
 pub fn inserts_hand_over_few<
     K: Eq + Hash,
     V,
@@ -97,8 +97,8 @@ pub fn inserts_hand_over_few<
         Insert L.rules L.offers I.names S.hash_of key value old result new }
 {}
 
-/// If an insert returns true, the newest pair is what the limiter gave for the new key, or what it left of the pair
-/// that was there. So under a limiter that stores values as they come, a look-up of the key returns the value.
+/// If an insert returns true, the newest entry is what the limiter returned for the new key, or what it left of the
+/// entry that was there. So under a limiter that stores values as they come, a look-up of the key returns the value.
 pub fn inserts_store_the_value<
     K: Eq + Hash,
     V,
@@ -115,7 +115,7 @@ pub fn inserts_store_the_value<
         lookup (I.names key) new.pairs ≡ Some value }
 {}
 
-/// If an insert runs out of memory, `on_insert` did, or the table had no growth left. The pairs that stay are the
+/// If an insert runs out of memory, `on_insert` did, or the table had no growth left. The entries that stay are the
 /// newest of the old ones.
 pub fn inserts_lack_memory_at_no_room<
     K: Eq + Hash,
@@ -136,9 +136,9 @@ pub fn inserts_lack_memory_at_no_room<
         IsFront new.pairs old.pairs }
 {}
 
-/// An insert into a table of up to 16 buckets is determined, except for whether memory is there: its answer, the pairs
-/// and the limiter follow from the pairs and the limiter before. If the limiter's offers are determined too, two equal
-/// inserts end alike, wherever the limiter's pair is stored.
+/// An insert into a table of up to 16 buckets has one possible result for each outcome of its allocations: what it
+/// returns, the entries and the limiter follow from the entries and the limiter before. If the limiter's offers are
+/// determined too, two equal inserts end alike, wherever the limiter's entry is stored.
 pub fn small_inserts_are_exact<
     K: Eq + Hash,
     V,
@@ -179,8 +179,8 @@ pub fn small_inserts_look_alike<
 {}
 
 /// If the limiter permits every growth, as `ByLength` and the unlimited ones do, and the tables that an insert may need
-/// are within the reach of links and bytes, the insert is one into a list of pairs that has no table. Only whether
-/// memory is there stays open.
+/// are within the reach of links and bytes, the insert does what it would do to a list of entries without a table. Only
+/// whether memory is there stays open.
 pub fn granted_inserts_are_exact<
     K: Eq + Hash,
     V,
@@ -194,7 +194,7 @@ pub fn granted_inserts_are_exact<
         InsertsInList L.rules L.offers I.names key value (contents old) result (contents new) }
 {}
 
-/// If an insert grows the table, the new table holds fewer than four times the pairs.
+/// If an insert grows the table, the new table can hold fewer than four times the entries, the new one included.
 pub fn inserts_grow_little<
     K: Eq + Hash,
     V,
@@ -208,16 +208,17 @@ pub fn inserts_grow_little<
         buckets old < buckets new → full_capacity (buckets new) < 4 * (length old.pairs + 1) }
 {}
 
-/// If there are pairs and no growth left, and a search for the new key meets a deleted bucket first, the pair fills
-/// that bucket: the limiter is not queried and nothing moves. No other insertion into the table ends so.
+/// If there are entries and no growth left, and a search for the new key meets a deleted bucket first, the new entry
+/// fills that bucket: the limiter is not queried and nothing moves. No other insertion into the table ends so.
 pub fn deleted_buckets_serve<K: Eq + Hash, V, L: Limiter<K, V>, S: KeyHasher<K>>()
     ensures served { (pair : K × V) (old : State K V L S) (outcome : Outcome) (new : State K V L S) →
-        LacksRoom old →
+        IsFullWithPairs old →
         FirstFreeIs deleted (S.hash_of old.hasher pair.0) old →
         Place L.rules S.hash_of pair old outcome new →
-        (outcome ≡ placed) × IsPlaced pair (buckets old) 0 0 old new }
+        (outcome ≡ placed) × IsPlaced pair (buckets old) 0 0 old new ×
+        FillsBucket (S.hash_of old.hasher pair.0) old new }
     ensures only { (pair : K × V) (old new : State K V L S) →
-        LacksRoom old → IsSized old →
+        IsFullWithPairs old → IsSized old →
         Place L.rules S.hash_of pair old placed new →
         IsPlaced pair (buckets old) 0 0 old new →
         FirstFreeIs deleted (S.hash_of old.hasher pair.0) old }
@@ -247,8 +248,8 @@ pub fn inserts_pay_for_moves<
         CountsPlacings old new }
 {}
 
-/// If the limiter refuses growth, the map keeps at least half of what the table may hold, the new pair included. In a
-/// table of up to 16 buckets exactly the oldest pair is evicted.
+/// If the limiter refuses growth, the map keeps at least half of what the table may hold, the new entry included. In a
+/// table of up to 16 buckets exactly the oldest entry is evicted.
 pub fn refused_growth_keeps_half<K: Eq + Hash, V, L: Limiter<K, V>, S: KeyHasher<K>>()
     ensures half { (pair : K × V) (old new : State K V L S) →
         IsRefusedGrowth L.rules old →
@@ -271,7 +272,7 @@ pub fn growth_keeps_the_list<K: Eq + Hash, V, L: Limiter<K, V>, S: KeyHasher<K>>
         buckets new ≢ buckets old →
         Place L.rules S.hash_of pair old placed new →
         new.pairs ≡ pair ∷ old.pairs }
-    ensures made_anew { (pair : K × V) (old new : State K V L S) →
+    ensures rehashed { (pair : K × V) (old new : State K V L S) →
         length old.pairs + 1 ≤ full_capacity (buckets old) / 2 →
         Place L.rules S.hash_of pair old placed new →
         new.pairs ≡ pair ∷ old.pairs }
@@ -296,7 +297,7 @@ pub fn removed_keys_are_absent<
         lookup_entry (I.names key) new.pairs ≡ None }
 {}
 
-/// A reservation keeps the pairs and the counts of moves.
+/// A reservation keeps the entries and the counts of moves.
 pub fn reservations_keep_the_list<K: Eq + Hash, V, L: Limiter<K, V>, S: KeyHasher<K>>()
     ensures { (n : ℕ) (old : State K V L S) (result : Result (Unit {0}) ReserveError) (new : State K V L S) →
         Reserve L.rules n old result new →
@@ -304,7 +305,7 @@ pub fn reservations_keep_the_list<K: Eq + Hash, V, L: Limiter<K, V>, S: KeyHashe
         × (new.shrunk ≡ old.shrunk) }
 {}
 
-/// After a successful reservation of n, the table takes n more pairs without growth.
+/// After a successful reservation of n, the table takes n more entries without growth.
 pub fn reservations_make_room<K: Eq + Hash, V, L: Limiter<K, V>, S: KeyHasher<K>>()
     ensures { (n : ℕ) (old new : State K V L S) →
         IsSized old → Reserve L.rules n old (Ok tt) new → n ≤ room new }

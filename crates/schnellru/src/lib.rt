@@ -1,10 +1,22 @@
 //! A hash map that remembers the order in which its entries were used, and evicts the oldest ones when a limiter says
 //! so.
 //!
-//! [`LruMap`] is the map, [`ByLength`] and its like are limiters. `docs/LIMITERS.md` shows how a limiter and a look-up
-//! key of one's own are written, `docs/CALLING.md` how code that calls the map is proved, and `docs/DIFFERENCES.md` has
-//! what differs from the Rust crate. The theorems on all calls are the contracts of the functions of [`laws`].
+//! [`LruMap`] is the map, [`ByLength`] and its like are limiters. `docs/LIMITERS.md` shows how to write a limiter and a
+//! look-up key, `docs/CALLING.md` how to prove code that calls the map, and `docs/DIFFERENCES.md` lists what differs
+//! from the Rust crate. The theorems on all calls are the contracts of the functions of [`laws`].
 #![tactic(auto)]
+
+// Marks code that is never reached, as the macro of this name in `group_table` does. `unreachable!()` compiles to a
+// test and a trap. This compiles to nothing: it matches on what would be read from an array without elements.
+macro_rules! nowhere {
+    () => {{
+        let none: [Option<()>; 0] = [];
+        match none[0] {
+            Some(_) => unreachable!(),
+            None => unreachable!(),
+        }
+    }};
+}
 
 pub mod laws;
 mod map;

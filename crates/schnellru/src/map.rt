@@ -2,7 +2,8 @@
 //! each bucket of its table, and its counts.
 ghost use Rattle.std.specs.Prelude.{◌≡◌, ℕ, ◌∷◌, []};
 ghost use Rattle.lru_limits.specs.Mixing.{seeded};
-ghost use Rattle.schnellru.specs.Sizes.{default_entry_bytes, links_of_32_bits};
+ghost use Rattle.schnellru.specs.Sizes.{default_entry_bytes, max_of_32_bits};
+ghost use Rattle.schnellru.specs.EntrySize.{entry_size};
 ghost use Rattle.schnellru.specs.State.{State, empty_map};
 
 use crate::ordered::OrderedTable;
@@ -54,9 +55,9 @@ pub const DEFAULT_ENTRY_BYTES: usize = 32;
 /// # The bytes of an entry
 ///
 /// Each constructor takes the number of bytes of a bucket, as `entry_bytes`. `memory_usage` counts by this number, and
-/// so do the sizes that a limiter is asked to permit. A bucket has two links of a type `N`, and then a key and a value,
-/// so the number is `size_of::<(N, N, (K, V))>()`. It is 24 for `u64` keys, `u32` values and links of 32 bits, and 32
-/// for `u64` keys and values and links of 64 bits.
+/// so do the sizes of tables that a limiter permits or refuses. A bucket has two links of a type `N`, and then a key
+/// and a value, so the number is `size_of::<(N, N, (K, V))>()`. It is 24 for `u64` keys, `u32` values and links of 32
+/// bits, and 32 for `u64` keys and values and links of 64 bits.
 ///
 /// The number does not change the memory that the map takes. If it is too small, `ByMemoryUsage` permits tables that
 /// take more memory than its limit. If it is too great, `ByMemoryUsage` refuses tables that would fit. A table whose
@@ -67,7 +68,8 @@ pub const DEFAULT_ENTRY_BYTES: usize = 32;
 /// Each entry has links to its neighbours in the order of use, of the limiter's `LinkType`. The width of a link bounds
 /// the number of entries: 112 with `u8`, 28,672 with `u16`, 1,879,048,192 with `u32`. With `usize` only memory bounds
 /// it. Choose `u32`, as `ByLength`, `ByMemoryUsage` and `UnlimitedCompact` do, unless there may be more entries;
-/// `Unlimited` and `ByCost` use `usize`. The smaller widths save memory if keys and values are small too.
+/// `Unlimited`, `ByCost` and `ByWeight` use `usize`, and `Both` the links of its first limiter. The smaller widths save
+/// memory if keys and values are small too.
 ///
 /// After schnellru's `LruMap`.
 #[derive(Drop)]
@@ -155,9 +157,7 @@ impl<K: Eq + Hash, V, L: Limiter<K, V>, S: KeyHasher<K>> LruMap<K, V, L, S> {
     {
         LruMap::with_hasher(alloc, L::default(), S::default(), DEFAULT_ENTRY_BYTES)
     }
-}
 
-impl<K: Eq + Hash, V, L: Limiter<K, V>, S: KeyHasher<K>> LruMap<K, V, L, S> {
     /// Makes an empty map with this limiter, the default hasher, and the size of a bucket as `entry_bytes`.
     ///
     /// The seeds of the default hasher are 1, 2, 3 and 4, so everyone knows its hashes. If strangers choose the keys,
@@ -172,8 +172,9 @@ impl<K: Eq + Hash, V, L: Limiter<K, V>, S: KeyHasher<K>> LruMap<K, V, L, S> {
     pub fn with_limiter(alloc: Global, limiter: L) -> Self
     where
         S: Default,
-        ensures { (hasher : S) × (entry_bytes : ℕ) × S.is_default hasher
-            × (result ≡ empty_map limiter hasher entry_bytes (L.LinkType.number L.LinkType.MAX)) }
+        ensures { (hasher : S) × S.is_default hasher
+            × (result ≡ empty_map limiter hasher (entry_size K.row V.row L.LinkType.row)
+            (L.LinkType.number L.LinkType.MAX)) }
     {
         let entry_bytes = OrderedTable::<K, V, L::LinkType>::entry_bytes();
         LruMap::with_hasher(alloc, limiter, S::default(), entry_bytes)
@@ -192,10 +193,10 @@ impl<K: Eq + Hash, V, L: Limiter<K, V>> LruMap<K, V, L, RandomState> {
     /// ```
     ///
     /// After schnellru's `LruMap::new`.
-    pub fn new(alloc: Global, limiter: L, words: [u64; 4], entry_bytes: usize) -> Self
-        ensures { result ≡ empty_map limiter (seeded words) entry_bytes (L.LinkType.number L.LinkType.MAX) }
+    pub fn new(alloc: Global, limiter: L, seeds: [u64; 4], entry_bytes: usize) -> Self
+        ensures { result ≡ empty_map limiter (seeded seeds) entry_bytes (L.LinkType.number L.LinkType.MAX) }
     {
-        LruMap::with_hasher(alloc, limiter, RandomState::with_seeds(words), entry_bytes)
+        LruMap::with_hasher(alloc, limiter, RandomState::with_seeds(seeds), entry_bytes)
     }
 
     /// The same as `new`, under schnellru's name for a constructor with given seeds.
@@ -233,7 +234,7 @@ impl<K: Eq + Hash, V, S: KeyHasher<K>> LruMap<K, V, ByMemoryUsage, S> {
         hasher: S,
         entry_bytes: usize,
     ) -> Self
-        ensures { result ≡ empty_map budget hasher entry_bytes links_of_32_bits }
+        ensures { result ≡ empty_map budget hasher entry_bytes max_of_32_bits }
     {
         LruMap::with_hasher(alloc, ByMemoryUsage::new(budget), hasher, entry_bytes)
     }
@@ -256,15 +257,15 @@ impl<K: Eq + Hash, V> LruMap<K, V, ByMemoryUsage, RandomState> {
     pub fn with_memory_budget(
         alloc: Global,
         budget: usize,
-        words: [u64; 4],
+        seeds: [u64; 4],
         entry_bytes: usize,
     ) -> Self
-        ensures { result ≡ empty_map budget (seeded words) entry_bytes links_of_32_bits }
+        ensures { result ≡ empty_map budget (seeded seeds) entry_bytes max_of_32_bits }
     {
         LruMap::with_memory_budget_and_hasher(
             alloc,
             budget,
-            RandomState::with_seeds(words),
+            RandomState::with_seeds(seeds),
             entry_bytes,
         )
     }

@@ -12,9 +12,11 @@ ghost use Rattle.group_table.specs.Relocation.{Renumbers, KeepsHashes};
 ghost use Rattle.group_table.specs.Table.{IsTable};
 ghost use Rattle.lru_limits.specs.Hashing.{hash_by};
 ghost use Rattle.schnellru.specs.Inside.OrderedTable.{IsLinked, KeysFit, pairs_of, without_bucket, with_pair, hash_in};
+ghost use Rattle.schnellru.specs.EntrySize.{entry_size};
 ghost use Rattle.schnellru.specs.ByHash.{Asks};
 ghost use Rattle.schnellru.specs.Inside.Searches.{FindsPair, FindsNoPair};
-ghost use Rattle.schnellru.specs.Inside.Chain.{first_bucket, last_bucket, bucket_after, bucket_before, pair_slots};
+ghost use Rattle.schnellru.specs.Lists.{first as first_bucket, last as last_bucket};
+ghost use Rattle.schnellru.specs.Inside.Chain.{bucket_after, bucket_before, pair_slots};
 
 use crate::ordered::chain::Chain;
 use group_table::{LinkType, Table};
@@ -86,7 +88,9 @@ impl<K, V, N: LinkType> OrderedTable<K, V, N> {
     }
 
     // The bytes of an entry with its links.
-    pub(crate) fn entry_bytes() -> usize {
+    pub(crate) fn entry_bytes() -> usize
+        ensures { result ≡ entry_size K.row V.row N.row }
+    {
         Table::<Entry<K, V, N>>::entry_bytes()
     }
 
@@ -126,10 +130,19 @@ impl<K, V, N: LinkType> OrderedTable<K, V, N> {
 
     // The bucket of the newest pair, if there is one.
     #[inline]
-    pub(crate) fn newest(&self) -> Option<usize>
-        ensures newest { result ≡ first_bucket self.now.order }
+    pub(crate) fn first(&self) -> Option<usize>
+        ensures first { result ≡ first_bucket self.now.order }
     {
         bucket_of(self.chain.newest)
+    }
+
+    // The bucket of the newest pair.
+    #[inline]
+    pub(crate) fn newest(&self) -> usize
+        requires { 0 < length self.now.order }
+        ensures newest { first_bucket self.now.order ≡ Some result }
+    {
+        self.chain.newest.into_usize()
     }
 
     // The bucket of the oldest pair.
@@ -278,9 +291,7 @@ impl<K: Eq + Hash, V, N: LinkType> OrderedTable<K, V, N> {
             .table
             .find(hash, |entry| key.is_key(&entry.pair.key))
     }
-}
 
-impl<K: Eq + Hash, V, N: LinkType> OrderedTable<K, V, N> {
     // Moves all pairs into a table of `buckets` buckets, in the same order. If the number of buckets stays, so does the
     // table; without pairs that needs no memory. Nor does a table of no buckets.
     pub(crate) fn move_to<S: KeyHasher<K>>(

@@ -1,4 +1,4 @@
-//! Walking the pairs of a map in their order of use.
+//! Walking the entries of a map in their order of use.
 ghost use Rattle.std.specs.Prelude.{◌≡◌, ◌<◌, ◌^◌, length, slice_get, position, option_map, Some, IfSome, ⊤};
 ghost use Rattle.std.specs.Iterator.{at_most, UpTo};
 ghost use Rattle.std.specs.Iterator.SizeHint.{IsWithinCount};
@@ -30,8 +30,8 @@ mod positions;
 /// After schnellru's `Iter`.
 pub type Iter<'a, K, V, L> = Walk<'a, K, V, <L as Limiter<K, V>>::LinkType>;
 
-/// An iterator over the pairs of a map, newest first, from both ends. It depends on the map's limiter only by the type
-/// of its links.
+/// An iterator over the entries of a map, newest first, from both ends. It depends on the map's limiter only by the
+/// type of its links.
 ///
 /// ```
 /// let mut total = 0u64;
@@ -77,7 +77,7 @@ impl<'a, K, V, N: LinkType> Iterator for Walk<'a, K, V, N> {
         Some((&pair.key, &pair.value))
     }
 
-    /// Returns exactly how many pairs are left, as `len` does.
+    /// Returns exactly how many entries are left, as `len` does.
     fn size_hint(&self) -> (usize, Option<usize>)
         ensures lower { IsWithinCount result.0 (at_most (length self.now)) }
         ensures upper { IfSome result.1 (UpTo (at_most (length self.now))) }
@@ -111,7 +111,7 @@ impl<'a, K, V, N: LinkType> ExactSizeIterator for Walk<'a, K, V, N> {
 
 impl<'a, K, V, N: LinkType> FusedIterator for Walk<'a, K, V, N> {}
 
-/// The clone returns the pairs that the walk has left. Cost: `O(1)`, and no memory.
+/// The clone returns the entries that are left of the walk. Cost: `O(1)`, and no memory.
 impl<'a, K, V, N: LinkType> Clone for Walk<'a, K, V, N> {
     ghost is_clone = { λ s r. r ≡ s };
 
@@ -127,7 +127,7 @@ impl<'a, K, V, N: LinkType> Clone for Walk<'a, K, V, N> {
     }
 }
 
-/// Shows the pairs that are left, newest first, as `[(2, 20), (1, 10)]`.
+/// Shows the entries that are left, newest first, as `[(2, 20), (1, 10)]`.
 impl<'a, K: fmt::Debug, V: fmt::Debug, N: LinkType> fmt::Debug for Walk<'a, K, V, N> {
     fn fmt<W: fmt::Write>(&self, f: &mut fmt::Formatter<W>) -> fmt::Result {
         let left = Walk {
@@ -141,7 +141,7 @@ impl<'a, K: fmt::Debug, V: fmt::Debug, N: LinkType> fmt::Debug for Walk<'a, K, V
 }
 
 impl<K: Eq + Hash, V, L: Limiter<K, V>, S: KeyHasher<K>> LruMap<K, V, L, S> {
-    /// Returns an iterator over the pairs, newest first. The order stays.
+    /// Returns an iterator over the entries, newest first. The order stays.
     ///
     /// ```
     /// for (key, value) in map.iter() {
@@ -161,7 +161,7 @@ impl<K: Eq + Hash, V, L: Limiter<K, V>, S: KeyHasher<K>> LruMap<K, V, L, S> {
     {
         Walk {
             entries: &self.entries,
-            front: self.entries.newest(),
+            front: self.entries.first(),
             back: self.entries.last(),
             left: self.entries.len(),
         }
@@ -173,12 +173,15 @@ impl<K: Eq + Hash, V, L: Limiter<K, V>, S: KeyHasher<K>> LruMap<K, V, L, S> {
     /// assert!(rt; map.get_index(0) == Some((&3, &30)) && map.get_index(3).is_none());
     /// ```
     ///
-    /// Cost: `O(index)`.
+    /// Cost: `O(index)`, and `O(1)` if there is no such entry.
     ///
     /// After `get_index` of the crate `indexmap`; schnellru has no such call.
     pub fn get_index(&self, index: usize) -> Option<(&K, &V)>
         ensures { option_map deref_pair result ≡ slice_get self.now.pairs index }
     {
+        if index >= self.len() {
+            return None;
+        }
         self.iter().nth(index)
     }
 
@@ -188,17 +191,25 @@ impl<K: Eq + Hash, V, L: Limiter<K, V>, S: KeyHasher<K>> LruMap<K, V, L, S> {
     /// assert_eq!(rt; (map.get_index_of(&1), map.get_index_of(&9)), (Some(2), None));
     /// ```
     ///
-    /// Cost: `O(n)` for n entries. `contains` says whether the key is there in `O(1)`.
+    /// Cost: `O(1)` expected to find the key, and `O(index)` to count the entries that are newer.
     ///
     /// After `get_index_of` of the crate `indexmap`; schnellru has no such call.
     pub fn get_index_of<Q: LookupKey<K>>(&self, key: &Q) -> Option<usize>
         ensures { result ≡ position (λ pair. Q.names key.now pair.0) self.now.pairs }
     {
-        self.iter().position(|(stored, _)| key.is_key(stored))
+        let mut b = self.find(key)?;
+        // Nothing at run time: it shows the proof that an index fits.
+        let _ = self.len();
+        let mut index = 0;
+        'links: while let Some(newer) = self.newer(b) {
+            b = newer;
+            index += 1;
+        }
+        Some(index)
     }
 }
 
-/// `for (key, value) in &map` walks the pairs, newest first.
+/// `for (key, value) in &map` walks the entries, newest first.
 impl<
     'a,
     K: Eq + Hash,

@@ -138,8 +138,8 @@ fn tried(
     (copy.is_ok(), live(limiter, hasher, lives))
 }
 
-/// The limiter and the hasher are cloned once each, after the pairs. If one refuses, the copies made so far are dropped.
-/// Both are dropped with the walk that takes their map apart.
+/// The limiter and the hasher are cloned once each, after the pairs. If one refuses, the copies made so far are
+/// dropped. Both are dropped with the walk that takes their map apart.
 #[test]
 fn a_limiter_or_a_hasher_that_refuses(rt: HostRuntime) -> Result<(), Fail> {
     let alloc = rt.alloc();

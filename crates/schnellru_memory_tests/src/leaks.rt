@@ -35,7 +35,8 @@ fn copied(map: &LruMap<u64, u64, UnlimitedCompact>) -> Option<()> {
     Some(())
 }
 
-/// A table with deleted buckets, which is rehashed by a reservation, by an insert after evictions, and when it is empty.
+/// A table with deleted buckets, which is rehashed by a reservation, by an insert after evictions, and when it is
+/// empty.
 fn rehashed(map: &mut HashedBy) -> Option<()> {
     insert_all(map, 1..=28).ok()?;
     remove_all(map, 9..=28);

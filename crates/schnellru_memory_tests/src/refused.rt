@@ -95,8 +95,8 @@ struct Case<'a> {
     stay: (u64, u64),
     refused: Figures,
     met: Figures,
-    /// How many pairs the limiter was notified of, and how often it was queried, after each refusal and after the call that
-    /// is met.
+    /// How many pairs the limiter was notified of, and how often it was queried, after each refusal and after the call
+    /// that is met.
     told: &'a [(u32, u32)],
 }
 
@@ -190,7 +190,8 @@ fn inserts_that_need_a_table(rt: HostRuntime) -> Result<(), Fail> {
     Ok(())
 }
 
-/// A rehash after a refused growth: the oldest 15 pairs are evicted before it, once, and the limiter is not asked again.
+/// A rehash after a refused growth: the oldest 15 pairs are evicted before it, once, and the limiter is not asked
+/// again.
 #[test]
 fn inserts_that_need_a_rehash(rt: HostRuntime) -> Result<(), Fail> {
     for call in INSERTS {
@@ -274,8 +275,8 @@ fn reservations_and_shrinks(rt: HostRuntime) -> Result<(), Fail> {
     Ok(())
 }
 
-/// A running total is charged for the new pair, and the charge is taken off if the growth runs out of memory. The links have
-/// 8 bytes, so an entry has 32.
+/// A running total is charged for the new pair, and the charge is taken off if the growth runs out of memory. The links
+/// have 8 bytes, so an entry has 32.
 #[test]
 fn an_account_in_a_growth(rt: HostRuntime) -> Result<(), Fail> {
     let mut map = three_costs(rt.alloc())?;

@@ -12,7 +12,8 @@ use test_helpers::{Counted, Sum, check};
 
 type Map<'a> = LruMap<u64, u64, UnlimitedCompact, Counted<'a, Sum>>;
 
-/// How many hashers a call builds beyond one for its key and one for each pair that it moves, as the report counts them.
+/// How many hashers a call builds beyond one for its key and one for each pair that it moves, as the report counts
+/// them.
 fn surplus(map: &mut Map, builds: &Cell<u64>, key: u64) -> Result<u64, AllocError> {
     let (before, (moved, _)) = (builds.get(), report(map));
     insert(map, key)?;

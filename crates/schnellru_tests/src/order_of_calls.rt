@@ -31,7 +31,8 @@ fn note(trace: &Cell<u64>, call: u64) {
     trace.set(trace.get().wrapping_mul(10).wrapping_add(call));
 }
 
-/// Notes that the sink was called, and a pair behind those before it, as three digits: its key and the two of its value.
+/// Notes that the sink was called, and a pair behind those before it, as three digits: its key and the two of its
+/// value.
 fn note_pair(trace: &Cell<u64>, passed: &Cell<u64>, key: u64, value: u64) {
     note(trace, SINK);
     let digits = key.wrapping_mul(100).wrapping_add(value);
@@ -176,7 +177,8 @@ fn each_pair_is_passed_on_before_the_next_callback(rt: HostRuntime) -> Result<()
         ),
         // The oldest, after a growth was refused.
         (1, 3, (9, 84), (4, 40), false, (Ok(true), 415_231, 100)),
-        // The three oldest, after a growth was refused to a table of 32 buckets: the buckets of two of them do not serve.
+        // The three oldest, after a growth was refused to a table of 32 buckets: the buckets of two of them do not
+        // serve.
         (
             3,
             30,

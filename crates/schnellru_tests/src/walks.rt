@@ -40,8 +40,8 @@ fn iter_mut_works(rt: HostRuntime) -> Result<(), Fail> {
     Ok(())
 }
 
-/// A walk that is forgotten or dropped early leaves the map, with what was written. A forgotten drain leaves what it did
-/// not take, and the limiter is not notified of a clear.
+/// A walk that is forgotten or dropped early leaves the map, with what was written. A forgotten drain leaves what it
+/// did not take, and the limiter is not notified of a clear.
 #[test]
 fn walks_that_do_not_end(rt: HostRuntime) -> Result<(), Fail> {
     let mut map = three_costs(rt.alloc())?;

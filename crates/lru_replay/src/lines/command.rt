@@ -1,6 +1,7 @@
 //! What a line says: a command, which is a call on the map, or, the first line, what limits the map.
 ghost use Rattle.std.specs.Prelude.{◌≡◌, ◌≢◌, ℕ, List, ◌++◌, IfSome, IfNone, true, false};
-ghost use Rattle.lru_replay.specs.Grammar.{SpellsCommand, IsOfKey, IsRemoval, IsPlain, SpellsLimit, SpellsPair, SpellsNumber};
+ghost use Rattle.lru_replay.specs.Grammar.{SpellsCommand, IsOfKey, IsRemoval, IsPlain, SpellsLimit, SpellsPair};
+ghost use Rattle.lru_replay.specs.Grammar.{SpellsNumber};
 ghost use Rattle.lru_replay.specs.Grammar.{StartsAsNumber};
 
 use crate::lines::bytes::index_of;

@@ -124,7 +124,8 @@ fn answer_with<L: Insertion<u64, u64, u64> + ReportsCost + Drop, R: BufRead, W: 
     reader: &mut R,
     writer: &mut W,
 ) -> Result<(), ReplayError>
-    ensures { Answers (IsTextOf L.rules L.offers L.reported (empty limiter entry_bytes (L.LinkType.number L.LinkType.MAX)))
+    ensures { Answers
+        (IsTextOf L.rules L.offers L.reported (empty limiter entry_bytes (L.LinkType.number L.LinkType.MAX)))
         (R.remaining reader.old) (R.remaining reader.new) (W.contents writer.old) (W.contents writer.new) result }
 {
     let mut map = LruMap::with_hasher(alloc, limiter, RandomState::default(), entry_bytes);

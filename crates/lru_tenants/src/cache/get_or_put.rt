@@ -24,8 +24,8 @@ impl<
 
     /// Returns a tenant's value of a key. If the key is not there, puts it with the value that the closure returns.
     ///
-    /// If the key is there, the closure is not called, and its entry becomes the tenant's newest. The tenant and the key
-    /// are looked up once. `None` says that the new entry is not there, as `false` says it of `put`.
+    /// If the key is there, the closure is not called, and its entry becomes the tenant's newest. The tenant and the
+    /// key are looked up once. `None` says that the new entry is not there, as `false` says it of `put`.
     ///
     /// ```
     /// assert_eq!(rt; cache.get_or_put(&1, 7, || 2), Ok(Some(&2)));
@@ -45,9 +45,9 @@ impl<
     ) -> Result<Option<&V>, TenantError>
         requires { IfSome (tenant (N.eq name.now) self.old) (λ map. lookup (K.eq key) map.pairs ≡ None → F.pre make) }
         ensures* leaves { sem 𝓛 (ends_so N.row K.row V.row L.row S.row L.LinkType.row S.Hasher.row N.Hash K.Hash
-            L.Budgeted L.LinkType.LinkType.own L.LinkType.PartialEq L.LinkType.Debug S.KeyHasher S.Hasher.Hasher self.entry
-            (On N.eq name.now (GetsOrPuts L.rules L.offers L.budget_of K.eq S.hash_of (F.post make) key) self.old
-            (read result))) }
+            L.Budgeted L.LinkType.LinkType.own L.LinkType.PartialEq L.LinkType.Debug S.KeyHasher S.Hasher.Hasher
+            self.entry (On N.eq name.now (GetsOrPuts L.rules L.offers L.budget_of K.eq S.hash_of (F.post make) key)
+            self.old (read result))) }
     {
         let Some(own) = self.tenants.get_mut(name) else {
             return Err(TenantError::NotOpen);

@@ -5,7 +5,8 @@ ghost use Rattle.schnellru.specs.HandedOver.{Takes};
 ghost use Rattle.schnellru.specs.Inserts.{kept_of};
 ghost use Rattle.lru_tenants.specs.Cache.{tenant, budgets, budgets_with, is_over, AreTenants, On};
 ghost use Rattle.lru_tenants.specs.PutFulls.{comes_back, rejects};
-ghost use Rattle.lru_tenants.specs.TenantRuns.{put_answer, PassesOn, Puts, PutHands, SetsBudget, BudgetHands, Closes, CloseHands};
+ghost use Rattle.lru_tenants.specs.TenantRuns.{put_answer, PassesOn, Puts, PutHands, SetsBudget, BudgetHands, Closes};
+ghost use Rattle.lru_tenants.specs.TenantRuns.{CloseHands};
 
 use crate::cache::TenantCache;
 use crate::cache::totals::is_above;
@@ -23,8 +24,8 @@ impl<
     L: Budgeted<K, V> + Drop,
     S: KeyHasher<K> + Copy,
 > TenantCache<N, K, V, L, S> {
-    /// The same as `put`, and passes each entry that leaves to the callback: the evicted entries, oldest first, the
-    /// entry whose new value is rejected, and the new entry if there is no memory for it.
+    /// The same as `put`, and passes each entry that is evicted, rejected or not stored to the callback: the evicted
+    /// entries, oldest first, the entry whose new value is rejected, and the new entry if there is no memory for it.
     ///
     /// ```
     /// let mut left = 0u64;
@@ -45,7 +46,8 @@ impl<
         sink: &mut F,
     ) -> Result<bool, TenantError>
         requires callable { F.IsAlwaysCallable sink.old }
-        ensures puts { On N.eq name.now (Puts L.rules L.offers L.budget_of K.eq S.hash_of key value) self.old result self.new }
+        ensures puts { On N.eq name.now (Puts L.rules L.offers L.budget_of K.eq S.hash_of key value)
+            self.old result self.new }
         ensures handed { (handed : List (K × V)) × Takes F.FnMut sink.old handed sink.new × On N.eq name.now
             (PassesOn (PutHands L.rules L.offers L.budget_of K.eq S.hash_of key value)) self.old handed self.new }
         ensures callable { F.IsAlwaysCallable sink.new }
@@ -58,10 +60,17 @@ impl<
         put_answer(insert(own, key, value, sink))
     }
 
-    /// The same as `put_with`, and returns the value that the tenant does not keep: the old value of the key, or the new
-    /// value if the limiter rejects it.
+    /// The same as `put_with`, and returns the value that the tenant does not keep, as `LruMap::insert_full` does, but
+    /// also the rejected value of a new key.
     ///
-    /// If a new key's entry is rejected, the tenant stays as it is, and the key is dropped.
+    /// - The key was not there, and the limiter rejects its entry: `kept` is false, and `unkept` is the new value. The
+    ///   tenant stays as it is, the callback gets nothing, and the key is dropped.
+    /// - The key was not there, and the limiter accepts its entry: `unkept` is `None`, and `kept` says whether the
+    ///   entry is there.
+    /// - The key was there, and the limiter accepts the new value: `unkept` is the old value. `kept` is false if the
+    ///   entry was evicted then; the callback got it with the new value.
+    /// - The key was there, and the limiter rejects the new value: `kept` is false, and `unkept` is the new value. The
+    ///   entry was removed; the callback got it with the old value.
     ///
     /// ```
     /// let replaced = cache.put_full(&1, 7, 3, &mut |_, _| {})?;
@@ -83,11 +92,14 @@ impl<
         sink: &mut F,
     ) -> Result<Inserted<V>, TenantError>
         requires callable { F.IsAlwaysCallable sink.old }
-        ensures puts { On N.eq name.now (Puts L.rules L.offers L.budget_of K.eq S.hash_of key value) self.old (kept_of result) self.new }
+        ensures puts { On N.eq name.now (Puts L.rules L.offers L.budget_of K.eq S.hash_of key value)
+            self.old (kept_of result) self.new }
         ensures unkept { IfOk result (λ inserted. IfSome (tenant (N.eq name.now) self.old) (λ map. inserted.unkept
             ≡ comes_back L.accepts_new K.eq key value L.rules L.offers map)) }
-        ensures rejects { IfSome (tenant (N.eq name.now) self.old) (λ map. rejects L.accepts_new K.eq key value map ≡ true →
-            (result ≡ Ok (record { kept = false; unkept = Some value })) × (tenant (N.eq name.now) self.new ≡ Some map)) }
+        ensures rejects { IfSome (tenant (N.eq name.now) self.old) (λ map.
+            rejects L.accepts_new K.eq key value map ≡ true →
+            (result ≡ Ok (record { kept = false; unkept = Some value }))
+            × (tenant (N.eq name.now) self.new ≡ Some map)) }
         ensures handed { (handed : List (K × V)) × Takes F.FnMut sink.old handed sink.new × On N.eq name.now
             (PassesOn (PutHands L.rules L.offers L.budget_of K.eq S.hash_of key value)) self.old handed self.new }
         ensures callable { F.IsAlwaysCallable sink.new }
@@ -120,7 +132,8 @@ impl<
         sink: &mut F,
     ) -> Result<(), TenantError>
         requires callable { F.IsAlwaysCallable sink.old }
-        ensures sets { On N.eq name.now (SetsBudget L.rules (L.rebudgeted budget) (is_over L.budget_of (N.eq name.now) budget self.old))
+        ensures sets { On N.eq name.now
+            (SetsBudget L.rules (L.rebudgeted budget) (is_over L.budget_of (N.eq name.now) budget self.old))
             self.old result self.new }
         ensures total { result ≡ Ok tt →
             budgets L.budget_of self.new ≡ budgets_with L.budget_of (N.eq name.now) budget self.old }

@@ -71,8 +71,8 @@ impl<N: Eq + Hash, K: Eq + Hash, V, L: Budgeted<K, V>, S: KeyHasher<K> + Copy> T
         self.budgets
     }
 
-    /// Returns the sum of the costs of the entries of all tenants. It is at most the sum of their budgets, and so at most
-    /// the total limit, if there is one.
+    /// Returns the sum of the costs of the entries of all tenants. It is at most the sum of their budgets, and so at
+    /// most the total limit, if there is one.
     ///
     /// ```
     /// assert_eq!(rt; (cache.total_cost(), cache.total_budget()), (2, 3));

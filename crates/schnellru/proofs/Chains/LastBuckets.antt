@@ -1,5 +1,6 @@
 -- A bucket that comes last in an order: its neighbours, and the chain once it is linked there.
-use Rattle.std.proofs.Common.{◌≡◌, ◌≢◌, ℕ, ◌<◌, Bool, cond, List, [], ◌∷◌, ◌++◌, length, Option, Some, None, ◌⊎◌, inl, inr}
+use Rattle.std.proofs.Common.{◌≡◌, ◌≢◌, ℕ, ◌<◌, Bool, cond, List, [], ◌∷◌, ◌++◌, length, Option, Some, None, ◌⊎◌, inl}
+use Rattle.std.proofs.Common.{inr}
 use Rattle.std.proofs.Common.{refl, ap, sym, ◌∙◌, subst, arith, eq-eqb, ne_eqb}
 use Rattle.std.specs.Prelude.{nat_eq, Contains, AllPairs}
 use Rattle.std.proofs.lemmas.Bool.{cases_eq}
@@ -11,12 +12,14 @@ use Rattle.group_table.specs.Link.{IsLinkType}
 use Rattle.group_table.specs.Bucket.{Slot, IsFull, entry_at}
 use Rattle.schnellru.specs.declared.ordered.Entry.{Entry}
 use Rattle.schnellru.specs.Inside.OrderedTable.{without_bucket}
-use Rattle.schnellru.specs.Inside.Chain.{first_bucket, last_bucket, bucket_after, bucket_before, link_to, newer_at}
+use Rattle.schnellru.specs.Lists.{first as first_bucket, last as last_bucket}
+use Rattle.schnellru.specs.Inside.Chain.{bucket_after, bucket_before, link_to, newer_at}
 use Rattle.schnellru.specs.Inside.Chain.{older_at, SetsOlder, IsChain, IsWhole, pair_slots}
 use Rattle.schnellru.proofs.Chains.Orders.{Contains-nil, Contains-cases, Contains-later, distinct_head}
 use Rattle.schnellru.proofs.Chains.Orders.{distinct_tail, before_from, last_from, before_is, last_is, last_in, after_in}
 use Rattle.schnellru.proofs.Chains.Orders.{in_without, length-without}
-use Rattle.schnellru.proofs.Chains.LinkWrites.{chained_below, bucket_by_link, number-link_to, leads_to_full, end_by_link}
+use Rattle.schnellru.proofs.Chains.LinkWrites.{chained_below, bucket_by_link, number-link_to, leads_to_full}
+use Rattle.schnellru.proofs.Chains.LinkWrites.{end_by_link}
 use Rattle.schnellru.proofs.Chains.LinkWrites.{older_link}
 use Rattle.schnellru.proofs.OrderedTables.PairSlots.{same_length, same_full, same_count}
 
@@ -158,12 +161,14 @@ module _ {N : Type 0} {number : N → ℕ} {link : ℕ → N} {none : N} {eq : N
     was_last = last_is_there.1
 
     is_was : number oldest ≡ was
-    is_was = ap number chain.oldest_last ∙ number-link_to laws (last_bucket order) was was_last (last_below chain was was_last)
+    is_was = ap number chain.oldest_last ∙ number-link_to laws (last_bucket order) was was_last
+        (last_below chain was was_last)
 
     apart : b ≢ number oldest
     apart h = absent (subst (Contains order) (sym (h ∙ is_was)) (last_in order was was_last))
 
-    come_older : (x : ℕ) → Contains order x → older_at s1 x ≡ Some (link_to link none (bucket_after x (order ++ b ∷ [])))
+    come_older : (x : ℕ) → Contains order x → older_at s1 x ≡ Some
+        (link_to link none (bucket_after x (order ++ b ∷ [])))
     come_older x there = elim (cases_eq x (number oldest)) [
       | inl h ↦
           let is : last_bucket order ≡ Some x = bucket_by_link laws (last_bucket order) x (last_below chain)

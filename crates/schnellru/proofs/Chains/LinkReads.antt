@@ -8,12 +8,17 @@ use Rattle.group_table.specs.Link.{IsLinkType}
 use Rattle.group_table.specs.Bucket.{Slot, IsFull, entry_at}
 use Rattle.schnellru.specs.declared.ordered.Entry.{Entry}
 use Rattle.schnellru.specs.Inside.OrderedTable.{without_bucket}
-use Rattle.schnellru.specs.Inside.Chain.{first_bucket, last_bucket, bucket_after, bucket_before, link_to, pair_slots}
+use Rattle.schnellru.specs.Lists.{first as first_bucket, last as last_bucket}
+use Rattle.schnellru.specs.Inside.Chain.{bucket_after, bucket_before, link_to, pair_slots}
 use Rattle.schnellru.specs.Inside.Chain.{IsChain, IsWhole}
 use Rattle.schnellru.proofs.Chains.Orders.{after_in, before_in, first_in, last_in, before-alone, after-last}
 use Rattle.schnellru.proofs.Chains.Neighbours.{newest_again}
 use Rattle.schnellru.proofs.OrderedTables.PairSlots.{is_full-pair_slots}
 use Rattle.schnellru.proofs.Chains.LinkWrites.{end_by_link, chained_below, newer_link, older_link}
+
+first_some : (order : List ℕ) → 0 < length order → first_bucket order ≡ None → ⊥
+first_some [] p e = absurd (omega arith)
+first_some (c ∷ cs) p e = none-some c (sym e)
 
 last_some : (order : List ℕ) → 0 < length order → last_bucket order ≡ None → ⊥
 last_some [] p e = absurd (omega arith)
@@ -58,6 +63,10 @@ module _ {N : Type 0} {number : N → ℕ} {link : ℕ → N} {none : N} {eq : N
         → r ≡ last_bucket order
     last_shown r = read_link r (last_bucket order) oldest whole.chain.oldest_last
         (λ y e. chained_below whole.chain y (last_in order y e))
+
+    pub first_shown : 0 < length order → first_bucket order ≡ Some (number newest)
+    first_shown p = leads_to (first_bucket order) newest whole.chain.newest_first
+        (λ y e. chained_below whole.chain y (first_in order y e)) (first_some order p)
 
     pub oldest_shown : 0 < length order → last_bucket order ≡ Some (number oldest)
     oldest_shown p = leads_to (last_bucket order) oldest whole.chain.oldest_last

@@ -7,7 +7,8 @@ use Rattle.std.specs.Prelude.{Contains, AllPairs, nat_eq, not}
 use Rattle.std.proofs.lemmas.List.Elements.{Contains-get_or}
 use Rattle.std.proofs.lemmas.List.Kept.{AllPairs-cons, AllPairs-filter}
 use Rattle.std.specs.List.{AllByRecursion}
-use Rattle.schnellru.specs.Inside.Chain.{first_bucket, last_bucket, bucket_after, bucket_before}
+use Rattle.schnellru.specs.Lists.{first as first_bucket, last as last_bucket}
+use Rattle.schnellru.specs.Inside.Chain.{bucket_after, bucket_before}
 use Rattle.schnellru.specs.Inside.OrderedTable.{without_bucket}
 
 -- an element of a list is its head, or one of its tail

@@ -18,7 +18,8 @@ use Rattle.group_table.proofs.ChangeLemmas.{entry_at-removed, bucket_at-removed_
 use Rattle.schnellru.specs.declared.ordered.Entry.{Entry}
 use Rattle.schnellru.specs.declared.ordered.Pair.{Pair}
 use Rattle.schnellru.specs.Inside.OrderedTable.{OrderedTable, IsLinked, without_bucket, with_pair}
-use Rattle.schnellru.specs.Inside.Chain.{first_bucket, bucket_after, link_to, pair_slots, older_at, along, IsChain}
+use Rattle.schnellru.specs.Lists.{first as first_bucket}
+use Rattle.schnellru.specs.Inside.Chain.{bucket_after, link_to, pair_slots, older_at, along, IsChain}
 use Rattle.schnellru.specs.Inside.Chain.{IsWhole}
 use Rattle.schnellru.proofs.Chains.Orders.{other_than, Contains-here, Contains-later, distinct_head, distinct_tail}
 use Rattle.schnellru.proofs.Chains.Orders.{in_without, length-without}

@@ -97,34 +97,36 @@ module _ {K V S H : Type 0} (beside : Beside S H) where
   }
 
 -- what holds of a map holds with pairs of distinct keys that fit in the same buckets, under another limiter and hasher
-module _ {K V S H : Type 0} (eq : K → K → Bool) (hash_of : H → K → ℕ) (beside : Beside S H) (t u : OrderedTable K V) where
-  pub copied_holds : (limiter : S) (hasher : H) → Holds eq hash_of t beside → IsLinked u
-      → KeysFit (hash_of hasher) u.slots
-      → marks_of u.slots ≡ marks_of t.slots → AreDistinct eq (pairs_of u)
-      → Holds eq hash_of u (record beside { limiter = limiter; hasher = hasher })
-  copied_holds limiter hasher holds linked fits marks distinct =
-      let same : length (marks_of t.slots) ≡ length u.slots = sym (ap length marks) ∙ length-marks_of u.slots in
-      let sized = holds.map.sized in
-      record {
-        linked = linked;
-        fits = fits;
-        map = record {
-          distinct = distinct;
-          sized = sized_by (record beside { limiter = limiter; hasher = hasher }) u linked
-              (subst (λ n. (n ≡ 0) ⊎ (n < beside.max)) same sized.reachable)
-              (subst (λ n. (bytes : ℕ) × (usage beside.entry_bytes n ≡ Some bytes)) same sized.usable) sized.moved
-              sized.placed sized.shrunk;
-          paid = record {
-            moved = holds.map.paid.moved;
-            ahead = λ below. subst (λ m. beside.moved + (full_capacity (length m) - 2 * room m)
-                ≤ 2 * beside.placed + beside.shrunk)
-                (sym marks) (holds.map.paid.ahead below);
+module _ {K V S H : Type 0} (eq : K → K → Bool) (hash_of : H → K → ℕ) (beside : Beside S H) (t u : OrderedTable K V)
+  where
+    pub copied_holds : (limiter : S) (hasher : H) → Holds eq hash_of t beside → IsLinked u
+        → KeysFit (hash_of hasher) u.slots
+        → marks_of u.slots ≡ marks_of t.slots → AreDistinct eq (pairs_of u)
+        → Holds eq hash_of u (record beside { limiter = limiter; hasher = hasher })
+    copied_holds limiter hasher holds linked fits marks distinct =
+        let same : length (marks_of t.slots) ≡ length u.slots = sym (ap length marks) ∙ length-marks_of u.slots in
+        let sized = holds.map.sized in
+        record {
+          linked = linked;
+          fits = fits;
+          map = record {
+            distinct = distinct;
+            sized = sized_by (record beside { limiter = limiter; hasher = hasher }) u linked
+                (subst (λ n. (n ≡ 0) ⊎ (n < beside.max)) same sized.reachable)
+                (subst (λ n. (bytes : ℕ) × (usage beside.entry_bytes n ≡ Some bytes)) same sized.usable) sized.moved
+                sized.placed sized.shrunk;
+            paid = record {
+              moved = holds.map.paid.moved;
+              ahead = λ below. subst (λ m. beside.moved + (full_capacity (length m) - 2 * room m)
+                  ≤ 2 * beside.placed + beside.shrunk)
+                  (sym marks) (holds.map.paid.ahead below);
+            };
           };
-        };
-      }
+        }
 
 -- what holds of a map holds after its pairs were written or reordered in their buckets, with distinct keys that fit
-pub alike_holds : {K V S H : Type 0} (beside : Beside S H) (eq : K → K → Bool) (hash_of : H → K → ℕ) (t u : OrderedTable K V)
+pub alike_holds : {K V S H : Type 0} (beside : Beside S H) (eq : K → K → Bool) (hash_of : H → K → ℕ)
+    (t u : OrderedTable K V)
     → Holds eq hash_of t beside → IsLinked u → KeysFit (hash_of beside.hasher) u.slots
     → marks_of u.slots ≡ marks_of t.slots → AreDistinct eq (pairs_of u) → Holds eq hash_of u beside
 alike_holds beside eq hash_of t u = copied_holds eq hash_of beside t u beside.limiter beside.hasher

@@ -1,5 +1,6 @@
 -- What holds of a map if its limiter comes with a list of what was passed to the callback.
-use Rattle.std.proofs.Common.{◌≡◌, ℕ, ◌+◌, Bool, true, false, List, [], ◌∷◌, ◌++◌, length, Option, Some, None, refl, ap, ◌∙◌}
+use Rattle.std.proofs.Common.{◌≡◌, ℕ, ◌+◌, Bool, true, false, List, [], ◌∷◌, ◌++◌, length, Option, Some, None, refl}
+use Rattle.std.proofs.Common.{ap, ◌∙◌}
 use Rattle.std.proofs.Common.{arith, sym, subst}
 use Rattle.std.proofs.lemmas.Bool.{true≢false, false≢true}
 use Rattle.std.proofs.lemmas.Option.{same_Some}
@@ -9,7 +10,7 @@ use Rattle.lru_limits.specs.Rules.{Rules, Offers, Replaced, Notified}
 use Rattle.schnellru.specs.Lists.{last, without, set_entry}
 use Rattle.schnellru.specs.State.{State, Contents, IsSized, FreesRoom, Leaves, contents, notified_of, pop}
 use Rattle.schnellru.specs.Calls.{PopOldest, left_of}
-use Rattle.schnellru.specs.Place.{IsPlaced, HasNoBucket, IsOutgrown, turned_away}
+use Rattle.schnellru.specs.Place.{IsPlaced, FillsBucket, HasNoBucket, IsOutgrown, turned_away}
 use Rattle.schnellru.specs.Inserts.{make_room, replacement}
 use Rattle.schnellru.specs.HandedOver.{noting, noting_offers, noted, Takes}
 use Rattle.schnellru.specs.Inside.Handing.{Hands, HandsGivenUp}
@@ -54,6 +55,16 @@ module _ {K V S H : Type 0} where
     state = ap (noted list) is.state;
   }
 
+  pub noted_fills : (before after : List (K × V)) (hash : ℕ) (old new : State K V S H) → FillsBucket hash old new
+      → FillsBucket hash (noted before old) (noted after new)
+  noted_fills before after hash old new fills = record {
+    bucket = fills.bucket;
+    first = fills.first;
+    marks = fills.marks;
+    places = fills.places;
+    spends = fills.spends;
+  }
+
   noted_room : (before after : List (K × V)) (old new : State K V S H) → FreesRoom old new
       → FreesRoom (noted before old) (noted after new)
   noted_room before after old new frees = record {
@@ -64,7 +75,8 @@ module _ {K V S H : Type 0} where
     untouched = frees.untouched;
   }
 
-  pub noted_leaves : (before after : List (K × V)) (old new : State K V S H) (left : Contents K V S) → Leaves old left new
+  pub noted_leaves : (before after : List (K × V)) (old new : State K V S H) (left : Contents K V S) → Leaves old left
+      new
       → Leaves (noted before old) (record { pairs = left.pairs; limiter = (left.limiter, after) }) (noted after new)
   noted_leaves before after old new left leaves = record {
     is = ap (noted after) leaves.is;
@@ -74,7 +86,8 @@ module _ {K V S H : Type 0} where
 module _ {K V S : Type 0} (rules : Rules K V S) (before : List (K × V)) (s : S) (pair : K × V) where
   -- the pair that was answered goes to the list
   pub noted_told : (was : Option (K × V)) → Some pair ≡ left_of rules s was
-      → ◌≡◌ {A = S × List (K × V)} (notified_of rules was s, before ++ pair ∷ []) (notified_of (noting rules) was (s, before))
+      → ◌≡◌ {A = S × List (K × V)} (notified_of rules was s, before ++ pair ∷ [])
+      (notified_of (noting rules) was (s, before))
   noted_told None e = absurd (grind (arith, e))
   noted_told (Some was) e =
       let notified = rules.on_removed s was.0 was.1 in
@@ -120,7 +133,8 @@ noted_turned_away {K} {V} {S} {H} rules before old new pair left s is notified e
 
 -- what the limiter was offered
 module _ {K V S H I F : Type 0} (closure : Mut F (K × (V × Unit {0})) (Unit {0})) (rules : Rules K V S)
-    (offers : Offers K V S I) (names : I → K → Bool) (i : I) (v : V) (old new : State K V S H) (result : Bool × V) (f g : F)
+    (offers : Offers K V S I) (names : I → K → Bool) (i : I) (v : V) (old new : State K V S H) (result : Bool × V)
+    (f g : F)
     (offer : IsOffered rules offers names i v old result new) (accepted : result.0 ≡ true → g ≡ f)
     (rejected : result.0 ≡ false
     → HandsGivenUp closure rules (replacement rules offers names offer.pair i v (contents old)) f g) where

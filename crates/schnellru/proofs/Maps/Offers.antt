@@ -1,5 +1,6 @@
 -- The limiter was offered a new value for a pair.
-use Rattle.std.proofs.Common.{◌≡◌, ℕ, ◌<◌, Bool, true, false, List, [], ◌∷◌, length, Some, refl, option_map, ap, sym, ◌∙◌, subst, arith}
+use Rattle.std.proofs.Common.{◌≡◌, ℕ, ◌<◌, Bool, true, false, List, [], ◌∷◌, length, Some, refl, option_map, ap, sym}
+use Rattle.std.proofs.Common.{◌∙◌, subst, arith}
 use Rattle.lru_limits.specs.Rules.{Rules, Offers}
 use Rattle.std.proofs.lemmas.Option.{none-some}
 use Rattle.schnellru.specs.Calls.{promoted}
@@ -44,11 +45,13 @@ module _ {K V S H I : Type 0} {rules : Rules K V S} {offers : Offers K V S I} {n
       ∙ ap (option_map (λ pair. unkept_of (replacement rules offers names pair i v (contents old)))) (sym offer.there)
 
   -- the old one, if the limiter accepts
-  pub offered_old : result.0 ≡ true → result.1 ≡ (replacement rules offers names offer.pair i v (contents old)).old_value
+  pub offered_old : result.0 ≡ true → result.1 ≡
+      (replacement rules offers names offer.pair i v (contents old)).old_value
   offered_old e = offer.unkept ∙ rw (offer.taken ∙ e) refl
 
   -- and else the new one
-  pub offered_new : result.0 ≡ false → result.1 ≡ (replacement rules offers names offer.pair i v (contents old)).new_value
+  pub offered_new : result.0 ≡ false → result.1 ≡
+      (replacement rules offers names offer.pair i v (contents old)).new_value
   offered_new e = offer.unkept ∙ rw (offer.taken ∙ e) refl
 
   -- there is a pair

@@ -14,7 +14,7 @@ use Rattle.schnellru.specs.State.{State, buckets, room, contents, IsSized, Leave
 use Rattle.schnellru.specs.Place.{Place, rehashed, grown, not_grown, HasNoBucket, IsOutgrown, CannotGrow}
 use Rattle.schnellru.specs.Place.{no_target, denied, Evicts, nothing_to_evict, finds_bucket, rehashes, OldestLeave}
 use Rattle.schnellru.specs.Place.{Outcome, outcome_of, placed, no_memory, IsPlaced, IsPlacedIfMemory}
-use Rattle.schnellru.specs.Place.{LacksRoom, FillsBucket, table_for}
+use Rattle.schnellru.specs.Place.{IsFullWithPairs, FillsBucket, table_for}
 use Rattle.schnellru.proofs.TableSizes.SizedMarks.{fits, exact}
 use Rattle.schnellru.proofs.TableSizes.Growth.{full_capacity-at_most, full_capacity-even}
 use Rattle.schnellru.proofs.Theorems.LackOfMemory.{no_room}
@@ -106,7 +106,8 @@ module _ {K V S H : Type 0} (rules : Rules K V S) (hash_of : H → K → ℕ) (p
           Evicts rules hash pair (record old { limiter = s }) (record old { limiter = s }) outcome new
           → Place rules hash_of pair old outcome new
       denied_place refusal step = evicts_place (record old { limiter = s })
-          (denied count bytes next refusal (ap {A = S} {B = State K V S H} (λ l. record old { limiter = l }) queried)) step
+          (denied count bytes next refusal (ap {A = S} {B = State K V S H} (λ l. record old { limiter = l }) queried))
+          step
 
     -- there is no larger table
     pub untold_place : table_for 1 old ≡ no_table → Evicts rules hash pair old old outcome new
@@ -116,8 +117,10 @@ module _ {K V S H : Type 0} (rules : Rules K V S) (hash_of : H → K → ℕ) (p
 module _ {K V S H : Type 0} (st : State K V S H) (ok : IsSized st) (hash : ℕ) where
   -- a table that fills a bucket holds fewer pairs than it may
   pub fills_within : (new : State K V S H) → FillsBucket hash st new → length st.pairs < full_capacity (buckets st)
-  fills_within new (inl (first, spends)) = omega (arith, spends, fits st ok)
-  fills_within new (inr (first, large, same)) = omega (arith, (deleted_first_large st ok hash first).1)
+  fills_within new fills = elim fills.spends [
+    | inl e ↦ omega (arith, e.1, fits st ok)
+    | inr d ↦ omega (arith, (deleted_first_large st ok hash (fills.bucket, fills.first, d.0)).1)
+  ]
 
   -- no bucket takes a pair for which a map has no place
   pub no_place_bucket : HasNoPlace st.marks hash → HasNoBucket hash st
@@ -136,7 +139,7 @@ pub record IsStuck (hash least : ℕ) (marks : List Mark) (pairs : ℕ) : Type 0
 
 -- The n oldest pairs were evicted, after none of which the new pair had a place, and then one more.
 module _ {K V S H : Type 0} (rules : Rules K V S) (hash : ℕ) (pair : K × V) (old before left : State K V S H)
-    (ok : IsSized old) (lacks : LacksRoom old) (n : ℕ) (gone : OldestLeave rules hash n old before)
+    (ok : IsSized old) (lacks : IsFullWithPairs old) (n : ℕ) (gone : OldestLeave rules hash n old before)
     (stuck : IsStuck hash (full_capacity (buckets old) / 2) before.marks (length before.pairs))
     (step : Leaves before (pop rules (contents before)) left) where
   pub one_more : OldestLeave rules hash (suc n) old left
@@ -152,7 +155,11 @@ module _ {K V S H : Type 0} (rules : Rules K V S) (hash : ℕ) (pair : K × V) (
   in_all = omega (arith, ap (λ st. length st.pairs) leaves.is, length-pops rules n (contents old), stuck.some)
 
   only_one : buckets old ≤ 16 → suc n ≡ 1
-  only_one small = omega (arith, room_after rules n old before leaves small (omega (arith, in_all)) lacks.1 stuck.no_room)
+  only_one small = omega (
+    arith,
+    room_after rules n old before leaves small (omega (arith, in_all)) lacks.1
+        stuck.no_room,
+  )
 
   pub same_buckets : buckets left ≡ buckets old
   same_buckets = step.room.table ∙ leaves.room.table

@@ -1,24 +1,28 @@
 -- From every map the insertion of a pair into the table can end: there is an outcome, and a state after it.
 use Rattle.std.proofs.Common.{◌≡◌, ℕ, ◌+◌, ◌-◌, ◌/◌, ◌^◌, ◌<◌, ◌≤◌, inl, inr, Bool, true, false, ◌∷◌, length}
-use Rattle.std.proofs.Common.{refl, sym, ap, ◌∙◌, subst, arith, count_by}
+use Rattle.std.proofs.Common.{◌⊎◌, if◌then◌else◌, cond, List, Some, slice_set, length-set, refl, sym, ap, ◌∙◌, subst}
+use Rattle.std.proofs.Common.{arith, count_by}
 use Rattle.std.proofs.lemmas.Bool.{false≢true}
 use Rattle.std.proofs.lemmas.List.{nil_from_length}
 use native.Mathlib.Decide.{dec_lt}
 use Rattle.group_table.specs.Sizes.{full_capacity, IsBucketCount, IsPowerFromFour}
-use Rattle.group_table.specs.Bucket.{Mark, empty, deleted, full, bucket_at, is_full, is_deleted}
+use Rattle.group_table.specs.Bucket.{Mark, empty, deleted, full, bucket_at, is_full, is_used, is_deleted, room_at}
+use Rattle.group_table.specs.Bucket.{room as room_of}
 use Rattle.group_table.specs.Probe.{IsFirstFree}
-use Rattle.group_table.specs.Change.{count_up}
-use Rattle.group_table.proofs.BucketLemmas.{room_is, used_count-split, count_by-pos}
+use Rattle.group_table.specs.Change.{MayFill, count_up}
+use Rattle.group_table.proofs.BucketLemmas.{room_is, used_count-split, count_by-set}
+use Rattle.group_table.proofs.CountedMarks.{IsTable-counted}
 use Rattle.lru_limits.specs.Rules.{Rules}
-use Rattle.schnellru.specs.Sizes.{Target, no_table, same_table, new_table}
+use Rattle.schnellru.specs.Sizes.{Target, no_table, same_table, new_table, usage}
 use Rattle.schnellru.specs.State.{State, Contents, buckets, room, contents, IsSized, Leaves, FirstFreeIs, pops}
-use Rattle.schnellru.specs.Place.{Place, in_bucket, rehashed, grown, not_grown, nothing_to_evict, finds_bucket, rehashes}
+use Rattle.schnellru.specs.Place.{Place, in_bucket, rehashed, grown, not_grown, nothing_to_evict, finds_bucket}
+use Rattle.schnellru.specs.Place.{rehashes}
 use Rattle.schnellru.specs.Place.{Outcome, placed, refused, no_memory, IsPlaced, HasNoBucket, IsOutgrown, FillsBucket}
 use Rattle.schnellru.specs.Place.{CannotGrow, no_target, denied, table_for, asked, turned_away, OldestLeave}
 use Rattle.schnellru.proofs.TableSizes.Growth.{full_capacity-at_most, full_capacity-some, target-same}
 use Rattle.schnellru.proofs.Maps.LeavingPairs.{length-pops}
 use Rattle.schnellru.proofs.Maps.Outcomes.{placed-not_no_memory}
-use Rattle.schnellru.proofs.TableSizes.FilledBuckets.{deleted_large}
+use Rattle.schnellru.proofs.TableSizes.FilledBuckets.{deleted_large, fills_free}
 use Rattle.schnellru.proofs.Theorems.Potential.{sized_with_limiter}
 use Rattle.schnellru.proofs.TableSizes.SomeMarks.{marked, length-marked, room-marked, sized-marked}
 
@@ -112,44 +116,80 @@ module _ {K V S H : Type 0} where
               (counted old.placed 1),
         )
 
-    -- with growth left it can fill the first free one
+    -- it can fill the first free one, with growth left or if that one is deleted
+    fill_first : (hash b : ℕ) → b < buckets old → IsFirstFree old.marks hash b → MayFill old.marks b
+        → (new : State K V S H) × IsPlaced pair (buckets old) (room new) 0 old new × FillsBucket hash old new
+        × IsSized new
+    fill_first hash b within first may =
+        (new, placed, fills_free old new ok hash b within first spends refl refl, sized)
+      where
+        marks : List Mark
+        marks = slice_set old.marks b (full tt)
+
+        new : State K V S H
+        new = record old {
+          pairs = pair ∷ old.pairs;
+          marks = marks;
+          places = b ∷ old.places;
+          placings = count_up old.placings 1;
+          moved = count_up old.moved 0;
+          placed = count_up old.placed 1;
+        }
+
+        counts : (p : Mark → Bool) → count_by p marks + cond (p (bucket_at old.marks b)) 1 0
+            ≡ count_by p old.marks + cond (p (full tt)) 1 0
+        counts p = count_by-set p old.marks b (full tt) within
+
+        same : length marks ≡ buckets old
+        same = length-set old.marks b (full tt)
+
+        one : (m : Mark) → ◌≡◌ {A = ℕ} (cond (is_used m) 1 0 + (if is_used m then 0 else 1)) 1
+        one empty = refl
+        one deleted = refl
+        one (full held) = refl
+
+        used : count_by is_used marks ≤ full_capacity (buckets old)
+        used = elim may [
+          | inl some ↦ omega (arith, counts is_used, room_is old.marks, some)
+          | inr there ↦ omega
+              (arith, counts is_used, ap (λ m. cond {A = ℕ} (is_used m) 1 0) there, ok.table.used_within)
+        ]
+
+        spends : room_of marks + room_at old.marks b ≡ room_of old.marks
+        spends = omega (
+          arith,
+          room_is marks,
+          room_is old.marks,
+          ap full_capacity same,
+          counts is_used,
+          one (bucket_at old.marks b),
+          used,
+        )
+
+        placed : IsPlaced pair (buckets old) (room new) 0 old new
+        placed = record { table = same; room_left = refl; state = refl }
+
+        sized : IsSized new
+        sized = record {
+          table = IsTable-counted marks (subst IsBucketCount (sym same) ok.table.count)
+              (omega (arith, used, ap full_capacity same)) (omega (arith, same, ok.table.addressable))
+              (λ small. omega (arith, counts is_deleted, ok.table.none_deleted (omega (arith, small, same))));
+          taken = omega (arith, counts is_full, ap (λ t. cond {A = ℕ} t 1 0) first.free_there, ok.taken);
+          reachable = subst (λ n. (n ≡ 0) ⊎ (n < old.max)) (sym same) ok.reachable;
+          usable = subst (λ n. (bytes : ℕ) × (usage old.entry_bytes n ≡ Some bytes)) (sym same) ok.usable;
+          moved = counted old.moved 0;
+          placed = counted old.placed 1;
+          shrunk = ok.shrunk;
+        }
+
+    -- with growth left it does
     some_filled : (hash : ℕ) → 0 < room old
         → (new : State K V S H) × IsPlaced pair (buckets old) (room new) 0 old new × FillsBucket hash old new
         × IsSized new
-    some_filled hash r = go (bucket_at old.marks free.0) refl
-      where
-        deletions : ℕ
-        deletions = count_by is_deleted old.marks
-
-        spare : room old + (length old.pairs + deletions) ≡ full_capacity (buckets old)
-        spare = omega (arith, room_is old.marks, used_count-split old.marks, ok.taken, r)
-
-        free : (b : ℕ) × (b < buckets old) × IsFirstFree old.marks hash b
-        free = ok.table.some_free (omega (arith, spare, r, full_capacity-at_most (buckets old))) hash
-
-        go : (m : Mark) → bucket_at old.marks free.0 ≡ m
-            → (new : State K V S H) × IsPlaced pair (buckets old) (room new) 0 old new × FillsBucket hash old new
-            × IsSized new
-        go empty e =
-            let (new, is, sized) = some_bucket deletions (omega (arith, r, spare)) ok.table.none_deleted in (
-              new,
-              record { table = is.table; room_left = refl; state = is.state },
-              inl
-                  ((free.0, free.2, e), omega (arith, is.room_left, spare, r)),
-              sized,
-            )
-        go deleted e =
-            let some = count_by-pos is_deleted old.marks free.0 free.1 (ap is_deleted e) in
-            let large = (deleted_large old ok free.0 free.1 e).0 in
-            let (new, is, sized) = some_bucket (deletions - 1) (omega (arith, some, spare))
-            (λ small. absurd (omega (arith, small, large))) in (
-              new,
-              record { table = is.table; room_left = refl; state = is.state },
-              inr
-                  ((free.0, free.2, e), large, omega (arith, is.room_left, some, spare)),
-              sized,
-            )
-        go (full held) e = absurd (false≢true (sym free.2.free_there ∙ ap is_full e))
+    some_filled hash r =
+        let (b, within, first) =
+        ok.table.some_free (omega (arith, room_is old.marks, r, full_capacity-at_most (buckets old))) hash in
+        fill_first hash b within first (inl r)
 
 module _ {K V S H : Type 0} (rules : Rules K V S) (hash_of : H → K → ℕ) (pair : K × V) (old : State K V S H)
     (ok : IsSized old) where
@@ -183,19 +223,9 @@ module _ {K V S H : Type 0} (rules : Rules K V S) (hash_of : H → K → ℕ) (p
   deleted_ends : 0 < length old.pairs → room old ≡ 0 → (free : FirstFreeIs deleted hash old) → free.0 < buckets old
       → Ends
   deleted_ends l none free below =
-      let full_table : full_capacity (buckets old) ≡ length old.pairs + deletions = omega
-      (arith, none, spent, spent_within) in
-      let some = count_by-pos is_deleted old.marks free.0 below (ap is_deleted free.2) in
       let (large, spare) = deleted_large old ok free.0 below free.2 in
-      let (new, is, sized) = some_bucket pair old ok (deletions - 1) (omega (arith, some, full_table))
-      (λ small. absurd (omega (arith, small, large))) in (
-        placed,
-        new,
-        in_bucket (omega (arith, spare)) (inr l)
-            (inr (free, large, omega (arith, is.room_left, some, full_table, none))) refl
-            (record { table = is.table; room_left = refl; state = is.state }),
-        sized,
-      )
+      let (new, is, fills, sized) = fill_first pair old ok hash free.0 below free.1 (inr free.2) in
+      (placed, new, in_bucket (omega (arith, spare)) (inr l) fills refl is, sized)
 
   -- if the table cannot grow, the oldest pair is evicted, or the new one is not stored
   evicted_ends : IsOutgrown hash old → (s : S) → CannotGrow rules old (record old { limiter = s }) → Ends

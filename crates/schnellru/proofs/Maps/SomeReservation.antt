@@ -11,7 +11,7 @@ use Rattle.lru_limits.specs.Rules.{Rules}
 use Rattle.schnellru.specs.Calls.{cleared}
 use Rattle.schnellru.specs.State.{State, buckets, room, IsSized}
 use Rattle.schnellru.specs.Place.{table_for, asked}
-use Rattle.schnellru.specs.Reservations.{LacksRoomFor, Reserve, unchanged, remade, asked_only, enough_room, too_many}
+use Rattle.schnellru.specs.Reservations.{LacksRoomFor, Reserve, unchanged, rehashed, asked_only, enough_room, too_many}
 use Rattle.schnellru.specs.Reservations.{no_such_table}
 use Rattle.schnellru.specs.Sizes.{Target, no_table, same_table, new_table}
 use Rattle.schnellru.specs.declared.map.reserve.ReserveError.{ReserveError}
@@ -64,7 +64,7 @@ module _ {K V S H : Type 0} (rules : Rules K V S) (n : ℕ) (old : State K V S H
       let new : State K V S H = record old { marks = marked old ok old.pairs 0 within; placings = placings } in (
         Ok tt,
         new,
-        remade lacks is refl
+        rehashed lacks is refl
             (record {
               table = length-marked old ok old.pairs 0 within;
               exact = omega (arith, room-marked old ok old.pairs 0 within, within);

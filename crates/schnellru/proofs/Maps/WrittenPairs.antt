@@ -86,7 +86,8 @@ module _ {K V F : Type 0} (closure : Mut F (Bor K × (MutBor V × Unit {0})) (Un
           (sym none ∙ ap (λ l. slice_get l at) whole ∙ ap (slice_get (i.front ++ left ∷ rest)) (sym i.many)
           ∙ get_after i.front (left ∷ rest)))
 
-pub length-set : {K V : Type 0} (pairs : List (K × V)) (at : ℕ) (w : V) → length (set_value_at pairs at w) ≡ length pairs
+pub length-set : {K V : Type 0} (pairs : List (K × V)) (at : ℕ) (w : V) → length (set_value_at pairs at w) ≡ length
+    pairs
 length-set [] at w = refl
 length-set (pair ∷ pairs) zero w = refl
 length-set (pair ∷ pairs) (suc at) w = ap suc (length-set pairs at w)
@@ -98,6 +99,7 @@ get_none (x ∷ xs) zero none = absurd (none-some x (sym none))
 get_none (x ∷ xs) (suc at) none = omega (arith, get_none xs at none)
 
 -- a map that differs in its pairs alone, with other pairs
-pub with_others : {K V S H : Type 0} (st old : State K V S H) (pairs : List (K × V)) → st ≡ record old { pairs = st.pairs }
+pub with_others : {K V S H : Type 0} (st old : State K V S H) (pairs : List (K × V)) → st ≡ record old
+    { pairs = st.pairs }
     → record st { pairs = pairs } ≡ record old { pairs = pairs }
 with_others st old pairs same = λ j. record (same j) { pairs = pairs }

@@ -11,7 +11,7 @@ use Rattle.std.proofs.lemmas.List.Elements.{Contains-append_left}
 use Rattle.schnellru.specs.Lists.{place_of, other_places, front_places, after}
 use Rattle.schnellru.specs.Lists.{lookup, lookup_entry, without, first, last, without_first, without_last}
 use Rattle.schnellru.specs.Inside.OrderedTable.{OrderedTable, IsLinked, entries_in, pairs_of, without_bucket}
-use Rattle.schnellru.specs.Inside.Chain.{first_bucket, last_bucket}
+use Rattle.schnellru.specs.Lists.{first as first_bucket, last as last_bucket}
 use Rattle.schnellru.proofs.PairLists.DistinctKeys.{AreDistinct, NoneNamed, none_found}
 use Rattle.schnellru.proofs.Chains.Orders.{first_in, no_first, last_in, length-without}
 use Rattle.schnellru.proofs.PairLists.NamedPairs.{lookup-entry, cut_found, cut_without, others_unnamed, last_end}

@@ -14,7 +14,8 @@ use Rattle.group_table.specs.Search.{IsSearch}
 use Rattle.group_table.proofs.SearchLemmas.{full_by_entry, full_by_tag, held_by, entry_by_full}
 use Rattle.schnellru.specs.ByHash.{Refuses, AreCandidates, GivesByHash, GivesNoneByHash}
 use Rattle.schnellru.specs.Lists.{keys_of}
-use Rattle.schnellru.specs.Inside.OrderedTable.{OrderedTable, IsLinked, KeysFit, hash_in, entries_in, pairs_of, without_bucket}
+use Rattle.schnellru.specs.Inside.OrderedTable.{OrderedTable, IsLinked, KeysFit, hash_in, entries_in, pairs_of}
+use Rattle.schnellru.specs.Inside.OrderedTable.{without_bucket}
 use Rattle.schnellru.specs.Inside.Searches.{AnswersPair, FindsPair, FindsNoPair}
 use Rattle.schnellru.proofs.Chains.Orders.{Contains-here, Contains-later, Contains-cases, Contains-nil, distinct_head}
 use Rattle.schnellru.proofs.Chains.Orders.{distinct_tail, in_without}

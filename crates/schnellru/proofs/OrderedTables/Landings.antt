@@ -1,17 +1,17 @@
 -- A pair lands in the first free bucket of a linked table, as the newest.
-use Rattle.std.proofs.Common.{◌≡◌, ℕ, ◌+◌, ◌^◌, ◌<◌, inl, inr, ◌∷◌, ◌++◌, length, refl, sym, ap, ◌∙◌, arith, slice_set}
-use Rattle.std.proofs.Common.{if◌then◌else◌, subst, Bool, None}
+use Rattle.std.proofs.Common.{◌≡◌, ℕ, ◌^◌, ◌<◌, ◌∷◌, ◌++◌, length, refl, sym, ap, ◌∙◌, arith}
+use Rattle.std.proofs.Common.{slice_set, subst, Bool, None}
 use Rattle.std.specs.Prelude.{option_to_list}
 use Rattle.std.proofs.lemmas.List.{length-set, get_or-set_same}
 use Rattle.group_table.specs.Sizes.{full_capacity}
-use Rattle.group_table.specs.Bucket.{Mark, empty, deleted, full, is_full, is_used, bucket_at, entry_of, marks_of, room}
-use Rattle.group_table.specs.Bucket.{room_at, IsFull}
-use Rattle.group_table.specs.Probe.{hash_tag, IsFirstFree}
+use Rattle.group_table.specs.Bucket.{empty, full, entry_of, marks_of, room}
+use Rattle.group_table.specs.Bucket.{IsFull}
+use Rattle.group_table.specs.Probe.{hash_tag, filled}
 use Rattle.group_table.specs.Change.{count_up}
 use Rattle.std.proofs.lemmas.Bool.{false≢true}
 use Rattle.group_table.proofs.FirstFree.{fills_within}
-use Rattle.group_table.proofs.BucketLemmas.{length-marks_of, is_full-marks_of}
-use Rattle.schnellru.specs.State.{State, buckets, IsSized, IsPaid}
+use Rattle.group_table.proofs.BucketLemmas.{length-marks_of, is_full-marks_of, marks_of-set}
+use Rattle.schnellru.specs.State.{buckets, IsSized, IsPaid}
 use Rattle.schnellru.specs.Place.{IsPlaced, FillsBucket}
 use Rattle.schnellru.specs.Lists.{lookup_entry}
 use Rattle.schnellru.specs.Inside.OrderedTable.{OrderedTable, IsLinked, KeysFit, Lands, pairs_of, entries_in}
@@ -20,28 +20,13 @@ use Rattle.schnellru.proofs.PairLists.DistinctKeys.{AreDistinct, absent_keys}
 use Rattle.schnellru.specs.Inside.Holds.{Beside, state_of, Holds}
 use Rattle.schnellru.proofs.OrderedTables.OrderCuts.{entries-apart}
 use Rattle.schnellru.proofs.Chains.Orders.{Lacks, lacks_unless}
-use Rattle.schnellru.proofs.TableSizes.FilledBuckets.{deleted_large}
+use Rattle.schnellru.proofs.TableSizes.FilledBuckets.{fills_free}
 use Rattle.schnellru.proofs.Maps.HeldMaps.{sized_same, room_at-most}
 use Rattle.schnellru.proofs.Theorems.Potential.{pays_placing}
 use Rattle.schnellru.proofs.Theorems.PaidMoves.{paid_after}
 
 pub count_up-none : (n : ℕ) → n < 2 ^ 64 → n ≡ count_up n 0
 count_up-none n h = grind (arith, h)
-
--- an entry went into the first free bucket of a table
-module _ {K V S H : Type 0} (old new : State K V S H) (ok : IsSized old) (hash b : ℕ) (within : b < buckets old)
-    (first : IsFirstFree old.marks hash b)
-    (filled : room new.marks + room_at old.marks b ≡ room old.marks) where
-  fills : FillsBucket hash old new
-  fills = go (bucket_at old.marks b) refl
-    where
-      counts : (m : Mark) → bucket_at old.marks b ≡ m → room_at old.marks b ≡ (if is_used m then 0 else 1)
-      counts m e = ap (λ x. if is_used x then 0 else 1) e
-
-      go : (m : Mark) → bucket_at old.marks b ≡ m → FillsBucket hash old new
-      go empty e = inl ((b, first, e), omega (arith, filled, counts empty e))
-      go deleted e = inr ((b, first, e), (deleted_large old ok b within e).0, omega (arith, filled, counts deleted e))
-      go (full held) e = absurd (false≢true (sym first.free_there ∙ ap is_full e))
 
 module _ {K V : Type 0} (t u : OrderedTable K V) (hash : ℕ) (pair : K × V) (b : ℕ) (linked : IsLinked t)
     (lands : Lands t u hash pair b) where
@@ -87,8 +72,9 @@ module _ {K V : Type 0} (t u : OrderedTable K V) (hash : ℕ) (pair : K × V) (b
     }
 
     pub lands_fills : FillsBucket hash (state_of t beside) (state_of u counted)
-    lands_fills = fills (state_of t beside) (state_of u counted) sized hash b
+    lands_fills = fills_free (state_of t beside) (state_of u counted) sized hash b
         (subst (λ n. b < n) (sym (length-marks_of t.slots)) lands_within) lands.first lands.room
+        (ap marks_of lands.slots ∙ marks_of-set t.slots b (filled hash pair)) lands.order
 
     pub lands_sized : IsLinked u → IsSized (state_of u counted)
     lands_sized next = let same = sized_same beside t u beside.limiter sized next lands_length in record {

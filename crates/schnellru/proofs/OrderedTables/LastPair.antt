@@ -15,7 +15,8 @@ use Rattle.schnellru.proofs.Maps.HeldMaps.{alike_holds}
 -- the pair in the bucket b of t comes last, in v
 module _ {K V : Type 0} (t v : OrderedTable K V) (linked : IsLinked t) (b : ℕ) (p : K × V) (there : entry_at t.slots b
     ≡ Some p)
-    (slots : v.slots ≡ t.slots) (order : v.order ≡ without_bucket b t.order ++ b ∷ []) (counted : v.placings ≡ t.placings)
+    (slots : v.slots ≡ t.slots) (order : v.order ≡ without_bucket b t.order ++ b ∷ [])
+    (counted : v.placings ≡ t.placings)
     (names : K → Bool) {eq : K → K → Bool} (laws : IsEquivalence eq) (one : (x y : K) → names x ≡ true → names y
     ≡ eq x y) (named : names p.0 ≡ true)
     (distinct : AreDistinct eq (pairs_of t)) where
@@ -45,4 +46,4 @@ module _ {K V : Type 0} (t v : OrderedTable K V) (linked : IsLinked t) (b : ℕ)
     demoted_holds hash_of holds next = alike_holds beside eq hash_of t v holds next
         (subst (KeysFit (hash_of beside.hasher)) (sym slots) holds.fits)
         (ap marks_of slots) (subst (AreDistinct eq) (sym demoted_pairs)
-        (distinct_last eq names one laws (pairs_of t) distinct))
+        (distinct_last eq names laws (pairs_of t) distinct))

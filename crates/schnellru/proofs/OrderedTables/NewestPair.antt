@@ -6,8 +6,9 @@ use Rattle.group_table.specs.Bucket.{bucket_at, entry_at, marks_of}
 use Rattle.group_table.proofs.RefillLemmas.{marks_of-refilled}
 use Rattle.group_table.proofs.SearchLemmas.{full_by_entry}
 use Rattle.schnellru.specs.Lists.{without, front, after, last, without_last, newest_value, set_newest}
-use Rattle.schnellru.specs.Inside.OrderedTable.{OrderedTable, IsLinked, KeysFit, pairs_of, entries_in, without_bucket, with_pair}
-use Rattle.schnellru.specs.Inside.Chain.{first_bucket, last_bucket}
+use Rattle.schnellru.specs.Inside.OrderedTable.{OrderedTable, IsLinked, KeysFit, pairs_of, entries_in, without_bucket}
+use Rattle.schnellru.specs.Inside.OrderedTable.{with_pair}
+use Rattle.schnellru.specs.Lists.{first as first_bucket, last as last_bucket}
 use Rattle.schnellru.specs.Inside.Holds.{Beside, state_of, Holds}
 use Rattle.schnellru.specs.Calls.{promoted}
 use Rattle.schnellru.proofs.Chains.Orders.{first_in, before_is, before_first}
@@ -50,23 +51,24 @@ module _ {K V : Type 0} (t v : OrderedTable K V) (linked : IsLinked t) (b : ℕ)
 -- the oldest pair of t, in the bucket b, comes first, in v
 module _ {K V : Type 0} (t v : OrderedTable K V) (linked : IsLinked t) (b : ℕ) (oldest : last_bucket t.order ≡ Some b)
     (p : K × V) (there : entry_at t.slots b ≡ Some p)
-    (slots : v.slots ≡ t.slots) (order : v.order ≡ b ∷ without_bucket b t.order) (counted : v.placings ≡ t.placings) where
-  oldest_pairs : pairs_of v ≡ after (last (pairs_of t)) (without_last (pairs_of t))
-  oldest_pairs = ap (entries_in v.slots) order
-      ∙ ap (λ s. entries_in s (b ∷ without_bucket b t.order)) slots
-      ∙ ap (λ o. option_to_list o ++ entries_in t.slots (without_bucket b t.order)) there
-      ∙ ap (λ l. p ∷ l) (sym (others_oldest t linked b oldest p there))
-      ∙ ap (λ o. after o (without_last (pairs_of t))) (sym (oldest_is t linked b oldest p there))
+    (slots : v.slots ≡ t.slots) (order : v.order ≡ b ∷ without_bucket b t.order) (counted : v.placings ≡ t.placings)
+  where
+    oldest_pairs : pairs_of v ≡ after (last (pairs_of t)) (without_last (pairs_of t))
+    oldest_pairs = ap (entries_in v.slots) order
+        ∙ ap (λ s. entries_in s (b ∷ without_bucket b t.order)) slots
+        ∙ ap (λ o. option_to_list o ++ entries_in t.slots (without_bucket b t.order)) there
+        ∙ ap (λ l. p ∷ l) (sym (others_oldest t linked b oldest p there))
+        ∙ ap (λ o. after o (without_last (pairs_of t))) (sym (oldest_is t linked b oldest p there))
 
-  pub oldest_promoted : {S H : Type 0} (beside : Beside S H) → state_of v beside ≡ record (state_of t beside) {
-    pairs = after (last (pairs_of t)) (without_last (pairs_of t));
-    places = v.order;
-  }
-  oldest_promoted beside = λ i. record (state_of v beside) {
-    pairs = oldest_pairs i;
-    marks = marks_of (slots i);
-    placings = counted i;
-  }
+    pub oldest_promoted : {S H : Type 0} (beside : Beside S H) → state_of v beside ≡ record (state_of t beside) {
+      pairs = after (last (pairs_of t)) (without_last (pairs_of t));
+      places = v.order;
+    }
+    oldest_promoted beside = λ i. record (state_of v beside) {
+      pairs = oldest_pairs i;
+      marks = marks_of (slots i);
+      placings = counted i;
+    }
 
 -- the newest pair of t is that in the bucket b
 module _ {K V : Type 0} (t : OrderedTable K V) (linked : IsLinked t) (b : ℕ) (p : K × V) (there : entry_at t.slots b

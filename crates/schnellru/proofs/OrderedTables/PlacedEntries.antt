@@ -15,7 +15,8 @@ use Rattle.schnellru.specs.Inside.Chain.{pair_slots, newer_at, along, IsChain, I
 use Rattle.schnellru.proofs.Chains.WholeChains.{whole_order, IsWhole-shown, IsLinked-view, placed_absent}
 use Rattle.schnellru.proofs.Chains.WholeChains.{IsChain-placed, IsWhole-placed}
 use Rattle.schnellru.proofs.OrderedTables.KeyHashes.{KeysFit-placed}
-use Rattle.schnellru.proofs.OrderedTables.PairSlots.{pair_of, marks_of-pair_slots, length-pair_slots, pair_slots-set, same_marks}
+use Rattle.schnellru.proofs.OrderedTables.PairSlots.{pair_of, marks_of-pair_slots, length-pair_slots, pair_slots-set}
+use Rattle.schnellru.proofs.OrderedTables.PairSlots.{same_marks}
 use Rattle.schnellru.proofs.OrderedTables.PairSlots.{Fits-pair_slots, Fits-entries}
 
 -- the growth left is that of the table with links
@@ -32,7 +33,8 @@ module _ {N : Type 0} {number : N → ℕ} {link : ℕ → N} {none : N} {eq : N
   within = fills_within old.slots hash b places.first may
 
   -- the chain of the others is there, and the bucket is not in it
-  pub others_chained : (order : List ℕ) × IsChain number link none new.slots newest oldest order × (Contains order b → ⊥)
+  pub others_chained : (order : List ℕ) × IsChain number link none new.slots newest oldest order ×
+      (Contains order b → ⊥)
   others_chained = (order, IsChain-placed laws whole places within, placed_absent laws whole places within)
 
   -- and its entry has the newer link that it had

@@ -1,5 +1,6 @@
 -- The pairs of a linked table by their places in the order, counted from the newest on.
-use Rattle.std.proofs.Common.{◌≡◌, ◌≢◌, ℕ, zero, suc, Bool, true, false, cond, List, [], ◌∷◌, ◌++◌, length, Some, None, refl}
+use Rattle.std.proofs.Common.{◌≡◌, ◌≢◌, ℕ, zero, suc, Bool, true, false, cond, List, [], ◌∷◌, ◌++◌, length, Some}
+use Rattle.std.proofs.Common.{None, refl}
 use Rattle.std.proofs.Common.{sym, ap, ◌∙◌, subst, arith, ne_eqb, eq-eqb}
 use Rattle.std.specs.Prelude.{Contains, AllPairs, option_to_list, slice_get}
 use Rattle.std.specs.Cmp.{IsEquivalence}
@@ -9,7 +10,8 @@ use Rattle.std.proofs.lemmas.Option.{none-some, same_Some}
 use Rattle.group_table.specs.Bucket.{Slot, entry_at, bucket_at}
 use Rattle.group_table.proofs.SearchLemmas.{entry_by_full}
 use Rattle.schnellru.specs.Lists.{set_value_at, last_of, place_of}
-use Rattle.schnellru.specs.Inside.Chain.{first_bucket, last_bucket, bucket_after, bucket_before}
+use Rattle.schnellru.specs.Lists.{first as first_bucket, last as last_bucket}
+use Rattle.schnellru.specs.Inside.Chain.{bucket_after, bucket_before}
 use Rattle.schnellru.specs.Inside.OrderedTable.{entries_in}
 use Rattle.schnellru.proofs.Chains.Orders.{Contains-here, Contains-later, distinct_head, distinct_tail}
 use Rattle.schnellru.proofs.PairLists.DistinctKeys.{AreDistinct, all_of}
@@ -87,7 +89,8 @@ place_holds slots names (c ∷ cs) b full e =
     (subst (λ o. place_of names (option_to_list o ++ entries_in slots cs) (c ∷ cs) ≡ Some b) is e)
   where
     go : (p : _) → entry_at slots c ≡ Some p → (y : Bool) → names p.0 ≡ y
-        → (place_of names (entries_in slots cs) cs ≡ Some b → (q : _) × (entry_at slots b ≡ Some q) × (names q.0 ≡ true))
+        → (place_of names (entries_in slots cs) cs ≡ Some b → (q : _) × (entry_at slots b ≡ Some q) ×
+        (names q.0 ≡ true))
         → cond y (Some c) (place_of names (entries_in slots cs) cs) ≡ Some b
         → (p : _) × (entry_at slots b ≡ Some p) × (names p.0 ≡ true)
     go p is true named rest h = (p, subst (λ d. entry_at slots d ≡ Some p) (same_Some c b h) is, named)

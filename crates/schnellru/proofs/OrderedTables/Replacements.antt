@@ -10,7 +10,8 @@ use Rattle.group_table.proofs.RefillLemmas.{entry_at-refilled, marks_of-refilled
 use Rattle.group_table.proofs.SearchLemmas.{full_by_entry}
 use Rattle.lru_limits.specs.Rules.{Rules, Replaced}
 use Rattle.schnellru.specs.Lists.{without, set_entry}
-use Rattle.schnellru.specs.Inside.OrderedTable.{OrderedTable, IsLinked, KeysFit, with_pair, without_bucket, pairs_of, entries_in}
+use Rattle.schnellru.specs.Inside.OrderedTable.{OrderedTable, IsLinked, KeysFit, with_pair, without_bucket, pairs_of}
+use Rattle.schnellru.specs.Inside.OrderedTable.{entries_in}
 use Rattle.schnellru.specs.State.{State, Leaves}
 use Rattle.schnellru.specs.Inside.Holds.{Beside, state_of, Holds}
 use Rattle.schnellru.specs.Inside.Steps.{IsReplaced, IsGivenUp, IsTakenOut}
@@ -39,7 +40,8 @@ module _ {K V S : Type 0} (rules : Rules K V S) (by : Replaced K V S) (old new :
     order = out.order;
     placings = out.placings;
     room = out.room ∙ ap (λ m. room m + room_at (marks_of new.slots) b) (marks_of-refilled old.slots b (k, v));
-    notified = out.notified ∙ (λ i. (rules.on_removed (notified i) ((taken_is ∙ pair_is) i).0 ((taken_is ∙ pair_is) i).1).limiter);
+    notified = out.notified ∙ (λ i.
+        (rules.on_removed (notified i) ((taken_is ∙ pair_is) i).0 ((taken_is ∙ pair_is) i).1).limiter);
   }
 
   -- and it is as the limiter left it

@@ -1,13 +1,13 @@
 -- A pair was taken out of its bucket, and the limiter was notified.
 use Rattle.std.proofs.Common.{◌≡◌, ℕ, suc, Bool, Option, Some, None, option_map, length, refl, sym, ap, ◌∙◌, subst}
 use Rattle.std.specs.Cmp.{IsEquivalence}
-use Rattle.group_table.proofs.ChangeLemmas.{length-removed}
+use Rattle.group_table.proofs.ChangeLemmas.{length-removed, states-removed}
 use Rattle.group_table.proofs.SearchLemmas.{full_by_entry}
 use Rattle.group_table.specs.Bucket.{bucket_at}
 use Rattle.lru_limits.specs.Rules.{Rules}
 use Rattle.schnellru.specs.Inside.OrderedTable.{OrderedTable, IsLinked, KeysFit, pairs_of, entries_in, without_bucket}
 use Rattle.schnellru.specs.Lists.{lookup_entry}
-use Rattle.schnellru.specs.State.{State, Contents, Leaves, notified_of}
+use Rattle.schnellru.specs.State.{State, Contents, Frees, Leaves, notified_of}
 use Rattle.schnellru.specs.Calls.{left_of, Remove, RemoveEntry}
 use Rattle.schnellru.specs.Inside.Steps.{IsTakenOut}
 use Rattle.schnellru.specs.Inside.Holds.{Beside, state_of, Holds}
@@ -43,6 +43,16 @@ module _ {K V S : Type 0} (rules : Rules K V S) (t u : OrderedTable K V) (b : �
           (ap (λ o. suc (length o)) out.order
           ∙ shorter t first b (full_by_entry (bucket_at t.slots b) out.pair out.there)) out.room beside
           (record beside { limiter = notified });
+    }
+
+    -- its bucket is free
+    pub taken_frees : (place : Option ℕ) → place ≡ Some b
+        → Frees place (state_of t beside) (state_of u (record beside { limiter = notified }))
+    taken_frees place is = record {
+      bucket = b;
+      there = is;
+      freed = states-removed t.slots u.slots b out.slots;
+      others = out.order;
     }
 
     -- what holds of a map holds of what is left

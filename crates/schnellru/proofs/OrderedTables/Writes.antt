@@ -10,7 +10,8 @@ use Rattle.group_table.specs.Bucket.{IsFull, bucket_at, entry_at, refilled}
 use Rattle.group_table.proofs.RefillLemmas.{entry_at-refilled, marks_of-refilled}
 use Rattle.group_table.proofs.SearchLemmas.{full_by_entry}
 use Rattle.schnellru.specs.Lists.{keys_of, set_entry}
-use Rattle.schnellru.specs.Inside.OrderedTable.{OrderedTable, IsLinked, KeysFit, pairs_of, entries_in, without_bucket, with_pair}
+use Rattle.schnellru.specs.Inside.OrderedTable.{OrderedTable, IsLinked, KeysFit, pairs_of, entries_in, without_bucket}
+use Rattle.schnellru.specs.Inside.OrderedTable.{with_pair}
 use Rattle.schnellru.specs.Inside.Holds.{Beside, state_of, Holds}
 use Rattle.schnellru.specs.Calls.{written}
 use Rattle.schnellru.proofs.OrderedTables.OrderCuts.{without_lacks, entries-apart, entries-cut}
@@ -44,12 +45,14 @@ module _ {K V : Type 0} (names : K → Bool) (p : K × V) (named : names p.0 ≡
       ∙ ap (λ l. x ∷ l) (value_end w xs ys h.1)
 
 -- the pair of the named key is in the bucket b of t, and stays at its place
-module _ {K V : Type 0} (t : OrderedTable K V) (linked : IsLinked t) (b : ℕ) (p : K × V) (there : entry_at t.slots b ≡ Some p)
+module _ {K V : Type 0} (t : OrderedTable K V) (linked : IsLinked t) (b : ℕ) (p : K × V)
+    (there : entry_at t.slots b ≡ Some p)
     (names : K → Bool) {eq : K → K → Bool} (laws : IsEquivalence eq) (one : (x y : K) → names x ≡ true → names y
     ≡ eq x y) (named : names p.0 ≡ true)
     (distinct : AreDistinct eq (pairs_of t)) where
   cut_set : (q : K × V) → pairs_of (with_pair t b q)
-      ≡ entries_in t.slots (cut_here t linked b p there).before ++ q ∷ entries_in t.slots (cut_here t linked b p there).after
+      ≡ entries_in t.slots (cut_here t linked b p there).before ++ q ∷ entries_in t.slots
+      (cut_here t linked b p there).after
   cut_set q = let cut = cut_here t linked b p there in let s = refilled (bucket_at t.slots b) q in
       entries-cut (with_pair t b q).slots cut q
       (entry_at-refilled t.slots b q (full_by_entry (bucket_at t.slots b) p there))

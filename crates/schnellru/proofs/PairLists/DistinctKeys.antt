@@ -3,6 +3,7 @@ use Rattle.std.proofs.Common.{◌≡◌, ℕ, Bool, true, false, cond, List, [],
 use Rattle.std.proofs.Common.{sym, ◌∙◌, subst, arith, zero, suc}
 use Rattle.std.specs.Prelude.{Contains, option_to_list}
 use Rattle.std.proofs.lemmas.List.{append-nil}
+use Rattle.std.proofs.lemmas.Option.{same_Some}
 use Rattle.std.specs.Cmp.{IsEquivalence}
 use Rattle.std.specs.List.{IsDistinct, AllByRecursion, AllZip}
 use Rattle.lru_limits.specs.Rules.{Rules, Offers}
@@ -47,6 +48,17 @@ module _ {K V : Type 0} (P : K → Type 0) where
       → AllByRecursion P (keys_of (newer ++ older))
   all_between [] older pair h = h.1
   all_between (x ∷ newer) older pair h = (h.0, all_between newer older pair h.1)
+
+  -- and of a pair that is found
+  all_found : (names : K → Bool) (xs : List (K × V)) (pair : K × V) → AllByRecursion P (keys_of xs)
+      → lookup_entry names xs ≡ Some pair → P pair.0
+  all_found names [] pair h found = absurd (grind arith)
+  all_found names (x ∷ xs) pair h found = go (names x.0) found (all_found names xs pair h.1)
+    where
+      go : (b : Bool) → cond b (Some x) (lookup_entry names xs) ≡ Some pair
+          → (lookup_entry names xs ≡ Some pair → P pair.0) → P pair.0
+      go true is later = subst (λ p. P p.0) (same_Some x pair is) h.0
+      go false is later = later is
 
   all_push : (xs : List (K × V)) (pair : K × V) → AllByRecursion P (keys_of xs) → P pair.0
       → AllByRecursion P (keys_of (xs ++ pair ∷ []))
@@ -110,6 +122,50 @@ module _ {K V : Type 0} (eq : K → K → Bool) where
   distinct_between (x ∷ newer) older pair d =
       (all_between (λ y. eq x.0 y ≡ false) newer older pair d.0, distinct_between newer older pair d.1)
 
+  module _ (names : K → Bool) (laws : IsEquivalence eq) where
+    -- the pair that any test finds first is equal to none of the others
+    found_apart : (xs : List (K × V)) → AreDistinct xs → (pair : K × V) → lookup_entry names xs ≡ Some pair
+        → AllByRecursion (λ k. eq pair.0 k ≡ false) (keys_of (without names xs))
+    unfolding IsDistinct
+    found_apart [] d pair found = absurd (grind arith)
+    found_apart (x ∷ xs) d pair found = go (names x.0) refl found (found_apart xs d.1 pair)
+      where
+        go : (b : Bool) → names x.0 ≡ b → cond b (Some x) (lookup_entry names xs) ≡ Some pair
+            → (lookup_entry names xs ≡ Some pair
+            → AllByRecursion (λ k. eq pair.0 k ≡ false) (keys_of (without names xs)))
+            → AllByRecursion (λ k. eq pair.0 k ≡ false) (keys_of (cond b xs (x ∷ without names xs)))
+        go true e is later =
+            subst (λ p. AllByRecursion (λ k. eq p.0 k ≡ false) (keys_of xs)) (same_Some x pair is) d.0
+        go false e is later =
+            (laws.symm pair.0 x.0 ∙ all_found (λ k. eq x.0 k ≡ false) names xs pair d.0 is, later is)
+
+    -- so it may come before them
+    pub distinct_found_first : (xs : List (K × V)) → AreDistinct xs → AreDistinct (front names xs)
+    unfolding IsDistinct
+    distinct_found_first xs d = go (lookup_entry names xs) refl
+      where
+        go : (o : Option (K × V)) → lookup_entry names xs ≡ o → AreDistinct (after o (without names xs))
+        go None e = distinct_without names xs d
+        go (Some pair) e = (found_apart xs d pair e, distinct_without names xs d)
+
+    -- or after them
+    distinct_oldest : (oldest : K × V) (xs : List (K × V))
+        → AllByRecursion (λ k. eq oldest.0 k ≡ false) (keys_of xs) → AreDistinct xs → AreDistinct (xs ++ oldest ∷ [])
+    unfolding IsDistinct
+    distinct_oldest oldest [] apart d = (tt, tt)
+    distinct_oldest oldest (x ∷ xs) apart d = (
+      all_push (λ k. eq x.0 k ≡ false) xs oldest d.0 (laws.symm x.0 oldest.0 ∙ apart.0),
+      distinct_oldest oldest xs apart.1 d.1,
+    )
+
+    pub distinct_last : (xs : List (K × V)) → AreDistinct xs → AreDistinct (back names xs)
+    distinct_last xs d = go (lookup_entry names xs) refl
+      where
+        go : (o : Option (K × V)) → lookup_entry names xs ≡ o → AreDistinct (without names xs ++ option_to_list o)
+        go None e = subst AreDistinct (sym (append-nil (without names xs))) (distinct_without names xs d)
+        go (Some pair) e =
+            distinct_oldest pair (without names xs) (found_apart xs d pair e) (distinct_without names xs d)
+
   module _ (names : K → Bool) (one : (x y : K) → names x ≡ true → names y ≡ eq x y) where
     -- the others are not named
     pub others_unnamed : (xs : List (K × V)) → AreDistinct xs → NoneNamed names (without names xs)
@@ -139,25 +195,6 @@ module _ {K V : Type 0} (eq : K → K → Bool) where
         go None e = subst AreDistinct (sym (without_none names xs e)) d
         go (Some pair) e = distinct_newest pair xs (found_named names xs pair e) d
 
-    -- or after them
-    distinct_oldest : IsEquivalence eq → (oldest : K × V) → names oldest.0 ≡ true → (xs : List (K × V))
-        → NoneNamed names xs → AreDistinct xs → AreDistinct (xs ++ oldest ∷ [])
-    unfolding IsDistinct
-    distinct_oldest laws oldest named [] none d = (tt, tt)
-    distinct_oldest laws oldest named (x ∷ xs) none d = (
-      all_push (λ k. eq x.0 k ≡ false) xs oldest d.0
-          (laws.symm x.0 oldest.0 ∙ sym (one oldest.0 x.0 named) ∙ none.0),
-      distinct_oldest laws oldest named xs none.1 d.1,
-    )
-
-    pub distinct_last : IsEquivalence eq → (xs : List (K × V)) → AreDistinct xs → AreDistinct (back names xs)
-    distinct_last laws xs d = go (lookup_entry names xs) refl
-      where
-        go : (o : Option (K × V)) → lookup_entry names xs ≡ o → AreDistinct (without names xs ++ option_to_list o)
-        go None e = subst AreDistinct (sym (append-nil (without names xs))) (distinct_without names xs d)
-        go (Some pair) e = distinct_oldest laws pair (found_named names xs pair e) (without names xs)
-            (others_unnamed xs d) (distinct_without names xs d)
-
     -- or another in its place
     pub distinct_set : IsEquivalence eq → (pair : K × V) → names pair.0 ≡ true → (xs : List (K × V)) → AreDistinct xs
         → AreDistinct (set_entry names pair xs)
@@ -184,7 +221,7 @@ module _ {K V : Type 0} (eq : K → K → Bool) where
 module _ {K V S Q : Type 0} {rules : Rules K V S} {names : Q → K → Bool} {eq : K → K → Bool}
     {query_input : Q → List (List ℕ)} {key_input : K → List (List ℕ)}
     (equivalence : IsEquivalence eq) (looks_up : IsLookup names eq query_input key_input) where
-  pub keeps_distinct : Keeps rules names (λ c d. AreDistinct eq c.pairs → AreDistinct eq d.pairs)
+  pub keeps_distinct : Keeps rules (λ c d. AreDistinct eq c.pairs → AreDistinct eq d.pairs)
   keeps_distinct = record {
     way = record {
       self = λ c d. d;
@@ -194,8 +231,8 @@ module _ {K V S Q : Type 0} {rules : Rules K V S} {names : Q → K → Bool} {eq
     };
     left = λ test c. distinct_without eq test c.pairs;
     dropped = λ newer older pair s. distinct_between eq newer older pair;
-    first = λ q c. distinct_first eq (names q) (looks_up.one q) c.pairs;
-    last = λ q c. distinct_last eq (names q) (looks_up.one q) equivalence c.pairs;
+    first = λ test c. distinct_found_first eq test equivalence c.pairs;
+    last = λ test c. distinct_last eq test equivalence c.pairs;
     cleared = λ c d. none_distinct eq;
   }
 
@@ -223,7 +260,8 @@ module _ {K V S I : Type 0} (rules : Rules K V S) (offers : Offers K V S I) (nam
       → AreDistinct eq (rewrite rules offers names pair i v c).pairs
   rewritten_distinct equivalence i v c pair found =
       let r = offers.on_replace c.limiter (length c.pairs) pair.0 i pair.1 v in
-      distinct_set eq (names i) (looks_up.one i) equivalence (r.key, kept_value r) (still_named i v c pair found) c.pairs
+      distinct_set eq (names i) (looks_up.one i) equivalence (r.key, kept_value r) (still_named i v c pair found)
+      c.pairs
 
 module _ {K V S I : Type 0} {rules : Rules K V S} {offers : Offers K V S I} {names : I → K → Bool} {eq : K → K → Bool}
     {query_input : I → List (List ℕ)} {key_input : K → List (List ℕ)}

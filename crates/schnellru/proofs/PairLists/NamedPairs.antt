@@ -1,5 +1,6 @@
 -- Pairs with distinct keys, cut at the one whose key is named.
-use Rattle.std.proofs.Common.{◌≡◌, Bool, true, false, List, [], ◌∷◌, ◌++◌, Option, Some, None, refl, sym, ap, ◌∙◌, arith}
+use Rattle.std.proofs.Common.{◌≡◌, Bool, true, false, List, [], ◌∷◌, ◌++◌, Option, Some, None, refl, sym, ap, ◌∙◌}
+use Rattle.std.proofs.Common.{arith}
 use Rattle.std.proofs.Common.{cond, option_map}
 use Rattle.std.proofs.lemmas.Option.{none-some}
 use Rattle.std.specs.Cmp.{IsEquivalence}
@@ -20,7 +21,8 @@ lookup-entry names (x ∷ xs) = go (names x.0) (lookup-entry names xs)
     go false h = h
 
 -- if there is no value, there is no pair
-pub no_pair : {K V : Type 0} (names : K → Bool) (xs : List (K × V)) → lookup names xs ≡ None → lookup_entry names xs ≡ None
+pub no_pair : {K V : Type 0} (names : K → Bool) (xs : List (K × V)) → lookup names xs ≡ None → lookup_entry names xs ≡
+    None
 no_pair {K} {V} names xs none = go (lookup_entry names xs) (sym (lookup-entry names xs) ∙ none)
   where
     go : (o : Option (K × V)) → option_map (λ p. p.1) o ≡ None → o ≡ None

@@ -10,7 +10,7 @@ use Rattle.group_table.proofs.PowerLemmas.{power_gap}
 use Rattle.group_table.proofs.SizeLemmas.{full_capacity-large, power_pos}
 use Rattle.schnellru.specs.Exact.{HasTables, HasTableFor}
 use Rattle.schnellru.specs.Sizes.{bytes_of, usage, no_table, same_table, new_table, table_with, target}
-use Rattle.schnellru.specs.Sizes.{links_of_32_bits}
+use Rattle.schnellru.specs.Sizes.{max_of_32_bits}
 use Rattle.schnellru.specs.State.{State, buckets, IsSized}
 use Rattle.schnellru.specs.Place.{table_for}
 use Rattle.schnellru.proofs.TableSizes.Budgets.{bytes_mono}
@@ -192,8 +192,8 @@ has_tables n st t few ok =
     )
 
 -- with links of 32 bits there is a table for one pair more, if half of the largest table takes them
-pub has_table_of_half : {K V S H : Type 0} (st : State K V S H) → st.max ≡ links_of_32_bits
-    → st.entry_bytes < links_of_32_bits → IsBucketCount (buckets st) → length st.pairs + 1 ≤ 939524096
+pub has_table_of_half : {K V S H : Type 0} (st : State K V S H) → st.max ≡ max_of_32_bits
+    → st.entry_bytes < 2 ^ 32 - 1 → IsBucketCount (buckets st) → length st.pairs + 1 ≤ 939524096
     → table_for 1 st ≢ no_table
 unfolding full_capacity usage
 has_table_of_half st links entry sized few = has_target_of_half 29 st.max st.entry_bytes (2 ^ 31)

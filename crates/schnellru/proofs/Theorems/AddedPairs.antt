@@ -5,8 +5,9 @@ use Rattle.lru_limits.specs.Laws.{IsLookup, IsInsertion}
 use Rattle.lru_limits.specs.Rules.{Rules, Offers}
 use Rattle.schnellru.specs.GetOrInserts.{got, inserted}
 use Rattle.schnellru.specs.Lists.{without}
-use Rattle.schnellru.specs.Reservations.{Reserve, unchanged, remade, reserved, asked_only}
-use Rattle.schnellru.specs.Runs.{Step, inserts, makes_newest, updates, gets, demotes, removes, pops_oldest, pops_newest, drains, clears}
+use Rattle.schnellru.specs.Reservations.{Reserve, unchanged, rehashed, reserved, asked_only}
+use Rattle.schnellru.specs.Runs.{Step, inserts, makes_newest, updates, gets, demotes, removes, pops_oldest}
+use Rattle.schnellru.specs.Runs.{pops_newest, drains, clears}
 use Rattle.schnellru.specs.Runs.{reserves, shrinks, trims, retains, AnyStep, calls, writes, sets_limiter}
 use Rattle.schnellru.specs.State.{State, contents}
 use Rattle.schnellru.specs.Theorems.{GivesUp, behind, with_none, without_one}
@@ -28,7 +29,7 @@ gives_up_adds names refuses xs ys (without_one pair found r e) = omega (arith, a
 module _ {K V S H : Type 0} (rules : Rules K V S) (n : ℕ) (old new : State K V S H) where
   pub reserve_stays : (result : Result (Unit {0}) ReserveError) → Reserve rules n old result new → new.pairs ≡ old.pairs
   reserve_stays result (unchanged why e) = ap (λ st. st.pairs) e
-  reserve_stays result (remade l t r m) = ap (λ st. st.pairs) m.state
+  reserve_stays result (rehashed l t r m) = ap (λ st. st.pairs) m.state
   reserve_stays result (reserved l count bytes t g r m) = ap (λ st. st.pairs) m.state
   reserve_stays result (asked_only l count bytes t f e) = ap (λ st. st.pairs) e
 
@@ -44,8 +45,8 @@ module _ {K V S H I : Type 0} {rules : Rules K V S} {offers : Offers K V S I} {n
   step_adds (makes_newest value key result (inserted none v made h)) =
       gives_up_adds (names key) _ old.pairs new.pairs (insert_gives_up looks_up laws key v old result new h)
   step_adds (updates key value result h) = omega (arith, length-update result h)
-  step_adds (gets key e) = omega (arith, ap (λ st. length st.pairs) e, length-front_pairs (names key) old.pairs)
-  step_adds (demotes key e) = omega (arith, ap (λ st. length st.pairs) e, length-back_pairs (names key) old.pairs)
+  step_adds (gets named e) = omega (arith, ap (λ st. length st.pairs) e, length-front_pairs named old.pairs)
+  step_adds (demotes named e) = omega (arith, ap (λ st. length st.pairs) e, length-back_pairs named old.pairs)
   step_adds (removes test result h) = omega
       (arith, ap (λ st. length st.pairs) h.state.is, length-without test old.pairs)
   step_adds (pops_oldest result h) = omega

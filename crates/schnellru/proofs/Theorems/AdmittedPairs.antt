@@ -11,7 +11,7 @@ use Rattle.lru_limits.specs.Rules.{Rules, Offers}
 use Rattle.lru_limits.specs.Admissions.{Terms, IsAdmission}
 use Rattle.schnellru.specs.Lists.{lookup_entry}
 use Rattle.schnellru.specs.State.{State, Contents, contents, room, IsSized}
-use Rattle.schnellru.specs.Reservations.{Reserve, unchanged, remade, reserved as grown, asked_only}
+use Rattle.schnellru.specs.Reservations.{Reserve, unchanged, rehashed, reserved as grown, asked_only}
 use Rattle.schnellru.specs.declared.map.reserve.ReserveError.{ReserveError}
 use Rattle.schnellru.specs.Inserts.{Insert}
 use Rattle.schnellru.specs.Runs.{Step, reserves, inserts, Run, ends, goes_on}
@@ -59,7 +59,8 @@ module _ {K V S : Type 0} (terms : Terms K V S) (rules : Rules K V S) (offers : 
       record {
         answer = added.answer;
         pairs = added.pairs;
-        limiter = (law.stores old.limiter (length old.pairs) key value new.limiter (Some (key, value)) added.limiter).limiter;
+        limiter = (law.stores old.limiter (length old.pairs) key value new.limiter (Some (key, value))
+            added.limiter).limiter;
       }
 
 module _ {K V S H : Type 0} (rules : Rules K V S) (old : State K V S H) where
@@ -70,7 +71,7 @@ module _ {K V S H : Type 0} (rules : Rules K V S) (old : State K V S H) where
   hasher_stays : (result : Result (Unit {0}) ReserveError) (new : State K V S H) → Reserve rules 1 old result new
       → new.hasher ≡ old.hasher
   hasher_stays result new (unchanged why e) = ap (λ st. st.hasher) e
-  hasher_stays result new (remade l t r m) = ap (λ st. st.hasher) m.state
+  hasher_stays result new (rehashed l t r m) = ap (λ st. st.hasher) m.state
   hasher_stays result new (grown l count bytes t g r m) = ap (λ st. st.hasher) m.state
   hasher_stays result new (asked_only l count bytes t f e) = ap (λ st. st.hasher) e
 
@@ -138,7 +139,9 @@ module _ {K V S H : Type 0} (terms : Terms K V S) (rules : Rules K V S) (offers 
       → TryInsert terms rules key value old offers eq hash_of result new → Says result new
   says result new sized (there pair found r e) = rw (r, e) stays
   says result new sized (cannot_store absent full r e) = rw (r, e) stays
-  says result new sized (unready absent (not_reserved none error step) r) = rw r (refuses (Err error) new none step sized)
-  says result new sized (unready absent (cannot_store_then none step full) r) = rw r (refuses (Ok tt) new none step sized)
+  says result new sized (unready absent (not_reserved none error step) r) = rw r
+      (refuses (Err error) new none step sized)
+  says result new sized (unready absent (cannot_store_then none step full) r) = rw r
+      (refuses (Ok tt) new none step sized)
   says result new sized (inserted absent ready is place r step) =
       rw r (adds_after ready new is place absent step sized)

@@ -16,7 +16,7 @@ use Rattle.schnellru.specs.declared.map.reserve.ReserveError.{ReserveError}
 use Rattle.schnellru.specs.Drains.{pops_first, Drained}
 use Rattle.schnellru.specs.GetOrInserts.{MakesNewest, got, inserted}
 use Rattle.schnellru.specs.Retains.{retained}
-use Rattle.schnellru.specs.Reservations.{Reserve, unchanged, remade, reserved, asked_only}
+use Rattle.schnellru.specs.Reservations.{Reserve, unchanged, rehashed, reserved, asked_only}
 use Rattle.schnellru.proofs.TableSizes.Growth.{full_capacity-at_most, full_capacity-double, target_doubles}
 use Rattle.schnellru.proofs.TableSizes.Growth.{target_usage}
 use Rattle.schnellru.proofs.Theorems.Potential.{IsBounded, pays_calm}
@@ -27,8 +27,7 @@ use Rattle.schnellru.proofs.Theorems.Ways.{insert_changes}
 use Rattle.schnellru.proofs.Maps.Promotions.{length-front_pairs, length-back_pairs}
 use Rattle.schnellru.proofs.Theorems.RetainedPairs.{retained_keeps}
 
-module _ {K V S Q : Type 0} {rules : Rules K V S} {names : Q → K → Bool} {R : Contents K V S → Contents K V S → Type 0}
-    (k : Keeps rules names R) where
+module _ {K V S : Type 0} {rules : Rules K V S} {R : Contents K V S → Contents K V S → Type 0} (k : Keeps rules R) where
   pop_first_keeps : (c : Contents K V S) → R c (pop_first rules c)
   pop_first_keeps c = go c.pairs c.limiter
     where
@@ -87,15 +86,15 @@ module _ {K V S H : Type 0} (rules : Rules K V S) (old : State K V S H) where
     fits = λ f. omega (arith, room_cleared (buckets old));
   }
 
-module _ {K V S H Q : Type 0} {rules : Rules K V S} {names : Q → K → Bool}
-    {R : Contents K V S → Contents K V S → Type 0} (k : Keeps rules names R) (old : State K V S H) where
-  pub promoted_changes : (q : Q) → Changes rules R 0 0 old (promoted (names q) old)
-  promoted_changes q = calm_changes rules R 0 old _ (pairs_calm rules old _ _ (length-front_pairs (names q) old.pairs))
-      (k.first q (contents old))
+module _ {K V S H : Type 0} {rules : Rules K V S} {R : Contents K V S → Contents K V S → Type 0} (k : Keeps rules R)
+    (old : State K V S H) where
+  pub promoted_changes : (test : K → Bool) → Changes rules R 0 0 old (promoted test old)
+  promoted_changes test = calm_changes rules R 0 old _ (pairs_calm rules old _ _ (length-front_pairs test old.pairs))
+      (k.first test (contents old))
 
-  pub demoted_changes : (q : Q) → Changes rules R 0 0 old (demoted (names q) old)
-  demoted_changes q = calm_changes rules R 0 old _ (pairs_calm rules old _ _ (length-back_pairs (names q) old.pairs))
-      (k.last q (contents old))
+  pub demoted_changes : (test : K → Bool) → Changes rules R 0 0 old (demoted test old)
+  demoted_changes test = calm_changes rules R 0 old _ (pairs_calm rules old _ _ (length-back_pairs test old.pairs))
+      (k.last test (contents old))
 
   pub remove_changes : (test : K → Bool) (result : Option V) (new : State K V S H) → Remove rules test old result new
       → Changes rules R 0 0 old new
@@ -111,7 +110,7 @@ module _ {K V S H Q : Type 0} {rules : Rules K V S} {names : Q → K → Bool}
   pub retain_changes : (asked : List ((K × V) × Bool)) (new : State K V S H) → map (λ one. one.0) asked ≡ old.pairs
       → Leaves old (retained rules asked old.limiter) new → Changes rules R 0 0 old new
   retain_changes asked new each h =
-      leaves_changes rules R 0 old _ new h (retained_keeps rules names R k asked (contents old) each)
+      leaves_changes rules R 0 old _ new h (retained_keeps rules R k asked (contents old) each)
 
   pub pop_newest_changes : (result : Option (K × V)) (new : State K V S H) → PopNewest rules old result new
       → Changes rules R 0 0 old new
@@ -173,7 +172,8 @@ module _ {K V S H : Type 0} {rules : Rules K V S} {R : Contents K V S → Conten
   pub reserve_changes : (result : Result (Unit {0}) ReserveError) (new : State K V S H)
       → Reserve rules n old result new → Grows new
   reserve_changes result new (unchanged why e) = remains new e
-  reserve_changes result new (remade l t r m) = reserves old.limiter new _ m (k.self (contents old)) (inl (omega arith))
+  reserve_changes result new (rehashed l t r m) =
+      reserves old.limiter new _ m (k.self (contents old)) (inl (omega arith))
       (λ ok. omega arith)
   reserve_changes result new (reserved l count bytes t g r m) = reserves _ new count m (k.asked bytes (contents old))
       (inr (record {
@@ -200,5 +200,5 @@ module _ {K V S H I : Type 0} {rules : Rules K V S} {offers : Offers K V S I} {n
   pub makes_newest_changes : MakesNewest rules offers names hash_of makes i old result new → Changes rules R 1 0 old new
   makes_newest_changes (got w e r step) = calm_changes rules R 1 old new
       (rw step (pairs_calm rules old _ _ (length-front_pairs (names i) old.pairs)))
-      (rw step (k.keeps.first i (contents old)))
+      (rw step (k.keeps.first (names i) (contents old)))
   makes_newest_changes (inserted e v m step) = insert_changes k i v old result new step

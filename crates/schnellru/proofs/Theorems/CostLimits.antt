@@ -7,7 +7,8 @@ use Rattle.lru_limits.specs.Budget.{Budget, by_weight, weighs, weighs-sums}
 use Rattle.schnellru.specs.GetOrInserts.{got, inserted}
 use Rattle.schnellru.specs.Lists.{last, without_first, without_last, lookup_entry}
 use Rattle.schnellru.specs.State.{State, contents, IsWithin, notified_of}
-use Rattle.schnellru.specs.Runs.{Step, inserts, makes_newest, updates, gets, demotes, removes, pops_oldest, pops_newest, drains, clears}
+use Rattle.schnellru.specs.Runs.{Step, inserts, makes_newest, updates, gets, demotes, removes, pops_oldest}
+use Rattle.schnellru.specs.Runs.{pops_newest, drains, clears}
 use Rattle.schnellru.specs.Runs.{reserves, shrinks, trims, retains, Run, ends, goes_on}
 use Rattle.schnellru.specs.Theorems.{IsSummed}
 use Rattle.schnellru.proofs.Theorems.Fronts.{front_trim}
@@ -17,7 +18,8 @@ use Rattle.schnellru.proofs.Theorems.Reservations.{reserved_list}
 use Rattle.schnellru.proofs.Theorems.Runs.{step_changes, step_summed}
 use Rattle.schnellru.proofs.Theorems.RetainedPairs.{total-retained}
 use Rattle.schnellru.proofs.Theorems.Shrinks.{shrunk_list}
-use Rattle.schnellru.proofs.Theorems.Sums.{total, total-is, total-front, total-back, total-least, split-least, split_last}
+use Rattle.schnellru.proofs.Theorems.Sums.{total, total-is, total-front, total-back, total-least, split-least}
+use Rattle.schnellru.proofs.Theorems.Sums.{split_last}
 
 told_limit : {K V : Type 0} (weight : K → V → ℕ) (pair : Option (K × V)) (b : Budget)
     → (notified_of (by_weight weight) pair b).limit ≡ b.limit
@@ -42,8 +44,8 @@ keeps_limit weight = record {
     };
     left = λ test c. told_limit weight (lookup_entry test c.pairs) c.limiter;
     dropped = λ newer older pair s. refl;
-    first = λ q c. refl;
-    last = λ q c. refl;
+    first = λ test c. refl;
+    last = λ test c. refl;
     cleared = λ c. refl;
   };
   came = λ i v c s pair a offer. ap (λ b. b.limit) offer.limiter ∙ charged_limit c.limiter _ _ refl;
@@ -81,17 +83,18 @@ module _ {K V H : Type 0} (weight : K → V → ℕ) (names : K → K → Bool) 
         (omega (arith, ap (λ st. total pair_weight st.pairs) step, total-front pair_weight (names k) old.pairs))
     step_within (makes_newest v k result (inserted e w m step)) = ended (insert_within pair_weight step)
     step_within (updates k v result h) = ended (update_within pair_weight result h)
-    step_within (gets k e) = less
-        (omega (arith, ap (λ st. total pair_weight st.pairs) e, total-front pair_weight (names k) old.pairs))
-    step_within (demotes k e) = less
-        (omega (arith, ap (λ st. total pair_weight st.pairs) e, total-back pair_weight (names k) old.pairs))
+    step_within (gets named e) = less
+        (omega (arith, ap (λ st. total pair_weight st.pairs) e, total-front pair_weight named old.pairs))
+    step_within (demotes named e) = less
+        (omega (arith, ap (λ st. total pair_weight st.pairs) e, total-back pair_weight named old.pairs))
     step_within (removes test result h) = less
         (omega (arith, ap (λ st. total pair_weight st.pairs) h.state.is, total-without pair_weight test old.pairs))
     step_within (pops_oldest result h) = less
         (omega (
           arith,
           ap (λ st. total pair_weight st.pairs) h.state.is,
-          split-least pair_weight old.pairs (last old.pairs) (without_last old.pairs) (split_last pair_weight old.pairs),
+          split-least pair_weight old.pairs (last old.pairs) (without_last old.pairs)
+              (split_last pair_weight old.pairs),
         ))
     step_within (pops_newest result h) = less
         (omega (arith, ap (λ st. total pair_weight st.pairs) h.state.is, fewer old.pairs))
@@ -125,7 +128,8 @@ module _ {K V H : Type 0} (weight : K → V → ℕ) (names : K → K → Bool) 
   step_keeps_cost old new s was within = step_within old new was (step_summed (weighs-sums weight) old new s was)
       (step_changes (keeps_limit weight) old new s).2.moves within s
 
-  pub run_within_cost : (new old : State K V Budget H) → Run (Step (by_weight weight) (weighs weight) names hash_of) new old
+  pub run_within_cost : (new old : State K V Budget H) → Run (Step (by_weight weight) (weighs weight) names hash_of)
+      new old
       → IsSummed weight (λ b. b.cost) old → old.limiter.cost ≤ old.limiter.limit
       → new.limiter.cost ≤ old.limiter.limit
   run_within_cost new old ends was within = within

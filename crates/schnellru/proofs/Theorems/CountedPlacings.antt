@@ -6,7 +6,7 @@ use Rattle.schnellru.specs.State.{State}
 use Rattle.schnellru.specs.Place.{Place, Outcome, placed, refused, no_memory, turned_away}
 use Rattle.schnellru.specs.Inserts.{Insert, replaced, given_up, no_memory_to_admit, not_admitted, admitted}
 use Rattle.schnellru.specs.Theorems.{CountsPlacings}
-use Rattle.schnellru.proofs.Theorems.Removals.{stay_any}
+use Rattle.schnellru.proofs.Theorems.Moves.{keeps_any}
 use Rattle.schnellru.proofs.Theorems.TableGrowth.{Calm, calm_trans, self_calm, limiter_calm, leaves_calm, settles_calm}
 use Rattle.schnellru.proofs.Theorems.Ways.{Lands, place_lands}
 
@@ -27,7 +27,8 @@ module _ {K V S H : Type 0} (rules : Rules K V S) (hash_of : H → K → ℕ) (p
   place_counts : (outcome : Outcome) (new : State K V S H) → Place rules hash_of pair old outcome new
       → CountsPlacings old new
   place_counts outcome new step =
-      let way = place_lands rules (λ c d. Unit {0}) stay_any.way (λ _. Unit {0}) hash_of pair old tt outcome new step in
+      let way = place_lands rules (λ c d. Unit {0}) keeps_any.way (λ _. Unit {0}) hash_of pair old tt outcome new step
+      in
       around_counts old way.mid new new way.calm (self_calm new) (land outcome way.mid way.lands)
     where
       away : (mid : State K V S H) → new ≡ turned_away rules pair mid → CountsPlacings mid new

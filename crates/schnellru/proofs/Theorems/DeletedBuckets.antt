@@ -23,15 +23,17 @@ module _ {K V S H : Type 0} (rules : Rules K V S) (hash_of : H → K → ℕ) (p
   -- so no empty bucket is filled
   of_deleted : FirstFreeIs deleted (hash_of old.hasher pair.0) old → (new : State K V S H)
       → FillsBucket (hash_of old.hasher pair.0) old new → room new ≡ 0
-  of_deleted p new (inl f) = absurd (not_both p f.0)
-  of_deleted p new (inr f) = omega (arith, f.2, no_room)
+  of_deleted p new f = elim f.spends [
+    | inl e ↦ absurd (not_both p (f.bucket, f.first, e.0))
+    | inr d ↦ omega (arith, d.2, no_room)
+  ]
 
   -- with no room, if the first free bucket is a deleted one, it is filled
   pub deleted_serves : FirstFreeIs deleted (hash_of old.hasher pair.0) old → (outcome : Outcome) (new : State K V S H)
       → Place rules hash_of pair old outcome new
-      → (outcome ≡ placed) × IsPlaced pair (buckets old) 0 0 old new
+      → (outcome ≡ placed) × IsPlaced pair (buckets old) 0 0 old new × FillsBucket (hash_of old.hasher pair.0) old new
   deleted_serves p outcome new (in_bucket l f s o n) =
-      (o, subst (λ spare. IsPlaced pair (buckets old) spare 0 old new) (of_deleted p new s) n)
+      (o, subst (λ spare. IsPlaced pair (buckets old) spare 0 old new) (of_deleted p new s) n, s)
   deleted_serves p outcome new (rehashed b l any m) = absurd (not_both p (b.first_empty some))
   deleted_serves p outcome new (grown g count bytes t y m) = absurd (not_both p (g.no_bucket.first_empty some))
   deleted_serves p outcome new (not_grown g mid c e) = absurd (not_both p (g.no_bucket.first_empty some))
@@ -40,8 +42,10 @@ module _ {K V S H : Type 0} (rules : Rules K V S) (hash_of : H → K → ℕ) (p
   pub only_deleted : IsBounded old → (outcome : Outcome) (new : State K V S H) → outcome ≡ placed
       → Place rules hash_of pair old outcome new → IsPlaced pair (buckets old) 0 0 old new
       → FirstFreeIs deleted (hash_of old.hasher pair.0) old
-  only_deleted ok outcome new q (in_bucket l f (inl s) o n) p = absurd (omega (arith, s.1, no_room))
-  only_deleted ok outcome new q (in_bucket l f (inr s) o n) p = s.0
+  only_deleted ok outcome new q (in_bucket l f s o n) p = elim s.spends [
+    | inl e ↦ absurd (omega (arith, e.1, no_room))
+    | inr d ↦ (s.bucket, s.first, d.0)
+  ]
   only_deleted ok outcome new q (rehashed b l any m) p =
       absurd (omega (
         arith,
@@ -65,7 +69,8 @@ module _ {K V S H : Type 0} (rules : Rules K V S) (hash_of : H → K → ℕ) (p
             target_doubles k.0 old.max old.entry_bytes (buckets old)
                 (length old.pairs + 1) count bytes k.1 t,
           ))
-  only_deleted ok outcome new q (not_grown g mid c (nothing_to_evict e o n)) p = absurd (omega (arith, ap length e, some))
+  only_deleted ok outcome new q (not_grown g mid c (nothing_to_evict e o n)) p = absurd
+      (omega (arith, ap length e, some))
   only_deleted ok outcome new q (not_grown g mid c (finds_bucket n pos one half left gone fills o is)) p =
       absurd (omega (
         arith,

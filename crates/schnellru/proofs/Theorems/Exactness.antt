@@ -45,9 +45,12 @@ module _ {K V S H : Type 0} (rules : Rules K V S) (hash_of : H → K → ℕ) (p
   abbrev pub here : Landing K V S
   here = landing rules pair (buckets old) (room old) old.entry_bytes old.max (contents old)
 
-  roomy_lands : (new : State K V S H) → FillsBucket (hash_of old.hasher pair.0) old new → here ≡ lands rules pair (contents old)
-  roomy_lands new (inl s) = rw (lt-ltb 0 (room old) (omega (arith, s.1))) refl
-  roomy_lands new (inr s) = absurd (omega (arith, small, s.1))
+  roomy_lands : (new : State K V S H) → FillsBucket (hash_of old.hasher pair.0) old new → here ≡ lands rules pair
+      (contents old)
+  roomy_lands new fills = elim fills.spends [
+    | inl e ↦ rw (lt-ltb 0 (room old) (omega (arith, e.1))) refl
+    | inr d ↦ absurd (omega (arith, small, d.1))
+  ]
 
   full_lands : IsOutgrown (hash_of old.hasher pair.0) old → here ≡ grows rules pair (table_for 1 old) (contents old)
   full_lands b = rw (

@@ -9,8 +9,7 @@ use Rattle.schnellru.specs.Lists.{lookup, lookup_entry, without, front, after}
 use Rattle.schnellru.specs.State.{State}
 use Rattle.schnellru.specs.Theorems.{IsNewest, SaysWhether}
 use Rattle.schnellru.specs.GetOrInserts.{MakesNewest, got, inserted, SaysNewest, LacksMemoryFor}
-use Rattle.schnellru.specs.IfMade as if_made
-use Rattle.schnellru.specs.IfMade.{MakesNewestIfMade, or_memory}
+use Rattle.schnellru.specs.IfMade.{MakesNewestIfMade, failed, as_made, or_memory}
 use Rattle.schnellru.specs.declared.map.get_or_insert.GetOrInsertError.{GetOrInsertError}
 use Rattle.schnellru.proofs.PairLists.DistinctKeys.{AreDistinct}
 use Rattle.schnellru.proofs.Theorems.Fronts.{found_named}
@@ -43,9 +42,9 @@ module _ {K V S H : Type 0} (rules : Rules K V S) (names : K → Bool) (new : St
   says_newest (Err e) s = s
 
   -- the same if the error is one of two
-  says_or_memory : (E : Type 0) (flag : Result Bool AllocError) → SaysWhether rules names flag new
+  says_or_memory : (E : Type 0) (flag : Result Bool AllocError) → SaysNewest names flag new
       → SaysNewest {E = GetOrInsertError E} names (or_memory flag) new
-  says_or_memory E (Ok true) s = s.0
+  says_or_memory E (Ok true) s = s
   says_or_memory E (Ok false) s = s
   says_or_memory E (Err e) s = s
 
@@ -65,10 +64,9 @@ module _ {K V S H I E : Type 0} {rules : Rules K V S} {offers : Offers K V S I} 
     {makes : Result V E → Type 0} {old : State K V S H} where
   pub says_if_made : {result : Result Bool (GetOrInsertError E)} {new : State K V S H} → AreDistinct eq old.pairs
       → MakesNewestIfMade rules offers names hash_of makes i old result new → SaysNewest (names i) result new
-  says_if_made {result} {new} d (if_made.got w there r step) = rw r (rw step (first_named (names i) old.pairs w there))
-  says_if_made {result} {new} d (if_made.failed none e made r step) = rw r (rw step (no_pair (names i) old.pairs none))
-  says_if_made {result} {new} d (if_made.inserted none v made flag step r) =
-      rw r (says_or_memory rules (names i) new E flag (insert_says looks_up laws d step))
+  says_if_made {result} {new} d (failed none e made r step) = rw r (rw step (no_pair (names i) old.pairs none))
+  says_if_made {result} {new} d (as_made flag step r) =
+      rw r (says_or_memory rules (names i) new E flag (makes_says looks_up laws d step))
 
 -- why it runs out of memory
 module _ {K V S H I : Type 0} {rules : Rules K V S} {offers : Offers K V S I} {names : I → K → Bool}
@@ -82,11 +80,10 @@ module _ {K V S H I : Type 0} {rules : Rules K V S} {offers : Offers K V S I} {n
   pub lacks_if_made : {E : Type 0} {makes : Result V E → Type 0} {result : Result Bool (GetOrInsertError E)}
       → result ≡ Err Memory → MakesNewestIfMade rules offers names hash_of makes i old result new
       → LacksMemoryFor rules offers names hash_of (λ v. makes (Ok v)) i old new
-  lacks_if_made h (if_made.got w there r step) = absurd (grind (arith, sym r ∙ h))
-  lacks_if_made h (if_made.failed none e made r step) = absurd (grind (arith, sym r ∙ h))
-  lacks_if_made {E} h (if_made.inserted none v made flag step r) = (v, made, err_is (failed flag (sym r ∙ h)) step)
+  lacks_if_made h (failed none e made r step) = absurd (grind (arith, sym r ∙ h))
+  lacks_if_made {E} h (as_made flag step r) = makes_lacks (is_err flag (sym r ∙ h)) step
     where
-      failed : (flag : Result Bool AllocError) → ◌≡◌ {A = Result Bool (GetOrInsertError E)} (or_memory flag) (Err Memory)
-          → IsErr flag
-      failed (Ok b) e = absurd (grind (arith, e))
-      failed (Err a) e = refl
+      is_err : (flag : Result Bool AllocError)
+          → ◌≡◌ {A = Result Bool (GetOrInsertError E)} (or_memory flag) (Err Memory) → IsErr flag
+      is_err (Ok b) e = absurd (grind (arith, e))
+      is_err (Err a) e = refl

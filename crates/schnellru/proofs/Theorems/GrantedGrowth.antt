@@ -39,8 +39,7 @@ module _ {K V S H : Type 0} (rules : Rules K V S) (pair : K × V) (old : State K
 
   -- filling a bucket uses at most one of the growth left
   spare : (hash : ℕ) (new : State K V S H) → FillsBucket hash old new → room old ≤ room new + 1
-  spare hash new (inl e) = omega (arith, e.1)
-  spare hash new (inr d) = omega (arith, d.2)
+  spare hash new fills = elim fills.spends [ inl e ↦ omega (arith, e.1) | inr d ↦ omega (arith, d.2) ]
 
   -- with growth left the pair is stored in the same table
   pub place_with_room : (hash_of : H → K → ℕ) → 0 < room old → (outcome : Outcome) (new : State K V S H)

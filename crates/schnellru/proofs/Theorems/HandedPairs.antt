@@ -7,7 +7,8 @@ use Rattle.lru_limits.specs.Rules.{Rules, Offers}
 use Rattle.schnellru.specs.Lists.{last, without_last}
 use Rattle.schnellru.specs.State.{State, Contents, contents, Leaves, notified_of, pop, trim, trim_from}
 use Rattle.schnellru.specs.Place.{Place, in_bucket, rehashed, grown, not_grown}
-use Rattle.schnellru.specs.Place.{Evicts, nothing_to_evict, finds_bucket, rehashes, CannotGrow, no_target, denied, OldestLeave}
+use Rattle.schnellru.specs.Place.{Evicts, nothing_to_evict, finds_bucket, rehashes, CannotGrow, no_target, denied}
+use Rattle.schnellru.specs.Place.{OldestLeave}
 use Rattle.schnellru.specs.Place.{Outcome, placed, refused, no_memory, IsPlaced, IsPlacedIfMemory, turned_away, asked}
 use Rattle.schnellru.specs.Inserts.{Insert, replaced, given_up, no_memory_to_admit, not_admitted, admitted, make_room}
 use Rattle.schnellru.specs.Inserts.{Settles, PlacesNew, with_replaced, with_given_up}
@@ -29,7 +30,8 @@ module _ {K V S : Type 0} (rules : Rules K V S) where
   pop_of : (pairs : List (K × V)) (s : S × List (K × V)) → length (without_last pairs)
       + length (notified_of (noting rules) (last pairs) s).1 ≡ length pairs + length s.1
   pop_of [] s = refl
-  pop_of (x ∷ []) s = let notified = rules.on_removed s.0 x.0 x.1 in omega (arith, one_noted s.1 (notified.key, notified.value))
+  pop_of (x ∷ []) s = let notified = rules.on_removed s.0 x.0 x.1 in omega
+      (arith, one_noted s.1 (notified.key, notified.value))
   pop_of (x ∷ y ∷ ys) s = omega (arith, pop_of (y ∷ ys) s)
 
   pop_keeps : (c : Contents K V (S × List (K × V))) → in_all (pop (noting rules) c) ≡ in_all c

@@ -192,7 +192,8 @@ module _ {K V S H I : Type 0} (rules : Rules K V S) (offers : Offers K V S I) (n
 pub unkept_is : {K V S I : Type 0} (offers : Offers K V S I) (s : S) (i : I) (v : V) (names : K → Bool)
     (pairs : List (K × V)) {n : ℕ} {unkept : V} (was : K × V) → lookup_entry names pairs ≡ Some was → n ≡ length pairs
     → unkept ≡ unkept_of (offers.on_replace s n was.0 i was.1 v)
-    → Some unkept ≡ option_map (λ p. unkept_of (offers.on_replace s (length pairs) p.0 i p.1 v)) (lookup_entry names pairs)
+    → Some unkept ≡ option_map (λ p. unkept_of (offers.on_replace s (length pairs) p.0 i p.1 v))
+    (lookup_entry names pairs)
 unkept_is offers s i v names pairs was there same e =
     ap Some (e ∙ ap (λ m. unkept_of (offers.on_replace s m was.0 i was.1 v)) same)
     ∙ ap (option_map (λ p. unkept_of (offers.on_replace s (length pairs) p.0 i p.1 v))) (sym there)

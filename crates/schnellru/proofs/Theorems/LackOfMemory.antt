@@ -93,6 +93,7 @@ pub on_err : {A : Type 0} (result : Result Bool AllocError) → (IsErr result �
 on_err (Ok b) h = tt
 on_err (Err e) h = h refl
 
-pub on_err_kept : {A V : Type 0} (result : Result (Inserted V) AllocError) → (IsErr (kept_of result) → A) → OnErr result A
+pub on_err_kept : {A V : Type 0} (result : Result (Inserted V) AllocError) → (IsErr (kept_of result) → A) → OnErr
+    result A
 on_err_kept (Ok inserted) h = tt
 on_err_kept (Err e) h = h refl

@@ -64,8 +64,8 @@ module _ {K V S : Type 0} {over grants : S → ℕ → Bool} {admits : S → K �
       };
       left = λ test c. told_plain over grants (lookup_entry test c.pairs) c.limiter;
       dropped = λ newer older pair s. refl;
-      first = λ q c. refl;
-      last = λ q c. refl;
+      first = λ test c. refl;
+      last = λ test c. refl;
       cleared = λ c. refl;
     };
     came = λ i v c s pair a offer. offer.limiter;

@@ -1,6 +1,6 @@
 -- The moves that calls make of the pairs and the limiter. What each move keeps, every call keeps.
 --     KeepsWay rules R                      the moves that make room
---     Keeps rules names R                   and all that need no offers
+--     Keeps rules R                         and all that need no offers
 --     KeepsOffers rules offers names R      and those of an insert
 use Rattle.std.proofs.Common.{◌≡◌, ℕ, zero, suc, ◌+◌, Bool, true, false, cond, List, [], ◌∷◌, ◌++◌, length, Some, None}
 use Rattle.std.proofs.Common.{Result, sym, ap, subst}
@@ -31,7 +31,7 @@ module _ {K V S : Type 0} (rules : Rules K V S) where
     -- the oldest pair leaves
     pub popped : (c : Contents K V S) → R c (pop rules c)
 
-  pub record Keeps {Q : Type 0} (names : Q → K → Bool) (R : Contents K V S → Contents K V S → Type 0) : Type 0 where
+  pub record Keeps (R : Contents K V S → Contents K V S → Type 0) : Type 0 where
     pub way : KeepsWay R
     -- the first pair leaves whose key passes a test
     pub left : (test : K → Bool) (c : Contents K V S) → R c (removal rules test c)
@@ -39,10 +39,12 @@ module _ {K V S : Type 0} (rules : Rules K V S) where
     pub dropped : (newer older : List (K × V)) (pair : K × V) (s : S)
         → R (record { pairs = newer ++ pair ∷ older; limiter = s })
         (record { pairs = newer ++ older; limiter = notified_of rules (Some pair) s })
-    -- the named pair comes first
-    pub first : (q : Q) (c : Contents K V S) → R c (record { pairs = front (names q) c.pairs; limiter = c.limiter })
+    -- that pair comes first
+    pub first : (test : K → Bool) (c : Contents K V S)
+        → R c (record { pairs = front test c.pairs; limiter = c.limiter })
     -- or last
-    pub last : (q : Q) (c : Contents K V S) → R c (record { pairs = back (names q) c.pairs; limiter = c.limiter })
+    pub last : (test : K → Bool) (c : Contents K V S)
+        → R c (record { pairs = back test c.pairs; limiter = c.limiter })
     -- all pairs leave
     pub cleared : (c : Contents K V S) → R c (record { pairs = []; limiter = rules.on_cleared c.limiter })
 
@@ -58,7 +60,7 @@ module _ {K V S I : Type 0} (rules : Rules K V S) (offers : Offers K V S I) (nam
       record { pairs = set_entry (names i) (r.key, kept_value r) c.pairs; limiter = r.limiter }
 
   pub record KeepsOffers (R : Contents K V S → Contents K V S → Type 0) : Type 0 where
-    pub keeps : Keeps rules names R
+    pub keeps : Keeps rules R
     -- the limiter gives a pair of a new key, which is in hand before all others
     pub came : (i : I) (v : V) (c : Contents K V S) (s : S) (pair : K × V) → lookup_entry (names i) c.pairs ≡ None
         → offers.on_insert c.limiter (length c.pairs) i v s (Some pair)
@@ -72,13 +74,13 @@ module _ {K V S I : Type 0} (rules : Rules K V S) (offers : Offers K V S I) (nam
         → R c (rewrite pair i v c)
 
 -- nothing is to be kept
-pub keeps_any : {K V S Q : Type 0} {rules : Rules K V S} {names : Q → K → Bool} → Keeps rules names (λ c d. Unit {0})
+pub keeps_any : {K V S : Type 0} {rules : Rules K V S} → Keeps rules (λ c d. Unit {0})
 keeps_any = record {
   way = record { self = λ c. tt; trans = λ p q. tt; asked = λ bytes c. tt; popped = λ c. tt };
   left = λ test c. tt;
   dropped = λ newer older pair s. tt;
-  first = λ q c. tt;
-  last = λ q c. tt;
+  first = λ test c. tt;
+  last = λ test c. tt;
   cleared = λ c. tt;
 }
 
@@ -137,8 +139,7 @@ module _ {K V S : Type 0} (rules : Rules K V S) (R : Contents K V S → Contents
     settles_keep refused landed result new h = rw h.1 (k.self (contents landed))
     settles_keep no_memory landed result new h = rw h.1 (k.self (contents landed))
 
-module _ {K V S Q : Type 0} (rules : Rules K V S) (names : Q → K → Bool) (R : Contents K V S → Contents K V S → Type 0)
-    (k : Keeps rules names R) where
+module _ {K V S : Type 0} (rules : Rules K V S) (R : Contents K V S → Contents K V S → Type 0) (k : Keeps rules R) where
   -- room is made behind a pair in hand
   pub way_behind : (pair : K × V) → KeepsWay rules (λ c d. R (behind pair c) (behind pair d))
   way_behind pair = record {

@@ -131,7 +131,8 @@ module _ {K V : Type 0} (eq : K → K → Bool) (key : K) (value : V) (old new :
           ended (record { pairs = (key, value) ∷ take (old.limiter - 1) old.pairs; limiter = old.limiter })
           (omega (arith, take_few (old.limiter - 1) old.pairs, some)) (omega arith) some
           (sym (ap (take old.limiter) as_new ∙ take_after old.limiter (key, value) old.pairs some))
-          (subst (λ (c : Contents K V ℕ). IsEnding (trimmed length_rules (lands length_rules (key, value) c).left) result new) way placed)
+          (subst (λ (c : Contents K V ℕ). IsEnding (trimmed length_rules (lands length_rules (key, value) c).left)
+          result new) way placed)
       go (no nothing) =
           let gives : given ≡ None = rw (le-ltb 0 old.limiter (omega (arith, nothing))) at n.pair in
           let stays : IsEnding (ending_new length_rules length_offers eq (lands length_rules) key value old s None)
@@ -159,7 +160,8 @@ module _ {K V : Type 0} (eq : K → K → Bool) (key : K) (value : V) (old new :
   list_leaves (not_offered a k r e) = absurd k
   list_leaves (not_placed a s pair n r e) = short result r (ap (λ d. d.pairs) e
       ∙ ap (λ t. (make_room length_rules (record { pairs = old.pairs; limiter = t })).pairs) n.limiter
-      ∙ ap (λ (c : Contents K V ℕ). c.pairs) (way_is old.limiter old.pairs (more_than_none old.limiter key value s pair n) few))
+      ∙ ap (λ (c : Contents K V ℕ). c.pairs)
+      (way_is old.limiter old.pairs (more_than_none old.limiter key value s pair n) few))
 
 module _ {K V H : Type 0} (eq : K → K → Bool) (key : K) (value : V) (old : State K V ℕ H)
     (result : Result Bool AllocError) (new : State K V ℕ H) where
@@ -176,12 +178,14 @@ module _ {K V H : Type 0} (eq : K → K → Bool) (key : K) (value : V) (old : S
       → LeavesTheNewest eq old.limiter key value old.pairs result new.pairs
   leaves_newest {hash_of} keeps step = list_leaves eq key value (contents old) (contents new) result keeps.within
       (insert_in_list length_rules length_offers eq key value old new result
-      (λ s pair n ready l. place_granted length_rules (λ s bytes. (refl, refl)) hash_of pair ready (tables s pair n ready l))
+      (λ s pair n ready l. place_granted length_rules (λ s bytes. (refl, refl)) hash_of pair ready
+      (tables s pair n ready l))
       step)
     where
       tables : (s : ℕ) (pair : K × V) → HandsOver (nat_lt 0 old.limiter) old.limiter key value s (Some pair)
           → (ready : State K V ℕ H)
-          → Leaves (record old { limiter = s }) (make_room length_rules (record { pairs = old.pairs; limiter = s })) ready
+          → Leaves (record old { limiter = s }) (make_room length_rules (record { pairs = old.pairs; limiter = s }))
+          ready
           → table_for 1 ready ≢ no_table
       tables s pair n ready l =
           let some = more_than_none old.limiter key value s pair n in
@@ -237,6 +241,7 @@ module _ {K V H : Type 0} (eq : K → K → Bool) (old : State K V ℕ H) (keeps
         keeps_on = keeps_on eq before new was.keeps_on sized call;
         limiter = (step_changes keeps_limiter before new call).2.moves ∙ was.limiter;
         pairs = (leaves_newest eq key value before (Ok kept) new was.keeps_on step).newest
-            ∙ (λ j. take (was.limiter j) ((stored_key (eq key) key (was.pairs j), value) ∷ without (eq key) (was.pairs j)))
+            ∙ (λ j. take (was.limiter j) ((stored_key (eq key) key (was.pairs j), value) ∷ without (eq key)
+            (was.pairs j)))
             ∙ sym (fold_push _ old.pairs pairs (key, value));
       }

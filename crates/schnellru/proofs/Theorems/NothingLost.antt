@@ -18,8 +18,7 @@ use Rattle.schnellru.specs.Place.{Outcome, placed, refused, no_memory, turned_aw
 use Rattle.schnellru.specs.Inserts.{replaced, given_up, no_memory_to_admit, not_admitted, admitted, MayGive}
 use Rattle.schnellru.specs.Inserts.{Settles}
 use Rattle.schnellru.specs.HandedOver.{noting, noted, InsertHands}
-use Rattle.schnellru.specs.Kept.{ChangesNoPair, LosesNothing, value_accepted, value_rejected, no_memory_for_key, key_rejected}
-use Rattle.schnellru.specs.Kept.{pair_stored, pair_not_stored}
+use Rattle.schnellru.specs.Kept.{ChangesNoPair, LosesNothing, stored, value_rejected, nothing_to_store, pair_not_stored}
 use Rattle.schnellru.proofs.Maps.Outcomes.{ok-not_err, same_kept}
 use Rattle.schnellru.proofs.Theorems.Moves.{KeepsWay, left_are, leaves_keep, make_room_keeps, trim_keeps}
 use Rattle.schnellru.proofs.Theorems.Ways.{Lands, place_lands}
@@ -76,25 +75,26 @@ module _ {K V S H I : Type 0} (rules : Rules K V S) (offers : Offers K V S I) (n
       → (outcome : Outcome) (ready mid landed : State K V (S × List (K × V)) H) → all_of (contents mid) ≡ old.pairs
       → Lands (noting rules) (λ _. Unit {0}) pair ready outcome mid landed
       → Settles (noting rules) outcome landed result (noted handed new) → EndsSo
-  settles a s pair n placed ready mid landed same l t = pair_stored a s pair n t.0
+  settles a s pair n placed ready mid landed same l t = stored pair (given a s n) t.0
       (leaves_keep (λ c d. all_of d ≡ all_of c) landed _ (noted handed new) t.1
       (trim_keeps (noting rules) _ (way_all rules leaves) (contents landed))
-      ∙ ap (λ st. all_of (contents st)) l.is.state ∙ ap (λ xs. pair ∷ xs) same)
+      ∙ ap (λ st. all_of (contents st)) l.is.state
+      ∙ ap (λ xs. pair ∷ xs) (same ∙ sym (without_none (names i) old.pairs a)))
   settles a s pair n refused ready mid landed same l t =
       turned a s pair n (λ e. false≢true (same_kept false true (sym t.0 ∙ e))) mid same (t.1 ∙ l.1)
   settles a s pair n no_memory ready mid landed same l t =
       turned a s pair n (λ e. ok-not_err result (rw e refl) t.0) mid same (t.1 ∙ l)
 
   pub loses_nothing : {hash_of : H → K → ℕ} → InsertHands rules offers names hash_of i v old result handed new → EndsSo
-  loses_nothing (replaced was found y r l) = value_accepted was found y r
+  loses_nothing (replaced was found y r l) = stored _ (left was found y refl) r
       (ap all_of (left_are _ _ (noted handed new) l)
       ∙ trim_keeps (noting rules) _ (way_all rules leaves) _ ∙ append-nil _)
   loses_nothing (given_up was found y r l) = value_rejected was found y r
       (ap (λ st. st.limiter.1) l.is ∙ noted_same rules leaves [] _ _)
       (ap (λ st. st.pairs) l.is)
-  loses_nothing (no_memory_to_admit a k r e) = no_memory_for_key a k r (ap (λ st. st.limiter.1) e)
+  loses_nothing (no_memory_to_admit a k r e) = nothing_to_store a (inl (k, r)) (ap (λ st. st.limiter.1) e)
       (ap (λ st. st.pairs) e)
-  loses_nothing (not_admitted a s n r e) = key_rejected a s.0 n.0 r (ap (λ st. st.limiter.1) e ∙ n.1)
+  loses_nothing (not_admitted a s n r e) = nothing_to_store a (inr (s.0, n.0, r)) (ap (λ st. st.limiter.1) e ∙ n.1)
       (ap (λ st. st.pairs) e)
   loses_nothing {hash_of} (admitted a s pair n (ready, l, (outcome, landed, p, t))) =
       let m = place_lands (noting rules) _ (way_all rules leaves) (λ _. Unit {0}) hash_of pair ready tt outcome landed p
@@ -126,15 +126,10 @@ module _ {K V S H I : Type 0} {rules : Rules K V S} {offers : Offers K V S I} {n
   pub stored_first : LosesNothing rules offers names i v old result handed new → result ≡ Ok true
       → (pair : K × V) × Stores rules offers names i v old pair
       × (new.pairs ++ reverse handed ≡ pair ∷ without (names i) old.pairs)
-  stored_first (value_accepted was found y r e) q = (_, left was found y refl, e)
+  stored_first (stored pair stores r e) q = (pair, stores, e)
   stored_first (value_rejected was found y r h e) q = absurd (false≢true (same_kept false true (sym r ∙ q)))
-  stored_first (no_memory_for_key a k r h e) q = ok-not_err result (rw q refl) r
-  stored_first (key_rejected a s n r h e) q = absurd (false≢true (same_kept false true (sym r ∙ q)))
-  stored_first (pair_stored a s pair n r e) q = (
-    pair,
-    given a s n,
-    e ∙ ap (λ xs. pair ∷ xs) (sym (without_none (names i) old.pairs a)),
-  )
+  stored_first (nothing_to_store a (inl (k, r)) h e) q = ok-not_err result (rw q refl) r
+  stored_first (nothing_to_store a (inr (s, n, r)) h e) q = absurd (false≢true (same_kept false true (sym r ∙ q)))
   stored_first (pair_not_stored a s pair n untrue evicted h e) q = absurd (untrue q)
 
   -- whatever it is, each pair of another key is left or passed on
@@ -154,13 +149,11 @@ module _ {K V S H I : Type 0} {rules : Rules K V S} {offers : Offers K V S I} {n
       left_over = contains_without (names i) p other old.pairs has
 
       go : LosesNothing rules offers names i v old result handed new → Contains new.pairs p ⊎ Contains handed p
-      go (value_accepted was found y r e) = in_both new.pairs handed
-          (subst (λ xs. Contains xs p) (sym e) (Contains-append_right (_ ∷ []) (without (names i) old.pairs) p left_over))
+      go (stored pair stores r e) = in_both new.pairs handed
+          (subst (λ xs. Contains xs p) (sym e)
+          (Contains-append_right (pair ∷ []) (without (names i) old.pairs) p left_over))
       go (value_rejected was found y r h e) = inl (subst (λ xs. Contains xs p) (sym e) left_over)
-      go (no_memory_for_key a k r h e) = inl (subst (λ xs. Contains xs p) (sym e) has)
-      go (key_rejected a s n r h e) = inl (subst (λ xs. Contains xs p) (sym e) has)
-      go (pair_stored a s pair n r e) = in_both new.pairs handed
-          (subst (λ xs. Contains xs p) (sym e) (Contains-append_right (pair ∷ []) old.pairs p has))
+      go (nothing_to_store a why h e) = inl (subst (λ xs. Contains xs p) (sym e) has)
       go (pair_not_stored a s pair n untrue evicted h e) =
           elim (in_both new.pairs evicted (subst (λ xs. Contains xs p) (sym e) has)) [
             | inl here ↦ inl here

@@ -9,14 +9,17 @@ use Rattle.lru_limits.specs.Laws.{IsLookup, IsInsertion}
 use Rattle.lru_limits.specs.Rules.{Rules, Offers}
 use Rattle.schnellru.specs.GetOrInserts.{got, inserted}
 use Rattle.schnellru.specs.Lists.{IsFront, lookup_entry, without, set_entry, front, back, after}
-use Rattle.schnellru.specs.Runs.{inserts, makes_newest, updates, gets, demotes, removes, pops_oldest, pops_newest, drains, clears}
-use Rattle.schnellru.specs.Runs.{reserves, shrinks, trims, retains, AnyStep, calls, writes, sets_limiter, AreAmong, NamesOnly, StepAmong}
+use Rattle.schnellru.specs.Runs.{inserts, makes_newest, updates, gets, demotes, removes, pops_oldest, pops_newest}
+use Rattle.schnellru.specs.Runs.{drains, clears}
+use Rattle.schnellru.specs.Runs.{reserves, shrinks, trims, retains, AnyStep, calls, writes, sets_limiter, AreAmong}
+use Rattle.schnellru.specs.Runs.{NamesOnly, StepAmong}
 use Rattle.schnellru.specs.Runs.{Run, ends, goes_on}
 use Rattle.schnellru.specs.Retains.{retained}
 use Rattle.schnellru.specs.State.{State, contents}
 use Rattle.schnellru.specs.Theorems.{GivesUp, behind, with_none, without_one, others}
 use Rattle.schnellru.proofs.Theorems.AddedPairs.{reserve_stays}
-use Rattle.schnellru.proofs.Theorems.Fronts.{insert_gives_up, front_same, front_self, front_trans, front_trim, front_without_last}
+use Rattle.schnellru.proofs.Theorems.Fronts.{insert_gives_up, front_same, front_self, front_trans, front_trim}
+use Rattle.schnellru.proofs.Theorems.Fronts.{front_without_last}
 use Rattle.schnellru.proofs.Theorems.Fronts.{found_named, replaced_named}
 use Rattle.schnellru.specs.Updates.{updated, rejected, not_there, with_updated}
 use Rattle.schnellru.proofs.Chains.Orders.{Contains-here, Contains-later}
@@ -125,10 +128,10 @@ module _ {K V S H I : Type 0} {rules : Rules K V S} {offers : Offers K V S I} {n
       front_same (ap (λ st. others test st.pairs) l.is ∙ others_without test (names key) among old.pairs)
   step_gives_up old new (calls (updates key value result (not_there a r e))) among =
       others_same test new.pairs old.pairs (ap (λ st. st.pairs) e)
-  step_gives_up old new (calls (gets key e)) among =
-      front_same (ap (λ st. others test st.pairs) e ∙ others_front test (names key) among old.pairs)
-  step_gives_up old new (calls (demotes key e)) among =
-      front_same (ap (λ st. others test st.pairs) e ∙ others_back test (names key) among old.pairs)
+  step_gives_up old new (calls (gets named e)) among =
+      front_same (ap (λ st. others test st.pairs) e ∙ others_front test named among old.pairs)
+  step_gives_up old new (calls (demotes named e)) among =
+      front_same (ap (λ st. others test st.pairs) e ∙ others_back test named among old.pairs)
   step_gives_up old new (calls (removes named result h)) among =
       front_same (ap (λ st. others test st.pairs) h.state.is ∙ others_without test named among old.pairs)
   step_gives_up old new (calls (pops_oldest result h)) among =

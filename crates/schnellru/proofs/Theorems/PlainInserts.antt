@@ -1,14 +1,18 @@
 -- An insert under a limiter with a list is one under the limiter alone.
-use Rattle.std.proofs.Common.{◌≡◌, ℕ, zero, suc, ◌+◌, Bool, true, false, List, [], ◌∷◌, length, Option, Some, None, Result, refl}
+use Rattle.std.proofs.Common.{◌≡◌, ℕ, zero, suc, ◌+◌, Bool, true, false, List, [], ◌∷◌, length, Option, Some, None}
+use Rattle.std.proofs.Common.{Result, refl}
 use Rattle.std.proofs.Common.{ap, ◌∙◌, subst}
 use Rattle.std.specs.Prelude.{if◌then◌else◌}
 use Rattle.std.specs.declared.alloc.AllocError.{AllocError}
 use Rattle.lru_limits.specs.Rules.{Rules, Offers}
 use Rattle.schnellru.specs.Lists.{last}
-use Rattle.schnellru.specs.State.{State, Contents, contents, FreesRoom, Leaves, Trims, notified_of, pop, trim, trim_from}
+use Rattle.schnellru.specs.State.{State, Contents, contents, FreesRoom, Leaves, Trims, notified_of, pop, trim}
+use Rattle.schnellru.specs.State.{trim_from}
 use Rattle.schnellru.specs.Place.{Place, in_bucket, rehashed, grown, not_grown}
-use Rattle.schnellru.specs.Place.{Evicts, nothing_to_evict, finds_bucket, rehashes, CannotGrow, no_target, denied, OldestLeave}
-use Rattle.schnellru.specs.Place.{Outcome, placed, refused, no_memory, IsPlaced, IsPlacedIfMemory, HasNoBucket, IsOutgrown}
+use Rattle.schnellru.specs.Place.{Evicts, nothing_to_evict, finds_bucket, rehashes, CannotGrow, no_target, denied}
+use Rattle.schnellru.specs.Place.{OldestLeave}
+use Rattle.schnellru.specs.Place.{Outcome, placed, refused, no_memory, IsPlaced, IsPlacedIfMemory, FillsBucket}
+use Rattle.schnellru.specs.Place.{HasNoBucket, IsOutgrown}
 use Rattle.schnellru.specs.Inserts.{Insert, replaced, given_up, no_memory_to_admit, not_admitted, admitted, make_room}
 use Rattle.schnellru.specs.Inserts.{Settles, PlacesNew}
 use Rattle.schnellru.specs.HandedOver.{noting, noting_offers, noted}
@@ -39,7 +43,8 @@ module _ {K V S : Type 0} where
   plain_contents c = record { pairs = c.pairs; limiter = c.limiter.0 }
 
 module _ {K V S : Type 0} (rules : Rules K V S) where
-  plain_told : (was : Option (K × V)) (s : S × List (K × V)) → (notified_of (noting rules) was s).0 ≡ notified_of rules was s.0
+  plain_told : (was : Option (K × V)) (s : S × List (K × V)) → (notified_of (noting rules) was s).0 ≡ notified_of
+      rules was s.0
   plain_told None s = refl
   plain_told (Some pair) s = refl
 
@@ -127,12 +132,22 @@ module _ {K V S H : Type 0} (rules : Rules K V S) where
   plain_cannot old mid (no_target t e) = no_target t (ap plain e)
   plain_cannot old mid (denied count bytes t d e) = denied count bytes t d (ap plain e)
 
+  plain_fills : (hash : ℕ) (old new : State K V (S × List (K × V)) H) → FillsBucket hash old new
+      → FillsBucket hash (plain old) (plain new)
+  plain_fills hash old new fills = record {
+    bucket = fills.bucket;
+    first = fills.first;
+    marks = fills.marks;
+    places = fills.places;
+    spends = fills.spends;
+  }
+
   plain_evicts : (hash : ℕ) (pair : K × V) (old mid : State K V (S × List (K × V)) H) (outcome : Outcome)
       (new : State K V (S × List (K × V)) H) → Evicts (noting rules) hash pair old mid outcome new
       → Evicts rules hash pair (plain old) (plain mid) outcome (plain new)
   plain_evicts hash pair old mid outcome new (nothing_to_evict e o n) = nothing_to_evict e o (ap plain n)
   plain_evicts hash pair old mid outcome new (finds_bucket n pos one half left gone fills o p) =
-      finds_bucket n pos one half (plain left) (plain_gone hash n mid left gone) fills o
+      finds_bucket n pos one half (plain left) (plain_gone hash n mid left gone) (plain_fills hash left new fills) o
       (plain_placed pair _ _ _ left new p)
   plain_evicts hash pair old mid outcome new (rehashes some n pos one half left gone m) =
       rehashes some n pos one half (plain left) (plain_gone hash n mid left gone)
@@ -142,7 +157,8 @@ module _ {K V S H : Type 0} (rules : Rules K V S) where
     plain_place : (pair : K × V) (old : State K V (S × List (K × V)) H) (outcome : Outcome)
         (new : State K V (S × List (K × V)) H) → Place (noting rules) hash_of pair old outcome new
         → Place rules hash_of pair (plain old) outcome (plain new)
-    plain_place pair old outcome new (in_bucket l f s o p) = in_bucket l f s o (plain_placed pair _ _ _ old new p)
+    plain_place pair old outcome new (in_bucket l f s o p) = in_bucket l f (plain_fills _ old new s) o
+        (plain_placed pair _ _ _ old new p)
     plain_place pair old outcome new (rehashed b l some m) =
         rehashed (plain_no_bucket old b) l some (plain_if_memory pair _ _ _ old outcome new m)
     plain_place pair old outcome new (grown g count bytes t y m) =

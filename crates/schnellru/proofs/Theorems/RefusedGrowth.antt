@@ -10,7 +10,7 @@ use Rattle.schnellru.specs.Sizes.{no_table, new_table}
 use Rattle.schnellru.specs.Place.{Place, in_bucket, rehashed, grown, not_grown}
 use Rattle.schnellru.specs.Place.{nothing_to_evict, finds_bucket, rehashes}
 use Rattle.schnellru.specs.Place.{CannotGrow, no_target, denied, Outcome, placed, refused, no_memory, IsPlaced}
-use Rattle.schnellru.specs.Place.{IsPlacedIfMemory, Grants, asked, table_for, LacksRoom, FillsBucket, OldestLeave}
+use Rattle.schnellru.specs.Place.{IsPlacedIfMemory, Grants, asked, table_for, IsFullWithPairs, FillsBucket, OldestLeave}
 use Rattle.schnellru.specs.Theorems.{IsRefusedGrowth}
 use Rattle.schnellru.proofs.Maps.Outcomes.{placed-not_no_memory, refused-not_no_memory, refused-not_placed}
 use Rattle.schnellru.proofs.Maps.LeavingPairs.{length-pops, known_is, oldest_leaves}
@@ -62,14 +62,14 @@ module _ {K V S H : Type 0} (rules : Rules K V S) (hash_of : H → K → ℕ) (p
       ∙ ap (λ st. length st.pairs - n) (known_is rules old mid c)
 
   -- growth is refused, n of the oldest are evicted, and the pair is stored with the others
-  gives_way : LacksRoom old → full_capacity (buckets old) / 2 < length old.pairs + 1 → (mid : State K V S H)
+  gives_way : IsFullWithPairs old → full_capacity (buckets old) / 2 < length old.pairs + 1 → (mid : State K V S H)
       → CannotGrow rules old mid → (n : ℕ) → (buckets old ≤ 16 → n ≡ 1)
       → (left : State K V S H) → OldestLeave rules (hash_of old.hasher pair.0) n mid left → (new : State K V S H)
       → (length left.pairs ≡ length old.pairs - n → full_capacity (buckets old) / 2 ≤ suc (length left.pairs))
       → new.pairs ≡ pair ∷ left.pairs → buckets new ≡ buckets old
       → KeepsAll new ⊎ (IsRefusedGrowth rules old × GivesWay new)
   gives_way f l mid c n one left gone new half there same = inr (
-    record { lacks_room = f; above_half = l; known = mid; refused = c },
+    record { is_full = f; above_half = l; known = mid; refused = c },
     record {
       half = omega (arith, ap length there, half (left_length n mid left c gone));
       one = λ small.
@@ -83,11 +83,12 @@ module _ {K V S H : Type 0} (rules : Rules K V S) (hash_of : H → K → ℕ) (p
   -- a pair is stored with all others, or growth is refused and the oldest are evicted
   pub place_keeps : (outcome : Outcome) (new : State K V S H) → outcome ≡ placed
       → Place rules hash_of pair old outcome new → KeepsAll new ⊎ (IsRefusedGrowth rules old × GivesWay new)
-  place_keeps outcome new q (in_bucket l f s o n) = inl (record { pairs = ap (λ st. st.pairs) n.state; large = large s })
+  place_keeps outcome new q (in_bucket l f s o n) = inl
+      (record { pairs = ap (λ st. st.pairs) n.state; large = large s })
     where
       large : FillsBucket (hash_of old.hasher pair.0) old new → IsRefusedGrowth rules old → 16 < buckets old
-      large (inl s) refusal = absurd (omega (arith, s.1, refusal.lacks_room.1))
-      large (inr s) refusal = s.1
+      large fills refusal =
+          elim fills.spends [ inl e ↦ absurd (omega (arith, e.1, refusal.is_full.1)) | inr d ↦ d.1 ]
   place_keeps outcome new q (rehashed b l some m) =
       inl (record {
         pairs = ap (λ st. st.pairs) (placed_if old new _ _ _ outcome q m).state;
@@ -134,7 +135,7 @@ module _ {K V S H : Type 0} (rules : Rules K V S) (hash_of : H → K → ℕ) (p
       placed-not_no_memory (sym o ∙ q)
   place_lacks_keeps outcome new q (not_grown b mid c (rehashes some n pos one half left gone m)) = inr
       (record {
-        lacks_room = (some, b.no_bucket.no_room);
+        is_full = (some, b.no_bucket.no_room);
         above_half = b.above_half;
         known = mid;
         refused = c;
@@ -160,8 +161,8 @@ module _ {K V S H : Type 0} (rules : Rules K V S) (hash_of : H → K → ℕ) (p
           (other w.1.same_table)
     ]
 
-    pub made_anew_keeps : length old.pairs + 1 ≤ full_capacity (buckets old) / 2 → new.pairs ≡ pair ∷ old.pairs
-    made_anew_keeps few = elim (place_keeps placed new refl step) [
+    pub rehashed_keeps : length old.pairs + 1 ≤ full_capacity (buckets old) / 2 → new.pairs ≡ pair ∷ old.pairs
+    rehashed_keeps few = elim (place_keeps placed new refl step) [
       | inl k ↦ k.pairs
       | inr w ↦ absurd (omega (arith, few, w.0.above_half))
     ]

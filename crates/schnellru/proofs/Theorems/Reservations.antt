@@ -1,6 +1,6 @@
 -- What a reservation keeps, and the room that it makes.
 use Rattle.std.proofs.Common.{◌≡◌, ℕ, ◌+◌, ◌*◌, ◌/◌, ◌^◌, ◌<◌, ◌≤◌, Bool, true, false, cond, Option, Some, None}
-use Rattle.std.proofs.Common.{Result, Ok, refl, sym, ap, ◌∙◌, subst, arith, length, inl, inr}
+use Rattle.std.proofs.Common.{Result, Ok, Err, OnOk, refl, sym, ap, ◌∙◌, subst, arith, length, inl, inr}
 use Rattle.std.specs.Prelude.{nat_lt, nat_le, ◌==◌}
 use Rattle.std.proofs.lemmas.Bool.Decides.{nat_tests}
 use Rattle.std.proofs.lemmas.Option.{cond_some, same_Some}
@@ -9,8 +9,8 @@ use Rattle.group_table.proofs.SizeLemmas.{takes_enough, full_capacity-small}
 use Rattle.lru_limits.specs.Rules.{Rules}
 use Rattle.schnellru.specs.Sizes.{same_table, new_table, table_with, target_from, target}
 use Rattle.schnellru.specs.State.{State, buckets, room, IsSized}
-use Rattle.schnellru.specs.Reservations.{Reserve, unchanged, remade, reserved, asked_only, enough_room, too_many}
-use Rattle.schnellru.specs.Reservations.{no_such_table, no_memory_to_remake}
+use Rattle.schnellru.specs.Reservations.{Reserve, unchanged, rehashed, reserved, asked_only, enough_room, too_many}
+use Rattle.schnellru.specs.Reservations.{no_such_table, no_memory_to_rehash}
 use Rattle.schnellru.specs.declared.map.reserve.ReserveError.{ReserveError}
 use Rattle.schnellru.proofs.TableSizes.NextTable.{larger_takes}
 use Rattle.schnellru.proofs.TableSizes.Growth.{least_power_at_least, least_power_shape, table_with_is, target-same}
@@ -68,7 +68,7 @@ module _ {K V S H : Type 0} (rules : Rules K V S) (n : ℕ) (old : State K V S H
   pub reserved_list : (result : Result (Unit {0}) ReserveError) (new : State K V S H) → Reserve rules n old result new
       → (new.pairs ≡ old.pairs) × (new.moved ≡ old.moved) × (new.placed ≡ old.placed) × (new.shrunk ≡ old.shrunk)
   reserved_list result new (unchanged why e) = rw e (refl, refl, refl, refl)
-  reserved_list result new (remade l t r m) = (
+  reserved_list result new (rehashed l t r m) = (
     ap (λ st. st.pairs) m.state,
     ap (λ st. st.moved) m.state,
     ap (λ st. st.placed) m.state,
@@ -87,13 +87,13 @@ module _ {K V S H : Type 0} (rules : Rules K V S) (n : ℕ) (old : State K V S H
   makes_room new ok (unchanged (enough_room s l r) e) = rw e s
   makes_room new ok (unchanged (too_many l r) e) = absurd cc
   makes_room new ok (unchanged (no_such_table l t r) e) = absurd cc
-  makes_room new ok (remade l t r m) = omega (
+  makes_room new ok (rehashed l t r m) = omega (
     arith,
     m.exact,
     target-same old.max old.entry_bytes (buckets old)
         (length old.pairs + n) t,
   )
-  makes_room new ok (unchanged (no_memory_to_remake l t p r) e) = absurd cc
+  makes_room new ok (unchanged (no_memory_to_rehash l t p r) e) = absurd cc
   makes_room new ok (reserved l count bytes t g r m) = omega (
     arith,
     m.exact,
@@ -102,3 +102,8 @@ module _ {K V S H : Type 0} (rules : Rules K V S) (n : ℕ) (old : State K V S H
   )
   makes_room new ok (asked_only l count bytes t (inl (g, r)) e) = absurd cc
   makes_room new ok (asked_only l count bytes t (inr (d, r)) e) = absurd cc
+
+  pub makes_room_if_ok : IsSized old → (result : Result (Unit {0}) ReserveError) (new : State K V S H)
+      → Reserve rules n old result new → OnOk result (n ≤ room new)
+  makes_room_if_ok ok (Ok done) new step = makes_room new ok step
+  makes_room_if_ok ok (Err e) new step = tt

@@ -23,8 +23,7 @@ module _ {K V S : Type 0} (rules : Rules K V S) where
   total-retained f ((pair, true) ∷ older) s = omega (arith, total-retained f older s)
   total-retained f ((pair, false) ∷ older) s = omega (arith, total-retained f older s)
 
-module _ {K V S Q : Type 0} (rules : Rules K V S) (names : Q → K → Bool) (R : Contents K V S → Contents K V S → Type 0)
-    (k : Keeps rules names R) where
+module _ {K V S : Type 0} (rules : Rules K V S) (R : Contents K V S → Contents K V S → Type 0) (k : Keeps rules R) where
   -- with these newer pairs before those that are asked, and before those that stay
   abbrev Stays : List (K × V) → List ((K × V) × Bool) → S → Type 0
   Stays newer asked s = R (record { pairs = newer ++ map (λ one. one.0) asked; limiter = s })

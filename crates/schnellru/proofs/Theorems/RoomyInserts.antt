@@ -43,7 +43,8 @@ module _ {K V S H I : Type 0} (rules : Rules K V S) (offers : Offers K V S I) (n
       record {
         answer = end.0 ∙ ap (λ d. Ok (not (is_empty d.pairs))) left;
         pairs = ap (λ d. d.pairs) left;
-        limiter = rw (ap (λ d. d.limiter) left) (subst (λ o. offers.on_insert old.limiter (length old.pairs) i v s o) g.0 n);
+        limiter = rw (ap (λ d. d.limiter) left)
+            (subst (λ o. offers.on_insert old.limiter (length old.pairs) i v s o) g.0 n);
         table = end.1.room.table ∙ is.1.table ∙ l.room.table;
         room = omega (arith, l.room.keeps, is.2, end.1.room.keeps);
       }

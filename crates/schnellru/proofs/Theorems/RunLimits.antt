@@ -6,13 +6,15 @@ use Rattle.lru_limits.specs.Rules.{Rules, Offers}
 use Rattle.lru_limits.specs.Limiters.{length_rules, length_offers, memory_rules, all_offers}
 use Rattle.schnellru.specs.State.{State, contents}
 use Rattle.schnellru.specs.GetOrInserts.{got, inserted}
-use Rattle.schnellru.specs.Runs.{Step, inserts, makes_newest, updates, gets, demotes, removes, pops_oldest, pops_newest, drains, clears}
+use Rattle.schnellru.specs.Runs.{Step, inserts, makes_newest, updates, gets, demotes, removes, pops_oldest}
+use Rattle.schnellru.specs.Runs.{pops_newest, drains, clears}
 use Rattle.schnellru.specs.Runs.{reserves, shrinks, trims, retains, StepOrWrite, Run, ends, goes_on}
 use Rattle.schnellru.specs.Theorems.{UsesAtMost}
 use Rattle.schnellru.proofs.Maps.LeavingPairs.{length-without_first, length-without_last}
 use Rattle.schnellru.proofs.Maps.Promotions.{length-front_pairs, length-back_pairs}
 use Rattle.schnellru.proofs.Theorems.Fronts.{front_trim, length-front}
-use Rattle.schnellru.proofs.Theorems.Limits.{keeps_limiter, uses_at_most, length-without, length-update, by_length_stays}
+use Rattle.schnellru.proofs.Theorems.Limits.{keeps_limiter, uses_at_most, length-without, length-update}
+use Rattle.schnellru.proofs.Theorems.Limits.{by_length_stays}
 use Rattle.schnellru.proofs.Theorems.Reservations.{reserved_list}
 use Rattle.schnellru.proofs.Theorems.Runs.{step_changes}
 use Rattle.schnellru.proofs.Theorems.RetainedPairs.{length-retained}
@@ -51,10 +53,10 @@ module _ {K V H : Type 0} (names : K → K → Bool) (hash_of : H → K → ℕ)
     step_stays_short (makes_newest v k result (inserted e w m step)) =
         by_length_stays names hash_of k w old result new step
     step_stays_short (updates k v result h) = fewer (length-update result h)
-    step_stays_short (gets k e) = fewer
-        (omega (arith, ap (λ st. length st.pairs) e, length-front_pairs (names k) old.pairs))
-    step_stays_short (demotes k e) = fewer
-        (omega (arith, ap (λ st. length st.pairs) e, length-back_pairs (names k) old.pairs))
+    step_stays_short (gets named e) = fewer
+        (omega (arith, ap (λ st. length st.pairs) e, length-front_pairs named old.pairs))
+    step_stays_short (demotes named e) = fewer
+        (omega (arith, ap (λ st. length st.pairs) e, length-back_pairs named old.pairs))
     step_stays_short (removes test result h) = fewer
         (omega (arith, ap (λ st. length st.pairs) h.state.is, length-without test old.pairs))
     step_stays_short (pops_oldest result h) = fewer

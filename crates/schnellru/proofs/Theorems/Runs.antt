@@ -10,28 +10,29 @@ use Rattle.lru_limits.specs.Laws.{IsLookup, IsInsertion, IsAccount}
 use Rattle.schnellru.specs.Lists.{keys_of}
 use Rattle.schnellru.specs.State.{State, Contents, contents, IsSized, IsMap}
 use Rattle.schnellru.specs.Calls.{promoted, demoted, written, cleared}
-use Rattle.schnellru.specs.Runs.{Step, inserts, makes_newest, updates, gets, demotes, removes, pops_oldest, pops_newest, drains, clears}
+use Rattle.schnellru.specs.Runs.{Step, inserts, makes_newest, updates, gets, demotes, removes, pops_oldest}
+use Rattle.schnellru.specs.Runs.{pops_newest, drains, clears}
 use Rattle.schnellru.specs.Runs.{reserves, shrinks, trims, retains}
 use Rattle.schnellru.specs.Runs.{AnyStep, calls, writes, sets_limiter, Run, ends, goes_on}
-use Rattle.schnellru.specs.Shrinks.{PlacesAnew}
+use Rattle.schnellru.specs.Shrinks.{RehashedByShrink}
 use Rattle.schnellru.specs.Theorems.{PaysForMoves, IsSummed}
 use Rattle.schnellru.proofs.PairLists.DistinctKeys.{offers_distinct}
 use Rattle.schnellru.proofs.Theorems.Moves.{KeepsOffers, keeps_nothing, keeps_any}
-use Rattle.schnellru.proofs.Theorems.Removals.{stay_any}
 use Rattle.schnellru.proofs.Theorems.TableGrowth.{Changes}
 use Rattle.schnellru.proofs.Theorems.Potential.{pays_self, pays_trans, bounded_of}
 use Rattle.schnellru.proofs.Theorems.Ways.{insert_changes, update_changes}
 use Rattle.schnellru.proofs.Theorems.PaidMoves.{stays_map}
 use Rattle.schnellru.proofs.Theorems.Sums.{keeps_sums, stays_summed}
 use Rattle.schnellru.proofs.Theorems.CallChanges.{promoted_changes, demoted_changes, remove_changes, pop_oldest_changes}
-use Rattle.schnellru.proofs.Theorems.CallChanges.{pop_newest_changes, cleared_changes, drain_changes, trim_changes, retain_changes}
+use Rattle.schnellru.proofs.Theorems.CallChanges.{pop_newest_changes, cleared_changes, drain_changes, trim_changes}
+use Rattle.schnellru.proofs.Theorems.CallChanges.{retain_changes}
 use Rattle.schnellru.proofs.Theorems.CallChanges.{reserve_changes, makes_newest_changes, written_changes, set_changes}
 use Rattle.schnellru.proofs.Theorems.Shrinks.{shrink_changes, shrink_pays, shrink_kept}
 
 module _ {K V S H : Type 0} where
   -- moves are paid for, also those of entries that are rehashed
   abbrev pub Pays : State K V S H → State K V S H → Type 0
-  Pays old new = (anew : ℕ) × PlacesAnew anew old new × PaysForMoves anew old new
+  Pays old new = (anew : ℕ) × RehashedByShrink anew old new × PaysForMoves anew old new
 
   none : (old new : State K V S H) → PaysForMoves 0 old new → Pays old new
   none old new pays = (0, inl refl, pays)
@@ -44,8 +45,8 @@ module _ {K V S H I : Type 0} {rules : Rules K V S} {offers : Offers K V S I} {n
     step_changes old new (inserts key value result h) = (_, _, insert_changes k key value old result new h)
     step_changes old new (makes_newest value key result h) = (_, _, makes_newest_changes k h)
     step_changes old new (updates key value result h) = (_, _, update_changes k key value old result new h)
-    step_changes old new (gets key e) = rw e (_, _, promoted_changes k.keeps old key)
-    step_changes old new (demotes key e) = rw e (_, _, demoted_changes k.keeps old key)
+    step_changes old new (gets test e) = rw e (_, _, promoted_changes k.keeps old test)
+    step_changes old new (demotes test e) = rw e (_, _, demoted_changes k.keeps old test)
     step_changes old new (removes test result h) = (_, _, remove_changes k.keeps old test result new h)
     step_changes old new (pops_oldest result h) = (_, _, pop_oldest_changes k.keeps old result new h)
     step_changes old new (pops_newest result h) = (_, _, pop_newest_changes k.keeps old result new h)
@@ -88,35 +89,39 @@ module _ {K V S H I : Type 0} {rules : Rules K V S} {offers : Offers K V S I} {n
       none old new ((makes_newest_changes keeps_nothing h).tables.pays (bounded_of old ok))
   any_pays old new (calls (updates key value result h)) ok =
       none old new ((update_changes keeps_nothing key value old result new h).tables.pays (bounded_of old ok))
-  any_pays old new (calls (gets key e)) ok = rw e
-      (none old (promoted (names key) old) ((promoted_changes {rules = rules} {names = names} keeps_any old key).tables.pays (bounded_of old ok)))
-  any_pays old new (calls (demotes key e)) ok = rw e
-      (none old (demoted (names key) old) ((demoted_changes {rules = rules} {names = names} keeps_any old key).tables.pays (bounded_of old ok)))
+  any_pays old new (calls (gets test e)) ok = rw e
+      (none old (promoted test old)
+      ((promoted_changes {rules = rules} keeps_any old test).tables.pays (bounded_of old ok)))
+  any_pays old new (calls (demotes test e)) ok = rw e
+      (none old (demoted test old)
+      ((demoted_changes {rules = rules} keeps_any old test).tables.pays (bounded_of old ok)))
   any_pays old new (calls (removes test result h)) ok =
-      none old new ((remove_changes stay_any old test result new h).tables.pays (bounded_of old ok))
+      none old new ((remove_changes keeps_any old test result new h).tables.pays (bounded_of old ok))
   any_pays old new (calls (pops_oldest result h)) ok =
-      none old new ((pop_oldest_changes stay_any old result new h).tables.pays (bounded_of old ok))
+      none old new ((pop_oldest_changes keeps_any old result new h).tables.pays (bounded_of old ok))
   any_pays old new (calls (pops_newest result h)) ok =
-      none old new ((pop_newest_changes stay_any old result new h).tables.pays (bounded_of old ok))
+      none old new ((pop_newest_changes keeps_any old result new h).tables.pays (bounded_of old ok))
   any_pays old new (calls (drains newest oldest result h)) ok =
-      none old new ((drain_changes stay_any old newest oldest result new h).tables.pays (bounded_of old ok))
+      none old new ((drain_changes keeps_any old newest oldest result new h).tables.pays (bounded_of old ok))
   any_pays old new (calls (clears e)) ok = rw e
-      (none old (cleared rules old) ((cleared_changes {rules = rules} stay_any old).tables.pays (bounded_of old ok)))
+      (none old (cleared rules old) ((cleared_changes {rules = rules} keeps_any old).tables.pays (bounded_of old ok)))
   any_pays old new (calls (reserves n result h)) ok =
-      none old new ((reserve_changes stay_any.way n old result new h).tables.pays (bounded_of old ok))
+      none old new ((reserve_changes keeps_any.way n old result new h).tables.pays (bounded_of old ok))
   any_pays old new (calls (shrinks (Ok true) h)) ok = (length old.pairs, inr (h, refl), shrink_pays old new h)
   any_pays old new (calls (shrinks (Ok false) h)) ok =
       rw (shrink_kept old (Ok false) new (λ same. absurd cc) h) (none old old (pays_self old ok.shrunk))
   any_pays old new (calls (shrinks (Err e) h)) ok =
       rw (shrink_kept old (Err e) new (λ same. absurd cc) h) (none old old (pays_self old ok.shrunk))
   any_pays old new (calls (trims h)) ok =
-      none old new ((trim_changes stay_any old new h).tables.pays (bounded_of old ok))
+      none old new ((trim_changes keeps_any old new h).tables.pays (bounded_of old ok))
   any_pays old new (calls (retains asked each h)) ok =
-      none old new ((retain_changes {rules = rules} stay_any old asked new each h).tables.pays (bounded_of old ok))
+      none old new ((retain_changes {rules = rules} keeps_any old asked new each h).tables.pays (bounded_of old ok))
   any_pays old new (writes test value e) ok = rw e
-      (none old (written test value old) ((written_changes rules (λ c d. Unit {0}) old test value tt).tables.pays (bounded_of old ok)))
+      (none old (written test value old)
+      ((written_changes rules (λ c d. Unit {0}) old test value tt).tables.pays (bounded_of old ok)))
   any_pays old new (sets_limiter s e) ok = rw e
-      (none old (record old { limiter = s }) ((set_changes rules (λ c d. Unit {0}) old s tt).tables.pays (bounded_of old ok)))
+      (none old (record old { limiter = s })
+      ((set_changes rules (λ c d. Unit {0}) old s tt).tables.pays (bounded_of old ok)))
 
   pub run_pays : (new old : State K V S H) → IsSized old → Run (AnyStep rules offers names hash_of) new old
       → (anew : ℕ) × PaysForMoves anew old new

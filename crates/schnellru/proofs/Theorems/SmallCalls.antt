@@ -11,8 +11,8 @@ use Rattle.group_table.specs.Sizes.{full_capacity, buckets_for}
 use Rattle.lru_limits.specs.Rules.{Rules}
 use Rattle.schnellru.specs.Calls.{cleared}
 use Rattle.schnellru.specs.Place.{asked, table_for}
-use Rattle.schnellru.specs.Reservations.{LacksRoomFor, Reserve, unchanged, remade, reserved, asked_only, enough_room}
-use Rattle.schnellru.specs.Reservations.{too_many, no_such_table, no_memory_to_remake}
+use Rattle.schnellru.specs.Reservations.{LacksRoomFor, Reserve, unchanged, rehashed, reserved, asked_only, enough_room}
+use Rattle.schnellru.specs.Reservations.{too_many, no_such_table, no_memory_to_rehash}
 use Rattle.schnellru.specs.Exact.{LookAlike}
 use Rattle.schnellru.specs.Shrinks.{Shrink, shrink_counted, kept, shrunk, no_memory_to_shrink}
 use Rattle.schnellru.specs.Sizes.{Target, target, no_table, same_table, new_table}
@@ -85,9 +85,9 @@ module _ {K V S H : Type 0} (rules : Rules K V S) (n : ℕ) (old : State K V S H
       rw (r, le-ltb (length old.pairs + n) (2 ^ 64) l) (ap (λ st. (Err TooLarge, shape st)) (sym e))
   reserve_is result new (unchanged (no_such_table l t r) e) = lacks_room (is_memory result) l
       ∙ rw (t, r) (ap (λ st. (Err TooLarge, shape st)) (sym e))
-  reserve_is result new (remade l t r m) = lacks_room (is_memory result) l
+  reserve_is result new (rehashed l t r m) = lacks_room (is_memory result) l
       ∙ rw (t, r) (ap (λ sh. (Ok tt, sh)) (sym (moved_shape _ old new m)))
-  reserve_is result new (unchanged (no_memory_to_remake l t p r) e) = lacks_room (is_memory result) l
+  reserve_is result new (unchanged (no_memory_to_rehash l t p r) e) = lacks_room (is_memory result) l
       ∙ rw (t, r) (ap (λ st. (Err Memory, shape st)) (sym e))
   reserve_is result new (reserved l count bytes t g r m) = lacks_room (is_memory result) l
       ∙ rw (t, g, r) (ap (λ sh. (Ok tt, sh)) (sym (moved_shape count (asked rules bytes old) new m)))

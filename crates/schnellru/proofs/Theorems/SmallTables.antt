@@ -82,8 +82,8 @@ module _ {K V S H : Type 0} where
   -- up to 16 buckets an empty one is filled
   fills_one : (hash : ℕ) (old new : State K V S H) → buckets old ≤ 16 → FillsBucket hash old new
       → room new + 1 ≡ room old
-  fills_one hash old new small (inl (first, r)) = r
-  fills_one hash old new small (inr (first, large, r)) = absurd (omega (arith, small, large))
+  fills_one hash old new small fills =
+      elim fills.spends [ inl e ↦ e.1 | inr d ↦ absurd (omega (arith, small, d.1)) ]
 
 -- whether memory ran out
 abbrev pub lacks_memory : Outcome → Bool

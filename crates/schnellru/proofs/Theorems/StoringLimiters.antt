@@ -1,6 +1,7 @@
 -- The premises of the laws on what an insert keeps, for limiters that store pairs as they come, and what the laws say
 -- of these.
-use Rattle.std.proofs.Common.{◌≡◌, ℕ, ◌+◌, ◌≤◌, Bool, true, false, cond, List, length, Some, None, Option, refl, sym, ap}
+use Rattle.std.proofs.Common.{◌≡◌, ℕ, ◌+◌, ◌≤◌, Bool, true, false, cond, List, length, Some, None, Option, refl, sym}
+use Rattle.std.proofs.Common.{ap}
 use Rattle.std.proofs.Common.{◌∙◌}
 use Rattle.std.specs.Prelude.{option_map, unwrap_or}
 use Rattle.std.proofs.lemmas.Bool.{le-ltb}
@@ -14,7 +15,8 @@ use Rattle.schnellru.specs.Kept.{ChangesNoPair, AcceptsNew, stored_key}
 use Rattle.schnellru.proofs.Theorems.Fronts.{found_named}
 
 -- a limiter that ignores its notifications changes no pair, nor do `ByWeight` and `ByCost`
-pub plain-changes_none : {K V S : Type 0} (over grants : S → ℕ → Bool) → ChangesNoPair (plain {K = K} {V = V} over grants)
+pub plain-changes_none : {K V S : Type 0} (over grants : S → ℕ → Bool) → ChangesNoPair
+    (plain {K = K} {V = V} over grants)
 plain-changes_none over grants = record { key = λ s k v. refl; value = λ s k v. refl }
 
 pub by_weight-changes_none : {K V : Type 0} (weight : K → V → ℕ) → ChangesNoPair (by_weight weight)

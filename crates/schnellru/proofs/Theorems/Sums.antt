@@ -88,7 +88,8 @@ module _ {K V : Type 0} (cost : K × V → ℕ) (names : K → Bool) where
   total-set_entry q pair (x ∷ xs) found = go (names x.0) found (total-set_entry q pair xs)
     where
       go : (b : Bool) → cond b (Some x) (lookup_entry names xs) ≡ Some pair
-          → (lookup_entry names xs ≡ Some pair → total cost (set_entry names q xs) ≡ cost q + total cost (without names xs))
+          → (lookup_entry names xs ≡ Some pair → total cost (set_entry names q xs) ≡ cost q + total cost
+          (without names xs))
           → total cost (cond b (q ∷ xs) (x ∷ set_entry names q xs))
           ≡ cost q + total cost (cond b xs (x ∷ without names xs))
       go true e h = omega arith
@@ -149,9 +150,10 @@ module _ {K V S I : Type 0} {rules : Rules K V S} {offers : Offers K V S I} {cos
         popped = λ c. told_holds c.pairs _ _ c.limiter (split_last _ c.pairs);
       };
       left = λ test c. told_holds c.pairs _ _ c.limiter (split_named _ test c.pairs);
-      dropped = λ newer older pair s. told_holds (newer ++ pair ∷ older) _ (Some pair) s (split_between _ newer older pair);
-      first = λ q c h. h ∙ sym (total-front _ (names q) c.pairs);
-      last = λ q c h. h ∙ sym (total-back _ (names q) c.pairs);
+      dropped = λ newer older pair s. told_holds (newer ++ pair ∷ older) _ (Some pair) s
+          (split_between _ newer older pair);
+      first = λ test c h. h ∙ sym (total-front _ test c.pairs);
+      last = λ test c h. h ∙ sym (total-back _ test c.pairs);
       cleared = λ c h. laws.empties c.limiter;
     };
     came = λ i v c s pair a n h. let r = laws.adds c.limiter (length c.pairs) i v s pair.0 pair.1 n in omega arith;

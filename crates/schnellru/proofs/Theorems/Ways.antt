@@ -17,11 +17,13 @@ use Rattle.schnellru.specs.Inserts.{Insert, replaced, given_up, no_memory_to_adm
 use Rattle.schnellru.specs.Updates.{Update, updated, rejected, not_there}
 use Rattle.schnellru.specs.declared.map.update.Updated.{Updated}
 use Rattle.schnellru.proofs.Maps.LeavingPairs.{length-pops, oldest_leaves, known_is}
-use Rattle.schnellru.proofs.TableSizes.Growth.{full_capacity-4, full_capacity-at_most, full_capacity-double, target_doubles}
+use Rattle.schnellru.proofs.TableSizes.Growth.{full_capacity-4, full_capacity-at_most, full_capacity-double}
+use Rattle.schnellru.proofs.TableSizes.Growth.{target_doubles}
 use Rattle.schnellru.proofs.TableSizes.Growth.{target_usage, first_target-count}
 use Rattle.schnellru.proofs.TableSizes.Doubling.{target_small}
 use Rattle.schnellru.proofs.Theorems.Potential.{IsBounded, pays_placing}
-use Rattle.schnellru.proofs.Theorems.Moves.{KeepsWay, Keeps, KeepsOffers, behind, exchange, rewrite, leaves_keep, pops_keep}
+use Rattle.schnellru.proofs.Theorems.Moves.{KeepsWay, Keeps, KeepsOffers, behind, exchange, rewrite, leaves_keep}
+use Rattle.schnellru.proofs.Theorems.Moves.{pops_keep}
 use Rattle.schnellru.proofs.Theorems.Moves.{trim_keeps, make_room_keeps, settles_keep, way_behind}
 use Rattle.schnellru.proofs.Theorems.TableGrowth.{settles_calm, Calm, Tables, IsNextCount, Changes, self_calm}
 use Rattle.schnellru.proofs.Theorems.TableGrowth.{limiter_calm, leaves_calm, calm_trans, calm_tables, calm_then}
@@ -125,8 +127,7 @@ module _ {K V S H : Type 0} (rules : Rules K V S) (R : Contents K V S → Conten
     where
       spends : FillsBucket (hash_of old.hasher pair.0) old new
           → full_capacity (buckets old) - 2 * room new ≤ potential old + 2
-      spends (inl s) = omega (arith, s.1)
-      spends (inr s) = omega (arith, s.2)
+      spends f = elim f.spends [ inl e ↦ omega (arith, e.1) | inr d ↦ omega (arith, d.2) ]
   place_lands outcome new (rehashed b l some m) =
       if_memory old _ _ _ outcome new m self (self_calm old) (inl (omega arith))
       (λ ok. omega (arith, b.no_room, ok.fits)) same_little
@@ -209,13 +210,12 @@ placed_some rules hash_of pair old new p =
     let lands = place_lands rules _ any (λ _. Unit {0}) hash_of pair old tt placed new p in
     omega (arith, ap (λ st. length st.pairs) lands.lands.is.state)
 
-module _ {K V S Q : Type 0} (rules : Rules K V S) (names : Q → K → Bool) (R : Contents K V S → Contents K V S → Type 0)
-    (k : Keeps rules names R) where
+module _ {K V S : Type 0} (rules : Rules K V S) (R : Contents K V S → Contents K V S → Type 0) (k : Keeps rules R) where
   place_keeps : {H : Type 0} (hash_of : H → K → ℕ) (pair : K × V) (old : State K V S H) (outcome : Outcome)
       (new : State K V S H) → Place rules hash_of pair old outcome new
       → R (behind pair (contents old)) (contents new)
   place_keeps {H} hash_of pair old outcome new p =
-      let m = place_lands rules _ (way_behind rules names R k pair) (λ _. Unit {0}) hash_of pair old tt outcome new p in
+      let m = place_lands rules _ (way_behind rules R k pair) (λ _. Unit {0}) hash_of pair old tt outcome new p in
       end outcome m.mid m.way m.lands
     where
       away : (mid : State K V S H) → R (behind pair (contents old)) (behind pair (contents mid)) → new
@@ -291,13 +291,13 @@ module _ {K V S H I : Type 0} {rules : Rules K V S} {offers : Offers K V S I} {n
       (calm_changes rules R 1 old _ (limiter_calm old s) (k.turned_down i v (contents old) s n))
   insert_changes {hash_of} result new (admitted a s pair n (ready, l, (outcome, landed, p, t))) =
       let start : State K V S H = record old { limiter = s } in
-      let hand = way_behind rules names R k.keeps pair in
+      let hand = way_behind rules R k.keeps pair in
       let reached = k.keeps.way.trans (k.came i v (contents old) s pair a n)
       (leaves_keep (λ c d. R (behind pair c) (behind pair d)) start _ ready l
       (make_room_keeps rules _ hand (contents start))) in
       record {
         moves = k.keeps.way.trans reached
-            (k.keeps.way.trans (place_keeps rules names R k.keeps hash_of pair ready outcome landed p)
+            (k.keeps.way.trans (place_keeps rules R k.keeps hash_of pair ready outcome landed p)
             (settles_keep rules R k.keeps.way outcome landed result new t));
         tables = calm_then rules _ 1 old start new (limiter_calm old s)
             (calm_then rules _ 1 start ready new (leaves_calm start _ ready l)

@@ -4,23 +4,14 @@ use Rattle.std.specs.Prelude.{◌≡◌, ◌≢◌, ◌⊎◌, ℕ, zero, suc, �
 use Rattle.std.specs.Prelude.{if◌then◌else◌, Option, Some, None, option_map, unwrap_or, Contains, AllPairs}
 use Rattle.group_table.specs.Bucket.{empty, deleted, full, Slot, IsFull, bucket_at, entry_at, entry_count}
 use Rattle.group_table.specs.Relocation.{Renumbers}
+use Rattle.schnellru.specs.Lists.{first, last}
 use Rattle.schnellru.specs.declared.ordered.Entry.{Entry}
 use Rattle.schnellru.specs.declared.ordered.chain.Chain.{Chain}
-
--- the first of the buckets, and the last
-abbrev pub first_bucket : List ℕ → Option ℕ
-first_bucket [] = None
-first_bucket (b ∷ bs) = Some b
-
-abbrev pub last_bucket : List ℕ → Option ℕ
-last_bucket [] = None
-last_bucket (b ∷ []) = Some b
-last_bucket (b ∷ c ∷ cs) = last_bucket (c ∷ cs)
 
 -- the bucket after this one, and the one before it
 abbrev pub bucket_after : ℕ → List ℕ → Option ℕ
 bucket_after b [] = None
-bucket_after b (c ∷ cs) = if nat_eq c b then first_bucket cs else bucket_after b cs
+bucket_after b (c ∷ cs) = if nat_eq c b then first cs else bucket_after b cs
 
 abbrev pub bucket_before : ℕ → List ℕ → Option ℕ
 bucket_before b [] = None
@@ -106,8 +97,8 @@ module _ {K V N : Type 0} (number : N → ℕ) (link : ℕ → N) (none : N) whe
     pub reached : length slots < number none
     pub distinct : AllPairs ◌≢◌ order
     pub only : (b : ℕ) → Contains order b → IsFull slots b
-    pub newest_first : newest ≡ link_to link none (first_bucket order)
-    pub oldest_last : oldest ≡ link_to link none (last_bucket order)
+    pub newest_first : newest ≡ link_to link none (first order)
+    pub oldest_last : oldest ≡ link_to link none (last order)
     pub newer : (b : ℕ) → Contains order b → newer_at slots b ≡ Some (link_to link none (bucket_before b order))
     pub older : (b : ℕ) → Contains order b → older_at slots b ≡ Some (link_to link none (bucket_after b order))
 

@@ -32,7 +32,8 @@ module _ {K V S H : Type 0} where
   }
 
   -- the buckets are linked, the hashes of the keys fit, and what holds of every map holds
-  pub record Holds (eq : K → K → Bool) (hash_of : H → K → ℕ) (entries : OrderedTable K V) (beside : Beside S H) : Type 0 where
+  pub record Holds (eq : K → K → Bool) (hash_of : H → K → ℕ) (entries : OrderedTable K V) (beside : Beside S H)
+      : Type 0 where
     pub linked : IsLinked entries
     pub fits : KeysFit (hash_of beside.hasher) entries.slots
     pub map : IsMap eq (state_of entries beside)

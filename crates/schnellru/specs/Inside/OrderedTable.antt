@@ -1,4 +1,4 @@
--- A table whose full buckets stand in an order, newest first. No public clause cites this module.
+-- A table whose full buckets are in an order, newest first. No public clause cites this module.
 use Rattle.std.specs.Prelude.{◌≡◌, ◌≢◌, ℕ, ◌+◌, List, [], ◌∷◌, ◌++◌, length, filter, not, nat_eq, slice_set, option_map}
 use Rattle.std.specs.Prelude.{option_to_list, unwrap_or, Contains, AllPairs}
 use Rattle.group_table.specs.Bucket.{Slot, IsFull, entry_at, entry_count, bucket_at, refilled, marks_of, room}
@@ -13,7 +13,7 @@ pub record OrderedTable (K V : Type 0) : Type 0 where
   pub slots : List (Slot (K × V))
   -- the full buckets, newest first
   pub order : List ℕ
-  -- how many placings the table has made
+  -- how many insertions the table has made
   pub placings : ℕ
 
 -- the buckets without this one

@@ -15,7 +15,7 @@ module _ {K V F : Type 0} (closure : Mut F (Bor K × (Bor V × Unit {0})) Bool) 
     pub there : entry_at slots b ≡ Some pair
     pub asked : Asks closure f pair answer g
 
-  -- a search for the hash asked f about these buckets, and f refused all but the last, which is b
+  -- a search for the hash asked f about these buckets, and f rejected all but the last, which is b
   pub record FindsPair (hash : ℕ) (f : F) (b : ℕ) : Type 0 where
     pub before : List ℕ
     pub search : IsSearch slots hash (before ++ b ∷ [])
@@ -24,7 +24,7 @@ module _ {K V F : Type 0} (closure : Mut F (Bor K × (Bor V × Unit {0})) Bool) 
     pub last : F
     pub accepted : AnswersPair between b true last
 
-  -- or it refused all, and among them is each with the hash, whatever hashes fit
+  -- or it rejected all, and among them is each with the hash, whatever hashes fit
   pub record FindsNoPair (hash : ℕ) (f : F) : Type 0 where
     pub asked : List ℕ
     pub search : IsSearch slots hash asked

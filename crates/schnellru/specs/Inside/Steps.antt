@@ -11,7 +11,8 @@ use Rattle.schnellru.specs.Updates.{with_updated}
 use Rattle.schnellru.specs.Inside.OrderedTable.{OrderedTable, with_pair, without_bucket}
 
 -- The limiter accepted the new value for the pair in a bucket, which keeps its place.
-pub record IsReplaced {K V S : Type 0} (by : Replaced K V S) (b : ℕ) (old new : OrderedTable K V) (limiter : S) : Type 0 where
+pub record IsReplaced {K V S : Type 0} (by : Replaced K V S) (b : ℕ) (old new : OrderedTable K V) (limiter : S)
+    : Type 0 where
   pub slots : new.slots ≡ (with_pair old b (by.key, by.new_value)).slots
   pub order : new.order ≡ old.order
   pub placings : new.placings ≡ old.placings

@@ -6,11 +6,11 @@ use Rattle.schnellru.specs.declared.map.get_or_insert.NotLent.TheVariants.{NotKe
 use mathlib.Core.Option as maybe
 
 module _ {V E : Type 0} where
-  -- the answer if it is no error that the key is not there
-  abbrev pub kept_of : Result (MutBor V) (NotLent E) → Result (Option (MutBor V)) E
-  kept_of (Ok x) = Ok (Some x)
-  kept_of (Err NotKept) = Ok None
-  kept_of (Err (Failed e)) = Err e
+  -- what is lent, or none if the key is not there
+  abbrev pub lent_or_none : Result (MutBor V) (NotLent E) → Result (Option (MutBor V)) E
+  lent_or_none (Ok x) = Ok (Some x)
+  lent_or_none (Err NotKept) = Ok None
+  lent_or_none (Err (Failed e)) = Err e
 
   -- the result that says whether a value is lent
   abbrev pub is_kept : Result (Option (MutBor V)) E → Result Bool E

@@ -11,7 +11,7 @@ use Rattle.group_table.specs.declared.link.LinkType as link_type
 use Rattle.lru_limits.specs.declared.limiter.Limiter as limiter
 use Rattle.schnellru.specs.Lists.{newest_value, set_newest}
 use Rattle.schnellru.specs.State.{State}
-use Rattle.schnellru.specs.Lending.Answers.{kept_of, is_kept, IsLent, NoneLent, value_lent, name_lent}
+use Rattle.schnellru.specs.Lending.Answers.{lent_or_none, is_kept, IsLent, NoneLent, value_lent, name_lent}
 use Rattle.schnellru.specs.Lending.Values.{map_row}
 use Rattle.schnellru.specs.declared.map.get_or_insert.NotLent.{NotLent}
 
@@ -29,7 +29,7 @@ module _ (K V L S N H : RattleType) (key : HashMembers K.Denot)
 
   abbrev pub lends_or : Result (MutBor V.Denot) (NotLent E) → Fml
   lends_or r = LendsSoOk (map_row K V L S N H key limits links link_eq link_shown hashed hash) V m r
-      (λ n w. Made (kept_of r) n w) (λ n. Step (is_kept (kept_of r)) n)
+      (λ n w. Made (lent_or_none r) n w) (λ n. Step (is_kept (lent_or_none r)) n)
 
   -- the same for an answer that has no error if the key is not there
   abbrev pub lends_made : Result (Option (MutBor V.Denot)) E → Fml

@@ -7,7 +7,7 @@ ghost use Rattle.lru_limits.specs.Budget.{Budget};
 ghost use Rattle.schnellru.specs.Lists.{keys_of, IsFront};
 ghost use Rattle.schnellru.specs.State.{State, IsSized, IsMap};
 ghost use Rattle.schnellru.specs.Runs.{Step, AnyStep, StepAmong};
-ghost use Rattle.schnellru.specs.Shrinks.{PlacesAnew};
+ghost use Rattle.schnellru.specs.Shrinks.{RehashedByShrink};
 ghost use Rattle.schnellru.specs.Theorems.{PaysForMoves, UsesAtMost, IsSummed, others};
 
 use lru_limits::{
@@ -16,9 +16,8 @@ use lru_limits::{
 };
 use std::hash::Hash;
 
-/// Each call keeps what holds of every map: no two keys are equal, each pair has a bucket, and inserts moved at most
-/// twice as many entries as they stored, plus those that shrinks rehashed. The premise is a sound table, which every
-/// map has.
+/// After each call no two keys are equal (`keys`). If the table is sound after the call, as clause `map` of each call
+/// says, inserts moved at most twice as many entries as they stored, plus those that shrinks rehashed (`map`).
 pub fn calls_keep_maps<K: Eq + Hash, V, I: LookupKey<K>, L: Insertion<K, V, I>, S: KeyHasher<K>>()
     ensures keys { (old new : State K V L S) →
         AnyStep L.rules L.offers I.names S.hash_of old new →
@@ -47,10 +46,11 @@ pub fn calls_pay_for_moves<
 >()
     ensures { (old new : State K V L S) →
         AnyStep L.rules L.offers I.names S.hash_of old new →
-        IsSized old → (anew : ℕ) × PlacesAnew anew old new × PaysForMoves anew old new }
+        IsSized old → (anew : ℕ) × RehashedByShrink anew old new × PaysForMoves anew old new }
 {}
 
-/// With `ByLength` each call leaves the limiter as it is, and at most `max_length` pairs, if there were no more before.
+/// With `ByLength` each call leaves the limiter as it is, and at most `max_length` entries, if there were no more
+/// before.
 pub fn calls_keep_the_length<K: Eq + Hash + Drop, V: Drop, S: KeyHasher<K>>()
     ensures limiter { (old new : State K V ByLength S) →
         Step ⟦<ByLength as Limiter<K, V>>⟧.rules ⟦<ByLength as Insertion<K, V, K>>⟧.offers K.eq S.hash_of old new →
@@ -72,7 +72,7 @@ pub fn calls_keep_the_memory_usage<K: Eq + Hash + Drop, V: Drop, S: KeyHasher<K>
 {}
 
 /// With `ByCost` each call leaves the limit as it is, and a cost of at most the limit, if that held before and the cost
-/// was the sum of the costs of the pairs.
+/// was the sum of the costs of the entries.
 pub fn calls_keep_the_cost<K: Eq + Hash + Drop, V: Costed + Drop, S: KeyHasher<K>>()
     ensures limit { (old new : State K V ByCost S) →
         Step ⟦<ByCost as Limiter<K, V>>⟧.rules ⟦<ByCost as Insertion<K, V, K>>⟧.offers K.eq S.hash_of old new →
@@ -101,7 +101,7 @@ pub fn calls_keep_the_weight<
         old.limiter.cost ≤ old.limiter.limit → new.limiter.cost ≤ old.limiter.limit }
 {}
 
-/// No call adds more than one pair.
+/// No call adds more than one entry.
 pub fn calls_add_one_pair<
     K: Eq + Hash,
     V,
@@ -114,11 +114,11 @@ pub fn calls_add_one_pair<
         length new.pairs ≤ length old.pairs + 1 }
 {}
 
-/// A call evicts from the old end alone: of the pairs whose keys it does not name, those that it leaves are the newest,
-/// in their order. Only `pop_newest` takes from the other end, and is left out.
+/// A call evicts from the old end alone: of the entries whose keys it does not name, those that are left are the
+/// newest, in their order. Only `pop_newest` takes from the other end, and is left out.
 ///
-/// A call names the key that it inserts, looks up or removes, or whose value it writes, and a retain names the keys that
-/// its closure rejects. An insert may remove the pair of its key, too, if the replacement is rejected.
+/// A call names the key that it inserts, looks up or removes, or whose value it writes, and a retain names the keys
+/// that its closure rejects. An insert may remove the entry of its key, too, if the replacement is rejected.
 pub fn calls_give_up_the_oldest<
     K: Eq + Hash,
     V,

@@ -1,12 +1,12 @@
-//! What is proved of the pairs that inserts keep: an insert loses none, it evicts none if growth is left, and with
-//! `ByLength` it leaves the newest ones.
+//! What an insert keeps: it loses no entry; it evicts none if growth is left and the limiter is not over its limit with
+//! the new entry; and with `ByLength` it leaves the newest entries.
 
-ghost use Rattle.std.specs.Prelude.{◌≡◌, ◌⊎◌, ℕ, ◌<◌, ◌≤◌, [], ◌∷◌, ◌++◌, length, reverse, Bool, true, false, Result, Ok};
-ghost use Rattle.std.specs.Prelude.{List, None};
+ghost use Rattle.std.specs.Prelude.{◌≡◌, ◌⊎◌, ℕ, ◌-◌, ◌^◌, ◌<◌, ◌≤◌, [], ◌∷◌, ◌++◌, length, reverse, Bool};
+ghost use Rattle.std.specs.Prelude.{true, false, Result, Ok, List, None};
 ghost use Rattle.std.specs.List.{Contains};
 ghost use Rattle.std.specs.declared.alloc.AllocError.{AllocError};
 ghost use Rattle.schnellru.specs.Lists.{lookup_entry, without};
-ghost use Rattle.schnellru.specs.Sizes.{links_of_32_bits};
+ghost use Rattle.schnellru.specs.Sizes.{max_of_32_bits};
 ghost use Rattle.schnellru.specs.State.{State, contents, room, IsSized, empty_map};
 ghost use Rattle.schnellru.specs.Inserts.{Insert};
 ghost use Rattle.schnellru.specs.HandedOver.{InsertHands};
@@ -15,15 +15,15 @@ ghost use Rattle.schnellru.specs.Runs.{Step};
 ghost use Rattle.schnellru.specs.Theorems.{Stores};
 ghost use Rattle.schnellru.specs.Exact.{InsertsInList};
 ghost use Rattle.schnellru.specs.Kept.{ChangesNoPair, LosesNothing, AcceptsNew, IsAdded, LeavesTheNewest};
-ghost use Rattle.schnellru.specs.Kept.{KeepsToLength, newest_after};
+ghost use Rattle.schnellru.specs.Kept.{KeepsToLength, most_exact_length, newest_after};
 ghost use Rattle.schnellru.specs.Extends.{InsertsAll};
 
 use lru_limits::{ByLength, Insertion, KeyHasher, Limiter, LookupKey};
 use std::hash::Hash;
 
-/// An insert loses nothing, if the limiter changes no pair that leaves. Take the pairs that are left, followed by those
-/// that were passed to the callback, oldest last: these are the new pair and the old ones, in order (`all`, with a case
-/// for each result). If the result is true, the stored pair comes first (`stored`). Whatever it is, each old pair of
+/// An insert loses nothing, if the limiter changes no entry that is evicted or removed. The entries that are left,
+/// followed by those that the callback got, are the new entry and the old ones, newest first (`all`, with a case for
+/// each result). If the result is true, the stored entry comes first (`stored`). Whatever it is, each old entry of
 /// another key is left or was passed to the callback (`others`).
 pub fn nothing_is_lost<K: Eq + Hash, V, I: LookupKey<K>, L: Insertion<K, V, I>, S: KeyHasher<K>>()
     ensures all { (key : I) (value : V) (old : State K V L S) (result : Result Bool AllocError)
@@ -44,9 +44,9 @@ pub fn nothing_is_lost<K: Eq + Hash, V, I: LookupKey<K>, L: Insertion<K, V, I>, 
         Contains old.pairs pair → Contains new.pairs pair ⊎ Contains handed pair }
 {}
 
-/// An insert into a table with growth left is exact. It is one into a list that has no table, whatever the limiter says
-/// of growth (`list`). If the limiter accepts the pair of a new key, the insert returns true and adds the pair to all
-/// the others (`added`). So it evicts nothing, and passes nothing to its callback (`handed`).
+/// If growth is left, an insert does what it would do to a plain list without a table (`list`), whatever `on_grow`
+/// returns. If the limiter accepts the entry of a new key, and is not over its limit with it, the insert returns true
+/// and adds the entry to all the others (`added`). So it evicts nothing, and passes nothing to its callback (`handed`).
 pub fn inserts_with_room_are_exact<
     K: Eq + Hash,
     V,
@@ -72,9 +72,9 @@ pub fn inserts_with_room_are_exact<
         InsertHands L.rules L.offers I.names S.hash_of key value old result handed new → handed ≡ [] }
 {}
 
-/// With `ByLength` an insert leaves its pair first, under the key that is stored, and then the newest others, up to
-/// `max_length` pairs. The premise is that the map keeps to its length (`maps_keep_to_their_length`), or that growth is
-/// left in its table. So do the inserts of a list, such as those of `try_extend` (`lists`).
+/// With `ByLength` an insert leaves its entry first, under the key that is stored, and then the newest others, up to
+/// `max_length` entries. The premise is that the map keeps to its length (`maps_keep_to_their_length`), or that growth
+/// is left in its table. So do the inserts of a list, such as those of `try_extend` (`lists`).
 pub fn inserts_leave_the_newest<K: Eq + Hash + Drop, V: Drop, S: KeyHasher<K>>()
     ensures newest { (key : K) (value : V) (old : State K V ByLength S) (result : Result Bool AllocError)
         (new : State K V ByLength S) →
@@ -100,8 +100,8 @@ pub fn inserts_leave_the_newest<K: Eq + Hash + Drop, V: Drop, S: KeyHasher<K>>()
 /// written (`written`).
 pub fn maps_keep_to_their_length<K: Eq + Hash + Drop, V: Drop, S: KeyHasher<K>>()
     ensures begins { (most entry_bytes : ℕ) (hasher : S) →
-        most ≤ 939524096 → entry_bytes < links_of_32_bits →
-        KeepsToLength (empty_map {K = K} {V = V} {S = ByLength} most hasher entry_bytes links_of_32_bits) }
+        most ≤ most_exact_length → entry_bytes < 2 ^ 32 - 1 →
+        KeepsToLength (empty_map {K = K} {V = V} {S = ByLength} most hasher entry_bytes max_of_32_bits) }
     ensures goes_on { (old new : State K V ByLength S) →
         KeepsToLength old → IsSized new →
         Step ⟦<ByLength as Limiter<K, V>>⟧.rules ⟦<ByLength as Insertion<K, V, K>>⟧.offers K.eq S.hash_of old new →

@@ -13,9 +13,9 @@ use lru_limits::{
 };
 use std::hash::Hash;
 
-/// What holds of every map holds after any calls, whatever is written through the references that they lend: no two
-/// keys are equal, each pair has a bucket, and inserts moved at most twice as many entries as they stored, plus those
-/// that shrinks rehashed.
+/// After any calls, whatever is written through the references that they lend, no two keys are equal, and inserts moved
+/// at most twice as many entries as they stored, plus those that shrinks rehashed. The table is sound after each call,
+/// as clause `map` of each call says (`Run`).
 pub fn runs_keep_maps<K: Eq + Hash, V, I: LookupKey<K>, L: Insertion<K, V, I>, S: KeyHasher<K>>()
     ensures map { (old new : State K V L S) →
         Run (AnyStep L.rules L.offers I.names S.hash_of) new old →
@@ -31,7 +31,8 @@ pub fn runs_keep_sums<K: Eq + Hash, V, I: LookupKey<K>, L: Summing<K, V, I>, S: 
 {}
 
 /// Over any calls the count of moved entries and the potential together rise by at most two for each entry that inserts
-/// store, while the count of stored entries goes on, and by one for each entry that shrinks rehash.
+/// store, and by one for each entry that shrinks rehash, while neither the count of stored entries nor the count of
+/// rehashed entries has reached `u64::MAX`.
 pub fn runs_pay_for_moves<
     K: Eq + Hash,
     V,
@@ -44,7 +45,7 @@ pub fn runs_pay_for_moves<
         IsSized old → (anew : ℕ) × PaysForMoves anew old new }
 {}
 
-/// Any calls evict from the old end alone: of the pairs whose keys none of them names, those that are left are the
+/// Any calls evict from the old end alone: of the entries whose keys none of them names, those that are left are the
 /// newest, in their order, unless one of the calls is `pop_newest`.
 pub fn runs_give_up_the_oldest<
     K: Eq + Hash,
@@ -58,7 +59,7 @@ pub fn runs_give_up_the_oldest<
         IsFront (others test new.pairs) (others test old.pairs) }
 {}
 
-/// With `ByLength` there are at most `max_length` pairs after any calls and writes of values, if there were no more
+/// With `ByLength` there are at most `max_length` entries after any calls and writes of values, if there were no more
 /// before. The limiter stays as it is.
 pub fn runs_keep_the_length<K: Eq + Hash + Drop, V: Drop, S: KeyHasher<K>>()
     ensures length { (old new : State K V ByLength S) →
@@ -70,8 +71,8 @@ pub fn runs_keep_the_length<K: Eq + Hash + Drop, V: Drop, S: KeyHasher<K>>()
         S.hash_of) new old → new.limiter ≡ old.limiter }
 {}
 
-/// With `ByMemoryUsage` the table uses at most `max_memory_usage` bytes after any calls and writes of values, if it used
-/// no more before. The limiter stays as it is.
+/// With `ByMemoryUsage` the table uses at most `max_memory_usage` bytes after any calls and writes of values, if it
+/// used no more before. The limiter stays as it is.
 pub fn runs_keep_the_memory_usage<K: Eq + Hash + Drop, V: Drop, S: KeyHasher<K>>()
     ensures usage { (old new : State K V ByMemoryUsage S) →
         Run (StepOrWrite ⟦<ByMemoryUsage as Limiter<K, V>>⟧.rules ⟦<ByMemoryUsage as Insertion<K, V, K>>⟧.offers K.eq
@@ -83,7 +84,7 @@ pub fn runs_keep_the_memory_usage<K: Eq + Hash + Drop, V: Drop, S: KeyHasher<K>>
 {}
 
 /// With `ByCost` the cost is at most the limit after any calls, if that held before and the cost was the sum of the
-/// costs of the pairs. The limit stays as it is.
+/// costs of the entries. The limit stays as it is.
 pub fn runs_keep_the_cost<K: Eq + Hash + Drop, V: Costed + Drop, S: KeyHasher<K>>()
     ensures cost { (old new : State K V ByCost S) →
         Run (Step ⟦<ByCost as Limiter<K, V>>⟧.rules ⟦<ByCost as Insertion<K, V, K>>⟧.offers K.eq
@@ -113,7 +114,7 @@ pub fn runs_keep_the_weight<
         S.hash_of) new old → new.limiter.limit ≡ old.limiter.limit }
 {}
 
-/// A map without pairs and buckets, with which every run begins, is a map.
+/// A map without entries and buckets, with which every run begins, is a map.
 pub fn runs_begin_with_maps<K: Eq + Hash, V, L: Limiter<K, V>, S: KeyHasher<K>>()
     ensures empty { (limiter : L) (hasher : S) (entry_bytes : ℕ) →
         IsMap K.eq (empty_map {K = K} {V = V} limiter hasher entry_bytes (L.LinkType.number L.LinkType.MAX)) }

@@ -9,14 +9,14 @@ ghost use Rattle.schnellru.specs.Theorems.{PaysForMoves, UsesAtMost};
 use lru_limits::{KeyHasher, Limiter};
 use std::hash::Hash;
 
-/// A shrink keeps the pairs, the limiter and the counts of inserts.
+/// A shrink keeps the entries, the limiter and the counts of inserts.
 pub fn shrinks_keep_the_list<K: Eq + Hash, V, L: Limiter<K, V>, S: KeyHasher<K>>()
     ensures { (old : State K V L S) (result : Result Bool AllocError) (new : State K V L S) →
         Shrink old result new → (new.pairs ≡ old.pairs) × (new.limiter ≡ old.limiter)
         × (new.moved ≡ old.moved) × (new.placed ≡ old.placed) }
 {}
 
-/// A shrink rehashes each pair, counts it, and lets the potential rise by at most one for each. If it does not shrink
+/// A shrink rehashes each entry, counts it, and lets the potential rise by at most one for each. If it does not shrink
 /// the table, nothing changes.
 pub fn shrinks_pay_for_moves<K: Eq + Hash, V, L: Limiter<K, V>, S: KeyHasher<K>>()
     ensures shrunk { (old new : State K V L S) →

@@ -13,14 +13,15 @@ use std::hash::Hash;
 impl<K: Eq + Hash, V, L: Limiter<K, V>, S: KeyHasher<K>> LruMap<K, V, L, S> {
     ghost use Rattle.schnellru.specs.Lending.Values.{lends_given};
 
-    /// Lends the value of an entry of this hash that `is_eq` accepts, for writing, and makes the entry the newest. The
-    /// limiter is not notified of what is written.
+    /// Lends the value of an entry that `is_eq` accepts, for writing, and makes the entry the newest. The limiter is
+    /// not notified of what is written.
     ///
-    /// `is_eq` is called with different entries, each once, whose hashes agree with `hash` in their top 7 bits, until
-    /// it accepts one. `None` says that it rejected each entry of the hash, and that nothing has changed. A key's hash
-    /// is what the map's own hasher makes of the bytes that the key writes.
+    /// `is_eq` is called only with entries whose hashes agree with `hash` in the top 7 bits. Each of these is passed at
+    /// most once, until `is_eq` accepts one. It may accept an entry of another hash: let it compare keys. `None` says
+    /// that it rejected each entry of this hash, and that nothing has changed. A key's hash is what the map's own
+    /// hasher makes of the bytes that the key writes.
     ///
-    /// Cost: `O(1)` expected, with one call of `is_eq` for each entry that it is asked about.
+    /// Cost: `O(1)` expected, with one call of `is_eq` for each entry that it gets.
     ///
     /// ```
     /// let hash = RandomState::default().hash_one(&1u64);
@@ -43,12 +44,14 @@ impl<K: Eq + Hash, V, L: Limiter<K, V>, S: KeyHasher<K>> LruMap<K, V, L, S> {
         Some(&mut self.entries.pair_mut(b).value)
     }
 
-    /// Returns the value of an entry of this hash that `is_eq` accepts. The order stays. `is_eq` is called as
-    /// `get_by_hash` calls it.
+    /// Returns the value of an entry that `is_eq` accepts. The order stays. `is_eq` is called as `get_by_hash` calls
+    /// it.
     ///
     /// ```
     /// assert_eq!(rt; map.peek_by_hash(hash, |_, value| *value == 10).copied(), Some(10));
     /// ```
+    ///
+    /// Cost: as `get_by_hash`.
     ///
     /// After schnellru's `LruMap::peek_by_hash`.
     pub fn peek_by_hash<F: FnMut(&K, &V) -> bool>(&self, hash: u64, is_eq: F) -> Option<&V>
@@ -62,8 +65,8 @@ impl<K: Eq + Hash, V, L: Limiter<K, V>, S: KeyHasher<K>> LruMap<K, V, L, S> {
         Some(&self.entries.pair(b).value)
     }
 
-    /// Lends the value of an entry of this hash that `is_eq` accepts, for writing. The order stays. The limiter is not
-    /// notified of what is written. `is_eq` is called as `get_by_hash` calls it.
+    /// Lends the value of an entry that `is_eq` accepts, for writing. The order stays. The limiter is not notified of
+    /// what is written. `is_eq` is called as `get_by_hash` calls it.
     ///
     /// ```
     /// if let Some(value) = map.peek_by_hash_mut(hash, |key, _| *key == 1) {
@@ -71,6 +74,8 @@ impl<K: Eq + Hash, V, L: Limiter<K, V>, S: KeyHasher<K>> LruMap<K, V, L, S> {
     /// }
     /// assert_eq!(rt; map.peek(&1), Some(&100));
     /// ```
+    ///
+    /// Cost: as `get_by_hash`.
     ///
     /// After schnellru's `LruMap::peek_by_hash_mut`.
     pub fn peek_by_hash_mut<F: FnMut(&K, &V) -> bool>(

@@ -11,7 +11,7 @@ use std::hash::Hash;
 /// assert!(rt; map == other);
 /// ```
 ///
-/// Cost: `O(n)` for n entries.
+/// Cost: `O(1)` if the lengths differ, else `O(n)` for n entries.
 ///
 /// After std's `Vec`; schnellru has no such impl.
 impl<K: Eq + Hash, V: PartialEq, L: Limiter<K, V>, S: KeyHasher<K>> PartialEq
@@ -26,6 +26,9 @@ impl<K: Eq + Hash, V: PartialEq, L: Limiter<K, V>, S: KeyHasher<K>> PartialEq
         (and_per (on_per (λ p. p.0) K.PartialEq.laws) (on_per (λ p. p.1) V.laws))) };
 
     fn eq(&self, other: &Self) -> bool {
+        if self.len() != other.len() {
+            return false;
+        }
         let mut theirs = other.iter();
         let mut ours = self.iter();
         'entries: while let Some((key, value)) = ours.next() {
@@ -38,6 +41,14 @@ impl<K: Eq + Hash, V: PartialEq, L: Limiter<K, V>, S: KeyHasher<K>> PartialEq
                 None => return false,
             }
         }
-        theirs.next().is_none()
+        true
     }
+}
+
+impl<K: Eq + Hash, V: Eq, L: Limiter<K, V>, S: KeyHasher<K>> Eq for LruMap<K, V, L, S> {
+    ghost use Rattle.std.specs.Cmp.{on_equiv, and_equiv};
+    ghost use Rattle.std.specs.Cmp.Lexicographic.{lists_equiv};
+
+    ghost laws = { on_equiv (λ m. m.pairs)
+        (lists_equiv (and_equiv (on_equiv (λ p. p.0) K.Eq.laws) (on_equiv (λ p. p.1) V.Eq.laws))) };
 }

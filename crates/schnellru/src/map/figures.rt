@@ -42,8 +42,8 @@ impl<K: Eq + Hash, V, L: Limiter<K, V>, S: KeyHasher<K>> LruMap<K, V, L, S> {
 
     /// Returns how many entries the table holds for sure without growing: its entries and its growth left.
     ///
-    /// It does not depend on the limiter. It may fall when an entry leaves a table of more than 16 buckets. Cost:
-    /// `O(1)`.
+    /// It does not depend on the limiter. It may fall when an entry is removed from a table of more than 16 buckets.
+    /// Cost: `O(1)`.
     ///
     /// ```
     /// assert_eq!(rt; map.try_reserve(7), Ok(()));
@@ -113,7 +113,11 @@ impl<K: Eq + Hash, V, L: Limiter<K, V>, S: KeyHasher<K>> LruMap<K, V, L, S> {
         &self.hasher
     }
 
-    /// Lends the limiter for writing. A lower limit takes effect at the next insert: nothing is evicted before.
+    /// Lends the limiter for writing. A lower limit takes effect at the next `trim`, and at the next insert or update
+    /// that stores an entry or replaces a value. A call whose entry or value the limiter rejects evicts nothing.
+    ///
+    /// Do not write a limiter with another running total: `*map.limiter_mut() = ByCost::new(n)` would count the entries
+    /// that are there as 0. Call `set_limiter` with `map.limiter().with_limit(n)`.
     ///
     /// ```
     /// *map.limiter_mut() = ByLength::new(1);

@@ -1,7 +1,7 @@
-// What every look-up begins with: the search for a key. And what is done then: its pair is promoted, or taken out.
+//! What every look-up begins with: the search for a key. And what is done then: its pair is promoted, or taken out.
 ghost use Rattle.std.specs.Prelude.{◌≡◌, ℕ, ◌<◌, Bool, List, Some, None, IfSome, IfNone, IsTrue, Contains, length};
 ghost use Rattle.schnellru.specs.Lists.{lookup_entry, place_of, last, without_last, after};
-ghost use Rattle.schnellru.specs.State.{IsMap};
+ghost use Rattle.schnellru.specs.State.{Frees, IsMap};
 ghost use Rattle.schnellru.specs.Calls.{promoted, demoted, RemoveEntry};
 
 use crate::map::LruMap;
@@ -13,7 +13,7 @@ use std::hash::Hash;
 impl<K: Eq + Hash, V, L: Limiter<K, V>, S: KeyHasher<K>> LruMap<K, V, L, S> {
     // Returns the bucket of the pair of a key, if the key is there.
     #[inline]
-    pub(super) fn find<Q: LookupKey<K>>(&self, key: &Q) -> Option<usize>
+    pub(crate) fn find<Q: LookupKey<K>>(&self, key: &Q) -> Option<usize>
         ensures found { IfSome result (λ b. place_of (Q.names key.now) self.now.pairs self.now.places ≡ Some b) }
         ensures there { IfSome result (Contains self.now.places) }
         ensures none { IfNone result (lookup_entry (Q.names key.now) self.now.pairs ≡ None) }
@@ -82,9 +82,11 @@ impl<K: Eq + Hash, V, L: Limiter<K, V>, S: KeyHasher<K>> LruMap<K, V, L, S> {
     #[inline]
     pub(super) fn take_at(&mut self, b: usize) -> (K, V)
         requires { Contains self.old.places b }
-        ensures { (names : K → Bool) → ((x y : K) → IsTrue (names x) → names y ≡ K.eq x y) →
+        ensures step { (names : K → Bool) → ((x y : K) → IsTrue (names x) → names y ≡ K.eq x y) →
             place_of names self.old.pairs self.old.places ≡ Some b →
             RemoveEntry L.rules names self.old (Some result) self.new }
+        ensures freed { Frees (Some b) self.old self.new }
+        ensures map { IsMap K.eq self.new }
     {
         take_out(&mut self.entries, &mut self.limiter, b, false)
     }

@@ -5,7 +5,7 @@ ghost use Rattle.schnellru.specs.State.{IsMap};
 ghost use Rattle.schnellru.specs.GetOrInserts.{MakesNewest, GetsOrInserts, SaysNewest, LacksMemoryFor};
 ghost use Rattle.schnellru.specs.IfMade.{MakesNewestIfMade, GetsOrInsertsIfMade};
 ghost use Rattle.std.specs.Borrow.{sem};
-ghost use Rattle.schnellru.specs.Lending.Answers.{kept_of};
+ghost use Rattle.schnellru.specs.Lending.Answers.{lent_or_none};
 
 use crate::map::LruMap;
 use lru_limits::{Insertion, KeyHasher, Limiter, LookupKey};
@@ -36,10 +36,12 @@ pub enum GetOrInsertError<E> {
     Caller(E),
 }
 
+// This and the next are not one function of the type of the error, because the proofs of their callers pass on the
+// lifetime of each type parameter.
 fn kept_or_error<V, E>(
     lent: Result<&mut V, NotLent<GetOrInsertError<E>>>,
 ) -> Result<Option<&mut V>, GetOrInsertError<E>>
-    ensures { result ≡ kept_of lent.entry }
+    ensures { result ≡ lent_or_none lent.entry }
 {
     match lent {
         Ok(value) => Ok(Some(value)),
@@ -49,7 +51,7 @@ fn kept_or_error<V, E>(
 }
 
 fn kept_or<V>(lent: Result<&mut V, NotLent<AllocError>>) -> Result<Option<&mut V>, AllocError>
-    ensures { result ≡ kept_of lent.entry }
+    ensures { result ≡ lent_or_none lent.entry }
 {
     match lent {
         Ok(value) => Ok(Some(value)),
@@ -176,7 +178,8 @@ impl<K: Eq + Hash + Drop, V: Drop, L: Limiter<K, V>, S: KeyHasher<K>> LruMap<K, 
         kept_or(lent)
     }
 
-    /// The same as `ensure_newest` with a closure that may fail. If it fails, nothing has changed.
+    /// The same as `ensure_newest` with a closure that may fail. If it fails, nothing has changed. Cost: as
+    /// `ensure_newest`.
     ///
     /// ```
     /// assert!(rt; map.ensure_newest_fallible(4, || Err(7u8)).is_err());
@@ -187,7 +190,8 @@ impl<K: Eq + Hash + Drop, V: Drop, L: Limiter<K, V>, S: KeyHasher<K>> LruMap<K, 
     ///
     /// # Errors
     ///
-    /// `Caller` contains the error of the closure. `Memory` comes when `insert` would fail.
+    /// `Caller` contains the error of the closure; nothing has changed then. `Memory`: the closure was called, and the
+    /// insert failed as `insert` does. The oldest entries may have been evicted.
     pub fn ensure_newest_fallible<I: LookupKey<K> + Drop, E, F: FnOnce() -> Result<V, E>>(
         &mut self,
         key: I,
@@ -259,7 +263,8 @@ impl<K: Eq + Hash + Drop, V: Drop, L: Limiter<K, V>, S: KeyHasher<K>> LruMap<K, 
         }
     }
 
-    /// The same as `get_or_insert` with a closure that may fail. If it fails, nothing has changed.
+    /// The same as `get_or_insert` with a closure that may fail. If it fails, nothing has changed. Cost: as
+    /// `get_or_insert`.
     ///
     /// ```
     /// assert!(rt; map.get_or_insert_fallible(5, || Err(7u8)).is_err());
@@ -269,7 +274,8 @@ impl<K: Eq + Hash + Drop, V: Drop, L: Limiter<K, V>, S: KeyHasher<K>> LruMap<K, 
     ///
     /// # Errors
     ///
-    /// `Caller` contains the error of the closure. `Memory` comes when `insert` would fail.
+    /// `Caller` contains the error of the closure; nothing has changed then. `Memory`: the closure was called, and the
+    /// insert failed as `insert` does. The oldest entries may have been evicted.
     ///
     /// After schnellru's `LruMap::get_or_insert_fallible`.
     pub fn get_or_insert_fallible<I: LookupKey<K> + Drop, E, F: FnOnce() -> Result<V, E>>(

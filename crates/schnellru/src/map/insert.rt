@@ -1,5 +1,5 @@
 //! `insert` and its forms.
-ghost use Rattle.std.specs.Prelude.{◌≡◌, ◌+◌, true, false, not, None, Some, IfSome, IfOk, Ok, OnErr, List};
+ghost use Rattle.std.specs.Prelude.{◌≡◌, ◌+◌, true, false, not, ◌∷◌, None, Some, IfSome, IfOk, Ok, OnErr, List};
 ghost use Rattle.std.specs.Prelude.{IsTrue};
 ghost use Rattle.schnellru.specs.Lists.{first, lookup_entry, is_empty, IsFront};
 ghost use Rattle.schnellru.specs.State.{contents, room, IsMap};
@@ -7,6 +7,7 @@ ghost use Rattle.schnellru.specs.Inserts.{Insert, PlacesNew, PlacesAndTrims, Lac
 ghost use Rattle.schnellru.specs.Inserts.{unkept_value};
 ghost use Rattle.schnellru.specs.Place.{HasNoBucket};
 ghost use Rattle.schnellru.specs.Theorems.{SaysWhether, Stores};
+ghost use Rattle.schnellru.specs.MayTake.{MayTakeEach, MayTakeNew, MayTakeInserted};
 ghost use Rattle.schnellru.specs.HandedOver.{noting, noting_offers, noted, Takes, InsertHands};
 ghost use Rattle.schnellru.specs.Inside.Handing.{Hands};
 
@@ -17,6 +18,16 @@ use std::hash::Hash;
 
 /// What an insert did, with the value that the map does not keep.
 ///
+/// - The key was not there: `unkept` is `None`. `kept` is false if the limiter rejected the entry, if the map could not
+///   store it, or if it was stored and then evicted.
+/// - The key was there, and the limiter accepted the new value: `unkept` is the old value. `kept` is false if the entry
+///   was evicted then, because the limiter was still over its limit.
+/// - The key was there, and the limiter rejected the new value: `unkept` is the new value, and `kept` is false. The
+///   entry was removed.
+///
+/// So a `kept` of false with a value has two causes. In both the callback got the entry of the key: with the new value
+/// if it was evicted, and with the old value if the new one was rejected.
+///
 /// ```
 /// let inserted = map.insert_full(1, 11, &mut |_, _| {})?;
 /// assert_eq!(rt; (inserted.kept, inserted.unkept), (true, Some(10)));
@@ -25,7 +36,8 @@ use std::hash::Hash;
 pub struct Inserted<V> {
     /// Whether the key is in the map.
     pub kept: bool,
-    /// If the key was there, its old value, or the new one, if the limiter rejected it.
+    /// The old value of a key that was there, or the new value, if the limiter rejected it. `None` if the key was not
+    /// there.
     pub unkept: Option<V>,
 }
 
@@ -36,7 +48,8 @@ impl<K: Eq + Hash + Drop, V: Drop, L: Limiter<K, V>, S: KeyHasher<K>> LruMap<K, 
     /// if it rejects the value, the entry is removed and the result is false. A new key goes to the limiter, which
     /// returns the entry to store, or none. If one more entry would be over the limit, the oldest is evicted first. The
     /// table grows if it has to and the limiter permits it; if it may not, the oldest entries are evicted until a
-    /// bucket is free. If the key is there then, the oldest entries are evicted while the limiter is over its limit.
+    /// bucket is free, or until fewer than half of what the table may hold are left and it is rehashed. If the key is
+    /// there then, the oldest entries are evicted while the limiter is over its limit.
     ///
     /// ```
     /// assert!(rt; map.insert(1, 10)?);
@@ -76,11 +89,12 @@ impl<K: Eq + Hash + Drop, V: Drop, L: Limiter<K, V>, S: KeyHasher<K>> LruMap<K, 
 }
 
 impl<K: Eq + Hash, V: Drop, L: Limiter<K, V>, S: KeyHasher<K>> LruMap<K, V, L, S> {
-    /// The same as `insert`, and passes each entry that leaves to the callback, as the limiter leaves it.
+    /// The same as `insert`, and passes each entry that is evicted, rejected or not stored to the callback, with what
+    /// `on_removed` wrote to it.
     ///
     /// These are the evicted entries, oldest first, the entry whose new value is rejected, and the new entry if it
     /// could not be stored, even if the result is an `Err`. Each is passed on once, before the limiter is called again.
-    /// A value that is replaced is not passed on, nor is an element for which the limiter returns no entry.
+    /// A value that is replaced is not passed on, nor is a new key for which `on_insert` returns no entry.
     ///
     /// ```
     /// let mut left = None;
@@ -102,11 +116,11 @@ impl<K: Eq + Hash, V: Drop, L: Limiter<K, V>, S: KeyHasher<K>> LruMap<K, V, L, S
     ) -> Result<bool, AllocError>
     where
         L: Insertion<K, V, I>,
-        requires callable { F.IsAlwaysCallable sink.old }
+        requires callable { MayTakeInserted L.rules F.FnMut L.offers I.names key value (contents self.old) sink.old }
         ensures step { Insert L.rules L.offers I.names S.hash_of key value self.old result self.new }
         ensures handed { (handed : List (K × V)) × Takes F.FnMut sink.old handed sink.new
             × InsertHands L.rules L.offers I.names S.hash_of key value self.old result handed self.new }
-        ensures callable { F.IsAlwaysCallable sink.new }
+        ensures callable { F.IsAlwaysCallable sink.old → F.IsAlwaysCallable sink.new }
         ensures says { SaysWhether L.rules (I.names key) result self.new }
         ensures stores { result ≡ Ok true
             → IfSome (first self.new.pairs) (Stores L.rules L.offers I.names key value self.old) }
@@ -123,11 +137,11 @@ impl<K: Eq + Hash, V: Drop, L: Limiter<K, V>, S: KeyHasher<K>> LruMap<K, V, L, S
 }
 
 impl<K: Eq + Hash, V, L: Limiter<K, V>, S: KeyHasher<K>> LruMap<K, V, L, S> {
-    /// The same as `insert_with`, and returns the value that the map does not keep, if the key is there: the old one, or
-    /// the new one if the limiter rejects it. It is as the limiter leaves it.
+    /// The same as `insert_with`, and returns the value that the map does not keep, if the key is there: the old one,
+    /// or the new one if the limiter rejects it, with what `on_replace` wrote to it.
     ///
-    /// The map drops no value: an entry that leaves or cannot be stored is passed to the callback. Only a new element that
-    /// `on_insert` rejects is dropped, by the limiter.
+    /// The map drops no value: an entry that is evicted, rejected or not stored is passed to the callback. Only a new
+    /// key and its value that `on_insert` rejects are dropped, by the limiter.
     ///
     /// ```
     /// let inserted = map.insert_full(1, 11, &mut |_, _| {})?;
@@ -150,13 +164,13 @@ impl<K: Eq + Hash, V, L: Limiter<K, V>, S: KeyHasher<K>> LruMap<K, V, L, S> {
     ) -> Result<Inserted<V>, AllocError>
     where
         L: Insertion<K, V, I>,
-        requires callable { F.IsAlwaysCallable sink.old }
+        requires callable { MayTakeInserted L.rules F.FnMut L.offers I.names key value (contents self.old) sink.old }
         ensures step { Insert L.rules L.offers I.names S.hash_of key value self.old (kept_of result) self.new }
         ensures unkept { IfOk result (λ inserted. inserted.unkept
             ≡ unkept_value L.rules L.offers I.names key value (contents self.old)) }
         ensures handed { (handed : List (K × V)) × Takes F.FnMut sink.old handed sink.new
             × InsertHands L.rules L.offers I.names S.hash_of key value self.old (kept_of result) handed self.new }
-        ensures callable { F.IsAlwaysCallable sink.new }
+        ensures callable { F.IsAlwaysCallable sink.old → F.IsAlwaysCallable sink.new }
         ensures says { SaysWhether L.rules (I.names key) (kept_of result) self.new }
         ensures stores { kept_of result ≡ Ok true
             → IfSome (first self.new.pairs) (Stores L.rules L.offers I.names key value self.old) }
@@ -196,14 +210,14 @@ impl<K: Eq + Hash, V, L: Limiter<K, V>, S: KeyHasher<K>> LruMap<K, V, L, S> {
     ) -> Result<Inserted<V>, AllocError>
     where
         L: Insertion<K, V, I>,
-        requires callable { F.IsAlwaysCallable sink.old }
+        requires callable { MayTakeInserted L.rules F.FnMut L.offers I.names key value (contents self.old) sink.old }
         requires hash { (k : K) → IsTrue (I.names key k) → hash ≡ S.hash_of self.old.hasher k }
         ensures step { Insert L.rules L.offers I.names S.hash_of key value self.old (kept_of result) self.new }
         ensures unkept { IfOk result (λ inserted. inserted.unkept
             ≡ unkept_value L.rules L.offers I.names key value (contents self.old)) }
         ensures handed { (handed : List (K × V)) × Takes F.FnMut sink.old handed sink.new
             × InsertHands L.rules L.offers I.names S.hash_of key value self.old (kept_of result) handed self.new }
-        ensures callable { F.IsAlwaysCallable sink.new }
+        ensures callable { F.IsAlwaysCallable sink.old → F.IsAlwaysCallable sink.new }
         ensures says { SaysWhether L.rules (I.names key) (kept_of result) self.new }
         ensures stores { kept_of result ≡ Ok true
             → IfSome (first self.new.pairs) (Stores L.rules L.offers I.names key value self.old) }
@@ -230,14 +244,13 @@ impl<K: Eq + Hash, V, L: Limiter<K, V>, S: KeyHasher<K>> LruMap<K, V, L, S> {
     ) -> Result<Inserted<V>, AllocError>
     where
         L: Insertion<K, V, I>,
-        requires callable { F.IsAlwaysCallable sink.old }
+        requires callable { MayTakeInserted L.rules F.FnMut L.offers I.names key value (contents self.old) sink.old }
         requires hash { (k : K) → IsTrue (I.names key k) → hash ≡ S.hash_of self.old.hasher k }
         ensures handed { Hands F.FnMut sink.old sink.new (λ before after. Insert (noting L.rules)
             (noting_offers L.offers) I.names S.hash_of key value
             (noted before self.old) (kept_of result) (noted after self.new)) }
         ensures unkept { IfOk result (λ inserted. inserted.unkept
             ≡ unkept_value L.rules L.offers I.names key value (contents self.old)) }
-        ensures callable { F.IsAlwaysCallable sink.new }
     {
         match self.find_hashed(hash, &key) {
             Some(b) => {
@@ -273,13 +286,12 @@ impl<K: Eq + Hash, V, L: Limiter<K, V>, S: KeyHasher<K>> LruMap<K, V, L, S> {
     ) -> Result<bool, AllocError>
     where
         L: Insertion<K, V, I>,
-        requires callable { F.IsAlwaysCallable sink.old }
+        requires callable { MayTakeNew L.rules F.FnMut L.offers I.names key value (contents self.old) sink.old }
         requires hash { (k : K) → IsTrue (I.names key k) → hash ≡ S.hash_of self.old.hasher k }
         requires absent { lookup_entry (I.names key) self.old.pairs ≡ None }
         ensures handed { Hands F.FnMut sink.old sink.new (λ before after. Insert (noting L.rules)
             (noting_offers L.offers) I.names S.hash_of key value
             (noted before self.old) result (noted after self.new)) }
-        ensures callable { F.IsAlwaysCallable sink.new }
     {
         // One match, and no `?`, which would copy the pair once more.
         match self
@@ -299,12 +311,11 @@ impl<K: Eq + Hash, V, L: Limiter<K, V>, S: KeyHasher<K>> LruMap<K, V, L, S> {
         pair: (K, V),
         sink: &mut F,
     ) -> Result<bool, AllocError>
-        requires callable { F.IsAlwaysCallable sink.old }
+        requires callable { MayTakeEach L.rules F.FnMut (pair ∷ self.old.pairs) sink.old }
         requires hash { hash ≡ S.hash_of self.old.hasher pair.0 }
         requires absent { lookup_entry (K.eq pair.0) self.old.pairs ≡ None }
         ensures handed { Hands F.FnMut sink.old sink.new (λ before after. PlacesNew (noting L.rules)
             S.hash_of pair (noted before self.old) result (noted after self.new)) }
-        ensures callable { F.IsAlwaysCallable sink.new }
     {
         self.make_room(sink);
         // The call below takes the two apart: a pair would lie in memory that each insert clears first.
@@ -316,8 +327,8 @@ impl<K: Eq + Hash, V, L: Limiter<K, V>, S: KeyHasher<K>> LruMap<K, V, L, S> {
         Ok(self.evict_over_limit(sink))
     }
 
-    // The same if there is no growth left, so that the first free bucket may take the pair or not. Out of line, so that
-    // other inserts need not test whether it does.
+    // Stores the pair if there is no growth left. Then only a deleted bucket can take it, and this has to be tested.
+    // Out of line, so that other inserts need no such test.
     #[cold]
     #[inline(never)]
     fn insert_without_growth<F: FnMut(K, V)>(
@@ -327,15 +338,14 @@ impl<K: Eq + Hash, V, L: Limiter<K, V>, S: KeyHasher<K>> LruMap<K, V, L, S> {
         value: V,
         sink: &mut F,
     ) -> Result<bool, AllocError>
-        requires callable { F.IsAlwaysCallable sink.old }
+        requires callable { MayTakeEach L.rules F.FnMut ((key, value) ∷ self.old.pairs) sink.old }
         requires hash { hash ≡ S.hash_of self.old.hasher key }
         requires absent { lookup_entry (K.eq key) self.old.pairs ≡ None }
         requires no_room { room self.old ≡ 0 }
         ensures handed { Hands F.FnMut sink.old sink.new (λ before after. PlacesAndTrims (noting L.rules)
             S.hash_of (key, value) (noted before self.old) result (noted after self.new)) }
-        ensures callable { F.IsAlwaysCallable sink.new }
     {
-        // (Without pairs a rehash needs no memory, and gives all growth left back.)
+        // An empty map is rehashed, which takes no memory, even if a deleted bucket could take the pair.
         if self.is_empty() {
             return self.insert_without_bucket(hash, (key, value), sink);
         }
@@ -345,8 +355,8 @@ impl<K: Eq + Hash, V, L: Limiter<K, V>, S: KeyHasher<K>> LruMap<K, V, L, S> {
         }
     }
 
-    // Stores a pair that no bucket takes, and evicts what is over the limit then. Under `ByMemoryUsage` each new pair may
-    // come here. Out of line, so that the code of other inserts stays short.
+    // Stores a pair that no bucket takes, and evicts what is over the limit then. Under `ByMemoryUsage` each new pair
+    // may come here. Out of line, so that the code of other inserts stays short.
     #[inline(never)]
     fn insert_without_bucket<F: FnMut(K, V)>(
         &mut self,
@@ -354,13 +364,12 @@ impl<K: Eq + Hash, V, L: Limiter<K, V>, S: KeyHasher<K>> LruMap<K, V, L, S> {
         pair: (K, V),
         sink: &mut F,
     ) -> Result<bool, AllocError>
-        requires callable { F.IsAlwaysCallable sink.old }
+        requires callable { MayTakeEach L.rules F.FnMut (pair ∷ self.old.pairs) sink.old }
         requires hash { hash ≡ S.hash_of self.old.hasher pair.0 }
         requires absent { lookup_entry (K.eq pair.0) self.old.pairs ≡ None }
         requires no_bucket { HasNoBucket hash self.old }
         ensures handed { Hands F.FnMut sink.old sink.new (λ before after. PlacesAndTrims (noting L.rules)
             S.hash_of pair (noted before self.old) result (noted after self.new)) }
-        ensures callable { F.IsAlwaysCallable sink.new }
     {
         if !self.store_without_bucket(hash, pair, sink)? {
             return Ok(false);

@@ -1,4 +1,4 @@
-//! An insert that returns the entries that leave.
+//! An insert that returns the entries that it evicts, rejects or does not store.
 ghost use Rattle.std.specs.Prelude.{◌≡◌, ◌+◌, ◌<◌, ◌++◌, [], ◌∷◌, true, Ok, IfOk, IfSome, OnErr};
 ghost use Rattle.std.specs.Vec.{vec_len, vec_capacity};
 ghost use Rattle.schnellru.specs.HandedOver.{InsertHands};
@@ -14,8 +14,8 @@ use std::alloc::AllocError;
 use std::hash::Hash;
 
 impl<K: Eq + Hash + Drop, V: Drop, L: Limiter<K, V>, S: KeyHasher<K>> LruMap<K, V, L, S> {
-    /// The same as `insert_with`, and returns what `insert` returns, and the entries that leave, in order. Memory for
-    /// these is taken before the map changes.
+    /// The same as `insert_with`, and returns what `insert` returns, and the entries that the callback of `insert_with`
+    /// would get, in order. Memory for these is taken before the map changes.
     ///
     /// ```
     /// let (done, left) = map.insert_and_keep(5, 50)?;
@@ -26,7 +26,7 @@ impl<K: Eq + Hash + Drop, V: Drop, L: Limiter<K, V>, S: KeyHasher<K>> LruMap<K, 
     ///
     /// # Errors
     ///
-    /// Out of memory for the entries that leave: nothing has changed, and the key and the value are dropped. An insert
+    /// Out of memory for the returned entries: nothing has changed, and the key and the value are dropped. An insert
     /// that runs out of memory itself returns its error as the first of the two results.
     ///
     /// schnellru has no such call.

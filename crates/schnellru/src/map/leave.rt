@@ -1,12 +1,13 @@
 //! What leaves a map: removals, a clear, and evictions. The limiter is notified of each.
-ghost use Rattle.std.specs.Prelude.{◌≡◌, ℕ, ◌<◌, true, not, length, Some, IsTrue};
+ghost use Rattle.std.specs.Prelude.{◌≡◌, ℕ, ◌<◌, true, not, ◌∷◌, length, Some, IfSome, IsTrue};
 ghost use Rattle.group_table.specs.Bucket.{IsFull};
-ghost use Rattle.schnellru.specs.Lists.{is_empty};
-ghost use Rattle.schnellru.specs.State.{contents, notified_of, trim, Leaves};
+ghost use Rattle.schnellru.specs.Lists.{is_empty, first, last, place_of};
+ghost use Rattle.schnellru.specs.State.{contents, notified_of, trim, Frees, Leaves, IsMap};
 ghost use Rattle.schnellru.specs.Calls.{left_of, Remove, RemoveEntry, PopOldest, PopNewest, cleared};
 ghost use Rattle.schnellru.specs.Inserts.{make_room};
 ghost use Rattle.schnellru.specs.HandedOver.{noting, noted};
-ghost use Rattle.schnellru.specs.Inside.Chain.{last_bucket};
+ghost use Rattle.schnellru.specs.MayTake.{MayTakeEach};
+ghost use Rattle.schnellru.specs.Lists.{last as last_bucket};
 ghost use Rattle.schnellru.specs.Inside.OrderedTable.{IsLinked, KeysFit};
 ghost use Rattle.schnellru.specs.Inside.Handing.{Hands};
 ghost use Rattle.schnellru.specs.Inside.Steps.{IsTakenOut};
@@ -28,8 +29,12 @@ impl<K: Eq + Hash, V, L: Limiter<K, V>, S: KeyHasher<K>> LruMap<K, V, L, S> {
     /// After schnellru's `LruMap::pop_oldest`.
     pub fn pop_oldest(&mut self) -> Option<(K, V)>
         ensures step { PopOldest L.rules self.old result self.new }
+        ensures freed { IfSome result (λ _. Frees (last self.old.places) self.old self.new) }
+        ensures map { IsMap K.eq self.new }
     {
         if self.is_empty() {
+            // Nothing at run time: it opens the map, whose invariant is the clause `map`.
+            let _ = &self.entries;
             return None;
         }
         Some(self.take_oldest())
@@ -46,8 +51,10 @@ impl<K: Eq + Hash, V, L: Limiter<K, V>, S: KeyHasher<K>> LruMap<K, V, L, S> {
     /// After schnellru's `LruMap::pop_newest`.
     pub fn pop_newest(&mut self) -> Option<(K, V)>
         ensures step { PopNewest L.rules self.old result self.new }
+        ensures freed { IfSome result (λ _. Frees (first self.old.places) self.old self.new) }
+        ensures map { IsMap K.eq self.new }
     {
-        let b = self.entries.newest()?;
+        let b = self.entries.first()?;
         Some(take_out(&mut self.entries, &mut self.limiter, b, false))
     }
 
@@ -65,6 +72,9 @@ impl<K: Eq + Hash, V, L: Limiter<K, V>, S: KeyHasher<K>> LruMap<K, V, L, S> {
     #[inline]
     pub fn remove_entry<Q: LookupKey<K>>(&mut self, key: &Q) -> Option<(K, V)>
         ensures step { RemoveEntry L.rules (Q.names key.now) self.old result self.new }
+        ensures freed { IfSome result (λ _.
+            Frees (place_of (Q.names key.now) self.old.pairs self.old.places) self.old self.new) }
+        ensures map { IsMap K.eq self.new }
     {
         let b = self.find(key)?;
         Some(self.take_at(b))
@@ -84,6 +94,9 @@ impl<K: Eq + Hash + Drop, V, L: Limiter<K, V>, S: KeyHasher<K>> LruMap<K, V, L, 
     /// After schnellru's `LruMap::remove`.
     pub fn remove<Q: LookupKey<K>>(&mut self, key: &Q) -> Option<V>
         ensures step { Remove L.rules (Q.names key.now) self.old result self.new }
+        ensures freed { IfSome result (λ _.
+            Frees (place_of (Q.names key.now) self.old.pairs self.old.places) self.old self.new) }
+        ensures map { IsMap K.eq self.new }
     {
         let (_, value) = self.remove_entry(key)?;
         Some(value)
@@ -99,11 +112,12 @@ impl<K: Eq + Hash + Drop, V: Drop, L: Limiter<K, V>, S: KeyHasher<K>> LruMap<K, 
     /// assert_eq!(rt; (map.len(), map.guaranteed_capacity()), (0, 3));
     /// ```
     ///
-    /// Cost: `O(buckets)`, even if there are few entries.
+    /// Cost: `O(buckets)`, even if there are few entries; `O(1)` if all growth is left.
     ///
     /// After schnellru's `LruMap::clear`.
     pub fn clear(&mut self)
         ensures step { self.new ≡ cleared L.rules self.old }
+        ensures map { IsMap K.eq self.new }
     {
         self.entries.clear();
         self.limiter.on_cleared();
@@ -115,7 +129,9 @@ impl<K: Eq + Hash, V, L: Limiter<K, V>, S: KeyHasher<K>> LruMap<K, V, L, S> {
     #[inline]
     pub(super) fn take_oldest(&mut self) -> (K, V)
         requires { 0 < length self.old.pairs }
-        ensures { PopOldest L.rules self.old (Some result) self.new }
+        ensures step { PopOldest L.rules self.old (Some result) self.new }
+        ensures freed { Frees (last self.old.places) self.old self.new }
+        ensures map { IsMap K.eq self.new }
     {
         let b = self.entries.oldest();
         take_out(&mut self.entries, &mut self.limiter, b, true)
@@ -126,10 +142,11 @@ impl<K: Eq + Hash, V, L: Limiter<K, V>, S: KeyHasher<K>> LruMap<K, V, L, S> {
     // Evicts the oldest pair, if the limiter would be over with one more.
     #[inline]
     pub(super) fn make_room<F: FnMut(K, V)>(&mut self, sink: &mut F)
-        requires callable { F.IsAlwaysCallable sink.old }
+        requires callable { MayTakeEach L.rules F.FnMut self.old.pairs sink.old }
         ensures handed { Hands F.FnMut sink.old sink.new (λ before after. Leaves (noted before self.old)
             (make_room (noting L.rules) (contents (noted before self.old))) (noted after self.new)) }
-        ensures callable { F.IsAlwaysCallable sink.new }
+        ensures callable { (pair : K × V) → MayTakeEach L.rules F.FnMut (pair ∷ self.old.pairs) sink.old →
+            MayTakeEach L.rules F.FnMut (pair ∷ self.new.pairs) sink.new }
     {
         if !self.is_empty() && self.limiter.is_over_the_limit(self.entries.len() + 1) {
             let (key, value) = self.take_oldest();
@@ -141,11 +158,10 @@ impl<K: Eq + Hash, V, L: Limiter<K, V>, S: KeyHasher<K>> LruMap<K, V, L, S> {
     #[inline]
     pub(super) fn evict_over_limit<F: FnMut(K, V)>(&mut self, sink: &mut F) -> bool
         requires some { 0 < length self.old.pairs }
-        requires callable { F.IsAlwaysCallable sink.old }
+        requires callable { MayTakeEach L.rules F.FnMut self.old.pairs sink.old }
         ensures left { result ≡ not (is_empty self.new.pairs) }
         ensures handed { Hands F.FnMut sink.old sink.new (λ before after. Leaves (noted before self.old)
             (trim (noting L.rules) (contents (noted before self.old))) (noted after self.new)) }
-        ensures callable { F.IsAlwaysCallable sink.new }
     {
         if self.is_over_the_limit() {
             self.evict_while_over(sink)
@@ -159,11 +175,10 @@ impl<K: Eq + Hash, V, L: Limiter<K, V>, S: KeyHasher<K>> LruMap<K, V, L, S> {
     fn evict_while_over<F: FnMut(K, V)>(&mut self, sink: &mut F) -> bool
         requires some { 0 < length self.old.pairs }
         requires over { L.rules.is_over_the_limit self.old.limiter (length self.old.pairs) ≡ true }
-        requires callable { F.IsAlwaysCallable sink.old }
+        requires callable { MayTakeEach L.rules F.FnMut self.old.pairs sink.old }
         ensures left { result ≡ not (is_empty self.new.pairs) }
         ensures handed { Hands F.FnMut sink.old sink.new (λ before after. Leaves (noted before self.old)
             (trim (noting L.rules) (contents (noted before self.old))) (noted after self.new)) }
-        ensures callable { F.IsAlwaysCallable sink.new }
     {
         'evictions: loop {
             let (key, value) = self.take_oldest();
@@ -192,12 +207,12 @@ pub(super) fn take_out<K: Eq + Hash, V, L: Limiter<K, V>>(
     ensures linked { IsLinked entries.new }
     ensures fits { (hash_of : K → ℕ) → KeysFit hash_of entries.old.slots → KeysFit hash_of entries.new.slots }
 {
-    tell(limiter, entries.take(b, last))
+    notify(limiter, entries.take(b, last))
 }
 
 // Notifies the limiter of a pair that left or could not be stored, and returns what the limiter left of it.
 #[inline]
-pub(super) fn tell<K, V, L: Limiter<K, V>>(limiter: &mut L, pair: (K, V)) -> (K, V)
+pub(super) fn notify<K, V, L: Limiter<K, V>>(limiter: &mut L, pair: (K, V)) -> (K, V)
     ensures limiter { limiter.new ≡ notified_of L.rules (Some pair) limiter.old }
     ensures pair { Some result ≡ left_of L.rules limiter.old (Some pair) }
 {

@@ -3,7 +3,7 @@ ghost use Rattle.std.specs.Prelude.{◌≡◌, ◌<◌, length, option_map, is_s
 ghost use Rattle.std.specs.Option.{option_copied, option_copied_mut};
 ghost use Rattle.std.specs.Borrow.{sem};
 ghost use Rattle.std.specs.Map.Iter.{deref_pair};
-ghost use Rattle.schnellru.specs.Lists.{lookup, lookup_entry, first, last, newest_value};
+ghost use Rattle.schnellru.specs.Lists.{lookup, lookup_entry, first, last, newest_value, set_newest};
 ghost use Rattle.schnellru.specs.State.{State, IsMap};
 ghost use Rattle.schnellru.specs.Calls.{Get, promoted, demoted, written};
 
@@ -46,8 +46,8 @@ impl<K: Eq + Hash, V, L: Limiter<K, V>, S: KeyHasher<K>> LruMap<K, V, L, S> {
 
     /// Returns the entry of a key, and makes it the newest.
     ///
-    /// The returned key is the stored one, which may differ from the equal one that is looked up. `None` says that the key
-    /// is not there, and nothing has changed.
+    /// The returned key is the stored one, which may differ from the equal one that is looked up. `None` says that the
+    /// key is not there, and nothing has changed.
     ///
     /// ```
     /// assert!(rt; map.get_key_value(&1) == Some((&1, &10)));
@@ -142,8 +142,9 @@ impl<K: Eq + Hash, V, L: Limiter<K, V>, S: KeyHasher<K>> LruMap<K, V, L, S> {
             L.LinkType.LinkType.own L.LinkType.PartialEq L.LinkType.Debug S.KeyHasher S.Hasher.Hasher
             self.entry result) }
         ensures value { option_copied_mut result ≡ newest_value self.old.pairs }
+        ensures map { (last : V) → IsMap K.eq (record self.old { pairs = set_newest self.old.pairs last }) }
     {
-        let b = self.entries.newest()?;
+        let b = self.entries.first()?;
         Some(&mut self.entries.pair_mut(b).value)
     }
 
@@ -157,10 +158,8 @@ impl<K: Eq + Hash, V, L: Limiter<K, V>, S: KeyHasher<K>> LruMap<K, V, L, S> {
             self.entry result) }
         ensures value { newest_value self.old.pairs ≡ Some result.now }
     {
-        match self.entries.newest() {
-            Some(b) => &mut self.entries.pair_mut(b).value,
-            None => unreachable!(),
-        }
+        let b = self.entries.newest();
+        &mut self.entries.pair_mut(b).value
     }
 
     /// Returns whether a key is in the map. The order stays.
@@ -271,7 +270,7 @@ impl<K: Eq + Hash, V, L: Limiter<K, V>, S: KeyHasher<K>> LruMap<K, V, L, S> {
     pub fn peek_newest(&self) -> Option<(&K, &V)>
         ensures { option_map deref_pair result ≡ first self.now.pairs }
     {
-        let pair = self.entries.pair(self.entries.newest()?);
+        let pair = self.entries.pair(self.entries.first()?);
         Some((&pair.key, &pair.value))
     }
 }

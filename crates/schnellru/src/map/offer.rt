@@ -2,8 +2,10 @@
 ghost use Rattle.std.specs.Prelude.{◌≡◌, ℕ, true, false, length, Some, IsTrue};
 ghost use Rattle.group_table.specs.Bucket.{entry_at};
 ghost use Rattle.schnellru.specs.Inside.OrderedTable.{IsLinked, KeysFit};
-ghost use Rattle.schnellru.specs.Inserts.{unkept_of};
-ghost use Rattle.schnellru.specs.Lists.{place_of};
+ghost use Rattle.schnellru.specs.Inserts.{replacement, unkept_of};
+ghost use Rattle.schnellru.specs.Lists.{lookup_entry, place_of};
+ghost use Rattle.schnellru.specs.MayTake.{MayTakeRejected};
+ghost use Rattle.schnellru.specs.State.{contents};
 ghost use Rattle.schnellru.specs.HandedOver.{noting, noting_offers, noted};
 ghost use Rattle.schnellru.specs.Inside.Steps.{IsReplaced, IsGivenUp, IsOffered};
 ghost use Rattle.schnellru.specs.Inside.Handing.{Hands, HandsGivenUp};
@@ -16,9 +18,9 @@ use std::hash::Hash;
 use std::mem;
 
 impl<K: Eq + Hash, V, L: Limiter<K, V>, S: KeyHasher<K>> LruMap<K, V, L, S> {
-    // Offers the limiter a new value for the pair in a bucket. If it accepts, the pair gets the value and keeps its place.
-    // If not, the pair is removed and passed to the callback. Returns whether it accepted, and the value of the two that
-    // the pair does not have.
+    // Offers the limiter a new value for the pair in a bucket. If it accepts, the pair gets the value and keeps its
+    // place. If not, the pair is removed and passed to the callback. Returns whether it accepted, and the replaced
+    // value if it did, else the rejected one.
     #[inline]
     pub(super) fn offer_at<I: LookupKey<K>, F: FnMut(K, V)>(
         &mut self,
@@ -29,11 +31,13 @@ impl<K: Eq + Hash, V, L: Limiter<K, V>, S: KeyHasher<K>> LruMap<K, V, L, S> {
     ) -> (bool, V)
     where
         L: Insertion<K, V, I>,
-        requires callable { F.IsAlwaysCallable sink.old }
+        requires callable { (pair : K × V) → lookup_entry (I.names key) self.old.pairs ≡ Some pair →
+            MayTakeRejected L.rules F.FnMut (replacement L.rules L.offers I.names pair key value (contents self.old))
+            sink.old }
         requires found { place_of (I.names key) self.old.pairs self.old.places ≡ Some b }
         ensures handed { Hands F.FnMut sink.old sink.new (λ before after. IsOffered (noting L.rules)
             (noting_offers L.offers) I.names key value (noted before self.old) result (noted after self.new)) }
-        ensures callable { F.IsAlwaysCallable sink.new }
+        ensures kept { result.0 ≡ true → sink.new ≡ sink.old }
     {
         offer(&mut self.entries, &mut self.limiter, b, key, value, sink)
     }
@@ -49,7 +53,8 @@ pub(super) fn offer<K: Eq + Hash, V, I: LookupKey<K>, L: Insertion<K, V, I>, F: 
     mut value: V,
     sink: &mut F,
 ) -> (bool, V)
-    requires callable { F.IsAlwaysCallable sink.old }
+    requires callable { (pair : K × V) → entry_at entries.old.slots b ≡ Some pair → MayTakeRejected L.rules F.FnMut
+        (L.offers.on_replace limiter.old (length entries.old.order) pair.0 key pair.1 value) sink.old }
     requires there { (pair : K × V) × (entry_at entries.old.slots b ≡ Some pair) × IsTrue (I.names key pair.0) }
     ensures taken { (pair : K × V) → entry_at entries.old.slots b ≡ Some pair →
         result.0 ≡ (L.offers.on_replace limiter.old (length entries.old.order) pair.0 key pair.1 value).taken }
@@ -65,7 +70,6 @@ pub(super) fn offer<K: Eq + Hash, V, I: LookupKey<K>, L: Insertion<K, V, I>, F: 
     ensures handed { result.0 ≡ false → (pair : K × V) → entry_at entries.old.slots b ≡ Some pair →
         HandsGivenUp F.FnMut L.rules
         (L.offers.on_replace limiter.old (length entries.old.order) pair.0 key pair.1 value) sink.old sink.new }
-    ensures callable { F.IsAlwaysCallable sink.new }
     ensures linked { IsLinked entries.new }
     ensures fits { (hash_of : K → ℕ) → ((x y : K) → IsTrue (K.eq x y) → hash_of x ≡ hash_of y) →
         KeysFit hash_of entries.old.slots → KeysFit hash_of entries.new.slots }

@@ -1,7 +1,8 @@
 //! Removing the oldest entry if a closure agrees.
-ghost use Rattle.std.specs.Prelude.{◌≡◌, Some};
+ghost use Rattle.std.specs.Prelude.{◌≡◌, Some, IfSome, IfOk};
 ghost use Rattle.std.specs.Borrow.{Bor};
 ghost use Rattle.schnellru.specs.Lists.{last};
+ghost use Rattle.schnellru.specs.State.{Frees, IsMap};
 ghost use Rattle.schnellru.specs.Pops.{PopOldestIf, TryPopOldest, Says};
 
 use crate::map::LruMap;
@@ -26,7 +27,11 @@ impl<K: Eq + Hash, V, L: Limiter<K, V>, S: KeyHasher<K>> LruMap<K, V, L, S> {
         requires { (key : Bor K) (value : Bor V) → last self.old.pairs ≡ Some (key.now, value.now)
             → F.pre accepts key value }
         ensures step { PopOldestIf L.rules (Says (F.post accepts)) self.old result self.new }
+        ensures freed { IfSome result (λ _. Frees (last self.old.places) self.old self.new) }
+        ensures map { IsMap K.eq self.new }
     {
+        // Nothing at run time: it opens the map, whose invariant is the clause `map`.
+        let _ = &self.entries;
         let (key, value) = self.peek_oldest()?;
         if !accepts(key, value) {
             return None;
@@ -36,7 +41,7 @@ impl<K: Eq + Hash, V, L: Limiter<K, V>, S: KeyHasher<K>> LruMap<K, V, L, S> {
 
     /// Removes and returns the oldest entry, as the limiter leaves it, if there is one and the closure succeeds for it.
     ///
-    /// A write-back cache writes the entry in the closure: the entry leaves only if it was written.
+    /// A write-back cache writes the entry in the closure: the entry is removed only if it was written.
     ///
     /// ```
     /// assert_eq!(rt; map.try_pop_oldest(|_, _| Err(7u8)), Err(7));
@@ -57,7 +62,11 @@ impl<K: Eq + Hash, V, L: Limiter<K, V>, S: KeyHasher<K>> LruMap<K, V, L, S> {
         requires { (key : Bor K) (value : Bor V) → last self.old.pairs ≡ Some (key.now, value.now)
             → F.pre release key value }
         ensures step { TryPopOldest L.rules (Says (F.post release)) self.old result self.new }
+        ensures freed { IfOk result (λ popped. IfSome popped (λ _. Frees (last self.old.places) self.old self.new)) }
+        ensures map { IsMap K.eq self.new }
     {
+        // Nothing at run time: it opens the map, whose invariant is the clause `map`.
+        let _ = &self.entries;
         match self.peek_oldest() {
             None => Ok(None),
             Some((key, value)) => match release(key, value) {

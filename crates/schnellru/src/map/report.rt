@@ -13,9 +13,10 @@ use std::hash::Hash;
 /// ```
 #[derive(Clone, Copy, Debug, PartialEq, Eq)]
 pub struct MoveReport {
-    /// Entries that inserts moved, because the table grew or was rehashed.
+    /// Entries that inserts moved, because the table grew or was rehashed. What `try_reserve` moves is not counted, nor
+    /// what `try_insert` moves, which reserves.
     pub moved: u64,
-    /// New entries that inserts stored.
+    /// New entries that inserts stored, `try_insert` included.
     pub placed: u64,
     /// Entries that `shrink_to_fit` rehashed.
     pub shrunk: u64,
@@ -26,7 +27,7 @@ impl<K: Eq + Hash, V, L: Limiter<K, V>, S: KeyHasher<K>> LruMap<K, V, L, S> {
     /// rehashed. A count that reaches `u64::MAX` stays there.
     ///
     /// `moved` is at most twice `placed`, plus `shrunk`. So in a map that was never shrunk an insert moves at most two
-    /// entries on average. Entries that a reservation moves are not counted.
+    /// entries on average. Entries that `try_reserve` and `try_insert` move are not counted. Cost: `O(1)`.
     ///
     /// ```
     /// assert_eq!(rt; map.move_report(), MoveReport { moved: 0, placed: 3, shrunk: 0 });

@@ -1,7 +1,7 @@
 //! Growth ahead of inserts.
-ghost use Rattle.std.specs.Prelude.{◌+◌, ◌/◌, ◌<◌, length};
+ghost use Rattle.std.specs.Prelude.{◌≡◌, ◌+◌, ◌/◌, ◌<◌, ◌≤◌, length, OnOk};
 ghost use Rattle.group_table.specs.Sizes.{full_capacity};
-ghost use Rattle.schnellru.specs.State.{buckets};
+ghost use Rattle.schnellru.specs.State.{buckets, room, IsMap};
 ghost use Rattle.schnellru.specs.Reservations.{LacksRoomFor, Reserve};
 
 use crate::map::LruMap;
@@ -37,7 +37,7 @@ impl<K: Eq + Hash, V, L: Limiter<K, V>, S: KeyHasher<K>> LruMap<K, V, L, S> {
     ///
     /// The entries stay, and so do the counts of moves. If there is enough growth left, nothing happens. If at most
     /// half of what the table may hold is needed, the table is rehashed at its size, and the limiter is not queried.
-    /// Otherwise the limiter is asked for a larger table.
+    /// Otherwise the limiter is queried for a larger table.
     ///
     /// ```
     /// assert_eq!(rt; map.try_reserve(7), Ok(()));
@@ -51,11 +51,14 @@ impl<K: Eq + Hash, V, L: Limiter<K, V>, S: KeyHasher<K>> LruMap<K, V, L, S> {
     ///
     /// Each error leaves the entries and the table. `TooLarge`: the number of entries or the bytes of the table pass 64
     /// bits, or no table that the links can number holds them. `Refused`: the limiter refused the table. `Memory`: a
-    /// request was refused. After `Refused` and `Memory` the limiter keeps what it noted when it was asked.
+    /// request was refused. After `Refused` and `Memory` the limiter keeps what it noted when it was queried.
     ///
     /// After schnellru's `LruMap::try_reserve`.
     pub fn try_reserve(&mut self, n: usize) -> Result<(), ReserveError>
         ensures step { Reserve L.rules n self.old result self.new }
+        ensures pairs { self.new.pairs ≡ self.old.pairs }
+        ensures room { OnOk result (n ≤ room self.new) }
+        ensures map { IsMap K.eq self.new }
     {
         let pairs = match self.len().checked_add(n) {
             Some(pairs) => pairs,
@@ -78,7 +81,8 @@ impl<K: Eq + Hash, V, L: Limiter<K, V>, S: KeyHasher<K>> LruMap<K, V, L, S> {
     fn reserve_larger(&mut self, n: usize) -> Result<(), ReserveError>
         requires lacks { LacksRoomFor n self.old }
         requires half { full_capacity (buckets self.old) / 2 < length self.old.pairs + n }
-        ensures { Reserve L.rules n self.old result self.new }
+        ensures step { Reserve L.rules n self.old result self.new }
+        ensures map { IsMap K.eq self.new }
     {
         match self.next_table(n) {
             Some((count, bytes)) => {

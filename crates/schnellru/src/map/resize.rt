@@ -4,7 +4,7 @@ ghost use Rattle.std.specs.Prelude.{IsOk};
 ghost use Rattle.group_table.specs.Sizes.{IsPowerFromFour, full_capacity};
 ghost use Rattle.group_table.specs.Change.{count_up};
 ghost use Rattle.schnellru.specs.Sizes.{usage, larger};
-ghost use Rattle.schnellru.specs.State.{buckets, potential, MovesTo};
+ghost use Rattle.schnellru.specs.State.{buckets, potential, MovesTo, IsMap};
 ghost use Rattle.schnellru.specs.Place.{table_for};
 
 use crate::map::LruMap;
@@ -15,9 +15,9 @@ use std::alloc::AllocError;
 use std::hash::Hash;
 
 impl<K: Eq + Hash, V, L: Limiter<K, V>, S: KeyHasher<K>> LruMap<K, V, L, S> {
-    // Returns the buckets and the bytes of the table into which this one grows for `more` pairs, if there is one. The
-    // pairs with these are more than half of what this table may hold; the pairs alone are at most half of what that
-    // one may.
+    // Returns the buckets and the bytes of the table into which this one grows for `more` pairs, if there is one.
+    // Together with `more` the pairs must be more than half of what this table may hold. Without it they are at most
+    // half of what the new table may hold.
     pub(super) fn next_table(&self, more: usize) -> Option<(usize, usize)>
         requires number { length self.now.pairs + more < 2 ^ 64 }
         requires half { full_capacity (buckets self.now) / 2 < length self.now.pairs + more }
@@ -42,6 +42,7 @@ impl<K: Eq + Hash, V, L: Limiter<K, V>, S: KeyHasher<K>> LruMap<K, V, L, S> {
         ensures moved { OnOk result (MovesTo count self.old self.new) }
         ensures unchanged { OnErr result (self.new ≡ self.old) }
         ensures succeeds { self.old.pairs ≡ [] → count ≡ buckets self.old → IsOk result }
+        ensures map { IsMap K.eq self.new }
     {
         self.entries.move_to(count, &self.hasher)?;
         Ok(())

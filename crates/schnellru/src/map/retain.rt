@@ -3,6 +3,7 @@ ghost use Rattle.std.specs.Prelude.{◌≡◌, ◌<◌, length, Some, List};
 ghost use Rattle.schnellru.specs.ByHash.{Asks};
 ghost use Rattle.schnellru.specs.HandedOver.{Takes};
 ghost use Rattle.schnellru.specs.Lists.{last};
+ghost use Rattle.schnellru.specs.MayTake.{MayTakeEach};
 ghost use Rattle.schnellru.specs.Retains.{Retains, RetainHands};
 ghost use Rattle.schnellru.specs.State.{IsMap};
 
@@ -50,11 +51,11 @@ impl<K: Eq + Hash, V, L: Limiter<K, V>, S: KeyHasher<K>> LruMap<K, V, L, S> {
         sink: &mut G,
     )
         requires keep { F.IsAlwaysCallable keep }
-        requires callable { G.IsAlwaysCallable sink.old }
+        requires callable { MayTakeEach L.rules G.FnMut self.old.pairs sink.old }
         ensures step { Retains F.FnMut L.rules keep self.old self.new }
         ensures handed { (handed : List (K × V)) × Takes G.FnMut sink.old handed sink.new
             × RetainHands L.rules F.FnMut keep self.old handed self.new }
-        ensures callable { G.IsAlwaysCallable sink.new }
+        ensures callable { G.IsAlwaysCallable sink.old → G.IsAlwaysCallable sink.new }
         ensures map { IsMap K.eq self.new }
     {
         let mut left = self.len();
@@ -76,12 +77,11 @@ impl<K: Eq + Hash, V, L: Limiter<K, V>, S: KeyHasher<K>> LruMap<K, V, L, S> {
     fn oldest_passes<F: FnMut(&K, &V) -> bool>(&self, keep: &mut F) -> bool
         requires some { 0 < length self.now.pairs }
         requires callable { F.IsAlwaysCallable keep.old }
-        ensures asked { (pair : K × V) × (last self.now.pairs ≡ Some pair) × Asks F.FnMut keep.old pair result keep.new }
+        ensures asked { (pair : K × V) × (last self.now.pairs ≡ Some pair)
+            × Asks F.FnMut keep.old pair result keep.new }
         ensures callable { F.IsAlwaysCallable keep.new }
     {
-        match self.peek_oldest() {
-            Some((key, value)) => keep(key, value),
-            None => unreachable!(),
-        }
+        let pair = self.entries.pair(self.entries.oldest());
+        keep(&pair.key, &pair.value)
     }
 }

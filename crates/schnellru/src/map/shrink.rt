@@ -1,4 +1,5 @@
 //! A table of as few buckets as hold the pairs.
+ghost use Rattle.schnellru.specs.State.{IsMap};
 ghost use Rattle.schnellru.specs.Shrinks.{Shrink};
 
 use crate::map::LruMap;
@@ -30,6 +31,7 @@ impl<K: Eq + Hash, V, L: Limiter<K, V>, S: KeyHasher<K>> LruMap<K, V, L, S> {
     /// schnellru has no such call.
     pub fn shrink_to_fit(&mut self) -> Result<bool, AllocError>
         ensures step { Shrink self.old result self.new }
+        ensures map { IsMap K.eq self.new }
     {
         let len = self.entries.len();
         let count = match buckets_for_capacity(len, L::LinkType::MAX.into_usize()) {

@@ -1,7 +1,7 @@
 //! Storing a new pair: in a free bucket, or after the table was rehashed, has grown, or the oldest pairs were evicted.
 //! Nothing here requires `K: Drop` or `V: Drop`, so a body that forgets a pair does not compile.
-ghost use Rattle.std.specs.Prelude.{◌≡◌, ℕ, ◌+◌, ◌-◌, ◌*◌, ◌/◌, ◌^◌, ◌<◌, ◌≤◌, [], length, None, Some, OnOk};
-ghost use Rattle.std.specs.Prelude.{OnErr, IfErr, IsOk};
+ghost use Rattle.std.specs.Prelude.{◌≡◌, ℕ, ◌+◌, ◌-◌, ◌*◌, ◌/◌, ◌^◌, ◌<◌, ◌≤◌, [], ◌∷◌, length, true, None, Some};
+ghost use Rattle.std.specs.Prelude.{Ok, OnOk, OnErr, IfErr, IsOk};
 ghost use Rattle.group_table.specs.Sizes.{IsPowerFromFour, full_capacity};
 ghost use Rattle.group_table.specs.Change.{HasNoPlace, count_up};
 ghost use Rattle.schnellru.specs.Lists.{lookup_entry};
@@ -10,10 +10,11 @@ ghost use Rattle.schnellru.specs.State.{buckets, room};
 ghost use Rattle.schnellru.specs.Place.{Place, Evicts, IsPlacedInTable, IsPlacedByMove, FillsBucket, HasNoBucket};
 ghost use Rattle.schnellru.specs.Place.{IsOutgrown, outcome_of, turned_away};
 ghost use Rattle.schnellru.specs.HandedOver.{noting, noted};
+ghost use Rattle.schnellru.specs.MayTake.{MayTakeEach};
 ghost use Rattle.schnellru.specs.Inside.Handing.{Hands};
 
 use crate::map::LruMap;
-use crate::map::leave::tell;
+use crate::map::leave::notify;
 use group_table::full_capacity;
 use lru_limits::{KeyHasher, Limiter};
 use std::alloc::AllocError;
@@ -63,13 +64,13 @@ impl<K: Eq + Hash, V, L: Limiter<K, V>, S: KeyHasher<K>> LruMap<K, V, L, S> {
         pair: (K, V),
         sink: &mut F,
     ) -> Result<bool, AllocError>
-        requires callable { F.IsAlwaysCallable sink.old }
+        requires callable { MayTakeEach L.rules F.FnMut (pair ∷ self.old.pairs) sink.old }
         requires hash { hash ≡ S.hash_of self.old.hasher pair.0 }
         requires absent { lookup_entry (K.eq pair.0) self.old.pairs ≡ None }
         requires no_bucket { HasNoBucket hash self.old }
         ensures handed { Hands F.FnMut sink.old sink.new (λ before after. Place (noting L.rules)
             S.hash_of pair (noted before self.old) (outcome_of result) (noted after self.new)) }
-        ensures callable { F.IsAlwaysCallable sink.new }
+        ensures callable { result ≡ Ok true → MayTakeEach L.rules F.FnMut self.new.pairs sink.new }
     {
         let buckets = self.bucket_count();
         if self.len() < full_capacity(buckets) / 2 {
@@ -86,13 +87,13 @@ impl<K: Eq + Hash, V, L: Limiter<K, V>, S: KeyHasher<K>> LruMap<K, V, L, S> {
         pair: (K, V),
         sink: &mut F,
     ) -> Result<bool, AllocError>
-        requires callable { F.IsAlwaysCallable sink.old }
+        requires callable { MayTakeEach L.rules F.FnMut (pair ∷ self.old.pairs) sink.old }
         requires hash { hash ≡ S.hash_of self.old.hasher pair.0 }
         requires absent { lookup_entry (K.eq pair.0) self.old.pairs ≡ None }
         requires outgrown { IsOutgrown hash self.old }
         ensures handed { Hands F.FnMut sink.old sink.new (λ before after. Place (noting L.rules)
             S.hash_of pair (noted before self.old) (outcome_of result) (noted after self.new)) }
-        ensures callable { F.IsAlwaysCallable sink.new }
+        ensures callable { result ≡ Ok true → MayTakeEach L.rules F.FnMut self.new.pairs sink.new }
     {
         match self.next_table(1) {
             Some((count, bytes)) => {
@@ -113,13 +114,13 @@ impl<K: Eq + Hash, V, L: Limiter<K, V>, S: KeyHasher<K>> LruMap<K, V, L, S> {
         pair: (K, V),
         sink: &mut F,
     ) -> Result<bool, AllocError>
-        requires callable { F.IsAlwaysCallable sink.old }
+        requires callable { MayTakeEach L.rules F.FnMut (pair ∷ self.old.pairs) sink.old }
         requires hash { hash ≡ S.hash_of self.old.hasher pair.0 }
         requires absent { lookup_entry (K.eq pair.0) self.old.pairs ≡ None }
         requires outgrown { IsOutgrown hash self.old }
         ensures handed { Hands F.FnMut sink.old sink.new (λ before after. Evicts (noting L.rules) hash pair
             (noted before self.old) (noted before self.old) (outcome_of result) (noted after self.new)) }
-        ensures callable { F.IsAlwaysCallable sink.new }
+        ensures callable { result ≡ Ok true → MayTakeEach L.rules F.FnMut self.new.pairs sink.new }
     {
         if self.is_empty() {
             self.turn_away(pair, sink);
@@ -135,14 +136,14 @@ impl<K: Eq + Hash, V, L: Limiter<K, V>, S: KeyHasher<K>> LruMap<K, V, L, S> {
         mut pair: (K, V),
         sink: &mut F,
     ) -> Result<bool, AllocError>
-        requires callable { F.IsAlwaysCallable sink.old }
+        requires callable { MayTakeEach L.rules F.FnMut (pair ∷ self.old.pairs) sink.old }
         requires hash { hash ≡ S.hash_of self.old.hasher pair.0 }
         requires absent { lookup_entry (K.eq pair.0) self.old.pairs ≡ None }
         requires some { 0 < length self.old.pairs }
         requires outgrown { IsOutgrown hash self.old }
         ensures handed { Hands F.FnMut sink.old sink.new (λ before after. Evicts (noting L.rules) hash pair
             (noted before self.old) (noted before self.old) (outcome_of result) (noted after self.new)) }
-        ensures callable { F.IsAlwaysCallable sink.new }
+        ensures callable { result ≡ Ok true → MayTakeEach L.rules F.FnMut self.new.pairs sink.new }
     {
         let buckets = self.bucket_count();
         let half = full_capacity(buckets) / 2;
@@ -169,7 +170,7 @@ impl<K: Eq + Hash, V, L: Limiter<K, V>, S: KeyHasher<K>> LruMap<K, V, L, S> {
         pair: (K, V),
         sink: &mut F,
     ) -> Result<bool, AllocError>
-        requires callable { F.IsAlwaysCallable sink.old }
+        requires callable { MayTakeEach L.rules F.FnMut (pair ∷ self.old.pairs) sink.old }
         requires hash { hash ≡ S.hash_of self.old.hasher pair.0 }
         requires absent { lookup_entry (K.eq pair.0) self.old.pairs ≡ None }
         requires count { IsPowerFromFour count }
@@ -181,7 +182,7 @@ impl<K: Eq + Hash, V, L: Limiter<K, V>, S: KeyHasher<K>> LruMap<K, V, L, S> {
         ensures handed { Hands F.FnMut sink.old sink.new (λ before after. IsPlacedByMove (noting L.rules) pair count
             (noted before self.old) (outcome_of result) (noted after self.new)) }
         ensures succeeds { self.old.pairs ≡ [] → count ≡ buckets self.old → IsOk result }
-        ensures callable { F.IsAlwaysCallable sink.new }
+        ensures callable { result ≡ Ok true → MayTakeEach L.rules F.FnMut self.new.pairs sink.new }
     {
         match self.move_to(count) {
             Ok(()) => {
@@ -198,12 +199,11 @@ impl<K: Eq + Hash, V, L: Limiter<K, V>, S: KeyHasher<K>> LruMap<K, V, L, S> {
 
     // Notifies the limiter of a pair that was not stored, and passes what it left of the pair to the callback.
     fn turn_away<F: FnMut(K, V)>(&mut self, pair: (K, V), sink: &mut F)
-        requires callable { F.IsAlwaysCallable sink.old }
+        requires callable { MayTakeEach L.rules F.FnMut (pair ∷ []) sink.old }
         ensures handed { Hands F.FnMut sink.old sink.new (λ before after. noted after self.new ≡ turned_away
             (noting L.rules) pair (noted before self.old)) }
-        ensures callable { F.IsAlwaysCallable sink.new }
     {
-        let (key, value) = tell(&mut self.limiter, pair);
+        let (key, value) = notify(&mut self.limiter, pair);
         sink(key, value);
     }
 }

@@ -2,6 +2,7 @@
 ghost use Rattle.std.specs.Prelude.{◌≡◌, List};
 ghost use Rattle.schnellru.specs.State.{IsMap, IsWithin, Trims, contents};
 ghost use Rattle.schnellru.specs.HandedOver.{Takes, TrimHands};
+ghost use Rattle.schnellru.specs.MayTake.{MayTakeEach};
 
 use crate::map::LruMap;
 use lru_limits::{KeyHasher, Limiter};
@@ -66,12 +67,12 @@ impl<K: Eq + Hash, V, L: Limiter<K, V>, S: KeyHasher<K>> LruMap<K, V, L, S> {
     ///
     /// Cost: as `trim`, with one call of the callback for each evicted entry.
     pub fn trim_with<F: FnMut(K, V)>(&mut self, sink: &mut F)
-        requires callable { F.IsAlwaysCallable sink.old }
+        requires callable { MayTakeEach L.rules F.FnMut self.old.pairs sink.old }
         ensures step { Trims L.rules self.old self.new }
         ensures within { IsWithin L.rules (contents self.new) }
         ensures handed { (handed : List (K × V)) × Takes F.FnMut sink.old handed sink.new
             × TrimHands L.rules self.old handed self.new }
-        ensures callable { F.IsAlwaysCallable sink.new }
+        ensures callable { F.IsAlwaysCallable sink.old → F.IsAlwaysCallable sink.new }
         ensures map { IsMap K.eq self.new }
     {
         if !self.is_empty() {
@@ -80,8 +81,9 @@ impl<K: Eq + Hash, V, L: Limiter<K, V>, S: KeyHasher<K>> LruMap<K, V, L, S> {
         // Nothing at run time: it opens the map, whose invariant is the clause `map`.
         let _ = &self.entries;
     }
-    /// The same as `set_limiter`, and passes each evicted entry to the callback, oldest first, as the new limiter leaves
-    /// it.
+
+    /// The same as `set_limiter`, and passes each evicted entry to the callback, oldest first, as the new limiter
+    /// leaves it.
     ///
     /// ```
     /// let mut evicted = 0u64;
@@ -91,13 +93,13 @@ impl<K: Eq + Hash, V, L: Limiter<K, V>, S: KeyHasher<K>> LruMap<K, V, L, S> {
     ///
     /// Cost: as `set_limiter`, with one call of the callback for each evicted entry.
     pub fn set_limiter_with<F: FnMut(K, V)>(&mut self, limiter: L, sink: &mut F) -> L
-        requires callable { F.IsAlwaysCallable sink.old }
+        requires callable { MayTakeEach L.rules F.FnMut self.old.pairs sink.old }
         ensures limiter { result ≡ self.old.limiter }
         ensures step { Trims L.rules (record self.old { limiter = limiter }) self.new }
         ensures within { IsWithin L.rules (contents self.new) }
         ensures handed { (handed : List (K × V)) × Takes F.FnMut sink.old handed sink.new
             × TrimHands L.rules (record self.old { limiter = limiter }) handed self.new }
-        ensures callable { F.IsAlwaysCallable sink.new }
+        ensures callable { F.IsAlwaysCallable sink.old → F.IsAlwaysCallable sink.new }
         ensures map { IsMap K.eq self.new }
     {
         let old = mem::replace(&mut self.limiter, limiter);

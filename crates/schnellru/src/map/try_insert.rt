@@ -1,4 +1,4 @@
-//! Inserting a new entry only if nothing has to leave for it.
+//! Inserting a new entry only if nothing has to be evicted for it.
 ghost use Rattle.std.specs.Prelude.{◌≡◌, ℕ, ◌∷◌, ◌<◌, true, false, None, Ok, OnOk, OnErr, IfErr, IsTrue, length};
 ghost use Rattle.schnellru.specs.Lists.{lookup_entry};
 ghost use Rattle.schnellru.specs.State.{IsMap, contents, room};
@@ -11,10 +11,8 @@ use lru_limits::{Admission, KeyHasher};
 use std::hash::Hash;
 
 impl<K: Eq + Hash + Drop, V: Drop, L: Admission<K, V> + Copy, S: KeyHasher<K>> LruMap<K, V, L, S> {
-    /// Inserts a new key with its value, as the newest entry, if nothing has to leave for it. Otherwise returns both.
-    ///
-    /// They come back if the key is there, if the limiter rejects the entry or would be over its limit with it, and if
-    /// the table has no growth left and cannot grow. No entry leaves, moves in the order of use, or changes its value.
+    /// Inserts a new key with its value, as the newest entry, if nothing has to be evicted for it. Otherwise returns
+    /// both. Then no entry is evicted, moves in the order of use, or changes its value.
     ///
     /// ```
     /// assert_eq!(rt; map.try_insert(4, 40), Err((4, 40)));
@@ -22,13 +20,21 @@ impl<K: Eq + Hash + Drop, V: Drop, L: Admission<K, V> + Copy, S: KeyHasher<K>> L
     /// assert_eq!(rt; (map.try_insert(4, 40), map.try_insert(4, 41)), (Ok(()), Err((4, 41))));
     /// ```
     ///
-    /// Cost: `O(1)` expected, amortised over the inserts, with one search for the key. Nothing is evicted, so an insert
-    /// that finds no growth left reserves some, as `try_reserve(1)` does.
+    /// Cost: `O(1)` expected, amortised over the inserts, with one search for the key. An insert that finds no growth
+    /// left reserves some, as `try_reserve(1)` does. `move_report` does not count the entries that this moves.
     ///
     /// # Errors
     ///
-    /// An `Err` returns the key and the value. If there was growth left, nothing has changed. If there was none, the
-    /// table may have more buckets, and the limiter keeps what it noted when it was asked for them.
+    /// An `Err` returns the key and the value, for one of five causes:
+    ///
+    /// - The key is there.
+    /// - The limiter rejects the entry.
+    /// - The limiter would be over its limit with the entry.
+    /// - No growth is left, and there is no larger table, or the limiter refuses it.
+    /// - No growth is left, and there is no memory for the table.
+    ///
+    /// If there was growth left, nothing has changed. If there was none, the table may have more buckets, and the
+    /// limiter keeps what it noted when it was queried for them.
     ///
     /// After std's `HashMap::try_insert`; schnellru has no such call.
     pub fn try_insert(&mut self, key: K, value: V) -> Result<(), (K, V)>
@@ -117,7 +123,7 @@ impl<K: Eq + Hash + Drop, V: Drop, L: Admission<K, V> + Copy, S: KeyHasher<K>> L
     {
         match self.insert_new(hash, key, value, &mut |_, _| {}) {
             Ok(_) => {}
-            Err(_) => unreachable!(),
+            Err(_) => nowhere!(),
         }
     }
 }

@@ -2,14 +2,15 @@
 ghost use Rattle.std.specs.Prelude.{List};
 ghost use Rattle.schnellru.specs.HandedOver.{noting, noting_offers, noted, Takes};
 ghost use Rattle.schnellru.specs.Inside.Handing.{Hands};
-ghost use Rattle.schnellru.specs.State.{IsMap};
+ghost use Rattle.schnellru.specs.MayTake.{MayTakeReplaced};
+ghost use Rattle.schnellru.specs.State.{IsMap, contents};
 ghost use Rattle.schnellru.specs.Updates.{Update, UpdateHands};
 
 use crate::map::LruMap;
 use lru_limits::{Insertion, KeyHasher, Limiter, LookupKey};
 use std::hash::Hash;
 
-/// What an update did, with the value that the map does not have then.
+/// What an update did, with the value that is not in the map afterwards.
 ///
 /// ```
 /// assert_eq!(rt; map.update(1, 11), Updated::Replaced(10));
@@ -51,8 +52,8 @@ impl<K: Eq + Hash + Drop, V: Drop, L: Limiter<K, V>, S: KeyHasher<K>> LruMap<K, 
 
 // Nothing here requires `K: Drop` or `V: Drop`, so a body that forgets a pair does not compile.
 impl<K: Eq + Hash, V, L: Limiter<K, V>, S: KeyHasher<K>> LruMap<K, V, L, S> {
-    /// The same as `update`, and passes each entry that leaves to the callback, as the limiter leaves it: the evicted
-    /// entries, oldest first, or the entry whose new value is rejected.
+    /// The same as `update`, and passes each entry that is evicted or removed to the callback, as the limiter leaves
+    /// it: the evicted entries, oldest first, or the entry whose new value is rejected.
     ///
     /// ```
     /// let mut left = None;
@@ -69,11 +70,11 @@ impl<K: Eq + Hash, V, L: Limiter<K, V>, S: KeyHasher<K>> LruMap<K, V, L, S> {
     ) -> Updated<V>
     where
         L: Insertion<K, V, I>,
-        requires callable { F.IsAlwaysCallable sink.old }
+        requires callable { MayTakeReplaced L.rules F.FnMut L.offers I.names key value (contents self.old) sink.old }
         ensures step { Update L.rules L.offers I.names key value self.old result self.new }
         ensures handed { (handed : List (K × V)) × Takes F.FnMut sink.old handed sink.new
             × UpdateHands L.rules L.offers I.names key value self.old result handed self.new }
-        ensures callable { F.IsAlwaysCallable sink.new }
+        ensures callable { F.IsAlwaysCallable sink.old → F.IsAlwaysCallable sink.new }
         ensures map { IsMap K.eq self.new }
     {
         let updated = self.update_entry(key, value, sink);
@@ -82,7 +83,7 @@ impl<K: Eq + Hash, V, L: Limiter<K, V>, S: KeyHasher<K>> LruMap<K, V, L, S> {
         updated
     }
 
-    // The same, of all that was passed to the callback.
+    // The body of `update_with`. Its contract speaks of the map with the list of what the callback got.
     fn update_entry<I: LookupKey<K> + Drop, F: FnMut(K, V)>(
         &mut self,
         key: I,
@@ -91,10 +92,9 @@ impl<K: Eq + Hash, V, L: Limiter<K, V>, S: KeyHasher<K>> LruMap<K, V, L, S> {
     ) -> Updated<V>
     where
         L: Insertion<K, V, I>,
-        requires callable { F.IsAlwaysCallable sink.old }
+        requires callable { MayTakeReplaced L.rules F.FnMut L.offers I.names key value (contents self.old) sink.old }
         ensures handed { Hands F.FnMut sink.old sink.new (λ before after. Update (noting L.rules)
             (noting_offers L.offers) I.names key value (noted before self.old) result (noted after self.new)) }
-        ensures callable { F.IsAlwaysCallable sink.new }
     {
         let b = match self.find(&key) {
             Some(b) => b,

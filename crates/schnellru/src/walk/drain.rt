@@ -1,4 +1,4 @@
-//! Draining a map: a walk that takes the pairs out.
+//! Draining a map: a walk that takes the entries out.
 ghost use Rattle.std.specs.Prelude.{◌≡◌, length, Some, IfSome};
 ghost use Rattle.std.specs.Iterator.{UpTo};
 ghost use Rattle.std.specs.Iterator.SizeHint.{IsWithinCount};
@@ -9,11 +9,11 @@ use lru_limits::{KeyHasher, Limiter};
 use std::hash::Hash;
 use std::iter::FusedIterator;
 
-/// An iterator that takes the pairs out of a map, from both ends. Dropping it clears the map; forgetting it leaves the
-/// other pairs in the map.
+/// An iterator that takes the entries out of a map, from both ends. Dropping it clears the map; forgetting it leaves
+/// the other entries in the map.
 ///
-/// It takes a pair as `pop_newest` or `pop_oldest` does: the limiter is notified, and the pair is returned as the
-/// limiter leaves it. The limiter is notified of the clear itself, not of each pair that it drops.
+/// It takes an entry as `pop_newest` or `pop_oldest` does: the limiter is notified, and the entry is returned as the
+/// limiter leaves it. The limiter is notified of the clear itself, not of each entry that it drops.
 ///
 /// ```
 /// for (key, value) in map.drain() {
@@ -30,7 +30,7 @@ impl<'a, K: Eq + Hash + Drop, V: Drop, L: Limiter<K, V>, S: KeyHasher<K>> Drop
     for Drain<'a, K, V, L, S> {
     ghost use Rattle.schnellru.specs.Calls.{cleared};
 
-    /// Clears the map, even if no pair is left.
+    /// Clears the map, even if no entry is left. Cost: `O(buckets)`.
     fn drop(self)
         ensures { self.exit.0.now ≡ cleared L.rules (drain_map self.entry) }
     {
@@ -53,7 +53,7 @@ impl<'a, K: Eq + Hash + Drop, V: Drop, L: Limiter<K, V>, S: KeyHasher<K>> Iterat
         self.map.pop_newest()
     }
 
-    /// Returns exactly how many pairs are left, as `len` does.
+    /// Returns exactly how many entries are left, as `len` does.
     fn size_hint(&self) -> (usize, Option<usize>)
         ensures lower { IsWithinCount result.0 (drain_left self.now) }
         ensures upper { IfSome result.1 (UpTo (drain_left self.now)) }
@@ -86,7 +86,7 @@ impl<'a, K: Eq + Hash + Drop, V: Drop, L: Limiter<K, V>, S: KeyHasher<K>> FusedI
     for Drain<'a, K, V, L, S> {}
 
 impl<K: Eq + Hash, V, L: Limiter<K, V>, S: KeyHasher<K>> LruMap<K, V, L, S> {
-    /// Takes out the pairs, newest first. When the iterator is dropped, the map is cleared.
+    /// Takes out the entries, newest first. When the iterator is dropped, the map is cleared.
     ///
     /// ```
     /// for (key, value) in map.drain() {
@@ -94,6 +94,8 @@ impl<K: Eq + Hash, V, L: Limiter<K, V>, S: KeyHasher<K>> LruMap<K, V, L, S> {
     /// }
     /// assert!(rt; map.is_empty());
     /// ```
+    ///
+    /// Cost: `O(1)` for each entry that is taken, and `O(buckets)` for the drop of the iterator.
     ///
     /// After schnellru's `LruMap::drain`.
     pub fn drain(&mut self) -> Drain<'_, K, V, L, S>

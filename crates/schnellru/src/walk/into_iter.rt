@@ -10,10 +10,10 @@ use std::hash::Hash;
 use std::iter::FusedIterator;
 use std::marker::Model;
 
-/// An iterator that owns a map and takes the pairs out of it, newest first, from both ends.
+/// An iterator that owns a map and takes the entries out of it from both ends: `next` takes the newest.
 ///
-/// It takes a pair as `pop_newest` or `pop_oldest` does: the limiter is notified, and the pair is returned as the
-/// limiter leaves it. Dropping the iterator drops the other pairs, of which the limiter is not notified.
+/// It takes an entry as `pop_newest` or `pop_oldest` does: the limiter is notified, and the entry is returned as the
+/// limiter leaves it. Dropping the iterator drops the other entries, of which the limiter is not notified.
 ///
 /// ```
 /// assert_eq!(rt; map.into_iter().next_back(), Some((2, 20)));
@@ -43,7 +43,7 @@ impl<K: Eq + Hash + Drop, V: Drop, L: Limiter<K, V> + Drop, S: KeyHasher<K> + Dr
         self.map.pop_newest()
     }
 
-    /// Returns exactly how many pairs are left, as `len` does.
+    /// Returns exactly how many entries are left, as `len` does.
     fn size_hint(&self) -> (usize, Option<usize>)
         ensures lower { IsWithinCount result.0 (at_most (length self.now.pairs)) }
         ensures upper { IfSome result.1 (UpTo (at_most (length self.now.pairs))) }
@@ -81,7 +81,7 @@ impl<
 impl<K: Eq + Hash + Drop, V: Drop, L: Limiter<K, V> + Drop, S: KeyHasher<K> + Drop> FusedIterator
     for IntoIter<K, V, L, S> {}
 
-/// `for (key, value) in map` takes the pairs out, newest first.
+/// `for (key, value) in map` takes the entries out, newest first.
 impl<K: Eq + Hash + Drop, V: Drop, L: Limiter<K, V> + Drop, S: KeyHasher<K> + Drop> IntoIterator
     for LruMap<K, V, L, S> {
     type Item = (K, V);

@@ -8,10 +8,7 @@ use crate::map::LruMap;
 use lru_limits::{KeyHasher, Limiter};
 use std::hash::Hash;
 
-/// An iterator over the pairs of a map, newest first, from both ends, that lends each value until its next call.
-///
-/// The pairs that are left are those at the positions from `start` up to `end`, counted from the newest. `front` and
-/// `back` are the buckets of the first and the last of them, so a step reads one entry.
+/// An iterator over the entries of a map, newest first, from both ends, that lends each value until its next call.
 ///
 /// ```
 /// let mut walk = map.iter_mut();
@@ -24,6 +21,8 @@ use std::hash::Hash;
 #[derive(Drop)]
 pub struct IterMut<'a, K: Eq + Hash, V, L: Limiter<K, V>, S: KeyHasher<K>> {
     map: &'a mut LruMap<K, V, L, S>,
+    // The entries at the positions from `start` up to `end`, counted from the newest, are left. `front` and `back` are
+    // the buckets of the first and the last of them, so a step reads one entry.
     start: usize,
     end: usize,
     front: Option<usize>,
@@ -40,7 +39,7 @@ impl<'a, K: Eq + Hash, V, L: Limiter<K, V>, S: KeyHasher<K>> IterMut<'a, K, V, L
     ghost use Rattle.schnellru.specs.Walks.{walk_map, walk_start, walk_end, lends_first, lends_last};
     ghost use Rattle.schnellru.specs.Walks.{lends_next, lends_next_back, next_pair, next_back_pair};
 
-    /// Returns how many pairs are left.
+    /// Returns how many entries are left.
     ///
     /// ```
     /// assert_eq!(rt; walk.len(), 1);
@@ -51,7 +50,8 @@ impl<'a, K: Eq + Hash, V, L: Limiter<K, V>, S: KeyHasher<K>> IterMut<'a, K, V, L
         self.end.saturating_sub(self.start)
     }
 
-    /// Lends the newest pair that is left, its value for writing until the next call. `None` says that no pair is left.
+    /// Lends the newest entry that is left, its value for writing until the next call. `None` says that no entry is
+    /// left.
     ///
     /// The prover carries no contract on this type of result into a caller's proof; write `len` and `lend_next` there.
     ///
@@ -74,7 +74,7 @@ impl<'a, K: Eq + Hash, V, L: Limiter<K, V>, S: KeyHasher<K>> IterMut<'a, K, V, L
         None
     }
 
-    /// Lends the oldest pair that is left, as `next` lends the newest.
+    /// Lends the oldest entry that is left, as `next` lends the newest.
     ///
     /// ```
     /// if let Some((_, value)) = walk.next_back() {
@@ -94,7 +94,7 @@ impl<'a, K: Eq + Hash, V, L: Limiter<K, V>, S: KeyHasher<K>> IterMut<'a, K, V, L
         None
     }
 
-    /// The same as `next`, if a pair is left.
+    /// The same as `next`, if an entry is left.
     ///
     /// ```
     /// if walk.len() > 0 {
@@ -116,11 +116,11 @@ impl<'a, K: Eq + Hash, V, L: Limiter<K, V>, S: KeyHasher<K>> IterMut<'a, K, V, L
                 self.start += 1;
                 self.map.pair_at_mut(at, b)
             }
-            None => unreachable!(),
+            None => nowhere!(),
         }
     }
 
-    /// The same as `next_back`, if a pair is left.
+    /// The same as `next_back`, if an entry is left.
     ///
     /// ```
     /// if walk.len() > 0 {
@@ -142,7 +142,7 @@ impl<'a, K: Eq + Hash, V, L: Limiter<K, V>, S: KeyHasher<K>> IterMut<'a, K, V, L
                 self.end = at;
                 self.map.pair_at_mut(at, b)
             }
-            None => unreachable!(),
+            None => nowhere!(),
         }
     }
 }
@@ -150,7 +150,7 @@ impl<'a, K: Eq + Hash, V, L: Limiter<K, V>, S: KeyHasher<K>> IterMut<'a, K, V, L
 impl<K: Eq + Hash, V, L: Limiter<K, V>, S: KeyHasher<K>> LruMap<K, V, L, S> {
     ghost use Rattle.schnellru.specs.Walks.{walk_map, walk_lender, walk_start, walk_end};
 
-    /// Returns an iterator over the pairs, newest first, that lends each value for writing. The order stays. The
+    /// Returns an iterator over the entries, newest first, that lends each value for writing. The order stays. The
     /// limiter is not notified of what is written.
     ///
     /// ```

@@ -1,4 +1,4 @@
-// What an iterator needs of a map: the bucket of each pair, by its position from the newest on.
+//! What an iterator needs of a map: the bucket of each pair, by its position from the newest on.
 ghost use Rattle.std.specs.Prelude.{◌≡◌, ℕ, ◌+◌, length, slice_get, Some, Contains};
 ghost use Rattle.std.specs.Borrow.{sem};
 ghost use Rattle.std.specs.Map.Iter.{deref_pair_mut};
@@ -18,7 +18,7 @@ impl<K: Eq + Hash, V, L: Limiter<K, V>, S: KeyHasher<K>> LruMap<K, V, L, S> {
         ensures oldest { result.1 ≡ last_of (length self.now.pairs) self.now.places }
         ensures places { length self.now.places ≡ length self.now.pairs }
     {
-        (self.entries.newest(), self.entries.last())
+        (self.entries.first(), self.entries.last())
     }
 
     // The bucket after this one, towards the oldest.

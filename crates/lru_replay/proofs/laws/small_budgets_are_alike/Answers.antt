@@ -8,7 +8,8 @@ returns g c = record {
   alike = λ old other new last calls replies answers small uses alike none plain run ran wants.
       let law = c.runs_keep_the_memory_usage.ensures in
       let also = other_within old other alike uses small in
-      c.small_calls_are_alike.ensures.alike old other new last calls replies answers (hands_over-determined (λ _ _ _. true))
+      c.small_calls_are_alike.ensures.alike old other new last calls replies answers
+      (hands_over-determined (λ _ _ _. true))
       (hands_over-finds (λ _ _ _. true)) alike (few_buckets old old small (uses, refl)) plain
       (run_stays_small _ _ g.K.PartialEq.eq _ law.usage law.limiter old calls replies new run none uses small)
       (run_stays_small _ _ g.K.PartialEq.eq _ law.usage law.limiter other calls answers last ran none also.0 also.1)

@@ -2,6 +2,7 @@ use Rattle.std.proofs.Common.{◌∙◌, ap, subst, arith, inl, inr, sum_by}
 use Rattle.schnellru.specs.Runs.Step.{trims}
 use Rattle.schnellru.specs.State.{Trims}
 use Rattle.lru_tenants.specs.Cache.{with_limiter}
+use Rattle.schnellru.proofs.CallbackLemmas.{may_take_always}
 use Rattle.lru_tenants.proofs.BudgetSteps.{not_over}
 use Rattle.lru_tenants.proofs.tenant.set_budget.Goals as goal
 
@@ -38,3 +39,9 @@ returns-clause-budget g c =
     c.trim_with.ensures.step in
     c.calls_keep_the_budget.ensures.budget old new (trims step)
     ∙ g.met.L.Budgeted.laws.set_budget c.args.budget c.args.map.now.limiter
+
+pub trim_with-requires : goal.trim_with-requires
+trim_with-requires g c = record {
+  callable = λ before h pair fewer all taken passed.
+      may_take_always g.F.FnMut c.args.sink.now before h pair c.requires.callable taken;
+}

@@ -7,11 +7,9 @@ use Rattle.schnellru_tests.proofs.callers.put_and_keep_all.Goals as goal
 pub returns-clause-added : goal.returns-clause-added
 returns-clause-added c =
     let mid = c.try_reserve.new.self in
-    let reserved = c.in_ok-try_reserve.ensures.step in
-    let stay = (c.reservations_keep_the_list.ensures 1 c.args.map.now _ mid reserved).0 in
-    let room = c.reservations_make_room.ensures 1 c.args.map.now mid c.len.ensures.map.sized reserved in
+    let stay = c.try_reserve.ensures.pairs in
     let absent = ap (lookup_entry (nat_eq c.args.key)) stay ∙ c.requires in
     let accepts = hands_over-accepts _ _ nat_eq c.args.key c.args.value (contents mid) refl refl in
     let law = c.inserts_with_room_are_exact.ensures.added c.args.key c.args.value (c.args.key, c.args.value) mid in
-    (law c.insert.result c.insert.new.self room absent accepts c.insert.ensures.step).pairs
+    (law c.insert.result c.insert.new.self c.in_ok-try_reserve.ensures.room absent accepts c.insert.ensures.step).pairs
     ∙ ap (λ pairs. (c.args.key, c.args.value) ∷ pairs) stay

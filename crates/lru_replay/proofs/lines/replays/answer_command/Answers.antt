@@ -77,19 +77,22 @@ returns-in-Some-Promote g c =
 pub returns-in-Some-Demote : goal.returns-in-Some-Demote
 returns-in-Some-Demote g c =
     let at = c.in-Some-Demote in
-    carried_out g.L.ReportsCost.reported _ _ _ (commands.Demote at.key) at.field-0-is at.ensures.some (flag c.demote.result)
+    carried_out g.L.ReportsCost.reported _ _ _ (commands.Demote at.key) at.field-0-is at.ensures.some
+    (flag c.demote.result)
     (ap flag c.demote.ensures.there, c.demote.ensures.demoted) c.write_flag-in-Some-Demote.ensures
 
 pub returns-in-Some-PopOldest : goal.returns-in-Some-PopOldest
 returns-in-Some-PopOldest g c =
     let at = c.in-Some-PopOldest in
-    carried_out g.L.ReportsCost.reported _ _ _ commands.PopOldest at.field-0-is at.ensures.some (pair c.pop_oldest.result)
+    carried_out g.L.ReportsCost.reported _ _ _ commands.PopOldest at.field-0-is at.ensures.some
+    (pair c.pop_oldest.result)
     (_, c.pop_oldest.ensures.step, refl) c.write_left-in-Some-PopOldest.ensures
 
 pub returns-in-Some-PopNewest : goal.returns-in-Some-PopNewest
 returns-in-Some-PopNewest g c =
     let at = c.in-Some-PopNewest in
-    carried_out g.L.ReportsCost.reported _ _ _ commands.PopNewest at.field-0-is at.ensures.some (pair c.pop_newest.result)
+    carried_out g.L.ReportsCost.reported _ _ _ commands.PopNewest at.field-0-is at.ensures.some
+    (pair c.pop_newest.result)
     (_, c.pop_newest.ensures.step, refl) c.write_left-in-Some-PopNewest.ensures
 
 pub returns-in-Some-Reserve : goal.returns-in-Some-Reserve
@@ -101,7 +104,8 @@ returns-in-Some-Reserve g c =
 pub returns-in-Some-Shrink : goal.returns-in-Some-Shrink
 returns-in-Some-Shrink g c =
     let at = c.in-Some-Shrink in
-    carried_out g.L.ReportsCost.reported _ _ _ commands.Shrink at.field-0-is at.ensures.some (shrunk c.shrink_to_fit.result)
+    carried_out g.L.ReportsCost.reported _ _ _ commands.Shrink at.field-0-is at.ensures.some
+    (shrunk c.shrink_to_fit.result)
     (_, c.shrink_to_fit.ensures.step, refl) c.write_shrink.ensures
 
 pub returns-in-Some-Drain : goal.returns-in-Some-Drain

@@ -4,10 +4,19 @@ use Rattle.schnellru.proofs.Theorems.AdmittedPairs.{adds}
 use Rattle.schnellru.proofs.Theorems.PlainInserts.{plain_insert}
 use Rattle.schnellru.proofs.map.LruMap.add.Goals as goal
 
-pub unreachable-requires : goal.unreachable-requires
-unreachable-requires g c =
+pub bounds-0 : goal.bounds-0
+bounds-0 g c =
     let added = adds g.L.Admission.terms g.L.Limiter.rules g.L.Insertion.offers g.K.PartialEq.eq g.met.L.Admission.laws
-    c.args.key c.args.value c.args.self.now _ c.insert_new.new.self c.requires.storable c.requires.absent c.requires.room
+    c.args.key c.args.value c.args.self.now _ c.insert_new.new.self c.requires.storable c.requires.absent
+    c.requires.room
+    (plain_insert (c.insert_new.ensures.handed _ [] refl).2) in
+    let e = sym c.in-Err.is ∙ added.answer in absurd cc
+
+pub unreachable-requires-in-None : goal.unreachable-requires-in-None
+unreachable-requires-in-None g c =
+    let added = adds g.L.Admission.terms g.L.Limiter.rules g.L.Insertion.offers g.K.PartialEq.eq g.met.L.Admission.laws
+    c.args.key c.args.value c.args.self.now _ c.insert_new.new.self c.requires.storable c.requires.absent
+    c.requires.room
     (plain_insert (c.insert_new.ensures.handed _ [] refl).2) in
     let e = sym c.in-Err.is ∙ added.answer in cc
 
@@ -15,7 +24,9 @@ pub returns : goal.returns
 returns g c =
     let step = plain_insert (c.insert_new.ensures.handed _ [] refl).2 in
     let added = adds g.L.Admission.terms g.L.Limiter.rules g.L.Insertion.offers g.K.PartialEq.eq g.met.L.Admission.laws
-    c.args.key c.args.value c.args.self.now _ c.insert_new.new.self c.requires.storable c.requires.absent c.requires.room
+    c.args.key c.args.value c.args.self.now _ c.insert_new.new.self c.requires.storable c.requires.absent
+    c.requires.room
     step in
-    subst (λ r. Insert g.L.Limiter.rules g.L.Insertion.offers g.K.PartialEq.eq g.S.KeyHasher.hash_of c.args.key c.args.value
+    subst (λ r. Insert g.L.Limiter.rules g.L.Insertion.offers g.K.PartialEq.eq g.S.KeyHasher.hash_of c.args.key
+    c.args.value
     c.args.self.now r c.insert_new.new.self) added.answer step

@@ -8,10 +8,12 @@ invariant_of-self g c =
     c.on_cleared.ensures
     _ _ c.self.invariant e.linked (e.fits _)
 
-pub returns : goal.returns
-returns g c =
+pub returns-clause-step : goal.returns-clause-step
+returns-clause-step g c =
     let m = c.self.inside in let e = c.clear.ensures in
-    rw (← c.self.view_is) (record {
-      step = cleared_is g.L.Limiter.rules m.entries c.clear.new.self e.slots e.order e.placings _
-          c.on_cleared.new.self c.on_cleared.ensures;
-    })
+    rw (← c.self.view_is)
+    (cleared_is g.L.Limiter.rules m.entries c.clear.new.self e.slots e.order e.placings _ c.on_cleared.new.self
+    c.on_cleared.ensures)
+
+pub returns-clause-map : goal.returns-clause-map
+returns-clause-map g c = (invariant_of-self g c).map

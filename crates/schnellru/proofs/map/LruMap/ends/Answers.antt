@@ -5,7 +5,7 @@ use Rattle.schnellru.proofs.OrderedTables.Places.{first_at, last_at}
 use Rattle.schnellru.proofs.map.LruMap.ends.Goals as goal
 
 pub returns-clause-newest : goal.returns-clause-newest
-returns-clause-newest g c = rw (← c.self.view_is) (c.newest.ensures.newest ∙ first_at c.self.inside.entries.order)
+returns-clause-newest g c = rw (← c.self.view_is) (c.first.ensures.first ∙ first_at c.self.inside.entries.order)
 
 pub returns-clause-oldest : goal.returns-clause-oldest
 returns-clause-oldest g c =

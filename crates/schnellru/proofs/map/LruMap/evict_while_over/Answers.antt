@@ -1,8 +1,8 @@
 use Rattle.std.proofs.Common.{◌<◌, length, refl, ap, sym, ◌∙◌, subst, arith}
-use denote.Param.Always.{mut_next}
 use Rattle.schnellru.specs.State.{contents, Leaves}
 use Rattle.schnellru.specs.HandedOver.{noting, noted}
 use Rattle.schnellru.proofs.PairLists.Emptiness.{empty-length, some-length}
+use Rattle.schnellru.proofs.Maps.CallablePairs.{oldest_callable, rest_callable}
 use Rattle.schnellru.proofs.Maps.LeavingPairs.{length-without_last, leaves_self, trim-within, trim-empty}
 use Rattle.schnellru.proofs.Maps.Trims.{trims_more}
 use Rattle.schnellru.proofs.map.LruMap.evict_while_over.Goals as goal
@@ -15,9 +15,13 @@ evictions-init g c = record {
   handed = λ first before taken. (before, taken, (leaves_self (noted before c.args.self.now), refl));
 }
 
+pub sink-requires : goal.sink-requires
+sink-requires g c = oldest_callable g.L.Limiter.rules g.F.FnMut c.evictions.self c.take_oldest-key.new.self
+    c.take_oldest-key.result c.take_oldest-key.ensures.step c.evictions.sink c.evictions.invariant.callable
+
 pub evictions-smaller : goal.evictions-smaller
 evictions-smaller g c =
-    let one = ap (λ st. length st.pairs) c.take_oldest-key.ensures.state.is
+    let one = ap (λ st. length st.pairs) c.take_oldest-key.ensures.step.state.is
     ∙ length-without_last c.evictions.self.pairs in
     let fewer : length c.take_oldest-key.new.self.pairs < length c.evictions.self.pairs = omega
     (arith, one, c.evictions.invariant.some) in
@@ -29,10 +33,10 @@ evictions-preserved g c =
     let st = c.evictions.self in let u = c.take_oldest-key.new.self in let pair = c.take_oldest-key.result in record {
       some = some-length u.pairs (sym c.is_empty.ensures ∙ c.if-is_empty.false);
       over = sym c.is_over_the_limit.ensures ∙ c.if-not-is_over_the_limit.false;
-      callable = mut_next g.F.FnMut c.evictions.sink (pair.0, (pair.1, tt)) tt c.sink.new.self c.sink.new.self
-          c.sink.ensures refl i.callable;
+      callable = rest_callable rules g.F.FnMut st u pair c.take_oldest-key.ensures.step c.evictions.sink
+          c.sink.new.self c.sink.ensures i.callable;
       handed = trims_more rules g.F.FnMut c.args.self.now c.args.sink.now st u c.evictions.sink c.sink.new.self pair
-          i.some i.over c.take_oldest-key.ensures c.sink.ensures i.handed;
+          i.some i.over c.take_oldest-key.ensures.step c.sink.ensures i.handed;
     }
 
 pub returns-then-not-is_over_the_limit-clause-handed : goal.returns-then-not-is_over_the_limit-clause-handed
@@ -42,7 +46,7 @@ returns-then-not-is_over_the_limit-clause-handed g c =
     let within = sym c.is_over_the_limit.ensures ∙ c.if-not-is_over_the_limit.true in
     λ first before taken.
     let (after, had, trimmed) = trims_more rules g.F.FnMut c.args.self.now c.args.sink.now st u c.evictions.sink
-    c.sink.new.self pair i.some i.over c.take_oldest-key.ensures c.sink.ensures i.handed first before taken in (
+    c.sink.new.self pair i.some i.over c.take_oldest-key.ensures.step c.sink.ensures i.handed first before taken in (
       after,
       had,
       subst (λ left. Leaves (noted before c.args.self.now) left (noted after u))
@@ -56,7 +60,7 @@ returns-then-is_empty-clause-handed g c =
     let none = empty-length u.pairs (sym c.is_empty.ensures ∙ c.if-is_empty.true) in
     λ first before taken.
     let (after, had, trimmed) = trims_more rules g.F.FnMut c.args.self.now c.args.sink.now st u c.evictions.sink
-    c.sink.new.self pair i.some i.over c.take_oldest-key.ensures c.sink.ensures i.handed first before taken in (
+    c.sink.new.self pair i.some i.over c.take_oldest-key.ensures.step c.sink.ensures i.handed first before taken in (
       after,
       had,
       subst (λ left. Leaves (noted before c.args.self.now) left (noted after u))

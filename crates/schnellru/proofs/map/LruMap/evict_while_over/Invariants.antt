@@ -1,6 +1,6 @@
 -- The limiter is over, and there are pairs. What left was passed to the callback, and the rest is still to leave.
 use Rattle.std.proofs.Common.{◌≡◌, ◌<◌, true, length}
-use denote.Param.Always.{always_mut}
+use Rattle.schnellru.specs.MayTake.{MayTakeEach}
 use Rattle.schnellru.proofs.Maps.Trims.{IsTrimmedTo}
 use Rattle.schnellru.proofs.map.LruMap.evict_while_over.Given as goal
 
@@ -8,7 +8,7 @@ abbrev pub invariant-evictions : goal.invariant-evictions
 invariant-evictions g l = record {
   some : 0 < length l.self.pairs;
   over : g.L.Limiter.rules.is_over_the_limit l.self.limiter (length l.self.pairs) ≡ true;
-  callable : always_mut g.F.FnMut l.sink;
+  callable : MayTakeEach g.L.Limiter.rules g.F.FnMut l.self.pairs l.sink;
   handed : IsTrimmedTo g.L.Limiter.rules g.F.FnMut l.fn.self l.fn.sink l.self l.sink;
 }
 

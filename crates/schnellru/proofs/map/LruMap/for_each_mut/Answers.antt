@@ -28,7 +28,8 @@ pairs-preserved g c = let i = c.pairs.invariant in elim c.match-next.branch [
       rw (w.self-is, w.f-is, w.next-is, same) (record {
         callable = w.write_at.ensures.callable;
         next = w.older-next.ensures c.pairs.at (sym i.next ∙ w.in-Some.is);
-        written = written_more g.F.FnMut c.args.self.now.pairs c.args.f c.pairs.at c.pairs.self.pairs c.pairs.f i.written
+        written = written_more g.F.FnMut c.args.self.now.pairs c.args.f c.pairs.at c.pairs.self.pairs c.pairs.f
+            i.written
             pair value w.write_at.new.f there writes;
         state = with_others c.pairs.self c.args.self.now (set_value_at c.pairs.self.pairs c.pairs.at value) i.state;
         places = i.places ∙ sym (length-set c.pairs.self.pairs c.pairs.at value);

@@ -64,7 +64,8 @@ returns g c =
     let same : p ≡ (now.key, now.value) = same_Some p (now.key, now.value) (sym there_now
     ∙ sym (front_found names old.pairs old.places b at)
     ∙ ap (λ st. lookup_entry names st.pairs) (sym (c.self-2.view_is ∙ is))
-    ∙ pair_found v after.linked b (now.key, now.value) c.pair_mut.ensures.pair names laws one after.map.distinct named) in
+    ∙ pair_found v after.linked b (now.key, now.value) c.pair_mut.ensures.pair names laws one after.map.distinct
+    named) in
     let hash_of = g.S.KeyHasher.hash_of old.hasher in
     let gives : GivesByHash eq hash_of old.pairs c.args.hash g.F.FnMut c.args.is_eq p = rw (← c.self.view_is)
     (gives_by_hash t holds.linked laws holds.map.distinct (g.S.KeyHasher.hash_of m.hasher) holds.fits c.args.hash

@@ -36,7 +36,7 @@ use Rattle.lru_limits.specs.Hashing.{HasherMembers}
 use Rattle.std.specs.contracts.alloc.AllocError as AE
 use Rattle.std.proofs.alloc.AllocError.TheLaws as AE_laws
 use Rattle.schnellru.specs.State.{State}
-use Rattle.schnellru.specs.Lending.Answers.{kept_of}
+use Rattle.schnellru.specs.Lending.Answers.{lent_or_none}
 use Rattle.schnellru.specs.Lending.Made.{lends_or, lends_made}
 use Rattle.schnellru.specs.GetOrInserts.{GetsOrInserts}
 use Rattle.schnellru.specs.contracts.map.LruMap as M'
@@ -52,9 +52,11 @@ use Rattle.schnellru.proofs.LentValues.{lone, ends, Lent, Res, lent_laws, res_la
 
 pub get_or_insert_spec : {M : Type 1} → statement M
 get_or_insert_spec 𝓤 𝓛 𝓜 𝓡 wired K V L S N H I F LK LV LL LS LN LH LI LF cN kE kEd kP kPd kH kHd lL lLd nL nLd nC nCd
-    nE nEd nP nPd nD nDd sK sKd sB sBd hH hHd kDd vDd hDd iL iLd iH iHd iE iEd iP iPd fF fFd lI lId iDd fDd m1 m2 m3 m4 m5 m6
+    nE nEd nP nPd nD nDd sK sKd sB sBd hH hHd kDd vDd hDd iL iLd iH iHd iE iEd iP iPd fF fFd lI lId iDd fDd m1 m2 m3
+    m4 m5 m6
     m7 m8 m9 m10 m11 m12 m13 m14 m15 m16 m17 m18 m19 m20 m21 m22 m23 =
-    let W : Ended = f.ended K V L S N H I F kE kEd kP kPd kH kHd lL lLd nL nLd nC nCd nE nEd nP nPd nD nDd sK sKd sB sBd hH
+    let W : Ended = f.ended K V L S N H I F kE kEd kP kPd kH kHd lL lLd nL nLd nC nCd nE nEd nP nPd nD nDd sK sKd sB
+    sBd hH
     hHd kDd vDd hDd iL iLd iH iHd iE iEd iP iPd fF fFd lI lId iDd fDd in
     let stayed : Stays W.signature.params W.kept = (
       stay_dropped _ no,
@@ -76,12 +78,14 @@ get_or_insert_spec 𝓤 𝓛 𝓜 𝓡 wired K V L S N H I F LK LV LL LS LN LH L
         ),
       ),
     ) (dcons kEd (dcons kPd (dcons kHd (dcons lLd (dcons nLd (dcons nCd (dcons nEd
-    (dcons nPd (dcons nDd (dcons sKd (dcons sBd (dcons hHd (dcons kDd (dcons vDd (dcons hDd (dcons iLd (dcons iHd (dcons iEd
+    (dcons nPd (dcons nDd (dcons sKd
+    (dcons sBd (dcons hHd (dcons kDd (dcons vDd (dcons hDd (dcons iLd (dcons iHd (dcons iEd
     (dcons iPd (dcons fFd (dcons lId (dcons iDd (dcons fDd dnil))))))))))))))))))))))) in
     let fn : Fn = inst_fn args code.function in
     let R : RattleType = M'.the_row (param 0 K) (param 1 V) (param 2 L) (param 3 S) (copied 4 N) (param 5 H) kP kH lL
     nL nP nD sK sB hH in
-    let c = f.clauses K V L S N H I F kE kEd kP kPd kH kHd lL lLd nL nLd nC nCd nE nEd nP nPd nD nDd sK sKd sB sBd hH hHd kDd
+    let c = f.clauses K V L S N H I F kE kEd kP kPd kH kHd lL lLd nL nLd nC nCd nE nEd nP nPd nD nDd sK sKd sB sBd hH
+    hHd kDd
     vDd hDd iL iLd iH iHd iE iEd iP iPd fF fFd lI lId iDd fDd 𝓛 𝓜.mem 𝓡.returns in
     let End = walk_of 𝓛 W stayed c in let 𝓣 = tables 𝓤 𝓛.H 𝓜 𝓡 𝓡.env in
     let G₁ = triple_of 𝓛 (g₁.signature K V L S N H I F kE kEd kP kPd kH kHd lL lLd nL nLd nC nCd nE nEd nP nPd nD nDd
@@ -147,7 +151,8 @@ get_or_insert_spec 𝓤 𝓛 𝓜 𝓡 wired K V L S N H I F LK LV LL LS LN LH L
     raw (fact 𝓤 (κs.1.1.1.1.0 ⊑ S.lives)) ⊛ raw (fact 𝓤 (κs.1.1.1.1.1.0 ⊑ N.lives)) ⊛
     raw (fact 𝓤 (κs.1.1.1.1.1.1.0 ⊑ H.lives)) ⊛ raw (fact 𝓤 (κs.1.1.1.1.1.1.1.0 ⊑ I.lives)) ⊛
     raw (fact 𝓤 (κs.1.1.1.1.1.1.1.1.0 ⊑ F.lives)) ⊛
-    raw (f.requires-1 K V L S N H I F kE kEd kP kPd kH kHd lL lLd nL nLd nC nCd nE nEd nP nPd nD nDd sK sKd sB sBd hH hHd
+    raw (f.requires-1 K V L S N H I F kE kEd kP kPd kH kHd lL lLd nL nLd nC nCd nE nEd nP nPd nD nDd sK sKd sB sBd hH
+    hHd
     kDd vDd hDd iL iLd iH iHd iE iEd iP iPd fF fFd lI lId iDd fDd 𝓛 κs 𝓜.mem 𝓡.returns r k mk)) ∷ []) ∵
     move ! (1 ∷ []) $ split ! $ heard ! _ (λ l0. split ! $ heard ! _ (λ l1. split ! $ heard ! _ (λ l2. split ! $
     heard ! _ (λ l3. split ! $ heard ! _ (λ l4. split ! $ heard ! _ (λ l5. split ! $ heard ! _ (λ l6. split ! $
@@ -166,15 +171,19 @@ get_or_insert_spec 𝓤 𝓛 𝓜 𝓡 wired K V L S N H I F LK LV LL LS LN LH L
     sets ! (of_opd ! (get ! refl)) refl one₂.2 $
     calls_at ! (framed 𝓤 𝓛.H 𝓜 𝓣) G₁ (lend-thm.met 𝓤 𝓛 𝓜 𝓡 (code.calls-schnellru::map::LruMap::lend_or_insert 𝓡.env
     wired) K V L S N H I F LK LV LL LS LN LH LI LF cN kE kEd kP kPd kH kHd lL lLd nL nLd nC nCd nE nEd nP nPd nD
-    nDd sK sKd sB sBd hH hHd kDd vDd hDd iL iLd iH iHd iE iEd iP iPd fF fFd lI lId iDd fDd m1 m2 m3 m4 m5 m6 m7 m8 m9 m10
+    nDd sK sKd sB sBd hH hHd kDd vDd hDd iL iLd iH iHd iE iEd iP iPd fF fFd lI lId iDd fDd m1 m2 m3 m4 m5 m6 m7 m8 m9
+    m10
     m11 m12 m13 m14 m15 m16 m17 m18 m19 m20 m21 m22 m23) z₁
     (and_then ! (get ! refl) (and_then ! (get ! refl) (and_then ! (get ! refl) (no_more !)))) (λ v.
     use1 𝓛 (later (some (λ (x : Lt.Denot). (Tokens ⊛ ‵ (Lt.own_val x (v ∷ []))) ⊛
     some (λ (ws : Lasts (g₁.ended K V L S N H I F kE kEd kP kPd kH kHd lL lLd nL nLd nC nCd nE nEd nP nPd nD nDd
-    sK sKd sB sBd hH hHd kDd vDd hDd iL iLd iH iHd iE iEd iP iPd fF fFd lI lId iDd fDd) κs a). ‵ (lasts (g₁.ended K V L S
-    N H I F kE kEd kP kPd kH kHd lL lLd nL nLd nC nCd nE nEd nP nPd nD nDd sK sKd sB sBd hH hHd kDd vDd hDd iL iLd iH iHd
+    sK sKd sB sBd hH hHd kDd vDd hDd iL iLd iH iHd iE iEd iP iPd fF fFd lI lId iDd fDd) κs a). ‵
+    (lasts (g₁.ended K V L S
+    N H I F kE kEd kP kPd kH kHd lL lLd nL nLd nC nCd nE nEd nP nPd nD nDd sK sKd sB sBd hH hHd kDd vDd hDd iL iLd iH
+    iHd
     iE iEd iP iPd fF fFd lI lId iDd fDd) κs a ws) ⊛
-    ‵ (lends_or (param 0 K) (param 1 V) (param 2 L) (param 3 S) (copied 4 N) (param 5 H) key lL nL nP nD hashed hH r Step
+    ‵ (lends_or (param 0 K) (param 1 V) (param 2 L) (param 3 S) (copied 4 N) (param 5 H) key lL nL nP nD hashed hH r
+    Step
     x))))) (id⊢ 𝓤 _) $ await ! tt $ pick ! (λ x.
     split ! $ split ! $ move ! (2 ∷ []) $ pick ! (λ _. split ! $ drop ! $ move ! (2 ∷ []) $
     peeks ! Lt _ (shows 𝓛 Lt) x (v ∷ []) (λ is₁.
@@ -192,7 +201,7 @@ get_or_insert_spec 𝓤 𝓛 𝓜 𝓡 wired K V L S N H I F LK LV LL LS LN LH L
     wired) V LV) z₂ (and_then ! (get ! refl) (no_more !)) (λ u.
     use1 𝓛 (later (some (λ (e : Rs.Denot). (Some_of ⊛ ‵ (Rs.own_val e (u ∷ []))) ⊛
     some (λ (ws : Lasts (g₂.ended V) z₂.0.0 z₂.0.3). ‵ (lasts (g₂.ended V) z₂.0.0 z₂.0.3 ws) ⊛
-    raw (fact 𝓤 (e ≡ kept_of x)))))) (id⊢ 𝓤 _) $ await ! tt $ pick ! (λ e.
+    raw (fact 𝓤 (e ≡ lent_or_none x)))))) (id⊢ 𝓤 _) $ await ! tt $ pick ! (λ e.
     split ! $ split ! $ move ! (2 ∷ []) $ pick ! (λ _. split ! $ drop ! $ heard ! _ (λ is_kept. move ! (1 ∷ []) $
     peeks ! Rs _ (shows 𝓛 Rs) e (u ∷ []) (λ is₂.
     lands_as ! refl refl (rs.typed e (u ∷ []) is₂).0 $
@@ -202,8 +211,8 @@ get_or_insert_spec 𝓤 𝓛 𝓜 𝓡 wired K V L S N H I F LK LV LL LS LN LH L
     move ! (0 ∷ 4 ∷ []) $ join ! $ move ! (4 ∷ 0 ∷ []) $ join ! $ move ! (2 ∷ 0 ∷ []) $ join ! $
     -- [the tokens; nothing; the answer; what follows]
     move ! (3 ∷ []) $ use1 𝓛 (‵ (lends_made (param 0 K) (param 1 V) (param 2 L) (param 3 S) (copied 4 N) (param 5 H)
-    key lL nL nP nD hashed hH r Step (kept_of x))) (ends 𝓛 (param 0 K) (param 1 V) (param 2 L) (param 3 S) (copied 4
-    N) (param 5 H) key lL nL nP nD hashed hH r Step x) $
+    key lL nL nP nD hashed hH r Step (lent_or_none x))) (ends 𝓛 (param 0 K) (param 1 V) (param 2 L) (param 3 S)
+    (copied 4 N) (param 5 H) key lL nL nP nD hashed hH r Step x) $
     move ! (3 ∷ 0 ∷ []) $ join ! $ nothing ! $ nothing ! $ fjoin ! $ nothing ! $ fjoin ! $ nothing ! $ fjoin ! $
     join ! $ move ! (1 ∷ 0 ∷ []) $ join ! $ keep ! (0 ∷ []) $
-    by ! (leaves 𝓛 W stayed c y' u (kept_of x) (tt, (tt, (tt, tt))) (tt, (tt, (tt, tt))))))))))))))))))))))))
+    by ! (leaves 𝓛 W stayed c y' u (lent_or_none x) (tt, (tt, (tt, tt))) (tt, (tt, (tt, tt))))))))))))))))))))))))

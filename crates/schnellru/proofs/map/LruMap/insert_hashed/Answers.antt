@@ -3,6 +3,7 @@ use Rattle.schnellru.specs.State.{IsMap}
 use Rattle.schnellru.proofs.Theorems.InsertAnswers.{insert_says, insert_stores}
 use Rattle.schnellru.proofs.Theorems.LackOfMemory.{err_is, err_keeps, on_err_kept}
 use Rattle.schnellru.proofs.Theorems.PlainInserts.{plain_insert}
+use Rattle.schnellru.proofs.CallbackLemmas.{takes_always}
 use Rattle.schnellru.proofs.map.LruMap.insert_hashed.Goals as goal
 
 pub returns-clause-step : goal.returns-clause-step
@@ -25,3 +26,7 @@ returns-clause-lacks g c = on_err_kept _ (λ failed. err_is failed (returns-clau
 
 pub returns-clause-keeps : goal.returns-clause-keeps
 returns-clause-keeps g c = on_err_kept _ (λ failed. err_keeps failed (returns-clause-step g c))
+
+pub returns-clause-callable : goal.returns-clause-callable
+returns-clause-callable g c = let (handed, taken, step) = returns-clause-handed g c in
+    takes_always g.F.FnMut handed c.args.sink.now _ taken

@@ -28,42 +28,56 @@ insert_pair-requires-clause-absent g c =
     (λ k. g.met.I.LookupKey.laws.one c.args.key pair.0 k named) (pairs_of m.entries))
     ∙ (rw (← c.self.view_is) at c.requires.absent)
 
-pub returns-in-Ok-Some-clause-handed : goal.returns-in-Ok-Some-clause-handed
-returns-in-Ok-Some-clause-handed g c =
+pub returns-in-Ok-Some : goal.returns-in-Ok-Some
+returns-in-Ok-Some g c = record {
+  handed =
+      let m = c.self.inside in let len = c.len.ensures.len ∙ sym (pairs-length m.entries c.self.invariant.linked) in
+      let absent = rw (← c.self.view_is) at c.requires.absent in
+      let given = subst (λ n. g.L.Insertion.offers.on_insert m.limiter n c.args.key c.args.value c.on_insert.new.self
+      (Some c.in-Ok-Some.pair)) len (rw c.in-Ok-Some.field-0-is at c.in-Ok-Some.ensures.offered) in
+      λ first before taken.
+      let (after, had, step) = c.insert_pair.ensures.handed first before taken in (
+        after,
+        had,
+        rw (← c.self.view_is) (admitted absent (c.on_insert.new.self, before) c.in-Ok-Some.pair (given, refl) step),
+      );
+}
+
+pub returns-in-Ok-None : goal.returns-in-Ok-None
+returns-in-Ok-None g c = record {
+  handed =
+      let m = c.self.inside in let len = c.len.ensures.len ∙ sym (pairs-length m.entries c.self.invariant.linked) in
+      let absent = rw (← c.self.view_is) at c.requires.absent in
+      let given = subst (λ n. g.L.Insertion.offers.on_insert m.limiter n c.args.key c.args.value c.on_insert.new.self
+      None) len (rw c.in-Ok-None.field-0-is at c.in-Ok-None.ensures.offered) in
+      λ first before taken. (
+        before,
+        taken,
+        rw (← c.self.view_is) (not_admitted absent (c.on_insert.new.self, before) (given, refl) refl refl),
+      );
+}
+
+pub returns-in-Err : goal.returns-in-Err
+returns-in-Err g c = record {
+  handed =
+      let m = c.self.inside in
+      let rest = beside_of m (g.L.LinkType.LinkType.number g.L.LinkType.LinkType.MAX) in
+      let len = c.len.ensures.len ∙ sym (pairs-length m.entries c.self.invariant.linked) in
+      let absent = rw (← c.self.view_is) at c.requires.absent in
+      let lacks = subst (λ n. g.L.Insertion.offers.may_lack m.limiter n c.args.key c.args.value) len
+      c.in-Err.ensures.lacks in
+      λ first before taken. (
+        before,
+        taken,
+        rw (← c.self.view_is) (no_memory_to_admit absent lacks refl
+            (ap (λ l. noted before (state_of m.entries (record rest { limiter = l }))) c.in-Err.ensures.unchanged)),
+      );
+}
+
+pub insert_pair-requires-clause-callable : goal.insert_pair-requires-clause-callable
+insert_pair-requires-clause-callable g c =
     let m = c.self.inside in let len = c.len.ensures.len ∙ sym (pairs-length m.entries c.self.invariant.linked) in
-    let absent = rw (← c.self.view_is) at c.requires.absent in
     let given = subst (λ n. g.L.Insertion.offers.on_insert m.limiter n c.args.key c.args.value c.on_insert.new.self
     (Some c.in-Ok-Some.pair)) len (rw c.in-Ok-Some.field-0-is at c.in-Ok-Some.ensures.offered) in
-    λ first before taken.
-    let (after, had, step) = c.insert_pair.ensures.handed first before taken in (
-      after,
-      had,
-      rw (← c.self.view_is) (admitted absent (c.on_insert.new.self, before) c.in-Ok-Some.pair (given, refl) step),
-    )
-
-pub returns-in-Ok-None-clause-handed : goal.returns-in-Ok-None-clause-handed
-returns-in-Ok-None-clause-handed g c =
-    let m = c.self.inside in let len = c.len.ensures.len ∙ sym (pairs-length m.entries c.self.invariant.linked) in
-    let absent = rw (← c.self.view_is) at c.requires.absent in
-    let given = subst (λ n. g.L.Insertion.offers.on_insert m.limiter n c.args.key c.args.value c.on_insert.new.self
-    None) len (rw c.in-Ok-None.field-0-is at c.in-Ok-None.ensures.offered) in
-    λ first before taken. (
-      before,
-      taken,
-      rw (← c.self.view_is) (not_admitted absent (c.on_insert.new.self, before) (given, refl) refl refl),
-    )
-
-pub returns-in-Err-clause-handed : goal.returns-in-Err-clause-handed
-returns-in-Err-clause-handed g c =
-    let m = c.self.inside in
-    let rest = beside_of m (g.L.LinkType.LinkType.number g.L.LinkType.LinkType.MAX) in
-    let len = c.len.ensures.len ∙ sym (pairs-length m.entries c.self.invariant.linked) in
-    let absent = rw (← c.self.view_is) at c.requires.absent in
-    let lacks = subst (λ n. g.L.Insertion.offers.may_lack m.limiter n c.args.key c.args.value) len
-    c.in-Err.ensures.lacks in
-    λ first before taken. (
-      before,
-      taken,
-      rw (← c.self.view_is) (no_memory_to_admit absent lacks refl
-          (ap (λ l. noted before (state_of m.entries (record rest { limiter = l }))) c.in-Err.ensures.unchanged)),
-    )
+    (rw (← c.self.view_is) at c.requires.callable) (rw (← c.self.view_is) at c.requires.absent) c.on_insert.new.self
+    c.in-Ok-Some.pair given

@@ -1,10 +1,12 @@
 use Rattle.std.proofs.Common.{Ok, [], refl, ap, ◌∙◌, subst, sym}
 use Rattle.std.specs.Prelude.{Contains}
 use Rattle.schnellru.specs.HandedOver.{noting, noted}
-use Rattle.schnellru.specs.Inserts.{replaced, given_up}
+use Rattle.schnellru.specs.Inserts.{replaced, given_up, with_replaced}
+use Rattle.schnellru.specs.State.{contents}
 use Rattle.schnellru.proofs.Maps.LeavingPairs.{leaves_trimmed}
 use Rattle.schnellru.proofs.Maps.Offers.{offered_unkept, offered_place, offered_front, offered_some}
 use Rattle.schnellru.proofs.Theorems.Fronts.{replaced_named}
+use Rattle.schnellru.specs.MayTake.{MayTakeEach}
 use Rattle.schnellru.proofs.map.LruMap.insert_or_replace.Goals as goal
 
 pub returns-then-not-accepted-clause-handed : goal.returns-then-not-accepted-clause-handed
@@ -36,7 +38,8 @@ evict_over_limit-kept-requires-clause-some g c =
 
 pub returns-else-not-accepted-clause-handed : goal.returns-else-not-accepted-clause-handed
 returns-else-not-accepted-clause-handed g c = λ first before taken.
-    let yes = c.if-not-accepted.false in let names = g.I.LookupKey.names c.args.key in let one = g.met.I.LookupKey.laws.one c.args.key in
+    let yes = c.if-not-accepted.false in let names = g.I.LookupKey.names c.args.key in let one =
+    g.met.I.LookupKey.laws.one c.args.key in
     let (between, more, offer) = c.offer_at-accepted.ensures.handed first before taken in
     let named = replaced_named g.L.Limiter.rules g.L.Insertion.offers g.I.LookupKey.names g.met.I.LookupKey.laws
     g.met.L.Insertion.laws c.args.key c.args.value c.args.self.now offer.pair offer.there in
@@ -46,7 +49,8 @@ returns-else-not-accepted-clause-handed g c = λ first before taken.
       after,
       had,
       replaced offer.pair offer.there (offer.taken ∙ yes) (ap Ok c.evict_over_limit-kept.ensures.left)
-          (leaves_trimmed (noting g.L.Limiter.rules) (noted before c.args.self.now) (noted between c.promote_at.new.self)
+          (leaves_trimmed (noting g.L.Limiter.rules) (noted before c.args.self.now)
+          (noted between c.promote_at.new.self)
           (noted after c.evict_over_limit-kept.new.self) _
           (offered_front offer yes named (noted between c.promote_at.new.self) (ap (noted between) is)) trimmed),
     )
@@ -54,3 +58,22 @@ returns-else-not-accepted-clause-handed g c = λ first before taken.
 pub returns-else-not-accepted-clause-unkept : goal.returns-else-not-accepted-clause-unkept
 returns-else-not-accepted-clause-unkept g c =
     offered_unkept (c.offer_at-accepted.ensures.handed c.args.sink.now [] refl).2
+
+pub offer_at-accepted-requires-clause-callable : goal.offer_at-accepted-requires-clause-callable
+offer_at-accepted-requires-clause-callable g c = c.requires.callable.replaced.rejected
+
+pub evict_over_limit-kept-requires-clause-callable : goal.evict_over_limit-kept-requires-clause-callable
+evict_over_limit-kept-requires-clause-callable g c =
+    let yes = c.if-not-accepted.false in let names = g.I.LookupKey.names c.args.key in
+    let offer = (c.offer_at-accepted.ensures.handed c.args.sink.now [] refl).2 in
+    let named = replaced_named g.L.Limiter.rules g.L.Insertion.offers g.I.LookupKey.names g.met.I.LookupKey.laws
+    g.met.L.Insertion.laws c.args.key c.args.value c.args.self.now offer.pair offer.there in
+    let is = offered_front offer yes named (noted _ c.promote_at.new.self) (ap (noted _) (c.promote_at.ensures.promoted
+    names (g.met.I.LookupKey.laws.one c.args.key) (offered_place offer yes named c.in-Some.b c.in-Some.ensures.found)))
+    in
+    let all = (with_replaced g.L.Limiter.rules g.L.Insertion.offers g.I.LookupKey.names offer.pair c.args.key
+    c.args.value (contents c.args.self.now)).pairs in
+    let may = c.requires.callable.replaced.accepted offer.pair offer.there (offer.taken ∙ yes) in
+    subst (λ pairs. MayTakeEach g.L.Limiter.rules g.F.FnMut pairs c.offer_at-accepted.new.sink)
+    (sym (ap (λ st. st.pairs) is.is))
+    (subst (MayTakeEach g.L.Limiter.rules g.F.FnMut all) (sym (c.offer_at-accepted.ensures.kept yes)) may)

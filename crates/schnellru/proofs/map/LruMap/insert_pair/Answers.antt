@@ -1,47 +1,75 @@
-use Rattle.std.proofs.Common.{[], Ok, inl, refl, ap, subst, arith}
+use Rattle.std.proofs.Common.{[], Ok, inl, refl, ap, subst, arith, sym}
 use Rattle.schnellru.specs.State.{buckets, room}
 use Rattle.schnellru.specs.Place.{placed, in_bucket, FillsBucket}
 use Rattle.schnellru.specs.HandedOver.{noted}
-use Rattle.schnellru.proofs.Maps.NotedStates.{noted_placed}
+use Rattle.schnellru.proofs.Maps.NotedStates.{noted_placed, noted_fills}
 use Rattle.schnellru.proofs.Maps.NewKeys.{stays_new}
+use Rattle.schnellru.specs.MayTake.{MayTakeEach}
+use Rattle.schnellru.proofs.Maps.CallablePairs.{later_callable}
 use Rattle.schnellru.proofs.map.LruMap.insert_pair.Goals as goal
 
 pub insert_without_growth-requires-clause-hash : goal.insert_without_growth-requires-clause-hash
 insert_without_growth-requires-clause-hash g c =
     (stays_new g.L.Limiter.rules g.S.KeyHasher.hash_of g.K.PartialEq.eq c.args.hash c.args.pair c.args.self.now
-    c.make_room.new.self _ (c.make_room.ensures.handed c.args.sink.now [] refl).2 c.requires.hash c.requires.absent).hash
+    c.make_room.new.self _ (c.make_room.ensures.handed c.args.sink.now [] refl).2 c.requires.hash
+    c.requires.absent).hash
 
 pub insert_without_growth-requires-clause-absent : goal.insert_without_growth-requires-clause-absent
 insert_without_growth-requires-clause-absent g c =
     (stays_new g.L.Limiter.rules g.S.KeyHasher.hash_of g.K.PartialEq.eq c.args.hash c.args.pair c.args.self.now
-    c.make_room.new.self _ (c.make_room.ensures.handed c.args.sink.now [] refl).2 c.requires.hash c.requires.absent).absent
+    c.make_room.new.self _ (c.make_room.ensures.handed c.args.sink.now [] refl).2 c.requires.hash
+    c.requires.absent).absent
 
 pub store_in_room-requires-clause-hash : goal.store_in_room-requires-clause-hash
 store_in_room-requires-clause-hash g c =
     (stays_new g.L.Limiter.rules g.S.KeyHasher.hash_of g.K.PartialEq.eq c.args.hash c.args.pair c.args.self.now
-    c.make_room.new.self _ (c.make_room.ensures.handed c.args.sink.now [] refl).2 c.requires.hash c.requires.absent).hash
+    c.make_room.new.self _ (c.make_room.ensures.handed c.args.sink.now [] refl).2 c.requires.hash
+    c.requires.absent).hash
 
 pub store_in_room-requires-clause-absent : goal.store_in_room-requires-clause-absent
 store_in_room-requires-clause-absent g c =
     (stays_new g.L.Limiter.rules g.S.KeyHasher.hash_of g.K.PartialEq.eq c.args.hash c.args.pair c.args.self.now
-    c.make_room.new.self _ (c.make_room.ensures.handed c.args.sink.now [] refl).2 c.requires.hash c.requires.absent).absent
+    c.make_room.new.self _ (c.make_room.ensures.handed c.args.sink.now [] refl).2 c.requires.hash
+    c.requires.absent).absent
 
-pub returns-then-growth_left-eq0-clause-handed : goal.returns-then-growth_left-eq0-clause-handed
-returns-then-growth_left-eq0-clause-handed g c =
-    λ first before taken.
-    let (mid, had, way) = c.make_room.ensures.handed first before taken in
-    let (after, has, step) = c.insert_without_growth.ensures.handed first mid had in
-    (after, has, (noted mid c.make_room.new.self, way, step))
+pub returns-then-growth_left-eq0 : goal.returns-then-growth_left-eq0
+returns-then-growth_left-eq0 g c = record {
+  handed =
+      λ first before taken.
+      let (mid, had, way) = c.make_room.ensures.handed first before taken in
+      let (after, has, step) = c.insert_without_growth.ensures.handed first mid had in
+      (after, has, (noted mid c.make_room.new.self, way, step));
+}
 
-pub returns-clause-handed : goal.returns-clause-handed
-returns-clause-handed g c =
-    let ready = c.make_room.new.self in let stored = c.store_in_room.ensures in let new = c.store_in_room.new.self in
-    λ first before taken.
-    let (mid, had, way) = c.make_room.ensures.handed first before taken in
-    let (after, in_all, trimmed) = c.evict_over_limit.ensures.handed first mid had in
-    let is = (stays_new g.L.Limiter.rules g.S.KeyHasher.hash_of g.K.PartialEq.eq c.args.hash c.args.pair c.args.self.now
-    ready _ (c.make_room.ensures.handed c.args.sink.now [] refl).2 c.requires.hash c.requires.absent).hash in
-    let put = in_bucket stored.within (inl (omega (arith, c.growth_left.ensures, c.if-growth_left-eq0.false)))
-    (subst (λ h. FillsBucket h ready new) is stored.fills) refl
-    (noted_placed mid c.args.pair (buckets ready) (room new) 0 ready new stored.placed) in
-    (after, in_all, (noted mid ready, way, (placed, noted mid new, put, (ap Ok c.evict_over_limit.ensures.left, trimmed))))
+pub returns : goal.returns
+returns g c = record {
+  handed =
+      let ready = c.make_room.new.self in let stored = c.store_in_room.ensures in let new = c.store_in_room.new.self in
+      λ first before taken.
+      let (mid, had, way) = c.make_room.ensures.handed first before taken in
+      let (after, in_all, trimmed) = c.evict_over_limit.ensures.handed first mid had in
+      let is = (stays_new g.L.Limiter.rules g.S.KeyHasher.hash_of g.K.PartialEq.eq c.args.hash c.args.pair
+      c.args.self.now ready _ (c.make_room.ensures.handed c.args.sink.now [] refl).2 c.requires.hash
+      c.requires.absent).hash in
+      let put = in_bucket stored.within (inl (omega (arith, c.growth_left.ensures, c.if-growth_left-eq0.false)))
+      (subst (λ h. FillsBucket h (noted mid ready) (noted mid new)) is
+      (noted_fills mid mid _ ready new stored.fills)) refl
+      (noted_placed mid c.args.pair (buckets ready) (room new) 0 ready new stored.placed) in
+      let left = ap Ok c.evict_over_limit.ensures.left in
+      (after, in_all, (noted mid ready, way, (placed, noted mid new, put, (left, trimmed))));
+}
+
+pub make_room-requires : goal.make_room-requires
+make_room-requires g c = record {
+  callable = later_callable g.L.Limiter.rules g.F.FnMut c.args.pair c.args.self.now.pairs c.args.sink.now
+      c.requires.callable;
+}
+
+pub insert_without_growth-requires-clause-callable : goal.insert_without_growth-requires-clause-callable
+insert_without_growth-requires-clause-callable g c = c.make_room.ensures.callable c.args.pair c.requires.callable
+
+pub evict_over_limit-requires-clause-callable : goal.evict_over_limit-requires-clause-callable
+evict_over_limit-requires-clause-callable g c =
+    subst (λ pairs. MayTakeEach g.L.Limiter.rules g.F.FnMut pairs c.make_room.new.sink)
+    (sym (ap (λ st. st.pairs) c.store_in_room.ensures.placed.state))
+    (c.make_room.ensures.callable c.args.pair c.requires.callable)

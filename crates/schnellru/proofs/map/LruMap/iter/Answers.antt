@@ -14,4 +14,4 @@ returns-clause-runs_back g c =
 pub invariant_of-result : goal.invariant_of-result
 invariant_of-result g c =
     let t = c.self.inside.entries in
-    rw (c.newest.ensures.newest, c.last.ensures.last, c.len.ensures.len) (rest-whole t c.self.invariant.linked)
+    rw (c.first.ensures.first, c.last.ensures.last, c.len.ensures.len) (rest-whole t c.self.invariant.linked)

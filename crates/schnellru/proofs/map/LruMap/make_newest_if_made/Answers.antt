@@ -1,5 +1,6 @@
-use Rattle.std.proofs.Common.{[], refl, sym, ap}
-use Rattle.schnellru.specs.IfMade.{got, failed, inserted, or_memory}
+use Rattle.std.proofs.Common.{[], Ok, true, refl, sym, ap}
+use Rattle.schnellru.specs.GetOrInserts.{got, inserted}
+use Rattle.schnellru.specs.IfMade.{failed, as_made, or_memory}
 use Rattle.schnellru.proofs.PairLists.NamedPlaces.{named_there, named_value, no_named_value}
 use Rattle.schnellru.proofs.Theorems.PlainInserts.{plain_insert}
 use Rattle.schnellru.proofs.map.LruMap.make_newest_if_made.Goals as goal
@@ -12,8 +13,8 @@ pub returns-in-Some : goal.returns-in-Some
 returns-in-Some g c =
     let old = c.args.self.now in let at = c.in-Some.ensures.found in let names = g.I.LookupKey.names c.args.key in
     let (pair, there, accepts) = named_there names old.pairs old.places c.in-Some.b at in
-    got pair.1 (named_value names old.pairs pair there) refl
-    (c.promote_at.ensures.promoted names (g.met.I.LookupKey.laws.one c.args.key) at)
+    as_made (Ok true) (got pair.1 (named_value names old.pairs pair there) refl
+    (c.promote_at.ensures.promoted names (g.met.I.LookupKey.laws.one c.args.key) at)) refl
 
 pub returns-in-Err : goal.returns-in-Err
 returns-in-Err g c = failed
@@ -21,13 +22,13 @@ returns-in-Err g c = failed
     c.in-Err.error c.in-Err.ensures refl refl
 
 pub returns-in-Ok-insert_new : goal.returns-in-Ok-insert_new
-returns-in-Ok-insert_new g c = inserted
+returns-in-Ok-insert_new g c = as_made c.insert_new.result (inserted
     (no_named_value (g.I.LookupKey.names c.args.key) c.args.self.now.pairs c.in-None.ensures.none)
-    c.in-Ok.value c.in-Ok.ensures c.insert_new.result (plain_insert (c.insert_new.ensures.handed _ [] refl).2)
+    c.in-Ok.value c.in-Ok.ensures (plain_insert (c.insert_new.ensures.handed _ [] refl).2))
     (ap or_memory (sym c.in-Ok-insert_new.is))
 
 pub returns-in-Err-insert_new : goal.returns-in-Err-insert_new
-returns-in-Err-insert_new g c = inserted
+returns-in-Err-insert_new g c = as_made c.insert_new.result (inserted
     (no_named_value (g.I.LookupKey.names c.args.key) c.args.self.now.pairs c.in-None.ensures.none)
-    c.in-Ok.value c.in-Ok.ensures c.insert_new.result (plain_insert (c.insert_new.ensures.handed _ [] refl).2)
+    c.in-Ok.value c.in-Ok.ensures (plain_insert (c.insert_new.ensures.handed _ [] refl).2))
     (ap or_memory (sym c.in-Err-insert_new.is))

@@ -2,6 +2,7 @@ use Rattle.std.proofs.Common.{◌≡◌, ◌+◌, true, [], ◌∷◌, ◌++◌,
 use Rattle.schnellru.specs.State.{contents, Leaves}
 use Rattle.schnellru.specs.HandedOver.{noting, noted}
 use Rattle.schnellru.proofs.OrderedTables.BucketPairs.{pairs-length}
+use Rattle.schnellru.proofs.Maps.CallablePairs.{oldest_callable, rest_callable_with}
 use Rattle.schnellru.proofs.Maps.NotedStates.{takes_more, noted_pop, make_room-over}
 use Rattle.schnellru.proofs.map.LruMap.make_room.Goals as goal
 
@@ -18,5 +19,14 @@ returns-then-is_over_the_limit-clause-handed g c =
       takes_more g.F.FnMut first before c.args.sink.now pair c.sink.new.self taken c.sink.ensures,
       subst (λ left. Leaves (noted before st) left (noted (before ++ pair ∷ []) u))
           (sym (make_room-over (noting rules) (contents (noted before st)) over))
-          (noted_pop rules before st u pair c.take_oldest-key.ensures),
+          (noted_pop rules before st u pair c.take_oldest-key.ensures.step),
     )
+
+pub sink-requires : goal.sink-requires
+sink-requires g c = oldest_callable g.L.Limiter.rules g.F.FnMut c.args.self.now c.take_oldest-key.new.self
+    c.take_oldest-key.result c.take_oldest-key.ensures.step c.args.sink.now c.requires.callable
+
+pub returns-then-is_over_the_limit-clause-callable : goal.returns-then-is_over_the_limit-clause-callable
+returns-then-is_over_the_limit-clause-callable g c = λ pair. rest_callable_with g.L.Limiter.rules g.F.FnMut
+    c.args.self.now c.take_oldest-key.new.self c.take_oldest-key.result c.take_oldest-key.ensures.step pair
+    c.args.sink.now c.sink.new.self c.sink.ensures

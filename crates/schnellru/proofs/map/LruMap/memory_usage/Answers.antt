@@ -20,5 +20,6 @@ returns g c =
     let st = c.args.self.now in let table = c.bucket_count-buckets.ensures in let usable = table.map.sized.usable in
     let bytes = ap (λ st. st.entry_bytes) c.self.view_is in
     usable.1
-    ∙ ap Some (sym (usage_bytes st.entry_bytes _ usable.0 (omega (arith, table.count, c.if-buckets-eq0.false)) usable.1).0
+    ∙ ap Some (sym (usage_bytes st.entry_bytes _ usable.0 (omega (arith, table.count, c.if-buckets-eq0.false))
+    usable.1).0
     ∙ sym (c.bytes_of.ensures ∙ (λ i. bytes_of (bytes i) (table.count i))))

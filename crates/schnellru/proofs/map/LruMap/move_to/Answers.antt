@@ -34,3 +34,6 @@ returns-clause-moved g c =
     rw (← c.self.view_is)
     (moves_to m.entries c.move_to.new.self c.args.count c.self.invariant.linked e.linked e.buckets e.pairs e.room
     e.placings _)
+
+pub returns-clause-map : goal.returns-clause-map
+returns-clause-map g c = (invariant_of-self-2 g c).map

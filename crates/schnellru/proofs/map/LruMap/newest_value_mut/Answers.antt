@@ -1,4 +1,4 @@
-use Rattle.std.proofs.Common.{refl, sym, ◌∙◌}
+use Rattle.std.proofs.Common.{refl}
 use Rattle.schnellru.proofs.OrderedTables.NewestPair.{newest_state, newest_holds, newest_is}
 use Rattle.schnellru.proofs.map.LruMap.newest_value_mut.Goals as goal
 
@@ -7,9 +7,8 @@ invariant_of-self-lent g c = λ w.
     let m = c.self.inside in
     let t = m.entries in let holds = c.self.invariant in
     let hash_of = g.S.KeyHasher.hash_of in
-    newest_holds t holds.linked c.in-Some.b
-    (c.pair_mut.result.now.key, c.pair_mut.result.now.value) c.pair_mut.ensures.pair (sym c.newest.ensures.newest
-    ∙ c.in-Some.is) w
+    newest_holds t holds.linked c.newest-b.result
+    (c.pair_mut.result.now.key, c.pair_mut.result.now.value) c.pair_mut.ensures.pair c.newest-b.ensures.newest w
     _ g.met.K.Eq.laws hash_of holds
     (c.pair_mut.ensures.linked (c.pair_mut.result.now.key, w))
     (c.pair_mut.ensures.fits (hash_of m.hasher) holds.fits (c.pair_mut.result.now.key, w) refl)
@@ -18,17 +17,17 @@ pub returns : goal.returns
 returns g c =
     let m = c.self.inside in
     let t = m.entries in let holds = c.self.invariant in
-    let first = sym c.newest.ensures.newest ∙ c.in-Some.is in
+    let first = c.newest-b.ensures.newest in
     rw (← c.self.view_is) (
       (
         refl,
-        λ w. newest_state t holds.linked c.in-Some.b
+        λ w. newest_state t holds.linked c.newest-b.result
             (c.pair_mut.result.now.key, c.pair_mut.result.now.value) c.pair_mut.ensures.pair first w
             _,
       ),
       record {
         writes_back = tt;
-        value = newest_is t holds.linked c.in-Some.b
+        value = newest_is t holds.linked c.newest-b.result
             (c.pair_mut.result.now.key, c.pair_mut.result.now.value) c.pair_mut.ensures.pair first;
       },
     )

@@ -1,4 +1,4 @@
-use Rattle.std.proofs.Common.{◌≡◌, ℕ, length, sym, ◌∙◌, subst}
+use Rattle.std.proofs.Common.{◌≡◌, ℕ, length, sym, ◌∙◌, subst, true}
 use Rattle.schnellru.specs.Inside.Handing.{HandsGivenUp}
 use Rattle.schnellru.specs.Inside.Holds.{state_of}
 use Rattle.schnellru.specs.Inside.OrderedTable.{pairs_of}
@@ -9,6 +9,8 @@ use Rattle.schnellru.proofs.Maps.NotedStates.{noted_offer}
 use Rattle.schnellru.proofs.OrderedTables.BucketPairs.{pairs-length, pair_found}
 use Rattle.schnellru.proofs.OrderedTables.Replacements.{replaced_leaves, given_up_leaves, offered_holds}
 use Rattle.schnellru.proofs.OrderedTables.Searches.{pair_of_place}
+use Rattle.std.proofs.lemmas.Option.{same_Some}
+use Rattle.schnellru.specs.MayTake.{MayTakeRejected}
 use Rattle.schnellru.proofs.map.LruMap.offer_at.Goals as goal
 
 pub offer-requires-clause-there : goal.offer-requires-clause-there
@@ -45,18 +47,36 @@ returns-clause-handed g c =
     let replacement = by (length (pairs_of t)) in let same = sym (pairs-length t holds.linked) in
     let rest = beside_of m (g.L.LinkType.LinkType.number g.L.LinkType.LinkType.MAX) in
     rw (← c.self.view_is) (noted_offer g.F.FnMut g.L.Limiter.rules g.L.Insertion.offers g.I.LookupKey.names c.args.key
-    c.args.value (state_of t rest) (state_of u (record rest { limiter = l })) c.offer.result c.args.sink.now c.offer.new.sink
+    c.args.value (state_of t rest) (state_of u (record rest { limiter = l })) c.offer.result c.args.sink.now
+    c.offer.new.sink
     (record {
       pair = was;
       there = pair_found t holds.linked b was at names laws one holds.map.distinct named;
       taken = subst (λ n. (by n).taken ≡ c.offer.result.0) same (sym (e.taken was at));
       unkept = subst (λ n. c.offer.result.1 ≡ unkept_of (by n)) same (e.unkept was at);
-      accepted = λ yes. replaced_leaves replacement t u b l holds.linked e.linked was at names laws one holds.map.distinct
+      accepted = λ yes. replaced_leaves replacement t u b l holds.linked e.linked was at names laws one
+          holds.map.distinct
           named rest (subst (λ n. IsReplaced (by n) b t u l) same (e.replaced yes was at));
       place = λ yes. (e.replaced yes was at).order;
-      rejected = λ no. given_up_leaves replacement t u b l holds.linked e.linked was at names laws one holds.map.distinct
-          named rest g.L.Limiter.rules (subst (λ n. IsGivenUp g.L.Limiter.rules (by n) b t u l) same (e.given_up no was at));
+      rejected = λ no. given_up_leaves replacement t u b l holds.linked e.linked was at names laws one
+          holds.map.distinct
+          named rest g.L.Limiter.rules (subst (λ n. IsGivenUp g.L.Limiter.rules (by n) b t u l) same
+          (e.given_up no was at));
     })
     e.kept
     (λ no. subst (λ n. HandsGivenUp g.F.FnMut g.L.Limiter.rules (by n) c.args.sink.now c.offer.new.sink) same
     (e.handed no was at)))
+
+pub offer-requires-clause-callable : goal.offer-requires-clause-callable
+offer-requires-clause-callable g c = λ pair at.
+    let m = c.self.inside in let t = m.entries in let holds = c.self.invariant in let b = c.args.b in
+    let laws = g.met.K.Eq.laws in let names = g.I.LookupKey.names c.args.key in
+    let one = g.met.I.LookupKey.laws.one c.args.key in
+    let (was, there, named) = pair_of_place t holds.linked names laws one holds.map.distinct b
+    (rw (← c.self.view_is) at c.requires.found) in
+    let same = same_Some was pair (sym there ∙ at) in
+    let found = pair_found t holds.linked b pair at names laws one holds.map.distinct
+    (subst (λ p. names p.0 ≡ true) same named) in
+    subst (λ n. MayTakeRejected g.L.Limiter.rules g.F.FnMut
+    (g.L.Insertion.offers.on_replace m.limiter n pair.0 c.args.key pair.1 c.args.value) c.args.sink.now)
+    (pairs-length t holds.linked) ((rw (← c.self.view_is) at c.requires.callable) pair found)

@@ -1,13 +1,16 @@
-use Rattle.std.proofs.Common.{refl, sym}
-use Rattle.schnellru.proofs.PairLists.Emptiness.{some_last}
+use Rattle.std.proofs.Common.{refl}
+use Rattle.schnellru.proofs.OrderedTables.BucketPairs.{oldest_full, oldest_is}
 use Rattle.schnellru.proofs.map.LruMap.oldest_passes.Goals as goal
 
-pub unreachable-requires : goal.unreachable-requires
-unreachable-requires g c = some_last c.args.self.now.pairs c.requires.some (sym c.in-None.ensures)
+pub pair-pair-requires : goal.pair-pair-requires
+pair-pair-requires g c = oldest_full c.self.inside.entries c.self.invariant.linked c.oldest.result
+    c.oldest.ensures.oldest
 
 pub returns-clause-asked : goal.returns-clause-asked
-returns-clause-asked g c = let key = c.in-Some.key in let value = c.in-Some.value in (
-  (key.now, value.now),
-  sym c.in-Some.ensures,
-  record { key = key; value = value; shows = (refl, refl); called = c.keep.ensures },
-)
+returns-clause-asked g c =
+    let p = c.pair-pair.result.now in (
+      (p.key, p.value),
+      rw (← c.self.view_is) (oldest_is c.self.inside.entries c.self.invariant.linked c.oldest.result
+          c.oldest.ensures.oldest _ c.pair-pair.ensures.pair),
+      record { key = _; value = _; shows = (refl, refl); called = c.keep.ensures },
+    )

@@ -1,11 +1,13 @@
 use Rattle.std.proofs.Common.{sym, ◌∙◌}
 use Rattle.schnellru.proofs.OrderedTables.BucketPairs.{newest_full, newest_is, others_newest}
-use Rattle.schnellru.proofs.OrderedTables.TakenPairs.{taken_pairs, taken_left, taken_notified, taken_leaves, taken_holds}
+use Rattle.schnellru.proofs.OrderedTables.TakenPairs.{taken_pairs, taken_left, taken_notified, taken_leaves}
+use Rattle.schnellru.proofs.OrderedTables.TakenPairs.{taken_frees}
+use Rattle.schnellru.proofs.OrderedTables.TakenPairs.{taken_holds}
 use Rattle.schnellru.proofs.map.LruMap.pop_newest.Goals as goal
 
 pub take_out-requires-clause-full : goal.take_out-requires-clause-full
 take_out-requires-clause-full g c = newest_full c.self.inside.entries c.self.invariant.linked c.in_ok-b.b
-    (sym c.newest.ensures.newest ∙ c.in_ok-b.was)
+    (sym c.first.ensures.first ∙ c.in_ok-b.was)
 
 pub invariant_of-self : goal.invariant_of-self
 invariant_of-self g c =
@@ -15,21 +17,29 @@ invariant_of-self g c =
     c.take_out.result c.take_out.ensures.taken holds.linked c.take_out.ensures.linked
     _ g.met.K.Eq.laws _ holds (c.take_out.ensures.fits _ holds.fits)
 
-pub returns : goal.returns
-returns g c =
+pub returns-clause-step : goal.returns-clause-step
+returns-clause-step g c =
     let m = c.self.inside in
     let holds = c.self.invariant in let out = c.take_out.ensures.taken in
     let rules = g.L.Limiter.rules in let t = m.entries in let u = c.take_out.new.entries in
     let l = c.take_out.new.limiter in
-    let at = sym c.newest.ensures.newest ∙ c.in_ok-b.was in
+    let at = sym c.first.ensures.first ∙ c.in_ok-b.was in
     let is = newest_is t holds.linked c.in_ok-b.b at out.pair out.there in
     rw (← c.self.view_is) (record {
-      step = record {
-        pair = taken_left rules t u c.in_ok-b.b m.limiter l c.take_out.result out _ is;
-        state = taken_leaves rules t u c.in_ok-b.b m.limiter l c.take_out.result out holds.linked
-            c.take_out.ensures.linked _ _
-            (taken_pairs rules t u c.in_ok-b.b m.limiter l c.take_out.result out
-            ∙ sym (others_newest t holds.linked c.in_ok-b.b at out.pair out.there))
-            (taken_notified rules t u c.in_ok-b.b m.limiter l c.take_out.result out _ is);
-      };
+      pair = taken_left rules t u c.in_ok-b.b m.limiter l c.take_out.result out _ is;
+      state = taken_leaves rules t u c.in_ok-b.b m.limiter l c.take_out.result out holds.linked
+          c.take_out.ensures.linked _ _
+          (taken_pairs rules t u c.in_ok-b.b m.limiter l c.take_out.result out
+          ∙ sym (others_newest t holds.linked c.in_ok-b.b at out.pair out.there))
+          (taken_notified rules t u c.in_ok-b.b m.limiter l c.take_out.result out _ is);
     })
+
+pub returns-clause-freed : goal.returns-clause-freed
+returns-clause-freed g c =
+    let m = c.self.inside in let took = c.take_out in
+    rw (← c.self.view_is) (taken_frees g.L.Limiter.rules m.entries took.new.entries c.in_ok-b.b m.limiter
+    took.new.limiter took.result took.ensures.taken c.self.invariant.linked took.ensures.linked _ _
+    (sym c.first.ensures.first ∙ c.in_ok-b.was))
+
+pub returns-clause-map : goal.returns-clause-map
+returns-clause-map g c = (invariant_of-self g c).map

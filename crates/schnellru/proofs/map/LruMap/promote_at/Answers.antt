@@ -21,7 +21,8 @@ invariant_of-self g c =
     g.S.KeyHasher.hash_of holds e.linked
 
 pub returns-clause-there : goal.returns-clause-there
-returns-clause-there g c = subst (λ order. Contains order c.args.b) (sym c.promote.ensures.order) (Contains-here c.args.b _)
+returns-clause-there g c = subst (λ order. Contains order c.args.b) (sym c.promote.ensures.order)
+    (Contains-here c.args.b _)
 
 pub returns-clause-promoted : goal.returns-clause-promoted
 returns-clause-promoted g c = λ names one at.

@@ -5,8 +5,8 @@ use Rattle.schnellru.proofs.Maps.Fields.{beside_of}
 use Rattle.schnellru.proofs.Maps.Reservations.{is_reserved, lacks_memory, is_denied}
 use Rattle.schnellru.proofs.map.LruMap.reserve_larger.Goals as goal
 
-pub returns-then-not-on_grow : goal.returns-then-not-on_grow
-returns-then-not-on_grow g c =
+pub returns-then-not-on_grow-clause-step : goal.returns-then-not-on_grow-clause-step
+returns-then-not-on_grow-clause-step g c =
     let m = c.self.inside in
     let rest = beside_of m (g.L.LinkType.LinkType.number g.L.LinkType.LinkType.MAX) in
     rw (← c.self.view_is) (is_denied g.L.Limiter.rules c.args.n (state_of m.entries rest) _
@@ -14,8 +14,8 @@ returns-then-not-on_grow g c =
     (rw (← c.self.view_is) at (sym c.in-Some.ensures.next)) c.on_grow.new.self c.on_grow.ensures.limiter
     (sym c.on_grow.ensures.allowed ∙ c.if-not-on_grow.true) refl)
 
-pub returns-in-Ok : goal.returns-in-Ok
-returns-in-Ok g c =
+pub returns-in-Ok-clause-step : goal.returns-in-Ok-clause-step
+returns-in-Ok-clause-step g c =
     let m = c.self.inside in
     let rest = beside_of m (g.L.LinkType.LinkType.number g.L.LinkType.LinkType.MAX) in
     rw (← c.self.view_is) (is_reserved g.L.Limiter.rules c.args.n (state_of m.entries rest) c.move_to.new.self
@@ -24,8 +24,8 @@ returns-in-Ok g c =
     c.on_grow.ensures.limiter
     (sym c.on_grow.ensures.allowed ∙ c.if-not-on_grow.false) c.in-Ok.ensures.moved)
 
-pub returns-in-Err : goal.returns-in-Err
-returns-in-Err g c =
+pub returns-in-Err-clause-step : goal.returns-in-Err-clause-step
+returns-in-Err-clause-step g c =
     let m = c.self.inside in
     let rest = beside_of m (g.L.LinkType.LinkType.number g.L.LinkType.LinkType.MAX) in
     rw (← c.self.view_is) (lacks_memory g.L.Limiter.rules c.args.n (state_of m.entries rest) c.move_to.new.self
@@ -34,6 +34,6 @@ returns-in-Err g c =
     c.on_grow.ensures.limiter
     (sym c.on_grow.ensures.allowed ∙ c.if-not-on_grow.false) c.in-Err.ensures.unchanged)
 
-pub returns-in-None : goal.returns-in-None
-returns-in-None g c = unchanged
+pub returns-in-None-clause-step : goal.returns-in-None-clause-step
+returns-in-None-clause-step g c = unchanged
     (no_such_table c.requires.lacks (sym c.in-None.ensures.next) refl) refl

@@ -1,5 +1,9 @@
-use Rattle.std.proofs.Common.{arith, refl, sym, subst}
-use denote.Param.Always.{mut_next}
+use Rattle.std.proofs.Common.{arith, sym, subst}
+use Rattle.schnellru.specs.MayTake.{MayTakeEach}
+use Rattle.schnellru.specs.Lists.{last, without_last, after}
+use Rattle.schnellru.proofs.CallbackLemmas.{takes_always}
+use Rattle.schnellru.proofs.Maps.CallablePairs.{fewer_callable, covers_promoted, length-promoted}
+use Rattle.schnellru.proofs.Maps.CallablePairs.{oldest_callable, rest_callable}
 use Rattle.schnellru.proofs.Maps.Retains.{IsRetainedTo, retains_none, retains_more, removes_more, retains_all}
 use Rattle.schnellru.proofs.Theorems.PlainInserts.{plain_retains}
 use Rattle.schnellru.proofs.map.LruMap.retain_with.Goals as goal
@@ -16,9 +20,11 @@ pairs-init g c = let st = c.args.self.now in record {
 pub pairs-preserved-then-oldest_passes : goal.pairs-preserved-then-oldest_passes
 pairs-preserved-then-oldest_passes g c =
     let i = c.pairs.invariant in let (pair, is, asks) = c.if-oldest_passes.ensures.asked in
-    let (places, moved) = c.promote_oldest.ensures in record {
+    let (places, moved) = c.promote_oldest.ensures in let pairs = c.pairs.self.pairs in record {
       keep = c.oldest_passes.ensures.callable;
-      callable = i.callable;
+      callable = subst (λ st. MayTakeEach g.L.Limiter.rules g.G.FnMut st.pairs c.pairs.sink) (sym moved)
+          (fewer_callable g.L.Limiter.rules g.G.FnMut pairs (after (last pairs) (without_last pairs))
+          (covers_promoted pairs) (length-promoted pairs) c.pairs.sink i.callable);
       asked = rw moved (retains_more g.L.Limiter.rules g.F.FnMut g.G.FnMut c.args.self.now c.args.keep c.args.sink.now
           c.pairs.left (omega (arith, c.pairs-test.true)) c.pairs.self c.pairs.keep c.pairs.sink i.asked pair is places
           c.oldest_passes.new.keep asks);
@@ -29,12 +35,12 @@ pairs-preserved g c =
     let i = c.pairs.invariant in let (pair, is, asks) = c.if-oldest_passes.ensures.asked in
     let left = c.take_oldest-key.result in record {
       keep = c.oldest_passes.ensures.callable;
-      callable = mut_next g.G.FnMut c.pairs.sink (left.0, (left.1, tt)) tt c.sink.new.self c.sink.new.self
-          c.sink.ensures refl i.callable;
+      callable = rest_callable g.L.Limiter.rules g.G.FnMut c.pairs.self c.take_oldest-key.new.self left
+          c.take_oldest-key.ensures.step c.pairs.sink c.sink.new.self c.sink.ensures i.callable;
       asked = removes_more g.L.Limiter.rules g.F.FnMut g.G.FnMut c.args.self.now c.args.keep c.args.sink.now
           c.pairs.left (omega (arith, c.pairs-test.true)) c.pairs.self c.pairs.keep c.pairs.sink i.asked pair is
           c.oldest_passes.new.keep asks c.take_oldest-key.new.self left
-          c.take_oldest-key.ensures c.sink.new.self c.sink.ensures;
+          c.take_oldest-key.ensures.step c.sink.new.self c.sink.ensures;
     }
 
 pub returns-clause-handed : goal.returns-clause-handed
@@ -51,3 +57,11 @@ returns-clause-handed g c =
 pub returns-clause-step : goal.returns-clause-step
 returns-clause-step g c = let (handed, taken, step) = returns-clause-handed g c in
     plain_retains g.L.Limiter.rules g.F.FnMut c.args.keep handed c.args.self.now c.pairs.self step
+
+pub sink-requires : goal.sink-requires
+sink-requires g c = oldest_callable g.L.Limiter.rules g.G.FnMut c.pairs.self c.take_oldest-key.new.self
+    c.take_oldest-key.result c.take_oldest-key.ensures.step c.pairs.sink c.pairs.invariant.callable
+
+pub returns-clause-callable : goal.returns-clause-callable
+returns-clause-callable g c = let (handed, taken, step) = returns-clause-handed g c in
+    takes_always g.G.FnMut handed c.args.sink.now c.pairs.sink taken

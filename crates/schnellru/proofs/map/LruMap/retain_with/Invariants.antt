@@ -1,12 +1,13 @@
 -- The newest `left` pairs are still to be asked. The others were, and those that left were passed to the callback.
 use denote.Param.Always.{always_mut}
+use Rattle.schnellru.specs.MayTake.{MayTakeEach}
 use Rattle.schnellru.proofs.Maps.Retains.{IsRetainedTo}
 use Rattle.schnellru.proofs.map.LruMap.retain_with.Given as goal
 
 abbrev pub invariant-pairs : goal.invariant-pairs
 invariant-pairs g l = record {
   keep : always_mut g.F.FnMut l.keep;
-  callable : always_mut g.G.FnMut l.sink;
+  callable : MayTakeEach g.L.Limiter.rules g.G.FnMut l.self.pairs l.sink;
   asked : IsRetainedTo g.L.Limiter.rules g.F.FnMut g.G.FnMut l.fn.self l.fn.keep l.fn.sink l.left l.self l.keep l.sink;
 }
 

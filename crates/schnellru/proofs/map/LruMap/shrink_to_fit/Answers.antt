@@ -14,8 +14,8 @@ use Rattle.schnellru.proofs.Maps.Reservations.{some_there}
 use Rattle.schnellru.proofs.Maps.ShrunkMaps.{needs, none_needed, shrinks_to, shrinks_holds}
 use Rattle.schnellru.proofs.map.LruMap.shrink_to_fit.Goals as goal
 
-pub returns-in-None : goal.returns-in-None
-returns-in-None g c =
+pub returns-in-None-clause-step : goal.returns-in-None-clause-step
+returns-in-None-clause-step g c =
     let m = c.self.inside in
     let rest = beside_of m (g.L.LinkType.LinkType.number g.L.LinkType.LinkType.MAX) in
     let st = state_of m.entries rest in
@@ -23,10 +23,10 @@ returns-in-None g c =
     (c.into_usize.ensures ∙ ap g.L.LinkType.LinkType.number c.MAX.ensures) c.len-len.ensures.len
     c.in-None.ensures.value in
     rw (← c.self.view_is)
-    (record { step = kept (subst (λ need. IfSome need (λ count. buckets st ≤ count)) (sym is) tt) refl refl })
+    (kept (subst (λ need. IfSome need (λ count. buckets st ≤ count)) (sym is) tt) refl refl)
 
-pub returns-then-buckets-count : goal.returns-then-buckets-count
-returns-then-buckets-count g c =
+pub returns-then-buckets-count-clause-step : goal.returns-then-buckets-count-clause-step
+returns-then-buckets-count-clause-step g c =
     let m = c.self.inside in
     let rest = beside_of m (g.L.LinkType.LinkType.number g.L.LinkType.LinkType.MAX) in
     let st = state_of m.entries rest in
@@ -36,10 +36,10 @@ returns-then-buckets-count g c =
     let few : buckets st ≤ c.in-Some.count = omega
     (arith, c.if-buckets-count.true, c.buckets.ensures.buckets, length-marks_of m.entries.slots) in
     rw (← c.self.view_is)
-    (record { step = kept (subst (λ need. IfSome need (λ count. buckets st ≤ count)) (sym is) few) refl refl })
+    (kept (subst (λ need. IfSome need (λ count. buckets st ≤ count)) (sym is) few) refl refl)
 
-pub returns-in_err-move_to : goal.returns-in_err-move_to
-returns-in_err-move_to g c =
+pub returns-in_err-move_to-clause-step : goal.returns-in_err-move_to-clause-step
+returns-in_err-move_to-clause-step g c =
     let m = c.self.inside in
     let rest = beside_of m (g.L.LinkType.LinkType.number g.L.LinkType.LinkType.MAX) in
     let st = state_of m.entries rest in
@@ -52,10 +52,8 @@ returns-in_err-move_to g c =
     (λ none. false≢true (c.in_err-move_to.ensures.gives_back
     (none_needed rest.max c.in-Some.count (ap (λ pairs. buckets_for rest.max (length pairs)) (sym none) ∙ is)))) in
     rw (← c.self.view_is)
-    (record {
-      step = no_memory_to_shrink c.in-Some.count (is, fewer) some c.from_residual.ensures.0
-          (ap (λ t. state_of t rest) c.in_err-move_to.ensures.unchanged);
-    })
+    (no_memory_to_shrink c.in-Some.count (is, fewer) some c.from_residual.ensures.0
+    (ap (λ t. state_of t rest) c.in_err-move_to.ensures.unchanged))
 
 pub invariant_of-self-2 : goal.invariant_of-self-2
 invariant_of-self-2 g c =
@@ -70,8 +68,8 @@ invariant_of-self-2 g c =
     e.placings rest g.K.PartialEq.eq hash_of holds e.fits
     (omega (arith, c.if-buckets-count.false, c.buckets.ensures.buckets)))
 
-pub returns : goal.returns
-returns g c =
+pub returns-clause-step : goal.returns-clause-step
+returns-clause-step g c =
     let m = c.self.inside in let e = c.in_ok-move_to.ensures in let holds = c.self.invariant in
     let rest = beside_of m (g.L.LinkType.LinkType.number g.L.LinkType.LinkType.MAX) in
     let st = state_of m.entries rest in
@@ -83,10 +81,11 @@ returns g c =
     c.saturating_add-self-inside.ensures ∙ ap (λ n. min (m.shrunk + n) (2 ^ 64 - 1))
     (c.len-len.ensures.len ∙ sym (pairs-length m.entries holds.linked)) in
     rw (← c.self.view_is)
-    (record {
-      step = shrunk c.in-Some.count (is, fewer) refl
-          (subst (λ n. MovesTo c.in-Some.count (shrink_counted st)
-          (state_of c.move_to.new.self (record rest { shrunk = n }))) (sym rises)
-          (shrinks_to m.entries c.move_to.new.self c.in-Some.count holds.linked e.linked e.buckets e.pairs e.room
-          e.placings rest));
-    })
+    (shrunk c.in-Some.count (is, fewer) refl
+    (subst (λ n. MovesTo c.in-Some.count (shrink_counted st)
+    (state_of c.move_to.new.self (record rest { shrunk = n }))) (sym rises)
+    (shrinks_to m.entries c.move_to.new.self c.in-Some.count holds.linked e.linked e.buckets e.pairs e.room
+    e.placings rest)))
+
+pub returns-clause-map : goal.returns-clause-map
+returns-clause-map g c = (invariant_of-self-2 g c).map

@@ -1,13 +1,15 @@
-use Rattle.std.proofs.Common.{◌≡◌, ◌/◌, ◌<◌, ◌≤◌, suc, inr, None, [], ◌∷◌, ◌++◌, length, refl, ap, sym, ◌∙◌, subst, arith}
-use denote.Param.Always.{mut_next}
+use Rattle.std.proofs.Common.{◌≡◌, ◌/◌, ◌<◌, ◌≤◌, suc, inr, None, [], ◌∷◌, ◌++◌, length, refl, ap, sym, ◌∙◌, subst}
+use Rattle.std.proofs.Common.{arith}
 use Rattle.group_table.specs.Sizes.{full_capacity}
 use Rattle.schnellru.specs.Lists.{lookup_entry}
 use Rattle.schnellru.specs.State.{buckets, room}
-use Rattle.schnellru.specs.Place.{LacksRoom}
+use Rattle.schnellru.specs.Place.{IsFullWithPairs}
+use Rattle.schnellru.specs.MayTake.{MayTakeEach}
 use Rattle.schnellru.specs.HandedOver.{noting, noted}
 use Rattle.schnellru.proofs.TableSizes.Growth.{full_capacity-some}
+use Rattle.schnellru.proofs.Maps.CallablePairs.{oldest_callable_with, rest_callable_with}
 use Rattle.schnellru.proofs.Maps.LeavingPairs.{leaves_self, leaves_more}
-use Rattle.schnellru.proofs.Maps.NotedStates.{takes_more, noted_sized, noted_placed, noted_pop}
+use Rattle.schnellru.proofs.Maps.NotedStates.{takes_more, noted_sized, noted_placed, noted_fills, noted_pop}
 use Rattle.schnellru.proofs.Maps.Placements.{one_more, one_fewer, left_absent, finds, rehashes_then, no_place_bucket}
 use Rattle.schnellru.proofs.Maps.Placements.{power_with_pairs}
 use Rattle.schnellru.proofs.map.LruMap.store_after_eviction.Goals as goal
@@ -18,7 +20,7 @@ store_after_move-requires-clause-absent g c =
     subst (λ p. lookup_entry (g.K.PartialEq.eq p.0) c.take_oldest-key.new.self.pairs ≡ None) (sym i.same_pair)
     (left_absent g.L.Limiter.rules c.args.hash c.args.pair c.args.self.now c.evictions.self c.take_oldest-key.new.self
     c.bucket_count-buckets.ensures.map.sized (c.requires.some, c.requires.outgrown.no_bucket.no_room)
-    i.n i.gone i.stuck c.take_oldest-key.ensures.state
+    i.n i.gone i.stuck c.take_oldest-key.ensures.step.state
     (g.K.PartialEq.eq c.args.pair.0) c.requires.absent)
 
 pub store_after_move-requires-clause-count : goal.store_after_move-requires-clause-count
@@ -29,7 +31,7 @@ pub store_after_move-requires-clause-usable : goal.store_after_move-requires-cla
 store_after_move-requires-clause-usable g c =
     let buckets = c.bucket_count-buckets.ensures in
     let bytes : c.take_oldest-key.new.self.entry_bytes ≡ c.args.self.now.entry_bytes =
-    ap (λ st. st.entry_bytes) c.take_oldest-key.ensures.state.is
+    ap (λ st. st.entry_bytes) c.take_oldest-key.ensures.step.state.is
     ∙ ap (λ st. st.entry_bytes) c.evictions.invariant.leaves.is in
     rw (bytes, buckets.count) buckets.map.sized.usable
 
@@ -39,7 +41,7 @@ store_in_bucket-requires-clause-absent g c =
     subst (λ p. lookup_entry (g.K.PartialEq.eq p.0) c.take_oldest-key.new.self.pairs ≡ None) (sym i.same_pair)
     (left_absent g.L.Limiter.rules c.args.hash c.args.pair c.args.self.now c.evictions.self c.take_oldest-key.new.self
     c.bucket_count-buckets.ensures.map.sized (c.requires.some, c.requires.outgrown.no_bucket.no_room)
-    i.n i.gone i.stuck c.take_oldest-key.ensures.state
+    i.n i.gone i.stuck c.take_oldest-key.ensures.step.state
     (g.K.PartialEq.eq c.args.pair.0) c.requires.absent)
 
 pub returns-then-len-half-clause-handed : goal.returns-then-len-half-clause-handed
@@ -61,7 +63,7 @@ returns-then-len-half-clause-handed g c =
       has,
       rehashes_then (noting rules) c.args.hash c.args.pair (noted before old) (noted mid st) (noted more u)
           (noted_sized before old sized) (c.requires.some, c.requires.outgrown.no_bucket.no_room) i.n gone i.stuck
-          (noted_pop rules mid st u pair c.take_oldest-key.ensures) (noted after c.store_after_move.new.self) _ few
+          (noted_pop rules mid st u pair c.take_oldest-key.ensures.step) (noted after c.store_after_move.new.self) _ few
           (rw (i.same_pair, same) at step),
     )
 
@@ -83,8 +85,9 @@ returns-in-Ok-clause-handed g c =
       takes_more g.F.FnMut first mid c.evictions.sink pair c.sink.new.self had c.sink.ensures,
       finds (noting rules) c.args.hash c.args.pair (noted before old) (noted mid st) (noted more u)
           (noted_sized before old sized) (c.requires.some, c.requires.outgrown.no_bucket.no_room) i.n gone i.stuck
-          (noted_pop rules mid st u pair c.take_oldest-key.ensures) (noted more new) enough
-          (noted_placed more c.args.pair (buckets u) (room new) 0 u new placed) c.in-Ok.ensures.fills,
+          (noted_pop rules mid st u pair c.take_oldest-key.ensures.step) (noted more new) enough
+          (noted_placed more c.args.pair (buckets u) (room new) 0 u new placed)
+          (noted_fills more more c.args.hash u new c.in-Ok.ensures.fills),
     )
 
 pub evictions-init : goal.evictions-init
@@ -106,12 +109,30 @@ evictions-init g c =
       same_pair = refl;
     }
 
+pub sink-requires : goal.sink-requires
+sink-requires g c = oldest_callable_with g.L.Limiter.rules g.F.FnMut c.evictions.self c.take_oldest-key.new.self
+    c.take_oldest-key.result c.take_oldest-key.ensures.step c.evictions.pair c.evictions.sink
+    c.evictions.invariant.callable
+
+pub store_after_move-requires-clause-callable : goal.store_after_move-requires-clause-callable
+store_after_move-requires-clause-callable g c = rest_callable_with g.L.Limiter.rules g.F.FnMut c.evictions.self
+    c.take_oldest-key.new.self c.take_oldest-key.result c.take_oldest-key.ensures.step c.evictions.pair c.evictions.sink
+    c.sink.new.self c.sink.ensures c.evictions.invariant.callable
+
+pub returns-in-Ok-clause-callable : goal.returns-in-Ok-clause-callable
+returns-in-Ok-clause-callable g c = λ yes.
+    subst (λ pairs. MayTakeEach g.L.Limiter.rules g.F.FnMut pairs c.sink.new.self)
+    (sym (ap (λ st. st.pairs) c.in-Ok.ensures.placed.state))
+    (rest_callable_with g.L.Limiter.rules g.F.FnMut c.evictions.self c.take_oldest-key.new.self c.take_oldest-key.result
+    c.take_oldest-key.ensures.step c.evictions.pair c.evictions.sink c.sink.new.self c.sink.ensures
+    c.evictions.invariant.callable)
+
 pub evictions-smaller : goal.evictions-smaller
 evictions-smaller g c =
     let i = c.evictions.invariant in
     let one = one_fewer g.L.Limiter.rules c.args.hash c.args.pair c.args.self.now c.evictions.self
     c.take_oldest-key.new.self c.bucket_count-buckets.ensures.map.sized
-    (c.requires.some, c.requires.outgrown.no_bucket.no_room) i.n i.gone i.stuck c.take_oldest-key.ensures.state in
+    (c.requires.some, c.requires.outgrown.no_bucket.no_room) i.n i.gone i.stuck c.take_oldest-key.ensures.step.state in
     let fewer : length c.store_in_bucket.new.self.pairs < length c.evictions.self.pairs = omega
     (arith, one, ap (λ st. length st.pairs) c.in-Err.ensures.unchanged) in fewer
 
@@ -121,25 +142,26 @@ evictions-preserved g c =
     let rules = g.L.Limiter.rules in let old = c.args.self.now in let st = c.evictions.self in
     let u = c.take_oldest-key.new.self in let pair = c.take_oldest-key.result in
     let sized = c.bucket_count-buckets.ensures.map.sized in
-    let lacks : LacksRoom old = (c.requires.some, c.requires.outgrown.no_bucket.no_room) in
+    let lacks : IsFullWithPairs old = (c.requires.some, c.requires.outgrown.no_bucket.no_room) in
     let takes = c.full_capacity-half.ensures ∙ ap full_capacity c.bucket_count-buckets.ensures.count in
     let enough : full_capacity (buckets old) / 2 ≤ length u.pairs = omega
     (arith, takes, c.len.ensures.len, c.if-len-half.false) in
     rw c.in-Err.ensures.unchanged (record {
-      callable = mut_next g.F.FnMut c.evictions.sink (pair.0, (pair.1, tt)) tt c.sink.new.self c.sink.new.self
-          c.sink.ensures refl i.callable;
+      callable = subst (λ p. MayTakeEach rules g.F.FnMut (p ∷ u.pairs) c.sink.new.self) (sym c.in-Err.ensures.returned)
+          (rest_callable_with rules g.F.FnMut st u pair c.take_oldest-key.ensures.step c.evictions.pair c.evictions.sink
+          c.sink.new.self c.sink.ensures i.callable);
       n = suc i.n;
       gone = one_more rules c.args.hash c.args.pair old st u sized lacks i.n i.gone i.stuck
-          c.take_oldest-key.ensures.state;
+          c.take_oldest-key.ensures.step.state;
       handed = λ first before taken.
           let (mid, had, gone) = i.handed first before taken in (
             mid ++ pair ∷ [],
             takes_more g.F.FnMut first mid c.evictions.sink pair c.sink.new.self had c.sink.ensures,
             one_more (noting rules) c.args.hash c.args.pair (noted before old) (noted mid st)
                 (noted (mid ++ pair ∷ []) u) (noted_sized before old sized) lacks i.n gone i.stuck
-                (noted_pop rules mid st u pair c.take_oldest-key.ensures),
+                (noted_pop rules mid st u pair c.take_oldest-key.ensures.step),
           );
-      leaves = leaves_more rules i.n old st u i.leaves c.take_oldest-key.ensures.state;
+      leaves = leaves_more rules i.n old st u i.leaves c.take_oldest-key.ensures.step.state;
       stuck = record {
         some = omega (arith, enough, full_capacity-some (buckets old) (power_with_pairs old sized c.requires.some));
         half = enough;

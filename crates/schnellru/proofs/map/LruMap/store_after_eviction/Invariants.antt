@@ -1,10 +1,10 @@
--- Some of the oldest have left and were passed to the callback. At least half of what the table takes is left, and the pair has no
--- place yet.
-use Rattle.std.proofs.Common.{◌≡◌, ℕ, ◌/◌, length}
-use denote.Param.Always.{always_mut}
+-- Some of the oldest have left and were passed to the callback. At least half of what the table takes is left, and the
+-- pair has no place yet.
+use Rattle.std.proofs.Common.{◌≡◌, ℕ, ◌/◌, ◌∷◌, length}
 use Rattle.group_table.specs.Sizes.{full_capacity}
 use Rattle.schnellru.specs.State.{buckets, contents, Leaves, pops}
 use Rattle.schnellru.specs.Place.{OldestLeave}
+use Rattle.schnellru.specs.MayTake.{MayTakeEach}
 use Rattle.schnellru.specs.HandedOver.{noting, noted}
 use Rattle.schnellru.specs.Inside.Handing.{Hands}
 use Rattle.schnellru.proofs.Maps.Placements.{IsStuck}
@@ -12,7 +12,7 @@ use Rattle.schnellru.proofs.map.LruMap.store_after_eviction.Given as goal
 
 abbrev pub invariant-evictions : goal.invariant-evictions
 invariant-evictions g l = record {
-  callable : always_mut g.F.FnMut l.sink;
+  callable : MayTakeEach g.L.Limiter.rules g.F.FnMut (l.pair ∷ l.self.pairs) l.sink;
   n : ℕ;
   gone : OldestLeave g.L.Limiter.rules l.hash n l.fn.self l.self;
   handed : Hands g.F.FnMut l.fn.sink l.sink (λ before after.

@@ -1,10 +1,11 @@
-use Rattle.std.proofs.Common.{ap, sym, subst, ◌∙◌}
+use Rattle.std.proofs.Common.{ap, sym, subst, ◌∙◌, ◌∷◌}
 use Rattle.schnellru.specs.State.{IsSized}
 use Rattle.schnellru.specs.Inside.Holds.{state_of}
 use Rattle.schnellru.specs.HandedOver.{noting, noted}
 use Rattle.schnellru.proofs.Maps.NotedStates.{noted_sized, noted_outgrown}
 use Rattle.schnellru.proofs.Maps.Fields.{beside_of}
 use Rattle.schnellru.proofs.Maps.Placements.{grown_place, denied_place, untold_place}
+use Rattle.schnellru.specs.MayTake.{MayTakeEach}
 use Rattle.schnellru.proofs.map.LruMap.store_after_growth.Goals as goal
 
 pub returns-then-on_grow-clause-handed : goal.returns-then-on_grow-clause-handed
@@ -55,3 +56,13 @@ returns-in-None-clause-handed g c =
           (noted after c.store_without_growth-in-None.new.self) (noted_sized before old sized) c.args.hash
           c.requires.hash (noted_outgrown before old c.requires.outgrown) _ (sym c.in-None.ensures.next) step,
     )
+
+pub store_after_move-requires-clause-callable : goal.store_after_move-requires-clause-callable
+store_after_move-requires-clause-callable g c =
+    subst (λ st. MayTakeEach g.L.Limiter.rules g.F.FnMut (c.args.pair ∷ st.pairs) c.args.sink.now) (sym c.self.view_is)
+    c.requires.callable
+
+pub store_without_growth-requires-clause-callable : goal.store_without_growth-requires-clause-callable
+store_without_growth-requires-clause-callable g c =
+    subst (λ st. MayTakeEach g.L.Limiter.rules g.F.FnMut (c.args.pair ∷ st.pairs) c.args.sink.now) (sym c.self.view_is)
+    c.requires.callable

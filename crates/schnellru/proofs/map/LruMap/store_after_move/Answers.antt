@@ -1,8 +1,10 @@
-use Rattle.std.proofs.Common.{◌-◌, length, ap, ◌∙◌, arith, rules}
+use Rattle.std.proofs.Common.{◌-◌, ◌∷◌, length, ap, sym, ◌∙◌, subst, arith, rules}
 use Rattle.group_table.specs.Sizes.{full_capacity}
 use Rattle.schnellru.specs.State.{room}
 use Rattle.schnellru.specs.Place.{IsPlaced, turned_away}
 use Rattle.schnellru.specs.HandedOver.{noting, noted}
+use Rattle.schnellru.specs.MayTake.{MayTakeEach}
+use Rattle.schnellru.proofs.Maps.CallablePairs.{first_callable}
 use Rattle.schnellru.proofs.Maps.NotedStates.{noted_placed}
 use Rattle.schnellru.proofs.TableSizes.Growth.{full_capacity-some}
 use Rattle.schnellru.proofs.map.LruMap.store_after_move.Goals as goal
@@ -33,3 +35,15 @@ returns-in-Err-clause-handed g c =
       away ∙ ap (λ st. turned_away (noting g.L.Limiter.rules) c.args.pair (noted before st))
           c.in-Err.ensures.unchanged,
     )
+
+pub turn_away-requires : goal.turn_away-requires
+turn_away-requires g c = record {
+  callable = first_callable g.L.Limiter.rules g.F.FnMut c.args.pair c.args.self.now.pairs c.args.sink.now
+      c.requires.callable;
+}
+
+pub returns-in-Ok-clause-callable : goal.returns-in-Ok-clause-callable
+returns-in-Ok-clause-callable g c = λ yes.
+    let moved = ap (λ st. st.pairs) c.count_moves.ensures ∙ ap (λ st. st.pairs) c.in-Ok.ensures.moved.state in
+    let is = ap (λ st. st.pairs) c.store_in_room.ensures.placed.state ∙ ap (λ pairs. c.args.pair ∷ pairs) moved in
+    subst (λ pairs. MayTakeEach g.L.Limiter.rules g.F.FnMut pairs c.args.sink.now) (sym is) c.requires.callable

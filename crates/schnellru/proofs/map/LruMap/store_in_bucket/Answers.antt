@@ -36,7 +36,7 @@ returns-clause-within g c =
     let m = c.self.inside in let e = c.in_ok-try_place.ensures in let holds = c.self.invariant in
     let rest = beside_of m (g.L.LinkType.LinkType.number g.L.LinkType.LinkType.MAX) in
     subst (λ st. length st.pairs < full_capacity (buckets st)) c.self.view_is
-    (fills_within (state_of m.entries rest) holds.map.sized c.args.hash (state_of c.try_place.new.self rest)
+    (fills_within (state_of m.entries rest) holds.map.sized c.args.hash _
     (lands_fills m.entries c.try_place.new.self c.args.hash c.args.pair e.placed.0 holds.linked e.placed.1 _
     holds.map.sized _ c.saturating_add-self-inside.ensures))
 

@@ -35,7 +35,7 @@ returns-clause-within g c =
     let m = c.self.inside in let e = c.place.ensures in let holds = c.self.invariant in
     let rest = beside_of m (g.L.LinkType.LinkType.number g.L.LinkType.LinkType.MAX) in
     subst (λ st. length st.pairs < full_capacity (buckets st)) c.self.view_is
-    (fills_within (state_of m.entries rest) holds.map.sized c.args.hash (state_of c.place.new.self rest)
+    (fills_within (state_of m.entries rest) holds.map.sized c.args.hash _
     (lands_fills m.entries c.place.new.self c.args.hash c.args.pair e.placed.0 holds.linked e.placed.1 _
     holds.map.sized _ c.make_count_room.ensures))
 
@@ -46,5 +46,5 @@ returns-clause-spends g c =
     let old = state_of m.entries rest in
     subst (λ st. length st.pairs + room st ≡ full_capacity (buckets st) → room (state_of c.place.new.self rest) + 1
     ≡ room st) c.self.view_is
-    (fills_exact old c.self.invariant.map.sized c.args.hash (state_of c.place.new.self rest)
+    (fills_exact old c.self.invariant.map.sized c.args.hash _
     (rw (← c.self.view_is) at (returns-clause-fills g c)))

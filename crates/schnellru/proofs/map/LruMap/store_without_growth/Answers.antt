@@ -1,6 +1,7 @@
 use Rattle.std.proofs.Common.{refl, sym, ◌∙◌}
 use Rattle.std.proofs.lemmas.List.{nil_from_length}
 use Rattle.schnellru.specs.Place.{nothing_to_evict}
+use Rattle.schnellru.proofs.Maps.CallablePairs.{first_callable}
 use Rattle.schnellru.proofs.PairLists.Emptiness.{empty-length}
 use Rattle.schnellru.proofs.map.LruMap.store_without_growth.Goals as goal
 
@@ -11,3 +12,9 @@ returns-then-is_empty-clause-handed g c =
     λ first before taken.
     let (after, had, away) = c.turn_away.ensures.handed first before taken in
     (after, had, nothing_to_evict none refl away)
+
+pub turn_away-requires : goal.turn_away-requires
+turn_away-requires g c = record {
+  callable = first_callable g.L.Limiter.rules g.F.FnMut c.args.pair c.args.self.now.pairs c.args.sink.now
+      c.requires.callable;
+}

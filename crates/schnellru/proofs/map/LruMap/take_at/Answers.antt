@@ -1,7 +1,9 @@
-use Rattle.std.proofs.Common.{◌≡◌, true, sym, ap, ◌∙◌, subst, unwrap_or}
+use Rattle.std.proofs.Common.{◌≡◌, true, refl, sym, ap, ◌∙◌, subst, unwrap_or}
 use Rattle.schnellru.proofs.OrderedTables.BucketPairs.{pair_found, others_are}
 use Rattle.schnellru.proofs.OrderedTables.Searches.{pair_of_place}
-use Rattle.schnellru.proofs.OrderedTables.TakenPairs.{taken_pairs, taken_left, taken_notified, taken_leaves, taken_holds}
+use Rattle.schnellru.proofs.OrderedTables.TakenPairs.{taken_pairs, taken_left, taken_notified, taken_leaves}
+use Rattle.schnellru.proofs.OrderedTables.TakenPairs.{taken_frees}
+use Rattle.schnellru.proofs.OrderedTables.TakenPairs.{taken_holds}
 use Rattle.schnellru.proofs.map.LruMap.take_at.Goals as goal
 
 pub take_out-requires-clause-full : goal.take_out-requires-clause-full
@@ -15,8 +17,8 @@ invariant_of-self g c =
     c.take_out.result c.take_out.ensures.taken holds.linked c.take_out.ensures.linked _ g.met.K.Eq.laws _ holds
     (c.take_out.ensures.fits _ holds.fits)
 
-pub returns : goal.returns
-returns g c = λ names one at.
+pub returns-clause-step : goal.returns-clause-step
+returns-clause-step g c = λ names one at.
     let m = c.self.inside in
     let holds = c.self.invariant in let laws = g.met.K.Eq.laws in
     let found = pair_of_place m.entries holds.linked names laws one holds.map.distinct c.args.b
@@ -33,3 +35,12 @@ returns g c = λ names one at.
           ∙ sym (others_are t holds.linked c.args.b out.pair out.there names laws one holds.map.distinct named))
           (taken_notified rules t u c.args.b m.limiter l took.result out _ is);
     })
+
+pub returns-clause-freed : goal.returns-clause-freed
+returns-clause-freed g c =
+    let m = c.self.inside in let took = c.take_out in
+    rw (← c.self.view_is) (taken_frees g.L.Limiter.rules m.entries took.new.entries c.args.b m.limiter took.new.limiter
+    took.result took.ensures.taken c.self.invariant.linked took.ensures.linked _ _ refl)
+
+pub returns-clause-map : goal.returns-clause-map
+returns-clause-map g c = (invariant_of-self g c).map

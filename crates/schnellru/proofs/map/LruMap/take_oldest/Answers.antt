@@ -1,6 +1,8 @@
 use Rattle.schnellru.proofs.OrderedTables.BucketPairs.{oldest_full, oldest_is, others_oldest}
 use Rattle.std.proofs.Common.{sym, ◌∙◌}
-use Rattle.schnellru.proofs.OrderedTables.TakenPairs.{taken_pairs, taken_left, taken_notified, taken_leaves, taken_holds}
+use Rattle.schnellru.proofs.OrderedTables.TakenPairs.{taken_pairs, taken_left, taken_notified, taken_leaves}
+use Rattle.schnellru.proofs.OrderedTables.TakenPairs.{taken_frees}
+use Rattle.schnellru.proofs.OrderedTables.TakenPairs.{taken_holds}
 use Rattle.schnellru.proofs.map.LruMap.take_oldest.Goals as goal
 
 pub take_out-requires-clause-full : goal.take_out-requires-clause-full
@@ -15,8 +17,8 @@ invariant_of-self g c =
     c.take_out.result c.take_out.ensures.taken holds.linked c.take_out.ensures.linked
     _ g.met.K.Eq.laws _ holds (c.take_out.ensures.fits _ holds.fits)
 
-pub returns : goal.returns
-returns g c =
+pub returns-clause-step : goal.returns-clause-step
+returns-clause-step g c =
     let m = c.self.inside in
     let holds = c.self.invariant in let out = c.take_out.ensures.taken in
     let rules = g.L.Limiter.rules in let t = m.entries in let u = c.take_out.new.entries in
@@ -30,3 +32,13 @@ returns g c =
           ∙ sym (others_oldest t holds.linked c.oldest-b.result c.oldest-b.ensures.oldest out.pair out.there))
           (taken_notified rules t u c.oldest-b.result m.limiter l c.take_out.result out _ is);
     })
+
+pub returns-clause-freed : goal.returns-clause-freed
+returns-clause-freed g c =
+    let m = c.self.inside in let took = c.take_out in
+    rw (← c.self.view_is) (taken_frees g.L.Limiter.rules m.entries took.new.entries c.oldest-b.result m.limiter
+    took.new.limiter took.result took.ensures.taken c.self.invariant.linked took.ensures.linked _ _
+    c.oldest-b.ensures.oldest)
+
+pub returns-clause-map : goal.returns-clause-map
+returns-clause-map g c = (invariant_of-self g c).map

@@ -1,6 +1,7 @@
 use Rattle.std.proofs.Common.{[], refl, sym, ◌∙◌, subst}
 use Rattle.schnellru.specs.State.{contents, IsWithin, Leaves}
 use Rattle.schnellru.specs.HandedOver.{noting, noted}
+use Rattle.schnellru.proofs.CallbackLemmas.{takes_always}
 use Rattle.schnellru.proofs.Maps.LeavingPairs.{leaves_self, trim-empty}
 use Rattle.schnellru.proofs.PairLists.Emptiness.{empty-length}
 use Rattle.schnellru.proofs.Theorems.InsertAnswers.{trim_ends}
@@ -33,7 +34,5 @@ returns-clause-within g c = let rules = g.L.Limiter.rules in
     (trim_ends rules (contents c.args.self.now))
 
 pub returns-clause-callable : goal.returns-clause-callable
-returns-clause-callable g c = elim c.if-not-is_empty.branch [
-  | then-not-is_empty w ↦ rw w.sink-is w.evict_over_limit.ensures.callable
-  | else-not-is_empty w ↦ rw w.sink-is c.requires.callable
-]
+returns-clause-callable g c = let (handed, taken, step) = returns-clause-handed g c in
+    takes_always g.F.FnMut handed c.args.sink.now c.if-not-is_empty.sink taken

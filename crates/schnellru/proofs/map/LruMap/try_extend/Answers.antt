@@ -7,7 +7,8 @@ loop-key-init g c = no_insert
 
 pub loop-key-preserved : goal.loop-key-preserved
 loop-key-preserved g c =
-    one_insert_more c.loop-key.invariant c.in-Some.key c.in-Some.value c.in_ok-insert.field-0 _ c.in_ok-insert.ensures.step
+    one_insert_more c.loop-key.invariant c.in-Some.key c.in-Some.value c.in_ok-insert.field-0 _
+    c.in_ok-insert.ensures.step
     c.in_ok-insert.ensures.map.sized
 
 pub returns-in_err-insert-clause-inserts : goal.returns-in_err-insert-clause-inserts

@@ -23,4 +23,5 @@ add-requires-clause-absent g c =
 pub returns : goal.returns
 returns g c =
     let yes = c.if-not-get_ready_for.false in
-    inserted c.requires.absent _ (c.get_ready_for.ensures.ready yes) (c.get_ready_for.ensures.storable yes) refl c.add.ensures
+    inserted c.requires.absent _ (c.get_ready_for.ensures.ready yes) (c.get_ready_for.ensures.storable yes) refl
+    c.add.ensures

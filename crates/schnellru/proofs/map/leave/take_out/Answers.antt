@@ -4,8 +4,8 @@ pub returns-clause-taken : goal.returns-clause-taken
 returns-clause-taken g c = record {
   pair = c.take.result;
   there = c.take.ensures.pair;
-  left = c.tell.ensures.pair;
-  notified = c.tell.ensures.limiter;
+  left = c.notify.ensures.pair;
+  notified = c.notify.ensures.limiter;
   slots = c.take.ensures.removed;
   order = c.take.ensures.order;
   placings = c.take.ensures.placings;

@@ -1,9 +1,11 @@
-use Rattle.std.proofs.Common.{◌≡◌, ℕ, true, ap, sym, ◌∙◌, subst}
+use Rattle.std.proofs.Common.{◌≡◌, ℕ, true, ap, sym, ◌∙◌, subst, [], ◌∷◌, Some}
 use Rattle.std.specs.Fn.{Called}
 use Rattle.std.proofs.lemmas.Option.{same_Some}
 use Rattle.schnellru.specs.Inside.Steps.{IsGivenUp}
 use Rattle.schnellru.specs.Inside.Handing.{HandsGivenUp}
 use Rattle.schnellru.proofs.OrderedTables.Replacements.{gives_up, left_as_told}
+use Rattle.schnellru.specs.MayTake.{MayTakeRejected}
+use Rattle.schnellru.proofs.Maps.CallablePairs.{here, one_callable}
 use Rattle.schnellru.proofs.map.offer.offer.Goals as goal
 
 pub returns-else-taken-clause-given_up : goal.returns-else-taken-clause-given_up
@@ -49,3 +51,19 @@ returns-else-taken-clause-handed g c = λ refusal pair there.
     subst (λ n. HandsGivenUp g.F.FnMut rules (by n pair) c.args.sink.now c.sink.new.self) c.len-length.ensures.len
     (subst (λ p. HandsGivenUp g.F.FnMut rules (by c.len-length.result p) c.args.sink.now c.sink.new.self) same
     (subst (λ p. Called g.F.FnMut c.args.sink.now (p.0, (p.1, tt)) tt c.sink.new.self) left c.sink.ensures))
+
+pub sink-requires : goal.sink-requires
+sink-requires g c =
+    let k = c.pair_mut-pair.result.now.key in let v = c.pair_mut-pair.result.now.value in
+    let notified = c.on_replace-taken.ensures in let old = c.args.entries.now in let rules = g.L.Limiter.rules in
+    let by = λ (n : ℕ). g.L.Insertion.offers.on_replace c.args.limiter.now n k c.args.key v c.args.value in
+    let replaced = by c.len-length.result in
+    let left = left_as_told rules replaced old c.take_out-key.new.entries c.args.b (k, v)
+    c.pair_mut-pair.ensures.pair c.on_replace-taken.new.old_key c.on_replace-taken.new.old_value notified.old_key
+    notified.old_value c.on_replace-taken.new.self notified.limiter c.take_out-key.result c.take_out-key.new.limiter
+    c.take_out-key.ensures.taken in
+    let may = subst (λ n. MayTakeRejected rules g.F.FnMut (by n) c.args.sink.now) (sym c.len-length.ensures.len)
+    (c.requires.callable (k, v) c.pair_mut-pair.ensures.pair) in
+    one_callable rules g.F.FnMut ((replaced.key, replaced.old_value) ∷ []) replaced.limiter
+    (replaced.key, replaced.old_value) c.take_out-key.result (here (replaced.key, replaced.old_value) []) (ap Some left)
+    c.args.sink.now (may (sym notified.taken ∙ c.if-taken.false))

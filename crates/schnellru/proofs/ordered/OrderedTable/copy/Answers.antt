@@ -7,25 +7,29 @@ use Rattle.schnellru.proofs.ordered.OrderedTable.copy.Goals as goal
 
 pub invariant_of-result : goal.invariant_of-result
 invariant_of-result g c =
-    let old = c.self.inside.chain.table.slots in let new = c.in_ok-table.table.slots in let done = c.in_ok-table.ensures in
+    let old = c.self.inside.chain.table.slots in let new = c.in_ok-table.table.slots in let done =
+    c.in_ok-table.ensures in
     let same = order_same g.K.Clone.is_clone g.V.Clone.is_clone _ _
     (λ x made r. search rules) old new done.copies g.N.LinkType.number done.marks c.self.inside.chain.newest in
     subst (λ o. IsWhole g.N.LinkType.number g.N.LinkType.link g.N.LinkType.MAX new c.self.inside.chain.newest
     c.self.inside.chain.oldest o) (sym same)
     (whole_same g.K.Clone.is_clone g.V.Clone.is_clone _ _
     (λ x made r. search rules) old new done.copies g.N.LinkType.number
-    g.N.LinkType.link g.N.LinkType.MAX c.self.inside.chain.newest c.self.inside.chain.oldest done.marks _ c.self.invariant)
+    g.N.LinkType.link g.N.LinkType.MAX c.self.inside.chain.newest c.self.inside.chain.oldest done.marks _
+    c.self.invariant)
 
 pub returns-clause-order : goal.returns-clause-order
 returns-clause-order g c =
-    let old = c.self.inside.chain.table.slots in let new = c.in_ok-table.table.slots in let done = c.in_ok-table.ensures in
+    let old = c.self.inside.chain.table.slots in let new = c.in_ok-table.table.slots in let done =
+    c.in_ok-table.ensures in
     rw (← c.self.view_is)
     (order_same g.K.Clone.is_clone g.V.Clone.is_clone _ _
     (λ x made r. search rules) old new done.copies g.N.LinkType.number done.marks c.self.inside.chain.newest)
 
 pub returns-clause-pairs : goal.returns-clause-pairs
 returns-clause-pairs g c =
-    let old = c.self.inside.chain.table.slots in let new = c.in_ok-table.table.slots in let done = c.in_ok-table.ensures in
+    let old = c.self.inside.chain.table.slots in let new = c.in_ok-table.table.slots in let done =
+    c.in_ok-table.ensures in
     let order = along g.N.LinkType.number (length old) old c.self.inside.chain.newest in
     let same = order_same g.K.Clone.is_clone g.V.Clone.is_clone _ _
     (λ x made r. search rules) old new done.copies g.N.LinkType.number done.marks c.self.inside.chain.newest in
@@ -40,7 +44,8 @@ returns-clause-marks g c =
 
 pub returns-clause-fits : goal.returns-clause-fits
 returns-clause-fits g c = λ hash_of other alike fits.
-    let old = c.self.inside.chain.table.slots in let new = c.in_ok-table.table.slots in let done = c.in_ok-table.ensures in
+    let old = c.self.inside.chain.table.slots in let new = c.in_ok-table.table.slots in let done =
+    c.in_ok-table.ensures in
     keys_fit g.K.Clone.is_clone g.V.Clone.is_clone _ _
     (λ x made r. search rules) old new done.copies hash_of other alike done.fits (rw (← c.self.view_is) at fits)
 

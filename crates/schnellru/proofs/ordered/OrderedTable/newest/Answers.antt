@@ -1,9 +1,11 @@
-use Rattle.schnellru.proofs.Chains.LinkReads.{newest_shown}
+use Rattle.std.proofs.Common.{ap, sym, ◌∙◌, Some}
+use Rattle.schnellru.proofs.Chains.LinkReads.{first_shown}
 use Rattle.schnellru.proofs.ordered.OrderedTable.newest.Goals as goal
 
 pub returns : goal.returns
 returns g c =
+    let some = rw (← c.self.view_is) at c.requires in
     record {
-      newest = rw (← c.self.view_is) (newest_shown g.met.N.LinkType.laws c.self.invariant c.bucket_of.result
-          c.bucket_of.ensures.none c.bucket_of.ensures.some);
+      newest = rw (← c.self.view_is) (first_shown g.met.N.LinkType.laws c.self.invariant some
+          ∙ ap Some (sym c.into_usize.ensures));
     }

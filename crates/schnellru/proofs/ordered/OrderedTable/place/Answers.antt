@@ -1,5 +1,6 @@
 use Rattle.std.proofs.Common.{inl}
-use Rattle.schnellru.proofs.OrderedTables.PlacedEntries.{others_chained, placed_newer, shown_whole, placed_lands, placed_fits}
+use Rattle.schnellru.proofs.OrderedTables.PlacedEntries.{others_chained, placed_newer, shown_whole, placed_lands}
+use Rattle.schnellru.proofs.OrderedTables.PlacedEntries.{placed_fits}
 use Rattle.schnellru.proofs.OrderedTables.PlacedEntries.{placed_linked, linked_room}
 use Rattle.schnellru.proofs.ordered.OrderedTable.place.Goals as goal
 
@@ -21,7 +22,8 @@ pub invariant_of-self : goal.invariant_of-self
 invariant_of-self g c =
     let e = c.link_placed.ensures in let new = c.link_placed.new.self in
     shown_whole g.met.N.LinkType.laws c.self.invariant c.unlinked.ensures.pair c.place-b.ensures.placed
-    (inl (linked_room _ (rw (← c.self.view_is) at c.requires))) new.table new.newest new.oldest e.pairs e.placings e.chain
+    (inl (linked_room _ (rw (← c.self.view_is) at c.requires))) new.table new.newest new.oldest e.pairs e.placings
+    e.chain
 
 pub returns-clause-placed : goal.returns-clause-placed
 returns-clause-placed g c =
@@ -29,7 +31,8 @@ returns-clause-placed g c =
     rw (← c.self.view_is) (
       c.place-b.result,
       placed_lands g.met.N.LinkType.laws c.self.invariant c.unlinked.ensures.pair c.place-b.ensures.placed
-          (inl (linked_room _ (rw (← c.self.view_is) at c.requires))) new.table new.newest new.oldest e.pairs e.placings e.chain
+          (inl (linked_room _ (rw (← c.self.view_is) at c.requires))) new.table new.newest new.oldest e.pairs
+          e.placings e.chain
           c.place-b.ensures.room,
     )
 
@@ -37,12 +40,14 @@ pub returns-clause-fits : goal.returns-clause-fits
 returns-clause-fits g c hash_of fits same =
     let e = c.link_placed.ensures in let new = c.link_placed.new.self in
     placed_fits g.met.N.LinkType.laws c.self.invariant c.unlinked.ensures.pair c.place-b.ensures.placed
-    (inl (linked_room _ (rw (← c.self.view_is) at c.requires))) new.table new.newest new.oldest e.pairs e.placings e.chain hash_of
+    (inl (linked_room _ (rw (← c.self.view_is) at c.requires))) new.table new.newest new.oldest e.pairs e.placings
+    e.chain hash_of
     c.place-b.ensures.fits (rw (← c.self.view_is) at fits) same
 
 pub returns-clause-linked : goal.returns-clause-linked
 returns-clause-linked g c =
     let e = c.link_placed.ensures in let new = c.link_placed.new.self in
     placed_linked g.met.N.LinkType.laws c.self.invariant c.unlinked.ensures.pair c.place-b.ensures.placed
-    (inl (linked_room _ (rw (← c.self.view_is) at c.requires))) new.table new.newest new.oldest e.pairs e.placings e.chain
+    (inl (linked_room _ (rw (← c.self.view_is) at c.requires))) new.table new.newest new.oldest e.pairs e.placings
+    e.chain
     c.place-b.ensures.table

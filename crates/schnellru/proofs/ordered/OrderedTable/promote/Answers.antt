@@ -54,6 +54,7 @@ returns-clause-order g c =
 
 pub returns-clause-linked : goal.returns-clause-linked
 returns-clause-linked g c =
-    let marks = same_marks c.self.inside.chain.table.slots c.link_newest.new.self.table.slots (c.link_newest.ensures.pairs
+    let marks = same_marks c.self.inside.chain.table.slots c.link_newest.new.self.table.slots
+    (c.link_newest.ensures.pairs
     ∙ c.unlink.ensures.pairs) in
     IsLinked-view g.met.N.LinkType.laws (invariant_of-self g c) (rw marks c.get.ensures.table)

@@ -1,5 +1,6 @@
 use Rattle.schnellru.proofs.Chains.WholeChains.{IsLinked-view}
-use Rattle.schnellru.proofs.OrderedTables.PlacedEntries.{others_chained, placed_newer, shown_whole, placed_lands, placed_fits}
+use Rattle.schnellru.proofs.OrderedTables.PlacedEntries.{others_chained, placed_newer, shown_whole, placed_lands}
+use Rattle.schnellru.proofs.OrderedTables.PlacedEntries.{placed_fits}
 use Rattle.schnellru.proofs.OrderedTables.PlacedEntries.{placed_linked}
 use Rattle.schnellru.proofs.OrderedTables.PairSlots.{marks_of-pair_slots}
 use Rattle.schnellru.proofs.ordered.OrderedTable.try_place.Goals as goal

@@ -73,5 +73,10 @@ moved_link-self-requires-2-clause-place g c = rw c.loop-old.invariant.oldest
 pub returns-clause-chain : goal.returns-clause-chain
 returns-clause-chain g c before order whole renumbers =
     let all : c.loop-old.old ≡ length c.args.links.now = omega arith in
-    rw (c.moved_link-self.ensures, c.moved_link-self-2.ensures, c.loop-old.invariant.newest, c.loop-old.invariant.oldest)
+    rw (
+      c.moved_link-self.ensures,
+      c.moved_link-self-2.ensures,
+      c.loop-old.invariant.newest,
+      c.loop-old.invariant.oldest,
+    )
     (IsChain-moved g.met.N.LinkType.laws whole renumbers c.requires.reached (rw all at c.loop-old.invariant.links))

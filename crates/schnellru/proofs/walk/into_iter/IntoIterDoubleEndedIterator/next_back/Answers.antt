@@ -10,5 +10,10 @@ returns-clause-goes g c =
     elim (last_cases old.pairs) [
       | inl none ↦ rw (step.pair, none) (record { on = λ f. tt; keeps = tt; rests = λ f. f })
       | inr e ↦ rw (step.pair, e.1)
-          (record { on = λ f. (tt, f, omega (arith, e.2, fewer, ap (λ st. length st.pairs) c.self.view_is)); keeps = tt; rests = λ f. tt })
+          (record {
+            on = λ f. (tt, f, omega (arith, e.2, fewer, ap (λ st. length st.pairs) c.self.view_is));
+            keeps =
+                tt;
+            rests = λ f. tt;
+          })
     ]

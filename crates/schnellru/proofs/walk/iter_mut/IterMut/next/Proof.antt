@@ -54,7 +54,8 @@ pub next_spec : {M : Type 1} → statement M
 unfolding follows_by
 next_spec 𝓤 𝓛 𝓜 𝓡 wired K V L S N H LK LV LL LS LN LH cN kE kEd kP kPd kH kHd lL lLd nL nLd nC nCd nE nEd nP nPd nD
     nDd sK sKd sB sBd hH hHd hDd m1 m2 m3 m4 m5 m6 m7 m8 m9 m10 m11 m12 m13 =
-    let T : Ended = f.ended K V L S N H kE kEd kP kPd kH kHd lL lLd nL nLd nC nCd nE nEd nP nPd nD nDd sK sKd sB sBd hH hHd
+    let T : Ended = f.ended K V L S N H kE kEd kP kPd kH kHd lL lLd nL nLd nC nCd nE nEd nP nPd nD nDd sK sKd sB sBd
+    hH hHd
     hDd in let stayed : Stays T.signature.params T.kept = (stay_dropped _ no, tt) in
     let args : Args = bounded (a_type ∷ a_type ∷ a_type ∷ a_type ∷ a_type ∷ a_type ∷ []) (
       K,
@@ -74,12 +75,14 @@ next_spec 𝓤 𝓛 𝓜 𝓡 wired K V L S N H LK LV LL LS LN LH cN kE kEd kP k
           ),
         ),
       ),
-    ) (dcons kEd (dcons kPd (dcons kHd (dcons lLd (dcons nLd (dcons nCd (dcons nEd (dcons nPd (dcons nDd (dcons sKd (dcons
+    ) (dcons kEd (dcons kPd (dcons kHd
+    (dcons lLd (dcons nLd (dcons nCd (dcons nEd (dcons nPd (dcons nDd (dcons sKd (dcons
     sBd (dcons hHd (dcons hDd dnil))))))))))))) in
     let fn : Fn = inst_fn args code.function in
     let Row : Lfts 8 → RattleType = λ κs. W.the_row (named_lft 8 1 tt κs) (param 0 K) (param 1 V) (param 2 L) (param 3
     S) (copied 4 N) (param 5 H) kP kH lL nL nP nD sK sB hH in
-    let c = f.clauses K V L S N H kE kEd kP kPd kH kHd lL lLd nL nLd nC nCd nE nEd nP nPd nD nDd sK sKd sB sBd hH hHd hDd 𝓛
+    let c = f.clauses K V L S N H kE kEd kP kPd kH kHd lL lLd nL nLd nC nCd nE nEd nP nPd nD nDd sK sKd sB sBd hH hHd
+    hDd 𝓛
     𝓜.mem 𝓡.returns in let End = walk_of 𝓛 T stayed c in let 𝓣 = tables 𝓤 𝓛.H 𝓜 𝓡 𝓡.env in
     proved 𝓛 T stayed c 𝓜 𝓡 (Goes-spent_ref 𝓛 8 (0 ∷ []) tt (plain Row), tt)
     (f.Key.name args) fn (code.unfolded 𝓤 𝓛.H 𝓜 𝓡 wired (K, (V, (L, (S, (N, (H, tt)))))) kEd kPd kHd lLd nLd nCd nEd
@@ -124,8 +127,10 @@ next_spec 𝓤 𝓛 𝓜 𝓡 wired K V L S N H LK LV LL LS LN LH cN kE kEd kP k
     first ! $ branches ! (get ! refl)
     (λ more.
     let low_at = ltb→lt (walk_start s) (walk_end s) more in let there = true_of _ more in
-    let G = triple_of 𝓛 (g.signature K V L S N H kE kEd kP kPd kH kHd lL lLd nL nLd nC nCd nE nEd nP nPd nD nDd sK sKd sB sBd
-    hH hHd hDd) (g.spec K V L S N H kE kEd kP kPd kH kHd lL lLd nL nLd nC nCd nE nEd nP nPd nD nDd sK sKd sB sBd hH hHd hDd 𝓛
+    let G = triple_of 𝓛 (g.signature K V L S N H kE kEd kP kPd kH kHd lL lLd nL nLd nC nCd nE nEd nP nPd nD nDd sK sKd
+    sB sBd
+    hH hHd hDd) (g.spec K V L S N H kE kEd kP kPd kH kHd lL lLd nL nLd nC nCd nE nEd nP nPd nD nDd sK sKd sB sBd hH
+    hHd hDd 𝓛
     𝓜.mem 𝓡.returns) in
     let z : G.Ghost = ((κs, qs, bounds, a, (mut_vals r, tt)), tt) in
     sets ! (addr ! (through ! refl (stop !))) refl (tt, tt) $
@@ -140,7 +145,8 @@ next_spec 𝓤 𝓛 𝓜 𝓡 wired K V L S N H LK LV LL LS LN LH cN kE kEd kP k
     use0 𝓛 (raw (fact 𝓤 (κs.1.1.0 ⊑ K.lives))) (fact_i 𝓤 _ (emp 𝓤) lK) $ join ! $
     move ! (1 ∷ 0 ∷ []) $ join ! $ use1 𝓛 (raw (G.pre z)) (id⊢ 𝓤 _) $
     calls_at ! (framed 𝓤 𝓛.H 𝓜 𝓣) G (met 𝓤 𝓛 𝓜 𝓡 (code.calls-schnellru::walk::iter_mut::IterMut::lend_next 𝓡.env
-    wired) K V L S N H LK LV LL LS LN LH cN kE kEd kP kPd kH kHd lL lLd nL nLd nC nCd nE nEd nP nPd nD nDd sK sKd sB sBd hH
+    wired) K V L S N H LK LV LL LS LN LH cN kE kEd kP kPd kH kHd lL lLd nL nLd nC nCd nE nEd nP nPd nD nDd sK sKd sB
+    sBd hH
     hHd hDd m1 m2 m3 m4 m5 m6 m7 m8 m9 m10 m11 m12 m13) z (and_then ! (get ! refl) (no_more !)) (λ v.
     use1 𝓛 (later (some (λ (x : Two.Denot). (Tokens ⊛ ‵ (Two.own_val x (v ∷ []))) ⊛
     some (λ (ws : Unit {0} × Unit {0}). ‵ (lasts (g.ended K V L S N H kE kEd kP kPd kH kHd lL lLd nL nLd nC nCd nE nEd
