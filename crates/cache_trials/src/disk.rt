@@ -67,4 +67,8 @@ impl BlockDevice<u64> for Disk<'_> {
         self.blocks[n as usize] = if works { *block } else { 99 };
         if works { Ok(()) } else { Err(DiskError) }
     }
+
+    fn sync(&mut self) -> Result<(), DiskError> {
+        if self.works() { Ok(()) } else { Err(DiskError) }
+    }
 }

@@ -1,5 +1,5 @@
-//! Each cache of `lru_caches` beside a plain model, on random calls, and on a device or a memory that fails at each place
-//! in turn. Prints a line for each.
+//! Compares each cache of `lru_caches` with a plain model, on random calls, and on a device or a memory that fails at
+//! each place in turn. Prints a line for each.
 #![tactic(auto)]
 
 mod disk;

@@ -30,7 +30,8 @@ fn fibonacci(table: &mut MemoTable<u64, u64, FibonacciNumbers, ByLength>, n: u64
     value
 }
 
-/// Returns the Fibonacci number of 90 by tables of at most this many answers, or 3: with 2 the recursion evicts what it needs next.
+/// Returns the Fibonacci number of 90 by a table of at most `length` answers, or of 3 if that is more: with 2 the
+/// recursion evicts what it needs next.
 pub fn fibonacci_of_90(alloc: Global, length: u32) -> u64 {
     let mut table = MemoTable::new(alloc, ByLength::new(length.max(3)), FibonacciNumbers);
     fibonacci(&mut table, 90)

@@ -25,7 +25,8 @@ module _ {B C D : Type 0} (seen : B → C) (blocks : D → ℕ → C) where
     pub shown-written_back : (n : ℕ) → block_at seen blocks pages new n ≡ block_at seen blocks pages old n
     shown-written_back n = go (lookup (nat_eq n) pages) refl
       where
-        go : (o : Option (Page B)) → lookup (nat_eq n) pages ≡ o → block_or seen o (blocks new n) ≡ block_or seen o (blocks old n)
+        go : (o : Option (Page B)) → lookup (nat_eq n) pages ≡ o
+            → block_or seen o (blocks new n) ≡ block_or seen o (blocks old n)
         go (Some q) e = refl
         go None e = others n (λ same. none-some page
             (sym e ∙ ap (λ m. lookup (nat_eq m) pages) same ∙ there))

@@ -4,3 +4,4 @@ pub mod Blocks
 pub mod StoredAnswers
 pub mod TurnedEntries
 pub mod RetainedEntries
+pub mod TakenEntries

@@ -68,7 +68,8 @@ module _ {K V S : Type 0} (rules : Rules K V S) where
   left : (asked : List ((K × V) × Bool)) (s : S)
       → reverse (retained rules asked s).pairs ≡ items_where_true (answers_of asked) (asked_of asked)
   left [] s = refl
-  left ((pair, true) ∷ rest) s = reverse-cons pair (retained rules rest s).pairs ∙ ap (λ l. l ++ pair ∷ []) (left rest s)
+  left ((pair, true) ∷ rest) s = reverse-cons pair (retained rules rest s).pairs
+      ∙ ap (λ l. l ++ pair ∷ []) (left rest s)
       ∙ sym (picked_push (answers_of rest) (asked_of rest) true pair (same_length rest))
   left ((pair, false) ∷ rest) s = left rest s ∙ sym (append-nil (items_where_true (answers_of rest) (asked_of rest)))
       ∙ sym (picked_push (answers_of rest) (asked_of rest) false pair (same_length rest))

@@ -72,7 +72,8 @@ module _ {K X : Type 0} (test : K → Bool) where
       go true e later = absurd (none-some x.1 (sym e))
       go false e later = later e
 
-  without_behind : (xs rest : List (K × X)) → lookup test xs ≡ None → without test (xs ++ rest) ≡ xs ++ without test rest
+  without_behind : (xs rest : List (K × X)) → lookup test xs ≡ None
+      → without test (xs ++ rest) ≡ xs ++ without test rest
   without_behind [] rest e = refl
   without_behind (x ∷ xs) rest e = go (test x.0) e (without_behind xs rest)
     where
@@ -136,7 +137,7 @@ module _ {K X : Type 0} (test : K → Bool) where
 -- a test of one key, up to equality, and a list with distinct keys
 module _ {K X : Type 0} {eq : K → K → Bool} (test : K → Bool)
     (one : (x y : K) → test x ≡ true → test y ≡ eq x y) where
-  none_more : (x : K) (xs : List (K × X)) → test x ≡ true → AllByRecursion (λ y. eq x y ≡ false) (keys_of xs)
+  pub none_more : (x : K) (xs : List (K × X)) → test x ≡ true → AllByRecursion (λ y. eq x y ≡ false) (keys_of xs)
       → lookup test xs ≡ None
   none_more x [] named h = refl
   none_more x (y ∷ ys) named h =
@@ -224,7 +225,8 @@ module _ {K X : Type 0} {eq : K → K → Bool} (test : K → Bool)
   -- so an insert writes the value of a key that is there, and adds a new one in front before the list is turned round
   module _ (xs : List (K × X)) (d : IsDistinct eq (keys_of xs)) (k : K) (w : X) where
     put-as : (o : Option X) → lookup test xs ≡ o
-        → (if is_some o then set_value test (reverse xs) w else reverse xs ++ (k, w) ∷ []) ≡ put test (k, w) (reverse xs)
+        → (if is_some o then set_value test (reverse xs) w else reverse xs ++ (k, w) ∷ [])
+        ≡ put test (k, w) (reverse xs)
     put-as o e = ap (λ p. if is_some p then set_value test (reverse xs) w else reverse xs ++ (k, w) ∷ [])
         (sym (lookup-reverse xs d ∙ e))
 

@@ -17,6 +17,7 @@ ghost use Rattle.std.specs.Prelude.{◌≡◌, ◌≢◌, ℕ, IfOk, OnOk};
 /// assert_eq!(rt; disk.write(1, &20), Ok(()));
 /// assert_eq!(rt; disk.read(1), Ok(20));
 /// assert_eq!(rt; disk.read(1), Err(DiskError));
+/// assert_eq!(rt; disk.sync(), Ok(()));
 /// ```
 pub trait BlockDevice<B> {
     /// Why a call fails.
@@ -48,4 +49,14 @@ pub trait BlockDevice<B> {
     fn write(&mut self, n: u64, block: &B) -> Result<(), Self::Error>
         ensures written { OnOk result (blocks self.new n ≡ seen block.now) }
         ensures others { (m : ℕ) → m ≢ n → blocks self.new m ≡ blocks self.old m };
+
+    /// Makes the blocks durable: returns `Ok` once a crash loses none of the blocks that were written before. No block
+    /// changes. A device in memory returns `Ok`.
+    ///
+    /// # Errors
+    ///
+    /// The device failed. A crash may lose what was written since the last `sync` that returned `Ok`. No block has
+    /// changed.
+    fn sync(&mut self) -> Result<(), Self::Error>
+        ensures keeps { (m : ℕ) → blocks self.new m ≡ blocks self.old m };
 }

@@ -3,11 +3,13 @@ ghost use Rattle.std.specs.Prelude.{◌≡◌, ◌<◌, ◌^◌, [], length, IfO
 ghost use Rattle.std.specs.List.{slice_index_or};
 
 use crate::device::BlockDevice;
+use crate::file_device::durable::Durable;
 use std::alloc::Global;
 use std::io::{Read, Seek, SeekFrom, Write};
 use std::marker::Model;
 use thiserror::Error;
 
+pub(crate) mod durable;
 pub(crate) mod hashed;
 
 /// Why a call on a file device failed.
@@ -17,7 +19,7 @@ pub(crate) mod hashed;
 /// ```
 #[derive(Clone, Copy, Debug, PartialEq, Error)]
 pub enum FileError {
-    /// A seek, a read or a write of the file failed.
+    /// A seek, a read, a write or a sync of the file failed.
     #[error("the file failed")]
     File,
     /// The device has no block of this number.
@@ -98,9 +100,36 @@ impl<F: Read + Write + Seek, const N: usize> FileDevice<F, N> {
     {
         self.copies.len()
     }
+
+    /// Lends the file, such as to read its metadata.
+    ///
+    /// ```
+    /// assert_eq!(rt; device.file().position(), 8);
+    /// ```
+    ///
+    /// Cost: `O(1)`.
+    pub fn file(&self) -> &F {
+        &self.file
+    }
+
+    /// Drops the copies and returns the file.
+    ///
+    /// A [`PageCache`](crate::PageCache) returns the device by `close`, which syncs the file. After other writes, call
+    /// `sync` first.
+    ///
+    /// ```
+    /// let bytes = device.into_file().into_inner();
+    /// assert!(rt; bytes.starts_with(b"zerouno."));
+    /// ```
+    ///
+    /// Cost: `O(1)`.
+    pub fn into_file(self) -> F {
+        let FileDevice { file, copies: _ } = self;
+        file
+    }
 }
 
-impl<F: Read + Write + Seek, const N: usize> BlockDevice<[u8; N]> for FileDevice<F, N> {
+impl<F: Read + Write + Seek + Durable, const N: usize> BlockDevice<[u8; N]> for FileDevice<F, N> {
     type Error = FileError;
 
     type Seen = [u8; N];
@@ -129,6 +158,10 @@ impl<F: Read + Write + Seek, const N: usize> BlockDevice<[u8; N]> for FileDevice
         write_block(&mut self.file, n, block)?;
         *copy = *block;
         Ok(())
+    }
+
+    fn sync(&mut self) -> Result<(), FileError> {
+        sync_file(&mut self.file)
     }
 }
 
@@ -162,6 +195,17 @@ pub(crate) fn write_block<F: Write + Seek, const N: usize>(
 ) -> Result<(), FileError> {
     seek_to(file, n, N)?;
     match file.write_all(block) {
+        Ok(()) => Ok(()),
+        Err(_) => Err(FileError::File),
+    }
+}
+
+// Flushes the writer and makes what was written durable.
+pub(crate) fn sync_file<F: Write + Durable>(file: &mut F) -> Result<(), FileError> {
+    if file.flush().is_err() {
+        return Err(FileError::File);
+    }
+    match file.make_durable() {
         Ok(()) => Ok(()),
         Err(_) => Err(FileError::File),
     }

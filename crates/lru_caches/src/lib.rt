@@ -2,8 +2,8 @@
 //!
 //! [`PageCache`] keeps the blocks of a [`BlockDevice`] that were used last, writes them back when they are evicted or
 //! flushed, and loses no block that was written to it, whichever call of the device fails. [`FileDevice`] and
-//! [`HashedFileDevice`] are devices over a file. [`Memo`] is a function that remembers its newest results, [`Loader`] one
-//! that may fail, and [`MemoTable`] a table for one that calls itself. [`OrderedMap`] is a hash map in the order of
+//! [`HashedFileDevice`] are devices over a file. [`Memo`] is a function that remembers its newest results, [`Loader`]
+//! one that may fail, and [`MemoTable`] a table for one that calls itself. [`OrderedMap`] is a hash map in the order of
 //! insertion.
 #![tactic(auto)]
 
@@ -15,6 +15,7 @@ mod ordered_map;
 mod page_cache;
 
 pub use device::BlockDevice;
+pub use file_device::durable::Durable;
 pub use file_device::hashed::HashedFileDevice;
 pub use file_device::{FileDevice, FileError};
 pub use memo::Memo;
@@ -22,5 +23,6 @@ pub use memo::loader::Loader;
 pub use memo::table::{MemoTable, Question};
 pub use ordered_map::OrderedMap;
 pub use ordered_map::entries::Entries;
+pub use ordered_map::into_entries::IntoEntries;
 pub use ordered_map::keys::{Keys, Values};
 pub use page_cache::{PageCache, PageError, Unclosed};

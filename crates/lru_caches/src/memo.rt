@@ -5,7 +5,7 @@ ghost use Rattle.std.specs.Map.{lookup};
 ghost use Rattle.schnellru.specs.Theorems.{KeepsValues};
 ghost use Rattle.lru_caches.specs.Answers.{IsAnswer, AreAnswers};
 
-use schnellru::{Insertion, LruMap, RandomState, laws};
+use schnellru::{Insertion, KeyHasher, LruMap, RandomState, laws};
 use std::alloc::Global;
 use std::hash::Hash;
 use std::marker::Model;
@@ -20,12 +20,13 @@ pub(crate) mod table;
 /// assert_eq!(rt; (squares.answer(3), squares.len()), (9, 1));
 /// ```
 #[derive(Drop)]
-pub struct Memo<K: Copy + Eq + Hash, V, F, L: Insertion<K, V, K>> {
-    map: LruMap<K, V, L>,
+pub struct Memo<K: Copy + Eq + Hash, V, F, L: Insertion<K, V, K>, S: KeyHasher<K> = RandomState> {
+    map: LruMap<K, V, L, S>,
     function: F,
 }
 
-impl<K: Copy + Eq + Hash, V, F, L: Insertion<K, V, K>> Model for Memo<K, V, F, L> {
+impl<K: Copy + Eq + Hash, V, F, L: Insertion<K, V, K>, S: KeyHasher<K>> Model
+    for Memo<K, V, F, L, S> {
     ghost use Rattle.schnellru.specs.Theorems.{KeepsValues};
     ghost use Rattle.lru_caches.specs.Answers.{Remembered};
 
@@ -36,11 +37,11 @@ impl<K: Copy + Eq + Hash, V, F, L: Insertion<K, V, K>> Model for Memo<K, V, F, L
     ghost invariant = { λ m. KeepsValues L.offers };
 }
 
-impl<K: Copy + Eq + Hash, V, F: Fn(K) -> V, L: Insertion<K, V, K>> Memo<K, V, F, L> {
+impl<K: Copy + Eq + Hash, V, F: Fn(K) -> V, L: Insertion<K, V, K>> Memo<K, V, F, L, RandomState> {
     /// Makes a memo of a function, with no results yet.
     ///
-    /// The limiter has to store values as they come, as all limiters of `schnellru` do. The hasher of keys has known
-    /// seeds. Cost: `O(1)`, and no memory.
+    /// The limiter has to store values as they come, as all limiters of `schnellru` do. Everyone knows the seeds of the
+    /// default hasher: if strangers choose the keys, call `with_hasher`. Cost: `O(1)`, and no memory.
     ///
     /// ```
     /// let mut squares = Memo::new(alloc, ByLength::new(9), |n: u64| n.wrapping_mul(n));
@@ -53,6 +54,42 @@ impl<K: Copy + Eq + Hash, V, F: Fn(K) -> V, L: Insertion<K, V, K>> Memo<K, V, F,
     {
         Memo {
             map: LruMap::with_limiter(alloc, limiter),
+            function,
+        }
+    }
+}
+
+impl<K: Copy + Eq + Hash, V, F: Fn(K) -> V, L: Insertion<K, V, K>, S: KeyHasher<K>> Memo<
+    K,
+    V,
+    F,
+    L,
+    S,
+> {
+    /// Makes a memo of a function as `new` does, with this hasher of keys. `entry_bytes` is as for
+    /// `LruMap::with_hasher`: only a limiter by memory looks at it.
+    ///
+    /// ```
+    /// let seeded = RandomState::with_seeds([5, 6, 7, 8]);
+    /// let cubes = Memo::with_hasher(alloc, ByLength::new(9), seeded, 24, |n: u64| n.wrapping_pow(3));
+    /// assert_eq!(rt; cubes.len(), 0);
+    /// ```
+    ///
+    /// Cost: `O(1)`, and no memory.
+    pub fn with_hasher(
+        alloc: Global,
+        limiter: L,
+        hasher: S,
+        entry_bytes: usize,
+        function: F,
+    ) -> Self
+        requires { KeepsValues L.offers }
+        ensures empty { result.known ≡ [] }
+        ensures known { AreAnswers K.eq (F.post result.function) result.known }
+        ensures function { result.function ≡ function }
+    {
+        Memo {
+            map: LruMap::with_hasher(alloc, limiter, hasher, entry_bytes),
             function,
         }
     }
@@ -71,11 +108,17 @@ impl<K: Copy + Eq + Hash, V, F: Fn(K) -> V, L: Insertion<K, V, K>> Memo<K, V, F,
     }
 }
 
-impl<K: Copy + Eq + Hash, V: Copy, F: Fn(K) -> V, L: Insertion<K, V, K>> Memo<K, V, F, L> {
+impl<K: Copy + Eq + Hash, V: Copy, F: Fn(K) -> V, L: Insertion<K, V, K>, S: KeyHasher<K>> Memo<
+    K,
+    V,
+    F,
+    L,
+    S,
+> {
     /// Returns what the function returns at a key: the stored result, or else the result of a call, which is stored.
     ///
-    /// If the memo runs out of memory or its limiter rejects the result, the result is returned without being stored. If
-    /// the function returns different results at equal keys, each key may get the result of another.
+    /// If the memo runs out of memory or its limiter rejects the result, the result is returned without being stored.
+    /// If the function returns different results at equal keys, each key may get the result of another.
     ///
     /// A caller proves the clauses `callable` and `known` from what `new`, or the call before, ensures.
     ///
@@ -96,7 +139,13 @@ impl<K: Copy + Eq + Hash, V: Copy, F: Fn(K) -> V, L: Insertion<K, V, K>> Memo<K,
     }
 }
 
-impl<K: Copy + Eq + Hash, V: Drop, F: Fn(K) -> V, L: Insertion<K, V, K>> Memo<K, V, F, L> {
+impl<K: Copy + Eq + Hash, V: Drop, F: Fn(K) -> V, L: Insertion<K, V, K>, S: KeyHasher<K>> Memo<
+    K,
+    V,
+    F,
+    L,
+    S,
+> {
     /// Lends a closure what `answer` would return, and returns what the closure returns. The values need not be `Copy`.
     ///
     /// The closure is called once. It is lent a result also if that is not stored.
@@ -123,8 +172,8 @@ impl<K: Copy + Eq + Hash, V: Drop, F: Fn(K) -> V, L: Insertion<K, V, K>> Memo<K,
 }
 
 // Returns the stored answer at a key, or else stores what the function returns.
-fn remembered<K: Copy + Eq + Hash, V: Copy, F: Fn(K) -> V, L: Insertion<K, V, K>>(
-    map: &mut LruMap<K, V, L>,
+fn remembered<K: Copy + Eq + Hash, V: Copy, F: Fn(K) -> V, L: Insertion<K, V, K>, S: KeyHasher<K>>(
+    map: &mut LruMap<K, V, L, S>,
     function: &F,
     key: K,
 ) -> V
@@ -135,7 +184,7 @@ fn remembered<K: Copy + Eq + Hash, V: Copy, F: Fn(K) -> V, L: Insertion<K, V, K>
     ensures stored { IfSome (lookup (K.eq key) map.old.pairs) (λ value. result ≡ value) }
     ensures known { AreAnswers K.eq (F.post function.now) map.new.pairs }
 {
-    laws::inserts_give_up_the_oldest::<K, V, K, L, RandomState>();
+    laws::inserts_give_up_the_oldest::<K, V, K, L, S>();
     if let Some(value) = map.get(&key) {
         return *value;
     }
@@ -150,9 +199,10 @@ fn read_remembered<
     V: Drop,
     F: Fn(K) -> V,
     L: Insertion<K, V, K>,
+    S: KeyHasher<K>,
     R,
     U: FnOnce(&V) -> R,
->(map: &mut LruMap<K, V, L>, function: &F, key: K, read: U) -> R
+>(map: &mut LruMap<K, V, L, S>, function: &F, key: K, read: U) -> R
     requires callable { F.IsAlwaysCallable function.now }
     requires readable { (value : Bor V) → U.pre read value }
     requires keeps { KeepsValues L.offers }
@@ -162,7 +212,7 @@ fn read_remembered<
         (λ value. (shown : Bor V) × (shown.now ≡ value) × U.post read shown result) }
     ensures known { AreAnswers K.eq (F.post function.now) map.new.pairs }
 {
-    laws::inserts_give_up_the_oldest::<K, V, K, L, RandomState>();
+    laws::inserts_give_up_the_oldest::<K, V, K, L, S>();
     if let Some(value) = map.get(&key) {
         return read(&*value);
     }

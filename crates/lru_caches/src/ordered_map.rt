@@ -10,16 +10,18 @@ ghost use Rattle.schnellru.specs.ByHash.{Asks};
 ghost use Rattle.schnellru.specs.Lists.{is_empty, first, last, without_first, without_last, without, lookup_entry};
 ghost use Rattle.lru_caches.specs.Ordered.{put};
 
-use crate::append::append;
+use crate::append::empty_map;
 use crate::ordered_map::entries::Entries;
 use crate::ordered_map::keys::{Keys, Values};
-use schnellru::{DEFAULT_ENTRY_BYTES, KeyHasher, LookupKey, LruMap, RandomState, Unlimited};
+use schnellru::{KeyHasher, LookupKey, LruMap, RandomState, Unlimited};
 use std::alloc::{AllocError, Global};
 use std::hash::Hash;
 use std::marker::Model;
 use std::mem;
 
+mod compared;
 pub(crate) mod entries;
+pub(crate) mod into_entries;
 pub(crate) mod keys;
 mod more;
 
@@ -80,9 +82,8 @@ impl<K: Eq + Hash, V, S: KeyHasher<K>> OrderedMap<K, V, S> {
     pub fn with_hasher(alloc: Global, hasher: S) -> Self
         ensures { result ≡ [] }
     {
-        // The limiter permits every growth, so the bytes of an entry bound no map that memory can hold.
         OrderedMap {
-            map: LruMap::with_hasher(alloc, Unlimited, hasher, DEFAULT_ENTRY_BYTES),
+            map: empty_map(alloc, Unlimited, hasher),
         }
     }
 
@@ -300,6 +301,25 @@ impl<K: Eq + Hash, V, S: KeyHasher<K>> OrderedMap<K, V, S> {
     }
 }
 
+impl<K: Eq + Hash + Drop, V, S: KeyHasher<K>> OrderedMap<K, V, S> {
+    /// Removes a key, and returns its value. The other entries keep their order.
+    ///
+    /// ```
+    /// assert_eq!(rt; (map.remove(&2), map.remove(&2)), (Some(22), None));
+    /// ```
+    ///
+    /// Cost: `O(1)` expected.
+    ///
+    /// After indexmap's `IndexMap::shift_remove`, which takes `O(len)`.
+    pub fn remove<Q: LookupKey<K>>(&mut self, key: &Q) -> Option<V>
+        ensures value { result ≡ lookup (Q.names key.now) self.old }
+        ensures entries { self.new ≡ without (Q.names key.now) self.old }
+    {
+        distinct(&self.map);
+        self.map.remove(key)
+    }
+}
+
 impl<K: Eq + Hash + Drop, V: Drop, S: KeyHasher<K>> OrderedMap<K, V, S> {
     /// Inserts a key with a value as the newest entry. If the key is there, its entry keeps its key and its place, and
     /// the old value is returned.
@@ -324,34 +344,16 @@ impl<K: Eq + Hash + Drop, V: Drop, S: KeyHasher<K>> OrderedMap<K, V, S> {
         ensures there { IsSome (lookup (K.eq key) self.old) → IsOk result }
     {
         distinct(&self.map);
+        // One search for a new key.
+        let Err((key, value)) = self.map.try_insert(key, value) else {
+            return Ok(None);
+        };
         if let Some(place) = self.map.peek_mut(&key) {
             return Ok(Some(mem::replace(place, value)));
         }
-        append(&mut self.map, key, value)?;
-        Ok(None)
+        Err(AllocError)
     }
-}
 
-impl<K: Eq + Hash + Drop, V, S: KeyHasher<K>> OrderedMap<K, V, S> {
-    /// Removes a key, and returns its value. The other entries keep their order.
-    ///
-    /// ```
-    /// assert_eq!(rt; (map.remove(&2), map.remove(&2)), (Some(22), None));
-    /// ```
-    ///
-    /// Cost: `O(1)` expected.
-    ///
-    /// After indexmap's `IndexMap::shift_remove`, which takes `O(len)`.
-    pub fn remove<Q: LookupKey<K>>(&mut self, key: &Q) -> Option<V>
-        ensures value { result ≡ lookup (Q.names key.now) self.old }
-        ensures entries { self.new ≡ without (Q.names key.now) self.old }
-    {
-        distinct(&self.map);
-        self.map.remove(key)
-    }
-}
-
-impl<K: Eq + Hash + Drop, V: Drop, S: KeyHasher<K>> OrderedMap<K, V, S> {
     /// Removes the entries for which the closure returns false. The others keep their order.
     ///
     /// The closure is called with each entry once, oldest first.

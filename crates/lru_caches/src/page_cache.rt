@@ -2,11 +2,12 @@
 ghost use Rattle.std.specs.Prelude.{◌≡◌, ◌≢◌, ◌≤◌, ℕ, [], length, max, IsTrue, ◌↔◌, IfOk, IfErr, OnOk, OnErr, IsOk};
 ghost use Rattle.lru_caches.specs.Pages.{shown, ShowsTheSame, IsCached, numbers, numbers_after};
 
+use crate::append::empty_map;
 use crate::device::BlockDevice;
 use crate::page_cache::pages::{
     Page, Pages, add_page, cached_block, make_room, overwrite, write_all_back,
 };
-use schnellru::{LruMap, UnlimitedCompact};
+use schnellru::{KeyHasher, RandomState, UnlimitedCompact};
 use std::alloc::Global;
 use std::marker::Model;
 use thiserror::Error;
@@ -44,14 +45,14 @@ pub enum PageError<E> {
 /// assert_eq!(rt; cache.flush(), Ok(()));
 /// cache.discard();
 /// ```
-pub struct PageCache<B: Copy, D: BlockDevice<B>> {
-    map: Pages<B>,
+pub struct PageCache<B: Copy, D: BlockDevice<B>, S: KeyHasher<u64> = RandomState> {
+    map: Pages<B, S>,
     capacity: usize,
     round: u64,
     device: D,
 }
 
-impl<B: Copy, D: BlockDevice<B>> Model for PageCache<B, D> {
+impl<B: Copy, D: BlockDevice<B>, S: KeyHasher<u64>> Model for PageCache<B, D, S> {
     ghost use Rattle.std.specs.Prelude.{◌≤◌, ◌<◌, length};
     ghost use Rattle.lru_caches.specs.Pages.{Cached, AreClean};
 
@@ -68,10 +69,11 @@ impl<B: Copy, D: BlockDevice<B>> Model for PageCache<B, D> {
         × (length c.map.pairs ≤ c.capacity) × (0 < c.capacity) };
 }
 
-impl<B: Copy, D: BlockDevice<B>> PageCache<B, D> {
+impl<B: Copy, D: BlockDevice<B>> PageCache<B, D, RandomState> {
     /// Makes an empty cache of a device, for at most `capacity` pages, or for one page if that is 0.
     ///
-    /// The hasher of block numbers has known seeds. So whoever chooses the numbers can choose some that collide.
+    /// Everyone knows the seeds of the default hasher, and can choose block numbers that collide. If strangers choose
+    /// the numbers, call `with_hasher`.
     ///
     /// Cost: `O(1)`, and no memory.
     ///
@@ -83,8 +85,26 @@ impl<B: Copy, D: BlockDevice<B>> PageCache<B, D> {
         ensures empty { result.pages ≡ [] }
         ensures capacity { result.capacity ≡ max 1 capacity }
     {
+        PageCache::with_hasher(alloc, device, capacity, RandomState::default())
+    }
+}
+
+impl<B: Copy, D: BlockDevice<B>, S: KeyHasher<u64>> PageCache<B, D, S> {
+    /// Makes an empty cache as `new` does, with this hasher of block numbers.
+    ///
+    /// Cost: `O(1)`, and no memory.
+    ///
+    /// ```
+    /// let seeded = RandomState::with_seeds([5, 6, 7, 8]);
+    /// let mut cache = PageCache::with_hasher(alloc, disk, 2, seeded);
+    /// ```
+    pub fn with_hasher(alloc: Global, device: D, capacity: usize, hasher: S) -> Self
+        ensures shows { (n : ℕ) → shown D.seen D.blocks result n ≡ D.blocks device n }
+        ensures empty { result.pages ≡ [] }
+        ensures capacity { result.capacity ≡ max 1 capacity }
+    {
         PageCache {
-            map: LruMap::with_limiter(alloc, UnlimitedCompact),
+            map: empty_map(alloc, UnlimitedCompact, hasher),
             capacity: capacity.max(1),
             round: 1,
             device,
@@ -144,8 +164,8 @@ impl<B: Copy, D: BlockDevice<B>> PageCache<B, D> {
     ///
     /// # Errors
     ///
-    /// `Device`: the read failed, or the write of the oldest page. `Memory`: out of memory for one page more; the oldest
-    /// page may have been evicted. There is no error if the page is cached.
+    /// `Device`: the read failed, or the write of the oldest page. `Memory`: out of memory for one page more; the
+    /// oldest page may have been evicted. There is no error if the page is cached.
     pub fn read(&mut self, n: u64) -> Result<B, PageError<D::Error>>
         ensures block { IfOk result (λ block. D.seen block ≡ shown D.seen D.blocks self.old n) }
         ensures keeps { ShowsTheSame D.seen D.blocks self.old self.new }
@@ -199,18 +219,19 @@ impl<B: Copy, D: BlockDevice<B>> PageCache<B, D> {
         Ok(())
     }
 
-    /// Writes all dirty pages to the device. They stay cached, and are clean then.
+    /// Writes all dirty pages to the device, and makes its blocks durable by its `sync`. The pages stay cached, and are
+    /// clean then.
     ///
     /// ```
     /// assert_eq!(rt; cache.flush(), Ok(()));
     /// assert_eq!(rt; cache.device().blocks, [10, 20, 12, 13]);
     /// ```
     ///
-    /// Cost: `O(len)`, and a write of the device for each dirty page.
+    /// Cost: `O(len)`, a write of the device for each dirty page, and a `sync`, even if no page is dirty.
     ///
     /// # Errors
     ///
-    /// `Device`: a write failed. All pages stay as dirty as before, so the next flush writes them again.
+    /// `Device`: a write or the `sync` failed. All pages stay as dirty as before, so the next flush writes them again.
     pub fn flush(&mut self) -> Result<(), PageError<D::Error>>
         ensures keeps { ShowsTheSame D.seen D.blocks self.old self.new }
         ensures flushed { OnOk result ((n : ℕ) → D.blocks self.new.device n ≡ shown D.seen D.blocks self.old n) }
@@ -223,7 +244,7 @@ impl<B: Copy, D: BlockDevice<B>> PageCache<B, D> {
         Ok(())
     }
 
-    /// Flushes the cache and returns the device.
+    /// Flushes the cache, which makes the blocks of the device durable, and returns the device.
     ///
     /// ```
     /// let mut cache = match cache.close() {
@@ -237,7 +258,9 @@ impl<B: Copy, D: BlockDevice<B>> PageCache<B, D> {
     /// # Errors
     ///
     /// The flush failed. The error contains the cache, which shows the same blocks as before.
-    pub fn close(mut self) -> Result<D, Unclosed<B, D>>
+    pub fn close(mut self) -> Result<D, Unclosed<B, D, S>>
+    where
+        S: Drop,
         ensures closed { IfOk result (λ device. (n : ℕ) → D.blocks device n ≡ shown D.seen D.blocks self n) }
         ensures failed { IfErr result (λ unclosed. ShowsTheSame D.seen D.blocks self unclosed.cache) }
     {
@@ -255,6 +278,8 @@ impl<B: Copy, D: BlockDevice<B>> PageCache<B, D> {
     ///
     /// Cost: `O(1)`.
     pub fn discard(self) -> D
+    where
+        S: Drop,
         ensures { result ≡ self.device }
     {
         let PageCache {
@@ -272,9 +297,9 @@ impl<B: Copy, D: BlockDevice<B>> PageCache<B, D> {
 /// ```
 /// Err(Unclosed { cache, error: _ }) => cache,
 /// ```
-pub struct Unclosed<B: Copy, D: BlockDevice<B>> {
+pub struct Unclosed<B: Copy, D: BlockDevice<B>, S: KeyHasher<u64> = RandomState> {
     /// The cache, which shows the same blocks as before.
-    pub cache: PageCache<B, D>,
+    pub cache: PageCache<B, D, S>,
     /// Why the flush failed.
     pub error: PageError<D::Error>,
 }

@@ -55,4 +55,8 @@ impl BlockDevice<u64> for Disk<'_> {
         self.blocks[n as usize] = *block;
         Ok(())
     }
+
+    fn sync(&mut self) -> Result<(), DiskError> {
+        Ok(())
+    }
 }

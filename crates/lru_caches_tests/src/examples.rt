@@ -4,8 +4,8 @@ ghost use Rattle.std.specs.Prelude.{◌≡◌, ◌*◌};
 use crate::callers::{copy_block, overwrite};
 use crate::disk::{Disk, DiskError};
 use lru_caches::{
-    BlockDevice, FileDevice, FileError, HashedFileDevice, Loader, Memo, MemoTable, OrderedMap,
-    PageCache, PageError, Question, Unclosed,
+    BlockDevice, Durable, FileDevice, FileError, HashedFileDevice, Loader, Memo, MemoTable,
+    OrderedMap, PageCache, PageError, Question, Unclosed,
 };
 use schnellru::{ByLength, RandomState};
 use std::cell::Cell;
@@ -33,6 +33,10 @@ fn of_the_page_cache(rt: HostRuntime) {
         Ok(disk) => PageCache::new(rt.alloc(), disk, 2),
         Err(Unclosed { cache, error: _ }) => cache,
     };
+    let disk = cache.discard();
+    let seeded = RandomState::with_seeds([5, 6, 7, 8]);
+    let mut cache = PageCache::with_hasher(rt.alloc(), disk, 2, seeded);
+    check!(rt; (cache.read(1), cache.len()) == (Ok(20), 1));
     cache.discard();
 }
 
@@ -46,6 +50,7 @@ fn of_the_device(rt: HostRuntime) {
     check!(rt; disk.write(1, &20) == Ok(()));
     check!(rt; disk.read(1) == Ok(20));
     check!(rt; disk.read(1) == Err(DiskError));
+    check!(rt; disk.sync() == Ok(()));
 }
 
 #[test]
@@ -57,6 +62,11 @@ fn of_the_file_device(rt: HostRuntime) -> Result<(), Fail> {
     check!(rt; device.write(1, b"uno.") == Ok(()));
     check!(rt; device.read(1) == Ok(*b"uno."));
     check!(rt; device.read(9) == Err(FileError::NoBlock));
+    check!(rt; device.file().position() == 8);
+    check!(rt; device.sync() == Ok(()));
+    let bytes = device.into_file().into_inner();
+    check!(rt; bytes.starts_with(b"zerouno."));
+    check!(rt; Cursor::new([0u8; 4]).make_durable().is_ok());
     Ok(())
 }
 
@@ -68,6 +78,9 @@ fn of_the_file_device_with_hashes(rt: HostRuntime) -> Result<(), Fail> {
     check!(rt; hashed.len() == 3);
     check!(rt; hashed.write(1, b"uno.") == Ok(()));
     check!(rt; hashed.read(1) == Ok(*b"uno."));
+    check!(rt; hashed.file().position() == 8);
+    let bytes = hashed.into_file().into_inner();
+    check!(rt; bytes.starts_with(b"zerouno."));
     Ok(())
 }
 
@@ -133,9 +146,33 @@ fn of_the_ordered_map_and_its_table(rt: HostRuntime) -> Result<(), Fail> {
 }
 
 #[test]
+fn of_the_ordered_map_as_a_value(rt: HostRuntime) -> Result<(), Fail> {
+    let alloc = rt.alloc();
+    let mut map: OrderedMap<u64, u64> = OrderedMap::new(alloc);
+    for (key, value) in [(1, 10), (2, 20)] {
+        map.insert(key, value)?;
+    }
+    check!(rt; map == map && map != OrderedMap::new(alloc));
+    check!(rt; format!(in alloc; "{map:?}")?.as_str() == "{1: 10, 2: 20}");
+    let mut entries = map.into_iter();
+    check!(rt; (entries.len(), entries.next(), entries.next_back())
+            == (2, Some((1, 10)), Some((2, 20))));
+    Ok(())
+}
+
+#[test]
 fn of_the_memo(rt: HostRuntime) {
     let mut squares = Memo::new(rt.alloc(), ByLength::new(9), |n: u64| n.wrapping_mul(n));
     check!(rt; (squares.answer(3), squares.len()) == (9, 1));
+    let seeded = RandomState::with_seeds([5, 6, 7, 8]);
+    let cubes = Memo::with_hasher(
+        rt.alloc(),
+        ByLength::new(9),
+        seeded,
+        24,
+        |n: u64| n.wrapping_pow(3),
+    );
+    check!(rt; cubes.len() == 0);
 }
 
 #[test]
@@ -162,6 +199,9 @@ fn of_the_memo_table(rt: HostRuntime) {
     let mut squares = MemoTable::new(rt.alloc(), ByLength::new(9), Squares);
     squares.store(3, 9);
     check!(rt; (squares.get(3), squares.get(4), squares.len()) == (Some(9), None, 1));
+    let seeded = RandomState::with_seeds([5, 6, 7, 8]);
+    let empty = MemoTable::with_hasher(rt.alloc(), ByLength::new(9), seeded, 24, Squares);
+    check!(rt; empty.len() == 0);
 }
 
 #[test]
@@ -175,6 +215,15 @@ fn of_the_loader(rt: HostRuntime) {
     );
     check!(rt; (blocks.load(1), blocks.len()) == (Ok(11), 1));
     check!(rt; (blocks.load(3), blocks.len()) == (Err(3), 1));
+    let seeded = RandomState::with_seeds([5, 6, 7, 8]);
+    let empty = Loader::with_hasher(
+        alloc,
+        ByLength::new(9),
+        seeded,
+        24,
+        |n: u64| n.checked_add(1).ok_or(n),
+    );
+    check!(rt; empty.len() == 0);
 }
 
 #[test]

@@ -35,4 +35,8 @@ impl<B, D: BlockDevice<B>> BlockDevice<B> for Counted<D> {
         self.writes = self.writes.saturating_add(1);
         self.device.write(n, block)
     }
+
+    fn sync(&mut self) -> Result<(), D::Error> {
+        self.device.sync()
+    }
 }

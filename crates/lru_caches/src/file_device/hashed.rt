@@ -4,7 +4,8 @@ ghost use Rattle.std.specs.List.{slice_index_or};
 ghost use Rattle.lru_limits.specs.Mixing.{seeded};
 
 use crate::device::BlockDevice;
-use crate::file_device::{FileError, read_block, write_block};
+use crate::file_device::durable::Durable;
+use crate::file_device::{FileError, read_block, sync_file, write_block};
 use schnellru::{KeyHasher, RandomState};
 use std::alloc::Global;
 use std::hash::BuildHasher;
@@ -81,9 +82,37 @@ impl<F: Read + Write + Seek, const N: usize> HashedFileDevice<F, N> {
     {
         self.hashes.len()
     }
+
+    /// Lends the file, such as to read its metadata.
+    ///
+    /// ```
+    /// assert_eq!(rt; hashed.file().position(), 8);
+    /// ```
+    ///
+    /// Cost: `O(1)`.
+    pub fn file(&self) -> &F {
+        &self.file
+    }
+
+    /// Drops the hashes and returns the file.
+    ///
+    /// A [`PageCache`](crate::PageCache) returns the device by `close`, which syncs the file. After other writes, call
+    /// `sync` first.
+    ///
+    /// ```
+    /// let bytes = hashed.into_file().into_inner();
+    /// assert!(rt; bytes.starts_with(b"zerouno."));
+    /// ```
+    ///
+    /// Cost: `O(1)`.
+    pub fn into_file(self) -> F {
+        let HashedFileDevice { file, hashes: _ } = self;
+        file
+    }
 }
 
-impl<F: Read + Write + Seek, const N: usize> BlockDevice<[u8; N]> for HashedFileDevice<F, N> {
+impl<F: Read + Write + Seek + Durable, const N: usize> BlockDevice<[u8; N]>
+    for HashedFileDevice<F, N> {
     type Error = FileError;
 
     type Seen = u64;
@@ -112,6 +141,10 @@ impl<F: Read + Write + Seek, const N: usize> BlockDevice<[u8; N]> for HashedFile
         write_block(&mut self.file, n, block)?;
         *hash = hash_of(block);
         Ok(())
+    }
+
+    fn sync(&mut self) -> Result<(), FileError> {
+        sync_file(&mut self.file)
     }
 }
 

@@ -4,7 +4,7 @@ ghost use Rattle.std.specs.Map.{lookup};
 ghost use Rattle.schnellru.specs.Theorems.{KeepsValues};
 ghost use Rattle.lru_caches.specs.Answers.{IsAnswer, AreAnswers, loads};
 
-use schnellru::{Insertion, LruMap, RandomState, laws};
+use schnellru::{Insertion, KeyHasher, LruMap, RandomState, laws};
 use std::alloc::Global;
 use std::hash::Hash;
 use std::marker::Model;
@@ -21,12 +21,19 @@ use std::marker::Model;
 /// assert_eq!(rt; (blocks.load(3), blocks.len()), (Err(3), 1));
 /// ```
 #[derive(Drop)]
-pub struct Loader<K: Copy + Eq + Hash, V: Copy, F, L: Insertion<K, V, K>> {
-    map: LruMap<K, V, L>,
+pub struct Loader<
+    K: Copy + Eq + Hash,
+    V: Copy,
+    F,
+    L: Insertion<K, V, K>,
+    S: KeyHasher<K> = RandomState,
+> {
+    map: LruMap<K, V, L, S>,
     function: F,
 }
 
-impl<K: Copy + Eq + Hash, V: Copy, F, L: Insertion<K, V, K>> Model for Loader<K, V, F, L> {
+impl<K: Copy + Eq + Hash, V: Copy, F, L: Insertion<K, V, K>, S: KeyHasher<K>> Model
+    for Loader<K, V, F, L, S> {
     ghost use Rattle.schnellru.specs.Theorems.{KeepsValues};
     ghost use Rattle.lru_caches.specs.Answers.{Remembered};
 
@@ -42,11 +49,12 @@ impl<K: Copy + Eq + Hash, V: Copy, E, F: Fn(K) -> Result<V, E>, L: Insertion<K, 
     V,
     F,
     L,
+    RandomState,
 > {
     /// Makes a loader by a function, with no values yet.
     ///
-    /// The limiter has to store values as they come, as all limiters of `schnellru` do. The hasher of keys has known
-    /// seeds. Cost: `O(1)`, and no memory.
+    /// The limiter has to store values as they come, as all limiters of `schnellru` do. Everyone knows the seeds of the
+    /// default hasher: if strangers choose the keys, call `with_hasher`. Cost: `O(1)`, and no memory.
     ///
     /// ```
     /// let mut blocks = Loader::new(alloc, ByLength::new(9), |n: usize| disk.get(n).copied().ok_or(n));
@@ -59,6 +67,43 @@ impl<K: Copy + Eq + Hash, V: Copy, E, F: Fn(K) -> Result<V, E>, L: Insertion<K, 
     {
         Loader {
             map: LruMap::with_limiter(alloc, limiter),
+            function,
+        }
+    }
+}
+
+impl<
+    K: Copy + Eq + Hash,
+    V: Copy,
+    E,
+    F: Fn(K) -> Result<V, E>,
+    L: Insertion<K, V, K>,
+    S: KeyHasher<K>,
+> Loader<K, V, F, L, S> {
+    /// Makes a loader by a function as `new` does, with this hasher of keys. `entry_bytes` is as for
+    /// `LruMap::with_hasher`: only a limiter by memory looks at it.
+    ///
+    /// ```
+    /// let seeded = RandomState::with_seeds([5, 6, 7, 8]);
+    /// let empty = Loader::with_hasher(alloc, ByLength::new(9), seeded, 24, |n: u64| n.checked_add(1).ok_or(n));
+    /// assert_eq!(rt; empty.len(), 0);
+    /// ```
+    ///
+    /// Cost: `O(1)`, and no memory.
+    pub fn with_hasher(
+        alloc: Global,
+        limiter: L,
+        hasher: S,
+        entry_bytes: usize,
+        function: F,
+    ) -> Self
+        requires { KeepsValues L.offers }
+        ensures empty { result.known ≡ [] }
+        ensures known { AreAnswers K.eq (loads (F.post result.function)) result.known }
+        ensures function { result.function ≡ function }
+    {
+        Loader {
+            map: LruMap::with_hasher(alloc, limiter, hasher, entry_bytes),
             function,
         }
     }
@@ -107,11 +152,14 @@ impl<K: Copy + Eq + Hash, V: Copy, E, F: Fn(K) -> Result<V, E>, L: Insertion<K, 
 }
 
 // Returns the stored value of a key, or else stores what the function returns.
-fn loaded<K: Copy + Eq + Hash, V: Copy, E, F: Fn(K) -> Result<V, E>, L: Insertion<K, V, K>>(
-    map: &mut LruMap<K, V, L>,
-    function: &F,
-    key: K,
-) -> Result<V, E>
+fn loaded<
+    K: Copy + Eq + Hash,
+    V: Copy,
+    E,
+    F: Fn(K) -> Result<V, E>,
+    L: Insertion<K, V, K>,
+    S: KeyHasher<K>,
+>(map: &mut LruMap<K, V, L, S>, function: &F, key: K) -> Result<V, E>
     requires callable { F.IsAlwaysCallable function.now }
     requires keeps { KeepsValues L.offers }
     requires known { AreAnswers K.eq (loads (F.post function.now)) map.old.pairs }
@@ -121,7 +169,7 @@ fn loaded<K: Copy + Eq + Hash, V: Copy, E, F: Fn(K) -> Result<V, E>, L: Insertio
     ensures failed { OnErr result (map.new.pairs ≡ map.old.pairs) }
     ensures known { AreAnswers K.eq (loads (F.post function.now)) map.new.pairs }
 {
-    laws::inserts_give_up_the_oldest::<K, V, K, L, RandomState>();
+    laws::inserts_give_up_the_oldest::<K, V, K, L, S>();
     if let Some(value) = map.get(&key) {
         return Ok(*value);
     }

@@ -5,7 +5,7 @@ ghost use Rattle.schnellru.specs.Lists.{front};
 ghost use Rattle.schnellru.specs.Theorems.{KeepsValues};
 ghost use Rattle.lru_caches.specs.Answers.{IsAnswer, AreAnswers};
 
-use schnellru::{Insertion, LruMap, RandomState, laws};
+use schnellru::{Insertion, KeyHasher, LruMap, RandomState, laws};
 use std::alloc::Global;
 use std::hash::Hash;
 use std::marker::Model;
@@ -24,9 +24,9 @@ pub trait Question<K, V> {
 
 /// A table of the newest answers to a question, up to a limit, for a function that calls itself.
 ///
-/// [`Memo`](crate::Memo) calls its function, so that function cannot use the memo. A recursion uses a table: it gets the
-/// answer at its key, or else computes and stores it. Whatever a `get` returns is an answer, and a caller proves this
-/// of what it stores, and passes no fact on.
+/// [`Memo`](crate::Memo) calls its function, so that function cannot use the memo. A recursion uses a table: it gets
+/// the answer at its key, or else computes and stores it. Whatever a `get` returns is an answer. A caller proves that
+/// what it stores is one, and passes no fact on.
 ///
 /// ```
 /// let mut squares = MemoTable::new(alloc, ByLength::new(9), Squares);
@@ -34,13 +34,19 @@ pub trait Question<K, V> {
 /// assert_eq!(rt; (squares.get(3), squares.get(4), squares.len()), (Some(9), None, 1));
 /// ```
 #[derive(Drop)]
-pub struct MemoTable<K: Copy + Eq + Hash, V, Q: Question<K, V>, L: Insertion<K, V, K>> {
-    map: LruMap<K, V, L>,
+pub struct MemoTable<
+    K: Copy + Eq + Hash,
+    V,
+    Q: Question<K, V>,
+    L: Insertion<K, V, K>,
+    S: KeyHasher<K> = RandomState,
+> {
+    map: LruMap<K, V, L, S>,
     question: Q,
 }
 
-impl<K: Copy + Eq + Hash, V, Q: Question<K, V>, L: Insertion<K, V, K>> Model
-    for MemoTable<K, V, Q, L> {
+impl<K: Copy + Eq + Hash, V, Q: Question<K, V>, L: Insertion<K, V, K>, S: KeyHasher<K>> Model
+    for MemoTable<K, V, Q, L, S> {
     ghost use Rattle.std.specs.Prelude.{List};
     ghost use Rattle.schnellru.specs.Theorems.{KeepsValues};
     ghost use Rattle.lru_caches.specs.Answers.{AreAnswers};
@@ -52,11 +58,17 @@ impl<K: Copy + Eq + Hash, V, Q: Question<K, V>, L: Insertion<K, V, K>> Model
     ghost invariant = { λ t. KeepsValues L.offers × AreAnswers K.eq Q.answers t.map.pairs };
 }
 
-impl<K: Copy + Eq + Hash, V, Q: Question<K, V>, L: Insertion<K, V, K>> MemoTable<K, V, Q, L> {
+impl<K: Copy + Eq + Hash, V, Q: Question<K, V>, L: Insertion<K, V, K>> MemoTable<
+    K,
+    V,
+    Q,
+    L,
+    RandomState,
+> {
     /// Makes an empty table.
     ///
-    /// The limiter has to store values as they come, as all limiters of `schnellru` do. The hasher of keys has known
-    /// seeds. Cost: `O(1)`, and no memory.
+    /// The limiter has to store values as they come, as all limiters of `schnellru` do. Everyone knows the seeds of the
+    /// default hasher: if strangers choose the keys, call `with_hasher`. Cost: `O(1)`, and no memory.
     ///
     /// ```
     /// let mut squares = MemoTable::new(alloc, ByLength::new(9), Squares);
@@ -67,6 +79,40 @@ impl<K: Copy + Eq + Hash, V, Q: Question<K, V>, L: Insertion<K, V, K>> MemoTable
     {
         MemoTable {
             map: LruMap::with_limiter(alloc, limiter),
+            question,
+        }
+    }
+}
+
+impl<K: Copy + Eq + Hash, V, Q: Question<K, V>, L: Insertion<K, V, K>, S: KeyHasher<K>> MemoTable<
+    K,
+    V,
+    Q,
+    L,
+    S,
+> {
+    /// Makes an empty table as `new` does, with this hasher of keys. `entry_bytes` is as for `LruMap::with_hasher`:
+    /// only a limiter by memory looks at it.
+    ///
+    /// ```
+    /// let seeded = RandomState::with_seeds([5, 6, 7, 8]);
+    /// let empty = MemoTable::with_hasher(alloc, ByLength::new(9), seeded, 24, Squares);
+    /// assert_eq!(rt; empty.len(), 0);
+    /// ```
+    ///
+    /// Cost: `O(1)`, and no memory.
+    pub fn with_hasher(
+        alloc: Global,
+        limiter: L,
+        hasher: S,
+        entry_bytes: usize,
+        question: Q,
+    ) -> Self
+        requires { KeepsValues L.offers }
+        ensures { result ≡ [] }
+    {
+        MemoTable {
+            map: LruMap::with_hasher(alloc, limiter, hasher, entry_bytes),
             question,
         }
     }
@@ -85,7 +131,13 @@ impl<K: Copy + Eq + Hash, V, Q: Question<K, V>, L: Insertion<K, V, K>> MemoTable
     }
 }
 
-impl<K: Copy + Eq + Hash, V: Copy, Q: Question<K, V>, L: Insertion<K, V, K>> MemoTable<K, V, Q, L> {
+impl<
+    K: Copy + Eq + Hash,
+    V: Copy,
+    Q: Question<K, V>,
+    L: Insertion<K, V, K>,
+    S: KeyHasher<K>,
+> MemoTable<K, V, Q, L, S> {
     /// Returns the stored answer at a key, or at a key that equals it, and makes it the newest.
     ///
     /// ```
@@ -98,7 +150,7 @@ impl<K: Copy + Eq + Hash, V: Copy, Q: Question<K, V>, L: Insertion<K, V, K>> Mem
         ensures stored { result ≡ lookup (K.eq key) self.old }
         ensures newest { self.new ≡ front (K.eq key) self.old }
     {
-        stored::<K, V, Q, L>(&mut self.map, key)
+        stored::<K, V, Q, L, S>(&mut self.map, key)
     }
 
     /// Stores an answer at a key, as the newest. If the table runs out of memory or its limiter rejects the answer, it
@@ -112,13 +164,13 @@ impl<K: Copy + Eq + Hash, V: Copy, Q: Question<K, V>, L: Insertion<K, V, K>> Mem
     pub fn store(&mut self, key: K, value: V)
         requires answer { Q.answers key value }
     {
-        keep::<K, V, Q, L>(&mut self.map, key, value);
+        keep::<K, V, Q, L, S>(&mut self.map, key, value);
     }
 }
 
 // Returns the stored answer at a key.
-fn stored<K: Copy + Eq + Hash, V: Copy, Q: Question<K, V>, L: Insertion<K, V, K>>(
-    map: &mut LruMap<K, V, L>,
+fn stored<K: Copy + Eq + Hash, V: Copy, Q: Question<K, V>, L: Insertion<K, V, K>, S: KeyHasher<K>>(
+    map: &mut LruMap<K, V, L, S>,
     key: K,
 ) -> Option<V>
     requires known { AreAnswers K.eq Q.answers map.old.pairs }
@@ -134,8 +186,8 @@ fn stored<K: Copy + Eq + Hash, V: Copy, Q: Question<K, V>, L: Insertion<K, V, K>
 }
 
 // Stores an answer at a key.
-fn keep<K: Copy + Eq + Hash, V: Copy, Q: Question<K, V>, L: Insertion<K, V, K>>(
-    map: &mut LruMap<K, V, L>,
+fn keep<K: Copy + Eq + Hash, V: Copy, Q: Question<K, V>, L: Insertion<K, V, K>, S: KeyHasher<K>>(
+    map: &mut LruMap<K, V, L, S>,
     key: K,
     value: V,
 )
@@ -144,6 +196,6 @@ fn keep<K: Copy + Eq + Hash, V: Copy, Q: Question<K, V>, L: Insertion<K, V, K>>(
     requires known { AreAnswers K.eq Q.answers map.old.pairs }
     ensures known { AreAnswers K.eq Q.answers map.new.pairs }
 {
-    laws::inserts_give_up_the_oldest::<K, V, K, L, RandomState>();
+    laws::inserts_give_up_the_oldest::<K, V, K, L, S>();
     let _ = map.insert(key, value);
 }

@@ -5,7 +5,7 @@ ghost use Rattle.std.specs.Map.Iter.{deref_pair};
 ghost use Rattle.schnellru.specs.Lists.{back, lookup_entry};
 
 use crate::ordered_map::{OrderedMap, distinct};
-use schnellru::{KeyHasher, LookupKey, ReserveError, Unlimited, laws};
+use schnellru::{KeyHasher, LookupKey, ReserveError, Unlimited};
 use std::alloc::AllocError;
 use std::hash::Hash;
 
@@ -62,7 +62,6 @@ impl<K: Eq + Hash, V, S: KeyHasher<K>> OrderedMap<K, V, S> {
     pub fn try_reserve(&mut self, n: usize) -> Result<(), ReserveError>
         ensures { self.new ≡ self.old }
     {
-        laws::reservations_keep_the_list::<K, V, Unlimited, S>();
         self.map.try_reserve(n)
     }
 

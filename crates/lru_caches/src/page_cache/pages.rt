@@ -8,7 +8,7 @@ ghost use Rattle.lru_caches.specs.Pages.{block_at, AreClean};
 use crate::append::append;
 use crate::device::BlockDevice;
 use crate::page_cache::PageError;
-use schnellru::{LruMap, UnlimitedCompact};
+use schnellru::{KeyHasher, LruMap, UnlimitedCompact};
 
 // A cached block. It is dirty if it was written in the present round of the cache.
 #[derive(Clone, Copy)]
@@ -17,10 +17,10 @@ pub(super) struct Page<B> {
     pub(super) round: u64,
 }
 
-pub(super) type Pages<B> = LruMap<u64, Page<B>, UnlimitedCompact>;
+pub(super) type Pages<B, S> = LruMap<u64, Page<B>, UnlimitedCompact, S>;
 
 // Returns the block of a cached page, and makes the page the newest.
-pub(super) fn cached_block<B: Copy>(map: &mut Pages<B>, n: u64) -> Option<B>
+pub(super) fn cached_block<B: Copy, S: KeyHasher<u64>>(map: &mut Pages<B, S>, n: u64) -> Option<B>
     ensures block { result ≡ option_map (λ page. page.block) (lookup (nat_eq n) map.old.pairs) }
     ensures same { (m : ℕ) → lookup (nat_eq m) map.new.pairs ≡ lookup (nat_eq m) map.old.pairs }
     ensures len { length map.new.pairs ≡ length map.old.pairs }
@@ -34,7 +34,11 @@ pub(super) fn cached_block<B: Copy>(map: &mut Pages<B>, n: u64) -> Option<B>
 }
 
 // Replaces a cached page, makes it the newest, and returns whether it is there.
-pub(super) fn overwrite<B: Copy>(map: &mut Pages<B>, n: u64, page: Page<B>) -> bool
+pub(super) fn overwrite<B: Copy, S: KeyHasher<u64>>(
+    map: &mut Pages<B, S>,
+    n: u64,
+    page: Page<B>,
+) -> bool
     ensures there { result ≡ is_some (lookup (nat_eq n) map.old.pairs) }
     ensures written { result ≡ true → lookup (nat_eq n) map.new.pairs ≡ Some page }
     ensures others { (m : ℕ) → m ≢ n → lookup (nat_eq m) map.new.pairs ≡ lookup (nat_eq m) map.old.pairs }
@@ -52,8 +56,8 @@ pub(super) fn overwrite<B: Copy>(map: &mut Pages<B>, n: u64, page: Page<B>) -> b
 }
 
 // Removes the oldest page if the cache is full, after it is written back. If that fails, no page is removed.
-pub(super) fn make_room<B: Copy, D: BlockDevice<B>>(
-    map: &mut Pages<B>,
+pub(super) fn make_room<B: Copy, D: BlockDevice<B>, S: KeyHasher<u64>>(
+    map: &mut Pages<B, S>,
     device: &mut D,
     round: u64,
     capacity: usize,
@@ -77,8 +81,8 @@ pub(super) fn make_room<B: Copy, D: BlockDevice<B>>(
 }
 
 // Removes the oldest page, after it is written back. If that fails, no page is removed.
-fn evict_oldest<B: Copy, D: BlockDevice<B>>(
-    map: &mut Pages<B>,
+fn evict_oldest<B: Copy, D: BlockDevice<B>, S: KeyHasher<u64>>(
+    map: &mut Pages<B, S>,
     device: &mut D,
     round: u64,
 ) -> Result<(), PageError<D::Error>>
@@ -122,9 +126,9 @@ fn write_back<B: Copy, D: BlockDevice<B>>(
     }
 }
 
-// Writes each dirty page to the device.
-pub(super) fn write_all_back<B: Copy, D: BlockDevice<B>>(
-    map: &Pages<B>,
+// Writes each dirty page to the device, and makes its blocks durable.
+pub(super) fn write_all_back<B: Copy, D: BlockDevice<B>, S: KeyHasher<u64>>(
+    map: &Pages<B, S>,
     device: &mut D,
     round: u64,
 ) -> Result<(), PageError<D::Error>>
@@ -132,7 +136,28 @@ pub(super) fn write_all_back<B: Copy, D: BlockDevice<B>>(
     ensures clean { AreClean D.seen D.blocks round map.now.pairs device.new }
     ensures shows { (n : ℕ) →
         block_at D.seen D.blocks map.now.pairs device.new n ≡ block_at D.seen D.blocks map.now.pairs device.old n }
-    ensures written { OnOk result ((n : ℕ) → D.blocks device.new n ≡ block_at D.seen D.blocks map.now.pairs device.old n) }
+    ensures written { OnOk result ((n : ℕ) →
+        D.blocks device.new n ≡ block_at D.seen D.blocks map.now.pairs device.old n) }
+{
+    write_each_back(map, device, round)?;
+    match device.sync() {
+        Ok(()) => Ok(()),
+        Err(error) => Err(PageError::Device(error)),
+    }
+}
+
+// Writes each dirty page to the device.
+fn write_each_back<B: Copy, D: BlockDevice<B>, S: KeyHasher<u64>>(
+    map: &Pages<B, S>,
+    device: &mut D,
+    round: u64,
+) -> Result<(), PageError<D::Error>>
+    requires { AreClean D.seen D.blocks round map.now.pairs device.old }
+    ensures clean { AreClean D.seen D.blocks round map.now.pairs device.new }
+    ensures shows { (n : ℕ) →
+        block_at D.seen D.blocks map.now.pairs device.new n ≡ block_at D.seen D.blocks map.now.pairs device.old n }
+    ensures written { OnOk result ((n : ℕ) →
+        D.blocks device.new n ≡ block_at D.seen D.blocks map.now.pairs device.old n) }
 {
     for (n, page) in map.iter() {
         write_back(device, round, *n, *page)?;
@@ -141,8 +166,8 @@ pub(super) fn write_all_back<B: Copy, D: BlockDevice<B>>(
 }
 
 // Adds a page, if there is memory for it.
-pub(super) fn add_page<B: Copy, E>(
-    map: &mut Pages<B>,
+pub(super) fn add_page<B: Copy, E, S: KeyHasher<u64>>(
+    map: &mut Pages<B, S>,
     n: u64,
     page: Page<B>,
 ) -> Result<(), PageError<E>>

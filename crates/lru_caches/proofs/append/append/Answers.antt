@@ -10,11 +10,9 @@ returns-in-Ok-clause-added g c =
     let value = c.args.value in
     let eq = g.K.PartialEq.eq in
     let mid = c.try_reserve.new.self in
-    let reserved = c.in-Ok.ensures.step in
-    let stay = (c.reservations_keep_the_list.ensures 1 c.args.map.now _ mid reserved).0 in
-    let room = c.reservations_make_room.ensures 1 c.args.map.now mid c.len.ensures.map.sized reserved in
+    let stay = c.try_reserve.ensures.pairs in
     let absent = ap (lookup_entry (eq key)) stay ∙ no_pair (eq key) c.args.map.now.pairs c.requires.new in
     let accepts = c.requires.accepts key value (contents mid) in
     let law = c.inserts_with_room_are_exact.ensures.added key value (key, value) mid in
-    (law c.insert.result c.insert.new.self room absent accepts c.insert.ensures.step).pairs
+    (law c.insert.result c.insert.new.self c.in-Ok.ensures.room absent accepts c.insert.ensures.step).pairs
     ∙ ap (λ pairs. (key, value) ∷ pairs) stay

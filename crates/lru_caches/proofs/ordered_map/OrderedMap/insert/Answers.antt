@@ -1,47 +1,69 @@
-use Rattle.std.proofs.Common.{reverse, Some, is_some, sym, ap, ◌∙◌}
+use Rattle.std.proofs.Common.{◌≡◌, ◌∷◌, None, Some, reverse, is_some, sym, ap, ◌∙◌, subst}
 use Rattle.std.proofs.lemmas.Bool.{true≢false}
-use Rattle.std.specs.Map.{set_value}
-use Rattle.lru_caches.proofs.TurnedEntries.{lookup-reverse, put-there, put-new}
+use Rattle.std.proofs.lemmas.Map.Keys.{IsDistinct-head}
+use Rattle.std.specs.List.{IsDistinct}
+use Rattle.std.specs.Map.{keys_of, lookup, set_value}
+use Rattle.lru_caches.proofs.TurnedEntries.{none_more, lookup-reverse, put-there, put-new}
 use Rattle.lru_caches.proofs.ordered_map.OrderedMap.insert.Goals as goal
+
+pub returns-in_default-clause-old : goal.returns-in_default-clause-old
+returns-in_default-clause-old g c =
+    let key = c.args.key in
+    let eq = g.K.PartialEq.eq in
+    let pairs = c.self.inside.map.pairs in
+    let distinct = subst (λ l. IsDistinct eq (keys_of l)) c.in_default.ensures.added c.try_insert.ensures.map.distinct
+    in
+    let none = none_more (eq key) (g.met.K.Eq.laws.congr key) key pairs (g.met.K.Eq.laws.refl key)
+    (IsDistinct-head eq key (keys_of pairs) distinct) in
+    rw (← c.self.view_is) (sym (lookup-reverse (eq key) (g.met.K.Eq.laws.congr key) pairs c.distinct.ensures ∙ none))
+
+pub returns-in_default-clause-entries : goal.returns-in_default-clause-entries
+returns-in_default-clause-entries g c =
+    let key = c.args.key in
+    let eq = g.K.PartialEq.eq in
+    let pairs = c.self.inside.map.pairs in
+    let distinct = subst (λ l. IsDistinct eq (keys_of l)) c.in_default.ensures.added c.try_insert.ensures.map.distinct
+    in
+    let none = none_more (eq key) (g.met.K.Eq.laws.congr key) key pairs (g.met.K.Eq.laws.refl key)
+    (IsDistinct-head eq key (keys_of pairs) distinct) in
+    rw (← c.self.view_is)
+    (ap reverse c.in_default.ensures.added
+    ∙ put-new (eq key) (g.met.K.Eq.laws.congr key) pairs c.distinct.ensures key c.args.value none)
 
 pub returns-in-Some-clause-old : goal.returns-in-Some-clause-old
 returns-in-Some-clause-old g c =
     let key = c.args.key in
+    let eq = g.K.PartialEq.eq in
+    let left = c.try_insert.new.self.pairs in
+    let same = ap (λ k. lookup (eq k) left) (ap (λ back. back.0) c.in-Err.ensures.returned)
+    ∙ ap (lookup (eq key)) c.in-Err.ensures.keeps in
     rw (← c.self.view_is)
-    (ap Some c.replace.ensures.value ∙ c.in-Some.ensures.value
-    ∙ sym (lookup-reverse (g.K.PartialEq.eq key) (g.met.K.Eq.laws.congr key) c.self.inside.map.pairs c.distinct.ensures))
+    (ap Some c.replace.ensures.value ∙ c.in-Some.ensures.value ∙ same
+    ∙ sym (lookup-reverse (eq key) (g.met.K.Eq.laws.congr key) c.self.inside.map.pairs c.distinct.ensures))
 
 pub returns-in-Some-clause-entries : goal.returns-in-Some-clause-entries
 returns-in-Some-clause-entries g c =
     let key = c.args.key in
-    let names = g.K.PartialEq.eq key in
-    let pairs = c.self.inside.map.pairs in
+    let value = c.args.value in
+    let eq = g.K.PartialEq.eq in
+    let left = c.try_insert.new.self.pairs in
+    let key_is = ap (λ back. back.0) c.in-Err.ensures.returned in
+    let value_is = ap (λ back. back.1) c.in-Err.ensures.returned in
+    let same = ap (λ k. lookup (eq k) left) key_is ∙ ap (lookup (eq key)) c.in-Err.ensures.keeps in
     rw (← c.self.view_is)
-    (ap (λ w. reverse (set_value names pairs w)) c.replace.ensures.after
-    ∙ put-there names (g.met.K.Eq.laws.congr key) pairs c.distinct.ensures key c.args.value
-    c.in-Some.place.now (sym c.in-Some.ensures.value))
+    (ap (λ w. reverse (set_value (eq c.in-Err.key) left w)) (c.replace.ensures.after ∙ value_is)
+    ∙ ap (λ k. reverse (set_value (eq k) left value)) key_is
+    ∙ ap (λ l. reverse (set_value (eq key) l value)) c.in-Err.ensures.keeps
+    ∙ put-there (eq key) (g.met.K.Eq.laws.congr key) c.self.inside.map.pairs c.distinct.ensures key value
+    c.in-Some.place.now (sym same ∙ sym c.in-Some.ensures.value))
 
-pub returns-in_err-append-clause-there : goal.returns-in_err-append-clause-there
-returns-in_err-append-clause-there g c = rw (← c.self.view_is) (λ some.
+pub returns-clause-there : goal.returns-clause-there
+returns-clause-there g c = rw (← c.self.view_is) (λ some.
     let key = c.args.key in
-    let none = lookup-reverse (g.K.PartialEq.eq key) (g.met.K.Eq.laws.congr key) c.self.inside.map.pairs
-    c.distinct.ensures ∙ sym c.in_default.ensures.value in
+    let eq = g.K.PartialEq.eq in
+    let left = c.try_insert.new.self.pairs in
+    let same = ap (λ k. lookup (eq k) left) (ap (λ back. back.0) c.in-Err.ensures.returned)
+    ∙ ap (lookup (eq key)) c.in-Err.ensures.keeps in
+    let none = lookup-reverse (eq key) (g.met.K.Eq.laws.congr key) c.self.inside.map.pairs c.distinct.ensures
+    ∙ sym same ∙ sym c.in_default-peek_mut.ensures.value in
     absurd (true≢false (sym some ∙ ap is_some none)))
-
-pub returns-clause-old : goal.returns-clause-old
-returns-clause-old g c =
-    let key = c.args.key in
-    rw (← c.self.view_is)
-    (c.in_default.ensures.value
-    ∙ sym (lookup-reverse (g.K.PartialEq.eq key) (g.met.K.Eq.laws.congr key) c.self.inside.map.pairs
-    c.distinct.ensures))
-
-pub returns-clause-entries : goal.returns-clause-entries
-returns-clause-entries g c =
-    let key = c.args.key in
-    let names = g.K.PartialEq.eq key in
-    let pairs = c.self.inside.map.pairs in
-    rw (← c.self.view_is)
-    (ap reverse c.in_ok-append.ensures.added
-    ∙ put-new names (g.met.K.Eq.laws.congr key) pairs c.distinct.ensures key c.args.value
-    (sym c.in_default.ensures.value))

@@ -9,4 +9,5 @@ returns-clause-last g c = rw (← c.self.view_is)
 
 pub returns-clause-rest : goal.returns-clause-rest
 returns-clause-rest g c = rw (← c.self.view_is)
-    (ap (λ st. reverse st.pairs) c.pop_newest.ensures.step.state.is ∙ sym (without_last-reverse c.self.inside.map.pairs))
+    (ap (λ st. reverse st.pairs) c.pop_newest.ensures.step.state.is
+    ∙ sym (without_last-reverse c.self.inside.map.pairs))

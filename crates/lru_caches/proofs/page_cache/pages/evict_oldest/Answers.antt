@@ -23,6 +23,8 @@ returns-in_default-clause-left g c =
 
 pub returns-in_err-write_back : goal.returns-in_err-write_back
 returns-in_err-write_back g c =
+    let seen = g.D.BlockDevice.seen in
+    let blocks = g.D.BlockDevice.blocks in
     let pages = c.args.map.now.pairs in
     let n = c.in-Some.n.now in
     let page = c.in-Some.page.now in
@@ -30,9 +32,9 @@ returns-in_err-write_back g c =
     let wrote = c.write_back.ensures in
     let failed = err_from_is_err_and c.from_residual.result c.from_residual.ensures.1 in
     rw failed.1 (record {
-      clean = clean-written_back g.D.BlockDevice.seen g.D.BlockDevice.blocks pages c.args.device.now c.write_back.new.device n page there
+      clean = clean-written_back seen blocks pages c.args.device.now c.write_back.new.device n page there
           wrote.others c.args.round wrote.clean c.requires;
-      shows = shown-written_back g.D.BlockDevice.seen g.D.BlockDevice.blocks pages c.args.device.now c.write_back.new.device n page there
+      shows = shown-written_back seen blocks pages c.args.device.now c.write_back.new.device n page there
           wrote.others;
       absent = λ m none. none;
       at_most = omega arith;
@@ -42,6 +44,8 @@ returns-in_err-write_back g c =
 
 pub returns : goal.returns
 returns g c =
+    let seen = g.D.BlockDevice.seen in
+    let blocks = g.D.BlockDevice.blocks in
     let pages = c.args.map.now.pairs in
     let n = c.in-Some.n.now in
     let page = c.in-Some.page.now in
@@ -53,12 +57,12 @@ returns g c =
     let is = ends_with pages (n, page) (sym c.in-Some.ensures) in
     let ends = is ∙ ap (λ l. l ++ (n, page) ∷ []) (sym left) in
     record {
-      clean = clean-removed g.D.BlockDevice.seen g.D.BlockDevice.blocks c.args.round pages c.pop_oldest.new.self.pairs ((n, page) ∷ []) new ends
-          (clean-written_back g.D.BlockDevice.seen g.D.BlockDevice.blocks pages old new n page there wrote.others c.args.round wrote.clean
+      clean = clean-removed seen blocks c.args.round pages c.pop_oldest.new.self.pairs ((n, page) ∷ []) new ends
+          (clean-written_back seen blocks pages old new n page there wrote.others c.args.round wrote.clean
           c.requires);
-      shows = λ m. shown-removed g.D.BlockDevice.seen g.D.BlockDevice.blocks pages c.pop_oldest.new.self.pairs new n page ends
+      shows = λ m. shown-removed seen blocks pages c.pop_oldest.new.self.pairs new n page ends
           c.in_ok-write_back.ensures.written m
-          ∙ shown-written_back g.D.BlockDevice.seen g.D.BlockDevice.blocks pages old new n page there wrote.others m;
+          ∙ shown-written_back seen blocks pages old new n page there wrote.others m;
       absent = λ m none. ap (lookup (nat_eq m)) left
           ∙ absent_left (nat_eq m) (without_last pages) ((n, page) ∷ []) (sym (ap (lookup (nat_eq m)) is) ∙ none);
       at_most = omega (arith, ap length left, length-without_last pages);

@@ -6,7 +6,7 @@ use Rattle.std.specs.List.{All, Contains}
 use Rattle.std.proofs.lemmas.Result.{err_from_is_err_and}
 use Rattle.std.specs.Map.{lookup}
 use Rattle.lru_caches.proofs.Blocks.{shown-written_back, clean-written_back, shown-absent, written-more}
-use Rattle.lru_caches.proofs.page_cache.pages.write_all_back.Goals as goal
+use Rattle.lru_caches.proofs.page_cache.pages.write_each_back.Goals as goal
 
 pub loop-n-init : goal.loop-n-init
 loop-n-init g c =
@@ -57,6 +57,8 @@ loop-n-preserved g c =
 
 pub returns-in_err-write_back : goal.returns-in_err-write_back
 returns-in_err-write_back g c =
+    let seen = g.D.BlockDevice.seen in
+    let blocks = g.D.BlockDevice.blocks in
     let pages = c.args.map.now.pairs in
     let n = c.in-Some.n.now in
     let page = c.in-Some.page.now in
@@ -67,9 +69,9 @@ returns-in_err-write_back g c =
     let wrote = c.write_back.ensures in
     let failed = err_from_is_err_and c.from_residual.result c.from_residual.ensures.1 in
     rw failed.1 (record {
-      clean = clean-written_back g.D.BlockDevice.seen g.D.BlockDevice.blocks pages c.loop-n.device c.write_back.new.device n page there
+      clean = clean-written_back seen blocks pages c.loop-n.device c.write_back.new.device n page there
           wrote.others c.args.round wrote.clean h.clean;
-      shows = λ m. shown-written_back g.D.BlockDevice.seen g.D.BlockDevice.blocks pages c.loop-n.device c.write_back.new.device n page there
+      shows = λ m. shown-written_back seen blocks pages c.loop-n.device c.write_back.new.device n page there
           wrote.others m ∙ h.shows m;
       written = tt;
     })

@@ -2,7 +2,7 @@ use Rattle.std.proofs.Common.{◌≡◌, ℕ, nat_eq, None}
 use Rattle.std.specs.List.{All, Contains}
 use Rattle.std.specs.Map.{lookup}
 use Rattle.lru_caches.specs.Pages.{block_at, AreClean}
-use Rattle.lru_caches.proofs.page_cache.pages.write_all_back.Given as goal
+use Rattle.lru_caches.proofs.page_cache.pages.write_each_back.Given as goal
 
 abbrev pub invariant-loop-n : goal.invariant-loop-n
 invariant-loop-n g l = record {
@@ -11,5 +11,6 @@ invariant-loop-n g l = record {
       ≡ block_at g.D.BlockDevice.seen g.D.BlockDevice.blocks l.fn.map.pairs l.fn.device n;
   among : All (Contains l.fn.map.pairs) l.n-iterator;
   written : (n : ℕ) → lookup (nat_eq n) l.n-iterator ≡ None
-      → g.D.BlockDevice.blocks l.device n ≡ block_at g.D.BlockDevice.seen g.D.BlockDevice.blocks l.fn.map.pairs l.fn.device n;
+      → g.D.BlockDevice.blocks l.device n
+      ≡ block_at g.D.BlockDevice.seen g.D.BlockDevice.blocks l.fn.map.pairs l.fn.device n;
 }

@@ -1,0 +1,57 @@
+//! Equal ordered maps, and how one is shown.
+use crate::ordered_map::OrderedMap;
+use schnellru::KeyHasher;
+use std::fmt;
+use std::hash::Hash;
+
+/// Maps are equal if they have equal entries in the same order. Their hashers and tables may differ.
+///
+/// ```
+/// assert!(rt; map == map && map != OrderedMap::new(alloc));
+/// ```
+///
+/// Cost: `O(n)` for n entries.
+///
+/// After std's `Vec`; indexmap's maps are equal in any order.
+impl<K: Eq + Hash, V: PartialEq, S: KeyHasher<K>> PartialEq for OrderedMap<K, V, S> {
+    ghost use Rattle.std.specs.Prelude.{◌&&◌};
+    ghost use Rattle.std.specs.Cmp.{and_per, on_per};
+    ghost use Rattle.std.specs.Cmp.Lexicographic.{pointwise, lists_per};
+
+    ghost eq = { λ a b. pointwise (λ p q. K.eq p.0 q.0 && V.eq p.1 q.1) a b };
+
+    ghost laws = { lists_per (and_per (on_per (λ p. p.0) K.PartialEq.laws) (on_per (λ p. p.1) V.laws)) };
+
+    fn eq(&self, other: &Self) -> bool {
+        let mut theirs = other.iter();
+        let mut ours = self.iter();
+        'entries: while let Some((key, value)) = ours.next() {
+            match theirs.next() {
+                Some((other_key, other_value)) => {
+                    if *key != *other_key || *value != *other_value {
+                        return false;
+                    }
+                }
+                None => return false,
+            }
+        }
+        theirs.next().is_none()
+    }
+}
+
+/// Shows the entries, oldest first, as `{1: 10, 2: 20}`.
+///
+/// ```
+/// assert_eq!(rt; format!(in alloc; "{map:?}")?.as_str(), "{1: 10, 2: 20}");
+/// ```
+///
+/// After std's `HashMap`.
+impl<K: Eq + Hash + fmt::Debug, V: fmt::Debug, S: KeyHasher<K>> fmt::Debug for OrderedMap<K, V, S> {
+    fn fmt<W: fmt::Write>(&self, f: &mut fmt::Formatter<W>) -> fmt::Result {
+        let mut shown = f.debug_map();
+        for (key, value) in self.iter() {
+            shown.entry(key, value);
+        }
+        shown.finish()
+    }
+}
