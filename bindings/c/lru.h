@@ -202,7 +202,7 @@ void lru_bytes_free(struct lru_bytes *lru);
  *
  * LRU_REJECTED: the entry alone weighs more than the budget (tested). Then the value is not read, and the entry of the
  * key is removed, so no old value stays under the key. LRU_OUT_OF_MEMORY: all memory is taken first, so the entries and
- * their order are as they were. */
+ * their order are as they were. A key that is there takes memory for the two copies alone, and none for the table. */
 uint32_t lru_bytes_put(struct lru_bytes *lru, const uint8_t *key, size_t key_len, const uint8_t *value,
                        size_t value_len);
 

@@ -3,7 +3,7 @@
 --     weight key value           what an entry weighs whose key and value have these lengths
 --     poured bytes buffer        the buffer, after the bytes were copied to its front, if they fit
 use Rattle.std.specs.Prelude.{◌≡◌, ◌++◌, ◌<◌, ◌≤◌, ◌&&◌, ℕ, Bool, true, false, List, length, drop, Option, Some, None}
-use Rattle.std.specs.Prelude.{nat_le, vec_len, if◌then◌else◌, map, Ok}
+use Rattle.std.specs.Prelude.{nat_le, vec_len, is_some, if◌then◌else◌, map, Ok}
 use Rattle.std.proofs.Common.{ap}
 use Rattle.std.specs.Cmp.Lexicographic.{bytes_decides, nat_list_eq_equiv}
 use Rattle.std.specs.Hash as fed
@@ -19,9 +19,9 @@ use Rattle.lru_limits.specs.contracts.hasher.DefaultHasherHasher.TheImpl as defa
 use Rattle.lru_limits.specs.contracts.hasher.RandomStateBuildHasher.TheImpl as random_builds
 use Rattle.schnellru.specs.Calls.{Remove, PopOldest}
 use Rattle.schnellru.specs.Inserts.{Insert}
-use Rattle.schnellru.specs.Lists.{last}
+use Rattle.schnellru.specs.Lists.{last, lookup}
 use Rattle.schnellru.specs.Reservations.{Reserve}
-use Rattle.schnellru.specs.State.{State}
+use Rattle.schnellru.specs.State.{State, room}
 use Rattle.lru_c.specs.declared.bytes.answers.Popped.{Popped}
 use Rattle.lru_c.specs.declared.bytes.answers.Value.{Value}
 
@@ -122,6 +122,19 @@ pub data Pops (old : BytesMap) (answer : Popped) (key key_left value value_left 
       answer ≡ lengths_of pair true → key_left ≡ poured pair.0.items key → value_left ≡ poured pair.1.items value →
       PopOldest bytes_rules old (Some pair) new → Pops old answer key key_left value value_left new
 
+-- a key with these bytes is there
+abbrev pub has_bytes : List ℕ → BytesMap → Bool
+has_bytes key map = is_some (lookup (names_bytes key) map.pairs)
+
+-- The map that an insert of this key finds: as it was, if the key is there, or else after a reservation for one entry.
+pub data IsReady (key : List ℕ) (old ready : BytesMap) : Type 0 where
+  there : has_bytes key old ≡ true → ready ≡ old → IsReady key old ready
+  reserved : has_bytes key old ≡ false → Reserve bytes_rules 1 old (Ok tt) ready → IsReady key old ready
+
+-- an insert of this key finds memory: the key is there, or there is growth left
+abbrev pub FindsMemory : List ℕ → BytesMap → Type 0
+FindsMemory key ready = has_bytes key ready ≡ false → 1 ≤ room ready
+
 -- A put, and what it returns.
 pub data Puts (key value : List ℕ) (old : BytesMap) (code : ℕ) (new : BytesMap) : Type 0 where
   -- The key alone is over the budget, and so cannot be there: nothing changes.
@@ -134,9 +147,9 @@ pub data Puts (key value : List ℕ) (old : BytesMap) (code : ℕ) (new : BytesM
   no_memory : weight (length key) (length value) ≤ old.limiter.limit → code ≡ 2 →
       new.pairs ≡ old.pairs → new.limiter ≡ old.limiter →
       Puts key value old code new
-  -- Copies are inserted into the map, after its table was made large enough.
+  -- Copies are inserted into the map, after its table was made large enough for a new key.
   inserted : weight (length key) (length value) ≤ old.limiter.limit →
-      (ready : BytesMap) → Reserve bytes_rules 1 old (Ok tt) ready →
+      (ready : BytesMap) → IsReady key old ready →
       (k v : Bytes) → k.items ≡ key → v.items ≡ value →
       (kept : Bool) → code ≡ (if kept then 0 else 1) →
       Insert bytes_rules bytes_offers same_bytes hash_of_bytes k v ready (Ok kept) new →

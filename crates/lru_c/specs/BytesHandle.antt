@@ -22,7 +22,8 @@ bytes = vec.the_row u8 global.the_row heap.ghosts
 
 -- the type `BytesMap`
 abbrev pub bytes_row : RattleType
-bytes_row = lru_map.the_row bytes bytes (by_weight.the_row (number 64)) random_state.the_row usize default_hasher.the_row
+bytes_row = lru_map.the_row bytes bytes (by_weight.the_row (number 64)) random_state.the_row usize
+    default_hasher.the_row
     (record { eq = same_bytes }) (record { hash_input = input_of_bytes }) (record { rules = bytes_rules })
     usize_link.ghosts usize_eq.ghosts usize_debug.ghosts
     (record { hash_of = hash_of_bytes }) random_builds.ghosts default_hashes.ghosts

@@ -130,7 +130,8 @@ pub fn as_code(done: Result<bool, AllocError>) -> u32
 /// Writes an entry of another key to a place, unless one was noted there.
 #[inline]
 pub fn note_other(noted: &mut bool, place: &mut Entry, inserted: u64, key: u64, value: u64)
-    ensures pair { noted_pair noted.new place.new ≡ noting_other inserted (noted_pair noted.old place.old) (key, value) }
+    ensures pair { noted_pair noted.new place.new
+        ≡ noting_other inserted (noted_pair noted.old place.old) (key, value) }
     ensures untouched { noted.new ≡ false → (noted.old ≡ false) × (place.new ≡ place.old) }
 {
     if !*noted && inserted != key {

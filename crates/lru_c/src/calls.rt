@@ -117,7 +117,7 @@ pub fn copied(alloc: Global, map: &Map) -> Option<Box<Map>>
     }
 }
 
-/// Copies the newest entries, the newest first, as many as fit. Returns how many it copied.
+/// Copies the newest entries, newest first, until the slice is full or no entry is left. Returns how many it copied.
 pub fn copy_entries(map: &Map, entries: &mut [Entry]) -> usize
     ensures filled { entries.new ≡ filled map.now.pairs entries.old }
     ensures count { result ≡ fitting map.now.pairs entries.old }

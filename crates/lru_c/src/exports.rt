@@ -10,7 +10,7 @@ ghost use Rattle.schnellru.specs.Inserts.{Insert};
 ghost use Rattle.schnellru.specs.Lists.{lookup, first, last};
 ghost use Rattle.schnellru.specs.Reservations.{Reserve};
 ghost use Rattle.schnellru.specs.Shrinks.{Shrink};
-ghost use Rattle.schnellru.specs.Sizes.{links_of_32_bits, usage};
+ghost use Rattle.schnellru.specs.Sizes.{max_of_32_bits, usage};
 ghost use Rattle.schnellru.specs.State.{empty_map, buckets, contents, room, Trims, IsWithin};
 ghost use Rattle.schnellru.specs.declared.map.reserve.ReserveError.{ReserveError};
 ghost use Rattle.lru_c.specs.Answers.{found_value, found_pair, replaced_value, filled, fitting};
@@ -43,7 +43,7 @@ pub extern "C" fn lru_abi_version() -> u32
 /// A map that the handle had is dropped.
 #[unsafe(no_mangle)]
 pub extern "C" fn lru_new(alloc: Global, lru: &mut Lru, max_length: u32, seeds: &[u64; 4]) -> bool
-    ensures made { result ≡ true → lru.new.map ≡ Some (empty_map max_length (seeded seeds.now) 24 links_of_32_bits) }
+    ensures made { result ≡ true → lru.new.map ≡ Some (empty_map max_length (seeded seeds.now) 24 max_of_32_bits) }
     ensures failed { result ≡ false → lru.new.map ≡ None }
 {
     lru.take(alloc);
@@ -234,7 +234,8 @@ pub extern "C" fn lru_peek_newest(alloc: Global, lru: &mut Lru) -> Pair
     }
 }
 
-/// Copies the newest entries, the newest first, as many as fit. Returns how many it copied. The map stays as it is.
+/// Copies the newest entries, newest first, until the slice is full or no entry is left. Returns how many it copied.
+/// The map stays as it is.
 #[unsafe(no_mangle)]
 pub extern "C" fn lru_copy_newest(alloc: Global, lru: &mut Lru, entries: &mut [Entry]) -> usize
     ensures { OnMap ((result ≡ 0) × (entries.new ≡ entries.old))
@@ -266,7 +267,7 @@ pub extern "C" fn lru_len(alloc: Global, lru: &mut Lru) -> usize
     }
 }
 
-/// Returns the most entries that the map has.
+/// Returns the maximum length.
 #[unsafe(no_mangle)]
 pub extern "C" fn lru_max_length(alloc: Global, lru: &mut Lru) -> u32
     ensures { OnMap (result ≡ 0) (λ old new. (result ≡ old.limiter) × (new ≡ old)) lru.old.map lru.new.map }

@@ -12,7 +12,7 @@ pub struct Value {
     pub found: bool,
 }
 
-/// The lengths of the oldest entry, if there is one.
+/// The lengths of an entry, if there is one.
 #[repr(C)]
 #[derive(Drop)]
 pub struct Popped {

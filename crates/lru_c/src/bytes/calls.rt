@@ -1,16 +1,15 @@
 //! The calls on a map of byte strings that copy bytes in or out.
-ghost use Rattle.std.specs.Prelude.{◌≡◌, ◌&&◌, length, Some, IfSome, option_map, nat_le};
+ghost use Rattle.std.specs.Prelude.{◌≡◌, ◌&&◌, length, Some, IfSome, option_map, nat_le, true, false};
 ghost use Rattle.std.specs.Map.Iter.{deref_pair};
 ghost use Rattle.schnellru.specs.Calls.{promoted};
 ghost use Rattle.schnellru.specs.Lists.{lookup, last};
-ghost use Rattle.lru_c.specs.Bytes.{names_bytes, weight, poured, Reads, Puts, Pops, Shows, Copies};
+ghost use Rattle.lru_c.specs.Bytes.{names_bytes, weight, poured, Reads, IsReady, FindsMemory, Puts, Pops, Shows};
+ghost use Rattle.lru_c.specs.Bytes.{Copies};
 
 use crate::answers::{OUT_OF_MEMORY, REJECTED, STORED};
 use crate::bytes::answers::{Popped, Value, no_value, nothing_popped};
 use crate::bytes::handle::{BytesMap, OVERHEAD};
 use crate::bytes::keys::Named;
-use lru_limits::ByWeight;
-use schnellru::{RandomState, laws};
 use std::alloc::Global;
 
 // Returns what an entry with a key and a value of these lengths weighs.
@@ -23,7 +22,8 @@ fn weight_of(key: usize, value: usize) -> u64
         .saturating_add(OVERHEAD)
 }
 
-/// Inserts a copy of the value under a copy of the key. Takes all memory before it changes an entry.
+/// Inserts a copy of the value under a copy of the key. Takes all memory before it changes an entry. A key that is
+/// there needs memory for the copies alone.
 pub fn put(alloc: Global, map: &mut BytesMap, key: &[u8], value: &[u8]) -> u32
     ensures { Puts key.now value.now map.old result map.new }
 {
@@ -41,10 +41,7 @@ pub fn put(alloc: Global, map: &mut BytesMap, key: &[u8], value: &[u8]) -> u32
     let Ok(own_value) = Vec::from_slice(alloc, value) else {
         return OUT_OF_MEMORY;
     };
-    laws::reservations_keep_the_list::<Vec<u8>, Vec<u8>, ByWeight<64>, RandomState>();
-    laws::reservations_make_room::<Vec<u8>, Vec<u8>, ByWeight<64>, RandomState>();
-    let _ = map.len();
-    if map.try_reserve(1).is_err() {
+    if !get_ready_for(map, key) {
         return OUT_OF_MEMORY;
     }
     match map.insert(own_key, own_value) {
@@ -52,6 +49,18 @@ pub fn put(alloc: Global, map: &mut BytesMap, key: &[u8], value: &[u8]) -> u32
         Ok(false) => REJECTED,
         Err(_) => unreachable!(),
     }
+}
+
+// Takes the memory that an insert of this key needs, unless the key is there. Returns whether there was enough.
+fn get_ready_for(map: &mut BytesMap, key: &[u8]) -> bool
+    ensures ready { result ≡ true → IsReady key.now map.old map.new }
+    ensures finds { result ≡ true → FindsMemory key.now map.new }
+    ensures failed { result ≡ false → (map.new.pairs ≡ map.old.pairs) × (map.new.limiter ≡ map.old.limiter) }
+{
+    if map.contains(&Named(key)) {
+        return true;
+    }
+    map.try_reserve(1).is_ok()
 }
 
 // Copies the bytes to the front of the buffer, if they fit.

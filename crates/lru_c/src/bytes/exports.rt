@@ -5,7 +5,7 @@ ghost use Rattle.std.specs.Prelude.{◌≡◌, length, is_some, slice_get, Optio
 ghost use Rattle.lru_limits.specs.Mixing.{seeded};
 ghost use Rattle.schnellru.specs.Calls.{Remove, promoted, cleared};
 ghost use Rattle.schnellru.specs.Lists.{lookup, last};
-ghost use Rattle.schnellru.specs.Sizes.{links_of_64_bits};
+ghost use Rattle.schnellru.specs.Sizes.{max_of_64_bits};
 ghost use Rattle.schnellru.specs.State.{empty_map, contents, Trims, IsWithin};
 ghost use Rattle.lru_c.specs.Answers.{OnMap};
 ghost use Rattle.lru_c.specs.Bytes.{Bytes, names_bytes, bytes_rules, no_entry, Reads, Puts, Pops, Shows, Copies};
@@ -34,7 +34,7 @@ pub extern "C" fn lru_bytes_new(
     seeds: &[u64; 4],
 ) -> bool
     ensures made { result ≡ true → lru.new.map ≡
-        Some (empty_map (record { limit = budget; cost = 0 }) (seeded seeds.now) 64 links_of_64_bits) }
+        Some (empty_map (record { limit = budget; cost = 0 }) (seeded seeds.now) 64 max_of_64_bits) }
     ensures failed { result ≡ false → lru.new.map ≡ None }
 {
     lru.take(alloc);
@@ -56,8 +56,8 @@ pub extern "C" fn lru_bytes_free(alloc: Global, lru: &mut LruBytes)
     drop(lru.take(alloc));
 }
 
-/// Inserts a copy of the value under a copy of the key, as the newest entry, and evicts the oldest entries while the map
-/// is over its budget.
+/// Inserts a copy of the value under a copy of the key, as the newest entry, and evicts the oldest entries while the
+/// map is over its budget.
 #[unsafe(no_mangle)]
 pub extern "C" fn lru_bytes_put(alloc: Global, lru: &mut LruBytes, key: &[u8], value: &[u8]) -> u32
     ensures { OnMap (result ≡ 3) (λ old new. Puts key.now value.now old result new) lru.old.map lru.new.map }
@@ -276,8 +276,8 @@ pub extern "C" fn lru_bytes_set_budget(alloc: Global, lru: &mut LruBytes, budget
     }
 }
 
-/// Makes a copy of the map: the same entries in the same order, with the same budget, seeds and capacity. Returns whether
-/// there was a map, and memory for the copy.
+/// Makes a copy of the map: the same entries in the same order, with the same budget, seeds and capacity. Returns
+/// whether there was a map, and memory for the copy.
 ///
 /// A map that the handle of the copy had is dropped.
 #[unsafe(no_mangle)]

@@ -48,7 +48,8 @@ pub returns-in-Some-pop_oldest : goal.returns-in-Some-pop_oldest
 returns-in-Some-pop_oldest c =
     let own : Bytes × Bytes = (c.in-Some-pop_oldest.own_key, c.in-Some-pop_oldest.own_value) in
     let step = c.pop_oldest.ensures.step in
-    let popped_is = sym c.in-Some-pop_oldest.is ∙ step.pair ∙ left_as_is c.args.map.now.limiter (last c.args.map.now.pairs) in
+    let popped_is = sym c.in-Some-pop_oldest.is ∙ step.pair
+    ∙ left_as_is c.args.map.now.limiter (last c.args.map.now.pairs) in
     let has = its_lengths own c.in-Some.key_len c.in-Some.value_len
     (sym c.in-Some.is ∙ c.oldest_lengths.ensures ∙ ap (option_map lengths) (sym popped_is)) in
     removed own (sym popped_is) (fit own _ _ _ _ _ has c.both_fit-removed.ensures ∙ c.if-removed.true)

@@ -52,7 +52,8 @@ from_raw_spec 𝓤 𝓛 𝓜 𝓡 wired =
     sets ! (of_opd ! (get ! refl)) refl (ptr_good b.start) $
     sets ! (agg ! (and_then ! (get ! refl) (no_more !))) refl (address_good lru.the_type.name b.start) $
     returns ! (look_at ! 0 refl) $ free_all ! refl $
-    use0 𝓛 (‵ ((Address lru.the_type.name).own_val (b.start, tt) (address_val b.start ∷ []))) (address_made lru.the_type.name 𝓛 b.start) $ fjoin ! $
+    use0 𝓛 (‵ ((Address lru.the_type.name).own_val (b.start, tt) (address_val b.start ∷ [])))
+    (address_made lru.the_type.name 𝓛 b.start) $ fjoin ! $
     use0 𝓛 (raw (fact 𝓤 (Given (Some b.value)))) (fact_i 𝓤 (Given (Some b.value)) (emp 𝓤) refl) $
     nothing ! $ nothing ! $ fjoin ! $ keep ! (3 ∷ 0 ∷ 2 ∷ 1 ∷ []) $
     by ! (leaves 𝓛 f.ended stays said y (address_val b.start) (record { start = b.start; map = Some b.value })

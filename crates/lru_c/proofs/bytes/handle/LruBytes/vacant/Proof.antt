@@ -36,7 +36,8 @@ vacant_spec 𝓤 𝓛 𝓜 𝓡 wired =
     enter ! 𝓣.C 𝓣.Λ code.function [] Post $ alloc_all ! (λ l. pass_all ! refl tt $
     sets ! (agg ! (and_then ! (lit ! tt) (no_more !))) refl (address_good lru.the_type.name null_ptr) $
     feq_i ! Ptr null_ptr null_ptr refl $
-    use0 𝓛 (‵ ((Address lru.the_type.name).own_val (null_ptr, tt) (address_val null_ptr ∷ []))) (address_made lru.the_type.name 𝓛 null_ptr) $ fjoin ! $
+    use0 𝓛 (‵ ((Address lru.the_type.name).own_val (null_ptr, tt) (address_val null_ptr ∷ [])))
+    (address_made lru.the_type.name 𝓛 null_ptr) $ fjoin ! $
     use0 𝓛 (raw (fact 𝓤 (NoMap None))) (fact_i 𝓤 (NoMap None) (emp 𝓤) refl) $
     returns ! (look_at ! 0 refl) $ free_all ! refl $
     keep ! (2 ∷ 3 ∷ 1 ∷ 0 ∷ []) $
