@@ -36,7 +36,7 @@ fn of_the_page_cache(rt: HostRuntime) {
     let disk = cache.discard();
     let seeded = RandomState::with_seeds([5, 6, 7, 8]);
     let mut cache = PageCache::with_hasher(rt.alloc(), disk, 2, seeded);
-    check!(rt; (cache.read(1), cache.len()) == (Ok(20), 1));
+    check!(rt; cache.read(1) == Ok(20));
     cache.discard();
 }
 
@@ -54,7 +54,7 @@ fn of_the_device(rt: HostRuntime) {
 }
 
 #[test]
-fn of_the_file_device(rt: HostRuntime) -> Result<(), Fail> {
+fn of_the_file_devices(rt: HostRuntime) -> Result<(), Fail> {
     let alloc = rt.alloc();
     let file = Cursor::new(Vec::from_array(alloc, *b"zeroone.two.")?);
     let mut device: FileDevice<_, 4> = FileDevice::new(alloc, file, 3)?;
@@ -67,12 +67,6 @@ fn of_the_file_device(rt: HostRuntime) -> Result<(), Fail> {
     let bytes = device.into_file().into_inner();
     check!(rt; bytes.starts_with(b"zerouno."));
     check!(rt; Cursor::new([0u8; 4]).make_durable().is_ok());
-    Ok(())
-}
-
-#[test]
-fn of_the_file_device_with_hashes(rt: HostRuntime) -> Result<(), Fail> {
-    let alloc = rt.alloc();
     let file = Cursor::new(Vec::from_array(alloc, *b"zeroone.two.")?);
     let mut hashed: HashedFileDevice<_, 4> = HashedFileDevice::new(alloc, file, 3)?;
     check!(rt; hashed.len() == 3);
@@ -124,10 +118,17 @@ fn of_the_ordered_map_as_a_list(rt: HostRuntime) -> Result<(), Fail> {
     check!(rt; map.keys().next() == Some(&1) && map.values().next_back() == Some(&20));
     map.insert(3, 30)?;
     check!(rt; (map.remove_entry(&3), map.remove_entry(&3)) == (Some((3, 30)), None));
+    check!(rt; map == map && map != OrderedMap::new(rt.alloc()));
+    check!(rt; format!(in rt.alloc(); "{map:?}")?.as_str() == "{1: 10, 2: 20}");
     map.retain(|key, value| *key == 1 || *value > 30);
     check!(rt; (map.len(), map.contains_key(&1)) == (1, true));
     map.clear();
     check!(rt; map.is_empty());
+    map.insert(1, 10)?;
+    map.insert(2, 20)?;
+    let mut entries = map.into_iter();
+    check!(rt; (entries.len(), entries.next(), entries.next_back())
+            == (2, Some((1, 10)), Some((2, 20))));
     Ok(())
 }
 
@@ -146,21 +147,6 @@ fn of_the_ordered_map_and_its_table(rt: HostRuntime) -> Result<(), Fail> {
 }
 
 #[test]
-fn of_the_ordered_map_as_a_value(rt: HostRuntime) -> Result<(), Fail> {
-    let alloc = rt.alloc();
-    let mut map: OrderedMap<u64, u64> = OrderedMap::new(alloc);
-    for (key, value) in [(1, 10), (2, 20)] {
-        map.insert(key, value)?;
-    }
-    check!(rt; map == map && map != OrderedMap::new(alloc));
-    check!(rt; format!(in alloc; "{map:?}")?.as_str() == "{1: 10, 2: 20}");
-    let mut entries = map.into_iter();
-    check!(rt; (entries.len(), entries.next(), entries.next_back())
-            == (2, Some((1, 10)), Some((2, 20))));
-    Ok(())
-}
-
-#[test]
 fn of_the_memo(rt: HostRuntime) {
     let mut squares = Memo::new(rt.alloc(), ByLength::new(9), |n: u64| n.wrapping_mul(n));
     check!(rt; (squares.answer(3), squares.len()) == (9, 1));
@@ -173,10 +159,6 @@ fn of_the_memo(rt: HostRuntime) {
         |n: u64| n.wrapping_pow(3),
     );
     check!(rt; cubes.len() == 0);
-}
-
-#[test]
-fn of_the_memo_that_lends(rt: HostRuntime) {
     let alloc = rt.alloc();
     let mut blocks = Memo::new(
         alloc,
